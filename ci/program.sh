@@ -1,0 +1,224 @@
+# The checks of the built program: statuses and streams, which no contract says. ci/test reads this file.
+# `rt ci` leaves the program in crates/mcslab/out, as LLVM builds it and as Rattle's own compiler does.
+
+# Proves and builds the program where no earlier part did.
+build_program() {
+    [ -x crates/mcslab/out/mcslab ] || (cd crates/mcslab && rt run) </dev/null >"$room/build" 2>&1
+}
+
+# run_on INPUT ARGS..: runs the program, and leaves its status and what it wrote.
+run_on() {
+    input=$1
+    shift
+    timeout 60 "$program" "$@" <"$input" >"$room/stdout" 2>"$room/stderr"
+    status=$?
+}
+
+# wants NAME STATUS: the last run ended so, and its streams are those of $room/want and $room/want-stderr.
+wants() {
+    name="$build: $1"
+    if [ "$status" -ne "$2" ]; then
+        bad "$name" "status $status in place of $2; standard error: $(head -c 300 "$room/stderr")"
+    elif ! cmp -s "$room/want" "$room/stdout"; then
+        bad "$name" "standard output: $(cmp "$room/want" "$room/stdout" 2>&1 | head -n 1); it begins: $(head -c 300 "$room/stdout")"
+    elif ! cmp -s "$room/want-stderr" "$room/stderr"; then
+        bad "$name" "standard error: $(head -c 300 "$room/stderr")"
+    else
+        ok "$name"
+    fi
+}
+
+# told LINE: nothing on standard output, and this line on standard error (none: nothing)
+told() {
+    : >"$room/want"
+    : >"$room/want-stderr"
+    [ $# -eq 0 ] || printf '%s\n' "$1" >"$room/want-stderr"
+}
+
+# replies LINE..: these lines on standard output, each with CR LF, and nothing on standard error
+replies() {
+    printf '%s\r\n' "$@" >"$room/want"
+    : >"$room/want-stderr"
+}
+
+check_examples() {
+    for script in examples/*.txt; do
+        base=${script%.txt}
+        cp "$base.stdout" "$room/want"
+        : >"$room/want-stderr"
+        [ ! -f "$base.stderr" ] || cp "$base.stderr" "$room/want-stderr"
+        wanted=0
+        [ ! -f "$base.status" ] || wanted=$(cat "$base.status")
+        run_on "$script"
+        wants "example $(basename "$base")" "$wanted"
+    done
+}
+
+# Each refusal of a configuration by its number, in the order of the tests. The script is refused too, and isn't read.
+check_configurations() {
+    printf '1 frob\n' >"$room/refused"
+    while read -r number arguments; do
+        told "mcslab: config: $number"
+        # shellcheck disable=SC2086
+        run_on "$room/refused" $arguments
+        wants "refused: $arguments" 1
+    done <<'ROWS'
+1 --page 7
+1 --page 7 --first 0 --factor x
+1 --page 16392
+2 --first 23
+2 --first 1025
+2 --first 23 --factor x
+3 --factor x
+3 --factor 2
+3 --factor 2/1/1
+3 --factor 100000/1
+3 --factor 1/1
+3 --factor 2/0
+3 --factor 65536/1
+3 --factor /
+4 --max 511
+4 --max 40
+4 --max 1032
+5 --limit 1023
+5 --limit 66560
+6 --stripes 0
+6 --stripes 65
+7 --page 16384 --limit 65536
+8 --bulk 0
+8 --bulk 257
+ROWS
+}
+
+# What the reader of options refuses. Its text isn't fixed, so only the stream and the status are looked at.
+check_options() {
+    while read -r arguments; do
+        # shellcheck disable=SC2086
+        run_on "$room/refused" $arguments
+        if [ "$status" -eq 1 ] && [ ! -s "$room/stdout" ] && [ -s "$room/stderr" ] && ! grep -q '^mcslab: ' "$room/stderr"; then
+            ok "$build: refused: $arguments"
+        else
+            bad "$build: refused: $arguments" "status $status; standard error: $(head -c 300 "$room/stderr")"
+        fi
+    done <<'ROWS'
+--page
+--page x
+--page -1
+--page 18446744073709551616
+--page 1024 --page 1024
+--frob
+more
+ROWS
+    run_on "$room/refused" --help
+    if [ "$status" -eq 0 ] && [ -s "$room/stdout" ] && [ ! -s "$room/stderr" ]; then
+        ok "$build: --help"
+    else
+        bad "$build: --help" "status $status; standard error: $(head -c 300 "$room/stderr")"
+    fi
+}
+
+# Options that are taken show in the statistics.
+check_taken() {
+    printf '1 set 1 10 0\nstats slabs\n' >"$room/script"
+    replies 'STORED 1' 'STAT 4:chunk_size 104' 'STAT 4:chunks_per_page 9' 'STAT 4:total_pages 1' \
+        'STAT 4:total_chunks 9' 'STAT 4:used_chunks 1' 'STAT 4:free_chunks 8' 'STAT active_slabs 1' \
+        'STAT total_malloced 1024' END
+    run_on "$room/script" --factor 5/4
+    wants "--factor 5/4" 0
+    run_on "$room/script" --factor 00005/4
+    wants "--factor 00005/4" 0
+    replies 'STORED 1' 'STAT 1:chunk_size 512' 'STAT 1:chunks_per_page 2' 'STAT 1:total_pages 1' \
+        'STAT 1:total_chunks 2' 'STAT 1:used_chunks 1' 'STAT 1:free_chunks 1' 'STAT active_slabs 1' \
+        'STAT total_malloced 1024' END
+    run_on "$room/script" --first 400
+    wants "--first 400" 0
+    replies 'TOO_LARGE 1' 'STAT active_slabs 0' 'STAT total_malloced 0' END
+    run_on "$room/script" --max 96
+    wants "--max 96" 0
+    replies 'STORED 1' 'STAT 2:chunk_size 128' 'STAT 2:chunks_per_page 128' 'STAT 2:total_pages 1' \
+        'STAT 2:total_chunks 128' 'STAT 2:used_chunks 1' 'STAT 2:free_chunks 127' 'STAT active_slabs 1' \
+        'STAT total_malloced 16384' END
+    run_on "$room/script" --page 16384 --limit 65536 --first 64 --stripes 64 --bulk 256
+    wants "a page of 16384 bytes" 0
+    printf '1 set 1 61 0\n1 set 2 61 0\n1 set 3 61 0\n' >"$room/script"
+    replies 'STORED 1' 'STORED 2' 'NO_ROOM 3'
+    run_on "$room/script" --limit 2047
+    wants "--limit 2047 is one page" 0
+}
+
+# Scripts of no line, of the greatest length and one byte longer, and where the last line has no end.
+check_lengths() {
+    told
+    run_on /dev/null
+    wants "an empty script" 0
+    head -c 1048576 /dev/zero | tr '\0' '#' >"$room/script"
+    run_on "$room/script"
+    wants "a comment of 1,048,576 bytes" 0
+    printf '#' >>"$room/script"
+    told 'mcslab: script: too long'
+    run_on "$room/script"
+    wants "a comment of 1,048,577 bytes" 2
+    printf '1 frob\n' >"$room/long"
+    cat "$room/script" >>"$room/long"
+    run_on "$room/long"
+    wants "too long is told before a bad line" 2
+    told 'mcslab: script: line 2'
+    printf '1 set 1 3 7\n1 se' >"$room/script"
+    run_on "$room/script"
+    wants "a last line that is cut off" 2
+    replies 'NOT_FOUND 1' 'STAT active_slabs 0' 'STAT total_malloced 0' END
+    printf '1 del 1\r\nstats slabs' >"$room/script"
+    run_on "$room/script"
+    wants "a last line without an end" 0
+}
+
+# Streams that fail.
+check_streams() {
+    run_on "$room" # a directory opens, and can't be read
+    told 'mcslab: read'
+    wants "a directory as standard input" 3
+
+    if [ -c /dev/full ]; then
+        timeout 60 "$program" <examples/first-path.txt >/dev/full 2>"$room/stderr"
+        status=$?
+        : >"$room/stdout"
+        told 'mcslab: write'
+        wants "a full device" 3
+        timeout 60 "$program" --help </dev/null >/dev/full 2>"$room/stderr"
+        status=$?
+        wants "a full device, --help" 3
+    fi
+
+    # a megabyte of replies, of which the reader takes one byte
+    awk 'BEGIN { for (i = 0; i < 20000; i++) print "stats slabs" }' >"$room/script"
+    { timeout 60 "$program" <"$room/script" 2>"$room/stderr"; echo $? >"$room/status"; } | head -c 1 >"$room/first"
+    status=$(cat "$room/status")
+    : >"$room/stdout"
+    wants "a closed pipe" 3
+
+    # a few bytes may be taken before the pipe is closed
+    { timeout 60 "$program" <examples/first-path.txt 2>"$room/stderr"; echo $? >"$room/status"; } | head -c 1 >"$room/first"
+    status=$(cat "$room/status")
+    case $status in
+    0 | 3) ok "$build: a pipe that is closed early" ;;
+    *) bad "$build: a pipe that is closed early" "status $status; standard error: $(head -c 300 "$room/stderr")" ;;
+    esac
+}
+
+check_program() {
+    if ! build_program || [ ! -x crates/mcslab/out/mcslab ]; then
+        bad "the program" "it was not built: $(tail -n 5 "$room/build" 2>/dev/null)"
+        return
+    fi
+    for program in "$top/crates/mcslab/out/mcslab" "$top/crates/mcslab/out/mcslab.by-rattle"; do
+        # only `rt ci` builds the second
+        [ -x "$program" ] || continue
+        build=$(basename "$program")
+        check_examples
+        check_configurations
+        check_options
+        check_taken
+        check_lengths
+        check_streams
+    done
+}

@@ -1,0 +1,63 @@
+-- The size classes of a slab memory.
+use Rattle.std.specs.Prelude.{◌≡◌, ℕ, ◌+◌, ◌-◌, ◌*◌, ◌/◌, ◌^◌, ◌<◌, ◌≤◌, IsTrue, nat_le, List, length, slice_get, slice_index, position, Option, Some}
+use Rattle.std.specs.Option.{option_map}
+use Rattle.mc_classes.specs.declared.config.Config.{Config}
+use Rattle.mc_classes.specs.Refusals.{rounded_up, is_below_max}
+
+-- the bytes of a page, the bytes that may be granted, and the size of each class, class 1 first
+pub record Classes : Type 0 where
+  pub page : ℕ
+  pub limit : ℕ
+  pub sizes : List ℕ
+
+-- how many pages may be granted
+abbrev pub pages_of : Classes → ℕ
+pages_of classes = classes.limit / classes.page
+
+-- the classes are numbered from 1
+abbrev pub IsClass : Classes → ℕ → Type 0
+IsClass classes class = (1 ≤ class) × (class ≤ length classes.sizes)
+
+-- the bytes of a chunk of the class
+abbrev pub size_of : Classes → ℕ → ℕ
+size_of classes class = slice_index classes.sizes (class - 1)
+
+-- the chunks of a page of the class
+abbrev pub per_page_of : Classes → ℕ → ℕ
+per_page_of classes class = classes.page / size_of classes class
+
+-- the lowest class whose size is at least so many bytes
+abbrev pub class_of : Classes → ℕ → Option ℕ
+class_of classes bytes = option_map (λ place. place + 1) (position (λ size. nat_le bytes size) classes.sizes)
+
+-- before the last class: the raw size is still below, is raised to the size, and the factor gives the next raw size
+pub record IsStep (config : Config) (raw size next : ℕ) : Type 0 where
+  pub below : IsTrue (is_below_max config raw)
+  pub raised : size ≡ rounded_up raw
+  pub grown : next ≡ size * config.num / config.den
+
+-- the sizes of the classes come from these raw sizes
+pub record ComesFrom (config : Config) (raws sizes : List ℕ) : Type 0 where
+  pub paired : length raws ≡ length sizes
+  pub begins : slice_get raws 0 ≡ Some config.first
+  pub steps : (i : ℕ) → i + 1 < length sizes → IsStep config (slice_index raws i) (slice_index sizes i) (slice_index raws (i + 1))
+  pub last : slice_get sizes (length sizes - 1) ≡ Some config.max
+  pub most : length sizes ≤ 63
+  pub ends : length sizes < 63 → config.max * config.den ≤ slice_index raws (length raws - 1) * config.num
+
+-- some raw sizes exist from which the table's sizes come
+pub record IsTableOf (config : Config) (classes : Classes) : Type 0 where
+  pub page : classes.page ≡ config.page
+  pub limit : classes.limit ≡ config.limit
+  pub raws : List ℕ
+  pub comes : ComesFrom config raws classes.sizes
+
+-- what every table keeps: from 1 to 63 classes of 24 bytes to a page, none smaller than a lower one, at most 256 chunks and 64 pages
+pub record IsSound (classes : Classes) : Type 0 where
+  pub page : (64 ≤ classes.page) × (classes.page ≤ 16384)
+  pub limit : classes.limit < 2 ^ 64
+  pub pages : (1 ≤ pages_of classes) × (pages_of classes ≤ 64)
+  pub count : (1 ≤ length classes.sizes) × (length classes.sizes ≤ 63)
+  pub sizes : (class : ℕ) → IsClass classes class → (24 ≤ size_of classes class) × (size_of classes class ≤ classes.page)
+  pub chunks : (class : ℕ) → IsClass classes class → (1 ≤ per_page_of classes class) × (per_page_of classes class ≤ 256)
+  pub order : (low high : ℕ) → IsClass classes low → IsClass classes high → low ≤ high → size_of classes low ≤ size_of classes high

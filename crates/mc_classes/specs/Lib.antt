@@ -1,0 +1,3 @@
+pub mod Refusals
+pub mod Classes
+pub mod Device

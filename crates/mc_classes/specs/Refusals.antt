@@ -1,0 +1,46 @@
+-- Which configurations are refused, and why.
+use Rattle.std.specs.Prelude.{ℕ, ◌+◌, ◌*◌, ◌/◌, ◌%◌, ◌==◌, Bool, not, ◌&&◌, nat_le, nat_lt, if◌then◌else◌, Option, None, Some}
+use Rattle.mc_classes.specs.declared.config.Config.{Config}
+use Rattle.mc_classes.specs.declared.config.ConfigError.{ConfigError}
+use Rattle.mc_classes.specs.declared.config.ConfigError.TheVariants.{PageSize, FirstSize, Factor, ChunkMax, Limit, Stripes, TooManyChunks, Bulk, NoMemory}
+
+-- n is from low to high
+abbrev pub is_between : ℕ → ℕ → ℕ → Bool
+is_between low high n = nat_le low n && nat_le n high
+
+-- the least multiple of 8 that is at least n
+abbrev pub rounded_up : ℕ → ℕ
+rounded_up n = (n + 7) / 8 * 8
+
+-- a class of this raw size still stands before the last one
+abbrev pub is_below_max : Config → ℕ → Bool
+is_below_max config raw = nat_lt (raw * config.num) (config.max * config.den)
+
+-- the size of class 1
+abbrev pub first_size : Config → ℕ
+first_size config = if is_below_max config config.first then rounded_up config.first else config.max
+
+-- the first test that the configuration fails, in the order of the refusals
+abbrev pub refusal_of : Config → Option ConfigError
+refusal_of config =
+    if not (config.page % 8 == 0 && is_between 64 16384 config.page) then Some PageSize
+    else if not (is_between 24 config.page config.first) then Some FirstSize
+    else if not (nat_lt 0 config.den && nat_lt config.den config.num && nat_le config.num 65535) then Some Factor
+    else if not (config.max % 8 == 0 && is_between config.first config.page config.max) then Some ChunkMax
+    else if not (is_between 1 64 (config.limit / config.page)) then Some Limit
+    else if not (is_between 1 64 config.stripes) then Some Stripes
+    else if not (nat_le (config.page / first_size config) 256) then Some TooManyChunks
+    else if not (is_between 1 256 config.bulk) then Some Bulk
+    else None
+
+-- the refusals are numbered from 1 in this order
+abbrev pub number_of : ConfigError → ℕ
+number_of PageSize = 1
+number_of FirstSize = 2
+number_of Factor = 3
+number_of ChunkMax = 4
+number_of Limit = 5
+number_of Stripes = 6
+number_of TooManyChunks = 7
+number_of Bulk = 8
+number_of NoMemory = 9

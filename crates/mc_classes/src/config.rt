@@ -1,0 +1,206 @@
+//! What a slab memory is configured with, and why a configuration is refused.
+ghost use Rattle.std.specs.Prelude.{◌≡◌, ◌^◌, ◌≤◌, IfErr, OnOk};
+ghost use Rattle.mc_classes.specs.Refusals.{refusal_of, number_of, rounded_up, is_below_max, first_size};
+
+use std::alloc::AllocError;
+use std::error::Error;
+use std::fmt;
+
+/// Eight numbers that decide the size classes and the limits. Sizes are in bytes.
+#[derive(Clone, Copy, Debug, PartialEq, Eq)]
+pub struct Config {
+    /// The size of a page.
+    pub page: u64,
+    /// How many bytes of pages may be granted.
+    pub limit: u64,
+    /// The raw size that the first class begins with.
+    pub first: u64,
+    /// The growth factor from class to class is `num / den`.
+    pub num: u64,
+    /// The growth factor's denominator.
+    pub den: u64,
+    /// The size of the last class.
+    pub max: u64,
+    /// How many item locks there are.
+    pub stripes: u64,
+    /// How many chunks the mover looks at in one turn.
+    pub bulk: u64,
+}
+
+/// Why there is no class table for a configuration. The tests are made in this order (own).
+#[derive(Clone, Copy, Debug, PartialEq, Eq)]
+pub enum ConfigError {
+    /// The page size isn't a multiple of 8, or is outside 64 to 16,384.
+    PageSize,
+    /// The first raw size is outside 24 to the page size.
+    FirstSize,
+    /// The denominator is 0, or the numerator isn't above it or is above 65,535.
+    Factor,
+    /// The last class's size isn't a multiple of 8, is below the first raw size or above the page size.
+    ChunkMax,
+    /// The limit has no page, or more than 64.
+    Limit,
+    /// There are no stripes, or more than 64.
+    Stripes,
+    /// A page of the first class has more than 256 chunks.
+    TooManyChunks,
+    /// The mover's turn has no chunk, or more than 256.
+    Bulk,
+    /// Memory ran out.
+    NoMemory,
+}
+
+impl ConfigError {
+    /// The refusal's number, 1 to 9, in the order of the tests.
+    pub fn number(self) -> u64
+        ensures { result ≡ number_of self }
+    {
+        match self {
+            ConfigError::PageSize => 1,
+            ConfigError::FirstSize => 2,
+            ConfigError::Factor => 3,
+            ConfigError::ChunkMax => 4,
+            ConfigError::Limit => 5,
+            ConfigError::Stripes => 6,
+            ConfigError::TooManyChunks => 7,
+            ConfigError::Bulk => 8,
+            ConfigError::NoMemory => 9,
+        }
+    }
+}
+
+impl fmt::Display for ConfigError {
+    fn fmt<W: fmt::Write>(&self, f: &mut fmt::Formatter<W>) -> fmt::Result {
+        f.write_str(match self {
+            ConfigError::PageSize => "the page size must be a multiple of 8 from 64 to 16384 bytes",
+            ConfigError::FirstSize => "the first size must be from 24 bytes to the page size",
+            ConfigError::Factor =>
+                "the growth factor must be above 1, with a numerator of at most 65535",
+            ConfigError::ChunkMax => {
+                "the greatest size must be a multiple of 8 from the first size to the page size"
+            }
+            ConfigError::Limit => "the limit must have room for 1 to 64 pages",
+            ConfigError::Stripes => "the number of stripes must be from 1 to 64",
+            ConfigError::TooManyChunks => {
+                "a page of the first class would have more than 256 chunks: raise the first size or lower the page size"
+            }
+            ConfigError::Bulk => "the number of chunks a turn must be from 1 to 256",
+            ConfigError::NoMemory => "out of memory",
+        })
+    }
+}
+
+impl Error for ConfigError {}
+
+impl From<AllocError> for ConfigError {
+    ghost use Rattle.std.specs.Prelude.{◌≡◌};
+    ghost use Rattle.mc_classes.specs.declared.config.ConfigError.TheVariants.{NoMemory};
+
+    ghost from_gives = { λ _ e. e ≡ NoMemory };
+
+    fn from(_e: AllocError) -> ConfigError {
+        ConfigError::NoMemory
+    }
+}
+
+/// The least multiple of 8 that is at least `n`.
+pub(crate) fn rounded_up(n: u64) -> u64
+    requires { n ≤ 16384 }
+    ensures { result ≡ rounded_up n }
+{
+    n.div_ceil(8) * 8
+}
+
+impl Config {
+    /// Whether a class of this raw size still stands before the last one.
+    pub(crate) fn is_below_max(&self, raw: u64) -> bool
+        requires raw { raw ≤ 2 ^ 30 }
+        requires num { self.now.num ≤ 65535 }
+        requires max { self.now.max ≤ 16384 }
+        requires den { self.now.den ≤ 65535 }
+        ensures { result ≡ is_below_max self.now raw }
+    {
+        raw * self.num < self.max * self.den
+    }
+
+    /// The size of class 1.
+    fn first_size(&self) -> u64
+        requires first { self.now.first ≤ 16384 }
+        requires num { self.now.num ≤ 65535 }
+        requires max { self.now.max ≤ 16384 }
+        requires den { self.now.den ≤ 65535 }
+        ensures { result ≡ first_size self.now }
+    {
+        if self.is_below_max(self.first) {
+            rounded_up(self.first)
+        } else {
+            self.max
+        }
+    }
+
+    /// The tests, in their order.
+    pub(crate) fn test(&self) -> Result<(), ConfigError>
+        ensures accepted { OnOk result (refusal_of self.now ≡ None) }
+        ensures refused { IfErr result (λ error. refusal_of self.now ≡ Some error) }
+    {
+        if self.page % 8 != 0 || self.page < 64 || self.page > 16_384 {
+            return Err(ConfigError::PageSize);
+        }
+        if self.first < 24 || self.first > self.page {
+            return Err(ConfigError::FirstSize);
+        }
+        if self.den == 0 || self.num <= self.den || self.num > 65_535 {
+            return Err(ConfigError::Factor);
+        }
+        if self.max % 8 != 0 || self.max < self.first || self.max > self.page {
+            return Err(ConfigError::ChunkMax);
+        }
+        let pages = self.limit / self.page;
+        if pages < 1 || pages > 64 {
+            return Err(ConfigError::Limit);
+        }
+        if self.stripes < 1 || self.stripes > 64 {
+            return Err(ConfigError::Stripes);
+        }
+        if self.page / self.first_size() > 256 {
+            return Err(ConfigError::TooManyChunks);
+        }
+        if self.bulk < 1 || self.bulk > 256 {
+            return Err(ConfigError::Bulk);
+        }
+        Ok(())
+    }
+}
+
+#[cfg(test)]
+mod tests {
+    use super::*;
+    use std::test::Fail;
+
+    #[test]
+    fn numbers_and_texts(rt: HostRuntime) -> Result<(), Fail> {
+        let rows = [
+            (ConfigError::PageSize, 1, "the page size must"),
+            (ConfigError::FirstSize, 2, "the first size must"),
+            (ConfigError::Factor, 3, "the growth factor must"),
+            (ConfigError::ChunkMax, 4, "the greatest size must"),
+            (ConfigError::Limit, 5, "the limit must"),
+            (ConfigError::Stripes, 6, "the number of stripes must"),
+            (
+                ConfigError::TooManyChunks,
+                7,
+                "a page of the first class would",
+            ),
+            (ConfigError::Bulk, 8, "the number of chunks a turn must"),
+            (ConfigError::NoMemory, 9, "out of memory"),
+        ];
+        for (error, number, text) in rows {
+            assert_eq!(rt; error.number(), number, "{error:?}");
+            assert!(rt;
+                format!(in rt.alloc(); "{error}")?.starts_with(text),
+                "{error}"
+            );
+        }
+        Ok(())
+    }
+}

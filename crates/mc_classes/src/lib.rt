@@ -1,0 +1,18 @@
+//! The configuration of a slab memory and the table of its size classes, after memcached's slabs.c.
+//!
+//! [`ClassTable::build`] tests a [`Config`] and computes the sizes. [`Source`] and [`Sink`] are the
+//! readers and writers of every crate above: their ghost members tell contracts the bytes and how often
+//! they failed, and [`Failures`] counts that at no cost.
+#![tactic(auto)]
+
+mod config;
+mod device;
+mod failures;
+mod laws;
+mod table;
+
+pub use config::{Config, ConfigError};
+pub use device::{Fault, Sink, Source};
+pub use failures::Failures;
+pub use laws::{one_table, sound_table};
+pub use table::{ClassId, ClassTable, PageId};

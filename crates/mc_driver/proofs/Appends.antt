@@ -1,0 +1,6 @@
+-- Texts that are put together from parts.
+use Rattle.std.proofs.Common.{◌≡◌, ℕ, List, ◌++◌, ap, ◌∙◌, append_assoc}
+
+-- three parts, one after another
+pub appends_three : (old first second new x y z : List ℕ) → first ≡ old ++ x → second ≡ first ++ y → new ≡ second ++ z → new ≡ old ++ ((x ++ y) ++ z)
+appends_three old first second new x y z e f g = rw (g, f, e) (simp append_assoc)

@@ -1,0 +1,20 @@
+-- A number of each class, class after class.
+use Rattle.std.proofs.Common.{◌≡◌, ℕ, ◌+◌, ◌-◌, ◌*◌, ◌<◌, ◌≤◌, List, [], ◌∷◌, ◌++◌, length, take, get_or, refl, ap, sym, ◌∙◌, arith}
+use Rattle.std.specs.Prelude.{map}
+use Rattle.std.proofs.lemmas.List.{take_more, take_all, length-map, get_or-map}
+use Rattle.mc_pages.specs.ClassState.{ClassState, new_class}
+use Rattle.mc_pages.specs.SlabState.{SlabState, class_at}
+
+-- the number of one class more
+pub counts_more : (f : ClassState → ℕ) (slabs : SlabState) (place : ℕ) (counts : List ℕ) → counts ≡ take place (map f slabs.classes)
+    → place < length slabs.classes → counts ++ f (class_at slabs (place + 1)) ∷ [] ≡ take (place + 1) (map f slabs.classes)
+counts_more f slabs place counts so_far inside =
+    let within : place < length (map f slabs.classes) = rw (length-map slabs.classes f) inside in
+    let here : place + 1 - 1 ≡ place = omega arith in
+    rw (here, so_far, take_more (map f slabs.classes) place 0 within, get_or-map f slabs.classes place (new_class 0 0) 0 inside) refl
+
+-- the numbers of all
+pub counts_all : (f : ClassState → ℕ) (slabs : SlabState) (place : ℕ) (counts : List ℕ) → counts ≡ take place (map f slabs.classes)
+    → length slabs.classes ≡ place → counts ≡ map f slabs.classes
+counts_all f slabs place counts so_far all =
+    so_far ∙ take_all place (map f slabs.classes) (rw (length-map slabs.classes f) (omega arith))

@@ -1,0 +1,303 @@
+-- What the keeper's steps keep.
+use Rattle.std.proofs.Common.{◌≡◌, ◌≢◌, ℕ, ◌+◌, ◌-◌, ◌/◌, ◌≤◌, ◌<◌, ◌⊎◌, List, [], ◌∷◌, ◌++◌, length, get_or, set, Bool, true, false, cond, Option, Some, None, suc, zero, inl, inr, refl, ap, sym, ◌∙◌, arith, eqb}
+use Rattle.std.specs.Prelude.{fold, map, slice_get}
+use Rattle.std.specs.Ordering.{nat_cmp}
+use Rattle.std.specs.BTreeMap.{is_at}
+use Rattle.std.specs.Map.{lookup}
+use Rattle.std.specs.Option.{option_map_or}
+use Rattle.std.proofs.lemmas.Bool.Decides.{nat_tests, leb_tells}
+use Rattle.std.proofs.lemmas.List.{get_or-set_same, get_or-set_other, get_or_past, length-set, length-map}
+use Rattle.std.proofs.lemmas.List.Quantifiers.{position-Some}
+use Rattle.mc_classes.specs.Classes.{Classes, IsSound}
+use Rattle.mc_pages.specs.declared.ids.ChunkId.{ChunkId}
+use Rattle.mc_pages.specs.declared.ledger.Owner.{Owner}
+use Rattle.mc_pages.specs.declared.ledger.Owner.TheVariants.{Untouched, Pool, Class, Moving}
+use Rattle.mc_pages.specs.Ledger.{owner_at}
+use Rattle.mc_pages.specs.ClassState.{ClassState, new_class, is_chunk, times, without, first_free, popped, handed_out, put_back, with_page}
+use Rattle.mc_pages.specs.SlabState.{SlabState, IsClass, class_at, class_of_owner, class_of_page, class_of_chunk, fresh_slabs, untouched_page, is_untouched}
+use Rattle.mc_pages.specs.Accounted.{IsAccounted, truth}
+use Rattle.mc_pages.specs.Changes.{with_class, after_pop, after_back, after_grant, after_cut}
+use Rattle.mc_driver.specs.Item.{Item, new_item, is_linked_to, is_dead_item}
+use Rattle.mc_driver.specs.Items.{Items, chunk_cmp, item_at, is_dead, with_item, without_item, unlinked_in, unlinked_items, linked_chunk}
+use Rattle.mc_driver.specs.Kept.{places, links, IsKept, IsVacant}
+use Rattle.mc_driver.proofs.Chunks.{places_none, places-with_item, places-unlinked_items, places-without_item, places-without_item-le, chunk_cmp-equal, chunk_cmp-self, none-places}
+use Rattle.mc_driver.proofs.Links.{links_none, links-with_item, links-unlinked_items, links-without_item-le, linked_chunk-with_item, linked_chunk-unlinked_items, linked_chunk-without_item, some_places, LinkedIn, linked_in, unlinked_items_none}
+use Rattle.mc_driver.proofs.Orders.{is_chunk-same, is_chunk-self, times-without, times-without_other, times-cons, in_lists_once, page_of_listed}
+use Rattle.mc_driver.proofs.Moves.{class_at-with_class, class_at-with_other, order-with_class, owners-cuts, classes-cuts, order-cuts, handed-order, handed-chunk, per_page-handed, per_pages-with_class, per_pages-cuts, page-cuts, limit-cuts}
+
+-- two chunks compare equal and are one, or don't
+is_at-tells : (c d : ChunkId) → ((is_at (chunk_cmp c) d ≡ true) × (c ≡ d)) ⊎ ((is_at (chunk_cmp c) d ≡ false) × (c ≢ d))
+is_at-tells c d = grind (arith, nat_tests)
+
+is_chunk-tells : (c d : ChunkId) → ((is_chunk c d ≡ true) × (c ≡ d)) ⊎ ((is_chunk c d ≡ false) × (c ≢ d))
+is_chunk-tells c d = grind (arith, nat_tests)
+
+-- a class that isn't there has no hand-out order
+no_order : (n : ℕ) (slabs : SlabState) (x : ChunkId) → length slabs.classes ≤ n - 1 → times x (class_at slabs n).order ≡ 0
+no_order n slabs x past =
+    let none : (class_at slabs n).order ≡ [] = ap (λ (c : ClassState). c.order) (get_or_past slabs.classes (n - 1) (new_class 0 0) past) in
+    rw none refl
+
+-- a chunk that stands in the hand-out order of its page's class: that class is there
+class_there : (n : ℕ) (slabs : SlabState) (x : ChunkId) → IsAccounted slabs → class_of_page slabs x.page ≡ n
+    → 1 ≤ times x (class_at slabs n).order → IsClass slabs n
+class_there zero slabs x accounted is here = elim (leb_tells 1 (length slabs.classes)) [
+  | inl some ↦
+      let one : class_of_page slabs x.page ≡ 1 = page_of_listed slabs 1 x accounted (omega arith, some.1) (omega arith) in
+      absurd (omega arith)
+  | inr none ↦ absurd (omega (arith, no_order 0 slabs x (omega (arith, none.1))))
+]
+class_there (suc n) slabs x accounted is here = elim (leb_tells (suc n) (length slabs.classes)) [
+  | inl inside ↦ (omega arith, inside.1)
+  | inr past ↦ absurd (omega (arith, no_order (suc n) slabs x (omega (arith, past.1))))
+]
+
+-- the classes of a table have its chunks a page
+per_pages-fresh : (page : ℕ) (sizes : List ℕ)
+    → map (λ (c : ClassState). c.per_page) (map (λ size. new_class size (page / size)) sizes) ≡ map (λ size. page / size) sizes
+per_pages-fresh page [] = refl
+per_pages-fresh page (size ∷ sizes) = ap (λ cs. (page / size) ∷ cs) (per_pages-fresh page sizes)
+
+-- where nothing is stored yet
+pub kept_fresh : (table : Classes) (slabs : SlabState) (index : List (ℕ × ChunkId)) (items : Items)
+    → IsSound table → slabs ≡ fresh_slabs table → IsAccounted slabs → index ≡ [] → items ≡ [] → IsKept table slabs index items
+kept_fresh table slabs index items sound slabs_is accounted index_is items_is = rw (index_is, items_is) (record {
+  sound = sound;
+  classes = rw slabs_is (length-map table.sizes (λ size. new_class size (table.page / size)));
+  per_page = rw slabs_is (per_pages-fresh table.page table.sizes);
+  page = rw slabs_is refl;
+  limit = rw slabs_is refl;
+  whole = rw slabs_is refl;
+  accounted = accounted;
+  leads = λ key. refl;
+  one_link = λ key. omega arith;
+  handed_out = λ chunk. omega arith;
+})
+
+-- an item's chunk stands in the hand-out order of a class that is there
+listed : (table : Classes) (slabs : SlabState) (index : List (ℕ × ChunkId)) (items : Items) (x : ChunkId)
+    → IsKept table slabs index items → 1 ≤ places x items → IsClass slabs (class_of_page slabs x.page)
+listed table slabs index items x kept there =
+    class_there (class_of_page slabs x.page) slabs x kept.accounted refl (omega (arith, kept.handed_out x))
+
+-- no chunk stands among the items twice
+pub place_once : (table : Classes) (slabs : SlabState) (index : List (ℕ × ChunkId)) (items : Items) (x : ChunkId)
+    → IsKept table slabs index items → places x items ≤ 1
+place_once table slabs index items x kept = elim (leb_tells 1 (places x items)) [
+  | inl some ↦
+      let there : IsClass slabs (class_of_page slabs x.page) = listed table slabs index items x kept some.1 in
+      omega (arith, kept.handed_out x, in_lists_once slabs (class_of_page slabs x.page) x kept.accounted there)
+  | inr none ↦ omega (arith, none.1)
+]
+
+-- what the index finds is the chunk of the key's item, and that item is unlinked
+pub unlinks_found : (table : Classes) (slabs : SlabState) (index : List (ℕ × ChunkId)) (items : Items) (key : ℕ) (chunk : ChunkId)
+    → IsKept table slabs index items → lookup (is_at (nat_cmp key)) index ≡ Some chunk
+    → unlinked_in items chunk (item_at items chunk) ≡ unlinked_items items key
+unlinks_found table slabs index items key chunk kept found =
+    let leads : linked_chunk items key ≡ Some chunk = sym (kept.leads key) ∙ found in
+    let item : LinkedIn key chunk items = linked_in key chunk items leads (place_once table slabs index items chunk kept) (kept.one_link key) in
+    rw item.there item.unlinks
+
+-- where it finds none, nothing is to unlink
+pub unlinks_none : (table : Classes) (slabs : SlabState) (index : List (ℕ × ChunkId)) (items : Items) (key : ℕ)
+    → IsKept table slabs index items → lookup (is_at (nat_cmp key)) index ≡ None → unlinked_items items key ≡ items
+unlinks_none table slabs index items key kept none = unlinked_items_none key items (sym (kept.leads key) ∙ none)
+
+-- a pop takes no chunk out of a hand-out order
+order_pop_step : (b : Bool) (slabs : SlabState) (class other : ℕ) (x : ChunkId) → IsClass slabs class → IsClass slabs other → eqb other class ≡ b
+    → times x (class_at slabs other).order ≤ times x (class_at (after_pop slabs class) other).order
+order_pop_step true slabs class other x valid valid_other is =
+    let same : other ≡ class = grind (arith, nat_tests) in
+    rw (same, class_at-with_class slabs class (popped (class_at slabs class)) valid) (handed-order x (class_at slabs class) (class_at slabs class).free)
+order_pop_step false slabs class other x valid valid_other is =
+    let apart : other ≢ class = grind (arith, nat_tests) in
+    rw (class_at-with_other slabs class other (popped (class_at slabs class)) valid valid_other apart) (omega arith)
+
+order_pop : (slabs : SlabState) (class other : ℕ) (x : ChunkId) → IsClass slabs class → IsClass slabs other
+    → times x (class_at slabs other).order ≤ times x (class_at (after_pop slabs class) other).order
+order_pop slabs class other x valid valid_other = order_pop_step (eqb other class) slabs class other x valid valid_other refl
+
+-- after a chunk is popped
+pub kept_pop : (table : Classes) (slabs : SlabState) (index : List (ℕ × ChunkId)) (items : Items) (class : ℕ)
+    → IsKept table slabs index items → IsClass slabs class → IsAccounted (after_pop slabs class) → IsKept table (after_pop slabs class) index items
+kept_pop table slabs index items class kept valid accounted = record {
+  sound = kept.sound;
+  classes = length-set slabs.classes _ _ ∙ kept.classes;
+  per_page = per_pages-with_class slabs class (popped (class_at slabs class)) (per_page-handed (class_at slabs class) (class_at slabs class).free) ∙ kept.per_page;
+  page = kept.page;
+  limit = kept.limit;
+  whole = kept.whole;
+  accounted = accounted;
+  leads = kept.leads;
+  one_link = kept.one_link;
+  handed_out = λ x. elim (leb_tells 1 (places x items)) [
+    | inl some ↦
+        let there : IsClass slabs (class_of_page slabs x.page) = listed table slabs index items x kept some.1 in
+        omega (arith, kept.handed_out x, order_pop slabs class (class_of_page slabs x.page) x valid there)
+    | inr none ↦ omega (arith, none.1)
+  ];
+}
+
+-- the head of a free list stands in it
+free_head : (x : ChunkId) (free : List ChunkId) → slice_get free 0 ≡ Some x → 1 ≤ times x free
+free_head x [] h = cc
+free_head x (c ∷ free) h =
+    let same : c ≡ x = cc in
+    let self : is_chunk c x ≡ true = rw same (is_chunk-self x) in
+    grind (arith, nat_tests, times-cons x c free)
+
+pub vacant_pop : (table : Classes) (slabs : SlabState) (index : List (ℕ × ChunkId)) (items : Items) (class : ℕ) (x : ChunkId)
+    → IsKept table slabs index items → IsClass slabs class → first_free (class_at slabs class) ≡ Some x → IsVacant (after_pop slabs class) items x
+vacant_pop table slabs index items class x kept valid head =
+    let free : 1 ≤ times x (class_at slabs class).free = free_head x (class_at slabs class).free head in
+    let own : class_of_page slabs x.page ≡ class = page_of_listed slabs class x kept.accounted valid (omega arith) in
+    let once : times x (class_at slabs class).free + times x (class_at slabs class).order ≤ 1 = in_lists_once slabs class x kept.accounted valid in
+    let held : places x items ≤ times x (class_at slabs class).order = rw own at (kept.handed_out x) in
+    let none : places x items ≡ 0 = omega arith in
+    let handed : times x (handed_out (class_at slabs class) (class_at slabs class).free).order ≡ times x (class_at slabs class).order + 1
+    = handed-chunk x (class_at slabs class) (class_at slabs class).free head in
+    record {
+      empty = none-places x items none;
+      listed = rw (own, class_at-with_class slabs class (popped (class_at slabs class)) valid) (omega (arith, handed));
+    }
+
+-- after an item comes into a vacant chunk, under a key that led nowhere
+pub kept_put : (table : Classes) (slabs : SlabState) (index new_index : List (ℕ × ChunkId)) (items : Items) (key : ℕ) (words : List ℕ) (x : ChunkId)
+    → IsKept table slabs index items → IsVacant slabs items x → linked_chunk items key ≡ None
+    → ((q : ℕ) → lookup (is_at (nat_cmp q)) new_index ≡ cond (is_at (nat_cmp key) q) (Some x) (lookup (is_at (nat_cmp q)) index))
+    → IsKept table slabs new_index (with_item items x (new_item key words))
+kept_put table slabs index new_index items key words x kept vacant unlinked index_is = record {
+  sound = kept.sound;
+  classes = kept.classes;
+  per_page = kept.per_page;
+  page = kept.page;
+  limit = kept.limit;
+  whole = kept.whole;
+  accounted = kept.accounted;
+  leads = λ q. grind (arith, nat_tests, index_is q, kept.leads q, linked_chunk-with_item q key words x items vacant.empty unlinked);
+  one_link = λ q. grind (arith, nat_tests, kept.one_link q, links_none key items unlinked, links-with_item q x (new_item key words) items vacant.empty);
+  handed_out = λ y. elim (is_at-tells y x) [
+    | inl same ↦ grind (arith, nat_tests, kept.handed_out y, vacant.listed, places_none x items vacant.empty, places-with_item y x (new_item key words) items vacant.empty)
+    | inr other ↦ omega (arith, kept.handed_out y, rw other.0 at (places-with_item y x (new_item key words) items vacant.empty))
+  ];
+}
+
+-- after a key is unlinked
+pub kept_unlink : (table : Classes) (slabs : SlabState) (index new_index : List (ℕ × ChunkId)) (items : Items) (key : ℕ)
+    → IsKept table slabs index items
+    → ((q : ℕ) → lookup (is_at (nat_cmp q)) new_index ≡ cond (is_at (nat_cmp key) q) None (lookup (is_at (nat_cmp q)) index))
+    → IsKept table slabs new_index (unlinked_items items key)
+kept_unlink table slabs index new_index items key kept index_is = record {
+  sound = kept.sound;
+  classes = kept.classes;
+  per_page = kept.per_page;
+  page = kept.page;
+  limit = kept.limit;
+  whole = kept.whole;
+  accounted = kept.accounted;
+  leads = λ q. grind (arith, nat_tests, index_is q, kept.leads q, linked_chunk-unlinked_items q key items);
+  one_link = λ q. grind (arith, nat_tests, kept.one_link q, links-unlinked_items q key items);
+  handed_out = λ y. rw (places-unlinked_items y key items) (kept.handed_out y);
+}
+
+-- what is dead is there
+dead_item : (items : Items) (x : ChunkId) → is_dead items x ≡ true → (item : Item) × (item_at items x ≡ Some item) × (is_dead_item item ≡ true)
+dead_item items x dead = dead_item_at (item_at items x) refl dead
+  where
+    dead_item_at : (found : Option Item) → item_at items x ≡ found → option_map_or is_dead_item found false ≡ true
+        → (item : Item) × (item_at items x ≡ Some item) × (is_dead_item item ≡ true)
+    dead_item_at None is bad = cc
+    dead_item_at (Some item) is dead_here = (item, is, dead_here)
+
+-- a put back takes one chunk out of one hand-out order
+order_back_step : (b : Bool) (slabs : SlabState) (other : ℕ) (x y : ChunkId) → IsClass slabs (class_of_page slabs x.page) → IsClass slabs other
+    → is_chunk x y ≡ false → eqb other (class_of_page slabs x.page) ≡ b
+    → times y (class_at (after_back slabs x) other).order ≡ times y (class_at slabs other).order
+order_back_step true slabs other x y valid valid_other apart is =
+    let same : other ≡ class_of_page slabs x.page = grind (arith, nat_tests) in
+    rw (same, class_at-with_class slabs (class_of_page slabs x.page) (put_back (class_of_chunk slabs x) x) valid)
+    (times-without_other x y (class_of_chunk slabs x).order apart)
+order_back_step false slabs other x y valid valid_other apart is =
+    let elsewhere : other ≢ class_of_page slabs x.page = grind (arith, nat_tests) in
+    rw (class_at-with_other slabs (class_of_page slabs x.page) other (put_back (class_of_chunk slabs x) x) valid valid_other elsewhere) refl
+
+-- after a dead chunk is put back and its item is gone
+pub kept_reclaim : (table : Classes) (slabs : SlabState) (index : List (ℕ × ChunkId)) (items : Items) (x : ChunkId)
+    → IsKept table slabs index items → IsAccounted (after_back slabs x) → is_dead items x ≡ true → IsClass slabs (class_of_page slabs x.page)
+    → IsKept table (after_back slabs x) index (without_item items x)
+kept_reclaim table slabs index items x kept accounted dead valid =
+    let found = dead_item items x dead in
+    let there : 1 ≤ places x items = some_places x found.0 items found.1 in
+    record {
+      sound = kept.sound;
+      classes = length-set slabs.classes _ _ ∙ kept.classes;
+      per_page = per_pages-with_class slabs (class_of_page slabs x.page) (put_back (class_of_chunk slabs x) x) refl ∙ kept.per_page;
+      page = kept.page;
+      limit = kept.limit;
+      whole = kept.whole;
+      accounted = accounted;
+      leads = λ q. kept.leads q ∙ sym (linked_chunk-without_item q x found.0 items found.1 found.2);
+      one_link = λ q. omega (arith, kept.one_link q, links-without_item-le q x items);
+      handed_out = λ y. elim (is_chunk-tells x y) [
+        | inl same ↦
+            let back : class_at (after_back slabs x) (class_of_page slabs x.page) ≡ put_back (class_of_chunk slabs x) x
+            = class_at-with_class slabs (class_of_page slabs x.page) (put_back (class_of_chunk slabs x) x) valid in
+            let less : times x (without x (class_of_chunk slabs x).order) + 1 ≡ times x (class_of_chunk slabs x).order
+            = times-without x (class_of_chunk slabs x).order (omega (arith, kept.handed_out x)) in
+            rw (← same.1) (rw back (omega (arith, kept.handed_out x, less, places-without_item x items there)))
+        | inr other ↦ elim (leb_tells 1 (places y items)) [
+          | inl some ↦
+              let there_too : IsClass slabs (class_of_page slabs y.page) = listed table slabs index items y kept some.1 in
+              omega (
+                arith,
+                kept.handed_out y,
+                places-without_item-le y x items,
+                order_back_step (eqb (class_of_page slabs y.page) (class_of_page slabs x.page)) slabs (class_of_page slabs y.page) x y valid there_too other.0 refl,
+              )
+          | inr none ↦ omega (arith, none.1, places-without_item-le y x items)
+        ]
+      ];
+    }
+
+-- after a class got an untouched page and its chunks were cut
+pub kept_grow : (table : Classes) (slabs : SlabState) (index : List (ℕ × ChunkId)) (items : Items) (class page : ℕ) (chunks : List ChunkId)
+    → IsKept table slabs index items → IsClass slabs class → untouched_page slabs ≡ Some page
+    → IsAccounted (fold after_cut (after_grant slabs class page) chunks)
+    → (fold after_cut (after_grant slabs class page) chunks).uncut ≡ None
+    → IsKept table (fold after_cut (after_grant slabs class page) chunks) index items
+kept_grow table slabs index items class page chunks kept valid untouched accounted whole =
+    let fresh = position-Some is_untouched slabs.owners page Untouched untouched in
+    record {
+      sound = kept.sound;
+      classes = classes-cuts (after_grant slabs class page) chunks ∙ length-set slabs.classes _ _ ∙ kept.classes;
+      per_page = per_pages-cuts (after_grant slabs class page) chunks
+          ∙ per_pages-with_class slabs class (with_page (class_at slabs class) page) refl ∙ kept.per_page;
+      page = page-cuts (after_grant slabs class page) chunks ∙ kept.page;
+      limit = limit-cuts (after_grant slabs class page) chunks ∙ kept.limit;
+      whole = whole;
+      accounted = accounted;
+      leads = kept.leads;
+      one_link = kept.one_link;
+      handed_out = λ y. elim (leb_tells 1 (places y items)) [
+        | inl some ↦
+            let there : IsClass slabs (class_of_page slabs y.page) = listed table slabs index items y kept some.1 in
+            let apart : y.page ≢ page = λ same.
+            let nobody : class_of_page slabs y.page ≡ 0 = rw same (nobody_owns (owner_at slabs.owners page) fresh.1) in
+            omega (arith, there.0, nobody) in
+            let own : class_of_page (fold after_cut (after_grant slabs class page) chunks) y.page ≡ class_of_page slabs y.page
+            = ap (λ (owners : List Owner). class_of_owner (owner_at owners y.page)) (owners-cuts (after_grant slabs class page) chunks)
+            ∙ ap class_of_owner (get_or-set_other slabs.owners page y.page (Class class) Untouched apart) in
+            let order : (class_at (fold after_cut (after_grant slabs class page) chunks) (class_of_page slabs y.page)).order ≡ (class_of_chunk slabs y).order
+            = order-cuts (after_grant slabs class page) chunks (class_of_page slabs y.page) (there.0, rw (length-set slabs.classes _ _) there.1)
+            ∙ order-with_class slabs class (class_of_page slabs y.page) (with_page (class_at slabs class) page) there refl in
+            rw (own, order) (kept.handed_out y)
+        | inr none ↦ omega (arith, none.1)
+      ];
+    }
+  where
+    nobody_owns : (owner : Owner) → is_untouched owner ≡ true → class_of_owner owner ≡ 0
+    nobody_owns Untouched is = refl
+    nobody_owns Pool is = refl
+    nobody_owns (Class k) is = cc
+    nobody_owns (Moving s d) is = cc

@@ -1,0 +1,121 @@
+-- How a run ends, from how its parts ended.
+use Rattle.std.proofs.Common.{◌≡◌, ◌≢◌, ℕ, ◌+◌, ◌<◌, ◌≤◌, ◌⊎◌, ◌↔◌, List, length, take, min, Bool, true, false, cond, Option, Some, None, Result, Ok, Err, refl, ap, sym, ◌∙◌, arith, inl, inr}
+use Rattle.std.specs.Prelude.{IfSome, unwrap_or}
+use Rattle.std.specs.Io.KnownBytes.{Appends, Keeps, append_known}
+use Rattle.std.proofs.KnownBytes.{Keeps-refl}
+use Rattle.std.proofs.lemmas.List.{length-take, take_all}
+use Rattle.mc_classes.specs.declared.config.Config.{Config}
+use Rattle.mc_classes.specs.declared.config.ConfigError.{ConfigError}
+use Rattle.mc_classes.specs.declared.config.ConfigError.TheVariants.{PageSize, FirstSize, Factor, ChunkMax, Limit, Stripes, TooManyChunks, Bulk, NoMemory}
+use Rattle.mc_classes.specs.Classes.{Classes, IsTableOf}
+use Rattle.mc_classes.specs.Refusals.{refusal_of, number_of}
+use Rattle.mc_script.specs.declared.command.Command.{Command}
+use Rattle.mc_script.specs.Script.{script_of}
+use Rattle.mc_driver.specs.declared.fault.RunFault.{RunFault}
+use Rattle.mc_driver.specs.declared.fault.RunFault.TheVariants.{Config as Refused, Script, TooLong, Read, Write, Memory}
+use Rattle.mc_driver.specs.Machine.{Machine, fresh_machine}
+use Rattle.mc_driver.specs.Lines.{replies_to}
+use Rattle.mc_driver.specs.Run.{IsOutcome, IsScript, IsScriptFault, IsScriptOutcome, IsServeFault, config_fault, refusal_number}
+
+-- the front of the bytes is all of them where it is short
+front_all : (n : ℕ) (all front : List ℕ) → front ≡ take (n + 1) all → length front ≤ n → front ≡ all
+front_all n all front front_is short =
+    let lengths : length front ≡ min (n + 1) (length all) = ap length front_is ∙ length-take (n + 1) all in
+    front_is ∙ take_all (n + 1) all (omega (arith, lengths))
+
+-- and they are too long where it is
+front_long : (n : ℕ) (all front : List ℕ) → front ≡ take (n + 1) all → n < length front → n < length all
+front_long n all front front_is long =
+    let lengths : length front ≡ min (n + 1) (length all) = ap length front_is ∙ length-take (n + 1) all in
+    omega (arith, lengths)
+
+-- a script that is the front of the bytes is all of them
+script_all : (all front : List ℕ) (commands : List Command) → front ≡ take 1048577 all → IsScript front commands → IsScript all commands
+script_all all front commands front_is script =
+    let same : front ≡ all = front_all 1048576 all front front_is script.short in
+    rw same at script
+
+-- the outcome over the front of the bytes is the outcome over all of them
+pub outcome_all : (config : Config) (table : Classes) (all front : List ℕ) (old new : Option (List ℕ)) (result : Result (Unit {0}) RunFault)
+    → IsTableOf config table → front ≡ take 1048577 all → IsScriptOutcome front (fresh_machine table) old new result → IsOutcome config all old new result
+outcome_all config table all front old new (Ok unit) is front_is (commands, script, written) = (table, is, (commands, script_all all front commands front_is script, written))
+outcome_all config table all front old new (Err TooLong) is front_is (long, kept) = (table, is, (front_long 1048576 all front front_is long, kept))
+outcome_all config table all front old new (Err (Script number)) is front_is (short, at, kept) =
+    let same : front ≡ all = front_all 1048576 all front front_is short in
+    (table, is, (rw (← same) short, rw (← same) at, kept))
+outcome_all config table all front old new (Err Write) is front_is (commands, script, broken) = (table, is, (commands, script_all all front commands front_is script, broken))
+outcome_all config table all front old new (Err Memory) is front_is (inl kept) = inl kept
+outcome_all config table all front old new (Err Memory) is front_is (inr (commands, script, first)) =
+    inr (table, is, inr (commands, script_all all front commands front_is script, first))
+outcome_all config table all front old new (Err (Refused number)) is front_is told = absurd told
+outcome_all config table all front old new (Err Read) is front_is told = absurd told
+
+-- the same, of bytes that the reader may not tell
+pub outcome_known : (config : Config) (table : Classes) (all : Option (List ℕ)) (front : List ℕ) (old new : Option (List ℕ)) (result : Result (Unit {0}) RunFault)
+    → IsTableOf config table → IfSome all (λ bytes. front ≡ take 1048577 bytes) → IsScriptOutcome front (fresh_machine table) old new result
+    → IfSome all (λ bytes. IsOutcome config bytes old new result)
+outcome_known config table None front old new result is front_is outcome = tt
+outcome_known config table (Some bytes) front old new result is front_is outcome = outcome_all config table bytes front old new result is front_is outcome
+
+-- memory is no refusal
+not_first : (failed : Bool) (error : ConfigError) (rest : Option ConfigError) → number_of error < 9 → rest ≢ Some NoMemory
+    → cond failed (Some error) rest ≢ Some NoMemory
+not_first true error rest other later h = let same : error ≡ NoMemory = cc in let bad : number_of error ≡ 9 = ap number_of same in omega arith
+not_first false error rest other later h = later h
+
+none_last : None ≢ Some NoMemory
+none_last h = cc
+
+no_memory_refusal : (config : Config) → refusal_of config ≢ Some NoMemory
+no_memory_refusal config =
+    not_first _ PageSize _ (omega arith) (not_first _ FirstSize _ (omega arith) (not_first _ Factor _ (omega arith)
+    (not_first _ ChunkMax _ (omega arith) (not_first _ Limit _ (omega arith) (not_first _ Stripes _ (omega arith)
+    (not_first _ TooManyChunks _ (omega arith) (not_first _ Bulk _ (omega arith) none_last)))))))
+
+-- any other refusal is told by its number
+told_by_number : (error : ConfigError) → error ≢ NoMemory → config_fault error ≡ Refused (number_of error)
+told_by_number PageSize other = refl
+told_by_number FirstSize other = refl
+told_by_number Factor other = refl
+told_by_number ChunkMax other = refl
+told_by_number Limit other = refl
+told_by_number Stripes other = refl
+told_by_number TooManyChunks other = refl
+told_by_number Bulk other = refl
+told_by_number NoMemory other = absurd (other refl)
+
+-- how a run ends where there is no table
+pub record Unbuilt (config : Config) (error : ConfigError) : Type 0 where
+  pub told : (number : ℕ) → config_fault error ≡ Refused number → refusal_number config ≡ Some number
+  pub tells : (number : ℕ) → refusal_number config ≡ Some number → config_fault error ≡ Refused number
+  pub outcome : (all held : Option (List ℕ)) → IfSome all (λ bytes. IsOutcome config bytes held held (Err (config_fault error)))
+
+unbuilt_memory : (config : Config) → refusal_of config ≡ None → Unbuilt config NoMemory
+unbuilt_memory config none = record {
+  told = λ number h. cc;
+  tells = λ number h. let bad : None ≡ Some number = rw none at h in cc;
+  outcome = λ all held. known all held;
+}
+  where
+    known : (all held : Option (List ℕ)) → IfSome all (λ bytes. IsOutcome config bytes held held (Err Memory))
+    known None held = tt
+    known (Some bytes) held = inl (Keeps-refl held)
+
+unbuilt_refused : (config : Config) (error : ConfigError) → refusal_of config ≡ Some error → error ≢ NoMemory → Unbuilt config error
+unbuilt_refused config error is other = record {
+  told = λ number h. let same : number_of error ≡ number = cc (told_by_number error other) in rw (is, same) refl;
+  tells = λ number h. let same : Some (number_of error) ≡ Some number = rw is at h in cc (told_by_number error other);
+  outcome = λ all held. rw (told_by_number error other) (known all held);
+}
+  where
+    known : (all held : Option (List ℕ)) → IfSome all (λ bytes. IsOutcome config bytes held held (Err (Refused (number_of error))))
+    known None held = tt
+    known (Some bytes) held = (rw is refl, Keeps-refl held)
+
+unbuilt_as : (config : Config) (error : ConfigError) (first : Option ConfigError) → refusal_of config ≡ first → error ≡ unwrap_or first NoMemory → Unbuilt config error
+unbuilt_as config error None is told = rw told (unbuilt_memory config is)
+unbuilt_as config error (Some first) is told =
+    rw told (unbuilt_refused config first is (λ memory. no_memory_refusal config (rw memory at is)))
+
+pub unbuilt : (config : Config) (error : ConfigError) → error ≡ unwrap_or (refusal_of config) NoMemory → Unbuilt config error
+unbuilt config error told = unbuilt_as config error (refusal_of config) refl told

@@ -1,0 +1,72 @@
+-- What stocking a class and sweeping all of them leave as it was, and what a stored item finds.
+use Rattle.std.proofs.Common.{◌≡◌, ℕ, ◌+◌, ◌≤◌, List, [], ◌∷◌, ◌++◌, length, Bool, true, false, Option, Some, None, refl, ap, sym, ◌∙◌, arith, eqb}
+use Rattle.std.specs.Prelude.{fold, if◌then◌else◌}
+use Rattle.std.proofs.lemmas.Bool.Decides.{nat_tests}
+use Rattle.std.specs.List.{range_with_len}
+use Rattle.std.proofs.lemmas.List.{length-set, map-id}
+use Rattle.std.proofs.lemmas.List.Sums.{fold-append}
+use Rattle.std.proofs.lemmas.List.FromFn.{map-range_with_len_more}
+use Rattle.mc_pages.specs.declared.ids.ChunkId.{ChunkId}
+use Rattle.mc_pages.specs.ClassState.{with_page}
+use Rattle.mc_pages.specs.SlabState.{SlabState, IsClass, class_at, untouched_page}
+use Rattle.mc_pages.specs.Changes.{after_grant}
+use Rattle.mc_driver.specs.Items.{Items, item_at, linked_chunk, unlinked_items}
+use Rattle.mc_driver.specs.Kept.{IsVacant}
+use Rattle.mc_driver.specs.Machine.{Machine, chunks_of, dead_chunks, swept, has_free, extended, stocked, with_new_page}
+use Rattle.mc_driver.proofs.Chunks.{places_none, places-unlinked_items, none-places}
+use Rattle.mc_driver.proofs.Links.{linked_chunk-unlinked_items}
+use Rattle.mc_driver.proofs.Moves.{classes-cuts}
+use Rattle.mc_driver.proofs.Sweeps.{classes-reclaims}
+
+-- the number of classes stays: in a sweep, in sweeps, with a new page, and where a class is stocked
+pub classes-swept : (m : Machine) (class : ℕ) → length (swept m class).slabs.classes ≡ length m.slabs.classes
+classes-swept m class = classes-reclaims m (dead_chunks m class)
+
+pub classes-sweeps : (m : Machine) (classes : List ℕ) → length (fold swept m classes).slabs.classes ≡ length m.slabs.classes
+classes-sweeps m [] = refl
+classes-sweeps m (class ∷ classes) = classes-sweeps (swept m class) classes ∙ classes-swept m class
+
+classes-new_page : (m : Machine) (class : ℕ) (page : Option ℕ) → length (with_new_page m class page).slabs.classes ≡ length m.slabs.classes
+classes-new_page m class None = refl
+classes-new_page m class (Some page) =
+    classes-cuts (after_grant m.slabs class page) (chunks_of page (class_at m.slabs class).per_page) ∙ length-set m.slabs.classes _ _
+
+classes-extended : (m : Machine) (class : ℕ) (b : Bool)
+    → length (if b then m else with_new_page m class (untouched_page m.slabs)).slabs.classes ≡ length m.slabs.classes
+classes-extended m class true = refl
+classes-extended m class false = classes-new_page m class (untouched_page m.slabs)
+
+classes-choice : (m : Machine) (class : ℕ) (b : Bool)
+    → length (if b then m else extended (swept m class) class).slabs.classes ≡ length m.slabs.classes
+classes-choice m class true = refl
+classes-choice m class false = classes-extended (swept m class) class (has_free (swept m class) class) ∙ classes-swept m class
+
+pub classes-stocked : (m : Machine) (class : ℕ) → length (stocked m class).slabs.classes ≡ length m.slabs.classes
+classes-stocked m class = classes-choice m class (has_free m class)
+
+-- so a class that is there stays there
+pub IsClass-swept : (m : Machine) (class : ℕ) → IsClass m.slabs class → IsClass (swept m class).slabs class
+IsClass-swept m class valid = (valid.0, rw (classes-swept m class) valid.1)
+
+pub IsClass-stocked : (m : Machine) (class : ℕ) → IsClass m.slabs class → IsClass (stocked m class).slabs class
+IsClass-stocked m class valid = (valid.0, rw (classes-stocked m class) valid.1)
+
+-- a vacant chunk stays vacant while a key is unlinked, and then the key leads nowhere
+pub vacant-unlinked : (slabs : SlabState) (items : Items) (key : ℕ) (x : ChunkId) → IsVacant slabs items x → IsVacant slabs (unlinked_items items key) x
+vacant-unlinked slabs items key x vacant = record {
+  empty = none-places x (unlinked_items items key) (places-unlinked_items x key items ∙ places_none x items vacant.empty);
+  listed = vacant.listed;
+}
+
+pub nowhere-unlinked : (items : Items) (key : ℕ) → linked_chunk (unlinked_items items key) key ≡ None
+nowhere-unlinked items key = grind (arith, nat_tests, linked_chunk-unlinked_items key key items)
+
+-- one more class is swept
+pub sweeps_more : (m now : Machine) (place : ℕ) → now ≡ fold swept m (range_with_len 1 place)
+    → swept now (place + 1) ≡ fold swept m (range_with_len 1 (place + 1))
+sweeps_more m now place so_far =
+    let more : range_with_len 1 (place + 1) ≡ range_with_len 1 place ++ (place + 1) ∷ []
+    = sym (map-id (range_with_len 1 (place + 1))) ∙ map-range_with_len_more (λ (i : ℕ). i) 1 place (place + 1) (omega arith)
+    ∙ ap (λ cs. cs ++ (place + 1) ∷ []) (map-id (range_with_len 1 place)) in
+    ap (λ (n : Machine). swept n (place + 1)) so_far
+    ∙ sym (ap (λ cs. fold swept m cs) more ∙ fold-append swept m (range_with_len 1 place) ((place + 1) ∷ []))

@@ -1,0 +1,31 @@
+-- What was read is the front of what was there.
+use Rattle.std.proofs.Common.{◌≡◌, ℕ, ◌≤◌, List, [], ◌∷◌, ◌++◌, length, take, Option, Some, None, refl, ap, sym, ◌∙◌, arith}
+use Rattle.std.specs.Prelude.{IfSome}
+use Rattle.std.specs.Io.KnownBytes.{Consumes, IsAtEnd}
+use Rattle.std.proofs.KnownBytes.{Consumes-trans}
+use Rattle.std.proofs.lemmas.List.{take_all, nil_from_length, append-nil}
+use Rattle.std.proofs.Math.Seq.{take-append_seam}
+use Rattle.mc_driver.specs.Reading.{TakesPiece}
+
+-- as much as was asked for
+pub taken_full : (n : ℕ) (a b : Option (List ℕ)) (bytes : List ℕ) → Consumes a b bytes → length bytes ≡ n → IfSome a (λ all. bytes ≡ take n all)
+taken_full n None b bytes taken long = tt
+taken_full n (Some xs) None bytes taken long = absurd taken
+taken_full n (Some xs) (Some ys) bytes taken long = rw taken (rw (← long) (sym (take-append_seam bytes ys)))
+
+-- all there was
+taken_all : (n : ℕ) (a b : Option (List ℕ)) (bytes : List ℕ) → Consumes a b bytes → IsAtEnd b → length bytes ≤ n → IfSome a (λ all. bytes ≡ take n all)
+taken_all n None b bytes taken end short = tt
+taken_all n (Some xs) None bytes taken end short = absurd taken
+taken_all n (Some xs) (Some ys) bytes taken end short =
+    let whole : xs ≡ bytes = taken ∙ ap (λ zs. bytes ++ zs) end ∙ append-nil bytes in
+    rw whole (sym (take_all n bytes short))
+
+pub taken_end : (n : ℕ) (a b c : Option (List ℕ)) (old new : List ℕ) → Consumes a b old → TakesPiece b c old new 0 → IsAtEnd c → length old ≤ n
+    → IfSome a (λ all. new ≡ take n all)
+taken_end n a b c old new taken last end short =
+    let nothing : last.piece ≡ [] = nil_from_length last.piece last.counted in
+    let same : new ≡ old = last.appended ∙ ap (λ zs. old ++ zs) nothing ∙ append-nil old in
+    let taken_then : Consumes a c (old ++ last.piece) = Consumes-trans a b c old last.piece taken last.consumed in
+    let taken_now : Consumes a c new = rw last.appended taken_then in
+    taken_all n a c new taken_now end (rw same short)

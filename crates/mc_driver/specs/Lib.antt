@@ -1,0 +1,10 @@
+pub mod Item
+pub mod Items
+pub mod Machine
+pub mod Lines
+pub mod Texts
+pub mod Status
+pub mod Run
+pub mod Reading
+pub mod Kept
+pub mod Rows

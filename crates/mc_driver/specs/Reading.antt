@@ -1,0 +1,21 @@
+-- How a script comes from a reader.
+use Rattle.std.specs.Prelude.{◌≡◌, ℕ, ◌<◌, List, ◌++◌, length, Option}
+use Rattle.std.specs.Io.KnownBytes.{Consumes}
+use Rattle.mc_driver.specs.declared.fault.RunFault.{RunFault}
+use Rattle.mc_driver.specs.declared.fault.RunFault.TheVariants.{Config, Script, TooLong, Read, Write, Memory}
+
+-- a read failed, which the reader counts; or memory ran out, and no read failed
+abbrev pub IsReadFault : ℕ → ℕ → RunFault → Type 0
+IsReadFault old new Read = old < new
+IsReadFault old new Memory = new ≡ old
+IsReadFault old new (Config number) = ⊥
+IsReadFault old new (Script number) = ⊥
+IsReadFault old new TooLong = ⊥
+IsReadFault old new Write = ⊥
+
+-- so many bytes went from what was left to the end of what was read
+pub record TakesPiece (left_old left_new : Option (List ℕ)) (old new : List ℕ) (count : ℕ) : Type 0 where
+  pub piece : List ℕ
+  pub appended : new ≡ old ++ piece
+  pub consumed : Consumes left_old left_new piece
+  pub counted : length piece ≡ count

@@ -1,0 +1,98 @@
+-- What a serial run answers, and what it has written by then.
+use Rattle.std.specs.Prelude.{◌≡◌, ℕ, ◌<◌, ◌≤◌, ◌⊎◌, List, take, length, Option, Some, Result, Ok, Err}
+use Rattle.std.specs.Option.{option_map}
+use Rattle.std.specs.Io.KnownBytes.{Appends, Consumes, Keeps, append_known}
+use Rattle.mc_classes.specs.declared.config.Config.{Config}
+use Rattle.mc_classes.specs.declared.config.ConfigError.{ConfigError}
+use Rattle.mc_classes.specs.declared.config.ConfigError.TheVariants.{NoMemory}
+use Rattle.mc_classes.specs.Refusals.{refusal_of, number_of}
+use Rattle.mc_classes.specs.Classes.{Classes, IsTableOf}
+use Rattle.mc_classes.specs.Device.{Extends}
+use Rattle.mc_script.specs.declared.command.Command.{Command}
+use Rattle.mc_script.specs.Script.{script_of}
+use Rattle.mc_driver.specs.declared.fault.RunFault.{RunFault}
+use Rattle.mc_driver.specs.declared.fault.RunFault.TheVariants.{Config as Refused, Script, TooLong, Read, Write, Memory}
+use Rattle.mc_driver.specs.Machine.{Machine, fresh_machine}
+use Rattle.mc_driver.specs.Lines.{replies_to}
+
+-- the most bytes of a script
+abbrev pub most_bytes : ℕ
+most_bytes = 1048576
+
+-- the number of the configuration's first refusal
+abbrev pub refusal_number : Config → Option ℕ
+refusal_number config = option_map number_of (refusal_of config)
+
+-- how a run ends without a class table
+abbrev pub config_fault : ConfigError → RunFault
+config_fault NoMemory = Memory
+config_fault refusal = Refused (number_of refusal)
+
+-- how a run ends without commands: the bytes are too many, or the lowest line that is no command is this
+abbrev pub IsScriptFault : List ℕ → RunFault → Type 0
+IsScriptFault bytes TooLong = most_bytes < length bytes
+IsScriptFault bytes (Script number) = (length bytes ≤ most_bytes) × (script_of bytes ≡ Err number)
+IsScriptFault bytes Memory = Unit {0}
+IsScriptFault bytes (Refused number) = ⊥
+IsScriptFault bytes Read = ⊥
+IsScriptFault bytes Write = ⊥
+
+-- the bytes are a script of these commands
+pub record IsScript (bytes : List ℕ) (commands : List Command) : Type 0 where
+  pub short : length bytes ≤ most_bytes
+  pub script : script_of bytes ≡ Ok commands
+
+-- the replies to the first commands were written, and nothing of the next
+abbrev pub WroteFirst : Machine → List Command → Option (List ℕ) → Option (List ℕ) → Type 0
+WroteFirst machine commands old new = (count : ℕ) × (count ≤ length commands) × Appends old new (replies_to machine (take count commands))
+
+-- the replies to the first commands were written, but not to all, and then perhaps something
+abbrev pub WroteBroken : Machine → List Command → Option (List ℕ) → Option (List ℕ) → Type 0
+WroteBroken machine commands old new = (count : ℕ) × (count < length commands) × Extends (append_known old (replies_to machine (take count commands))) new
+
+-- how a run of commands ends before its end, by the writer's contents and its failures, before and after
+abbrev pub IsServeFault : Machine → List Command → Option (List ℕ) → Option (List ℕ) → ℕ → ℕ → RunFault → Type 0
+IsServeFault machine commands old new failures_old failures_new Write = (failures_old < failures_new) × WroteBroken machine commands old new
+IsServeFault machine commands old new failures_old failures_new Memory = (failures_new ≡ failures_old) × WroteFirst machine commands old new
+IsServeFault machine commands old new failures_old failures_new (Refused number) = ⊥
+IsServeFault machine commands old new failures_old failures_new (Script number) = ⊥
+IsServeFault machine commands old new failures_old failures_new TooLong = ⊥
+IsServeFault machine commands old new failures_old failures_new Read = ⊥
+
+-- what is said of the commands of a script
+abbrev pub OfScript : List ℕ → (List Command → Type 0) → Type 0
+OfScript bytes Says = (commands : List Command) × IsScript bytes commands × Says commands
+
+-- The machine's run over these bytes ends so, where the writer held `old` before it and holds `new` after it.
+abbrev pub IsScriptOutcome : List ℕ → Machine → Option (List ℕ) → Option (List ℕ) → Result (Unit {0}) RunFault → Type 0
+-- done: all replies were written
+IsScriptOutcome bytes machine old new (Ok unit) = OfScript bytes (λ commands. Appends old new (replies_to machine commands))
+-- refused: nothing was written
+IsScriptOutcome bytes machine old new (Err TooLong) = (most_bytes < length bytes) × Keeps old new
+IsScriptOutcome bytes machine old new (Err (Script number)) = (length bytes ≤ most_bytes) × (script_of bytes ≡ Err number) × Keeps old new
+-- the writer failed at the reply to some command
+IsScriptOutcome bytes machine old new (Err Write) = OfScript bytes (λ commands. WroteBroken machine commands old new)
+-- memory ran out before the first command, or at one of them
+IsScriptOutcome bytes machine old new (Err Memory) = Keeps old new ⊎ OfScript bytes (λ commands. WroteFirst machine commands old new)
+-- it ends in no other way
+IsScriptOutcome bytes machine old new (Err (Refused number)) = ⊥
+IsScriptOutcome bytes machine old new (Err Read) = ⊥
+
+-- what is said of the plain machine with the configuration's size classes
+abbrev pub OfMachine : Config → (Machine → Type 0) → Type 0
+OfMachine config Says = (table : Classes) × IsTableOf config table × Says (fresh_machine table)
+
+-- A run with this configuration over these bytes ends so.
+abbrev pub IsOutcome : Config → List ℕ → Option (List ℕ) → Option (List ℕ) → Result (Unit {0}) RunFault → Type 0
+-- the configuration is refused: nothing was written
+IsOutcome config bytes old new (Err (Refused number)) = (refusal_number config ≡ Some number) × Keeps old new
+-- the reader failed: nothing was written
+IsOutcome config bytes old new (Err Read) = Keeps old new
+-- memory ran out before there was a machine, or later
+IsOutcome config bytes old new (Err Memory) = Keeps old new ⊎ OfMachine config (λ machine. IsScriptOutcome bytes machine old new (Err Memory))
+-- the machine's run ended so
+IsOutcome config bytes old new result = OfMachine config (λ machine. IsScriptOutcome bytes machine old new result)
+
+-- at most so many bytes were taken from what was left
+abbrev pub TakesAtMost : ℕ → Option (List ℕ) → Option (List ℕ) → Type 0
+TakesAtMost most old new = (taken : List ℕ) × Consumes old new taken × (length taken ≤ most)

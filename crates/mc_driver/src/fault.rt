@@ -1,0 +1,64 @@
+//! How a run ends when it isn't done.
+ghost use Rattle.std.specs.Prelude.{◌≡◌};
+ghost use Rattle.mc_driver.specs.Status.{status_of};
+
+use std::alloc::AllocError;
+use std::error::Error;
+use std::fmt;
+
+/// Why a run was not done.
+#[derive(Clone, Copy, Debug, PartialEq, Eq)]
+pub enum RunFault {
+    /// The configuration is refused, by the test of this number.
+    Config(u64),
+    /// The script is refused; this is the first line that is no command.
+    Script(u64),
+    /// The script has more than 1,048,576 bytes.
+    TooLong,
+    /// A read failed.
+    Read,
+    /// A write failed.
+    Write,
+    /// Memory ran out.
+    Memory,
+}
+
+impl RunFault {
+    /// The status that a program ends with.
+    pub fn status(self) -> u8
+        ensures { result ≡ status_of self }
+    {
+        match self {
+            RunFault::Config(_) => 1,
+            RunFault::Script(_) | RunFault::TooLong => 2,
+            RunFault::Read | RunFault::Write => 3,
+            RunFault::Memory => 4,
+        }
+    }
+}
+
+impl fmt::Display for RunFault {
+    fn fmt<W: fmt::Write>(&self, f: &mut fmt::Formatter<W>) -> fmt::Result {
+        match self {
+            RunFault::Config(number) => write!(f, "config: {number}"),
+            RunFault::Script(line) => write!(f, "script: line {line}"),
+            RunFault::TooLong => write!(f, "script: too long"),
+            RunFault::Read => write!(f, "read"),
+            RunFault::Write => write!(f, "write"),
+            RunFault::Memory => write!(f, "memory"),
+        }
+    }
+}
+
+impl Error for RunFault {}
+
+impl From<AllocError> for RunFault {
+    ghost use Rattle.std.specs.Prelude.{◌≡◌};
+    ghost use Rattle.mc_driver.specs.declared.fault.RunFault.TheVariants.{Memory};
+
+    ghost from_gives = { λ _ fault. fault ≡ Memory };
+
+    fn from(_error: AllocError) -> RunFault {
+        RunFault::Memory
+    }
+}

@@ -1,0 +1,63 @@
+//! The bytes of a script, taken from a reader.
+ghost use Rattle.std.specs.Prelude.{◌≡◌, ℕ, ◌+◌, ◌<◌, ◌≤◌, List, ◌++◌, take, length, IfOk, OnOk, IfErr, IfSome, vec_len};
+ghost use Rattle.std.specs.Io.KnownBytes.{Consumes, IsAtEnd};
+ghost use Rattle.mc_driver.specs.Reading.{IsReadFault, TakesPiece};
+
+use crate::fault::RunFault;
+use mc_classes::Source;
+use mc_script::MAX_SCRIPT;
+use std::alloc::{AllocError, Global};
+
+/// How many bytes are asked for at a time.
+const PIECE: usize = 65_536;
+
+/// One byte more than a script may have, so that a longer one is seen to be too long.
+const MOST: usize = MAX_SCRIPT + 1;
+
+/// Reads a script, and no more than one byte past the longest one. Any error of the reader ends the reading.
+pub(crate) fn read_script<R: Source>(alloc: Global, reader: &mut R) -> Result<Vec<u8>, RunFault>
+    ensures bytes { IfOk result (λ bytes. IfSome (R.remaining reader.old) (λ all. bytes.items ≡ take 1048577 all)) }
+    ensures taken { IfOk result (λ bytes. Consumes (R.remaining reader.old) (R.remaining reader.new) bytes.items) }
+    ensures most { IfOk result (λ bytes. length bytes.items ≤ 1048577) }
+    ensures quiet { OnOk result (R.failures reader.new ≡ R.failures reader.old) }
+    ensures fault { IfErr result (λ fault. IsReadFault (R.failures reader.old) (R.failures reader.new) fault) }
+{
+    let mut bytes = Vec::new(alloc);
+    let mut piece = room_for(alloc, PIECE)?;
+    while bytes.len() < MOST {
+        let room = (MOST - bytes.len()).min(PIECE);
+        let count = read_piece(reader, &mut piece[..room], &mut bytes)?;
+        if count == 0 {
+            return Ok(bytes);
+        }
+    }
+    Ok(bytes)
+}
+
+/// So many bytes to read into.
+fn room_for(alloc: Global, count: usize) -> Result<Vec<u8>, AllocError>
+    ensures { IfOk result (λ room. vec_len room ≡ count) }
+{
+    vec![in alloc; 0u8; count]
+}
+
+/// Reads once into `piece`, adds what was read to `bytes` and says how many that were. None is the end.
+fn read_piece<R: Source>(
+    reader: &mut R,
+    piece: &mut [u8],
+    bytes: &mut Vec<u8>,
+) -> Result<usize, RunFault>
+    requires { 0 < length piece.old }
+    ensures taken { IfOk result (λ count. TakesPiece (R.remaining reader.old) (R.remaining reader.new) bytes.old.items bytes.new.items count) }
+    ensures within { IfOk result (λ count. count ≤ length piece.old) }
+    ensures end { result ≡ Ok 0 → IsAtEnd (R.remaining reader.new) }
+    ensures quiet { OnOk result (R.failures reader.new ≡ R.failures reader.old) }
+    ensures fault { IfErr result (λ fault. IsReadFault (R.failures reader.old) (R.failures reader.new) fault) }
+{
+    let count = match reader.read(piece) {
+        Ok(count) => count,
+        Err(_) => return Err(RunFault::Read),
+    };
+    bytes.extend_from_slice(&piece[..count])?;
+    Ok(count)
+}

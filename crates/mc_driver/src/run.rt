@@ -1,0 +1,131 @@
+//! A serial run: one thread reads a script, does its commands in order, and writes each reply before the next command.
+ghost use Rattle.std.specs.Prelude.{◌≡◌, ◌<◌, ◌≤◌, ◌↔◌, ℕ, Some, Err, Ok, length, IfSome, IsSome, IfOk, OnOk, IfErr, All};
+ghost use Rattle.std.specs.Io.KnownBytes.{Appends};
+ghost use Rattle.mc_classes.specs.Refusals.{refusal_of};
+ghost use Rattle.mc_classes.specs.Classes.{IsSound};
+ghost use Rattle.mc_script.specs.Command.{IsValid};
+ghost use Rattle.mc_script.specs.Script.{script_of};
+ghost use Rattle.mc_driver.specs.Lines.{replies_to};
+ghost use Rattle.mc_driver.specs.Machine.{fresh_machine};
+ghost use Rattle.mc_driver.specs.Run.{IsOutcome, IsScript, IsScriptFault, IsScriptOutcome, IsServeFault, config_fault, refusal_number};
+
+use crate::fault::RunFault;
+use crate::keeper::Keeper;
+use crate::reading::read_script;
+use mc_classes::{ClassTable, Config, ConfigError, Sink, Source};
+use mc_script::{Command, MAX_SCRIPT, ScriptError};
+use std::alloc::{AllocError, Global};
+
+/// What a run is started with.
+#[derive(Clone, Copy, Debug, PartialEq, Eq)]
+pub struct Run {
+    /// Sizes and limits.
+    pub config: Config,
+    /// The automover's mode: 0 is off, and there is no other yet.
+    pub automove: u64,
+}
+
+/// Reads a script and does its commands on one thread, in order. Each reply is written before the next command.
+///
+/// The configuration is tested before anything is read, and the whole script is read and checked before
+/// anything is done. At most 1,048,577 bytes are read, and any error of the reader ends the reading. Where
+/// memory runs out, the replies to all earlier commands were written and nothing of this one's; where a write
+/// fails, no other is made.
+pub fn run_serial<R: Source, W: Sink>(
+    alloc: Global,
+    run: &Run,
+    reader: &mut R,
+    writer: &mut W,
+) -> Result<(), RunFault>
+    requires { run.now.automove ≡ 0 }
+
+    // A refused configuration is told, exactly then, and leaves reader and writer alone.
+    ensures refused { (number : ℕ) → (result ≡ Err (RunFault.Config number)) ↔ (refusal_number run.now.config ≡ Some number) }
+    ensures unread { IsSome (refusal_of run.now.config) → (reader.new ≡ reader.old) × (writer.new ≡ writer.old) }
+
+    // A failed read or write is told, exactly then.
+    ensures read { (result ≡ Err RunFault.Read) ↔ (R.failures reader.old < R.failures reader.new) }
+    ensures write { (result ≡ Err RunFault.Write) ↔ (W.failures writer.old < W.failures writer.new) }
+
+    // What is answered and written is what the plain machine says of the bytes.
+    ensures outcome { IfSome (R.remaining reader.old) (λ bytes.
+        IsOutcome run.now.config bytes (W.contents writer.old) (W.contents writer.new) result) }
+{
+    let table = match ClassTable::build(alloc, &run.config) {
+        Ok(table) => table,
+        Err(error) => return Err(fault_of(error)),
+    };
+    let bytes = read_script(alloc, reader)?;
+    run_script(alloc, table, &bytes, writer)
+}
+
+/// Reads the commands of a script, and does them.
+fn run_script<W: Sink>(
+    alloc: Global,
+    table: ClassTable,
+    bytes: &[u8],
+    writer: &mut W,
+) -> Result<(), RunFault>
+    requires { IsSound table }
+    ensures outcome { IsScriptOutcome bytes.now (fresh_machine table) (W.contents writer.old) (W.contents writer.new) result }
+    ensures write { (result ≡ Err RunFault.Write) ↔ (W.failures writer.old < W.failures writer.new) }
+{
+    let commands = match commands_of(alloc, bytes) {
+        Ok(commands) => commands,
+        Err(fault) => return Err(fault),
+    };
+    match Keeper::new(alloc, table) {
+        Ok(keeper) => serve_all(alloc, keeper, &commands, writer),
+        Err(_) => Err(RunFault::Memory),
+    }
+}
+
+/// How a run ends without a class table.
+fn fault_of(error: ConfigError) -> RunFault
+    ensures { result ≡ config_fault error }
+{
+    match error {
+        ConfigError::NoMemory => RunFault::Memory,
+        refusal => RunFault::Config(refusal.number()),
+    }
+}
+
+/// The commands of a script.
+fn commands_of(alloc: Global, bytes: &[u8]) -> Result<Vec<Command>, RunFault>
+    ensures script { IfOk result (λ commands. IsScript bytes.now commands.items) }
+    ensures valid { IfOk result (λ commands. All IsValid commands.items) }
+    ensures fault { IfErr result (IsScriptFault bytes.now) }
+{
+    if bytes.len() > MAX_SCRIPT {
+        return Err(RunFault::TooLong);
+    }
+    match mc_script::read(alloc, bytes) {
+        Ok(commands) => Ok(commands),
+        Err(ScriptError::Line(number)) => Err(RunFault::Script(number)),
+        Err(ScriptError::NoMemory) => Err(RunFault::Memory),
+    }
+}
+
+/// Does the commands in order, and writes the reply to each before the next one.
+fn serve_all<W: Sink>(
+    alloc: Global,
+    mut keeper: Keeper,
+    commands: &[Command],
+    writer: &mut W,
+) -> Result<(), RunFault>
+    requires { All IsValid commands.now }
+    ensures written { OnOk result (Appends (W.contents writer.old) (W.contents writer.new) (replies_to keeper commands.now)) }
+    ensures quiet { OnOk result (W.failures writer.new ≡ W.failures writer.old) }
+    ensures fault { IfErr result (IsServeFault keeper commands.now
+        (W.contents writer.old) (W.contents writer.new) (W.failures writer.old) (W.failures writer.new)) }
+{
+    let mut text = Vec::new(alloc);
+    for command in commands {
+        text.clear();
+        keeper.serve(*command, &mut text)?;
+        if writer.write_all(&text).is_err() {
+            return Err(RunFault::Write);
+        }
+    }
+    Ok(())
+}

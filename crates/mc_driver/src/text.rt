@@ -1,0 +1,150 @@
+//! The lines that a run writes, put together in memory before any of them is written.
+ghost use Rattle.std.specs.Prelude.{◌≡◌, ◌+◌, ◌*◌, ◌-◌, ◌<◌, ◌≤◌, ◌++◌, ◌^◌, length, codes, count_by, nat_lt, decimal, OnOk};
+ghost use Rattle.mc_driver.specs.Texts.{line, key_line, stat_line, class_line, class_lines, classes_lines, totals_lines, slabs_text, AreCounts};
+ghost use Rattle.mc_classes.specs.Classes.{IsClass, IsSound};
+
+use itoa::Buffer;
+use mc_classes::ClassTable;
+use std::alloc::AllocError;
+
+/// Adds a number in decimal digits.
+fn push_number(text: &mut Vec<u8>, number: u64) -> Result<(), AllocError>
+    ensures { OnOk result (text.new.items ≡ text.old.items ++ decimal number) }
+{
+    let mut digits = Buffer::new();
+    text.extend_from_slice(digits.format(number).as_bytes())?;
+    Ok(())
+}
+
+/// Adds a line of these words.
+fn push_line(text: &mut Vec<u8>, words: &[u8]) -> Result<(), AllocError>
+    ensures { OnOk result (text.new.items ≡ text.old.items ++ line words.now) }
+{
+    text.extend_from_slice(words)?;
+    text.extend_from_slice(b"\r\n")?;
+    Ok(())
+}
+
+/// Adds the answer about a key.
+pub(crate) fn push_key_line(text: &mut Vec<u8>, answer: &[u8], key: u64) -> Result<(), AllocError>
+    ensures { OnOk result (text.new.items ≡ text.old.items ++ key_line answer.now key) }
+{
+    text.extend_from_slice(answer)?;
+    text.extend_from_slice(b" ")?;
+    push_number(text, key)?;
+    text.extend_from_slice(b"\r\n")?;
+    Ok(())
+}
+
+/// Adds a number of the statistics.
+fn push_stat_line(text: &mut Vec<u8>, name: &[u8], value: u64) -> Result<(), AllocError>
+    ensures { OnOk result (text.new.items ≡ text.old.items ++ stat_line name.now value) }
+{
+    text.extend_from_slice(b"STAT ")?;
+    text.extend_from_slice(name)?;
+    text.extend_from_slice(b" ")?;
+    push_number(text, value)?;
+    text.extend_from_slice(b"\r\n")?;
+    Ok(())
+}
+
+/// Adds a number of a class.
+fn push_class_line(
+    text: &mut Vec<u8>,
+    class: u64,
+    name: &[u8],
+    value: u64,
+) -> Result<(), AllocError>
+    ensures { OnOk result (text.new.items ≡ text.old.items ++ class_line class name.now value) }
+{
+    text.extend_from_slice(b"STAT ")?;
+    push_number(text, class)?;
+    text.extend_from_slice(b":")?;
+    text.extend_from_slice(name)?;
+    text.extend_from_slice(b" ")?;
+    push_number(text, value)?;
+    text.extend_from_slice(b"\r\n")?;
+    Ok(())
+}
+
+/// Adds the six lines of a class that has pages.
+fn push_class(
+    text: &mut Vec<u8>,
+    class: u64,
+    size: u64,
+    per_page: u64,
+    pages: u64,
+    free: u64,
+) -> Result<(), AllocError>
+    requires chunks { free ≤ pages * per_page }
+    requires small { pages * per_page < 2 ^ 64 }
+    ensures { OnOk result (text.new.items ≡ text.old.items ++ class_lines class size per_page pages free) }
+{
+    let chunks = pages * per_page;
+    push_class_line(text, class, b"chunk_size", size)?;
+    push_class_line(text, class, b"chunks_per_page", per_page)?;
+    push_class_line(text, class, b"total_pages", pages)?;
+    push_class_line(text, class, b"total_chunks", chunks)?;
+    push_class_line(text, class, b"used_chunks", chunks - free)?;
+    push_class_line(text, class, b"free_chunks", free)?;
+    Ok(())
+}
+
+/// How many classes have pages.
+fn active_count(pages: &[u64]) -> usize
+    ensures { result ≡ count_by (λ n. nat_lt 0 n) pages.now }
+{
+    pages.iter().filter(|n| **n > 0).count()
+}
+
+/// Adds the text of `stats slabs`: of each class its pages and free chunks, and the bytes granted.
+pub(crate) fn push_slabs(
+    text: &mut Vec<u8>,
+    table: &ClassTable,
+    pages: &[u64],
+    free: &[u64],
+    malloced: u64,
+) -> Result<(), AllocError>
+    requires { AreCounts table.now pages.now free.now }
+    ensures { OnOk result (text.new.items ≡ text.old.items ++ slabs_text table.now pages.now free.now malloced) }
+{
+    push_classes(text, table, pages, free)?;
+    push_totals(text, active_count(pages) as u64, malloced)?;
+    Ok(())
+}
+
+/// Adds the lines below those of the classes.
+fn push_totals(text: &mut Vec<u8>, active: u64, malloced: u64) -> Result<(), AllocError>
+    ensures { OnOk result (text.new.items ≡ text.old.items ++ totals_lines active malloced) }
+{
+    push_stat_line(text, b"active_slabs", active)?;
+    push_stat_line(text, b"total_malloced", malloced)?;
+    push_line(text, b"END")?;
+    Ok(())
+}
+
+/// Adds the lines of the classes that have pages.
+fn push_classes(
+    text: &mut Vec<u8>,
+    table: &ClassTable,
+    pages: &[u64],
+    free: &[u64],
+) -> Result<(), AllocError>
+    requires { AreCounts table.now pages.now free.now }
+    ensures { OnOk result (text.new.items ≡ text.old.items ++ classes_lines table.now 1 pages.now free.now) }
+{
+    for place in 0..pages.len() {
+        let class = place as u64 + 1;
+        if pages[place] != 0 {
+            push_class(
+                text,
+                class,
+                table.size(class),
+                table.per_page(class),
+                pages[place],
+                free[place],
+            )?;
+        }
+    }
+    Ok(())
+}

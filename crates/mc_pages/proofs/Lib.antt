@@ -1,0 +1,9 @@
+pub mod Chunks
+pub mod Owners
+pub mod Replays
+pub mod OneClass
+pub mod Redistributed
+pub mod CutNext
+pub mod GrantedPage
+pub mod HandedOut
+pub mod Kept

@@ -1,0 +1,60 @@
+-- One size class: its pages, its free list and its hand-out order.
+use Rattle.std.specs.Prelude.{ℕ, ◌==◌, Bool, ◌&&◌, if◌then◌else◌, List, [], ◌∷◌, ◌++◌, length, count_by, slice_get, Option}
+use Rattle.mc_pages.specs.declared.ids.ChunkId.{ChunkId}
+use Rattle.mc_pages.specs.declared.numbers.Numbers.{Numbers}
+
+-- the bytes of a chunk, the chunks of a page, the pages, the free chunks with the next to hand out first,
+-- the handed-out chunks with the oldest first, and how many items were evicted
+pub record ClassState : Type 0 where
+  pub size : ℕ
+  pub per_page : ℕ
+  pub pages : List ℕ
+  pub free : List ChunkId
+  pub order : List ChunkId
+  pub evictions : ℕ
+
+-- a class without pages
+abbrev pub new_class : ℕ → ℕ → ClassState
+new_class size per_page = record { size = size; per_page = per_page; pages = []; free = []; order = []; evictions = 0 }
+
+-- two names of one chunk
+abbrev pub is_chunk : ChunkId → ChunkId → Bool
+is_chunk a b = a.page == b.page && a.index == b.index
+
+-- how often the chunk stands in the list
+abbrev pub times : ChunkId → List ChunkId → ℕ
+times chunk chunks = count_by (λ c. is_chunk c chunk) chunks
+
+-- the list less the first place of the chunk
+abbrev pub without : ChunkId → List ChunkId → List ChunkId
+without chunk [] = []
+without chunk (c ∷ chunks) = if is_chunk c chunk then chunks else c ∷ without chunk chunks
+
+-- the chunk that is handed out next
+abbrev pub first_free : ClassState → Option ChunkId
+first_free class = slice_get class.free 0
+
+-- the head of this free list goes to the back of the hand-out order
+abbrev pub handed_out : ClassState → List ChunkId → ClassState
+handed_out class [] = class
+handed_out class (chunk ∷ free) = record class { free = free; order = class.order ++ chunk ∷ [] }
+
+-- the next chunk is handed out, if there is one
+abbrev pub popped : ClassState → ClassState
+popped class = handed_out class class.free
+
+-- a handed-out chunk leaves the hand-out order and goes to the head of the free list
+abbrev pub put_back : ClassState → ChunkId → ClassState
+put_back class chunk = record class { free = chunk ∷ class.free; order = without chunk class.order }
+
+-- a chunk is cut: it goes to the head of the free list
+abbrev pub with_cut : ClassState → ChunkId → ClassState
+with_cut class chunk = record class { free = chunk ∷ class.free }
+
+-- a page joins the end of the page list
+abbrev pub with_page : ClassState → ℕ → ClassState
+with_page class page = record class { pages = class.pages ++ page ∷ [] }
+
+-- its numbers
+abbrev pub numbers_of : ClassState → Numbers
+numbers_of class = record { pages = length class.pages; free = length class.free; evictions = class.evictions }

@@ -1,0 +1,44 @@
+-- Who owns each page, and how the ledger's entries made it so.
+use Rattle.std.specs.Prelude.{ℕ, ◌==◌, Bool, true, false, ◌&&◌, if◌then◌else◌, nat_lt, List, [], ◌∷◌, length, replicate, slice_index_or, slice_set, Option, Some, None}
+use Rattle.mc_pages.specs.declared.ledger.Owner.{Owner}
+use Rattle.mc_pages.specs.declared.ledger.Owner.TheVariants.{Untouched, Pool, Class, Moving}
+use Rattle.mc_pages.specs.declared.ledger.Entry.{Entry}
+use Rattle.mc_pages.specs.declared.ledger.Entry.TheVariants.{Granted, Taken, Began, Ended}
+
+-- no page was granted yet
+abbrev pub all_untouched : ℕ → List Owner
+all_untouched pages = replicate pages Untouched
+
+-- the owner of a page
+abbrev pub owner_at : List Owner → ℕ → Owner
+owner_at owners page = slice_index_or owners page Untouched
+
+-- the page that an entry is about
+abbrev pub page_of : Entry → ℕ
+page_of (Granted page class) = page
+page_of (Taken page class) = page
+page_of (Began page src dst) = page
+page_of (Ended page dst) = page
+
+-- an entry fits the owner that it finds
+abbrev pub fits : Entry → Owner → Bool
+fits (Granted page class) Untouched = true
+fits (Taken page class) Pool = true
+fits (Began page src dst) (Class class) = class == src
+fits (Ended page dst) (Moving src to) = to == dst
+fits entry owner = false
+
+-- the owner that an entry leaves
+abbrev pub owner_after : Entry → Owner
+owner_after (Granted page class) = Class class
+owner_after (Taken page class) = Class class
+owner_after (Began page src dst) = Moving src dst
+owner_after (Ended page dst) = if dst == 0 then Pool else Class dst
+
+-- the owners after these entries, or none where an entry finds its page otherwise
+abbrev pub replay : List Owner → List Entry → Option (List Owner)
+replay owners [] = Some owners
+replay owners (entry ∷ ledger) =
+    if nat_lt (page_of entry) (length owners) && fits entry (owner_at owners (page_of entry))
+    then replay (slice_set owners (page_of entry) (owner_after entry)) ledger
+    else None

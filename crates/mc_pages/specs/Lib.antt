@@ -1,0 +1,7 @@
+pub mod Ledger
+pub mod ClassState
+pub mod Room
+pub mod SlabState
+pub mod Changes
+pub mod Accounted
+pub mod InOrder

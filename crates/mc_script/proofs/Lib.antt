@@ -1,0 +1,6 @@
+mod Digits
+mod FirstLine
+mod FirstWord
+mod Told
+mod Valid
+mod Written

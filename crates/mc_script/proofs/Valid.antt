@@ -1,0 +1,117 @@
+-- The commands of a script have their numbers in range.
+use Rattle.std.proofs.Common.{◌≡◌, ℕ, ◌+◌, ◌^◌, ◌<◌, ◌≤◌, Bool, true, false, ◌&&◌, codes, cond, if◌then◌else◌, List, [], ◌∷◌, Option, Some, None, Result, Ok, Err, IfSome, All, refl, subst}
+use Rattle.std.proofs.lemmas.Bool.{and_parts, cond_both, leb-true}
+use Rattle.std.proofs.lemmas.List.Elements.{All-from_recursion}
+use Rattle.std.specs.List.{AllByRecursion}
+use Rattle.std.specs.Str.{bytes_eq}
+use Rattle.std.specs.Str.Lines.{lines}
+use Rattle.mc_script.specs.declared.command.Command.{Command}
+use Rattle.mc_script.specs.declared.command.Command.TheVariants.{Set, Delete, StatsSlabs}
+use Rattle.mc_script.specs.Command.{IsValid}
+use Rattle.mc_script.specs.Forms.{◌or◌, set_of, delete_of, stats_slabs_of, command_of}
+use Rattle.mc_script.specs.Script.{is_skipped, followed_by, commands_of, script_of}
+use Rattle.mc_script.specs.Words.{◌>>=◌, words_of, number_of, number_between}
+use Rattle.mc_script.proofs.Digits.{number_parts}
+
+-- ---- what is told of a value that may be there
+
+-- a `do` keeps what its last line has
+then_told : {A B : Type 0} (P : A → Type 0) (Q : B → Type 0) (found : Option A) (next : A → Option B) → IfSome found P → ((x : A) → P x → IfSome (next x) Q) → IfSome (found >>= next) Q
+then_told P Q None next h f = tt
+then_told P Q (Some x) next h f = f x h
+
+-- either form is valid
+or_told : (one other : Option Command) → IfSome one IsValid → IfSome other IsValid → IfSome (one or other) IsValid
+or_told None other h k = k
+or_told (Some command) other h k = h
+
+-- what is there passed the test
+when_told : {A : Type 0} (P : A → Type 0) (test : Bool) (found : Option A) → (test ≡ true → IfSome found P) → IfSome (cond test found None) P
+when_told P true found h = h refl
+when_told P false found h = tt
+
+-- ---- numbers
+
+-- a number is below 2^64
+pub number_fits : (word : List ℕ) → IfSome (number_of word) (λ n. n < 2 ^ 64)
+number_fits word = when_told _ _ _ (λ is. (number_parts word is).3)
+
+-- a number with limits is within them
+pub between_fits : (low high : ℕ) (word : List ℕ) → IfSome (number_between low high word) (λ n. (low ≤ n) × (n ≤ high))
+between_fits low high word =
+    then_told (λ n. n < 2 ^ 64) (λ n. (low ≤ n) × (n ≤ high)) _ _ (number_fits word) (λ n fits.
+    when_told (λ m. (low ≤ m) × (m ≤ high)) _ (Some n) (λ within.
+    let parts = and_parts _ _ within in (leb-true low n parts.0, leb-true n high parts.1)))
+
+-- ---- the lines of a form
+
+-- a form is valid if it is after its test
+form_valid : (test : Bool) (form : Option Command) → IfSome form IsValid → IfSome (if test then form else None) IsValid
+form_valid test form h = when_told IsValid test form (λ _. h)
+
+-- after a number
+number_then : (word : List ℕ) (next : ℕ → Option Command) → ((n : ℕ) → n < 2 ^ 64 → IfSome (next n) IsValid) → IfSome (number_of word >>= next) IsValid
+number_then word next h = then_told (λ n. n < 2 ^ 64) IsValid (number_of word) next (number_fits word) h
+
+-- after a number with limits
+between_then : (low high : ℕ) (word : List ℕ) (next : ℕ → Option Command) → ((n : ℕ) → (low ≤ n) × (n ≤ high) → IfSome (next n) IsValid) → IfSome (number_between low high word >>= next) IsValid
+between_then low high word next h = then_told (λ n. (low ≤ n) × (n ≤ high)) IsValid (number_between low high word) next (between_fits low high word) h
+
+-- ---- the forms
+
+-- `set`
+set_valid : (words : List (List ℕ)) → IfSome (set_of words) IsValid
+unfolding set_of
+set_valid (worker ∷ verb ∷ key ∷ words ∷ base ∷ []) =
+    form_valid (bytes_eq verb (codes "set")) _
+    (between_then 1 63 worker _ (λ w is_worker. number_then key _ (λ k key_fits. between_then 0 4096 words _ (λ n few. number_then base _ (λ b base_fits.
+    let valid : IsValid (Set w k n b) = (is_worker, key_fits, few.1, base_fits) in valid)))))
+set_valid words = tt
+
+-- `del`
+delete_valid : (words : List (List ℕ)) → IfSome (delete_of words) IsValid
+unfolding delete_of
+delete_valid (worker ∷ verb ∷ key ∷ []) =
+    form_valid (bytes_eq verb (codes "del")) _
+    (between_then 1 63 worker _ (λ w is_worker. number_then key _ (λ k key_fits.
+    let valid : IsValid (Delete w k) = (is_worker, key_fits) in valid)))
+delete_valid words = tt
+
+-- `stats slabs`
+stats_slabs_valid : (words : List (List ℕ)) → IfSome (stats_slabs_of words) IsValid
+unfolding stats_slabs_of
+stats_slabs_valid (verb ∷ what ∷ []) = form_valid (bytes_eq verb (codes "stats") && bytes_eq what (codes "slabs")) (Some StatsSlabs) tt
+stats_slabs_valid words = tt
+
+-- all forms
+command_valid : (words : List (List ℕ)) → IfSome (command_of words) IsValid
+unfolding command_of
+command_valid words = or_told _ _ (set_valid words) (or_told _ _ (delete_valid words) (stats_slabs_valid words))
+
+-- ---- the lines
+
+-- what is given is one list
+ok_items : (xs ys : List Command) → ◌≡◌ {A = Result (List Command) ℕ} (Ok xs) (Ok ys) → xs ≡ ys
+ok_items xs ys h = cc
+
+-- one line more
+followed_valid : (n : ℕ) (first : Option Command) (rest : Result (List Command) ℕ) (commands : List Command) → IfSome first IsValid → ((others : List Command) → rest ≡ Ok others → AllByRecursion IsValid others) → followed_by n first rest ≡ Ok commands → AllByRecursion IsValid commands
+followed_valid n None rest commands h k e = absurd (cc)
+followed_valid n (Some command) (Ok others) commands h k e = subst (AllByRecursion IsValid) (ok_items (command ∷ others) commands e) (h, k others refl)
+followed_valid n (Some command) (Err refused) commands h k e = absurd (cc)
+
+-- all lines
+lines_valid : (n : ℕ) (left : List (List ℕ)) (commands : List Command) → commands_of n left ≡ Ok commands → AllByRecursion IsValid commands
+lines_valid n [] commands e = subst (AllByRecursion IsValid) (ok_items [] commands e) tt
+lines_valid n (line ∷ left) commands told =
+    let others = λ (cs : List Command) (e : commands_of (n + 1) left ≡ Ok cs). lines_valid (n + 1) left cs e in
+    cond_both (is_skipped (words_of line)) (commands_of (n + 1) left) (followed_by n (command_of (words_of line)) (commands_of (n + 1) left))
+    (λ r. r ≡ Ok commands → AllByRecursion IsValid commands)
+    (λ _. others commands)
+    (λ _. followed_valid n (command_of (words_of line)) (commands_of (n + 1) left) commands (command_valid (words_of line)) others)
+    told
+
+-- the commands of a script are valid
+pub script_valid : (bytes : List ℕ) (commands : List Command) → script_of bytes ≡ Ok commands → All IsValid commands
+unfolding script_of
+script_valid bytes commands e = All-from_recursion IsValid commands (lines_valid 1 (lines bytes) commands e)

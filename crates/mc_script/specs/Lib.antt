@@ -1,0 +1,5 @@
+pub mod Command
+pub mod Words
+pub mod Forms
+pub mod Script
+pub mod Written

@@ -1,0 +1,33 @@
+-- The words of a line, and the numbers among them.
+use Rattle.std.specs.Prelude.{ℕ, ◌^◌, ◌==◌, Bool, not, ◌&&◌, nat_le, nat_lt, if◌then◌else◌, List, length, filter, Option, Some, None}
+use Rattle.std.specs.List.{slice_split}
+use Rattle.std.specs.Option.{option_and_then}
+use Rattle.std.specs.Str.{all_ascii_digits}
+use Rattle.std.specs.Str.Parse.{digits_value}
+
+-- a `do` goes on with the value, where there is one, and gives nothing where there is none
+infixl 10 ◌>>=◌
+abbrev pub ◌>>=◌ : {A B : Type 0} → Option A → (A → Option B) → Option B
+found >>= next = option_and_then next found
+
+-- the only byte that stands between words
+abbrev pub space : ℕ
+space = 32
+
+-- the words of a line: what stands between spaces, where that isn't empty
+abbrev pub words_of : List ℕ → List (List ℕ)
+words_of line = filter (λ word. not (length word == 0)) (slice_split (λ byte. byte == space) line)
+
+-- 1 to 20 decimal digits of a number below 2^64; leading zeros are allowed
+abbrev pub is_number : List ℕ → Bool
+is_number word = nat_le 1 (length word) && nat_le (length word) 20 && all_ascii_digits word && nat_lt (digits_value 10 word) (2 ^ 64)
+
+-- the number that a word writes, if it writes one
+abbrev pub number_of : List ℕ → Option ℕ
+number_of word = if is_number word then Some (digits_value 10 word) else None
+
+-- that number, if it is from low to high
+abbrev pub number_between : ℕ → ℕ → List ℕ → Option ℕ
+number_between low high word = do
+  number ← number_of word
+  if nat_le low number && nat_le number high then Some number else None

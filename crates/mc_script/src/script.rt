@@ -1,0 +1,84 @@
+//! A whole script.
+ghost use Rattle.std.specs.Prelude.{◌≡◌, ℕ, IfOk, All};
+ghost use Rattle.mc_script.specs.Command.{IsValid};
+ghost use Rattle.mc_script.specs.Script.{script_of};
+
+use crate::command::Command;
+use crate::forms::command;
+use crate::line::{is_skipped, words};
+use crate::lines::Lines;
+use std::alloc::{AllocError, AllocFailed, Global};
+use std::error::Error;
+use std::fmt;
+
+/// The most bytes of a script. Whoever reads one in tests its length before (own).
+pub const MAX_SCRIPT: usize = 1_048_576;
+
+/// Why a script gives no commands.
+#[derive(Clone, Copy, Debug, PartialEq, Eq)]
+pub enum ScriptError {
+    /// The lowest line that is no command. Lines are numbered from 1, skipped ones too.
+    Line(u64),
+    /// Memory ran out.
+    NoMemory,
+}
+
+impl fmt::Display for ScriptError {
+    fn fmt<W: fmt::Write>(&self, f: &mut fmt::Formatter<W>) -> fmt::Result {
+        match self {
+            ScriptError::Line(number) => write!(f, "line {number} is no command"),
+            ScriptError::NoMemory => f.write_str("out of memory"),
+        }
+    }
+}
+
+impl Error for ScriptError {}
+
+impl From<AllocError> for ScriptError {
+    ghost use Rattle.std.specs.Prelude.{◌≡◌};
+    ghost use Rattle.mc_script.specs.declared.script.ScriptError.TheVariants.{NoMemory};
+
+    ghost from_gives = { λ _ error. error ≡ NoMemory };
+
+    fn from(_error: AllocError) -> ScriptError {
+        ScriptError::NoMemory
+    }
+}
+
+impl<T: Drop> From<AllocFailed<T>> for ScriptError {
+    ghost use Rattle.std.specs.Prelude.{◌≡◌};
+    ghost use Rattle.mc_script.specs.declared.script.ScriptError.TheVariants.{NoMemory};
+
+    ghost from_gives = { λ _ error. error ≡ NoMemory };
+
+    fn from(_error: AllocFailed<T>) -> ScriptError {
+        ScriptError::NoMemory
+    }
+}
+
+/// The commands of a script, in the order of their lines, or the number of the lowest line that is neither skipped nor a
+/// command. It takes memory for the commands and for the words of a line at a time, and time linear in the bytes.
+#[tactic(auto, unfolding(crate::specs::Script::script_of))]
+pub fn read(alloc: Global, bytes: &[u8]) -> Result<Vec<Command>, ScriptError>
+    ensures ok { IfOk result (λ commands. script_of bytes.now ≡ Ok commands.items) }
+    ensures refused { (n : ℕ) → result ≡ Err (ScriptError.Line n) → script_of bytes.now ≡ Err n }
+    ensures valid { IfOk result (λ commands. All IsValid commands.items) }
+{
+    let mut commands = Vec::new(alloc);
+    let mut number = 0;
+    for line in Lines::new(bytes) {
+        number += 1;
+        if is_skipped(line) {
+            continue;
+        }
+        let words = words(alloc, line)?;
+        match command(&words) {
+            Some(command) => commands.push(command)?,
+            None => return Err(ScriptError::Line(number)),
+        }
+    }
+    Ok(commands)
+}
+
+#[cfg(test)]
+mod tests;

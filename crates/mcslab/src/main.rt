@@ -1,0 +1,124 @@
+//! `mcslab`: runs a script of memory commands from standard input, and replies on standard output.
+//!
+//! It ends with status 0, or with a line on standard error and 1 where the command line is refused, 2 where the
+//! script is, 3 where a stream failed and 4 where memory ran out.
+#![tactic(auto)]
+
+ghost use Rattle.std.specs.Prelude.{◌≡◌, ◌<◌, IfOk};
+
+use mc_classes::{Failures, Fault};
+use mc_driver::{Input as Standard, Options, Output, Run, RunFault, read_options, run_serial};
+use std::env;
+use std::env::Env;
+use std::io::{self, ErrorKind};
+use std::marker::Brand;
+use std::process::ExitCode;
+use std::sync::ledger::{Blank, Ledger};
+
+/// Why the program wasn't done.
+#[derive(Drop)]
+enum Stop {
+    /// The options are refused, or help was asked for.
+    Options(clap::Error),
+    /// The arguments can't be read as text.
+    Words,
+    /// The run wasn't done.
+    Fault(RunFault),
+}
+
+impl From<RunFault> for Stop {
+    fn from(fault: RunFault) -> Stop {
+        Stop::Fault(fault)
+    }
+}
+
+impl From<clap::Error> for Stop {
+    fn from(error: clap::Error) -> Stop {
+        match error.kind() {
+            clap::error::ErrorKind::OutOfMemory => Stop::Fault(RunFault::Memory),
+            _ => Stop::Options(error),
+        }
+    }
+}
+
+impl From<io::Error> for Stop {
+    fn from(error: io::Error) -> Stop {
+        match error.kind() {
+            ErrorKind::OutOfMemory => Stop::Fault(RunFault::Memory),
+            _ => Stop::Words,
+        }
+    }
+}
+
+/// The options that the program was started with.
+fn started_with<R: Env + AllocGlobal>(rt: &R) -> Result<Options, Stop>
+    ensures { IfOk result (λ options. options.run.automove ≡ 0) }
+{
+    let words: Vec<String> = env::args(rt)?.collect(rt.alloc()).map_err(RunFault::from)?;
+    Ok(read_options(rt.alloc(), words.as_slice())?)
+}
+
+/// Runs the script. Whatever comes of it, what was replied is written before the end.
+fn serve<R: Input + Print + AllocGlobal, I: Ledger, O: Ledger>(
+    rt: &R,
+    run: &Run,
+    reads: Blank,
+    writes: Blank,
+) -> Result<(), RunFault>
+    requires automove { run.now.automove ≡ 0 }
+    requires reads_name { reads.name ≡ I.name }
+    requires reads_parts { reads.parts ≡ I.parts }
+    requires reads_some { 0 < reads.parts }
+    requires writes_name { writes.name ≡ O.name }
+    requires writes_parts { writes.parts ≡ O.parts }
+    requires writes_some { 0 < writes.parts }
+{
+    let mut input = Standard::new(rt.reader(), Failures::<I>::new(reads));
+    let mut output = Output::new(rt.alloc(), io::writer(rt), Failures::<O>::new(writes))?;
+    let done = run_serial(rt.alloc(), run, &mut input, &mut output);
+    match output.finish() {
+        Ok(_) => done,
+        Err(Fault) => Err(RunFault::Write),
+    }
+}
+
+/// Reads the options and runs.
+fn run(rt: &HostRuntime) -> Result<(), Stop> {
+    let options = started_with(rt)?;
+    serve::<HostRuntime, Brand, Brand>(rt, &options.run, Blank::new(1), Blank::new(1))?;
+    Ok(())
+}
+
+/// Tells on standard error what kept the run from being done, and gives the status to end with.
+fn tell(rt: &impl Eprint, fault: RunFault) -> u8 {
+    let _ = rt.eprintln(format_args!("mcslab: {fault}"));
+    fault.status()
+}
+
+/// Prints what was asked for or what is wrong, and gives the status to end with.
+fn end(rt: &(impl Print + Eprint), stop: Stop) -> u8 {
+    match stop {
+        Stop::Options(error) => {
+            if error.use_stderr() {
+                let _ = rt.eprint(error);
+                return 1;
+            }
+            match rt.print(error) {
+                Ok(()) => 0,
+                Err(_) => tell(rt, RunFault::Write),
+            }
+        }
+        Stop::Words => {
+            let _ = rt.eprintln("mcslab: the arguments are not text");
+            1
+        }
+        Stop::Fault(fault) => tell(rt, fault),
+    }
+}
+
+fn main(rt: HostRuntime) -> ExitCode {
+    match run(&rt) {
+        Ok(()) => ExitCode::SUCCESS,
+        Err(stop) => ExitCode::from(end(&rt, stop)),
+    }
+}
