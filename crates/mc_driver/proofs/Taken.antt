@@ -1,11 +1,11 @@
 -- What was read is the front of what was there.
-use Rattle.std.proofs.Common.{◌≡◌, ℕ, ◌≤◌, List, [], ◌∷◌, ◌++◌, length, take, Option, Some, None, refl, ap, sym, ◌∙◌, arith}
+use Rattle.std.proofs.Common.{◌≡◌, ℕ, ◌+◌, ◌≤◌, List, [], ◌∷◌, ◌++◌, length, take, Option, Some, None, refl, ap, sym, ◌∙◌, arith}
 use Rattle.std.specs.Prelude.{IfSome}
 use Rattle.std.specs.Io.KnownBytes.{Consumes, IsAtEnd}
 use Rattle.std.proofs.KnownBytes.{Consumes-trans}
-use Rattle.std.proofs.lemmas.List.{take_all, nil_from_length, append-nil}
+use Rattle.std.proofs.lemmas.List.{take_all, nil_from_length, append-nil, length-append}
 use Rattle.std.proofs.Math.Seq.{take-append_seam}
-use Rattle.mc_driver.specs.Reading.{TakesPiece}
+use Rattle.mc_driver.specs.Reading.{TakesAtMost, TakesPiece}
 
 -- as much as was asked for
 pub taken_full : (n : ℕ) (a b : Option (List ℕ)) (bytes : List ℕ) → Consumes a b bytes → length bytes ≡ n → IfSome a (λ all. bytes ≡ take n all)
@@ -29,3 +29,8 @@ taken_end n a b c old new taken last end short =
     let taken_then : Consumes a c (old ++ last.piece) = Consumes-trans a b c old last.piece taken last.consumed in
     let taken_now : Consumes a c new = rw last.appended taken_then in
     taken_all n a c new taken_now end (rw same short)
+
+-- what was taken, and then at most so much more
+pub takes_more : (n most : ℕ) (a b c : Option (List ℕ)) (taken : List ℕ) → Consumes a b taken → TakesAtMost n b c → length taken + n ≤ most → TakesAtMost most a c
+takes_more n most a b c taken first more fits =
+    (taken ++ more.0, Consumes-trans a b c taken more.0 first more.1, omega (arith, more.2, fits, length-append taken more.0))

@@ -1,5 +1,5 @@
 -- How a script comes from a reader.
-use Rattle.std.specs.Prelude.{◌≡◌, ℕ, ◌<◌, List, ◌++◌, length, Option}
+use Rattle.std.specs.Prelude.{◌≡◌, ℕ, ◌<◌, ◌≤◌, List, ◌++◌, length, Option}
 use Rattle.std.specs.Io.KnownBytes.{Consumes}
 use Rattle.mc_driver.specs.declared.fault.RunFault.{RunFault}
 use Rattle.mc_driver.specs.declared.fault.RunFault.TheVariants.{Config, Script, TooLong, Read, Write, Memory}
@@ -19,3 +19,7 @@ pub record TakesPiece (left_old left_new : Option (List ℕ)) (old new : List �
   pub appended : new ≡ old ++ piece
   pub consumed : Consumes left_old left_new piece
   pub counted : length piece ≡ count
+
+-- at most so many bytes were taken from what was left
+abbrev pub TakesAtMost : ℕ → Option (List ℕ) → Option (List ℕ) → Type 0
+TakesAtMost most old new = (taken : List ℕ) × Consumes old new taken × (length taken ≤ most)

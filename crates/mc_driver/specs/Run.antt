@@ -1,7 +1,7 @@
 -- What a serial run answers, and what it has written by then.
 use Rattle.std.specs.Prelude.{◌≡◌, ℕ, ◌<◌, ◌≤◌, ◌⊎◌, List, take, length, Option, Some, Result, Ok, Err}
 use Rattle.std.specs.Option.{option_map}
-use Rattle.std.specs.Io.KnownBytes.{Appends, Consumes, Keeps, append_known}
+use Rattle.std.specs.Io.KnownBytes.{Appends, Keeps, append_known}
 use Rattle.mc_classes.specs.declared.config.Config.{Config}
 use Rattle.mc_classes.specs.declared.config.ConfigError.{ConfigError}
 use Rattle.mc_classes.specs.declared.config.ConfigError.TheVariants.{NoMemory}
@@ -92,7 +92,3 @@ IsOutcome config bytes old new (Err Read) = Keeps old new
 IsOutcome config bytes old new (Err Memory) = Keeps old new ⊎ OfMachine config (λ machine. IsScriptOutcome bytes machine old new (Err Memory))
 -- the machine's run ended so
 IsOutcome config bytes old new result = OfMachine config (λ machine. IsScriptOutcome bytes machine old new result)
-
--- at most so many bytes were taken from what was left
-abbrev pub TakesAtMost : ℕ → Option (List ℕ) → Option (List ℕ) → Type 0
-TakesAtMost most old new = (taken : List ℕ) × Consumes old new taken × (length taken ≤ most)

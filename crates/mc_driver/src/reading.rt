@@ -1,7 +1,7 @@
 //! The bytes of a script, taken from a reader.
 ghost use Rattle.std.specs.Prelude.{◌≡◌, ℕ, ◌+◌, ◌<◌, ◌≤◌, List, ◌++◌, take, length, IfOk, OnOk, IfErr, IfSome, vec_len};
 ghost use Rattle.std.specs.Io.KnownBytes.{Consumes, IsAtEnd};
-ghost use Rattle.mc_driver.specs.Reading.{IsReadFault, TakesPiece};
+ghost use Rattle.mc_driver.specs.Reading.{IsReadFault, TakesAtMost, TakesPiece};
 
 use crate::fault::RunFault;
 use mc_classes::Source;
@@ -17,8 +17,7 @@ const MOST: usize = MAX_SCRIPT + 1;
 /// Reads a script, and no more than one byte past the longest one. Any error of the reader ends the reading.
 pub(crate) fn read_script<R: Source>(alloc: Global, reader: &mut R) -> Result<Vec<u8>, RunFault>
     ensures bytes { IfOk result (λ bytes. IfSome (R.remaining reader.old) (λ all. bytes.items ≡ take 1048577 all)) }
-    ensures taken { IfOk result (λ bytes. Consumes (R.remaining reader.old) (R.remaining reader.new) bytes.items) }
-    ensures most { IfOk result (λ bytes. length bytes.items ≤ 1048577) }
+    ensures most { TakesAtMost 1048577 (R.remaining reader.old) (R.remaining reader.new) }
     ensures quiet { OnOk result (R.failures reader.new ≡ R.failures reader.old) }
     ensures fault { IfErr result (λ fault. IsReadFault (R.failures reader.old) (R.failures reader.new) fault) }
 {
@@ -50,6 +49,7 @@ fn read_piece<R: Source>(
     requires { 0 < length piece.old }
     ensures taken { IfOk result (λ count. TakesPiece (R.remaining reader.old) (R.remaining reader.new) bytes.old.items bytes.new.items count) }
     ensures within { IfOk result (λ count. count ≤ length piece.old) }
+    ensures most { TakesAtMost (length piece.old) (R.remaining reader.old) (R.remaining reader.new) }
     ensures end { result ≡ Ok 0 → IsAtEnd (R.remaining reader.new) }
     ensures quiet { OnOk result (R.failures reader.new ≡ R.failures reader.old) }
     ensures fault { IfErr result (λ fault. IsReadFault (R.failures reader.old) (R.failures reader.new) fault) }

@@ -7,6 +7,7 @@ ghost use Rattle.mc_script.specs.Command.{IsValid};
 ghost use Rattle.mc_script.specs.Script.{script_of};
 ghost use Rattle.mc_driver.specs.Lines.{replies_to};
 ghost use Rattle.mc_driver.specs.Machine.{fresh_machine};
+ghost use Rattle.mc_driver.specs.Reading.{TakesAtMost};
 ghost use Rattle.mc_driver.specs.Run.{IsOutcome, IsScript, IsScriptFault, IsScriptOutcome, IsServeFault, config_fault, refusal_number};
 
 use crate::fault::RunFault;
@@ -42,6 +43,9 @@ pub fn run_serial<R: Source, W: Sink>(
     // A refused configuration is told, exactly then, and leaves reader and writer alone.
     ensures refused { (number : ℕ) → (result ≡ Err (RunFault.Config number)) ↔ (refusal_number run.now.config ≡ Some number) }
     ensures unread { IsSome (refusal_of run.now.config) → (reader.new ≡ reader.old) × (writer.new ≡ writer.old) }
+
+    // No more is read than shows that a script is too long.
+    ensures most { TakesAtMost 1048577 (R.remaining reader.old) (R.remaining reader.new) }
 
     // A failed read or write is told, exactly then.
     ensures read { (result ≡ Err RunFault.Read) ↔ (R.failures reader.old < R.failures reader.new) }

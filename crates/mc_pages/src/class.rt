@@ -1,5 +1,5 @@
 //! One size class: the pages it has, the chunks that are free and those that are handed out.
-ghost use Rattle.std.specs.Prelude.{◌≡◌, ℕ, ◌+◌, ◌*◌, ◌<◌, ◌≤◌, length, slice_get, Contains, OnOk, OnErr, position, vec_capacity, vec_len};
+ghost use Rattle.std.specs.Prelude.{◌≡◌, ◌+◌, ◌*◌, ◌<◌, ◌≤◌, length, slice_get, Contains, OnOk, OnErr, position, vec_capacity, vec_len};
 ghost use Rattle.mc_pages.specs.ClassState.{new_class, first_free, popped, put_back, with_cut, with_page, numbers_of, is_chunk, without};
 
 use crate::ids::ChunkId;

@@ -1,5 +1,5 @@
 //! The sequential value behind the slabs lock: all pages and all chunks.
-ghost use Rattle.std.specs.Prelude.{◌≡◌, ◌-◌, ◌<◌, ◌≤◌, ◌↔◌, length, slice_get, Contains, IfOk, OnErr, None, Some, Err};
+ghost use Rattle.std.specs.Prelude.{◌≡◌, ◌-◌, ◌<◌, ◌↔◌, length, slice_get, Contains, IfOk, OnErr, None, Some, Err};
 ghost use Rattle.std.specs.Option.{option_map};
 ghost use Rattle.mc_pages.specs.ClassState.{first_free, numbers_of};
 ghost use Rattle.mc_pages.specs.Ledger.{owner_at};

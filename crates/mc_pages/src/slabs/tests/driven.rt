@@ -1,5 +1,5 @@
 //! `Slabs` as the tests drive it: each call is tested here for what it requires, so that tests may try any.
-ghost use Rattle.std.specs.Prelude.{◌≡◌, ℕ, IsTrue, ◌↔◌, length};
+ghost use Rattle.std.specs.Prelude.{◌≡◌, IsTrue, ◌↔◌, length};
 ghost use Rattle.mc_pages.specs.SlabState.{IsClass};
 ghost use Rattle.mc_pages.specs.Accounted.{IsAccounted};
 

@@ -1,0 +1,110 @@
+#!/usr/bin/env python3
+"""Writes a script of sets, deletes and `stats slabs` for mcslab, just under its limit of 1,048,576 bytes.
+
+The same options give the same bytes, with any version of Python 3. The live items are kept near `--fill` of the
+memory of the largest configuration (CONFIGURATION below).
+"""
+import argparse
+import sys
+
+MOST_BYTES = 1_048_576
+PAGE = 16_384
+PAGES = 64
+CONFIGURATION = ["--page", "16384", "--limit", "1048576", "--first", "64", "--factor", "5/4", "--max", "16384"]
+
+
+class Numbers:
+    """splitmix64, so that no version of Python's own generator matters."""
+
+    def __init__(self, seed):
+        self.state = seed % 2**64
+
+    def below(self, bound):
+        self.state = (self.state + 0x9E3779B97F4A7C15) % 2**64
+        mixed = self.state
+        mixed = ((mixed ^ (mixed >> 30)) * 0xBF58476D1CE4E5B9) % 2**64
+        mixed = ((mixed ^ (mixed >> 27)) * 0x94D049BB133111EB) % 2**64
+        return (mixed ^ (mixed >> 31)) % bound
+
+
+def item_bytes(words):
+    return 24 + 8 * words
+
+
+class Script:
+    """What is live as far as the generator knows: it takes every set as stored."""
+
+    def __init__(self, options):
+        self.options = options
+        self.numbers = Numbers(options.seed)
+        self.target = PAGE * PAGES * options.fill // 100
+        self.words_of = {}
+        self.keys = []
+        self.bytes = 0
+
+    def words(self):
+        """So many words: each doubling of the size up to the largest is as likely as any other."""
+        doublings = (self.options.max_words + 1).bit_length()
+        low = 2 ** self.numbers.below(doublings) - 1
+        return min(low + self.numbers.below(low + 1), self.options.max_words)
+
+    def live_key(self):
+        return self.keys[self.numbers.below(len(self.keys))]
+
+    def set(self, key):
+        words = self.words()
+        if key not in self.words_of:
+            self.keys.append(key)
+        self.bytes += item_bytes(words) - item_bytes(self.words_of[key]) if key in self.words_of else item_bytes(words)
+        self.words_of[key] = words
+        worker = 1 + self.numbers.below(self.options.workers)
+        return f"{worker} set {key} {words} {self.numbers.below(1000)}"
+
+    def delete(self):
+        place = self.numbers.below(len(self.keys))
+        key = self.keys[place]
+        self.keys[place] = self.keys[-1]
+        self.keys.pop()
+        self.bytes -= item_bytes(self.words_of.pop(key))
+        worker = 1 + self.numbers.below(self.options.workers)
+        return f"{worker} del {key}"
+
+    def line(self, count):
+        if count % self.options.stats_every == self.options.stats_every - 1:
+            return "stats slabs"
+        if self.bytes > self.target and self.keys:
+            return self.delete()
+        drawn = self.numbers.below(100)
+        if drawn < self.options.deletes and self.keys:
+            return self.delete()
+        if drawn < self.options.deletes + self.options.overwrites and self.keys:
+            return self.set(self.live_key())
+        return self.set(self.numbers.below(self.options.keys))
+
+
+def script(options):
+    made, lines, size = Script(options), [], 0
+    while True:
+        line = made.line(len(lines)) + "\n"
+        if size + len(line) > options.bytes:
+            return "".join(lines)
+        lines.append(line)
+        size += len(line)
+
+
+def parser():
+    it = argparse.ArgumentParser(description=__doc__, formatter_class=argparse.RawDescriptionHelpFormatter)
+    it.add_argument("--seed", type=int, default=1, help="which script (default 1)")
+    it.add_argument("--bytes", type=int, default=MOST_BYTES, help="at most so many bytes")
+    it.add_argument("--deletes", type=int, default=20, help="of 100 lines, so many delete a live key (more once the memory is full)")
+    it.add_argument("--overwrites", type=int, default=20, help="of 100 lines, so many set a live key anew")
+    it.add_argument("--stats-every", type=int, default=1000, help="every so many lines one is `stats slabs`")
+    it.add_argument("--fill", type=int, default=70, help="live items take so many of 100 bytes of the memory")
+    it.add_argument("--keys", type=int, default=100_000, help="new keys are below this")
+    it.add_argument("--max-words", type=int, default=255, help="items have at most so many words")
+    it.add_argument("--workers", type=int, default=4, help="workers 1 to this")
+    return it
+
+
+if __name__ == "__main__":
+    sys.stdout.write(script(parser().parse_args()))

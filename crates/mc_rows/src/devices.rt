@@ -1,0 +1,67 @@
+//! A reader and a writer in memory, which fail where they are told to.
+use mc_classes::{Failures, Fault, Sink, Source};
+use std::cmp;
+use std::sync::ledger::Ledger;
+
+/// Gives the bytes of a slice, at most `piece` in a read, and fails once `good` of them are gone.
+#[derive(Drop)]
+pub struct MemorySource<'a, L: Ledger> {
+    /// The bytes that are left.
+    pub rest: &'a [u8],
+    /// The most bytes that a read gives.
+    pub piece: usize,
+    /// How many bytes are given before every read fails.
+    pub good: usize,
+    /// The failures so far.
+    pub failures: Failures<L>,
+}
+
+impl<L: Ledger> Source for MemorySource<'_, L> {
+    ghost use Rattle.std.specs.Prelude.{Some};
+
+    ghost remaining = { λ s. Some s.rest.now };
+
+    ghost failures = { λ s. s.failures };
+
+    fn read(&mut self, buf: &mut [u8]) -> Result<usize, Fault> {
+        let least = cmp::min(buf.len(), self.rest.len());
+        if self.good == 0 || (self.piece == 0 && least > 0) {
+            self.failures.add();
+            return Err(Fault);
+        }
+        let count = cmp::min(least, cmp::min(self.piece, self.good));
+        let (bytes, rest) = self.rest.split_at(count);
+        buf[..count].copy_from_slice(bytes);
+        self.rest = rest;
+        self.good -= count;
+        Ok(count)
+    }
+}
+
+/// Keeps what is written, and fails where memory runs out or `good` writes were made.
+#[derive(Drop)]
+pub struct MemorySink<L: Ledger> {
+    /// What was written.
+    pub bytes: Vec<u8>,
+    /// How many writes are made before every write fails.
+    pub good: u64,
+    /// The failures so far.
+    pub failures: Failures<L>,
+}
+
+impl<L: Ledger> Sink for MemorySink<L> {
+    ghost use Rattle.std.specs.Prelude.{Some};
+
+    ghost contents = { λ s. Some s.bytes.items };
+
+    ghost failures = { λ s. s.failures };
+
+    fn write_all(&mut self, bytes: &[u8]) -> Result<(), Fault> {
+        if self.good == 0 || self.bytes.extend_from_slice(bytes).is_err() {
+            self.failures.add();
+            return Err(Fault);
+        }
+        self.good -= 1;
+        Ok(())
+    }
+}

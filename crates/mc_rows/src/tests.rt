@@ -1,0 +1,96 @@
+//! Worked examples, by name: a script, the replies and how the run ends.
+mod rows;
+mod streams;
+
+ghost use Rattle.std.specs.Prelude.{◌≡◌, ◌<◌};
+
+use crate::devices::{MemorySink, MemorySource};
+use mc_classes::{Config, Failures};
+use mc_driver::{Run, RunFault, run_serial};
+use std::alloc::{AllocError, Global};
+use std::marker::Brand;
+use std::sync::ledger::{Blank, Ledger};
+
+/// Pages of 1024 bytes, four of them, and classes of 48, 96, 192 and 512 bytes.
+const FOUR_CLASSES: Config = Config {
+    page: 1024,
+    limit: 4096,
+    first: 48,
+    num: 2,
+    den: 1,
+    max: 512,
+    stripes: 4,
+    bulk: 64,
+};
+
+/// How a run is disturbed: the bytes of a read, the bytes before a read fails, the writes before one fails.
+#[derive(Clone, Copy, Debug)]
+struct StreamLimits {
+    piece: usize,
+    good_bytes: usize,
+    good_writes: u64,
+}
+
+/// StreamLimits that never fail.
+const WHOLE: StreamLimits = StreamLimits {
+    piece: usize::MAX,
+    good_bytes: usize::MAX,
+    good_writes: u64::MAX,
+};
+
+/// What a run wrote, and how it ended.
+#[derive(Drop)]
+struct Played {
+    text: Vec<u8>,
+    end: Result<(), RunFault>,
+}
+
+/// Runs a script.
+fn play(
+    alloc: Global,
+    config: Config,
+    script: &[u8],
+    limits: StreamLimits,
+) -> Result<Played, AllocError> {
+    play_counting::<Brand, Brand>(alloc, config, script, limits, Blank::new(1), Blank::new(1))
+}
+
+/// Runs a script, where these count the failures of reader and writer.
+fn play_counting<I: Ledger, O: Ledger>(
+    alloc: Global,
+    config: Config,
+    script: &[u8],
+    limits: StreamLimits,
+    reads: Blank,
+    writes: Blank,
+) -> Result<Played, AllocError>
+    requires reads_name { reads.name ≡ I.name }
+    requires reads_parts { reads.parts ≡ I.parts }
+    requires reads_some { 0 < reads.parts }
+    requires writes_name { writes.name ≡ O.name }
+    requires writes_parts { writes.parts ≡ O.parts }
+    requires writes_some { 0 < writes.parts }
+{
+    let mut reader = MemorySource::<I> {
+        rest: script,
+        piece: limits.piece,
+        good: limits.good_bytes,
+        failures: Failures::new(reads),
+    };
+    let mut writer = MemorySink::<O> {
+        bytes: Vec::new(alloc),
+        good: limits.good_writes,
+        failures: Failures::new(writes),
+    };
+    let run = Run {
+        config,
+        automove: 0,
+    };
+    let end = run_serial(alloc, &run, &mut reader, &mut writer);
+    let MemorySink {
+        bytes,
+        good: _,
+        failures: _,
+    } = writer;
+    Ok(Played { text: bytes, end })
+}

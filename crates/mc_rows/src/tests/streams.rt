@@ -1,0 +1,65 @@
+//! Runs whose streams come in pieces or fail.
+use super::{FOUR_CLASSES, StreamLimits, WHOLE, play};
+use mc_driver::RunFault;
+use std::test::Fail;
+
+const SCRIPT: &[u8] = b"1 set 1 3 7\n1 set 2 3 9\n1 del 2\nstats slabs\n";
+
+/// What the script's commands answer, one after another.
+const REPLIES: [&[u8]; 4] = [
+    b"STORED 1\r\n",
+    b"STORED 2\r\n",
+    b"DELETED 2\r\n",
+    b"STAT 1:chunk_size 48\r\nSTAT 1:chunks_per_page 21\r\nSTAT 1:total_pages 1\r\nSTAT 1:total_chunks 21\r\nSTAT 1:used_chunks 1\r\nSTAT 1:free_chunks 20\r\nSTAT active_slabs 1\r\nSTAT total_malloced 1024\r\nEND\r\n",
+];
+
+#[test]
+fn a_reader_in_pieces_gives_the_same_run(rt: HostRuntime) -> Result<(), Fail> {
+    let whole = play(rt.alloc(), FOUR_CLASSES, SCRIPT, WHOLE)?;
+    assert_eq!(rt; whole.end, Ok(()));
+    for piece in [1, 2, 7] {
+        let limits = StreamLimits { piece, ..WHOLE };
+        let played = play(rt.alloc(), FOUR_CLASSES, SCRIPT, limits)?;
+        assert_eq!(rt; played.end, Ok(()), "pieces of {piece}");
+        assert_eq!(rt;
+            played.text.as_slice(),
+            whole.text.as_slice(),
+            "pieces of {piece}"
+        );
+    }
+    Ok(())
+}
+
+#[test]
+fn a_reader_that_fails_ends_the_run(rt: HostRuntime) -> Result<(), Fail> {
+    for good_bytes in 0..=SCRIPT.len() {
+        let limits = StreamLimits {
+            good_bytes,
+            ..WHOLE
+        };
+        let played = play(rt.alloc(), FOUR_CLASSES, SCRIPT, limits)?;
+        assert_eq!(rt; played.end, Err(RunFault::Read), "after {good_bytes} bytes");
+        assert_eq!(rt; played.text.len(), 0, "after {good_bytes} bytes");
+    }
+    Ok(())
+}
+
+#[test]
+fn a_writer_that_fails_ends_the_run(rt: HostRuntime) -> Result<(), Fail> {
+    let mut so_far = Vec::new(rt.alloc());
+    for (count, reply) in REPLIES.iter().enumerate() {
+        let limits = StreamLimits {
+            good_writes: count as u64,
+            ..WHOLE
+        };
+        let played = play(rt.alloc(), FOUR_CLASSES, SCRIPT, limits)?;
+        assert_eq!(rt; played.end, Err(RunFault::Write), "at write {count}");
+        assert_eq!(rt;
+            played.text.as_slice(),
+            so_far.as_slice(),
+            "at write {count}"
+        );
+        so_far.extend_from_slice(reply)?;
+    }
+    Ok(())
+}
