@@ -1,9 +1,19 @@
 # The checks of the built program: statuses and streams, which no contract says. ci/test reads this file.
 # `rt ci` leaves the program in crates/mcslab/out, as LLVM builds it and as Rattle's own compiler does.
 
-# Proves and builds the program where no earlier part did.
-build_program() {
-    [ -x crates/mcslab/out/mcslab ] || (cd crates/mcslab && rt run) </dev/null >"$room/build" 2>&1
+# Where the gate wasn't run before, the program is proved and built here, if anything changed. MCSLAB names another one.
+
+# Sets programs to those that are looked at.
+find_programs() {
+    out=$top/crates/mcslab/out
+    if [ -n "${MCSLAB:-}" ]; then
+        programs=$MCSLAB
+    elif [ "$gate_was_run" = yes ]; then
+        programs="$out/mcslab $out/mcslab.by-rattle"
+    else
+        (cd crates/mcslab && rt run) </dev/null >"$room/build" 2>&1 || return 1
+        programs=$out/mcslab
+    fi
 }
 
 # run_on INPUT ARGS..: runs the program, and leaves its status and what it wrote.
@@ -206,14 +216,16 @@ check_streams() {
 }
 
 check_program() {
-    if ! build_program || [ ! -x crates/mcslab/out/mcslab ]; then
-        bad "the program" "it was not built: $(tail -n 5 "$room/build" 2>/dev/null)"
+    if ! find_programs; then
+        bad "the program" "it isn't built: $(tail -n 5 "$room/build")"
         return
     fi
-    for program in "$top/crates/mcslab/out/mcslab" "$top/crates/mcslab/out/mcslab.by-rattle"; do
-        # only `rt ci` builds the second
-        [ -x "$program" ] || continue
+    for program in $programs; do
         build=$(basename "$program")
+        if [ ! -x "$program" ]; then
+            bad "$build" "it isn't built"
+            continue
+        fi
         check_examples
         check_configurations
         check_options

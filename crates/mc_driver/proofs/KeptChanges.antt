@@ -22,7 +22,8 @@ use Rattle.mc_driver.specs.Items.{Items, chunk_cmp, item_at, is_dead, with_item,
 use Rattle.mc_driver.specs.Kept.{places, links, IsKept, IsVacant}
 use Rattle.mc_driver.proofs.Chunks.{places_none, places-with_item, places-unlinked_items, places-without_item, places-without_item-le, chunk_cmp-equal, chunk_cmp-self, none-places}
 use Rattle.mc_driver.proofs.Links.{links_none, links-with_item, links-unlinked_items, links-without_item-le, linked_chunk-with_item, linked_chunk-unlinked_items, linked_chunk-without_item, some_places, LinkedIn, linked_in, unlinked_items_none}
-use Rattle.mc_driver.proofs.Orders.{is_chunk-same, is_chunk-self, times-without, times-without_other, times-cons, in_lists_once, page_of_listed}
+use Rattle.mc_pages.proofs.Chunks.{same_from_is_chunk, is_chunk-same, times-without, times-cons}
+use Rattle.mc_driver.proofs.Orders.{in_lists_once, page_of_listed}
 use Rattle.mc_driver.proofs.Moves.{class_at-with_class, class_at-with_other, order-with_class, owners-cuts, classes-cuts, order-cuts, handed-order, handed-chunk, per_page-handed, per_pages-with_class, per_pages-cuts, page-cuts, limit-cuts}
 
 -- two chunks compare equal and are one, or don't
@@ -144,7 +145,7 @@ free_head : (x : ChunkId) (free : List ChunkId) → slice_get free 0 ≡ Some x 
 free_head x [] h = cc
 free_head x (c ∷ free) h =
     let same : c ≡ x = cc in
-    let self : is_chunk c x ≡ true = rw same (is_chunk-self x) in
+    let self : is_chunk c x ≡ true = rw same (is_chunk-same x) in
     grind (arith, nat_tests, times-cons x c free)
 
 pub vacant_pop : (table : Classes) (slabs : SlabState) (index : List (ℕ × ChunkId)) (items : Items) (class : ℕ) (x : ChunkId)
@@ -212,13 +213,13 @@ dead_item items x dead = dead_item_at (item_at items x) refl dead
 
 -- a put back takes one chunk out of one hand-out order
 order_back_step : (b : Bool) (slabs : SlabState) (other : ℕ) (x y : ChunkId) → IsClass slabs (class_of_page slabs x.page) → IsClass slabs other
-    → is_chunk x y ≡ false → eqb other (class_of_page slabs x.page) ≡ b
+    → 1 ≤ times x (class_of_chunk slabs x).order → is_chunk x y ≡ false → eqb other (class_of_page slabs x.page) ≡ b
     → times y (class_at (after_back slabs x) other).order ≡ times y (class_at slabs other).order
-order_back_step true slabs other x y valid valid_other apart is =
+order_back_step true slabs other x y valid valid_other handed apart is =
     let same : other ≡ class_of_page slabs x.page = grind (arith, nat_tests) in
     rw (same, class_at-with_class slabs (class_of_page slabs x.page) (put_back (class_of_chunk slabs x) x) valid)
-    (times-without_other x y (class_of_chunk slabs x).order apart)
-order_back_step false slabs other x y valid valid_other apart is =
+    (grind (arith, times-without y x (class_of_chunk slabs x).order handed))
+order_back_step false slabs other x y valid valid_other handed apart is =
     let elsewhere : other ≢ class_of_page slabs x.page = grind (arith, nat_tests) in
     rw (class_at-with_other slabs (class_of_page slabs x.page) other (put_back (class_of_chunk slabs x) x) valid valid_other elsewhere) refl
 
@@ -229,6 +230,7 @@ pub kept_reclaim : (table : Classes) (slabs : SlabState) (index : List (ℕ × C
 kept_reclaim table slabs index items x kept accounted dead valid =
     let found = dead_item items x dead in
     let there : 1 ≤ places x items = some_places x found.0 items found.1 in
+    let handed : 1 ≤ times x (class_of_chunk slabs x).order = omega (arith, kept.handed_out x) in
     record {
       sound = kept.sound;
       classes = length-set slabs.classes _ _ ∙ kept.classes;
@@ -244,7 +246,7 @@ kept_reclaim table slabs index items x kept accounted dead valid =
             let back : class_at (after_back slabs x) (class_of_page slabs x.page) ≡ put_back (class_of_chunk slabs x) x
             = class_at-with_class slabs (class_of_page slabs x.page) (put_back (class_of_chunk slabs x) x) valid in
             let less : times x (without x (class_of_chunk slabs x).order) + 1 ≡ times x (class_of_chunk slabs x).order
-            = times-without x (class_of_chunk slabs x).order (omega (arith, kept.handed_out x)) in
+            = grind (arith, is_chunk-same x, times-without x x (class_of_chunk slabs x).order handed) in
             rw (← same.1) (rw back (omega (arith, kept.handed_out x, less, places-without_item x items there)))
         | inr other ↦ elim (leb_tells 1 (places y items)) [
           | inl some ↦
@@ -253,7 +255,7 @@ kept_reclaim table slabs index items x kept accounted dead valid =
                 arith,
                 kept.handed_out y,
                 places-without_item-le y x items,
-                order_back_step (eqb (class_of_page slabs y.page) (class_of_page slabs x.page)) slabs (class_of_page slabs y.page) x y valid there_too other.0 refl,
+                order_back_step (eqb (class_of_page slabs y.page) (class_of_page slabs x.page)) slabs (class_of_page slabs y.page) x y valid there_too handed other.0 refl,
               )
           | inr none ↦ omega (arith, none.1, places-without_item-le y x items)
         ]

@@ -13,7 +13,8 @@ use Rattle.mc_pages.specs.ClassState.{ClassState, new_class, is_chunk, times, wi
 use Rattle.mc_pages.specs.SlabState.{SlabState, IsClass, class_at, class_of_owner, class_of_page, class_of_chunk}
 use Rattle.mc_pages.specs.Accounted.{IsAccounted, truth}
 use Rattle.mc_pages.specs.Changes.{with_class, after_pop, after_back, after_grant, after_cut}
-use Rattle.mc_driver.proofs.Orders.{times-cons, is_chunk-self, page_of_listed}
+use Rattle.mc_pages.proofs.Chunks.{times-cons, is_chunk-same}
+use Rattle.mc_driver.proofs.Orders.{page_of_listed}
 
 -- the class that was changed
 pub class_at-with_class : (slabs : SlabState) (class : ℕ) (state : ClassState) → IsClass slabs class
@@ -67,7 +68,7 @@ pub handed-chunk : (x : ChunkId) (class : ClassState) (free : List ChunkId) → 
 handed-chunk x class [] h = cc
 handed-chunk x class (c ∷ free) h =
     let same : c ≡ x = cc in
-    let one : times x (c ∷ []) ≡ 1 = rw same (rw (times-cons x x [], is_chunk-self x) refl) in
+    let one : times x (c ∷ []) ≡ 1 = rw same (rw (times-cons x x [], is_chunk-same x) refl) in
     omega (arith, one, sum_by-append (λ d. cond (is_chunk d x) 1 0) class.order (c ∷ []))
 
 -- the chunks of a page, class by class, stay what they are

@@ -1,10 +1,13 @@
 -- The replies to one command more.
 use Rattle.std.proofs.Common.{◌≡◌, ℕ, ◌+◌, ◌<◌, ◌≤◌, List, [], ◌∷◌, ◌++◌, length, take, get_or, Option, Some, None, refl, ap, sym, ◌∙◌, arith, append-nil, append_assoc}
 use Rattle.std.specs.Io.KnownBytes.{Appends, append_known}
-use Rattle.std.proofs.KnownBytes.{Appends-trans}
+use Rattle.std.proofs.KnownBytes.{Appends-kept}
 use Rattle.std.proofs.lemmas.List.{take_more}
 use Rattle.mc_classes.specs.Device.{Extends}
 use Rattle.mc_script.specs.declared.command.Command.{Command}
+use Rattle.mc_driver.specs.declared.fault.RunFault.{RunFault}
+use Rattle.mc_driver.specs.declared.fault.RunFault.TheVariants.{Config as Refused, Script, TooLong, Read, Write, Memory}
+use Rattle.mc_driver.specs.Run.{IsReplyFault, IsServeFault}
 use Rattle.mc_driver.specs.Machine.{Machine}
 use Rattle.mc_driver.specs.Lines.{reply_to, after, replies_to, after_all}
 
@@ -35,3 +38,16 @@ extends_from_appends None mid new text wrote then = tt
 extends_from_appends (Some xs) None new text wrote then = absurd wrote
 extends_from_appends (Some xs) (Some ys) None text wrote then = absurd then
 extends_from_appends (Some xs) (Some ys) (Some zs) text wrote then = (then.0, then.1 ∙ ap (λ bs. bs ++ then.0) wrote)
+
+-- a command without its reply ends the run of commands there
+pub ends_there : (m : Machine) (commands : List Command) (i : ℕ) (old mid new : Option (List ℕ)) (f_old f_mid f_new : ℕ) (fault : RunFault)
+    → i < length commands → Appends old mid (replies_to m (take i commands)) → f_mid ≡ f_old → IsReplyFault mid new f_mid f_new fault
+    → IsServeFault m commands old new f_old f_new fault
+ends_there m commands i old mid new f_old f_mid f_new Write inside wrote quiet ends =
+    (omega (arith, ends.0), (i, inside, extends_from_appends old mid new (replies_to m (take i commands)) wrote ends.1))
+ends_there m commands i old mid new f_old f_mid f_new Memory inside wrote quiet ends =
+    (ends.0 ∙ quiet, (i, omega arith, Appends-kept old mid new (replies_to m (take i commands)) wrote ends.1))
+ends_there m commands i old mid new f_old f_mid f_new (Refused number) inside wrote quiet ends = absurd ends
+ends_there m commands i old mid new f_old f_mid f_new (Script number) inside wrote quiet ends = absurd ends
+ends_there m commands i old mid new f_old f_mid f_new TooLong inside wrote quiet ends = absurd ends
+ends_there m commands i old mid new f_old f_mid f_new Read inside wrote quiet ends = absurd ends

@@ -14,7 +14,7 @@ use Rattle.mc_pages.specs.Changes.{after_back}
 use Rattle.mc_driver.specs.Item.{Item}
 use Rattle.mc_driver.specs.Items.{Items, chunk_cmp, item_at, is_dead, without_item}
 use Rattle.mc_driver.specs.Machine.{Machine, after_reclaim, dead_chunks, swept}
-use Rattle.mc_driver.proofs.Orders.{is_chunk-same, is_chunk-self, times-cons}
+use Rattle.mc_pages.proofs.Chunks.{same_from_is_chunk, is_chunk-same, times-cons}
 use Rattle.mc_driver.proofs.Moves.{class_at-with_class}
 
 -- another chunk's item stays
@@ -25,7 +25,7 @@ item_at-without_item (e ∷ items) x y apart = grind (arith, nat_tests, item_at-
 -- where none before it passes and the chunk does, the chunk's first place is there
 without-append : (p : ChunkId → Bool) (x : ChunkId) (before after : List ChunkId) → filter p before ≡ [] → p x ≡ true
     → without x (before ++ x ∷ after) ≡ before ++ after
-without-append p x [] after none pass = rw (is_chunk-self x) refl
+without-append p x [] after none pass = rw (is_chunk-same x) refl
 without-append p x (c ∷ before) after none pass = without_step (p c) (is_chunk c x) refl refl (without-append p x before after)
   where
     without_step : (b s : Bool) → p c ≡ b → is_chunk c x ≡ s
@@ -33,7 +33,7 @@ without-append p x (c ∷ before) after none pass = without_step (p c) (is_chunk
         → without x ((c ∷ before) ++ x ∷ after) ≡ (c ∷ before) ++ after
     without_step true s is same more = let bad : c ∷ filter p before ≡ [] = rw is at none in cc
     without_step false true is same more =
-        let one : c ≡ x = is_chunk-same c x same in
+        let one : c ≡ x = same_from_is_chunk c x same in
         let bad : p c ≡ true = rw one pass in cc
     without_step false false is same more =
         let rest : filter p before ≡ [] = rw is at none in
@@ -76,7 +76,7 @@ pub record FindsDead (items : Items) (before : List ChunkId) (x : ChunkId) (afte
 pub finds_dead : (items : Items) (before : List ChunkId) (x : ChunkId) (after : List ChunkId) → times x (before ++ x ∷ after) ≤ 1
     → filter (is_dead items) before ≡ [] → is_dead items x ≡ true → FindsDead items before x after
 finds_dead items before x after once none dead =
-    let here : times x (x ∷ after) ≡ 1 + times x after = rw (times-cons x x after, is_chunk-self x) refl in
+    let here : times x (x ∷ after) ≡ 1 + times x after = rw (times-cons x x after, is_chunk-same x) refl in
     let none_before : times x before ≡ 0 = omega (arith, here, times-append x before (x ∷ after)) in
     let none_after : times x after ≡ 0 = omega (arith, here, times-append x before (x ∷ after)) in
     let none_then : filter (is_dead (without_item items x)) before ≡ [] = filter-without_item items x before none_before ∙ none in

@@ -50,6 +50,15 @@ WroteFirst machine commands old new = (count : ℕ) × (count ≤ length command
 abbrev pub WroteBroken : Machine → List Command → Option (List ℕ) → Option (List ℕ) → Type 0
 WroteBroken machine commands old new = (count : ℕ) × (count < length commands) × Extends (append_known old (replies_to machine (take count commands))) new
 
+-- how one command ends without its reply: the writer failed, and perhaps holds something of it; or memory ran out, and nothing of it was written
+abbrev pub IsReplyFault : Option (List ℕ) → Option (List ℕ) → ℕ → ℕ → RunFault → Type 0
+IsReplyFault old new failures_old failures_new Write = (failures_old < failures_new) × Extends old new
+IsReplyFault old new failures_old failures_new Memory = (failures_new ≡ failures_old) × Keeps old new
+IsReplyFault old new failures_old failures_new (Refused number) = ⊥
+IsReplyFault old new failures_old failures_new (Script number) = ⊥
+IsReplyFault old new failures_old failures_new TooLong = ⊥
+IsReplyFault old new failures_old failures_new Read = ⊥
+
 -- how a run of commands ends before its end, by the writer's contents and its failures, before and after
 abbrev pub IsServeFault : Machine → List Command → Option (List ℕ) → Option (List ℕ) → ℕ → ℕ → RunFault → Type 0
 IsServeFault machine commands old new failures_old failures_new Write = (failures_old < failures_new) × WroteBroken machine commands old new

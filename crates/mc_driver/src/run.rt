@@ -5,10 +5,10 @@ ghost use Rattle.mc_classes.specs.Refusals.{refusal_of};
 ghost use Rattle.mc_classes.specs.Classes.{IsSound};
 ghost use Rattle.mc_script.specs.Command.{IsValid};
 ghost use Rattle.mc_script.specs.Script.{script_of};
-ghost use Rattle.mc_driver.specs.Lines.{replies_to};
+ghost use Rattle.mc_driver.specs.Lines.{after, replies_to, reply_to};
 ghost use Rattle.mc_driver.specs.Machine.{fresh_machine};
 ghost use Rattle.mc_driver.specs.Reading.{TakesAtMost};
-ghost use Rattle.mc_driver.specs.Run.{IsOutcome, IsScript, IsScriptFault, IsScriptOutcome, IsServeFault, config_fault, refusal_number};
+ghost use Rattle.mc_driver.specs.Run.{IsOutcome, IsScript, IsReplyFault, IsScriptFault, IsScriptOutcome, IsServeFault, config_fault, refusal_number};
 
 use crate::fault::RunFault;
 use crate::keeper::Keeper;
@@ -125,11 +125,29 @@ fn serve_all<W: Sink>(
 {
     let mut text = Vec::new(alloc);
     for command in commands {
-        text.clear();
-        keeper.serve(*command, &mut text)?;
-        if writer.write_all(&text).is_err() {
-            return Err(RunFault::Write);
-        }
+        serve_one(&mut keeper, *command, &mut text, writer)?;
     }
     Ok(())
+}
+
+/// Does one command and writes its reply, for which `text` is the room. Where memory runs out, nothing of it is written.
+fn serve_one<W: Sink>(
+    keeper: &mut Keeper,
+    command: Command,
+    text: &mut Vec<u8>,
+    writer: &mut W,
+) -> Result<(), RunFault>
+    requires { IsValid command }
+    ensures written { OnOk result (Appends (W.contents writer.old) (W.contents writer.new) (reply_to keeper.old command)) }
+    ensures after { OnOk result (keeper.new ≡ after keeper.old command) }
+    ensures quiet { OnOk result (W.failures writer.new ≡ W.failures writer.old) }
+    ensures fault { IfErr result (IsReplyFault
+        (W.contents writer.old) (W.contents writer.new) (W.failures writer.old) (W.failures writer.new)) }
+{
+    text.clear();
+    keeper.serve(command, text)?;
+    match writer.write_all(text) {
+        Ok(()) => Ok(()),
+        Err(_) => Err(RunFault::Write),
+    }
 }
