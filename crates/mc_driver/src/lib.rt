@@ -1,21 +1,23 @@
 //! Runs of `mcslab`: a script in, the replies and statistics out.
 //!
 //! [`run_serial`] does a script's commands on one thread. Its contract says that what it writes is what a plain
-//! machine over lists answers. [`read_options`] reads the command line, and [`Input`] and [`Output`] are the
+//! machine over lists answers. [`options`] reads the command line, and [`Input`] and [`Output`] are the
 //! standard streams as a run takes them.
 #![tactic(auto)]
 
+mod command_line;
 mod fault;
 mod keeper;
 mod laws;
-mod options;
 mod reading;
 mod run;
+mod settings;
 mod standard;
 mod text;
 
+pub use command_line::options;
 pub use fault::RunFault;
 pub use laws::worked_examples;
-pub use options::{Options, read_options};
 pub use run::{Run, run_serial};
+pub use settings::Options;
 pub use standard::{Input, Output};

@@ -15,23 +15,26 @@ const ROOM: usize = 8192;
 #[derive(Drop)]
 pub struct Input<R: Read, L: Ledger> {
     reader: R,
-    failures: Failures<L>,
+    failed_reads: Failures<L>,
 }
 
 impl<R: Read, L: Ledger> Input<R, L> {
-    /// Reads from `reader`, and counts on from `failures`.
-    pub fn new(reader: R, failures: Failures<L>) -> Input<R, L>
+    /// Reads from `reader`, and counts on from `failed_reads`.
+    pub fn new(reader: R, failed_reads: Failures<L>) -> Input<R, L>
         ensures reader { result.reader ≡ reader }
-        ensures failures { result.failures ≡ failures }
+        ensures failures { result.failed_reads ≡ failed_reads }
     {
-        Input { reader, failures }
+        Input {
+            reader,
+            failed_reads,
+        }
     }
 }
 
 impl<R: Read, L: Ledger> Source for Input<R, L> {
     ghost remaining = { λ s. R.remaining s.reader };
 
-    ghost failures = { λ s. s.failures };
+    ghost failures = { λ s. s.failed_reads };
 
     fn read(&mut self, buf: &mut [u8]) -> Result<usize, Fault> {
         for _ in 0..u64::MAX {
@@ -44,7 +47,7 @@ impl<R: Read, L: Ledger> Source for Input<R, L> {
                 }
             }
         }
-        self.failures.add();
+        self.failed_reads.add();
         Err(Fault)
     }
 }
@@ -56,25 +59,29 @@ pub struct Output<W: Write, L: Ledger> {
     writer: W,
     held: Vec<u8>,
     has_failed: bool,
-    failures: Failures<L>,
+    failed_writes: Failures<L>,
 }
 
 impl<W: Write, L: Ledger> Output<W, L> {
-    /// Writes to `writer`, and counts on from `failures`.
-    pub fn new(alloc: Global, writer: W, failures: Failures<L>) -> Result<Output<W, L>, AllocError>
+    /// Writes to `writer`, and counts on from `failed_writes`.
+    pub fn new(
+        alloc: Global,
+        writer: W,
+        failed_writes: Failures<L>,
+    ) -> Result<Output<W, L>, AllocError>
     where
         W: Drop,
         ensures writer { IfOk result (λ output. output.writer ≡ writer) }
         ensures held { IfOk result (λ output. output.held.items ≡ []) }
         ensures works { IfOk result (λ output. output.has_failed ≡ false) }
-        ensures failures { IfOk result (λ output. output.failures ≡ failures) }
+        ensures failures { IfOk result (λ output. output.failed_writes ≡ failed_writes) }
     {
         let held = Vec::with_capacity(alloc, ROOM)?;
         Ok(Output {
             writer,
             held,
             has_failed: false,
-            failures,
+            failed_writes,
         })
     }
 
@@ -96,7 +103,7 @@ impl<W: Write, L: Ledger> Output<W, L> {
             writer,
             held: _,
             has_failed: _,
-            failures: _,
+            failed_writes: _,
         } = self;
         Ok(writer)
     }
@@ -107,7 +114,7 @@ impl<W: Write, L: Ledger> Output<W, L> {
         ensures held { OnOk result (self.new.held.items ≡ []) }
         ensures capacity { vec_capacity self.new.held ≡ vec_capacity self.old.held }
         ensures has_failed { self.new.has_failed ≡ self.old.has_failed }
-        ensures failures { self.new.failures ≡ self.old.failures }
+        ensures failures { self.new.failed_writes ≡ self.old.failed_writes }
     {
         let count = write_out(&mut self.writer, self.held.as_slice());
         remove_front(&mut self.held, count);
@@ -122,7 +129,7 @@ impl<W: Write, L: Ledger> Output<W, L> {
     fn put(&mut self, bytes: &[u8]) -> Result<(), Fault>
         ensures bytes { OnOk result (Appends (append_known (W.contents self.old.writer) self.old.held.items) (append_known (W.contents self.new.writer) self.new.held.items) bytes.now) }
         ensures kept { OnErr result (Extends (append_known (W.contents self.old.writer) self.old.held.items) (append_known (W.contents self.new.writer) self.new.held.items)) }
-        ensures failures { self.new.failures ≡ self.old.failures }
+        ensures failures { self.new.failed_writes ≡ self.old.failed_writes }
     {
         if bytes.len() > self.held.capacity() - self.held.len() {
             self.write_held()?;
@@ -142,19 +149,19 @@ impl<W: Write, L: Ledger> Output<W, L> {
 impl<W: Write, L: Ledger> Sink for Output<W, L> {
     ghost contents = { λ s. append_known (W.contents s.writer) s.held.items };
 
-    ghost failures = { λ s. s.failures };
+    ghost failures = { λ s. s.failed_writes };
 
     fn write_all(&mut self, bytes: &[u8]) -> Result<(), Fault>
         ensures bytes { OnOk result (Appends (append_known (W.contents self.old.writer) self.old.held.items) (append_known (W.contents self.new.writer) self.new.held.items) bytes.now) }
-        ensures ok { OnOk result (self.new.failures ≡ self.old.failures) }
-        ensures err { OnErr result (self.new.failures ≡ self.old.failures + 1) }
+        ensures ok { OnOk result (self.new.failed_writes ≡ self.old.failed_writes) }
+        ensures err { OnErr result (self.new.failed_writes ≡ self.old.failed_writes + 1) }
         ensures kept { OnErr result (Extends (append_known (W.contents self.old.writer) self.old.held.items) (append_known (W.contents self.new.writer) self.new.held.items)) }
         ensures fails { OnErr result (self.new.has_failed ≡ true) }
         ensures stays { self.old.has_failed ≡ true → IsErr result × (self.new.writer ≡ self.old.writer) × (self.new.held.items ≡ self.old.held.items) }
     {
         if self.has_failed || self.put(bytes).is_err() {
             self.has_failed = true;
-            self.failures.add();
+            self.failed_writes.add();
             return Err(Fault);
         }
         Ok(())
@@ -205,3 +212,6 @@ fn append(bytes: &mut Vec<u8>, more: &[u8])
         unreachable!()
     };
 }
+
+#[cfg(test)]
+mod tests;

@@ -7,7 +7,7 @@
 ghost use Rattle.std.specs.Prelude.{◌≡◌, ◌<◌, IfOk};
 
 use mc_classes::{Failures, Fault};
-use mc_driver::{Input as Standard, Options, Output, Run, RunFault, read_options, run_serial};
+use mc_driver::{Input as Standard, Options, Output, Run, RunFault, options, run_serial};
 use std::env;
 use std::env::Env;
 use std::io::{self, ErrorKind};
@@ -55,7 +55,7 @@ fn started_with<R: Env + AllocGlobal>(rt: &R) -> Result<Options, Stop>
     ensures { IfOk result (λ options. options.run.automove ≡ 0) }
 {
     let words: Vec<String> = env::args(rt)?.collect(rt.alloc()).map_err(RunFault::from)?;
-    Ok(read_options(rt.alloc(), words.as_slice())?)
+    Ok(options(rt.alloc(), words.as_slice())?)
 }
 
 /// Runs the script. Whatever comes of it, what was replied is written before the end.

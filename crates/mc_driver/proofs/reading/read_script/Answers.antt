@@ -15,7 +15,13 @@ returns-clause-bytes g c =
 
 -- a read failed, or memory ran out for what it gave
 pub returns-in_err-count-clause-most : goal.returns-in_err-count-clause-most
-returns-in_err-count-clause-most g c = 
+returns-in_err-count-clause-most g c =
     takes_more _ 1048577 _ _ _ _ c.loop-bytes.invariant.taken c.read_piece.ensures.most
-        (omega (arith, c.loop-bytes.invariant.most, c.min-room.ensures, c.len-in-loop-bytes.ensures, c.loop-bytes-test.true,
-            length-take c.min-room.result c.deref_mut.result.now))
+    (omega (
+      arith,
+      c.loop-bytes.invariant.most,
+      c.min-room.ensures,
+      c.len-in-loop-bytes.ensures,
+      c.loop-bytes-test.true,
+      length-take c.min-room.result c.deref_mut.result.now,
+    ))

@@ -23,4 +23,4 @@ pub returns-in_err-serve_one-clause-fault : goal.returns-in_err-serve_one-clause
 returns-in_err-serve_one-clause-fault g c =
     let p = err_from_is_err_and c.from_residual.result c.from_residual.ensures.1 in
     rw (p.1, p.2) (ends_there _ _ c.loop-command.command-index _ _ _ _ _ _ c.in_err-serve_one.field-0.0 c.loop-command-test.true
-        c.loop-command.invariant.written c.loop-command.invariant.quiet c.in_err-serve_one.ensures.fault)
+    c.loop-command.invariant.written c.loop-command.invariant.quiet c.in_err-serve_one.ensures.fault)

@@ -7,5 +7,5 @@ abbrev pub invariant-loop : goal.invariant-loop
 invariant-loop g l = record {
   buf : length l.buf ≡ length l.initial.buf;
   kept : Keeps (g.R.Read.remaining l.initial.self.reader) (g.R.Read.remaining l.self.reader);
-  quiet : l.self.failures ≡ l.initial.self.failures;
+  quiet : l.self.failed_reads ≡ l.initial.self.failed_reads;
 }

@@ -1,23 +1,23 @@
 //! The command line of `mcslab`.
-ghost use Rattle.std.specs.Prelude.{◌≡◌, IfOk, false};
+ghost use Rattle.std.specs.Prelude.{◌≡◌, IfErr, IfOk, IfSome, codes, drop, false, map};
+ghost use Rattle.std.specs.Str.{all_ascii_digits};
+ghost use Rattle.clap.specs.Words.{app_of, first_value, found_of, kind_of, one_text, rule_of};
+ghost use Rattle.mc_driver.specs.CommandLine.{factor_rule, mcslab, number_rule};
+ghost use Rattle.mc_driver.specs.Options.{IsCommandLine, IsNumber, factor_of, factor_or, is_short_number, number_or, options_of, short_number_of};
 
 use crate::run::Run;
+use crate::settings::Options;
+use clap::error::ErrorKind;
 use clap::{Arg, ArgMatches, Command, Error, value_parser};
 use mc_classes::Config;
 use std::alloc::Global;
 use std::convert::AsStr;
 
-/// What the words of a command line ask for.
-#[derive(Clone, Copy, Debug, PartialEq, Eq)]
-pub struct Options {
-    /// What the run is started with.
-    pub run: Run,
-    /// Whether the workers are threads.
-    pub threads: bool,
-}
-
 /// An option whose value is a number.
-fn number_option<'a>(alloc: Global, name: &'a str, help: &'a str) -> Arg<'a> {
+fn number_option<'a>(alloc: Global, name: &'a str, help: &'a str) -> Arg<'a>
+    ensures rule { rule_of result ≡ number_rule name.now }
+    ensures local { result.global ≡ false }
+{
     Arg::new(alloc, name)
         .long(name)
         .value_name("N")
@@ -26,7 +26,10 @@ fn number_option<'a>(alloc: Global, name: &'a str, help: &'a str) -> Arg<'a> {
 }
 
 /// The option of the growth factor. Any value is taken, so that the configuration's own test refuses it.
-fn factor_option<'a>(alloc: Global) -> Arg<'a> {
+fn factor_option<'a>(alloc: Global) -> Arg<'a>
+    ensures rule { rule_of result ≡ factor_rule }
+    ensures local { result.global ≡ false }
+{
     Arg::new(alloc, "factor")
         .long("factor")
         .value_name("NUM/DEN")
@@ -36,7 +39,10 @@ fn factor_option<'a>(alloc: Global) -> Arg<'a> {
 }
 
 /// The command line's options.
-fn command<'a>(alloc: Global) -> Result<Command<'a>, Error> {
+fn command<'a>(alloc: Global) -> Result<Command<'a>, Error>
+    ensures app { IfOk result (λ command. app_of command ≡ mcslab) }
+    ensures memory { IfErr result (λ error. kind_of error ≡ ErrorKind.OutOfMemory) }
+{
     let page = number_option(
         alloc,
         "page",
@@ -83,21 +89,42 @@ fn command<'a>(alloc: Global) -> Result<Command<'a>, Error> {
 }
 
 /// The number of an option, or what it is where it isn't named.
-fn number_or(matches: &ArgMatches<'_>, name: &str, default: u64) -> u64 {
+fn number_or(matches: &ArgMatches<'_>, name: &str, default: u64) -> u64
+    requires { IfSome (one_text (found_of matches.now) name.now) IsNumber }
+    ensures { result ≡ number_or default (one_text (found_of matches.now) name.now) }
+{
     matches.get_one::<u64>(name).unwrap_or(default)
 }
 
-/// The number that a text of 1 to 5 decimal digits writes.
-fn short_number(text: &str) -> Option<u64> {
-    let digits = text.as_bytes();
-    if digits.len() > 5 || !digits.iter().all(|digit| digit.is_ascii_digit()) {
-        return None;
+/// Whether every byte is a decimal digit.
+fn is_decimal(digits: &[u8]) -> bool
+    ensures { result ≡ all_ascii_digits digits.now }
+{
+    digits.iter().all(|digit| digit.is_ascii_digit())
+}
+
+/// Whether a text is 1 to 5 decimal digits.
+fn is_short_number(text: &str) -> bool
+    ensures { result ≡ is_short_number text.now }
+{
+    1 <= text.len() && text.len() <= 5 && is_decimal(text.as_bytes())
+}
+
+/// The number that such a text writes.
+fn short_number(text: &str) -> Option<u64>
+    ensures { result ≡ short_number_of text.now }
+{
+    if is_short_number(text) {
+        text.parse().ok()
+    } else {
+        None
     }
-    text.parse().ok()
 }
 
 /// Two such numbers with a `/` between them, and 0 and 0 for any other text.
-fn factor(text: &str) -> (u64, u64) {
+fn factor(text: &str) -> (u64, u64)
+    ensures { result ≡ factor_of text.now }
+{
     let Some((num, den)) = text.split_once('/') else {
         return (0, 0);
     };
@@ -107,16 +134,23 @@ fn factor(text: &str) -> (u64, u64) {
     }
 }
 
-/// Reads the words of a command line, of which the first is the program's name.
-pub fn read_options<S: AsStr>(alloc: Global, words: &[S]) -> Result<Options, Error>
-    ensures automove { IfOk result (λ options. options.run.automove ≡ 0) }
-    ensures threads { IfOk result (λ options. options.threads ≡ false) }
+/// The growth factor, or 2/1 where it isn't named.
+fn factor_or_default(matches: &ArgMatches<'_>) -> (u64, u64)
+    ensures { result ≡ factor_or (first_value (found_of matches.now) (codes "factor")) }
 {
-    let matches = command(alloc)?.try_get_matches_from(words)?;
-    let (num, den) = match matches.get_str("factor") {
+    match matches.get_str("factor") {
         Some(text) => factor(text),
         None => (2, 1),
-    };
+    }
+}
+
+/// Reads the words of a command line, of which the first is the program's name.
+pub fn options<S: AsStr>(alloc: Global, words: &[S]) -> Result<Options, Error>
+    ensures taken { IfOk result (λ options. options ≡ options_of (drop 1 (map S.text words.now))) }
+    ensures refused { IfErr result (λ error. IsCommandLine (drop 1 (map S.text words.now)) → kind_of error ≡ ErrorKind.OutOfMemory) }
+{
+    let matches = command(alloc)?.try_get_matches_from(words)?;
+    let (num, den) = factor_or_default(&matches);
     let config = Config {
         page: number_or(&matches, "page", 1024),
         limit: number_or(&matches, "limit", 4096),
@@ -135,3 +169,6 @@ pub fn read_options<S: AsStr>(alloc: Global, words: &[S]) -> Result<Options, Err
         threads: false,
     })
 }
+
+#[cfg(test)]
+mod tests;
