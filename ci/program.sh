@@ -9,7 +9,9 @@ find_programs() {
     if [ -n "${MCSLAB:-}" ]; then
         programs=$MCSLAB
     elif [ "$gate_was_run" = yes ]; then
-        programs="$out/mcslab $out/mcslab.by-rattle"
+        programs=$out/mcslab
+        # not there where Rattle's own compiler can't build it, which rt ci says
+        [ ! -e "$out/mcslab.by-rattle" ] || programs="$programs $out/mcslab.by-rattle"
     else
         (cd crates/mcslab && rt run) </dev/null >"$room/build" 2>&1 || return 1
         programs=$out/mcslab
