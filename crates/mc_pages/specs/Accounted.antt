@@ -1,8 +1,12 @@
 -- Every page and every chunk is accounted for.
-use Rattle.std.specs.Prelude.{◌≡◌, ℕ, ◌+◌, ◌-◌, ◌*◌, ◌/◌, ◌≤◌, ◌==◌, Bool, true, false, ◌&&◌, IsTrue, nat_lt, if◌then◌else◌, length, count_by, Option, Some, None}
+use Rattle.std.specs.Prelude.{◌≡◌, ◌≢◌, ℕ, ◌+◌, ◌-◌, ◌*◌, ◌/◌, ◌≤◌, ◌==◌, Bool, true, false, not, ◌&&◌, IsTrue, nat_lt, if◌then◌else◌, List, length, map, count_by, Option, Some, None}
+use Rattle.std.specs.List.{range_with_len}
+use Rattle.std.specs.Option.{option_map}
 use Rattle.mc_pages.specs.declared.ids.ChunkId.{ChunkId}
+use Rattle.mc_pages.specs.declared.ids.Moving.{Moving}
 use Rattle.mc_pages.specs.declared.ledger.Owner.{Owner}
-use Rattle.mc_pages.specs.declared.ledger.Owner.TheVariants.{Untouched, Pool, Class, Moving}
+use Rattle.mc_pages.specs.declared.ledger.Owner.TheVariants.{Untouched, Pool, Class}
+use Rattle.mc_pages.specs.declared.ledger.Owner.TheVariants as owner
 use Rattle.mc_pages.specs.Ledger.{all_untouched, owner_at, replay}
 use Rattle.mc_pages.specs.ClassState.{times}
 use Rattle.mc_pages.specs.SlabState.{SlabState, IsClass, class_at, granted_count}
@@ -15,16 +19,16 @@ truth b = if b then 1 else 0
 abbrev pub is_of_class : ℕ → Owner → Bool
 is_of_class class Untouched = false
 is_of_class class Pool = false
-is_of_class class (Class owner) = owner == class
-is_of_class class (Moving src dst) = src == class
+is_of_class class (Class own) = own == class
+is_of_class class (owner.Moving src dst) = src == class
 
 abbrev pub is_pool : Owner → Bool
 is_pool Pool = true
-is_pool owner = false
+is_pool other = false
 
 abbrev pub is_moving : Owner → Bool
-is_moving (Moving src dst) = true
-is_moving owner = false
+is_moving (owner.Moving src dst) = true
+is_moving other = false
 
 -- how many chunks of the page were cut, on a page with so many
 abbrev pub cut_count : Option ChunkId → ℕ → ℕ → ℕ
@@ -42,6 +46,38 @@ uncut_count slabs class None = 0
 uncut_count slabs class (Some next) =
     if is_of_class class (owner_at slabs.owners next.page) then (class_at slabs class).per_page - next.index else 0
 
+-- how often the chunk stands in the lists of the class
+abbrev pub places_in : SlabState → ℕ → ChunkId → ℕ
+places_in slabs class chunk = times chunk (class_at slabs class).free + times chunk (class_at slabs class).order
+
+-- the chunk was cut for the class, and has left its lists while its page moves
+abbrev pub is_cleared : SlabState → ℕ → ChunkId → Bool
+is_cleared slabs class chunk = is_moving (owner_at slabs.owners chunk.page) && is_cut slabs class chunk && places_in slabs class chunk == 0
+
+-- so many first chunks of a page
+abbrev pub first_chunks : ℕ → ℕ → List ChunkId
+first_chunks page count = map (λ index. record { page = page; index = index }) (range_with_len 0 count)
+
+-- how many chunks of the class are cleared
+abbrev pub cleared_count : SlabState → ℕ → Option Moving → ℕ
+cleared_count slabs class None = 0
+cleared_count slabs class (Some move) = count_by (is_cleared slabs class) (first_chunks move.page (class_at slabs class).per_page)
+
+-- how many chunks before the position of a move aren't cleared
+abbrev pub left_behind : SlabState → Moving → ℕ
+left_behind slabs move = count_by (λ chunk. not (is_cleared slabs move.src chunk)) (first_chunks move.page move.at)
+
+-- a move from one class to another or to the pool, and how far it is
+pub record IsMove (slabs : SlabState) (move : Moving) : Type 0 where
+  pub owner : owner_at slabs.owners move.page ≡ owner.Moving move.src move.dst
+  pub src : IsClass slabs move.src
+  pub dst : move.dst ≤ length slabs.classes
+  pub apart : move.src ≢ move.dst
+  pub within : move.at ≤ (class_at slabs move.src).per_page
+  pub busy : move.busy ≤ move.at
+  -- each chunk before the position is cleared, or counted as busy
+  pub passed : left_behind slabs move ≤ move.busy
+
 pub record IsAccounted (slabs : SlabState) : Type 0 where
   -- the owners are what the ledger's entries made of untouched pages
   pub replays : replay (all_untouched (slabs.limit / slabs.page)) slabs.ledger ≡ Some slabs.owners
@@ -50,14 +86,16 @@ pub record IsAccounted (slabs : SlabState) : Type 0 where
       count_by (λ p. p == page) (class_at slabs class).pages ≡ truth (is_of_class class (owner_at slabs.owners page))
   -- each page of the pool stands once in its list, and no other page does
   pub pool : (page : ℕ) → count_by (λ p. p == page) slabs.pool ≡ truth (is_pool (owner_at slabs.owners page))
-  -- at most one page is moving
-  pub one_move : (p q : ℕ) → IsTrue (is_moving (owner_at slabs.owners p)) → IsTrue (is_moving (owner_at slabs.owners q)) → p ≡ q
+  -- no page is moving but that of the move that runs
+  pub one_move : (page : ℕ) → IsTrue (is_moving (owner_at slabs.owners page)) → option_map (λ move. move.page) slabs.moving ≡ Some page
+  pub move : (move : Moving) → slabs.moving ≡ Some move → IsMove slabs move
   -- granted bytes are within the limit
   pub limit : granted_count slabs * slabs.page ≤ slabs.limit
-  -- each cut chunk is once in the free list or in the hand-out order, and no other chunk is
+  -- each cut chunk is in one place: once in the free list or in the hand-out order, or cleared; and no other chunk is
   pub chunks : (class : ℕ) (chunk : ChunkId) → IsClass slabs class →
-      times chunk (class_at slabs class).free + times chunk (class_at slabs class).order ≡ truth (is_cut slabs class chunk)
-  -- free, handed-out and uncut chunks are all that the class's pages have
+      places_in slabs class chunk + truth (is_cleared slabs class chunk) ≡ truth (is_cut slabs class chunk)
+  -- free, handed-out, uncut and cleared chunks are all that the class's pages have
   pub total : (class : ℕ) → IsClass slabs class →
-      length (class_at slabs class).free + length (class_at slabs class).order + uncut_count slabs class slabs.uncut
+      length (class_at slabs class).free + length (class_at slabs class).order
+      + uncut_count slabs class slabs.uncut + cleared_count slabs class slabs.moving
       ≡ length (class_at slabs class).pages * (class_at slabs class).per_page

@@ -1,10 +1,11 @@
--- What each call changes.
-use Rattle.std.specs.Prelude.{ℕ, ◌+◌, ◌-◌, nat_lt, if◌then◌else◌, [], ◌∷◌, ◌++◌, slice_set, Option, Some, None}
+-- What each call on chunks and pages changes.
+use Rattle.std.specs.Prelude.{ℕ, ◌+◌, ◌-◌, nat_lt, if◌then◌else◌, List, [], ◌∷◌, ◌++◌, length, take, slice_get, slice_set, Option, Some, None}
+use Rattle.std.specs.Option.{option_or}
 use Rattle.mc_pages.specs.declared.ids.ChunkId.{ChunkId}
 use Rattle.mc_pages.specs.declared.ledger.Owner.TheVariants.{Class}
-use Rattle.mc_pages.specs.declared.ledger.Entry.TheVariants.{Granted}
-use Rattle.mc_pages.specs.ClassState.{ClassState, popped, put_back, with_cut, with_page}
-use Rattle.mc_pages.specs.SlabState.{SlabState, class_at, class_of_page, class_of_chunk}
+use Rattle.mc_pages.specs.declared.ledger.Entry.TheVariants.{Granted, Taken}
+use Rattle.mc_pages.specs.ClassState.{ClassState, popped, put_back, touched, replaced, cleared, evicted, with_cut, with_page}
+use Rattle.mc_pages.specs.SlabState.{SlabState, class_at, class_of_page, class_of_chunk, untouched_page}
 
 -- one class is now this
 abbrev pub with_class : SlabState → ℕ → ClassState → SlabState
@@ -18,13 +19,51 @@ after_pop slabs class = with_class slabs class (popped (class_at slabs class))
 abbrev pub after_back : SlabState → ChunkId → SlabState
 after_back slabs chunk = with_class slabs (class_of_page slabs chunk.page) (put_back (class_of_chunk slabs chunk) chunk)
 
--- an untouched page is given to the class, none of its chunks cut yet
-abbrev pub after_grant : SlabState → ℕ → ℕ → SlabState
-after_grant slabs class page = record (with_class slabs class (with_page (class_at slabs class) page)) {
+-- a handed-out chunk becomes the youngest of its class
+abbrev pub after_touch : SlabState → ChunkId → SlabState
+after_touch slabs chunk = with_class slabs (class_of_page slabs chunk.page) (touched (class_of_chunk slabs chunk) chunk)
+
+-- a free chunk takes the place of a handed-out one of its class
+abbrev pub after_replace : SlabState → ChunkId → ChunkId → SlabState
+after_replace slabs new old = with_class slabs (class_of_page slabs old.page) (replaced (class_of_chunk slabs old) new old)
+
+-- a chunk of the moving page leaves the lists of its class
+abbrev pub after_clear : SlabState → ChunkId → SlabState
+after_clear slabs chunk = with_class slabs (class_of_page slabs chunk.page) (cleared (class_of_chunk slabs chunk) chunk)
+
+-- one more item of the class was evicted
+abbrev pub after_evicted : SlabState → ℕ → SlabState
+after_evicted slabs class = with_class slabs class (evicted (class_at slabs class))
+
+-- a page without an owner joins the class, none of its chunks cut yet
+abbrev pub with_given : SlabState → ℕ → ℕ → SlabState
+with_given slabs class page = record (with_class slabs class (with_page (class_at slabs class) page)) {
   owners = slice_set slabs.owners page (Class class);
-  ledger = slabs.ledger ++ Granted page class ∷ [];
   uncut = Some (record { page = page; index = 0 });
 }
+
+-- the page that came last into the pool
+abbrev pub pooled_page : SlabState → Option ℕ
+pooled_page slabs = slice_get slabs.pool (length slabs.pool - 1)
+
+-- the page that a class gets next: the one that came last into the pool, or else the lowest that was never granted
+abbrev pub next_page : SlabState → Option ℕ
+next_page slabs = option_or (pooled_page slabs) (untouched_page slabs)
+
+-- an untouched page is given to the class
+abbrev pub after_grant : SlabState → ℕ → ℕ → SlabState
+after_grant slabs class page = record (with_given slabs class page) { ledger = slabs.ledger ++ Granted page class ∷ [] }
+
+-- the last page of the pool is given to the class
+abbrev pub after_take : SlabState → ℕ → ℕ → SlabState
+after_take slabs class page = record (with_given slabs class page) {
+  pool = take (length slabs.pool - 1) slabs.pool;
+  ledger = slabs.ledger ++ Taken page class ∷ [];
+}
+
+-- the class gets this page, which is the next one
+abbrev pub after_grow : SlabState → ℕ → ℕ → SlabState
+after_grow slabs class page = if nat_lt 0 (length slabs.pool) then after_take slabs class page else after_grant slabs class page
 
 -- the chunk behind, if the page has one more
 abbrev pub next_uncut : ℕ → ChunkId → Option ChunkId

@@ -1,5 +1,5 @@
 -- One size class: its pages, its free list and its hand-out order.
-use Rattle.std.specs.Prelude.{ℕ, ◌==◌, Bool, ◌&&◌, if◌then◌else◌, List, [], ◌∷◌, ◌++◌, length, count_by, slice_get, Option}
+use Rattle.std.specs.Prelude.{ℕ, ◌+◌, ◌-◌, ◌^◌, min, ◌==◌, Bool, not, ◌&&◌, if◌then◌else◌, List, [], ◌∷◌, ◌++◌, length, count_by, filter, slice_get, Option}
 use Rattle.mc_pages.specs.declared.ids.ChunkId.{ChunkId}
 use Rattle.mc_pages.specs.declared.numbers.Numbers.{Numbers}
 
@@ -47,6 +47,23 @@ popped class = handed_out class class.free
 abbrev pub put_back : ClassState → ChunkId → ClassState
 put_back class chunk = record class { free = chunk ∷ class.free; order = without chunk class.order }
 
+-- a handed-out chunk goes to the back of the hand-out order
+abbrev pub touched : ClassState → ChunkId → ClassState
+touched class chunk = record class { order = without chunk class.order ++ chunk ∷ [] }
+
+-- the list with a chunk put directly before the first place of another
+abbrev pub with_before : ChunkId → ChunkId → List ChunkId → List ChunkId
+with_before new old [] = []
+with_before new old (c ∷ chunks) = if is_chunk c old then new ∷ c ∷ chunks else c ∷ with_before new old chunks
+
+-- a free chunk takes the place of a handed-out one, which stands directly behind it then
+abbrev pub replaced : ClassState → ChunkId → ChunkId → ClassState
+replaced class new old = record class { free = without new class.free; order = with_before new old class.order }
+
+-- a chunk leaves the list that it is in
+abbrev pub cleared : ClassState → ChunkId → ClassState
+cleared class chunk = record class { free = without chunk class.free; order = without chunk class.order }
+
 -- a chunk is cut: it goes to the head of the free list
 abbrev pub with_cut : ClassState → ChunkId → ClassState
 with_cut class chunk = record class { free = chunk ∷ class.free }
@@ -54,6 +71,18 @@ with_cut class chunk = record class { free = chunk ∷ class.free }
 -- a page joins the end of the page list
 abbrev pub with_page : ClassState → ℕ → ClassState
 with_page class page = record class { pages = class.pages ++ page ∷ [] }
+
+-- a page leaves the page list
+abbrev pub without_page : ClassState → ℕ → ClassState
+without_page class page = record class { pages = filter (λ p. not (p == page)) class.pages }
+
+-- a counter that counts on by so many, and stays at its greatest value once there
+abbrev pub counted : ℕ → ℕ → ℕ
+counted counter more = min (counter + more) (2 ^ 64 - 1)
+
+-- one of its items was evicted to make room
+abbrev pub evicted : ClassState → ClassState
+evicted class = record class { evictions = counted class.evictions 1 }
 
 -- its numbers
 abbrev pub numbers_of : ClassState → Numbers

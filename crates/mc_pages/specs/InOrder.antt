@@ -1,30 +1,38 @@
--- What all pages and chunks keep beside that they are accounted for.
-use Rattle.std.specs.Prelude.{◌≡◌, ℕ, ◌<◌, ◌≤◌, IsTrue, not, List, [], length, vec_len, Some, None}
+-- What all pages and chunks keep beside that they are accounted for, and the room that is kept for them.
+use Rattle.std.specs.Prelude.{◌≡◌, ℕ, ◌+◌, ◌-◌, ◌<◌, ◌≤◌, ◌==◌, Bool, false, IsTrue, not, List, length, map, slice_get, slice_index_or, vec_len, vec_capacity, is_some, Option, Some, None}
+use Rattle.std.specs.Option.{option_map_or}
 use Rattle.mc_pages.specs.declared.ids.ChunkId.{ChunkId}
+use Rattle.mc_pages.specs.declared.ids.Moving.{Moving}
 use Rattle.mc_pages.specs.declared.ledger.Owner.{Owner}
 use Rattle.mc_pages.specs.declared.ledger.Owner.TheVariants.{Untouched}
 use Rattle.mc_pages.specs.declared.slabs.Slabs.TheInside.{Inside}
 use Rattle.mc_pages.specs.Ledger.{owner_at}
+use Rattle.mc_pages.specs.ClassState.{ClassState, new_class}
+use Rattle.mc_pages.specs.Room.{RoomyClass}
 use Rattle.mc_pages.specs.SlabState.{SlabState, IsClass, class_at, class_of_page, class_of_chunk, is_untouched}
-use Rattle.mc_pages.specs.Accounted.{IsAccounted}
+use Rattle.mc_pages.specs.Accounted.{truth, is_moving, IsAccounted}
 
--- the whole as its callers see it: nothing moves yet
+-- classes without room for a page
+abbrev pub roomless : List ClassState → List RoomyClass
+roomless classes = map (λ state. record { state = state; room = 0 }) classes
+
+-- the whole as its callers see it
 abbrev pub slabs_of : Inside → SlabState
 slabs_of slabs = record {
   page = slabs.page;
   limit = slabs.limit;
-  classes = slabs.classes.items;
+  classes = map (λ class. class.state) slabs.classes.items;
   owners = slabs.owners.items;
-  pool = [];
+  pool = slabs.pool.items;
   ledger = slabs.ledger.items;
   uncut = slabs.uncut;
-  moving = None;
-  cursor = vec_len slabs.classes;
-  moved = 0;
-  rescues = 0;
-  evictions_nomem = 0;
-  busy = 0;
-  automove = 0;
+  moving = slabs.moving;
+  cursor = slabs.cursor;
+  moved = slabs.moved;
+  rescues = slabs.rescues;
+  evictions_nomem = slabs.evictions_nomem;
+  busy = slabs.busy;
+  automove = slabs.automove;
 }
 
 -- so many pages were granted, the lowest ones
@@ -33,14 +41,33 @@ pub record AreGranted (owners : List Owner) (granted : ℕ) : Type 0 where
   pub below : (page : ℕ) → page < granted → IsTrue (not (is_untouched (owner_at owners page)))
   pub rest : (page : ℕ) → granted ≤ page → owner_at owners page ≡ Untouched
 
--- the chunk is on a page of a class
-pub record IsOnPage (slabs : SlabState) (chunk : ChunkId) : Type 0 where
+-- the next chunk to cut is on a page that doesn't move, the last that its class got
+pub record IsBeingCut (slabs : SlabState) (chunk : ChunkId) : Type 0 where
   pub owned : IsClass slabs (class_of_page slabs chunk.page)
+  pub still : is_moving (owner_at slabs.owners chunk.page) ≡ false
   pub within : chunk.index < (class_of_chunk slabs chunk).per_page
+  pub newest : slice_get (class_of_chunk slabs chunk).pages (length (class_of_chunk slabs chunk).pages - 1) ≡ Some chunk.page
 
 pub record IsInOrder (slabs : SlabState) (granted : ℕ) : Type 0 where
   pub accounted : IsAccounted slabs
   pub lowest : AreGranted slabs.owners granted
   pub pages : length slabs.owners ≤ 64
   pub per_page : (class : ℕ) → IsClass slabs class → 1 ≤ (class_at slabs class).per_page
-  pub uncut : (chunk : ChunkId) → slabs.uncut ≡ Some chunk → IsOnPage slabs chunk
+  pub uncut : (chunk : ChunkId) → slabs.uncut ≡ Some chunk → IsBeingCut slabs chunk
+  pub cursor : IsClass slabs slabs.cursor
+
+-- a page is on the move to the class, or to the pool for 0
+abbrev pub is_awaited : Option Moving → ℕ → Bool
+is_awaited moving class = option_map_or (λ move. move.dst == class) moving false
+
+-- for how many pages the class has room
+abbrev pub room_at : List RoomyClass → ℕ → ℕ
+room_at classes class = (slice_index_or classes (class - 1) (record { state = new_class 0 0; room = 0 })).room
+
+pub record AreKept (slabs : Inside) : Type 0 where
+  pub order : IsInOrder (slabs_of slabs) slabs.granted
+  -- there is room for what the end of a move adds
+  pub ledger : vec_len slabs.ledger + truth (is_some slabs.moving) ≤ vec_capacity slabs.ledger
+  pub pool : vec_len slabs.pool + truth (is_awaited slabs.moving 0) ≤ vec_capacity slabs.pool
+  pub classes : (class : ℕ) → IsClass (slabs_of slabs) class →
+      length (class_at (slabs_of slabs) class).pages + truth (is_awaited slabs.moving class) ≤ room_at slabs.classes.items class

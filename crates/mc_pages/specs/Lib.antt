@@ -4,4 +4,6 @@ pub mod Room
 pub mod SlabState
 pub mod Changes
 pub mod Accounted
+pub mod Answer
+pub mod Moves
 pub mod InOrder

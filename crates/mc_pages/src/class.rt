@@ -1,6 +1,7 @@
 //! One size class: the pages it has, the chunks that are free and those that are handed out.
-ghost use Rattle.std.specs.Prelude.{◌≡◌, ◌+◌, ◌*◌, ◌<◌, ◌≤◌, length, slice_get, Contains, OnOk, OnErr, position, vec_capacity, vec_len};
-ghost use Rattle.mc_pages.specs.ClassState.{new_class, first_free, popped, put_back, with_cut, with_page, numbers_of, is_chunk, without};
+ghost use Rattle.std.specs.Prelude.{◌≡◌, ◌+◌, ◌*◌, ◌<◌, ◌≤◌, ◌++◌, length, slice_get, slice_index_or, Contains, OnOk, OnErr, position, vec_capacity, vec_len};
+ghost use Rattle.mc_pages.specs.ClassState.{new_class, first_free, popped, put_back, touched, replaced, cleared, evicted, with_cut, with_page, without_page, numbers_of, is_chunk, times, without, with_before};
+ghost use Rattle.mc_pages.specs.Room.{in_state};
 
 use crate::ids::ChunkId;
 use crate::numbers::Numbers;
@@ -9,7 +10,7 @@ use std::alloc::{AllocError, Global};
 use std::marker::Model;
 
 /// A size class. The next chunk to hand out stands last in `free`, the oldest handed out first in `order`.
-/// Both have room for every chunk of the pages.
+/// The lists have room for `room` pages and all of their chunks.
 #[derive(Drop)]
 pub(crate) struct SlabClass {
     size: u64,
@@ -18,16 +19,15 @@ pub(crate) struct SlabClass {
     free: Vec<ChunkId>,
     order: Vec<ChunkId>,
     evictions: u64,
+    room: usize,
 }
 
 impl Model for SlabClass {
-    ghost use Rattle.mc_pages.specs.ClassState.{ClassState};
+    ghost use Rattle.mc_pages.specs.Room.{RoomyClass, roomy_of, HasRoom};
 
-    ghost Value = { ClassState };
+    ghost Value = { RoomyClass };
 
-    ghost use Rattle.mc_pages.specs.Room.{state_of, HasRoom};
-
-    ghost view = { state_of };
+    ghost view = { roomy_of };
 
     ghost invariant = { HasRoom };
 }
@@ -36,7 +36,7 @@ impl SlabClass {
     /// A class without pages.
     pub(crate) fn new(alloc: Global, size: u64, per_page: u64) -> SlabClass
         requires { per_page ≤ 256 }
-        ensures { result ≡ new_class size per_page }
+        ensures { result ≡ record { state = new_class size per_page; room = 0 } }
     {
         SlabClass {
             size,
@@ -45,20 +45,36 @@ impl SlabClass {
             free: Vec::new(alloc),
             order: Vec::new(alloc),
             evictions: 0,
+            room: 0,
         }
     }
 
     /// How many chunks a page of the class has.
     pub(crate) fn per_page(&self) -> u64
-        ensures { result ≡ self.now.per_page }
+        ensures { result ≡ self.now.state.per_page }
     {
         self.per_page
     }
 
+    /// How many pages the class has.
+    pub(crate) fn page_count(&self) -> usize
+        ensures { result ≡ length self.now.state.pages }
+    {
+        self.pages.len()
+    }
+
+    /// The class's first page.
+    pub(crate) fn first_page(&self) -> PageId
+        requires { 1 ≤ length self.now.state.pages }
+        ensures { result ≡ slice_index_or self.now.state.pages 0 0 }
+    {
+        self.pages[0]
+    }
+
     /// Hands out the head of the free list: it goes to the back of the hand-out order.
     pub(crate) fn pop(&mut self) -> Option<ChunkId>
-        ensures chunk { result ≡ first_free self.old }
-        ensures popped { self.new ≡ popped self.old }
+        ensures chunk { result ≡ first_free self.old.state }
+        ensures popped { self.new ≡ in_state self.old (popped self.old.state) }
     {
         let chunk = self.free.pop()?;
         // The list has room for every chunk of the pages, so this can't fail, nor can the pushes below.
@@ -68,37 +84,93 @@ impl SlabClass {
 
     /// Takes a handed-out chunk back: it goes to the head of the free list.
     pub(crate) fn put_back(&mut self, chunk: ChunkId)
-        requires { Contains self.old.order chunk }
-        ensures { self.new ≡ put_back self.old chunk }
+        requires { Contains self.old.state.order chunk }
+        ensures { self.new ≡ in_state self.old (put_back self.old.state chunk) }
     {
         take_out(&mut self.order, chunk);
         let _ = self.free.push(chunk);
     }
 
+    /// Takes a handed-out chunk to the back of the hand-out order.
+    pub(crate) fn touch(&mut self, chunk: ChunkId)
+        requires { Contains self.old.state.order chunk }
+        ensures { self.new ≡ in_state self.old (touched self.old.state chunk) }
+    {
+        take_out(&mut self.order, chunk);
+        let _ = self.order.push(chunk);
+    }
+
+    /// Gives a free chunk the place of a handed-out one, which stands directly behind it then.
+    pub(crate) fn replace(&mut self, new: ChunkId, old: ChunkId)
+        requires free { times new self.old.state.free ≡ 1 }
+        requires handed_out { Contains self.old.state.order old }
+        ensures { self.new ≡ in_state self.old (replaced self.old.state new old) }
+    {
+        take_out(&mut self.free, new);
+        put_before(&mut self.order, new, old);
+    }
+
+    /// Takes a chunk out of the list that it is in.
+    pub(crate) fn clear(&mut self, chunk: ChunkId)
+        requires { times chunk self.old.state.free + times chunk self.old.state.order ≡ 1 }
+        ensures { self.new ≡ in_state self.old (cleared self.old.state chunk) }
+    {
+        take_out(&mut self.free, chunk);
+        take_out(&mut self.order, chunk);
+    }
+
     /// Cuts the next chunk of one of its pages: it goes to the head of the free list.
     pub(crate) fn cut(&mut self, next: ChunkId)
-        requires { length self.old.free + length self.old.order < length self.old.pages * self.old.per_page }
-        ensures { self.new ≡ with_cut self.old next }
+        requires { length self.old.state.free + length self.old.state.order < length self.old.state.pages * self.old.state.per_page }
+        ensures { self.new ≡ in_state self.old (with_cut self.old.state next) }
     {
         let _ = self.free.push(next);
     }
 
-    /// Adds a page, and makes room for all chunks that are to be cut of it.
-    pub(crate) fn add_page(&mut self, page: PageId) -> Result<(), AllocError>
-        requires { length self.old.pages < 64 }
-        ensures ok { OnOk result (self.new ≡ with_page self.old page) }
-        ensures err { OnErr result (self.new ≡ self.old) }
+    /// Makes room for so many pages and all of their chunks.
+    pub(crate) fn make_room(&mut self, pages: usize) -> Result<(), AllocError>
+        requires { pages ≤ 128 }
+        ensures state { self.new.state ≡ self.old.state }
+        ensures kept { self.old.room ≤ self.new.room }
+        ensures ok { OnOk result (pages ≤ self.new.room) }
     {
-        let chunks = (self.pages.len() + 1) * self.per_page as usize;
+        if pages <= self.room {
+            return Ok(());
+        }
+        let chunks = pages * self.per_page as usize;
         reserve_in_all(&mut self.free, chunks)?;
         reserve_in_all(&mut self.order, chunks)?;
-        self.pages.push(page)?;
+        self.pages.reserve(pages.saturating_sub(self.pages.len()))?;
+        self.room = pages;
         Ok(())
+    }
+
+    /// Adds a page.
+    pub(crate) fn add_page(&mut self, page: PageId)
+        requires { length self.old.state.pages < self.old.room }
+        ensures { self.new ≡ in_state self.old (with_page self.old.state page) }
+    {
+        let _ = self.pages.push(page);
+    }
+
+    /// Gives up a page, none of whose chunks is in a list any more.
+    pub(crate) fn remove_page(&mut self, page: PageId)
+        requires { length self.old.state.free + length self.old.state.order ≤ length (without_page self.old.state page).pages * self.old.state.per_page }
+        ensures { self.new ≡ in_state self.old (without_page self.old.state page) }
+    {
+        self.pages.retain(|p| *p != page);
+    }
+
+    /// Counts an eviction.
+    pub(crate) fn count_eviction(&mut self)
+        ensures { self.new ≡ in_state self.old (evicted self.old.state) }
+    {
+        self.evictions = self.evictions.saturating_add(1);
     }
 
     /// The chunk at this place of the free list.
     pub(crate) fn free_at(&self, place: u64) -> Option<ChunkId>
-        ensures { result ≡ slice_get self.now.free place }
+        ensures { result ≡ slice_get self.now.state.free place }
     {
         let len = self.free.len();
         if place < len as u64 {
@@ -110,14 +182,14 @@ impl SlabClass {
 
     /// The chunk at this place of the hand-out order.
     pub(crate) fn order_at(&self, place: u64) -> Option<ChunkId>
-        ensures { result ≡ slice_get self.now.order place }
+        ensures { result ≡ slice_get self.now.state.order place }
     {
         self.order.get(place as usize).copied()
     }
 
     /// What the class has.
     pub(crate) fn numbers(&self) -> Numbers
-        ensures { result ≡ numbers_of self.now }
+        ensures { result ≡ numbers_of self.now.state }
     {
         Numbers {
             pages: self.pages.len() as u64,
@@ -127,15 +199,25 @@ impl SlabClass {
     }
 }
 
-/// Removes the chunk.
+/// Removes the first place of the chunk, if it has one.
 fn take_out(chunks: &mut Vec<ChunkId>, chunk: ChunkId)
-    requires { Contains chunks.old.items chunk }
     ensures items { chunks.new.items ≡ without chunk chunks.old.items }
-    ensures len { vec_len chunks.new + 1 ≡ vec_len chunks.old }
     ensures capacity { vec_capacity chunks.new ≡ vec_capacity chunks.old }
 {
     if let Some(place) = place_of(chunks, chunk) {
         chunks.remove(place);
+    }
+}
+
+/// Puts a chunk directly before the first place of another, for which there is room.
+fn put_before(chunks: &mut Vec<ChunkId>, new: ChunkId, old: ChunkId)
+    requires there { Contains chunks.old.items old }
+    requires room { vec_len chunks.old < vec_capacity chunks.old }
+    ensures items { chunks.new.items ≡ with_before new old chunks.old.items }
+    ensures capacity { vec_capacity chunks.new ≡ vec_capacity chunks.old }
+{
+    if let Some(place) = place_of(chunks, old) {
+        let _ = chunks.insert(place, new);
     }
 }
 

@@ -1,16 +1,19 @@
 //! The pages of a slab memory and the chunks that they are cut into, as one sequential value, [`Slabs`].
 //!
-//! Each class has a list of its pages, a free list and a hand-out order. The ledger tells how each page
-//! came to its owner. After memcached's slabs.c; the hand-out order and the ledger are own.
+//! Each class has a list of its pages, a free list and a hand-out order. Pages that a class gave up wait in the pool,
+//! or come to another class. The ledger tells how each page came to its owner. After memcached's slabs.c; the hand-out
+//! order and the ledger are own.
 #![tactic(auto)]
 
 mod class;
 mod ids;
 mod ledger;
+mod moves;
 mod numbers;
 mod slabs;
 
 pub use ids::{ChunkId, Moving};
 pub use ledger::{Entry, Owner};
+pub use moves::{Found, Reassign};
 pub use numbers::{Numbers, Totals};
 pub use slabs::{Grow, NoMemory, Slabs};

@@ -1,0 +1,45 @@
+//! What a move of a page is asked and told.
+use std::alloc::AllocError;
+
+/// What the mover found at a chunk of the moving page, and did.
+#[derive(Clone, Copy, Debug, PartialEq, Eq)]
+pub enum Found {
+    /// It was free or dead, and is cleared now.
+    Cleared,
+    /// Its item was taken to another chunk of the class, and it is cleared now.
+    Rescued,
+    /// Its item was evicted, as the class had no other chunk, and it is cleared now.
+    Evicted,
+    /// Somebody holds its item.
+    Busy,
+    /// The item lock of its key was taken.
+    Locked,
+    /// It was cleared before.
+    Already,
+}
+
+/// Why no page begins to move.
+#[derive(Clone, Copy, Debug, PartialEq, Eq)]
+pub enum Reassign {
+    /// A page is moving already.
+    Busy,
+    /// Source and destination are one.
+    Same,
+    /// There is no such class, the source is the pool, or no class can be picked.
+    BadClass,
+    /// The source has fewer than two pages.
+    NoSpare,
+    /// Memory ran out.
+    NoMemory,
+}
+
+impl From<AllocError> for Reassign {
+    ghost use Rattle.std.specs.Prelude.{◌≡◌};
+    ghost use Rattle.mc_pages.specs.declared.moves.Reassign.TheVariants.{NoMemory};
+
+    ghost from_gives = { λ _ e. e ≡ NoMemory };
+
+    fn from(_e: AllocError) -> Reassign {
+        Reassign::NoMemory
+    }
+}

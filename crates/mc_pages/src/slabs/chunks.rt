@@ -1,0 +1,123 @@
+//! The chunks of the classes: handed out, given back, touched, replaced, cleared and cut.
+ghost use Rattle.std.specs.Prelude.{◌≡◌, ◌+◌, ◌<◌, ◌≤◌, slice_get, Contains, None, Some};
+ghost use Rattle.std.specs.Option.{option_map};
+ghost use Rattle.mc_pages.specs.ClassState.{first_free, times};
+ghost use Rattle.mc_pages.specs.SlabState.{IsClass, class_at, class_of_page, class_of_chunk};
+ghost use Rattle.mc_pages.specs.Changes.{after_pop, after_back, after_touch, after_replace, after_clear, after_cut, after_evicted, next_uncut};
+ghost use Rattle.mc_pages.specs.Accounted.{IsAccounted, places_in};
+
+use super::Slabs;
+use crate::ids::ChunkId;
+use mc_classes::{ClassId, PageId};
+
+impl Slabs {
+    /// Hands out the head of the class's free list: it goes to the back of the hand-out order. (slabs.c's `do_slabs_alloc`)
+    pub fn pop(&mut self, class: ClassId) -> Option<ChunkId>
+        requires { IsClass self.old class }
+        ensures chunk { result ≡ first_free (class_at self.old class) }
+        ensures popped { self.new ≡ after_pop self.old class }
+        ensures accounted { IsAccounted self.new }
+    {
+        self.classes[class as usize - 1].pop()
+    }
+
+    /// Takes a handed-out chunk back: it leaves the hand-out order and is the next to be handed out. (slabs.c's `do_slabs_free`)
+    pub fn back(&mut self, chunk: ChunkId)
+        requires { Contains (class_of_chunk self.old chunk).order chunk }
+        ensures back { self.new ≡ after_back self.old chunk }
+        ensures accounted { IsAccounted self.new }
+    {
+        let place = self.class_place(chunk.page);
+        self.classes[place].put_back(chunk);
+    }
+
+    /// Takes a handed-out chunk to the back of the hand-out order, as if it had just been handed out. (own)
+    pub fn touch(&mut self, chunk: ChunkId)
+        requires { Contains (class_of_chunk self.old chunk).order chunk }
+        ensures touched { self.new ≡ after_touch self.old chunk }
+        ensures accounted { IsAccounted self.new }
+    {
+        let place = self.class_place(chunk.page);
+        self.classes[place].touch(chunk);
+    }
+
+    /// Gives a free chunk the place of a handed-out one in the hand-out order. The old one stands directly behind it. (own)
+    pub fn replace(&mut self, new: ChunkId, old: ChunkId)
+        requires free { Contains (class_of_chunk self.old old).free new }
+        requires handed_out { Contains (class_of_chunk self.old old).order old }
+        ensures replaced { self.new ≡ after_replace self.old new old }
+        ensures accounted { IsAccounted self.new }
+    {
+        let place = self.class_place(old.page);
+        self.classes[place].replace(new, old);
+    }
+
+    /// Clears a free or handed-out chunk of the moving page: it is in no list any more. (slabs.c's `slab_rebalance_move`)
+    pub fn clear(&mut self, chunk: ChunkId)
+        requires moving { option_map (λ move. move.page) self.old.moving ≡ Some chunk.page }
+        requires listed { 1 ≤ places_in self.old (class_of_page self.old chunk.page) chunk }
+        ensures cleared { self.new ≡ after_clear self.old chunk }
+        ensures accounted { IsAccounted self.new }
+    {
+        let place = self.class_place(chunk.page);
+        self.classes[place].clear(chunk);
+    }
+
+    /// Cuts the lowest uncut chunk of the page just given: it goes to the head of its class's free list.
+    pub fn cut(&mut self, page: PageId, index: u64)
+        requires { self.old.uncut ≡ Some (record { page = page; index = index }) }
+        ensures cut { self.new ≡ after_cut self.old (record { page = page; index = index }) }
+        ensures accounted { IsAccounted self.new }
+    {
+        let chunk = ChunkId { page, index };
+        let place = self.class_place(page);
+        let slab = &mut self.classes[place];
+        self.uncut = behind(chunk, slab.per_page());
+        slab.cut(chunk);
+    }
+
+    /// Counts an eviction from the class. The counter stays at 2^64 - 1 once there (own).
+    pub fn evicted(&mut self, class: ClassId)
+        requires { IsClass self.old class }
+        ensures evicted { self.new ≡ after_evicted self.old class }
+        ensures accounted { IsAccounted self.new }
+    {
+        self.classes[class as usize - 1].count_eviction();
+    }
+
+    /// The page whose chunks aren't all cut yet, if there is one.
+    pub fn half_cut(&self) -> Option<PageId>
+        ensures { result ≡ option_map (λ chunk. chunk.page) self.now.uncut }
+    {
+        self.uncut.map(|chunk| chunk.page)
+    }
+
+    /// The chunk at this place of the class's free list: 0 is handed out next. None past its end.
+    pub fn free_at(&self, class: ClassId, place: u64) -> Option<ChunkId>
+        requires { IsClass self.now class }
+        ensures { result ≡ slice_get (class_at self.now class).free place }
+    {
+        self.classes[class as usize - 1].free_at(place)
+    }
+
+    /// The chunk at this place of the class's hand-out order: 0 is the oldest. None past its end.
+    pub fn order_at(&self, class: ClassId, place: u64) -> Option<ChunkId>
+        requires { IsClass self.now class }
+        ensures { result ≡ slice_get (class_at self.now class).order place }
+    {
+        self.classes[class as usize - 1].order_at(place)
+    }
+}
+
+/// The chunk behind, if the page has one more.
+fn behind(chunk: ChunkId, per_page: u64) -> Option<ChunkId>
+    requires { chunk.index < per_page }
+    ensures { result ≡ next_uncut per_page chunk }
+{
+    let index = chunk.index + 1;
+    if index < per_page {
+        Some(ChunkId { index, ..chunk })
+    } else {
+        None
+    }
+}

@@ -1,0 +1,157 @@
+//! A page on its way from one class to another, or to the pool.
+ghost use Rattle.std.specs.Prelude.{◌≡◌, length, IfOk, OnOk, OnErr, None};
+ghost use Rattle.mc_pages.specs.declared.ids.Moving.{Moving};
+ghost use Rattle.mc_pages.specs.SlabState.{IsClass, class_at};
+ghost use Rattle.mc_pages.specs.Answer.{answer_of, pick, MayAnswer};
+ghost use Rattle.mc_pages.specs.Moves.{after_begin, after_finish, after_passed, after_wrap, CanPass, CanWrap, CanFinish};
+ghost use Rattle.mc_pages.specs.Accounted.{IsAccounted};
+
+use super::Slabs;
+use crate::ids::{ChunkId, Moving};
+use crate::ledger::{Entry, Owner};
+use crate::moves::{Found, Reassign};
+use mc_classes::ClassId;
+
+impl Slabs {
+    /// The move that runs, if one does.
+    pub fn moving(&self) -> Option<Moving>
+        ensures { result ≡ self.now.moving }
+    {
+        self.moving
+    }
+
+    /// Begins to move the first page of a class to another class, or to the pool where `dst` is 0. Where no source is
+    /// named, one is picked: the first class behind the cursor with more than one page. The page stays in its class's
+    /// page list until `finish_move`, for which all room is made here. The tests come in the order of [`Reassign`], and
+    /// what is refused changes nothing. (slabs.c's `do_slabs_reassign`; the order of the tests is own)
+    pub fn begin_move(&mut self, src: Option<u64>, dst: u64) -> Result<(), Reassign>
+        ensures answer { MayAnswer (answer_of self.old src dst) result }
+        ensures began { OnOk result (IfOk (answer_of self.old src dst) (λ source. self.new ≡ after_begin self.old src source dst)) }
+        ensures refused { OnErr result (self.new ≡ self.old) }
+        ensures accounted { IsAccounted self.new }
+    {
+        let source = self.source(src, dst)?;
+        // One entry for the beginning, and one for the end.
+        self.ledger.reserve(2)?;
+        if dst == 0 {
+            self.pool.reserve(1)?;
+        } else {
+            let slab = &mut self.classes[dst as usize - 1];
+            slab.make_room(slab.page_count() + 1)?;
+        }
+        let page = self.classes[source as usize - 1].first_page();
+        let _ = self.ledger.push(Entry::Began(page, source, dst));
+        self.owners[page as usize] = Owner::Moving { src: source, dst };
+        self.moving = Some(Moving {
+            page,
+            src: source,
+            dst,
+            at: 0,
+            busy: 0,
+        });
+        if src.is_none() {
+            self.cursor = source;
+        }
+        Ok(())
+    }
+
+    /// Ends the move: the page leaves its class and goes uncut into the pool, or joins its destination, and then its
+    /// chunks are to be cut next. All of its chunks must be cleared. (slabs.c's `slab_rebalance_finish`)
+    pub fn finish_move(&mut self)
+        requires whole { self.old.uncut ≡ None }
+        requires cleared { (move : Moving) × CanFinish self.old move }
+        ensures finished { self.new ≡ after_finish self.old self.old.moving }
+        ensures accounted { IsAccounted self.new }
+    {
+        if let Some(Moving { page, src, dst, .. }) = self.moving {
+            self.classes[src as usize - 1].remove_page(page);
+            if dst == 0 {
+                let _ = self.pool.push(page);
+                self.owners[page as usize] = Owner::Pool;
+            } else {
+                self.classes[dst as usize - 1].add_page(page);
+                self.owners[page as usize] = Owner::Class(dst);
+                self.uncut = Some(ChunkId { page, index: 0 });
+            }
+            let _ = self.ledger.push(Entry::Ended(page, dst));
+            self.moved = self.moved.saturating_add(1);
+            self.moving = None;
+        }
+    }
+
+    /// Goes on from the chunk at the move's position, and counts what was found there. Unless it is busy or locked, it
+    /// must be cleared. The counters stay at 2^64 - 1 once there (own).
+    pub fn passed(&mut self, found: Found)
+        requires { (move : Moving) × CanPass self.old found move }
+        ensures passed { self.new ≡ after_passed self.old found }
+        ensures accounted { IsAccounted self.new }
+    {
+        if let Some(moving) = &mut self.moving {
+            moving.at += 1;
+            if matches!(found, Found::Busy | Found::Locked) {
+                moving.busy += 1;
+            }
+        }
+        match found {
+            Found::Rescued => self.rescues = self.rescues.saturating_add(1),
+            Found::Evicted => self.evictions_nomem = self.evictions_nomem.saturating_add(1),
+            _ => {}
+        }
+    }
+
+    /// Begins the pass anew from the page's top, and counts the chunks that held it up. The counter stays at 2^64 - 1
+    /// once there (own).
+    pub fn wrap(&mut self)
+        requires { (move : Moving) × CanWrap self.old move }
+        ensures wrapped { self.new ≡ after_wrap self.old }
+        ensures accounted { IsAccounted self.new }
+    {
+        if let Some(moving) = &mut self.moving {
+            self.busy = self.busy.saturating_add(moving.busy);
+            moving.at = 0;
+            moving.busy = 0;
+        }
+    }
+
+    /// The class that gives a page, or why none does, memory aside.
+    fn source(&self, src: Option<u64>, dst: u64) -> Result<ClassId, Reassign>
+        ensures { result ≡ answer_of self.now src dst }
+    {
+        if self.moving.is_some() {
+            return Err(Reassign::Busy);
+        }
+        if src == Some(dst) {
+            return Err(Reassign::Same);
+        }
+        let source = match src {
+            Some(src) => src,
+            None => self.pick(dst).ok_or(Reassign::BadClass)?,
+        };
+        let count = self.classes.len() as u64;
+        if source == 0 || source > count || dst > count {
+            return Err(Reassign::BadClass);
+        }
+        if self.pages_of(source) < 2 {
+            return Err(Reassign::NoSpare);
+        }
+        Ok(source)
+    }
+
+    /// The first class behind the cursor, class 1 after the last, that isn't the destination and has more than one page.
+    fn pick(&self, dst: u64) -> Option<ClassId>
+        ensures { result ≡ pick self.now dst }
+    {
+        let count = self.classes.len() as u64;
+        (self.cursor + 1..=count)
+            .chain(1..=self.cursor)
+            .find(|class| *class != dst && self.pages_of(*class) > 1)
+    }
+
+    /// How many pages the class has.
+    fn pages_of(&self, class: ClassId) -> usize
+        requires { IsClass self.now class }
+        ensures { result ≡ length (class_at self.now class).pages }
+    {
+        self.classes[class as usize - 1].page_count()
+    }
+}

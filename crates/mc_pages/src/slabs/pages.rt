@@ -1,0 +1,75 @@
+//! How a class gets a page.
+ghost use Rattle.std.specs.Prelude.{◌≡◌, ◌↔◌, IfOk, OnErr, None, Some, Err};
+ghost use Rattle.mc_pages.specs.SlabState.{IsClass};
+ghost use Rattle.mc_pages.specs.Changes.{after_grow, next_page};
+ghost use Rattle.mc_pages.specs.Accounted.{IsAccounted};
+ghost use Rattle.mc_pages.specs.InOrder.{is_awaited};
+
+use super::Slabs;
+use crate::ids::ChunkId;
+use crate::ledger::{Entry, Owner};
+use mc_classes::{ClassId, PageId};
+use std::alloc::AllocError;
+
+/// Why a class gets no page.
+#[derive(Clone, Copy, Debug, PartialEq, Eq)]
+pub enum Grow {
+    /// The pool is empty, and no page is left within the limit.
+    NoRoom,
+    /// Memory ran out.
+    NoMemory,
+}
+
+impl From<AllocError> for Grow {
+    ghost use Rattle.std.specs.Prelude.{◌≡◌};
+    ghost use Rattle.mc_pages.specs.declared.slabs.pages.Grow.TheVariants.{NoMemory};
+
+    ghost from_gives = { λ _ e. e ≡ NoMemory };
+
+    fn from(_e: AllocError) -> Grow {
+        Grow::NoMemory
+    }
+}
+
+impl Slabs {
+    /// Gives the class a page, and says which: the one that came last into the pool, or else the lowest one that was
+    /// never granted. Its chunks are to be cut next. It also makes all room that those chunks will need, and leaves
+    /// the room of a move that runs. `NoMemory` comes only where there is a page, and what is refused changes nothing.
+    /// (slabs.c's `do_slabs_newslab`)
+    pub fn grow(&mut self, class: ClassId) -> Result<PageId, Grow>
+        requires class { IsClass self.old class }
+        requires whole { self.old.uncut ≡ None }
+        ensures given { IfOk result (λ page. (next_page self.old ≡ Some page) × (self.new ≡ after_grow self.old class page)) }
+        ensures no_room { (result ≡ Err Grow.NoRoom) ↔ (next_page self.old ≡ None) }
+        ensures refused { OnErr result (self.new ≡ self.old) }
+        ensures accounted { IsAccounted self.new }
+    {
+        if self.pool.is_empty() && self.granted == self.owners.len() {
+            return Err(Grow::NoRoom);
+        }
+        self.ledger.reserve(1 + usize::from(self.moving.is_some()))?;
+        let awaited = usize::from(self.awaits(class));
+        let slab = &mut self.classes[class as usize - 1];
+        slab.make_room(slab.page_count() + 1 + awaited)?;
+        let (page, entry) = match self.pool.pop() {
+            Some(page) => (page, Entry::Taken(page, class)),
+            None => {
+                let page = self.granted as PageId;
+                self.granted += 1;
+                (page, Entry::Granted(page, class))
+            }
+        };
+        slab.add_page(page);
+        let _ = self.ledger.push(entry);
+        self.owners[page as usize] = Owner::Class(class);
+        self.uncut = Some(ChunkId { page, index: 0 });
+        Ok(page)
+    }
+
+    /// Whether a page is on the move to the class, or to the pool where `class` is 0.
+    fn awaits(&self, class: u64) -> bool
+        ensures { result ≡ is_awaited self.now.moving class }
+    {
+        self.moving.is_some_and(|moving| moving.dst == class)
+    }
+}
