@@ -1,13 +1,12 @@
 -- What is stored under a key.
-use Rattle.std.specs.Prelude.{ℕ, ◌+◌, ◌*◌, ◌%◌, ◌^◌, ◌==◌, Bool, true, false, not, ◌&&◌, if◌then◌else◌, List, [], length, map}
+use Rattle.std.specs.Prelude.{ℕ, ◌+◌, ◌*◌, ◌%◌, ◌^◌, ◌==◌, Bool, true, false, ◌&&◌, List, map}
 use Rattle.std.specs.List.{range_with_len}
 
--- a key with its words; whether the key still leads to it, and who holds it
+-- a key with its words, and whether the key still leads to it
 pub record Item : Type 0 where
   pub key : ℕ
   pub words : List ℕ
   pub linked : Bool
-  pub holders : List ℕ
 
 -- what an item of so many words takes: key, stamp and length, then the words, 8 bytes each
 abbrev pub item_bytes : ℕ → ℕ
@@ -17,9 +16,9 @@ item_bytes words = 24 + 8 * words
 abbrev pub words_from : ℕ → ℕ → List ℕ
 words_from base words = map (λ i. (base + i) % 2 ^ 64) (range_with_len 0 words)
 
--- an item that its key leads to and nobody holds
+-- an item that its key leads to
 abbrev pub new_item : ℕ → List ℕ → Item
-new_item key words = record { key = key; words = words; linked = true; holders = [] }
+new_item key words = record { key = key; words = words; linked = true }
 
 -- the key leads to it
 abbrev pub is_linked_to : ℕ → Item → Bool
@@ -28,7 +27,3 @@ is_linked_to key item = item.linked && item.key == key
 -- its key leads to it no more; whoever holds it still does
 abbrev pub unlinked : Item → Item
 unlinked item = record item { linked = false }
-
--- neither does its key lead to it nor does anybody hold it
-abbrev pub is_dead_item : Item → Bool
-is_dead_item item = not item.linked && length item.holders == 0

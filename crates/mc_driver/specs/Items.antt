@@ -1,12 +1,12 @@
 -- The items of a serial run, each with its chunk, in the order of the chunks.
-use Rattle.std.specs.Prelude.{ℕ, ◌==◌, Bool, false, ◌&&◌, if◌then◌else◌, List, [], ◌∷◌, map, Option, Some, None}
+use Rattle.std.specs.Prelude.{ℕ, ◌==◌, Bool, false, not, ◌&&◌, if◌then◌else◌, List, [], ◌∷◌, map, Option, Some, None}
 use Rattle.std.specs.Option.{option_map_or}
 use Rattle.std.specs.Ordering.{nat_cmp, ordering_then}
 use Rattle.std.specs.declared.cmp.Ordering.{Ordering}
 use Rattle.std.specs.BTreeMap.{insert_entry, is_at}
 use Rattle.std.specs.Map.{lookup, remove_entry, set_value}
 use Rattle.mc_pages.specs.declared.ids.ChunkId.{ChunkId}
-use Rattle.mc_driver.specs.Item.{Item, is_linked_to, unlinked, is_dead_item}
+use Rattle.mc_driver.specs.Item.{Item, is_linked_to, unlinked}
 
 -- by page, then by index
 abbrev pub chunk_cmp : ChunkId → ChunkId → Ordering
@@ -41,6 +41,23 @@ abbrev pub unlinked_in : Items → ChunkId → Option Item → Items
 unlinked_in items chunk None = items
 unlinked_in items chunk (Some item) = set_value (is_at (chunk_cmp chunk)) items (unlinked item)
 
--- the chunk's item is dead
-abbrev pub is_dead : Items → ChunkId → Bool
-is_dead items chunk = option_map_or is_dead_item (item_at items chunk) false
+-- the chunk has an item that its key leads to
+abbrev pub is_linked : Items → ChunkId → Bool
+is_linked items chunk = option_map_or (λ item. item.linked) (item_at items chunk) false
+
+-- the chunk has an item that its key leads to no more
+abbrev pub is_unlinked : Items → ChunkId → Bool
+is_unlinked items chunk = option_map_or (λ item. not item.linked) (item_at items chunk) false
+
+-- the chunk has an item of this key
+abbrev pub has_key : Items → ℕ → ChunkId → Bool
+has_key items key chunk = option_map_or (λ item. item.key == key) (item_at items chunk) false
+
+-- what was found in a chunk comes into another
+abbrev pub with_found_item : Items → ChunkId → ChunkId → Option Item → Items
+with_found_item items old new None = items
+with_found_item items old new (Some item) = with_item (without_item items old) new item
+
+-- the item of a chunk comes into another
+abbrev pub with_moved_item : Items → ChunkId → ChunkId → Items
+with_moved_item items old new = with_found_item items old new (item_at items old)

@@ -1,6 +1,9 @@
 pub mod Item
 pub mod Items
+pub mod Holds
 pub mod Machine
+pub mod Supply
+pub mod Mover
 pub mod Lines
 pub mod Texts
 pub mod Status

@@ -1,5 +1,5 @@
 -- The lines that a run writes, as functions of numbers.
-use Rattle.std.specs.Prelude.{◌≡◌, ◌≤◌, ℕ, ◌+◌, ◌*◌, ◌-◌, ◌==◌, if◌then◌else◌, nat_lt, List, [], ◌∷◌, ◌++◌, length, slice_index, codes, decimal, count_by}
+use Rattle.std.specs.Prelude.{◌≡◌, ◌≤◌, ℕ, ◌+◌, ◌*◌, ◌-◌, ◌==◌, if◌then◌else◌, nat_lt, List, [], ◌∷◌, ◌++◌, length, slice_index, codes, decimal, count_by, flat_map}
 use Rattle.mc_classes.specs.Classes.{Classes, IsClass, size_of, per_page_of}
 
 -- each line ends with CR LF
@@ -9,6 +9,14 @@ line text = text ++ codes "\r\n"
 -- an answer about a key
 abbrev pub key_line : List ℕ → ℕ → List ℕ
 key_line answer key = line (answer ++ codes " " ++ decimal key)
+
+-- words after an answer, a space before each
+abbrev pub spaced : List ℕ → List ℕ
+spaced words = flat_map (λ word. codes " " ++ decimal word) words
+
+-- an answer about a key, with the item's words
+abbrev pub words_line : List ℕ → ℕ → List ℕ → List ℕ
+words_line answer key words = line (answer ++ codes " " ++ decimal key ++ codes " " ++ decimal (length words) ++ spaced words)
 
 -- one number of the statistics
 abbrev pub stat_line : List ℕ → ℕ → List ℕ
