@@ -1,5 +1,5 @@
 -- What is stored under a key.
-use Rattle.std.specs.Prelude.{ℕ, ◌+◌, ◌*◌, ◌%◌, ◌^◌, ◌==◌, Bool, true, false, not, ◌&&◌, if◌then◌else◌, List, [], length, map}
+use Rattle.std.specs.Prelude.{ℕ, ◌+◌, ◌*◌, ◌%◌, ◌^◌, ◌==◌, Bool, true, false, not, ◌&&◌, List, [], length, map}
 use Rattle.std.specs.List.{range_with_len}
 
 -- a key with its words; whether the key still leads to it, and who holds it

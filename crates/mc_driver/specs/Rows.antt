@@ -1,8 +1,7 @@
 -- Worked examples of the plain machine.
-use Rattle.std.specs.Prelude.{◌≡◌, ℕ, List, [], ◌∷◌, ◌++◌, codes, map}
+use Rattle.std.specs.Prelude.{◌≡◌, [], ◌∷◌, ◌++◌, codes, map}
 use Rattle.std.specs.List.{range_with_len}
 use Rattle.mc_classes.specs.Classes.{Classes}
-use Rattle.mc_script.specs.declared.command.Command.{Command}
 use Rattle.mc_script.specs.declared.command.Command.TheVariants.{Set, Delete, StatsSlabs}
 use Rattle.mc_driver.specs.Machine.{fresh_machine}
 use Rattle.mc_driver.specs.Lines.{replies_to}
