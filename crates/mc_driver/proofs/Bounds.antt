@@ -1,10 +1,10 @@
 -- How many pages and chunks there can be.
-use Rattle.std.proofs.Common.{◌≡◌, ℕ, ◌+◌, ◌-◌, ◌*◌, ◌/◌, ◌^◌, ◌≤◌, ◌<◌, List, length, slice_index_or, Some, refl, ap, sym, ◌∙◌, arith}
+use Rattle.std.proofs.Common.{◌≡◌, ℕ, ◌-◌, ◌*◌, ◌/◌, ◌^◌, ◌≤◌, ◌<◌, List, length, slice_index_or, Some, ◌∙◌, arith}
 use Rattle.std.specs.Prelude.{Contains, map, slice_get}
 use Rattle.std.proofs.lemmas.List.{length-map, get_or-map}
-use Rattle.std.proofs.Math.Nat.{mul-le-mul_left, mul-le-mul_right}
+use Rattle.std.proofs.Math.Nat.{mul-le-mul_left}
 use Rattle.std.proofs.lemmas.Option.{get_or_from_slice_get, slice_get_within}
-use Rattle.mc_classes.specs.Classes.{Classes, IsSound, per_page_of, IsClass as IsTableClass}
+use Rattle.mc_classes.specs.Classes.{Classes, IsClass as IsTableClass}
 use Rattle.mc_pages.specs.declared.ids.ChunkId.{ChunkId}
 use Rattle.mc_pages.specs.ClassState.{ClassState, new_class, times}
 use Rattle.mc_pages.specs.SlabState.{SlabState, IsClass, class_at, class_of_page, granted_count}

@@ -1,5 +1,5 @@
 -- A page is cut, one chunk after another.
-use Rattle.std.proofs.Common.{◌≡◌, ℕ, ◌+◌, ◌-◌, ◌≤◌, ◌<◌, List, [], ◌∷◌, ◌++◌, get_or, Option, Some, None, refl, ap, sym, ◌∙◌, arith, zero-add}
+use Rattle.std.proofs.Common.{◌≡◌, ℕ, ◌+◌, ◌-◌, List, [], ◌∷◌, get_or, Option, Some, None, refl, ap, sym, ◌∙◌, zero-add}
 use Rattle.std.specs.Prelude.{fold, map, nat_lt, if◌then◌else◌}
 use Rattle.std.proofs.Math.ListN.{get_or-map}
 use Rattle.std.proofs.lemmas.List.Sums.{fold-append}
@@ -11,7 +11,7 @@ use Rattle.mc_pages.specs.SlabState.{SlabState, class_at, class_of_owner, class_
 use Rattle.mc_pages.specs.Ledger.{owner_at}
 use Rattle.mc_pages.specs.Changes.{after_cut}
 use Rattle.mc_driver.specs.Machine.{chunks_of}
-use Rattle.mc_driver.proofs.Moves.{per_pages-with_class, per_pages-cuts, owners-cuts}
+use Rattle.mc_driver.proofs.Moves.{per_pages-cuts, owners-cuts}
 
 -- a chunk by its page and its place there
 abbrev pub chunk_at : ℕ → ℕ → ChunkId

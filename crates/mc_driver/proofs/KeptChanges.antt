@@ -1,12 +1,12 @@
 -- What the keeper's steps keep.
-use Rattle.std.proofs.Common.{◌≡◌, ◌≢◌, ℕ, ◌+◌, ◌-◌, ◌/◌, ◌≤◌, ◌<◌, ◌⊎◌, List, [], ◌∷◌, ◌++◌, length, get_or, set, Bool, true, false, cond, Option, Some, None, suc, zero, inl, inr, refl, ap, sym, ◌∙◌, arith, eqb}
+use Rattle.std.proofs.Common.{◌≡◌, ◌≢◌, ℕ, ◌+◌, ◌-◌, ◌/◌, ◌≤◌, ◌⊎◌, List, [], ◌∷◌, length, Bool, true, false, cond, Option, Some, None, suc, zero, inl, inr, refl, ap, sym, ◌∙◌, arith, eqb}
 use Rattle.std.specs.Prelude.{fold, map, slice_get}
 use Rattle.std.specs.Ordering.{nat_cmp}
 use Rattle.std.specs.BTreeMap.{is_at}
 use Rattle.std.specs.Map.{lookup}
 use Rattle.std.specs.Option.{option_map_or}
 use Rattle.std.proofs.lemmas.Bool.Decides.{nat_tests, leb_tells}
-use Rattle.std.proofs.lemmas.List.{get_or-set_same, get_or-set_other, get_or_past, length-set, length-map}
+use Rattle.std.proofs.lemmas.List.{get_or-set_other, get_or_past, length-set, length-map}
 use Rattle.std.proofs.lemmas.List.Quantifiers.{position-Some}
 use Rattle.mc_classes.specs.Classes.{Classes, IsSound}
 use Rattle.mc_pages.specs.declared.ids.ChunkId.{ChunkId}
@@ -15,14 +15,14 @@ use Rattle.mc_pages.specs.declared.ledger.Owner.TheVariants.{Untouched, Pool, Cl
 use Rattle.mc_pages.specs.Ledger.{owner_at}
 use Rattle.mc_pages.specs.ClassState.{ClassState, new_class, is_chunk, times, without, first_free, popped, handed_out, put_back, with_page}
 use Rattle.mc_pages.specs.SlabState.{SlabState, IsClass, class_at, class_of_owner, class_of_page, class_of_chunk, fresh_slabs, untouched_page, is_untouched}
-use Rattle.mc_pages.specs.Accounted.{IsAccounted, truth}
-use Rattle.mc_pages.specs.Changes.{with_class, after_pop, after_back, after_grant, after_cut}
-use Rattle.mc_driver.specs.Item.{Item, new_item, is_linked_to, is_dead_item}
+use Rattle.mc_pages.specs.Accounted.{IsAccounted}
+use Rattle.mc_pages.specs.Changes.{after_pop, after_back, after_grant, after_cut}
+use Rattle.mc_driver.specs.Item.{Item, new_item, is_dead_item}
 use Rattle.mc_driver.specs.Items.{Items, chunk_cmp, item_at, is_dead, with_item, without_item, unlinked_in, unlinked_items, linked_chunk}
-use Rattle.mc_driver.specs.Kept.{places, links, IsKept, IsVacant}
-use Rattle.mc_driver.proofs.Chunks.{places_none, places-with_item, places-unlinked_items, places-without_item, places-without_item-le, chunk_cmp-equal, chunk_cmp-self, none-places}
+use Rattle.mc_driver.specs.Kept.{places, IsKept, IsVacant}
+use Rattle.mc_driver.proofs.Chunks.{places_none, places-with_item, places-unlinked_items, places-without_item, places-without_item-le, none-places}
 use Rattle.mc_driver.proofs.Links.{links_none, links-with_item, links-unlinked_items, links-without_item-le, linked_chunk-with_item, linked_chunk-unlinked_items, linked_chunk-without_item, some_places, LinkedIn, linked_in, unlinked_items_none}
-use Rattle.mc_pages.proofs.Chunks.{same_from_is_chunk, is_chunk-same, times-without, times-cons}
+use Rattle.mc_pages.proofs.Chunks.{is_chunk-same, times-without, times-cons}
 use Rattle.mc_driver.proofs.Orders.{in_lists_once, page_of_listed}
 use Rattle.mc_driver.proofs.Moves.{class_at-with_class, class_at-with_other, order-with_class, owners-cuts, classes-cuts, order-cuts, handed-order, handed-chunk, per_page-handed, per_pages-with_class, per_pages-cuts, page-cuts, limit-cuts}
 

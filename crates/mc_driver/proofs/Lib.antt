@@ -13,9 +13,3 @@ pub mod Replies
 pub mod Outcomes
 pub mod Appends
 pub mod Taken
-mod OptionCut
-mod OptionDigits
-mod OptionParse
-mod OptionRows
-mod OptionTaken
-mod OptionWalk

@@ -1,8 +1,7 @@
 -- Which chunk a key leads to, through each change of the items.
-use Rattle.std.proofs.Common.{◌≡◌, ℕ, ◌+◌, ◌≤◌, ◌<◌, List, [], ◌∷◌, Bool, true, false, cond, Option, Some, None, refl, ap, sym, ◌∙◌, arith, eqb}
+use Rattle.std.proofs.Common.{◌≡◌, ℕ, ◌+◌, ◌≤◌, List, [], ◌∷◌, Bool, true, false, Some, None, refl, arith}
 use Rattle.std.specs.Prelude.{if◌then◌else◌, ◌==◌}
 use Rattle.std.proofs.lemmas.Bool.Decides.{nat_tests}
-use Rattle.std.specs.Ordering.{nat_cmp, ordering_then, is_eq, match_ordering}
 use Rattle.std.specs.declared.cmp.Ordering.{Ordering}
 use Rattle.std.specs.declared.cmp.Ordering.TheVariants.{Less, Equal, Greater}
 use Rattle.std.specs.BTreeMap.{is_at}
@@ -12,7 +11,7 @@ use Rattle.mc_pages.specs.Accounted.{truth}
 use Rattle.mc_driver.specs.Item.{Item, new_item, is_linked_to, unlinked, is_dead_item}
 use Rattle.mc_driver.specs.Items.{Items, chunk_cmp, item_at, with_item, without_item, unlinked_items, linked_chunk}
 use Rattle.mc_driver.specs.Kept.{links, places}
-use Rattle.mc_driver.proofs.Chunks.{chunk_cmp-self, chunk_cmp-equal, none-places}
+use Rattle.mc_driver.proofs.Chunks.{chunk_cmp-self}
 
 -- no linked item: the key leads nowhere, and the other way round
 pub links_none : (key : ℕ) (items : Items) → linked_chunk items key ≡ None → links key items ≡ 0

@@ -1,20 +1,15 @@
 -- What each change of the pages and chunks does to the hand-out orders.
-use Rattle.std.proofs.Common.{◌≡◌, ◌≢◌, ℕ, ◌+◌, ◌-◌, ◌≤◌, ◌<◌, List, [], ◌∷◌, ◌++◌, length, get_or, set, Bool, true, false, cond, Option, Some, None, refl, ap, sym, ◌∙◌, arith, eqb}
+use Rattle.std.proofs.Common.{◌≡◌, ◌≢◌, ℕ, ◌+◌, ◌-◌, ◌≤◌, ◌<◌, List, [], ◌∷◌, length, get_or, Bool, true, false, cond, Some, refl, ap, sym, ◌∙◌, arith, eqb}
 use Rattle.std.specs.Prelude.{fold, map, slice_get}
 use Rattle.std.proofs.Math.Seq.{map-set_same}
 use Rattle.std.proofs.lemmas.Bool.Decides.{nat_tests}
-use Rattle.std.proofs.lemmas.List.{get_or-set_same, get_or-set_other, get_or_past, length-set}
+use Rattle.std.proofs.lemmas.List.{get_or-set_same, get_or-set_other, length-set}
 use Rattle.std.proofs.lemmas.List.Sums.{sum_by-append}
 use Rattle.mc_pages.specs.declared.ids.ChunkId.{ChunkId}
-use Rattle.mc_pages.specs.declared.ledger.Owner.{Owner}
-use Rattle.mc_pages.specs.declared.ledger.Owner.TheVariants.{Untouched, Pool, Class, Moving}
-use Rattle.mc_pages.specs.Ledger.{owner_at}
-use Rattle.mc_pages.specs.ClassState.{ClassState, new_class, is_chunk, times, without, first_free, popped, handed_out, put_back}
-use Rattle.mc_pages.specs.SlabState.{SlabState, IsClass, class_at, class_of_owner, class_of_page, class_of_chunk}
-use Rattle.mc_pages.specs.Accounted.{IsAccounted, truth}
-use Rattle.mc_pages.specs.Changes.{with_class, after_pop, after_back, after_grant, after_cut}
+use Rattle.mc_pages.specs.ClassState.{ClassState, new_class, is_chunk, times, handed_out}
+use Rattle.mc_pages.specs.SlabState.{SlabState, IsClass, class_at, class_of_page}
+use Rattle.mc_pages.specs.Changes.{with_class, after_cut}
 use Rattle.mc_pages.proofs.Chunks.{times-cons, is_chunk-same}
-use Rattle.mc_driver.proofs.Orders.{page_of_listed}
 
 -- the class that was changed
 pub class_at-with_class : (slabs : SlabState) (class : ℕ) (state : ClassState) → IsClass slabs class

@@ -1,7 +1,6 @@
 -- How a run ends, from how its parts ended.
-use Rattle.std.proofs.Common.{◌≡◌, ◌≢◌, ℕ, ◌+◌, ◌<◌, ◌≤◌, ◌⊎◌, ◌↔◌, List, length, take, min, Bool, true, false, cond, Option, Some, None, Result, Ok, Err, refl, ap, sym, ◌∙◌, arith, inl, inr}
+use Rattle.std.proofs.Common.{◌≡◌, ◌≢◌, ℕ, ◌+◌, ◌<◌, ◌≤◌, List, length, take, min, Bool, true, false, cond, Option, Some, None, Result, Ok, Err, refl, ap, ◌∙◌, arith, inl, inr}
 use Rattle.std.specs.Prelude.{IfSome, unwrap_or}
-use Rattle.std.specs.Io.KnownBytes.{Appends, Keeps, append_known}
 use Rattle.std.proofs.KnownBytes.{Keeps-refl}
 use Rattle.std.proofs.lemmas.List.{length-take, take_all}
 use Rattle.mc_classes.specs.declared.config.Config.{Config}
@@ -10,12 +9,10 @@ use Rattle.mc_classes.specs.declared.config.ConfigError.TheVariants.{PageSize, F
 use Rattle.mc_classes.specs.Classes.{Classes, IsTableOf}
 use Rattle.mc_classes.specs.Refusals.{refusal_of, number_of}
 use Rattle.mc_script.specs.declared.command.Command.{Command}
-use Rattle.mc_script.specs.Script.{script_of}
 use Rattle.mc_driver.specs.declared.fault.RunFault.{RunFault}
 use Rattle.mc_driver.specs.declared.fault.RunFault.TheVariants.{Config as Refused, Script, TooLong, Read, Write, Memory}
-use Rattle.mc_driver.specs.Machine.{Machine, fresh_machine}
-use Rattle.mc_driver.specs.Lines.{replies_to}
-use Rattle.mc_driver.specs.Run.{IsOutcome, IsScript, IsScriptFault, IsScriptOutcome, IsServeFault, config_fault, refusal_number}
+use Rattle.mc_driver.specs.Machine.{fresh_machine}
+use Rattle.mc_driver.specs.Run.{IsOutcome, IsScript, IsScriptOutcome, config_fault, refusal_number}
 
 -- the front of the bytes is all of them where it is short
 front_all : (n : ℕ) (all front : List ℕ) → front ≡ take (n + 1) all → length front ≤ n → front ≡ all

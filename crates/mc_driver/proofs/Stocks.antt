@@ -1,5 +1,5 @@
 -- What stocking a class and sweeping all of them leave as it was, and what a stored item finds.
-use Rattle.std.proofs.Common.{◌≡◌, ℕ, ◌+◌, ◌≤◌, List, [], ◌∷◌, ◌++◌, length, Bool, true, false, Option, Some, None, refl, ap, sym, ◌∙◌, arith, eqb}
+use Rattle.std.proofs.Common.{◌≡◌, ℕ, ◌+◌, List, [], ◌∷◌, ◌++◌, length, Bool, true, false, Option, Some, None, refl, ap, sym, ◌∙◌, arith}
 use Rattle.std.specs.Prelude.{fold, if◌then◌else◌}
 use Rattle.std.proofs.lemmas.Bool.Decides.{nat_tests}
 use Rattle.std.specs.List.{range_with_len}
@@ -7,10 +7,9 @@ use Rattle.std.proofs.lemmas.List.{length-set, map-id}
 use Rattle.std.proofs.lemmas.List.Sums.{fold-append}
 use Rattle.std.proofs.lemmas.List.FromFn.{map-range_with_len_more}
 use Rattle.mc_pages.specs.declared.ids.ChunkId.{ChunkId}
-use Rattle.mc_pages.specs.ClassState.{with_page}
 use Rattle.mc_pages.specs.SlabState.{SlabState, IsClass, class_at, untouched_page}
 use Rattle.mc_pages.specs.Changes.{after_grant}
-use Rattle.mc_driver.specs.Items.{Items, item_at, linked_chunk, unlinked_items}
+use Rattle.mc_driver.specs.Items.{Items, linked_chunk, unlinked_items}
 use Rattle.mc_driver.specs.Kept.{IsVacant}
 use Rattle.mc_driver.specs.Machine.{Machine, chunks_of, dead_chunks, swept, has_free, extended, stocked, with_new_page}
 use Rattle.mc_driver.proofs.Chunks.{places_none, places-unlinked_items, none-places}

@@ -1,5 +1,5 @@
 -- A sweep, one dead chunk after another.
-use Rattle.std.proofs.Common.{◌≡◌, ◌≢◌, ℕ, ◌+◌, ◌-◌, ◌≤◌, ◌<◌, List, [], ◌∷◌, ◌++◌, length, take, drop, get_or, zero, suc, Bool, true, false, cond, Option, Some, None, refl, ap, sym, ◌∙◌, arith}
+use Rattle.std.proofs.Common.{◌≡◌, ℕ, ◌+◌, ◌≤◌, ◌<◌, List, [], ◌∷◌, ◌++◌, length, take, drop, get_or, zero, suc, Bool, true, false, cond, Some, None, refl, ap, sym, ◌∙◌, arith}
 use Rattle.std.specs.Prelude.{fold, filter, slice_get}
 use Rattle.std.proofs.lemmas.Bool.Decides.{nat_tests}
 use Rattle.std.proofs.lemmas.List.{length-set, take-append-drop, take_more, take_all, length-append, length-take}
@@ -9,11 +9,9 @@ use Rattle.std.proofs.Math.Seq.{drop-cons, take-append_seam}
 use Rattle.std.proofs.lemmas.List.Elements.{filter-append}
 use Rattle.mc_pages.specs.declared.ids.ChunkId.{ChunkId}
 use Rattle.mc_pages.specs.ClassState.{ClassState, is_chunk, times, without, put_back}
-use Rattle.mc_pages.specs.SlabState.{SlabState, IsClass, class_at, class_of_page, class_of_chunk}
-use Rattle.mc_pages.specs.Changes.{after_back}
-use Rattle.mc_driver.specs.Item.{Item}
-use Rattle.mc_driver.specs.Items.{Items, chunk_cmp, item_at, is_dead, without_item}
-use Rattle.mc_driver.specs.Machine.{Machine, after_reclaim, dead_chunks, swept}
+use Rattle.mc_pages.specs.SlabState.{IsClass, class_at, class_of_page}
+use Rattle.mc_driver.specs.Items.{Items, item_at, is_dead, without_item}
+use Rattle.mc_driver.specs.Machine.{Machine, after_reclaim, swept}
 use Rattle.mc_pages.proofs.Chunks.{same_from_is_chunk, is_chunk-same, times-cons}
 use Rattle.mc_driver.proofs.Moves.{class_at-with_class}
 

@@ -11,5 +11,3 @@ pub mod Run
 pub mod Reading
 pub mod Kept
 pub mod Rows
-pub mod CommandLine
-pub mod Options

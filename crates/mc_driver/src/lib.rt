@@ -5,19 +5,15 @@
 //! standard streams as a run takes them.
 #![tactic(auto)]
 
-mod command_line;
 mod fault;
 mod keeper;
 mod laws;
 mod reading;
 mod run;
-mod settings;
-mod standard;
 mod text;
 
-pub use command_line::options;
 pub use fault::RunFault;
 pub use laws::worked_examples;
-pub use run::{Run, run_serial};
-pub use settings::Options;
-pub use standard::{Input, Output};
+pub use mc_options::{Options, Run, options};
+pub use mc_streams::{Input, Output};
+pub use run::run_serial;

@@ -13,18 +13,10 @@ ghost use Rattle.mc_driver.specs.Run.{IsOutcome, IsScript, IsReplyFault, IsScrip
 use crate::fault::RunFault;
 use crate::keeper::Keeper;
 use crate::reading::read_script;
-use mc_classes::{ClassTable, Config, ConfigError, Sink, Source};
+use mc_classes::{ClassTable, ConfigError, Sink, Source};
+use mc_options::Run;
 use mc_script::{Command, MAX_SCRIPT, ScriptError};
 use std::alloc::{AllocError, Global};
-
-/// What a run is started with.
-#[derive(Clone, Copy, Debug, PartialEq, Eq)]
-pub struct Run {
-    /// Sizes and limits.
-    pub config: Config,
-    /// The automover's mode: 0 is off, and there is no other yet.
-    pub automove: u64,
-}
 
 /// Reads a script and does its commands on one thread, in order. Each reply is written before the next command.
 ///

@@ -5,6 +5,7 @@
 #![tactic(auto)]
 
 ghost use Rattle.std.specs.Prelude.{◌≡◌, ◌<◌, IfOk};
+ghost use Rattle.mc_driver.specs.Status.{status_of};
 
 use mc_classes::{Failures, Fault};
 use mc_driver::{Input as Standard, Options, Output, Run, RunFault, options, run_serial};
@@ -27,6 +28,11 @@ enum Stop {
 }
 
 impl From<RunFault> for Stop {
+    ghost use Rattle.std.specs.Prelude.{◌≡◌};
+    ghost use Rattle.mcslab.specs.declared.Stop.TheVariants.{Fault};
+
+    ghost from_gives = { λ fault stop. stop ≡ Fault fault };
+
     fn from(fault: RunFault) -> Stop {
         Stop::Fault(fault)
     }
@@ -90,7 +96,9 @@ fn run(rt: &HostRuntime) -> Result<(), Stop> {
 }
 
 /// Tells on standard error what kept the run from being done, and gives the status to end with.
-fn tell(rt: &impl Eprint, fault: RunFault) -> u8 {
+fn tell(rt: &impl Eprint, fault: RunFault) -> u8
+    ensures { result ≡ status_of fault }
+{
     let _ = rt.eprintln(format_args!("mcslab: {fault}"));
     fault.status()
 }

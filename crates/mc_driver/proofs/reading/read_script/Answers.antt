@@ -1,4 +1,4 @@
-use Rattle.std.proofs.Common.{arith, ap, Ok, ◌≤◌, ◌≡◌, vec_len, length}
+use Rattle.std.proofs.Common.{arith, ap, Ok}
 use Rattle.std.proofs.lemmas.List.{length-take}
 use Rattle.mc_driver.proofs.Taken.{taken_full, taken_end, takes_more}
 use Rattle.mc_driver.proofs.reading.read_script.Goals as goal

@@ -1,4 +1,4 @@
-use Rattle.std.proofs.Common.{◌≡◌, None, ap, sym, refl}
+use Rattle.std.proofs.Common.{◌≡◌, None, ap}
 use Rattle.mc_driver.specs.Items.{item_at, linked_chunk}
 use Rattle.mc_driver.specs.Kept.{IsVacant}
 use Rattle.mc_driver.specs.Machine.{Machine}

@@ -1,6 +1,5 @@
-use Rattle.std.proofs.Common.{◌≡◌, Some, ap, sym, refl, ◌∙◌}
-use Rattle.mc_pages.specs.ClassState.{first_free}
-use Rattle.mc_pages.specs.SlabState.{SlabState, IsClass, class_at}
+use Rattle.std.proofs.Common.{◌≡◌, ap, sym, ◌∙◌}
+use Rattle.mc_pages.specs.SlabState.{IsClass}
 use Rattle.mc_driver.specs.Kept.{IsVacant}
 use Rattle.mc_driver.specs.Machine.{Machine, stocked}
 use Rattle.mc_driver.proofs.KeptChanges.{kept_pop, vacant_pop}

@@ -1,7 +1,6 @@
 use Rattle.std.proofs.Common.{◌≡◌, ap, sym, ◌∙◌, arith, length}
-use Rattle.std.specs.Prelude.{fold}
 use Rattle.std.specs.List.{range_with_len}
-use Rattle.mc_driver.specs.Machine.{Machine, swept}
+use Rattle.mc_driver.specs.Machine.{Machine}
 use Rattle.mc_driver.proofs.Stocks.{classes-sweeps, sweeps_more}
 use Rattle.mc_driver.proofs.keeper.Keeper.sweep_all.Goals as goal
 

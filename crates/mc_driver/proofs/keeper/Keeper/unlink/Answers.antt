@@ -2,7 +2,7 @@ use Rattle.std.proofs.Common.{◌≡◌, Some, sym, refl}
 use Rattle.std.specs.Ordering.{nat_cmp}
 use Rattle.std.specs.BTreeMap.{is_at}
 use Rattle.std.specs.Map.{lookup}
-use Rattle.mc_driver.specs.Items.{item_at, unlinked_in, unlinked_items}
+use Rattle.mc_driver.specs.Items.{unlinked_items}
 use Rattle.mc_driver.proofs.KeptChanges.{kept_unlink, unlinks_found, unlinks_none}
 use Rattle.mc_driver.proofs.keeper.Keeper.unlink.Goals as goal
 

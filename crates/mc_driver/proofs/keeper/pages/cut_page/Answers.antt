@@ -1,4 +1,4 @@
-use Rattle.std.proofs.Common.{◌∙◌, ap, arith, refl}
+use Rattle.std.proofs.Common.{◌∙◌, ap, arith}
 use Rattle.std.proofs.lemmas.Bool.Decides.{nat_tests}
 use Rattle.mc_pages.specs.SlabState.{SlabState}
 use Rattle.mc_driver.proofs.Cuts.{cuts_more, next_after_cut}

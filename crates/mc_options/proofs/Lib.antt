@@ -1,0 +1,6 @@
+mod OptionCut
+mod OptionDigits
+mod OptionParse
+mod OptionRows
+mod OptionTaken
+mod OptionWalk

@@ -1,0 +1,126 @@
+-- What the words of a command line ask for. A word's bytes are those of its text.
+use Rattle.std.specs.Prelude.{◌≡◌, ◌≢◌, ◌⊎◌, ℕ, ◌==◌, ◌&&◌, ◌||◌, ◌^◌, ◌<◌, ◌++◌, not, Bool, true, false, List, [], ◌∷◌, codes, length, nat_le, slice_get, if◌then◌else◌, Option, Some, None}
+use Rattle.std.specs.List.{before_first, after_first}
+use Rattle.std.specs.Str.{all_ascii_digits}
+use Rattle.std.specs.Str.Parse.{IsNumeral, digits_value, without_leading_plus}
+use Rattle.mc_classes.specs.declared.config.Config.{Config}
+use Rattle.mc_options.specs.declared.settings.Options.{Options}
+
+-- ---- the value of an option
+
+-- what follows the front of a text, where it begins so
+abbrev pub after : List ℕ → List ℕ → Option (List ℕ)
+after [] text = Some text
+after (x ∷ front) [] = None
+after (x ∷ front) (y ∷ text) = if x == y then after front text else None
+
+-- what follows `--name` in a word: nothing, so that the next word is the value; `=` (61) and the value; else it is another word
+abbrev pub value_from : Option (List ℕ) → List (List ℕ) → Option (List ℕ) → Option (List ℕ)
+value_from (Some []) rest later = slice_get rest 0
+value_from (Some (byte ∷ value)) rest later = if byte == 61 then Some value else later
+value_from None rest later = later
+
+-- the value of an option: the word behind the first `--name`, or what follows `--name=`
+abbrev pub value_of : List ℕ → List (List ℕ) → Option (List ℕ)
+value_of name [] = None
+value_of name (word ∷ rest) = value_from (after (codes "--" ++ name) word) rest (value_of name rest)
+
+-- ---- numbers
+
+-- decimal digits of a number below 2^64, perhaps behind a `+`
+abbrev pub IsNumber : List ℕ → Type 0
+IsNumber text = IsNumeral 10 (without_leading_plus text) × (digits_value 10 (without_leading_plus text) < 2 ^ 64)
+
+-- the number that a value writes, or what it is where there is no value
+abbrev pub number_or : ℕ → Option (List ℕ) → ℕ
+number_or default None = default
+number_or default (Some text) = digits_value 10 (without_leading_plus text)
+
+-- 1 to 5 decimal digits
+abbrev pub is_short_number : List ℕ → Bool
+is_short_number digits = nat_le 1 (length digits) && nat_le (length digits) 5 && all_ascii_digits digits
+
+-- the number that they write
+abbrev pub short_number_of : List ℕ → Option ℕ
+short_number_of digits = if is_short_number digits then Some (digits_value 10 digits) else None
+
+-- a slash, `/`
+abbrev pub is_slash : ℕ → Bool
+is_slash byte = byte == 47
+
+-- two such numbers with a slash between them, and 0 and 0 for any other text
+abbrev pub factor_of : List ℕ → ℕ × ℕ
+factor_of text = if is_short_number (before_first is_slash text) && is_short_number (after_first is_slash text)
+    then (digits_value 10 (before_first is_slash text), digits_value 10 (after_first is_slash text)) else (0, 0)
+
+-- the factor of a value, or 2 and 1 where there is none
+abbrev pub factor_or : Option (List ℕ) → ℕ × ℕ
+factor_or None = (2, 1)
+factor_or (Some text) = factor_of text
+
+-- ---- which words are taken
+
+-- an option with its value, as one word or as two
+pub record Choice : Type 0 where
+  pub name : List ℕ
+  pub value : List ℕ
+  pub is_joined : Bool
+
+-- `--name=value`, or `--name` and `value`
+abbrev pub written : Choice → List (List ℕ)
+written choice = if choice.is_joined then (codes "--" ++ choice.name ++ (61 ∷ choice.value)) ∷ [] else (codes "--" ++ choice.name) ∷ choice.value ∷ []
+
+abbrev pub words_of : List Choice → List (List ℕ)
+words_of [] = []
+words_of (choice ∷ rest) = written choice ++ words_of rest
+
+-- the names of the options whose value is a number
+abbrev pub IsNumberName : List ℕ → Type 0
+IsNumberName name = (name ≡ codes "page") ⊎ ((name ≡ codes "limit") ⊎ ((name ≡ codes "first") ⊎ ((name ≡ codes "max") ⊎ ((name ≡ codes "stripes") ⊎ (name ≡ codes "bulk")))))
+
+-- the option takes the value: the factor takes any
+abbrev pub TakesValue : List ℕ → List ℕ → Type 0
+TakesValue name value = (name ≡ codes "factor") ⊎ (IsNumberName name × IsNumber value)
+
+-- a hyphen (45) and more behind it
+abbrev pub is_flag : List ℕ → Bool
+is_flag [] = false
+is_flag (byte ∷ []) = false
+is_flag (byte ∷ more ∷ rest) = byte == 45
+
+-- a word of its own may be a value if it doesn't look like an option
+abbrev pub IsTaken : Choice → Type 0
+IsTaken choice = TakesValue choice.name choice.value × ((choice.is_joined || not (is_flag choice.value)) ≡ true)
+
+-- none of the choices has the name
+abbrev pub IsNewTo : List ℕ → List Choice → Type 0
+IsNewTo name [] = Unit {0}
+IsNewTo name (choice ∷ rest) = (choice.name ≢ name) × IsNewTo name rest
+
+-- each is taken, and none is named twice
+abbrev pub AreTaken : List Choice → Type 0
+AreTaken [] = Unit {0}
+AreTaken (choice ∷ rest) = IsTaken choice × IsNewTo choice.name rest × AreTaken rest
+
+-- the words are options with values that they take, none named twice
+abbrev pub IsCommandLine : List (List ℕ) → Type 0
+IsCommandLine words = (choices : List Choice) × (words ≡ words_of choices) × AreTaken choices
+
+-- ---- the options
+
+-- the configuration that the words ask for
+abbrev pub config_of : List (List ℕ) → Config
+config_of words = record {
+  page = number_or 1024 (value_of (codes "page") words);
+  limit = number_or 4096 (value_of (codes "limit") words);
+  first = number_or 48 (value_of (codes "first") words);
+  num = (factor_or (value_of (codes "factor") words)).0;
+  den = (factor_or (value_of (codes "factor") words)).1;
+  max = number_or 512 (value_of (codes "max") words);
+  stripes = number_or 4 (value_of (codes "stripes") words);
+  bulk = number_or 64 (value_of (codes "bulk") words);
+}
+
+-- what the words behind the program's name ask for
+abbrev pub options_of : List (List ℕ) → Options
+options_of words = record { run = record { config = config_of words; automove = 0 }; threads = false }

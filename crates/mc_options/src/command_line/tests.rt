@@ -1,0 +1,201 @@
+//! Command lines and what they ask for.
+
+use crate::command_line::{factor, options};
+use crate::settings::{Options, Run};
+use clap::error::ErrorKind;
+use mc_classes::Config;
+use std::process::Abort;
+use std::test::Fail;
+
+const DEFAULTS: Config = Config {
+    page: 1024,
+    limit: 4096,
+    first: 48,
+    num: 2,
+    den: 1,
+    max: 512,
+    stripes: 4,
+    bulk: 64,
+};
+
+/// What words are read as, without the program's name.
+fn config_of(rt: &(impl Abort + AllocGlobal), words: &[&str]) -> Result<Config, Fail> {
+    let options = options(rt.alloc(), words)?;
+    let config = options.run.config;
+    assert_eq!(rt;
+        options,
+        Options {
+            run: Run {
+                config,
+                automove: 0,
+            },
+            threads: false,
+        }
+    );
+    Ok(config)
+}
+
+#[test]
+fn reads_each_option(rt: HostRuntime) -> Result<(), Fail> {
+    let rows = [
+        (
+            ["--page", "2048"],
+            "--page=2048",
+            Config {
+                page: 2048,
+                ..DEFAULTS
+            },
+        ),
+        (
+            ["--limit", "65536"],
+            "--limit=65536",
+            Config {
+                limit: 65_536,
+                ..DEFAULTS
+            },
+        ),
+        (
+            ["--first", "0100"],
+            "--first=0100",
+            Config {
+                first: 100,
+                ..DEFAULTS
+            },
+        ),
+        (
+            ["--factor", "5/4"],
+            "--factor=5/4",
+            Config {
+                num: 5,
+                den: 4,
+                ..DEFAULTS
+            },
+        ),
+        (
+            ["--max", "+1024"],
+            "--max=+1024",
+            Config {
+                max: 1024,
+                ..DEFAULTS
+            },
+        ),
+        (
+            ["--stripes", "0"],
+            "--stripes=0",
+            Config {
+                stripes: 0,
+                ..DEFAULTS
+            },
+        ),
+        (
+            ["--bulk", "18446744073709551615"],
+            "--bulk=18446744073709551615",
+            Config {
+                bulk: u64::MAX,
+                ..DEFAULTS
+            },
+        ),
+    ];
+    assert_eq!(rt; config_of(&rt, &["mcslab"])?, DEFAULTS);
+    assert_eq!(rt; config_of(&rt, &["mcslab", "--"])?, DEFAULTS);
+    for ([name, value], joined, config) in rows {
+        assert_eq!(rt;
+            config_of(&rt, &["mcslab", name, value])?,
+            config,
+            "{joined}"
+        );
+        assert_eq!(rt; config_of(&rt, &["mcslab", joined])?, config, "{joined}");
+    }
+    Ok(())
+}
+
+#[test]
+fn reads_all_options(rt: HostRuntime) -> Result<(), Fail> {
+    let words = [
+        "mcslab",
+        "--bulk=8",
+        "--stripes",
+        "7",
+        "--max",
+        "6",
+        "--factor",
+        "5/4",
+        "--first=3",
+        "--limit",
+        "2",
+        "--page=1",
+    ];
+    let config = Config {
+        page: 1,
+        limit: 2,
+        first: 3,
+        num: 5,
+        den: 4,
+        max: 6,
+        stripes: 7,
+        bulk: 8,
+    };
+    assert_eq!(rt; config_of(&rt, &words)?, config);
+    Ok(())
+}
+
+#[test]
+fn reads_any_factor(rt: HostRuntime) -> Result<(), Fail> {
+    let rows = [
+        ("5/4", (5, 4)),
+        ("05/04", (5, 4)),
+        ("99999/00000", (99_999, 0)),
+        ("", (0, 0)),
+        ("5", (0, 0)),
+        ("5/", (0, 0)),
+        ("/4", (0, 0)),
+        ("5/4/3", (0, 0)),
+        ("123456/1", (0, 0)),
+        ("1/123456", (0, 0)),
+        ("a/b", (0, 0)),
+        ("5 /4", (0, 0)),
+        ("+5/4", (0, 0)),
+    ];
+    for (text, (num, den)) in rows {
+        assert_eq!(rt; factor(text), (num, den), "{text}");
+        let config = config_of(&rt, &["mcslab", "--factor", text])?;
+        assert_eq!(rt; (config.num, config.den), (num, den), "{text}");
+    }
+    Ok(())
+}
+
+/// The kind of the error that words are refused with.
+fn refusal_of(rt: &impl AllocGlobal, words: &[&str]) -> Result<Option<ErrorKind>, Fail> {
+    match options(rt.alloc(), words) {
+        Ok(_) => Ok(None),
+        Err(error) if error.kind() == ErrorKind::OutOfMemory => Err(Fail::from(error)),
+        Err(error) => Ok(Some(error.kind())),
+    }
+}
+
+#[test]
+fn refuses_other_words(rt: HostRuntime) -> Result<(), Fail> {
+    let rows: [(&[&str], ErrorKind); 11] = [
+        (&["mcslab", "--page"], ErrorKind::InvalidValue),
+        (&["mcslab", "--page", "--max", "8"], ErrorKind::InvalidValue),
+        (&["mcslab", "--page", "x"], ErrorKind::ValueValidation),
+        (&["mcslab", "--page="], ErrorKind::ValueValidation),
+        (
+            &["mcslab", "--page", "18446744073709551616"],
+            ErrorKind::ValueValidation,
+        ),
+        (&["mcslab", "--page", "-1"], ErrorKind::UnknownArgument),
+        (
+            &["mcslab", "--page", "1", "--page=2"],
+            ErrorKind::ArgumentConflict,
+        ),
+        (&["mcslab", "--bogus"], ErrorKind::UnknownArgument),
+        (&["mcslab", "stray"], ErrorKind::UnknownArgument),
+        (&["mcslab", "--", "stray"], ErrorKind::UnknownArgument),
+        (&["mcslab", "--page", "8", "--help"], ErrorKind::DisplayHelp),
+    ];
+    for (words, kind) in rows {
+        assert_eq!(rt; refusal_of(&rt, words)?, Some(kind), "{words:?}");
+    }
+    Ok(())
+}

@@ -1,0 +1,20 @@
+//! What a command line asks for.
+use mc_classes::Config;
+
+/// What a run is started with.
+#[derive(Clone, Copy, Debug, PartialEq, Eq)]
+pub struct Run {
+    /// Sizes and limits.
+    pub config: Config,
+    /// The automover's mode: 0 is off, and there is no other yet.
+    pub automove: u64,
+}
+
+/// What the words of a command line ask for.
+#[derive(Clone, Copy, Debug, PartialEq, Eq)]
+pub struct Options {
+    /// What the run is started with.
+    pub run: Run,
+    /// Whether the workers are threads.
+    pub threads: bool,
+}
