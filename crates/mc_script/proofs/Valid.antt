@@ -7,7 +7,7 @@ use Rattle.std.specs.Str.{bytes_eq}
 use Rattle.std.specs.Str.Lines.{lines}
 use Rattle.mc_script.specs.declared.command.Command.{Command}
 use Rattle.mc_script.specs.declared.command.Command.TheVariants.{Set, Reassign, Stats, StatsSlabs}
-use Rattle.mc_script.specs.Command.{IsWorker, IsValid}
+use Rattle.mc_script.specs.Command.{IsWorker, IsSource, IsValid}
 use Rattle.mc_script.specs.Forms.{◌or◌, worker_and_key_of, source_of, set_of, delete_of, get_of, hold_of, drop_of, touch_of, reassign_of, turn_of, stats_of, stats_slabs_of, command_of}
 use Rattle.mc_script.specs.Script.{is_skipped, followed_by, commands_of, script_of}
 use Rattle.mc_script.specs.Words.{◌>>=◌, words_of, number_of, number_between}
@@ -111,19 +111,19 @@ touch_valid : (words : List (List ℕ)) → IfSome (touch_of words) IsValid
 unfolding touch_of
 touch_valid words = named_then (codes "touch") words _ (λ named fit. fit)
 
--- the class of a source is a number
-source_fits : (word : List ℕ) → IfSome (source_of word) (λ src. IfSome src (λ class. class < 2 ^ 64))
+-- a source that is a number is below 2^64
+source_fits : (word : List ℕ) → IfSome (source_of word) IsSource
 source_fits word =
-    cond_both (bytes_eq word (codes "-1")) (Some None) (number_of word >>= (λ class. Some (Some class))) (λ found. IfSome found (λ src. IfSome src (λ class. class < 2 ^ 64)))
+    cond_both (bytes_eq word (codes "-1")) (Some None) (number_of word >>= (λ class. Some (Some class))) (λ found. IfSome found IsSource)
     (λ _. tt)
-    (λ _. number_then (λ src. IfSome src (λ class. class < 2 ^ 64)) word _ (λ class fits. fits))
+    (λ _. number_then IsSource word _ (λ class fits. fits))
 
 -- `reassign`
 reassign_valid : (words : List (List ℕ)) → IfSome (reassign_of words) IsValid
 unfolding reassign_of
 reassign_valid (verb ∷ src ∷ dst ∷ []) =
     form_valid (bytes_eq verb (codes "reassign")) _
-    (then_told (λ s. IfSome s (λ class. class < 2 ^ 64)) IsValid (source_of src) _ (source_fits src) (λ s src_fits. number_then IsValid dst _ (λ d dst_fits.
+    (then_told IsSource IsValid (source_of src) _ (source_fits src) (λ s src_fits. number_then IsValid dst _ (λ d dst_fits.
     let valid : IsValid (Reassign s d) = (src_fits, dst_fits) in valid)))
 reassign_valid words = tt
 

@@ -1,5 +1,5 @@
 -- What is written is read.
-use Rattle.std.proofs.Common.{◌≡◌, ℕ, ◌+◌, ◌==◌, ◌^◌, ◌<◌, ◌≤◌, false, List, [], ◌∷◌, length, get_or, codes, Option, Some, None, Ok, IfSome, All, refl, ap, sym, ◌∙◌, subst, arith}
+use Rattle.std.proofs.Common.{◌≡◌, ℕ, ◌+◌, ◌==◌, ◌^◌, ◌<◌, ◌≤◌, false, List, [], ◌∷◌, length, get_or, codes, Option, Some, None, Ok, All, refl, ap, sym, ◌∙◌, subst, arith}
 use Rattle.std.proofs.lemmas.Bool.{cond-true, cond-false, cond_both, false_from_ne_true, ne_eqb, and_from, le-leb}
 use Rattle.std.proofs.lemmas.Fmt.{decimal_nonempty, digits_decimal, digits_value-decimal, length-decimal-le}
 use Rattle.std.proofs.lemmas.Grind.{get_or_default_zero}
@@ -12,7 +12,7 @@ use Rattle.std.specs.Str.{bytes_eq}
 use Rattle.std.specs.Str.Lines.{lines}
 use Rattle.mc_script.specs.declared.command.Command.{Command}
 use Rattle.mc_script.specs.declared.command.Command.TheVariants.{Set, Delete, Get, Hold, Drop, Touch, Reassign, Turn, Stats, StatsSlabs}
-use Rattle.mc_script.specs.Command.{IsWorker, IsValid}
+use Rattle.mc_script.specs.Command.{IsWorker, IsSource, IsValid}
 use Rattle.mc_script.specs.Forms.{◌or◌, worker_and_key_of, source_of, set_of, delete_of, get_of, hold_of, drop_of, touch_of, reassign_of, turn_of, stats_of, stats_slabs_of, command_of}
 use Rattle.mc_script.specs.Script.{commands_of, followed_by, is_skipped, number_sign, script_of}
 use Rattle.mc_script.specs.Words.{◌>>=◌, number_of, number_between}
@@ -53,7 +53,7 @@ named_plain : (verb : List ℕ) (worker key : ℕ) → IsPlain verb → IsWorker
 named_plain verb worker key plain is_worker fits = (decimal_plain worker (omega (arith, is_worker.1)), (plain, (decimal_plain key fits, tt)))
 
 -- the word of a source is plain
-source_plain : (src : Option ℕ) → IfSome src (λ class. class < 2 ^ 64) → IsPlain (source_word src)
+source_plain : (src : Option ℕ) → IsSource src → IsPlain (source_word src)
 source_plain None fits = text_plain (codes "-1") refl
 source_plain (Some class) fits = decimal_plain class fits
 
@@ -109,7 +109,7 @@ no_minus n h =
     omega (arith, byte, (digits_of_decimal n h 0 0 (decimal_nonempty n h)).0))
 
 -- the word of a source is read as it
-source_again : (src : Option ℕ) → IfSome src (λ class. class < 2 ^ 64) → source_of (source_word src) ≡ Some src
+source_again : (src : Option ℕ) → IsSource src → source_of (source_word src) ≡ Some src
 source_again None fits = refl
 source_again (Some class) fits = cond-false _ _ _ (no_minus class fits) ∙ then_some _ _ class (number_again class fits)
 
@@ -121,7 +121,7 @@ named_again verb worker key is_worker fits =
     ∙ then_some _ _ worker (between_again 1 63 worker is_worker.0 is_worker.1 (omega (arith, is_worker.1)))
     ∙ then_some _ _ key (number_again key fits)
 
--- `reassign` is no worker
+-- `reassign` names no worker
 not_named : (verb src dst : List ℕ) → worker_and_key_of verb (codes "reassign" ∷ src ∷ dst ∷ []) ≡ None
 unfolding worker_and_key_of
 not_named verb src dst = cond_both (bytes_eq src verb) None None (λ found. found ≡ None) (λ _. refl) (λ _. refl)
@@ -149,8 +149,8 @@ command_again (Hold worker key) valid = first_again _ _ _ (then_some _ _ (worker
 command_again (Drop worker key) valid = first_again _ _ _ (then_some _ _ (worker, key) (named_again (codes "drop") worker key valid.0 valid.1))
 command_again (Touch worker key) valid = first_again _ _ _ (then_some _ _ (worker, key) (named_again (codes "touch") worker key valid.0 valid.1))
 command_again (Reassign src dst) valid =
-    next_again _ _ _ _ (not_named (codes "del") (source_word src) (decimal dst)) (next_again _ _ _ _ (not_named (codes "get") (source_word src) (decimal dst)) (next_again _ _ _ _ (not_named (codes "hold") (source_word src) (decimal dst))
-    (next_again _ _ _ _ (not_named (codes "drop") (source_word src) (decimal dst)) (next_again _ _ _ _ (not_named (codes "touch") (source_word src) (decimal dst))
+    let none = λ (verb : List ℕ). not_named verb (source_word src) (decimal dst) in
+    next_again _ _ _ _ (none (codes "del")) (next_again _ _ _ _ (none (codes "get")) (next_again _ _ _ _ (none (codes "hold")) (next_again _ _ _ _ (none (codes "drop")) (next_again _ _ _ _ (none (codes "touch"))
     (first_again _ _ _ (then_some _ _ src (source_again src valid.0) ∙ then_some _ _ dst (number_again dst valid.1)))))))
 command_again (Turn turns) valid = first_again _ _ _ (then_some _ _ turns (between_again 1 1000000 turns valid.0 valid.1 (omega (arith, valid.1))))
 command_again Stats valid = refl
