@@ -1,6 +1,7 @@
 mod Digits
 mod FirstLine
 mod FirstWord
+mod Plain
 mod Told
 mod Valid
 mod Written

@@ -6,9 +6,9 @@ use Rattle.std.specs.List.{AllByRecursion}
 use Rattle.std.specs.Str.{bytes_eq}
 use Rattle.std.specs.Str.Lines.{lines}
 use Rattle.mc_script.specs.declared.command.Command.{Command}
-use Rattle.mc_script.specs.declared.command.Command.TheVariants.{Set, Delete, StatsSlabs}
-use Rattle.mc_script.specs.Command.{IsValid}
-use Rattle.mc_script.specs.Forms.{◌or◌, set_of, delete_of, stats_slabs_of, command_of}
+use Rattle.mc_script.specs.declared.command.Command.TheVariants.{Set, Reassign, Stats, StatsSlabs}
+use Rattle.mc_script.specs.Command.{IsWorker, IsSource, IsValid}
+use Rattle.mc_script.specs.Forms.{◌or◌, worker_and_key_of, source_of, set_of, delete_of, get_of, hold_of, drop_of, touch_of, reassign_of, turn_of, stats_of, stats_slabs_of, command_of}
 use Rattle.mc_script.specs.Script.{is_skipped, followed_by, commands_of, script_of}
 use Rattle.mc_script.specs.Words.{◌>>=◌, words_of, number_of, number_between}
 use Rattle.mc_script.proofs.Digits.{number_parts}
@@ -50,12 +50,30 @@ form_valid : (test : Bool) (form : Option Command) → IfSome form IsValid → I
 form_valid test form h = when_told IsValid test form (λ _. h)
 
 -- after a number
-number_then : (word : List ℕ) (next : ℕ → Option Command) → ((n : ℕ) → n < 2 ^ 64 → IfSome (next n) IsValid) → IfSome (number_of word >>= next) IsValid
-number_then word next h = then_told (λ n. n < 2 ^ 64) IsValid (number_of word) next (number_fits word) h
+number_then : {A : Type 0} (P : A → Type 0) (word : List ℕ) (next : ℕ → Option A) → ((n : ℕ) → n < 2 ^ 64 → IfSome (next n) P) → IfSome (number_of word >>= next) P
+number_then P word next h = then_told (λ n. n < 2 ^ 64) P (number_of word) next (number_fits word) h
 
 -- after a number with limits
-between_then : (low high : ℕ) (word : List ℕ) (next : ℕ → Option Command) → ((n : ℕ) → (low ≤ n) × (n ≤ high) → IfSome (next n) IsValid) → IfSome (number_between low high word >>= next) IsValid
-between_then low high word next h = then_told (λ n. (low ≤ n) × (n ≤ high)) IsValid (number_between low high word) next (between_fits low high word) h
+between_then : {A : Type 0} (P : A → Type 0) (low high : ℕ) (word : List ℕ) (next : ℕ → Option A) → ((n : ℕ) → (low ≤ n) × (n ≤ high) → IfSome (next n) P) → IfSome (number_between low high word >>= next) P
+between_then P low high word next h = then_told (λ n. (low ≤ n) × (n ≤ high)) P (number_between low high word) next (between_fits low high word) h
+
+-- ---- a worker and a key
+
+-- a worker's number, and a key below 2^64
+abbrev IsNamed : ℕ × ℕ → Type 0
+IsNamed named = IsWorker named.0 × (named.1 < 2 ^ 64)
+
+-- a worker and a key are within their limits
+named_fit : (verb : List ℕ) (words : List (List ℕ)) → IfSome (worker_and_key_of verb words) IsNamed
+unfolding worker_and_key_of
+named_fit verb (worker ∷ word ∷ key ∷ []) =
+    when_told IsNamed (bytes_eq word verb) _ (λ _.
+    between_then IsNamed 1 63 worker _ (λ w is_worker. number_then IsNamed key _ (λ k key_fits. (is_worker, key_fits))))
+named_fit verb words = tt
+
+-- after a worker and a key
+named_then : (verb : List ℕ) (words : List (List ℕ)) (next : ℕ × ℕ → Option Command) → ((named : ℕ × ℕ) → IsNamed named → IfSome (next named) IsValid) → IfSome (worker_and_key_of verb words >>= next) IsValid
+named_then verb words next h = then_told IsNamed IsValid (worker_and_key_of verb words) next (named_fit verb words) h
 
 -- ---- the forms
 
@@ -64,18 +82,62 @@ set_valid : (words : List (List ℕ)) → IfSome (set_of words) IsValid
 unfolding set_of
 set_valid (worker ∷ verb ∷ key ∷ words ∷ base ∷ []) =
     form_valid (bytes_eq verb (codes "set")) _
-    (between_then 1 63 worker _ (λ w is_worker. number_then key _ (λ k key_fits. between_then 0 4096 words _ (λ n few. number_then base _ (λ b base_fits.
+    (between_then IsValid 1 63 worker _ (λ w is_worker. number_then IsValid key _ (λ k key_fits. between_then IsValid 0 4096 words _ (λ n few. number_then IsValid base _ (λ b base_fits.
     let valid : IsValid (Set w k n b) = (is_worker, key_fits, few.1, base_fits) in valid)))))
 set_valid words = tt
 
 -- `del`
 delete_valid : (words : List (List ℕ)) → IfSome (delete_of words) IsValid
 unfolding delete_of
-delete_valid (worker ∷ verb ∷ key ∷ []) =
-    form_valid (bytes_eq verb (codes "del")) _
-    (between_then 1 63 worker _ (λ w is_worker. number_then key _ (λ k key_fits.
-    let valid : IsValid (Delete w k) = (is_worker, key_fits) in valid)))
-delete_valid words = tt
+delete_valid words = named_then (codes "del") words _ (λ named fit. fit)
+
+-- `get`
+get_valid : (words : List (List ℕ)) → IfSome (get_of words) IsValid
+unfolding get_of
+get_valid words = named_then (codes "get") words _ (λ named fit. fit)
+
+-- `hold`
+hold_valid : (words : List (List ℕ)) → IfSome (hold_of words) IsValid
+unfolding hold_of
+hold_valid words = named_then (codes "hold") words _ (λ named fit. fit)
+
+-- `drop`
+drop_valid : (words : List (List ℕ)) → IfSome (drop_of words) IsValid
+unfolding drop_of
+drop_valid words = named_then (codes "drop") words _ (λ named fit. fit)
+
+-- `touch`
+touch_valid : (words : List (List ℕ)) → IfSome (touch_of words) IsValid
+unfolding touch_of
+touch_valid words = named_then (codes "touch") words _ (λ named fit. fit)
+
+-- a source that is a number is below 2^64
+source_fits : (word : List ℕ) → IfSome (source_of word) IsSource
+source_fits word =
+    cond_both (bytes_eq word (codes "-1")) (Some None) (number_of word >>= (λ class. Some (Some class))) (λ found. IfSome found IsSource)
+    (λ _. tt)
+    (λ _. number_then IsSource word _ (λ class fits. fits))
+
+-- `reassign`
+reassign_valid : (words : List (List ℕ)) → IfSome (reassign_of words) IsValid
+unfolding reassign_of
+reassign_valid (verb ∷ src ∷ dst ∷ []) =
+    form_valid (bytes_eq verb (codes "reassign")) _
+    (then_told IsSource IsValid (source_of src) _ (source_fits src) (λ s src_fits. number_then IsValid dst _ (λ d dst_fits.
+    let valid : IsValid (Reassign s d) = (src_fits, dst_fits) in valid)))
+reassign_valid words = tt
+
+-- `turn`
+turn_valid : (words : List (List ℕ)) → IfSome (turn_of words) IsValid
+unfolding turn_of
+turn_valid (verb ∷ turns ∷ []) = form_valid (bytes_eq verb (codes "turn")) _ (between_then IsValid 1 1000000 turns _ (λ n within. within))
+turn_valid words = tt
+
+-- `stats`
+stats_valid : (words : List (List ℕ)) → IfSome (stats_of words) IsValid
+unfolding stats_of
+stats_valid (verb ∷ []) = form_valid (bytes_eq verb (codes "stats")) (Some Stats) tt
+stats_valid words = tt
 
 -- `stats slabs`
 stats_slabs_valid : (words : List (List ℕ)) → IfSome (stats_slabs_of words) IsValid
@@ -86,7 +148,9 @@ stats_slabs_valid words = tt
 -- all forms
 command_valid : (words : List (List ℕ)) → IfSome (command_of words) IsValid
 unfolding command_of
-command_valid words = or_told _ _ (set_valid words) (or_told _ _ (delete_valid words) (stats_slabs_valid words))
+command_valid words =
+    or_told _ _ (set_valid words) (or_told _ _ (delete_valid words) (or_told _ _ (get_valid words) (or_told _ _ (hold_valid words) (or_told _ _ (drop_valid words) (or_told _ _ (touch_valid words)
+    (or_told _ _ (reassign_valid words) (or_told _ _ (turn_valid words) (or_told _ _ (stats_valid words) (stats_slabs_valid words)))))))))
 
 -- ---- the lines
 

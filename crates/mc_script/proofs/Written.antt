@@ -1,76 +1,24 @@
 -- What is written is read.
-use Rattle.std.proofs.Common.{◌≡◌, ℕ, ◌+◌, ◌-◌, ◌==◌, ◌^◌, ◌<◌, ◌≤◌, false, not, List, [], ◌∷◌, ◌++◌, length, get_or, filter, codes, Option, Some, None, Ok, All, refl, ap, sym, ◌∙◌, subst, append_assoc, arith, ⊎_elim}
-use Rattle.std.proofs.lemmas.Bool.{cases_lt, cond-true, cond-false, ne_eqb, and_from, le-leb}
+use Rattle.std.proofs.Common.{◌≡◌, ℕ, ◌+◌, ◌==◌, ◌^◌, ◌<◌, ◌≤◌, false, List, [], ◌∷◌, length, get_or, codes, Option, Some, None, Ok, All, refl, ap, sym, ◌∙◌, subst, arith}
+use Rattle.std.proofs.lemmas.Bool.{cond-true, cond-false, cond_both, false_from_ne_true, ne_eqb, and_from, le-leb}
 use Rattle.std.proofs.lemmas.Fmt.{decimal_nonempty, digits_decimal, digits_value-decimal, length-decimal-le}
 use Rattle.std.proofs.lemmas.Grind.{get_or_default_zero}
-use Rattle.std.proofs.lemmas.List.{get_or_past}
-use Rattle.std.proofs.lemmas.List.Elements.{All-append, All-cons, All-nil, All-from_recursion, recursion_from_All}
-use Rattle.std.proofs.lemmas.List.Splits.{slice_split_at, slice_split_none}
+use Rattle.std.proofs.lemmas.List.Elements.{recursion_from_All}
+use Rattle.std.proofs.lemmas.Slice.Eq.{bytes_eq-Decides}
 use Rattle.std.proofs.lemmas.Str.Parse.{digit_at}
 use Rattle.std.specs.Fmt.{decimal}
-use Rattle.std.specs.List.{AllByRecursion, flat_map, join_with_byte, slice_split}
-use Rattle.std.specs.Str.Lines.{lines, lines_of_parts, strip_carriage_return}
+use Rattle.std.specs.List.{AllByRecursion, flat_map, join_with_byte}
+use Rattle.std.specs.Str.{bytes_eq}
+use Rattle.std.specs.Str.Lines.{lines}
 use Rattle.mc_script.specs.declared.command.Command.{Command}
-use Rattle.mc_script.specs.declared.command.Command.TheVariants.{Set, Delete, StatsSlabs}
-use Rattle.mc_script.specs.Command.{IsValid}
-use Rattle.mc_script.specs.Forms.{◌or◌, set_of, delete_of, stats_slabs_of, command_of}
+use Rattle.mc_script.specs.declared.command.Command.TheVariants.{Set, Delete, Get, Hold, Drop, Touch, Reassign, Turn, Stats, StatsSlabs}
+use Rattle.mc_script.specs.Command.{IsWorker, IsSource, IsValid}
+use Rattle.mc_script.specs.Forms.{◌or◌, worker_and_key_of, source_of, set_of, delete_of, get_of, hold_of, drop_of, touch_of, reassign_of, turn_of, stats_of, stats_slabs_of, command_of}
 use Rattle.mc_script.specs.Script.{commands_of, followed_by, is_skipped, number_sign, script_of}
-use Rattle.mc_script.specs.Words.{◌>>=◌, words_of, number_of, number_between}
-use Rattle.mc_script.specs.Written.{words_for, text_of}
+use Rattle.mc_script.specs.Words.{◌>>=◌, number_of, number_between}
+use Rattle.mc_script.specs.Written.{source_word, words_for, text_of}
 use Rattle.mc_script.proofs.Digits.{own, number_from_parts}
-use Rattle.mc_script.proofs.FirstLine.{more_lines, parts_exist}
-
--- a word with no space, no LF and no CR in it
-abbrev IsPlain : List ℕ → Type 0
-IsPlain word = (0 < length word) × All (λ byte. 32 < byte) word
-
--- ---- the words of a line
-
--- words joined by spaces are split into themselves
-words_split : (word : List ℕ) (words : List (List ℕ)) → AllByRecursion IsPlain (word ∷ words) → slice_split (λ byte. byte == 32) (join_with_byte 32 (word ∷ words)) ≡ word ∷ words
-words_split word [] plain = slice_split_none (λ byte. byte == 32) word (λ k d lt. ne_eqb _ 32 (λ e. omega (arith, plain.0.1 k d lt)))
-words_split word (next ∷ words) plain =
-    slice_split_at (λ byte. byte == 32) word 32 (join_with_byte 32 (next ∷ words)) (λ k d lt. ne_eqb _ 32 (λ e. omega (arith, plain.0.1 k d lt))) refl
-    ∙ ap (λ (others : List (List ℕ)). word ∷ others) (words_split next words plain.1)
-
--- no plain word is left out
-none_empty : (words : List (List ℕ)) → AllByRecursion IsPlain words → filter (λ word. not (length word == 0)) words ≡ words
-none_empty [] plain = refl
-none_empty (word ∷ words) plain =
-    cond-true (not (length word == 0)) (word ∷ filter (λ w. not (length w == 0)) words) (filter (λ w. not (length w == 0)) words) (ap not (ne_eqb (length word) 0 (λ e. omega (arith, plain.0.0))))
-    ∙ ap (λ (others : List (List ℕ)). word ∷ others) (none_empty words plain.1)
-
--- the words of a line that they were joined to
-words_again : (words : List (List ℕ)) → AllByRecursion IsPlain words → 0 < length words → words_of (join_with_byte 32 words) ≡ words
-words_again [] plain some = absurd (omega arith)
-words_again (word ∷ words) plain some = ap (filter (λ w. not (length w == 0))) (words_split word words plain) ∙ none_empty (word ∷ words) plain
-
--- ---- the lines of a script
-
--- such a line has no LF and no CR
-line_plain : (words : List (List ℕ)) → AllByRecursion IsPlain words → All (λ byte. 31 < byte) (join_with_byte 32 words)
-line_plain [] plain = All-nil (λ byte. 31 < byte)
-line_plain (word ∷ []) plain = λ k d lt. omega (arith, plain.0.1 k d lt)
-line_plain (word ∷ next ∷ words) plain =
-    All-append (λ byte. 31 < byte) word (32 ∷ join_with_byte 32 (next ∷ words)) (λ k d lt. omega (arith, plain.0.1 k d lt))
-    (All-cons (λ byte. 31 < byte) 32 (join_with_byte 32 (next ∷ words)) (omega arith) (line_plain (next ∷ words) plain.1))
-
--- so it loses none at its end
-no_carriage_return : (text : List ℕ) → All (λ byte. 31 < byte) text → strip_carriage_return text ≡ text
-no_carriage_return text plain =
-    cond-false _ _ _ (ne_eqb (get_or text (length text - 1) 0) 13
-    (⊎_elim
-    (λ (some : 0 < length text) (e : get_or text (length text - 1) 0 ≡ 13). omega (arith, plain (length text - 1) 0 (omega arith)))
-    (λ (none : length text ≤ 0) (e : get_or text (length text - 1) 0 ≡ 13). omega (arith, get_or_past text (length text - 1) 0 (omega arith)))
-    (cases_lt 0 (length text))))
-
--- it is the first line, with LF behind it
-lines_again : (text rest : List ℕ) → All (λ byte. 31 < byte) text → lines ((text ++ 10 ∷ []) ++ rest) ≡ text ∷ lines rest
-lines_again text rest plain =
-    ap lines (append_assoc text (10 ∷ []) rest)
-    ∙ ap lines_of_parts (slice_split_at (λ byte. byte == 10) text 10 rest (λ k d lt. ne_eqb _ 10 (λ e. omega (arith, plain k d lt))) refl)
-    ∙ more_lines text _ (parts_exist rest)
-    ∙ ap (λ (line : List ℕ). line ∷ lines rest) (no_carriage_return text plain)
+use Rattle.mc_script.proofs.Plain.{IsPlain, text_plain, words_again, line_plain, lines_again}
 
 -- ---- numbers
 
@@ -100,23 +48,40 @@ between_again low high n above below h = then_some _ _ n (number_again n h) ∙ 
 
 -- ---- the forms
 
--- a text is plain if each byte is above a space
-text_plain : (text : List ℕ) → 0 < length text → AllByRecursion (λ byte. 32 < byte) text → IsPlain text
-text_plain text some plain = (some, All-from_recursion (λ byte. 32 < byte) text plain)
+-- a worker, a plain verb and a key are plain
+named_plain : (verb : List ℕ) (worker key : ℕ) → IsPlain verb → IsWorker worker → key < 2 ^ 64 → AllByRecursion IsPlain (decimal worker ∷ verb ∷ decimal key ∷ [])
+named_plain verb worker key plain is_worker fits = (decimal_plain worker (omega (arith, is_worker.1)), (plain, (decimal_plain key fits, tt)))
+
+-- the word of a source is plain
+source_plain : (src : Option ℕ) → IsSource src → IsPlain (source_word src)
+source_plain None fits = text_plain (codes "-1") refl
+source_plain (Some class) fits = decimal_plain class fits
 
 -- all words of a command are plain
 words_plain : (command : Command) → IsValid command → AllByRecursion IsPlain (words_for command)
 words_plain (Set worker key words base) valid =
-    (decimal_plain worker (omega (arith, valid.0.1)), (text_plain (codes "set") (omega arith) (omega arith, (omega arith, (omega arith, tt))), (decimal_plain key valid.1, (decimal_plain words (omega (arith, valid.2)), (decimal_plain base valid.3, tt)))))
-words_plain (Delete worker key) valid =
-    (decimal_plain worker (omega (arith, valid.0.1)), (text_plain (codes "del") (omega arith) (omega arith, (omega arith, (omega arith, tt))), (decimal_plain key valid.1, tt)))
-words_plain StatsSlabs valid =
-    (text_plain (codes "stats") (omega arith) (omega arith, (omega arith, (omega arith, (omega arith, (omega arith, tt))))), (text_plain (codes "slabs") (omega arith) (omega arith, (omega arith, (omega arith, (omega arith, (omega arith, tt))))), tt))
+    (decimal_plain worker (omega (arith, valid.0.1)), (text_plain (codes "set") refl, (decimal_plain key valid.1, (decimal_plain words (omega (arith, valid.2)), (decimal_plain base valid.3, tt)))))
+words_plain (Delete worker key) valid = named_plain (codes "del") worker key (text_plain (codes "del") refl) valid.0 valid.1
+words_plain (Get worker key) valid = named_plain (codes "get") worker key (text_plain (codes "get") refl) valid.0 valid.1
+words_plain (Hold worker key) valid = named_plain (codes "hold") worker key (text_plain (codes "hold") refl) valid.0 valid.1
+words_plain (Drop worker key) valid = named_plain (codes "drop") worker key (text_plain (codes "drop") refl) valid.0 valid.1
+words_plain (Touch worker key) valid = named_plain (codes "touch") worker key (text_plain (codes "touch") refl) valid.0 valid.1
+words_plain (Reassign src dst) valid = (text_plain (codes "reassign") refl, (source_plain src valid.0, (decimal_plain dst valid.1, tt)))
+words_plain (Turn turns) valid = (text_plain (codes "turn") refl, (decimal_plain turns (omega (arith, valid.1)), tt))
+words_plain Stats valid = (text_plain (codes "stats") refl, tt)
+words_plain StatsSlabs valid = (text_plain (codes "stats") refl, (text_plain (codes "slabs") refl, tt))
 
 -- a command has a word
 words_exist : (command : Command) → 0 < length (words_for command)
 words_exist (Set worker key words base) = omega arith
 words_exist (Delete worker key) = omega arith
+words_exist (Get worker key) = omega arith
+words_exist (Hold worker key) = omega arith
+words_exist (Drop worker key) = omega arith
+words_exist (Touch worker key) = omega arith
+words_exist (Reassign src dst) = omega arith
+words_exist (Turn turns) = omega arith
+words_exist Stats = omega arith
 words_exist StatsSlabs = omega arith
 
 -- a decimal is no comment
@@ -127,21 +92,68 @@ begins_with_digit n h = ne_eqb (get_or (decimal n) 0 0) 35 (λ e. omega (arith, 
 not_skipped : (command : Command) → IsValid command → is_skipped (words_for command) ≡ false
 not_skipped (Set worker key words base) valid = begins_with_digit worker (omega (arith, valid.0.1))
 not_skipped (Delete worker key) valid = begins_with_digit worker (omega (arith, valid.0.1))
+not_skipped (Get worker key) valid = begins_with_digit worker (omega (arith, valid.0.1))
+not_skipped (Hold worker key) valid = begins_with_digit worker (omega (arith, valid.0.1))
+not_skipped (Drop worker key) valid = begins_with_digit worker (omega (arith, valid.0.1))
+not_skipped (Touch worker key) valid = begins_with_digit worker (omega (arith, valid.0.1))
+not_skipped (Reassign src dst) valid = refl
+not_skipped (Turn turns) valid = refl
+not_skipped Stats valid = refl
 not_skipped StatsSlabs valid = refl
+
+-- a decimal isn't `-1`
+no_minus : (n : ℕ) → n < 2 ^ 64 → bytes_eq (decimal n) (codes "-1") ≡ false
+no_minus n h =
+    false_from_ne_true _ (λ same.
+    let byte = ap (λ (word : List ℕ). get_or word 0 0) ((bytes_eq-Decides (decimal n) (codes "-1")).0 same) in
+    omega (arith, byte, (digits_of_decimal n h 0 0 (decimal_nonempty n h)).0))
+
+-- the word of a source is read as it
+source_again : (src : Option ℕ) → IsSource src → source_of (source_word src) ≡ Some src
+source_again None fits = refl
+source_again (Some class) fits = cond-false _ _ _ (no_minus class fits) ∙ then_some _ _ class (number_again class fits)
+
+-- a worker and a key are read as they are
+named_again : (verb : List ℕ) (worker key : ℕ) → IsWorker worker → key < 2 ^ 64 → worker_and_key_of verb (decimal worker ∷ verb ∷ decimal key ∷ []) ≡ Some (worker, key)
+unfolding worker_and_key_of
+named_again verb worker key is_worker fits =
+    cond-true _ _ _ ((bytes_eq-Decides verb verb).1 refl)
+    ∙ then_some _ _ worker (between_again 1 63 worker is_worker.0 is_worker.1 (omega (arith, is_worker.1)))
+    ∙ then_some _ _ key (number_again key fits)
+
+-- `reassign` names no worker
+not_named : (verb src dst : List ℕ) → worker_and_key_of verb (codes "reassign" ∷ src ∷ dst ∷ []) ≡ None
+unfolding worker_and_key_of
+not_named verb src dst = cond_both (bytes_eq src verb) None None (λ found. found ≡ None) (λ _. refl) (λ _. refl)
+
+-- the first form has it
+first_again : (one other : Option Command) (command : Command) → one ≡ Some command → (one or other) ≡ Some command
+first_again one other command e = ap (λ (o : Option Command). o or other) e
+
+-- a form that needs a worker hasn't it
+next_again : (found : Option (ℕ × ℕ)) (next : ℕ × ℕ → Option Command) (other : Option Command) (command : Command) → found ≡ None → other ≡ Some command → ((found >>= next) or other) ≡ Some command
+next_again found next other command none e = ap (λ (o : Option (ℕ × ℕ)). (o >>= next) or other) none ∙ e
 
 -- the words of a command are read as it
 command_again : (command : Command) → IsValid command → command_of (words_for command) ≡ Some command
-unfolding command_of set_of delete_of stats_slabs_of
+unfolding command_of worker_and_key_of set_of delete_of get_of hold_of drop_of touch_of reassign_of turn_of stats_of stats_slabs_of
 command_again (Set worker key words base) valid =
-    ap (λ (o : Option Command). o or (None or None))
+    first_again _ _ _
     (then_some _ _ worker (between_again 1 63 worker valid.0.0 valid.0.1 (omega (arith, valid.0.1)))
     ∙ then_some _ _ key (number_again key valid.1)
     ∙ then_some _ _ words (between_again 0 4096 words (omega arith) valid.2 (omega (arith, valid.2)))
     ∙ then_some _ _ base (number_again base valid.3))
-command_again (Delete worker key) valid =
-    ap (λ (o : Option Command). o or None)
-    (then_some _ _ worker (between_again 1 63 worker valid.0.0 valid.0.1 (omega (arith, valid.0.1)))
-    ∙ then_some _ _ key (number_again key valid.1))
+command_again (Delete worker key) valid = first_again _ _ _ (then_some _ _ (worker, key) (named_again (codes "del") worker key valid.0 valid.1))
+command_again (Get worker key) valid = first_again _ _ _ (then_some _ _ (worker, key) (named_again (codes "get") worker key valid.0 valid.1))
+command_again (Hold worker key) valid = first_again _ _ _ (then_some _ _ (worker, key) (named_again (codes "hold") worker key valid.0 valid.1))
+command_again (Drop worker key) valid = first_again _ _ _ (then_some _ _ (worker, key) (named_again (codes "drop") worker key valid.0 valid.1))
+command_again (Touch worker key) valid = first_again _ _ _ (then_some _ _ (worker, key) (named_again (codes "touch") worker key valid.0 valid.1))
+command_again (Reassign src dst) valid =
+    let none = λ (verb : List ℕ). not_named verb (source_word src) (decimal dst) in
+    next_again _ _ _ _ (none (codes "del")) (next_again _ _ _ _ (none (codes "get")) (next_again _ _ _ _ (none (codes "hold")) (next_again _ _ _ _ (none (codes "drop")) (next_again _ _ _ _ (none (codes "touch"))
+    (first_again _ _ _ (then_some _ _ src (source_again src valid.0) ∙ then_some _ _ dst (number_again dst valid.1)))))))
+command_again (Turn turns) valid = first_again _ _ _ (then_some _ _ turns (between_again 1 1000000 turns valid.0 valid.1 (omega (arith, valid.1))))
+command_again Stats valid = refl
 command_again StatsSlabs valid = refl
 
 -- ---- one command, and all

@@ -3,7 +3,7 @@ use Rattle.std.specs.Prelude.{ℕ, ◌&&◌, codes, if◌then◌else◌, List, [
 use Rattle.std.specs.Option.{option_or}
 use Rattle.std.specs.Str.{bytes_eq}
 use Rattle.mc_script.specs.declared.command.Command.{Command}
-use Rattle.mc_script.specs.declared.command.Command.TheVariants.{Set, Delete, StatsSlabs}
+use Rattle.mc_script.specs.declared.command.Command.TheVariants.{Set, Delete, Get, Hold, Drop, Touch, Reassign, Turn, Stats, StatsSlabs}
 use Rattle.mc_script.specs.Words.{◌>>=◌, number_of, number_between}
 
 -- a worker's number is from 1 to 63
@@ -22,15 +22,75 @@ set_of (worker ∷ verb ∷ key ∷ words ∷ base ∷ []) =
     else None
 set_of words = None
 
--- `<worker> del <key>`
-unfoldable pub delete_of : List (List ℕ) → Option Command
-delete_of (worker ∷ verb ∷ key ∷ []) =
-    if bytes_eq verb (codes "del") then (do
+-- the worker and the key of `<worker> <verb> <key>`
+unfoldable pub worker_and_key_of : List ℕ → List (List ℕ) → Option (ℕ × ℕ)
+worker_and_key_of verb (worker ∷ word ∷ key ∷ []) =
+    if bytes_eq word verb then (do
       w ← worker_of worker
       k ← number_of key
-      Some (Delete w k))
+      Some (w, k))
     else None
-delete_of words = None
+worker_and_key_of verb words = None
+
+-- `<worker> del <key>`
+unfoldable pub delete_of : List (List ℕ) → Option Command
+delete_of words = do
+  named ← worker_and_key_of (codes "del") words
+  Some (Delete named.0 named.1)
+
+-- `<worker> get <key>`
+unfoldable pub get_of : List (List ℕ) → Option Command
+get_of words = do
+  named ← worker_and_key_of (codes "get") words
+  Some (Get named.0 named.1)
+
+-- `<worker> hold <key>`
+unfoldable pub hold_of : List (List ℕ) → Option Command
+hold_of words = do
+  named ← worker_and_key_of (codes "hold") words
+  Some (Hold named.0 named.1)
+
+-- `<worker> drop <key>`
+unfoldable pub drop_of : List (List ℕ) → Option Command
+drop_of words = do
+  named ← worker_and_key_of (codes "drop") words
+  Some (Drop named.0 named.1)
+
+-- `<worker> touch <key>`
+unfoldable pub touch_of : List (List ℕ) → Option Command
+touch_of words = do
+  named ← worker_and_key_of (codes "touch") words
+  Some (Touch named.0 named.1)
+
+-- a source is `-1`, which is none, or a number
+abbrev pub source_of : List ℕ → Option (Option ℕ)
+source_of word = if bytes_eq word (codes "-1") then Some None else (do
+  class ← number_of word
+  Some (Some class))
+
+-- `reassign <src> <dst>`
+unfoldable pub reassign_of : List (List ℕ) → Option Command
+reassign_of (verb ∷ src ∷ dst ∷ []) =
+    if bytes_eq verb (codes "reassign") then (do
+      s ← source_of src
+      d ← number_of dst
+      Some (Reassign s d))
+    else None
+reassign_of words = None
+
+-- `turn <n>`
+unfoldable pub turn_of : List (List ℕ) → Option Command
+turn_of (verb ∷ turns ∷ []) =
+    if bytes_eq verb (codes "turn") then (do
+      n ← number_between 1 1000000 turns
+      Some (Turn n))
+    else None
+turn_of words = None
+
+-- `stats`
+unfoldable pub stats_of : List (List ℕ) → Option Command
+stats_of (verb ∷ []) = if bytes_eq verb (codes "stats") then Some Stats else None
+stats_of words = None
 
 -- `stats slabs`
 unfoldable pub stats_slabs_of : List (List ℕ) → Option Command
@@ -44,4 +104,5 @@ one or other = option_or one other
 
 -- the command that these words write, in the one form that they have
 unfoldable pub command_of : List (List ℕ) → Option Command
-command_of words = set_of words or delete_of words or stats_slabs_of words
+command_of words =
+    set_of words or delete_of words or get_of words or hold_of words or drop_of words or touch_of words or reassign_of words or turn_of words or stats_of words or stats_slabs_of words

@@ -1,6 +1,6 @@
 //! The commands of a script.
 
-/// What a line asks for. Workers are numbered from 1 to 63, and keys and bases are any numbers.
+/// What a line asks for. Workers are numbered from 1 to 63, and keys, bases and classes are any numbers.
 #[derive(Clone, Copy, Debug, PartialEq, Eq)]
 pub enum Command {
     /// `<worker> set <key> <n> <base>`: an item of n words, at most 4096: base, base + 1 and so on modulo 2^64.
@@ -15,6 +15,37 @@ pub enum Command {
         worker: u64,
         key: u64,
     },
+    /// `<worker> get <key>`: the item's words are told.
+    Get {
+        worker: u64,
+        key: u64,
+    },
+    /// `<worker> hold <key>`: the worker keeps a reference to the item.
+    Hold {
+        worker: u64,
+        key: u64,
+    },
+    /// `<worker> drop <key>`: the worker's last kept reference to the key is given back.
+    Drop {
+        worker: u64,
+        key: u64,
+    },
+    /// `<worker> touch <key>`: the item becomes the youngest of its class.
+    Touch {
+        worker: u64,
+        key: u64,
+    },
+    /// `reassign <src> <dst>`: a page is to go from the class `src` to the class `dst`; `-1` names no source.
+    Reassign {
+        src: Option<u64>,
+        dst: u64,
+    },
+    /// `turn <n>`: so many turns of the mover, from 1 to 1,000,000.
+    Turn {
+        turns: u64,
+    },
+    /// `stats`: the general statistics are told.
+    Stats,
     /// `stats slabs`: the numbers of each class are told.
     StatsSlabs,
 }

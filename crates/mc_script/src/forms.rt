@@ -1,7 +1,7 @@
 //! The forms of a command, a function each.
 ghost use Rattle.std.specs.Prelude.{◌≡◌, map};
 ghost use Rattle.std.specs.Str.{bytes_eq};
-ghost use Rattle.mc_script.specs.Forms.{command_of, delete_of, set_of, stats_slabs_of, worker_of};
+ghost use Rattle.mc_script.specs.Forms.{command_of, delete_of, drop_of, get_of, hold_of, reassign_of, set_of, source_of, stats_of, stats_slabs_of, touch_of, turn_of, worker_and_key_of, worker_of};
 
 use crate::command::Command;
 use crate::number::{number, number_between};
@@ -12,6 +12,9 @@ const MAX_WORKER: u64 = 63;
 /// The most words of an item (own).
 const MAX_WORDS: u64 = 4096;
 
+/// The most turns of a line (own).
+const MAX_TURNS: u64 = 1_000_000;
+
 /// The command that these words write, if they have one of the forms.
 #[tactic(auto, unfolding(crate::specs::Forms::command_of))]
 pub(crate) fn command(words: &[&[u8]]) -> Option<Command>
@@ -19,6 +22,13 @@ pub(crate) fn command(words: &[&[u8]]) -> Option<Command>
 {
     set(words)
         .or_else(|| delete(words))
+        .or_else(|| get(words))
+        .or_else(|| hold(words))
+        .or_else(|| drop(words))
+        .or_else(|| touch(words))
+        .or_else(|| reassign(words))
+        .or_else(|| turn(words))
+        .or_else(|| stats(words))
         .or_else(|| stats_slabs(words))
 }
 
@@ -43,11 +53,80 @@ fn set(words: &[&[u8]]) -> Option<Command>
 fn delete(words: &[&[u8]]) -> Option<Command>
     ensures { result ≡ delete_of (map (λ word. word.now) words.now) }
 {
+    let (worker, key) = worker_and_key(b"del", words)?;
+    Some(Command::Delete { worker, key })
+}
+
+/// `<worker> get <key>`
+#[tactic(auto, unfolding(crate::specs::Forms::get_of))]
+fn get(words: &[&[u8]]) -> Option<Command>
+    ensures { result ≡ get_of (map (λ word. word.now) words.now) }
+{
+    let (worker, key) = worker_and_key(b"get", words)?;
+    Some(Command::Get { worker, key })
+}
+
+/// `<worker> hold <key>`
+#[tactic(auto, unfolding(crate::specs::Forms::hold_of))]
+fn hold(words: &[&[u8]]) -> Option<Command>
+    ensures { result ≡ hold_of (map (λ word. word.now) words.now) }
+{
+    let (worker, key) = worker_and_key(b"hold", words)?;
+    Some(Command::Hold { worker, key })
+}
+
+/// `<worker> drop <key>`
+#[tactic(auto, unfolding(crate::specs::Forms::drop_of))]
+fn drop(words: &[&[u8]]) -> Option<Command>
+    ensures { result ≡ drop_of (map (λ word. word.now) words.now) }
+{
+    let (worker, key) = worker_and_key(b"drop", words)?;
+    Some(Command::Drop { worker, key })
+}
+
+/// `<worker> touch <key>`
+#[tactic(auto, unfolding(crate::specs::Forms::touch_of))]
+fn touch(words: &[&[u8]]) -> Option<Command>
+    ensures { result ≡ touch_of (map (λ word. word.now) words.now) }
+{
+    let (worker, key) = worker_and_key(b"touch", words)?;
+    Some(Command::Touch { worker, key })
+}
+
+/// `reassign <src> <dst>`
+#[tactic(auto, unfolding(crate::specs::Forms::reassign_of))]
+fn reassign(words: &[&[u8]]) -> Option<Command>
+    ensures { result ≡ reassign_of (map (λ word. word.now) words.now) }
+{
     match words {
-        [worker, verb, key] if is(verb, b"del") => Some(Command::Delete {
-            worker: worker_number(worker)?,
-            key: number(key)?,
+        [verb, src, dst] if is(verb, b"reassign") => Some(Command::Reassign {
+            src: source(src)?,
+            dst: number(dst)?,
         }),
+        _ => None,
+    }
+}
+
+/// `turn <n>`
+#[tactic(auto, unfolding(crate::specs::Forms::turn_of))]
+fn turn(words: &[&[u8]]) -> Option<Command>
+    ensures { result ≡ turn_of (map (λ word. word.now) words.now) }
+{
+    match words {
+        [verb, turns] if is(verb, b"turn") => Some(Command::Turn {
+            turns: number_between(1, MAX_TURNS, turns)?,
+        }),
+        _ => None,
+    }
+}
+
+/// `stats`
+#[tactic(auto, unfolding(crate::specs::Forms::stats_of))]
+fn stats(words: &[&[u8]]) -> Option<Command>
+    ensures { result ≡ stats_of (map (λ word. word.now) words.now) }
+{
+    match words {
+        [verb] if is(verb, b"stats") => Some(Command::Stats),
         _ => None,
     }
 }
@@ -60,6 +139,28 @@ fn stats_slabs(words: &[&[u8]]) -> Option<Command>
     match words {
         [verb, what] if is(verb, b"stats") && is(what, b"slabs") => Some(Command::StatsSlabs),
         _ => None,
+    }
+}
+
+/// The worker and the key of `<worker> <verb> <key>`.
+#[tactic(auto, unfolding(crate::specs::Forms::worker_and_key_of))]
+fn worker_and_key(verb: &[u8], words: &[&[u8]]) -> Option<(u64, u64)>
+    ensures { result ≡ worker_and_key_of verb.now (map (λ word. word.now) words.now) }
+{
+    match words {
+        [worker, word, key] if is(word, verb) => Some((worker_number(worker)?, number(key)?)),
+        _ => None,
+    }
+}
+
+/// The source that a word names: none if it is `-1`, and else its number.
+fn source(word: &[u8]) -> Option<Option<u64>>
+    ensures { result ≡ source_of word.now }
+{
+    if is(word, b"-1") {
+        Some(None)
+    } else {
+        number(word).map(Some)
     }
 }
 
@@ -76,3 +177,6 @@ fn is(word: &[u8], text: &[u8]) -> bool
 {
     word == text
 }
+
+#[cfg(test)]
+mod tests;

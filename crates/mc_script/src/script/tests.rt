@@ -32,7 +32,7 @@ fn refuses_the_lowest_line(rt: HostRuntime) -> Result<(), Fail> {
         ("1 set 1 3", 1),
         ("1 set 1 3 7 8", 1),
         ("STATS slabs", 1),
-        ("stats", 1),
+        ("stats now", 1),
         ("1 del 1 # no comment", 1),
         // numbering
         ("1 set 1 3 7\n1 frob 3", 2),
