@@ -6,10 +6,10 @@ use Rattle.std.specs.Map.{lookup}
 use Rattle.mc_classes.specs.Classes.{Classes, IsSound}
 use Rattle.mc_pages.specs.declared.ids.ChunkId.{ChunkId}
 use Rattle.mc_pages.specs.ClassState.{times}
-use Rattle.mc_pages.specs.SlabState.{SlabState, class_of_chunk}
+use Rattle.mc_pages.specs.SlabState.{SlabState, IsClass, class_at, class_of_chunk}
 use Rattle.mc_pages.specs.Accounted.{truth, IsAccounted}
 use Rattle.mc_driver.specs.Item.{is_linked_to}
-use Rattle.mc_driver.specs.Items.{Items, chunk_cmp, item_at, linked_chunk}
+use Rattle.mc_driver.specs.Items.{Items, chunk_cmp, linked_chunk}
 
 -- how often the chunk stands among the items
 abbrev pub places : ChunkId → Items → ℕ
@@ -35,8 +35,5 @@ pub record IsKept (table : Classes) (slabs : SlabState) (index : List (ℕ × Ch
   pub one_link : (key : ℕ) → links key items ≤ 1
   -- a chunk with an item is handed out
   pub handed_out : (chunk : ChunkId) → places chunk items ≤ times chunk (class_of_chunk slabs chunk).order
-
--- a chunk that was handed out and has no item yet
-pub record IsVacant (slabs : SlabState) (items : Items) (chunk : ChunkId) : Type 0 where
-  pub empty : item_at items chunk ≡ None
-  pub listed : 1 ≤ times chunk (class_of_chunk slabs chunk).order
+  -- and a chunk that is handed out has an item
+  pub stored : (class : ℕ) (chunk : ChunkId) → IsClass slabs class → times chunk (class_at slabs class).order ≤ places chunk items

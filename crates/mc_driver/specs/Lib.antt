@@ -1,6 +1,7 @@
 pub mod Item
 pub mod Items
 pub mod Holds
+pub mod HoldsKept
 pub mod Machine
 pub mod Supply
 pub mod Mover

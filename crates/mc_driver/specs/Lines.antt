@@ -1,5 +1,5 @@
 -- What the plain machine answers to each command, and what it is afterwards.
-use Rattle.std.specs.Prelude.{ℕ, ◌*◌, Bool, true, false, not, List, [], ◌∷◌, ◌++◌, length, map, find, codes, Option, Some, None, Result, Ok, Err, if◌then◌else◌}
+use Rattle.std.specs.Prelude.{◌≡◌, ℕ, ◌*◌, Bool, true, false, not, List, [], ◌∷◌, ◌++◌, length, map, find, codes, Option, Some, None, Result, Ok, Err, if◌then◌else◌}
 use Rattle.std.specs.Option.{is_some, option_and_then, option_map, option_map_or}
 use Rattle.mc_classes.specs.Classes.{class_of}
 use Rattle.mc_pages.specs.declared.ids.ChunkId.{ChunkId}
@@ -155,3 +155,10 @@ replies_to m (command ∷ commands) = option_map_or (λ served. served.reply ++ 
 abbrev pub is_stopped : Machine → List Command → Bool
 is_stopped m [] = false
 is_stopped m (command ∷ commands) = option_map_or (λ served. is_stopped served.machine commands) (serve m command) true
+
+-- the command was done: the text grew by its reply, and the machine is the one after it
+pub record IsServed (m : Machine) (command : Command) (old new : List ℕ) (machine : Machine) : Type 0 where
+  pub served : Served
+  pub is : serve m command ≡ Some served
+  pub reply : new ≡ old ++ served.reply
+  pub after : machine ≡ served.machine

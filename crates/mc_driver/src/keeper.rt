@@ -1,35 +1,42 @@
 //! The plain keeper: what a serial run stores, and how it serves one command after another.
-ghost use Rattle.std.specs.Prelude.{◌≡◌, ◌≤◌, ◌∷◌, ◌++◌, Option, None, Some, true, IfOk, OnOk, length};
-ghost use Rattle.std.specs.Option.{is_some};
+ghost use Rattle.std.specs.Prelude.{◌≡◌, IfOk};
 ghost use Rattle.mc_classes.specs.Classes.{IsSound};
-ghost use Rattle.mc_pages.specs.ClassState.{times, first_free};
-ghost use Rattle.mc_pages.specs.SlabState.{IsClass, class_at, class_of_page, class_of_chunk, untouched_page};
-ghost use Rattle.mc_driver.specs.Item.{item_bytes, words_from};
-ghost use Rattle.mc_driver.specs.Items.{is_dead, linked_chunk, unlinked_items};
-ghost use Rattle.mc_driver.specs.Machine.{fresh_machine, has_free, swept, all_swept, stocked, extended, with_new_page, after_reclaim};
-ghost use Rattle.mc_driver.specs.Lines.{after_set, after_store, slabs_text_of};
+ghost use Rattle.mc_driver.specs.Machine.{fresh_machine};
 
+mod evict;
+mod holds;
 mod item;
+mod mover;
 mod pages;
+mod refs;
 mod serve;
 mod store;
 mod sweep;
+mod turn;
 
+pub(crate) use serve::Stop;
+
+use holds::Holds;
 use item::Item;
-use mc_classes::{ClassId, ClassTable};
+use mc_classes::ClassTable;
 use mc_pages::{ChunkId, Slabs};
 use std::alloc::{AllocError, Global};
 use std::collections::BTreeMap;
 use std::marker::Model;
 
-/// What a serial run stores: pages and chunks, the items in them, and where each key leads.
+/// What a serial run stores: pages and chunks, the items in them, where each key leads, and who holds which chunk.
 #[derive(Drop)]
 pub(crate) struct Keeper {
     alloc: Global,
     table: ClassTable,
+    /// How many chunks a turn of the mover looks at.
+    bulk: u64,
     slabs: Slabs,
     index: BTreeMap<u64, ChunkId>,
     items: BTreeMap<ChunkId, Item>,
+    holds: Holds,
+    /// How many turns of the mover were begun.
+    turns: u64,
 }
 
 impl Model for Keeper {
@@ -39,27 +46,31 @@ impl Model for Keeper {
 
     ghost use Rattle.mc_driver.specs.Kept.{IsKept};
 
-    ghost view = { λ k. record { table = k.table; slabs = k.slabs; items = k.items.entries } };
+    ghost view = { λ k. record { table = k.table; bulk = k.bulk; slabs = k.slabs; items = k.items.entries; holds = k.holds; turns = k.turns } };
 
     ghost invariant = { λ k. IsKept k.table k.slabs k.index.entries k.items.entries };
 }
 
 impl Keeper {
-    /// Nothing is stored yet.
-    pub(crate) fn new(alloc: Global, table: ClassTable) -> Result<Keeper, AllocError>
+    /// Nothing is stored yet. A turn of the mover is to look at up to `bulk` chunks.
+    pub(crate) fn new(alloc: Global, table: ClassTable, bulk: u64) -> Result<Keeper, AllocError>
         requires { IsSound table }
-        ensures { IfOk result (λ keeper. keeper ≡ fresh_machine table) }
+        ensures { IfOk result (λ keeper. keeper ≡ fresh_machine table bulk) }
     {
         let slabs = match Slabs::new(alloc, &table) {
             Ok(slabs) => slabs,
             Err(_) => return Err(AllocError),
         };
+        let holds = Holds::new(alloc)?;
         Ok(Keeper {
             alloc,
             table,
+            bulk,
             slabs,
             index: BTreeMap::new(alloc),
             items: BTreeMap::new(alloc),
+            holds,
+            turns: 0,
         })
     }
 }

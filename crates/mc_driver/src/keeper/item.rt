@@ -1,17 +1,16 @@
 //! What is stored under a key.
 ghost use Rattle.std.specs.Prelude.{◌≡◌, IfOk};
-ghost use Rattle.mc_driver.specs.Item.{new_item, unlinked, is_dead_item, words_from};
+ghost use Rattle.mc_driver.specs.Item.{new_item, unlinked, words_from};
 
 use std::alloc::{AllocError, Global};
 use std::marker::Model;
 
-/// A key with its words; whether the key still leads to it, and which workers hold it.
+/// A key with its words, and whether the key still leads to it.
 #[derive(Drop)]
 pub(super) struct Item {
     key: u64,
     words: Vec<u64>,
     linked: bool,
-    holders: Vec<u64>,
 }
 
 impl Model for Item {
@@ -19,20 +18,40 @@ impl Model for Item {
 
     ghost Value = { Item };
 
-    ghost view = { λ i. record { key = i.key; words = i.words.items; linked = i.linked; holders = i.holders.items } };
+    ghost view = { λ i. record { key = i.key; words = i.words.items; linked = i.linked } };
 }
 
 impl Item {
     /// A new item, to which its key leads.
-    pub(super) fn new(alloc: Global, key: u64, words: Vec<u64>) -> Item
+    pub(super) fn new(key: u64, words: Vec<u64>) -> Item
         ensures { result ≡ new_item key words.items }
     {
         Item {
             key,
             words,
             linked: true,
-            holders: Vec::new(alloc),
         }
+    }
+
+    /// Its key.
+    pub(super) fn key(&self) -> u64
+        ensures { result ≡ self.now.key }
+    {
+        self.key
+    }
+
+    /// Its words.
+    pub(super) fn words(&self) -> &[u64]
+        ensures { result.now ≡ self.now.words }
+    {
+        self.words.as_slice()
+    }
+
+    /// Whether its key leads to it.
+    pub(super) fn is_linked(&self) -> bool
+        ensures { result ≡ self.now.linked }
+    {
+        self.linked
     }
 
     /// Its key leads to it no more.
@@ -40,13 +59,6 @@ impl Item {
         ensures { self.new ≡ unlinked self.old }
     {
         self.linked = false;
-    }
-
-    /// Whether neither its key leads to it nor anybody holds it.
-    pub(super) fn is_dead(&self) -> bool
-        ensures { result ≡ is_dead_item self.now }
-    {
-        !self.linked && self.holders.is_empty()
     }
 }
 

@@ -1,9 +1,9 @@
 //! How a class comes to a free chunk.
 ghost use Rattle.std.specs.Prelude.{◌≡◌, ◌≤◌, ◌<◌, None, Some, true, OnOk, IfOk, fold};
-ghost use Rattle.mc_pages.specs.SlabState.{IsClass, class_at, class_of_chunk, untouched_page};
-ghost use Rattle.mc_pages.specs.Changes.{after_cut};
-ghost use Rattle.mc_pages.specs.Accounted.{IsAccounted};
-ghost use Rattle.mc_driver.specs.Machine.{has_free, chunks_of, extended, stocked, with_new_page};
+ghost use Rattle.mc_pages.specs.SlabState.{IsClass, class_at, class_of_chunk};
+ghost use Rattle.mc_pages.specs.Changes.{after_cut, next_page};
+ghost use Rattle.mc_pages.specs.Accounted.{IsAccounted, first_chunks};
+ghost use Rattle.mc_driver.specs.Machine.{has_free, extended, stocked, with_new_page};
 
 use super::Keeper;
 use mc_classes::{ClassId, PageId};
@@ -12,7 +12,7 @@ use std::alloc::AllocError;
 
 impl Keeper {
     /// Sees to it that the class has a free chunk, where there is a way: its dead are put back, and else it
-    /// gets a page that was never granted.
+    /// gets a page.
     pub(super) fn stock(&mut self, class: ClassId) -> Result<(), AllocError>
         requires { IsClass self.old.slabs class }
         ensures { OnOk result (self.new ≡ stocked self.old class) }
@@ -28,17 +28,17 @@ impl Keeper {
     }
 
     /// Whether the class has a free chunk.
-    fn has_free(&self, class: ClassId) -> bool
+    pub(super) fn has_free(&self, class: ClassId) -> bool
         requires { IsClass self.now.slabs class }
         ensures { result ≡ has_free self.now class }
     {
         self.slabs.numbers(class).free > 0
     }
 
-    /// Gives the class an untouched page, if there is one, and cuts its chunks.
+    /// Gives the class the next page, if there is one, and cuts its chunks.
     fn grow(&mut self, class: ClassId) -> Result<(), AllocError>
         requires { IsClass self.old.slabs class }
-        ensures { OnOk result (self.new ≡ with_new_page self.old class (untouched_page self.old.slabs)) }
+        ensures { OnOk result (self.new ≡ with_new_page self.old class (next_page self.old.slabs)) }
     {
         let per_page = self.table.per_page(class);
         match self.slabs.grow(class) {
@@ -53,12 +53,12 @@ impl Keeper {
 }
 
 /// Cuts all chunks of a page that was just given to a class.
-fn cut_page(slabs: &mut Slabs, page: PageId, per_page: u64)
+pub(super) fn cut_page(slabs: &mut Slabs, page: PageId, per_page: u64)
     requires first { slabs.old.uncut ≡ Some (record { page = page; index = 0 }) }
     requires chunks { (class_of_chunk slabs.old (record { page = page; index = 0 })).per_page ≡ per_page }
     requires some { 1 ≤ per_page }
     requires accounted { IsAccounted slabs.old }
-    ensures cut { slabs.new ≡ fold after_cut slabs.old (chunks_of page per_page) }
+    ensures cut { slabs.new ≡ fold after_cut slabs.old (first_chunks page per_page) }
     ensures whole { slabs.new.uncut ≡ None }
     ensures accounted { IsAccounted slabs.new }
 {

@@ -1,24 +1,46 @@
 //! Commands, one after another: each is done, and the bytes of its reply are put together.
-ghost use Rattle.std.specs.Prelude.{◌≡◌, ◌≤◌, ◌+◌, ◌*◌, ◌<◌, ◌^◌, ◌++◌, length, map, OnOk, IfOk};
+ghost use Rattle.std.specs.Prelude.{◌≡◌, ◌≤◌, ◌<◌, ◌++◌, None, Err, length, map, OnOk, IfOk};
 ghost use Rattle.mc_classes.specs.Classes.{class_of};
 ghost use Rattle.mc_script.specs.Command.{IsValid};
+ghost use Rattle.mc_pages.specs.Answer.{answer_of};
 ghost use Rattle.mc_driver.specs.Item.{item_bytes, words_from};
-ghost use Rattle.mc_driver.specs.Items.{unlinked_items};
+ghost use Rattle.mc_driver.specs.Items.{linked_chunk};
 ghost use Rattle.mc_driver.specs.Machine.{all_swept};
-ghost use Rattle.mc_driver.specs.Lines.{after, after_set, delete_reply, reply_to, set_reply, slabs_text_of};
+ghost use Rattle.mc_driver.specs.Lines.{IsServed, serve, set_in, deleted, reassigned, slabs_text_of, general_text_of};
 
 use super::Keeper;
 use super::item::words_from;
-use crate::text::{push_key_line, push_slabs};
+use crate::text::{push_answer, push_general, push_key_line, push_slabs, push_turn_line};
+use mc_pages::Reassign;
 use mc_script::Command;
 use std::alloc::AllocError;
 
+/// Why a command wasn't done.
+#[derive(Clone, Copy, Debug, PartialEq, Eq)]
+pub(crate) enum Stop {
+    /// It asks for more turns of the mover than a run has.
+    Turns,
+    /// Memory ran out.
+    NoMemory,
+}
+
+impl From<AllocError> for Stop {
+    ghost use Rattle.std.specs.Prelude.{◌≡◌};
+    ghost use Rattle.mc_driver.specs.declared.keeper.serve.Stop.TheVariants.{NoMemory};
+
+    ghost from_gives = { λ _ stop. stop ≡ NoMemory };
+
+    fn from(_e: AllocError) -> Stop {
+        Stop::NoMemory
+    }
+}
+
 impl Keeper {
     /// Does a command, and adds the bytes of its reply to `text`.
-    pub(crate) fn serve(&mut self, command: Command, text: &mut Vec<u8>) -> Result<(), AllocError>
+    pub(crate) fn serve(&mut self, command: Command, text: &mut Vec<u8>) -> Result<(), Stop>
         requires { IsValid command }
-        ensures reply { OnOk result (text.new.items ≡ text.old.items ++ reply_to self.old command) }
-        ensures after { OnOk result (self.new ≡ after self.old command) }
+        ensures served { OnOk result (IsServed self.old command text.old.items text.new.items self.new) }
+        ensures stopped { result ≡ Err Stop.Turns → serve self.old command ≡ None }
     {
         match command {
             Command::Set {
@@ -26,17 +48,28 @@ impl Keeper {
                 key,
                 words,
                 base,
-            } => self.set(key, words, base, text),
-            Command::Delete { worker: _, key } => self.delete(key, text),
-            Command::StatsSlabs => self.statistics(text),
+            } => self.set(key, words, base, text)?,
+            Command::Get { worker, key } => self.get(worker, key, text)?,
+            Command::Hold { worker, key } => self.hold(worker, key, text)?,
+            Command::Drop { worker, key } => self.drop(worker, key, text)?,
+            Command::Delete { worker: _, key } => self.delete(key, text)?,
+            Command::Touch { worker: _, key } => self.touch(key, text)?,
+            Command::Reassign { src, dst } => self.reassign(src, dst, text)?,
+            Command::Turn { turns } => {
+                let (ending, counts) = self.turns(turns)?;
+                push_turn_line(text, ending, counts)?;
+            }
+            Command::Stats => self.general_statistics(text)?,
+            Command::StatsSlabs => self.statistics(text)?,
         }
+        Ok(())
     }
 
     /// Stores so many words that count up from `base`, and answers whether there was room for them.
     fn set(&mut self, key: u64, words: u64, base: u64, text: &mut Vec<u8>) -> Result<(), AllocError>
         requires { words ≤ 4096 }
-        ensures reply { OnOk result (text.new.items ≡ text.old.items ++ set_reply self.old (class_of self.old.table (item_bytes words)) key) }
-        ensures after { OnOk result (self.new ≡ after_set self.old (class_of self.old.table (item_bytes words)) key (words_from base words)) }
+        ensures reply { OnOk result (text.new.items ≡ text.old.items ++ (set_in self.old (class_of self.old.table (item_bytes words)) key (words_from base words)).reply) }
+        ensures after { OnOk result (self.new ≡ (set_in self.old (class_of self.old.table (item_bytes words)) key (words_from base words)).machine) }
     {
         match self.table.class_for(24 + 8 * words) {
             Some(class) => {
@@ -50,14 +83,37 @@ impl Keeper {
 
     /// Unlinks the key's item, and answers whether it had one.
     fn delete(&mut self, key: u64, text: &mut Vec<u8>) -> Result<(), AllocError>
-        ensures reply { OnOk result (text.new.items ≡ text.old.items ++ delete_reply self.old key) }
-        ensures after { OnOk result (self.new ≡ record self.old { items = unlinked_items self.old.items key }) }
+        ensures reply { OnOk result (text.new.items ≡ text.old.items ++ (deleted self.old key (linked_chunk self.old.items key)).reply) }
+        ensures after { OnOk result (self.new ≡ (deleted self.old key (linked_chunk self.old.items key)).machine) }
     {
         let had = self.unlink(key);
         push_key_line(text, if had { b"DELETED" } else { b"NOT_FOUND" }, key)
     }
 
-    /// Puts back the dead of all classes, and gives the statistics.
+    /// Begins to move a page, or answers why not.
+    fn reassign(&mut self, src: Option<u64>, dst: u64, text: &mut Vec<u8>) -> Result<(), AllocError>
+        ensures reply { OnOk result (text.new.items ≡ text.old.items ++ (reassigned self.old src dst (answer_of self.old.slabs src dst)).reply) }
+        ensures after { OnOk result (self.new ≡ (reassigned self.old src dst (answer_of self.old.slabs src dst)).machine) }
+    {
+        let answer = match self.slabs.begin_move(src, dst) {
+            Ok(()) => b"OK".as_slice(),
+            Err(Reassign::Busy) => b"BUSY",
+            Err(Reassign::Same) => b"SAME",
+            Err(Reassign::BadClass) => b"BADCLASS",
+            Err(Reassign::NoSpare) => b"NOSPARE",
+            Err(Reassign::NoMemory) => return Err(AllocError),
+        };
+        push_answer(text, answer)
+    }
+
+    /// Gives the general statistics.
+    fn general_statistics(&self, text: &mut Vec<u8>) -> Result<(), AllocError>
+        ensures { OnOk result (text.new.items ≡ text.old.items ++ general_text_of self.now) }
+    {
+        push_general(text, self.slabs.totals(), self.slabs.moving().is_some())
+    }
+
+    /// Puts back the dead of all classes, and gives their statistics.
     fn statistics(&mut self, text: &mut Vec<u8>) -> Result<(), AllocError>
         ensures reply { OnOk result (text.new.items ≡ text.old.items ++ slabs_text_of (all_swept self.old)) }
         ensures after { OnOk result (self.new ≡ all_swept self.old) }
@@ -66,7 +122,7 @@ impl Keeper {
         self.push_statistics(text)
     }
 
-    /// Adds the statistics as they are now.
+    /// Adds the statistics of the classes as they are now.
     fn push_statistics(&self, text: &mut Vec<u8>) -> Result<(), AllocError>
         ensures { OnOk result (text.new.items ≡ text.old.items ++ slabs_text_of self.now) }
     {

@@ -1,12 +1,13 @@
 //! How items come and go.
 ghost use Rattle.std.specs.Prelude.{◌≡◌, Option, None, Some, IfOk, OnOk};
 ghost use Rattle.std.specs.Option.{is_some};
-ghost use Rattle.mc_pages.specs.SlabState.{IsClass};
+ghost use Rattle.mc_pages.specs.ClassState.{first_free};
+ghost use Rattle.mc_pages.specs.SlabState.{IsClass, class_at};
+ghost use Rattle.mc_pages.specs.Changes.{after_pop};
 ghost use Rattle.mc_driver.specs.Items.{item_at, linked_chunk, unlinked_in, unlinked_items, with_item};
 ghost use Rattle.mc_driver.specs.Item.{new_item};
-ghost use Rattle.mc_driver.specs.Lines.{after_store, supply};
-ghost use Rattle.mc_driver.specs.Machine.{stocked};
-ghost use Rattle.mc_driver.specs.Kept.{IsVacant};
+ghost use Rattle.mc_driver.specs.Lines.{stored};
+ghost use Rattle.mc_driver.specs.Supply.{supplied, supply};
 
 use super::Keeper;
 use super::item::Item;
@@ -17,7 +18,7 @@ use std::collections::BTreeMap;
 
 impl Keeper {
     /// Stores an item in a chunk of the class, in the place of the key's old one, and says whether there was a
-    /// chunk for it. Where there is none, the old item stays.
+    /// chunk for it. Where there is none, the old item stays, unless it was the one evicted.
     pub(super) fn store(
         &mut self,
         class: ClassId,
@@ -26,13 +27,13 @@ impl Keeper {
     ) -> Result<bool, AllocError>
         requires { IsClass self.old.slabs class }
         ensures stored { IfOk result (λ stored. stored ≡ is_some (supply self.old class)) }
-        ensures after { OnOk result (self.new ≡ after_store (stocked self.old class) class key words.items (supply self.old class)) }
+        ensures after { OnOk result (self.new ≡ (stored (supplied self.old class) class key words.items (supply self.old class)).machine) }
     {
-        self.stock(class)?;
-        match self.slabs.pop(class) {
+        self.supply(class)?;
+        match self.slabs.free_at(class, 0) {
             Some(chunk) => {
                 self.unlink(key);
-                self.put(chunk, key, words)?;
+                self.put(class, chunk, key, words)?;
                 Ok(true)
             }
             None => Ok(false),
@@ -53,16 +54,23 @@ impl Keeper {
         }
     }
 
-    /// Puts a new item into a chunk that was just handed out, and the key leads to it. A refusal changes nothing.
-    fn put(&mut self, chunk: ChunkId, key: u64, words: Vec<u64>) -> Result<(), AllocError>
-        requires vacant { IsVacant self.old.slabs self.old.items chunk }
+    /// Hands out the class's next free chunk and puts a new item into it, to which the key leads. A refusal changes
+    /// nothing.
+    fn put(&mut self, class: ClassId, chunk: ChunkId, key: u64, words: Vec<u64>) -> Result<(), AllocError>
+        requires class { IsClass self.old.slabs class }
+        requires free { first_free (class_at self.old.slabs class) ≡ Some chunk }
         requires unlinked { linked_chunk self.old.items key ≡ None }
-        ensures put { OnOk result (self.new ≡ record self.old { items = with_item self.old.items chunk (new_item key words.items) }) }
+        ensures put { OnOk result (self.new ≡ record self.old {
+            slabs = after_pop self.old.slabs class;
+            items = with_item self.old.items chunk (new_item key words.items);
+        }) }
     {
-        let item = Item::new(self.alloc, key, words);
-        self.items.insert(chunk, item)?;
+        self.items.insert(chunk, Item::new(key, words))?;
         match self.index.insert(key, chunk) {
-            Ok(_) => Ok(()),
+            Ok(_) => {
+                self.slabs.pop(class);
+                Ok(())
+            }
             Err(_) => {
                 self.items.remove(&chunk);
                 Err(AllocError)

@@ -1,8 +1,7 @@
 //! Dead chunks are put back: those that neither a key leads to nor anybody holds.
 ghost use Rattle.std.specs.Prelude.{◌≡◌, ◌≤◌, true, Contains, length};
 ghost use Rattle.mc_pages.specs.SlabState.{IsClass, class_of_page, class_of_chunk};
-ghost use Rattle.mc_driver.specs.Items.{is_dead};
-ghost use Rattle.mc_driver.specs.Machine.{swept, all_swept, after_reclaim};
+ghost use Rattle.mc_driver.specs.Machine.{is_dead, is_idle, swept, all_swept, after_reclaim};
 
 use super::Keeper;
 use mc_classes::ClassId;
@@ -33,19 +32,29 @@ impl Keeper {
         }
     }
 
-    /// Whether the chunk's item is dead.
-    fn is_dead(&self, chunk: ChunkId) -> bool
-        ensures { result ≡ is_dead self.now.items chunk }
+    /// Whether neither a key leads to the chunk's item nor anybody holds it.
+    pub(super) fn is_dead(&self, chunk: ChunkId) -> bool
+        ensures { result ≡ is_dead self.now chunk }
     {
         match self.items.get(&chunk) {
-            Some(item) => item.is_dead(),
+            Some(item) => !item.is_linked() && !self.holds.is_held(chunk),
+            None => false,
+        }
+    }
+
+    /// Whether a key leads to the chunk's item, and nobody holds it.
+    pub(super) fn is_idle(&self, chunk: ChunkId) -> bool
+        ensures { result ≡ is_idle self.now chunk }
+    {
+        match self.items.get(&chunk) {
+            Some(item) => item.is_linked() && !self.holds.is_held(chunk),
             None => false,
         }
     }
 
     /// Puts a dead chunk back, and its item is gone.
     fn reclaim(&mut self, chunk: ChunkId)
-        requires dead { is_dead self.old.items chunk ≡ true }
+        requires dead { is_dead self.old chunk ≡ true }
         requires class { IsClass self.old.slabs (class_of_page self.old.slabs chunk.page) }
         requires listed { Contains (class_of_chunk self.old.slabs chunk).order chunk }
         ensures { self.new ≡ after_reclaim self.old chunk }
