@@ -1,7 +1,9 @@
 pub mod Chunks
+pub mod Lists
 pub mod Owners
 pub mod Replays
 pub mod OneClass
+pub mod Cleared
 pub mod Redistributed
 pub mod CutNext
 pub mod GrantedPage
