@@ -1,3 +1,1 @@
-use Rattle.mc_pages.proofs.Lists.{times-with_before}
-use Rattle.mc_pages.proofs.Cleared.{IsMove-alike}
-use Rattle.mc_pages.proofs.Redistributed.{IsAccounted-redistributed}
+use Rattle.mc_pages.proofs.CutNext.{IsAccounted-after_cut}
