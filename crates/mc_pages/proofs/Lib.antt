@@ -6,6 +6,7 @@ pub mod OneClass
 pub mod Cleared
 pub mod Redistributed
 pub mod CutNext
-pub mod GrantedPage
+pub mod Placed
+pub mod GivenPage
 pub mod HandedOut
 pub mod Kept

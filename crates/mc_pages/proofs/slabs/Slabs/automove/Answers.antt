@@ -1,1 +1,2 @@
-use Rattle.mc_pages.proofs.CutNext.{IsAccounted-after_cut}
+use Rattle.mc_pages.proofs.Placed.{ArePlaced}
+use Rattle.mc_pages.proofs.GivenPage.{ArePlaced-given}
