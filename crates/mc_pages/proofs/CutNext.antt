@@ -1,6 +1,6 @@
 -- The lowest uncut chunk is cut: all stays accounted for.
 use Rattle.std.proofs.Common.{◌≡◌, ◌≢◌, ℕ, ◌+◌, ◌-◌, ◌*◌, ◌<◌, ◌≤◌, ◌==◌, Bool, true, false, ◌&&◌, nat_lt, List, ◌∷◌, length, count_by, Option, Some, None, if◌then◌else◌, refl, sym, ap, ap₂, ◌∙◌, inl, inr, arith, eq-eqb, ne_eqb, lt-ltb, le-ltb}
-use Rattle.std.proofs.lemmas.Bool.{cases_eq, cases_lt, cases_order, false_from_ne_true}
+use Rattle.std.proofs.lemmas.Bool.{cases_eq, cases_lt, false_from_ne_true}
 use Rattle.mc_pages.specs.declared.ids.ChunkId.{ChunkId}
 use Rattle.mc_pages.specs.Ledger.{owner_at}
 use Rattle.mc_pages.specs.ClassState.{ClassState, is_chunk, times, with_cut}
@@ -9,6 +9,7 @@ use Rattle.mc_pages.specs.Changes.{next_uncut, after_cut}
 use Rattle.mc_pages.specs.Accounted.{truth, is_of_class, is_moving, cut_count, uncut_count, is_cut, places_in, is_cleared, cleared_count, IsAccounted}
 use Rattle.mc_pages.specs.InOrder.{IsBeingCut}
 use Rattle.mc_pages.proofs.Chunks.{times-cons}
+use Rattle.mc_pages.proofs.FirstChunks.{truth-nat_lt_more}
 use Rattle.mc_pages.proofs.Owners.{class_of_owner-is_of_class, is_of_class-class_of_owner}
 use Rattle.mc_pages.proofs.OneClass.{length-with_class, class_at-with_class_same, class_at-with_class_other, class_at-with_class_kept}
 use Rattle.mc_pages.proofs.Cleared.{ClearsAlike, is_cleared-still, is_cleared-alike, cleared_count-alike, IsMove-alike}
@@ -46,17 +47,6 @@ cut_count-next_other chunk own page per_page differs =
     elim (cases_lt (chunk.index + 1) own) [
       | inl more ↦ ap (λ (o : Option ChunkId). cut_count o page per_page) (next_uncut-more own chunk more) ∙ cut_count-other (record { page = chunk.page; index = chunk.index + 1 }) page per_page differs
       | inr last ↦ ap (λ (o : Option ChunkId). cut_count o page per_page) (next_uncut-last own chunk last)
-    ]
-
--- one more number lies below i + 1 than below i: i itself
-truth-nat_lt_more : (i k : ℕ) → truth (i == k) + truth (nat_lt k i) ≡ truth (nat_lt k (i + 1))
-truth-nat_lt_more i k =
-    elim (cases_order i k) [
-      | inl same ↦ omega (arith, ap truth (eq-eqb i k same), ap truth (le-ltb k i (omega arith)), ap truth (lt-ltb k (i + 1) (omega arith)))
-      | inr apart ↦ elim apart [
-        | inl below ↦ omega (arith, ap truth (ne_eqb i k (omega arith)), ap truth (le-ltb k i (omega arith)), ap truth (le-ltb k (i + 1) (omega arith)))
-        | inr above ↦ omega (arith, ap truth (ne_eqb i k (omega arith)), ap truth (lt-ltb k i (omega arith)), ap truth (lt-ltb k (i + 1) (omega arith)))
-      ]
     ]
 
 -- the chunks that were cut for the page's class, and the one that is cut now

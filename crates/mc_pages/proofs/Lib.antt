@@ -4,9 +4,11 @@ pub mod Owners
 pub mod Replays
 pub mod OneClass
 pub mod Cleared
+pub mod FirstChunks
 pub mod Redistributed
 pub mod CutNext
 pub mod Placed
 pub mod GivenPage
+pub mod ReleasedPage
 pub mod HandedOut
 pub mod Kept

@@ -62,17 +62,18 @@ limit-owners slabs owners all same =
     le_trans (mul-le-mul_right slabs.page most) (div-mul-le_self slabs.limit slabs.page)
 
 -- one more entry, which fits the owner that it finds, accounts for the owner that it leaves
-pub IsAccounted-entry : (slabs new : SlabState) (entry : Entry) → IsAccounted slabs → page_of entry < length slabs.owners → fits entry (owner_at slabs.owners (page_of entry)) ≡ true → ArePlaced (record new { owners = set slabs.owners (page_of entry) (owner_after entry) }) → IsAccounted (record new { page = slabs.page; limit = slabs.limit; owners = set slabs.owners (page_of entry) (owner_after entry); ledger = slabs.ledger ++ entry ∷ [] })
-IsAccounted-entry slabs new entry all within fit placed =
+pub IsAccounted-entry : (slabs new : SlabState) (entry : Entry) (owner : Owner) → IsAccounted slabs → page_of entry < length slabs.owners → fits entry (owner_at slabs.owners (page_of entry)) ≡ true → owner_after entry ≡ owner → ArePlaced (record new { owners = set slabs.owners (page_of entry) owner }) → IsAccounted (record new { page = slabs.page; limit = slabs.limit; owners = set slabs.owners (page_of entry) owner; ledger = slabs.ledger ++ entry ∷ [] })
+IsAccounted-entry slabs new entry owner all within fit leaves placed =
+    let left = ap (λ (o : Owner). Some (set slabs.owners (page_of entry) o)) leaves in
     record {
-      replays = replay-push _ slabs.owners slabs.ledger entry all.replays within fit;
+      replays = replay-push _ slabs.owners slabs.ledger entry all.replays within fit ∙ left;
       pages = placed.pages;
       pool = placed.pool;
       one_move = placed.one_move;
       move = λ move h.
           let is = placed.move move h in
           record { owner = is.owner; src = is.src; dst = is.dst; apart = is.apart; within = is.within; busy = is.busy; passed = is.passed };
-      limit = limit-owners slabs (set slabs.owners (page_of entry) (owner_after entry)) all (length-set slabs.owners (page_of entry) (owner_after entry));
+      limit = limit-owners slabs (set slabs.owners (page_of entry) owner) all (length-set slabs.owners (page_of entry) owner);
       chunks = placed.chunks;
       total = placed.total;
     }

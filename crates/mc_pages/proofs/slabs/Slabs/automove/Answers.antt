@@ -1,2 +1,3 @@
-use Rattle.mc_pages.proofs.Placed.{ArePlaced}
+use Rattle.mc_pages.proofs.CutNext.{IsAccounted-after_cut}
 use Rattle.mc_pages.proofs.GivenPage.{ArePlaced-given}
+use Rattle.mc_pages.proofs.ReleasedPage.{within_from_IsMove}
