@@ -1,7 +1,7 @@
 -- A page whose chunks are all cleared leaves its class: all keep their places.
-use Rattle.std.proofs.Common.{◌≡◌, ◌≢◌, ℕ, ◌+◌, ◌-◌, ◌*◌, ◌<◌, ◌≤◌, ◌==◌, Bool, true, false, cond, not, ◌&&◌, nat_lt, List, [], ◌∷◌, ◌++◌, length, set, filter, count_by, Option, Some, None, refl, sym, ap, ap₂, ◌∙◌, inl, inr, arith, eq-eqb, ne_eqb, eqb-true, ltb-true}
+use Rattle.std.proofs.Common.{◌≡◌, ◌≢◌, ℕ, ◌+◌, ◌-◌, ◌*◌, ◌<◌, ◌≤◌, ◌==◌, Bool, true, false, cond, not, ◌&&◌, nat_lt, List, [], ◌∷◌, ◌++◌, length, set, filter, count_by, Option, Some, None, if◌then◌else◌, refl, sym, ap, ap₂, ◌∙◌, inl, inr, arith, eq-eqb, ne_eqb, eqb-true, ltb-true}
 use Rattle.std.specs.Option.{option_map}
-use Rattle.std.proofs.lemmas.Bool.{cases_eq, cases_Bool, and_parts, and_left, both_ways, false_from_ne_true, false≢true}
+use Rattle.std.proofs.lemmas.Bool.{cases_eq, cases_Bool, and_parts, and_left, and_right, both_ways, false_from_ne_true, false≢true}
 use Rattle.std.proofs.lemmas.Option.{same_Some, none-some}
 use Rattle.std.proofs.lemmas.List.Sums.{sum_by-cons, sum_by_push, length-filter}
 use Rattle.std.proofs.lemmas.List.Filters.{length-filter_both}
@@ -139,3 +139,85 @@ chunks-released slabs move all of whole can class chunk here =
           let before = is_cleared-still slabs class chunk (still_but_move slabs move chunk.page all can.runs apart) in
           omega (arith, places, ap truth cleared, ap truth cut, ap truth before, all.chunks class chunk here)
     ]
+
+-- all chunks of the page are cleared, and no other class has a cleared one
+pub cleared_at_end : (slabs : SlabState) (move : Moving) → ArePlaced slabs → IsMove slabs move → CanFinish slabs move → (class : ℕ) → cleared_count slabs class slabs.moving ≡ (if class == move.src then (class_at slabs move.src).per_page else 0)
+cleared_at_end slabs move all of can class =
+    let runs = ap (λ (o : Option Moving). cleared_count slabs class o) can.runs in
+    elim (cases_eq class move.src) [
+      | inl same ↦
+          let test = ap (λ b. if b then (class_at slabs move.src).per_page else 0) (eq-eqb class move.src same) in
+          let own = ap (λ (n : ℕ). cleared_count slabs n (Some move)) same in
+          let every = count_by-first_all (is_cleared slabs move.src) move.page (class_at slabs move.src).per_page can.all_cleared in
+          runs ∙ (own ∙ (every ∙ sym test))
+      | inr differs ↦
+          let test = ap (λ b. if b then (class_at slabs move.src).per_page else 0) (ne_eqb class move.src differs) in
+          let none = count_by-none (is_cleared slabs class) (first_chunks move.page (class_at slabs class).per_page) (λ chunk.
+          elim (cases_eq chunk.page move.page) [
+            | inl on ↦
+                let owner : is_of_class class (owner_at slabs.owners chunk.page) ≡ false = ap (λ (p : ℕ). is_of_class class (owner_at slabs.owners p)) on ∙ (ap (λ (o : Owner). is_of_class class o) of.owner ∙ ne_eqb move.src class (λ e. differs (sym e))) in
+                let cut : is_cut slabs class chunk ≡ false = and_left _ _ owner in
+                and_left _ _ (and_right _ _ cut)
+            | inr apart ↦ is_cleared-still slabs class chunk (still_but_move slabs move chunk.page all can.runs apart)
+          ]) in
+          runs ∙ (none ∙ sym test)
+    ]
+
+-- the number of chunks of each class stays: the page's are gone
+total-released : (slabs : SlabState) (move : Moving) → ArePlaced slabs → IsMove slabs move → slabs.uncut ≡ None → CanFinish slabs move → (class : ℕ) → IsClass slabs class → length (class_at (released slabs move.page move.src) class).free + length (class_at (released slabs move.page move.src) class).order + uncut_count (released slabs move.page move.src) class slabs.uncut + 0 ≡ length (class_at (released slabs move.page move.src) class).pages * (class_at (released slabs move.page move.src) class).per_page
+total-released slabs move all of whole can class here =
+    let new : SlabState = released slabs move.page move.src in
+    let state = without_page (class_at slabs move.src) move.page in
+    let lists = class_at-with_class_kept (λ c. length c.free + length c.order) slabs move.src class state of.src here.0 refl in
+    let size = class_at-with_class_kept (λ c. c.per_page) slabs move.src class state of.src here.0 refl in
+    let uncut = ap (λ (o : Option ChunkId). uncut_count slabs class o) whole in
+    let uncut_now = ap (λ (o : Option ChunkId). uncut_count new class o) whole in
+    let cleared = cleared_at_end slabs move all of can class in
+    let before = all.total class here in
+    elim (cases_eq class move.src) [
+      | inl same ↦
+          let now = ap (λ (n : ℕ). length (class_at new n).pages) same ∙ ap (λ (c : ClassState). length c.pages) (class_at-with_class_same slabs move.src state of.src) in
+          let was = ap (λ (n : ℕ). length (class_at slabs n).pages) same in
+          let one = all.pages move.src move.page of.src ∙ (ap (λ (o : Owner). truth (is_of_class move.src o)) of.owner ∙ ap truth (eq-eqb move.src move.src refl)) in
+          let fewer : length (class_at slabs class).pages ≡ length (class_at new class).pages + 1 = omega (arith, now, was, one, length-filter_page move.page (class_at slabs move.src).pages) in
+          let test = ap (λ b. if b then (class_at slabs move.src).per_page else 0) (eq-eqb class move.src same) in
+          let own = ap (λ (n : ℕ). (class_at slabs n).per_page) same in
+          let product = ap₂ (λ (m n : ℕ). m * n) fewer (sym size) in
+          omega (arith, lists, size, uncut, uncut_now, cleared, test, own, before, product)
+      | inr differs ↦
+          let other = class_at-with_class_other slabs move.src class state of.src.0 here.0 differs in
+          let test = ap (λ b. if b then (class_at slabs move.src).per_page else 0) (ne_eqb class move.src differs) in
+          let product = ap (λ (c : ClassState). length c.pages * c.per_page) other in
+          omega (arith, lists, uncut, uncut_now, cleared, test, before, product)
+    ]
+
+-- the pool has the page once more
+pool-released : (slabs : SlabState) (move : Moving) → ArePlaced slabs → IsMove slabs move → (other : ℕ) → count_by (λ p. p == other) (slabs.pool ++ move.page ∷ []) ≡ truth (is_pool (owner_at (set slabs.owners move.page Pool) other))
+pool-released slabs move all of other =
+    let within = within_from_IsMove slabs move of in
+    let more = sum_by_push (λ p. truth (p == other)) slabs.pool move.page in
+    let pooled = λ (o : Owner). truth (is_pool o) in
+    elim (cases_eq other move.page) [
+      | inl same ↦
+          let now = ap (λ (p : ℕ). pooled (owner_at (set slabs.owners move.page Pool) p)) same ∙ ap pooled (owner_at-set_same slabs.owners move.page Pool within) in
+          let was = ap (λ (p : ℕ). pooled (owner_at slabs.owners p)) same ∙ ap pooled of.owner in
+          omega (arith, more, now, was, all.pool other, ap truth (eq-eqb move.page other (sym same)))
+      | inr differs ↦
+          let now = ap pooled (owner_at-set_other slabs.owners move.page other Pool differs) in
+          omega (arith, more, now, all.pool other, ap truth (ne_eqb move.page other (λ e. differs (sym e))))
+    ]
+
+-- the page leaves its class
+pub ArePlaced-released : (slabs : SlabState) (move : Moving) → ArePlaced slabs → slabs.uncut ≡ None → CanFinish slabs move → ArePlaced (released slabs move.page move.src)
+ArePlaced-released slabs move all whole can =
+    let of = all.move move can.runs in
+    let state = without_page (class_at slabs move.src) move.page in
+    let before = λ (class : ℕ) (here : IsClass (released slabs move.page move.src) class). IsClass-before slabs move.src class state here in
+    record {
+      pages = λ class other here. pages-released slabs move all of class other (before class here);
+      pool = λ other. pool-released slabs move all of other;
+      one_move = λ page h. absurd (both_ways _ (still-released slabs move all can.runs page) h);
+      move = λ other h. absurd (none-some other h);
+      chunks = λ class chunk here. chunks-released slabs move all of whole can class chunk (before class here);
+      total = λ class here. total-released slabs move all of whole can class (before class here);
+    }
