@@ -10,5 +10,10 @@ pub mod CutNext
 pub mod Placed
 pub mod GivenPage
 pub mod ReleasedPage
+pub mod BegunMove
+pub mod Source
+pub mod ClearedChunk
+pub mod Passes
+pub mod Fresh
 pub mod HandedOut
 pub mod Kept
