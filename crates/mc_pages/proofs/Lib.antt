@@ -15,5 +15,6 @@ pub mod Source
 pub mod ClearedChunk
 pub mod Passes
 pub mod Fresh
+pub mod Steady
 pub mod HandedOut
 pub mod Kept

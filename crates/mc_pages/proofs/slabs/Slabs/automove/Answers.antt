@@ -1,3 +1,3 @@
-use Rattle.mc_pages.proofs.ClearedChunk.{IsAccounted-cleared}
-use Rattle.mc_pages.proofs.Passes.{all_cleared_at_end}
 use Rattle.mc_pages.proofs.Fresh.{IsInOrder-fresh}
+use Rattle.mc_pages.proofs.HandedOut.{times_free_one}
+use Rattle.mc_pages.proofs.Steady.{IsInOrder-given}
