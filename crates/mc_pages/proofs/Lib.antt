@@ -16,5 +16,7 @@ pub mod ClearedChunk
 pub mod Passes
 pub mod Fresh
 pub mod Steady
+pub mod KeptPages
+pub mod KeptMoves
 pub mod HandedOut
 pub mod Kept

@@ -1,3 +1,2 @@
-use Rattle.mc_pages.proofs.Fresh.{IsInOrder-fresh}
-use Rattle.mc_pages.proofs.HandedOut.{times_free_one}
-use Rattle.mc_pages.proofs.Steady.{IsInOrder-given}
+use Rattle.mc_pages.proofs.KeptPages.{IsInOrder-after_grant}
+use Rattle.mc_pages.proofs.KeptMoves.{IsInOrder-after_begin}
