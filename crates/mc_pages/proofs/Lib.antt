@@ -18,5 +18,6 @@ pub mod Fresh
 pub mod Steady
 pub mod KeptPages
 pub mod KeptMoves
+pub mod KeptFinish
 pub mod HandedOut
 pub mod Kept

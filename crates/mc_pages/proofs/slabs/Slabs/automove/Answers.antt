@@ -1,2 +1,1 @@
-use Rattle.mc_pages.proofs.KeptPages.{IsInOrder-after_grant}
-use Rattle.mc_pages.proofs.KeptMoves.{IsInOrder-after_begin}
+use Rattle.mc_pages.proofs.Kept.{IsInOrder-after_clear, IsInOrder-finished}
