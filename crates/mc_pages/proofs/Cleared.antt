@@ -1,12 +1,12 @@
 -- Cleared chunks and their number: what a change keeps that leaves each chunk cleared or not as before.
-use Rattle.std.proofs.Common.{◌≡◌, ◌≢◌, ℕ, ◌+◌, ◌*◌, ◌≤◌, ◌==◌, Bool, true, false, not, ◌&&◌, List, [], ◌∷◌, length, count_by, Option, Some, None, refl, sym, ap, ap₂, ◌∙◌, arith, le_refl}
+use Rattle.std.proofs.Common.{◌≡◌, ℕ, ◌+◌, ◌≤◌, ◌==◌, Bool, true, false, not, ◌&&◌, List, [], ◌∷◌, length, count_by, Option, Some, None, refl, sym, ap, ap₂, ◌∙◌, arith}
 use Rattle.std.proofs.lemmas.Bool.{and_left}
 use Rattle.std.proofs.lemmas.List.Sums.{sum_by-cons, sum_by-le-sum_by}
 use Rattle.mc_pages.specs.declared.ids.ChunkId.{ChunkId}
 use Rattle.mc_pages.specs.declared.ids.Moving.{Moving}
 use Rattle.mc_pages.specs.Ledger.{owner_at}
 use Rattle.mc_pages.specs.SlabState.{SlabState, IsClass, class_at}
-use Rattle.mc_pages.specs.Accounted.{truth, is_moving, is_cut, places_in, is_cleared, first_chunks, cleared_count, left_behind, IsMove}
+use Rattle.mc_pages.specs.Accounted.{truth, is_moving, is_cut, places_in, is_cleared, first_chunks, cleared_count, IsMove}
 
 -- a fact that is another is counted no more often
 truth-le : (a b : Bool) → a ≡ b → truth a ≤ truth b

@@ -1,17 +1,15 @@
 -- Before any page is granted all is accounted for, in order.
-use Rattle.std.proofs.Common.{◌≡◌, ℕ, ◌+◌, ◌-◌, ◌*◌, ◌/◌, ◌<◌, ◌≤◌, ◌==◌, false, not, List, length, map, count_by, Some, None, refl, sym, ap, ◌∙◌, inl, inr, arith}
+use Rattle.std.proofs.Common.{◌≡◌, ℕ, ◌+◌, ◌-◌, ◌*◌, ◌/◌, ◌==◌, false, length, count_by, refl, sym, ap, ◌∙◌, inl, inr, arith}
 use Rattle.std.proofs.lemmas.Bool.{cases_lt, and_left, both_ways}
 use Rattle.std.proofs.lemmas.Option.{none-some}
 use Rattle.std.proofs.lemmas.List.{length-map, length-replicate, get_or-replicate, get_or_past, get_or-map}
 use Rattle.mc_classes.specs.Classes.{Classes, pages_of, size_of, IsSound}
-use Rattle.mc_pages.specs.declared.ids.ChunkId.{ChunkId}
-use Rattle.mc_pages.specs.declared.ids.Moving.{Moving}
 use Rattle.mc_pages.specs.declared.ledger.Owner.{Owner}
 use Rattle.mc_pages.specs.declared.ledger.Owner.TheVariants.{Untouched}
 use Rattle.mc_pages.specs.Ledger.{all_untouched, owner_at}
 use Rattle.mc_pages.specs.ClassState.{ClassState, new_class, times}
-use Rattle.mc_pages.specs.SlabState.{SlabState, IsClass, class_at, is_untouched, fresh_slabs}
-use Rattle.mc_pages.specs.Accounted.{truth, is_of_class, is_pool, is_moving, is_cut, is_cleared, IsAccounted}
+use Rattle.mc_pages.specs.SlabState.{SlabState, IsClass, class_at, fresh_slabs}
+use Rattle.mc_pages.specs.Accounted.{truth, is_of_class, is_pool, is_moving, is_cut, IsAccounted}
 use Rattle.mc_pages.specs.InOrder.{AreGranted, IsInOrder}
 use Rattle.mc_pages.proofs.Owners.{count_by-AreGranted}
 use Rattle.mc_pages.proofs.Cleared.{is_cleared-still}

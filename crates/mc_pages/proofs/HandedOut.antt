@@ -1,5 +1,5 @@
 -- The class of a chunk that stands in a class's lists, and how often it stands there.
-use Rattle.std.proofs.Common.{◌≡◌, ◌+◌, ◌-◌, ◌≤◌, ℕ, List, [], length, Some, sym, ap, ◌∙◌, subst, inl, inr, arith, Contains, slice_get, slice_index_or}
+use Rattle.std.proofs.Common.{◌≡◌, ◌+◌, ◌-◌, ◌≤◌, ℕ, length, Some, sym, ap, subst, inl, inr, arith, Contains, slice_get, slice_index_or}
 use Rattle.std.proofs.lemmas.Bool.{cases_lt, cases_Bool, and_parts}
 use Rattle.std.proofs.lemmas.List.{get_or_past}
 use Rattle.mc_pages.specs.declared.ids.ChunkId.{ChunkId}

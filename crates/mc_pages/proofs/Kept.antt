@@ -1,5 +1,5 @@
 -- What the code keeps of all pages and chunks, after each change.
-use Rattle.std.proofs.Common.{◌≡◌, ◌≢◌, ℕ, ◌+◌, ◌*◌, ◌<◌, ◌≤◌, ◌==◌, Bool, true, false, length, Option, Some, None, if◌then◌else◌, refl, sym, ap, ◌∙◌, subst, inl, inr, arith, Contains, ne_eqb, eq-eqb}
+use Rattle.std.proofs.Common.{◌≡◌, ◌≢◌, ℕ, ◌+◌, ◌*◌, ◌<◌, ◌≤◌, true, length, Option, Some, None, if◌then◌else◌, refl, sym, ap, ◌∙◌, subst, arith, Contains, ne_eqb}
 use Rattle.std.specs.Option.{option_map}
 use Rattle.std.proofs.lemmas.Bool.{both_ways}
 use Rattle.std.proofs.lemmas.Option.{same_Some, none-some}
@@ -9,7 +9,7 @@ use Rattle.mc_pages.specs.Ledger.{owner_at}
 use Rattle.mc_pages.specs.ClassState.{ClassState, popped, put_back, touched, replaced, cleared, evicted, with_cut}
 use Rattle.mc_pages.specs.SlabState.{SlabState, IsClass, class_at, class_of_owner, class_of_page, class_of_chunk}
 use Rattle.mc_pages.specs.Changes.{with_class, after_pop, after_back, after_touch, after_replace, after_clear, after_evicted, after_cut}
-use Rattle.mc_pages.specs.Accounted.{is_moving, cut_count, uncut_count, places_in, IsMove, IsAccounted}
+use Rattle.mc_pages.specs.Accounted.{is_moving, cut_count, uncut_count, places_in, IsAccounted}
 use Rattle.mc_pages.specs.InOrder.{IsBeingCut, IsInOrder}
 use Rattle.mc_pages.proofs.Chunks.{times_from_Contains}
 use Rattle.mc_pages.proofs.HandedOut.{IsClass-handed_out}
@@ -17,7 +17,7 @@ use Rattle.mc_pages.proofs.Owners.{is_of_class-class_of_owner}
 use Rattle.mc_pages.proofs.Redistributed.{Redistributes, Redistributes-popped, Redistributes-put_back, Redistributes-touched, Redistributes-replaced, Redistributes-evicted, IsAccounted-redistributed}
 use Rattle.mc_pages.proofs.CutNext.{uncut_count-own, IsAccounted-after_cut}
 use Rattle.mc_pages.proofs.ClearedChunk.{CanClear, IsAccounted-cleared}
-use Rattle.mc_pages.proofs.Placed.{length-pages_le}
+use Rattle.mc_pages.proofs.GrantedPage.{length-pages_le}
 use Rattle.mc_pages.proofs.Steady.{IsSteady_from, IsSteady-changed, IsBeingCut-with_class, IsBeingCut-next, IsInOrder-with_class}
 pub use Rattle.mc_pages.proofs.Fresh.{IsInOrder-fresh}
 pub use Rattle.mc_pages.proofs.KeptPages.{IsInOrder-after_grant, IsInOrder-after_take}

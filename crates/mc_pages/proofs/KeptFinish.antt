@@ -1,5 +1,5 @@
 -- What the code keeps of all pages and chunks, after a move has ended.
-use Rattle.std.proofs.Common.{◌≡◌, ◌≢◌, ℕ, ◌+◌, ◌*◌, ◌<◌, ◌≤◌, ◌==◌, Bool, true, false, List, [], ◌∷◌, ◌++◌, length, set, count_by, Option, Some, None, if◌then◌else◌, refl, sym, ap, ap₂, ◌∙◌, subst, inl, inr, arith, eq-eqb, ne_eqb, length-set}
+use Rattle.std.proofs.Common.{◌≡◌, ◌≢◌, ℕ, ◌+◌, ◌*◌, ◌<◌, ◌≤◌, ◌==◌, Bool, true, List, [], ◌∷◌, ◌++◌, length, set, Option, None, if◌then◌else◌, refl, sym, ap, ◌∙◌, subst, inl, inr, arith, eq-eqb, ne_eqb, length-set}
 use Rattle.std.proofs.lemmas.Bool.{cases_eq}
 use Rattle.std.proofs.lemmas.Option.{none-some}
 use Rattle.std.proofs.lemmas.List.{set-set}
@@ -10,9 +10,9 @@ use Rattle.mc_pages.specs.declared.ledger.Owner.TheVariants.{Pool, Class}
 use Rattle.mc_pages.specs.declared.ledger.Entry.{Entry}
 use Rattle.mc_pages.specs.declared.ledger.Entry.TheVariants.{Ended}
 use Rattle.mc_pages.specs.Ledger.{owner_at, fits}
-use Rattle.mc_pages.specs.ClassState.{ClassState, counted, without_page}
+use Rattle.mc_pages.specs.ClassState.{counted, without_page}
 use Rattle.mc_pages.specs.SlabState.{SlabState, IsClass, class_at, is_untouched}
-use Rattle.mc_pages.specs.Changes.{with_class, with_given}
+use Rattle.mc_pages.specs.Changes.{with_given}
 use Rattle.mc_pages.specs.Moves.{released, finished, CanFinish}
 use Rattle.mc_pages.specs.Accounted.{truth, is_of_class, is_pool, is_moving, uncut_count, IsMove, IsAccounted}
 use Rattle.mc_pages.specs.InOrder.{AreGranted, IsInOrder}

@@ -1,9 +1,9 @@
 -- What the code keeps of all pages and chunks, after each step of a move.
-use Rattle.std.proofs.Common.{◌≡◌, ◌≢◌, ℕ, ◌+◌, ◌-◌, ◌*◌, ◌<◌, ◌≤◌, ◌==◌, Bool, true, false, cond, not, List, [], ◌∷◌, ◌++◌, length, set, take, count_by, slice_get, slice_index_or, Option, Some, None, Ok, if◌then◌else◌, refl, sym, ap, ◌∙◌, subst, inl, inr, arith, eq-eqb, ne_eqb, length-set}
+use Rattle.std.proofs.Common.{◌≡◌, ◌≢◌, ℕ, ◌-◌, ◌<◌, ◌≤◌, ◌==◌, true, List, length, take, count_by, slice_get, slice_index_or, Option, Some, None, Ok, refl, sym, ap, ◌∙◌, subst, inl, inr, arith, eq-eqb, length-set}
 use Rattle.std.specs.Option.{option_map}
-use Rattle.std.proofs.lemmas.Bool.{cases_eq, cases_Bool, false≢true}
-use Rattle.std.proofs.lemmas.Option.{none-some, slice_get_within, get_or_from_slice_get}
-use Rattle.std.proofs.lemmas.List.{get_or-take, length-take-le, get_or_past}
+use Rattle.std.proofs.lemmas.Bool.{cases_Bool}
+use Rattle.std.proofs.lemmas.Option.{get_or_from_slice_get}
+use Rattle.std.proofs.lemmas.List.{get_or-take, length-take-le}
 use Rattle.std.proofs.lemmas.List.Sums.{sum_by_more_le, get_or-le-sum_by}
 use Rattle.mc_pages.specs.declared.ids.ChunkId.{ChunkId}
 use Rattle.mc_pages.specs.declared.ids.Moving.{Moving}
@@ -13,8 +13,7 @@ use Rattle.mc_pages.specs.declared.ledger.Owner.TheVariants as owner
 use Rattle.mc_pages.specs.declared.ledger.Entry.TheVariants.{Began}
 use Rattle.mc_pages.specs.declared.moves.Found.{Found}
 use Rattle.mc_pages.specs.Ledger.{owner_at, fits}
-use Rattle.mc_pages.specs.ClassState.{ClassState}
-use Rattle.mc_pages.specs.SlabState.{SlabState, IsClass, class_at, class_of_owner, class_of_page, class_of_chunk, is_untouched}
+use Rattle.mc_pages.specs.SlabState.{SlabState, IsClass, class_at, class_of_owner, class_of_page, is_untouched}
 use Rattle.mc_pages.specs.Answer.{answer_of, cursor_after}
 use Rattle.mc_pages.specs.Moves.{first_page, with_move, after_begin, moved_on, begun_anew, after_passed, after_wrap, CanPass, CanWrap}
 use Rattle.mc_pages.specs.Accounted.{truth, is_of_class, is_moving, IsAccounted}
@@ -22,7 +21,6 @@ use Rattle.mc_pages.specs.InOrder.{IsBeingCut, IsInOrder}
 use Rattle.mc_pages.proofs.Cleared.{truth-le_one}
 use Rattle.mc_pages.proofs.Owners.{within_from_is_of_class, owner_at-set_other, AreGranted-set}
 use Rattle.mc_pages.proofs.Placed.{ArePlaced_from, IsAccounted-entry, IsAccounted-numbers}
-use Rattle.mc_pages.proofs.GivenPage.{owner-set_alike}
 use Rattle.mc_pages.proofs.BegunMove.{Class-from_still, still_at_rest, ArePlaced-begun}
 use Rattle.mc_pages.proofs.Source.{source_is}
 use Rattle.mc_pages.proofs.Passes.{IsAccounted-moved, IsMove-passed, IsMove-anew}

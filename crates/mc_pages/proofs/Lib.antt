@@ -7,6 +7,7 @@ pub mod Cleared
 pub mod FirstChunks
 pub mod Redistributed
 pub mod CutNext
+pub mod GrantedPage
 pub mod Placed
 pub mod GivenPage
 pub mod ReleasedPage

@@ -1,16 +1,16 @@
 -- A move goes on, or its pass begins anew: all stays accounted for.
-use Rattle.std.proofs.Common.{◌≡◌, ◌≢◌, ℕ, ◌+◌, ◌-◌, ◌*◌, ◌<◌, ◌≤◌, ◌==◌, Bool, true, false, not, List, length, count_by, Option, Some, None, if◌then◌else◌, refl, sym, ap, ◌∙◌, subst, inl, inr, arith, le_refl}
+use Rattle.std.proofs.Common.{◌≡◌, ℕ, ◌+◌, ◌≤◌, not, count_by, Option, Some, if◌then◌else◌, sym, ap, ◌∙◌, subst, inl, inr, arith, le_refl}
 use Rattle.std.specs.Option.{option_map}
 use Rattle.std.proofs.lemmas.Bool.{cases_Bool, not-false}
 use Rattle.std.proofs.lemmas.Option.{same_Some}
 use Rattle.mc_pages.specs.declared.ids.ChunkId.{ChunkId}
 use Rattle.mc_pages.specs.declared.ids.Moving.{Moving}
 use Rattle.mc_pages.specs.declared.moves.Found.{Found}
-use Rattle.mc_pages.specs.SlabState.{SlabState, IsClass, class_at}
-use Rattle.mc_pages.specs.Moves.{is_held_up, moved_on, begun_anew, chunk_at_position, CanPass, CanWrap, CanFinish}
+use Rattle.mc_pages.specs.SlabState.{SlabState, class_at}
+use Rattle.mc_pages.specs.Moves.{is_held_up, moved_on, begun_anew, chunk_at_position, CanPass, CanFinish}
 use Rattle.mc_pages.specs.Accounted.{truth, is_cleared, first_chunks, cleared_count, left_behind, IsMove, IsAccounted}
 use Rattle.mc_pages.proofs.Cleared.{truth-le_one}
-use Rattle.mc_pages.proofs.FirstChunks.{chunk_of, count_by-first_more, first_fails}
+use Rattle.mc_pages.proofs.FirstChunks.{count_by-first_more, first_fails}
 
 -- the move of the same page is at another position
 pub IsAccounted-moved : (slabs : SlabState) (move next : Moving) (moving : Option Moving) → IsAccounted slabs → slabs.moving ≡ Some move → moving ≡ Some next → next.page ≡ move.page → IsMove slabs next → IsAccounted (record slabs { moving = moving })

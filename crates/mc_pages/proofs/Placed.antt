@@ -1,19 +1,15 @@
 -- What is said of pages and chunks beside the ledger and the limit, and both with one more entry.
-use Rattle.std.proofs.Common.{◌≡◌, ℕ, ◌+◌, ◌*◌, ◌/◌, ◌<◌, ◌≤◌, ◌==◌, Bool, true, false, IsTrue, not, List, [], ◌∷◌, ◌++◌, length, set, count_by, Option, Some, None, refl, sym, ap, ◌∙◌, arith, length-set, div-mul-le_self, mul-le-mul_right, le_trans}
+use Rattle.std.proofs.Common.{◌≡◌, ℕ, ◌+◌, ◌*◌, ◌<◌, ◌==◌, true, IsTrue, [], ◌∷◌, ◌++◌, length, set, count_by, Some, ap, ◌∙◌, length-set}
 use Rattle.std.specs.Option.{option_map}
-use Rattle.std.proofs.lemmas.List.{length-replicate, get_or_past}
-use Rattle.std.proofs.lemmas.List.Sums.{count_by-le-length}
 use Rattle.mc_pages.specs.declared.ids.ChunkId.{ChunkId}
 use Rattle.mc_pages.specs.declared.ids.Moving.{Moving}
 use Rattle.mc_pages.specs.declared.ledger.Owner.{Owner}
-use Rattle.mc_pages.specs.declared.ledger.Owner.TheVariants.{Untouched}
 use Rattle.mc_pages.specs.declared.ledger.Entry.{Entry}
-use Rattle.mc_pages.specs.Ledger.{all_untouched, owner_at, page_of, fits, owner_after, replay}
-use Rattle.mc_pages.specs.SlabState.{SlabState, IsClass, class_at, is_untouched, granted_count}
+use Rattle.mc_pages.specs.Ledger.{owner_at, page_of, fits, owner_after}
+use Rattle.mc_pages.specs.SlabState.{SlabState, IsClass, class_at}
 use Rattle.mc_pages.specs.Accounted.{truth, is_of_class, is_pool, is_moving, uncut_count, is_cut, places_in, is_cleared, cleared_count, IsMove, IsAccounted}
-use Rattle.mc_pages.proofs.Cleared.{truth-le_one}
-use Rattle.mc_pages.proofs.Owners.{length-le_from_counts}
-use Rattle.mc_pages.proofs.Replays.{replay-push, length-replay}
+use Rattle.mc_pages.proofs.GrantedPage.{limit-owners}
+use Rattle.mc_pages.proofs.Replays.{replay-push}
 
 -- what `IsAccounted` says beside the ledger and the limit
 pub record ArePlaced (slabs : SlabState) : Type 0 where
@@ -43,23 +39,6 @@ IsAccounted-numbers slabs cursor moved rescues evictions_nomem busy automove all
       chunks = all.chunks;
       total = all.total;
     }
-
--- as many pages as the limit has room for
-pub length-owners : (slabs : SlabState) → IsAccounted slabs → length slabs.owners ≡ slabs.limit / slabs.page
-length-owners slabs all = length-replay _ slabs.owners slabs.ledger all.replays ∙ length-replicate (slabs.limit / slabs.page) Untouched
-
--- no class has more pages than there are
-pub length-pages_le : (slabs : SlabState) (class : ℕ) → IsAccounted slabs → IsClass slabs class → length (class_at slabs class).pages ≤ length slabs.owners
-length-pages_le slabs class all is =
-    length-le_from_counts (class_at slabs class).pages (length slabs.owners)
-    (λ page. omega (arith, all.pages class page is, truth-le_one (is_of_class class (owner_at slabs.owners page))))
-    (λ page past. all.pages class page is ∙ ap (λ (o : Owner). truth (is_of_class class o)) (get_or_past slabs.owners page Untouched past))
-
--- granted pages are within the limit
-limit-owners : (slabs : SlabState) (owners : List Owner) → IsAccounted slabs → length owners ≡ length slabs.owners → count_by (λ owner. not (is_untouched owner)) owners * slabs.page ≤ slabs.limit
-limit-owners slabs owners all same =
-    let most : count_by (λ owner. not (is_untouched owner)) owners ≤ slabs.limit / slabs.page = omega (arith, count_by-le-length (λ owner. not (is_untouched owner)) owners, same, length-owners slabs all) in
-    le_trans (mul-le-mul_right slabs.page most) (div-mul-le_self slabs.limit slabs.page)
 
 -- one more entry, which fits the owner that it finds, accounts for the owner that it leaves
 pub IsAccounted-entry : (slabs new : SlabState) (entry : Entry) (owner : Owner) → IsAccounted slabs → page_of entry < length slabs.owners → fits entry (owner_at slabs.owners (page_of entry)) ≡ true → owner_after entry ≡ owner → ArePlaced (record new { owners = set slabs.owners (page_of entry) owner }) → IsAccounted (record new { page = slabs.page; limit = slabs.limit; owners = set slabs.owners (page_of entry) owner; ledger = slabs.ledger ++ entry ∷ [] })

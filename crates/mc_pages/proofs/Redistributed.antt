@@ -1,12 +1,12 @@
 -- Chunks that change between the free list and the hand-out order of a class: all stays accounted for.
-use Rattle.std.proofs.Common.{◌≡◌, ℕ, ◌+◌, ◌-◌, ◌*◌, ◌≤◌, ◌==◌, ◌&&◌, nat_lt, List, [], ◌∷◌, length, count_by, Option, Some, None, if◌then◌else◌, refl, sym, ap, ap₂, ◌∙◌, arith, length-append}
+use Rattle.std.proofs.Common.{◌≡◌, ℕ, ◌+◌, ◌-◌, ◌*◌, ◌≤◌, ◌==◌, ◌&&◌, nat_lt, List, [], ◌∷◌, length, count_by, Option, Some, None, if◌then◌else◌, refl, ap, ap₂, ◌∙◌, arith, length-append}
 use Rattle.mc_pages.specs.declared.ids.ChunkId.{ChunkId}
 use Rattle.mc_pages.specs.declared.ledger.Owner.{Owner}
 use Rattle.mc_pages.specs.Ledger.{owner_at}
-use Rattle.mc_pages.specs.ClassState.{ClassState, times, without, with_before, handed_out, popped, put_back, touched, replaced, evicted}
+use Rattle.mc_pages.specs.ClassState.{ClassState, times, without, handed_out, popped, put_back, touched, replaced, evicted}
 use Rattle.mc_pages.specs.SlabState.{SlabState, IsClass, class_at}
 use Rattle.mc_pages.specs.Changes.{with_class}
-use Rattle.mc_pages.specs.Accounted.{truth, is_of_class, cut_count, uncut_count, is_cut, places_in, IsAccounted}
+use Rattle.mc_pages.specs.Accounted.{truth, is_of_class, cut_count, uncut_count, is_cut, IsAccounted}
 use Rattle.mc_pages.proofs.Chunks.{times-cons, times-push, times-without, length-without}
 use Rattle.mc_pages.proofs.Lists.{times-with_before, length-with_before}
 use Rattle.mc_pages.proofs.Cleared.{ClearsAlike, is_cleared-alike, cleared_count-alike, IsMove-alike}

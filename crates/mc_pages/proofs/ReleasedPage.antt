@@ -1,7 +1,7 @@
 -- A page whose chunks are all cleared leaves its class: all keep their places.
-use Rattle.std.proofs.Common.{◌≡◌, ◌≢◌, ℕ, ◌+◌, ◌-◌, ◌*◌, ◌<◌, ◌≤◌, ◌==◌, Bool, true, false, cond, not, ◌&&◌, nat_lt, List, [], ◌∷◌, ◌++◌, length, set, filter, count_by, Option, Some, None, if◌then◌else◌, refl, sym, ap, ap₂, ◌∙◌, inl, inr, arith, eq-eqb, ne_eqb, eqb-true, ltb-true}
+use Rattle.std.proofs.Common.{◌≡◌, ◌≢◌, ℕ, ◌+◌, ◌*◌, ◌<◌, ◌==◌, Bool, false, cond, not, ◌&&◌, nat_lt, List, [], ◌∷◌, ◌++◌, length, set, filter, count_by, Option, Some, None, if◌then◌else◌, refl, sym, ap, ap₂, ◌∙◌, inl, inr, arith, eq-eqb, ne_eqb, eqb-true, ltb-true}
 use Rattle.std.specs.Option.{option_map}
-use Rattle.std.proofs.lemmas.Bool.{cases_eq, cases_Bool, and_parts, and_left, and_right, both_ways, false_from_ne_true, false≢true}
+use Rattle.std.proofs.lemmas.Bool.{cases_eq, cases_Bool, and_parts, and_left, and_right, both_ways, false_from_ne_true}
 use Rattle.std.proofs.lemmas.Option.{same_Some, none-some}
 use Rattle.std.proofs.lemmas.List.Sums.{sum_by-cons, sum_by_push, length-filter}
 use Rattle.std.proofs.lemmas.List.Filters.{length-filter_both}
@@ -9,7 +9,6 @@ use Rattle.mc_pages.specs.declared.ids.ChunkId.{ChunkId}
 use Rattle.mc_pages.specs.declared.ids.Moving.{Moving}
 use Rattle.mc_pages.specs.declared.ledger.Owner.{Owner}
 use Rattle.mc_pages.specs.declared.ledger.Owner.TheVariants.{Pool}
-use Rattle.mc_pages.specs.declared.ledger.Owner.TheVariants as owner
 use Rattle.mc_pages.specs.Ledger.{owner_at}
 use Rattle.mc_pages.specs.ClassState.{ClassState, times, without_page}
 use Rattle.mc_pages.specs.SlabState.{SlabState, IsClass, class_at}

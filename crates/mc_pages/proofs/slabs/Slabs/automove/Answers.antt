@@ -1,1 +1,0 @@
-use Rattle.mc_pages.proofs.Kept.{IsInOrder-after_clear, IsInOrder-finished}
