@@ -79,9 +79,9 @@ ArePlaced-in_class slabs move all whole can to =
     let inside : move.page < length pool.owners = omega (arith, within, length-set slabs.owners move.page Pool) in
     let once = set-set slabs.owners move.page Pool (Class move.dst) in
     let pooled = λ (other : ℕ).
-        let kept = owner-set_alike is_pool slabs.owners move.page other (Class move.dst) within (sym (ap is_pool is.owner)) in
-        let now = ap (λ (os : List Owner). is_pool (owner_at os other)) once in
-        all.pool other ∙ ap truth (sym (now ∙ kept)) in
+    let kept = owner-set_alike is_pool slabs.owners move.page other (Class move.dst) within (sym (ap is_pool is.owner)) in
+    let now = ap (λ (os : List Owner). is_pool (owner_at os other)) once in
+    all.pool other ∙ ap truth (sym (now ∙ kept)) in
     ArePlaced-given pool move.dst move.page slabs.pool (ArePlaced-released slabs move all whole can) to whole inside free pooled
 
 -- the move to a class ends
