@@ -7,3 +7,5 @@ pub mod CutNext
 pub mod GrantedPage
 pub mod HandedOut
 pub mod Kept
+pub mod Promised
+pub mod Roomy
