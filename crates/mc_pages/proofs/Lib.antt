@@ -9,3 +9,4 @@ pub mod HandedOut
 pub mod Kept
 pub mod Promised
 pub mod Roomy
+pub mod RoomySlabs
