@@ -94,17 +94,21 @@ slabs_of-changed slabs class place read new f is at h changed =
     ap (λ (cs : List ClassState). record (slabs_of slabs) { classes = cs }) (map-set (λ (c : RoomyClass). c.state) slabs.classes.items place new)
     ∙ ap₂ (λ (n : ℕ) (c : ClassState). record (slabs_of slabs) { classes = set (slabs_of slabs).classes n c }) at state
 
+-- there is room in each class after a change of one that leaves its pages
+pub fits-changed_by : (slabs : Inside) (class place : ℕ) (read new : RoomyClass) (f : ClassState → ClassState) → AreKept slabs → IsClass (slabs_of slabs) class → place ≡ class - 1 → read ≡ slice_index_or slabs.classes.items place read → new ≡ in_state read (f read.state) → length (f (class_at (slabs_of slabs) class)).pages ≡ length (class_at (slabs_of slabs) class).pages → (other : ℕ) → IsClass (slabs_of (with_roomy slabs place new)) other → Fits (set slabs.classes.items place new) (truth (is_awaited slabs.moving other)) other
+fits-changed_by slabs class place read new f kept is at h changed pages =
+    let state : new.state ≡ f (class_at (slabs_of slabs) class) = ap (λ (c : RoomyClass). c.state) changed ∙ ap f (read_state slabs class place read is at h) in
+    let room : new.room ≡ room_at slabs.classes.items class = ap (λ (c : RoomyClass). c.room) changed ∙ read_room slabs class place read is at h in
+    fits-changed slabs class place new kept is at (ap (λ (c : ClassState). length c.pages) state ∙ pages) (omega arith)
+
 -- all is kept after a change of one class that leaves its pages
 pub AreKept-changed : (slabs : Inside) (class place : ℕ) (read new : RoomyClass) (f : ClassState → ClassState) → AreKept slabs → IsClass (slabs_of slabs) class → place ≡ class - 1 → read ≡ slice_index_or slabs.classes.items place read → new ≡ in_state read (f read.state) → length (f (class_at (slabs_of slabs) class)).pages ≡ length (class_at (slabs_of slabs) class).pages → IsInOrder (with_class (slabs_of slabs) class (f (class_at (slabs_of slabs) class))) slabs.granted → AreKept (with_roomy slabs place new)
 AreKept-changed slabs class place read new f kept is at h changed pages order =
-    let seen = slabs_of-changed slabs class place read new f is at h changed in
-    let state : new.state ≡ f (class_at (slabs_of slabs) class) = ap (λ (c : RoomyClass). c.state) changed ∙ ap f (read_state slabs class place read is at h) in
-    let room : new.room ≡ room_at slabs.classes.items class = ap (λ (c : RoomyClass). c.room) changed ∙ read_room slabs class place read is at h in
     record {
-      order = subst (λ (s : SlabState). IsInOrder s slabs.granted) (sym seen) order;
+      order = subst (λ (s : SlabState). IsInOrder s slabs.granted) (sym (slabs_of-changed slabs class place read new f is at h changed)) order;
       ledger = kept.ledger;
       pool = kept.pool;
-      classes = fits-changed slabs class place new kept is at (ap (λ (c : ClassState). length c.pages) state ∙ pages) (omega arith);
+      classes = fits-changed_by slabs class place read new f kept is at h changed pages;
     }
 
 -- a chunk that is handed out leaves the pages

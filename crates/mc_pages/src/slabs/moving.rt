@@ -88,15 +88,10 @@ impl Slabs {
     {
         if let Some(moving) = &mut self.moving {
             moving.at += 1;
-            if matches!(found, Found::Busy | Found::Locked) {
-                moving.busy += 1;
-            }
+            moving.busy += found.held_up();
         }
-        match found {
-            Found::Rescued => self.rescues = self.rescues.saturating_add(1),
-            Found::Evicted => self.evictions_nomem = self.evictions_nomem.saturating_add(1),
-            _ => {}
-        }
+        self.rescues = self.rescues.saturating_add(found.rescued());
+        self.evictions_nomem = self.evictions_nomem.saturating_add(found.evicted());
     }
 
     /// Begins the pass anew from the page's top, and counts the chunks that held it up. The counter stays at 2^64 - 1
