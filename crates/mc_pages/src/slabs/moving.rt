@@ -86,12 +86,12 @@ impl Slabs {
         ensures passed { self.new ≡ after_passed self.old found }
         ensures accounted { IsAccounted self.new }
     {
+        self.rescues = self.rescues.saturating_add(found.rescued());
+        self.evictions_nomem = self.evictions_nomem.saturating_add(found.evicted());
         if let Some(moving) = &mut self.moving {
             moving.at += 1;
             moving.busy += found.held_up();
         }
-        self.rescues = self.rescues.saturating_add(found.rescued());
-        self.evictions_nomem = self.evictions_nomem.saturating_add(found.evicted());
     }
 
     /// Begins the pass anew from the page's top, and counts the chunks that held it up. The counter stays at 2^64 - 1

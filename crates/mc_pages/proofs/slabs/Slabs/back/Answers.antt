@@ -39,7 +39,7 @@ invariant_of-self c =
     let handed = subst (IsHandedOut c.args.chunk) (sym c.self.view_is) c.requires in
     let is = IsClass-handed_out slabs c.args.chunk c.self.invariant.order.accounted handed in
     let at = c.class_place-place.ensures ∙ ap (place_in c.args.chunk) (sym c.self.view_is) in
-    AreKept-changed c.self.inside (class_of_page slabs c.args.chunk.page) _ _ _ (λ class. put_back class c.args.chunk) c.self.invariant is at c.index_mut.ensures.value c.put_back.ensures refl
+    AreKept-changed c.self.inside (class_of_page slabs c.args.chunk.page) _ _ _ (λ class. put_back class c.args.chunk) c.self.invariant is at c.index_mut.ensures.value c.put_back.ensures (record { pages = refl; per_page = refl })
     (IsInOrder-after_back slabs c.self.inside.granted c.args.chunk c.self.invariant.order handed)
 
 pub returns-clause-back : goal.returns-clause-back

@@ -5,7 +5,7 @@ use Rattle.mc_pages.specs.SlabState.{SlabState, IsClass, class_of_page, class_of
 use Rattle.mc_pages.specs.Changes.{next_uncut, after_cut}
 use Rattle.mc_pages.specs.InOrder.{IsInOrder, IsBeingCut, slabs_of}
 use Rattle.mc_pages.proofs.Promised.{below_total, IsInOrder-after_cut}
-use Rattle.mc_pages.proofs.RoomySlabs.{length-states, read_state, slabs_of-changed, fits-changed_by, with_roomy}
+use Rattle.mc_pages.proofs.RoomySlabs.{length-states, read_state, slabs_of-changed, fits-changed_by, per_page-changed_by, with_roomy, Leaves}
 use Rattle.mc_pages.proofs.slabs.Slabs.cut.Goals as goal
 use Rattle.mc_pages.proofs.slabs.Slabs.cut.Goals.{After-index_mut-slab}
 
@@ -71,11 +71,14 @@ invariant_of-self c =
     let chunk : ChunkId = record { page = c.args.page; index = c.args.index } in
     let first = lowest (goal.at.invariant_of-self c).After-index_mut-slab in
     let at = c.class_place-place.ensures ∙ ap (place_in chunk) (sym c.self.view_is) in
+    let is = (c.self.invariant.order.uncut chunk first).owned in
+    let leaves : Leaves (class_of_chunk slabs chunk) (with_cut (class_of_chunk slabs chunk) chunk) = record { pages = refl; per_page = refl } in
     record {
       order = subst (λ (s : SlabState). IsInOrder s c.self.inside.granted) (sym (cut_is c)) (IsInOrder-after_cut slabs c.self.inside.granted chunk c.self.invariant.order first);
       ledger = c.self.invariant.ledger;
       pool = c.self.invariant.pool;
-      classes = fits-changed_by c.self.inside (class_of_page slabs c.args.page) _ _ _ (λ class. with_cut class chunk) c.self.invariant (c.self.invariant.order.uncut chunk first).owned at c.index_mut-slab.ensures.value c.cut.ensures refl;
+      classes = fits-changed_by c.self.inside (class_of_page slabs c.args.page) _ _ _ (λ class. with_cut class chunk) c.self.invariant is at c.index_mut-slab.ensures.value c.cut.ensures leaves;
+      per_page = per_page-changed_by c.self.inside (class_of_page slabs c.args.page) _ _ _ (λ class. with_cut class chunk) c.self.invariant is at c.index_mut-slab.ensures.value c.cut.ensures leaves;
     }
 
 pub returns-clause-cut : goal.returns-clause-cut

@@ -9,6 +9,7 @@ invariant_of-self c =
       ledger = c.self.invariant.ledger;
       pool = c.self.invariant.pool;
       classes = c.self.invariant.classes;
+      per_page = c.self.invariant.per_page;
     }
 
 pub returns-clause-accounted : goal.returns-clause-accounted
