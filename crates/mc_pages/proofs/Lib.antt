@@ -10,3 +10,4 @@ pub mod Kept
 pub mod Promised
 pub mod Roomy
 pub mod RoomySlabs
+pub mod RoomyMoves
