@@ -11,3 +11,4 @@ pub mod Promised
 pub mod Roomy
 pub mod RoomySlabs
 pub mod RoomyMoves
+pub mod RoomyFresh
