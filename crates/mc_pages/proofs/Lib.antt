@@ -22,3 +22,8 @@ pub mod KeptMoves
 pub mod KeptFinish
 pub mod HandedOut
 pub mod Kept
+pub mod Promised
+pub mod Roomy
+pub mod RoomySlabs
+pub mod RoomyMoves
+pub mod RoomyFresh

@@ -71,3 +71,4 @@ pub record AreKept (slabs : Inside) : Type 0 where
   pub pool : vec_len slabs.pool + truth (is_awaited slabs.moving 0) ≤ vec_capacity slabs.pool
   pub classes : (class : ℕ) → IsClass (slabs_of slabs) class →
       length (class_at (slabs_of slabs) class).pages + truth (is_awaited slabs.moving class) ≤ room_at slabs.classes.items class
+  pub per_page : (class : ℕ) → IsClass (slabs_of slabs) class → (class_at (slabs_of slabs) class).per_page ≤ 256

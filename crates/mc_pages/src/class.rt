@@ -77,8 +77,8 @@ impl SlabClass {
         ensures popped { self.new ≡ in_state self.old (popped self.old.state) }
     {
         let chunk = self.free.pop()?;
-        // The list has room for every chunk of the pages, so this can't fail, nor can the pushes below.
-        let _ = self.order.push(chunk);
+        // The list has room for every chunk of the pages, so this can't fail, and neither can the pushes below.
+        self.order.push(chunk).unwrap();
         Some(chunk)
     }
 
@@ -88,7 +88,7 @@ impl SlabClass {
         ensures { self.new ≡ in_state self.old (put_back self.old.state chunk) }
     {
         take_out(&mut self.order, chunk);
-        let _ = self.free.push(chunk);
+        self.free.push(chunk).unwrap();
     }
 
     /// Takes a handed-out chunk to the back of the hand-out order.
@@ -97,7 +97,7 @@ impl SlabClass {
         ensures { self.new ≡ in_state self.old (touched self.old.state chunk) }
     {
         take_out(&mut self.order, chunk);
-        let _ = self.order.push(chunk);
+        self.order.push(chunk).unwrap();
     }
 
     /// Gives a free chunk the place of a handed-out one, which stands directly behind it then.
@@ -124,7 +124,7 @@ impl SlabClass {
         requires { length self.old.state.free + length self.old.state.order < length self.old.state.pages * self.old.state.per_page }
         ensures { self.new ≡ in_state self.old (with_cut self.old.state next) }
     {
-        let _ = self.free.push(next);
+        self.free.push(next).unwrap();
     }
 
     /// Makes room for so many pages and all of their chunks.
@@ -150,7 +150,7 @@ impl SlabClass {
         requires { length self.old.state.pages < self.old.room }
         ensures { self.new ≡ in_state self.old (with_page self.old.state page) }
     {
-        let _ = self.pages.push(page);
+        self.pages.push(page).unwrap();
     }
 
     /// Gives up a page, none of whose chunks is in a list any more.
@@ -217,7 +217,7 @@ fn put_before(chunks: &mut Vec<ChunkId>, new: ChunkId, old: ChunkId)
     ensures capacity { vec_capacity chunks.new ≡ vec_capacity chunks.old }
 {
     if let Some(place) = place_of(chunks, old) {
-        let _ = chunks.insert(place, new);
+        chunks.insert(place, new).unwrap();
     }
 }
 

@@ -18,6 +18,41 @@ pub enum Found {
     Already,
 }
 
+impl Found {
+    ghost use Rattle.std.specs.Prelude.{◌≡◌, if◌then◌else◌};
+    ghost use Rattle.mc_pages.specs.Moves.{is_held_up, rescued_of, evicted_of};
+
+    /// 1 for what holds up the move.
+    pub(crate) fn held_up(self) -> u64
+        ensures { result ≡ (if is_held_up self then 1 else 0) }
+    {
+        match self {
+            Found::Busy | Found::Locked => 1,
+            _ => 0,
+        }
+    }
+
+    /// 1 for an item that was taken to another chunk.
+    pub(crate) fn rescued(self) -> u64
+        ensures { result ≡ rescued_of self }
+    {
+        match self {
+            Found::Rescued => 1,
+            _ => 0,
+        }
+    }
+
+    /// 1 for an item that was evicted as there was no other chunk.
+    pub(crate) fn evicted(self) -> u64
+        ensures { result ≡ evicted_of self }
+    {
+        match self {
+            Found::Evicted => 1,
+            _ => 0,
+        }
+    }
+}
+
 /// Why no page begins to move.
 #[derive(Clone, Copy, Debug, PartialEq, Eq)]
 pub enum Reassign {

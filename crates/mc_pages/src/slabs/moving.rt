@@ -1,5 +1,5 @@
 //! A page on its way from one class to another, or to the pool.
-ghost use Rattle.std.specs.Prelude.{◌≡◌, length, IfOk, OnOk, OnErr, None};
+ghost use Rattle.std.specs.Prelude.{◌≡◌, length, nat_lt, IfOk, OnOk, OnErr, None};
 ghost use Rattle.mc_pages.specs.declared.ids.Moving.{Moving};
 ghost use Rattle.mc_pages.specs.SlabState.{IsClass, class_at};
 ghost use Rattle.mc_pages.specs.Answer.{answer_of, pick, MayAnswer};
@@ -86,16 +86,11 @@ impl Slabs {
         ensures passed { self.new ≡ after_passed self.old found }
         ensures accounted { IsAccounted self.new }
     {
+        self.rescues = self.rescues.saturating_add(found.rescued());
+        self.evictions_nomem = self.evictions_nomem.saturating_add(found.evicted());
         if let Some(moving) = &mut self.moving {
             moving.at += 1;
-            if matches!(found, Found::Busy | Found::Locked) {
-                moving.busy += 1;
-            }
-        }
-        match found {
-            Found::Rescued => self.rescues = self.rescues.saturating_add(1),
-            Found::Evicted => self.evictions_nomem = self.evictions_nomem.saturating_add(1),
-            _ => {}
+            moving.busy += found.held_up();
         }
     }
 
@@ -131,7 +126,7 @@ impl Slabs {
         if source == 0 || source > count || dst > count {
             return Err(Reassign::BadClass);
         }
-        if self.pages_of(source) < 2 {
+        if !self.has_spare(source) {
             return Err(Reassign::NoSpare);
         }
         Ok(source)
@@ -142,16 +137,18 @@ impl Slabs {
         ensures { result ≡ pick self.now dst }
     {
         let count = self.classes.len() as u64;
-        (self.cursor + 1..=count)
-            .chain(1..=self.cursor)
-            .find(|class| *class != dst && self.pages_of(*class) > 1)
+        (self.cursor + 1..count + 1)
+            .chain(1..self.cursor + 1)
+            .find(|class| *class != dst && self.has_spare(*class))
     }
 
-    /// How many pages the class has.
-    fn pages_of(&self, class: ClassId) -> usize
-        requires { IsClass self.now class }
-        ensures { result ≡ length (class_at self.now class).pages }
+    /// The class has more than one page.
+    fn has_spare(&self, class: ClassId) -> bool
+        ensures { result ≡ nat_lt 1 (length (class_at self.now class).pages) }
     {
-        self.classes[class as usize - 1].page_count()
+        match self.classes.get((class as usize).saturating_sub(1)) {
+            Some(slab) => slab.page_count() > 1,
+            None => false,
+        }
     }
 }

@@ -1,0 +1,23 @@
+use Rattle.std.proofs.Common.{refl, sym, ap, ◌∙◌, subst}
+use Rattle.mc_pages.specs.ClassState.{evicted}
+use Rattle.mc_pages.specs.SlabState.{SlabState, IsClass}
+use Rattle.mc_pages.specs.Changes.{after_evicted}
+use Rattle.mc_pages.specs.InOrder.{slabs_of}
+use Rattle.mc_pages.proofs.Promised.{IsInOrder-after_evicted}
+use Rattle.mc_pages.proofs.RoomySlabs.{slabs_of-changed, AreKept-changed}
+use Rattle.mc_pages.proofs.slabs.Slabs.evicted.Goals as goal
+
+pub invariant_of-self : goal.invariant_of-self
+invariant_of-self c =
+    let is = subst (λ (s : SlabState). IsClass s c.args.class) (sym c.self.view_is) c.requires in
+    AreKept-changed c.self.inside c.args.class _ _ _ evicted c.self.invariant is refl c.index_mut.ensures.value c.count_eviction.ensures (record { pages = refl; per_page = refl })
+    (IsInOrder-after_evicted (slabs_of c.self.inside) c.self.inside.granted c.args.class c.self.invariant.order is)
+
+pub returns-clause-evicted : goal.returns-clause-evicted
+returns-clause-evicted c =
+    let is = subst (λ (s : SlabState). IsClass s c.args.class) (sym c.self.view_is) c.requires in
+    slabs_of-changed c.self.inside c.args.class _ _ _ evicted is refl c.index_mut.ensures.value c.count_eviction.ensures
+    ∙ ap (λ (s : SlabState). after_evicted s c.args.class) c.self.view_is
+
+pub returns-clause-accounted : goal.returns-clause-accounted
+returns-clause-accounted c = (invariant_of-self c).order.accounted

@@ -1,0 +1,54 @@
+use Rattle.std.proofs.Common.{◌≡◌, ℕ, ◌+◌, ◌≤◌, List, None, length, refl, arith, sym, ap, ap₂, ◌∙◌, subst}
+use Rattle.mc_pages.specs.declared.ledger.Owner.{Owner}
+use Rattle.mc_pages.specs.declared.ledger.Entry.{Entry}
+use Rattle.mc_pages.specs.Ledger.{all_untouched}
+use Rattle.mc_pages.specs.ClassState.{ClassState}
+use Rattle.mc_pages.specs.SlabState.{SlabState, IsClass, class_at, fresh_slabs}
+use Rattle.mc_pages.specs.InOrder.{IsInOrder}
+use Rattle.mc_pages.proofs.RoomySlabs.{states}
+use Rattle.mc_pages.proofs.RoomyFresh.{IsInOrder-fresh, per_page-fresh, pages-fresh, states-roomless}
+use Rattle.mc_pages.proofs.slabs.Slabs.new.Goals as goal
+
+-- a whole of which nothing was granted
+abbrev fresh_with : ℕ → ℕ → ℕ → List ClassState → List Owner → List ℕ → List Entry → SlabState
+fresh_with page limit cursor classes owners pool ledger = record {
+  page = page;
+  limit = limit;
+  classes = classes;
+  owners = owners;
+  pool = pool;
+  ledger = ledger;
+  uncut = None;
+  moving = None;
+  cursor = cursor;
+  moved = 0;
+  rescues = 0;
+  evictions_nomem = 0;
+  busy = 0;
+  automove = 0;
+}
+
+pub returns-clause-fresh : goal.returns-clause-fresh
+returns-clause-fresh c =
+    let classes : states c.in_ok-classes.classes.items ≡ (fresh_slabs c.args.table.now).classes = ap states c.in_ok-classes.ensures ∙ states-roomless (fresh_slabs c.args.table.now).classes in
+    let owners = c.in_ok-owners.ensures.items_if_clones_equal (λ y e. e) ∙ ap all_untouched c.pages.ensures.pages in
+    ap₂ (λ (page limit : ℕ). fresh_with page limit c.count.result (states c.in_ok-classes.classes.items) c.in_ok-owners.owners.items c.new.result.items c.new-2.result.items) c.page.ensures.page c.limit.ensures.limit
+    ∙ (ap₂ (λ (cs : List ClassState) (os : List Owner). fresh_with c.args.table.now.page c.args.table.now.limit c.count.result cs os c.new.result.items c.new-2.result.items) classes owners
+    ∙ (ap₂ (λ (pool : List ℕ) (ledger : List Entry). fresh_with c.args.table.now.page c.args.table.now.limit c.count.result (fresh_slabs c.args.table.now).classes (fresh_slabs c.args.table.now).owners pool ledger) c.new.ensures.items c.new-2.ensures.items
+    ∙ ap (λ (n : ℕ). record (fresh_slabs c.args.table.now) { cursor = n }) c.count.ensures.count))
+
+pub invariant_of-result : goal.invariant_of-result
+invariant_of-result c =
+    let fresh = returns-clause-fresh c in
+    let table = c.args.table.now in
+    let sound = c.count.ensures.sound in
+    record {
+      order = subst (λ (s : SlabState). IsInOrder s 0) (sym fresh) (IsInOrder-fresh table sound);
+      ledger = omega (arith, c.new-2.ensures.len);
+      pool = omega (arith, c.new.ensures.len);
+      classes = λ class is. omega (arith, ap (λ (s : SlabState). length (class_at s class).pages) fresh, pages-fresh table class (subst (λ (s : SlabState). IsClass s class) fresh is));
+      per_page = λ class is. omega (arith, ap (λ (s : SlabState). (class_at s class).per_page) fresh, per_page-fresh table sound class (subst (λ (s : SlabState). IsClass s class) fresh is));
+    }
+
+pub returns-clause-accounted : goal.returns-clause-accounted
+returns-clause-accounted c = (invariant_of-result c).order.accounted

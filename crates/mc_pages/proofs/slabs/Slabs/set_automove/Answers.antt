@@ -1,0 +1,16 @@
+use Rattle.mc_pages.specs.InOrder.{slabs_of}
+use Rattle.mc_pages.proofs.Promised.{IsInOrder-automove}
+use Rattle.mc_pages.proofs.slabs.Slabs.set_automove.Goals as goal
+
+pub invariant_of-self : goal.invariant_of-self
+invariant_of-self c =
+    record {
+      order = IsInOrder-automove (slabs_of c.self.inside) c.self.inside.granted c.args.mode c.self.invariant.order;
+      ledger = c.self.invariant.ledger;
+      pool = c.self.invariant.pool;
+      classes = c.self.invariant.classes;
+      per_page = c.self.invariant.per_page;
+    }
+
+pub returns-clause-accounted : goal.returns-clause-accounted
+returns-clause-accounted c = (invariant_of-self c).order.accounted
