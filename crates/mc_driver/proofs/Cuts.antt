@@ -10,7 +10,7 @@ use Rattle.mc_pages.specs.ClassState.{ClassState, new_class}
 use Rattle.mc_pages.specs.SlabState.{SlabState, class_at, class_of_owner, class_of_page, class_of_chunk}
 use Rattle.mc_pages.specs.Ledger.{owner_at}
 use Rattle.mc_pages.specs.Changes.{after_cut}
-use Rattle.mc_driver.specs.Machine.{chunks_of}
+use Rattle.mc_pages.specs.Accounted.{first_chunks}
 use Rattle.mc_driver.proofs.Moves.{per_pages-cuts, owners-cuts}
 
 -- a chunk by its page and its place there
@@ -38,18 +38,18 @@ per_page-cuts slabs chunks x =
     ∙ ap (λ (owners : List Owner). (class_at slabs (class_of_owner (owner_at owners x.page))).per_page) (owners-cuts slabs chunks)
 
 -- one more chunk is cut
-pub cuts_more : (slabs now : SlabState) (page index : ℕ) → now ≡ fold after_cut slabs (chunks_of page index)
-    → after_cut now (chunk_at page index) ≡ fold after_cut slabs (chunks_of page (index + 1))
+pub cuts_more : (slabs now : SlabState) (page index : ℕ) → now ≡ fold after_cut slabs (first_chunks page index)
+    → after_cut now (chunk_at page index) ≡ fold after_cut slabs (first_chunks page (index + 1))
 cuts_more slabs now page index so_far =
     ap (λ (s : SlabState). after_cut s (chunk_at page index)) so_far
     ∙ sym (ap (λ cs. fold after_cut slabs cs) (map-range_with_len_more (λ i. chunk_at page i) 0 index index (zero-add index))
-    ∙ fold-append after_cut slabs (chunks_of page index) (chunk_at page index ∷ []))
+    ∙ fold-append after_cut slabs (first_chunks page index) (chunk_at page index ∷ []))
 
 -- and the next one is behind it
-pub next_after_cut : (slabs now : SlabState) (page per_page index : ℕ) → now ≡ fold after_cut slabs (chunks_of page index)
+pub next_after_cut : (slabs now : SlabState) (page per_page index : ℕ) → now ≡ fold after_cut slabs (first_chunks page index)
     → (class_of_chunk slabs (chunk_at page 0)).per_page ≡ per_page
     → (after_cut now (chunk_at page index)).uncut ≡ next_cut page per_page (index + 1)
 next_after_cut slabs now page per_page index so_far same =
     let kept : (class_of_chunk now (chunk_at page index)).per_page ≡ per_page
-    = rw so_far (per_page-cuts slabs (chunks_of page index) (chunk_at page index) ∙ same) in
+    = rw so_far (per_page-cuts slabs (first_chunks page index) (chunk_at page index) ∙ same) in
     rw kept refl

@@ -7,16 +7,15 @@ use Rattle.std.specs.Map.{lookup}
 use Rattle.std.specs.Option.{option_map_or}
 use Rattle.std.proofs.lemmas.Bool.Decides.{nat_tests, leb_tells}
 use Rattle.std.proofs.lemmas.List.{get_or-set_other, get_or_past, length-set, length-map}
-use Rattle.std.proofs.lemmas.List.Quantifiers.{position-Some}
 use Rattle.mc_classes.specs.Classes.{Classes, IsSound}
 use Rattle.mc_pages.specs.declared.ids.ChunkId.{ChunkId}
 use Rattle.mc_pages.specs.declared.ledger.Owner.{Owner}
-use Rattle.mc_pages.specs.declared.ledger.Owner.TheVariants.{Untouched, Pool, Class, Moving}
+use Rattle.mc_pages.specs.declared.ledger.Owner.TheVariants.{Untouched, Class}
 use Rattle.mc_pages.specs.Ledger.{owner_at}
 use Rattle.mc_pages.specs.ClassState.{ClassState, new_class, is_chunk, times, without, first_free, popped, handed_out, put_back, with_page}
-use Rattle.mc_pages.specs.SlabState.{SlabState, IsClass, class_at, class_of_owner, class_of_page, class_of_chunk, fresh_slabs, untouched_page, is_untouched}
+use Rattle.mc_pages.specs.SlabState.{SlabState, IsClass, class_at, class_of_owner, class_of_page, class_of_chunk, fresh_slabs}
 use Rattle.mc_pages.specs.Accounted.{IsAccounted}
-use Rattle.mc_pages.specs.Changes.{after_pop, after_back, after_grant, after_cut}
+use Rattle.mc_pages.specs.Changes.{after_pop, after_back, after_grow, after_cut, next_page}
 use Rattle.mc_driver.specs.Item.{Item, new_item, is_dead_item}
 use Rattle.mc_driver.specs.Items.{Items, chunk_cmp, item_at, is_dead, with_item, without_item, unlinked_in, unlinked_items, linked_chunk}
 use Rattle.mc_driver.specs.Kept.{places, IsKept, IsVacant}
@@ -24,6 +23,7 @@ use Rattle.mc_driver.proofs.Chunks.{places_none, places-with_item, places-unlink
 use Rattle.mc_driver.proofs.Links.{links_none, links-with_item, links-unlinked_items, links-without_item-le, linked_chunk-with_item, linked_chunk-unlinked_items, linked_chunk-without_item, some_places, LinkedIn, linked_in, unlinked_items_none}
 use Rattle.mc_pages.proofs.Chunks.{is_chunk-same, times-without, times-cons}
 use Rattle.mc_driver.proofs.Orders.{in_lists_once, page_of_listed}
+use Rattle.mc_driver.proofs.GivenPage.{nobody_next, classes-grown, owners-grown, page-grown, limit-grown, class_at-grown}
 use Rattle.mc_driver.proofs.Moves.{class_at-with_class, class_at-with_other, order-with_class, owners-cuts, classes-cuts, order-cuts, handed-order, handed-chunk, per_page-handed, per_pages-with_class, per_pages-cuts, page-cuts, limit-cuts}
 
 -- two chunks compare equal and are one, or don't
@@ -262,21 +262,24 @@ kept_reclaim table slabs index items x kept accounted dead valid =
       ];
     }
 
--- after a class got an untouched page and its chunks were cut
+-- after a class got the next page and its chunks were cut
 pub kept_grow : (table : Classes) (slabs : SlabState) (index : List (ℕ × ChunkId)) (items : Items) (class page : ℕ) (chunks : List ChunkId)
-    → IsKept table slabs index items → IsClass slabs class → untouched_page slabs ≡ Some page
-    → IsAccounted (fold after_cut (after_grant slabs class page) chunks)
-    → (fold after_cut (after_grant slabs class page) chunks).uncut ≡ None
-    → IsKept table (fold after_cut (after_grant slabs class page) chunks) index items
-kept_grow table slabs index items class page chunks kept valid untouched accounted whole =
-    let fresh = position-Some is_untouched slabs.owners page Untouched untouched in
+    → IsKept table slabs index items → IsClass slabs class → next_page slabs ≡ Some page
+    → IsAccounted (fold after_cut (after_grow slabs class page) chunks)
+    → (fold after_cut (after_grow slabs class page) chunks).uncut ≡ None
+    → IsKept table (fold after_cut (after_grow slabs class page) chunks) index items
+kept_grow table slabs index items class page chunks kept valid next accounted whole =
+    let new = after_grow slabs class page in
+    let nobody = (nobody_next slabs page kept.accounted next).0 in
+    let classes : length new.classes ≡ length slabs.classes = ap length (classes-grown slabs class page) ∙ length-set slabs.classes _ _ in
     record {
       sound = kept.sound;
-      classes = classes-cuts (after_grant slabs class page) chunks ∙ length-set slabs.classes _ _ ∙ kept.classes;
-      per_page = per_pages-cuts (after_grant slabs class page) chunks
+      classes = classes-cuts new chunks ∙ classes ∙ kept.classes;
+      per_page = per_pages-cuts new chunks
+          ∙ ap (λ (cs : List ClassState). map (λ (c : ClassState). c.per_page) cs) (classes-grown slabs class page)
           ∙ per_pages-with_class slabs class (with_page (class_at slabs class) page) refl ∙ kept.per_page;
-      page = page-cuts (after_grant slabs class page) chunks ∙ kept.page;
-      limit = limit-cuts (after_grant slabs class page) chunks ∙ kept.limit;
+      page = page-cuts new chunks ∙ page-grown slabs class page ∙ kept.page;
+      limit = limit-cuts new chunks ∙ limit-grown slabs class page ∙ kept.limit;
       whole = whole;
       accounted = accounted;
       leads = kept.leads;
@@ -285,21 +288,16 @@ kept_grow table slabs index items class page chunks kept valid untouched account
         | inl some ↦
             let there : IsClass slabs (class_of_page slabs y.page) = listed table slabs index items y kept some.1 in
             let apart : y.page ≢ page = λ same.
-            let nobody : class_of_page slabs y.page ≡ 0 = rw same (nobody_owns (owner_at slabs.owners page) fresh.1) in
-            omega (arith, there.0, nobody) in
-            let own : class_of_page (fold after_cut (after_grant slabs class page) chunks) y.page ≡ class_of_page slabs y.page
-            = ap (λ (owners : List Owner). class_of_owner (owner_at owners y.page)) (owners-cuts (after_grant slabs class page) chunks)
+            let none : class_of_page slabs y.page ≡ 0 = ap (λ (p : ℕ). class_of_page slabs p) same ∙ nobody in
+            omega (arith, there.0, none) in
+            let own : class_of_page (fold after_cut new chunks) y.page ≡ class_of_page slabs y.page
+            = ap (λ (owners : List Owner). class_of_owner (owner_at owners y.page)) (owners-cuts new chunks ∙ owners-grown slabs class page)
             ∙ ap class_of_owner (get_or-set_other slabs.owners page y.page (Class class) Untouched apart) in
-            let order : (class_at (fold after_cut (after_grant slabs class page) chunks) (class_of_page slabs y.page)).order ≡ (class_of_chunk slabs y).order
-            = order-cuts (after_grant slabs class page) chunks (class_of_page slabs y.page) (there.0, rw (length-set slabs.classes _ _) there.1)
+            let order : (class_at (fold after_cut new chunks) (class_of_page slabs y.page)).order ≡ (class_of_chunk slabs y).order
+            = order-cuts new chunks (class_of_page slabs y.page) (there.0, rw classes there.1)
+            ∙ ap (λ (c : ClassState). c.order) (class_at-grown slabs class page (class_of_page slabs y.page))
             ∙ order-with_class slabs class (class_of_page slabs y.page) (with_page (class_at slabs class) page) there refl in
             rw (own, order) (kept.handed_out y)
         | inr none ↦ omega (arith, none.1)
       ];
     }
-  where
-    nobody_owns : (owner : Owner) → is_untouched owner ≡ true → class_of_owner owner ≡ 0
-    nobody_owns Untouched is = refl
-    nobody_owns Pool is = refl
-    nobody_owns (Class k) is = cc
-    nobody_owns (Moving s d) is = cc

@@ -5,6 +5,7 @@ pub mod Moves
 pub mod KeptChanges
 pub mod Sweeps
 pub mod Cuts
+pub mod GivenPage
 pub mod Grown
 pub mod Bounds
 pub mod Stocks

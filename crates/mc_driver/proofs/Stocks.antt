@@ -7,14 +7,16 @@ use Rattle.std.proofs.lemmas.List.{length-set, map-id}
 use Rattle.std.proofs.lemmas.List.Sums.{fold-append}
 use Rattle.std.proofs.lemmas.List.FromFn.{map-range_with_len_more}
 use Rattle.mc_pages.specs.declared.ids.ChunkId.{ChunkId}
-use Rattle.mc_pages.specs.SlabState.{SlabState, IsClass, class_at, untouched_page}
-use Rattle.mc_pages.specs.Changes.{after_grant}
+use Rattle.mc_pages.specs.SlabState.{SlabState, IsClass, class_at}
+use Rattle.mc_pages.specs.Accounted.{first_chunks}
+use Rattle.mc_pages.specs.Changes.{after_grow, next_page}
 use Rattle.mc_driver.specs.Items.{Items, linked_chunk, unlinked_items}
 use Rattle.mc_driver.specs.Kept.{IsVacant}
-use Rattle.mc_driver.specs.Machine.{Machine, chunks_of, dead_chunks, swept, has_free, extended, stocked, with_new_page}
+use Rattle.mc_driver.specs.Machine.{Machine, dead_chunks, swept, has_free, extended, stocked, with_new_page}
 use Rattle.mc_driver.proofs.Chunks.{places_none, places-unlinked_items, none-places}
 use Rattle.mc_driver.proofs.Links.{linked_chunk-unlinked_items}
 use Rattle.mc_driver.proofs.Moves.{classes-cuts}
+use Rattle.mc_driver.proofs.GivenPage.{classes-grown}
 use Rattle.mc_driver.proofs.Sweeps.{classes-reclaims}
 
 -- the number of classes stays: in a sweep, in sweeps, with a new page, and where a class is stocked
@@ -28,12 +30,13 @@ classes-sweeps m (class ∷ classes) = classes-sweeps (swept m class) classes �
 classes-new_page : (m : Machine) (class : ℕ) (page : Option ℕ) → length (with_new_page m class page).slabs.classes ≡ length m.slabs.classes
 classes-new_page m class None = refl
 classes-new_page m class (Some page) =
-    classes-cuts (after_grant m.slabs class page) (chunks_of page (class_at m.slabs class).per_page) ∙ length-set m.slabs.classes _ _
+    classes-cuts (after_grow m.slabs class page) (first_chunks page (class_at (after_grow m.slabs class page) class).per_page)
+    ∙ ap length (classes-grown m.slabs class page) ∙ length-set m.slabs.classes _ _
 
 classes-extended : (m : Machine) (class : ℕ) (b : Bool)
-    → length (if b then m else with_new_page m class (untouched_page m.slabs)).slabs.classes ≡ length m.slabs.classes
+    → length (if b then m else with_new_page m class (next_page m.slabs)).slabs.classes ≡ length m.slabs.classes
 classes-extended m class true = refl
-classes-extended m class false = classes-new_page m class (untouched_page m.slabs)
+classes-extended m class false = classes-new_page m class (next_page m.slabs)
 
 classes-choice : (m : Machine) (class : ℕ) (b : Bool)
     → length (if b then m else extended (swept m class) class).slabs.classes ≡ length m.slabs.classes

@@ -8,6 +8,7 @@ use Rattle.mc_pages.specs.declared.ids.ChunkId.{ChunkId}
 use Rattle.mc_pages.specs.ClassState.{times}
 use Rattle.mc_pages.specs.SlabState.{SlabState, IsClass, class_at, class_of_chunk}
 use Rattle.mc_pages.specs.Accounted.{truth, IsAccounted}
+use Rattle.mc_driver.specs.declared.keeper.Keeper.TheInside.{Inside}
 use Rattle.mc_driver.specs.Item.{is_linked_to}
 use Rattle.mc_driver.specs.Items.{Items, chunk_cmp, linked_chunk}
 
@@ -37,3 +38,8 @@ pub record IsKept (table : Classes) (slabs : SlabState) (index : List (ℕ × Ch
   pub handed_out : (chunk : ChunkId) → places chunk items ≤ times chunk (class_of_chunk slabs chunk).order
   -- and a chunk that is handed out has an item
   pub stored : (class : ℕ) (chunk : ChunkId) → IsClass slabs class → times chunk (class_at slabs class).order ≤ places chunk items
+
+-- what the keeper keeps
+pub record AreKept (keeper : Inside) : Type 0 where
+  pub kept : IsKept keeper.table keeper.slabs keeper.index.entries keeper.items.entries
+  pub bulk : keeper.bulk ≤ 256

@@ -12,16 +12,13 @@ use Rattle.mc_pages.specs.Answer.{answer_of}
 use Rattle.mc_pages.specs.Moves.{after_begin}
 use Rattle.mc_script.specs.declared.command.Command.{Command}
 use Rattle.mc_script.specs.declared.command.Command.TheVariants as command
-use Rattle.mc_driver.specs.declared.keeper.turn.Counts.{Counts}
-use Rattle.mc_driver.specs.declared.keeper.turn.Ending.{Ending}
-use Rattle.mc_driver.specs.declared.keeper.turn.Ending.TheVariants.{Idle, Went, Finished}
 use Rattle.mc_driver.specs.Item.{Item, item_bytes, new_item, words_from}
 use Rattle.mc_driver.specs.Items.{item_at, linked_chunk, unlinked_items, with_item, has_key}
 use Rattle.mc_driver.specs.Holds.{held_by, is_full, with_hold, without_hold}
 use Rattle.mc_driver.specs.Machine.{Machine, all_swept}
 use Rattle.mc_driver.specs.Supply.{supplied, supply}
 use Rattle.mc_driver.specs.Mover.{Turned, after_turns}
-use Rattle.mc_driver.specs.Texts.{line, key_line, words_line, spaced, slabs_text, general_text}
+use Rattle.mc_driver.specs.Texts.{line, key_line, words_line, turn_line, slabs_text, general_text}
 
 -- a reply, and the machine after it
 pub record Served : Type 0 where
@@ -107,17 +104,6 @@ abbrev pub reassigned : Machine → Option ℕ → ℕ → Result ℕ Reassign �
 reassigned m src dst (Err refusal) = told m (line (name_of refusal))
 reassigned m src dst (Ok source) = record { reply = line (codes "OK"); machine = record m { slabs = after_begin m.slabs src source dst } }
 
--- the word for how the last turn ended
-abbrev pub word_of : Ending → List ℕ
-word_of Idle = codes "IDLE"
-word_of Went = codes "WENT"
-word_of Finished = codes "FINISHED"
-
--- what some turns did
-abbrev pub turn_line : Ending → Counts → List ℕ
-turn_line ending counts =
-    line (codes "TURN " ++ word_of ending ++ spaced (counts.cleared ∷ counts.rescued ∷ counts.evicted ∷ counts.busy ∷ counts.locked ∷ []))
-
 -- the turns are done
 abbrev pub after_turn : Turned → Served
 after_turn t = record { reply = turn_line t.ending t.counts; machine = t.machine }
@@ -151,10 +137,14 @@ abbrev pub replies_to : Machine → List Command → List ℕ
 replies_to m [] = []
 replies_to m (command ∷ commands) = option_map_or (λ served. served.reply ++ replies_to served.machine commands) (serve m command) []
 
--- whether the run is stopped at one of these commands, as it has no turns left
-abbrev pub is_stopped : Machine → List Command → Bool
-is_stopped m [] = false
-is_stopped m (command ∷ commands) = option_map_or (λ served. is_stopped served.machine commands) (serve m command) true
+-- the machine after these commands, or none where the run has no turns left for one of them
+abbrev pub after_all : Machine → List Command → Option Machine
+after_all m [] = Some m
+after_all m (command ∷ commands) = option_and_then (λ served. after_all served.machine commands) (serve m command)
+
+-- the run has the turns for all of these commands
+abbrev pub is_done : Machine → List Command → Bool
+is_done m commands = is_some (after_all m commands)
 
 -- the command was done: the text grew by its reply, and the machine is the one after it
 pub record IsServed (m : Machine) (command : Command) (old new : List ℕ) (machine : Machine) : Type 0 where

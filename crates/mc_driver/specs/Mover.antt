@@ -1,5 +1,5 @@
 -- The mover: what a turn does with the page on the move.
-use Rattle.std.specs.Prelude.{ℕ, zero, suc, ◌+◌, ◌==◌, Bool, true, false, not, nat_lt, leb, if◌then◌else◌, find, Option, Some, None}
+use Rattle.std.specs.Prelude.{ℕ, zero, suc, ◌+◌, ◌≤◌, ◌==◌, Bool, true, false, not, nat_lt, leb, if◌then◌else◌, find, Option, Some, None}
 use Rattle.mc_pages.specs.declared.ids.ChunkId.{ChunkId}
 use Rattle.mc_pages.specs.declared.ids.Moving.{Moving}
 use Rattle.mc_pages.specs.declared.moves.Found.{Found}
@@ -52,6 +52,14 @@ looked_at m class chunk =
 -- nothing was done yet
 abbrev pub no_counts : Counts
 no_counts = record { cleared = 0; rescued = 0; evicted = 0; busy = 0; locked = 0 }
+
+-- no more than so many of each kind
+pub record AreAtMost (most : ℕ) (counts : Counts) : Type 0 where
+  pub cleared : counts.cleared ≤ most
+  pub rescued : counts.rescued ≤ most
+  pub evicted : counts.evicted ≤ most
+  pub busy : counts.busy ≤ most
+  pub locked : counts.locked ≤ most
 
 -- one more chunk; those whose item was rescued or evicted were cleared too
 abbrev pub with_count : Counts → Found → Counts

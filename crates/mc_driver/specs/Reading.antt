@@ -2,7 +2,7 @@
 use Rattle.std.specs.Prelude.{◌≡◌, ℕ, ◌<◌, ◌≤◌, List, ◌++◌, length, Option}
 use Rattle.std.specs.Io.KnownBytes.{Consumes}
 use Rattle.mc_driver.specs.declared.fault.RunFault.{RunFault}
-use Rattle.mc_driver.specs.declared.fault.RunFault.TheVariants.{Config, Script, TooLong, Read, Write, Memory}
+use Rattle.mc_driver.specs.declared.fault.RunFault.TheVariants.{Config, Script, TooLong, Read, Write, Memory, Turns}
 
 -- a read failed, which the reader counts; or memory ran out, and no read failed
 abbrev pub IsReadFault : ℕ → ℕ → RunFault → Type 0
@@ -12,6 +12,7 @@ IsReadFault old new (Config number) = ⊥
 IsReadFault old new (Script number) = ⊥
 IsReadFault old new TooLong = ⊥
 IsReadFault old new Write = ⊥
+IsReadFault old new Turns = ⊥
 
 -- so many bytes went from what was left to the end of what was read
 pub record TakesPiece (left_old left_new : Option (List ℕ)) (old new : List ℕ) (count : ℕ) : Type 0 where

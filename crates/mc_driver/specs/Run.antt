@@ -1,6 +1,6 @@
 -- What a serial run answers, and what it has written by then.
-use Rattle.std.specs.Prelude.{◌≡◌, ℕ, ◌<◌, ◌≤◌, ◌⊎◌, List, take, length, Option, Some, Result, Ok, Err}
-use Rattle.std.specs.Option.{option_map}
+use Rattle.std.specs.Prelude.{◌≡◌, ℕ, ◌+◌, ◌<◌, ◌≤◌, ◌⊎◌, true, false, List, take, length, Option, Some, Result, Ok, Err}
+use Rattle.std.specs.Option.{is_some, option_map}
 use Rattle.std.specs.Io.KnownBytes.{Appends, Keeps, append_known}
 use Rattle.mc_classes.specs.declared.config.Config.{Config}
 use Rattle.mc_classes.specs.declared.config.ConfigError.{ConfigError}
@@ -11,9 +11,11 @@ use Rattle.mc_classes.specs.Device.{Extends}
 use Rattle.mc_script.specs.declared.command.Command.{Command}
 use Rattle.mc_script.specs.Script.{script_of}
 use Rattle.mc_driver.specs.declared.fault.RunFault.{RunFault}
-use Rattle.mc_driver.specs.declared.fault.RunFault.TheVariants.{Config as Refused, Script, TooLong, Read, Write, Memory}
+use Rattle.mc_driver.specs.declared.fault.RunFault.TheVariants.{Config as Refused, Script, TooLong, Read, Write, Memory, Turns}
+use Rattle.mc_driver.specs.declared.keeper.serve.Stop.{Stop}
+use Rattle.mc_driver.specs.declared.keeper.serve.Stop.TheVariants as stop
 use Rattle.mc_driver.specs.Machine.{Machine, fresh_machine}
-use Rattle.mc_driver.specs.Lines.{replies_to}
+use Rattle.mc_driver.specs.Lines.{Served, is_done, replies_to, serve}
 
 -- the most bytes of a script
 abbrev pub most_bytes : ℕ
@@ -36,33 +38,56 @@ IsScriptFault bytes Memory = Unit {0}
 IsScriptFault bytes (Refused number) = ⊥
 IsScriptFault bytes Read = ⊥
 IsScriptFault bytes Write = ⊥
+IsScriptFault bytes Turns = ⊥
 
 -- the bytes are a script of these commands
 pub record IsScript (bytes : List ℕ) (commands : List Command) : Type 0 where
   pub short : length bytes ≤ most_bytes
   pub script : script_of bytes ≡ Ok commands
 
+-- how a run ends at a command that wasn't done
+abbrev pub stop_fault : Stop → RunFault
+stop_fault stop.Turns = Turns
+stop_fault stop.NoMemory = Memory
+
 -- the replies to the first commands were written, and nothing of the next
-abbrev pub WroteFirst : Machine → List Command → Option (List ℕ) → Option (List ℕ) → Type 0
-WroteFirst machine commands old new = (count : ℕ) × (count ≤ length commands) × Appends old new (replies_to machine (take count commands))
+pub record WroteFirst (machine : Machine) (commands : List Command) (old new : Option (List ℕ)) : Type 0 where
+  pub count : ℕ
+  pub within : count ≤ length commands
+  pub done : is_done machine (take count commands) ≡ true
+  pub written : Appends old new (replies_to machine (take count commands))
 
--- the replies to the first commands were written, but not to all, and then perhaps something
-abbrev pub WroteBroken : Machine → List Command → Option (List ℕ) → Option (List ℕ) → Type 0
-WroteBroken machine commands old new = (count : ℕ) × (count < length commands) × Extends (append_known old (replies_to machine (take count commands))) new
+-- the replies to the first commands were written, the next command was done, and perhaps something of its reply was written
+pub record WroteBroken (machine : Machine) (commands : List Command) (old new : Option (List ℕ)) : Type 0 where
+  pub count : ℕ
+  pub within : count < length commands
+  pub done : is_done machine (take (count + 1) commands) ≡ true
+  pub written : Extends (append_known old (replies_to machine (take count commands))) new
 
--- how one command ends without its reply: the writer failed, and perhaps holds something of it; or memory ran out, and nothing of it was written
-abbrev pub IsReplyFault : Option (List ℕ) → Option (List ℕ) → ℕ → ℕ → RunFault → Type 0
-IsReplyFault old new failures_old failures_new Write = (failures_old < failures_new) × Extends old new
-IsReplyFault old new failures_old failures_new Memory = (failures_new ≡ failures_old) × Keeps old new
-IsReplyFault old new failures_old failures_new (Refused number) = ⊥
-IsReplyFault old new failures_old failures_new (Script number) = ⊥
-IsReplyFault old new failures_old failures_new TooLong = ⊥
-IsReplyFault old new failures_old failures_new Read = ⊥
+-- the command was done, and its reply written
+pub record WroteReply (m : Machine) (command : Command) (old new : Option (List ℕ)) (machine : Machine) : Type 0 where
+  pub served : Served
+  pub is : serve m command ≡ Some served
+  pub written : Appends old new served.reply
+  pub after : machine ≡ served.machine
+
+-- how one command ends without its reply: the writer failed, and perhaps holds something of it; or memory or the turns
+-- of a run ran out, and nothing of it was written
+abbrev pub IsReplyFault : Machine → Command → Option (List ℕ) → Option (List ℕ) → ℕ → ℕ → RunFault → Type 0
+IsReplyFault machine command old new failures_old failures_new Write = (failures_old < failures_new) × Extends old new × (is_some (serve machine command) ≡ true)
+IsReplyFault machine command old new failures_old failures_new Memory = (failures_new ≡ failures_old) × Keeps old new
+IsReplyFault machine command old new failures_old failures_new Turns = (failures_new ≡ failures_old) × Keeps old new × (serve machine command ≡ None)
+IsReplyFault machine command old new failures_old failures_new (Refused number) = ⊥
+IsReplyFault machine command old new failures_old failures_new (Script number) = ⊥
+IsReplyFault machine command old new failures_old failures_new TooLong = ⊥
+IsReplyFault machine command old new failures_old failures_new Read = ⊥
 
 -- how a run of commands ends before its end, by the writer's contents and its failures, before and after
 abbrev pub IsServeFault : Machine → List Command → Option (List ℕ) → Option (List ℕ) → ℕ → ℕ → RunFault → Type 0
 IsServeFault machine commands old new failures_old failures_new Write = (failures_old < failures_new) × WroteBroken machine commands old new
 IsServeFault machine commands old new failures_old failures_new Memory = (failures_new ≡ failures_old) × WroteFirst machine commands old new
+IsServeFault machine commands old new failures_old failures_new Turns =
+    (failures_new ≡ failures_old) × (is_done machine commands ≡ false) × Appends old new (replies_to machine commands)
 IsServeFault machine commands old new failures_old failures_new (Refused number) = ⊥
 IsServeFault machine commands old new failures_old failures_new (Script number) = ⊥
 IsServeFault machine commands old new failures_old failures_new TooLong = ⊥
@@ -75,7 +100,9 @@ OfScript bytes Says = (commands : List Command) × IsScript bytes commands × Sa
 -- The machine's run over these bytes ends so, where the writer held `old` before it and holds `new` after it.
 abbrev pub IsScriptOutcome : List ℕ → Machine → Option (List ℕ) → Option (List ℕ) → Result (Unit {0}) RunFault → Type 0
 -- done: all replies were written
-IsScriptOutcome bytes machine old new (Ok unit) = OfScript bytes (λ commands. Appends old new (replies_to machine commands))
+IsScriptOutcome bytes machine old new (Ok unit) = OfScript bytes (λ commands. (is_done machine commands ≡ true) × Appends old new (replies_to machine commands))
+-- a command asked for more turns than a run has: the replies to all commands before it were written
+IsScriptOutcome bytes machine old new (Err Turns) = OfScript bytes (λ commands. (is_done machine commands ≡ false) × Appends old new (replies_to machine commands))
 -- refused: nothing was written
 IsScriptOutcome bytes machine old new (Err TooLong) = (most_bytes < length bytes) × Keeps old new
 IsScriptOutcome bytes machine old new (Err (Script number)) = (length bytes ≤ most_bytes) × (script_of bytes ≡ Err number) × Keeps old new
@@ -89,7 +116,7 @@ IsScriptOutcome bytes machine old new (Err Read) = ⊥
 
 -- what is said of the plain machine with the configuration's size classes
 abbrev pub OfMachine : Config → (Machine → Type 0) → Type 0
-OfMachine config Says = (table : Classes) × IsTableOf config table × Says (fresh_machine table)
+OfMachine config Says = (table : Classes) × IsTableOf config table × Says (fresh_machine table config.bulk)
 
 -- A run with this configuration over these bytes ends so.
 abbrev pub IsOutcome : Config → List ℕ → Option (List ℕ) → Option (List ℕ) → Result (Unit {0}) RunFault → Type 0

@@ -1,6 +1,9 @@
 -- The lines that a run writes, as functions of numbers.
 use Rattle.std.specs.Prelude.{◌≡◌, ◌≤◌, ℕ, ◌+◌, ◌*◌, ◌-◌, ◌==◌, if◌then◌else◌, nat_lt, List, [], ◌∷◌, ◌++◌, length, slice_index, codes, decimal, count_by, flat_map}
 use Rattle.mc_classes.specs.Classes.{Classes, IsClass, size_of, per_page_of}
+use Rattle.mc_driver.specs.declared.keeper.turn.Counts.{Counts}
+use Rattle.mc_driver.specs.declared.keeper.turn.Ending.{Ending}
+use Rattle.mc_driver.specs.declared.keeper.turn.Ending.TheVariants.{Idle, Went, Finished}
 
 -- each line ends with CR LF
 abbrev pub line : List ℕ → List ℕ
@@ -17,6 +20,17 @@ spaced words = flat_map (λ word. codes " " ++ decimal word) words
 -- an answer about a key, with the item's words
 abbrev pub words_line : List ℕ → ℕ → List ℕ → List ℕ
 words_line answer key words = line (answer ++ codes " " ++ decimal key ++ codes " " ++ decimal (length words) ++ spaced words)
+
+-- the word for how the last turn ended
+abbrev pub word_of : Ending → List ℕ
+word_of Idle = codes "IDLE"
+word_of Went = codes "WENT"
+word_of Finished = codes "FINISHED"
+
+-- what some turns did
+abbrev pub turn_line : Ending → Counts → List ℕ
+turn_line ending counts =
+    line (codes "TURN " ++ word_of ending ++ spaced (counts.cleared ∷ counts.rescued ∷ counts.evicted ∷ counts.busy ∷ counts.locked ∷ []))
 
 -- one number of the statistics
 abbrev pub stat_line : List ℕ → ℕ → List ℕ

@@ -2,6 +2,7 @@
 ghost use Rattle.std.specs.Prelude.{◌≡◌};
 ghost use Rattle.mc_driver.specs.Status.{status_of};
 
+use crate::keeper::Stop;
 use std::alloc::AllocError;
 use std::error::Error;
 use std::fmt;
@@ -21,6 +22,8 @@ pub enum RunFault {
     Write,
     /// Memory ran out.
     Memory,
+    /// The script asks for more than 1,000,000 turns of the mover.
+    Turns,
 }
 
 impl RunFault {
@@ -33,6 +36,7 @@ impl RunFault {
             RunFault::Script(_) | RunFault::TooLong => 2,
             RunFault::Read | RunFault::Write => 3,
             RunFault::Memory => 4,
+            RunFault::Turns => 5,
         }
     }
 }
@@ -46,6 +50,7 @@ impl fmt::Display for RunFault {
             RunFault::Read => write!(f, "read"),
             RunFault::Write => write!(f, "write"),
             RunFault::Memory => write!(f, "memory"),
+            RunFault::Turns => write!(f, "turns"),
         }
     }
 }
@@ -60,5 +65,19 @@ impl From<AllocError> for RunFault {
 
     fn from(_error: AllocError) -> RunFault {
         RunFault::Memory
+    }
+}
+
+impl From<Stop> for RunFault {
+    ghost use Rattle.std.specs.Prelude.{◌≡◌};
+    ghost use Rattle.mc_driver.specs.Run.{stop_fault};
+
+    ghost from_gives = { λ stop fault. fault ≡ stop_fault stop };
+
+    fn from(stop: Stop) -> RunFault {
+        match stop {
+            Stop::Turns => RunFault::Turns,
+            Stop::NoMemory => RunFault::Memory,
+        }
     }
 }

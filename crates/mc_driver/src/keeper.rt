@@ -1,5 +1,5 @@
 //! The plain keeper: what a serial run stores, and how it serves one command after another.
-ghost use Rattle.std.specs.Prelude.{◌≡◌, IfOk};
+ghost use Rattle.std.specs.Prelude.{◌≡◌, ◌≤◌, IfOk};
 ghost use Rattle.mc_classes.specs.Classes.{IsSound};
 ghost use Rattle.mc_driver.specs.Machine.{fresh_machine};
 
@@ -15,6 +15,7 @@ mod sweep;
 mod turn;
 
 pub(crate) use serve::Stop;
+pub(crate) use turn::{Counts, Ending};
 
 use holds::Holds;
 use item::Item;
@@ -44,17 +45,18 @@ impl Model for Keeper {
 
     ghost Value = { Machine };
 
-    ghost use Rattle.mc_driver.specs.Kept.{IsKept};
+    ghost use Rattle.mc_driver.specs.Kept.{AreKept};
 
     ghost view = { λ k. record { table = k.table; bulk = k.bulk; slabs = k.slabs; items = k.items.entries; holds = k.holds; turns = k.turns } };
 
-    ghost invariant = { λ k. IsKept k.table k.slabs k.index.entries k.items.entries };
+    ghost invariant = { AreKept };
 }
 
 impl Keeper {
     /// Nothing is stored yet. A turn of the mover is to look at up to `bulk` chunks.
     pub(crate) fn new(alloc: Global, table: ClassTable, bulk: u64) -> Result<Keeper, AllocError>
-        requires { IsSound table }
+        requires sound { IsSound table }
+        requires bulk { bulk ≤ 256 }
         ensures { IfOk result (λ keeper. keeper ≡ fresh_machine table bulk) }
     {
         let slabs = match Slabs::new(alloc, &table) {

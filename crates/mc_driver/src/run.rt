@@ -1,14 +1,14 @@
 //! A serial run: one thread reads a script, does its commands in order, and writes each reply before the next command.
-ghost use Rattle.std.specs.Prelude.{◌≡◌, ◌<◌, ◌≤◌, ◌↔◌, ℕ, Some, Err, Ok, length, IfSome, IsSome, IfOk, OnOk, IfErr, All};
+ghost use Rattle.std.specs.Prelude.{◌≡◌, ◌<◌, ◌≤◌, ◌↔◌, ℕ, true, Some, Err, Ok, length, IfSome, IsSome, IfOk, OnOk, IfErr, All};
 ghost use Rattle.std.specs.Io.KnownBytes.{Appends};
 ghost use Rattle.mc_classes.specs.Refusals.{refusal_of};
 ghost use Rattle.mc_classes.specs.Classes.{IsSound};
 ghost use Rattle.mc_script.specs.Command.{IsValid};
 ghost use Rattle.mc_script.specs.Script.{script_of};
-ghost use Rattle.mc_driver.specs.Lines.{after, replies_to, reply_to};
+ghost use Rattle.mc_driver.specs.Lines.{is_done, replies_to};
 ghost use Rattle.mc_driver.specs.Machine.{fresh_machine};
 ghost use Rattle.mc_driver.specs.Reading.{TakesAtMost};
-ghost use Rattle.mc_driver.specs.Run.{IsOutcome, IsScript, IsReplyFault, IsScriptFault, IsScriptOutcome, IsServeFault, config_fault, refusal_number};
+ghost use Rattle.mc_driver.specs.Run.{IsOutcome, IsScript, IsReplyFault, WroteReply, IsScriptFault, IsScriptOutcome, IsServeFault, config_fault, refusal_number};
 
 use crate::fault::RunFault;
 use crate::keeper::Keeper;
@@ -52,25 +52,27 @@ pub fn run_serial<R: Source, W: Sink>(
         Err(error) => return Err(fault_of(error)),
     };
     let bytes = read_script(alloc, reader)?;
-    run_script(alloc, table, &bytes, writer)
+    run_script(alloc, table, run.config.bulk, &bytes, writer)
 }
 
 /// Reads the commands of a script, and does them.
 fn run_script<W: Sink>(
     alloc: Global,
     table: ClassTable,
+    bulk: u64,
     bytes: &[u8],
     writer: &mut W,
 ) -> Result<(), RunFault>
-    requires { IsSound table }
-    ensures outcome { IsScriptOutcome bytes.now (fresh_machine table) (W.contents writer.old) (W.contents writer.new) result }
+    requires sound { IsSound table }
+    requires bulk { bulk ≤ 256 }
+    ensures outcome { IsScriptOutcome bytes.now (fresh_machine table bulk) (W.contents writer.old) (W.contents writer.new) result }
     ensures write { (result ≡ Err RunFault.Write) ↔ (W.failures writer.old < W.failures writer.new) }
 {
     let commands = match commands_of(alloc, bytes) {
         Ok(commands) => commands,
         Err(fault) => return Err(fault),
     };
-    match Keeper::new(alloc, table) {
+    match Keeper::new(alloc, table, bulk) {
         Ok(keeper) => serve_all(alloc, keeper, &commands, writer),
         Err(_) => Err(RunFault::Memory),
     }
@@ -110,6 +112,7 @@ fn serve_all<W: Sink>(
     writer: &mut W,
 ) -> Result<(), RunFault>
     requires { All IsValid commands.now }
+    ensures done { OnOk result (is_done keeper commands.now ≡ true) }
     ensures written { OnOk result (Appends (W.contents writer.old) (W.contents writer.new) (replies_to keeper commands.now)) }
     ensures quiet { OnOk result (W.failures writer.new ≡ W.failures writer.old) }
     ensures fault { IfErr result (IsServeFault keeper commands.now
@@ -130,10 +133,9 @@ fn serve_one<W: Sink>(
     writer: &mut W,
 ) -> Result<(), RunFault>
     requires { IsValid command }
-    ensures written { OnOk result (Appends (W.contents writer.old) (W.contents writer.new) (reply_to keeper.old command)) }
-    ensures after { OnOk result (keeper.new ≡ after keeper.old command) }
+    ensures written { OnOk result (WroteReply keeper.old command (W.contents writer.old) (W.contents writer.new) keeper.new) }
     ensures quiet { OnOk result (W.failures writer.new ≡ W.failures writer.old) }
-    ensures fault { IfErr result (IsReplyFault
+    ensures fault { IfErr result (IsReplyFault keeper.old command
         (W.contents writer.old) (W.contents writer.new) (W.failures writer.old) (W.failures writer.new)) }
 {
     text.clear();

@@ -1,10 +1,13 @@
 //! The lines that a run writes, put together in memory before any of them is written.
 ghost use Rattle.std.specs.Prelude.{◌≡◌, ◌+◌, ◌*◌, ◌-◌, ◌<◌, ◌≤◌, ◌++◌, ◌^◌, length, codes, count_by, nat_lt, decimal, OnOk};
-ghost use Rattle.mc_driver.specs.Texts.{line, key_line, stat_line, class_line, class_lines, classes_lines, totals_lines, slabs_text, AreCounts};
+ghost use Rattle.mc_driver.specs.Texts.{line, key_line, spaced, turn_line, word_of, words_line, general_text, stat_line, class_line, class_lines, classes_lines, totals_lines, slabs_text, AreCounts};
 ghost use Rattle.mc_classes.specs.Classes.{IsClass, IsSound};
+ghost use Rattle.mc_pages.specs.Accounted.{truth};
 
+use crate::keeper::{Counts, Ending};
 use itoa::Buffer;
 use mc_classes::ClassTable;
+use mc_pages::Totals;
 use std::alloc::AllocError;
 
 /// Adds a number in decimal digits.
@@ -23,6 +26,94 @@ fn push_line(text: &mut Vec<u8>, words: &[u8]) -> Result<(), AllocError>
     text.extend_from_slice(words)?;
     text.extend_from_slice(b"\r\n")?;
     Ok(())
+}
+
+/// Adds an answer of one word.
+pub(crate) fn push_answer(text: &mut Vec<u8>, answer: &[u8]) -> Result<(), AllocError>
+    ensures { OnOk result (text.new.items ≡ text.old.items ++ line answer.now) }
+{
+    push_line(text, answer)
+}
+
+/// Adds numbers, a space before each.
+fn push_spaced(text: &mut Vec<u8>, numbers: &[u64]) -> Result<(), AllocError>
+    ensures { OnOk result (text.new.items ≡ text.old.items ++ spaced numbers.now) }
+{
+    for number in numbers {
+        text.extend_from_slice(b" ")?;
+        push_number(text, *number)?;
+    }
+    Ok(())
+}
+
+/// Adds the answer about a key, with the item's words.
+pub(crate) fn push_words_line(
+    text: &mut Vec<u8>,
+    answer: &[u8],
+    key: u64,
+    words: &[u64],
+) -> Result<(), AllocError>
+    ensures { OnOk result (text.new.items ≡ text.old.items ++ words_line answer.now key words.now) }
+{
+    text.extend_from_slice(answer)?;
+    text.extend_from_slice(b" ")?;
+    push_number(text, key)?;
+    text.extend_from_slice(b" ")?;
+    push_number(text, words.len() as u64)?;
+    push_spaced(text, words)?;
+    text.extend_from_slice(b"\r\n")?;
+    Ok(())
+}
+
+/// The word for how the last turn ended.
+fn word_of(ending: Ending) -> &'static [u8]
+    ensures { result.now ≡ word_of ending }
+{
+    match ending {
+        Ending::Idle => b"IDLE",
+        Ending::Went => b"WENT",
+        Ending::Finished => b"FINISHED",
+    }
+}
+
+/// Adds what some turns did.
+pub(crate) fn push_turn_line(
+    text: &mut Vec<u8>,
+    ending: Ending,
+    counts: Counts,
+) -> Result<(), AllocError>
+    ensures { OnOk result (text.new.items ≡ text.old.items ++ turn_line ending counts) }
+{
+    let Counts {
+        cleared,
+        rescued,
+        evicted,
+        busy,
+        locked,
+    } = counts;
+    text.extend_from_slice(b"TURN ")?;
+    text.extend_from_slice(word_of(ending))?;
+    push_spaced(text, &[cleared, rescued, evicted, busy, locked])?;
+    text.extend_from_slice(b"\r\n")?;
+    Ok(())
+}
+
+/// Adds the text of `stats`: the numbers of all classes together, and whether a page is moving.
+pub(crate) fn push_general(
+    text: &mut Vec<u8>,
+    totals: Totals,
+    running: bool,
+) -> Result<(), AllocError>
+    ensures { OnOk result (text.new.items ≡ text.old.items
+        ++ general_text totals.pool (truth running) totals.moved totals.rescues totals.evictions_nomem totals.busy) }
+{
+    push_stat_line(text, b"slab_global_page_pool", totals.pool)?;
+    push_stat_line(text, b"slab_reassign_running", u64::from(running))?;
+    push_stat_line(text, b"slabs_moved", totals.moved)?;
+    push_stat_line(text, b"slab_reassign_rescues", totals.rescues)?;
+    push_stat_line(text, b"slab_reassign_evictions_nomem", totals.evictions_nomem)?;
+    push_stat_line(text, b"slab_reassign_busy_items", totals.busy)?;
+    push_line(text, b"END")
 }
 
 /// Adds the answer about a key.

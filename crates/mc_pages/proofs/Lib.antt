@@ -22,8 +22,9 @@ pub mod KeptMoves
 pub mod KeptFinish
 pub mod HandedOut
 pub mod Kept
-pub mod Promised
 pub mod Roomy
 pub mod RoomySlabs
-pub mod RoomyMoves
 pub mod RoomyFresh
+pub mod RoomyGrow
+pub mod RoomyMoves
+pub mod RoomyFinish

@@ -90,7 +90,7 @@ impl Holds {
         ensures { self.new ≡ without_hold self.old worker chunk }
     {
         let chunks = &mut self.by_worker[worker as usize];
-        if let Some(place) = last_place(chunks, chunk) {
+        if let Some(place) = chunks.iter().rposition(|c| *c == chunk) {
             chunks.remove(place);
         }
     }

@@ -1,12 +1,13 @@
 //! The mover: it looks at the chunks of the page on the move, and clears them.
-ghost use Rattle.std.specs.Prelude.{◌≡◌, ◌<◌, ◌≤◌, true, false, OnOk, Contains, Some, None};
-ghost use Rattle.mc_pages.specs.declared.ids.Moving.{Moving};
-ghost use Rattle.mc_pages.specs.SlabState.{IsClass, class_at, class_of_page};
+ghost use Rattle.std.specs.Prelude.{◌≡◌, ◌≢◌, ◌<◌, ◌≤◌, nat_lt, true, OnOk, Contains, Some, None, Err};
+ghost use Rattle.std.specs.Option.{option_map};
+ghost use Rattle.mc_pages.specs.SlabState.{IsClass, class_at, class_of_page, class_of_chunk};
 ghost use Rattle.mc_pages.specs.ClassState.{times};
-ghost use Rattle.mc_pages.specs.Accounted.{is_cleared};
-ghost use Rattle.mc_pages.specs.Moves.{chunk_at_position};
-ghost use Rattle.mc_driver.specs.Machine.{is_dead, is_idle, swept};
-ghost use Rattle.mc_driver.specs.Mover.{Counted, Looked, Turned, looked_at, saved, target, with_chunk, with_chunks, with_cleared, with_count, with_end, with_finish, with_looked, with_saved, turned, after_turns, no_counts};
+ghost use Rattle.mc_pages.specs.Accounted.{is_cut};
+ghost use Rattle.mc_pages.specs.Moves.{CanFinish};
+ghost use Rattle.mc_driver.specs.Items.{item_at};
+ghost use Rattle.mc_driver.specs.Machine.{is_dead, is_idle};
+ghost use Rattle.mc_driver.specs.Mover.{AreAtMost, after_turns, is_at_end, looked_at, no_counts, saved, target, turned, with_cleared, with_end, with_finish, with_saved};
 
 use super::Keeper;
 use super::pages::cut_page;
@@ -27,7 +28,7 @@ impl Keeper {
         ensures stopped { result ≡ Err Stop.Turns → after_turns self.old count ≡ None }
     {
         let mut ending = Ending::Idle;
-        let mut counts = Counts::default();
+        let mut counts = Counts::new();
         for _ in 0..count {
             if self.turns >= MAX_TURNS {
                 return Err(Stop::Turns);
@@ -41,7 +42,10 @@ impl Keeper {
     }
 
     /// One turn, which goes on counting.
-    fn turn(&mut self, counts: &mut Counts) -> Result<Ending, AllocError> {
+    fn turn(&mut self, counts: &mut Counts) -> Result<Ending, AllocError>
+        requires { AreAtMost 256000000 counts.old }
+        ensures { OnOk result (turned self.old counts.old ≡ record { machine = self.new; counts = counts.new; ending = result }) }
+    {
         self.turns += 1;
         for _ in 0..self.bulk {
             match self.slabs.moving() {
@@ -57,12 +61,18 @@ impl Keeper {
     }
 
     /// Whether all chunks of the page were looked at.
-    fn is_at_end(&self, moving: Moving) -> bool {
+    fn is_at_end(&self, moving: Moving) -> bool
+        requires { IsClass self.now.slabs moving.src }
+        ensures { result ≡ is_at_end self.now moving }
+    {
         moving.at >= self.table.per_page(moving.src)
     }
 
     /// At the page's end the pass begins anew, or the move ends where nothing held it up.
-    fn end_turn(&mut self) -> Ending {
+    fn end_turn(&mut self) -> Ending
+        ensures ending { result ≡ (with_end (record { machine = self.old; counts = no_counts }) self.old.slabs.moving).ending }
+        ensures machine { self.new ≡ (with_end (record { machine = self.old; counts = no_counts }) self.old.slabs.moving).machine }
+    {
         let Some(moving) = self.slabs.moving() else {
             return Ending::Idle;
         };
@@ -78,7 +88,10 @@ impl Keeper {
     }
 
     /// Ends the move, and cuts the page for its class.
-    fn finish(&mut self, moving: Moving) {
+    fn finish(&mut self, moving: Moving)
+        requires { CanFinish self.old.slabs moving }
+        ensures { self.new ≡ with_finish self.old moving }
+    {
         self.slabs.finish_move();
         if moving.dst != 0 {
             cut_page(&mut self.slabs, moving.page, self.table.per_page(moving.dst));
@@ -86,7 +99,12 @@ impl Keeper {
     }
 
     /// Looks at a chunk of the moving page, and clears it where it can.
-    fn look(&mut self, class: ClassId, chunk: ChunkId) -> Result<Found, AllocError> {
+    fn look(&mut self, class: ClassId, chunk: ChunkId) -> Result<Found, AllocError>
+        requires class { IsClass self.old.slabs class }
+        requires moving { option_map (λ move. move.page) self.old.slabs.moving ≡ Some chunk.page }
+        requires cut { is_cut self.old.slabs class chunk ≡ true }
+        ensures { OnOk result (looked_at self.old class chunk ≡ record { machine = self.new; found = result }) }
+    {
         if !self.items.contains_key(&chunk) {
             return Ok(self.clear_free(class, chunk));
         }
@@ -101,7 +119,13 @@ impl Keeper {
     }
 
     /// Clears the chunk, which has no item, if it is free.
-    fn clear_free(&mut self, class: ClassId, chunk: ChunkId) -> Found {
+    fn clear_free(&mut self, class: ClassId, chunk: ChunkId) -> Found
+        requires class { IsClass self.old.slabs class }
+        requires moving { option_map (λ move. move.page) self.old.slabs.moving ≡ Some chunk.page }
+        requires cut { is_cut self.old.slabs class chunk ≡ true }
+        requires empty { item_at self.old.items chunk ≡ None }
+        ensures { looked_at self.old class chunk ≡ record { machine = self.new; found = result } }
+    {
         if self.is_free(class, chunk) {
             self.slabs.clear(chunk);
             Found::Cleared
@@ -111,7 +135,10 @@ impl Keeper {
     }
 
     /// Whether the chunk is in the class's free list.
-    fn is_free(&self, class: ClassId, chunk: ChunkId) -> bool {
+    fn is_free(&self, class: ClassId, chunk: ChunkId) -> bool
+        requires { IsClass self.now.slabs class }
+        ensures { result ≡ nat_lt 0 (times chunk (class_at self.now.slabs class).free) }
+    {
         let mut place = 0;
         while let Some(free) = self.slabs.free_at(class, place) {
             if free == chunk {
@@ -123,13 +150,23 @@ impl Keeper {
     }
 
     /// Clears the chunk, and its item is gone.
-    fn clear(&mut self, chunk: ChunkId) {
+    fn clear(&mut self, chunk: ChunkId)
+        requires moving { option_map (λ move. move.page) self.old.slabs.moving ≡ Some chunk.page }
+        requires dead { is_dead self.old chunk ≡ true }
+        ensures { self.new ≡ with_cleared self.old chunk }
+    {
         self.slabs.clear(chunk);
         self.items.remove(&chunk);
     }
 
     /// Takes the chunk's item, which nobody holds, to a free chunk off the page, or else evicts it.
-    fn save(&mut self, class: ClassId, chunk: ChunkId) -> Result<Found, AllocError> {
+    fn save(&mut self, class: ClassId, chunk: ChunkId) -> Result<Found, AllocError>
+        requires class { IsClass self.old.slabs class }
+        requires moving { option_map (λ move. move.page) self.old.slabs.moving ≡ Some chunk.page }
+        requires own { class_of_page self.old.slabs chunk.page ≡ class }
+        requires idle { is_idle self.old chunk ≡ true }
+        ensures { OnOk result (saved self.old class chunk ≡ record { machine = self.new; found = result }) }
+    {
         self.sweep(class);
         match self.target(class, chunk.page) {
             Some(new) => {
@@ -144,7 +181,10 @@ impl Keeper {
     }
 
     /// The class's first free chunk off the page.
-    fn target(&self, class: ClassId, page: PageId) -> Option<ChunkId> {
+    fn target(&self, class: ClassId, page: PageId) -> Option<ChunkId>
+        requires { IsClass self.now.slabs class }
+        ensures { result ≡ target self.now class page }
+    {
         let mut place = 0;
         while let Some(free) = self.slabs.free_at(class, place) {
             if free.page != page {
@@ -156,10 +196,36 @@ impl Keeper {
     }
 
     /// Takes the item of a chunk to a free one, which gets the old one's place in the hand-out order.
-    fn rescue(&mut self, old: ChunkId, new: ChunkId) -> Result<(), AllocError>;
+    fn rescue(&mut self, old: ChunkId, new: ChunkId) -> Result<(), AllocError>
+        requires moving { option_map (λ move. move.page) self.old.slabs.moving ≡ Some old.page }
+        requires idle { is_idle self.old old ≡ true }
+        requires free { Contains (class_of_chunk self.old.slabs old).free new }
+        requires off { new.page ≢ old.page }
+        ensures { OnOk result (self.new ≡ (with_saved self.old old (Some new)).machine) }
+    {
+        if let Some(item) = self.items.remove(&old) {
+            let key = item.key();
+            if self.items.insert(new, item).is_err() {
+                // The item is lost with the run. What is left agrees: its chunk is free, and its key leads nowhere.
+                self.index.remove(&key);
+                self.slabs.back(old);
+                return Err(AllocError);
+            }
+            if let Some(chunk) = self.index.get_mut(&key) {
+                *chunk = new;
+            }
+            self.slabs.replace(new, old);
+            self.slabs.clear(old);
+        }
+        Ok(())
+    }
 
     /// Evicts the chunk's item, and clears the chunk.
-    fn evict_moving(&mut self, chunk: ChunkId) {
+    fn evict_moving(&mut self, chunk: ChunkId)
+        requires moving { option_map (λ move. move.page) self.old.slabs.moving ≡ Some chunk.page }
+        requires idle { is_idle self.old chunk ≡ true }
+        ensures { self.new ≡ (with_saved self.old chunk None).machine }
+    {
         if let Some(item) = self.items.remove(&chunk) {
             self.index.remove(&item.key());
         }

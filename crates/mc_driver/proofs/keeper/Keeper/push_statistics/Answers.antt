@@ -6,4 +6,4 @@ use Rattle.mc_driver.proofs.keeper.Keeper.push_statistics.Goals as goal
 pub push_slabs-requires : goal.push_slabs-requires
 push_slabs-requires c =
     rw (c.deref.ensures.value, c.deref-2.ensures.value, c.in_ok-pages.ensures, c.in_ok-free.ensures, ← ap (λ (m : Machine). m.slabs) c.self.view_is)
-    (are_counts _ _ _ _ c.self.invariant)
+    (are_counts _ _ _ _ c.self.invariant.kept)

@@ -10,4 +10,4 @@ invariant_of-self c =
     let dead : is_dead c.self.inside.items.entries c.args.chunk ≡ true = rw (ap (λ (m : Machine). m.items) c.self.view_is) c.requires.dead in
     let class : IsClass c.self.inside.slabs (class_of_page c.self.inside.slabs c.args.chunk.page) = rw (ap (λ (m : Machine). m.slabs) c.self.view_is) c.requires.class in
     rw (c.back.ensures.back, c.remove.ensures.entries)
-    (kept_reclaim _ _ _ _ c.args.chunk c.self.invariant (rw c.back.ensures.back at c.back.ensures.accounted) dead class)
+    (kept_reclaim _ _ _ _ c.args.chunk c.self.invariant.kept (rw c.back.ensures.back at c.back.ensures.accounted) dead class)

@@ -34,13 +34,13 @@ at_place m now class place x index kept same valid found =
 pub reclaim-requires-clause-class : goal.reclaim-requires-clause-class
 reclaim-requires-clause-class c =
     let here : AtPlace c.loop-chunk.self c.args.class c.loop-chunk.place c.in-Some.chunk
-    = at_place _ _ _ _ _ _ c.self.invariant c.self.view_is c.loop-chunk.invariant.class c.in-Some.ensures in
+    = at_place _ _ _ _ _ _ c.self.invariant.kept c.self.view_is c.loop-chunk.invariant.class c.in-Some.ensures in
     rw here.own c.loop-chunk.invariant.class
 
 pub reclaim-requires-clause-listed : goal.reclaim-requires-clause-listed
 reclaim-requires-clause-listed c =
     let here : AtPlace c.loop-chunk.self c.args.class c.loop-chunk.place c.in-Some.chunk
-    = at_place _ _ _ _ _ _ c.self.invariant c.self.view_is c.loop-chunk.invariant.class c.in-Some.ensures in
+    = at_place _ _ _ _ _ _ c.self.invariant.kept c.self.view_is c.loop-chunk.invariant.class c.in-Some.ensures in
     rw here.own (
       c.loop-chunk.place,
       slice_get_within (class_at c.loop-chunk.self.slabs c.args.class).order c.loop-chunk.place c.in-Some.chunk here.at,
@@ -50,7 +50,7 @@ reclaim-requires-clause-listed c =
 pub loop-chunk-smaller-then-is_dead : goal.loop-chunk-smaller-then-is_dead
 loop-chunk-smaller-then-is_dead c =
     let here : AtPlace c.loop-chunk.self c.args.class c.loop-chunk.place c.in-Some.chunk
-    = at_place _ _ _ _ _ _ c.self.invariant c.self.view_is c.loop-chunk.invariant.class c.in-Some.ensures in
+    = at_place _ _ _ _ _ _ c.self.invariant.kept c.self.view_is c.loop-chunk.invariant.class c.in-Some.ensures in
     let on : SweepsOn c.loop-chunk.self c.args.class c.loop-chunk.place c.in-Some.chunk
     = sweeps_on _ _ _ _ c.loop-chunk.invariant.class here.own
     (listed_once _ _ here.index _ c.args.class here.kept c.loop-chunk.invariant.class c.in-Some.chunk) here.at c.loop-chunk.invariant.none
@@ -60,7 +60,7 @@ loop-chunk-smaller-then-is_dead c =
 pub loop-chunk-preserved-then-is_dead : goal.loop-chunk-preserved-then-is_dead
 loop-chunk-preserved-then-is_dead c =
     let here : AtPlace c.loop-chunk.self c.args.class c.loop-chunk.place c.in-Some.chunk
-    = at_place _ _ _ _ _ _ c.self.invariant c.self.view_is c.loop-chunk.invariant.class c.in-Some.ensures in
+    = at_place _ _ _ _ _ _ c.self.invariant.kept c.self.view_is c.loop-chunk.invariant.class c.in-Some.ensures in
     let on : SweepsOn c.loop-chunk.self c.args.class c.loop-chunk.place c.in-Some.chunk
     = sweeps_on _ _ _ _ c.loop-chunk.invariant.class here.own
     (listed_once _ _ here.index _ c.args.class here.kept c.loop-chunk.invariant.class c.in-Some.chunk) here.at c.loop-chunk.invariant.none
@@ -75,19 +75,19 @@ loop-chunk-preserved-then-is_dead c =
 pub overflow_add-place : goal.overflow_add-place
 overflow_add-place c =
     let here : AtPlace c.loop-chunk.self c.args.class c.loop-chunk.place c.in-Some.chunk
-    = at_place _ _ _ _ _ _ c.self.invariant c.self.view_is c.loop-chunk.invariant.class c.in-Some.ensures in
+    = at_place _ _ _ _ _ _ c.self.invariant.kept c.self.view_is c.loop-chunk.invariant.class c.in-Some.ensures in
     omega (arith, here.short)
 
 pub loop-chunk-smaller : goal.loop-chunk-smaller
 loop-chunk-smaller c =
     let here : AtPlace c.loop-chunk.self c.args.class c.loop-chunk.place c.in-Some.chunk
-    = at_place _ _ _ _ _ _ c.self.invariant c.self.view_is c.loop-chunk.invariant.class c.in-Some.ensures in
+    = at_place _ _ _ _ _ _ c.self.invariant.kept c.self.view_is c.loop-chunk.invariant.class c.in-Some.ensures in
     omega (arith, slice_get_within (class_at c.loop-chunk.self.slabs c.args.class).order c.loop-chunk.place c.in-Some.chunk here.at)
 
 pub loop-chunk-preserved : goal.loop-chunk-preserved
 loop-chunk-preserved c =
     let here : AtPlace c.loop-chunk.self c.args.class c.loop-chunk.place c.in-Some.chunk
-    = at_place _ _ _ _ _ _ c.self.invariant c.self.view_is c.loop-chunk.invariant.class c.in-Some.ensures in
+    = at_place _ _ _ _ _ _ c.self.invariant.kept c.self.view_is c.loop-chunk.invariant.class c.in-Some.ensures in
     let inside : c.loop-chunk.place < length (class_at c.loop-chunk.self.slabs c.args.class).order
     = slice_get_within (class_at c.loop-chunk.self.slabs c.args.class).order c.loop-chunk.place c.in-Some.chunk here.at in
     record {

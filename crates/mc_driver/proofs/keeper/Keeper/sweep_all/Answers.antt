@@ -7,7 +7,7 @@ use Rattle.mc_driver.proofs.keeper.Keeper.sweep_all.Goals as goal
 pub sweep-requires : goal.sweep-requires
 sweep-requires c =
     let classes : length c.args.self.now.slabs.classes ≡ length c.self.inside.table.sizes
-    = sym (ap (λ (m : Machine). length m.slabs.classes) c.self.view_is) ∙ c.self.invariant.classes in
+    = sym (ap (λ (m : Machine). length m.slabs.classes) c.self.view_is) ∙ c.self.invariant.kept.classes in
     rw c.loop-place.invariant (
       omega arith,
       omega (arith, classes-sweeps c.args.self.now (range_with_len 1 c.loop-place.place), classes, c.count-place-end.ensures.count, c.loop-place-test.true),

@@ -10,14 +10,14 @@ use Rattle.mc_driver.proofs.keeper.Keeper.unlink.Goals as goal
 unlinks : (c : goal.After-unlink_in) → c.unlink_in.new.items.entries ≡ unlinked_items c.self.inside.items.entries c.args.key
 unlinks c =
     let found : lookup (is_at (nat_cmp c.args.key)) c.self.inside.index.entries ≡ Some c.in-Some.chunk = sym c.in-Some.ensures.value in
-    rw c.unlink_in.ensures (unlinks_found _ _ _ _ c.args.key c.in-Some.chunk c.self.invariant found)
+    rw c.unlink_in.ensures (unlinks_found _ _ _ _ c.args.key c.in-Some.chunk c.self.invariant.kept found)
 
 pub invariant_of-self : goal.invariant_of-self
-invariant_of-self c = rw (unlinks c) (kept_unlink _ _ _ _ _ c.args.key c.self.invariant c.remove.ensures.updates.0)
+invariant_of-self c = rw (unlinks c) (kept_unlink _ _ _ _ _ c.args.key c.self.invariant.kept c.remove.ensures.updates.0)
 
 pub returns-in-Some-clause-unlinked : goal.returns-in-Some-clause-unlinked
 returns-in-Some-clause-unlinked c = rw (← c.self.view_is) (rw (unlinks c) refl)
 
 pub returns-in-None-clause-unlinked : goal.returns-in-None-clause-unlinked
 returns-in-None-clause-unlinked c =
-    rw (← c.self.view_is) (rw (unlinks_none _ _ _ _ c.args.key c.self.invariant (sym c.in-None.ensures.value)) refl)
+    rw (← c.self.view_is) (rw (unlinks_none _ _ _ _ c.args.key c.self.invariant.kept (sym c.in-None.ensures.value)) refl)
