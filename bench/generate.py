@@ -1,8 +1,9 @@
 #!/usr/bin/env python3
-"""Writes a script of sets, deletes and `stats slabs` for mcslab, just under its limit of 1,048,576 bytes.
+"""Writes a script for mcslab, just under its limit of 1,048,576 bytes: sets, deletes and `stats slabs`, and with
+`--reads`, `--holds` and `--moves-every` also gets, touches, holds and drops, and pages that move.
 
 The same options give the same bytes, with any version of Python 3. The live items are kept near `--fill` of the
-memory of the largest configuration (CONFIGURATION below).
+memory of the largest configuration (CONFIGURATION below); above 100 the program evicts.
 """
 import argparse
 import sys
@@ -41,6 +42,7 @@ class Script:
         self.words_of = {}
         self.keys = []
         self.bytes = 0
+        self.held = []
 
     def words(self):
         """So many words: each doubling of the size up to the largest is as likely as any other."""
@@ -69,9 +71,34 @@ class Script:
         worker = 1 + self.numbers.below(self.options.workers)
         return f"{worker} del {key}"
 
+    def worker(self):
+        return 1 + self.numbers.below(self.options.workers)
+
+    def hold(self):
+        """A hold of a live key, or the drop of the oldest hold once there are enough."""
+        if len(self.held) >= self.options.most_held:
+            worker, key = self.held.pop(0)
+            return f"{worker} drop {key}"
+        self.held.append((self.worker(), self.live_key()))
+        return "{} hold {}".format(*self.held[-1])
+
+    def read(self):
+        verb = "get" if self.numbers.below(2) else "touch"
+        return f"{self.worker()} {verb} {self.live_key()}"
+
     def line(self, count):
         if count % self.options.stats_every == self.options.stats_every - 1:
             return "stats slabs"
+        if self.options.moves_every and count % self.options.moves_every == 0:
+            return f"reassign -1 {1 + self.numbers.below(self.options.classes)}"
+        if self.options.moves_every and count % self.options.moves_every <= self.options.turns:
+            return "turn 1"
+        if self.options.reads or self.options.holds:
+            drawn = self.numbers.below(100)
+            if drawn < self.options.reads and self.keys:
+                return self.read()
+            if drawn < self.options.reads + self.options.holds and self.keys:
+                return self.hold()
         if self.bytes > self.target and self.keys:
             return self.delete()
         drawn = self.numbers.below(100)
@@ -102,6 +129,12 @@ def parser():
     it.add_argument("--fill", type=int, default=70, help="live items take so many of 100 bytes of the memory")
     it.add_argument("--keys", type=int, default=100_000, help="new keys are below this")
     it.add_argument("--max-words", type=int, default=255, help="items have at most so many words")
+    it.add_argument("--reads", type=int, default=0, help="of 100 lines, so many get or touch a live key")
+    it.add_argument("--holds", type=int, default=0, help="of 100 lines, so many hold a live key or drop a held one")
+    it.add_argument("--most-held", type=int, default=100, help="so many holds at a time")
+    it.add_argument("--moves-every", type=int, default=0, help="every so many lines a page begins to move")
+    it.add_argument("--turns", type=int, default=8, help="so many turns of the mover behind each")
+    it.add_argument("--classes", type=int, default=25, help="pages move to one of so many classes")
     it.add_argument("--workers", type=int, default=4, help="workers 1 to this")
     return it
 
