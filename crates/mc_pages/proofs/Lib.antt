@@ -12,3 +12,4 @@ pub mod Roomy
 pub mod RoomySlabs
 pub mod RoomyMoves
 pub mod RoomyFresh
+pub mod RoomyGrow

@@ -1,16 +1,16 @@
 //! A page on its way from one class to another, or to the pool.
-ghost use Rattle.std.specs.Prelude.{◌≡◌, length, nat_lt, IfOk, OnOk, OnErr, None};
+ghost use Rattle.std.specs.Prelude.{◌≡◌, ◌≤◌, length, nat_lt, IfOk, OnOk, OnErr, None};
 ghost use Rattle.mc_pages.specs.declared.ids.Moving.{Moving};
 ghost use Rattle.mc_pages.specs.SlabState.{IsClass, class_at};
-ghost use Rattle.mc_pages.specs.Answer.{answer_of, pick, MayAnswer};
-ghost use Rattle.mc_pages.specs.Moves.{after_begin, after_finish, after_passed, after_wrap, CanPass, CanWrap, CanFinish};
+ghost use Rattle.mc_pages.specs.Answer.{answer_of, cursor_after, pick, MayAnswer};
+ghost use Rattle.mc_pages.specs.Moves.{first_page, after_begin, after_finish, after_passed, after_wrap, CanPass, CanWrap, CanFinish};
 ghost use Rattle.mc_pages.specs.Accounted.{IsAccounted};
 
 use super::Slabs;
 use crate::ids::{ChunkId, Moving};
 use crate::ledger::{Entry, Owner};
 use crate::moves::{Found, Reassign};
-use mc_classes::ClassId;
+use mc_classes::{ClassId, PageId};
 
 impl Slabs {
     /// The move that runs, if one does.
@@ -31,6 +31,8 @@ impl Slabs {
         ensures accounted { IsAccounted self.new }
     {
         let source = self.source(src, dst)?;
+        let page = self.first_page(source);
+        let cursor = self.cursor_after(src, source);
         // One entry for the beginning, and one for the end.
         self.ledger.reserve(2)?;
         if dst == 0 {
@@ -39,8 +41,7 @@ impl Slabs {
             let slab = &mut self.classes[dst as usize - 1];
             slab.make_room(slab.page_count() + 1)?;
         }
-        let page = self.classes[source as usize - 1].first_page();
-        let _ = self.ledger.push(Entry::Began(page, source, dst));
+        self.ledger.push(Entry::Began(page, source, dst)).unwrap();
         self.owners[page as usize] = Owner::Moving { src: source, dst };
         self.moving = Some(Moving {
             page,
@@ -49,9 +50,7 @@ impl Slabs {
             at: 0,
             busy: 0,
         });
-        if src.is_none() {
-            self.cursor = source;
-        }
+        self.cursor = cursor;
         Ok(())
     }
 
@@ -140,6 +139,25 @@ impl Slabs {
         (self.cursor + 1..count + 1)
             .chain(1..self.cursor + 1)
             .find(|class| *class != dst && self.has_spare(*class))
+    }
+
+    /// Where the pick goes on after a page of this source has begun to move: there, unless the source was named.
+    fn cursor_after(&self, src: Option<u64>, source: ClassId) -> ClassId
+        ensures { result ≡ cursor_after self.now src source }
+    {
+        match src {
+            Some(_) => self.cursor,
+            None => source,
+        }
+    }
+
+    /// The first page of the class.
+    fn first_page(&self, class: ClassId) -> PageId
+        requires class { IsClass self.now class }
+        requires some { 1 ≤ length (class_at self.now class).pages }
+        ensures { result ≡ first_page self.now class }
+    {
+        self.classes[class as usize - 1].first_page()
     }
 
     /// The class has more than one page.

@@ -44,26 +44,34 @@ impl Slabs {
         ensures refused { OnErr result (self.new ≡ self.old) }
         ensures accounted { IsAccounted self.new }
     {
-        if self.pool.is_empty() && self.granted == self.owners.len() {
-            return Err(Grow::NoRoom);
-        }
+        let page = self.next_page().ok_or(Grow::NoRoom)?;
         self.ledger.reserve(1 + usize::from(self.moving.is_some()))?;
         let awaited = usize::from(self.awaits(class));
         let slab = &mut self.classes[class as usize - 1];
         slab.make_room(slab.page_count() + 1 + awaited)?;
-        let (page, entry) = match self.pool.pop() {
-            Some(page) => (page, Entry::Taken(page, class)),
+        slab.add_page(page);
+        let entry = match self.pool.pop() {
+            Some(_) => Entry::Taken(page, class),
             None => {
-                let page = self.granted as PageId;
                 self.granted += 1;
-                (page, Entry::Granted(page, class))
+                Entry::Granted(page, class)
             }
         };
-        slab.add_page(page);
-        let _ = self.ledger.push(entry);
+        self.ledger.push(entry).unwrap();
         self.owners[page as usize] = Owner::Class(class);
         self.uncut = Some(ChunkId { page, index: 0 });
         Ok(page)
+    }
+
+    /// The page that a class gets next, if one is left.
+    fn next_page(&self) -> Option<PageId>
+        ensures { result ≡ next_page self.now }
+    {
+        match self.pool.last() {
+            Some(page) => Some(*page),
+            None if self.granted < self.owners.len() => Some(self.granted as PageId),
+            None => None,
+        }
     }
 
     /// Whether a page is on the move to the class, or to the pool where `class` is 0.

@@ -1,88 +1,195 @@
-use Rattle.std.proofs.Common.{◌≡◌, ℕ, ◌+◌, ◌-◌, ◌<◌, ◌↔◌, List, [], ◌∷◌, ◌++◌, length, set, slice_index_or, Some, None, Result, Ok, Err, IsErrAnd, if◌then◌else◌, refl, arith, sym, ap, ap₂, ◌∙◌, subst}
-use Rattle.std.proofs.lemmas.Result.{err_from_is_err_and}
+use Rattle.std.proofs.Common.{◌≡◌, ℕ, ◌+◌, ◌-◌, ◌<◌, ◌≤◌, List, [], ◌∷◌, ◌++◌, length, vec_len, vec_capacity, set, take_all, take, is_some, Option, Some, None, refl, sym, ap, ap₂, ◌∙◌, subst, arith}
+use Rattle.std.specs.Vec.{with_item}
 use Rattle.mc_pages.specs.declared.ledger.Owner.TheVariants.{Class}
 use Rattle.mc_pages.specs.declared.ledger.Entry.{Entry}
-use Rattle.mc_pages.specs.declared.ledger.Entry.TheVariants.{Granted}
-use Rattle.mc_pages.specs.declared.slabs.Grow.{Grow}
-use Rattle.mc_pages.specs.declared.slabs.Grow.TheVariants.{NoRoom, NoMemory}
-use Rattle.mc_pages.specs.ClassState.{ClassState, with_page}
-use Rattle.mc_pages.specs.SlabState.{SlabState, IsClass, untouched_page}
-use Rattle.mc_pages.specs.Changes.{after_grant}
-use Rattle.mc_pages.specs.InOrder.{IsInOrder, slabs_of}
-use Rattle.mc_pages.proofs.Owners.{position-AreGranted, position-AreGranted_all}
-use Rattle.mc_pages.proofs.Kept.{pages_below, IsInOrder-after_grant}
-use Rattle.mc_pages.proofs.OneClass.{class_at_read}
+use Rattle.mc_pages.specs.declared.ledger.Entry.TheVariants.{Granted, Taken}
+use Rattle.mc_pages.specs.declared.slabs.Slabs.TheInside.{Inside}
+use Rattle.mc_pages.specs.ClassState.{ClassState}
+use Rattle.mc_pages.specs.SlabState.{SlabState, IsClass, class_at}
+use Rattle.mc_pages.specs.Changes.{next_page, after_grow, after_take, after_grant}
+use Rattle.mc_pages.specs.Accounted.{truth}
+use Rattle.mc_pages.specs.InOrder.{IsInOrder, AreKept, slabs_of, is_awaited}
+use Rattle.mc_pages.proofs.Promised.{pages_below, IsInOrder-after_take, IsInOrder-after_grant}
+use Rattle.mc_pages.proofs.Roomy.{if_ok}
+use Rattle.mc_pages.proofs.RoomySlabs.{Fits, states, read_state, with_roomy}
+use Rattle.mc_pages.proofs.RoomyGrow.{on_err, truth_le, truth_byte, grow_takes, grow_grants, take_is, grant_is, next_pooled, next_granted, fits-given, per_page-given, next_within, states_roomier, fits-roomier, per_page-roomier}
 use Rattle.mc_pages.proofs.slabs.Slabs.grow.Goals as goal
+use Rattle.mc_pages.proofs.slabs.Slabs.grow.Goals.{After-page_count, in-Some, in-None}
 
--- memory that runs out is no lack of pages
-not_no_room : (result : Result ℕ Grow) (slabs : SlabState) (granted : ℕ) → IsErrAnd result (λ e. e ≡ NoMemory) → untouched_page slabs ≡ Some granted → (result ≡ Err NoRoom) ↔ (untouched_page slabs ≡ None)
-not_no_room result slabs granted h some =
-    let p = err_from_is_err_and result h in
-    (λ e. cc (p.1, p.2), λ e. cc)
+-- the class that gets a page is one of the classes
+is_class : (c : After-page_count) → IsClass (slabs_of c.self.inside) c.args.class
+is_class c = subst (λ (s : SlabState). IsClass s c.args.class) (sym c.self.view_is) c.requires.class
 
--- a page is no lack of pages
-not_refused : (slabs : SlabState) (granted : ℕ) → untouched_page slabs ≡ Some granted → let result : Result ℕ Grow = Ok granted in (result ≡ Err NoRoom) ↔ (untouched_page slabs ≡ None)
-not_refused slabs granted some = (λ e. cc, λ e. cc)
+-- 1 where a page is on the move to it
+awaited : (c : After-page_count) → c.from-awaited.result ≡ truth (is_awaited c.self.inside.moving c.args.class)
+awaited c = c.from-awaited.ensures ∙ (truth_byte c.awaits.result ∙ ap truth c.awaits.ensures)
 
--- the lowest page that was never granted
-untouched_is : (slabs now : SlabState) (granted : ℕ) → IsInOrder slabs granted → slabs ≡ now → granted < length slabs.owners → untouched_page now ≡ Some granted
-untouched_is slabs now granted kept is within = ap untouched_page (sym is) ∙ position-AreGranted slabs.owners granted kept.lowest within
+-- how many pages it has
+page_count : (c : After-page_count) → c.page_count.result ≡ length (class_at (slabs_of c.self.inside) c.args.class).pages
+page_count c = c.page_count.ensures ∙ ap (λ (class : ClassState). length class.pages) (read_state c.self.inside c.args.class _ _ (is_class c) refl c.index_mut-slab.ensures.value)
 
--- the whole after the grant
-grant_is : (slabs : SlabState) (given granted : ℕ) (read new : ClassState) (ledger : List Entry) → IsClass slabs given → read ≡ slice_index_or slabs.classes (given - 1) read → new ≡ with_page read granted → ledger ≡ slabs.ledger ++ Granted granted given ∷ [] → record slabs { classes = set slabs.classes (given - 1) new; owners = set slabs.owners granted (Class given); ledger = ledger; uncut = Some (record { page = granted; index = 0 }) } ≡ after_grant slabs given granted
-grant_is slabs given granted read new ledger is at added pushed =
-    let state = added ∙ ap (λ (class : ClassState). with_page class granted) (class_at_read slabs given _ read is refl at) in
-    ap₂ (λ (class : ClassState) (entries : List Entry). record slabs { classes = set slabs.classes (given - 1) class; owners = set slabs.owners granted (Class given); ledger = entries; uncut = Some (record { page = granted; index = 0 }) }) state pushed
+few : (c : After-page_count) → c.page_count.result + 1 + c.from-awaited.result ≤ 66
+few c =
+    omega (arith, page_count c, awaited c, truth_le (is_awaited c.self.inside.moving c.args.class), pages_below (slabs_of c.self.inside) c.self.inside.granted c.args.class c.self.invariant.order (is_class c))
 
-pub returns-then-self-len-clause-no_room : goal.returns-then-self-len-clause-no_room
-returns-then-self-len-clause-no_room c =
-    (λ _. ap untouched_page (sym c.self.view_is) ∙ position-AreGranted_all c.self.inside.owners.items c.self.inside.granted c.self.invariant.lowest (omega arith), λ _. refl)
+pub overflow_add-page_count : goal.overflow_add-page_count
+overflow_add-page_count c = omega (arith, few (goal.at.overflow_add-page_count c).After-page_count)
 
-pub returns-in_err-reserve-clause-no_room : goal.returns-in_err-reserve-clause-no_room
-returns-in_err-reserve-clause-no_room c =
-    not_no_room c.from_residual.result c.args.self.now c.self.inside.granted c.from_residual.ensures.1
-    (untouched_is (slabs_of c.self.inside) c.args.self.now c.self.inside.granted c.self.invariant c.self.view_is (omega (arith, c.self.invariant.lowest.within)))
+pub overflow_add-page_count-2 : goal.overflow_add-page_count-2
+overflow_add-page_count-2 c = omega (arith, few (goal.at.overflow_add-page_count-2 c).After-page_count)
 
-pub add_page-requires : goal.add_page-requires
-add_page-requires c =
+pub make_room-requires : goal.make_room-requires
+make_room-requires c = omega (arith, few (goal.at.make_room-requires c).After-page_count)
+
+-- and one more where a page is on the move at all
+entries : (c : After-page_count) → c.from.result ≡ truth (is_some c.self.inside.moving)
+entries c = c.from.ensures ∙ (truth_byte c.is_some.result ∙ ap truth c.is_some.ensures)
+
+-- the page is the next one
+is_next : (c : After-page_count) → next_page (slabs_of c.self.inside) ≡ Some c.in_ok-page.page
+is_next c = ap next_page c.self.view_is ∙ (sym c.next_page.ensures ∙ c.in_ok-page.ensures.ok_part)
+
+-- what was reserved changes nothing that callers see
+refused_is : (c : goal.After-from_residual-in_err-make_room) → record (slabs_of c.self.inside) { classes = states (set c.self.inside.classes.items (c.args.class - 1) c.make_room.new.self); ledger = c.reserve.new.self.items } ≡ slabs_of c.self.inside
+refused_is c =
+    let is = is_class (goal.at.invariant_of-self-in_err-make_room c).After-page_count in
+    ap₂ (λ (classes : List ClassState) (ledger : List Entry). record (slabs_of c.self.inside) { classes = classes; ledger = ledger })
+    (states_roomier c.self.inside c.args.class _ c.make_room.new.self is c.index_mut-slab.ensures.value c.in_err-make_room.ensures.state)
+    c.in_ok-reserve.ensures.items
+
+pub invariant_of-self-in_err-make_room : goal.invariant_of-self-in_err-make_room
+invariant_of-self-in_err-make_room c =
+    let is = is_class (goal.at.invariant_of-self-in_err-make_room c).After-page_count in
+    record {
+      order = subst (λ (s : SlabState). IsInOrder s c.self.inside.granted) (sym (refused_is c)) c.self.invariant.order;
+      ledger = omega (arith, c.self.invariant.ledger, c.in_ok-reserve.ensures.len, c.in_ok-reserve.ensures.capacity);
+      pool = c.self.invariant.pool;
+      classes = fits-roomier c.self.inside c.args.class _ c.make_room.new.self c.self.invariant is c.index_mut-slab.ensures.value c.in_err-make_room.ensures.state c.in_err-make_room.ensures.kept;
+      per_page = per_page-roomier c.self.inside c.args.class _ c.make_room.new.self c.self.invariant is c.index_mut-slab.ensures.value c.in_err-make_room.ensures.state;
+    }
+
+pub returns-in_err-make_room-clause-refused : goal.returns-in_err-make_room-clause-refused
+returns-in_err-make_room-clause-refused c = on_err c.from_residual-in_err-make_room.result (refused_is c ∙ c.self.view_is)
+
+pub returns-in_err-make_room-clause-accounted : goal.returns-in_err-make_room-clause-accounted
+returns-in_err-make_room-clause-accounted c = (invariant_of-self-in_err-make_room c).order.accounted
+
+pub index_mut-requires : goal.index_mut-requires
+index_mut-requires c =
+    let within = next_within (slabs_of c.self.inside) c.self.inside.granted c.in_ok-page.page c.self.invariant.order (is_next (goal.at.index_mut-requires c).After-page_count) in
+    elim c.match-pop.branch [
+      | in-Some w ↦ omega (arith, within, ap (λ (i : Inside). vec_len i.owners) w.self-inside-is)
+      | in-None w ↦ omega (arith, within, ap (λ (i : Inside). vec_len i.owners) w.self-inside-is)
+    ]
+
+-- the page and its entry are given to what stands open
+abbrev given : (c : goal.After-self-4-1) → Inside → Inside
+given c inside = record inside {
+  owners = with_item inside.owners c.in_ok-page.page (Class c.args.class);
+  ledger = c.push.new.self;
+  uncut = Some (record { page = c.in_ok-page.page; index = 0 });
+}
+
+-- what stands open where the page came out of the pool
+abbrev taken_inside : (c : goal.After-self-4-1) → Inside
+taken_inside c = record c.self.inside {
+  classes = with_item c.self.inside.classes (c.args.class - 1) c.add_page.new.self;
+  pool = c.pop.new.self;
+  ledger = c.reserve.new.self;
+}
+
+-- and where it was untouched
+abbrev granted_inside : (c : goal.After-self-4-1) → Inside
+granted_inside c = record (taken_inside c) { granted = c.self.inside.granted + 1 }
+
+-- the ledger has the entry at its end
+pushed : (c : goal.After-self-4-1) (inside : Inside) (entry : Entry) → c.match-pop.self-inside ≡ inside → c.match-pop.entry ≡ entry → inside.ledger.items ≡ c.self.inside.ledger.items → c.push.new.self.items ≡ c.self.inside.ledger.items ++ entry ∷ []
+pushed c inside entry is entry_is before =
+    c.push.ensures.items ∙ (if_ok c.push.result _ _ _ c.unwrap.ensures
+    ∙ (ap₂ (λ (i : Inside) (e : Entry). i.ledger.items ++ e ∷ []) is entry_is ∙ ap (λ (entries : List Entry). entries ++ entry ∷ []) before))
+
+-- and room for one more where a page is on the move
+ledger_fits : (c : goal.After-self-4-1) → vec_len c.match-pop.self-inside.ledger ≡ vec_len c.reserve.new.self → vec_capacity c.match-pop.self-inside.ledger ≡ vec_capacity c.reserve.new.self → vec_len c.push.new.self + truth (is_some c.self.inside.moving) ≤ vec_capacity c.push.new.self
+ledger_fits c len capacity =
+    omega (arith, len, capacity, c.push.ensures.upper_bound, c.push.ensures.capacity, c.in_ok-reserve.ensures.ok, entries (goal.at.invariant_of-self-3 c).After-page_count)
+
+-- each class keeps its room
+all_fit : (c : goal.After-self-4-1) (other : ℕ) → IsClass (slabs_of (with_roomy c.self.inside (c.args.class - 1) c.add_page.new.self)) other → Fits (set c.self.inside.classes.items (c.args.class - 1) c.add_page.new.self) (truth (is_awaited c.self.inside.moving other)) other
+all_fit c =
+    let here = (goal.at.invariant_of-self-3 c).After-page_count in
+    fits-given c.self.inside c.args.class c.in_ok-page.page _ c.make_room.new.self _ c.self.invariant (is_class here) c.index_mut-slab.ensures.value c.in_ok-make_room.ensures.state c.add_page.ensures
+    (omega (arith, page_count here, awaited here, c.in_ok-make_room.ensures.ok))
+
+all_sized : (c : goal.After-self-4-1) (other : ℕ) → IsClass (slabs_of (with_roomy c.self.inside (c.args.class - 1) c.add_page.new.self)) other → (class_at (slabs_of (with_roomy c.self.inside (c.args.class - 1) c.add_page.new.self)) other).per_page ≤ 256
+all_sized c =
+    per_page-given c.self.inside c.args.class c.in_ok-page.page _ c.make_room.new.self _ c.self.invariant (is_class (goal.at.invariant_of-self-3 c).After-page_count) c.index_mut-slab.ensures.value c.in_ok-make_room.ensures.state c.add_page.ensures
+
+-- the whole where the page came out of the pool
+taken_is : (c : goal.After-self-4-1) → c.match-pop.self-inside ≡ taken_inside c → c.match-pop.entry ≡ Taken c.in_ok-page.page c.args.class → slabs_of (given c (taken_inside c)) ≡ after_take (slabs_of c.self.inside) c.args.class c.in_ok-page.page
+taken_is c is entry =
+    let pool = c.pop.ensures.rest ∙ ap (λ (n : ℕ). take (n - 1) c.self.inside.pool.items) c.self.inside.pool.ok.0 in
+    take_is c.self.inside c.args.class c.in_ok-page.page _ c.make_room.new.self _ _ _ (is_class (goal.at.invariant_of-self-3 c).After-page_count) c.index_mut-slab.ensures.value c.in_ok-make_room.ensures.state c.add_page.ensures
+    pool (pushed c (taken_inside c) _ is entry c.in_ok-reserve.ensures.items)
+
+taken_kept : (c : goal.After-self-4-1) → c.match-pop.self-inside ≡ taken_inside c → c.match-pop.entry ≡ Taken c.in_ok-page.page c.args.class → 0 < length c.self.inside.pool.items → AreKept (given c (taken_inside c))
+taken_kept c is entry some =
     let slabs = slabs_of c.self.inside in
-    let is = subst (λ (s : SlabState). IsClass s c.args.class) (sym c.self.view_is) c.requires.class in
+    let here = (goal.at.invariant_of-self-3 c).After-page_count in
     let whole = subst (λ (s : SlabState). s.uncut ≡ None) (sym c.self.view_is) c.requires.whole in
-    let read = class_at_read slabs c.args.class _ c.index_mut.result.now is refl c.index_mut.ensures.value in
-    omega (arith, ap (λ (class : ClassState). length class.pages) read, pages_below slabs c.self.inside.granted c.args.class c.self.invariant is whole (omega (arith, c.self.invariant.lowest.within)))
+    record {
+      order = subst (λ (s : SlabState). IsInOrder s c.self.inside.granted) (sym (taken_is c is entry))
+      (IsInOrder-after_take slabs c.self.inside.granted c.args.class c.in_ok-page.page c.self.invariant.order (is_class here) whole (next_pooled slabs c.in_ok-page.page some (is_next here)));
+      ledger = ledger_fits c (ap (λ (i : Inside). vec_len i.ledger) is) (ap (λ (i : Inside). vec_capacity i.ledger) is);
+      pool = omega (arith, c.self.invariant.pool, c.pop.ensures.len, c.pop.ensures.capacity);
+      classes = all_fit c;
+      per_page = all_sized c;
+    }
 
-pub returns-in_err-add_page-clause-no_room : goal.returns-in_err-add_page-clause-no_room
-returns-in_err-add_page-clause-no_room c =
-    not_no_room c.from_residual-in_err-add_page.result c.args.self.now c.self.inside.granted c.from_residual-in_err-add_page.ensures.1
-    (untouched_is (slabs_of c.self.inside) c.args.self.now c.self.inside.granted c.self.invariant c.self.view_is (omega (arith, c.self.invariant.lowest.within)))
+-- the whole where the page was untouched
+granted_is : (c : goal.After-self-4-1) → c.match-pop.self-inside ≡ granted_inside c → c.match-pop.entry ≡ Granted c.in_ok-page.page c.args.class → length c.self.inside.pool.items ≡ 0 → slabs_of (given c (granted_inside c)) ≡ after_grant (slabs_of c.self.inside) c.args.class c.in_ok-page.page
+granted_is c is entry none =
+    let pool = c.pop.ensures.rest ∙ take_all _ c.self.inside.pool.items (omega arith) in
+    grant_is c.self.inside c.args.class c.in_ok-page.page _ c.make_room.new.self _ _ _ (is_class (goal.at.invariant_of-self-3 c).After-page_count) c.index_mut-slab.ensures.value c.in_ok-make_room.ensures.state c.add_page.ensures
+    pool (pushed c (granted_inside c) _ is entry c.in_ok-reserve.ensures.items)
 
--- the entry stands at the end of the ledger
-pushed : (c : goal.After-self-4-1) → c.push.new.self.items ≡ c.self.inside.ledger.items ++ Granted c.self.inside.granted c.args.class ∷ []
-pushed c =
-    let ok = c.push.ensures.succeeds (omega (arith, c.in_ok-reserve.ensures.ok)) in
-    let items = λ (entries : List Entry). entries ++ Granted c.self.inside.granted c.args.class ∷ [] in
-    c.push.ensures.items ∙ (ap (λ b. if b then items c.reserve.new.self.items else c.reserve.new.self.items) ok ∙ ap items c.in_ok-reserve.ensures.items)
-
-pub invariant_of-self-2 : goal.invariant_of-self-2
-invariant_of-self-2 c =
+granted_kept : (c : goal.After-self-4-1) → c.match-pop.self-inside ≡ granted_inside c → c.match-pop.entry ≡ Granted c.in_ok-page.page c.args.class → length c.self.inside.pool.items ≡ 0 → AreKept (given c (granted_inside c))
+granted_kept c is entry none =
     let slabs = slabs_of c.self.inside in
-    let is = subst (λ (s : SlabState). IsClass s c.args.class) (sym c.self.view_is) c.requires.class in
+    let here = (goal.at.invariant_of-self-3 c).After-page_count in
     let whole = subst (λ (s : SlabState). s.uncut ≡ None) (sym c.self.view_is) c.requires.whole in
-    let grant = grant_is slabs c.args.class c.self.inside.granted c.index_mut.result.now c.add_page.new.self c.push.new.self.items is c.index_mut.ensures.value c.in_ok-add_page.ensures.ok (pushed c) in
-    subst (λ (s : SlabState). IsInOrder s (c.self.inside.granted + 1)) (sym grant)
-    (IsInOrder-after_grant slabs c.self.inside.granted c.args.class c.self.invariant is whole (omega (arith, c.self.invariant.lowest.within)))
+    let next = next_granted slabs c.self.inside.granted c.in_ok-page.page c.self.invariant.order none (is_next here) in
+    let granted = granted_is c is entry none ∙ ap (after_grant slabs c.args.class) next.0 in
+    record {
+      order = subst (λ (s : SlabState). IsInOrder s (c.self.inside.granted + 1)) (sym granted)
+      (IsInOrder-after_grant slabs c.self.inside.granted c.args.class c.self.invariant.order (is_class here) whole next.1);
+      ledger = ledger_fits c (ap (λ (i : Inside). vec_len i.ledger) is) (ap (λ (i : Inside). vec_capacity i.ledger) is);
+      pool = omega (arith, c.self.invariant.pool, c.pop.ensures.len, c.pop.ensures.capacity);
+      classes = all_fit c;
+      per_page = all_sized c;
+    }
 
-pub returns-clause-granted : goal.returns-clause-granted
-returns-clause-granted c =
+pub invariant_of-self-3 : goal.invariant_of-self-3
+invariant_of-self-3 c =
+    let kept : Inside → Type 0 = λ i. AreKept (given c i) in
+    elim c.match-pop.branch [
+      | in-Some w ↦ subst kept (sym w.self-inside-is) (taken_kept c w.self-inside-is w.entry-is (omega (arith, w.in-Some.ensures.cases)))
+      | in-None w ↦ subst kept (sym w.self-inside-is) (granted_kept c w.self-inside-is w.entry-is (omega (arith, w.in-None.ensures.cases)))
+    ]
+
+pub returns-clause-given : goal.returns-clause-given
+returns-clause-given c =
     let slabs = slabs_of c.self.inside in
-    let is = subst (λ (s : SlabState). IsClass s c.args.class) (sym c.self.view_is) c.requires.class in
-    let grant = grant_is slabs c.args.class c.self.inside.granted c.index_mut.result.now c.add_page.new.self c.push.new.self.items is c.index_mut.ensures.value c.in_ok-add_page.ensures.ok (pushed c) in
-    (untouched_is slabs c.args.self.now c.self.inside.granted c.self.invariant c.self.view_is (omega (arith, c.self.invariant.lowest.within)), grant ∙ ap (λ (s : SlabState). after_grant s c.args.class c.self.inside.granted) c.self.view_is)
-
-pub returns-clause-no_room : goal.returns-clause-no_room
-returns-clause-no_room c =
-    not_refused c.args.self.now c.self.inside.granted
-    (untouched_is (slabs_of c.self.inside) c.args.self.now c.self.inside.granted c.self.invariant c.self.view_is (omega (arith, c.self.invariant.lowest.within)))
+    let next = sym (ap next_page c.self.view_is) ∙ is_next (goal.at.invariant_of-self-3 c).After-page_count in
+    let seen : Inside → SlabState = λ i. slabs_of (given c i) in
+    let grown = ap (λ (s : SlabState). after_grow s c.args.class c.in_ok-page.page) c.self.view_is in
+    elim c.match-pop.branch [
+      | in-Some w ↦
+          (next, ap seen w.self-inside-is ∙ (taken_is c w.self-inside-is w.entry-is
+          ∙ (sym (grow_takes slabs c.args.class c.in_ok-page.page (omega (arith, w.in-Some.ensures.cases))) ∙ grown)))
+      | in-None w ↦
+          (next, ap seen w.self-inside-is ∙ (granted_is c w.self-inside-is w.entry-is (omega (arith, w.in-None.ensures.cases))
+          ∙ (sym (grow_grants slabs c.args.class c.in_ok-page.page (omega (arith, w.in-None.ensures.cases))) ∙ grown)))
+    ]
 
 pub returns-clause-accounted : goal.returns-clause-accounted
-returns-clause-accounted c = (invariant_of-self-2 c).accounted
+returns-clause-accounted c = (invariant_of-self-3 c).order.accounted

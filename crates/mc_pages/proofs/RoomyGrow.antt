@@ -1,0 +1,156 @@
+-- A page that is given to a class, with the room that is made for it.
+use Rattle.std.proofs.Common.{◌≡◌, ◌≢◌, ℕ, ◌+◌, ◌-◌, ◌<◌, ◌≤◌, ◌==◌, true, false, List, [], ◌∷◌, ◌++◌, length, map, set, take, count_by, slice_get, slice_index_or, Option, Some, None, if◌then◌else◌, nat_lt, refl, sym, ap, ap₂, ◌∙◌, subst, inl, inr, arith, lt-ltb, le-ltb, eq-eqb, length-set, length-append, Bool, Result, Ok, Err, OnErr}
+use mir.Val.{bool_byte}
+use Rattle.std.specs.Option.{option_or}
+use Rattle.std.proofs.lemmas.Bool.{cases_lt, cases_Bool, false≢true}
+use Rattle.std.proofs.lemmas.List.{map-set, set-get_or}
+use Rattle.std.proofs.lemmas.List.Sums.{get_or-le-sum_by}
+use Rattle.std.proofs.lemmas.Option.{slice_get_past, slice_get-get_or}
+use Rattle.mc_pages.specs.declared.ledger.Owner.{Owner}
+use Rattle.mc_pages.specs.declared.ledger.Owner.TheVariants.{Class}
+use Rattle.mc_pages.specs.declared.ledger.Entry.{Entry}
+use Rattle.mc_pages.specs.declared.ledger.Entry.TheVariants.{Granted, Taken}
+use Rattle.mc_pages.specs.declared.slabs.Slabs.TheInside.{Inside}
+use Rattle.mc_pages.specs.Ledger.{owner_at}
+use Rattle.mc_pages.specs.ClassState.{ClassState, new_class, with_page}
+use Rattle.mc_pages.specs.Room.{RoomyClass, in_state}
+use Rattle.mc_pages.specs.SlabState.{SlabState, IsClass, class_at, untouched_page}
+use Rattle.mc_pages.specs.Changes.{pooled_page, next_page, after_grant, after_take, after_grow}
+use Rattle.mc_pages.specs.Accounted.{truth, is_pool, IsAccounted}
+use Rattle.mc_pages.specs.InOrder.{IsInOrder, AreKept, slabs_of, room_at, is_awaited}
+use Rattle.mc_pages.proofs.Owners.{position-AreGranted, position-AreGranted_all, within_from_owned}
+use Rattle.mc_pages.proofs.RoomySlabs.{states, Fits, Fits-set, IsClass-set, length-states, read_state, read_room, with_roomy, fits-changed, per_page-changed}
+
+-- a page is no lack of one
+None≢Some : (page : ℕ) → None ≡ Some page → ⊥
+None≢Some page h = cc
+
+-- two equal options hold the same page
+Some-same : (a b : ℕ) → Some a ≡ Some b → a ≡ b
+Some-same a b h = cc
+
+-- an empty pool has no page
+pooled_none : (slabs : SlabState) → length slabs.pool ≡ 0 → pooled_page slabs ≡ None
+pooled_none slabs empty = slice_get_past slabs.pool (length slabs.pool - 1) (omega arith)
+
+-- without a page of the pool the next one is the lowest untouched one
+pub next_untouched : (slabs : SlabState) → pooled_page slabs ≡ None → next_page slabs ≡ untouched_page slabs
+next_untouched slabs none = ap (λ (o : Option ℕ). option_or o (untouched_page slabs)) none
+
+-- the next page comes out of a pool that has one
+pub next_pooled : (slabs : SlabState) (page : ℕ) → 0 < length slabs.pool → next_page slabs ≡ Some page → pooled_page slabs ≡ Some page
+next_pooled slabs page some next =
+    let last = slice_get-get_or slabs.pool (length slabs.pool - 1) 0 (omega arith) in
+    last ∙ (sym (ap (λ (o : Option ℕ). option_or o (untouched_page slabs)) last) ∙ next)
+
+-- the next page is the lowest untouched one where the pool is empty
+pub next_granted : (slabs : SlabState) (granted page : ℕ) → IsInOrder slabs granted → length slabs.pool ≡ 0 → next_page slabs ≡ Some page → (page ≡ granted) × (granted < length slabs.owners)
+next_granted slabs granted page kept empty next =
+    let untouched = sym (next_untouched slabs (pooled_none slabs empty)) ∙ next in
+    elim (cases_lt granted (length slabs.owners)) [
+      | inl within ↦ (Some-same page granted (sym untouched ∙ position-AreGranted slabs.owners granted kept.lowest within), within)
+      | inr past ↦ absurd (None≢Some page (sym (position-AreGranted_all slabs.owners granted kept.lowest (omega (arith, kept.lowest.within))) ∙ untouched))
+    ]
+
+-- a page of the pool is one of the pages
+pooled_within : (slabs : SlabState) (page : ℕ) → IsAccounted slabs → 0 < length slabs.pool → pooled_page slabs ≡ Some page → page < length slabs.owners
+pooled_within slabs page all some pooled =
+    let place = length slabs.pool - 1 in
+    let is : slice_index_or slabs.pool place 0 ≡ page = Some-same _ page (sym (slice_get-get_or slabs.pool place 0 (omega arith)) ∙ pooled) in
+    let here : truth (slice_index_or slabs.pool place 0 == page) ≡ 1 = ap truth (eq-eqb _ page is) in
+    let counted = get_or-le-sum_by (λ (p : ℕ). truth (p == page)) slabs.pool place 0 (omega arith) in
+    within_from_owned page slabs.owners (λ untouched. absurd (omega (arith, here, counted, all.pool page, ap (λ (o : Owner). truth (is_pool o)) untouched)))
+
+-- the next page is one of the pages
+pub next_within : (slabs : SlabState) (granted page : ℕ) → IsInOrder slabs granted → next_page slabs ≡ Some page → page < length slabs.owners
+next_within slabs granted page kept next =
+    elim (cases_lt 0 (length slabs.pool)) [
+      | inl some ↦ pooled_within slabs page kept.accounted some (next_pooled slabs page some next)
+      | inr none ↦ let is = next_granted slabs granted page kept (omega arith) next in omega (arith, is.0, is.1)
+    ]
+
+-- where the pool has a page, that one is taken
+pub grow_takes : (slabs : SlabState) (class page : ℕ) → 0 < length slabs.pool → after_grow slabs class page ≡ after_take slabs class page
+grow_takes slabs class page some = ap (λ b. if b then after_take slabs class page else after_grant slabs class page) (lt-ltb 0 (length slabs.pool) some)
+
+-- and else an untouched one is granted
+pub grow_grants : (slabs : SlabState) (class page : ℕ) → length slabs.pool ≡ 0 → after_grow slabs class page ≡ after_grant slabs class page
+grow_grants slabs class page none = ap (λ b. if b then after_take slabs class page else after_grant slabs class page) (le-ltb 0 (length slabs.pool) (omega arith))
+
+-- a page is given to a class, with these classes, this pool and this ledger
+abbrev pub given_with : SlabState → ℕ → ℕ → List ClassState → List ℕ → List Entry → SlabState
+given_with slabs class page classes pool ledger = record slabs {
+  classes = classes;
+  owners = set slabs.owners page (Class class);
+  pool = pool;
+  ledger = ledger;
+  uncut = Some (record { page = page; index = 0 });
+}
+
+-- the classes, one of which has got a page
+states_given : (slabs : Inside) (class page : ℕ) (read roomy added : RoomyClass) → IsClass (slabs_of slabs) class → read ≡ slice_index_or slabs.classes.items (class - 1) read → roomy.state ≡ read.state → added ≡ in_state roomy (with_page roomy.state page) → states (set slabs.classes.items (class - 1) added) ≡ set (slabs_of slabs).classes (class - 1) (with_page (class_at (slabs_of slabs) class) page)
+states_given slabs class page read roomy added is h same changed =
+    let before = same ∙ read_state slabs class (class - 1) read is refl h in
+    let state : added.state ≡ with_page (class_at (slabs_of slabs) class) page = ap (λ (c : RoomyClass). c.state) changed ∙ ap (λ (c : ClassState). with_page c page) before in
+    map-set (λ (c : RoomyClass). c.state) slabs.classes.items (class - 1) added ∙ ap (λ (c : ClassState). set (slabs_of slabs).classes (class - 1) c) state
+
+-- the page came out of the pool
+pub take_is : (slabs : Inside) (class page : ℕ) (read roomy added : RoomyClass) (pool : List ℕ) (ledger : List Entry) → IsClass (slabs_of slabs) class → read ≡ slice_index_or slabs.classes.items (class - 1) read → roomy.state ≡ read.state → added ≡ in_state roomy (with_page roomy.state page) → pool ≡ take (length slabs.pool.items - 1) slabs.pool.items → ledger ≡ slabs.ledger.items ++ Taken page class ∷ [] → given_with (slabs_of slabs) class page (states (set slabs.classes.items (class - 1) added)) pool ledger ≡ after_take (slabs_of slabs) class page
+take_is slabs class page read roomy added pool ledger is h same changed pool_is ledger_is =
+    ap (λ (cs : List ClassState). given_with (slabs_of slabs) class page cs pool ledger) (states_given slabs class page read roomy added is h same changed)
+    ∙ ap₂ (given_with (slabs_of slabs) class page (set (slabs_of slabs).classes (class - 1) (with_page (class_at (slabs_of slabs) class) page))) pool_is ledger_is
+
+-- the page was untouched
+pub grant_is : (slabs : Inside) (class page : ℕ) (read roomy added : RoomyClass) (pool : List ℕ) (ledger : List Entry) → IsClass (slabs_of slabs) class → read ≡ slice_index_or slabs.classes.items (class - 1) read → roomy.state ≡ read.state → added ≡ in_state roomy (with_page roomy.state page) → pool ≡ slabs.pool.items → ledger ≡ slabs.ledger.items ++ Granted page class ∷ [] → given_with (slabs_of slabs) class page (states (set slabs.classes.items (class - 1) added)) pool ledger ≡ after_grant (slabs_of slabs) class page
+grant_is slabs class page read roomy added pool ledger is h same changed pool_is ledger_is =
+    ap (λ (cs : List ClassState). given_with (slabs_of slabs) class page cs pool ledger) (states_given slabs class page read roomy added is h same changed)
+    ∙ ap₂ (given_with (slabs_of slabs) class page (set (slabs_of slabs).classes (class - 1) (with_page (class_at (slabs_of slabs) class) page))) pool_is ledger_is
+
+-- a fact that holds whatever the result is
+pub on_err : {T E P : Type 0} (result : Result T E) → P → OnErr result P
+on_err (Ok x) p = tt
+on_err (Err e) p = p
+
+-- 1 at most
+pub truth_le : (b : Bool) → truth b ≤ 1
+truth_le true = omega arith
+truth_le false = omega arith
+
+-- more room changes no class
+pub states_roomier : (slabs : Inside) (class : ℕ) (read roomy : RoomyClass) → IsClass (slabs_of slabs) class → read ≡ slice_index_or slabs.classes.items (class - 1) read → roomy.state ≡ read.state → states (set slabs.classes.items (class - 1) roomy) ≡ (slabs_of slabs).classes
+states_roomier slabs class read roomy is h same =
+    map-set (λ (c : RoomyClass). c.state) slabs.classes.items (class - 1) roomy
+    ∙ (ap (λ (c : ClassState). set (slabs_of slabs).classes (class - 1) c) (same ∙ read_state slabs class (class - 1) read is refl h)
+    ∙ set-get_or (slabs_of slabs).classes (class - 1) (new_class 0 0))
+
+-- there is still room in each class
+pub fits-roomier : (slabs : Inside) (class : ℕ) (read roomy : RoomyClass) → AreKept slabs → IsClass (slabs_of slabs) class → read ≡ slice_index_or slabs.classes.items (class - 1) read → roomy.state ≡ read.state → read.room ≤ roomy.room → (other : ℕ) → IsClass (slabs_of (with_roomy slabs (class - 1) roomy)) other → Fits (set slabs.classes.items (class - 1) roomy) (truth (is_awaited slabs.moving other)) other
+fits-roomier slabs class read roomy kept is h same room =
+    let state = same ∙ read_state slabs class (class - 1) read is refl h in
+    fits-changed slabs class (class - 1) roomy kept is refl (ap (λ (c : ClassState). length c.pages) state) (omega (arith, read_room slabs class (class - 1) read is refl h, room))
+
+-- and no class has more chunks a page
+pub per_page-roomier : (slabs : Inside) (class : ℕ) (read roomy : RoomyClass) → AreKept slabs → IsClass (slabs_of slabs) class → read ≡ slice_index_or slabs.classes.items (class - 1) read → roomy.state ≡ read.state → (other : ℕ) → IsClass (slabs_of (with_roomy slabs (class - 1) roomy)) other → (class_at (slabs_of (with_roomy slabs (class - 1) roomy)) other).per_page ≤ 256
+per_page-roomier slabs class read roomy kept is h same =
+    let state = same ∙ read_state slabs class (class - 1) read is refl h in
+    per_page-changed slabs class (class - 1) roomy kept is refl (omega (arith, ap (λ (c : ClassState). c.per_page) state, kept.per_page class is))
+
+-- with its new page the class still has room for one that is on the move to it
+pub fits-given : (slabs : Inside) (class page : ℕ) (read roomy added : RoomyClass) → AreKept slabs → IsClass (slabs_of slabs) class → read ≡ slice_index_or slabs.classes.items (class - 1) read → roomy.state ≡ read.state → added ≡ in_state roomy (with_page roomy.state page) → length (class_at (slabs_of slabs) class).pages + 1 + truth (is_awaited slabs.moving class) ≤ roomy.room → (other : ℕ) → IsClass (slabs_of (with_roomy slabs (class - 1) added)) other → Fits (set slabs.classes.items (class - 1) added) (truth (is_awaited slabs.moving other)) other
+fits-given slabs class page read roomy added kept is h same changed room other here =
+    let before : IsClass (slabs_of slabs) other = (here.0, IsClass-set slabs.classes.items (class - 1) other added here.1) in
+    let state = same ∙ read_state slabs class (class - 1) read is refl h in
+    let more = length-append roomy.state.pages (page ∷ []) in
+    Fits-set slabs.classes.items class other (truth (is_awaited slabs.moving other)) added is.0 (length-states slabs class is) here.0
+    (λ e. omega (arith, ap (λ (c : RoomyClass). length c.state.pages) changed, ap (λ (c : RoomyClass). c.room) changed, more, ap (λ (c : ClassState). length c.pages) state, room, ap (λ (n : ℕ). truth (is_awaited slabs.moving n)) e))
+    (λ differs. kept.classes other before)
+
+pub per_page-given : (slabs : Inside) (class page : ℕ) (read roomy added : RoomyClass) → AreKept slabs → IsClass (slabs_of slabs) class → read ≡ slice_index_or slabs.classes.items (class - 1) read → roomy.state ≡ read.state → added ≡ in_state roomy (with_page roomy.state page) → (other : ℕ) → IsClass (slabs_of (with_roomy slabs (class - 1) added)) other → (class_at (slabs_of (with_roomy slabs (class - 1) added)) other).per_page ≤ 256
+per_page-given slabs class page read roomy added kept is h same changed =
+    let state = same ∙ read_state slabs class (class - 1) read is refl h in
+    per_page-changed slabs class (class - 1) added kept is refl (omega (arith, ap (λ (c : RoomyClass). c.state.per_page) changed, ap (λ (c : ClassState). c.per_page) state, kept.per_page class is))
+
+-- a `bool` as a number
+pub truth_byte : (b : Bool) → bool_byte b ≡ truth b
+truth_byte true = refl
+truth_byte false = refl
