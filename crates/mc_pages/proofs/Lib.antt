@@ -10,6 +10,6 @@ pub mod Kept
 pub mod Promised
 pub mod Roomy
 pub mod RoomySlabs
-pub mod RoomyMoves
 pub mod RoomyFresh
 pub mod RoomyGrow
+pub mod RoomyMoves

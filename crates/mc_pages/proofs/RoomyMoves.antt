@@ -1,14 +1,21 @@
 -- The steps of a move, with the room that is kept for its end.
-use Rattle.std.proofs.Common.{◌≡◌, ℕ, ◌+◌, ◌<◌, ◌≤◌, Bool, true, false, Option, Some, None, is_some, if◌then◌else◌, refl, sym, ap, ap₂, ◌∙◌, subst, arith}
+use Rattle.std.proofs.Common.{◌≡◌, ◌≢◌, ℕ, ◌+◌, ◌-◌, ◌<◌, ◌≤◌, ◌==◌, List, [], ◌∷◌, ◌++◌, length, set, slice_index_or, Result, Ok, IfOk, ne_eqb, Bool, true, false, Option, Some, None, is_some, if◌then◌else◌, refl, sym, ap, ap₂, ◌∙◌, subst, arith}
 use Rattle.std.specs.Option.{option_map}
 use Rattle.mc_pages.specs.declared.ids.Moving.{Moving}
+use Rattle.mc_pages.specs.declared.ledger.Owner.TheVariants as owner
+use Rattle.mc_pages.specs.declared.ledger.Entry.{Entry}
+use Rattle.mc_pages.specs.declared.ledger.Entry.TheVariants.{Began}
 use Rattle.mc_pages.specs.declared.moves.Found.{Found}
 use Rattle.mc_pages.specs.declared.slabs.Slabs.TheInside.{Inside}
-use Rattle.mc_pages.specs.ClassState.{counted}
-use Rattle.mc_pages.specs.SlabState.{SlabState}
+use Rattle.mc_pages.specs.ClassState.{ClassState, counted}
+use Rattle.mc_pages.specs.Room.{RoomyClass}
+use Rattle.mc_pages.specs.SlabState.{SlabState, IsClass, class_at}
+use Rattle.mc_pages.specs.Answer.{cursor_after}
 use Rattle.mc_pages.specs.Accounted.{truth}
-use Rattle.mc_pages.specs.Moves.{is_held_up, rescued_of, evicted_of, moved_on, after_passed, CanPass}
+use Rattle.mc_pages.specs.Moves.{is_held_up, rescued_of, evicted_of, moved_on, first_page, with_move, after_begin, after_passed, CanPass}
 use Rattle.mc_pages.specs.InOrder.{IsInOrder, AreKept, slabs_of, is_awaited}
+use Rattle.mc_pages.proofs.RoomySlabs.{Fits, Fits-set, IsClass-set, length-states, read_state, with_roomy}
+use Rattle.mc_pages.proofs.RoomyGrow.{truth_le}
 
 -- two equal options hold the same move
 pub Some-same : (a b : Moving) → Some a ≡ Some b → a ≡ b
@@ -55,3 +62,42 @@ AreKept-passed slabs found m held rescues nomem runs held_is rescues_is nomem_is
       classes = λ class is. omega (arith, kept.classes class is, awaited class);
       per_page = kept.per_page;
     }
+
+-- a fact of the value of a result that is known
+pub if_ok_at : {T E : Type 0} (result : Result T E) (P : T → Type 0) (x : T) → result ≡ Ok x → P x → IfOk result P
+if_ok_at {T} {E} result P x h p = subst (λ (r : Result T E). IfOk r P) (sym h) p
+
+-- a page begins to move, with these classes, this pool, this ledger and this cursor
+abbrev pub begun_with : SlabState → ℕ → ℕ → ℕ → ℕ → List ClassState → List ℕ → List Entry → SlabState
+begun_with slabs page source dst cursor classes pool ledger = record slabs {
+  classes = classes;
+  owners = set slabs.owners page (owner.Moving source dst);
+  pool = pool;
+  ledger = ledger;
+  moving = Some (record { page = page; src = source; dst = dst; at = 0; busy = 0 });
+  cursor = cursor;
+}
+
+-- the whole after it
+pub begun_is : (slabs : SlabState) (src : Option ℕ) (page source dst cursor : ℕ) (classes : List ClassState) (pool : List ℕ) (ledger : List Entry) → classes ≡ slabs.classes → pool ≡ slabs.pool → ledger ≡ slabs.ledger ++ Began page source dst ∷ [] → page ≡ first_page slabs source → cursor ≡ cursor_after slabs src source → begun_with slabs page source dst cursor classes pool ledger ≡ after_begin slabs src source dst
+begun_is slabs src page source dst cursor classes pool ledger classes_is pool_is ledger_is page_is cursor_is =
+    ap₂ (λ (cs : List ClassState) (ps : List ℕ). begun_with slabs page source dst cursor cs ps ledger) classes_is pool_is
+    ∙ (ap₂ (λ (n : ℕ) (es : List Entry). begun_with slabs page source dst n slabs.classes slabs.pool es) cursor_is ledger_is
+    ∙ ap (λ (p : ℕ). record (with_move slabs p source dst) { cursor = cursor_after slabs src source }) page_is)
+
+-- no page is awaited by a class that isn't the destination
+pub not_awaited : (dst class : ℕ) → dst ≢ class → truth (dst == class) ≡ 0
+not_awaited dst class differs = ap truth (ne_eqb dst class differs)
+
+-- where the page moves to the pool, each class has the room that it needs
+pub fits-to_pool : (slabs : Inside) (dst : ℕ) → AreKept slabs → dst ≡ 0 → (other : ℕ) → IsClass (slabs_of slabs) other → Fits slabs.classes.items (truth (dst == other)) other
+fits-to_pool slabs dst kept pool other is = omega (arith, kept.classes other is, not_awaited dst other (λ e. absurd (omega (arith, is.0))))
+
+-- where it moves to a class, that one has room for it
+pub fits-to_class : (slabs : Inside) (dst : ℕ) (read roomy : RoomyClass) → AreKept slabs → IsClass (slabs_of slabs) dst → read ≡ slice_index_or slabs.classes.items (dst - 1) read → roomy.state ≡ read.state → length (class_at (slabs_of slabs) dst).pages + 1 ≤ roomy.room → (other : ℕ) → IsClass (slabs_of (with_roomy slabs (dst - 1) roomy)) other → Fits (set slabs.classes.items (dst - 1) roomy) (truth (dst == other)) other
+fits-to_class slabs dst read roomy kept is h same room other here =
+    let before : IsClass (slabs_of slabs) other = (here.0, IsClass-set slabs.classes.items (dst - 1) other roomy here.1) in
+    let state = same ∙ read_state slabs dst (dst - 1) read is refl h in
+    Fits-set slabs.classes.items dst other (truth (dst == other)) roomy is.0 (length-states slabs dst is) here.0
+    (λ e. omega (arith, ap (λ (c : ClassState). length c.pages) state, room, truth_le (dst == other)))
+    (λ differs. omega (arith, kept.classes other before, not_awaited dst other (λ e. differs (sym e))))

@@ -17,5 +17,6 @@ returns c =
     let first = YieldsList-from_range (slabs.cursor + 1) (c.len-count.result + 1) (length slabs.classes - slabs.cursor) c.chain.ensures.first (omega arith) in
     let second = YieldsList-from_range 1 (slabs.cursor + 1) slabs.cursor c.chain.ensures.second (omega arith) in
     let in_turn = YieldsList-from_chain first second c.chain.ensures.first_done c.chain.ensures.second_done in
-    let found = find_from_yields_List (can_give c.args.self.now c.args.dst) _ _ c.find.result c.find.ensures.ran in_turn (λ x b q k. search (rules, tests)) in
-    sym (option_map_id c.find.result) ∙ (found ∙ ap (λ (s : SlabState). find (can_give c.args.self.now c.args.dst) (classes_in_turn s)) c.self.view_is)
+    sym (option_map_id c.find.result)
+    ∙ (find_from_yields_List (can_give c.args.self.now c.args.dst) _ _ _ c.find.ensures.ran in_turn (λ x b q k. search (rules, tests))
+    ∙ ap (λ (s : SlabState). find (can_give c.args.self.now c.args.dst) (classes_in_turn s)) c.self.view_is)

@@ -1,0 +1,158 @@
+use Rattle.std.proofs.Common.{◌≡◌, ◌≢◌, ℕ, ◌+◌, ◌-◌, ◌<◌, ◌≤◌, ◌==◌, List, [], ◌∷◌, ◌++◌, length, vec_len, vec_capacity, set, Some, None, Result, Ok, refl, sym, ap, ap₂, ◌∙◌, subst, arith}
+use Rattle.std.specs.Vec.{with_item}
+use Rattle.mc_pages.specs.declared.ledger.Owner.TheVariants as owner
+use Rattle.mc_pages.specs.declared.ledger.Entry.{Entry}
+use Rattle.mc_pages.specs.declared.ledger.Entry.TheVariants.{Began}
+use Rattle.mc_pages.specs.declared.slabs.Slabs.TheInside.{Inside}
+use Rattle.mc_pages.specs.ClassState.{ClassState}
+use Rattle.mc_pages.specs.SlabState.{SlabState, IsClass, class_at}
+use Rattle.mc_pages.specs.Answer.{answer_of, cursor_after}
+use Rattle.mc_pages.specs.Accounted.{truth}
+use Rattle.mc_pages.specs.Moves.{first_page, after_begin}
+use Rattle.mc_pages.specs.InOrder.{IsInOrder, AreKept, slabs_of, is_awaited}
+use Rattle.mc_pages.proofs.Promised.{pages_below, source_is, first_page_within, IsInOrder-after_begin}
+use Rattle.mc_pages.proofs.Roomy.{if_ok}
+use Rattle.mc_pages.proofs.RoomySlabs.{states, read_state}
+use Rattle.mc_pages.proofs.RoomyGrow.{on_err, truth_le, states_roomier, fits-roomier, per_page-roomier}
+use Rattle.mc_pages.proofs.RoomyMoves.{if_ok_at, begun_with, begun_is, not_awaited, fits-to_pool, fits-to_class}
+use Rattle.mc_pages.proofs.slabs.Slabs.begin_move.Goals as goal
+use Rattle.mc_pages.proofs.slabs.Slabs.begin_move.Goals.{After-reserve, After-page_count, then-dst-eq0+in_ok-reserve-2, else-dst-eq0+in_ok-make_room}
+
+-- the class that gives a page
+answer_is : (c : After-reserve) → answer_of (slabs_of c.self.inside) c.args.src c.args.dst ≡ Ok c.in_ok-source.source
+answer_is c = ap (λ (s : SlabState). answer_of s c.args.src c.args.dst) c.self.view_is ∙ sym c.in_ok-source.ensures
+
+-- a destination that isn't the pool is one of the classes
+is_class : (c : After-reserve) → c.args.dst ≢ 0 → IsClass (slabs_of c.self.inside) c.args.dst
+is_class c some = (omega arith, (source_is (slabs_of c.self.inside) c.args.src c.in_ok-source.source c.args.dst (answer_is c)).2)
+
+-- how many pages the destination has
+page_count : (c : After-page_count) → c.page_count.result ≡ length (class_at (slabs_of c.self.inside) c.args.dst).pages
+page_count c =
+    let is = is_class (goal.at.overflow_add-page_count c).After-reserve c.if-dst-eq0.false in
+    c.page_count.ensures ∙ ap (λ (class : ClassState). length class.pages) (read_state c.self.inside c.args.dst _ _ is refl c.index_mut-slab.ensures.value)
+
+few : (c : After-page_count) → c.page_count.result ≤ 64
+few c =
+    let is = is_class (goal.at.overflow_add-page_count c).After-reserve c.if-dst-eq0.false in
+    omega (arith, page_count c, pages_below (slabs_of c.self.inside) c.self.inside.granted c.args.dst c.self.invariant.order is)
+
+pub overflow_add-page_count : goal.overflow_add-page_count
+overflow_add-page_count c = omega (arith, few (goal.at.overflow_add-page_count c).After-page_count)
+
+pub make_room-requires : goal.make_room-requires
+make_room-requires c = omega (arith, few (goal.at.make_room-requires c).After-page_count)
+
+-- what was reserved changes nothing that callers see
+refused_is : (c : goal.After-from_residual-in_err-make_room) → record (slabs_of c.self.inside) { classes = states (set c.self.inside.classes.items (c.args.dst - 1) c.make_room.new.self); ledger = c.reserve.new.self.items } ≡ slabs_of c.self.inside
+refused_is c =
+    let is = is_class (goal.at.invariant_of-self-in_err-make_room c).After-reserve c.if-dst-eq0.false in
+    ap₂ (λ (classes : List ClassState) (ledger : List Entry). record (slabs_of c.self.inside) { classes = classes; ledger = ledger })
+    (states_roomier c.self.inside c.args.dst _ c.make_room.new.self is c.index_mut-slab.ensures.value c.in_err-make_room.ensures.state)
+    c.in_ok-reserve.ensures.items
+
+pub invariant_of-self-in_err-make_room : goal.invariant_of-self-in_err-make_room
+invariant_of-self-in_err-make_room c =
+    let is = is_class (goal.at.invariant_of-self-in_err-make_room c).After-reserve c.if-dst-eq0.false in
+    record {
+      order = subst (λ (s : SlabState). IsInOrder s c.self.inside.granted) (sym (refused_is c)) c.self.invariant.order;
+      ledger = omega (arith, c.self.invariant.ledger, c.in_ok-reserve.ensures.len, c.in_ok-reserve.ensures.capacity);
+      pool = c.self.invariant.pool;
+      classes = fits-roomier c.self.inside c.args.dst _ c.make_room.new.self c.self.invariant is c.index_mut-slab.ensures.value c.in_err-make_room.ensures.state c.in_err-make_room.ensures.kept;
+      per_page = per_page-roomier c.self.inside c.args.dst _ c.make_room.new.self c.self.invariant is c.index_mut-slab.ensures.value c.in_err-make_room.ensures.state;
+    }
+
+pub returns-in_err-make_room-clause-refused : goal.returns-in_err-make_room-clause-refused
+returns-in_err-make_room-clause-refused c = on_err c.from_residual-in_err-make_room.result (refused_is c ∙ c.self.view_is)
+
+pub returns-in_err-make_room-clause-accounted : goal.returns-in_err-make_room-clause-accounted
+returns-in_err-make_room-clause-accounted c = (invariant_of-self-in_err-make_room c).order.accounted
+
+-- the page that begins to move
+page_is : (c : After-reserve) → c.first_page-page.result ≡ first_page (slabs_of c.self.inside) c.in_ok-source.source
+page_is c = c.first_page-page.ensures ∙ ap (λ (s : SlabState). first_page s c.in_ok-source.source) (sym c.self.view_is)
+
+pub index_mut-requires : goal.index_mut-requires
+index_mut-requires c =
+    let slabs = slabs_of c.self.inside in
+    let here = (goal.at.index_mut-requires c).After-reserve in
+    let is = source_is slabs c.args.src c.in_ok-source.source c.args.dst (answer_is here) in
+    let within = first_page_within slabs c.self.inside.granted c.in_ok-source.source c.self.invariant.order is.0 (omega (arith, is.1)) in
+    elim c.if-dst-eq0.branch [
+      | then-dst-eq0+in_ok-reserve-2 w ↦ omega (arith, within, page_is here, ap (λ (i : Inside). vec_len i.owners) w.self-inside-is)
+      | else-dst-eq0+in_ok-make_room w ↦ omega (arith, within, page_is here, ap (λ (i : Inside). vec_len i.owners) w.self-inside-is)
+    ]
+
+-- the move begins in what stands open
+abbrev begun : (c : goal.After-self-4-1) → Inside → Inside
+begun c inside = record inside {
+  owners = with_item inside.owners c.first_page-page.result (owner.Moving c.in_ok-source.source c.args.dst);
+  ledger = c.push.new.self;
+  moving = Some (record { page = c.first_page-page.result; src = c.in_ok-source.source; dst = c.args.dst; at = 0; busy = 0 });
+  cursor = c.cursor_after-cursor.result;
+}
+
+-- the ledger has the entry at its end
+pushed : (c : goal.After-self-4-1) (inside : Inside) → c.if-dst-eq0.self-inside ≡ inside → inside.ledger.items ≡ c.self.inside.ledger.items → c.push.new.self.items ≡ c.self.inside.ledger.items ++ Began c.first_page-page.result c.in_ok-source.source c.args.dst ∷ []
+pushed c inside is before =
+    let entry : Entry = Began c.first_page-page.result c.in_ok-source.source c.args.dst in
+    c.push.ensures.items ∙ (if_ok c.push.result _ _ _ c.unwrap.ensures
+    ∙ (ap (λ (i : Inside). i.ledger.items ++ entry ∷ []) is ∙ ap (λ (entries : List Entry). entries ++ entry ∷ []) before))
+
+-- and room for the one at the move's end
+ledger_fits : (c : goal.After-self-4-1) → vec_len c.if-dst-eq0.self-inside.ledger ≡ vec_len c.reserve.new.self → vec_capacity c.if-dst-eq0.self-inside.ledger ≡ vec_capacity c.reserve.new.self → vec_len c.push.new.self + 1 ≤ vec_capacity c.push.new.self
+ledger_fits c len capacity = omega (arith, len, capacity, c.push.ensures.upper_bound, c.push.ensures.capacity, c.in_ok-reserve.ensures.ok)
+
+-- the whole after the beginning
+began_is : (c : goal.After-self-4-1) (inside : Inside) → c.if-dst-eq0.self-inside ≡ inside → inside.ledger.items ≡ c.self.inside.ledger.items → (classes : List ClassState) (pool : List ℕ) → classes ≡ (slabs_of c.self.inside).classes → pool ≡ c.self.inside.pool.items → begun_with (slabs_of c.self.inside) c.first_page-page.result c.in_ok-source.source c.args.dst c.cursor_after-cursor.result classes pool c.push.new.self.items ≡ after_begin (slabs_of c.self.inside) c.args.src c.in_ok-source.source c.args.dst
+began_is c inside is before classes pool classes_is pool_is =
+    let cursor = c.cursor_after-cursor.ensures ∙ ap (λ (s : SlabState). cursor_after s c.args.src c.in_ok-source.source) (sym c.self.view_is) in
+    begun_is (slabs_of c.self.inside) c.args.src _ _ _ _ _ _ _ classes_is pool_is (pushed c inside is before) (page_is (goal.at.invariant_of-self-2 c).After-reserve) cursor
+
+pub invariant_of-self-2 : goal.invariant_of-self-2
+invariant_of-self-2 c =
+    let slabs = slabs_of c.self.inside in
+    let here = (goal.at.invariant_of-self-2 c).After-reserve in
+    let order = IsInOrder-after_begin slabs c.self.inside.granted c.args.src c.in_ok-source.source c.args.dst c.self.invariant.order (answer_is here) in
+    let kept : Inside → Type 0 = λ i. AreKept (begun c i) in
+    elim c.if-dst-eq0.branch [
+      | then-dst-eq0+in_ok-reserve-2 w ↦
+          subst kept (sym w.self-inside-is) (record {
+            order = subst (λ (s : SlabState). IsInOrder s c.self.inside.granted) (sym (began_is c _ w.self-inside-is c.in_ok-reserve.ensures.items _ _ refl w.in_ok-reserve-2.ensures.items)) order;
+            ledger = ledger_fits c (ap (λ (i : Inside). vec_len i.ledger) w.self-inside-is) (ap (λ (i : Inside). vec_capacity i.ledger) w.self-inside-is);
+            pool = omega (arith, w.in_ok-reserve-2.ensures.ok, truth_le (c.args.dst == 0));
+            classes = fits-to_pool c.self.inside c.args.dst c.self.invariant w.if-dst-eq0.true;
+            per_page = c.self.invariant.per_page;
+          })
+      | else-dst-eq0+in_ok-make_room w ↦
+          let is = is_class here w.if-dst-eq0.false in
+          let read = read_state c.self.inside c.args.dst _ _ is refl w.index_mut-slab.ensures.value in
+          subst kept (sym w.self-inside-is) (record {
+            order = subst (λ (s : SlabState). IsInOrder s c.self.inside.granted)
+            (sym (began_is c _ w.self-inside-is c.in_ok-reserve.ensures.items _ _ (states_roomier c.self.inside c.args.dst _ w.make_room.new.self is w.index_mut-slab.ensures.value w.in_ok-make_room.ensures.state) refl)) order;
+            ledger = ledger_fits c (ap (λ (i : Inside). vec_len i.ledger) w.self-inside-is) (ap (λ (i : Inside). vec_capacity i.ledger) w.self-inside-is);
+            pool = omega (arith, c.self.invariant.pool, not_awaited c.args.dst 0 w.if-dst-eq0.false);
+            classes = fits-to_class c.self.inside c.args.dst _ w.make_room.new.self c.self.invariant is w.index_mut-slab.ensures.value w.in_ok-make_room.ensures.state
+            (omega (arith, w.page_count.ensures, ap (λ (class : ClassState). length class.pages) read, w.in_ok-make_room.ensures.ok));
+            per_page = per_page-roomier c.self.inside c.args.dst _ w.make_room.new.self c.self.invariant is w.index_mut-slab.ensures.value w.in_ok-make_room.ensures.state;
+          })
+    ]
+
+pub returns-clause-began : goal.returns-clause-began
+returns-clause-began c =
+    let slabs = slabs_of c.self.inside in
+    let here = (goal.at.invariant_of-self-2 c).After-reserve in
+    let answer = sym c.in_ok-source.ensures in
+    let seen : Inside → SlabState = λ i. slabs_of (begun c i) in
+    let began = ap (λ (s : SlabState). after_begin s c.args.src c.in_ok-source.source c.args.dst) c.self.view_is in
+    elim c.if-dst-eq0.branch [
+      | then-dst-eq0+in_ok-reserve-2 w ↦
+          if_ok_at _ (λ (source : ℕ). _) _ answer (ap seen w.self-inside-is ∙ (began_is c _ w.self-inside-is c.in_ok-reserve.ensures.items _ _ refl w.in_ok-reserve-2.ensures.items ∙ began))
+      | else-dst-eq0+in_ok-make_room w ↦
+          let is = is_class here w.if-dst-eq0.false in
+          let classes = states_roomier c.self.inside c.args.dst _ w.make_room.new.self is w.index_mut-slab.ensures.value w.in_ok-make_room.ensures.state in
+          if_ok_at _ (λ (source : ℕ). _) _ answer (ap seen w.self-inside-is ∙ (began_is c _ w.self-inside-is c.in_ok-reserve.ensures.items _ _ classes refl ∙ began))
+    ]
+
+pub returns-clause-accounted : goal.returns-clause-accounted
+returns-clause-accounted c = (invariant_of-self-2 c).order.accounted
