@@ -13,3 +13,4 @@ pub mod RoomySlabs
 pub mod RoomyFresh
 pub mod RoomyGrow
 pub mod RoomyMoves
+pub mod RoomyFinish

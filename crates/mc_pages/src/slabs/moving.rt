@@ -62,19 +62,21 @@ impl Slabs {
         ensures finished { self.new ≡ after_finish self.old self.old.moving }
         ensures accounted { IsAccounted self.new }
     {
-        if let Some(Moving { page, src, dst, .. }) = self.moving {
-            self.classes[src as usize - 1].remove_page(page);
-            if dst == 0 {
-                let _ = self.pool.push(page);
-                self.owners[page as usize] = Owner::Pool;
-            } else {
-                self.classes[dst as usize - 1].add_page(page);
-                self.owners[page as usize] = Owner::Class(dst);
-                self.uncut = Some(ChunkId { page, index: 0 });
-            }
-            let _ = self.ledger.push(Entry::Ended(page, dst));
-            self.moved = self.moved.saturating_add(1);
-            self.moving = None;
+        let Some(moving) = self.moving else {
+            return;
+        };
+        let Moving { page, src, dst, .. } = moving;
+        self.classes[src as usize - 1].remove_page(page);
+        self.ledger.push(Entry::Ended(page, dst)).unwrap();
+        self.moved = self.moved.saturating_add(1);
+        self.moving = None;
+        if dst == 0 {
+            self.pool.push(page).unwrap();
+            self.owners[page as usize] = Owner::Pool;
+        } else {
+            self.classes[dst as usize - 1].add_page(page);
+            self.owners[page as usize] = Owner::Class(dst);
+            self.uncut = Some(ChunkId { page, index: 0 });
         }
     }
 

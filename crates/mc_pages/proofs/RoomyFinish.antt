@@ -1,0 +1,134 @@
+-- The end of a move, for which room was kept.
+use Rattle.std.proofs.Common.{◌≡◌, ◌≢◌, ℕ, ◌+◌, ◌-◌, ◌*◌, ◌<◌, ◌≤◌, ◌==◌, not, List, [], ◌∷◌, ◌++◌, length, filter, set, slice_index_or, Option, Some, None, is_some, if◌then◌else◌, refl, sym, ap, ap₂, ◌∙◌, subst, arith, eq-eqb, ne_eqb, length-append, length-set, get_or-set_other, Bool}
+use Rattle.std.proofs.lemmas.List.{set-set, length-map}
+use Rattle.std.proofs.lemmas.List.Sums.{length-filter, count_by-le-length}
+use Rattle.mc_pages.specs.declared.ids.Moving.{Moving}
+use Rattle.mc_pages.specs.declared.ledger.Owner.{Owner}
+use Rattle.mc_pages.specs.declared.ledger.Owner.TheVariants.{Pool, Class}
+use Rattle.mc_pages.specs.declared.ledger.Owner.TheVariants as owner
+use Rattle.mc_pages.specs.declared.ledger.Entry.{Entry}
+use Rattle.mc_pages.specs.declared.ledger.Entry.TheVariants.{Ended}
+use Rattle.mc_pages.specs.declared.slabs.Slabs.TheInside.{Inside}
+use Rattle.mc_pages.specs.Ledger.{owner_at}
+use Rattle.mc_pages.specs.ClassState.{ClassState, counted, with_page, without_page}
+use Rattle.mc_pages.specs.Room.{RoomyClass, in_state}
+use Rattle.mc_pages.specs.SlabState.{SlabState, IsClass, class_at}
+use Rattle.mc_pages.specs.Changes.{with_class, with_given}
+use Rattle.mc_pages.specs.Moves.{released, arrived, finished}
+use Rattle.mc_pages.specs.Accounted.{truth, IsMove}
+use Rattle.mc_pages.specs.InOrder.{IsInOrder, AreKept, slabs_of, room_at, is_awaited}
+use Rattle.mc_pages.proofs.Owners.{within_from_owned}
+use Rattle.mc_pages.proofs.RoomySlabs.{states, state_at, roomy_at, state_at-roomy, roomy_at_read, Fits, Fits-set, state_at-set, IsClass-set, length-states, read_state, read_room, with_roomy, slabs_of-changed}
+
+-- what a moving page's owner is says that it is one of the pages
+pub moving_within : (slabs : SlabState) (move : Moving) → IsMove slabs move → move.page < length slabs.owners
+moving_within slabs move is = within_from_owned move.page slabs.owners (λ untouched. absurd (let clash : owner.Moving move.src move.dst ≡ owner.Untouched = sym is.owner ∙ untouched in cc))
+
+-- a class has no more pages without one
+pub length-without_page : (class : ClassState) (page : ℕ) → length (without_page class page).pages ≤ length class.pages
+length-without_page class page =
+    omega (arith, length-filter (λ (p : ℕ). not (p == page)) class.pages, count_by-le-length (λ (p : ℕ). not (p == page)) class.pages)
+
+-- the whole after the end of a move, with these classes, owners and entries
+abbrev pub ended_with : SlabState → List ClassState → List Owner → List ℕ → List Entry → ℕ → SlabState
+ended_with slabs classes owners pool ledger moved = record slabs {
+  classes = classes;
+  owners = owners;
+  pool = pool;
+  ledger = ledger;
+  moving = None;
+  moved = moved;
+}
+
+-- the whole where the page has arrived, in the pool or else in a class
+abbrev arrives : SlabState → Moving → Bool → SlabState
+arrives slabs move pooled = record (if pooled then released slabs move.page move.src else record (with_given (released slabs move.page move.src) move.dst move.page) { pool = slabs.pool }) {
+  ledger = slabs.ledger ++ Ended move.page move.dst ∷ [];
+  moved = counted slabs.moved 1;
+}
+
+-- the page goes into the pool
+pub pooled_is : (slabs : Inside) (move : Moving) (read removed : RoomyClass) (pool : List ℕ) (ledger : List Entry) (moved : ℕ) → IsClass (slabs_of slabs) move.src → read ≡ slice_index_or slabs.classes.items (move.src - 1) read → removed ≡ in_state read (without_page read.state move.page) → pool ≡ slabs.pool.items ++ move.page ∷ [] → ledger ≡ slabs.ledger.items ++ Ended move.page move.dst ∷ [] → moved ≡ counted slabs.moved 1 → move.dst ≡ 0 → ended_with (slabs_of slabs) (states (set slabs.classes.items (move.src - 1) removed)) (set slabs.owners.items move.page Pool) pool ledger moved ≡ finished (slabs_of slabs) move
+pooled_is slabs move read removed pool ledger moved is h changed pool_is ledger_is moved_is to_pool =
+    let s = slabs_of slabs in
+    let owners : List Owner = set slabs.owners.items move.page Pool in
+    let left = slabs_of-changed slabs move.src (move.src - 1) read removed (λ class. without_page class move.page) is refl h changed in
+    let classes = (with_class s move.src (without_page (class_at s move.src) move.page)).classes in
+    ap (λ (t : SlabState). ended_with s t.classes owners pool ledger moved) left
+    ∙ (ap₂ (λ (ps : List ℕ) (es : List Entry). ended_with s classes owners ps es moved) pool_is ledger_is
+    ∙ (ap (λ (n : ℕ). ended_with s classes owners (s.pool ++ move.page ∷ []) (s.ledger ++ Ended move.page move.dst ∷ []) n) moved_is
+    ∙ sym (ap (arrives s move) (eq-eqb move.dst 0 to_pool))))
+
+-- the page joins its destination
+abbrev pub joined_with : SlabState → Moving → List ClassState → List Owner → List Entry → ℕ → SlabState
+joined_with slabs move classes owners ledger moved = record (ended_with slabs classes owners slabs.pool ledger moved) { uncut = Some (record { page = move.page; index = 0 }) }
+
+pub joined_is : (slabs : Inside) (move : Moving) (read removed read-2 added : RoomyClass) (ledger : List Entry) (moved : ℕ) → IsClass (slabs_of slabs) move.src → IsClass (slabs_of slabs) move.dst → read ≡ slice_index_or slabs.classes.items (move.src - 1) read → removed ≡ in_state read (without_page read.state move.page) → read-2 ≡ slice_index_or (set slabs.classes.items (move.src - 1) removed) (move.dst - 1) read-2 → added ≡ in_state read-2 (with_page read-2.state move.page) → ledger ≡ slabs.ledger.items ++ Ended move.page move.dst ∷ [] → moved ≡ counted slabs.moved 1 → move.dst ≢ 0 → joined_with (slabs_of slabs) move (states (set (set slabs.classes.items (move.src - 1) removed) (move.dst - 1) added)) (set slabs.owners.items move.page (Class move.dst)) ledger moved ≡ finished (slabs_of slabs) move
+joined_is slabs move read removed read-2 added ledger moved is is-2 h changed h-2 changed-2 ledger_is moved_is to_class =
+    let s = slabs_of slabs in
+    let shorter = without_page (class_at s move.src) move.page in
+    let between : Inside = with_roomy slabs (move.src - 1) removed in
+    let released_from : SlabState = with_class s move.src shorter in
+    let left : slabs_of between ≡ released_from = slabs_of-changed slabs move.src (move.src - 1) read removed (λ class. without_page class move.page) is refl h changed in
+    let there : IsClass released_from move.dst = (is-2.0, omega (arith, is-2.1, length-set s.classes (move.src - 1) shorter)) in
+    let joins = λ (t : SlabState). with_class t move.dst (with_page (class_at t move.dst) move.page) in
+    let both : slabs_of (with_roomy between (move.dst - 1) added) ≡ joins released_from =
+    slabs_of-changed between move.dst (move.dst - 1) read-2 added (λ class. with_page class move.page) (subst (λ (t : SlabState). IsClass t move.dst) (sym left) there) refl h-2 changed-2 ∙ ap joins left in
+    let classes = (joins released_from).classes in
+    let owners : List Owner = set slabs.owners.items move.page (Class move.dst) in
+    let twice : List Owner = set (set slabs.owners.items move.page Pool) move.page (Class move.dst) in
+    ap (λ (t : SlabState). joined_with s move t.classes owners ledger moved) both
+    ∙ (ap₂ (λ (os : List Owner) (es : List Entry). joined_with s move classes os es moved) (sym (set-set slabs.owners.items move.page Pool (Class move.dst))) ledger_is
+    ∙ (ap (λ (n : ℕ). joined_with s move classes twice (s.ledger ++ Ended move.page move.dst ∷ []) n) moved_is
+    ∙ sym (ap (arrives s move) (ne_eqb move.dst 0 to_class))))
+
+-- there is still room in each class that gives a page up
+pub fits-pooled : (slabs : Inside) (move : Moving) (read removed : RoomyClass) → AreKept slabs → IsClass (slabs_of slabs) move.src → read ≡ slice_index_or slabs.classes.items (move.src - 1) read → removed ≡ in_state read (without_page read.state move.page) → (other : ℕ) → 1 ≤ other → other ≤ length (states slabs.classes.items) → Fits (set slabs.classes.items (move.src - 1) removed) 0 other
+fits-pooled slabs move read removed kept is h changed other first within =
+    let state = read_state slabs move.src (move.src - 1) read is refl h in
+    let room = read_room slabs move.src (move.src - 1) read is refl h in
+    Fits-set slabs.classes.items move.src other 0 removed is.0 (length-states slabs move.src is) first
+    (λ e. omega (arith, ap (λ (c : RoomyClass). length c.state.pages) changed, ap (λ (c : RoomyClass). c.room) changed, length-without_page read.state move.page, ap (λ (c : ClassState). length c.pages) state, room, kept.classes move.src is))
+    (λ differs. omega (arith, kept.classes other (first, within)))
+
+-- no class has more chunks a page
+pub per_page-pooled : (slabs : Inside) (move : Moving) (read removed : RoomyClass) → AreKept slabs → IsClass (slabs_of slabs) move.src → read ≡ slice_index_or slabs.classes.items (move.src - 1) read → removed ≡ in_state read (without_page read.state move.page) → (other : ℕ) → 1 ≤ other → other ≤ length (states slabs.classes.items) → (state_at (set slabs.classes.items (move.src - 1) removed) other).per_page ≤ 256
+per_page-pooled slabs move read removed kept is h changed other first within =
+    let state = read_state slabs move.src (move.src - 1) read is refl h in
+    state_at-set (λ (c : ClassState). c.per_page ≤ 256) slabs.classes.items move.src other removed is.0 (length-states slabs move.src is) first
+    (omega (arith, ap (λ (c : RoomyClass). c.state.per_page) changed, ap (λ (c : ClassState). c.per_page) state, kept.per_page move.src is)) (kept.per_page other (first, within))
+
+-- what is read of the destination is as it was before the source gave its page up
+dst_read : (slabs : Inside) (move : Moving) (removed read-2 : RoomyClass) → IsClass (slabs_of slabs) move.src → IsClass (slabs_of slabs) move.dst → move.src ≢ move.dst → read-2 ≡ slice_index_or (set slabs.classes.items (move.src - 1) removed) (move.dst - 1) read-2 → read-2 ≡ roomy_at slabs.classes.items move.dst
+dst_read slabs move removed read-2 is is-2 apart h-2 =
+    roomy_at_read (set slabs.classes.items (move.src - 1) removed) move.dst (move.dst - 1) read-2 is-2.0 (omega (arith, length-states slabs move.dst is-2, length-set slabs.classes.items (move.src - 1) removed)) refl h-2
+    ∙ get_or-set_other slabs.classes.items (move.src - 1) (move.dst - 1) removed _ (λ e. apart (omega (arith, is.0, is-2.0)))
+
+-- the destination has room for the page
+pub dst_has_room : (slabs : Inside) (move : Moving) (removed read-2 : RoomyClass) → AreKept slabs → slabs.moving ≡ Some move → IsClass (slabs_of slabs) move.src → IsClass (slabs_of slabs) move.dst → move.src ≢ move.dst → read-2 ≡ slice_index_or (set slabs.classes.items (move.src - 1) removed) (move.dst - 1) read-2 → length read-2.state.pages < read-2.room
+dst_has_room slabs move removed read-2 kept runs is is-2 apart h-2 =
+    let read = dst_read slabs move removed read-2 is is-2 apart h-2 in
+    let awaited = ap (λ (o : Option Moving). truth (is_awaited o move.dst)) runs in
+    let one : truth (move.dst == move.dst) ≡ 1 = ap truth (eq-eqb move.dst move.dst refl) in
+    omega (arith, ap (λ (c : RoomyClass). length c.state.pages) read, ap (λ (c : RoomyClass). c.room) read, ap (λ (c : ClassState). length c.pages) (state_at-roomy slabs.classes.items move.dst), kept.classes move.dst is-2, awaited, one)
+
+-- and there is still room in each class when the page has come to it
+pub fits-joined : (slabs : Inside) (move : Moving) (read removed read-2 added : RoomyClass) → AreKept slabs → slabs.moving ≡ Some move → IsClass (slabs_of slabs) move.src → IsClass (slabs_of slabs) move.dst → move.src ≢ move.dst → read ≡ slice_index_or slabs.classes.items (move.src - 1) read → removed ≡ in_state read (without_page read.state move.page) → read-2 ≡ slice_index_or (set slabs.classes.items (move.src - 1) removed) (move.dst - 1) read-2 → added ≡ in_state read-2 (with_page read-2.state move.page) → (other : ℕ) → 1 ≤ other → other ≤ length (states slabs.classes.items) → Fits (set (set slabs.classes.items (move.src - 1) removed) (move.dst - 1) added) 0 other
+fits-joined slabs move read removed read-2 added kept runs is is-2 apart h changed h-2 changed-2 other first within =
+    let between = set slabs.classes.items (move.src - 1) removed in
+    let room = dst_has_room slabs move removed read-2 kept runs is is-2 apart h-2 in
+    Fits-set between move.dst other 0 added is-2.0 (omega (arith, length-states slabs move.dst is-2, length-set slabs.classes.items (move.src - 1) removed)) first
+    (λ e. omega (arith, ap (λ (c : RoomyClass). length c.state.pages) changed-2, ap (λ (c : RoomyClass). c.room) changed-2, length-append read-2.state.pages (move.page ∷ []), room))
+    (λ differs. fits-pooled slabs move read removed kept is h changed other first within)
+
+pub per_page-joined : (slabs : Inside) (move : Moving) (read removed read-2 added : RoomyClass) → AreKept slabs → IsClass (slabs_of slabs) move.src → IsClass (slabs_of slabs) move.dst → move.src ≢ move.dst → read ≡ slice_index_or slabs.classes.items (move.src - 1) read → removed ≡ in_state read (without_page read.state move.page) → read-2 ≡ slice_index_or (set slabs.classes.items (move.src - 1) removed) (move.dst - 1) read-2 → added ≡ in_state read-2 (with_page read-2.state move.page) → (other : ℕ) → 1 ≤ other → other ≤ length (states slabs.classes.items) → (state_at (set (set slabs.classes.items (move.src - 1) removed) (move.dst - 1) added) other).per_page ≤ 256
+per_page-joined slabs move read removed read-2 added kept is is-2 apart h changed h-2 changed-2 other first within =
+    let between = set slabs.classes.items (move.src - 1) removed in
+    let there = dst_read slabs move removed read-2 is is-2 apart h-2 in
+    state_at-set (λ (c : ClassState). c.per_page ≤ 256) between move.dst other added is-2.0 (omega (arith, length-states slabs move.dst is-2, length-set slabs.classes.items (move.src - 1) removed)) first
+    (omega (arith, ap (λ (c : RoomyClass). c.state.per_page) changed-2, ap (λ (c : RoomyClass). c.state.per_page) there, ap (λ (c : ClassState). c.per_page) (state_at-roomy slabs.classes.items move.dst), kept.per_page move.dst is-2))
+    (per_page-pooled slabs move read removed kept is h changed other first within)
+
+-- a class of the whole where two classes have changed
+pub within-both : (classes : List RoomyClass) (place place-2 other : ℕ) (new new-2 : RoomyClass) → other ≤ length (states (set (set classes place new) place-2 new-2)) → other ≤ length (states classes)
+within-both classes place place-2 other new new-2 h = IsClass-set classes place other new (IsClass-set (set classes place new) place-2 other new-2 h)

@@ -1,0 +1,115 @@
+use Rattle.std.proofs.Common.{◌≡◌, ◌≢◌, ℕ, ◌+◌, ◌-◌, ◌*◌, ◌≤◌, List, [], ◌∷◌, ◌++◌, length, set, None, refl, sym, ap, ◌∙◌, subst, arith}
+use Rattle.mc_pages.specs.declared.ids.Moving.{Moving}
+use Rattle.mc_pages.specs.declared.ledger.Owner.TheVariants.{Pool, Class}
+use Rattle.mc_pages.specs.declared.ledger.Entry.TheVariants.{Ended}
+use Rattle.mc_pages.specs.ClassState.{ClassState, without_page}
+use Rattle.mc_pages.specs.SlabState.{SlabState, IsClass}
+use Rattle.mc_pages.specs.Accounted.{IsMove}
+use Rattle.mc_pages.specs.Moves.{finished, after_finish, CanFinish}
+use Rattle.mc_pages.specs.InOrder.{IsInOrder, slabs_of}
+use Rattle.mc_pages.proofs.Promised.{release_fits, IsInOrder-finished}
+use Rattle.mc_pages.proofs.Roomy.{if_ok}
+use Rattle.mc_pages.proofs.RoomySlabs.{states, IsClass-set, read_state}
+use Rattle.mc_pages.proofs.RoomyMoves.{Some-same}
+use Rattle.mc_pages.proofs.RoomyFinish.{ended_with, joined_with, pooled_is, joined_is, fits-pooled, per_page-pooled, dst_has_room, fits-joined, per_page-joined, within-both}
+use Rattle.mc_pages.proofs.slabs.Slabs.finish_move.Goals as goal
+use Rattle.mc_pages.proofs.slabs.Slabs.finish_move.Goals.{After-index_mut, After-saturating_add-self-inside}
+
+-- each chunk of the moving page is cleared
+can_finish : (c : After-index_mut) → CanFinish (slabs_of c.self.inside) c.in-Some.moving
+can_finish c =
+    let can = subst (λ (s : SlabState). (move : Moving) × CanFinish s move) (sym c.self.view_is) c.requires.cleared in
+    subst (λ (move : Moving). CanFinish (slabs_of c.self.inside) move) (Some-same can.0 c.in-Some.moving (sym can.1.runs ∙ c.in-Some.is)) can.1
+
+-- no chunk is to be cut
+whole : (c : After-index_mut) → (slabs_of c.self.inside).uncut ≡ None
+whole c = subst (λ (s : SlabState). s.uncut ≡ None) (sym c.self.view_is) c.requires.whole
+
+-- the page moves from one class to another or to the pool
+is_move : (c : After-index_mut) → IsMove (slabs_of c.self.inside) c.in-Some.moving
+is_move c = c.self.invariant.order.accounted.move c.in-Some.moving c.in-Some.is
+
+-- a destination that isn't the pool is one of the classes
+is_class : (c : After-index_mut) → c.in-Some.moving.dst ≢ 0 → IsClass (slabs_of c.self.inside) c.in-Some.moving.dst
+is_class c some = (omega arith, (is_move c).dst)
+
+pub remove_page-requires : goal.remove_page-requires
+remove_page-requires c =
+    let slabs = slabs_of c.self.inside in
+    let move = c.in-Some.moving in
+    let here = (goal.at.remove_page-requires c).After-index_mut in
+    let read = read_state c.self.inside move.src _ _ (is_move here).src refl c.index_mut.ensures.value in
+    subst (λ (class : ClassState). length class.free + length class.order ≤ length (without_page class move.page).pages * class.per_page) (sym read)
+    (release_fits slabs c.self.inside.granted move c.self.invariant.order (whole here) (can_finish here))
+
+-- the ledger has the entry at its end
+pushed : (c : After-saturating_add-self-inside) → c.push.new.self.items ≡ c.self.inside.ledger.items ++ Ended c.in-Some.moving.page c.in-Some.moving.dst ∷ []
+pushed c = c.push.ensures.items ∙ if_ok c.push.result _ _ _ c.unwrap.ensures
+
+-- all is in order
+in_order : (c : After-index_mut) → IsInOrder (finished (slabs_of c.self.inside) c.in-Some.moving) c.self.inside.granted
+in_order c = IsInOrder-finished (slabs_of c.self.inside) c.self.inside.granted c.in-Some.moving c.self.invariant.order (whole c) (can_finish c)
+
+-- what callers see of the move that ended
+seen : (c : After-index_mut) → finished (slabs_of c.self.inside) c.in-Some.moving ≡ after_finish c.args.self.now c.args.self.now.moving
+seen c = ap (after_finish (slabs_of c.self.inside)) (sym c.in-Some.is) ∙ ap (λ (s : SlabState). after_finish s s.moving) c.self.view_is
+
+-- the whole where the page went into the pool
+pooled : (c : goal.After-self-then-dst-eq0-1) → ended_with (slabs_of c.self.inside) (states (set c.self.inside.classes.items (c.in-Some.moving.src - 1) c.remove_page.new.self)) (set c.self.inside.owners.items c.in-Some.moving.page Pool) c.push-then-dst-eq0.new.self.items c.push.new.self.items c.saturating_add-self-inside.result ≡ finished (slabs_of c.self.inside) c.in-Some.moving
+pooled c =
+    let pool = c.push-then-dst-eq0.ensures.items ∙ if_ok c.push-then-dst-eq0.result _ _ _ c.unwrap-then-dst-eq0.ensures in
+    pooled_is c.self.inside c.in-Some.moving _ _ _ _ _ (is_move (goal.at.invariant_of-self c).After-index_mut).src c.index_mut.ensures.value c.remove_page.ensures
+    pool (pushed (goal.at.invariant_of-self c).After-saturating_add-self-inside) c.saturating_add-self-inside.ensures c.if-dst-eq0.true
+
+pub invariant_of-self : goal.invariant_of-self
+invariant_of-self c =
+    let here = (goal.at.invariant_of-self c).After-index_mut in
+    let move = c.in-Some.moving in
+    let is = (is_move here).src in
+    record {
+      order = subst (λ (s : SlabState). IsInOrder s c.self.inside.granted) (sym (pooled c)) (in_order here);
+      ledger = omega (arith, c.push.new.self.ok.1);
+      pool = omega (arith, c.push-then-dst-eq0.new.self.ok.1);
+      classes = λ other there. fits-pooled c.self.inside move _ _ c.self.invariant is c.index_mut.ensures.value c.remove_page.ensures other there.0 (IsClass-set _ _ other _ there.1);
+      per_page = λ other there. per_page-pooled c.self.inside move _ _ c.self.invariant is c.index_mut.ensures.value c.remove_page.ensures other there.0 (IsClass-set _ _ other _ there.1);
+    }
+
+pub returns-then-dst-eq0-clause-finished : goal.returns-then-dst-eq0-clause-finished
+returns-then-dst-eq0-clause-finished c = pooled c ∙ seen (goal.at.invariant_of-self c).After-index_mut
+
+pub returns-then-dst-eq0-clause-accounted : goal.returns-then-dst-eq0-clause-accounted
+returns-then-dst-eq0-clause-accounted c = (invariant_of-self c).order.accounted
+
+pub add_page-requires : goal.add_page-requires
+add_page-requires c =
+    let here = (goal.at.add_page-requires c).After-index_mut in
+    dst_has_room c.self.inside c.in-Some.moving _ _ c.self.invariant c.in-Some.is (is_move here).src (is_class here c.if-dst-eq0.false) (is_move here).apart c.index_mut-else-dst-eq0.ensures.value
+
+-- the whole where the page has joined its destination
+joined : (c : goal.After-self-else-dst-eq0-3-1) → joined_with (slabs_of c.self.inside) c.in-Some.moving (states (set (set c.self.inside.classes.items (c.in-Some.moving.src - 1) c.remove_page.new.self) (c.in-Some.moving.dst - 1) c.add_page.new.self)) (set c.self.inside.owners.items c.in-Some.moving.page (Class c.in-Some.moving.dst)) c.push.new.self.items c.saturating_add-self-inside.result ≡ finished (slabs_of c.self.inside) c.in-Some.moving
+joined c =
+    let here = (goal.at.invariant_of-self-else-dst-eq0 c).After-index_mut in
+    joined_is c.self.inside c.in-Some.moving _ _ _ _ _ _ (is_move here).src (is_class here c.if-dst-eq0.false) c.index_mut.ensures.value c.remove_page.ensures c.index_mut-else-dst-eq0.ensures.value c.add_page.ensures
+    (pushed (goal.at.invariant_of-self-else-dst-eq0 c).After-saturating_add-self-inside) c.saturating_add-self-inside.ensures c.if-dst-eq0.false
+
+pub invariant_of-self-else-dst-eq0 : goal.invariant_of-self-else-dst-eq0
+invariant_of-self-else-dst-eq0 c =
+    let here = (goal.at.invariant_of-self-else-dst-eq0 c).After-index_mut in
+    let move = c.in-Some.moving in
+    let is = is_move here in
+    let to = is_class here c.if-dst-eq0.false in
+    record {
+      order = subst (λ (s : SlabState). IsInOrder s c.self.inside.granted) (sym (joined c)) (in_order here);
+      ledger = omega (arith, c.push.new.self.ok.1);
+      pool = omega (arith, c.self.inside.pool.ok.1);
+      classes = λ other there.
+          fits-joined c.self.inside move _ _ _ _ c.self.invariant c.in-Some.is is.src to is.apart c.index_mut.ensures.value c.remove_page.ensures c.index_mut-else-dst-eq0.ensures.value c.add_page.ensures other there.0 (within-both _ _ _ other _ _ there.1);
+      per_page = λ other there.
+          per_page-joined c.self.inside move _ _ _ _ c.self.invariant is.src to is.apart c.index_mut.ensures.value c.remove_page.ensures c.index_mut-else-dst-eq0.ensures.value c.add_page.ensures other there.0 (within-both _ _ _ other _ _ there.1);
+    }
+
+pub returns-else-dst-eq0-clause-finished : goal.returns-else-dst-eq0-clause-finished
+returns-else-dst-eq0-clause-finished c = joined c ∙ seen (goal.at.invariant_of-self-else-dst-eq0 c).After-index_mut
+
+pub returns-else-dst-eq0-clause-accounted : goal.returns-else-dst-eq0-clause-accounted
+returns-else-dst-eq0-clause-accounted c = (invariant_of-self-else-dst-eq0 c).order.accounted
