@@ -68,6 +68,7 @@ IsInOrder-fresh table sound =
       lowest = AreGranted-none (pages_of table);
       pages = omega (arith, length-replicate (pages_of table) Untouched, sound.pages.1);
       per_page = λ class is. omega (arith, ap (λ (c : ClassState). c.per_page) (class_at-fresh table class is), (sound.chunks class (is.0, omega (arith, is.1, length-map table.sizes made))).0);
+      at_most = λ class is. omega (arith, ap (λ (c : ClassState). c.per_page) (class_at-fresh table class is), (sound.chunks class (is.0, omega (arith, is.1, length-map table.sizes made))).1);
       uncut = λ chunk h. absurd (none-some chunk h);
       cursor = (sound.count.0, omega (arith, length-map table.sizes made));
     }

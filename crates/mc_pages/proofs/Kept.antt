@@ -5,10 +5,12 @@ use Rattle.std.proofs.lemmas.Bool.{both_ways}
 use Rattle.std.proofs.lemmas.Option.{same_Some, none-some}
 use Rattle.mc_pages.specs.declared.ids.ChunkId.{ChunkId}
 use Rattle.mc_pages.specs.declared.ids.Moving.{Moving}
+use Rattle.mc_pages.specs.declared.moves.Found.{Found}
 use Rattle.mc_pages.specs.Ledger.{owner_at}
 use Rattle.mc_pages.specs.ClassState.{ClassState, popped, put_back, touched, replaced, cleared, evicted, with_cut}
 use Rattle.mc_pages.specs.SlabState.{SlabState, IsClass, class_at, class_of_owner, class_of_page, class_of_chunk}
 use Rattle.mc_pages.specs.Changes.{with_class, after_pop, after_back, after_touch, after_replace, after_clear, after_evicted, after_cut}
+use Rattle.mc_pages.specs.Moves.{CanPass}
 use Rattle.mc_pages.specs.Accounted.{is_moving, cut_count, uncut_count, places_in, IsAccounted}
 use Rattle.mc_pages.specs.InOrder.{IsBeingCut, IsInOrder}
 use Rattle.mc_pages.proofs.Chunks.{times_from_Contains}
@@ -108,6 +110,7 @@ IsInOrder-after_cut slabs granted chunk kept h =
       lowest = kept.lowest;
       pages = kept.pages;
       per_page = steady.per_page;
+      at_most = steady.at_most;
       uncut = λ next e.
           let there = IsBeingCut-with_class slabs own state next on.owned refl refl (IsBeingCut-next slabs chunk next on e) in
           record { owned = there.owned; still = there.still; within = there.within; newest = there.newest };
@@ -125,3 +128,10 @@ below_total slabs chunk all h on =
 -- no class has more than 64 pages
 pub pages_below : (slabs : SlabState) (granted given : ℕ) → IsInOrder slabs granted → IsClass slabs given → length (class_at slabs given).pages ≤ 64
 pages_below slabs granted given kept is = omega (arith, length-pages_le slabs given kept.accounted is, kept.pages)
+
+-- the position of a pass that isn't at its end, and what held it up, are below 256
+pub position_below : (slabs : SlabState) (granted : ℕ) (found : Found) (move : Moving) → IsInOrder slabs granted → CanPass slabs found move → (move.at < 256) × (move.busy < 256)
+position_below slabs granted found move kept can =
+    let is = kept.accounted.move move can.runs in
+    let most = kept.at_most move.src is.src in
+    (omega (arith, can.within, most), omega (arith, can.within, most, is.busy))

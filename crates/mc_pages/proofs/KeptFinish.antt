@@ -47,7 +47,7 @@ AreGranted-in_pool slabs granted move is are = AreGranted-set slabs.owners grant
 IsSteady-in_pool : (slabs : SlabState) (granted : ℕ) (move : Moving) → IsInOrder slabs granted → IsMove slabs move → IsSteady (in_pool slabs move)
 IsSteady-in_pool slabs granted move kept is =
     let steady = IsSteady-changed slabs move.src (without_page (class_at slabs move.src) move.page) (set slabs.owners move.page Pool) (IsSteady_from slabs granted kept) is.src refl (length-set slabs.owners move.page Pool) in
-    record { pages = steady.pages; per_page = steady.per_page; cursor = steady.cursor }
+    record { pages = steady.pages; per_page = steady.per_page; at_most = steady.at_most; cursor = steady.cursor }
 
 -- the move to the pool ends
 IsInOrder-in_pool : (slabs : SlabState) (granted moved : ℕ) (move : Moving) → IsInOrder slabs granted → slabs.uncut ≡ None → CanFinish slabs move → move.dst ≡ 0 → IsInOrder (record (in_pool slabs move) { ledger = ledger_ended slabs move; moved = moved }) granted
@@ -64,6 +64,7 @@ IsInOrder-in_pool slabs granted moved move kept whole can to =
       lowest = AreGranted-in_pool slabs granted move is kept.lowest;
       pages = steady.pages;
       per_page = steady.per_page;
+      at_most = steady.at_most;
       uncut = λ chunk h. absurd (none-some chunk (sym whole ∙ h));
       cursor = steady.cursor;
     }

@@ -102,6 +102,7 @@ IsInOrder-after_begin slabs granted src source dst kept answer =
       lowest = AreGranted-set slabs.owners granted page (owner.Moving source dst) kept.lowest (ap is_untouched owned) refl;
       pages = omega (arith, kept.pages, length-set slabs.owners page (owner.Moving source dst));
       per_page = kept.per_page;
+      at_most = kept.at_most;
       uncut = λ chunk h.
           let on = kept.uncut chunk h in
           IsBeingCut-begun slabs chunk page source dst cursor owned within (not_first slabs chunk source all told.0 told.1 on (ap class_of_owner owned)) on;
@@ -116,6 +117,7 @@ IsInOrder-moved slabs granted rescues evictions_nomem busy moving kept all =
       lowest = kept.lowest;
       pages = kept.pages;
       per_page = kept.per_page;
+      at_most = kept.at_most;
       uncut = λ chunk h.
           let on = kept.uncut chunk h in
           record { owned = on.owned; still = on.still; within = on.within; newest = on.newest };
@@ -147,6 +149,7 @@ IsInOrder-automove slabs granted mode kept =
       lowest = kept.lowest;
       pages = kept.pages;
       per_page = kept.per_page;
+      at_most = kept.at_most;
       uncut = λ chunk h.
           let on = kept.uncut chunk h in
           record { owned = on.owned; still = on.still; within = on.within; newest = on.newest };

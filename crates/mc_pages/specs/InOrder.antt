@@ -53,6 +53,7 @@ pub record IsInOrder (slabs : SlabState) (granted : ℕ) : Type 0 where
   pub lowest : AreGranted slabs.owners granted
   pub pages : length slabs.owners ≤ 64
   pub per_page : (class : ℕ) → IsClass slabs class → 1 ≤ (class_at slabs class).per_page
+  pub at_most : (class : ℕ) → IsClass slabs class → (class_at slabs class).per_page ≤ 256
   pub uncut : (chunk : ChunkId) → slabs.uncut ≡ Some chunk → IsBeingCut slabs chunk
   pub cursor : IsClass slabs slabs.cursor
 
