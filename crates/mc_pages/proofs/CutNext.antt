@@ -1,16 +1,18 @@
 -- The lowest uncut chunk is cut: all stays accounted for.
-use Rattle.std.proofs.Common.{◌≡◌, ◌≢◌, ℕ, ◌+◌, ◌-◌, ◌*◌, ◌<◌, ◌≤◌, ◌==◌, Bool, true, false, ◌&&◌, nat_lt, List, length, count_by, Option, Some, None, if◌then◌else◌, refl, sym, ap, ap₂, ◌∙◌, inl, inr, arith, eq-eqb, ne_eqb, lt-ltb, le-ltb}
-use Rattle.std.proofs.lemmas.Bool.{cases_eq, cases_lt, cases_order, false_from_ne_true}
+use Rattle.std.proofs.Common.{◌≡◌, ◌≢◌, ℕ, ◌+◌, ◌-◌, ◌*◌, ◌<◌, ◌≤◌, ◌==◌, Bool, true, false, ◌&&◌, nat_lt, List, ◌∷◌, length, count_by, Option, Some, None, if◌then◌else◌, refl, sym, ap, ap₂, ◌∙◌, inl, inr, arith, eq-eqb, ne_eqb, lt-ltb, le-ltb}
+use Rattle.std.proofs.lemmas.Bool.{cases_eq, cases_lt, false_from_ne_true}
 use Rattle.mc_pages.specs.declared.ids.ChunkId.{ChunkId}
 use Rattle.mc_pages.specs.Ledger.{owner_at}
 use Rattle.mc_pages.specs.ClassState.{ClassState, is_chunk, times, with_cut}
 use Rattle.mc_pages.specs.SlabState.{SlabState, IsClass, class_at, class_of_page, class_of_chunk}
 use Rattle.mc_pages.specs.Changes.{next_uncut, after_cut}
-use Rattle.mc_pages.specs.Accounted.{truth, is_of_class, cut_count, uncut_count, is_cut, IsAccounted}
-use Rattle.mc_pages.specs.InOrder.{IsOnPage}
+use Rattle.mc_pages.specs.Accounted.{truth, is_of_class, is_moving, cut_count, uncut_count, is_cut, places_in, is_cleared, cleared_count, IsAccounted}
+use Rattle.mc_pages.specs.InOrder.{IsBeingCut}
 use Rattle.mc_pages.proofs.Chunks.{times-cons}
+use Rattle.mc_pages.proofs.FirstChunks.{truth-nat_lt_more}
 use Rattle.mc_pages.proofs.Owners.{class_of_owner-is_of_class, is_of_class-class_of_owner}
-use Rattle.mc_pages.proofs.OneClass.{class_at-with_class_same, class_at-with_class_other, class_at-with_class_kept}
+use Rattle.mc_pages.proofs.OneClass.{length-with_class, class_at-with_class_same, class_at-with_class_other, class_at-with_class_kept}
+use Rattle.mc_pages.proofs.Cleared.{ClearsAlike, is_cleared-still, is_cleared-alike, cleared_count-alike, IsMove-alike}
 use Rattle.mc_pages.proofs.Redistributed.{IsClass-before}
 
 -- on its page, so many chunks are cut as stand before the lowest uncut one
@@ -45,17 +47,6 @@ cut_count-next_other chunk own page per_page differs =
     elim (cases_lt (chunk.index + 1) own) [
       | inl more ↦ ap (λ (o : Option ChunkId). cut_count o page per_page) (next_uncut-more own chunk more) ∙ cut_count-other (record { page = chunk.page; index = chunk.index + 1 }) page per_page differs
       | inr last ↦ ap (λ (o : Option ChunkId). cut_count o page per_page) (next_uncut-last own chunk last)
-    ]
-
--- one more number lies below i + 1 than below i: i itself
-truth-nat_lt_more : (i k : ℕ) → truth (i == k) + truth (nat_lt k i) ≡ truth (nat_lt k (i + 1))
-truth-nat_lt_more i k =
-    elim (cases_order i k) [
-      | inl same ↦ omega (arith, ap truth (eq-eqb i k same), ap truth (le-ltb k i (omega arith)), ap truth (lt-ltb k (i + 1) (omega arith)))
-      | inr apart ↦ elim apart [
-        | inl below ↦ omega (arith, ap truth (ne_eqb i k (omega arith)), ap truth (le-ltb k i (omega arith)), ap truth (le-ltb k (i + 1) (omega arith)))
-        | inr above ↦ omega (arith, ap truth (ne_eqb i k (omega arith)), ap truth (lt-ltb k i (omega arith)), ap truth (lt-ltb k (i + 1) (omega arith)))
-      ]
     ]
 
 -- the chunks that were cut for the page's class, and the one that is cut now
@@ -114,8 +105,34 @@ uncut_count-next_other slabs class chunk per_page other =
       | inr last ↦ ap (λ (o : Option ChunkId). uncut_count slabs class o) (next_uncut-last per_page chunk last)
     ]
 
+-- no chunk is cleared by it: its page stands still
+ClearsAlike-after_cut : (slabs : SlabState) (chunk : ChunkId) → slabs.uncut ≡ Some chunk → IsBeingCut slabs chunk → ClearsAlike slabs (after_cut slabs chunk)
+ClearsAlike-after_cut slabs chunk uncut on =
+    let own = class_of_page slabs chunk.page in
+    let state = class_of_chunk slabs chunk in
+    let new : SlabState = after_cut slabs chunk in
+    let size = λ (class : ℕ) (is : IsClass slabs class). class_at-with_class_kept (λ c. c.per_page) slabs own class (with_cut state chunk) on.owned is.0 refl in
+    record {
+      classes = length-with_class slabs own (with_cut state chunk);
+      per_page = size;
+      cleared = λ class other is.
+          elim (cases_eq other.page chunk.page) [
+            | inl same ↦
+                let still = ap (λ (p : ℕ). is_moving (owner_at slabs.owners p)) same ∙ on.still in
+                is_cleared-still new class other still ∙ sym (is_cleared-still slabs class other still)
+            | inr differs ↦
+                let apart : is_chunk chunk other ≡ false = ap (λ b. b && (chunk.index == other.index)) (ne_eqb chunk.page other.page (λ same. differs (sym same))) in
+                let lists : times other (chunk ∷ state.free) + times other state.order ≡ times other state.free + times other state.order = omega (arith, times-cons other chunk state.free, ap truth apart) in
+                let places = class_at-with_class_kept (λ c. times other c.free + times other c.order) slabs own class (with_cut state chunk) on.owned is.0 lists in
+                let before = ap (λ (o : Option ChunkId). cut_count o other.page (class_at slabs class).per_page) uncut ∙ cut_count-other chunk other.page (class_at slabs class).per_page differs in
+                let after = cut_count-next_other chunk state.per_page other.page (class_at new class).per_page differs ∙ size class is in
+                let cut = ap (λ (n : ℕ). is_of_class class (owner_at slabs.owners other.page) && nat_lt other.index n) (after ∙ sym before) in
+                is_cleared-alike slabs new class other refl cut places
+          ];
+    }
+
 -- the chunks of each class stay accounted for
-chunks-after_cut : (slabs : SlabState) (chunk : ChunkId) → IsAccounted slabs → slabs.uncut ≡ Some chunk → IsOnPage slabs chunk → (class : ℕ) (other : ChunkId) → IsClass slabs class → times other (class_at (after_cut slabs chunk) class).free + times other (class_at (after_cut slabs chunk) class).order ≡ truth (is_cut (after_cut slabs chunk) class other)
+chunks-after_cut : (slabs : SlabState) (chunk : ChunkId) → IsAccounted slabs → slabs.uncut ≡ Some chunk → IsBeingCut slabs chunk → (class : ℕ) (other : ChunkId) → IsClass slabs class → places_in (after_cut slabs chunk) class other + truth (is_cleared (after_cut slabs chunk) class other) ≡ truth (is_cut (after_cut slabs chunk) class other)
 chunks-after_cut slabs chunk all uncut on class other is =
     let own = class_of_page slabs chunk.page in
     let state = class_of_chunk slabs chunk in
@@ -125,6 +142,7 @@ chunks-after_cut slabs chunk all uncut on class other is =
     let size = class_at-with_class_kept (λ c. c.per_page) slabs own class (with_cut state chunk) on.owned is.0 refl in
     let before = all.chunks class other is ∙ ap (λ (o : Option ChunkId). truth (owned && nat_lt other.index (cut_count o other.page (class_at slabs class).per_page))) uncut in
     let after = ap (λ (n : ℕ). truth (owned && nat_lt other.index (cut_count (next_uncut state.per_page chunk) other.page n))) (sym size) in
+    let cleared = ap truth ((ClearsAlike-after_cut slabs chunk uncut on).cleared class other is) in
     let same_owner = λ (same : other.page ≡ chunk.page). ap (λ (p : ℕ). is_of_class class (owner_at slabs.owners p)) same in
     elim (cases_eq class own) [
       | inl same ↦
@@ -135,22 +153,24 @@ chunks-after_cut slabs chunk all uncut on class other is =
           let lists_before = ap (λ (c : ClassState). times other c.free + times other c.order) there in
           let more = cut-more owned chunk other (class_at slabs class).per_page (omega (arith, on.within, ap (λ (c : ClassState). c.per_page) there)) (λ e. same_owner e ∙ is_of_class-class_of_owner class owner is.0 (sym same)) in
           let next = ap (λ (n : ℕ). truth (owned && nat_lt other.index (cut_count (next_uncut n chunk) other.page (class_at slabs class).per_page))) (ap (λ (c : ClassState). c.per_page) there) in
-          omega (arith, lists, lists_before, times-cons other chunk state.free, before, more, next, after)
+          omega (arith, lists, lists_before, times-cons other chunk state.free, before, more, next, after, cleared)
       | inr differs ↦
           let other_class = class_at-with_class_other slabs own class (with_cut state chunk) on.owned.0 is.0 differs in
           let lists = ap (λ (c : ClassState). times other c.free + times other c.order) other_class in
           let not_own = λ (same : other.page ≡ chunk.page). same_owner same ∙ false_from_ne_true _ (λ e. differs (sym (class_of_owner-is_of_class class owner e))) in
-          lists ∙ (before ∙ (cut-other owned chunk other state.per_page (class_at slabs class).per_page not_own ∙ after))
+          let kept = cut-other owned chunk other state.per_page (class_at slabs class).per_page not_own in
+          omega (arith, lists, before, kept, after, cleared)
     ]
 
 -- the number of chunks of each class stays accounted for
-total-after_cut : (slabs : SlabState) (chunk : ChunkId) → IsAccounted slabs → slabs.uncut ≡ Some chunk → IsOnPage slabs chunk → (class : ℕ) → IsClass slabs class → length (class_at (after_cut slabs chunk) class).free + length (class_at (after_cut slabs chunk) class).order + uncut_count (after_cut slabs chunk) class (after_cut slabs chunk).uncut ≡ length (class_at (after_cut slabs chunk) class).pages * (class_at (after_cut slabs chunk) class).per_page
+total-after_cut : (slabs : SlabState) (chunk : ChunkId) → IsAccounted slabs → slabs.uncut ≡ Some chunk → IsBeingCut slabs chunk → (class : ℕ) → IsClass slabs class → length (class_at (after_cut slabs chunk) class).free + length (class_at (after_cut slabs chunk) class).order + uncut_count (after_cut slabs chunk) class (after_cut slabs chunk).uncut + cleared_count (after_cut slabs chunk) class slabs.moving ≡ length (class_at (after_cut slabs chunk) class).pages * (class_at (after_cut slabs chunk) class).per_page
 total-after_cut slabs chunk all uncut on class is =
     let own = class_of_page slabs chunk.page in
     let state = class_of_chunk slabs chunk in
     let new : SlabState = after_cut slabs chunk in
     let owner = owner_at slabs.owners chunk.page in
-    let before = ap (λ (o : Option ChunkId). length (class_at slabs class).free + length (class_at slabs class).order + uncut_count slabs class o) (sym uncut) ∙ all.total class is in
+    let before = ap (λ (o : Option ChunkId). length (class_at slabs class).free + length (class_at slabs class).order + uncut_count slabs class o + cleared_count slabs class slabs.moving) (sym uncut) ∙ all.total class is in
+    let cleared = cleared_count-alike slabs new class slabs.moving (ClearsAlike-after_cut slabs chunk uncut on) is in
     elim (cases_eq class own) [
       | inl same ↦
           let here = class_at-with_class_same slabs own (with_cut state chunk) on.owned in
@@ -165,7 +185,7 @@ total-after_cut slabs chunk all uncut on class is =
           let product_before = ap (λ (c : ClassState). length c.pages * c.per_page) there in
           let next = uncut_count-next_own new class chunk state.per_page own_page size on.within in
           let first = uncut_count-own slabs class chunk own_page in
-          omega (arith, lists, lists_before, size_before, product, product_before, next, first, before, on.within)
+          omega (arith, lists, lists_before, size_before, product, product_before, next, first, before, cleared, on.within)
       | inr differs ↦
           let other_class = class_at-with_class_other slabs own class (with_cut state chunk) on.owned.0 is.0 differs in
           let other_page = false_from_ne_true _ (λ e. differs (sym (class_of_owner-is_of_class class owner e))) in
@@ -173,11 +193,11 @@ total-after_cut slabs chunk all uncut on class is =
           let product = ap (λ (c : ClassState). length c.pages * c.per_page) other_class in
           let next = uncut_count-next_other new class chunk state.per_page other_page in
           let first = uncut_count-other slabs class chunk other_page in
-          omega (arith, lists, product, next, first, before)
+          omega (arith, lists, product, next, first, before, cleared)
     ]
 
 -- a whole of which the lowest uncut chunk is cut stays accounted for
-pub IsAccounted-after_cut : (slabs : SlabState) (chunk : ChunkId) → IsAccounted slabs → slabs.uncut ≡ Some chunk → IsOnPage slabs chunk → IsAccounted (after_cut slabs chunk)
+pub IsAccounted-after_cut : (slabs : SlabState) (chunk : ChunkId) → IsAccounted slabs → slabs.uncut ≡ Some chunk → IsBeingCut slabs chunk → IsAccounted (after_cut slabs chunk)
 IsAccounted-after_cut slabs chunk all uncut on =
     let own = class_of_page slabs chunk.page in
     let state : ClassState = with_cut (class_of_chunk slabs chunk) chunk in
@@ -189,6 +209,7 @@ IsAccounted-after_cut slabs chunk all uncut on =
           ap (λ (ps : List ℕ). count_by (λ p. p == page) ps) kept ∙ all.pages class page before;
       pool = all.pool;
       one_move = all.one_move;
+      move = λ move h. IsMove-alike slabs (after_cut slabs chunk) move (ClearsAlike-after_cut slabs chunk uncut on) refl (all.move move h);
       limit = all.limit;
       chunks = λ class other here. chunks-after_cut slabs chunk all uncut on class other (IsClass-before slabs own class state here);
       total = λ class here. total-after_cut slabs chunk all uncut on class (IsClass-before slabs own class state here);

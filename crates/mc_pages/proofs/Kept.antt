@@ -1,50 +1,38 @@
 -- What the code keeps of all pages and chunks, after each change.
-use Rattle.std.proofs.Common.{◌≡◌, ℕ, ◌+◌, ◌*◌, ◌<◌, ◌≤◌, [], ◌∷◌, length, Option, Some, None, refl, sym, ap, ◌∙◌, subst, inl, inr, arith, Contains, length-set, length-append, le_refl}
-use Rattle.std.proofs.lemmas.Bool.{cases_lt}
+use Rattle.std.proofs.Common.{◌≡◌, ◌≢◌, ℕ, ◌+◌, ◌*◌, ◌<◌, ◌≤◌, true, length, Option, Some, None, if◌then◌else◌, refl, sym, ap, ◌∙◌, subst, arith, Contains, ne_eqb}
+use Rattle.std.specs.Option.{option_map}
+use Rattle.std.proofs.lemmas.Bool.{both_ways}
+use Rattle.std.proofs.lemmas.Option.{same_Some, none-some}
 use Rattle.mc_pages.specs.declared.ids.ChunkId.{ChunkId}
-use Rattle.mc_pages.specs.declared.ledger.Owner.TheVariants.{Class}
+use Rattle.mc_pages.specs.declared.ids.Moving.{Moving}
+use Rattle.mc_pages.specs.declared.moves.Found.{Found}
 use Rattle.mc_pages.specs.Ledger.{owner_at}
-use Rattle.mc_pages.specs.ClassState.{ClassState, popped, put_back, with_cut, with_page}
+use Rattle.mc_pages.specs.ClassState.{ClassState, popped, put_back, touched, replaced, cleared, evicted, with_cut}
 use Rattle.mc_pages.specs.SlabState.{SlabState, IsClass, class_at, class_of_owner, class_of_page, class_of_chunk}
-use Rattle.mc_pages.specs.Changes.{with_class, next_uncut, after_pop, after_back, after_cut, after_grant}
-use Rattle.mc_pages.specs.Accounted.{uncut_count, IsAccounted}
-use Rattle.mc_pages.specs.InOrder.{IsOnPage, IsInOrder}
-use Rattle.mc_pages.proofs.Chunks.{None≢Some, times_from_Contains}
+use Rattle.mc_pages.specs.Changes.{with_class, after_pop, after_back, after_touch, after_replace, after_clear, after_evicted, after_cut}
+use Rattle.mc_pages.specs.Moves.{CanPass}
+use Rattle.mc_pages.specs.Accounted.{is_moving, cut_count, uncut_count, places_in, IsAccounted}
+use Rattle.mc_pages.specs.InOrder.{IsBeingCut, IsInOrder}
+use Rattle.mc_pages.proofs.Chunks.{times_from_Contains}
 use Rattle.mc_pages.proofs.HandedOut.{IsClass-handed_out}
-use Rattle.mc_pages.proofs.Owners.{is_of_class-class_of_owner, owner_at-set_same, AreGranted-more}
-use Rattle.mc_pages.proofs.OneClass.{length-with_class, class_at-with_class_same, class_at-with_class_kept}
-use Rattle.mc_pages.proofs.Redistributed.{Redistributes, Redistributes-popped, Redistributes-put_back, IsClass-before, IsAccounted-redistributed}
-use Rattle.mc_pages.proofs.CutNext.{uncut_count-own, next_uncut-last, next_uncut-more, IsAccounted-after_cut}
-use Rattle.mc_pages.proofs.GrantedPage.{length-pages_le, IsAccounted-after_grant}
-
--- what two equal options have
-Some-same : {a b : ChunkId} → Some a ≡ Some b → a ≡ b
-Some-same h = cc
-
--- a change in one class leaves a chunk on its page
-pub IsOnPage-with_class : (slabs : SlabState) (class : ℕ) (state : ClassState) (chunk : ChunkId) → IsClass slabs class → state.per_page ≡ (class_at slabs class).per_page → IsOnPage slabs chunk → IsOnPage (with_class slabs class state) chunk
-IsOnPage-with_class slabs class state chunk is size on =
-    let own = class_of_page slabs chunk.page in
-    let kept = class_at-with_class_kept (λ c. c.per_page) slabs class own state is on.owned.0 size in
-    record { owned = (on.owned.0, omega (arith, on.owned.1, length-with_class slabs class state)); within = omega (arith, on.within, kept) }
-
--- a change in one class leaves each class some chunks a page
-per_page-with_class : (slabs : SlabState) (class other : ℕ) (state : ClassState) → IsClass slabs class → state.per_page ≡ (class_at slabs class).per_page → ((c : ℕ) → IsClass slabs c → 1 ≤ (class_at slabs c).per_page) → IsClass (with_class slabs class state) other → 1 ≤ (class_at (with_class slabs class state) other).per_page
-per_page-with_class slabs class other state is size some here =
-    let before = IsClass-before slabs class other state here in
-    let kept = class_at-with_class_kept (λ c. c.per_page) slabs class other state is before.0 size in
-    omega (arith, kept, some other before)
+use Rattle.mc_pages.proofs.Owners.{is_of_class-class_of_owner}
+use Rattle.mc_pages.proofs.Redistributed.{Redistributes, Redistributes-popped, Redistributes-put_back, Redistributes-touched, Redistributes-replaced, Redistributes-evicted, IsAccounted-redistributed}
+use Rattle.mc_pages.proofs.CutNext.{uncut_count-own, IsAccounted-after_cut}
+use Rattle.mc_pages.proofs.ClearedChunk.{CanClear, IsAccounted-cleared}
+use Rattle.mc_pages.proofs.GrantedPage.{length-pages_le}
+use Rattle.mc_pages.proofs.Steady.{IsSteady_from, IsSteady-changed, IsBeingCut-with_class, IsBeingCut-next, IsInOrder-with_class}
+pub use Rattle.mc_pages.proofs.Fresh.{IsInOrder-fresh}
+pub use Rattle.mc_pages.proofs.KeptPages.{IsInOrder-after_grant, IsInOrder-after_take}
+pub use Rattle.mc_pages.proofs.KeptMoves.{IsInOrder-after_begin, IsInOrder-after_passed, IsInOrder-after_wrap, IsInOrder-automove, first_page_within}
+pub use Rattle.mc_pages.proofs.KeptFinish.{IsInOrder-finished, release_fits}
+pub use Rattle.mc_pages.proofs.HandedOut.{times_free_one, times_cleared_one, IsClass-placed}
+pub use Rattle.mc_pages.proofs.Passes.{all_cleared_at_end}
+pub use Rattle.mc_pages.proofs.Source.{source_is}
 
 -- chunks change their list
 IsInOrder-redistributed : (slabs : SlabState) (granted class : ℕ) (state : ClassState) → IsInOrder slabs granted → IsClass slabs class → Redistributes (class_at slabs class) state → IsInOrder (with_class slabs class state) granted
 IsInOrder-redistributed slabs granted class state kept is change =
-    record {
-      accounted = IsAccounted-redistributed slabs class state kept.accounted is change;
-      lowest = kept.lowest;
-      pages = kept.pages;
-      per_page = λ other here. per_page-with_class slabs class other state is change.per_page kept.per_page here;
-      uncut = λ chunk h. IsOnPage-with_class slabs class state chunk is change.per_page (kept.uncut chunk h);
-    }
+    IsInOrder-with_class slabs granted class state kept is change.per_page change.pages (IsAccounted-redistributed slabs class state kept.accounted is change)
 
 -- a chunk is handed out
 pub IsInOrder-after_pop : (slabs : SlabState) (granted class : ℕ) → IsInOrder slabs granted → IsClass slabs class → IsInOrder (after_pop slabs class) granted
@@ -59,17 +47,56 @@ IsInOrder-after_back slabs granted chunk kept handed =
     (IsClass-handed_out slabs chunk kept.accounted handed)
     (Redistributes-put_back own chunk (times_from_Contains chunk own.order handed))
 
--- the chunk behind the one that is cut is on the page
-IsOnPage-next : (slabs : SlabState) (chunk next : ChunkId) → IsOnPage slabs chunk → next_uncut (class_of_chunk slabs chunk).per_page chunk ≡ Some next → IsOnPage slabs next
-IsOnPage-next slabs chunk next on h =
-    let size = (class_of_chunk slabs chunk).per_page in
-    elim (cases_lt (chunk.index + 1) size) [
-      | inl more ↦
-          let behind : ChunkId = record { page = chunk.page; index = chunk.index + 1 } in
-          let is : behind ≡ next = Some-same (sym (next_uncut-more size chunk more) ∙ h) in
-          subst (λ (c : ChunkId). IsOnPage slabs c) is (record { owned = on.owned; within = more })
-      | inr last ↦ absurd (None≢Some next (sym (next_uncut-last size chunk last) ∙ h))
-    ]
+-- a chunk becomes the youngest
+pub IsInOrder-after_touch : (slabs : SlabState) (granted : ℕ) (chunk : ChunkId) → IsInOrder slabs granted → Contains (class_of_chunk slabs chunk).order chunk → IsInOrder (after_touch slabs chunk) granted
+IsInOrder-after_touch slabs granted chunk kept handed =
+    let own = class_of_chunk slabs chunk in
+    IsInOrder-redistributed slabs granted (class_of_page slabs chunk.page) (touched own chunk) kept
+    (IsClass-handed_out slabs chunk kept.accounted handed)
+    (Redistributes-touched own chunk (times_from_Contains chunk own.order handed))
+
+-- a free chunk takes the place of a handed-out one
+pub IsInOrder-after_replace : (slabs : SlabState) (granted : ℕ) (new old : ChunkId) → IsInOrder slabs granted → Contains (class_of_chunk slabs old).free new → Contains (class_of_chunk slabs old).order old → IsInOrder (after_replace slabs new old) granted
+IsInOrder-after_replace slabs granted new old kept free handed =
+    let own = class_of_chunk slabs old in
+    IsInOrder-redistributed slabs granted (class_of_page slabs old.page) (replaced own new old) kept
+    (IsClass-handed_out slabs old kept.accounted handed)
+    (Redistributes-replaced own new old (times_from_Contains new own.free free) (times_from_Contains old own.order handed))
+
+-- an eviction is counted
+pub IsInOrder-after_evicted : (slabs : SlabState) (granted class : ℕ) → IsInOrder slabs granted → IsClass slabs class → IsInOrder (after_evicted slabs class) granted
+IsInOrder-after_evicted slabs granted class kept is =
+    IsInOrder-redistributed slabs granted class (evicted (class_at slabs class)) kept is (Redistributes-evicted (class_at slabs class))
+
+-- the move that runs is one of this page
+move_of_page : (moving : Option Moving) (page : ℕ) → option_map (λ move. move.page) moving ≡ Some page → (move : Moving) × (moving ≡ Some move) × (move.page ≡ page)
+move_of_page None page h = absurd (none-some page h)
+move_of_page (Some move) page h = (move, refl, same_Some move.page page h)
+
+-- each chunk of a page on which none is to be cut next was cut
+cut_count-whole : (uncut : Option ChunkId) (page per_page : ℕ) → ((next : ChunkId) → uncut ≡ Some next → next.page ≢ page) → cut_count uncut page per_page ≡ per_page
+cut_count-whole None page per_page apart = refl
+cut_count-whole (Some next) page per_page apart = ap (λ b. if b then next.index else per_page) (ne_eqb next.page page (apart next refl))
+
+-- a chunk of the moving page leaves its list
+pub IsInOrder-after_clear : (slabs : SlabState) (granted : ℕ) (chunk : ChunkId) → IsInOrder slabs granted → option_map (λ move. move.page) slabs.moving ≡ Some chunk.page → 1 ≤ places_in slabs (class_of_page slabs chunk.page) chunk → IsInOrder (after_clear slabs chunk) granted
+IsInOrder-after_clear slabs granted chunk kept h placed =
+    let found = move_of_page slabs.moving chunk.page h in
+    let move : Moving = found.0 in
+    let is = kept.accounted.move move found.1 in
+    let own : class_of_page slabs chunk.page ≡ move.src = ap (λ (p : ℕ). class_of_page slabs p) (sym found.2) ∙ ap class_of_owner is.owner in
+    let moves : is_moving (owner_at slabs.owners chunk.page) ≡ true = ap (λ (p : ℕ). is_moving (owner_at slabs.owners p)) (sym found.2) ∙ ap is_moving is.owner in
+    let apart = λ (next : ChunkId) (e : slabs.uncut ≡ Some next) (same : next.page ≡ chunk.page). both_ways _ (kept.uncut next e).still (ap (λ (p : ℕ). is_moving (owner_at slabs.owners p)) same ∙ moves) in
+    let can : CanClear slabs move chunk = record {
+      runs = found.1;
+      of = is;
+      on = sym found.2;
+      whole = cut_count-whole slabs.uncut chunk.page (class_at slabs move.src).per_page apart;
+      placed = subst (λ (n : ℕ). 1 ≤ places_in slabs n chunk) own placed;
+    } in
+    let all = IsAccounted-cleared slabs move chunk kept.accounted can in
+    subst (λ (n : ℕ). IsInOrder (with_class slabs n (cleared (class_at slabs n) chunk)) granted) (sym own)
+    (IsInOrder-with_class slabs granted move.src (cleared (class_at slabs move.src) chunk) kept is.src refl refl all)
 
 -- the lowest uncut chunk is cut
 pub IsInOrder-after_cut : (slabs : SlabState) (granted : ℕ) (chunk : ChunkId) → IsInOrder slabs granted → slabs.uncut ≡ Some chunk → IsInOrder (after_cut slabs chunk) granted
@@ -77,54 +104,34 @@ IsInOrder-after_cut slabs granted chunk kept h =
     let on = kept.uncut chunk h in
     let own = class_of_page slabs chunk.page in
     let state : ClassState = with_cut (class_of_chunk slabs chunk) chunk in
+    let steady = IsSteady-changed slabs own state slabs.owners (IsSteady_from slabs granted kept) on.owned refl refl in
     record {
       accounted = IsAccounted-after_cut slabs chunk kept.accounted h on;
       lowest = kept.lowest;
       pages = kept.pages;
-      per_page = λ other here. per_page-with_class slabs own other state on.owned refl kept.per_page here;
+      per_page = steady.per_page;
+      at_most = steady.at_most;
       uncut = λ next e.
-          let there = IsOnPage-with_class slabs own state next on.owned refl (IsOnPage-next slabs chunk next on e) in
-          record { owned = there.owned; within = there.within };
+          let there = IsBeingCut-with_class slabs own state next on.owned refl refl (IsBeingCut-next slabs chunk next on e) in
+          record { owned = there.owned; still = there.still; within = there.within; newest = there.newest };
+      cursor = steady.cursor;
     }
 
 -- there is room for the lowest uncut chunk
-pub below_total : (slabs : SlabState) (chunk : ChunkId) → IsAccounted slabs → slabs.uncut ≡ Some chunk → IsOnPage slabs chunk → length (class_of_chunk slabs chunk).free + length (class_of_chunk slabs chunk).order < length (class_of_chunk slabs chunk).pages * (class_of_chunk slabs chunk).per_page
+pub below_total : (slabs : SlabState) (chunk : ChunkId) → IsAccounted slabs → slabs.uncut ≡ Some chunk → IsBeingCut slabs chunk → length (class_of_chunk slabs chunk).free + length (class_of_chunk slabs chunk).order < length (class_of_chunk slabs chunk).pages * (class_of_chunk slabs chunk).per_page
 below_total slabs chunk all h on =
     let own = class_of_page slabs chunk.page in
     let uncut = ap (λ (o : Option ChunkId). uncut_count slabs own o) h in
     let some = uncut_count-own slabs own chunk (is_of_class-class_of_owner own (owner_at slabs.owners chunk.page) on.owned.0 refl) in
     omega (arith, all.total own on.owned, uncut, some, on.within)
 
--- the page that is given has its class's chunks
-IsOnPage-granted : (slabs : SlabState) (given page : ℕ) (chunk : ChunkId) → IsClass slabs given → page < length slabs.owners → 1 ≤ (class_at slabs given).per_page → Some (record { page = page; index = 0 }) ≡ Some chunk → IsOnPage (after_grant slabs given page) chunk
-IsOnPage-granted slabs given page chunk is within some h =
-    let first : ChunkId = record { page = page; index = 0 } in
-    let new : SlabState = after_grant slabs given page in
-    let state = with_page (class_at slabs given) page in
-    let own : class_of_page new page ≡ given = ap class_of_owner (owner_at-set_same slabs.owners page (Class given) within) in
-    let kept = class_at-with_class_kept (λ c. c.per_page) slabs given given state is is.0 refl in
-    let size = ap (λ (n : ℕ). (class_at new n).per_page) own in
-    let on : IsOnPage new first = record { owned = (omega (arith, own, is.0), omega (arith, own, is.1, length-with_class slabs given state)); within = omega (arith, size, kept, some) } in
-    subst (λ (c : ChunkId). IsOnPage new c) (Some-same h) on
+-- no class has more than 64 pages
+pub pages_below : (slabs : SlabState) (granted given : ℕ) → IsInOrder slabs granted → IsClass slabs given → length (class_at slabs given).pages ≤ 64
+pages_below slabs granted given kept is = omega (arith, length-pages_le slabs given kept.accounted is, kept.pages)
 
--- an untouched page is given to a class
-pub IsInOrder-after_grant : (slabs : SlabState) (granted given : ℕ) → IsInOrder slabs granted → IsClass slabs given → slabs.uncut ≡ None → granted < length slabs.owners → IsInOrder (after_grant slabs given granted) (granted + 1)
-IsInOrder-after_grant slabs granted given kept is whole within =
-    let state = with_page (class_at slabs given) granted in
-    record {
-      accounted = IsAccounted-after_grant slabs given granted kept.accounted is whole within (kept.lowest.rest granted (le_refl granted));
-      lowest = AreGranted-more slabs.owners granted (Class given) kept.lowest within refl;
-      pages = omega (arith, kept.pages, length-set slabs.owners granted (Class given));
-      per_page = λ other here. per_page-with_class slabs given other state is refl kept.per_page here;
-      uncut = λ chunk h. IsOnPage-granted slabs given granted chunk is within (kept.per_page given is) h;
-    }
-
--- a class that gets a page has fewer than 64
-pub pages_below : (slabs : SlabState) (granted given : ℕ) → IsInOrder slabs granted → IsClass slabs given → slabs.uncut ≡ None → granted < length slabs.owners → length (class_at slabs given).pages < 64
-pages_below slabs granted given kept is whole within =
-    let new : SlabState = after_grant slabs given granted in
-    let state = with_page (class_at slabs given) granted in
-    let all = (IsInOrder-after_grant slabs granted given kept is whole within).accounted in
-    let here : IsClass new given = (is.0, omega (arith, is.1, length-with_class slabs given state)) in
-    let now = ap (λ (c : ClassState). length c.pages) (class_at-with_class_same slabs given state is) ∙ length-append (class_at slabs given).pages (granted ∷ []) in
-    omega (arith, length-pages_le new given all here, now, length-set slabs.owners granted (Class given), kept.pages)
+-- the position of a pass that isn't at its end, and what held it up, are below 256
+pub position_below : (slabs : SlabState) (granted : ℕ) (found : Found) (move : Moving) → IsInOrder slabs granted → CanPass slabs found move → (move.at < 256) × (move.busy < 256)
+position_below slabs granted found move kept can =
+    let is = kept.accounted.move move can.runs in
+    let most = kept.at_most move.src is.src in
+    (omega (arith, can.within, most), omega (arith, can.within, most, is.busy))

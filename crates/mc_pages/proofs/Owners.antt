@@ -109,6 +109,22 @@ AreGranted-more owners granted owner are within owned =
       rest = λ page h. owner_at-set_other owners granted page owner (omega arith) ∙ are.rest page (omega arith);
     }
 
+-- a granted page has another owner
+pub AreGranted-set : (owners : List Owner) (granted page : ℕ) (owner : Owner) → AreGranted owners granted → is_untouched (owner_at owners page) ≡ false → is_untouched owner ≡ false → AreGranted (set owners page owner) granted
+AreGranted-set owners granted page owner are was now =
+    elim (cases_lt page granted) [
+      | inl within ↦ record {
+        within = omega (arith, are.within, length-set owners page owner);
+        below = λ other h.
+            elim (cases_eq other page) [
+              | inl same ↦ ap (λ (n : ℕ). not (is_untouched (owner_at (set owners page owner) n))) same ∙ (ap (λ (o : Owner). not (is_untouched o)) (owner_at-set_same owners page owner (omega (arith, are.within))) ∙ ap not now)
+              | inr differs ↦ ap (λ (o : Owner). not (is_untouched o)) (owner_at-set_other owners page other owner differs) ∙ are.below other h
+            ];
+        rest = λ other h. owner_at-set_other owners page other owner (omega arith) ∙ are.rest other h;
+      }
+      | inr past ↦ absurd (false≢true (sym was ∙ ap is_untouched (are.rest page past)))
+    ]
+
 -- a number that stands in a list is counted there
 list_any-count_by : (x : ℕ) (xs : List ℕ) → list_any (eqb x) xs ≡ true → 1 ≤ count_by (λ y. y == x) xs
 list_any-count_by x [] h = absurd (false≢true h)

@@ -18,7 +18,7 @@ use Rattle.mc_pages.specs.Moves.{released, arrived, finished}
 use Rattle.mc_pages.specs.Accounted.{truth, IsMove}
 use Rattle.mc_pages.specs.InOrder.{IsInOrder, AreKept, slabs_of, room_at, is_awaited}
 use Rattle.mc_pages.proofs.Owners.{within_from_owned}
-use Rattle.mc_pages.proofs.RoomySlabs.{states, state_at, roomy_at, state_at-roomy, roomy_at_read, Fits, Fits-set, state_at-set, IsClass-set, length-states, read_state, read_room, with_roomy, slabs_of-changed}
+use Rattle.mc_pages.proofs.RoomySlabs.{states, state_at, roomy_at, state_at-roomy, roomy_at_read, Fits, Fits-set, IsClass-set, length-states, read_state, read_room, with_roomy, slabs_of-changed}
 
 -- what a moving page's owner is says that it is one of the pages
 pub moving_within : (slabs : SlabState) (move : Moving) → IsMove slabs move → move.page < length slabs.owners
@@ -91,13 +91,6 @@ fits-pooled slabs move read removed kept is h changed other first within =
     (λ e. omega (arith, ap (λ (c : RoomyClass). length c.state.pages) changed, ap (λ (c : RoomyClass). c.room) changed, length-without_page read.state move.page, ap (λ (c : ClassState). length c.pages) state, room, kept.classes move.src is))
     (λ differs. omega (arith, kept.classes other (first, within)))
 
--- no class has more chunks a page
-pub per_page-pooled : (slabs : Inside) (move : Moving) (read removed : RoomyClass) → AreKept slabs → IsClass (slabs_of slabs) move.src → read ≡ slice_index_or slabs.classes.items (move.src - 1) read → removed ≡ in_state read (without_page read.state move.page) → (other : ℕ) → 1 ≤ other → other ≤ length (states slabs.classes.items) → (state_at (set slabs.classes.items (move.src - 1) removed) other).per_page ≤ 256
-per_page-pooled slabs move read removed kept is h changed other first within =
-    let state = read_state slabs move.src (move.src - 1) read is refl h in
-    state_at-set (λ (c : ClassState). c.per_page ≤ 256) slabs.classes.items move.src other removed is.0 (length-states slabs move.src is) first
-    (omega (arith, ap (λ (c : RoomyClass). c.state.per_page) changed, ap (λ (c : ClassState). c.per_page) state, kept.per_page move.src is)) (kept.per_page other (first, within))
-
 -- what is read of the destination is as it was before the source gave its page up
 dst_read : (slabs : Inside) (move : Moving) (removed read-2 : RoomyClass) → IsClass (slabs_of slabs) move.src → IsClass (slabs_of slabs) move.dst → move.src ≢ move.dst → read-2 ≡ slice_index_or (set slabs.classes.items (move.src - 1) removed) (move.dst - 1) read-2 → read-2 ≡ roomy_at slabs.classes.items move.dst
 dst_read slabs move removed read-2 is is-2 apart h-2 =
@@ -120,14 +113,6 @@ fits-joined slabs move read removed read-2 added kept runs is is-2 apart h chang
     Fits-set between move.dst other 0 added is-2.0 (omega (arith, length-states slabs move.dst is-2, length-set slabs.classes.items (move.src - 1) removed)) first
     (λ e. omega (arith, ap (λ (c : RoomyClass). length c.state.pages) changed-2, ap (λ (c : RoomyClass). c.room) changed-2, length-append read-2.state.pages (move.page ∷ []), room))
     (λ differs. fits-pooled slabs move read removed kept is h changed other first within)
-
-pub per_page-joined : (slabs : Inside) (move : Moving) (read removed read-2 added : RoomyClass) → AreKept slabs → IsClass (slabs_of slabs) move.src → IsClass (slabs_of slabs) move.dst → move.src ≢ move.dst → read ≡ slice_index_or slabs.classes.items (move.src - 1) read → removed ≡ in_state read (without_page read.state move.page) → read-2 ≡ slice_index_or (set slabs.classes.items (move.src - 1) removed) (move.dst - 1) read-2 → added ≡ in_state read-2 (with_page read-2.state move.page) → (other : ℕ) → 1 ≤ other → other ≤ length (states slabs.classes.items) → (state_at (set (set slabs.classes.items (move.src - 1) removed) (move.dst - 1) added) other).per_page ≤ 256
-per_page-joined slabs move read removed read-2 added kept is is-2 apart h changed h-2 changed-2 other first within =
-    let between = set slabs.classes.items (move.src - 1) removed in
-    let there = dst_read slabs move removed read-2 is is-2 apart h-2 in
-    state_at-set (λ (c : ClassState). c.per_page ≤ 256) between move.dst other added is-2.0 (omega (arith, length-states slabs move.dst is-2, length-set slabs.classes.items (move.src - 1) removed)) first
-    (omega (arith, ap (λ (c : RoomyClass). c.state.per_page) changed-2, ap (λ (c : RoomyClass). c.state.per_page) there, ap (λ (c : ClassState). c.per_page) (state_at-roomy slabs.classes.items move.dst), kept.per_page move.dst is-2))
-    (per_page-pooled slabs move read removed kept is h changed other first within)
 
 -- a class of the whole where two classes have changed
 pub within-both : (classes : List RoomyClass) (place place-2 other : ℕ) (new new-2 : RoomyClass) → other ≤ length (states (set (set classes place new) place-2 new-2)) → other ≤ length (states classes)

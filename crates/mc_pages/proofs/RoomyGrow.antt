@@ -19,7 +19,7 @@ use Rattle.mc_pages.specs.Changes.{pooled_page, next_page, after_grant, after_ta
 use Rattle.mc_pages.specs.Accounted.{truth, is_pool, IsAccounted}
 use Rattle.mc_pages.specs.InOrder.{IsInOrder, AreKept, slabs_of, room_at, is_awaited}
 use Rattle.mc_pages.proofs.Owners.{position-AreGranted, position-AreGranted_all, within_from_owned}
-use Rattle.mc_pages.proofs.RoomySlabs.{states, Fits, Fits-set, IsClass-set, length-states, read_state, read_room, with_roomy, fits-changed, per_page-changed}
+use Rattle.mc_pages.proofs.RoomySlabs.{states, Fits, Fits-set, IsClass-set, length-states, read_state, read_room, with_roomy, fits-changed}
 
 -- a page is no lack of one
 None≢Some : (page : ℕ) → None ≡ Some page → ⊥
@@ -129,12 +129,6 @@ fits-roomier slabs class read roomy kept is h same room =
     let state = same ∙ read_state slabs class (class - 1) read is refl h in
     fits-changed slabs class (class - 1) roomy kept is refl (ap (λ (c : ClassState). length c.pages) state) (omega (arith, read_room slabs class (class - 1) read is refl h, room))
 
--- and no class has more chunks a page
-pub per_page-roomier : (slabs : Inside) (class : ℕ) (read roomy : RoomyClass) → AreKept slabs → IsClass (slabs_of slabs) class → read ≡ slice_index_or slabs.classes.items (class - 1) read → roomy.state ≡ read.state → (other : ℕ) → IsClass (slabs_of (with_roomy slabs (class - 1) roomy)) other → (class_at (slabs_of (with_roomy slabs (class - 1) roomy)) other).per_page ≤ 256
-per_page-roomier slabs class read roomy kept is h same =
-    let state = same ∙ read_state slabs class (class - 1) read is refl h in
-    per_page-changed slabs class (class - 1) roomy kept is refl (omega (arith, ap (λ (c : ClassState). c.per_page) state, kept.per_page class is))
-
 -- with its new page the class still has room for one that is on the move to it
 pub fits-given : (slabs : Inside) (class page : ℕ) (read roomy added : RoomyClass) → AreKept slabs → IsClass (slabs_of slabs) class → read ≡ slice_index_or slabs.classes.items (class - 1) read → roomy.state ≡ read.state → added ≡ in_state roomy (with_page roomy.state page) → length (class_at (slabs_of slabs) class).pages + 1 + truth (is_awaited slabs.moving class) ≤ roomy.room → (other : ℕ) → IsClass (slabs_of (with_roomy slabs (class - 1) added)) other → Fits (set slabs.classes.items (class - 1) added) (truth (is_awaited slabs.moving other)) other
 fits-given slabs class page read roomy added kept is h same changed room other here =
@@ -144,11 +138,6 @@ fits-given slabs class page read roomy added kept is h same changed room other h
     Fits-set slabs.classes.items class other (truth (is_awaited slabs.moving other)) added is.0 (length-states slabs class is) here.0
     (λ e. omega (arith, ap (λ (c : RoomyClass). length c.state.pages) changed, ap (λ (c : RoomyClass). c.room) changed, more, ap (λ (c : ClassState). length c.pages) state, room, ap (λ (n : ℕ). truth (is_awaited slabs.moving n)) e))
     (λ differs. kept.classes other before)
-
-pub per_page-given : (slabs : Inside) (class page : ℕ) (read roomy added : RoomyClass) → AreKept slabs → IsClass (slabs_of slabs) class → read ≡ slice_index_or slabs.classes.items (class - 1) read → roomy.state ≡ read.state → added ≡ in_state roomy (with_page roomy.state page) → (other : ℕ) → IsClass (slabs_of (with_roomy slabs (class - 1) added)) other → (class_at (slabs_of (with_roomy slabs (class - 1) added)) other).per_page ≤ 256
-per_page-given slabs class page read roomy added kept is h same changed =
-    let state = same ∙ read_state slabs class (class - 1) read is refl h in
-    per_page-changed slabs class (class - 1) added kept is refl (omega (arith, ap (λ (c : RoomyClass). c.state.per_page) changed, ap (λ (c : ClassState). c.per_page) state, kept.per_page class is))
 
 -- a `bool` as a number
 pub truth_byte : (b : Bool) → bool_byte b ≡ truth b

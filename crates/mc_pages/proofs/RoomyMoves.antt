@@ -31,7 +31,7 @@ pub position_below : (slabs : Inside) (found : Found) (move moving : Moving) →
 position_below slabs found move moving kept can runs =
     let is = kept.order.accounted.move move can.runs in
     let same : move ≡ moving = Some-same move moving (sym can.runs ∙ runs) in
-    let size = kept.per_page move.src is.src in
+    let size = kept.order.at_most move.src is.src in
     (omega (arith, can.within, size, ap (λ (m : Moving). m.at) same), omega (arith, can.within, size, is.busy, ap (λ (m : Moving). m.busy) same))
 
 -- the whole after a chunk was passed, as the code leaves it
@@ -60,7 +60,6 @@ AreKept-passed slabs found m held rescues nomem runs held_is rescues_is nomem_is
       ledger = omega (arith, kept.ledger, ap (λ (o : Option Moving). truth (is_some o)) runs);
       pool = omega (arith, kept.pool, awaited 0);
       classes = λ class is. omega (arith, kept.classes class is, awaited class);
-      per_page = kept.per_page;
     }
 
 -- a fact of the value of a result that is known

@@ -48,19 +48,6 @@ Fits-set classes class other more new first within first_other here there =
           omega (arith, now, before, ap (λ (c : RoomyClass). length c.state.pages) is, ap (λ (c : RoomyClass). c.room) is, there differs)
     ]
 
--- what is true of each class after a change of one, if it is true of the changed class
-pub state_at-set : (P : ClassState → Type 0) (classes : List RoomyClass) (class other : ℕ) (new : RoomyClass) → 1 ≤ class → class ≤ length classes → 1 ≤ other → P new.state → P (state_at classes other) → P (state_at (set classes (class - 1) new) other)
-state_at-set P classes class other new first within first_other here there =
-    let after = set classes (class - 1) new in
-    elim (cases_eq other class) [
-      | inl same ↦
-          let is : roomy_at after other ≡ new = ap (λ (n : ℕ). roomy_at after n) same ∙ get_or-set_same classes (class - 1) new _ (omega arith) in
-          subst P (sym (state_at-roomy after other ∙ ap (λ (c : RoomyClass). c.state) is)) here
-      | inr differs ↦
-          let is : roomy_at after other ≡ roomy_at classes other = get_or-set_other classes (class - 1) (other - 1) new _ (λ e. differs (omega arith)) in
-          subst P (sym (state_at-roomy after other ∙ (ap (λ (c : RoomyClass). c.state) is ∙ sym (state_at-roomy classes other)))) there
-    ]
-
 -- what indexing reads is the class with its room
 pub roomy_at_read : (classes : List RoomyClass) (class place : ℕ) (read : RoomyClass) → 1 ≤ class → class ≤ length classes → place ≡ class - 1 → read ≡ slice_index_or classes place read → read ≡ roomy_at classes class
 roomy_at_read classes class place read first within at h =
@@ -119,20 +106,6 @@ fits-changed_by slabs class place read new f kept is at h changed leaves =
     let room : new.room ≡ room_at slabs.classes.items class = ap (λ (c : RoomyClass). c.room) changed ∙ read_room slabs class place read is at h in
     fits-changed slabs class place new kept is at (ap (λ (c : ClassState). length c.pages) state ∙ leaves.pages) (omega arith)
 
--- no class has more chunks a page than before
-pub per_page-changed : (slabs : Inside) (class place : ℕ) (new : RoomyClass) → AreKept slabs → IsClass (slabs_of slabs) class → place ≡ class - 1 → new.state.per_page ≤ 256 → (other : ℕ) → IsClass (slabs_of (with_roomy slabs place new)) other → (class_at (slabs_of (with_roomy slabs place new)) other).per_page ≤ 256
-per_page-changed slabs class place new kept is at size other here =
-    let before : IsClass (slabs_of slabs) other = (here.0, IsClass-set slabs.classes.items place other new here.1) in
-    let after : (state_at (set slabs.classes.items (class - 1) new) other).per_page ≤ 256 =
-    state_at-set (λ (c : ClassState). c.per_page ≤ 256) slabs.classes.items class other new is.0 (length-states slabs class is) here.0 size (kept.per_page other before) in
-    subst (λ (n : ℕ). (state_at (set slabs.classes.items n new) other).per_page ≤ 256) (sym at) after
-
--- the same after a change of one that leaves its pages
-pub per_page-changed_by : (slabs : Inside) (class place : ℕ) (read new : RoomyClass) (f : ClassState → ClassState) → AreKept slabs → IsClass (slabs_of slabs) class → place ≡ class - 1 → read ≡ slice_index_or slabs.classes.items place read → new ≡ in_state read (f read.state) → Leaves (class_at (slabs_of slabs) class) (f (class_at (slabs_of slabs) class)) → (other : ℕ) → IsClass (slabs_of (with_roomy slabs place new)) other → (class_at (slabs_of (with_roomy slabs place new)) other).per_page ≤ 256
-per_page-changed_by slabs class place read new f kept is at h changed leaves =
-    let state : new.state ≡ f (class_at (slabs_of slabs) class) = ap (λ (c : RoomyClass). c.state) changed ∙ ap f (read_state slabs class place read is at h) in
-    per_page-changed slabs class place new kept is at (omega (arith, ap (λ (c : ClassState). c.per_page) state, leaves.per_page, kept.per_page class is))
-
 -- all is kept after a change of one class that leaves its pages
 pub AreKept-changed : (slabs : Inside) (class place : ℕ) (read new : RoomyClass) (f : ClassState → ClassState) → AreKept slabs → IsClass (slabs_of slabs) class → place ≡ class - 1 → read ≡ slice_index_or slabs.classes.items place read → new ≡ in_state read (f read.state) → Leaves (class_at (slabs_of slabs) class) (f (class_at (slabs_of slabs) class)) → IsInOrder (with_class (slabs_of slabs) class (f (class_at (slabs_of slabs) class))) slabs.granted → AreKept (with_roomy slabs place new)
 AreKept-changed slabs class place read new f kept is at h changed leaves order =
@@ -141,7 +114,6 @@ AreKept-changed slabs class place read new f kept is at h changed leaves order =
       ledger = kept.ledger;
       pool = kept.pool;
       classes = fits-changed_by slabs class place read new f kept is at h changed leaves;
-      per_page = per_page-changed_by slabs class place read new f kept is at h changed leaves;
     }
 
 -- a chunk that is handed out leaves the pages

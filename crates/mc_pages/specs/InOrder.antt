@@ -53,6 +53,7 @@ pub record IsInOrder (slabs : SlabState) (granted : ℕ) : Type 0 where
   pub lowest : AreGranted slabs.owners granted
   pub pages : length slabs.owners ≤ 64
   pub per_page : (class : ℕ) → IsClass slabs class → 1 ≤ (class_at slabs class).per_page
+  pub at_most : (class : ℕ) → IsClass slabs class → (class_at slabs class).per_page ≤ 256
   pub uncut : (chunk : ChunkId) → slabs.uncut ≡ Some chunk → IsBeingCut slabs chunk
   pub cursor : IsClass slabs slabs.cursor
 
@@ -71,4 +72,3 @@ pub record AreKept (slabs : Inside) : Type 0 where
   pub pool : vec_len slabs.pool + truth (is_awaited slabs.moving 0) ≤ vec_capacity slabs.pool
   pub classes : (class : ℕ) → IsClass (slabs_of slabs) class →
       length (class_at (slabs_of slabs) class).pages + truth (is_awaited slabs.moving class) ≤ room_at slabs.classes.items class
-  pub per_page : (class : ℕ) → IsClass (slabs_of slabs) class → (class_at (slabs_of slabs) class).per_page ≤ 256

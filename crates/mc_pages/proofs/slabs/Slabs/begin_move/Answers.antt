@@ -10,10 +10,12 @@ use Rattle.mc_pages.specs.Answer.{answer_of, cursor_after}
 use Rattle.mc_pages.specs.Accounted.{truth}
 use Rattle.mc_pages.specs.Moves.{first_page, after_begin}
 use Rattle.mc_pages.specs.InOrder.{IsInOrder, AreKept, slabs_of, is_awaited}
-use Rattle.mc_pages.proofs.Promised.{pages_below, source_is, first_page_within, IsInOrder-after_begin}
+use Rattle.mc_pages.proofs.Kept.{pages_below}
+use Rattle.mc_pages.proofs.KeptMoves.{first_page_within, IsInOrder-after_begin}
+use Rattle.mc_pages.proofs.Source.{source_is}
 use Rattle.mc_pages.proofs.Roomy.{if_ok}
 use Rattle.mc_pages.proofs.RoomySlabs.{states, read_state}
-use Rattle.mc_pages.proofs.RoomyGrow.{on_err, truth_le, states_roomier, fits-roomier, per_page-roomier}
+use Rattle.mc_pages.proofs.RoomyGrow.{on_err, truth_le, states_roomier, fits-roomier}
 use Rattle.mc_pages.proofs.RoomyMoves.{if_ok_at, begun_with, begun_is, not_awaited, fits-to_pool, fits-to_class}
 use Rattle.mc_pages.proofs.slabs.Slabs.begin_move.Goals as goal
 use Rattle.mc_pages.proofs.slabs.Slabs.begin_move.Goals.{After-reserve, After-page_count, then-dst-eq0+in_ok-reserve-2, else-dst-eq0+in_ok-make_room}
@@ -59,7 +61,6 @@ invariant_of-self-in_err-make_room c =
       ledger = omega (arith, c.self.invariant.ledger, c.in_ok-reserve.ensures.len, c.in_ok-reserve.ensures.capacity);
       pool = c.self.invariant.pool;
       classes = fits-roomier c.self.inside c.args.dst _ c.make_room.new.self c.self.invariant is c.index_mut-slab.ensures.value c.in_err-make_room.ensures.state c.in_err-make_room.ensures.kept;
-      per_page = per_page-roomier c.self.inside c.args.dst _ c.make_room.new.self c.self.invariant is c.index_mut-slab.ensures.value c.in_err-make_room.ensures.state;
     }
 
 pub returns-in_err-make_room-clause-refused : goal.returns-in_err-make_room-clause-refused
@@ -122,7 +123,6 @@ invariant_of-self-2 c =
             ledger = ledger_fits c (ap (λ (i : Inside). vec_len i.ledger) w.self-inside-is) (ap (λ (i : Inside). vec_capacity i.ledger) w.self-inside-is);
             pool = omega (arith, w.in_ok-reserve-2.ensures.ok, truth_le (c.args.dst == 0));
             classes = fits-to_pool c.self.inside c.args.dst c.self.invariant w.if-dst-eq0.true;
-            per_page = c.self.invariant.per_page;
           })
       | else-dst-eq0+in_ok-make_room w ↦
           let is = is_class here w.if-dst-eq0.false in
@@ -134,7 +134,6 @@ invariant_of-self-2 c =
             pool = omega (arith, c.self.invariant.pool, not_awaited c.args.dst 0 w.if-dst-eq0.false);
             classes = fits-to_class c.self.inside c.args.dst _ w.make_room.new.self c.self.invariant is w.index_mut-slab.ensures.value w.in_ok-make_room.ensures.state
             (omega (arith, w.page_count.ensures, ap (λ (class : ClassState). length class.pages) read, w.in_ok-make_room.ensures.ok));
-            per_page = per_page-roomier c.self.inside c.args.dst _ w.make_room.new.self c.self.invariant is w.index_mut-slab.ensures.value w.in_ok-make_room.ensures.state;
           })
     ]
 

@@ -6,7 +6,8 @@ use Rattle.mc_pages.specs.SlabState.{SlabState, IsClass, class_of_page}
 use Rattle.mc_pages.specs.Changes.{after_clear}
 use Rattle.mc_pages.specs.Accounted.{places_in}
 use Rattle.mc_pages.specs.InOrder.{slabs_of}
-use Rattle.mc_pages.proofs.Promised.{IsClass-placed, times_cleared_one, IsInOrder-after_clear}
+use Rattle.mc_pages.proofs.HandedOut.{IsClass-placed, times_cleared_one}
+use Rattle.mc_pages.proofs.Kept.{IsInOrder-after_clear}
 use Rattle.mc_pages.proofs.RoomySlabs.{read_state, slabs_of-changed, AreKept-changed}
 use Rattle.mc_pages.proofs.slabs.Slabs.clear.Goals as goal
 

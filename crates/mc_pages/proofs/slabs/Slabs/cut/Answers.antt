@@ -4,8 +4,8 @@ use Rattle.mc_pages.specs.ClassState.{ClassState, with_cut}
 use Rattle.mc_pages.specs.SlabState.{SlabState, IsClass, class_of_page, class_of_chunk}
 use Rattle.mc_pages.specs.Changes.{next_uncut, after_cut}
 use Rattle.mc_pages.specs.InOrder.{IsInOrder, IsBeingCut, slabs_of}
-use Rattle.mc_pages.proofs.Promised.{below_total, IsInOrder-after_cut}
-use Rattle.mc_pages.proofs.RoomySlabs.{length-states, read_state, slabs_of-changed, fits-changed_by, per_page-changed_by, with_roomy, Leaves}
+use Rattle.mc_pages.proofs.Kept.{below_total, IsInOrder-after_cut}
+use Rattle.mc_pages.proofs.RoomySlabs.{length-states, read_state, slabs_of-changed, fits-changed_by, with_roomy, Leaves}
 use Rattle.mc_pages.proofs.slabs.Slabs.cut.Goals as goal
 use Rattle.mc_pages.proofs.slabs.Slabs.cut.Goals.{After-index_mut-slab}
 
@@ -78,7 +78,6 @@ invariant_of-self c =
       ledger = c.self.invariant.ledger;
       pool = c.self.invariant.pool;
       classes = fits-changed_by c.self.inside (class_of_page slabs c.args.page) _ _ _ (λ class. with_cut class chunk) c.self.invariant is at c.index_mut-slab.ensures.value c.cut.ensures leaves;
-      per_page = per_page-changed_by c.self.inside (class_of_page slabs c.args.page) _ _ _ (λ class. with_cut class chunk) c.self.invariant is at c.index_mut-slab.ensures.value c.cut.ensures leaves;
     }
 
 pub returns-clause-cut : goal.returns-clause-cut

@@ -3,7 +3,7 @@ use Rattle.mc_pages.specs.ClassState.{evicted}
 use Rattle.mc_pages.specs.SlabState.{SlabState, IsClass}
 use Rattle.mc_pages.specs.Changes.{after_evicted}
 use Rattle.mc_pages.specs.InOrder.{slabs_of}
-use Rattle.mc_pages.proofs.Promised.{IsInOrder-after_evicted}
+use Rattle.mc_pages.proofs.Kept.{IsInOrder-after_evicted}
 use Rattle.mc_pages.proofs.RoomySlabs.{slabs_of-changed, AreKept-changed}
 use Rattle.mc_pages.proofs.slabs.Slabs.evicted.Goals as goal
 

@@ -7,11 +7,11 @@ use Rattle.mc_pages.specs.SlabState.{SlabState, IsClass}
 use Rattle.mc_pages.specs.Accounted.{IsMove}
 use Rattle.mc_pages.specs.Moves.{finished, after_finish, CanFinish}
 use Rattle.mc_pages.specs.InOrder.{IsInOrder, slabs_of}
-use Rattle.mc_pages.proofs.Promised.{release_fits, IsInOrder-finished}
+use Rattle.mc_pages.proofs.KeptFinish.{release_fits, IsInOrder-finished}
 use Rattle.mc_pages.proofs.Roomy.{if_ok}
 use Rattle.mc_pages.proofs.RoomySlabs.{states, IsClass-set, read_state}
 use Rattle.mc_pages.proofs.RoomyMoves.{Some-same}
-use Rattle.mc_pages.proofs.RoomyFinish.{ended_with, joined_with, pooled_is, joined_is, fits-pooled, per_page-pooled, dst_has_room, fits-joined, per_page-joined, within-both}
+use Rattle.mc_pages.proofs.RoomyFinish.{ended_with, joined_with, pooled_is, joined_is, fits-pooled, dst_has_room, fits-joined, within-both}
 use Rattle.mc_pages.proofs.slabs.Slabs.finish_move.Goals as goal
 use Rattle.mc_pages.proofs.slabs.Slabs.finish_move.Goals.{After-index_mut, After-saturating_add-self-inside}
 
@@ -71,7 +71,6 @@ invariant_of-self c =
       ledger = omega (arith, c.push.new.self.ok.1);
       pool = omega (arith, c.push-then-dst-eq0.new.self.ok.1);
       classes = λ other there. fits-pooled c.self.inside move _ _ c.self.invariant is c.index_mut.ensures.value c.remove_page.ensures other there.0 (IsClass-set _ _ other _ there.1);
-      per_page = λ other there. per_page-pooled c.self.inside move _ _ c.self.invariant is c.index_mut.ensures.value c.remove_page.ensures other there.0 (IsClass-set _ _ other _ there.1);
     }
 
 pub returns-then-dst-eq0-clause-finished : goal.returns-then-dst-eq0-clause-finished
@@ -104,8 +103,6 @@ invariant_of-self-else-dst-eq0 c =
       pool = omega (arith, c.self.inside.pool.ok.1);
       classes = λ other there.
           fits-joined c.self.inside move _ _ _ _ c.self.invariant c.in-Some.is is.src to is.apart c.index_mut.ensures.value c.remove_page.ensures c.index_mut-else-dst-eq0.ensures.value c.add_page.ensures other there.0 (within-both _ _ _ other _ _ there.1);
-      per_page = λ other there.
-          per_page-joined c.self.inside move _ _ _ _ c.self.invariant is.src to is.apart c.index_mut.ensures.value c.remove_page.ensures c.index_mut-else-dst-eq0.ensures.value c.add_page.ensures other there.0 (within-both _ _ _ other _ _ there.1);
     }
 
 pub returns-else-dst-eq0-clause-finished : goal.returns-else-dst-eq0-clause-finished

@@ -9,10 +9,11 @@ use Rattle.mc_pages.specs.SlabState.{SlabState, IsClass, class_at}
 use Rattle.mc_pages.specs.Changes.{next_page, after_grow, after_take, after_grant}
 use Rattle.mc_pages.specs.Accounted.{truth}
 use Rattle.mc_pages.specs.InOrder.{IsInOrder, AreKept, slabs_of, is_awaited}
-use Rattle.mc_pages.proofs.Promised.{pages_below, IsInOrder-after_take, IsInOrder-after_grant}
+use Rattle.mc_pages.proofs.Kept.{pages_below}
+use Rattle.mc_pages.proofs.KeptPages.{IsInOrder-after_take, IsInOrder-after_grant}
 use Rattle.mc_pages.proofs.Roomy.{if_ok}
 use Rattle.mc_pages.proofs.RoomySlabs.{Fits, states, read_state, with_roomy}
-use Rattle.mc_pages.proofs.RoomyGrow.{on_err, truth_le, truth_byte, grow_takes, grow_grants, take_is, grant_is, next_pooled, next_granted, fits-given, per_page-given, next_within, states_roomier, fits-roomier, per_page-roomier}
+use Rattle.mc_pages.proofs.RoomyGrow.{on_err, truth_le, truth_byte, grow_takes, grow_grants, take_is, grant_is, next_pooled, next_granted, fits-given, next_within, states_roomier, fits-roomier}
 use Rattle.mc_pages.proofs.slabs.Slabs.grow.Goals as goal
 use Rattle.mc_pages.proofs.slabs.Slabs.grow.Goals.{After-page_count, in-Some, in-None}
 
@@ -65,7 +66,6 @@ invariant_of-self-in_err-make_room c =
       ledger = omega (arith, c.self.invariant.ledger, c.in_ok-reserve.ensures.len, c.in_ok-reserve.ensures.capacity);
       pool = c.self.invariant.pool;
       classes = fits-roomier c.self.inside c.args.class _ c.make_room.new.self c.self.invariant is c.index_mut-slab.ensures.value c.in_err-make_room.ensures.state c.in_err-make_room.ensures.kept;
-      per_page = per_page-roomier c.self.inside c.args.class _ c.make_room.new.self c.self.invariant is c.index_mut-slab.ensures.value c.in_err-make_room.ensures.state;
     }
 
 pub returns-in_err-make_room-clause-refused : goal.returns-in_err-make_room-clause-refused
@@ -120,10 +120,6 @@ all_fit c =
     fits-given c.self.inside c.args.class c.in_ok-page.page _ c.make_room.new.self _ c.self.invariant (is_class here) c.index_mut-slab.ensures.value c.in_ok-make_room.ensures.state c.add_page.ensures
     (omega (arith, page_count here, awaited here, c.in_ok-make_room.ensures.ok))
 
-all_sized : (c : goal.After-self-4-1) (other : ℕ) → IsClass (slabs_of (with_roomy c.self.inside (c.args.class - 1) c.add_page.new.self)) other → (class_at (slabs_of (with_roomy c.self.inside (c.args.class - 1) c.add_page.new.self)) other).per_page ≤ 256
-all_sized c =
-    per_page-given c.self.inside c.args.class c.in_ok-page.page _ c.make_room.new.self _ c.self.invariant (is_class (goal.at.invariant_of-self-3 c).After-page_count) c.index_mut-slab.ensures.value c.in_ok-make_room.ensures.state c.add_page.ensures
-
 -- the whole where the page came out of the pool
 taken_is : (c : goal.After-self-4-1) → c.match-pop.self-inside ≡ taken_inside c → c.match-pop.entry ≡ Taken c.in_ok-page.page c.args.class → slabs_of (given c (taken_inside c)) ≡ after_take (slabs_of c.self.inside) c.args.class c.in_ok-page.page
 taken_is c is entry =
@@ -142,7 +138,6 @@ taken_kept c is entry some =
       ledger = ledger_fits c (ap (λ (i : Inside). vec_len i.ledger) is) (ap (λ (i : Inside). vec_capacity i.ledger) is);
       pool = omega (arith, c.self.invariant.pool, c.pop.ensures.len, c.pop.ensures.capacity);
       classes = all_fit c;
-      per_page = all_sized c;
     }
 
 -- the whole where the page was untouched
@@ -165,7 +160,6 @@ granted_kept c is entry none =
       ledger = ledger_fits c (ap (λ (i : Inside). vec_len i.ledger) is) (ap (λ (i : Inside). vec_capacity i.ledger) is);
       pool = omega (arith, c.self.invariant.pool, c.pop.ensures.len, c.pop.ensures.capacity);
       classes = all_fit c;
-      per_page = all_sized c;
     }
 
 pub invariant_of-self-3 : goal.invariant_of-self-3

@@ -6,7 +6,8 @@ use Rattle.mc_pages.specs.ClassState.{ClassState}
 use Rattle.mc_pages.specs.SlabState.{SlabState, IsClass, class_at, fresh_slabs}
 use Rattle.mc_pages.specs.InOrder.{IsInOrder}
 use Rattle.mc_pages.proofs.RoomySlabs.{states}
-use Rattle.mc_pages.proofs.RoomyFresh.{IsInOrder-fresh, per_page-fresh, pages-fresh, states-roomless}
+use Rattle.mc_pages.proofs.Fresh.{IsInOrder-fresh}
+use Rattle.mc_pages.proofs.RoomyFresh.{pages-fresh, states-roomless}
 use Rattle.mc_pages.proofs.slabs.Slabs.new.Goals as goal
 
 -- a whole of which nothing was granted
@@ -47,7 +48,6 @@ invariant_of-result c =
       ledger = omega (arith, c.new-2.ensures.len);
       pool = omega (arith, c.new.ensures.len);
       classes = λ class is. omega (arith, ap (λ (s : SlabState). length (class_at s class).pages) fresh, pages-fresh table class (subst (λ (s : SlabState). IsClass s class) fresh is));
-      per_page = λ class is. omega (arith, ap (λ (s : SlabState). (class_at s class).per_page) fresh, per_page-fresh table sound class (subst (λ (s : SlabState). IsClass s class) fresh is));
     }
 
 pub returns-clause-accounted : goal.returns-clause-accounted

@@ -4,7 +4,7 @@ use Rattle.mc_pages.specs.ClassState.{counted}
 use Rattle.mc_pages.specs.SlabState.{SlabState}
 use Rattle.mc_pages.specs.Moves.{is_held_up, after_passed, CanPass}
 use Rattle.mc_pages.specs.InOrder.{AreKept, slabs_of}
-use Rattle.mc_pages.proofs.Promised.{IsInOrder-after_passed}
+use Rattle.mc_pages.proofs.KeptMoves.{IsInOrder-after_passed}
 use Rattle.mc_pages.proofs.RoomyMoves.{held_up_le, position_below, passed_is, AreKept-passed}
 use Rattle.mc_pages.proofs.slabs.Slabs.passed.Goals as goal
 use Rattle.mc_pages.proofs.slabs.Slabs.passed.Goals.{After-self, in-Some, in_default}

@@ -3,7 +3,7 @@ use Rattle.mc_pages.specs.ClassState.{ClassState, popped, first_free}
 use Rattle.mc_pages.specs.SlabState.{SlabState, IsClass, class_at}
 use Rattle.mc_pages.specs.Changes.{after_pop}
 use Rattle.mc_pages.specs.InOrder.{slabs_of}
-use Rattle.mc_pages.proofs.Promised.{IsInOrder-after_pop}
+use Rattle.mc_pages.proofs.Kept.{IsInOrder-after_pop}
 use Rattle.mc_pages.proofs.RoomySlabs.{read_state, slabs_of-changed, AreKept-changed, Leaves-popped}
 use Rattle.mc_pages.proofs.slabs.Slabs.pop.Goals as goal
 

@@ -4,7 +4,8 @@ use Rattle.mc_pages.specs.ClassState.{ClassState, times, replaced}
 use Rattle.mc_pages.specs.SlabState.{SlabState, IsClass, class_of_page, class_of_chunk}
 use Rattle.mc_pages.specs.Changes.{after_replace}
 use Rattle.mc_pages.specs.InOrder.{slabs_of}
-use Rattle.mc_pages.proofs.Promised.{IsClass-handed_out, times_free_one, IsInOrder-after_replace}
+use Rattle.mc_pages.proofs.HandedOut.{IsClass-handed_out, times_free_one}
+use Rattle.mc_pages.proofs.Kept.{IsInOrder-after_replace}
 use Rattle.mc_pages.proofs.RoomySlabs.{read_state, slabs_of-changed, AreKept-changed}
 use Rattle.mc_pages.proofs.slabs.Slabs.replace.Goals as goal
 

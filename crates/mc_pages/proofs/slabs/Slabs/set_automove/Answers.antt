@@ -1,5 +1,5 @@
 use Rattle.mc_pages.specs.InOrder.{slabs_of}
-use Rattle.mc_pages.proofs.Promised.{IsInOrder-automove}
+use Rattle.mc_pages.proofs.KeptMoves.{IsInOrder-automove}
 use Rattle.mc_pages.proofs.slabs.Slabs.set_automove.Goals as goal
 
 pub invariant_of-self : goal.invariant_of-self
@@ -9,7 +9,6 @@ invariant_of-self c =
       ledger = c.self.invariant.ledger;
       pool = c.self.invariant.pool;
       classes = c.self.invariant.classes;
-      per_page = c.self.invariant.per_page;
     }
 
 pub returns-clause-accounted : goal.returns-clause-accounted

@@ -5,7 +5,8 @@ use Rattle.mc_pages.specs.Room.{RoomyClass}
 use Rattle.mc_pages.specs.SlabState.{SlabState, IsClass, class_of_page, class_of_chunk}
 use Rattle.mc_pages.specs.Changes.{after_touch}
 use Rattle.mc_pages.specs.InOrder.{slabs_of}
-use Rattle.mc_pages.proofs.Promised.{IsClass-handed_out, IsInOrder-after_touch}
+use Rattle.mc_pages.proofs.HandedOut.{IsClass-handed_out}
+use Rattle.mc_pages.proofs.Kept.{IsInOrder-after_touch}
 use Rattle.mc_pages.proofs.RoomySlabs.{read_state, slabs_of-changed, AreKept-changed}
 use Rattle.mc_pages.proofs.slabs.Slabs.touch.Goals as goal
 use Rattle.mc_pages.proofs.slabs.Slabs.touch.Goals.{Start, After-index_mut}

@@ -1,0 +1,83 @@
+-- What the code keeps of all pages and chunks, after a class got a page.
+use Rattle.std.proofs.Common.{◌≡◌, ℕ, ◌+◌, ◌-◌, ◌<◌, ◌==◌, true, false, List, [], ◌∷◌, ◌++◌, length, set, take, count_by, slice_index_or, Some, None, refl, sym, ap, ◌∙◌, inl, inr, arith, eq-eqb, ne_eqb, le_refl, take_all}
+use Rattle.std.proofs.lemmas.Bool.{cases_eq, cases_Bool, false≢true}
+use Rattle.std.proofs.lemmas.Option.{slice_get_within, get_or_from_slice_get}
+use Rattle.std.proofs.lemmas.List.Sums.{sum_by_more, get_or-le-sum_by}
+use Rattle.mc_pages.specs.declared.ledger.Owner.{Owner}
+use Rattle.mc_pages.specs.declared.ledger.Owner.TheVariants.{Untouched, Pool, Class}
+use Rattle.mc_pages.specs.declared.ledger.Owner.TheVariants as owner
+use Rattle.mc_pages.specs.declared.ledger.Entry.TheVariants.{Granted, Taken}
+use Rattle.mc_pages.specs.Ledger.{owner_at, fits}
+use Rattle.mc_pages.specs.SlabState.{SlabState, IsClass, is_untouched}
+use Rattle.mc_pages.specs.Changes.{with_given, pooled_page, after_grant, after_take}
+use Rattle.mc_pages.specs.Accounted.{truth, is_of_class, is_pool, is_moving, IsAccounted}
+use Rattle.mc_pages.specs.InOrder.{IsInOrder}
+use Rattle.mc_pages.proofs.Owners.{owner_at-set_same, owner_at-set_other, within_from_owned, AreGranted-more, AreGranted-set}
+use Rattle.mc_pages.proofs.Placed.{ArePlaced_from, IsAccounted-entry}
+use Rattle.mc_pages.proofs.GivenPage.{IsNoClass, owner-set_alike, ArePlaced-given}
+use Rattle.mc_pages.proofs.Steady.{IsSteady_from, IsInOrder-given}
+
+-- an untouched page is given to a class
+pub IsInOrder-after_grant : (slabs : SlabState) (granted given : ℕ) → IsInOrder slabs granted → IsClass slabs given → slabs.uncut ≡ None → granted < length slabs.owners → IsInOrder (after_grant slabs given granted) (granted + 1)
+IsInOrder-after_grant slabs granted given kept is whole within =
+    let untouched = kept.lowest.rest granted (le_refl granted) in
+    let free : IsNoClass (owner_at slabs.owners granted) = record { of_class = λ class. ap (λ (o : Owner). is_of_class class o) untouched; still = ap is_moving untouched } in
+    let pooled = λ (other : ℕ). kept.accounted.pool other ∙ ap truth (sym (owner-set_alike is_pool slabs.owners granted other (Class given) within (sym (ap is_pool untouched)))) in
+    let placed = ArePlaced-given slabs given granted slabs.pool (ArePlaced_from slabs kept.accounted) is whole within free pooled in
+    let all = IsAccounted-entry slabs (with_given slabs given granted) (Granted granted given) (Class given) kept.accounted within (ap (λ (o : Owner). fits (Granted granted given) o) untouched) refl placed in
+    IsInOrder-given slabs (granted + 1) given granted slabs.moved slabs.pool (slabs.ledger ++ Granted granted given ∷ []) (IsSteady_from slabs granted kept) is within all (AreGranted-more slabs.owners granted (Class given) kept.lowest within refl)
+
+-- the owner of a page in the pool
+Pool-from_is_pool : (owner : Owner) → is_pool owner ≡ true → owner ≡ Pool
+Pool-from_is_pool Untouched h = absurd (false≢true h)
+Pool-from_is_pool Pool h = refl
+Pool-from_is_pool (Class own) h = absurd (false≢true h)
+Pool-from_is_pool (owner.Moving src dst) h = absurd (false≢true h)
+
+-- a page that is the last of the pool is owned by the pool
+pub owner_of_pooled : (slabs : SlabState) (page : ℕ) → IsAccounted slabs → pooled_page slabs ≡ Some page → owner_at slabs.owners page ≡ Pool
+owner_of_pooled slabs page all h =
+    let place = length slabs.pool - 1 in
+    let within = slice_get_within slabs.pool place page h in
+    let at = get_or_from_slice_get slabs.pool place page 0 h in
+    let here : truth (slice_index_or slabs.pool place 0 == page) ≡ 1 = ap truth (eq-eqb _ page at) in
+    let counted = get_or-le-sum_by (λ p. truth (p == page)) slabs.pool place 0 within in
+    elim (cases_Bool (is_pool (owner_at slabs.owners page))) [
+      | inl pool ↦ Pool-from_is_pool _ pool
+      | inr other ↦ absurd (omega (arith, all.pool page, counted, here, ap truth other))
+    ]
+
+-- the pool without its last page
+pool-taken : (slabs : SlabState) (given page : ℕ) → IsAccounted slabs → pooled_page slabs ≡ Some page → page < length slabs.owners → owner_at slabs.owners page ≡ Pool → (other : ℕ) → count_by (λ p. p == other) (take (length slabs.pool - 1) slabs.pool) ≡ truth (is_pool (owner_at (set slabs.owners page (Class given)) other))
+pool-taken slabs given page all h inside owned other =
+    let place = length slabs.pool - 1 in
+    let within = slice_get_within slabs.pool place page h in
+    let at = get_or_from_slice_get slabs.pool place page 0 h in
+    let more = sum_by_more (λ p. truth (p == other)) slabs.pool place 0 within in
+    let long : place + 1 ≡ length slabs.pool = omega arith in
+    let whole = ap (λ (n : ℕ). count_by (λ p. p == other) (take n slabs.pool)) long ∙ ap (λ (ps : List ℕ). count_by (λ p. p == other) ps) (take_all (length slabs.pool) slabs.pool (le_refl (length slabs.pool))) in
+    let last = ap (λ (p : ℕ). truth (p == other)) at in
+    let pooled = λ (o : Owner). truth (is_pool o) in
+    elim (cases_eq other page) [
+      | inl same ↦
+          let now = ap (λ (p : ℕ). pooled (owner_at (set slabs.owners page (Class given)) p)) same ∙ ap pooled (owner_at-set_same slabs.owners page (Class given) inside) in
+          let was = ap (λ (p : ℕ). pooled (owner_at slabs.owners p)) same ∙ ap pooled owned in
+          omega (arith, more, whole, last, now, was, all.pool other, ap truth (eq-eqb page other (sym same)))
+      | inr differs ↦
+          let now = ap pooled (owner_at-set_other slabs.owners page other (Class given) differs) in
+          omega (arith, more, whole, last, now, all.pool other, ap truth (ne_eqb page other (λ e. differs (sym e))))
+    ]
+
+-- the last page of the pool is given to a class
+pub IsInOrder-after_take : (slabs : SlabState) (granted given page : ℕ) → IsInOrder slabs granted → IsClass slabs given → slabs.uncut ≡ None → pooled_page slabs ≡ Some page → IsInOrder (after_take slabs given page) granted
+IsInOrder-after_take slabs granted given page kept is whole h =
+    let all = kept.accounted in
+    let owned = owner_of_pooled slabs page all h in
+    let touched : is_untouched (owner_at slabs.owners page) ≡ false = ap is_untouched owned in
+    let within = within_from_owned page slabs.owners (λ e. absurd (false≢true (sym touched ∙ ap is_untouched e))) in
+    let free : IsNoClass (owner_at slabs.owners page) = record { of_class = λ class. ap (λ (o : Owner). is_of_class class o) owned; still = ap is_moving owned } in
+    let pool = take (length slabs.pool - 1) slabs.pool in
+    let placed = ArePlaced-given slabs given page pool (ArePlaced_from slabs all) is whole within free (pool-taken slabs given page all h within owned) in
+    let new : SlabState = record (with_given slabs given page) { pool = pool } in
+    let after = IsAccounted-entry slabs new (Taken page given) (Class given) all within (ap (λ (o : Owner). fits (Taken page given) o) owned) refl placed in
+    IsInOrder-given slabs granted given page slabs.moved pool (slabs.ledger ++ Taken page given ∷ []) (IsSteady_from slabs granted kept) is within after (AreGranted-set slabs.owners granted page (Class given) kept.lowest touched refl)
