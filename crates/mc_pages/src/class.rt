@@ -76,10 +76,10 @@ impl SlabClass {
         ensures chunk { result ≡ first_free self.old.state }
         ensures popped { self.new ≡ in_state self.old (popped self.old.state) }
     {
-        let chunk = self.free.pop()?;
-        // The list has room for every chunk of the pages, so this can't fail, and neither can the pushes below.
-        self.order.push(chunk).unwrap();
-        Some(chunk)
+        let head = self.free.pop()?;
+        // The list has room for every chunk of the pages.
+        self.order.push(head).unwrap();
+        Some(head)
     }
 
     /// Takes a handed-out chunk back: it goes to the head of the free list.
@@ -196,6 +196,18 @@ impl SlabClass {
             free: self.free.len() as u64,
             evictions: self.evictions,
         }
+    }
+}
+
+#[cfg(test)]
+impl SlabClass {
+    ghost use Rattle.std.specs.Prelude.{IsTrue, ◌↔◌};
+
+    /// The chunk stands in a list.
+    pub(crate) fn has(&self, chunk: ChunkId) -> bool
+        ensures { IsTrue result ↔ (1 ≤ times chunk self.now.state.free + times chunk self.now.state.order) }
+    {
+        place_of(&self.free, chunk).is_some() || place_of(&self.order, chunk).is_some()
     }
 }
 
