@@ -130,13 +130,13 @@ impl Driven {
         self.slabs.begin_move(src, dst)
     }
 
-    /// The chunk at the move's position is held by somebody, or is cleared unless it is already; the position goes on.
-    /// None where no page moves, one isn't cut yet, or the pass is at the page's end.
-    pub(super) fn pass(&mut self, is_held: bool) -> Option<Found> {
-        let found = if is_held {
-            Found::Busy
+    /// The mover finds this at its position, or `Already` where the chunk is cleared and nothing holds it up. It clears
+    /// the chunk unless it is held up, and the position goes on. None at the page's end, or where no page moves.
+    pub(super) fn pass(&mut self, wanted: Found) -> Option<Found> {
+        let found = if wanted.held_up() == 1 {
+            wanted
         } else {
-            self.clear()?
+            self.clear(wanted)?
         };
         if !self.can_pass(found) {
             return None;
@@ -147,14 +147,14 @@ impl Driven {
 
     /// Clears the chunk at the move's position.
     #[tactic(auto, using(crate::proofs::RoomyTests::moving_class, crate::proofs::RoomyTests::placed_looked))]
-    fn clear(&mut self) -> Option<Found> {
+    fn clear(&mut self, wanted: Found) -> Option<Found> {
         let moving = self.slabs.moving()?;
         let chunk = chunk_at(moving);
         if !has(&self.slabs, moving.src, chunk) {
             return Some(Found::Already);
         }
         self.slabs.clear(chunk);
-        Some(Found::Cleared)
+        Some(wanted)
     }
 
     #[tactic(auto, using(crate::proofs::RoomyTests::moving_class, crate::proofs::RoomyTests::can_pass_looked))]
@@ -218,6 +218,19 @@ impl Driven {
         } else {
             None
         }
+    }
+
+    /// Whether the mode was set: it is one of three.
+    pub(super) fn set_automove(&mut self, mode: u64) -> bool {
+        let is = mode <= 2;
+        if is {
+            self.slabs.set_automove(mode);
+        }
+        is
+    }
+
+    pub(super) fn automove(&self) -> u64 {
+        self.slabs.automove()
     }
 
     pub(super) fn moving(&self) -> Option<Moving> {

@@ -128,11 +128,11 @@ invariant_of-self-2 c =
           let read = read_state c.self.inside c.args.dst _ _ is refl w.index_mut-slab.ensures.value in
           subst kept (sym w.self-inside-is) (record {
             order = subst (λ (s : SlabState). IsInOrder s c.self.inside.granted)
-            (sym (began_is c _ w.self-inside-is c.in_ok-reserve.ensures.items _ _ (states_roomier c.self.inside c.args.dst _ w.make_room.new.self is w.index_mut-slab.ensures.value w.in_ok-make_room.ensures.state) refl)) order;
+                (sym (began_is c _ w.self-inside-is c.in_ok-reserve.ensures.items _ _ (states_roomier c.self.inside c.args.dst _ w.make_room.new.self is w.index_mut-slab.ensures.value w.in_ok-make_room.ensures.state) refl)) order;
             ledger = ledger_fits c (ap (λ (i : Inside). vec_len i.ledger) w.self-inside-is) (ap (λ (i : Inside). vec_capacity i.ledger) w.self-inside-is);
             pool = omega (arith, c.self.invariant.pool, not_awaited c.args.dst 0 w.if-dst-eq0.false);
             classes = fits-to_class c.self.inside c.args.dst _ w.make_room.new.self c.self.invariant is w.index_mut-slab.ensures.value w.in_ok-make_room.ensures.state
-            (omega (arith, w.page_count.ensures, ap (λ (class : ClassState). length class.pages) read, w.in_ok-make_room.ensures.ok));
+                (omega (arith, w.page_count.ensures, ap (λ (class : ClassState). length class.pages) read, w.in_ok-make_room.ensures.ok));
           })
     ]
 
