@@ -1,15 +1,14 @@
 -- What the tests' look at a slab memory says of it.
-use Rattle.std.proofs.Common.{◌≡◌, ℕ, ◌+◌, ◌<◌, ◌≤◌, ◌&&◌, ◌==◌, ◌↔◌, IsTrue, Bool, true, false, nat_lt, List, length, Option, Some, None, is_some, refl, sym, ap, ◌∙◌, subst, inl, inr, arith, Contains, position, slice_get, eq-eqb, lt-ltb}
-use Rattle.std.specs.List.{remove}
-use Rattle.std.proofs.lemmas.Bool.{cases_lt, cases_Bool, and_from, false≢true}
+use Rattle.std.proofs.Common.{◌≡◌, ℕ, ◌<◌, ◌≤◌, ◌↔◌, IsTrue, Bool, true, false, nat_lt, List, length, Option, Some, None, is_some, refl, sym, ap, ◌∙◌, subst, inl, inr, arith, Contains, position, slice_get, eq-eqb, lt-ltb}
+use Rattle.std.proofs.lemmas.Bool.{cases_lt, and_from, false≢true}
 use Rattle.std.proofs.lemmas.List.Edits.{length-remove}
 use Rattle.mc_pages.specs.declared.ids.ChunkId.{ChunkId}
 use Rattle.mc_pages.specs.declared.ids.Moving.{Moving}
 use Rattle.mc_pages.specs.declared.moves.Found.{Found}
 use Rattle.mc_pages.specs.Ledger.{owner_at}
-use Rattle.mc_pages.specs.ClassState.{is_chunk, times, without}
+use Rattle.mc_pages.specs.ClassState.{is_chunk, times}
 use Rattle.mc_pages.specs.SlabState.{SlabState, IsClass, class_at, class_of_page, class_of_chunk}
-use Rattle.mc_pages.specs.Accounted.{truth, is_of_class, cut_count, is_cut, is_cleared, places_in, IsAccounted}
+use Rattle.mc_pages.specs.Accounted.{truth, is_of_class, cut_count, is_cut, places_in, IsAccounted}
 use Rattle.mc_pages.specs.Moves.{is_held_up, chunk_at_position, CanPass}
 use Rattle.mc_pages.proofs.Chunks.{Contains_from_slice_get, length-without}
 use Rattle.mc_pages.proofs.HandedOut.{class_of_placed, class_of_handed_out}

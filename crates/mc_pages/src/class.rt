@@ -199,18 +199,6 @@ impl SlabClass {
     }
 }
 
-#[cfg(test)]
-impl SlabClass {
-    ghost use Rattle.std.specs.Prelude.{IsTrue, ◌↔◌};
-
-    /// The chunk stands in a list.
-    pub(crate) fn has(&self, chunk: ChunkId) -> bool
-        ensures { IsTrue result ↔ (1 ≤ times chunk self.now.state.free + times chunk self.now.state.order) }
-    {
-        place_of(&self.free, chunk).is_some() || place_of(&self.order, chunk).is_some()
-    }
-}
-
 /// Removes the first place of the chunk, if it has one.
 fn take_out(chunks: &mut Vec<ChunkId>, chunk: ChunkId)
     ensures items { chunks.new.items ≡ without chunk chunks.old.items }
@@ -248,3 +236,6 @@ fn reserve_in_all(chunks: &mut Vec<ChunkId>, count: usize) -> Result<(), AllocEr
 {
     chunks.reserve(count.saturating_sub(chunks.len()))
 }
+
+#[cfg(test)]
+pub(crate) mod tests;

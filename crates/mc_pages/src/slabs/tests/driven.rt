@@ -297,7 +297,7 @@ fn has(slabs: &Slabs, class: ClassId, chunk: ChunkId) -> bool
     requires { IsClass slabs.now class }
     ensures { IsTrue result ↔ (1 ≤ places_in slabs.now class chunk) }
 {
-    slabs.classes[class as usize - 1].has(chunk)
+    crate::class::tests::has(&slabs.classes[class as usize - 1], chunk)
 }
 
 /// How many chunks a page of the class has.

@@ -13,7 +13,7 @@ use Rattle.mc_pages.proofs.Kept.{pages_below}
 use Rattle.mc_pages.proofs.KeptMoves.{first_page_within, IsInOrder-after_begin}
 use Rattle.mc_pages.proofs.Source.{source_is}
 use Rattle.mc_pages.proofs.Roomy.{if_ok}
-use Rattle.mc_pages.proofs.RoomySlabs.{states, read_state}
+use Rattle.mc_pages.proofs.RoomySlabs.{states, length-states, read_state}
 use Rattle.mc_pages.proofs.RoomyGrow.{on_err, truth_le, states_roomier, fits-roomier}
 use Rattle.mc_pages.proofs.RoomyMoves.{if_ok_at, begun_with, begun_is, not_awaited, fits-to_pool, fits-to_class}
 use Rattle.mc_pages.proofs.slabs.Slabs.begin_move.Goals as goal
@@ -26,6 +26,11 @@ answer_is c = ap (λ (s : SlabState). answer_of s c.args.src c.args.dst) c.self.
 -- a destination that isn't the pool is one of the classes
 is_class : (c : After-reserve) → c.args.dst ≢ 0 → IsClass (slabs_of c.self.inside) c.args.dst
 is_class c some = (omega arith, (source_is (slabs_of c.self.inside) c.args.src c.in_ok-source.source c.args.dst (answer_is c)).2)
+
+pub index_mut-slab-requires : goal.index_mut-slab-requires
+index_mut-slab-requires c =
+    let is = is_class (goal.at.index_mut-slab-requires c).After-reserve c.if-dst-eq0.false in
+    omega (arith, is.0, length-states c.self.inside c.args.dst is)
 
 -- how many pages the destination has
 page_count : (c : After-page_count) → c.page_count.result ≡ length (class_at (slabs_of c.self.inside) c.args.dst).pages
