@@ -28,3 +28,4 @@ pub mod RoomyFresh
 pub mod RoomyGrow
 pub mod RoomyMoves
 pub mod RoomyFinish
+pub mod RoomyTests

@@ -1,9 +1,9 @@
 -- The lists of one class as its code changes them, and the room that they have.
-use Rattle.std.proofs.Common.{◌≡◌, ℕ, ◌+◌, ◌*◌, ◌<◌, ◌≤◌, true, false, cond, not, List, [], ◌∷◌, ◌++◌, length, take, reverse, Option, Some, None, refl, sym, ap, ap₂, ◌∙◌, inl, inr, arith, position, lt-ltb, le-ltb, take_all, length-append, append-nil, zero-add, one-add, suc, drop, Result, Ok, is_ok, if◌then◌else◌, vec_len, vec_capacity}
+use Rattle.std.proofs.Common.{◌≡◌, ℕ, ◌+◌, ◌*◌, ◌<◌, ◌≤◌, true, false, cond, not, List, [], ◌∷◌, ◌++◌, length, reverse, Some, None, refl, sym, ap, ap₂, ◌∙◌, inl, inr, arith, position, lt-ltb, le-ltb, take_all, append-nil, one-add, suc, Result, Ok, is_ok, if◌then◌else◌, vec_len}
 use Rattle.std.specs.List.{position_or_len, remove, insert}
 use Rattle.std.proofs.Math.Nat.{mul-le-mul_right}
 use Rattle.std.proofs.lemmas.Bool.{cases_lt, cases_Bool}
-use Rattle.std.proofs.lemmas.List.{drop_all, length-reverse, reverse-append}
+use Rattle.std.proofs.lemmas.List.{drop_all, reverse-append}
 use Rattle.mc_pages.specs.declared.ids.ChunkId.{ChunkId}
 use Rattle.mc_pages.specs.ClassState.{is_chunk, times, without, with_before}
 use Rattle.mc_pages.specs.declared.class.SlabClass.TheInside.{Inside}

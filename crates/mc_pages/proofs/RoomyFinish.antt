@@ -1,6 +1,6 @@
 -- The end of a move, for which room was kept.
-use Rattle.std.proofs.Common.{◌≡◌, ◌≢◌, ℕ, ◌+◌, ◌-◌, ◌*◌, ◌<◌, ◌≤◌, ◌==◌, not, List, [], ◌∷◌, ◌++◌, length, filter, set, slice_index_or, Option, Some, None, is_some, if◌then◌else◌, refl, sym, ap, ap₂, ◌∙◌, subst, arith, eq-eqb, ne_eqb, length-append, length-set, get_or-set_other, Bool}
-use Rattle.std.proofs.lemmas.List.{set-set, length-map}
+use Rattle.std.proofs.Common.{◌≡◌, ◌≢◌, ℕ, ◌-◌, ◌<◌, ◌≤◌, ◌==◌, not, List, [], ◌∷◌, ◌++◌, length, set, slice_index_or, Option, Some, None, if◌then◌else◌, refl, sym, ap, ap₂, ◌∙◌, subst, arith, eq-eqb, ne_eqb, length-append, length-set, get_or-set_other, Bool}
+use Rattle.std.proofs.lemmas.List.{set-set}
 use Rattle.std.proofs.lemmas.List.Sums.{length-filter, count_by-le-length}
 use Rattle.mc_pages.specs.declared.ids.Moving.{Moving}
 use Rattle.mc_pages.specs.declared.ledger.Owner.{Owner}
@@ -9,16 +9,15 @@ use Rattle.mc_pages.specs.declared.ledger.Owner.TheVariants as owner
 use Rattle.mc_pages.specs.declared.ledger.Entry.{Entry}
 use Rattle.mc_pages.specs.declared.ledger.Entry.TheVariants.{Ended}
 use Rattle.mc_pages.specs.declared.slabs.Slabs.TheInside.{Inside}
-use Rattle.mc_pages.specs.Ledger.{owner_at}
 use Rattle.mc_pages.specs.ClassState.{ClassState, counted, with_page, without_page}
 use Rattle.mc_pages.specs.Room.{RoomyClass, in_state}
 use Rattle.mc_pages.specs.SlabState.{SlabState, IsClass, class_at}
 use Rattle.mc_pages.specs.Changes.{with_class, with_given}
-use Rattle.mc_pages.specs.Moves.{released, arrived, finished}
+use Rattle.mc_pages.specs.Moves.{released, finished}
 use Rattle.mc_pages.specs.Accounted.{truth, IsMove}
-use Rattle.mc_pages.specs.InOrder.{IsInOrder, AreKept, slabs_of, room_at, is_awaited}
+use Rattle.mc_pages.specs.InOrder.{AreKept, slabs_of, is_awaited}
 use Rattle.mc_pages.proofs.Owners.{within_from_owned}
-use Rattle.mc_pages.proofs.RoomySlabs.{states, state_at, roomy_at, state_at-roomy, roomy_at_read, Fits, Fits-set, IsClass-set, length-states, read_state, read_room, with_roomy, slabs_of-changed}
+use Rattle.mc_pages.proofs.RoomySlabs.{states, roomy_at, state_at-roomy, roomy_at_read, Fits, Fits-set, IsClass-set, length-states, read_state, read_room, with_roomy, slabs_of-changed}
 
 -- what a moving page's owner is says that it is one of the pages
 pub moving_within : (slabs : SlabState) (move : Moving) → IsMove slabs move → move.page < length slabs.owners

@@ -1,7 +1,7 @@
 -- No page is granted yet, and no room is kept.
-use Rattle.std.proofs.Common.{◌≡◌, ℕ, ◌-◌, ◌/◌, ◌≤◌, List, [], ◌∷◌, length, map, refl, ap, arith}
+use Rattle.std.proofs.Common.{◌≡◌, ℕ, ◌-◌, ◌/◌, List, [], ◌∷◌, length, refl, ap, arith}
 use Rattle.std.proofs.lemmas.List.{get_or-map, length-map}
-use Rattle.mc_classes.specs.Classes.{Classes, size_of, per_page_of}
+use Rattle.mc_classes.specs.Classes.{Classes}
 use Rattle.mc_pages.specs.ClassState.{ClassState, new_class}
 use Rattle.mc_pages.specs.SlabState.{IsClass, class_at, fresh_slabs}
 use Rattle.mc_pages.specs.InOrder.{roomless}

@@ -1,8 +1,8 @@
 -- A page that is given to a class, with the room that is made for it.
-use Rattle.std.proofs.Common.{◌≡◌, ◌≢◌, ℕ, ◌+◌, ◌-◌, ◌<◌, ◌≤◌, ◌==◌, true, false, List, [], ◌∷◌, ◌++◌, length, map, set, take, count_by, slice_get, slice_index_or, Option, Some, None, if◌then◌else◌, nat_lt, refl, sym, ap, ap₂, ◌∙◌, subst, inl, inr, arith, lt-ltb, le-ltb, eq-eqb, length-set, length-append, Bool, Result, Ok, Err, OnErr}
+use Rattle.std.proofs.Common.{◌≡◌, ℕ, ◌+◌, ◌-◌, ◌<◌, ◌≤◌, ◌==◌, true, false, List, [], ◌∷◌, ◌++◌, length, set, take, slice_index_or, Option, Some, None, if◌then◌else◌, refl, sym, ap, ap₂, ◌∙◌, inl, inr, arith, lt-ltb, le-ltb, eq-eqb, length-append, Bool, Result, Ok, Err, OnErr}
 use mir.Val.{bool_byte}
 use Rattle.std.specs.Option.{option_or}
-use Rattle.std.proofs.lemmas.Bool.{cases_lt, cases_Bool, false≢true}
+use Rattle.std.proofs.lemmas.Bool.{cases_lt}
 use Rattle.std.proofs.lemmas.List.{map-set, set-get_or}
 use Rattle.std.proofs.lemmas.List.Sums.{get_or-le-sum_by}
 use Rattle.std.proofs.lemmas.Option.{slice_get_past, slice_get-get_or}
@@ -11,13 +11,12 @@ use Rattle.mc_pages.specs.declared.ledger.Owner.TheVariants.{Class}
 use Rattle.mc_pages.specs.declared.ledger.Entry.{Entry}
 use Rattle.mc_pages.specs.declared.ledger.Entry.TheVariants.{Granted, Taken}
 use Rattle.mc_pages.specs.declared.slabs.Slabs.TheInside.{Inside}
-use Rattle.mc_pages.specs.Ledger.{owner_at}
 use Rattle.mc_pages.specs.ClassState.{ClassState, new_class, with_page}
 use Rattle.mc_pages.specs.Room.{RoomyClass, in_state}
 use Rattle.mc_pages.specs.SlabState.{SlabState, IsClass, class_at, untouched_page}
 use Rattle.mc_pages.specs.Changes.{pooled_page, next_page, after_grant, after_take, after_grow}
 use Rattle.mc_pages.specs.Accounted.{truth, is_pool, IsAccounted}
-use Rattle.mc_pages.specs.InOrder.{IsInOrder, AreKept, slabs_of, room_at, is_awaited}
+use Rattle.mc_pages.specs.InOrder.{IsInOrder, AreKept, slabs_of, is_awaited}
 use Rattle.mc_pages.proofs.Owners.{position-AreGranted, position-AreGranted_all, within_from_owned}
 use Rattle.mc_pages.proofs.RoomySlabs.{states, Fits, Fits-set, IsClass-set, length-states, read_state, read_room, with_roomy, fits-changed}
 

@@ -1,5 +1,5 @@
 -- The steps of a move, with the room that is kept for its end.
-use Rattle.std.proofs.Common.{◌≡◌, ◌≢◌, ℕ, ◌+◌, ◌-◌, ◌<◌, ◌≤◌, ◌==◌, List, [], ◌∷◌, ◌++◌, length, set, slice_index_or, Result, Ok, IfOk, ne_eqb, Bool, true, false, Option, Some, None, is_some, if◌then◌else◌, refl, sym, ap, ap₂, ◌∙◌, subst, arith}
+use Rattle.std.proofs.Common.{◌≡◌, ◌≢◌, ℕ, ◌+◌, ◌-◌, ◌<◌, ◌≤◌, ◌==◌, List, [], ◌∷◌, ◌++◌, length, set, slice_index_or, Result, Ok, IfOk, ne_eqb, Bool, true, false, Option, Some, is_some, if◌then◌else◌, refl, sym, ap, ap₂, ◌∙◌, subst, arith}
 use Rattle.std.specs.Option.{option_map}
 use Rattle.mc_pages.specs.declared.ids.Moving.{Moving}
 use Rattle.mc_pages.specs.declared.ledger.Owner.TheVariants as owner
@@ -12,7 +12,7 @@ use Rattle.mc_pages.specs.Room.{RoomyClass}
 use Rattle.mc_pages.specs.SlabState.{SlabState, IsClass, class_at}
 use Rattle.mc_pages.specs.Answer.{cursor_after}
 use Rattle.mc_pages.specs.Accounted.{truth}
-use Rattle.mc_pages.specs.Moves.{is_held_up, rescued_of, evicted_of, moved_on, first_page, with_move, after_begin, after_passed, CanPass}
+use Rattle.mc_pages.specs.Moves.{is_held_up, rescued_of, evicted_of, moved_on, first_page, with_move, after_begin, after_passed, after_wrap, begun_anew, busy_of, CanPass}
 use Rattle.mc_pages.specs.InOrder.{IsInOrder, AreKept, slabs_of, is_awaited}
 use Rattle.mc_pages.proofs.RoomySlabs.{Fits, Fits-set, IsClass-set, length-states, read_state, with_roomy}
 use Rattle.mc_pages.proofs.RoomyGrow.{truth_le}
@@ -57,6 +57,27 @@ AreKept-passed slabs found m held rescues nomem runs held_is rescues_is nomem_is
     let awaited = λ (class : ℕ). ap (λ (o : Option Moving). truth (is_awaited o class)) runs in
     record {
       order = subst (λ (s : SlabState). IsInOrder s slabs.granted) (sym (passed_is slabs found m held rescues nomem runs held_is rescues_is nomem_is)) order;
+      ledger = omega (arith, kept.ledger, ap (λ (o : Option Moving). truth (is_some o)) runs);
+      pool = omega (arith, kept.pool, awaited 0);
+      classes = λ class is. omega (arith, kept.classes class is, awaited class);
+    }
+
+-- the whole after the pass began anew, as the code leaves it
+abbrev pub with_wrapped : Inside → Moving → ℕ → Inside
+with_wrapped slabs m busy = record slabs { busy = busy; moving = Some (record m { at = 0; busy = 0 }) }
+
+-- and as its callers see it
+pub wrapped_is : (slabs : Inside) (m : Moving) (busy : ℕ) → slabs.moving ≡ Some m → busy ≡ counted slabs.busy m.busy → slabs_of (with_wrapped slabs m busy) ≡ after_wrap (slabs_of slabs)
+wrapped_is slabs m busy runs busy_is =
+    let anew = λ (o : Option Moving). record (slabs_of slabs) { busy = counted slabs.busy (busy_of o); moving = option_map begun_anew o } in
+    ap (λ (n : ℕ). record (slabs_of slabs) { busy = n; moving = Some (begun_anew m) }) busy_is ∙ ap anew (sym runs)
+
+-- the room for the end of the move is kept
+pub AreKept-wrapped : (slabs : Inside) (m : Moving) (busy : ℕ) → slabs.moving ≡ Some m → busy ≡ counted slabs.busy m.busy → AreKept slabs → IsInOrder (after_wrap (slabs_of slabs)) slabs.granted → AreKept (with_wrapped slabs m busy)
+AreKept-wrapped slabs m busy runs busy_is kept order =
+    let awaited = λ (class : ℕ). ap (λ (o : Option Moving). truth (is_awaited o class)) runs in
+    record {
+      order = subst (λ (s : SlabState). IsInOrder s slabs.granted) (sym (wrapped_is slabs m busy runs busy_is)) order;
       ledger = omega (arith, kept.ledger, ap (λ (o : Option Moving). truth (is_some o)) runs);
       pool = omega (arith, kept.pool, awaited 0);
       classes = λ class is. omega (arith, kept.classes class is, awaited class);

@@ -94,32 +94,27 @@ slabs_of-changed slabs class place read new f is at h changed =
     ap (λ (cs : List ClassState). record (slabs_of slabs) { classes = cs }) (map-set (λ (c : RoomyClass). c.state) slabs.classes.items place new)
     ∙ ap₂ (λ (n : ℕ) (c : ClassState). record (slabs_of slabs) { classes = set (slabs_of slabs).classes n c }) at state
 
--- a change that leaves how many pages the class has, and how many chunks each has
-pub record Leaves (old new : ClassState) : Type 0 where
-  pub pages : length new.pages ≡ length old.pages
-  pub per_page : new.per_page ≡ old.per_page
-
 -- there is room in each class after a change of one that leaves its pages
-pub fits-changed_by : (slabs : Inside) (class place : ℕ) (read new : RoomyClass) (f : ClassState → ClassState) → AreKept slabs → IsClass (slabs_of slabs) class → place ≡ class - 1 → read ≡ slice_index_or slabs.classes.items place read → new ≡ in_state read (f read.state) → Leaves (class_at (slabs_of slabs) class) (f (class_at (slabs_of slabs) class)) → (other : ℕ) → IsClass (slabs_of (with_roomy slabs place new)) other → Fits (set slabs.classes.items place new) (truth (is_awaited slabs.moving other)) other
-fits-changed_by slabs class place read new f kept is at h changed leaves =
+pub fits-changed_by : (slabs : Inside) (class place : ℕ) (read new : RoomyClass) (f : ClassState → ClassState) → AreKept slabs → IsClass (slabs_of slabs) class → place ≡ class - 1 → read ≡ slice_index_or slabs.classes.items place read → new ≡ in_state read (f read.state) → length (f (class_at (slabs_of slabs) class)).pages ≡ length (class_at (slabs_of slabs) class).pages → (other : ℕ) → IsClass (slabs_of (with_roomy slabs place new)) other → Fits (set slabs.classes.items place new) (truth (is_awaited slabs.moving other)) other
+fits-changed_by slabs class place read new f kept is at h changed pages =
     let state : new.state ≡ f (class_at (slabs_of slabs) class) = ap (λ (c : RoomyClass). c.state) changed ∙ ap f (read_state slabs class place read is at h) in
     let room : new.room ≡ room_at slabs.classes.items class = ap (λ (c : RoomyClass). c.room) changed ∙ read_room slabs class place read is at h in
-    fits-changed slabs class place new kept is at (ap (λ (c : ClassState). length c.pages) state ∙ leaves.pages) (omega arith)
+    fits-changed slabs class place new kept is at (ap (λ (c : ClassState). length c.pages) state ∙ pages) (omega arith)
 
 -- all is kept after a change of one class that leaves its pages
-pub AreKept-changed : (slabs : Inside) (class place : ℕ) (read new : RoomyClass) (f : ClassState → ClassState) → AreKept slabs → IsClass (slabs_of slabs) class → place ≡ class - 1 → read ≡ slice_index_or slabs.classes.items place read → new ≡ in_state read (f read.state) → Leaves (class_at (slabs_of slabs) class) (f (class_at (slabs_of slabs) class)) → IsInOrder (with_class (slabs_of slabs) class (f (class_at (slabs_of slabs) class))) slabs.granted → AreKept (with_roomy slabs place new)
-AreKept-changed slabs class place read new f kept is at h changed leaves order =
+pub AreKept-changed : (slabs : Inside) (class place : ℕ) (read new : RoomyClass) (f : ClassState → ClassState) → AreKept slabs → IsClass (slabs_of slabs) class → place ≡ class - 1 → read ≡ slice_index_or slabs.classes.items place read → new ≡ in_state read (f read.state) → length (f (class_at (slabs_of slabs) class)).pages ≡ length (class_at (slabs_of slabs) class).pages → IsInOrder (with_class (slabs_of slabs) class (f (class_at (slabs_of slabs) class))) slabs.granted → AreKept (with_roomy slabs place new)
+AreKept-changed slabs class place read new f kept is at h changed pages order =
     record {
       order = subst (λ (s : SlabState). IsInOrder s slabs.granted) (sym (slabs_of-changed slabs class place read new f is at h changed)) order;
       ledger = kept.ledger;
       pool = kept.pool;
-      classes = fits-changed_by slabs class place read new f kept is at h changed leaves;
+      classes = fits-changed_by slabs class place read new f kept is at h changed pages;
     }
 
 -- a chunk that is handed out leaves the pages
-Leaves-handed_out : (class : ClassState) (free : List ChunkId) → Leaves class (handed_out class free)
-Leaves-handed_out class [] = record { pages = refl; per_page = refl }
-Leaves-handed_out class (chunk ∷ free) = record { pages = refl; per_page = refl }
+pages-handed_out : (class : ClassState) (free : List ChunkId) → length (handed_out class free).pages ≡ length class.pages
+pages-handed_out class [] = refl
+pages-handed_out class (chunk ∷ free) = refl
 
-pub Leaves-popped : (class : ClassState) → Leaves class (popped class)
-Leaves-popped class = Leaves-handed_out class class.free
+pub pages-popped : (class : ClassState) → length (popped class).pages ≡ length class.pages
+pages-popped class = pages-handed_out class class.free

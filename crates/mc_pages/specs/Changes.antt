@@ -1,5 +1,5 @@
 -- What each call on chunks and pages changes.
-use Rattle.std.specs.Prelude.{ℕ, ◌+◌, ◌-◌, nat_lt, if◌then◌else◌, List, [], ◌∷◌, ◌++◌, length, take, slice_get, slice_set, Option, Some, None}
+use Rattle.std.specs.Prelude.{ℕ, ◌+◌, ◌-◌, nat_lt, if◌then◌else◌, [], ◌∷◌, ◌++◌, length, take, slice_get, slice_set, Option, Some, None}
 use Rattle.std.specs.Option.{option_or}
 use Rattle.mc_pages.specs.declared.ids.ChunkId.{ChunkId}
 use Rattle.mc_pages.specs.declared.ledger.Owner.TheVariants.{Class}

@@ -1,5 +1,5 @@
 -- What all pages and chunks keep beside that they are accounted for, and the room that is kept for them.
-use Rattle.std.specs.Prelude.{◌≡◌, ℕ, ◌+◌, ◌-◌, ◌<◌, ◌≤◌, ◌==◌, Bool, false, IsTrue, not, List, length, map, slice_get, slice_index_or, vec_len, vec_capacity, is_some, Option, Some, None}
+use Rattle.std.specs.Prelude.{◌≡◌, ℕ, ◌+◌, ◌-◌, ◌<◌, ◌≤◌, ◌==◌, Bool, false, IsTrue, not, List, length, map, slice_get, slice_index_or, vec_len, vec_capacity, is_some, Option, Some}
 use Rattle.std.specs.Option.{option_map_or}
 use Rattle.mc_pages.specs.declared.ids.ChunkId.{ChunkId}
 use Rattle.mc_pages.specs.declared.ids.Moving.{Moving}

@@ -76,10 +76,10 @@ impl SlabClass {
         ensures chunk { result ≡ first_free self.old.state }
         ensures popped { self.new ≡ in_state self.old (popped self.old.state) }
     {
-        let chunk = self.free.pop()?;
-        // The list has room for every chunk of the pages, so this can't fail, and neither can the pushes below.
-        self.order.push(chunk).unwrap();
-        Some(chunk)
+        let head = self.free.pop()?;
+        // The list has room for every chunk of the pages.
+        self.order.push(head).unwrap();
+        Some(head)
     }
 
     /// Takes a handed-out chunk back: it goes to the head of the free list.
@@ -236,3 +236,6 @@ fn reserve_in_all(chunks: &mut Vec<ChunkId>, count: usize) -> Result<(), AllocEr
 {
     chunks.reserve(count.saturating_sub(chunks.len()))
 }
+
+#[cfg(test)]
+pub(crate) mod tests;

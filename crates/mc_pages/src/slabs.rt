@@ -16,10 +16,9 @@ use crate::ids::{ChunkId, Moving};
 use crate::ledger::{Entry, Owner};
 use crate::numbers::{Numbers, Totals};
 use mc_classes::{ClassId, ClassTable, PageId};
+pub use pages::Grow;
 use std::alloc::{AllocError, Global};
 use std::marker::Model;
-
-pub use pages::Grow;
 
 /// Memory ran out.
 #[derive(Clone, Copy, Debug, PartialEq, Eq)]

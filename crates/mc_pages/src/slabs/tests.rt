@@ -1,10 +1,10 @@
 mod driven;
 mod plain;
 
-use crate::{ChunkId, Entry, Grow, Numbers, Owner, Totals};
+use crate::{ChunkId, Entry, Found, Grow, Numbers, Owner, Reassign, Totals};
 use driven::Driven;
 use mc_classes::{ClassId, ClassTable, Config, PageId};
-use plain::Plain;
+use plain::{Plain, PlainClass};
 use std::process::Abort;
 use std::test::Fail;
 
@@ -196,38 +196,67 @@ impl Random {
 }
 
 /// Both have the same lists.
-fn assert_same(rt: &impl Abort, all: &Driven, plain: &Plain) {
-    for (place, own) in plain.classes.iter().enumerate() {
-        let class = place as u64 + 1;
+fn assert_same_class(rt: &impl Abort, all: &Driven, own: &PlainClass, class: ClassId) {
+    let want = Numbers {
+        pages: own.pages.len() as u64,
+        free: own.free.len() as u64,
+        evictions: own.evictions,
+    };
+    assert_eq!(rt; all.numbers(class), Some(want));
+    for (at, want) in own.free.iter().enumerate() {
         assert_eq!(rt;
-            all.numbers(class),
-            numbers(own.pages, own.free.len() as u64)
+            all.free_at(class, at as u64),
+            Some(*want),
+            "class {class} at {at}"
         );
-        for (at, want) in own.free.iter().enumerate() {
-            assert_eq!(rt;
-                all.free_at(class, at as u64),
-                Some(*want),
-                "class {class} at {at}"
-            );
-        }
-        assert_eq!(rt; all.free_at(class, own.free.len() as u64), None);
-        for (at, want) in own.order.iter().enumerate() {
-            assert_eq!(rt;
-                all.order_at(class, at as u64),
-                Some(*want),
-                "class {class} at {at}"
-            );
-        }
-        assert_eq!(rt; all.order_at(class, own.order.len() as u64), None);
     }
-    for (page, class) in plain.granted.iter().enumerate() {
-        assert_eq!(rt; all.owner(page as u64), Some(Owner::Class(*class)));
+    assert_eq!(rt; all.free_at(class, own.free.len() as u64), None);
+    for (at, want) in own.order.iter().enumerate() {
+        assert_eq!(rt;
+            all.order_at(class, at as u64),
+            Some(*want),
+            "class {class} at {at}"
+        );
     }
-    assert_eq!(rt; all.totals(), granted(plain.granted.len() as u64));
+    assert_eq!(rt; all.order_at(class, own.order.len() as u64), None);
 }
 
-/// One random call of both.
-fn assert_call(
+/// Both have the same lists, owners, entries and numbers.
+fn assert_same(rt: &impl Abort, all: &Driven, plain: &Plain) {
+    for (place, own) in plain.classes.iter().enumerate() {
+        assert_same_class(rt, all, own, place as u64 + 1);
+    }
+    for (page, owner) in plain.owners.iter().enumerate() {
+        assert_eq!(rt; all.owner(page as u64), Some(*owner));
+    }
+    assert_eq!(rt; all.moving(), plain.moving);
+    assert_eq!(rt; all.totals(), plain.totals());
+    assert_eq!(rt; all.ledger(), plain.ledger.as_slice());
+}
+
+/// All chunks of a page just given are cut.
+fn cut_all(all: &mut Driven) {
+    for _ in 0..256 {
+        if all.cut().is_none() {
+            return;
+        }
+    }
+}
+
+/// What the mover may find.
+fn found(random: &mut Random) -> Found {
+    match random.next() % 16 {
+        0 => Found::Busy,
+        1 => Found::Locked,
+        2..=5 => Found::Rescued,
+        6 | 7 => Found::Evicted,
+        8 => Found::Already,
+        _ => Found::Cleared,
+    }
+}
+
+/// One random call of both on the chunks of a class.
+fn assert_chunk_call(
     rt: &impl Abort,
     all: &mut Driven,
     plain: &mut Plain,
@@ -235,16 +264,60 @@ fn assert_call(
 ) -> Result<(), Fail> {
     let class = random.next() % 4 + 1;
     let place = random.next() % 32;
+    let free = random.next() % 8;
     match random.next() % 16 {
-        0 => {
+        0..=6 => assert_eq!(rt; all.pop(class), plain.pop(class)?),
+        7..=10 => assert_eq!(rt; all.back(class, place), plain.back(class, place as usize)?),
+        11 | 12 => assert_eq!(rt;
+            all.touch(class, place),
+            plain.touch(class, place as usize)?
+        ),
+        13 | 14 => assert_eq!(rt;
+            all.replace(class, free, place),
+            plain.replace(class, free as usize, place as usize)?
+        ),
+        _ => assert_eq!(rt; all.evicted(class), plain.evicted(class)),
+    }
+    Ok(())
+}
+
+/// One random call of both on the pages of a class.
+fn assert_page_call(
+    rt: &impl Abort,
+    all: &mut Driven,
+    plain: &mut Plain,
+    random: &mut Random,
+) -> Result<(), Fail> {
+    let class = random.next() % 4 + 1;
+    match random.next() % 16 {
+        0..=2 => {
             let want = plain.grow(class)?.ok_or(Grow::NoRoom);
             assert_eq!(rt; all.grow(class), Some(want));
-            for _ in 0..21 {
-                all.cut();
+            cut_all(all);
+        }
+        3 | 4 => {
+            let src = match random.next() % 3 {
+                0 => None,
+                _ => Some(random.next() % 6),
+            };
+            let dst = random.next() % 6;
+            assert_eq!(rt;
+                all.begin(src, dst),
+                plain.begin(src, dst)?,
+                "{src:?} to {dst}"
+            );
+        }
+        5 => assert_eq!(rt; all.wrap(), plain.wrap()),
+        6 | 7 => {
+            assert_eq!(rt; all.finish(), plain.finish()?);
+            cut_all(all);
+        }
+        _ => {
+            for _ in 0..8 {
+                let wanted = found(random);
+                assert_eq!(rt; all.pass(wanted), plain.pass(wanted), "{wanted:?}");
             }
         }
-        1..=8 => assert_eq!(rt; all.pop(class), plain.pop(class)?),
-        _ => assert_eq!(rt; all.back(class, place), plain.back(class, place as usize)?),
     }
     Ok(())
 }
@@ -252,14 +325,170 @@ fn assert_call(
 #[test]
 fn random_calls_leave_what_plain_lists_hold(rt: HostRuntime) -> Result<(), Fail> {
     let table = ClassTable::build(rt.alloc(), &Config { limit: 8192, ..A })?;
+    let mut moved: u64 = 0;
     for seed in 0..16 {
         let mut random = Random(seed);
         let mut all = Driven::new(rt.alloc(), &table)?;
         let mut plain = Plain::new(rt.alloc(), &table)?;
-        for _ in 0..400 {
-            assert_call(&rt, &mut all, &mut plain, &mut random)?;
+        for _ in 0..200 {
+            assert_chunk_call(&rt, &mut all, &mut plain, &mut random)?;
+            assert_same(&rt, &all, &plain);
+            assert_page_call(&rt, &mut all, &mut plain, &mut random)?;
             assert_same(&rt, &all, &plain);
         }
+        moved = moved.wrapping_add(all.totals().moved);
+    }
+    assert_eq!(rt; moved > 16, true, "{moved} moves ended");
+    Ok(())
+}
+
+/// The class gets this page, and all of its chunks are cut.
+fn assert_grows(rt: &impl Abort, all: &mut Driven, class: ClassId, page: PageId) {
+    assert_eq!(rt; all.grow(class), Some(Ok(page)));
+    cut_all(all);
+}
+
+/// The page that moves is cleared, and its move ends.
+fn assert_finishes(rt: &impl Abort, all: &mut Driven) {
+    for _ in 0..256 {
+        if all.pass(Found::Cleared).is_none() {
+            break;
+        }
+    }
+    assert_eq!(rt; all.finish(), true);
+    cut_all(all);
+}
+
+#[test]
+fn the_first_test_that_applies_refuses(rt: HostRuntime) -> Result<(), Fail> {
+    let mut all = Driven::new(rt.alloc(), &ClassTable::build(rt.alloc(), &A)?)?;
+    for (src, dst, why) in [
+        (Some(1), 1, Reassign::Same),
+        (Some(0), 0, Reassign::Same),
+        (Some(9), 9, Reassign::Same),
+        (Some(9), 1, Reassign::BadClass),
+        (Some(0), 1, Reassign::BadClass),
+        (Some(4), 9, Reassign::BadClass),
+        (Some(4), 5, Reassign::BadClass),
+        (None, 1, Reassign::BadClass),
+        (None, 0, Reassign::BadClass),
+        (Some(4), 1, Reassign::NoSpare),
+        (Some(1), 0, Reassign::NoSpare),
+    ] {
+        assert_eq!(rt; all.begin(src, dst), Err(why), "{src:?} to {dst}");
+    }
+    assert_grows(&rt, &mut all, 1, 0);
+    assert_eq!(rt; all.begin(Some(1), 2), Err(Reassign::NoSpare));
+    assert_eq!(rt; all.begin(None, 2), Err(Reassign::BadClass));
+    assert_grows(&rt, &mut all, 1, 1);
+    assert_eq!(rt; all.begin(Some(1), 5), Err(Reassign::BadClass));
+    assert_eq!(rt; all.begin(None, 1), Err(Reassign::BadClass));
+    assert_eq!(rt; all.moving(), None);
+    assert_eq!(rt; all.begin(None, 2), Ok(()));
+    for (src, dst) in [(Some(1), 1), (Some(9), 1), (None, 3), (Some(1), 0)] {
+        assert_eq!(rt;
+            all.begin(src, dst),
+            Err(Reassign::Busy),
+            "{src:?} to {dst}"
+        );
+    }
+    Ok(())
+}
+
+#[test]
+fn a_page_goes_through_the_pool(rt: HostRuntime) -> Result<(), Fail> {
+    let mut all = Driven::new(rt.alloc(), &ClassTable::build(rt.alloc(), &A)?)?;
+    for page in 0..4 {
+        assert_grows(&rt, &mut all, 4, page);
+    }
+    for page in 0..2 {
+        assert_eq!(rt; all.begin(Some(4), 0), Ok(()));
+        assert_eq!(rt; all.owner(page), Some(Owner::Moving { src: 4, dst: 0 }));
+        assert_finishes(&rt, &mut all);
+        assert_eq!(rt; all.owner(page), Some(Owner::Pool));
+        assert_eq!(rt; all.half_cut(), None);
+    }
+    assert_eq!(rt; all.totals().pool, 2);
+    // The page that came last is the first to leave.
+    assert_eq!(rt; all.grow(3), Some(Ok(1)));
+    assert_cuts(&rt, &mut all, 1, 5);
+    assert_grows(&rt, &mut all, 2, 0);
+    assert_eq!(rt; all.grow(1), Some(Err(Grow::NoRoom)));
+    assert_eq!(rt; all.pop(3), chunk(1, 4));
+    assert_eq!(rt;
+        all.totals(),
+        Totals {
+            moved: 2,
+            ..granted(4)
+        }
+    );
+    let ledger = [
+        Entry::Granted(0, 4),
+        Entry::Granted(1, 4),
+        Entry::Granted(2, 4),
+        Entry::Granted(3, 4),
+        Entry::Began(0, 4, 0),
+        Entry::Ended(0, 0),
+        Entry::Began(1, 4, 0),
+        Entry::Ended(1, 0),
+        Entry::Taken(1, 3),
+        Entry::Taken(0, 2),
+    ];
+    assert_eq!(rt; all.ledger(), ledger.as_slice());
+    Ok(())
+}
+
+#[test]
+fn what_a_move_finds_is_counted(rt: HostRuntime) -> Result<(), Fail> {
+    let mut all = Driven::new(rt.alloc(), &ClassTable::build(rt.alloc(), &A)?)?;
+    assert_grows(&rt, &mut all, 3, 0);
+    assert_grows(&rt, &mut all, 3, 1);
+    assert_eq!(rt; all.begin(None, 4), Ok(()));
+    for wanted in [
+        Found::Rescued,
+        Found::Busy,
+        Found::Evicted,
+        Found::Locked,
+        Found::Rescued,
+    ] {
+        assert_eq!(rt; all.pass(wanted), Some(wanted));
+    }
+    assert_eq!(rt; all.pass(Found::Cleared), None, "at the page's end");
+    assert_eq!(rt; all.finish(), false, "two chunks are left");
+    assert_eq!(rt; all.wrap(), true);
+    for want in [
+        Found::Already,
+        Found::Cleared,
+        Found::Already,
+        Found::Cleared,
+        Found::Already,
+    ] {
+        assert_eq!(rt; all.pass(Found::Cleared), Some(want));
+    }
+    assert_eq!(rt; all.wrap(), false, "nothing held it up");
+    assert_eq!(rt; all.finish(), true);
+    assert_cuts(&rt, &mut all, 0, 2);
+    let totals = Totals {
+        granted: 2,
+        pool: 0,
+        moved: 1,
+        rescues: 2,
+        evictions_nomem: 1,
+        busy: 2,
+    };
+    assert_eq!(rt; all.totals(), totals);
+    assert_eq!(rt; all.numbers(3), numbers(1, 5));
+    assert_eq!(rt; all.numbers(4), numbers(1, 2));
+    Ok(())
+}
+
+#[test]
+fn the_automover_has_three_modes(rt: HostRuntime) -> Result<(), Fail> {
+    let mut all = Driven::new(rt.alloc(), &ClassTable::build(rt.alloc(), &A)?)?;
+    assert_eq!(rt; all.automove(), 0);
+    for (mode, is, now) in [(2, true, 2), (3, false, 2), (1, true, 1)] {
+        assert_eq!(rt; all.set_automove(mode), is);
+        assert_eq!(rt; all.automove(), now);
     }
     Ok(())
 }

@@ -1,4 +1,4 @@
-use Rattle.std.proofs.Common.{◌≡◌, ℕ, List, Some, position, sym, ap, ◌∙◌}
+use Rattle.std.proofs.Common.{List, position, sym, ap, ◌∙◌}
 use Rattle.mc_pages.specs.declared.ids.ChunkId.{ChunkId}
 use Rattle.mc_pages.specs.ClassState.{is_chunk}
 use Rattle.mc_pages.proofs.Roomy.{remove-found, without-not_found}

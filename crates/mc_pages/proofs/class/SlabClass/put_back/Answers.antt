@@ -1,4 +1,4 @@
-use Rattle.std.proofs.Common.{◌+◌, length, Contains, sym, ap, arith, subst}
+use Rattle.std.proofs.Common.{length, Contains, sym, ap, arith, subst}
 use Rattle.mc_pages.specs.Room.{RoomyClass}
 use Rattle.mc_pages.proofs.Chunks.{times_from_Contains, length-without}
 use Rattle.mc_pages.proofs.class.SlabClass.put_back.Goals as goal

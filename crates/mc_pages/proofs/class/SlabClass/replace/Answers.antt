@@ -1,4 +1,4 @@
-use Rattle.std.proofs.Common.{◌≡◌, ◌+◌, ◌≤◌, List, length, reverse, sym, ap, ap₂, ◌∙◌, arith, subst}
+use Rattle.std.proofs.Common.{◌≡◌, List, length, reverse, sym, ap, ap₂, ◌∙◌, arith, subst}
 use Rattle.mc_pages.specs.declared.ids.ChunkId.{ChunkId}
 use Rattle.mc_pages.specs.ClassState.{times, replaced}
 use Rattle.mc_pages.specs.Room.{RoomyClass, in_state, roomy_of}

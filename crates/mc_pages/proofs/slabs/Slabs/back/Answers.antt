@@ -1,7 +1,6 @@
-use Rattle.std.proofs.Common.{◌≡◌, ℕ, ◌-◌, Contains, refl, sym, ap, ◌∙◌, subst}
+use Rattle.std.proofs.Common.{ℕ, ◌-◌, Contains, refl, sym, ap, ◌∙◌, subst}
 use Rattle.mc_pages.specs.declared.ids.ChunkId.{ChunkId}
 use Rattle.mc_pages.specs.ClassState.{ClassState, put_back}
-use Rattle.mc_pages.specs.Room.{RoomyClass}
 use Rattle.mc_pages.specs.SlabState.{SlabState, IsClass, class_of_page, class_of_chunk}
 use Rattle.mc_pages.specs.Changes.{after_back}
 use Rattle.mc_pages.specs.InOrder.{slabs_of}
@@ -40,7 +39,7 @@ invariant_of-self c =
     let handed = subst (IsHandedOut c.args.chunk) (sym c.self.view_is) c.requires in
     let is = IsClass-handed_out slabs c.args.chunk c.self.invariant.order.accounted handed in
     let at = c.class_place-place.ensures ∙ ap (place_in c.args.chunk) (sym c.self.view_is) in
-    AreKept-changed c.self.inside (class_of_page slabs c.args.chunk.page) _ _ _ (λ class. put_back class c.args.chunk) c.self.invariant is at c.index_mut.ensures.value c.put_back.ensures (record { pages = refl; per_page = refl })
+    AreKept-changed c.self.inside (class_of_page slabs c.args.chunk.page) _ _ _ (λ class. put_back class c.args.chunk) c.self.invariant is at c.index_mut.ensures.value c.put_back.ensures refl
     (IsInOrder-after_back slabs c.self.inside.granted c.args.chunk c.self.invariant.order handed)
 
 pub returns-clause-back : goal.returns-clause-back

@@ -1,4 +1,4 @@
-use Rattle.std.proofs.Common.{◌≡◌, ◌≢◌, ℕ, ◌+◌, ◌-◌, ◌<◌, ◌≤◌, ◌==◌, List, [], ◌∷◌, ◌++◌, length, vec_len, vec_capacity, set, Some, None, Result, Ok, refl, sym, ap, ap₂, ◌∙◌, subst, arith}
+use Rattle.std.proofs.Common.{◌≡◌, ◌≢◌, ℕ, ◌+◌, ◌-◌, ◌≤◌, ◌==◌, List, [], ◌∷◌, ◌++◌, length, vec_len, vec_capacity, set, Some, Ok, refl, sym, ap, ap₂, ◌∙◌, subst, arith}
 use Rattle.std.specs.Vec.{with_item}
 use Rattle.mc_pages.specs.declared.ledger.Owner.TheVariants as owner
 use Rattle.mc_pages.specs.declared.ledger.Entry.{Entry}
@@ -7,14 +7,13 @@ use Rattle.mc_pages.specs.declared.slabs.Slabs.TheInside.{Inside}
 use Rattle.mc_pages.specs.ClassState.{ClassState}
 use Rattle.mc_pages.specs.SlabState.{SlabState, IsClass, class_at}
 use Rattle.mc_pages.specs.Answer.{answer_of, cursor_after}
-use Rattle.mc_pages.specs.Accounted.{truth}
 use Rattle.mc_pages.specs.Moves.{first_page, after_begin}
-use Rattle.mc_pages.specs.InOrder.{IsInOrder, AreKept, slabs_of, is_awaited}
+use Rattle.mc_pages.specs.InOrder.{IsInOrder, AreKept, slabs_of}
 use Rattle.mc_pages.proofs.Kept.{pages_below}
 use Rattle.mc_pages.proofs.KeptMoves.{first_page_within, IsInOrder-after_begin}
 use Rattle.mc_pages.proofs.Source.{source_is}
 use Rattle.mc_pages.proofs.Roomy.{if_ok}
-use Rattle.mc_pages.proofs.RoomySlabs.{states, read_state}
+use Rattle.mc_pages.proofs.RoomySlabs.{states, length-states, read_state}
 use Rattle.mc_pages.proofs.RoomyGrow.{on_err, truth_le, states_roomier, fits-roomier}
 use Rattle.mc_pages.proofs.RoomyMoves.{if_ok_at, begun_with, begun_is, not_awaited, fits-to_pool, fits-to_class}
 use Rattle.mc_pages.proofs.slabs.Slabs.begin_move.Goals as goal
@@ -27,6 +26,11 @@ answer_is c = ap (λ (s : SlabState). answer_of s c.args.src c.args.dst) c.self.
 -- a destination that isn't the pool is one of the classes
 is_class : (c : After-reserve) → c.args.dst ≢ 0 → IsClass (slabs_of c.self.inside) c.args.dst
 is_class c some = (omega arith, (source_is (slabs_of c.self.inside) c.args.src c.in_ok-source.source c.args.dst (answer_is c)).2)
+
+pub index_mut-slab-requires : goal.index_mut-slab-requires
+index_mut-slab-requires c =
+    let is = is_class (goal.at.index_mut-slab-requires c).After-reserve c.if-dst-eq0.false in
+    omega (arith, is.0, length-states c.self.inside c.args.dst is)
 
 -- how many pages the destination has
 page_count : (c : After-page_count) → c.page_count.result ≡ length (class_at (slabs_of c.self.inside) c.args.dst).pages
@@ -129,11 +133,11 @@ invariant_of-self-2 c =
           let read = read_state c.self.inside c.args.dst _ _ is refl w.index_mut-slab.ensures.value in
           subst kept (sym w.self-inside-is) (record {
             order = subst (λ (s : SlabState). IsInOrder s c.self.inside.granted)
-            (sym (began_is c _ w.self-inside-is c.in_ok-reserve.ensures.items _ _ (states_roomier c.self.inside c.args.dst _ w.make_room.new.self is w.index_mut-slab.ensures.value w.in_ok-make_room.ensures.state) refl)) order;
+                (sym (began_is c _ w.self-inside-is c.in_ok-reserve.ensures.items _ _ (states_roomier c.self.inside c.args.dst _ w.make_room.new.self is w.index_mut-slab.ensures.value w.in_ok-make_room.ensures.state) refl)) order;
             ledger = ledger_fits c (ap (λ (i : Inside). vec_len i.ledger) w.self-inside-is) (ap (λ (i : Inside). vec_capacity i.ledger) w.self-inside-is);
             pool = omega (arith, c.self.invariant.pool, not_awaited c.args.dst 0 w.if-dst-eq0.false);
             classes = fits-to_class c.self.inside c.args.dst _ w.make_room.new.self c.self.invariant is w.index_mut-slab.ensures.value w.in_ok-make_room.ensures.state
-            (omega (arith, w.page_count.ensures, ap (λ (class : ClassState). length class.pages) read, w.in_ok-make_room.ensures.ok));
+                (omega (arith, w.page_count.ensures, ap (λ (class : ClassState). length class.pages) read, w.in_ok-make_room.ensures.ok));
           })
     ]
 

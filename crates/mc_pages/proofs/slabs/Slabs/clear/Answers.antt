@@ -41,7 +41,7 @@ invariant_of-self c =
     let listed = subst (IsListed c.args.chunk) (sym c.self.view_is) c.requires.listed in
     let is = IsClass-placed slabs c.args.chunk c.self.invariant.order.accounted listed in
     let at = c.class_place-place.ensures ∙ ap (place_in c.args.chunk) (sym c.self.view_is) in
-    AreKept-changed c.self.inside (class_of_page slabs c.args.chunk.page) _ _ _ (λ class. cleared class c.args.chunk) c.self.invariant is at c.index_mut.ensures.value c.clear.ensures (record { pages = refl; per_page = refl })
+    AreKept-changed c.self.inside (class_of_page slabs c.args.chunk.page) _ _ _ (λ class. cleared class c.args.chunk) c.self.invariant is at c.index_mut.ensures.value c.clear.ensures refl
     (IsInOrder-after_clear slabs c.self.inside.granted c.args.chunk c.self.invariant.order moves listed)
 
 pub returns-clause-cleared : goal.returns-clause-cleared

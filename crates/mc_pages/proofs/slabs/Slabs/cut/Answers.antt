@@ -3,9 +3,9 @@ use Rattle.mc_pages.specs.declared.ids.ChunkId.{ChunkId}
 use Rattle.mc_pages.specs.ClassState.{ClassState, with_cut}
 use Rattle.mc_pages.specs.SlabState.{SlabState, IsClass, class_of_page, class_of_chunk}
 use Rattle.mc_pages.specs.Changes.{next_uncut, after_cut}
-use Rattle.mc_pages.specs.InOrder.{IsInOrder, IsBeingCut, slabs_of}
+use Rattle.mc_pages.specs.InOrder.{IsInOrder, slabs_of}
 use Rattle.mc_pages.proofs.Kept.{below_total, IsInOrder-after_cut}
-use Rattle.mc_pages.proofs.RoomySlabs.{length-states, read_state, slabs_of-changed, fits-changed_by, with_roomy, Leaves}
+use Rattle.mc_pages.proofs.RoomySlabs.{length-states, read_state, slabs_of-changed, fits-changed_by, with_roomy}
 use Rattle.mc_pages.proofs.slabs.Slabs.cut.Goals as goal
 use Rattle.mc_pages.proofs.slabs.Slabs.cut.Goals.{After-index_mut-slab}
 
@@ -72,12 +72,11 @@ invariant_of-self c =
     let first = lowest (goal.at.invariant_of-self c).After-index_mut-slab in
     let at = c.class_place-place.ensures ∙ ap (place_in chunk) (sym c.self.view_is) in
     let is = (c.self.invariant.order.uncut chunk first).owned in
-    let leaves : Leaves (class_of_chunk slabs chunk) (with_cut (class_of_chunk slabs chunk) chunk) = record { pages = refl; per_page = refl } in
     record {
       order = subst (λ (s : SlabState). IsInOrder s c.self.inside.granted) (sym (cut_is c)) (IsInOrder-after_cut slabs c.self.inside.granted chunk c.self.invariant.order first);
       ledger = c.self.invariant.ledger;
       pool = c.self.invariant.pool;
-      classes = fits-changed_by c.self.inside (class_of_page slabs c.args.page) _ _ _ (λ class. with_cut class chunk) c.self.invariant is at c.index_mut-slab.ensures.value c.cut.ensures leaves;
+      classes = fits-changed_by c.self.inside (class_of_page slabs c.args.page) _ _ _ (λ class. with_cut class chunk) c.self.invariant is at c.index_mut-slab.ensures.value c.cut.ensures refl;
     }
 
 pub returns-clause-cut : goal.returns-clause-cut

@@ -10,7 +10,7 @@ use Rattle.mc_pages.proofs.slabs.Slabs.evicted.Goals as goal
 pub invariant_of-self : goal.invariant_of-self
 invariant_of-self c =
     let is = subst (λ (s : SlabState). IsClass s c.args.class) (sym c.self.view_is) c.requires in
-    AreKept-changed c.self.inside c.args.class _ _ _ evicted c.self.invariant is refl c.index_mut.ensures.value c.count_eviction.ensures (record { pages = refl; per_page = refl })
+    AreKept-changed c.self.inside c.args.class _ _ _ evicted c.self.invariant is refl c.index_mut.ensures.value c.count_eviction.ensures refl
     (IsInOrder-after_evicted (slabs_of c.self.inside) c.self.inside.granted c.args.class c.self.invariant.order is)
 
 pub returns-clause-evicted : goal.returns-clause-evicted

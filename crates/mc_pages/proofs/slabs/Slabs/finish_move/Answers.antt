@@ -1,4 +1,4 @@
-use Rattle.std.proofs.Common.{◌≡◌, ◌≢◌, ℕ, ◌+◌, ◌-◌, ◌*◌, ◌≤◌, List, [], ◌∷◌, ◌++◌, length, set, None, refl, sym, ap, ◌∙◌, subst, arith}
+use Rattle.std.proofs.Common.{◌≡◌, ◌≢◌, ◌+◌, ◌-◌, ◌*◌, ◌≤◌, [], ◌∷◌, ◌++◌, length, set, None, refl, sym, ap, ◌∙◌, subst, arith}
 use Rattle.mc_pages.specs.declared.ids.Moving.{Moving}
 use Rattle.mc_pages.specs.declared.ledger.Owner.TheVariants.{Pool, Class}
 use Rattle.mc_pages.specs.declared.ledger.Entry.TheVariants.{Ended}
@@ -9,9 +9,9 @@ use Rattle.mc_pages.specs.Moves.{finished, after_finish, CanFinish}
 use Rattle.mc_pages.specs.InOrder.{IsInOrder, slabs_of}
 use Rattle.mc_pages.proofs.KeptFinish.{release_fits, IsInOrder-finished}
 use Rattle.mc_pages.proofs.Roomy.{if_ok}
-use Rattle.mc_pages.proofs.RoomySlabs.{states, IsClass-set, read_state}
+use Rattle.mc_pages.proofs.RoomySlabs.{states, length-states, IsClass-set, read_state}
 use Rattle.mc_pages.proofs.RoomyMoves.{Some-same}
-use Rattle.mc_pages.proofs.RoomyFinish.{ended_with, joined_with, pooled_is, joined_is, fits-pooled, dst_has_room, fits-joined, within-both}
+use Rattle.mc_pages.proofs.RoomyFinish.{moving_within, ended_with, joined_with, pooled_is, joined_is, fits-pooled, dst_has_room, fits-joined, within-both}
 use Rattle.mc_pages.proofs.slabs.Slabs.finish_move.Goals as goal
 use Rattle.mc_pages.proofs.slabs.Slabs.finish_move.Goals.{After-index_mut, After-saturating_add-self-inside}
 
@@ -32,6 +32,20 @@ is_move c = c.self.invariant.order.accounted.move c.in-Some.moving c.in-Some.is
 -- a destination that isn't the pool is one of the classes
 is_class : (c : After-index_mut) → c.in-Some.moving.dst ≢ 0 → IsClass (slabs_of c.self.inside) c.in-Some.moving.dst
 is_class c some = (omega arith, (is_move c).dst)
+
+pub overflow_sub-src : goal.overflow_sub-src
+overflow_sub-src c = omega (arith, (c.self.invariant.order.accounted.move c.in-Some.moving c.in-Some.is).src.0)
+
+pub index_mut-requires-then-dst-eq0 : goal.index_mut-requires-then-dst-eq0
+index_mut-requires-then-dst-eq0 c = omega (arith, moving_within (slabs_of c.self.inside) c.in-Some.moving (is_move (goal.at.index_mut-requires-then-dst-eq0 c).After-index_mut))
+
+pub index_mut-requires-else-dst-eq0 : goal.index_mut-requires-else-dst-eq0
+index_mut-requires-else-dst-eq0 c =
+    let is = is_class (goal.at.index_mut-requires-else-dst-eq0 c).After-index_mut c.if-dst-eq0.false in
+    omega (arith, is.0, length-states c.self.inside c.in-Some.moving.dst is)
+
+pub index_mut-requires-else-dst-eq0-2 : goal.index_mut-requires-else-dst-eq0-2
+index_mut-requires-else-dst-eq0-2 c = omega (arith, moving_within (slabs_of c.self.inside) c.in-Some.moving (is_move (goal.at.index_mut-requires-else-dst-eq0-2 c).After-index_mut))
 
 pub remove_page-requires : goal.remove_page-requires
 remove_page-requires c =

@@ -1,4 +1,4 @@
-use Rattle.std.proofs.Common.{◌≡◌, ℕ, ◌+◌, ◌-◌, ◌<◌, ◌≤◌, List, [], ◌∷◌, ◌++◌, length, vec_len, vec_capacity, set, take_all, take, is_some, Option, Some, None, refl, sym, ap, ap₂, ◌∙◌, subst, arith}
+use Rattle.std.proofs.Common.{◌≡◌, ℕ, ◌+◌, ◌-◌, ◌<◌, ◌≤◌, List, [], ◌∷◌, ◌++◌, length, vec_len, vec_capacity, set, take_all, take, is_some, Some, None, refl, sym, ap, ap₂, ◌∙◌, subst, arith}
 use Rattle.std.specs.Vec.{with_item}
 use Rattle.mc_pages.specs.declared.ledger.Owner.TheVariants.{Class}
 use Rattle.mc_pages.specs.declared.ledger.Entry.{Entry}
@@ -134,7 +134,7 @@ taken_kept c is entry some =
     let whole = subst (λ (s : SlabState). s.uncut ≡ None) (sym c.self.view_is) c.requires.whole in
     record {
       order = subst (λ (s : SlabState). IsInOrder s c.self.inside.granted) (sym (taken_is c is entry))
-      (IsInOrder-after_take slabs c.self.inside.granted c.args.class c.in_ok-page.page c.self.invariant.order (is_class here) whole (next_pooled slabs c.in_ok-page.page some (is_next here)));
+          (IsInOrder-after_take slabs c.self.inside.granted c.args.class c.in_ok-page.page c.self.invariant.order (is_class here) whole (next_pooled slabs c.in_ok-page.page some (is_next here)));
       ledger = ledger_fits c (ap (λ (i : Inside). vec_len i.ledger) is) (ap (λ (i : Inside). vec_capacity i.ledger) is);
       pool = omega (arith, c.self.invariant.pool, c.pop.ensures.len, c.pop.ensures.capacity);
       classes = all_fit c;
@@ -156,7 +156,7 @@ granted_kept c is entry none =
     let granted = granted_is c is entry none ∙ ap (after_grant slabs c.args.class) next.0 in
     record {
       order = subst (λ (s : SlabState). IsInOrder s (c.self.inside.granted + 1)) (sym granted)
-      (IsInOrder-after_grant slabs c.self.inside.granted c.args.class c.self.invariant.order (is_class here) whole next.1);
+          (IsInOrder-after_grant slabs c.self.inside.granted c.args.class c.self.invariant.order (is_class here) whole next.1);
       ledger = ledger_fits c (ap (λ (i : Inside). vec_len i.ledger) is) (ap (λ (i : Inside). vec_capacity i.ledger) is);
       pool = omega (arith, c.self.invariant.pool, c.pop.ensures.len, c.pop.ensures.capacity);
       classes = all_fit c;
@@ -177,12 +177,16 @@ returns-clause-given c =
     let seen : Inside → SlabState = λ i. slabs_of (given c i) in
     let grown = ap (λ (s : SlabState). after_grow s c.args.class c.in_ok-page.page) c.self.view_is in
     elim c.match-pop.branch [
-      | in-Some w ↦
-          (next, ap seen w.self-inside-is ∙ (taken_is c w.self-inside-is w.entry-is
-          ∙ (sym (grow_takes slabs c.args.class c.in_ok-page.page (omega (arith, w.in-Some.ensures.cases))) ∙ grown)))
-      | in-None w ↦
-          (next, ap seen w.self-inside-is ∙ (granted_is c w.self-inside-is w.entry-is (omega (arith, w.in-None.ensures.cases))
-          ∙ (sym (grow_grants slabs c.args.class c.in_ok-page.page (omega (arith, w.in-None.ensures.cases))) ∙ grown)))
+      | in-Some w ↦ (
+        next,
+        ap seen w.self-inside-is ∙ (taken_is c w.self-inside-is w.entry-is
+            ∙ (sym (grow_takes slabs c.args.class c.in_ok-page.page (omega (arith, w.in-Some.ensures.cases))) ∙ grown)),
+      )
+      | in-None w ↦ (
+        next,
+        ap seen w.self-inside-is ∙ (granted_is c w.self-inside-is w.entry-is (omega (arith, w.in-None.ensures.cases))
+            ∙ (sym (grow_grants slabs c.args.class c.in_ok-page.page (omega (arith, w.in-None.ensures.cases))) ∙ grown)),
+      )
     ]
 
 pub returns-clause-accounted : goal.returns-clause-accounted

@@ -1,4 +1,4 @@
-use Rattle.std.proofs.Common.{◌≡◌, ℕ, ◌-◌, List, length, slice_get, Option, Some, None, sym, ap, ◌∙◌, arith}
+use Rattle.std.proofs.Common.{◌≡◌, ℕ, ◌-◌, List, length, slice_get, None, sym, ap, ◌∙◌, arith}
 use Rattle.mc_pages.specs.Changes.{pooled_page, next_page}
 use Rattle.mc_pages.specs.InOrder.{slabs_of}
 use Rattle.mc_pages.proofs.Owners.{position-AreGranted, position-AreGranted_all}

@@ -1,17 +1,17 @@
 use Rattle.std.proofs.Common.{refl, sym, ap, ◌∙◌, subst}
-use Rattle.mc_pages.specs.ClassState.{ClassState, popped, first_free}
+use Rattle.mc_pages.specs.ClassState.{popped, first_free}
 use Rattle.mc_pages.specs.SlabState.{SlabState, IsClass, class_at}
 use Rattle.mc_pages.specs.Changes.{after_pop}
 use Rattle.mc_pages.specs.InOrder.{slabs_of}
 use Rattle.mc_pages.proofs.Kept.{IsInOrder-after_pop}
-use Rattle.mc_pages.proofs.RoomySlabs.{read_state, slabs_of-changed, AreKept-changed, Leaves-popped}
+use Rattle.mc_pages.proofs.RoomySlabs.{read_state, slabs_of-changed, AreKept-changed, pages-popped}
 use Rattle.mc_pages.proofs.slabs.Slabs.pop.Goals as goal
 
 pub invariant_of-self : goal.invariant_of-self
 invariant_of-self c =
     let slabs = slabs_of c.self.inside in
     let is = subst (λ (s : SlabState). IsClass s c.args.class) (sym c.self.view_is) c.requires in
-    AreKept-changed c.self.inside c.args.class _ _ _ popped c.self.invariant is refl c.index_mut.ensures.value c.pop.ensures.popped (Leaves-popped (class_at slabs c.args.class))
+    AreKept-changed c.self.inside c.args.class _ _ _ popped c.self.invariant is refl c.index_mut.ensures.value c.pop.ensures.popped (pages-popped (class_at slabs c.args.class))
     (IsInOrder-after_pop slabs c.self.inside.granted c.args.class c.self.invariant.order is)
 
 pub returns-clause-chunk : goal.returns-clause-chunk

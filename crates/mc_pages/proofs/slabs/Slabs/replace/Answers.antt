@@ -1,4 +1,4 @@
-use Rattle.std.proofs.Common.{◌≡◌, ℕ, ◌-◌, Contains, refl, sym, ap, ◌∙◌, subst}
+use Rattle.std.proofs.Common.{ℕ, ◌-◌, Contains, refl, sym, ap, ◌∙◌, subst}
 use Rattle.mc_pages.specs.declared.ids.ChunkId.{ChunkId}
 use Rattle.mc_pages.specs.ClassState.{ClassState, times, replaced}
 use Rattle.mc_pages.specs.SlabState.{SlabState, IsClass, class_of_page, class_of_chunk}
@@ -44,7 +44,7 @@ invariant_of-self c =
     let handed = subst (IsHandedOut c.args.old) (sym c.self.view_is) c.requires.handed_out in
     let is = IsClass-handed_out slabs c.args.old c.self.invariant.order.accounted handed in
     let at = c.class_place-place.ensures ∙ ap (place_in c.args.old) (sym c.self.view_is) in
-    AreKept-changed c.self.inside (class_of_page slabs c.args.old.page) _ _ _ (λ class. replaced class c.args.new c.args.old) c.self.invariant is at c.index_mut.ensures.value c.replace.ensures (record { pages = refl; per_page = refl })
+    AreKept-changed c.self.inside (class_of_page slabs c.args.old.page) _ _ _ (λ class. replaced class c.args.new c.args.old) c.self.invariant is at c.index_mut.ensures.value c.replace.ensures refl
     (IsInOrder-after_replace slabs c.self.inside.granted c.args.new c.args.old c.self.invariant.order free handed)
 
 pub returns-clause-replaced : goal.returns-clause-replaced

@@ -1,0 +1,78 @@
+-- What the tests' look at a slab memory says of it.
+use Rattle.std.proofs.Common.{◌≡◌, ℕ, ◌<◌, ◌≤◌, ◌↔◌, IsTrue, Bool, true, false, nat_lt, List, length, Option, Some, None, is_some, refl, sym, ap, ◌∙◌, subst, inl, inr, arith, Contains, position, slice_get, eq-eqb, lt-ltb}
+use Rattle.std.proofs.lemmas.Bool.{cases_lt, and_from, false≢true}
+use Rattle.std.proofs.lemmas.List.Edits.{length-remove}
+use Rattle.mc_pages.specs.declared.ids.ChunkId.{ChunkId}
+use Rattle.mc_pages.specs.declared.ids.Moving.{Moving}
+use Rattle.mc_pages.specs.declared.moves.Found.{Found}
+use Rattle.mc_pages.specs.Ledger.{owner_at}
+use Rattle.mc_pages.specs.ClassState.{is_chunk, times}
+use Rattle.mc_pages.specs.SlabState.{SlabState, IsClass, class_at, class_of_page, class_of_chunk}
+use Rattle.mc_pages.specs.Accounted.{truth, is_of_class, cut_count, is_cut, places_in, IsAccounted}
+use Rattle.mc_pages.specs.Moves.{is_held_up, chunk_at_position, CanPass}
+use Rattle.mc_pages.proofs.Chunks.{Contains_from_slice_get, length-without}
+use Rattle.mc_pages.proofs.HandedOut.{class_of_placed, class_of_handed_out}
+use Rattle.mc_pages.proofs.Roomy.{without-absent, without-not_found, position_is, remove-found}
+
+-- a place is no lack of one
+None≢Some : (place : ℕ) → None ≡ Some place → ⊥
+None≢Some place h = cc
+
+-- a chunk that has a first place stands in the list
+pub found_counts : (chunk : ChunkId) (chunks : List ChunkId) (place : ℕ) → position (λ c. is_chunk c chunk) chunks ≡ Some place → 1 ≤ times chunk chunks
+found_counts chunk chunks place found =
+    let at = position_is chunk chunks place found in
+    elim (cases_lt 0 (times chunk chunks)) [
+      | inl some ↦ some
+      | inr none ↦
+          let same = remove-found chunk chunks place found ∙ without-absent chunk chunks (omega arith) in
+          absurd (omega (arith, length-remove chunks place at.1, ap length same))
+    ]
+
+-- and one that has none doesn't
+pub not_found_counts : (chunk : ChunkId) (chunks : List ChunkId) → ((place : ℕ) → position (λ c. is_chunk c chunk) chunks ≡ Some place → ⊥) → times chunk chunks ≡ 0
+not_found_counts chunk chunks none =
+    elim (cases_lt 0 (times chunk chunks)) [
+      | inl some ↦ absurd (omega (arith, length-without chunk chunks some, ap length (without-not_found chunk chunks none)))
+      | inr zero ↦ omega arith
+    ]
+
+-- a free chunk of the class of a handed-out one
+pub free_beside : (slabs : SlabState) (class free place : ℕ) (new old : ChunkId) → IsAccounted slabs → IsClass slabs class → slice_get (class_at slabs class).free free ≡ Some new → slice_get (class_at slabs class).order place ≡ Some old → Contains (class_of_chunk slabs old).free new
+free_beside slabs class free place new old all is there handed =
+    let own = class_of_handed_out slabs class old all is (Contains_from_slice_get old (class_at slabs class).order place handed) in
+    subst (λ (n : ℕ). Contains (class_at slabs n).free new) (sym own) (Contains_from_slice_get new (class_at slabs class).free free there)
+
+-- what counts as 1 is so
+true_from_one : (b : Bool) → truth b ≡ 1 → b ≡ true
+true_from_one true h = refl
+true_from_one false h = absurd (omega arith)
+
+-- the chunk at the position may be passed where it is in no list, or held
+pub can_pass_looked : (slabs : SlabState) (found : Found) (move : Moving) → IsAccounted slabs → slabs.moving ≡ Some move → slabs.uncut ≡ None → move.at < (class_at slabs move.src).per_page → (is_held_up found ≡ false → places_in slabs move.src (chunk_at_position move) ≡ 0) → CanPass slabs found move
+can_pass_looked slabs found move all runs whole within looked =
+    let is = all.move move runs in
+    let chunk = chunk_at_position move in
+    let size = (class_at slabs move.src).per_page in
+    let owned : is_of_class move.src (owner_at slabs.owners move.page) ≡ true = ap (is_of_class move.src) is.owner ∙ eq-eqb move.src move.src refl in
+    let below : nat_lt move.at (cut_count slabs.uncut move.page size) ≡ true = ap (λ (o : Option ChunkId). nat_lt move.at (cut_count o move.page size)) whole ∙ lt-ltb move.at size within in
+    let cut : is_cut slabs move.src chunk ≡ true = and_from _ _ owned below in
+    record {
+      runs = runs;
+      within = within;
+      done = λ free. true_from_one _ (omega (arith, all.chunks move.src chunk is.src, ap truth cut, looked free));
+    }
+
+-- a chunk of the moving page that is in a list may be cleared
+pub placed_looked : (slabs : SlabState) (class : ℕ) (chunk : ChunkId) → IsAccounted slabs → IsClass slabs class → 1 ≤ places_in slabs class chunk → 1 ≤ places_in slabs (class_of_page slabs chunk.page) chunk
+placed_looked slabs class chunk all is placed = subst (λ (n : ℕ). 1 ≤ places_in slabs n chunk) (sym (class_of_placed slabs class chunk all is placed)) placed
+
+-- the class that gives the page that moves is one of the classes
+pub moving_class : (slabs : SlabState) (move : Moving) → IsAccounted slabs → slabs.moving ≡ Some move → IsClass slabs move.src
+moving_class slabs move all runs = (all.move move runs).src
+
+-- a chunk of a list has a first place there, and no other has
+pub counts_from_position : (chunk : ChunkId) (chunks : List ChunkId) (place : Option ℕ) → place ≡ position (λ c. is_chunk c chunk) chunks → IsTrue (is_some place) ↔ (1 ≤ times chunk chunks)
+counts_from_position chunk chunks (Some place) h = (λ _. found_counts chunk chunks place (sym h), λ _. refl)
+counts_from_position chunk chunks None h =
+    (λ yes. absurd (false≢true yes), λ some. absurd (omega (arith, not_found_counts chunk chunks (λ place found. None≢Some place (h ∙ found)))))
