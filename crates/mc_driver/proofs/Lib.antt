@@ -3,6 +3,8 @@ pub mod Links
 pub mod Orders
 pub mod Moves
 pub mod KeptChanges
+pub mod KeptStore
+pub mod KeptEvict
 pub mod Sweeps
 pub mod Cuts
 pub mod GivenPage
