@@ -14,5 +14,6 @@ pub mod Stocks
 pub mod Counts
 pub mod Replies
 pub mod Outcomes
+pub mod HoldLists
 pub mod Appends
 pub mod Taken
