@@ -10,6 +10,7 @@ pub mod Cuts
 pub mod GivenPage
 pub mod Grown
 pub mod Bounds
+pub mod Victims
 pub mod Stocks
 pub mod Counts
 pub mod Replies
