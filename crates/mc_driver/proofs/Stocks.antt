@@ -79,3 +79,8 @@ sweeps_more m now place so_far =
     ∙ ap (λ cs. cs ++ (place + 1) ∷ []) (map-id (range_with_len 1 place)) in
     ap (λ (n : Machine). swept n (place + 1)) so_far
     ∙ sym (ap (λ cs. fold swept m cs) more ∙ fold-append swept m (range_with_len 1 place) ((place + 1) ∷ []))
+
+-- for stocking and supplying a class, and for storing an item in it
+pub ruleset class_stays = (IsClass-swept, IsClass-stocked)
+
+pub ruleset store_steps = (IsClass-supplied, nowhere-unlinked)
