@@ -19,6 +19,7 @@ use std::collections::BTreeMap;
 impl Keeper {
     /// Stores an item in a chunk of the class, in the place of the key's old one, and says whether there was a
     /// chunk for it. Where there is none, the old item stays, unless it was the one evicted.
+    #[tactic(auto, using(crate::proofs::Stocks::store_steps))]
     pub(super) fn store(
         &mut self,
         class: ClassId,
