@@ -1,5 +1,6 @@
 -- What the keeper keeps as a page begins to move: its chunks count as its class's, as before.
-use Rattle.std.proofs.Common.{◌≡◌, ◌≢◌, ℕ, ◌≤◌, ◌<◌, ◌==◌, List, [], ◌∷◌, length, count_by, slice_index_or, Bool, true, false, Option, Result, Ok, refl, ap, sym, ◌∙◌, arith, eqb, inl, inr}
+use Rattle.std.proofs.Common.{◌≡◌, ◌≢◌, ℕ, ◌≤◌, ◌<◌, ◌==◌, List, [], ◌∷◌, length, count_by, slice_index_or, Bool, true, false, Option, Result, Ok, Err, refl, ap, sym, ◌∙◌, arith, eqb, inl, inr}
+use Rattle.std.specs.Prelude.{OnOk, OnErr, IfOk}
 use Rattle.std.proofs.lemmas.Bool.{cases_Bool}
 use Rattle.std.proofs.lemmas.Bool.Decides.{nat_tests}
 use Rattle.std.proofs.lemmas.List.Sums.{sum_by-cons}
@@ -7,11 +8,12 @@ use Rattle.mc_classes.specs.Classes.{Classes}
 use Rattle.mc_pages.specs.declared.ids.ChunkId.{ChunkId}
 use Rattle.mc_pages.specs.declared.ledger.Owner.{Owner}
 use Rattle.mc_pages.specs.declared.ledger.Owner.TheVariants as owner
+use Rattle.mc_pages.specs.declared.moves.Reassign.{Reassign}
 use Rattle.mc_pages.specs.Ledger.{owner_at}
 use Rattle.mc_pages.specs.ClassState.{times}
 use Rattle.mc_pages.specs.SlabState.{SlabState, IsClass, class_at, class_of_owner, class_of_page}
 use Rattle.mc_pages.specs.Accounted.{IsAccounted, is_of_class, truth}
-use Rattle.mc_pages.specs.Answer.{answer_of}
+use Rattle.mc_pages.specs.Answer.{answer_of, MayAnswer}
 use Rattle.mc_pages.specs.Moves.{first_page, after_begin}
 use Rattle.mc_pages.proofs.Owners.{class_of_owner-is_of_class, within_from_is_of_class, owner_at-set_same, owner_at-set_other}
 use Rattle.mc_pages.proofs.Source.{source_is}
@@ -69,3 +71,17 @@ kept_begin table slabs index items src source dst kept answer accounted = record
       omega (arith, kept.handed_out x, ap (λ (class : ℕ). times x (class_at slabs class).order) same);
   stored = kept.stored;
 }
+
+-- whether a page began to move or not
+module _ (table : Classes) (slabs new : SlabState) (index : List (ℕ × ChunkId)) (items : Items) (src : Option ℕ) (dst : ℕ)
+    (kept : IsKept table slabs index items) (accounted : IsAccounted new) where
+  kept_as : (answer : Result ℕ Reassign) (result : Result (Unit {0}) Reassign) → answer_of slabs src dst ≡ answer → MayAnswer answer result
+      → OnOk result (IfOk answer (λ source. new ≡ after_begin slabs src source dst)) → OnErr result (new ≡ slabs) → IsKept table new index items
+  kept_as answer (Err refusal) is may began same = rw same kept
+  kept_as (Ok source) (Ok unit) is may began same = rw began (kept_begin table slabs index items src source dst kept is (rw began at accounted))
+  kept_as (Err refusal) (Ok unit) is may began same = cc
+
+  pub kept_reassign : (result : Result (Unit {0}) Reassign) → MayAnswer (answer_of slabs src dst) result
+      → OnOk result (IfOk (answer_of slabs src dst) (λ source. new ≡ after_begin slabs src source dst)) → OnErr result (new ≡ slabs)
+      → IsKept table new index items
+  kept_reassign result may began same = kept_as (answer_of slabs src dst) result refl may began same
