@@ -3,11 +3,14 @@ pub mod Links
 pub mod Orders
 pub mod Moves
 pub mod KeptChanges
+pub mod KeptStore
+pub mod KeptEvict
 pub mod Sweeps
 pub mod Cuts
 pub mod GivenPage
 pub mod Grown
 pub mod Bounds
+pub mod Victims
 pub mod Stocks
 pub mod Counts
 pub mod Replies

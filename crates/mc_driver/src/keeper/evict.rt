@@ -1,9 +1,8 @@
 //! How a set comes to a chunk in a full class: an item is evicted.
-ghost use Rattle.std.specs.Prelude.{◌≡◌, true, Contains, OnOk, take};
-ghost use Rattle.mc_pages.specs.SlabState.{IsClass, class_at, class_of_page};
+ghost use Rattle.std.specs.Prelude.{◌≡◌, true, Contains, OnOk, Some};
+ghost use Rattle.mc_pages.specs.SlabState.{IsClass, class_at};
 ghost use Rattle.mc_driver.specs.Machine.{is_idle};
-ghost use Rattle.mc_driver.specs.Supply.{victim, with_eviction, relieved, supplied};
-ghost use Rattle.std.specs.Prelude.{Some};
+ghost use Rattle.mc_driver.specs.Supply.{victim, with_eviction, supplied};
 
 use super::Keeper;
 use mc_classes::ClassId;
@@ -57,10 +56,10 @@ impl Keeper {
         requires listed { Contains (class_at self.old.slabs class).order chunk }
         ensures { self.new ≡ with_eviction self.old class (Some chunk) }
     {
+        self.slabs.back(chunk);
+        self.slabs.evicted(class);
         if let Some(item) = self.items.remove(&chunk) {
             self.index.remove(&item.key());
         }
-        self.slabs.back(chunk);
-        self.slabs.evicted(class);
     }
 }

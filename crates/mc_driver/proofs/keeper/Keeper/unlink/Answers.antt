@@ -13,7 +13,10 @@ unlinks c =
     rw c.unlink_in.ensures (unlinks_found _ _ _ _ c.args.key c.in-Some.chunk c.self.invariant.kept found)
 
 pub invariant_of-self : goal.invariant_of-self
-invariant_of-self c = rw (unlinks c) (kept_unlink _ _ _ _ _ c.args.key c.self.invariant.kept c.remove.ensures.updates.0)
+invariant_of-self c = record {
+  kept = rw (unlinks c) (kept_unlink _ _ _ _ _ c.args.key c.self.invariant.kept c.remove.ensures.updates.0);
+  bulk = c.self.invariant.bulk;
+}
 
 pub returns-in-Some-clause-unlinked : goal.returns-in-Some-clause-unlinked
 returns-in-Some-clause-unlinked c = rw (← c.self.view_is) (rw (unlinks c) refl)
