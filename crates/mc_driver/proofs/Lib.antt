@@ -14,3 +14,6 @@ pub mod Replies
 pub mod Outcomes
 pub mod Appends
 pub mod Taken
+pub mod MoverLists
+pub mod KeptMoverChange
+pub mod KeptMoverClear
