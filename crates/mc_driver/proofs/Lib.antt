@@ -20,3 +20,6 @@ pub mod KeptBegin
 pub mod HoldLists
 pub mod Appends
 pub mod Taken
+pub mod MoverLists
+pub mod KeptMoverChange
+pub mod KeptMoverClear
