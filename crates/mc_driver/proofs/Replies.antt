@@ -91,8 +91,8 @@ module _ (m now : Machine) (commands : List Command) (i : ℕ) (other : Command)
       (omega (arith, ends.0), record {
         count = i;
         within = inside;
-        done = ap (λ found. is_some found) after_more ∙ done_alone (serve now (get_or commands i other)) ∙ ends.1.1;
-        written = extends_from_appends old mid new (replies_to m (take i commands)) wrote ends.1.0;
+        done = ap (λ found. is_some found) after_more ∙ done_alone (serve now (get_or commands i other)) ∙ ends.2;
+        written = extends_from_appends old mid new (replies_to m (take i commands)) wrote ends.1;
       })
   ends_there old mid new f_old f_mid f_new Memory wrote quiet ends =
       (ends.0 ∙ quiet, record {
@@ -102,8 +102,8 @@ module _ (m now : Machine) (commands : List Command) (i : ℕ) (other : Command)
         written = Appends-kept old mid new (replies_to m (take i commands)) wrote ends.1;
       })
   ends_there old mid new f_old f_mid f_new Turns wrote quiet ends =
-      (ends.0 ∙ quiet, stopped_after ends.1.1,
-      rw (stopped_replies ends.1.1) (Appends-kept old mid new (replies_to m (take i commands)) wrote ends.1.0))
+      (ends.0 ∙ quiet, stopped_after ends.2,
+      rw (stopped_replies ends.2) (Appends-kept old mid new (replies_to m (take i commands)) wrote ends.1))
   ends_there old mid new f_old f_mid f_new (Refused number) wrote quiet ends = absurd ends
   ends_there old mid new f_old f_mid f_new (Script number) wrote quiet ends = absurd ends
   ends_there old mid new f_old f_mid f_new TooLong wrote quiet ends = absurd ends
