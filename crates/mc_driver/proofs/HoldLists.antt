@@ -1,7 +1,9 @@
 -- The workers' lists of holds as vectors: what changes when a hold is taken or given back, and whether a chunk is held.
-use Rattle.std.proofs.Common.{◌≡◌, ℕ, ◌+◌, ◌-◌, ◌<◌, List, [], ◌∷◌, ◌++◌, length, get_or, set, suc, zero, Some, refl, ap, sym, ◌∙◌, arith, reverse, map}
+use Rattle.std.proofs.Common.{◌≡◌, ℕ, ◌+◌, ◌-◌, ◌<◌, List, [], ◌∷◌, ◌++◌, length, get_or, set, suc, zero, Contains, Option, Some, None, refl, ap, sym, ◌∙◌, arith, reverse, map, find, inl, inr}
+use Rattle.std.specs.Option.{option_map}
 use Rattle.std.specs.Prelude.{Bool, true, false, ◌||◌, nat_lt, sum_by, slice_index_or}
 use Rattle.std.specs.List.{list_any, remove}
+use Rattle.std.proofs.lemmas.Bool.{cases_Bool}
 use Rattle.std.proofs.lemmas.Bool.Decides.{nat_tests}
 use Rattle.std.proofs.lemmas.List.{map-set, set-get_or, get_or-map, reverse-append, length-reverse, append-nil}
 use Rattle.std.proofs.lemmas.List.Edits.{remove-append_left, remove-append_right}
@@ -61,3 +63,20 @@ any_held f chunk (v ∷ vectors) =
     sym (ap (nat_lt 0) (sum_by-cons (times chunk) (reverse (f v)) (map (λ v. reverse (f v)) vectors))
     ∙ some_of_two (times chunk (reverse (f v))) (sum_by (times chunk) (map (λ v. reverse (f v)) vectors))
     ∙ rw (← here, ← any_held f chunk vectors) refl)
+
+-- what a search finds is in the list
+pub found_there : {X : Type 0} (p : X → Bool) (xs : List X) (x : X) → find p xs ≡ Some x → Contains xs x
+found_there p [] x found = cc
+found_there p (y ∷ xs) x found = elim (cases_Bool (p y)) [
+  | inl passes ↦
+      let here : Some y ≡ Some x = rw passes at found in
+      (0, omega arith, (cc))
+  | inr fails ↦
+      let rest : Contains xs x = found_there p xs x (rw fails at found) in
+      (suc rest.0, omega (arith, rest.1), rest.2)
+]
+
+-- an option of what it has
+pub option_same : {X : Type 0} (found : Option X) → option_map (λ x. x) found ≡ found
+option_same None = refl
+option_same (Some x) = refl

@@ -15,6 +15,11 @@ pub mod Stocks
 pub mod Counts
 pub mod Replies
 pub mod Outcomes
+pub mod KeptTouch
+pub mod KeptBegin
 pub mod HoldLists
 pub mod Appends
 pub mod Taken
+pub mod MoverLists
+pub mod KeptMoverChange
+pub mod KeptMoverClear

@@ -10,7 +10,7 @@ use Rattle.mc_classes.specs.Classes.{Classes, IsTableOf}
 use Rattle.mc_classes.specs.Refusals.{refusal_of, number_of}
 use Rattle.mc_script.specs.declared.command.Command.{Command}
 use Rattle.mc_driver.specs.declared.fault.RunFault.{RunFault}
-use Rattle.mc_driver.specs.declared.fault.RunFault.TheVariants.{Config as Refused, Script, TooLong, Read, Write, Memory}
+use Rattle.mc_driver.specs.declared.fault.RunFault.TheVariants.{Config as Refused, Script, TooLong, Read, Write, Memory, Turns}
 use Rattle.mc_driver.specs.Machine.{fresh_machine}
 use Rattle.mc_driver.specs.Run.{IsOutcome, IsScript, IsScriptOutcome, config_fault, refusal_number}
 
@@ -34,8 +34,9 @@ script_all all front commands front_is script =
 
 -- the outcome over the front of the bytes is the outcome over all of them
 pub outcome_all : (config : Config) (table : Classes) (all front : List ℕ) (old new : Option (List ℕ)) (result : Result (Unit {0}) RunFault)
-    → IsTableOf config table → front ≡ take 1048577 all → IsScriptOutcome front (fresh_machine table) old new result → IsOutcome config all old new result
+    → IsTableOf config table → front ≡ take 1048577 all → IsScriptOutcome front (fresh_machine table config.bulk) old new result → IsOutcome config all old new result
 outcome_all config table all front old new (Ok unit) is front_is (commands, script, written) = (table, is, (commands, script_all all front commands front_is script, written))
+outcome_all config table all front old new (Err Turns) is front_is (commands, script, written) = (table, is, (commands, script_all all front commands front_is script, written))
 outcome_all config table all front old new (Err TooLong) is front_is (long, kept) = (table, is, (front_long 1048576 all front front_is long, kept))
 outcome_all config table all front old new (Err (Script number)) is front_is (short, at, kept) =
     let same : front ≡ all = front_all 1048576 all front front_is short in
@@ -49,7 +50,7 @@ outcome_all config table all front old new (Err Read) is front_is told = absurd 
 
 -- the same, of bytes that the reader may not tell
 pub outcome_known : (config : Config) (table : Classes) (all : Option (List ℕ)) (front : List ℕ) (old new : Option (List ℕ)) (result : Result (Unit {0}) RunFault)
-    → IsTableOf config table → IfSome all (λ bytes. front ≡ take 1048577 bytes) → IsScriptOutcome front (fresh_machine table) old new result
+    → IsTableOf config table → IfSome all (λ bytes. front ≡ take 1048577 bytes) → IsScriptOutcome front (fresh_machine table config.bulk) old new result
     → IfSome all (λ bytes. IsOutcome config bytes old new result)
 outcome_known config table None front old new result is front_is outcome = tt
 outcome_known config table (Some bytes) front old new result is front_is outcome = outcome_all config table bytes front old new result is front_is outcome

@@ -1,5 +1,5 @@
 //! Which chunks the workers hold.
-ghost use Rattle.std.specs.Prelude.{◌≡◌, ◌<◌, IfOk, OnOk, OnErr, Contains, slice_get, position, reverse};
+ghost use Rattle.std.specs.Prelude.{◌≡◌, ◌<◌, IfOk, OnOk, OnErr, Contains, position, reverse};
 ghost use Rattle.std.specs.List.{list_any};
 ghost use Rattle.mc_pages.specs.ClassState.{is_chunk, without};
 ghost use Rattle.mc_driver.specs.Holds.{no_holds, held_by, is_full, is_held, with_hold, without_hold};
@@ -59,18 +59,12 @@ impl Holds {
         any_has(&self.by_worker, chunk)
     }
 
-    /// The chunk that the worker holds at this place, 0 being the one that it took last. None past the last.
-    pub(super) fn at(&self, worker: u64, place: u64) -> Option<ChunkId>
+    /// The chunks that the worker holds, the one that it took last standing last.
+    pub(super) fn of(&self, worker: u64) -> &[ChunkId]
         requires { worker < 64 }
-        ensures { result ≡ slice_get (held_by self.now worker) place }
+        ensures { reverse result.now ≡ held_by self.now worker }
     {
-        let chunks = &self.by_worker[worker as usize];
-        let len = chunks.len();
-        if place < len as u64 {
-            Some(chunks[len - 1 - place as usize])
-        } else {
-            None
-        }
+        self.by_worker[worker as usize].as_slice()
     }
 
     /// The worker takes a hold of the chunk.

@@ -1,5 +1,5 @@
 //! The mover: it looks at the chunks of the page on the move, and clears them.
-ghost use Rattle.std.specs.Prelude.{◌≡◌, ◌≢◌, ◌<◌, ◌≤◌, nat_lt, true, OnOk, Contains, Some, None, Err};
+ghost use Rattle.std.specs.Prelude.{◌≡◌, ◌≢◌, ◌<◌, ◌≤◌, nat_lt, true, IfOk, OnOk, Contains, Some, None, Err};
 ghost use Rattle.std.specs.Option.{option_map};
 ghost use Rattle.mc_pages.specs.SlabState.{IsClass, class_at, class_of_page, class_of_chunk};
 ghost use Rattle.mc_pages.specs.ClassState.{times};
@@ -24,7 +24,7 @@ impl Keeper {
     /// Does so many turns, or fewer where one finds no move or ends one. Says what they did, and how the last one ended.
     pub(super) fn turns(&mut self, count: u64) -> Result<(Ending, Counts), Stop>
         requires { count ≤ 1000000 }
-        ensures done { OnOk result (after_turns self.old count ≡ Some (record { machine = self.new; counts = result.1; ending = result.0 })) }
+        ensures done { IfOk result (λ done. after_turns self.old count ≡ Some (record { machine = self.new; counts = done.1; ending = done.0 })) }
         ensures stopped { result ≡ Err Stop.Turns → after_turns self.old count ≡ None }
     {
         let mut ending = Ending::Idle;
@@ -44,7 +44,7 @@ impl Keeper {
     /// One turn, which goes on counting.
     fn turn(&mut self, counts: &mut Counts) -> Result<Ending, AllocError>
         requires { AreAtMost 256000000 counts.old }
-        ensures { OnOk result (turned self.old counts.old ≡ record { machine = self.new; counts = counts.new; ending = result }) }
+        ensures { IfOk result (λ ending. turned self.old counts.old ≡ record { machine = self.new; counts = counts.new; ending = ending }) }
     {
         self.turns += 1;
         for _ in 0..self.bulk {
@@ -103,7 +103,7 @@ impl Keeper {
         requires class { IsClass self.old.slabs class }
         requires moving { option_map (λ move. move.page) self.old.slabs.moving ≡ Some chunk.page }
         requires cut { is_cut self.old.slabs class chunk ≡ true }
-        ensures { OnOk result (looked_at self.old class chunk ≡ record { machine = self.new; found = result }) }
+        ensures { IfOk result (λ found. looked_at self.old class chunk ≡ record { machine = self.new; found = found }) }
     {
         if !self.items.contains_key(&chunk) {
             return Ok(self.clear_free(class, chunk));
@@ -165,7 +165,7 @@ impl Keeper {
         requires moving { option_map (λ move. move.page) self.old.slabs.moving ≡ Some chunk.page }
         requires own { class_of_page self.old.slabs chunk.page ≡ class }
         requires idle { is_idle self.old chunk ≡ true }
-        ensures { OnOk result (saved self.old class chunk ≡ record { machine = self.new; found = result }) }
+        ensures { IfOk result (λ found. saved self.old class chunk ≡ record { machine = self.new; found = found }) }
     {
         self.sweep(class);
         match self.target(class, chunk.page) {

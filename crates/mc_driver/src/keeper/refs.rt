@@ -79,14 +79,12 @@ impl Keeper {
         requires { worker < 64 }
         ensures { result ≡ last_hold self.now worker key }
     {
-        let mut place = 0;
-        while let Some(chunk) = self.holds.at(worker, place) {
-            if self.has_key(chunk, key) {
-                return Some(chunk);
-            }
-            place += 1;
-        }
-        None
+        self.holds
+            .of(worker)
+            .iter()
+            .rev()
+            .copied()
+            .find(|chunk| self.has_key(*chunk, key))
     }
 
     /// Whether the chunk has an item of the key.

@@ -1,8 +1,10 @@
-use Rattle.std.proofs.Common.{ℕ, ◌∙◌, refl}
+use Rattle.std.proofs.Common.{◌≡◌, ℕ, Some, ◌∙◌, ap, sym, refl, get_or, take, ◌+◌}
 use Rattle.std.proofs.lemmas.Result.{err_from_is_err_and}
 use Rattle.std.proofs.KnownBytes.{Appends-trans}
 use Rattle.mc_script.specs.declared.command.Command.{Command}
 use Rattle.mc_script.specs.declared.command.Command.TheVariants.{Set}
+use Rattle.mc_driver.specs.Machine.{Machine}
+use Rattle.mc_driver.specs.Lines.{Served, serve, after_all}
 use Rattle.mc_driver.proofs.Replies.{replies_more, after_more, ends_there}
 use Rattle.mc_driver.proofs.run.serve_all.Goals as goal
 
@@ -10,11 +12,14 @@ pub loop-command-preserved : goal.loop-command-preserved
 loop-command-preserved g c =
     let other : Command = Set 0 0 0 0 in
     let i : ℕ = c.loop-command.command-index in
+    let served : Served = c.in_ok-serve_one.ensures.written.served in
+    let is : serve c.loop-command.keeper (get_or c.args.commands.now i other) ≡ Some served = c.in_ok-serve_one.ensures.written.is in
+    let so_far : after_all c.args.keeper (take i c.args.commands.now) ≡ Some c.loop-command.keeper = c.loop-command.invariant.machine in
     record {
-      written = rw (replies_more c.args.keeper c.args.commands.now i other c.loop-command-test.true)
-          (Appends-trans _ _ _ _ _ c.loop-command.invariant.written (rw c.loop-command.invariant.machine at c.in_ok-serve_one.ensures.written));
-      machine = rw (after_more c.args.keeper c.args.commands.now i other c.loop-command-test.true)
-          (c.in_ok-serve_one.ensures.after ∙ rw c.loop-command.invariant.machine refl);
+      written = rw (replies_more c.args.keeper c.loop-command.keeper c.args.commands.now i other c.loop-command-test.true so_far served is)
+          (Appends-trans _ _ _ _ _ c.loop-command.invariant.written c.in_ok-serve_one.ensures.written.written);
+      machine = after_more c.args.keeper c.loop-command.keeper c.args.commands.now i other c.loop-command-test.true so_far
+          ∙ rw is (ap (λ (m : Machine). Some m) (sym c.in_ok-serve_one.ensures.written.after));
       quiet = c.in_ok-serve_one.ensures.quiet ∙ c.loop-command.invariant.quiet;
     }
 
@@ -22,5 +27,5 @@ loop-command-preserved g c =
 pub returns-in_err-serve_one-clause-fault : goal.returns-in_err-serve_one-clause-fault
 returns-in_err-serve_one-clause-fault g c =
     let p = err_from_is_err_and c.from_residual.result c.from_residual.ensures.1 in
-    rw (p.1, p.2) (ends_there _ _ c.loop-command.command-index _ _ _ _ _ _ c.in_err-serve_one.field-0.0 c.loop-command-test.true
-    c.loop-command.invariant.written c.loop-command.invariant.quiet c.in_err-serve_one.ensures.fault)
+    rw (p.1, p.2) (ends_there _ c.loop-command.keeper _ c.loop-command.command-index (Set 0 0 0 0) c.loop-command-test.true c.loop-command.invariant.machine
+    _ _ _ _ _ _ c.in_err-serve_one.field-0.0 c.loop-command.invariant.written c.loop-command.invariant.quiet c.in_err-serve_one.ensures.fault)

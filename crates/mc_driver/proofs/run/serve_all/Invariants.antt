@@ -1,4 +1,4 @@
-use Rattle.std.proofs.Common.{◌≡◌, take}
+use Rattle.std.proofs.Common.{◌≡◌, take, Some}
 use Rattle.std.specs.Io.KnownBytes.{Appends}
 use Rattle.mc_driver.specs.Lines.{replies_to, after_all}
 use Rattle.mc_driver.proofs.run.serve_all.Given as goal
@@ -7,6 +7,6 @@ use Rattle.mc_driver.proofs.run.serve_all.Given as goal
 abbrev pub invariant-loop-command : goal.invariant-loop-command
 invariant-loop-command g l = record {
   written : Appends (g.W.Sink.contents l.initial.writer) (g.W.Sink.contents l.writer) (replies_to l.initial.keeper (take l.command-index l.commands));
-  machine : l.keeper ≡ after_all l.initial.keeper (take l.command-index l.commands);
+  machine : after_all l.initial.keeper (take l.command-index l.commands) ≡ Some l.keeper;
   quiet : g.W.Sink.failures l.writer ≡ g.W.Sink.failures l.initial.writer;
 }
