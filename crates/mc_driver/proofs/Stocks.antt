@@ -7,7 +7,7 @@ use Rattle.std.proofs.lemmas.List.{length-set, map-id}
 use Rattle.std.proofs.lemmas.List.Sums.{fold-append}
 use Rattle.std.proofs.lemmas.List.FromFn.{map-range_with_len_more}
 use Rattle.mc_pages.specs.declared.ids.ChunkId.{ChunkId}
-use Rattle.mc_pages.specs.SlabState.{SlabState, IsClass, class_at}
+use Rattle.mc_pages.specs.SlabState.{IsClass, class_at}
 use Rattle.mc_pages.specs.Accounted.{first_chunks}
 use Rattle.mc_pages.specs.Changes.{after_back, after_grow, next_page}
 use Rattle.mc_driver.specs.Items.{Items, linked_chunk, unlinked_items}
