@@ -10,10 +10,10 @@ use Rattle.std.proofs.lemmas.Bool.Decides.{nat_tests}
 use Rattle.mc_classes.specs.Classes.{Classes}
 use Rattle.mc_pages.specs.declared.ids.ChunkId.{ChunkId}
 use Rattle.mc_pages.specs.Ledger.{owner_at}
-use Rattle.mc_pages.specs.ClassState.{ClassState, is_chunk, times, without, cleared}
+use Rattle.mc_pages.specs.ClassState.{ClassState, is_chunk, times, without, cleared, put_back}
 use Rattle.mc_pages.specs.SlabState.{SlabState, IsClass, class_at, class_of_page, class_of_chunk}
 use Rattle.mc_pages.specs.Accounted.{truth, places_in, is_cut, is_cleared, IsAccounted}
-use Rattle.mc_pages.specs.Changes.{with_class, after_clear}
+use Rattle.mc_pages.specs.Changes.{with_class, after_back, after_clear}
 use Rattle.mc_pages.proofs.Chunks.{times-cons, times-without, same_from_is_chunk, is_chunk-same}
 use Rattle.mc_pages.proofs.Lists.{without-absent}
 use Rattle.mc_pages.proofs.HandedOut.{IsClass-placed}
@@ -115,27 +115,45 @@ contains_counted chunk (c ∷ chunks) some = counted_step (is_chunk c chunk) ref
         let below = more rest in
         (suc below.0, omega (arith, below.1), below.2)
 
--- a chunk and its item are cleared away
-module _ (table : Classes) (slabs : SlabState) (index new_index : List (ℕ × ChunkId)) (items : Items) (chunk : ChunkId) (item : Item)
-    (kept : IsKept table slabs index items) (there : item_at items chunk ≡ Some item) (accounted : IsAccounted (after_clear slabs chunk)) where
-  balanced : (x : ChunkId) → times x (class_at (after_clear slabs chunk) (class_of_page slabs chunk.page)).order + places x items
+-- a chunk leaves its class's hand-out order, and its item is gone
+module _ (table : Classes) (slabs : SlabState) (index new_index : List (ℕ × ChunkId)) (items : Items) (chunk : ChunkId) (item : Item) (state : ClassState)
+    (kept : IsKept table slabs index items) (there : item_at items chunk ≡ Some item)
+    (same : state.per_page ≡ (class_of_chunk slabs chunk).per_page) (order : state.order ≡ without chunk (class_of_chunk slabs chunk).order)
+    (accounted : IsAccounted (with_class slabs (class_of_page slabs chunk.page) state)) where
+  balanced : (x : ChunkId) → times x (class_at (with_class slabs (class_of_page slabs chunk.page) state) (class_of_page slabs chunk.page)).order + places x items
       ≡ times x (class_of_chunk slabs chunk).order + places x (without_item items chunk)
   balanced x =
       let valid : IsClass slabs (class_of_page slabs chunk.page) = class_of_item table slabs index items chunk item kept there in
-      rw (class_at-with_class_same slabs (class_of_page slabs chunk.page) (cleared (class_of_chunk slabs chunk) chunk) valid)
+      rw (class_at-with_class_same slabs (class_of_page slabs chunk.page) state valid, order)
       (omega (
         arith,
         times-without x chunk (class_of_chunk slabs chunk).order (handed_item table slabs index items chunk item kept there),
         places_without x chunk item items there,
       ))
 
-  pub kept_cleared : ((key : ℕ) → lookup (is_at (nat_cmp key)) new_index ≡ linked_chunk (without_item items chunk) key)
-      → IsKept table (after_clear slabs chunk) new_index (without_item items chunk)
-  kept_cleared leads =
-      kept_changed table slabs (after_clear slabs chunk) index new_index items (without_item items chunk) (class_of_page slabs chunk.page) kept
-      (class_of_item table slabs index items chunk item kept there)
-      (changes_class slabs (class_of_page slabs chunk.page) (cleared (class_of_chunk slabs chunk) chunk) refl) accounted balanced leads
+  pub kept_left : ((key : ℕ) → lookup (is_at (nat_cmp key)) new_index ≡ linked_chunk (without_item items chunk) key)
+      → IsKept table (with_class slabs (class_of_page slabs chunk.page) state) new_index (without_item items chunk)
+  kept_left leads =
+      kept_changed table slabs (with_class slabs (class_of_page slabs chunk.page) state) index new_index items (without_item items chunk)
+      (class_of_page slabs chunk.page) kept (class_of_item table slabs index items chunk item kept there)
+      (changes_class slabs (class_of_page slabs chunk.page) state same) accounted balanced leads
       (λ key. omega (arith, kept.one_link key, links_without key chunk item items there))
+
+-- a chunk and its item are cleared away
+pub kept_cleared : (table : Classes) (slabs : SlabState) (index new_index : List (ℕ × ChunkId)) (items : Items) (chunk : ChunkId) (item : Item)
+    → IsKept table slabs index items → item_at items chunk ≡ Some item → IsAccounted (after_clear slabs chunk)
+    → ((key : ℕ) → lookup (is_at (nat_cmp key)) new_index ≡ linked_chunk (without_item items chunk) key)
+    → IsKept table (after_clear slabs chunk) new_index (without_item items chunk)
+kept_cleared table slabs index new_index items chunk item kept there accounted leads =
+    kept_left table slabs index new_index items chunk item (cleared (class_of_chunk slabs chunk) chunk) kept there refl refl accounted leads
+
+-- a chunk is put back, and its item is gone
+pub kept_back : (table : Classes) (slabs : SlabState) (index new_index : List (ℕ × ChunkId)) (items : Items) (chunk : ChunkId) (item : Item)
+    → IsKept table slabs index items → item_at items chunk ≡ Some item → IsAccounted (after_back slabs chunk)
+    → ((key : ℕ) → lookup (is_at (nat_cmp key)) new_index ≡ linked_chunk (without_item items chunk) key)
+    → IsKept table (after_back slabs chunk) new_index (without_item items chunk)
+kept_back table slabs index new_index items chunk item kept there accounted leads =
+    kept_left table slabs index new_index items chunk item (put_back (class_of_chunk slabs chunk) chunk) kept there refl refl accounted leads
 
 -- the keys lead on where they led, but for the one whose item is gone
 pub leads_dead : (table : Classes) (slabs : SlabState) (index : List (ℕ × ChunkId)) (items : Items) (chunk : ChunkId) (item : Item)

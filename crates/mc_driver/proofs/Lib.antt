@@ -17,3 +17,4 @@ pub mod Taken
 pub mod MoverLists
 pub mod KeptMoverChange
 pub mod KeptMoverClear
+pub mod KeptMoverRescue

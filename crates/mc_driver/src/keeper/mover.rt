@@ -1,6 +1,9 @@
 //! The mover: it looks at the chunks of the page on the move, and clears them.
 ghost use Rattle.std.specs.Prelude.{◌≡◌, ◌≢◌, ◌<◌, ◌≤◌, nat_lt, true, IfOk, OnOk, Contains, Some, None, Err};
+ghost use Rattle.std.specs.BTreeMap.{is_at};
+ghost use Rattle.std.specs.Map.{set_value};
 ghost use Rattle.std.specs.Option.{option_map};
+ghost use Rattle.std.specs.Ordering.{nat_cmp};
 ghost use Rattle.mc_pages.specs.SlabState.{IsClass, class_at, class_of_page, class_of_chunk};
 ghost use Rattle.mc_pages.specs.ClassState.{times};
 ghost use Rattle.mc_pages.specs.Accounted.{is_cut};
@@ -16,6 +19,7 @@ use super::turn::{Counts, Ending};
 use mc_classes::{ClassId, PageId};
 use mc_pages::{ChunkId, Found, Moving};
 use std::alloc::AllocError;
+use std::collections::BTreeMap;
 
 /// The most turns of a run (own).
 const MAX_TURNS: u64 = 1_000_000;
@@ -203,21 +207,24 @@ impl Keeper {
         requires off { new.page ≢ old.page }
         ensures { OnOk result (self.new ≡ (with_saved self.old old (Some new)).machine) }
     {
-        if let Some(item) = self.items.remove(&old) {
-            let key = item.key();
-            if self.items.insert(new, item).is_err() {
+        let Some(item) = self.items.remove(&old) else {
+            return Ok(());
+        };
+        let key = item.key();
+        match self.items.insert(new, item) {
+            Ok(_) => {
+                lead_to(&mut self.index, key, new);
+                self.slabs.replace(new, old);
+                self.slabs.clear(old);
+                Ok(())
+            }
+            Err(_) => {
                 // The item is lost with the run. What is left agrees: its chunk is free, and its key leads nowhere.
                 self.index.remove(&key);
                 self.slabs.back(old);
-                return Err(AllocError);
+                Err(AllocError)
             }
-            if let Some(chunk) = self.index.get_mut(&key) {
-                *chunk = new;
-            }
-            self.slabs.replace(new, old);
-            self.slabs.clear(old);
         }
-        Ok(())
     }
 
     /// Evicts the chunk's item, and clears the chunk.
@@ -230,5 +237,14 @@ impl Keeper {
             self.index.remove(&item.key());
         }
         self.slabs.clear(chunk);
+    }
+}
+
+/// The key leads to this chunk now, if it led to one.
+fn lead_to(index: &mut BTreeMap<u64, ChunkId>, key: u64, chunk: ChunkId)
+    ensures { index.new.entries ≡ set_value (is_at (nat_cmp key)) index.old.entries chunk }
+{
+    if let Some(place) = index.get_mut(&key) {
+        *place = chunk;
     }
 }
