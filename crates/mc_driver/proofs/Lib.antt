@@ -18,3 +18,4 @@ pub mod MoverLists
 pub mod KeptMoverChange
 pub mod KeptMoverClear
 pub mod KeptMoverRescue
+pub mod MoverSaves
