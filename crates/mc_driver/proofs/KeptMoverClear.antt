@@ -15,10 +15,12 @@ use Rattle.mc_pages.specs.SlabState.{SlabState, IsClass, class_at, class_of_page
 use Rattle.mc_pages.specs.Accounted.{truth, places_in, is_cut, is_cleared, IsAccounted}
 use Rattle.mc_pages.specs.Changes.{with_class, after_back, after_clear}
 use Rattle.mc_pages.proofs.Chunks.{times-cons, times-without, same_from_is_chunk, is_chunk-same}
-use Rattle.mc_pages.proofs.Lists.{without-absent}
+use Rattle.mc_pages.proofs.Lists.{without-absent, times-without_one}
+use Rattle.mc_pages.proofs.Cleared.{truth-le_one}
+use Rattle.mc_pages.proofs.Redistributed.{is_cut-kept}
 use Rattle.mc_pages.proofs.HandedOut.{IsClass-placed}
 use Rattle.mc_pages.proofs.Owners.{class_of_owner-is_of_class}
-use Rattle.mc_pages.proofs.OneClass.{class_at-with_class_same}
+use Rattle.mc_pages.proofs.OneClass.{class_at-with_class_same, length-with_class}
 use Rattle.mc_driver.specs.Item.{Item, is_linked_to}
 use Rattle.mc_driver.specs.Items.{Items, chunk_cmp, item_at, is_linked, is_unlinked, linked_chunk, without_item}
 use Rattle.mc_driver.specs.Holds.{is_held}
@@ -207,3 +209,25 @@ cleared_there slabs class chunk accounted valid cut free order = elim (cases_Boo
 -- its page is the class's
 pub own_from_cut : (slabs : SlabState) (class : ℕ) (chunk : ChunkId) → is_cut slabs class chunk ≡ true → class_of_page slabs chunk.page ≡ class
 own_from_cut slabs class chunk cut = class_of_owner-is_of_class class (owner_at slabs.owners chunk.page) (and_parts _ _ cut).0
+
+-- a chunk that was cleared away
+pub cleared_after : (slabs : SlabState) (chunk : ChunkId) → IsAccounted slabs → IsAccounted (after_clear slabs chunk)
+    → 1 ≤ places_in slabs (class_of_page slabs chunk.page) chunk → is_cleared (after_clear slabs chunk) (class_of_page slabs chunk.page) chunk ≡ true
+cleared_after slabs chunk accounted after placed =
+    let valid : IsClass slabs (class_of_page slabs chunk.page) = IsClass-placed slabs chunk accounted placed in
+    let state : ClassState = class_of_chunk slabs chunk in
+    let sum = accounted.chunks (class_of_page slabs chunk.page) chunk valid in
+    let one : times chunk state.free + times chunk state.order ≡ 1 = omega (arith, sum, truth-le_one (is_cut slabs (class_of_page slabs chunk.page) chunk), placed) in
+    let here = class_at-with_class_same slabs (class_of_page slabs chunk.page) (cleared state chunk) valid in
+    let places : places_in (after_clear slabs chunk) (class_of_page slabs chunk.page) chunk ≡ 0
+    = ap (λ (c : ClassState). times chunk c.free + times chunk c.order) here
+    ∙ omega (arith, times-without_one chunk chunk state.free state.order one, ap truth (is_chunk-same chunk)) in
+    let cut : is_cut (after_clear slabs chunk) (class_of_page slabs chunk.page) chunk ≡ is_cut slabs (class_of_page slabs chunk.page) chunk
+    = is_cut-kept slabs (after_clear slabs chunk) (class_of_page slabs chunk.page) chunk refl refl (ap (λ (c : ClassState). c.per_page) here) in
+    let valid_after : IsClass (after_clear slabs chunk) (class_of_page slabs chunk.page)
+    = (valid.0, omega (arith, valid.1, length-with_class slabs (class_of_page slabs chunk.page) (cleared state chunk))) in
+    let sum_after = after.chunks (class_of_page slabs chunk.page) chunk valid_after in
+    elim (cases_Bool (is_cleared (after_clear slabs chunk) (class_of_page slabs chunk.page) chunk)) [
+      | inl there ↦ there
+      | inr still ↦ absurd (omega (arith, sum, sum_after, places, ap truth cut, ap truth still, placed))
+    ]

@@ -19,3 +19,4 @@ pub mod KeptMoverChange
 pub mod KeptMoverClear
 pub mod KeptMoverRescue
 pub mod MoverSaves
+pub mod KeptMoverPass

@@ -10,7 +10,9 @@ use Rattle.mc_pages.specs.declared.ids.ChunkId.{ChunkId}
 use Rattle.mc_pages.specs.declared.ids.Moving.{Moving}
 use Rattle.mc_pages.specs.declared.moves.Found.TheVariants.{Cleared, Busy}
 use Rattle.mc_pages.specs.ClassState.{is_chunk, times}
-use Rattle.mc_pages.specs.SlabState.{SlabState, IsClass, class_at, class_of_page, class_of_chunk}
+use Rattle.mc_pages.specs.SlabState.{SlabState, IsClass, class_at, class_of_owner, class_of_page}
+use Rattle.mc_pages.specs.declared.ledger.Owner.{Owner}
+use Rattle.mc_pages.specs.Ledger.{owner_at}
 use Rattle.mc_pages.specs.Accounted.{truth, is_cut, is_cleared, IsAccounted}
 use Rattle.mc_pages.proofs.Cleared.{truth-le_one}
 use Rattle.mc_pages.proofs.Chunks.{times-cons, same_from_is_chunk}
@@ -80,7 +82,7 @@ length-reclaims m (c ∷ chunks) = length-reclaims (after_reclaim m c) chunks �
 pub moving-swept : (m : Machine) (class : ℕ) → (swept m class).slabs.moving ≡ m.slabs.moving
 moving-swept m class = moving-reclaims m (dead_chunks m class)
 
-pub owners-swept : (m : Machine) (class : ℕ) → (swept m class).slabs.owners ≡ m.slabs.owners
+owners-swept : (m : Machine) (class : ℕ) → (swept m class).slabs.owners ≡ m.slabs.owners
 owners-swept m class = owners-reclaims m (dead_chunks m class)
 
 pub class_swept : (m : Machine) (class other : ℕ) → IsClass m.slabs other → IsClass (swept m class).slabs other
@@ -143,3 +145,9 @@ looked_with_item m now index class chunk item kept same valid cut there =
 pub there_is : (found : Option Item) → is_some found ≡ true → (item : Item) × (found ≡ Some item)
 there_is None bad = absurd (false≢true bad)
 there_is (Some item) some = (item, refl)
+
+-- the page's class is the same after a sweep
+pub own_swept : (m now : Machine) (class page : ℕ) → now ≡ swept m class → class_of_page m.slabs page ≡ class → class_of_page now.slabs page ≡ class
+own_swept m now class page same own =
+    ap (λ (m : Machine). class_of_page m.slabs page) same
+    ∙ ap (λ (owners : List Owner). class_of_owner (owner_at owners page)) (owners-swept m class) ∙ own

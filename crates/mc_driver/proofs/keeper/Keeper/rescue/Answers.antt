@@ -4,7 +4,7 @@ use Rattle.mc_driver.specs.Item.{Item}
 use Rattle.mc_driver.specs.Machine.{Machine}
 use Rattle.mc_pages.specs.SlabState.{SlabState, class_of_chunk}
 use Rattle.mc_pages.specs.Changes.{after_clear, after_replace}
-use Rattle.mc_driver.proofs.KeptMoverClear.{idle_here, handed_item, contains_counted, kept_back, leads_gone}
+use Rattle.mc_driver.proofs.KeptMoverClear.{cleared_after, idle_here, handed_item, contains_counted, kept_back, leads_gone}
 use Rattle.mc_driver.proofs.KeptMoverRescue.{kept_rescued, listed_still}
 use Rattle.mc_driver.proofs.keeper.Keeper.rescue.Goals as goal
 
@@ -44,8 +44,8 @@ invariant_of-self-in-Ok c =
       bulk = c.self.invariant.bulk;
     }
 
-pub returns-in-Ok : goal.returns-in-Ok
-returns-in-Ok c =
+pub returns-in-Ok-clause-rescued : goal.returns-in-Ok-clause-rescued
+returns-in-Ok-clause-rescued c =
     let slabs : c.clear.new.self ≡ after_clear (after_replace c.self.inside.slabs c.args.new c.args.old) c.args.old
     = c.clear.ensures.cleared ∙ ap (λ (s : SlabState). after_clear s c.args.old) c.replace.ensures.replaced in
     rw (← c.self.view_is) (rw (slabs, c.in-Ok.ensures.entries, c.remove.ensures.entries, ← c.in-Some.ensures.value) refl)
@@ -61,3 +61,14 @@ invariant_of-self-in-Err c =
           (c.key-key.ensures ∙ sym (ap (λ (item : Item). item.key) same)) c.remove-in-Err.ensures.updates.0));
       bulk = c.self.invariant.bulk;
     }
+
+pub returns-in-Ok-clause-clears : goal.returns-in-Ok-clause-clears
+returns-in-Ok-clause-clears c =
+    let found = idle_here _ _ c.args.old c.self.view_is c.requires.idle in
+    let free : Contains (class_of_chunk c.self.inside.slabs c.args.old).free c.args.new = rw (ap (λ (m : Machine). m.slabs) c.self.view_is) c.requires.free in
+    let slabs : c.clear.new.self ≡ after_clear (after_replace c.self.inside.slabs c.args.new c.args.old) c.args.old
+    = c.clear.ensures.cleared ∙ ap (λ (s : SlabState). after_clear s c.args.old) c.replace.ensures.replaced in
+    rw (← c.self.view_is, slabs)
+    (cleared_after (after_replace c.self.inside.slabs c.args.new c.args.old) c.args.old (rw c.replace.ensures.replaced at c.replace.ensures.accounted)
+    (rw slabs at c.clear.ensures.accounted)
+    (listed_still _ _ _ _ c.args.old c.args.new found.0 c.self.invariant.kept found.1 found.2 free))
