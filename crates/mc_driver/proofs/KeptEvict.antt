@@ -1,5 +1,5 @@
 -- What an eviction keeps.
-use Rattle.std.proofs.Common.{◌≡◌, ℕ, ◌≤◌, List, length, true, false, cond, Option, Some, None, refl, inl, inr, ◌∙◌, arith}
+use Rattle.std.proofs.Common.{◌≡◌, ℕ, List, length, true, false, cond, Option, Some, None, refl, inl, inr, ◌∙◌, arith}
 use Rattle.std.specs.Ordering.{nat_cmp}
 use Rattle.std.specs.BTreeMap.{is_at}
 use Rattle.std.specs.Map.{lookup}
@@ -9,7 +9,7 @@ use Rattle.std.proofs.lemmas.List.{length-set}
 use Rattle.std.proofs.lemmas.Bool.Decides.{leb_tells}
 use Rattle.mc_classes.specs.Classes.{Classes}
 use Rattle.mc_pages.specs.declared.ids.ChunkId.{ChunkId}
-use Rattle.mc_pages.specs.ClassState.{ClassState, evicted}
+use Rattle.mc_pages.specs.ClassState.{evicted}
 use Rattle.mc_pages.specs.SlabState.{SlabState, IsClass, class_at, class_of_page}
 use Rattle.mc_pages.specs.Accounted.{IsAccounted}
 use Rattle.mc_pages.specs.Changes.{after_back, after_evicted}

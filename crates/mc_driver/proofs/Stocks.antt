@@ -7,7 +7,7 @@ use Rattle.std.proofs.lemmas.List.{length-set, map-id}
 use Rattle.std.proofs.lemmas.List.Sums.{fold-append}
 use Rattle.std.proofs.lemmas.List.FromFn.{map-range_with_len_more}
 use Rattle.mc_pages.specs.declared.ids.ChunkId.{ChunkId}
-use Rattle.mc_pages.specs.SlabState.{SlabState, IsClass, class_at}
+use Rattle.mc_pages.specs.SlabState.{IsClass, class_at}
 use Rattle.mc_pages.specs.Accounted.{first_chunks}
 use Rattle.mc_pages.specs.Changes.{after_back, after_grow, next_page}
 use Rattle.mc_driver.specs.Items.{Items, linked_chunk, unlinked_items}
@@ -79,3 +79,8 @@ sweeps_more m now place so_far =
     ∙ ap (λ cs. cs ++ (place + 1) ∷ []) (map-id (range_with_len 1 place)) in
     ap (λ (n : Machine). swept n (place + 1)) so_far
     ∙ sym (ap (λ cs. fold swept m cs) more ∙ fold-append swept m (range_with_len 1 place) ((place + 1) ∷ []))
+
+-- for stocking and supplying a class, and for storing an item in it
+pub ruleset class_stays = (IsClass-swept, IsClass-stocked)
+
+pub ruleset store_steps = (IsClass-supplied, nowhere-unlinked)

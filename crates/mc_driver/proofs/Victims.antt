@@ -1,5 +1,5 @@
 -- The search for an item to evict, one chunk after another.
-use Rattle.std.proofs.Common.{◌≡◌, ℕ, ◌+◌, ◌≤◌, ◌<◌, List, [], ◌∷◌, length, take, Bool, true, false, cond, Option, Some, None, refl, ap, sym, ◌∙◌, arith, Contains, slice_get, zero, suc}
+use Rattle.std.proofs.Common.{◌≡◌, ℕ, ◌≤◌, ◌<◌, List, [], ◌∷◌, length, take, Bool, true, false, cond, Option, Some, None, refl, ap, sym, ◌∙◌, arith, Contains, slice_get, zero, suc}
 use Rattle.std.specs.Prelude.{find}
 use Rattle.std.proofs.lemmas.List.{take_all}
 use Rattle.mc_pages.specs.declared.ids.ChunkId.{ChunkId}

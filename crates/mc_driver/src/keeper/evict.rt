@@ -14,6 +14,7 @@ const TRIES: u64 = 5;
 
 impl Keeper {
     /// Sees to it that the class has a free chunk, where there is a way to one.
+    #[tactic(auto, using(crate::proofs::Stocks::class_stays))]
     pub(super) fn supply(&mut self, class: ClassId) -> Result<(), AllocError>
         requires { IsClass self.old.slabs class }
         ensures { OnOk result (self.new ≡ supplied self.old class) }

@@ -21,9 +21,9 @@ invariant_of-self c =
     let linked : c.in-Some.item.linked ≡ true = rw at at idle in
     record {
       kept = rw (c.evicted.ensures.evicted, c.back.ensures.back, c.remove.ensures.entries)
-      (kept_evict _ _ _ _ _ c.args.class c.args.chunk c.in-Some.item c.self.invariant.kept
-      (rw c.back.ensures.back at c.back.ensures.accounted) (rw (c.evicted.ensures.evicted, c.back.ensures.back) at c.evicted.ensures.accounted)
-      at linked (rw c.key.ensures at c.remove-in-Some.ensures.updates.0));
+          (kept_evict _ _ _ _ _ c.args.class c.args.chunk c.in-Some.item c.self.invariant.kept
+          (rw c.back.ensures.back at c.back.ensures.accounted) (rw (c.evicted.ensures.evicted, c.back.ensures.back) at c.evicted.ensures.accounted)
+          at linked (rw c.key.ensures at c.remove-in-Some.ensures.updates.0));
       bulk = c.self.invariant.bulk;
     }
 

@@ -19,10 +19,10 @@ invariant_of-self c =
     let valid : IsClass c.self.inside.slabs c.args.class = rw (ap (λ (m : Machine). m.slabs) c.self.view_is) c.requires in
     record {
       kept = rw (c.cut_page.ensures.cut, c.in-Ok.ensures.given.1)
-      (kept_grow _ _ _ _ c.args.class c.in-Ok.page (first_chunks c.in-Ok.page c.per_page-per_page.result) c.self.invariant.kept valid
-      c.in-Ok.ensures.given.0
-      (rw (c.cut_page.ensures.cut, c.in-Ok.ensures.given.1) at c.cut_page.ensures.accounted)
-      (rw (c.cut_page.ensures.cut, c.in-Ok.ensures.given.1) at c.cut_page.ensures.whole));
+          (kept_grow _ _ _ _ c.args.class c.in-Ok.page (first_chunks c.in-Ok.page c.per_page-per_page.result) c.self.invariant.kept valid
+          c.in-Ok.ensures.given.0
+          (rw (c.cut_page.ensures.cut, c.in-Ok.ensures.given.1) at c.cut_page.ensures.accounted)
+          (rw (c.cut_page.ensures.cut, c.in-Ok.ensures.given.1) at c.cut_page.ensures.whole));
       bulk = c.self.invariant.bulk;
     }
 

@@ -17,8 +17,8 @@ invariant_of-self-in-Ok c =
     let unlinked : linked_chunk c.self.inside.items.entries c.args.key ≡ None = rw (ap (λ (m : Machine). m.items) c.self.view_is) c.requires.unlinked in
     record {
       kept = rw (c.in_ok-insert.ensures.entries, c.new.ensures, c.pop.ensures.popped)
-      (kept_store _ _ _ _ _ c.args.class c.args.key c.args.words.items c.args.chunk c.self.invariant.kept valid head
-      (rw c.pop.ensures.popped at c.pop.ensures.accounted) unlinked c.in-Ok.ensures.updates.0);
+          (kept_store _ _ _ _ _ c.args.class c.args.key c.args.words.items c.args.chunk c.self.invariant.kept valid head
+          (rw c.pop.ensures.popped at c.pop.ensures.accounted) unlinked c.in-Ok.ensures.updates.0);
       bulk = c.self.invariant.bulk;
     }
 

@@ -11,6 +11,6 @@ invariant_of-self c =
     = rw (ap (λ (m : Machine). m.items) c.self.view_is) (and_parts _ _ c.requires.dead).0 in
     record {
       kept = rw (c.back.ensures.back, c.remove.ensures.entries)
-      (kept_reclaim _ _ _ _ c.args.chunk c.self.invariant.kept (rw c.back.ensures.back at c.back.ensures.accounted) unlinked);
+          (kept_reclaim _ _ _ _ c.args.chunk c.self.invariant.kept (rw c.back.ensures.back at c.back.ensures.accounted) unlinked);
       bulk = c.self.invariant.bulk;
     }
