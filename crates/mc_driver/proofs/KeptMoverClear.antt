@@ -10,15 +10,17 @@ use Rattle.std.proofs.lemmas.Bool.Decides.{nat_tests}
 use Rattle.mc_classes.specs.Classes.{Classes}
 use Rattle.mc_pages.specs.declared.ids.ChunkId.{ChunkId}
 use Rattle.mc_pages.specs.Ledger.{owner_at}
-use Rattle.mc_pages.specs.ClassState.{ClassState, is_chunk, times, without, cleared}
+use Rattle.mc_pages.specs.ClassState.{ClassState, is_chunk, times, without, cleared, put_back}
 use Rattle.mc_pages.specs.SlabState.{SlabState, IsClass, class_at, class_of_page, class_of_chunk}
 use Rattle.mc_pages.specs.Accounted.{truth, places_in, is_cut, is_cleared, IsAccounted}
-use Rattle.mc_pages.specs.Changes.{with_class, after_clear}
+use Rattle.mc_pages.specs.Changes.{with_class, after_back, after_clear}
 use Rattle.mc_pages.proofs.Chunks.{times-cons, times-without, same_from_is_chunk, is_chunk-same}
-use Rattle.mc_pages.proofs.Lists.{without-absent}
+use Rattle.mc_pages.proofs.Lists.{without-absent, times-without_one}
+use Rattle.mc_pages.proofs.Cleared.{truth-le_one}
+use Rattle.mc_pages.proofs.Redistributed.{is_cut-kept}
 use Rattle.mc_pages.proofs.HandedOut.{IsClass-placed}
 use Rattle.mc_pages.proofs.Owners.{class_of_owner-is_of_class}
-use Rattle.mc_pages.proofs.OneClass.{class_at-with_class_same}
+use Rattle.mc_pages.proofs.OneClass.{class_at-with_class_same, length-with_class}
 use Rattle.mc_driver.specs.Item.{Item, is_linked_to}
 use Rattle.mc_driver.specs.Items.{Items, chunk_cmp, item_at, is_linked, is_unlinked, linked_chunk, without_item}
 use Rattle.mc_driver.specs.Holds.{is_held}
@@ -115,27 +117,45 @@ contains_counted chunk (c ∷ chunks) some = counted_step (is_chunk c chunk) ref
         let below = more rest in
         (suc below.0, omega (arith, below.1), below.2)
 
--- a chunk and its item are cleared away
-module _ (table : Classes) (slabs : SlabState) (index new_index : List (ℕ × ChunkId)) (items : Items) (chunk : ChunkId) (item : Item)
-    (kept : IsKept table slabs index items) (there : item_at items chunk ≡ Some item) (accounted : IsAccounted (after_clear slabs chunk)) where
-  balanced : (x : ChunkId) → times x (class_at (after_clear slabs chunk) (class_of_page slabs chunk.page)).order + places x items
+-- a chunk leaves its class's hand-out order, and its item is gone
+module _ (table : Classes) (slabs : SlabState) (index new_index : List (ℕ × ChunkId)) (items : Items) (chunk : ChunkId) (item : Item) (state : ClassState)
+    (kept : IsKept table slabs index items) (there : item_at items chunk ≡ Some item)
+    (same : state.per_page ≡ (class_of_chunk slabs chunk).per_page) (order : state.order ≡ without chunk (class_of_chunk slabs chunk).order)
+    (accounted : IsAccounted (with_class slabs (class_of_page slabs chunk.page) state)) where
+  balanced : (x : ChunkId) → times x (class_at (with_class slabs (class_of_page slabs chunk.page) state) (class_of_page slabs chunk.page)).order + places x items
       ≡ times x (class_of_chunk slabs chunk).order + places x (without_item items chunk)
   balanced x =
       let valid : IsClass slabs (class_of_page slabs chunk.page) = class_of_item table slabs index items chunk item kept there in
-      rw (class_at-with_class_same slabs (class_of_page slabs chunk.page) (cleared (class_of_chunk slabs chunk) chunk) valid)
+      rw (class_at-with_class_same slabs (class_of_page slabs chunk.page) state valid, order)
       (omega (
         arith,
         times-without x chunk (class_of_chunk slabs chunk).order (handed_item table slabs index items chunk item kept there),
         places_without x chunk item items there,
       ))
 
-  pub kept_cleared : ((key : ℕ) → lookup (is_at (nat_cmp key)) new_index ≡ linked_chunk (without_item items chunk) key)
-      → IsKept table (after_clear slabs chunk) new_index (without_item items chunk)
-  kept_cleared leads =
-      kept_changed table slabs (after_clear slabs chunk) index new_index items (without_item items chunk) (class_of_page slabs chunk.page) kept
-      (class_of_item table slabs index items chunk item kept there)
-      (changes_class slabs (class_of_page slabs chunk.page) (cleared (class_of_chunk slabs chunk) chunk) refl) accounted balanced leads
+  pub kept_left : ((key : ℕ) → lookup (is_at (nat_cmp key)) new_index ≡ linked_chunk (without_item items chunk) key)
+      → IsKept table (with_class slabs (class_of_page slabs chunk.page) state) new_index (without_item items chunk)
+  kept_left leads =
+      kept_changed table slabs (with_class slabs (class_of_page slabs chunk.page) state) index new_index items (without_item items chunk)
+      (class_of_page slabs chunk.page) kept (class_of_item table slabs index items chunk item kept there)
+      (changes_class slabs (class_of_page slabs chunk.page) state same) accounted balanced leads
       (λ key. omega (arith, kept.one_link key, links_without key chunk item items there))
+
+-- a chunk and its item are cleared away
+pub kept_cleared : (table : Classes) (slabs : SlabState) (index new_index : List (ℕ × ChunkId)) (items : Items) (chunk : ChunkId) (item : Item)
+    → IsKept table slabs index items → item_at items chunk ≡ Some item → IsAccounted (after_clear slabs chunk)
+    → ((key : ℕ) → lookup (is_at (nat_cmp key)) new_index ≡ linked_chunk (without_item items chunk) key)
+    → IsKept table (after_clear slabs chunk) new_index (without_item items chunk)
+kept_cleared table slabs index new_index items chunk item kept there accounted leads =
+    kept_left table slabs index new_index items chunk item (cleared (class_of_chunk slabs chunk) chunk) kept there refl refl accounted leads
+
+-- a chunk is put back, and its item is gone
+pub kept_back : (table : Classes) (slabs : SlabState) (index new_index : List (ℕ × ChunkId)) (items : Items) (chunk : ChunkId) (item : Item)
+    → IsKept table slabs index items → item_at items chunk ≡ Some item → IsAccounted (after_back slabs chunk)
+    → ((key : ℕ) → lookup (is_at (nat_cmp key)) new_index ≡ linked_chunk (without_item items chunk) key)
+    → IsKept table (after_back slabs chunk) new_index (without_item items chunk)
+kept_back table slabs index new_index items chunk item kept there accounted leads =
+    kept_left table slabs index new_index items chunk item (put_back (class_of_chunk slabs chunk) chunk) kept there refl refl accounted leads
 
 -- the keys lead on where they led, but for the one whose item is gone
 pub leads_dead : (table : Classes) (slabs : SlabState) (index : List (ℕ × ChunkId)) (items : Items) (chunk : ChunkId) (item : Item)
@@ -189,3 +209,25 @@ cleared_there slabs class chunk accounted valid cut free order = elim (cases_Boo
 -- its page is the class's
 pub own_from_cut : (slabs : SlabState) (class : ℕ) (chunk : ChunkId) → is_cut slabs class chunk ≡ true → class_of_page slabs chunk.page ≡ class
 own_from_cut slabs class chunk cut = class_of_owner-is_of_class class (owner_at slabs.owners chunk.page) (and_parts _ _ cut).0
+
+-- a chunk that was cleared away
+pub cleared_after : (slabs : SlabState) (chunk : ChunkId) → IsAccounted slabs → IsAccounted (after_clear slabs chunk)
+    → 1 ≤ places_in slabs (class_of_page slabs chunk.page) chunk → is_cleared (after_clear slabs chunk) (class_of_page slabs chunk.page) chunk ≡ true
+cleared_after slabs chunk accounted after placed =
+    let valid : IsClass slabs (class_of_page slabs chunk.page) = IsClass-placed slabs chunk accounted placed in
+    let state : ClassState = class_of_chunk slabs chunk in
+    let sum = accounted.chunks (class_of_page slabs chunk.page) chunk valid in
+    let one : times chunk state.free + times chunk state.order ≡ 1 = omega (arith, sum, truth-le_one (is_cut slabs (class_of_page slabs chunk.page) chunk), placed) in
+    let here = class_at-with_class_same slabs (class_of_page slabs chunk.page) (cleared state chunk) valid in
+    let places : places_in (after_clear slabs chunk) (class_of_page slabs chunk.page) chunk ≡ 0
+    = ap (λ (c : ClassState). times chunk c.free + times chunk c.order) here
+    ∙ omega (arith, times-without_one chunk chunk state.free state.order one, ap truth (is_chunk-same chunk)) in
+    let cut : is_cut (after_clear slabs chunk) (class_of_page slabs chunk.page) chunk ≡ is_cut slabs (class_of_page slabs chunk.page) chunk
+    = is_cut-kept slabs (after_clear slabs chunk) (class_of_page slabs chunk.page) chunk refl refl (ap (λ (c : ClassState). c.per_page) here) in
+    let valid_after : IsClass (after_clear slabs chunk) (class_of_page slabs chunk.page)
+    = (valid.0, omega (arith, valid.1, length-with_class slabs (class_of_page slabs chunk.page) (cleared state chunk))) in
+    let sum_after = after.chunks (class_of_page slabs chunk.page) chunk valid_after in
+    elim (cases_Bool (is_cleared (after_clear slabs chunk) (class_of_page slabs chunk.page) chunk)) [
+      | inl there ↦ there
+      | inr still ↦ absurd (omega (arith, sum, sum_after, places, ap truth cut, ap truth still, placed))
+    ]

@@ -23,3 +23,6 @@ pub mod Taken
 pub mod MoverLists
 pub mod KeptMoverChange
 pub mod KeptMoverClear
+pub mod KeptMoverRescue
+pub mod MoverSaves
+pub mod KeptMoverPass

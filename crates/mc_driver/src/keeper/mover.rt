@@ -1,13 +1,17 @@
 //! The mover: it looks at the chunks of the page on the move, and clears them.
-ghost use Rattle.std.specs.Prelude.{◌≡◌, ◌≢◌, ◌<◌, ◌≤◌, nat_lt, true, IfOk, OnOk, Contains, Some, None, Err};
+ghost use Rattle.std.specs.Prelude.{◌≡◌, ◌≢◌, ◌*◌, ◌<◌, ◌≤◌, nat_lt, true, false, IfOk, OnOk, Contains, Some, None, Err};
+ghost use Rattle.std.specs.BTreeMap.{is_at};
+ghost use Rattle.std.specs.Map.{set_value};
 ghost use Rattle.std.specs.Option.{option_map};
+ghost use Rattle.std.specs.Ordering.{nat_cmp};
 ghost use Rattle.mc_pages.specs.SlabState.{IsClass, class_at, class_of_page, class_of_chunk};
 ghost use Rattle.mc_pages.specs.ClassState.{times};
-ghost use Rattle.mc_pages.specs.Accounted.{is_cut};
-ghost use Rattle.mc_pages.specs.Moves.{CanFinish};
+ghost use Rattle.mc_pages.specs.Accounted.{is_cleared, is_cut};
+ghost use Rattle.mc_pages.specs.Moves.{CanFinish, is_held_up};
+ghost use Rattle.mc_driver.specs.declared.keeper.turn.Counts.{Counts};
 ghost use Rattle.mc_driver.specs.Items.{item_at};
 ghost use Rattle.mc_driver.specs.Machine.{is_dead, is_idle};
-ghost use Rattle.mc_driver.specs.Mover.{AreAtMost, after_turns, is_at_end, looked_at, no_counts, saved, target, turned, with_cleared, with_end, with_finish, with_saved};
+ghost use Rattle.mc_driver.specs.Mover.{AreAtMost, after_turns, is_at_end, looked_at, saved, target, turned, with_chunk, with_cleared, with_end, with_finish, with_saved};
 
 use super::Keeper;
 use super::pages::cut_page;
@@ -16,6 +20,7 @@ use super::turn::{Counts, Ending};
 use mc_classes::{ClassId, PageId};
 use mc_pages::{ChunkId, Found, Moving};
 use std::alloc::AllocError;
+use std::collections::BTreeMap;
 
 /// The most turns of a run (own).
 const MAX_TURNS: u64 = 1_000_000;
@@ -43,21 +48,37 @@ impl Keeper {
 
     /// One turn, which goes on counting.
     fn turn(&mut self, counts: &mut Counts) -> Result<Ending, AllocError>
-        requires { AreAtMost 256000000 counts.old }
+        requires turns { self.old.turns < 1000000 }
+        requires counts { AreAtMost (256 * 999999) counts.old }
         ensures { IfOk result (λ ending. turned self.old counts.old ≡ record { machine = self.new; counts = counts.new; ending = ending }) }
     {
         self.turns += 1;
         for _ in 0..self.bulk {
-            match self.slabs.moving() {
-                Some(moving) if !self.is_at_end(moving) => {
-                    let found = self.look(moving.src, ChunkId { page: moving.page, index: moving.at })?;
-                    self.slabs.passed(found);
-                    counts.count(found);
-                }
-                _ => break,
-            }
+            self.step(counts)?;
         }
         Ok(self.end_turn())
+    }
+
+    /// Looks at the chunk at the move's position, and goes on from there. Nothing happens where no page moves or all
+    /// of it was looked at.
+    fn step(&mut self, counts: &mut Counts) -> Result<(), AllocError>
+        requires { AreAtMost 256000000 counts.old }
+        ensures { OnOk result (with_chunk (record { machine = self.old; counts = counts.old }) self.old.slabs.moving ≡ record { machine = self.new; counts = counts.new }) }
+    {
+        let Some(moving) = self.slabs.moving() else {
+            return Ok(());
+        };
+        if self.is_at_end(moving) {
+            return Ok(());
+        }
+        let chunk = ChunkId {
+            page: moving.page,
+            index: moving.at,
+        };
+        let found = self.look(moving.src, chunk)?;
+        self.slabs.passed(found);
+        counts.count(found);
+        Ok(())
     }
 
     /// Whether all chunks of the page were looked at.
@@ -70,8 +91,7 @@ impl Keeper {
 
     /// At the page's end the pass begins anew, or the move ends where nothing held it up.
     fn end_turn(&mut self) -> Ending
-        ensures ending { result ≡ (with_end (record { machine = self.old; counts = no_counts }) self.old.slabs.moving).ending }
-        ensures machine { self.new ≡ (with_end (record { machine = self.old; counts = no_counts }) self.old.slabs.moving).machine }
+        ensures { (counts : Counts) → with_end (record { machine = self.old; counts = counts }) self.old.slabs.moving ≡ record { machine = self.new; counts = counts; ending = result } }
     {
         let Some(moving) = self.slabs.moving() else {
             return Ending::Idle;
@@ -103,7 +123,8 @@ impl Keeper {
         requires class { IsClass self.old.slabs class }
         requires moving { option_map (λ move. move.page) self.old.slabs.moving ≡ Some chunk.page }
         requires cut { is_cut self.old.slabs class chunk ≡ true }
-        ensures { IfOk result (λ found. looked_at self.old class chunk ≡ record { machine = self.new; found = found }) }
+        ensures looked { IfOk result (λ found. looked_at self.old class chunk ≡ record { machine = self.new; found = found }) }
+        ensures clears { IfOk result (λ found. is_held_up found ≡ false → is_cleared self.new.slabs class chunk ≡ true) }
     {
         if !self.items.contains_key(&chunk) {
             return Ok(self.clear_free(class, chunk));
@@ -124,7 +145,8 @@ impl Keeper {
         requires moving { option_map (λ move. move.page) self.old.slabs.moving ≡ Some chunk.page }
         requires cut { is_cut self.old.slabs class chunk ≡ true }
         requires empty { item_at self.old.items chunk ≡ None }
-        ensures { looked_at self.old class chunk ≡ record { machine = self.new; found = result } }
+        ensures looked { looked_at self.old class chunk ≡ record { machine = self.new; found = result } }
+        ensures clears { is_cleared self.new.slabs class chunk ≡ true }
     {
         if self.is_free(class, chunk) {
             self.slabs.clear(chunk);
@@ -153,7 +175,8 @@ impl Keeper {
     fn clear(&mut self, chunk: ChunkId)
         requires moving { option_map (λ move. move.page) self.old.slabs.moving ≡ Some chunk.page }
         requires dead { is_dead self.old chunk ≡ true }
-        ensures { self.new ≡ with_cleared self.old chunk }
+        ensures cleared { self.new ≡ with_cleared self.old chunk }
+        ensures clears { is_cleared self.new.slabs (class_of_page self.old.slabs chunk.page) chunk ≡ true }
     {
         self.slabs.clear(chunk);
         self.items.remove(&chunk);
@@ -165,7 +188,8 @@ impl Keeper {
         requires moving { option_map (λ move. move.page) self.old.slabs.moving ≡ Some chunk.page }
         requires own { class_of_page self.old.slabs chunk.page ≡ class }
         requires idle { is_idle self.old chunk ≡ true }
-        ensures { IfOk result (λ found. saved self.old class chunk ≡ record { machine = self.new; found = found }) }
+        ensures saved { IfOk result (λ found. saved self.old class chunk ≡ record { machine = self.new; found = found }) }
+        ensures clears { IfOk result (λ found. is_held_up found ≡ false → is_cleared self.new.slabs class chunk ≡ true) }
     {
         self.sweep(class);
         match self.target(class, chunk.page) {
@@ -201,34 +225,48 @@ impl Keeper {
         requires idle { is_idle self.old old ≡ true }
         requires free { Contains (class_of_chunk self.old.slabs old).free new }
         requires off { new.page ≢ old.page }
-        ensures { OnOk result (self.new ≡ (with_saved self.old old (Some new)).machine) }
+        ensures rescued { OnOk result (self.new ≡ (with_saved self.old old (Some new)).machine) }
+        ensures clears { OnOk result (is_cleared self.new.slabs (class_of_page self.old.slabs old.page) old ≡ true) }
     {
-        if let Some(item) = self.items.remove(&old) {
-            let key = item.key();
-            if self.items.insert(new, item).is_err() {
+        let Some(item) = self.items.remove(&old) else {
+            return Ok(());
+        };
+        let key = item.key();
+        match self.items.insert(new, item) {
+            Ok(_) => {
+                lead_to(&mut self.index, key, new);
+                self.slabs.replace(new, old);
+                self.slabs.clear(old);
+                Ok(())
+            }
+            Err(_) => {
                 // The item is lost with the run. What is left agrees: its chunk is free, and its key leads nowhere.
                 self.index.remove(&key);
                 self.slabs.back(old);
-                return Err(AllocError);
+                Err(AllocError)
             }
-            if let Some(chunk) = self.index.get_mut(&key) {
-                *chunk = new;
-            }
-            self.slabs.replace(new, old);
-            self.slabs.clear(old);
         }
-        Ok(())
     }
 
     /// Evicts the chunk's item, and clears the chunk.
     fn evict_moving(&mut self, chunk: ChunkId)
         requires moving { option_map (λ move. move.page) self.old.slabs.moving ≡ Some chunk.page }
         requires idle { is_idle self.old chunk ≡ true }
-        ensures { self.new ≡ (with_saved self.old chunk None).machine }
+        ensures evicted { self.new ≡ (with_saved self.old chunk None).machine }
+        ensures clears { is_cleared self.new.slabs (class_of_page self.old.slabs chunk.page) chunk ≡ true }
     {
         if let Some(item) = self.items.remove(&chunk) {
             self.index.remove(&item.key());
         }
         self.slabs.clear(chunk);
+    }
+}
+
+/// The key leads to this chunk now, if it led to one.
+fn lead_to(index: &mut BTreeMap<u64, ChunkId>, key: u64, chunk: ChunkId)
+    ensures { index.new.entries ≡ set_value (is_at (nat_cmp key)) index.old.entries chunk }
+{
+    if let Some(place) = index.get_mut(&key) {
+        *place = chunk;
     }
 }

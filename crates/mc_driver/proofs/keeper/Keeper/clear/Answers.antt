@@ -1,5 +1,5 @@
 use Rattle.std.proofs.Common.{arith}
-use Rattle.mc_driver.proofs.KeptMoverClear.{dead_here, handed_item, kept_cleared, leads_dead}
+use Rattle.mc_driver.proofs.KeptMoverClear.{cleared_after, dead_here, handed_item, kept_cleared, leads_dead}
 use Rattle.mc_driver.proofs.keeper.Keeper.clear.Goals as goal
 
 pub clear-requires-clause-listed : goal.clear-requires-clause-listed
@@ -16,3 +16,10 @@ invariant_of-self c =
           (leads_dead _ _ _ _ c.args.chunk found.0 c.self.invariant.kept found.1 found.2));
       bulk = c.self.invariant.bulk;
     }
+
+pub returns-clause-clears : goal.returns-clause-clears
+returns-clause-clears c =
+    let found = dead_here _ _ c.args.chunk c.self.view_is c.requires.dead in
+    let handed = handed_item _ _ _ _ c.args.chunk found.0 c.self.invariant.kept found.1 in
+    rw (← c.self.view_is, c.clear.ensures.cleared)
+    (cleared_after c.self.inside.slabs c.args.chunk c.self.invariant.kept.accounted (rw c.clear.ensures.cleared at c.clear.ensures.accounted) (omega (arith, handed)))
