@@ -152,8 +152,8 @@ check_taken() {
         'STAT total_malloced 16384' END
     run_on "$room/script" --page 16384 --limit 65536 --first 64 --stripes 64 --bulk 256
     wants "a page of 16384 bytes" 0
-    printf '1 set 1 61 0\n1 set 2 61 0\n1 set 3 61 0\n' >"$room/script"
-    replies 'STORED 1' 'STORED 2' 'NO_ROOM 3'
+    printf '1 set 1 61 0\n1 set 2 61 0\n1 set 3 61 0\n1 get 1\n' >"$room/script"
+    replies 'STORED 1' 'STORED 2' 'STORED 3' 'NOT_FOUND 1'
     run_on "$room/script" --limit 2047
     wants "--limit 2047 is one page" 0
 }
@@ -182,6 +182,19 @@ check_lengths() {
     printf '1 del 1\r\nstats slabs' >"$room/script"
     run_on "$room/script"
     wants "a last line without an end" 0
+}
+
+# Turns that run out while a held item holds up a move. What comes before is replied, and nothing more.
+check_turns() {
+    {
+        printf '1 set %s 61 0\n' 1 2 3 4 5 6 7 8
+        printf '1 hold 1\nreassign 4 1\nturn 1000000\nturn 1\n1 get 1\n'
+    } >"$room/script"
+    replies 'STORED 1' 'STORED 2' 'STORED 3' 'STORED 4' 'STORED 5' 'STORED 6' 'STORED 7' 'STORED 8' \
+        'HELD 1' OK 'TURN WENT 1 0 1 1000000 0'
+    echo 'mcslab: turns' >"$room/want-stderr"
+    run_on "$room/script"
+    wants "a turn more than 1,000,000" 5
 }
 
 # Streams that fail.
@@ -233,6 +246,7 @@ check_program() {
         check_options
         check_taken
         check_lengths
+        check_turns
         check_streams
     done
 }

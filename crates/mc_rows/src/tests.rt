@@ -1,4 +1,6 @@
 //! Worked examples, by name: a script, the replies and how the run ends.
+mod holds;
+mod moves;
 mod rows;
 mod streams;
 
@@ -9,7 +11,11 @@ use mc_classes::{Config, Failures};
 use mc_driver::{Run, RunFault, run_serial};
 use std::alloc::{AllocError, Global};
 use std::marker::Brand;
+use std::process::Abort;
 use std::sync::ledger::{Blank, Ledger};
+
+/// A name, a script, what is written, and how the run ends.
+type Row<'a> = (&'a str, &'a str, &'a str, Result<(), RunFault>);
 
 /// Pages of 1024 bytes, four of them, and classes of 48, 96, 192 and 512 bytes.
 const FOUR_CLASSES: Config = Config {
@@ -93,4 +99,14 @@ fn play_counting<I: Ledger, O: Ledger>(
         failures: _,
     } = writer;
     Ok(Played { text: bytes, end })
+}
+
+/// Each row's script has the replies and the end of the row.
+fn plays_rows(rt: &impl Abort, alloc: Global, rows: &[Row]) -> Result<(), AllocError> {
+    for (name, script, replies, end) in rows {
+        let played = play(alloc, FOUR_CLASSES, script.as_bytes(), WHOLE)?;
+        assert_eq!(rt; played.end, *end, "{name}");
+        assert_eq!(rt; played.text.as_slice(), replies.as_bytes(), "{name}");
+    }
+    Ok(())
 }

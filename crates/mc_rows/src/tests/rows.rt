@@ -1,20 +1,10 @@
 //! Runs whose streams hold.
-use super::{FOUR_CLASSES, WHOLE, play};
+use super::{FOUR_CLASSES, Row, WHOLE, play, plays_rows};
 use mc_classes::Config;
 use mc_driver::RunFault;
 use std::test::Fail;
 
-/// A name, a script, what is written, and how the run ends.
-type Row<'a> = (&'a str, &'a str, &'a str, Result<(), RunFault>);
-
-/// Nine items of 512 bytes: eight chunks of that size fit in the memory.
-const NINE_LARGE: &str =
-    "1 set 1 61 0\n1 set 2 61 0\n1 set 3 61 0\n1 set 4 61 0\n1 set 5 61 0\n1 set 6 61 0\n1 set 7 61 0\n1 set 8 61 0\n1 set 9 61 0\n";
-
-const NINE_REPLIES: &str =
-    "STORED 1\r\nSTORED 2\r\nSTORED 3\r\nSTORED 4\r\nSTORED 5\r\nSTORED 6\r\nSTORED 7\r\nSTORED 8\r\nNO_ROOM 9\r\n";
-
-const ROWS: [Row<'static>; 17] = [
+const ROWS: [Row<'static>; 16] = [
     (
         "first path",
         "1 set 1 3 7\n1 set 2 3 9\n1 del 2\nstats slabs\n",
@@ -34,7 +24,12 @@ const ROWS: [Row<'static>; 17] = [
         "STORED 1\r\nTOO_LARGE 2\r\nTOO_LARGE 3\r\n",
         Ok(()),
     ),
-    ("no room", NINE_LARGE, NINE_REPLIES, Ok(())),
+    (
+        "a full class evicts its oldest item, and a class without a page has no room",
+        "1 set 1 61 0\n1 set 2 61 0\n1 set 3 61 0\n1 set 4 61 0\n1 set 5 61 0\n1 set 6 61 0\n1 set 7 61 0\n1 set 8 61 0\n1 set 9 61 0\n1 get 1\n1 touch 2\n1 set 10 3 0\n",
+        "STORED 1\r\nSTORED 2\r\nSTORED 3\r\nSTORED 4\r\nSTORED 5\r\nSTORED 6\r\nSTORED 7\r\nSTORED 8\r\nSTORED 9\r\nNOT_FOUND 1\r\nTOUCHED 2\r\nNO_ROOM 10\r\n",
+        Ok(()),
+    ),
     (
         "a dead item makes room",
         "1 set 1 61 0\n1 set 2 61 0\n1 set 3 61 0\n1 set 4 61 0\n1 set 5 61 0\n1 set 6 61 0\n1 set 7 61 0\n1 set 8 61 0\n1 del 3\n1 set 9 61 0\n1 del 3\n",
@@ -96,21 +91,11 @@ const ROWS: [Row<'static>; 17] = [
         "",
         Err(RunFault::Script(1)),
     ),
-    (
-        "a line form to come",
-        "1 get 1\n",
-        "",
-        Err(RunFault::Script(1)),
-    ),
 ];
 
 #[test]
-fn worked_rows(rt: HostRuntime) -> Result<(), Fail> {
-    for (name, script, replies, end) in ROWS {
-        let played = play(rt.alloc(), FOUR_CLASSES, script.as_bytes(), WHOLE)?;
-        assert_eq!(rt; played.end, end, "{name}");
-        assert_eq!(rt; played.text.as_slice(), replies.as_bytes(), "{name}");
-    }
+fn items_come_and_go(rt: HostRuntime) -> Result<(), Fail> {
+    plays_rows(&rt, rt.alloc(), &ROWS)?;
     Ok(())
 }
 
@@ -203,6 +188,7 @@ fn statuses(rt: HostRuntime) {
         (RunFault::Read, 3),
         (RunFault::Write, 3),
         (RunFault::Memory, 4),
+        (RunFault::Turns, 5),
     ];
     for (fault, status) in rows {
         assert_eq!(rt; fault.status(), status, "{fault}");

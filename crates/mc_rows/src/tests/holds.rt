@@ -1,0 +1,84 @@
+//! Runs that read, hold, give back and touch items.
+use super::{FOUR_CLASSES, Row, WHOLE, play, plays_rows};
+use std::alloc::AllocError;
+use std::test::Fail;
+
+const ROWS: [Row<'static>; 6] = [
+    (
+        "an item that was touched is not the oldest any more",
+        "1 set 1 61 0\n1 set 2 61 0\n1 set 3 61 0\n1 set 4 61 0\n1 set 5 61 0\n1 set 6 61 0\n1 set 7 61 0\n1 set 8 61 0\n1 touch 1\n1 set 9 61 0\n1 get 2\n1 touch 1\n",
+        "STORED 1\r\nSTORED 2\r\nSTORED 3\r\nSTORED 4\r\nSTORED 5\r\nSTORED 6\r\nSTORED 7\r\nSTORED 8\r\nTOUCHED 1\r\nSTORED 9\r\nNOT_FOUND 2\r\nTOUCHED 1\r\n",
+        Ok(()),
+    ),
+    (
+        "held items are passed over",
+        "1 set 1 61 0\n1 set 2 61 0\n1 set 3 61 0\n1 set 4 61 0\n1 set 5 61 0\n1 set 6 61 0\n1 set 7 61 0\n1 set 8 61 0\n1 hold 1\n1 hold 2\n1 hold 3\n1 hold 4\n1 set 9 61 0\n1 touch 5\n",
+        "STORED 1\r\nSTORED 2\r\nSTORED 3\r\nSTORED 4\r\nSTORED 5\r\nSTORED 6\r\nSTORED 7\r\nSTORED 8\r\nHELD 1\r\nHELD 2\r\nHELD 3\r\nHELD 4\r\nSTORED 9\r\nNOT_FOUND 5\r\n",
+        Ok(()),
+    ),
+    (
+        "where the five oldest are held there is no room",
+        "1 set 1 61 0\n1 set 2 61 0\n1 set 3 61 0\n1 set 4 61 0\n1 set 5 61 0\n1 set 6 61 0\n1 set 7 61 0\n1 set 8 61 0\n1 hold 1\n1 hold 2\n1 hold 3\n1 hold 4\n1 hold 5\n1 set 9 61 0\n",
+        "STORED 1\r\nSTORED 2\r\nSTORED 3\r\nSTORED 4\r\nSTORED 5\r\nSTORED 6\r\nSTORED 7\r\nSTORED 8\r\nHELD 1\r\nHELD 2\r\nHELD 3\r\nHELD 4\r\nHELD 5\r\nNO_ROOM 9\r\n",
+        Ok(()),
+    ),
+    (
+        "a hold keeps the words that stood when it was taken",
+        "1 set 1 3 7\n1 hold 1\n1 set 1 3 50\n1 get 1\n1 drop 1\n1 drop 1\n1 get 1\n",
+        "STORED 1\r\nHELD 1\r\nSTORED 1\r\nVALUE 1 3 50 51 52\r\nDROPPED 1 3 7 8 9\r\nNOT_HELD 1\r\nVALUE 1 3 50 51 52\r\n",
+        Ok(()),
+    ),
+    (
+        "of two holds of a key the newer is given back first, by its worker alone",
+        "1 set 1 1 7\n1 hold 1\n1 set 1 2 50\n1 hold 1\n1 del 1\n1 get 1\n2 drop 1\n1 drop 1\n1 drop 1\n1 drop 1\n",
+        "STORED 1\r\nHELD 1\r\nSTORED 1\r\nHELD 1\r\nDELETED 1\r\nNOT_FOUND 1\r\nNOT_HELD 1\r\nDROPPED 1 2 50 51\r\nDROPPED 1 1 7\r\nNOT_HELD 1\r\n",
+        Ok(()),
+    ),
+    (
+        "what isn't there",
+        "1 get 1\n1 hold 1\n1 drop 1\n1 touch 1\n1 del 1\n",
+        "NOT_FOUND 1\r\nNOT_FOUND 1\r\nNOT_HELD 1\r\nNOT_FOUND 1\r\nNOT_FOUND 1\r\n",
+        Ok(()),
+    ),
+];
+
+#[test]
+fn items_are_held_and_touched(rt: HostRuntime) -> Result<(), Fail> {
+    plays_rows(&rt, rt.alloc(), &ROWS)?;
+    Ok(())
+}
+
+/// Adds the text so often.
+fn push_times(text: &mut Vec<u8>, more: &[u8], count: usize) -> Result<(), AllocError> {
+    for _ in 0..count {
+        text.extend_from_slice(more)?;
+    }
+    Ok(())
+}
+
+/// With 255 holds a worker is refused whatever the key, and only it. Holds of items without a key count.
+#[test]
+fn a_worker_holds_at_most_255_chunks(rt: HostRuntime) -> Result<(), Fail> {
+    let mut script = Vec::new(rt.alloc());
+    let mut replies = Vec::new(rt.alloc());
+    script.extend_from_slice(b"1 set 1 3 7\n1 set 2 1 5\n")?;
+    replies.extend_from_slice(b"STORED 1\r\nSTORED 2\r\n")?;
+    push_times(&mut script, b"1 hold 1\n", 254)?;
+    push_times(&mut replies, b"HELD 1\r\n", 254)?;
+    script.extend_from_slice(
+        b"1 get 1\n1 del 1\n1 hold 2\n1 hold 2\n1 get 2\n1 get 9\n1 hold 9\n1 touch 2\n",
+    )?;
+    replies.extend_from_slice(
+        b"VALUE 1 3 7 8 9\r\nDELETED 1\r\nHELD 2\r\nTOO_MANY_REFS 2\r\nTOO_MANY_REFS 2\r\nTOO_MANY_REFS 9\r\nTOO_MANY_REFS 9\r\nTOUCHED 2\r\n",
+    )?;
+    script.extend_from_slice(
+        b"2 hold 2\n2 get 2\n1 drop 9\n1 drop 1\n1 get 2\n1 hold 2\n1 get 1\n1 drop 2\n",
+    )?;
+    replies.extend_from_slice(
+        b"HELD 2\r\nVALUE 2 1 5\r\nNOT_HELD 9\r\nDROPPED 1 3 7 8 9\r\nVALUE 2 1 5\r\nHELD 2\r\nTOO_MANY_REFS 1\r\nDROPPED 2 1 5\r\n",
+    )?;
+    let played = play(rt.alloc(), FOUR_CLASSES, &script, WHOLE)?;
+    assert_eq!(rt; played.end, Ok(()));
+    assert_eq!(rt; played.text.as_slice(), replies.as_slice());
+    Ok(())
+}
