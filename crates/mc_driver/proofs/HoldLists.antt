@@ -1,7 +1,7 @@
 -- The workers' lists of holds as vectors: what changes when a hold is taken or given back, and whether a chunk is held.
 use Rattle.std.proofs.Common.{◌≡◌, ℕ, ◌+◌, ◌-◌, ◌<◌, List, [], ◌∷◌, ◌++◌, length, get_or, set, suc, zero, Contains, Option, Some, None, refl, ap, sym, ◌∙◌, arith, reverse, map, find, inl, inr}
 use Rattle.std.specs.Option.{option_map}
-use Rattle.std.specs.Prelude.{Bool, true, false, ◌||◌, nat_lt, sum_by, slice_index_or}
+use Rattle.std.specs.Prelude.{Bool, ◌||◌, nat_lt, sum_by}
 use Rattle.std.specs.List.{list_any, remove}
 use Rattle.std.proofs.lemmas.Bool.{cases_Bool}
 use Rattle.std.proofs.lemmas.Bool.Decides.{nat_tests}
@@ -12,7 +12,7 @@ use Rattle.mc_pages.specs.declared.ids.ChunkId.{ChunkId}
 use Rattle.mc_pages.specs.ClassState.{is_chunk, times}
 use Rattle.mc_pages.proofs.Chunks.{times-cons}
 use Rattle.mc_pages.proofs.Roomy.{times-reverse}
-use Rattle.mc_driver.specs.Holds.{Holds, held_by}
+use Rattle.mc_driver.specs.Holds.{held_by}
 
 -- a vector is replaced, and f says what each means
 module _ {A : Type 0} (f : A → List ChunkId) (vectors : List A) (worker : ℕ) (old new : A) (inside : worker < length vectors)

@@ -1,12 +1,11 @@
 -- What the keeper keeps as a page begins to move: its chunks count as its class's, as before.
-use Rattle.std.proofs.Common.{◌≡◌, ◌≢◌, ℕ, ◌≤◌, ◌<◌, ◌==◌, List, [], ◌∷◌, length, count_by, slice_index_or, Bool, true, false, Option, Result, Ok, Err, refl, ap, sym, ◌∙◌, arith, eqb, inl, inr}
+use Rattle.std.proofs.Common.{◌≡◌, ◌≢◌, ℕ, ◌≤◌, ◌<◌, ◌==◌, List, [], ◌∷◌, length, count_by, slice_index_or, true, Option, Result, Ok, Err, refl, ap, sym, ◌∙◌, arith, eqb, inl, inr}
 use Rattle.std.specs.Prelude.{OnOk, OnErr, IfOk}
 use Rattle.std.proofs.lemmas.Bool.{cases_Bool}
 use Rattle.std.proofs.lemmas.Bool.Decides.{nat_tests}
 use Rattle.std.proofs.lemmas.List.Sums.{sum_by-cons}
 use Rattle.mc_classes.specs.Classes.{Classes}
 use Rattle.mc_pages.specs.declared.ids.ChunkId.{ChunkId}
-use Rattle.mc_pages.specs.declared.ledger.Owner.{Owner}
 use Rattle.mc_pages.specs.declared.ledger.Owner.TheVariants as owner
 use Rattle.mc_pages.specs.declared.moves.Reassign.{Reassign}
 use Rattle.mc_pages.specs.Ledger.{owner_at}
@@ -18,7 +17,7 @@ use Rattle.mc_pages.specs.Moves.{first_page, after_begin}
 use Rattle.mc_pages.proofs.Owners.{class_of_owner-is_of_class, within_from_is_of_class, owner_at-set_same, owner_at-set_other}
 use Rattle.mc_pages.proofs.Source.{source_is}
 use Rattle.mc_driver.specs.Items.{Items}
-use Rattle.mc_driver.specs.Kept.{places, IsKept}
+use Rattle.mc_driver.specs.Kept.{IsKept}
 
 -- the first of some pages is one of them
 first_counted : (pages : List ℕ) → 1 ≤ length pages → 1 ≤ count_by (λ p. p == slice_index_or pages 0 0) pages

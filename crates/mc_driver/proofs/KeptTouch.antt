@@ -1,5 +1,5 @@
 -- What the keeper keeps as a key's item becomes the youngest of its class.
-use Rattle.std.proofs.Common.{◌≡◌, ◌≢◌, ℕ, ◌+◌, ◌-◌, ◌≤◌, ◌<◌, List, [], ◌∷◌, length, Bool, true, false, Some, Contains, refl, ap, sym, ◌∙◌, arith, eqb, inl, inr, suc}
+use Rattle.std.proofs.Common.{◌≡◌, ◌≢◌, ℕ, ◌-◌, ◌≤◌, ◌<◌, List, [], ◌∷◌, length, Bool, true, false, Some, Contains, refl, ap, sym, ◌∙◌, arith, eqb, inl, inr, suc}
 use Rattle.std.specs.Ordering.{nat_cmp}
 use Rattle.std.specs.BTreeMap.{is_at}
 use Rattle.std.specs.Map.{lookup}
@@ -15,7 +15,7 @@ use Rattle.mc_pages.specs.Changes.{with_class, after_touch}
 use Rattle.mc_pages.proofs.Chunks.{times-push, times-without, times-tail, times_from_Contains, same_from_is_chunk}
 use Rattle.mc_pages.proofs.HandedOut.{IsClass-handed_out}
 use Rattle.mc_driver.specs.Item.{is_linked_to}
-use Rattle.mc_driver.specs.Items.{Items, chunk_cmp, linked_chunk}
+use Rattle.mc_driver.specs.Items.{Items, linked_chunk}
 use Rattle.mc_driver.specs.Kept.{places, IsKept}
 use Rattle.mc_driver.proofs.Chunks.{chunk_cmp-self}
 use Rattle.mc_driver.proofs.Moves.{per_pages-with_class}

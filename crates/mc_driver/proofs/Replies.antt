@@ -87,23 +87,29 @@ module _ (m now : Machine) (commands : List Command) (i : ℕ) (other : Command)
   pub ends_there : (old mid new : Option (List ℕ)) (f_old f_mid f_new : ℕ) (fault : RunFault)
       → Appends old mid (replies_to m (take i commands)) → f_mid ≡ f_old → IsReplyFault now (get_or commands i other) mid new f_mid f_new fault
       → IsServeFault m commands old new f_old f_new fault
-  ends_there old mid new f_old f_mid f_new Write wrote quiet ends =
-      (omega (arith, ends.0), record {
-        count = i;
-        within = inside;
-        done = ap (λ found. is_some found) after_more ∙ done_alone (serve now (get_or commands i other)) ∙ ends.2;
-        written = extends_from_appends old mid new (replies_to m (take i commands)) wrote ends.1;
-      })
-  ends_there old mid new f_old f_mid f_new Memory wrote quiet ends =
-      (ends.0 ∙ quiet, record {
-        count = i;
-        within = omega arith;
-        done = rw so_far refl;
-        written = Appends-kept old mid new (replies_to m (take i commands)) wrote ends.1;
-      })
-  ends_there old mid new f_old f_mid f_new Turns wrote quiet ends =
-      (ends.0 ∙ quiet, stopped_after ends.2,
-      rw (stopped_replies ends.2) (Appends-kept old mid new (replies_to m (take i commands)) wrote ends.1))
+  ends_there old mid new f_old f_mid f_new Write wrote quiet ends = (
+    omega (arith, ends.0),
+    record {
+      count = i;
+      within = inside;
+      done = ap (λ found. is_some found) after_more ∙ done_alone (serve now (get_or commands i other)) ∙ ends.2;
+      written = extends_from_appends old mid new (replies_to m (take i commands)) wrote ends.1;
+    },
+  )
+  ends_there old mid new f_old f_mid f_new Memory wrote quiet ends = (
+    ends.0 ∙ quiet,
+    record {
+      count = i;
+      within = omega arith;
+      done = rw so_far refl;
+      written = Appends-kept old mid new (replies_to m (take i commands)) wrote ends.1;
+    },
+  )
+  ends_there old mid new f_old f_mid f_new Turns wrote quiet ends = (
+    ends.0 ∙ quiet,
+    stopped_after ends.2,
+    rw (stopped_replies ends.2) (Appends-kept old mid new (replies_to m (take i commands)) wrote ends.1),
+  )
   ends_there old mid new f_old f_mid f_new (Refused number) wrote quiet ends = absurd ends
   ends_there old mid new f_old f_mid f_new (Script number) wrote quiet ends = absurd ends
   ends_there old mid new f_old f_mid f_new TooLong wrote quiet ends = absurd ends

@@ -111,7 +111,11 @@ pub(crate) fn push_general(
     push_stat_line(text, b"slab_reassign_running", u64::from(running))?;
     push_stat_line(text, b"slabs_moved", totals.moved)?;
     push_stat_line(text, b"slab_reassign_rescues", totals.rescues)?;
-    push_stat_line(text, b"slab_reassign_evictions_nomem", totals.evictions_nomem)?;
+    push_stat_line(
+        text,
+        b"slab_reassign_evictions_nomem",
+        totals.evictions_nomem,
+    )?;
     push_stat_line(text, b"slab_reassign_busy_items", totals.busy)?;
     push_line(text, b"END")?;
     Ok(())

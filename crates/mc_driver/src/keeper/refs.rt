@@ -24,7 +24,12 @@ impl Keeper {
     }
 
     /// The worker holds the key's item.
-    pub(super) fn hold(&mut self, worker: u64, key: u64, text: &mut Vec<u8>) -> Result<(), AllocError>
+    pub(super) fn hold(
+        &mut self,
+        worker: u64,
+        key: u64,
+        text: &mut Vec<u8>,
+    ) -> Result<(), AllocError>
         requires { worker < 64 }
         ensures reply { OnOk result (text.new.items ≡ text.old.items ++ (kept self.old worker key).reply) }
         ensures after { OnOk result (self.new ≡ (kept self.old worker key).machine) }
@@ -42,7 +47,12 @@ impl Keeper {
     }
 
     /// The worker gives back the hold of an item of the key that it took last, and tells the item's words.
-    pub(super) fn drop(&mut self, worker: u64, key: u64, text: &mut Vec<u8>) -> Result<(), AllocError>
+    pub(super) fn drop(
+        &mut self,
+        worker: u64,
+        key: u64,
+        text: &mut Vec<u8>,
+    ) -> Result<(), AllocError>
         requires { worker < 64 }
         ensures reply { OnOk result (text.new.items ≡ text.old.items ++ (dropped self.old worker key (last_hold self.old worker key)).reply) }
         ensures after { OnOk result (self.new ≡ (dropped self.old worker key (last_hold self.old worker key)).machine) }

@@ -13,7 +13,7 @@ use Rattle.mc_driver.proofs.keeper.Keeper.last_hold.Goals as goal
 pub returns : goal.returns
 returns c =
     let found = find_from_yields_List (has_key c.args.self.now.items c.args.key) _ _ _ c.find.ensures.ran
-        (YieldsList-from_copied (YieldsList-from_rev_slice c.of.result.now (cc))) (λ x b q k. search (rules, tests)) in
+    (YieldsList-from_copied (YieldsList-from_rev_slice c.of.result.now (cc))) (λ x b q k. search (rules, tests)) in
     let held : reverse c.of.result.now ≡ held_by c.args.self.now.holds c.args.worker
     = c.of.ensures ∙ ap (λ (m : Machine). held_by m.holds c.args.worker) c.self.view_is in
     sym (option_same c.find.result) ∙ found ∙ ap (λ (chunks : List ChunkId). find (has_key c.args.self.now.items c.args.key) chunks) held

@@ -12,7 +12,7 @@ returns-in-Some c =
     let found : at c.args.chunks.now.items ≡ Some c.in-Some.back = ap at (sym c.deref.ensures.value) ∙ (sym c.place_from_back.ensures ∙ c.in-Some.is) in
     ap (λ (l : List ChunkId). reverse l) c.remove.ensures.items
     ∙ reverse-remove c.args.chunks.now.items _ c.in-Some.back
-      (omega (arith, length-reverse c.args.chunks.now.items, (position_is c.args.chunk (reverse c.args.chunks.now.items) c.in-Some.back found).1))
+    (omega (arith, length-reverse c.args.chunks.now.items, (position_is c.args.chunk (reverse c.args.chunks.now.items) c.in-Some.back found).1))
     ∙ remove-found c.args.chunk (reverse c.args.chunks.now.items) c.in-Some.back found
 
 pub returns-in_default : goal.returns-in_default

@@ -1,4 +1,4 @@
-use Rattle.std.proofs.Common.{◌≡◌, ◌<◌, List, length, reverse, Vec, Global, arith}
+use Rattle.std.proofs.Common.{◌<◌, List, length, reverse, Vec, Global, arith}
 use Rattle.mc_pages.specs.declared.ids.ChunkId.{ChunkId}
 use Rattle.mc_pages.specs.ClassState.{without}
 use Rattle.mc_driver.proofs.HoldLists.{view_set}

@@ -1,4 +1,4 @@
-use Rattle.std.proofs.Common.{◌≡◌, sym, ◌∙◌, Vec, Global}
+use Rattle.std.proofs.Common.{◌∙◌, Vec, Global}
 use Rattle.mc_pages.specs.declared.ids.ChunkId.{ChunkId}
 use Rattle.mc_driver.proofs.HoldLists.{any_held}
 use Rattle.mc_driver.proofs.keeper.holds.Holds.is_held.Goals as goal

@@ -1,4 +1,4 @@
-use Rattle.std.proofs.Common.{◌≡◌, ◌≤◌, [], map, replicate, reverse, length, vec_len}
+use Rattle.std.proofs.Common.{◌≡◌, ◌≤◌, [], map, replicate, reverse, length}
 use Rattle.std.specs.Prelude.{vec_capacity}
 use Rattle.mc_driver.proofs.keeper.holds.Holds.new.Given as goal
 

@@ -1,4 +1,4 @@
-use Rattle.std.proofs.Common.{◌≡◌, ◌<◌, ◌∷◌, List, length, reverse, ap, ◌∙◌, Vec, Global, arith}
+use Rattle.std.proofs.Common.{◌<◌, ◌∷◌, List, length, reverse, ap, ◌∙◌, Vec, Global, arith}
 use Rattle.mc_pages.specs.declared.ids.ChunkId.{ChunkId}
 use Rattle.mc_driver.proofs.HoldLists.{view_set, view_same, reverse-push}
 use Rattle.std.proofs.lemmas.Result.{err_from_is_err_and}
