@@ -26,3 +26,4 @@ pub mod KeptMoverClear
 pub mod KeptMoverRescue
 pub mod MoverSaves
 pub mod KeptMoverPass
+pub mod KeptMoverFinish
