@@ -47,12 +47,6 @@ const ROWS: [Row<'static>; 8] = [
         "STORED 1\r\nSTORED 2\r\nSTORED 3\r\nSTORED 4\r\nSTORED 5\r\nSTORED 6\r\nSTORED 7\r\nSTORED 8\r\nTURN IDLE 0 0 0 0 0\r\nOK\r\nTURN FINISHED 2 0 2 0 0\r\nTURN IDLE 0 0 0 0 0\r\n",
         Ok(()),
     ),
-    (
-        "the run is stopped where its turns run out",
-        "1 set 1 22 100\n1 set 2 22 100\n1 set 3 22 100\n1 set 4 22 100\n1 set 5 22 100\n1 set 6 22 100\n1 set 7 22 100\n1 set 8 22 100\n1 hold 1\nreassign 4 1\nturn 1000000\nturn 1\n1 get 1\n",
-        "STORED 1\r\nSTORED 2\r\nSTORED 3\r\nSTORED 4\r\nSTORED 5\r\nSTORED 6\r\nSTORED 7\r\nSTORED 8\r\nHELD 1\r\nOK\r\nTURN WENT 1 0 1 1000000 0\r\n",
-        Err(RunFault::Turns),
-    ),
 ];
 
 #[test]
