@@ -1,10 +1,11 @@
 -- How often a chunk stands among the items, through each change of the items.
-use Rattle.std.proofs.Common.{◌≡◌, ℕ, ◌+◌, ◌≤◌, [], ◌∷◌, Some, None, refl, arith}
+use Rattle.std.proofs.Common.{◌≡◌, ℕ, ◌+◌, ◌≤◌, [], ◌∷◌, false, Some, None, refl, arith}
 use Rattle.std.proofs.lemmas.Bool.Decides.{nat_tests}
 use Rattle.std.specs.declared.cmp.Ordering.{Ordering}
 use Rattle.std.specs.declared.cmp.Ordering.TheVariants.{Less, Equal, Greater}
 use Rattle.std.specs.BTreeMap.{is_at}
 use Rattle.mc_pages.specs.declared.ids.ChunkId.{ChunkId}
+use Rattle.mc_pages.specs.ClassState.{is_chunk}
 use Rattle.mc_pages.specs.Accounted.{truth}
 use Rattle.mc_driver.specs.Item.{Item}
 use Rattle.mc_driver.specs.Items.{Items, chunk_cmp, item_at, with_item, without_item, unlinked_items}
@@ -57,7 +58,12 @@ pub places-without_item : (d : ChunkId) (items : Items) → 1 ≤ places d items
 places-without_item d [] some = omega arith
 places-without_item d (e ∷ items) some = grind (arith, nat_tests, places-without_item d items)
 
--- and no chunk has more places than before
+-- and every other chunk as many as before
+pub places-without_item-other : (c d : ChunkId) (items : Items) → is_chunk d c ≡ false → places c (without_item items d) ≡ places c items
+places-without_item-other c d [] other = refl
+places-without_item-other c d (e ∷ items) other = grind (arith, nat_tests, places-without_item-other c d items)
+
+-- no chunk has more places than before
 pub places-without_item-le : (c d : ChunkId) (items : Items) → places c (without_item items d) ≤ places c items
 places-without_item-le c d [] = omega arith
 places-without_item-le c d (e ∷ items) = grind (arith, nat_tests, places-without_item-le c d items)

@@ -1,10 +1,11 @@
 -- What the keeper's steps keep.
-use Rattle.std.proofs.Common.{◌≡◌, ◌≢◌, ℕ, ◌+◌, ◌-◌, ◌/◌, ◌≤◌, ◌⊎◌, List, [], ◌∷◌, length, Bool, true, false, cond, Option, Some, None, suc, zero, inl, inr, refl, ap, sym, ◌∙◌, arith, eqb}
-use Rattle.std.specs.Prelude.{fold, map, slice_get}
+use Rattle.std.proofs.Common.{◌≡◌, ◌≢◌, ℕ, ◌+◌, ◌-◌, ◌/◌, ◌≤◌, ◌⊎◌, List, [], ◌∷◌, length, get_or, Bool, true, false, cond, Option, Some, None, suc, zero, inl, inr, refl, ap, sym, ◌∙◌, arith, eqb}
+use Rattle.std.specs.Prelude.{fold, map, not}
 use Rattle.std.specs.Ordering.{nat_cmp}
 use Rattle.std.specs.BTreeMap.{is_at}
 use Rattle.std.specs.Map.{lookup}
 use Rattle.std.specs.Option.{option_map_or}
+use Rattle.std.proofs.lemmas.Bool.{not-true}
 use Rattle.std.proofs.lemmas.Bool.Decides.{nat_tests, leb_tells}
 use Rattle.std.proofs.lemmas.List.{get_or-set_other, get_or_past, length-set, length-map}
 use Rattle.mc_classes.specs.Classes.{Classes, IsSound}
@@ -12,24 +13,21 @@ use Rattle.mc_pages.specs.declared.ids.ChunkId.{ChunkId}
 use Rattle.mc_pages.specs.declared.ledger.Owner.{Owner}
 use Rattle.mc_pages.specs.declared.ledger.Owner.TheVariants.{Untouched, Class}
 use Rattle.mc_pages.specs.Ledger.{owner_at}
-use Rattle.mc_pages.specs.ClassState.{ClassState, new_class, is_chunk, times, without, first_free, popped, handed_out, put_back, with_page}
+use Rattle.mc_pages.specs.ClassState.{ClassState, new_class, is_chunk, times, without, put_back, with_page}
 use Rattle.mc_pages.specs.SlabState.{SlabState, IsClass, class_at, class_of_owner, class_of_page, class_of_chunk, fresh_slabs}
-use Rattle.mc_pages.specs.Accounted.{IsAccounted}
-use Rattle.mc_pages.specs.Changes.{after_pop, after_back, after_grow, after_cut, next_page}
-use Rattle.mc_driver.specs.Item.{Item, new_item, is_dead_item}
-use Rattle.mc_driver.specs.Items.{Items, chunk_cmp, item_at, is_dead, with_item, without_item, unlinked_in, unlinked_items, linked_chunk}
-use Rattle.mc_driver.specs.Kept.{places, IsKept, IsVacant}
-use Rattle.mc_driver.proofs.Chunks.{places_none, places-with_item, places-unlinked_items, places-without_item, places-without_item-le, none-places}
-use Rattle.mc_driver.proofs.Links.{links_none, links-with_item, links-unlinked_items, links-without_item-le, linked_chunk-with_item, linked_chunk-unlinked_items, linked_chunk-without_item, some_places, LinkedIn, linked_in, unlinked_items_none}
+use Rattle.mc_pages.specs.Accounted.{truth, IsAccounted}
+use Rattle.mc_pages.specs.Changes.{after_back, after_grow, after_cut, next_page}
+use Rattle.mc_driver.specs.Item.{Item}
+use Rattle.mc_driver.specs.Items.{Items, item_at, is_unlinked, without_item, unlinked_in, unlinked_items, linked_chunk}
+use Rattle.mc_driver.specs.Kept.{places, IsKept}
+use Rattle.mc_driver.proofs.Chunks.{places-unlinked_items, places-without_item, places-without_item-le, places-without_item-other}
+use Rattle.mc_driver.proofs.Links.{links-unlinked_items, links-without_item-le, linked_chunk-unlinked_items, linked_chunk-without_item, some_places, LinkedIn, linked_in, unlinked_items_none}
 use Rattle.mc_pages.proofs.Chunks.{is_chunk-same, times-without, times-cons}
 use Rattle.mc_driver.proofs.Orders.{in_lists_once, page_of_listed}
 use Rattle.mc_driver.proofs.GivenPage.{nobody_next, classes-grown, owners-grown, page-grown, limit-grown, class_at-grown}
-use Rattle.mc_driver.proofs.Moves.{class_at-with_class, class_at-with_other, order-with_class, owners-cuts, classes-cuts, order-cuts, handed-order, handed-chunk, per_page-handed, per_pages-with_class, per_pages-cuts, page-cuts, limit-cuts}
+use Rattle.mc_driver.proofs.Moves.{class_at-with_class, class_at-with_other, order-with_class, owners-cuts, classes-cuts, order-cuts, per_pages-with_class, per_pages-cuts, page-cuts, limit-cuts}
 
--- two chunks compare equal and are one, or don't
-is_at-tells : (c d : ChunkId) → ((is_at (chunk_cmp c) d ≡ true) × (c ≡ d)) ⊎ ((is_at (chunk_cmp c) d ≡ false) × (c ≢ d))
-is_at-tells c d = grind (arith, nat_tests)
-
+-- two chunks have one name, or are two
 is_chunk-tells : (c d : ChunkId) → ((is_chunk c d ≡ true) × (c ≡ d)) ⊎ ((is_chunk c d ≡ false) × (c ≢ d))
 is_chunk-tells c d = grind (arith, nat_tests)
 
@@ -59,6 +57,15 @@ per_pages-fresh : (page : ℕ) (sizes : List ℕ)
 per_pages-fresh page [] = refl
 per_pages-fresh page (size ∷ sizes) = ap (λ cs. (page / size) ∷ cs) (per_pages-fresh page sizes)
 
+-- and no chunk is handed out
+order-fresh : (page : ℕ) (sizes : List ℕ) (place : ℕ) → (get_or (map (λ size. new_class size (page / size)) sizes) place (new_class 0 0)).order ≡ []
+order-fresh page [] place = refl
+order-fresh page (size ∷ sizes) zero = refl
+order-fresh page (size ∷ sizes) (suc place) = order-fresh page sizes place
+
+no_orders_fresh : (table : Classes) (class : ℕ) (x : ChunkId) → times x (class_at (fresh_slabs table) class).order ≤ 0
+no_orders_fresh table class x = omega (arith, ap (λ (cs : List ChunkId). times x cs) (order-fresh table.page table.sizes (class - 1)))
+
 -- where nothing is stored yet
 pub kept_fresh : (table : Classes) (slabs : SlabState) (index : List (ℕ × ChunkId)) (items : Items)
     → IsSound table → slabs ≡ fresh_slabs table → IsAccounted slabs → index ≡ [] → items ≡ [] → IsKept table slabs index items
@@ -73,10 +80,11 @@ kept_fresh table slabs index items sound slabs_is accounted index_is items_is = 
   leads = λ key. refl;
   one_link = λ key. omega arith;
   handed_out = λ chunk. omega arith;
+  stored = λ class chunk valid. rw slabs_is (no_orders_fresh table class chunk);
 })
 
 -- an item's chunk stands in the hand-out order of a class that is there
-listed : (table : Classes) (slabs : SlabState) (index : List (ℕ × ChunkId)) (items : Items) (x : ChunkId)
+pub listed : (table : Classes) (slabs : SlabState) (index : List (ℕ × ChunkId)) (items : Items) (x : ChunkId)
     → IsKept table slabs index items → 1 ≤ places x items → IsClass slabs (class_of_page slabs x.page)
 listed table slabs index items x kept there =
     class_there (class_of_page slabs x.page) slabs x kept.accounted refl (omega (arith, kept.handed_out x))
@@ -105,85 +113,6 @@ pub unlinks_none : (table : Classes) (slabs : SlabState) (index : List (ℕ × C
     → IsKept table slabs index items → lookup (is_at (nat_cmp key)) index ≡ None → unlinked_items items key ≡ items
 unlinks_none table slabs index items key kept none = unlinked_items_none key items (sym (kept.leads key) ∙ none)
 
--- a pop takes no chunk out of a hand-out order
-order_pop_step : (b : Bool) (slabs : SlabState) (class other : ℕ) (x : ChunkId) → IsClass slabs class → IsClass slabs other → eqb other class ≡ b
-    → times x (class_at slabs other).order ≤ times x (class_at (after_pop slabs class) other).order
-order_pop_step true slabs class other x valid valid_other is =
-    let same : other ≡ class = grind (arith, nat_tests) in
-    rw (same, class_at-with_class slabs class (popped (class_at slabs class)) valid) (handed-order x (class_at slabs class) (class_at slabs class).free)
-order_pop_step false slabs class other x valid valid_other is =
-    let apart : other ≢ class = grind (arith, nat_tests) in
-    rw (class_at-with_other slabs class other (popped (class_at slabs class)) valid valid_other apart) (omega arith)
-
-order_pop : (slabs : SlabState) (class other : ℕ) (x : ChunkId) → IsClass slabs class → IsClass slabs other
-    → times x (class_at slabs other).order ≤ times x (class_at (after_pop slabs class) other).order
-order_pop slabs class other x valid valid_other = order_pop_step (eqb other class) slabs class other x valid valid_other refl
-
--- after a chunk is popped
-pub kept_pop : (table : Classes) (slabs : SlabState) (index : List (ℕ × ChunkId)) (items : Items) (class : ℕ)
-    → IsKept table slabs index items → IsClass slabs class → IsAccounted (after_pop slabs class) → IsKept table (after_pop slabs class) index items
-kept_pop table slabs index items class kept valid accounted = record {
-  sound = kept.sound;
-  classes = length-set slabs.classes _ _ ∙ kept.classes;
-  per_page = per_pages-with_class slabs class (popped (class_at slabs class)) (per_page-handed (class_at slabs class) (class_at slabs class).free) ∙ kept.per_page;
-  page = kept.page;
-  limit = kept.limit;
-  whole = kept.whole;
-  accounted = accounted;
-  leads = kept.leads;
-  one_link = kept.one_link;
-  handed_out = λ x. elim (leb_tells 1 (places x items)) [
-    | inl some ↦
-        let there : IsClass slabs (class_of_page slabs x.page) = listed table slabs index items x kept some.1 in
-        omega (arith, kept.handed_out x, order_pop slabs class (class_of_page slabs x.page) x valid there)
-    | inr none ↦ omega (arith, none.1)
-  ];
-}
-
--- the head of a free list stands in it
-free_head : (x : ChunkId) (free : List ChunkId) → slice_get free 0 ≡ Some x → 1 ≤ times x free
-free_head x [] h = cc
-free_head x (c ∷ free) h =
-    let same : c ≡ x = cc in
-    let self : is_chunk c x ≡ true = rw same (is_chunk-same x) in
-    grind (arith, nat_tests, times-cons x c free)
-
-pub vacant_pop : (table : Classes) (slabs : SlabState) (index : List (ℕ × ChunkId)) (items : Items) (class : ℕ) (x : ChunkId)
-    → IsKept table slabs index items → IsClass slabs class → first_free (class_at slabs class) ≡ Some x → IsVacant (after_pop slabs class) items x
-vacant_pop table slabs index items class x kept valid head =
-    let free : 1 ≤ times x (class_at slabs class).free = free_head x (class_at slabs class).free head in
-    let own : class_of_page slabs x.page ≡ class = page_of_listed slabs class x kept.accounted valid (omega arith) in
-    let once : times x (class_at slabs class).free + times x (class_at slabs class).order ≤ 1 = in_lists_once slabs class x kept.accounted valid in
-    let held : places x items ≤ times x (class_at slabs class).order = rw own at (kept.handed_out x) in
-    let none : places x items ≡ 0 = omega arith in
-    let handed : times x (handed_out (class_at slabs class) (class_at slabs class).free).order ≡ times x (class_at slabs class).order + 1
-    = handed-chunk x (class_at slabs class) (class_at slabs class).free head in
-    record {
-      empty = none-places x items none;
-      listed = rw (own, class_at-with_class slabs class (popped (class_at slabs class)) valid) (omega (arith, handed));
-    }
-
--- after an item comes into a vacant chunk, under a key that led nowhere
-pub kept_put : (table : Classes) (slabs : SlabState) (index new_index : List (ℕ × ChunkId)) (items : Items) (key : ℕ) (words : List ℕ) (x : ChunkId)
-    → IsKept table slabs index items → IsVacant slabs items x → linked_chunk items key ≡ None
-    → ((q : ℕ) → lookup (is_at (nat_cmp q)) new_index ≡ cond (is_at (nat_cmp key) q) (Some x) (lookup (is_at (nat_cmp q)) index))
-    → IsKept table slabs new_index (with_item items x (new_item key words))
-kept_put table slabs index new_index items key words x kept vacant unlinked index_is = record {
-  sound = kept.sound;
-  classes = kept.classes;
-  per_page = kept.per_page;
-  page = kept.page;
-  limit = kept.limit;
-  whole = kept.whole;
-  accounted = kept.accounted;
-  leads = λ q. grind (arith, nat_tests, index_is q, kept.leads q, linked_chunk-with_item q key words x items vacant.empty unlinked);
-  one_link = λ q. grind (arith, nat_tests, kept.one_link q, links_none key items unlinked, links-with_item q x (new_item key words) items vacant.empty);
-  handed_out = λ y. elim (is_at-tells y x) [
-    | inl same ↦ grind (arith, nat_tests, kept.handed_out y, vacant.listed, places_none x items vacant.empty, places-with_item y x (new_item key words) items vacant.empty)
-    | inr other ↦ omega (arith, kept.handed_out y, rw other.0 at (places-with_item y x (new_item key words) items vacant.empty))
-  ];
-}
-
 -- after a key is unlinked
 pub kept_unlink : (table : Classes) (slabs : SlabState) (index new_index : List (ℕ × ChunkId)) (items : Items) (key : ℕ)
     → IsKept table slabs index items
@@ -200,16 +129,8 @@ kept_unlink table slabs index new_index items key kept index_is = record {
   leads = λ q. grind (arith, nat_tests, index_is q, kept.leads q, linked_chunk-unlinked_items q key items);
   one_link = λ q. grind (arith, nat_tests, kept.one_link q, links-unlinked_items q key items);
   handed_out = λ y. rw (places-unlinked_items y key items) (kept.handed_out y);
+  stored = λ class y valid. rw (places-unlinked_items y key items) (kept.stored class y valid);
 }
-
--- what is dead is there
-dead_item : (items : Items) (x : ChunkId) → is_dead items x ≡ true → (item : Item) × (item_at items x ≡ Some item) × (is_dead_item item ≡ true)
-dead_item items x dead = dead_item_at (item_at items x) refl dead
-  where
-    dead_item_at : (found : Option Item) → item_at items x ≡ found → option_map_or is_dead_item found false ≡ true
-        → (item : Item) × (item_at items x ≡ Some item) × (is_dead_item item ≡ true)
-    dead_item_at None is bad = cc
-    dead_item_at (Some item) is dead_here = (item, is, dead_here)
 
 -- a put back takes one chunk out of one hand-out order
 order_back_step : (b : Bool) (slabs : SlabState) (other : ℕ) (x y : ChunkId) → IsClass slabs (class_of_page slabs x.page) → IsClass slabs other
@@ -223,23 +144,46 @@ order_back_step false slabs other x y valid valid_other handed apart is =
     let elsewhere : other ≢ class_of_page slabs x.page = grind (arith, nat_tests) in
     rw (class_at-with_other slabs (class_of_page slabs x.page) other (put_back (class_of_chunk slabs x) x) valid valid_other elsewhere) refl
 
--- after a dead chunk is put back and its item is gone
-pub kept_reclaim : (table : Classes) (slabs : SlabState) (index : List (ℕ × ChunkId)) (items : Items) (x : ChunkId)
-    → IsKept table slabs index items → IsAccounted (after_back slabs x) → is_dead items x ≡ true → IsClass slabs (class_of_page slabs x.page)
-    → IsKept table (after_back slabs x) index (without_item items x)
-kept_reclaim table slabs index items x kept accounted dead valid =
-    let found = dead_item items x dead in
-    let there : 1 ≤ places x items = some_places x found.0 items found.1 in
+-- the chunk itself is in none then
+none_back : (slabs : SlabState) (class : ℕ) (x : ChunkId) → IsAccounted (after_back slabs x) → IsClass slabs (class_of_page slabs x.page)
+    → IsClass (after_back slabs x) class → times x (class_at (after_back slabs x) class).order ≡ 0
+none_back slabs class x accounted valid valid_new = elim (leb_tells 1 (times x (class_at (after_back slabs x) class).order)) [
+  | inl some ↦
+      let own : class_of_page slabs x.page ≡ class = page_of_listed (after_back slabs x) class x accounted valid_new (omega arith) in
+      let listed_in = λ (c : ClassState). times x c.free + times x c.order in
+      let back : class_at (after_back slabs x) class ≡ put_back (class_of_chunk slabs x) x
+      = ap (λ (n : ℕ). class_at (after_back slabs x) n) (sym own)
+      ∙ class_at-with_class slabs (class_of_page slabs x.page) (put_back (class_of_chunk slabs x) x) valid in
+      let free : times x (x ∷ (class_of_chunk slabs x).free) ≡ 1 + times x (class_of_chunk slabs x).free
+      = times-cons x x (class_of_chunk slabs x).free ∙ ap (λ b. truth b + times x (class_of_chunk slabs x).free) (is_chunk-same x) in
+      absurd (omega (
+        arith,
+        in_lists_once (after_back slabs x) class x accounted valid_new,
+        ap listed_in back,
+        ap (λ (c : ClassState). times x c.order) back,
+        free,
+      ))
+  | inr none ↦ omega (arith, none.1)
+]
+
+-- after a chunk is put back and its item is gone, where the index leads to what the keys lead to then
+pub kept_back : (table : Classes) (slabs : SlabState) (index new_index : List (ℕ × ChunkId)) (items : Items) (x : ChunkId)
+    → IsKept table slabs index items → IsAccounted (after_back slabs x) → 1 ≤ places x items
+    → ((q : ℕ) → lookup (is_at (nat_cmp q)) new_index ≡ linked_chunk (without_item items x) q)
+    → IsKept table (after_back slabs x) new_index (without_item items x)
+kept_back table slabs index new_index items x kept accounted there leads =
+    let valid : IsClass slabs (class_of_page slabs x.page) = listed table slabs index items x kept there in
     let handed : 1 ≤ times x (class_of_chunk slabs x).order = omega (arith, kept.handed_out x) in
+    let classes : length (after_back slabs x).classes ≡ length slabs.classes = length-set slabs.classes _ _ in
     record {
       sound = kept.sound;
-      classes = length-set slabs.classes _ _ ∙ kept.classes;
+      classes = classes ∙ kept.classes;
       per_page = per_pages-with_class slabs (class_of_page slabs x.page) (put_back (class_of_chunk slabs x) x) refl ∙ kept.per_page;
       page = kept.page;
       limit = kept.limit;
       whole = kept.whole;
       accounted = accounted;
-      leads = λ q. kept.leads q ∙ sym (linked_chunk-without_item q x found.0 items found.1 found.2);
+      leads = leads;
       one_link = λ q. omega (arith, kept.one_link q, links-without_item-le q x items);
       handed_out = λ y. elim (is_chunk-tells x y) [
         | inl same ↦
@@ -260,7 +204,36 @@ kept_reclaim table slabs index items x kept accounted dead valid =
           | inr none ↦ omega (arith, none.1, places-without_item-le y x items)
         ]
       ];
+      stored = λ class y valid_new.
+          let valid_old : IsClass slabs class = (valid_new.0, rw (← classes) valid_new.1) in
+          elim (is_chunk-tells x y) [
+            | inl same ↦ rw (← same.1) (omega (arith, none_back slabs class x accounted valid valid_new))
+            | inr other ↦
+                omega (
+                  arith,
+                  kept.stored class y valid_old,
+                  places-without_item-other y x items other.0,
+                  order_back_step (eqb class (class_of_page slabs x.page)) slabs class x y valid valid_old handed other.0 refl,
+                )
+          ];
     }
+
+-- what has an item that its key doesn't lead to is there
+pub unlinked_item : (items : Items) (x : ChunkId) → is_unlinked items x ≡ true → (item : Item) × (item_at items x ≡ Some item) × (item.linked ≡ false)
+unlinked_item items x is = found_in (item_at items x) refl is
+  where
+    found_in : (found : Option Item) → item_at items x ≡ found → option_map_or (λ (item : Item). not item.linked) found false ≡ true
+        → (item : Item) × (item_at items x ≡ Some item) × (item.linked ≡ false)
+    found_in None at bad = cc
+    found_in (Some item) at holds = (item, at, not-true item.linked holds)
+
+-- after a dead chunk is put back and its item is gone
+pub kept_reclaim : (table : Classes) (slabs : SlabState) (index : List (ℕ × ChunkId)) (items : Items) (x : ChunkId)
+    → IsKept table slabs index items → IsAccounted (after_back slabs x) → is_unlinked items x ≡ true → IsKept table (after_back slabs x) index (without_item items x)
+kept_reclaim table slabs index items x kept accounted unlinked =
+    let found = unlinked_item items x unlinked in
+    kept_back table slabs index index items x kept accounted (some_places x found.0 items found.1)
+    (λ q. kept.leads q ∙ sym (linked_chunk-without_item q x found.0 items found.1 found.2))
 
 -- after a class got the next page and its chunks were cut
 pub kept_grow : (table : Classes) (slabs : SlabState) (index : List (ℕ × ChunkId)) (items : Items) (class page : ℕ) (chunks : List ChunkId)
@@ -272,6 +245,10 @@ kept_grow table slabs index items class page chunks kept valid next accounted wh
     let new = after_grow slabs class page in
     let nobody = (nobody_next slabs page kept.accounted next).0 in
     let classes : length new.classes ≡ length slabs.classes = ap length (classes-grown slabs class page) ∙ length-set slabs.classes _ _ in
+    let orders = λ (n : ℕ) (there : IsClass slabs n).
+    order-cuts new chunks n (there.0, rw classes there.1)
+    ∙ ap (λ (c : ClassState). c.order) (class_at-grown slabs class page n)
+    ∙ order-with_class slabs class n (with_page (class_at slabs class) page) there refl in
     record {
       sound = kept.sound;
       classes = classes-cuts new chunks ∙ classes ∙ kept.classes;
@@ -294,10 +271,12 @@ kept_grow table slabs index items class page chunks kept valid next accounted wh
             = ap (λ (owners : List Owner). class_of_owner (owner_at owners y.page)) (owners-cuts new chunks ∙ owners-grown slabs class page)
             ∙ ap class_of_owner (get_or-set_other slabs.owners page y.page (Class class) Untouched apart) in
             let order : (class_at (fold after_cut new chunks) (class_of_page slabs y.page)).order ≡ (class_of_chunk slabs y).order
-            = order-cuts new chunks (class_of_page slabs y.page) (there.0, rw classes there.1)
-            ∙ ap (λ (c : ClassState). c.order) (class_at-grown slabs class page (class_of_page slabs y.page))
-            ∙ order-with_class slabs class (class_of_page slabs y.page) (with_page (class_at slabs class) page) there refl in
+            = orders (class_of_page slabs y.page) there in
             rw (own, order) (kept.handed_out y)
         | inr none ↦ omega (arith, none.1)
       ];
+      stored = λ n y valid_new.
+          let there : IsClass slabs n = (valid_new.0, rw (← (classes-cuts new chunks ∙ classes)) valid_new.1) in
+          let order : (class_at (fold after_cut new chunks) n).order ≡ (class_at slabs n).order = orders n there in
+          rw order (kept.stored n y there);
     }

@@ -7,13 +7,12 @@ use Rattle.std.proofs.lemmas.List.{length-set, map-id}
 use Rattle.std.proofs.lemmas.List.Sums.{fold-append}
 use Rattle.std.proofs.lemmas.List.FromFn.{map-range_with_len_more}
 use Rattle.mc_pages.specs.declared.ids.ChunkId.{ChunkId}
-use Rattle.mc_pages.specs.SlabState.{SlabState, IsClass, class_at}
+use Rattle.mc_pages.specs.SlabState.{IsClass, class_at}
 use Rattle.mc_pages.specs.Accounted.{first_chunks}
-use Rattle.mc_pages.specs.Changes.{after_grow, next_page}
+use Rattle.mc_pages.specs.Changes.{after_back, after_grow, next_page}
 use Rattle.mc_driver.specs.Items.{Items, linked_chunk, unlinked_items}
-use Rattle.mc_driver.specs.Kept.{IsVacant}
 use Rattle.mc_driver.specs.Machine.{Machine, dead_chunks, swept, has_free, extended, stocked, with_new_page}
-use Rattle.mc_driver.proofs.Chunks.{places_none, places-unlinked_items, none-places}
+use Rattle.mc_driver.specs.Supply.{victim, with_eviction, supplied}
 use Rattle.mc_driver.proofs.Links.{linked_chunk-unlinked_items}
 use Rattle.mc_driver.proofs.Moves.{classes-cuts}
 use Rattle.mc_driver.proofs.GivenPage.{classes-grown}
@@ -53,13 +52,21 @@ IsClass-swept m class valid = (valid.0, rw (classes-swept m class) valid.1)
 pub IsClass-stocked : (m : Machine) (class : ℕ) → IsClass m.slabs class → IsClass (stocked m class).slabs class
 IsClass-stocked m class valid = (valid.0, rw (classes-stocked m class) valid.1)
 
--- a vacant chunk stays vacant while a key is unlinked, and then the key leads nowhere
-pub vacant-unlinked : (slabs : SlabState) (items : Items) (key : ℕ) (x : ChunkId) → IsVacant slabs items x → IsVacant slabs (unlinked_items items key) x
-vacant-unlinked slabs items key x vacant = record {
-  empty = none-places x (unlinked_items items key) (places-unlinked_items x key items ∙ places_none x items vacant.empty);
-  listed = vacant.listed;
-}
+-- nor does an eviction change the number of classes
+pub classes-eviction : (m : Machine) (class : ℕ) (found : Option ChunkId) → length (with_eviction m class found).slabs.classes ≡ length m.slabs.classes
+classes-eviction m class None = refl
+classes-eviction m class (Some x) = length-set (after_back m.slabs x).classes _ _ ∙ length-set m.slabs.classes _ _
 
+classes-relief : (m : Machine) (class : ℕ) (b : Bool) → length (if b then m else with_eviction m class (victim m class)).slabs.classes ≡ length m.slabs.classes
+classes-relief m class true = refl
+classes-relief m class false = classes-eviction m class (victim m class)
+
+pub IsClass-supplied : (m : Machine) (class : ℕ) → IsClass m.slabs class → IsClass (supplied m class).slabs class
+IsClass-supplied m class valid =
+    let stocked_in : IsClass (stocked m class).slabs class = IsClass-stocked m class valid in
+    (valid.0, rw (classes-relief (stocked m class) class (has_free (stocked m class) class)) stocked_in.1)
+
+-- after a key is unlinked it leads nowhere
 pub nowhere-unlinked : (items : Items) (key : ℕ) → linked_chunk (unlinked_items items key) key ≡ None
 nowhere-unlinked items key = grind (arith, nat_tests, linked_chunk-unlinked_items key key items)
 
@@ -72,3 +79,8 @@ sweeps_more m now place so_far =
     ∙ ap (λ cs. cs ++ (place + 1) ∷ []) (map-id (range_with_len 1 place)) in
     ap (λ (n : Machine). swept n (place + 1)) so_far
     ∙ sym (ap (λ cs. fold swept m cs) more ∙ fold-append swept m (range_with_len 1 place) ((place + 1) ∷ []))
+
+-- for stocking and supplying a class, and for storing an item in it
+pub ruleset class_stays = (IsClass-swept, IsClass-stocked)
+
+pub ruleset store_steps = (IsClass-supplied, nowhere-unlinked)

@@ -1,5 +1,5 @@
 -- What a serial run answers, and what it has written by then.
-use Rattle.std.specs.Prelude.{◌≡◌, ℕ, ◌+◌, ◌<◌, ◌≤◌, ◌⊎◌, true, false, List, take, length, Option, Some, Result, Ok, Err}
+use Rattle.std.specs.Prelude.{◌≡◌, ℕ, ◌+◌, ◌<◌, ◌≤◌, ◌⊎◌, true, false, List, take, length, Option, Some, None, Result, Ok, Err}
 use Rattle.std.specs.Option.{is_some, option_map}
 use Rattle.std.specs.Io.KnownBytes.{Appends, Keeps, append_known}
 use Rattle.mc_classes.specs.declared.config.Config.{Config}

@@ -14,16 +14,15 @@ mod store;
 mod sweep;
 mod turn;
 
-pub(crate) use serve::Stop;
-pub(crate) use turn::{Counts, Ending};
-
 use holds::Holds;
 use item::Item;
 use mc_classes::ClassTable;
 use mc_pages::{ChunkId, Slabs};
+pub(crate) use serve::Stop;
 use std::alloc::{AllocError, Global};
 use std::collections::BTreeMap;
 use std::marker::Model;
+pub(crate) use turn::{Counts, Ending};
 
 /// What a serial run stores: pages and chunks, the items in them, where each key leads, and who holds which chunk.
 #[derive(Drop)]

@@ -113,7 +113,8 @@ pub(crate) fn push_general(
     push_stat_line(text, b"slab_reassign_rescues", totals.rescues)?;
     push_stat_line(text, b"slab_reassign_evictions_nomem", totals.evictions_nomem)?;
     push_stat_line(text, b"slab_reassign_busy_items", totals.busy)?;
-    push_line(text, b"END")
+    push_line(text, b"END")?;
+    Ok(())
 }
 
 /// Adds the answer about a key.

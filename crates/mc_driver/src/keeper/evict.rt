@@ -1,9 +1,8 @@
 //! How a set comes to a chunk in a full class: an item is evicted.
-ghost use Rattle.std.specs.Prelude.{◌≡◌, true, Contains, OnOk, take};
-ghost use Rattle.mc_pages.specs.SlabState.{IsClass, class_at, class_of_page};
+ghost use Rattle.std.specs.Prelude.{◌≡◌, true, Contains, OnOk, Some};
+ghost use Rattle.mc_pages.specs.SlabState.{IsClass, class_at};
 ghost use Rattle.mc_driver.specs.Machine.{is_idle};
-ghost use Rattle.mc_driver.specs.Supply.{victim, with_eviction, relieved, supplied};
-ghost use Rattle.std.specs.Prelude.{Some};
+ghost use Rattle.mc_driver.specs.Supply.{victim, with_eviction, supplied};
 
 use super::Keeper;
 use mc_classes::ClassId;
@@ -15,6 +14,7 @@ const TRIES: u64 = 5;
 
 impl Keeper {
     /// Sees to it that the class has a free chunk, where there is a way to one.
+    #[tactic(auto, using(crate::proofs::Stocks::class_stays))]
     pub(super) fn supply(&mut self, class: ClassId) -> Result<(), AllocError>
         requires { IsClass self.old.slabs class }
         ensures { OnOk result (self.new ≡ supplied self.old class) }
@@ -57,10 +57,10 @@ impl Keeper {
         requires listed { Contains (class_at self.old.slabs class).order chunk }
         ensures { self.new ≡ with_eviction self.old class (Some chunk) }
     {
+        self.slabs.back(chunk);
+        self.slabs.evicted(class);
         if let Some(item) = self.items.remove(&chunk) {
             self.index.remove(&item.key());
         }
-        self.slabs.back(chunk);
-        self.slabs.evicted(class);
     }
 }

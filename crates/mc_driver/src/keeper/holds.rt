@@ -1,5 +1,7 @@
 //! Which chunks the workers hold.
-ghost use Rattle.std.specs.Prelude.{◌≡◌, ◌<◌, IfOk, OnOk, OnErr, Contains, slice_get, false};
+ghost use Rattle.std.specs.Prelude.{◌≡◌, ◌<◌, IfOk, OnOk, OnErr, Contains, slice_get, position, reverse};
+ghost use Rattle.std.specs.List.{list_any};
+ghost use Rattle.mc_pages.specs.ClassState.{is_chunk, without};
 ghost use Rattle.mc_driver.specs.Holds.{no_holds, held_by, is_full, is_held, with_hold, without_hold};
 
 use mc_pages::ChunkId;
@@ -54,9 +56,7 @@ impl Holds {
     pub(super) fn is_held(&self, chunk: ChunkId) -> bool
         ensures { result ≡ is_held self.now chunk }
     {
-        self.by_worker
-            .iter()
-            .any(|chunks| chunks.iter().any(|c| *c == chunk))
+        any_has(&self.by_worker, chunk)
     }
 
     /// The chunk that the worker holds at this place, 0 being the one that it took last. None past the last.
@@ -89,9 +89,36 @@ impl Holds {
         requires held { Contains (held_by self.old worker) chunk }
         ensures { self.new ≡ without_hold self.old worker chunk }
     {
-        let chunks = &mut self.by_worker[worker as usize];
-        if let Some(place) = chunks.iter().rposition(|c| *c == chunk) {
-            chunks.remove(place);
-        }
+        take_out_last(&mut self.by_worker[worker as usize], chunk);
     }
+}
+
+/// Whether one of the lists has the chunk.
+fn any_has(lists: &[Vec<ChunkId>], chunk: ChunkId) -> bool
+    ensures { result ≡ list_any (λ chunks. list_any (λ c. is_chunk c chunk) chunks.items) lists.now }
+{
+    lists.iter().any(|chunks| has(chunks, chunk))
+}
+
+/// Whether the list has the chunk.
+fn has(chunks: &[ChunkId], chunk: ChunkId) -> bool
+    ensures { result ≡ list_any (λ c. is_chunk c chunk) chunks.now }
+{
+    chunks.iter().any(|c| *c == chunk)
+}
+
+/// Removes the last place of the chunk, if it has one.
+fn take_out_last(chunks: &mut Vec<ChunkId>, chunk: ChunkId)
+    ensures { reverse chunks.new.items ≡ without chunk (reverse chunks.old.items) }
+{
+    if let Some(back) = place_from_back(chunks, chunk) {
+        chunks.remove(chunks.len() - 1 - back);
+    }
+}
+
+/// How many chunks stand behind the chunk's last place.
+fn place_from_back(chunks: &[ChunkId], chunk: ChunkId) -> Option<usize>
+    ensures { result ≡ position (λ c. is_chunk c chunk) (reverse chunks.now) }
+{
+    chunks.iter().rev().position(|c| *c == chunk)
 }

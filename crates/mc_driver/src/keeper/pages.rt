@@ -13,6 +13,7 @@ use std::alloc::AllocError;
 impl Keeper {
     /// Sees to it that the class has a free chunk, where there is a way: its dead are put back, and else it
     /// gets a page.
+    #[tactic(auto, using(crate::proofs::Stocks::class_stays))]
     pub(super) fn stock(&mut self, class: ClassId) -> Result<(), AllocError>
         requires { IsClass self.old.slabs class }
         ensures { OnOk result (self.new ≡ stocked self.old class) }

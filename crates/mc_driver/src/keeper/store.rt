@@ -19,6 +19,7 @@ use std::collections::BTreeMap;
 impl Keeper {
     /// Stores an item in a chunk of the class, in the place of the key's old one, and says whether there was a
     /// chunk for it. Where there is none, the old item stays, unless it was the one evicted.
+    #[tactic(auto, using(crate::proofs::Stocks::store_steps))]
     pub(super) fn store(
         &mut self,
         class: ClassId,
@@ -56,13 +57,19 @@ impl Keeper {
 
     /// Hands out the class's next free chunk and puts a new item into it, to which the key leads. A refusal changes
     /// nothing.
-    fn put(&mut self, class: ClassId, chunk: ChunkId, key: u64, words: Vec<u64>) -> Result<(), AllocError>
+    fn put(
+        &mut self,
+        class: ClassId,
+        chunk: ChunkId,
+        key: u64,
+        words: Vec<u64>,
+    ) -> Result<(), AllocError>
         requires class { IsClass self.old.slabs class }
         requires free { first_free (class_at self.old.slabs class) ≡ Some chunk }
         requires unlinked { linked_chunk self.old.items key ≡ None }
         ensures put { OnOk result (self.new ≡ record self.old {
-            slabs = after_pop self.old.slabs class;
-            items = with_item self.old.items chunk (new_item key words.items);
+          slabs = after_pop self.old.slabs class;
+          items = with_item self.old.items chunk (new_item key words.items);
         }) }
     {
         self.items.insert(chunk, Item::new(key, words))?;

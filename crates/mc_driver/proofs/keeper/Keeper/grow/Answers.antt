@@ -17,17 +17,27 @@ cut_page-requires-clause-chunks c =
 pub invariant_of-self : goal.invariant_of-self
 invariant_of-self c =
     let valid : IsClass c.self.inside.slabs c.args.class = rw (ap (λ (m : Machine). m.slabs) c.self.view_is) c.requires in
-    rw (c.cut_page.ensures.cut, c.in-Ok.ensures.given.1)
-    (kept_grow _ _ _ _ c.args.class c.in-Ok.page (first_chunks c.in-Ok.page c.per_page-per_page.result) c.self.invariant.kept valid
-    c.in-Ok.ensures.given.0
-    (rw (c.cut_page.ensures.cut, c.in-Ok.ensures.given.1) at c.cut_page.ensures.accounted)
-    (rw (c.cut_page.ensures.cut, c.in-Ok.ensures.given.1) at c.cut_page.ensures.whole))
+    record {
+      kept = rw (c.cut_page.ensures.cut, c.in-Ok.ensures.given.1)
+          (kept_grow _ _ _ _ c.args.class c.in-Ok.page (first_chunks c.in-Ok.page c.per_page-per_page.result) c.self.invariant.kept valid
+          c.in-Ok.ensures.given.0
+          (rw (c.cut_page.ensures.cut, c.in-Ok.ensures.given.1) at c.cut_page.ensures.accounted)
+          (rw (c.cut_page.ensures.cut, c.in-Ok.ensures.given.1) at c.cut_page.ensures.whole));
+      bulk = c.self.invariant.bulk;
+    }
 
 pub returns-in-Ok : goal.returns-in-Ok
 returns-in-Ok c =
     let valid : IsClass c.self.inside.slabs c.args.class = rw (ap (λ (m : Machine). m.slabs) c.self.view_is) c.requires in
     rw (← c.self.view_is)
-    (new_page_view (record { table = c.self.inside.table; slabs = c.self.inside.slabs; items = c.self.inside.items.entries })
+    (new_page_view (record {
+      table = c.self.inside.table;
+      bulk = c.self.inside.bulk;
+      slabs = c.self.inside.slabs;
+      items = c.self.inside.items.entries;
+      holds = c.self.inside.holds;
+      turns = c.self.inside.turns;
+    })
     c.cut_page.new.slabs c.args.class c.in-Ok.page c.per_page-per_page.result c.in-Ok.ensures.given.0
     (per_page_grown c.self.inside.slabs c.args.class c.in-Ok.page valid ∙ per_page_kept _ _ _ _ c.args.class c.self.invariant.kept valid ∙ sym c.per_page-per_page.ensures.chunks)
     (c.cut_page.ensures.cut ∙ ap (λ (s : SlabState). fold after_cut s (first_chunks c.in-Ok.page c.per_page-per_page.result)) c.in-Ok.ensures.given.1))

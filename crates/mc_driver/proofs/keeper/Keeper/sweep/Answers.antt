@@ -93,7 +93,7 @@ loop-chunk-preserved c =
     record {
       class = c.loop-chunk.invariant.class;
       within = omega (arith, inside);
-      none = none_more _ _ _ _ here.at c.loop-chunk.invariant.none (sym c.is_dead.ensures ∙ c.if-is_dead.false);
+      none = none_more c.loop-chunk.self _ _ _ here.at c.loop-chunk.invariant.none (sym c.is_dead.ensures ∙ c.if-is_dead.false);
       rest = c.loop-chunk.invariant.rest;
     }
 
