@@ -1,6 +1,6 @@
 -- A move ends, and a class cuts the page: what the keeper keeps stays.
 use Rattle.std.proofs.Common.{◌≡◌, ◌≢◌, ℕ, ◌+◌, ◌-◌, ◌<◌, ◌≤◌, List, [], ◌∷◌, length, set, Bool, true, false, Option, Some, None, inl, inr, refl, ap, sym, ◌∙◌, arith, eqb-true, eq-eqb, ne_eqb}
-use Rattle.std.specs.Prelude.{◌==◌, fold, map, if◌then◌else◌}
+use Rattle.std.specs.Prelude.{◌==◌, fold, map, nat_lt, if◌then◌else◌}
 use Rattle.std.specs.Ordering.{nat_cmp}
 use Rattle.std.proofs.lemmas.Bool.{cases_Bool, cases_eq, cases_lt, and_parts, ltb-true}
 use Rattle.std.proofs.lemmas.List.{length-set, get_or-set_other}
@@ -32,8 +32,9 @@ none_placed slabs move chunk accounted whole can on =
     let is : IsMove slabs move = accounted.move move can.runs in
     elim (cases_Bool (is_cut slabs move.src chunk)) [
       | inl cut ↦
+          let parts = and_parts (is_of_class move.src (owner_at slabs.owners chunk.page)) (nat_lt chunk.index (cut_count slabs.uncut chunk.page (class_at slabs move.src).per_page)) cut in
           let below : chunk.index < cut_count slabs.uncut chunk.page (class_at slabs move.src).per_page
-          = ltb-true chunk.index (cut_count slabs.uncut chunk.page (class_at slabs move.src).per_page) (and_parts _ _ cut).1 in
+          = ltb-true chunk.index (cut_count slabs.uncut chunk.page (class_at slabs move.src).per_page) parts.1 in
           let count = ap (λ (o : Option ChunkId). cut_count o chunk.page (class_at slabs move.src).per_page) whole in
           let cleared = and_parts _ _ (can.all_cleared chunk.index (omega (arith, below, count))) in
           ap (λ (p : ℕ). places_in slabs move.src (record { page = p; index = chunk.index })) on ∙ eqb-true _ _ cleared.1

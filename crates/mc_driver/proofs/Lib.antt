@@ -27,3 +27,4 @@ pub mod KeptMoverRescue
 pub mod MoverSaves
 pub mod KeptMoverPass
 pub mod KeptMoverFinish
+pub mod MoverTurns
