@@ -113,3 +113,8 @@ pub position_cut : (slabs : SlabState) (move : Moving) → IsMove slabs move →
     → is_cut slabs move.src (chunk_at_position move) ≡ true
 position_cut slabs move is whole within =
     rw (is.owner, whole) (and_from _ _ (eq-eqb move.src move.src refl) (lt-ltb move.at (class_at slabs move.src).per_page within))
+
+-- the move that runs
+pub move_here : (m now : Machine) (index : List (ℕ × ChunkId)) (move : Moving) → IsKept m.table m.slabs index m.items → m ≡ now
+    → m.slabs.moving ≡ Some move → IsMove now.slabs move
+move_here m now index move kept same runs = rw (← same) (kept.accounted.move move runs)

@@ -26,3 +26,5 @@ pub mod KeptMoverClear
 pub mod KeptMoverRescue
 pub mod MoverSaves
 pub mod KeptMoverPass
+pub mod KeptMoverFinish
+pub mod MoverTurns

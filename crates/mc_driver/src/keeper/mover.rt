@@ -40,7 +40,7 @@ impl Keeper {
             }
             ending = self.turn(&mut counts)?;
             if ending != Ending::Went {
-                break;
+                return Ok((ending, counts));
             }
         }
         Ok((ending, counts))
