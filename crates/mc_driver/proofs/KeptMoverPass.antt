@@ -76,14 +76,14 @@ keeps_saved m old (Some new) =
 
 -- whichever way a chunk is looked at
 keeps_ways : (before free dead idle : Bool) (m : Machine) (class : ℕ) (chunk : ChunkId) → KeepsMove m.slabs (
-    let looked : Looked =
-    if before then record { machine = m; found = Already }
-    else if free then record { machine = record m { slabs = after_clear m.slabs chunk }; found = Cleared }
-    else if dead then record { machine = with_cleared m chunk; found = Cleared }
-    else if idle then saved m class chunk
-    else record { machine = m; found = Busy } in
-    looked.machine.slabs
-    )
+  let looked : Looked =
+      if before then record { machine = m; found = Already }
+      else if free then record { machine = record m { slabs = after_clear m.slabs chunk }; found = Cleared }
+      else if dead then record { machine = with_cleared m chunk; found = Cleared }
+      else if idle then saved m class chunk
+      else record { machine = m; found = Busy } in
+  looked.machine.slabs
+)
 keeps_ways true free dead idle m class chunk = keeps_same m.slabs
 keeps_ways false true dead idle m class chunk = keeps_clear m.slabs chunk
 keeps_ways false false true idle m class chunk = keeps_clear m.slabs chunk
