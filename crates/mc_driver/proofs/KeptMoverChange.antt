@@ -1,11 +1,11 @@
 -- A step of the mover changes the lists of one class and the items, and what the keeper keeps stays.
-use Rattle.std.proofs.Common.{◌≡◌, ◌≢◌, ℕ, ◌+◌, ◌-◌, ◌≤◌, ◌⊎◌, List, length, Bool, true, false, Some, None, inl, inr, refl, ap, sym, ◌∙◌, arith}
+use Rattle.std.proofs.Common.{◌≡◌, ◌≢◌, ℕ, ◌+◌, ◌-◌, ◌≤◌, List, length, inl, inr, refl, ap, sym, ◌∙◌, arith}
 use Rattle.std.specs.Prelude.{map, slice_index_or}
 use Rattle.std.specs.Ordering.{nat_cmp}
 use Rattle.std.specs.BTreeMap.{is_at}
 use Rattle.std.specs.Map.{lookup}
 use Rattle.std.proofs.lemmas.Bool.{cases_eq, cases_lt}
-use Rattle.std.proofs.lemmas.List.{get_or-set_same, get_or-set_other}
+use Rattle.std.proofs.lemmas.List.{get_or-set_other}
 use Rattle.mc_classes.specs.Classes.{Classes}
 use Rattle.mc_pages.specs.declared.ids.ChunkId.{ChunkId}
 use Rattle.mc_pages.specs.declared.ledger.Owner.{Owner}
@@ -15,7 +15,7 @@ use Rattle.mc_pages.specs.SlabState.{SlabState, IsClass, class_at, class_of_owne
 use Rattle.mc_pages.specs.Accounted.{IsAccounted}
 use Rattle.mc_pages.specs.Changes.{with_class}
 use Rattle.mc_pages.proofs.HandedOut.{class_of_placed}
-use Rattle.mc_pages.proofs.OneClass.{length-with_class, class_at-with_class_same}
+use Rattle.mc_pages.proofs.OneClass.{length-with_class}
 use Rattle.mc_driver.specs.Items.{Items, linked_chunk}
 use Rattle.mc_driver.specs.Kept.{places, links, IsKept}
 use Rattle.mc_driver.proofs.Moves.{per_pages-with_class}

@@ -1,7 +1,7 @@
 -- A chunk of the moving page is cleared with its item: what the keeper keeps stays.
-use Rattle.std.proofs.Common.{◌≡◌, ◌≢◌, ℕ, ◌+◌, ◌-◌, ◌≤◌, List, [], ◌∷◌, suc, Bool, true, false, not, cond, Option, Some, None, inl, inr, refl, ap, sym, ◌∙◌, arith, Contains}
+use Rattle.std.proofs.Common.{◌≡◌, ℕ, ◌+◌, ◌≤◌, List, [], ◌∷◌, suc, Bool, true, false, not, cond, Option, Some, None, inl, inr, refl, ap, sym, ◌∙◌, arith, Contains}
 use Rattle.std.specs.Prelude.{◌==◌, ◌&&◌}
-use Rattle.std.specs.Option.{option_map, option_map_or}
+use Rattle.std.specs.Option.{option_map_or}
 use Rattle.std.specs.Ordering.{nat_cmp}
 use Rattle.std.specs.BTreeMap.{is_at}
 use Rattle.std.specs.Map.{lookup}
@@ -22,11 +22,11 @@ use Rattle.mc_pages.proofs.HandedOut.{IsClass-placed}
 use Rattle.mc_pages.proofs.Owners.{class_of_owner-is_of_class}
 use Rattle.mc_pages.proofs.OneClass.{class_at-with_class_same, length-with_class}
 use Rattle.mc_driver.specs.Item.{Item, is_linked_to}
-use Rattle.mc_driver.specs.Items.{Items, chunk_cmp, item_at, is_linked, is_unlinked, linked_chunk, without_item}
+use Rattle.mc_driver.specs.Items.{Items, item_at, is_linked, is_unlinked, linked_chunk, without_item}
 use Rattle.mc_driver.specs.Holds.{is_held}
 use Rattle.mc_driver.specs.Machine.{Machine, is_dead, is_idle}
 use Rattle.mc_driver.specs.Kept.{places, links, IsKept}
-use Rattle.mc_driver.proofs.KeptMoverChange.{ChangesClass, changes_class, kept_changed}
+use Rattle.mc_driver.proofs.KeptMoverChange.{changes_class, kept_changed}
 
 -- an item is one place of its chunk
 pub one_place : (x : ChunkId) (item : Item) (items : Items) → item_at items x ≡ Some item → 1 ≤ places x items

@@ -1,20 +1,19 @@
 -- A move ends, and a class cuts the page: what the keeper keeps stays.
-use Rattle.std.proofs.Common.{◌≡◌, ◌≢◌, ℕ, ◌+◌, ◌-◌, ◌<◌, ◌≤◌, List, [], ◌∷◌, length, set, Bool, true, false, Option, Some, None, inl, inr, refl, ap, sym, ◌∙◌, arith, eqb-true, eq-eqb, ne_eqb}
+use Rattle.std.proofs.Common.{◌≡◌, ◌≢◌, ℕ, ◌<◌, ◌≤◌, List, length, set, Bool, true, false, Option, Some, None, inl, inr, refl, ap, sym, ◌∙◌, arith, eqb-true, eq-eqb, ne_eqb}
 use Rattle.std.specs.Prelude.{◌==◌, fold, map, nat_lt, if◌then◌else◌}
-use Rattle.std.specs.Ordering.{nat_cmp}
-use Rattle.std.proofs.lemmas.Bool.{cases_Bool, cases_eq, cases_lt, and_parts, ltb-true}
-use Rattle.std.proofs.lemmas.List.{length-set, get_or-set_other}
+use Rattle.std.proofs.lemmas.Bool.{cases_Bool, cases_lt, and_parts, ltb-true}
+use Rattle.std.proofs.lemmas.List.{length-set}
 use Rattle.mc_classes.specs.Classes.{Classes}
 use Rattle.mc_pages.specs.declared.ids.ChunkId.{ChunkId}
 use Rattle.mc_pages.specs.declared.ids.Moving.{Moving}
 use Rattle.mc_pages.specs.declared.ledger.Owner.{Owner}
-use Rattle.mc_pages.specs.declared.ledger.Owner.TheVariants.{Untouched, Pool, Class}
+use Rattle.mc_pages.specs.declared.ledger.Owner.TheVariants.{Pool, Class}
 use Rattle.mc_pages.specs.Ledger.{owner_at}
 use Rattle.mc_pages.specs.ClassState.{ClassState, times, without_page, with_page}
 use Rattle.mc_pages.specs.SlabState.{SlabState, IsClass, class_at, class_of_owner, class_of_page, class_of_chunk}
-use Rattle.mc_pages.specs.Accounted.{truth, is_of_class, cut_count, is_cut, is_cleared, places_in, first_chunks, IsMove, IsAccounted}
-use Rattle.mc_pages.specs.Changes.{with_class, with_given, after_cut}
-use Rattle.mc_pages.specs.Moves.{released, arrived, finished, CanFinish}
+use Rattle.mc_pages.specs.Accounted.{truth, is_of_class, cut_count, is_cut, places_in, first_chunks, IsMove, IsAccounted}
+use Rattle.mc_pages.specs.Changes.{with_given, after_cut}
+use Rattle.mc_pages.specs.Moves.{released, finished, CanFinish}
 use Rattle.mc_pages.proofs.HandedOut.{IsClass-placed}
 use Rattle.mc_pages.proofs.Owners.{owner_at-set_same, owner_at-set_other}
 use Rattle.mc_pages.proofs.ReleasedPage.{within_from_IsMove}
@@ -170,6 +169,6 @@ finish_view m slabs move per_page class same slabs_is =
     let cut : slabs ≡ with_cut_page (finished m.slabs move) move.dst move.page
     = slabs_is ∙ ap (λ n. fold after_cut (finished m.slabs move) (first_chunks move.page n)) (sym same) in
     let way : with_cut_page (finished m.slabs move) move.dst move.page
-        ≡ (if move.dst == 0 then finished m.slabs move else with_cut_page (finished m.slabs move) move.dst move.page)
+    ≡ (if move.dst == 0 then finished m.slabs move else with_cut_page (finished m.slabs move) move.dst move.page)
     = sym (ap (λ b. if b then finished m.slabs move else with_cut_page (finished m.slabs move) move.dst move.page) (ne_eqb move.dst 0 class)) in
     ap (λ (s : SlabState). record m { slabs = s }) (cut ∙ way)

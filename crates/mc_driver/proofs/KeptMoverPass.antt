@@ -1,18 +1,16 @@
 -- The mover goes on from a chunk, or begins its pass anew: what the keeper keeps stays. And what a look leaves of the move.
-use Rattle.std.proofs.Common.{◌≡◌, ℕ, ◌+◌, ◌≤◌, ◌<◌, List, [], ◌∷◌, length, Bool, true, false, Option, Some, None, refl, ap, sym, ◌∙◌, arith, eq-eqb, lt-ltb}
+use Rattle.std.proofs.Common.{◌≡◌, ℕ, ◌<◌, List, [], ◌∷◌, Bool, true, false, Option, Some, None, refl, ap, ◌∙◌, eq-eqb, lt-ltb}
 use Rattle.std.specs.Prelude.{fold, map, if◌then◌else◌}
-use Rattle.std.specs.Option.{option_map}
 use Rattle.std.proofs.lemmas.Bool.{and_from}
 use Rattle.mc_classes.specs.Classes.{Classes}
 use Rattle.mc_pages.specs.declared.ids.ChunkId.{ChunkId}
 use Rattle.mc_pages.specs.declared.ids.Moving.{Moving}
-use Rattle.mc_pages.specs.declared.ledger.Owner.{Owner}
 use Rattle.mc_pages.specs.declared.moves.Found.{Found}
-use Rattle.mc_pages.specs.ClassState.{ClassState, cleared, put_back, replaced, counted}
-use Rattle.mc_pages.specs.SlabState.{SlabState, IsClass, class_at, class_of_page, class_of_chunk}
-use Rattle.mc_pages.specs.Accounted.{is_of_class, is_cut, is_cleared, IsMove, IsAccounted}
+use Rattle.mc_pages.specs.ClassState.{ClassState, cleared, put_back, replaced}
+use Rattle.mc_pages.specs.SlabState.{SlabState, class_at, class_of_page, class_of_chunk}
+use Rattle.mc_pages.specs.Accounted.{is_cut, is_cleared, IsMove, IsAccounted}
 use Rattle.mc_pages.specs.Changes.{with_class, after_back, after_clear, after_replace}
-use Rattle.mc_pages.specs.Moves.{is_held_up, chunk_at_position, after_passed, after_wrap, rescued_of, evicted_of, CanPass}
+use Rattle.mc_pages.specs.Moves.{is_held_up, chunk_at_position, CanPass}
 use Rattle.mc_driver.specs.Items.{Items}
 use Rattle.mc_driver.specs.Kept.{IsKept}
 use Rattle.mc_driver.specs.Machine.{Machine, is_dead, is_idle, dead_chunks, after_reclaim, swept}
@@ -76,14 +74,14 @@ keeps_saved m old (Some new) =
 
 -- whichever way a chunk is looked at
 keeps_ways : (before free dead idle : Bool) (m : Machine) (class : ℕ) (chunk : ChunkId) → KeepsMove m.slabs (
-  let looked : Looked =
-      if before then record { machine = m; found = Already }
-      else if free then record { machine = record m { slabs = after_clear m.slabs chunk }; found = Cleared }
-      else if dead then record { machine = with_cleared m chunk; found = Cleared }
-      else if idle then saved m class chunk
-      else record { machine = m; found = Busy } in
-  looked.machine.slabs
-)
+    let looked : Looked =
+    if before then record { machine = m; found = Already }
+    else if free then record { machine = record m { slabs = after_clear m.slabs chunk }; found = Cleared }
+    else if dead then record { machine = with_cleared m chunk; found = Cleared }
+    else if idle then saved m class chunk
+    else record { machine = m; found = Busy } in
+    looked.machine.slabs
+    )
 keeps_ways true free dead idle m class chunk = keeps_same m.slabs
 keeps_ways false true dead idle m class chunk = keeps_clear m.slabs chunk
 keeps_ways false false true idle m class chunk = keeps_clear m.slabs chunk

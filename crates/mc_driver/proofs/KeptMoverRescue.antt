@@ -1,5 +1,5 @@
 -- An item of the moving page comes into another chunk of its class: what the keeper keeps stays.
-use Rattle.std.proofs.Common.{◌≡◌, ◌≢◌, ℕ, ◌+◌, ◌-◌, ◌≤◌, List, [], ◌∷◌, Bool, true, false, cond, Option, Some, None, inl, inr, refl, ap, sym, ◌∙◌, arith, Contains, eq-eqb}
+use Rattle.std.proofs.Common.{◌≡◌, ℕ, ◌+◌, ◌≤◌, List, [], ◌∷◌, Bool, true, false, Some, None, refl, ap, sym, ◌∙◌, arith, Contains, eq-eqb}
 use Rattle.std.specs.Prelude.{◌==◌, if◌then◌else◌}
 use Rattle.std.specs.Ordering.{nat_cmp}
 use Rattle.std.specs.declared.cmp.Ordering.{Ordering}
@@ -10,10 +10,10 @@ use Rattle.std.proofs.lemmas.Bool.{false≢true}
 use Rattle.std.proofs.lemmas.Bool.Decides.{nat_tests}
 use Rattle.mc_classes.specs.Classes.{Classes}
 use Rattle.mc_pages.specs.declared.ids.ChunkId.{ChunkId}
-use Rattle.mc_pages.specs.ClassState.{ClassState, is_chunk, times, without, with_before, cleared, replaced}
+use Rattle.mc_pages.specs.ClassState.{ClassState, is_chunk, times, with_before, cleared, replaced}
 use Rattle.mc_pages.specs.SlabState.{SlabState, IsClass, class_at, class_of_page, class_of_chunk}
 use Rattle.mc_pages.specs.Accounted.{truth, places_in, is_cut, IsAccounted}
-use Rattle.mc_pages.specs.Changes.{with_class, after_clear, after_replace}
+use Rattle.mc_pages.specs.Changes.{after_clear, after_replace}
 use Rattle.mc_pages.proofs.Chunks.{times-without, times_from_Contains, same_from_is_chunk}
 use Rattle.mc_pages.proofs.Cleared.{truth-le_one}
 use Rattle.mc_pages.proofs.Lists.{times-with_before}

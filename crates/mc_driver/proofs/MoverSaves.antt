@@ -1,24 +1,23 @@
 -- An idle item of the moving page stays idle while its class's dead are put back, and what the mover finds at it.
-use Rattle.std.proofs.Common.{◌≡◌, ◌≢◌, ℕ, ◌+◌, ◌≤◌, List, [], ◌∷◌, suc, Bool, true, false, not, Option, Some, None, refl, ap, sym, ◌∙◌, arith, Contains, length}
+use Rattle.std.proofs.Common.{◌≡◌, ◌≢◌, ℕ, ◌≤◌, List, [], ◌∷◌, suc, Bool, true, false, not, Option, Some, None, refl, ap, sym, ◌∙◌, arith, Contains, length}
 use Rattle.std.specs.Prelude.{◌==◌, ◌&&◌, find, filter, fold, nat_lt, is_some, if◌then◌else◌}
-use Rattle.std.specs.Option.{option_map, option_map_or}
+use Rattle.std.specs.Option.{option_map_or}
 use Rattle.std.proofs.lemmas.Bool.{false≢true}
 use Rattle.std.proofs.lemmas.Bool.Decides.{nat_tests}
 use Rattle.std.proofs.lemmas.List.{length-set}
 use Rattle.mc_classes.specs.Classes.{Classes}
 use Rattle.mc_pages.specs.declared.ids.ChunkId.{ChunkId}
-use Rattle.mc_pages.specs.declared.ids.Moving.{Moving}
 use Rattle.mc_pages.specs.declared.moves.Found.TheVariants.{Cleared, Busy}
 use Rattle.mc_pages.specs.ClassState.{is_chunk, times}
 use Rattle.mc_pages.specs.SlabState.{SlabState, IsClass, class_at, class_of_owner, class_of_page}
 use Rattle.mc_pages.specs.declared.ledger.Owner.{Owner}
 use Rattle.mc_pages.specs.Ledger.{owner_at}
-use Rattle.mc_pages.specs.Accounted.{truth, is_cut, is_cleared, IsAccounted}
+use Rattle.mc_pages.specs.Accounted.{truth, is_cut, is_cleared}
 use Rattle.mc_pages.proofs.Cleared.{truth-le_one}
 use Rattle.mc_pages.proofs.Chunks.{times-cons, same_from_is_chunk}
 use Rattle.mc_driver.specs.Holds.{is_held}
 use Rattle.mc_driver.specs.Item.{Item}
-use Rattle.mc_driver.specs.Items.{Items, item_at, is_linked, is_unlinked, without_item}
+use Rattle.mc_driver.specs.Items.{Items, item_at, without_item}
 use Rattle.mc_driver.specs.Kept.{IsKept}
 use Rattle.mc_driver.specs.Machine.{Machine, is_dead, is_idle, dead_chunks, after_reclaim, swept}
 use Rattle.mc_driver.specs.Mover.{Looked, looked_at, saved, target, with_cleared}

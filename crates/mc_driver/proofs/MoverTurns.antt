@@ -1,5 +1,5 @@
 -- Turns of the mover: chunk after chunk and turn after turn, and how much they count at most.
-use Rattle.std.proofs.Common.{◌≡◌, ℕ, ◌+◌, ◌-◌, ◌*◌, ◌<◌, ◌≤◌, zero, suc, Bool, true, false, Option, Some, None, refl, ap, sym, ◌∙◌, arith, add-one}
+use Rattle.std.proofs.Common.{◌≡◌, ℕ, ◌+◌, ◌-◌, ◌<◌, ◌≤◌, zero, suc, Bool, true, false, Option, Some, None, refl, ap, sym, ◌∙◌, arith, add-one}
 use Rattle.std.specs.Prelude.{nat_lt, if◌then◌else◌}
 use Rattle.std.proofs.lemmas.Bool.Decides.{nat_tests}
 use Rattle.mc_pages.specs.declared.ids.Moving.{Moving}
@@ -7,10 +7,8 @@ use Rattle.mc_pages.specs.declared.moves.Found.{Found}
 use Rattle.mc_pages.specs.declared.moves.Found.TheVariants.{Cleared, Rescued, Evicted, Busy, Locked, Already}
 use Rattle.mc_pages.specs.Moves.{chunk_at_position}
 use Rattle.mc_driver.specs.declared.keeper.turn.Counts.{Counts}
-use Rattle.mc_driver.specs.declared.keeper.turn.Ending.{Ending}
-use Rattle.mc_driver.specs.declared.keeper.turn.Ending.TheVariants.{Idle, Went, Finished}
 use Rattle.mc_driver.specs.Machine.{Machine}
-use Rattle.mc_driver.specs.Mover.{AreAtMost, Counted, Turned, Looked, after_turns, is_at_end, is_went, looked_at, turned, turns_from, with_chunk, with_chunks, with_count, with_end, with_looked}
+use Rattle.mc_driver.specs.Mover.{AreAtMost, Counted, Turned, Looked, is_at_end, is_went, looked_at, turned, turns_from, with_chunk, with_chunks, with_count, with_end, with_looked}
 
 -- the next chunk is looked at
 abbrev pub next_chunk : Counted → Counted

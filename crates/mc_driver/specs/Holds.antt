@@ -1,5 +1,5 @@
 -- Which chunks the workers hold.
-use Rattle.std.specs.Prelude.{ℕ, ◌<◌, ◌≤◌, ◌==◌, Bool, nat_lt, not, List, [], ◌∷◌, length, sum_by, slice_index_or, slice_set, replicate}
+use Rattle.std.specs.Prelude.{ℕ, Bool, nat_lt, not, List, [], ◌∷◌, length, sum_by, slice_index_or, slice_set, replicate}
 use Rattle.mc_pages.specs.declared.ids.ChunkId.{ChunkId}
 use Rattle.mc_pages.specs.ClassState.{times, without}
 

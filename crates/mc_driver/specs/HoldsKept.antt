@@ -1,6 +1,5 @@
 -- What the workers' holds in memory mean.
-use Rattle.std.specs.Prelude.{◌≡◌, List, length, map, reverse}
-use Rattle.mc_pages.specs.declared.ids.ChunkId.{ChunkId}
+use Rattle.std.specs.Prelude.{◌≡◌, length, map, reverse}
 use Rattle.mc_driver.specs.Holds.{Holds}
 use Rattle.mc_driver.specs.declared.keeper.holds.Holds.TheInside.{Inside}
 

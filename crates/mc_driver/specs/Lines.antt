@@ -1,11 +1,11 @@
 -- What the plain machine answers to each command, and what it is afterwards.
-use Rattle.std.specs.Prelude.{◌≡◌, ℕ, ◌*◌, Bool, true, false, not, List, [], ◌∷◌, ◌++◌, length, map, find, codes, Option, Some, None, Result, Ok, Err, if◌then◌else◌}
+use Rattle.std.specs.Prelude.{◌≡◌, ℕ, ◌*◌, Bool, List, [], ◌∷◌, ◌++◌, length, map, find, codes, Option, Some, None, Result, Ok, Err, if◌then◌else◌}
 use Rattle.std.specs.Option.{is_some, option_and_then, option_map, option_map_or}
 use Rattle.mc_classes.specs.Classes.{class_of}
 use Rattle.mc_pages.specs.declared.ids.ChunkId.{ChunkId}
 use Rattle.mc_pages.specs.declared.moves.Reassign.{Reassign}
 use Rattle.mc_pages.specs.declared.moves.Reassign.TheVariants.{Busy, Same, BadClass, NoSpare, NoMemory}
-use Rattle.mc_pages.specs.SlabState.{class_at, granted_count}
+use Rattle.mc_pages.specs.SlabState.{granted_count}
 use Rattle.mc_pages.specs.Accounted.{truth}
 use Rattle.mc_pages.specs.Changes.{after_pop, after_touch}
 use Rattle.mc_pages.specs.Answer.{answer_of}

@@ -136,8 +136,8 @@ abbrev pub turns_from : ℕ → Turned → Option Turned
 turns_from zero t = Some t
 turns_from (suc count) t =
     if nat_lt t.machine.turns most_turns then (
-      let next = turned t.machine t.counts in
-      if is_went next.ending then turns_from count next else Some next)
+    let next = turned t.machine t.counts in
+    if is_went next.ending then turns_from count next else Some next)
     else None
 
 -- so many turns, as far as there is something to do

@@ -1,5 +1,5 @@
 -- How a set comes to a chunk: a free one, else a dead one, else one of a new page, else one whose item is evicted.
-use Rattle.std.specs.Prelude.{ℕ, List, [], ◌∷◌, take, find, Option, Some, None, if◌then◌else◌}
+use Rattle.std.specs.Prelude.{ℕ, take, find, Option, Some, None, if◌then◌else◌}
 use Rattle.mc_pages.specs.declared.ids.ChunkId.{ChunkId}
 use Rattle.mc_pages.specs.ClassState.{first_free}
 use Rattle.mc_pages.specs.SlabState.{class_at}

@@ -114,7 +114,11 @@ impl Keeper {
     {
         self.slabs.finish_move();
         if moving.dst != 0 {
-            cut_page(&mut self.slabs, moving.page, self.table.per_page(moving.dst));
+            cut_page(
+                &mut self.slabs,
+                moving.page,
+                self.table.per_page(moving.dst),
+            );
         }
     }
 

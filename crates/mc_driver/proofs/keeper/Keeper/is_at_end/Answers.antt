@@ -1,6 +1,6 @@
-use Rattle.std.proofs.Common.{◌≡◌, ap, sym, ◌∙◌}
+use Rattle.std.proofs.Common.{ap, sym, ◌∙◌}
 use Rattle.std.specs.Prelude.{leb}
-use Rattle.mc_pages.specs.SlabState.{class_at, IsClass}
+use Rattle.mc_pages.specs.SlabState.{IsClass}
 use Rattle.mc_driver.specs.Machine.{Machine}
 use Rattle.mc_driver.proofs.Grown.{per_page_kept}
 use Rattle.mc_driver.proofs.keeper.Keeper.is_at_end.Goals as goal

@@ -1,9 +1,8 @@
 use Rattle.std.proofs.Common.{◌≡◌, true, false, ap, sym, ◌∙◌, refl}
 use Rattle.mc_pages.specs.Accounted.{is_cleared}
-use Rattle.mc_driver.specs.Machine.{Machine, is_dead, is_idle}
-use Rattle.mc_driver.specs.Mover.{looked_at}
+use Rattle.mc_driver.specs.Machine.{is_dead, is_idle}
 use Rattle.mc_driver.proofs.KeptMoverClear.{dead_here, idle_here, own_from_cut}
-use Rattle.mc_driver.proofs.MoverSaves.{looked_item, looked_with_item, there_is}
+use Rattle.mc_driver.proofs.MoverSaves.{looked_with_item, there_is}
 use Rattle.mc_driver.proofs.keeper.Keeper.look.Goals as goal
 
 pub returns-then-is_dead-clause-looked : goal.returns-then-is_dead-clause-looked

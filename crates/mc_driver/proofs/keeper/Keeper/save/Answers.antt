@@ -1,12 +1,5 @@
-use Rattle.std.proofs.Common.{◌≡◌, ◌≢◌, ap, sym, ◌∙◌, List}
-use Rattle.std.specs.Option.{option_map}
-use Rattle.mc_pages.specs.declared.ids.Moving.{Moving}
-use Rattle.mc_pages.specs.declared.ids.ChunkId.{ChunkId}
-use Rattle.mc_pages.specs.declared.ledger.Owner.{Owner}
-use Rattle.mc_pages.specs.Ledger.{owner_at}
-use Rattle.mc_pages.specs.SlabState.{class_at, class_of_owner, class_of_page, class_of_chunk}
+use Rattle.std.proofs.Common.{ap, sym, ◌∙◌}
 use Rattle.mc_pages.specs.Accounted.{is_cleared}
-use Rattle.mc_driver.specs.Machine.{Machine, swept}
 use Rattle.mc_driver.proofs.MoverSaves.{class_swept, idle_swept, moving-swept, own_swept, target_free}
 use Rattle.mc_driver.proofs.keeper.Keeper.save.Goals as goal
 

@@ -1,8 +1,7 @@
-use Rattle.std.proofs.Common.{◌≡◌, ◌<◌, ap, sym, ◌∙◌, arith, Some, true}
+use Rattle.std.proofs.Common.{◌≡◌, ◌<◌, ap, sym, arith, Some}
 use Rattle.std.proofs.lemmas.Bool.Decides.{nat_tests}
 use Rattle.mc_pages.specs.SlabState.{class_at}
-use Rattle.mc_pages.specs.Accounted.{IsMove, is_cut}
-use Rattle.mc_pages.specs.Moves.{CanPass, chunk_at_position}
+use Rattle.mc_pages.specs.Moves.{CanPass}
 use Rattle.mc_driver.specs.Machine.{Machine}
 use Rattle.mc_driver.proofs.KeptMoverPass.{kept_moved, can_pass, move_here, position_cut}
 use Rattle.mc_driver.proofs.keeper.Keeper.step.Goals as goal

@@ -1,8 +1,7 @@
-use Rattle.std.proofs.Common.{◌≡◌, ◌==◌, ◌∙◌, false, true, not, sym, ap, arith, None, Some, slice_get, List}
+use Rattle.std.proofs.Common.{◌≡◌, ◌==◌, ◌∙◌, false, true, not, sym, ap, arith, List}
 use Rattle.std.specs.Prelude.{find}
 use Rattle.std.proofs.lemmas.Bool.Decides.{nat_tests}
 use Rattle.mc_pages.specs.declared.ids.ChunkId.{ChunkId}
-use Rattle.mc_pages.specs.SlabState.{class_at}
 use Rattle.mc_driver.proofs.MoverLists.{FreeAt, found_free, found_none, find_behind, find_there}
 use Rattle.mc_driver.proofs.keeper.Keeper.target.Goals as goal
 

@@ -1,6 +1,4 @@
-use Rattle.std.proofs.Common.{◌*◌, ap, sym, arith}
-use Rattle.mc_driver.specs.declared.keeper.turn.Counts.{Counts}
-use Rattle.mc_driver.specs.Mover.{AreAtMost, Counted, with_chunks}
+use Rattle.std.proofs.Common.{◌*◌, arith}
 use Rattle.mc_driver.proofs.MoverTurns.{at_most_more, chunks_more, counts_now}
 use Rattle.mc_driver.proofs.keeper.Keeper.turn.Goals as goal
 

@@ -1,4 +1,4 @@
-use Rattle.std.proofs.Common.{◌≡◌, ◌≤◌}
+use Rattle.std.proofs.Common.{◌≡◌}
 use Rattle.mc_driver.specs.Mover.{Counted, with_chunks}
 use Rattle.mc_driver.proofs.keeper.Keeper.turn.Given as goal
 

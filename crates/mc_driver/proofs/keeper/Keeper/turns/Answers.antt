@@ -5,7 +5,7 @@ use Rattle.mc_driver.specs.contracts.keeper.turn.Ending.{the_type}
 use Rattle.mc_driver.specs.declared.keeper.turn.Ending.{Ending}
 use Rattle.mc_driver.specs.declared.keeper.turn.Ending.TheVariants.{Idle, Went, Finished}
 use Rattle.mc_driver.specs.Machine.{Machine}
-use Rattle.mc_driver.specs.Mover.{AreAtMost, Turned, is_went, turned}
+use Rattle.mc_driver.specs.Mover.{Turned, is_went}
 use Rattle.mc_driver.proofs.MoverTurns.{at_most_more, most_turned, turns_end, turns_on, turns_out}
 use Rattle.mc_driver.proofs.keeper.Keeper.turns.Goals as goal
 

@@ -1,7 +1,4 @@
-use Rattle.std.proofs.Common.{◌≡◌, sym, ap, ◌∙◌, rules}
-use Rattle.std.specs.BTreeMap.{is_at}
-use Rattle.std.specs.Map.{set_value, lookup}
-use Rattle.std.specs.Ordering.{nat_cmp}
+use Rattle.std.proofs.Common.{◌≡◌, sym, rules}
 use Rattle.mc_driver.proofs.KeptMoverRescue.{set_none}
 use Rattle.mc_driver.proofs.keeper.mover.lead_to.Goals as goal
 
