@@ -11,7 +11,7 @@ use Rattle.mc_classes.specs.Refusals.{refusal_of, number_of}
 use Rattle.mc_script.specs.declared.command.Command.{Command}
 use Rattle.mc_driver.specs.declared.fault.RunFault.{RunFault}
 use Rattle.mc_driver.specs.declared.fault.RunFault.TheVariants.{Config as Refused, Script, TooLong, Read, Write, Memory, Turns}
-use Rattle.mc_driver.specs.Machine.{fresh_machine}
+use Rattle.mc_keeper.specs.Machine.{fresh_machine}
 use Rattle.mc_driver.specs.Run.{IsOutcome, IsScript, IsScriptOutcome, config_fault, refusal_number}
 
 -- the front of the bytes is all of them where it is short

@@ -2,7 +2,7 @@
 ghost use Rattle.std.specs.Prelude.{◌≡◌};
 ghost use Rattle.mc_driver.specs.Status.{status_of};
 
-use crate::keeper::Stop;
+use mc_keeper::Stop;
 use std::alloc::AllocError;
 use std::error::Error;
 use std::fmt;

@@ -6,14 +6,10 @@
 #![tactic(auto)]
 
 mod fault;
-mod keeper;
-mod laws;
 mod reading;
 mod run;
-mod text;
 
 pub use fault::RunFault;
-pub use laws::worked_examples;
 pub use mc_options::{Options, Run, options};
 pub use mc_streams::{Input, Output};
 pub use run::run_serial;

@@ -1,0 +1,25 @@
+use Rattle.std.proofs.Common.{arith}
+use Rattle.mc_keeper.proofs.KeptMoverClear.{cleared_after, dead_here, handed_item, kept_cleared, leads_dead}
+use Rattle.mc_keeper.proofs.keeper.Keeper.clear.Goals as goal
+
+pub clear-requires-clause-listed : goal.clear-requires-clause-listed
+clear-requires-clause-listed c =
+    let found = dead_here _ _ c.args.chunk c.self.view_is c.requires.dead in
+    omega (arith, handed_item _ _ _ _ c.args.chunk found.0 c.self.invariant.kept found.1)
+
+pub invariant_of-self : goal.invariant_of-self
+invariant_of-self c =
+    let found = dead_here _ _ c.args.chunk c.self.view_is c.requires.dead in
+    record {
+      kept = rw (c.clear.ensures.cleared, c.remove.ensures.entries) (kept_cleared _ _ _ _ _ c.args.chunk found.0 c.self.invariant.kept found.1
+          (rw c.clear.ensures.cleared at c.clear.ensures.accounted)
+          (leads_dead _ _ _ _ c.args.chunk found.0 c.self.invariant.kept found.1 found.2));
+      bulk = c.self.invariant.bulk;
+    }
+
+pub returns-clause-clears : goal.returns-clause-clears
+returns-clause-clears c =
+    let found = dead_here _ _ c.args.chunk c.self.view_is c.requires.dead in
+    let handed = handed_item _ _ _ _ c.args.chunk found.0 c.self.invariant.kept found.1 in
+    rw (← c.self.view_is, c.clear.ensures.cleared)
+    (cleared_after c.self.inside.slabs c.args.chunk c.self.invariant.kept.accounted (rw c.clear.ensures.cleared at c.clear.ensures.accounted) (omega (arith, handed)))

@@ -1,0 +1,58 @@
+use Rattle.std.proofs.Common.{◌≡◌, ◌≤◌, None, true, ap, sym, ◌∙◌, arith, refl}
+use Rattle.std.proofs.lemmas.Bool.Decides.{nat_tests}
+use Rattle.mc_pages.specs.ClassState.{times}
+use Rattle.mc_pages.specs.Changes.{after_clear}
+use Rattle.mc_pages.specs.Accounted.{is_cut, is_cleared, places_in}
+use Rattle.mc_pages.specs.SlabState.{IsClass, class_at, class_of_page}
+use Rattle.mc_keeper.specs.Items.{item_at}
+use Rattle.mc_keeper.specs.Machine.{Machine}
+use Rattle.mc_keeper.proofs.KeptMoverClear.{cleared_after, cleared_there, kept_freed, not_handed, own_from_cut}
+use Rattle.mc_keeper.proofs.keeper.Keeper.clear_free.Goals as goal
+
+pub invariant_of-self : goal.invariant_of-self
+invariant_of-self c =
+    let slabs = ap (λ (m : Machine). m.slabs) c.self.view_is in
+    let cut : is_cut c.self.inside.slabs c.args.class c.args.chunk ≡ true = rw slabs c.requires.cut in
+    let own : class_of_page c.self.inside.slabs c.args.chunk.page ≡ c.args.class = own_from_cut c.self.inside.slabs c.args.class c.args.chunk cut in
+    let valid : IsClass c.self.inside.slabs (class_of_page c.self.inside.slabs c.args.chunk.page) = rw own (rw slabs c.requires.class) in
+    let empty : item_at c.self.inside.items.entries c.args.chunk ≡ None = rw (ap (λ (m : Machine). m.items) c.self.view_is) c.requires.empty in
+    record {
+      kept = rw c.clear.ensures.cleared (kept_freed _ _ _ _ c.args.chunk c.self.invariant.kept empty valid (rw c.clear.ensures.cleared at c.clear.ensures.accounted));
+      bulk = c.self.invariant.bulk;
+    }
+
+pub returns-else-is_free-clause-looked : goal.returns-else-is_free-clause-looked
+returns-else-is_free-clause-looked c =
+    let slabs = ap (λ (m : Machine). m.slabs) c.self.view_is in
+    let cut : is_cut c.self.inside.slabs c.args.class c.args.chunk ≡ true = rw slabs c.requires.cut in
+    let own : class_of_page c.self.inside.slabs c.args.chunk.page ≡ c.args.class = own_from_cut c.self.inside.slabs c.args.class c.args.chunk cut in
+    let class : IsClass c.self.inside.slabs c.args.class = rw slabs c.requires.class in
+    let valid : IsClass c.self.inside.slabs (class_of_page c.self.inside.slabs c.args.chunk.page) = rw own class in
+    let empty : item_at c.self.inside.items.entries c.args.chunk ≡ None = rw (ap (λ (m : Machine). m.items) c.self.view_is) c.requires.empty in
+    let order : times c.args.chunk (class_at c.self.inside.slabs c.args.class).order ≡ 0 = rw own at (not_handed _ _ _ _ c.args.chunk c.self.invariant.kept empty valid) in
+    let free : times c.args.chunk (class_at c.self.inside.slabs c.args.class).free ≡ 0 = let none = c.if-is_free.ensures in grind (arith, nat_tests) in
+    let cleared : is_cleared c.args.self.now.slabs c.args.class c.args.chunk ≡ true
+    = rw (← slabs) (cleared_there _ _ _ c.self.invariant.kept.accounted class cut free order) in
+    rw cleared refl
+
+pub returns-else-is_free-clause-clears : goal.returns-else-is_free-clause-clears
+returns-else-is_free-clause-clears c =
+    let slabs = ap (λ (m : Machine). m.slabs) c.self.view_is in
+    let cut : is_cut c.self.inside.slabs c.args.class c.args.chunk ≡ true = rw slabs c.requires.cut in
+    let own : class_of_page c.self.inside.slabs c.args.chunk.page ≡ c.args.class = own_from_cut c.self.inside.slabs c.args.class c.args.chunk cut in
+    let class : IsClass c.self.inside.slabs c.args.class = rw slabs c.requires.class in
+    let valid : IsClass c.self.inside.slabs (class_of_page c.self.inside.slabs c.args.chunk.page) = rw own class in
+    let empty : item_at c.self.inside.items.entries c.args.chunk ≡ None = rw (ap (λ (m : Machine). m.items) c.self.view_is) c.requires.empty in
+    let order : times c.args.chunk (class_at c.self.inside.slabs c.args.class).order ≡ 0 = rw own at (not_handed _ _ _ _ c.args.chunk c.self.invariant.kept empty valid) in
+    let free : times c.args.chunk (class_at c.self.inside.slabs c.args.class).free ≡ 0 = let none = c.if-is_free.ensures in grind (arith, nat_tests) in
+    rw (← slabs) (cleared_there _ _ _ c.self.invariant.kept.accounted class cut free order)
+
+pub returns-then-is_free-clause-clears : goal.returns-then-is_free-clause-clears
+returns-then-is_free-clause-clears c =
+    let slabs = ap (λ (m : Machine). m.slabs) c.self.view_is in
+    let cut : is_cut c.self.inside.slabs c.args.class c.args.chunk ≡ true = rw slabs c.requires.cut in
+    let own : class_of_page c.self.inside.slabs c.args.chunk.page ≡ c.args.class = own_from_cut c.self.inside.slabs c.args.class c.args.chunk cut in
+    let free : 1 ≤ times c.args.chunk (class_at c.self.inside.slabs c.args.class).free = let some = c.if-is_free.ensures in grind (arith, nat_tests) in
+    let placed : 1 ≤ places_in c.self.inside.slabs (class_of_page c.self.inside.slabs c.args.chunk.page) c.args.chunk = rw own (omega (arith, free)) in
+    let cleared = cleared_after c.self.inside.slabs c.args.chunk c.self.invariant.kept.accounted (rw c.clear.ensures.cleared at c.clear.ensures.accounted) placed in
+    rw c.clear.ensures.cleared (ap (λ n. is_cleared (after_clear c.self.inside.slabs c.args.chunk) n c.args.chunk) (sym own) ∙ cleared)

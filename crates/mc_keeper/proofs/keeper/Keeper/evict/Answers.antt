@@ -1,0 +1,35 @@
+use Rattle.std.proofs.Common.{◌≡◌, true, Some, Contains, sym, ap, subst, ◌∙◌, ℕ}
+use Rattle.std.proofs.lemmas.Bool.{and_parts}
+use Rattle.mc_pages.specs.SlabState.{IsClass, class_at}
+use Rattle.mc_pages.proofs.HandedOut.{class_of_handed_out}
+use Rattle.mc_keeper.specs.Items.{item_at, is_linked}
+use Rattle.mc_keeper.specs.Machine.{Machine}
+use Rattle.mc_keeper.proofs.KeptEvict.{kept_evict, linked_item}
+use Rattle.mc_keeper.proofs.keeper.Keeper.evict.Goals as goal
+
+pub back-requires : goal.back-requires
+back-requires c =
+    let valid : IsClass c.self.inside.slabs c.args.class = rw (ap (λ (m : Machine). m.slabs) c.self.view_is) c.requires.class in
+    let listed : Contains (class_at c.self.inside.slabs c.args.class).order c.args.chunk = rw (ap (λ (m : Machine). m.slabs) c.self.view_is) c.requires.listed in
+    subst (λ (n : ℕ). Contains (class_at c.self.inside.slabs n).order c.args.chunk)
+    (sym (class_of_handed_out c.self.inside.slabs c.args.class c.args.chunk c.self.invariant.kept.accounted valid listed)) listed
+
+pub invariant_of-self : goal.invariant_of-self
+invariant_of-self c =
+    let at : item_at c.self.inside.items.entries c.args.chunk ≡ Some c.in-Some.item = sym c.in-Some.ensures.value in
+    let idle : is_linked c.self.inside.items.entries c.args.chunk ≡ true = rw (ap (λ (m : Machine). m.items) c.self.view_is) (and_parts _ _ c.requires.idle).0 in
+    let linked : c.in-Some.item.linked ≡ true = rw at at idle in
+    record {
+      kept = rw (c.evicted.ensures.evicted, c.back.ensures.back, c.remove.ensures.entries)
+          (kept_evict _ _ _ _ _ c.args.class c.args.chunk c.in-Some.item c.self.invariant.kept
+          (rw c.back.ensures.back at c.back.ensures.accounted) (rw (c.evicted.ensures.evicted, c.back.ensures.back) at c.evicted.ensures.accounted)
+          at linked (rw c.key.ensures at c.remove-in-Some.ensures.updates.0));
+      bulk = c.self.invariant.bulk;
+    }
+
+-- the chunk has an item
+pub invariant_of-self-in_default : goal.invariant_of-self-in_default
+invariant_of-self-in_default c =
+    let idle : is_linked c.self.inside.items.entries c.args.chunk ≡ true = rw (ap (λ (m : Machine). m.items) c.self.view_is) (and_parts _ _ c.requires.idle).0 in
+    let found = linked_item c.self.inside.items.entries c.args.chunk idle in
+    absurd (c.in_default.not-Some found.0 (c.remove.ensures.value ∙ found.1))

@@ -1,0 +1,36 @@
+use Rattle.std.proofs.Common.{◌≡◌, Some, refl}
+use Rattle.mc_keeper.specs.Texts.{turn_line}
+use Rattle.mc_keeper.specs.Mover.{Turned, after_turns}
+use Rattle.mc_keeper.specs.Machine.{all_swept}
+use Rattle.mc_keeper.specs.Lines.{slabs_text_of, general_text_of}
+use Rattle.mc_keeper.proofs.keeper.Keeper.serve.Goals as goal
+
+pub returns-in_ok-push_turn_line-in-Turn-clause-served :
+    goal.returns-in_ok-push_turn_line-in-Turn-clause-served
+returns-in_ok-push_turn_line-in-Turn-clause-served c =
+    let turned : Turned = record { machine = c.turns.new.self; counts = c.in_ok-ending-in-Turn.counts; ending = c.in_ok-ending-in-Turn.ending } in
+    let done : after_turns c.args.self.now c.in-Turn.turns ≡ Some turned = c.in_ok-ending-in-Turn.ensures.done in
+    record {
+      served = record { reply = turn_line c.in_ok-ending-in-Turn.ending c.in_ok-ending-in-Turn.counts; machine = c.turns.new.self };
+      is = rw (c.in-Turn.is, done) refl;
+      reply = c.in_ok-push_turn_line-in-Turn.ensures;
+      after = refl;
+    }
+
+pub returns-in_ok-general_statistics-in-Stats-clause-served :
+    goal.returns-in_ok-general_statistics-in-Stats-clause-served
+returns-in_ok-general_statistics-in-Stats-clause-served c = record {
+  served = record { reply = general_text_of c.args.self.now; machine = c.args.self.now };
+  is = rw c.in-Stats.is refl;
+  reply = c.in_ok-general_statistics-in-Stats.ensures;
+  after = refl;
+}
+
+pub returns-in_ok-statistics-in-StatsSlabs-clause-served :
+    goal.returns-in_ok-statistics-in-StatsSlabs-clause-served
+returns-in_ok-statistics-in-StatsSlabs-clause-served c = record {
+  served = record { reply = slabs_text_of (all_swept c.args.self.now); machine = all_swept c.args.self.now };
+  is = rw c.in-StatsSlabs.is refl;
+  reply = c.in_ok-statistics-in-StatsSlabs.ensures.reply;
+  after = c.in_ok-statistics-in-StatsSlabs.ensures.after;
+}

@@ -1,0 +1,59 @@
+use Rattle.std.proofs.Common.{refl}
+use Rattle.std.specs.Fmt.{digits}
+use Rattle.mc_keeper.proofs.laws.worked_examples.Goals as goal
+
+pub returns-clause-first_path : goal.returns-clause-first_path
+unfolding digits
+returns-clause-first_path c = refl
+
+pub returns-clause-dead_makes_room : goal.returns-clause-dead_makes_room
+unfolding digits
+returns-clause-dead_makes_room c = refl
+
+pub returns-clause-full_class_evicts : goal.returns-clause-full_class_evicts
+unfolding digits
+returns-clause-full_class_evicts c = refl
+
+pub returns-clause-page_to_another_class : goal.returns-clause-page_to_another_class
+unfolding digits
+returns-clause-page_to_another_class c = refl
+
+pub returns-clause-rescue_into_dead : goal.returns-clause-rescue_into_dead
+unfolding digits
+returns-clause-rescue_into_dead c = refl
+
+pub returns-clause-busy_item : goal.returns-clause-busy_item
+unfolding digits
+returns-clause-busy_item c = refl
+
+pub returns-clause-answers_of_reassign : goal.returns-clause-answers_of_reassign
+unfolding digits
+returns-clause-answers_of_reassign c = refl
+
+pub returns-clause-page_through_the_pool : goal.returns-clause-page_through_the_pool
+unfolding digits
+returns-clause-page_through_the_pool c = refl
+
+pub returns-clause-two_moves_by_the_pick : goal.returns-clause-two_moves_by_the_pick
+unfolding digits
+returns-clause-two_moves_by_the_pick c = refl
+
+pub returns-clause-touched_is_kept : goal.returns-clause-touched_is_kept
+unfolding digits
+returns-clause-touched_is_kept c = refl
+
+pub returns-clause-held_is_kept : goal.returns-clause-held_is_kept
+unfolding digits
+returns-clause-held_is_kept c = refl
+
+pub returns-clause-too_many_held : goal.returns-clause-too_many_held
+unfolding digits
+returns-clause-too_many_held c = refl
+
+pub returns-clause-shadowed_hold : goal.returns-clause-shadowed_hold
+unfolding digits
+returns-clause-shadowed_hold c = refl
+
+pub returns-clause-one_chunk_a_turn : goal.returns-clause-one_chunk_a_turn
+unfolding digits
+returns-clause-one_chunk_a_turn c = refl

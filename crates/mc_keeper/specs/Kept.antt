@@ -1,0 +1,45 @@
+-- What the keeper's index and items keep, beside the pages and chunks.
+use Rattle.std.specs.Prelude.{◌≡◌, ℕ, ◌+◌, ◌/◌, ◌≤◌, List, [], ◌∷◌, length, map, None}
+use Rattle.std.specs.Ordering.{nat_cmp}
+use Rattle.std.specs.BTreeMap.{is_at}
+use Rattle.std.specs.Map.{lookup}
+use Rattle.mc_classes.specs.Classes.{Classes, IsSound}
+use Rattle.mc_pages.specs.declared.ids.ChunkId.{ChunkId}
+use Rattle.mc_pages.specs.ClassState.{times}
+use Rattle.mc_pages.specs.SlabState.{SlabState, IsClass, class_at, class_of_chunk}
+use Rattle.mc_pages.specs.Accounted.{truth, IsAccounted}
+use Rattle.mc_keeper.specs.declared.keeper.Keeper.TheInside.{Inside}
+use Rattle.mc_keeper.specs.Item.{is_linked_to}
+use Rattle.mc_keeper.specs.Items.{Items, chunk_cmp, linked_chunk}
+
+-- how often the chunk stands among the items
+abbrev pub places : ChunkId → Items → ℕ
+places chunk [] = 0
+places chunk (entry ∷ items) = truth (is_at (chunk_cmp chunk) entry.0) + places chunk items
+
+-- how many items the key leads to
+abbrev pub links : ℕ → Items → ℕ
+links key [] = 0
+links key (entry ∷ items) = truth (is_linked_to key entry.1) + links key items
+
+pub record IsKept (table : Classes) (slabs : SlabState) (index : List (ℕ × ChunkId)) (items : Items) : Type 0 where
+  pub sound : IsSound table
+  -- the classes and the limit are the table's, and no page is half cut
+  pub classes : length slabs.classes ≡ length table.sizes
+  pub per_page : map (λ class. class.per_page) slabs.classes ≡ map (λ size. table.page / size) table.sizes
+  pub page : slabs.page ≡ table.page
+  pub limit : slabs.limit ≡ table.limit
+  pub whole : slabs.uncut ≡ None
+  pub accounted : IsAccounted slabs
+  -- the index has for each key the chunk of its linked item, of which there is one at most
+  pub leads : (key : ℕ) → lookup (is_at (nat_cmp key)) index ≡ linked_chunk items key
+  pub one_link : (key : ℕ) → links key items ≤ 1
+  -- a chunk with an item is handed out
+  pub handed_out : (chunk : ChunkId) → places chunk items ≤ times chunk (class_of_chunk slabs chunk).order
+  -- and a chunk that is handed out has an item
+  pub stored : (class : ℕ) (chunk : ChunkId) → IsClass slabs class → times chunk (class_at slabs class).order ≤ places chunk items
+
+-- what the keeper keeps
+pub record AreKept (keeper : Inside) : Type 0 where
+  pub kept : IsKept keeper.table keeper.slabs keeper.index.entries keeper.items.entries
+  pub bulk : keeper.bulk ≤ 256

@@ -1,0 +1,11 @@
+pub mod Item
+pub mod Items
+pub mod Holds
+pub mod HoldsKept
+pub mod Machine
+pub mod Supply
+pub mod Mover
+pub mod Lines
+pub mod Texts
+pub mod Kept
+pub mod Rows

@@ -1,0 +1,90 @@
+-- Worked examples of the plain machine.
+use Rattle.std.specs.Prelude.{◌≡◌, ℕ, List, [], ◌∷◌, ◌++◌, codes, map, Some, None}
+use Rattle.std.specs.List.{range_with_len}
+use Rattle.mc_classes.specs.Classes.{Classes}
+use Rattle.mc_script.specs.declared.command.Command.{Command}
+use Rattle.mc_script.specs.declared.command.Command.TheVariants.{Set, Get, Hold, Drop, Delete, Touch, Reassign, Turn, Stats, StatsSlabs}
+use Rattle.mc_keeper.specs.Machine.{fresh_machine}
+use Rattle.mc_keeper.specs.Lines.{replies_to}
+
+-- pages of 1024 bytes, four of them, and four classes
+abbrev pub four_classes : Classes
+four_classes = record { page = 1024; limit = 4096; sizes = 48 ∷ 96 ∷ 192 ∷ 512 ∷ [] }
+
+-- what is replied to these commands, with at most 64 chunks a turn
+abbrev pub replies : List Command → List ℕ
+replies commands = replies_to (fresh_machine four_classes 64) commands
+
+-- so many items of so many words, from this key on
+abbrev pub sets : ℕ → ℕ → ℕ → ℕ → List Command
+sets key count words base = map (λ k. Set 1 k words base) (range_with_len key count)
+
+-- two sets, a delete and the statistics
+abbrev pub FirstPath : Type 0
+FirstPath = replies (Set 1 1 3 7 ∷ Set 1 2 3 9 ∷ Delete 1 2 ∷ StatsSlabs ∷ [])
+    ≡ codes "STORED 1\r\nSTORED 2\r\nDELETED 2\r\nSTAT 1:chunk_size 48\r\nSTAT 1:chunks_per_page 21\r\nSTAT 1:total_pages 1\r\nSTAT 1:total_chunks 21\r\nSTAT 1:used_chunks 1\r\nSTAT 1:free_chunks 20\r\nSTAT active_slabs 1\r\nSTAT total_malloced 1024\r\nEND\r\n"
+
+-- a deleted item makes room
+abbrev pub DeadMakesRoom : Type 0
+DeadMakesRoom = replies (sets 1 8 61 0 ++ Delete 1 3 ∷ Set 1 9 61 0 ∷ [])
+    ≡ codes "STORED 1\r\nSTORED 2\r\nSTORED 3\r\nSTORED 4\r\nSTORED 5\r\nSTORED 6\r\nSTORED 7\r\nSTORED 8\r\nDELETED 3\r\nSTORED 9\r\n"
+
+-- a full class evicts its oldest item, and a class without a page has no room
+abbrev pub FullClassEvicts : Type 0
+FullClassEvicts = replies (sets 1 9 61 0 ++ Get 1 1 ∷ Touch 1 2 ∷ Set 1 10 3 0 ∷ [])
+    ≡ codes "STORED 1\r\nSTORED 2\r\nSTORED 3\r\nSTORED 4\r\nSTORED 5\r\nSTORED 6\r\nSTORED 7\r\nSTORED 8\r\nSTORED 9\r\nNOT_FOUND 1\r\nTOUCHED 2\r\nNO_ROOM 10\r\n"
+
+-- a page goes to another class, and its items are evicted
+abbrev pub PageToAnotherClass : Type 0
+PageToAnotherClass = replies (sets 1 8 61 0 ++ Reassign (Some 4) 1 ∷ Turn 1 ∷ Stats ∷ StatsSlabs ∷ [])
+    ≡ codes "STORED 1\r\nSTORED 2\r\nSTORED 3\r\nSTORED 4\r\nSTORED 5\r\nSTORED 6\r\nSTORED 7\r\nSTORED 8\r\nOK\r\nTURN FINISHED 2 0 2 0 0\r\nSTAT slab_global_page_pool 0\r\nSTAT slab_reassign_running 0\r\nSTAT slabs_moved 1\r\nSTAT slab_reassign_rescues 0\r\nSTAT slab_reassign_evictions_nomem 2\r\nSTAT slab_reassign_busy_items 0\r\nEND\r\nSTAT 1:chunk_size 48\r\nSTAT 1:chunks_per_page 21\r\nSTAT 1:total_pages 1\r\nSTAT 1:total_chunks 21\r\nSTAT 1:used_chunks 0\r\nSTAT 1:free_chunks 21\r\nSTAT 4:chunk_size 512\r\nSTAT 4:chunks_per_page 2\r\nSTAT 4:total_pages 3\r\nSTAT 4:total_chunks 6\r\nSTAT 4:used_chunks 6\r\nSTAT 4:free_chunks 0\r\nSTAT active_slabs 2\r\nSTAT total_malloced 4096\r\nEND\r\n"
+
+-- an item of the moving page is rescued into a dead chunk
+abbrev pub RescueIntoDead : Type 0
+RescueIntoDead = replies (sets 1 8 61 0 ++ Delete 1 8 ∷ Reassign (Some 4) 1 ∷ Turn 1 ∷ Touch 1 2 ∷ Touch 1 1 ∷ [])
+    ≡ codes "STORED 1\r\nSTORED 2\r\nSTORED 3\r\nSTORED 4\r\nSTORED 5\r\nSTORED 6\r\nSTORED 7\r\nSTORED 8\r\nDELETED 8\r\nOK\r\nTURN FINISHED 2 1 1 0 0\r\nTOUCHED 2\r\nNOT_FOUND 1\r\n"
+
+-- a held item holds up a move
+abbrev pub BusyItem : Type 0
+BusyItem = replies (sets 1 8 22 100 ++ Hold 1 1 ∷ Reassign (Some 4) 1 ∷ Turn 1 ∷ Stats ∷ Reassign (Some 4) 2 ∷ Drop 1 1 ∷ Turn 1 ∷ Turn 1 ∷ [])
+    ≡ codes "STORED 1\r\nSTORED 2\r\nSTORED 3\r\nSTORED 4\r\nSTORED 5\r\nSTORED 6\r\nSTORED 7\r\nSTORED 8\r\nHELD 1\r\nOK\r\nTURN WENT 1 0 1 1 0\r\nSTAT slab_global_page_pool 0\r\nSTAT slab_reassign_running 1\r\nSTAT slabs_moved 0\r\nSTAT slab_reassign_rescues 0\r\nSTAT slab_reassign_evictions_nomem 1\r\nSTAT slab_reassign_busy_items 1\r\nEND\r\nBUSY\r\nDROPPED 1 22 100 101 102 103 104 105 106 107 108 109 110 111 112 113 114 115 116 117 118 119 120 121\r\nTURN FINISHED 1 0 1 0 0\r\nTURN IDLE 0 0 0 0 0\r\n"
+
+-- why no page begins to move
+abbrev pub AnswersOfReassign : Type 0
+AnswersOfReassign = replies (Set 1 1 61 0 ∷ Reassign (Some 4) 4 ∷ Reassign (Some 0) 0 ∷ Reassign (Some 9) 1 ∷ Reassign (Some 0) 1 ∷ Reassign (Some 4) 9 ∷ Reassign None 1 ∷ Reassign (Some 4) 1 ∷ [])
+    ≡ codes "STORED 1\r\nSAME\r\nSAME\r\nBADCLASS\r\nBADCLASS\r\nBADCLASS\r\nBADCLASS\r\nNOSPARE\r\n"
+
+-- a page goes into the pool, and from there to another class
+abbrev pub PageThroughThePool : Type 0
+PageThroughThePool = replies (sets 1 4 61 0 ++ Reassign (Some 4) 0 ∷ Turn 1 ∷ Stats ∷ StatsSlabs ∷ Set 1 9 3 0 ∷ Stats ∷ StatsSlabs ∷ [])
+    ≡ codes "STORED 1\r\nSTORED 2\r\nSTORED 3\r\nSTORED 4\r\nOK\r\nTURN FINISHED 2 0 2 0 0\r\nSTAT slab_global_page_pool 1\r\nSTAT slab_reassign_running 0\r\nSTAT slabs_moved 1\r\nSTAT slab_reassign_rescues 0\r\nSTAT slab_reassign_evictions_nomem 2\r\nSTAT slab_reassign_busy_items 0\r\nEND\r\nSTAT 4:chunk_size 512\r\nSTAT 4:chunks_per_page 2\r\nSTAT 4:total_pages 1\r\nSTAT 4:total_chunks 2\r\nSTAT 4:used_chunks 2\r\nSTAT 4:free_chunks 0\r\nSTAT active_slabs 1\r\nSTAT total_malloced 2048\r\nEND\r\nSTORED 9\r\nSTAT slab_global_page_pool 0\r\nSTAT slab_reassign_running 0\r\nSTAT slabs_moved 1\r\nSTAT slab_reassign_rescues 0\r\nSTAT slab_reassign_evictions_nomem 2\r\nSTAT slab_reassign_busy_items 0\r\nEND\r\nSTAT 1:chunk_size 48\r\nSTAT 1:chunks_per_page 21\r\nSTAT 1:total_pages 1\r\nSTAT 1:total_chunks 21\r\nSTAT 1:used_chunks 1\r\nSTAT 1:free_chunks 20\r\nSTAT 4:chunk_size 512\r\nSTAT 4:chunks_per_page 2\r\nSTAT 4:total_pages 1\r\nSTAT 4:total_chunks 2\r\nSTAT 4:used_chunks 2\r\nSTAT 4:free_chunks 0\r\nSTAT active_slabs 2\r\nSTAT total_malloced 2048\r\nEND\r\n"
+
+-- two moves whose source is picked
+abbrev pub TwoMovesByThePick : Type 0
+TwoMovesByThePick = replies (sets 1 4 61 0 ++ sets 11 6 20 0 ++ Reassign None 1 ∷ Turn 1 ∷ Reassign None 1 ∷ Turn 1 ∷ Stats ∷ [])
+    ≡ codes "STORED 1\r\nSTORED 2\r\nSTORED 3\r\nSTORED 4\r\nSTORED 11\r\nSTORED 12\r\nSTORED 13\r\nSTORED 14\r\nSTORED 15\r\nSTORED 16\r\nOK\r\nTURN FINISHED 5 4 1 0 0\r\nOK\r\nTURN FINISHED 2 0 2 0 0\r\nSTAT slab_global_page_pool 0\r\nSTAT slab_reassign_running 0\r\nSTAT slabs_moved 2\r\nSTAT slab_reassign_rescues 4\r\nSTAT slab_reassign_evictions_nomem 3\r\nSTAT slab_reassign_busy_items 0\r\nEND\r\n"
+
+-- an item that was touched is not the oldest any more
+abbrev pub TouchedIsKept : Type 0
+TouchedIsKept = replies (sets 1 8 61 0 ++ Touch 1 1 ∷ Set 1 9 61 0 ∷ Get 1 2 ∷ Touch 1 1 ∷ [])
+    ≡ codes "STORED 1\r\nSTORED 2\r\nSTORED 3\r\nSTORED 4\r\nSTORED 5\r\nSTORED 6\r\nSTORED 7\r\nSTORED 8\r\nTOUCHED 1\r\nSTORED 9\r\nNOT_FOUND 2\r\nTOUCHED 1\r\n"
+
+-- held items are passed over
+abbrev pub HeldIsKept : Type 0
+HeldIsKept = replies (sets 1 8 61 0 ++ Hold 1 1 ∷ Hold 1 2 ∷ Hold 1 3 ∷ Hold 1 4 ∷ Set 1 9 61 0 ∷ Touch 1 5 ∷ [])
+    ≡ codes "STORED 1\r\nSTORED 2\r\nSTORED 3\r\nSTORED 4\r\nSTORED 5\r\nSTORED 6\r\nSTORED 7\r\nSTORED 8\r\nHELD 1\r\nHELD 2\r\nHELD 3\r\nHELD 4\r\nSTORED 9\r\nNOT_FOUND 5\r\n"
+
+-- where the five oldest are held there is no room
+abbrev pub TooManyHeld : Type 0
+TooManyHeld = replies (sets 1 8 61 0 ++ Hold 1 1 ∷ Hold 1 2 ∷ Hold 1 3 ∷ Hold 1 4 ∷ Hold 1 5 ∷ Set 1 9 61 0 ∷ [])
+    ≡ codes "STORED 1\r\nSTORED 2\r\nSTORED 3\r\nSTORED 4\r\nSTORED 5\r\nSTORED 6\r\nSTORED 7\r\nSTORED 8\r\nHELD 1\r\nHELD 2\r\nHELD 3\r\nHELD 4\r\nHELD 5\r\nNO_ROOM 9\r\n"
+
+-- a hold keeps the words that stood when it was taken
+abbrev pub ShadowedHold : Type 0
+ShadowedHold = replies (Set 1 1 3 7 ∷ Hold 1 1 ∷ Set 1 1 3 50 ∷ Get 1 1 ∷ Drop 1 1 ∷ Drop 1 1 ∷ [])
+    ≡ codes "STORED 1\r\nHELD 1\r\nSTORED 1\r\nVALUE 1 3 50 51 52\r\nDROPPED 1 3 7 8 9\r\nNOT_HELD 1\r\n"
+
+-- with one chunk a turn, the second turn ends the move
+abbrev pub OneChunkATurn : Type 0
+OneChunkATurn = replies_to (fresh_machine four_classes 1) (sets 1 8 61 0 ++ Reassign (Some 4) 1 ∷ Turn 1 ∷ Turn 1 ∷ [])
+    ≡ codes "STORED 1\r\nSTORED 2\r\nSTORED 3\r\nSTORED 4\r\nSTORED 5\r\nSTORED 6\r\nSTORED 7\r\nSTORED 8\r\nOK\r\nTURN WENT 1 0 1 0 0\r\nTURN FINISHED 1 0 1 0 0\r\n"

@@ -1,0 +1,77 @@
+//! The plain keeper: what a serial run stores, and how it serves one command after another.
+ghost use Rattle.std.specs.Prelude.{◌≡◌, ◌≤◌, IfOk};
+ghost use Rattle.mc_classes.specs.Classes.{IsSound};
+ghost use Rattle.mc_keeper.specs.Machine.{fresh_machine};
+
+mod evict;
+mod holds;
+mod item;
+mod mover;
+mod pages;
+mod refs;
+mod serve;
+mod store;
+mod sweep;
+mod turn;
+
+use holds::Holds;
+use item::Item;
+use mc_classes::ClassTable;
+use mc_pages::{ChunkId, Slabs};
+pub use serve::Stop;
+use std::alloc::{AllocError, Global};
+use std::collections::BTreeMap;
+use std::marker::Model;
+pub(crate) use turn::{Counts, Ending};
+
+/// What a serial run stores: pages and chunks, the items in them, where each key leads, and who holds which chunk.
+#[derive(Drop)]
+pub struct Keeper {
+    alloc: Global,
+    table: ClassTable,
+    /// How many chunks a turn of the mover looks at.
+    bulk: u64,
+    slabs: Slabs,
+    index: BTreeMap<u64, ChunkId>,
+    items: BTreeMap<ChunkId, Item>,
+    holds: Holds,
+    /// How many turns of the mover were begun.
+    turns: u64,
+}
+
+impl Model for Keeper {
+    ghost use Rattle.mc_keeper.specs.Machine.{Machine};
+
+    ghost Value = { Machine };
+
+    ghost use Rattle.mc_keeper.specs.Kept.{AreKept};
+
+    ghost view = { λ k. record { table = k.table; bulk = k.bulk; slabs = k.slabs; items = k.items.entries; holds = k.holds; turns = k.turns } };
+
+    ghost invariant = { AreKept };
+}
+
+impl Keeper {
+    /// Nothing is stored yet. A turn of the mover is to look at up to `bulk` chunks.
+    pub fn new(alloc: Global, table: ClassTable, bulk: u64) -> Result<Keeper, AllocError>
+        requires sound { IsSound table }
+        requires bulk { bulk ≤ 256 }
+        ensures { IfOk result (λ keeper. keeper ≡ fresh_machine table bulk) }
+    {
+        let slabs = match Slabs::new(alloc, &table) {
+            Ok(slabs) => slabs,
+            Err(_) => return Err(AllocError),
+        };
+        let holds = Holds::new(alloc)?;
+        Ok(Keeper {
+            alloc,
+            table,
+            bulk,
+            slabs,
+            index: BTreeMap::new(alloc),
+            items: BTreeMap::new(alloc),
+            holds,
+            turns: 0,
+        })
+    }
+}

@@ -1,0 +1,66 @@
+//! How a set comes to a chunk in a full class: an item is evicted.
+ghost use Rattle.std.specs.Prelude.{◌≡◌, true, Contains, OnOk, Some};
+ghost use Rattle.mc_pages.specs.SlabState.{IsClass, class_at};
+ghost use Rattle.mc_keeper.specs.Machine.{is_idle};
+ghost use Rattle.mc_keeper.specs.Supply.{victim, with_eviction, supplied};
+
+use super::Keeper;
+use mc_classes::ClassId;
+use mc_pages::ChunkId;
+use std::alloc::AllocError;
+
+/// How many of the oldest chunks are looked at for an item to evict (own; five tries after memcached's items.c).
+const TRIES: u64 = 5;
+
+impl Keeper {
+    /// Sees to it that the class has a free chunk, where there is a way to one.
+    #[tactic(auto, using(crate::proofs::Stocks::class_stays))]
+    pub(super) fn supply(&mut self, class: ClassId) -> Result<(), AllocError>
+        requires { IsClass self.old.slabs class }
+        ensures { OnOk result (self.new ≡ supplied self.old class) }
+    {
+        self.stock(class)?;
+        if !self.has_free(class) {
+            self.relieve(class);
+        }
+        Ok(())
+    }
+
+    /// Evicts the first item of the class's oldest that nobody holds, if there is one among those that are looked at.
+    fn relieve(&mut self, class: ClassId)
+        requires { IsClass self.old.slabs class }
+        ensures { self.new ≡ with_eviction self.old class (victim self.old class) }
+    {
+        if let Some(chunk) = self.victim(class) {
+            self.evict(class, chunk);
+        }
+    }
+
+    /// The chunk of the item to evict.
+    fn victim(&self, class: ClassId) -> Option<ChunkId>
+        requires { IsClass self.now.slabs class }
+        ensures { result ≡ victim self.now class }
+    {
+        for place in 0..TRIES {
+            let chunk = self.slabs.order_at(class, place)?;
+            if self.is_idle(chunk) {
+                return Some(chunk);
+            }
+        }
+        None
+    }
+
+    /// Evicts the chunk's item: it is gone, and the chunk is put back.
+    fn evict(&mut self, class: ClassId, chunk: ChunkId)
+        requires class { IsClass self.old.slabs class }
+        requires idle { is_idle self.old chunk ≡ true }
+        requires listed { Contains (class_at self.old.slabs class).order chunk }
+        ensures { self.new ≡ with_eviction self.old class (Some chunk) }
+    {
+        self.slabs.back(chunk);
+        self.slabs.evicted(class);
+        if let Some(item) = self.items.remove(&chunk) {
+            self.index.remove(&item.key());
+        }
+    }
+}

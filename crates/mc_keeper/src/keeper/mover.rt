@@ -1,0 +1,276 @@
+//! The mover: it looks at the chunks of the page on the move, and clears them.
+ghost use Rattle.std.specs.Prelude.{◌≡◌, ◌≢◌, ◌*◌, ◌<◌, ◌≤◌, nat_lt, true, false, IfOk, OnOk, Contains, Some, None, Err};
+ghost use Rattle.std.specs.BTreeMap.{is_at};
+ghost use Rattle.std.specs.Map.{set_value};
+ghost use Rattle.std.specs.Option.{option_map};
+ghost use Rattle.std.specs.Ordering.{nat_cmp};
+ghost use Rattle.mc_pages.specs.SlabState.{IsClass, class_at, class_of_page, class_of_chunk};
+ghost use Rattle.mc_pages.specs.ClassState.{times};
+ghost use Rattle.mc_pages.specs.Accounted.{is_cleared, is_cut};
+ghost use Rattle.mc_pages.specs.Moves.{CanFinish, is_held_up};
+ghost use Rattle.mc_keeper.specs.declared.keeper.turn.Counts.{Counts};
+ghost use Rattle.mc_keeper.specs.Items.{item_at};
+ghost use Rattle.mc_keeper.specs.Machine.{is_dead, is_idle};
+ghost use Rattle.mc_keeper.specs.Mover.{AreAtMost, after_turns, is_at_end, looked_at, saved, target, turned, with_chunk, with_cleared, with_end, with_finish, with_saved};
+
+use super::Keeper;
+use super::pages::cut_page;
+use super::serve::Stop;
+use super::turn::{Counts, Ending};
+use mc_classes::{ClassId, PageId};
+use mc_pages::{ChunkId, Found, Moving};
+use std::alloc::AllocError;
+use std::collections::BTreeMap;
+
+/// The most turns of a run (own).
+const MAX_TURNS: u64 = 1_000_000;
+
+impl Keeper {
+    /// Does so many turns, or fewer where one finds no move or ends one. Says what they did, and how the last one ended.
+    pub(super) fn turns(&mut self, count: u64) -> Result<(Ending, Counts), Stop>
+        requires { count ≤ 1000000 }
+        ensures done { IfOk result (λ done. after_turns self.old count ≡ Some (record { machine = self.new; counts = done.1; ending = done.0 })) }
+        ensures stopped { result ≡ Err Stop.Turns → after_turns self.old count ≡ None }
+    {
+        let mut ending = Ending::Idle;
+        let mut counts = Counts::new();
+        for _ in 0..count {
+            if self.turns >= MAX_TURNS {
+                return Err(Stop::Turns);
+            }
+            ending = self.turn(&mut counts)?;
+            if ending != Ending::Went {
+                return Ok((ending, counts));
+            }
+        }
+        Ok((ending, counts))
+    }
+
+    /// One turn, which goes on counting.
+    fn turn(&mut self, counts: &mut Counts) -> Result<Ending, AllocError>
+        requires turns { self.old.turns < 1000000 }
+        requires counts { AreAtMost (256 * 999999) counts.old }
+        ensures { IfOk result (λ ending. turned self.old counts.old ≡ record { machine = self.new; counts = counts.new; ending = ending }) }
+    {
+        self.turns += 1;
+        for _ in 0..self.bulk {
+            self.step(counts)?;
+        }
+        Ok(self.end_turn())
+    }
+
+    /// Looks at the chunk at the move's position, and goes on from there. Nothing happens where no page moves or all
+    /// of it was looked at.
+    fn step(&mut self, counts: &mut Counts) -> Result<(), AllocError>
+        requires { AreAtMost 256000000 counts.old }
+        ensures { OnOk result (with_chunk (record { machine = self.old; counts = counts.old }) self.old.slabs.moving ≡ record { machine = self.new; counts = counts.new }) }
+    {
+        let Some(moving) = self.slabs.moving() else {
+            return Ok(());
+        };
+        if self.is_at_end(moving) {
+            return Ok(());
+        }
+        let chunk = ChunkId {
+            page: moving.page,
+            index: moving.at,
+        };
+        let found = self.look(moving.src, chunk)?;
+        self.slabs.passed(found);
+        counts.count(found);
+        Ok(())
+    }
+
+    /// Whether all chunks of the page were looked at.
+    fn is_at_end(&self, moving: Moving) -> bool
+        requires { IsClass self.now.slabs moving.src }
+        ensures { result ≡ is_at_end self.now moving }
+    {
+        moving.at >= self.table.per_page(moving.src)
+    }
+
+    /// At the page's end the pass begins anew, or the move ends where nothing held it up.
+    fn end_turn(&mut self) -> Ending
+        ensures { (counts : Counts) → with_end (record { machine = self.old; counts = counts }) self.old.slabs.moving ≡ record { machine = self.new; counts = counts; ending = result } }
+    {
+        let Some(moving) = self.slabs.moving() else {
+            return Ending::Idle;
+        };
+        if !self.is_at_end(moving) {
+            return Ending::Went;
+        }
+        if moving.busy > 0 {
+            self.slabs.wrap();
+            return Ending::Went;
+        }
+        self.finish(moving);
+        Ending::Finished
+    }
+
+    /// Ends the move, and cuts the page for its class.
+    fn finish(&mut self, moving: Moving)
+        requires { CanFinish self.old.slabs moving }
+        ensures { self.new ≡ with_finish self.old moving }
+    {
+        self.slabs.finish_move();
+        if moving.dst != 0 {
+            cut_page(
+                &mut self.slabs,
+                moving.page,
+                self.table.per_page(moving.dst),
+            );
+        }
+    }
+
+    /// Looks at a chunk of the moving page, and clears it where it can.
+    fn look(&mut self, class: ClassId, chunk: ChunkId) -> Result<Found, AllocError>
+        requires class { IsClass self.old.slabs class }
+        requires moving { option_map (λ move. move.page) self.old.slabs.moving ≡ Some chunk.page }
+        requires cut { is_cut self.old.slabs class chunk ≡ true }
+        ensures looked { IfOk result (λ found. looked_at self.old class chunk ≡ record { machine = self.new; found = found }) }
+        ensures clears { IfOk result (λ found. is_held_up found ≡ false → is_cleared self.new.slabs class chunk ≡ true) }
+    {
+        if !self.items.contains_key(&chunk) {
+            return Ok(self.clear_free(class, chunk));
+        }
+        if self.is_dead(chunk) {
+            self.clear(chunk);
+            return Ok(Found::Cleared);
+        }
+        if self.is_idle(chunk) {
+            return self.save(class, chunk);
+        }
+        Ok(Found::Busy)
+    }
+
+    /// Clears the chunk, which has no item, if it is free.
+    fn clear_free(&mut self, class: ClassId, chunk: ChunkId) -> Found
+        requires class { IsClass self.old.slabs class }
+        requires moving { option_map (λ move. move.page) self.old.slabs.moving ≡ Some chunk.page }
+        requires cut { is_cut self.old.slabs class chunk ≡ true }
+        requires empty { item_at self.old.items chunk ≡ None }
+        ensures looked { looked_at self.old class chunk ≡ record { machine = self.new; found = result } }
+        ensures clears { is_cleared self.new.slabs class chunk ≡ true }
+    {
+        if self.is_free(class, chunk) {
+            self.slabs.clear(chunk);
+            Found::Cleared
+        } else {
+            Found::Already
+        }
+    }
+
+    /// Whether the chunk is in the class's free list.
+    fn is_free(&self, class: ClassId, chunk: ChunkId) -> bool
+        requires { IsClass self.now.slabs class }
+        ensures { result ≡ nat_lt 0 (times chunk (class_at self.now.slabs class).free) }
+    {
+        let mut place = 0;
+        while let Some(free) = self.slabs.free_at(class, place) {
+            if free == chunk {
+                return true;
+            }
+            place += 1;
+        }
+        false
+    }
+
+    /// Clears the chunk, and its item is gone.
+    fn clear(&mut self, chunk: ChunkId)
+        requires moving { option_map (λ move. move.page) self.old.slabs.moving ≡ Some chunk.page }
+        requires dead { is_dead self.old chunk ≡ true }
+        ensures cleared { self.new ≡ with_cleared self.old chunk }
+        ensures clears { is_cleared self.new.slabs (class_of_page self.old.slabs chunk.page) chunk ≡ true }
+    {
+        self.slabs.clear(chunk);
+        self.items.remove(&chunk);
+    }
+
+    /// Takes the chunk's item, which nobody holds, to a free chunk off the page, or else evicts it.
+    fn save(&mut self, class: ClassId, chunk: ChunkId) -> Result<Found, AllocError>
+        requires class { IsClass self.old.slabs class }
+        requires moving { option_map (λ move. move.page) self.old.slabs.moving ≡ Some chunk.page }
+        requires own { class_of_page self.old.slabs chunk.page ≡ class }
+        requires idle { is_idle self.old chunk ≡ true }
+        ensures saved { IfOk result (λ found. saved self.old class chunk ≡ record { machine = self.new; found = found }) }
+        ensures clears { IfOk result (λ found. is_held_up found ≡ false → is_cleared self.new.slabs class chunk ≡ true) }
+    {
+        self.sweep(class);
+        match self.target(class, chunk.page) {
+            Some(new) => {
+                self.rescue(chunk, new)?;
+                Ok(Found::Rescued)
+            }
+            None => {
+                self.evict_moving(chunk);
+                Ok(Found::Evicted)
+            }
+        }
+    }
+
+    /// The class's first free chunk off the page.
+    fn target(&self, class: ClassId, page: PageId) -> Option<ChunkId>
+        requires { IsClass self.now.slabs class }
+        ensures { result ≡ target self.now class page }
+    {
+        let mut place = 0;
+        while let Some(free) = self.slabs.free_at(class, place) {
+            if free.page != page {
+                return Some(free);
+            }
+            place += 1;
+        }
+        None
+    }
+
+    /// Takes the item of a chunk to a free one, which gets the old one's place in the hand-out order.
+    fn rescue(&mut self, old: ChunkId, new: ChunkId) -> Result<(), AllocError>
+        requires moving { option_map (λ move. move.page) self.old.slabs.moving ≡ Some old.page }
+        requires idle { is_idle self.old old ≡ true }
+        requires free { Contains (class_of_chunk self.old.slabs old).free new }
+        requires off { new.page ≢ old.page }
+        ensures rescued { OnOk result (self.new ≡ (with_saved self.old old (Some new)).machine) }
+        ensures clears { OnOk result (is_cleared self.new.slabs (class_of_page self.old.slabs old.page) old ≡ true) }
+    {
+        let Some(item) = self.items.remove(&old) else {
+            return Ok(());
+        };
+        let key = item.key();
+        match self.items.insert(new, item) {
+            Ok(_) => {
+                lead_to(&mut self.index, key, new);
+                self.slabs.replace(new, old);
+                self.slabs.clear(old);
+                Ok(())
+            }
+            Err(_) => {
+                // The item is lost with the run. What is left agrees: its chunk is free, and its key leads nowhere.
+                self.index.remove(&key);
+                self.slabs.back(old);
+                Err(AllocError)
+            }
+        }
+    }
+
+    /// Evicts the chunk's item, and clears the chunk.
+    fn evict_moving(&mut self, chunk: ChunkId)
+        requires moving { option_map (λ move. move.page) self.old.slabs.moving ≡ Some chunk.page }
+        requires idle { is_idle self.old chunk ≡ true }
+        ensures evicted { self.new ≡ (with_saved self.old chunk None).machine }
+        ensures clears { is_cleared self.new.slabs (class_of_page self.old.slabs chunk.page) chunk ≡ true }
+    {
+        if let Some(item) = self.items.remove(&chunk) {
+            self.index.remove(&item.key());
+        }
+        self.slabs.clear(chunk);
+    }
+}
+
+/// The key leads to this chunk now, if it led to one.
+fn lead_to(index: &mut BTreeMap<u64, ChunkId>, key: u64, chunk: ChunkId)
+    ensures { index.new.entries ≡ set_value (is_at (nat_cmp key)) index.old.entries chunk }
+{
+    if let Some(place) = index.get_mut(&key) {
+        *place = chunk;
+    }
+}

@@ -1,0 +1,69 @@
+//! How a class comes to a free chunk.
+ghost use Rattle.std.specs.Prelude.{◌≡◌, ◌≤◌, ◌<◌, None, Some, true, OnOk, IfOk, fold};
+ghost use Rattle.mc_pages.specs.SlabState.{IsClass, class_at, class_of_chunk};
+ghost use Rattle.mc_pages.specs.Changes.{after_cut, next_page};
+ghost use Rattle.mc_pages.specs.Accounted.{IsAccounted, first_chunks};
+ghost use Rattle.mc_keeper.specs.Machine.{has_free, extended, stocked, with_new_page};
+
+use super::Keeper;
+use mc_classes::{ClassId, PageId};
+use mc_pages::{Grow, Slabs};
+use std::alloc::AllocError;
+
+impl Keeper {
+    /// Sees to it that the class has a free chunk, where there is a way: its dead are put back, and else it
+    /// gets a page.
+    #[tactic(auto, using(crate::proofs::Stocks::class_stays))]
+    pub(super) fn stock(&mut self, class: ClassId) -> Result<(), AllocError>
+        requires { IsClass self.old.slabs class }
+        ensures { OnOk result (self.new ≡ stocked self.old class) }
+    {
+        if self.has_free(class) {
+            return Ok(());
+        }
+        self.sweep(class);
+        if self.has_free(class) {
+            return Ok(());
+        }
+        self.grow(class)
+    }
+
+    /// Whether the class has a free chunk.
+    pub(super) fn has_free(&self, class: ClassId) -> bool
+        requires { IsClass self.now.slabs class }
+        ensures { result ≡ has_free self.now class }
+    {
+        self.slabs.numbers(class).free > 0
+    }
+
+    /// Gives the class the next page, if there is one, and cuts its chunks.
+    fn grow(&mut self, class: ClassId) -> Result<(), AllocError>
+        requires { IsClass self.old.slabs class }
+        ensures { OnOk result (self.new ≡ with_new_page self.old class (next_page self.old.slabs)) }
+    {
+        let per_page = self.table.per_page(class);
+        match self.slabs.grow(class) {
+            Ok(page) => {
+                cut_page(&mut self.slabs, page, per_page);
+                Ok(())
+            }
+            Err(Grow::NoRoom) => Ok(()),
+            Err(Grow::NoMemory) => Err(AllocError),
+        }
+    }
+}
+
+/// Cuts all chunks of a page that was just given to a class.
+pub(super) fn cut_page(slabs: &mut Slabs, page: PageId, per_page: u64)
+    requires first { slabs.old.uncut ≡ Some (record { page = page; index = 0 }) }
+    requires chunks { (class_of_chunk slabs.old (record { page = page; index = 0 })).per_page ≡ per_page }
+    requires some { 1 ≤ per_page }
+    requires accounted { IsAccounted slabs.old }
+    ensures cut { slabs.new ≡ fold after_cut slabs.old (first_chunks page per_page) }
+    ensures whole { slabs.new.uncut ≡ None }
+    ensures accounted { IsAccounted slabs.new }
+{
+    for index in 0..per_page {
+        slabs.cut(page, index);
+    }
+}

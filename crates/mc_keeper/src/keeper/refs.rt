@@ -1,0 +1,109 @@
+//! What workers do with items that are there: they read, hold, give back and touch them.
+ghost use Rattle.std.specs.Prelude.{◌≡◌, ◌<◌, ◌++◌, OnOk, Some};
+ghost use Rattle.mc_keeper.specs.Items.{has_key, linked_chunk};
+ghost use Rattle.mc_keeper.specs.Lines.{looked_up, kept, dropped, last_hold, made_youngest};
+
+use super::Keeper;
+use crate::text::{push_key_line, push_words_line};
+use mc_pages::ChunkId;
+use std::alloc::AllocError;
+
+impl Keeper {
+    /// Tells the words of the key's item.
+    pub(super) fn get(&self, worker: u64, key: u64, text: &mut Vec<u8>) -> Result<(), AllocError>
+        requires { worker < 64 }
+        ensures { OnOk result (text.new.items ≡ text.old.items ++ (looked_up self.now worker key).reply) }
+    {
+        if self.holds.is_full(worker) {
+            return push_key_line(text, b"TOO_MANY_REFS", key);
+        }
+        match self.index.get(&key).and_then(|chunk| self.items.get(chunk)) {
+            Some(item) => push_words_line(text, b"VALUE", key, item.words()),
+            None => push_key_line(text, b"NOT_FOUND", key),
+        }
+    }
+
+    /// The worker holds the key's item.
+    pub(super) fn hold(
+        &mut self,
+        worker: u64,
+        key: u64,
+        text: &mut Vec<u8>,
+    ) -> Result<(), AllocError>
+        requires { worker < 64 }
+        ensures reply { OnOk result (text.new.items ≡ text.old.items ++ (kept self.old worker key).reply) }
+        ensures after { OnOk result (self.new ≡ (kept self.old worker key).machine) }
+    {
+        if self.holds.is_full(worker) {
+            return push_key_line(text, b"TOO_MANY_REFS", key);
+        }
+        match self.index.get(&key).copied() {
+            Some(chunk) => {
+                self.holds.take(worker, chunk)?;
+                push_key_line(text, b"HELD", key)
+            }
+            None => push_key_line(text, b"NOT_FOUND", key),
+        }
+    }
+
+    /// The worker gives back the hold of an item of the key that it took last, and tells the item's words.
+    pub(super) fn drop(
+        &mut self,
+        worker: u64,
+        key: u64,
+        text: &mut Vec<u8>,
+    ) -> Result<(), AllocError>
+        requires { worker < 64 }
+        ensures reply { OnOk result (text.new.items ≡ text.old.items ++ (dropped self.old worker key (last_hold self.old worker key)).reply) }
+        ensures after { OnOk result (self.new ≡ (dropped self.old worker key (last_hold self.old worker key)).machine) }
+    {
+        let Some(chunk) = self.last_hold(worker, key) else {
+            return push_key_line(text, b"NOT_HELD", key);
+        };
+        match self.items.get(&chunk) {
+            Some(item) => {
+                push_words_line(text, b"DROPPED", key, item.words())?;
+                self.holds.give_back(worker, chunk);
+                Ok(())
+            }
+            None => push_key_line(text, b"NOT_HELD", key),
+        }
+    }
+
+    /// The key's item becomes the youngest of its class.
+    pub(super) fn touch(&mut self, key: u64, text: &mut Vec<u8>) -> Result<(), AllocError>
+        ensures reply { OnOk result (text.new.items ≡ text.old.items ++ (made_youngest self.old key (linked_chunk self.old.items key)).reply) }
+        ensures after { OnOk result (self.new ≡ (made_youngest self.old key (linked_chunk self.old.items key)).machine) }
+    {
+        match self.index.get(&key).copied() {
+            Some(chunk) => {
+                self.slabs.touch(chunk);
+                push_key_line(text, b"TOUCHED", key)
+            }
+            None => push_key_line(text, b"NOT_FOUND", key),
+        }
+    }
+
+    /// The worker's hold of an item of the key that it took last.
+    fn last_hold(&self, worker: u64, key: u64) -> Option<ChunkId>
+        requires { worker < 64 }
+        ensures { result ≡ last_hold self.now worker key }
+    {
+        self.holds
+            .of(worker)
+            .iter()
+            .rev()
+            .copied()
+            .find(|chunk| self.has_key(*chunk, key))
+    }
+
+    /// Whether the chunk has an item of the key.
+    fn has_key(&self, chunk: ChunkId, key: u64) -> bool
+        ensures { result ≡ has_key self.now.items key chunk }
+    {
+        match self.items.get(&chunk) {
+            Some(item) => item.key() == key,
+            None => false,
+        }
+    }
+}

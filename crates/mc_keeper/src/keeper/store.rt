@@ -1,0 +1,96 @@
+//! How items come and go.
+ghost use Rattle.std.specs.Prelude.{◌≡◌, Option, None, Some, IfOk, OnOk};
+ghost use Rattle.std.specs.Option.{is_some};
+ghost use Rattle.mc_pages.specs.ClassState.{first_free};
+ghost use Rattle.mc_pages.specs.SlabState.{IsClass, class_at};
+ghost use Rattle.mc_pages.specs.Changes.{after_pop};
+ghost use Rattle.mc_keeper.specs.Items.{item_at, linked_chunk, unlinked_in, unlinked_items, with_item};
+ghost use Rattle.mc_keeper.specs.Item.{new_item};
+ghost use Rattle.mc_keeper.specs.Lines.{stored};
+ghost use Rattle.mc_keeper.specs.Supply.{supplied, supply};
+
+use super::Keeper;
+use super::item::Item;
+use mc_classes::ClassId;
+use mc_pages::ChunkId;
+use std::alloc::AllocError;
+use std::collections::BTreeMap;
+
+impl Keeper {
+    /// Stores an item in a chunk of the class, in the place of the key's old one, and says whether there was a
+    /// chunk for it. Where there is none, the old item stays, unless it was the one evicted.
+    #[tactic(auto, using(crate::proofs::Stocks::store_steps))]
+    pub(super) fn store(
+        &mut self,
+        class: ClassId,
+        key: u64,
+        words: Vec<u64>,
+    ) -> Result<bool, AllocError>
+        requires { IsClass self.old.slabs class }
+        ensures stored { IfOk result (λ stored. stored ≡ is_some (supply self.old class)) }
+        ensures after { OnOk result (self.new ≡ (stored (supplied self.old class) class key words.items (supply self.old class)).machine) }
+    {
+        self.supply(class)?;
+        match self.slabs.free_at(class, 0) {
+            Some(chunk) => {
+                self.unlink(key);
+                self.put(class, chunk, key, words)?;
+                Ok(true)
+            }
+            None => Ok(false),
+        }
+    }
+
+    /// Unlinks the key's item, if it has one, and says whether it had.
+    pub(super) fn unlink(&mut self, key: u64) -> bool
+        ensures was { result ≡ is_some (linked_chunk self.old.items key) }
+        ensures unlinked { self.new ≡ record self.old { items = unlinked_items self.old.items key } }
+    {
+        match self.index.remove(&key) {
+            Some(chunk) => {
+                unlink_in(&mut self.items, chunk);
+                true
+            }
+            None => false,
+        }
+    }
+
+    /// Hands out the class's next free chunk and puts a new item into it, to which the key leads. A refusal changes
+    /// nothing.
+    fn put(
+        &mut self,
+        class: ClassId,
+        chunk: ChunkId,
+        key: u64,
+        words: Vec<u64>,
+    ) -> Result<(), AllocError>
+        requires class { IsClass self.old.slabs class }
+        requires free { first_free (class_at self.old.slabs class) ≡ Some chunk }
+        requires unlinked { linked_chunk self.old.items key ≡ None }
+        ensures put { OnOk result (self.new ≡ record self.old {
+          slabs = after_pop self.old.slabs class;
+          items = with_item self.old.items chunk (new_item key words.items);
+        }) }
+    {
+        self.items.insert(chunk, Item::new(key, words))?;
+        match self.index.insert(key, chunk) {
+            Ok(_) => {
+                self.slabs.pop(class);
+                Ok(())
+            }
+            Err(_) => {
+                self.items.remove(&chunk);
+                Err(AllocError)
+            }
+        }
+    }
+}
+
+/// The item in the chunk, if there is one: its key leads to it no more.
+fn unlink_in(items: &mut BTreeMap<ChunkId, Item>, chunk: ChunkId)
+    ensures { items.new.entries ≡ unlinked_in items.old.entries chunk (item_at items.old.entries chunk) }
+{
+    if let Some(item) = items.get_mut(&chunk) {
+        item.unlink();
+    }
+}

@@ -1,0 +1,65 @@
+//! Dead chunks are put back: those that neither a key leads to nor anybody holds.
+ghost use Rattle.std.specs.Prelude.{◌≡◌, ◌≤◌, true, Contains, length};
+ghost use Rattle.mc_pages.specs.SlabState.{IsClass, class_of_page, class_of_chunk};
+ghost use Rattle.mc_keeper.specs.Machine.{is_dead, is_idle, swept, all_swept, after_reclaim};
+
+use super::Keeper;
+use mc_classes::ClassId;
+use mc_pages::ChunkId;
+
+impl Keeper {
+    /// Puts back the dead chunks of a class, the one that was handed out first of all first.
+    pub(super) fn sweep(&mut self, class: ClassId)
+        requires { IsClass self.old.slabs class }
+        ensures { self.new ≡ swept self.old class }
+    {
+        let mut place = 0;
+        while let Some(chunk) = self.slabs.order_at(class, place) {
+            if self.is_dead(chunk) {
+                self.reclaim(chunk);
+            } else {
+                place += 1;
+            }
+        }
+    }
+
+    /// Puts back the dead chunks of all classes, class 1 first.
+    pub(super) fn sweep_all(&mut self)
+        ensures { self.new ≡ all_swept self.old }
+    {
+        for place in 0..self.table.count() {
+            self.sweep(place + 1);
+        }
+    }
+
+    /// Whether neither a key leads to the chunk's item nor anybody holds it.
+    pub(super) fn is_dead(&self, chunk: ChunkId) -> bool
+        ensures { result ≡ is_dead self.now chunk }
+    {
+        match self.items.get(&chunk) {
+            Some(item) => !item.is_linked() && !self.holds.is_held(chunk),
+            None => false,
+        }
+    }
+
+    /// Whether a key leads to the chunk's item, and nobody holds it.
+    pub(super) fn is_idle(&self, chunk: ChunkId) -> bool
+        ensures { result ≡ is_idle self.now chunk }
+    {
+        match self.items.get(&chunk) {
+            Some(item) => item.is_linked() && !self.holds.is_held(chunk),
+            None => false,
+        }
+    }
+
+    /// Puts a dead chunk back, and its item is gone.
+    fn reclaim(&mut self, chunk: ChunkId)
+        requires dead { is_dead self.old chunk ≡ true }
+        requires class { IsClass self.old.slabs (class_of_page self.old.slabs chunk.page) }
+        requires listed { Contains (class_of_chunk self.old.slabs chunk).order chunk }
+        ensures { self.new ≡ after_reclaim self.old chunk }
+    {
+        self.slabs.back(chunk);
+        self.items.remove(&chunk);
+    }
+}

@@ -1,0 +1,12 @@
+//! What a serial run stores, and how it serves one command after another.
+//!
+//! [`Keeper`] holds pages, chunks and items as one thread needs them: no lock, no count, no header. What it answers
+//! to a command, and what it is afterwards, is what a plain machine over lists says; that machine is this crate's
+//! definition. The functions of [`laws`] say what follows of the machine alone.
+#![tactic(auto)]
+
+mod keeper;
+pub mod laws;
+mod text;
+
+pub use keeper::{Keeper, Stop};
