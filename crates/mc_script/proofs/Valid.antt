@@ -6,9 +6,9 @@ use Rattle.std.specs.List.{AllByRecursion}
 use Rattle.std.specs.Str.{bytes_eq}
 use Rattle.std.specs.Str.Lines.{lines}
 use Rattle.mc_script.specs.declared.command.Command.{Command}
-use Rattle.mc_script.specs.declared.command.Command.TheVariants.{Set, Reassign, Stats, StatsSlabs}
+use Rattle.mc_script.specs.declared.command.Command.TheVariants.{Set, Reassign, Automove, Window, Stats, StatsSlabs}
 use Rattle.mc_script.specs.Command.{IsWorker, IsSource, IsValid}
-use Rattle.mc_script.specs.Forms.{◌or◌, worker_and_key_of, source_of, set_of, delete_of, get_of, hold_of, drop_of, touch_of, reassign_of, turn_of, stats_of, stats_slabs_of, command_of}
+use Rattle.mc_script.specs.Forms.{◌or◌, worker_and_key_of, source_of, set_of, delete_of, get_of, hold_of, drop_of, touch_of, reassign_of, automove_of, window_of, turn_of, stats_of, stats_slabs_of, command_of}
 use Rattle.mc_script.specs.Script.{is_skipped, followed_by, commands_of, script_of}
 use Rattle.mc_script.specs.Words.{◌>>=◌, words_of, number_of, number_between}
 use Rattle.mc_script.proofs.Digits.{number_parts}
@@ -133,6 +133,18 @@ unfolding turn_of
 turn_valid (verb ∷ turns ∷ []) = form_valid (bytes_eq verb (codes "turn")) _ (between_then IsValid 1 1000000 turns _ (λ n within. within))
 turn_valid words = tt
 
+-- `automove`
+automove_valid : (words : List (List ℕ)) → IfSome (automove_of words) IsValid
+unfolding automove_of
+automove_valid (verb ∷ mode ∷ []) = form_valid (bytes_eq verb (codes "automove")) _ (between_then IsValid 0 2 mode _ (λ m within. within.1))
+automove_valid words = tt
+
+-- `window`
+window_valid : (words : List (List ℕ)) → IfSome (window_of words) IsValid
+unfolding window_of
+window_valid (verb ∷ []) = form_valid (bytes_eq verb (codes "window")) (Some Window) tt
+window_valid words = tt
+
 -- `stats`
 stats_valid : (words : List (List ℕ)) → IfSome (stats_of words) IsValid
 unfolding stats_of
@@ -150,7 +162,8 @@ command_valid : (words : List (List ℕ)) → IfSome (command_of words) IsValid
 unfolding command_of
 command_valid words =
     or_told _ _ (set_valid words) (or_told _ _ (delete_valid words) (or_told _ _ (get_valid words) (or_told _ _ (hold_valid words) (or_told _ _ (drop_valid words) (or_told _ _ (touch_valid words)
-    (or_told _ _ (reassign_valid words) (or_told _ _ (turn_valid words) (or_told _ _ (stats_valid words) (stats_slabs_valid words)))))))))
+    (or_told _ _ (reassign_valid words) (or_told _ _ (automove_valid words) (or_told _ _ (window_valid words)
+    (or_told _ _ (turn_valid words) (or_told _ _ (stats_valid words) (stats_slabs_valid words)))))))))))
 
 -- ---- the lines
 

@@ -11,9 +11,9 @@ use Rattle.std.specs.List.{AllByRecursion, flat_map, join_with_byte}
 use Rattle.std.specs.Str.{bytes_eq}
 use Rattle.std.specs.Str.Lines.{lines}
 use Rattle.mc_script.specs.declared.command.Command.{Command}
-use Rattle.mc_script.specs.declared.command.Command.TheVariants.{Set, Delete, Get, Hold, Drop, Touch, Reassign, Turn, Stats, StatsSlabs}
+use Rattle.mc_script.specs.declared.command.Command.TheVariants.{Set, Delete, Get, Hold, Drop, Touch, Reassign, Automove, Window, Turn, Stats, StatsSlabs}
 use Rattle.mc_script.specs.Command.{IsWorker, IsSource, IsValid}
-use Rattle.mc_script.specs.Forms.{◌or◌, worker_and_key_of, source_of, set_of, delete_of, get_of, hold_of, drop_of, touch_of, reassign_of, turn_of, stats_of, stats_slabs_of, command_of}
+use Rattle.mc_script.specs.Forms.{◌or◌, worker_and_key_of, source_of, set_of, delete_of, get_of, hold_of, drop_of, touch_of, reassign_of, automove_of, window_of, turn_of, stats_of, stats_slabs_of, command_of}
 use Rattle.mc_script.specs.Script.{commands_of, followed_by, is_skipped, number_sign, script_of}
 use Rattle.mc_script.specs.Words.{◌>>=◌, number_of, number_between}
 use Rattle.mc_script.specs.Written.{source_word, words_for, text_of}
@@ -67,6 +67,8 @@ words_plain (Hold worker key) valid = named_plain (codes "hold") worker key (tex
 words_plain (Drop worker key) valid = named_plain (codes "drop") worker key (text_plain (codes "drop") refl) valid.0 valid.1
 words_plain (Touch worker key) valid = named_plain (codes "touch") worker key (text_plain (codes "touch") refl) valid.0 valid.1
 words_plain (Reassign src dst) valid = (text_plain (codes "reassign") refl, (source_plain src valid.0, (decimal_plain dst valid.1, tt)))
+words_plain (Automove mode) valid = (text_plain (codes "automove") refl, (decimal_plain mode (omega (arith, valid)), tt))
+words_plain Window valid = (text_plain (codes "window") refl, tt)
 words_plain (Turn turns) valid = (text_plain (codes "turn") refl, (decimal_plain turns (omega (arith, valid.1)), tt))
 words_plain Stats valid = (text_plain (codes "stats") refl, tt)
 words_plain StatsSlabs valid = (text_plain (codes "stats") refl, (text_plain (codes "slabs") refl, tt))
@@ -80,6 +82,8 @@ words_exist (Hold worker key) = omega arith
 words_exist (Drop worker key) = omega arith
 words_exist (Touch worker key) = omega arith
 words_exist (Reassign src dst) = omega arith
+words_exist (Automove mode) = omega arith
+words_exist Window = omega arith
 words_exist (Turn turns) = omega arith
 words_exist Stats = omega arith
 words_exist StatsSlabs = omega arith
@@ -97,6 +101,8 @@ not_skipped (Hold worker key) valid = begins_with_digit worker (omega (arith, va
 not_skipped (Drop worker key) valid = begins_with_digit worker (omega (arith, valid.0.1))
 not_skipped (Touch worker key) valid = begins_with_digit worker (omega (arith, valid.0.1))
 not_skipped (Reassign src dst) valid = refl
+not_skipped (Automove mode) valid = refl
+not_skipped Window valid = refl
 not_skipped (Turn turns) valid = refl
 not_skipped Stats valid = refl
 not_skipped StatsSlabs valid = refl
@@ -136,7 +142,7 @@ next_again found next other command none e = ap (λ (o : Option (ℕ × ℕ)). (
 
 -- the words of a command are read as it
 command_again : (command : Command) → IsValid command → command_of (words_for command) ≡ Some command
-unfolding command_of worker_and_key_of set_of delete_of get_of hold_of drop_of touch_of reassign_of turn_of stats_of stats_slabs_of
+unfolding command_of worker_and_key_of set_of delete_of get_of hold_of drop_of touch_of reassign_of automove_of window_of turn_of stats_of stats_slabs_of
 command_again (Set worker key words base) valid =
     first_again _ _ _
     (then_some _ _ worker (between_again 1 63 worker valid.0.0 valid.0.1 (omega (arith, valid.0.1)))
@@ -152,6 +158,8 @@ command_again (Reassign src dst) valid =
     let none = λ (verb : List ℕ). not_named verb (source_word src) (decimal dst) in
     next_again _ _ _ _ (none (codes "del")) (next_again _ _ _ _ (none (codes "get")) (next_again _ _ _ _ (none (codes "hold")) (next_again _ _ _ _ (none (codes "drop")) (next_again _ _ _ _ (none (codes "touch"))
     (first_again _ _ _ (then_some _ _ src (source_again src valid.0) ∙ then_some _ _ dst (number_again dst valid.1)))))))
+command_again (Automove mode) valid = first_again _ _ _ (then_some _ _ mode (between_again 0 2 mode (omega arith) valid (omega (arith, valid))))
+command_again Window valid = refl
 command_again (Turn turns) valid = first_again _ _ _ (then_some _ _ turns (between_again 1 1000000 turns valid.0 valid.1 (omega (arith, valid.1))))
 command_again Stats valid = refl
 command_again StatsSlabs valid = refl

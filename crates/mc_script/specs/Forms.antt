@@ -3,7 +3,7 @@ use Rattle.std.specs.Prelude.{ℕ, ◌&&◌, codes, if◌then◌else◌, List, [
 use Rattle.std.specs.Option.{option_or}
 use Rattle.std.specs.Str.{bytes_eq}
 use Rattle.mc_script.specs.declared.command.Command.{Command}
-use Rattle.mc_script.specs.declared.command.Command.TheVariants.{Set, Delete, Get, Hold, Drop, Touch, Reassign, Turn, Stats, StatsSlabs}
+use Rattle.mc_script.specs.declared.command.Command.TheVariants.{Set, Delete, Get, Hold, Drop, Touch, Reassign, Automove, Window, Turn, Stats, StatsSlabs}
 use Rattle.mc_script.specs.Words.{◌>>=◌, number_of, number_between}
 
 -- a worker's number is from 1 to 63
@@ -78,6 +78,20 @@ reassign_of (verb ∷ src ∷ dst ∷ []) =
     else None
 reassign_of words = None
 
+-- `automove <m>`
+unfoldable pub automove_of : List (List ℕ) → Option Command
+automove_of (verb ∷ mode ∷ []) =
+    if bytes_eq verb (codes "automove") then (do
+      m ← number_between 0 2 mode
+      Some (Automove m))
+    else None
+automove_of words = None
+
+-- `window`
+unfoldable pub window_of : List (List ℕ) → Option Command
+window_of (verb ∷ []) = if bytes_eq verb (codes "window") then Some Window else None
+window_of words = None
+
 -- `turn <n>`
 unfoldable pub turn_of : List (List ℕ) → Option Command
 turn_of (verb ∷ turns ∷ []) =
@@ -105,4 +119,5 @@ one or other = option_or one other
 -- the command that these words write, in the one form that they have
 unfoldable pub command_of : List (List ℕ) → Option Command
 command_of words =
-    set_of words or delete_of words or get_of words or hold_of words or drop_of words or touch_of words or reassign_of words or turn_of words or stats_of words or stats_slabs_of words
+    set_of words or delete_of words or get_of words or hold_of words or drop_of words or touch_of words or reassign_of words
+    or automove_of words or window_of words or turn_of words or stats_of words or stats_slabs_of words

@@ -3,7 +3,7 @@ use Rattle.std.specs.Prelude.{ℕ, List, [], ◌∷◌, ◌++◌, codes, Option,
 use Rattle.std.specs.Fmt.{decimal}
 use Rattle.std.specs.List.{join_with_byte}
 use Rattle.mc_script.specs.declared.command.Command.{Command}
-use Rattle.mc_script.specs.declared.command.Command.TheVariants.{Set, Delete, Get, Hold, Drop, Touch, Reassign, Turn, Stats, StatsSlabs}
+use Rattle.mc_script.specs.declared.command.Command.TheVariants.{Set, Delete, Get, Hold, Drop, Touch, Reassign, Automove, Window, Turn, Stats, StatsSlabs}
 use Rattle.mc_script.specs.Words.{space}
 
 -- the word of a source
@@ -20,6 +20,8 @@ words_for (Hold worker key) = decimal worker ∷ codes "hold" ∷ decimal key �
 words_for (Drop worker key) = decimal worker ∷ codes "drop" ∷ decimal key ∷ []
 words_for (Touch worker key) = decimal worker ∷ codes "touch" ∷ decimal key ∷ []
 words_for (Reassign src dst) = codes "reassign" ∷ source_word src ∷ decimal dst ∷ []
+words_for (Automove mode) = codes "automove" ∷ decimal mode ∷ []
+words_for Window = codes "window" ∷ []
 words_for (Turn turns) = codes "turn" ∷ decimal turns ∷ []
 words_for Stats = codes "stats" ∷ []
 words_for StatsSlabs = codes "stats" ∷ codes "slabs" ∷ []

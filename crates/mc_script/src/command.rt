@@ -40,6 +40,12 @@ pub enum Command {
         src: Option<u64>,
         dst: u64,
     },
+    /// `automove <m>`: from here on the automover works in this mode, 0, 1 or 2.
+    Automove {
+        mode: u64,
+    },
+    /// `window`: a window of the automover ends.
+    Window,
     /// `turn <n>`: so many turns of the mover, from 1 to 1,000,000.
     Turn {
         turns: u64,

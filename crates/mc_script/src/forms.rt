@@ -1,7 +1,7 @@
 //! The forms of a command, a function each.
 ghost use Rattle.std.specs.Prelude.{◌≡◌, map};
 ghost use Rattle.std.specs.Str.{bytes_eq};
-ghost use Rattle.mc_script.specs.Forms.{command_of, delete_of, drop_of, get_of, hold_of, reassign_of, set_of, source_of, stats_of, stats_slabs_of, touch_of, turn_of, worker_and_key_of, worker_of};
+ghost use Rattle.mc_script.specs.Forms.{automove_of, command_of, delete_of, drop_of, get_of, hold_of, reassign_of, set_of, source_of, stats_of, stats_slabs_of, touch_of, turn_of, window_of, worker_and_key_of, worker_of};
 
 use crate::command::Command;
 use crate::number::{number, number_between};
@@ -11,6 +11,9 @@ const MAX_WORKER: u64 = 63;
 
 /// The most words of an item (own).
 const MAX_WORDS: u64 = 4096;
+
+/// The highest mode of the automover, as in memcached's `slabs automove`.
+const MAX_MODE: u64 = 2;
 
 /// The most turns of a line (own).
 const MAX_TURNS: u64 = 1_000_000;
@@ -27,6 +30,8 @@ pub(crate) fn command(words: &[&[u8]]) -> Option<Command>
         .or_else(|| drop(words))
         .or_else(|| touch(words))
         .or_else(|| reassign(words))
+        .or_else(|| automove(words))
+        .or_else(|| window(words))
         .or_else(|| turn(words))
         .or_else(|| stats(words))
         .or_else(|| stats_slabs(words))
@@ -103,6 +108,30 @@ fn reassign(words: &[&[u8]]) -> Option<Command>
             src: source(src)?,
             dst: number(dst)?,
         }),
+        _ => None,
+    }
+}
+
+/// `automove <m>`
+#[tactic(auto, unfolding(crate::specs::Forms::automove_of))]
+fn automove(words: &[&[u8]]) -> Option<Command>
+    ensures { result ≡ automove_of (map (λ word. word.now) words.now) }
+{
+    match words {
+        [verb, mode] if is(verb, b"automove") => Some(Command::Automove {
+            mode: number_between(0, MAX_MODE, mode)?,
+        }),
+        _ => None,
+    }
+}
+
+/// `window`
+#[tactic(auto, unfolding(crate::specs::Forms::window_of))]
+fn window(words: &[&[u8]]) -> Option<Command>
+    ensures { result ≡ window_of (map (λ word. word.now) words.now) }
+{
+    match words {
+        [verb] if is(verb, b"window") => Some(Command::Window),
         _ => None,
     }
 }
