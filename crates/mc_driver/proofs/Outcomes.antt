@@ -8,6 +8,7 @@ use Rattle.mc_classes.specs.declared.config.ConfigError.{ConfigError}
 use Rattle.mc_classes.specs.declared.config.ConfigError.TheVariants.{PageSize, FirstSize, Factor, ChunkMax, Limit, Stripes, TooManyChunks, Bulk, NoMemory}
 use Rattle.mc_classes.specs.Classes.{Classes, IsTableOf}
 use Rattle.mc_classes.specs.Refusals.{refusal_of, number_of}
+use Rattle.mc_options.specs.declared.settings.Run.{Run}
 use Rattle.mc_script.specs.declared.command.Command.{Command}
 use Rattle.mc_driver.specs.declared.fault.RunFault.{RunFault}
 use Rattle.mc_driver.specs.declared.fault.RunFault.TheVariants.{Config as Refused, Script, TooLong, Read, Write, Memory, Turns}
@@ -33,27 +34,27 @@ script_all all front commands front_is script =
     rw same at script
 
 -- the outcome over the front of the bytes is the outcome over all of them
-pub outcome_all : (config : Config) (table : Classes) (all front : List ℕ) (old new : Option (List ℕ)) (result : Result (Unit {0}) RunFault)
-    → IsTableOf config table → front ≡ take 1048577 all → IsScriptOutcome front (fresh_machine table config.bulk) old new result → IsOutcome config all old new result
-outcome_all config table all front old new (Ok unit) is front_is (commands, script, written) = (table, is, (commands, script_all all front commands front_is script, written))
-outcome_all config table all front old new (Err Turns) is front_is (commands, script, written) = (table, is, (commands, script_all all front commands front_is script, written))
-outcome_all config table all front old new (Err TooLong) is front_is (long, kept) = (table, is, (front_long 1048576 all front front_is long, kept))
-outcome_all config table all front old new (Err (Script number)) is front_is (short, at, kept) =
+pub outcome_all : (run : Run) (table : Classes) (all front : List ℕ) (old new : Option (List ℕ)) (result : Result (Unit {0}) RunFault)
+    → IsTableOf run.config table → front ≡ take 1048577 all → IsScriptOutcome front (fresh_machine table run.config.bulk run.automove) old new result → IsOutcome run all old new result
+outcome_all run table all front old new (Ok unit) is front_is (commands, script, written) = (table, is, (commands, script_all all front commands front_is script, written))
+outcome_all run table all front old new (Err Turns) is front_is (commands, script, written) = (table, is, (commands, script_all all front commands front_is script, written))
+outcome_all run table all front old new (Err TooLong) is front_is (long, kept) = (table, is, (front_long 1048576 all front front_is long, kept))
+outcome_all run table all front old new (Err (Script number)) is front_is (short, at, kept) =
     let same : front ≡ all = front_all 1048576 all front front_is short in
     (table, is, (rw (← same) short, rw (← same) at, kept))
-outcome_all config table all front old new (Err Write) is front_is (commands, script, broken) = (table, is, (commands, script_all all front commands front_is script, broken))
-outcome_all config table all front old new (Err Memory) is front_is (inl kept) = inl kept
-outcome_all config table all front old new (Err Memory) is front_is (inr (commands, script, first)) =
+outcome_all run table all front old new (Err Write) is front_is (commands, script, broken) = (table, is, (commands, script_all all front commands front_is script, broken))
+outcome_all run table all front old new (Err Memory) is front_is (inl kept) = inl kept
+outcome_all run table all front old new (Err Memory) is front_is (inr (commands, script, first)) =
     inr (table, is, inr (commands, script_all all front commands front_is script, first))
-outcome_all config table all front old new (Err (Refused number)) is front_is told = absurd told
-outcome_all config table all front old new (Err Read) is front_is told = absurd told
+outcome_all run table all front old new (Err (Refused number)) is front_is told = absurd told
+outcome_all run table all front old new (Err Read) is front_is told = absurd told
 
 -- the same, of bytes that the reader may not tell
-pub outcome_known : (config : Config) (table : Classes) (all : Option (List ℕ)) (front : List ℕ) (old new : Option (List ℕ)) (result : Result (Unit {0}) RunFault)
-    → IsTableOf config table → IfSome all (λ bytes. front ≡ take 1048577 bytes) → IsScriptOutcome front (fresh_machine table config.bulk) old new result
-    → IfSome all (λ bytes. IsOutcome config bytes old new result)
-outcome_known config table None front old new result is front_is outcome = tt
-outcome_known config table (Some bytes) front old new result is front_is outcome = outcome_all config table bytes front old new result is front_is outcome
+pub outcome_known : (run : Run) (table : Classes) (all : Option (List ℕ)) (front : List ℕ) (old new : Option (List ℕ)) (result : Result (Unit {0}) RunFault)
+    → IsTableOf run.config table → IfSome all (λ bytes. front ≡ take 1048577 bytes) → IsScriptOutcome front (fresh_machine table run.config.bulk run.automove) old new result
+    → IfSome all (λ bytes. IsOutcome run bytes old new result)
+outcome_known run table None front old new result is front_is outcome = tt
+outcome_known run table (Some bytes) front old new result is front_is outcome = outcome_all run table bytes front old new result is front_is outcome
 
 -- memory is no refusal
 not_first : (failed : Bool) (error : ConfigError) (rest : Option ConfigError) → number_of error < 9 → rest ≢ Some NoMemory
@@ -83,37 +84,37 @@ told_by_number Bulk other = refl
 told_by_number NoMemory other = absurd (other refl)
 
 -- how a run ends where there is no table
-pub record Unbuilt (config : Config) (error : ConfigError) : Type 0 where
-  pub told : (number : ℕ) → config_fault error ≡ Refused number → refusal_number config ≡ Some number
-  pub tells : (number : ℕ) → refusal_number config ≡ Some number → config_fault error ≡ Refused number
-  pub outcome : (all held : Option (List ℕ)) → IfSome all (λ bytes. IsOutcome config bytes held held (Err (config_fault error)))
+pub record Unbuilt (run : Run) (error : ConfigError) : Type 0 where
+  pub told : (number : ℕ) → config_fault error ≡ Refused number → refusal_number run.config ≡ Some number
+  pub tells : (number : ℕ) → refusal_number run.config ≡ Some number → config_fault error ≡ Refused number
+  pub outcome : (all held : Option (List ℕ)) → IfSome all (λ bytes. IsOutcome run bytes held held (Err (config_fault error)))
 
-unbuilt_memory : (config : Config) → refusal_of config ≡ None → Unbuilt config NoMemory
-unbuilt_memory config none = record {
+unbuilt_memory : (run : Run) → refusal_of run.config ≡ None → Unbuilt run NoMemory
+unbuilt_memory run none = record {
   told = λ number h. cc;
   tells = λ number h. let bad : None ≡ Some number = rw none at h in cc;
   outcome = λ all held. known all held;
 }
   where
-    known : (all held : Option (List ℕ)) → IfSome all (λ bytes. IsOutcome config bytes held held (Err Memory))
+    known : (all held : Option (List ℕ)) → IfSome all (λ bytes. IsOutcome run bytes held held (Err Memory))
     known None held = tt
     known (Some bytes) held = inl (Keeps-refl held)
 
-unbuilt_refused : (config : Config) (error : ConfigError) → refusal_of config ≡ Some error → error ≢ NoMemory → Unbuilt config error
-unbuilt_refused config error is other = record {
+unbuilt_refused : (run : Run) (error : ConfigError) → refusal_of run.config ≡ Some error → error ≢ NoMemory → Unbuilt run error
+unbuilt_refused run error is other = record {
   told = λ number h. let same : number_of error ≡ number = cc (told_by_number error other) in rw (is, same) refl;
   tells = λ number h. let same : Some (number_of error) ≡ Some number = rw is at h in cc (told_by_number error other);
   outcome = λ all held. rw (told_by_number error other) (known all held);
 }
   where
-    known : (all held : Option (List ℕ)) → IfSome all (λ bytes. IsOutcome config bytes held held (Err (Refused (number_of error))))
+    known : (all held : Option (List ℕ)) → IfSome all (λ bytes. IsOutcome run bytes held held (Err (Refused (number_of error))))
     known None held = tt
     known (Some bytes) held = (rw is refl, Keeps-refl held)
 
-unbuilt_as : (config : Config) (error : ConfigError) (first : Option ConfigError) → refusal_of config ≡ first → error ≡ unwrap_or first NoMemory → Unbuilt config error
-unbuilt_as config error None is told = rw told (unbuilt_memory config is)
-unbuilt_as config error (Some first) is told =
-    rw told (unbuilt_refused config first is (λ memory. no_memory_refusal config (rw memory at is)))
+unbuilt_as : (run : Run) (error : ConfigError) (first : Option ConfigError) → refusal_of run.config ≡ first → error ≡ unwrap_or first NoMemory → Unbuilt run error
+unbuilt_as run error None is told = rw told (unbuilt_memory run is)
+unbuilt_as run error (Some first) is told =
+    rw told (unbuilt_refused run first is (λ memory. no_memory_refusal run.config (rw memory at is)))
 
-pub unbuilt : (config : Config) (error : ConfigError) → error ≡ unwrap_or (refusal_of config) NoMemory → Unbuilt config error
-unbuilt config error told = unbuilt_as config error (refusal_of config) refl told
+pub unbuilt : (run : Run) (error : ConfigError) → error ≡ unwrap_or (refusal_of run.config) NoMemory → Unbuilt run error
+unbuilt run error told = unbuilt_as run error (refusal_of run.config) refl told

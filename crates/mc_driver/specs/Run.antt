@@ -8,6 +8,7 @@ use Rattle.mc_classes.specs.declared.config.ConfigError.TheVariants.{NoMemory}
 use Rattle.mc_classes.specs.Refusals.{refusal_of, number_of}
 use Rattle.mc_classes.specs.Classes.{Classes, IsTableOf}
 use Rattle.mc_classes.specs.Device.{Extends}
+use Rattle.mc_options.specs.declared.settings.Run.{Run}
 use Rattle.mc_script.specs.declared.command.Command.{Command}
 use Rattle.mc_script.specs.Script.{script_of}
 use Rattle.mc_driver.specs.declared.fault.RunFault.{RunFault}
@@ -114,17 +115,17 @@ IsScriptOutcome bytes machine old new (Err Memory) = Keeps old new ⊎ OfScript 
 IsScriptOutcome bytes machine old new (Err (Refused number)) = ⊥
 IsScriptOutcome bytes machine old new (Err Read) = ⊥
 
--- what is said of the plain machine with the configuration's size classes
-abbrev pub OfMachine : Config → (Machine → Type 0) → Type 0
-OfMachine config Says = (table : Classes) × IsTableOf config table × Says (fresh_machine table config.bulk)
+-- what is said of the plain machine with the size classes and the mode that a run is started with
+abbrev pub OfMachine : Run → (Machine → Type 0) → Type 0
+OfMachine run Says = (table : Classes) × IsTableOf run.config table × Says (fresh_machine table run.config.bulk run.automove)
 
--- A run with this configuration over these bytes ends so.
-abbrev pub IsOutcome : Config → List ℕ → Option (List ℕ) → Option (List ℕ) → Result (Unit {0}) RunFault → Type 0
+-- A run that is started so over these bytes ends so.
+abbrev pub IsOutcome : Run → List ℕ → Option (List ℕ) → Option (List ℕ) → Result (Unit {0}) RunFault → Type 0
 -- the configuration is refused: nothing was written
-IsOutcome config bytes old new (Err (Refused number)) = (refusal_number config ≡ Some number) × Keeps old new
+IsOutcome run bytes old new (Err (Refused number)) = (refusal_number run.config ≡ Some number) × Keeps old new
 -- the reader failed: nothing was written
-IsOutcome config bytes old new (Err Read) = Keeps old new
+IsOutcome run bytes old new (Err Read) = Keeps old new
 -- memory ran out before there was a machine, or later
-IsOutcome config bytes old new (Err Memory) = Keeps old new ⊎ OfMachine config (λ machine. IsScriptOutcome bytes machine old new (Err Memory))
+IsOutcome run bytes old new (Err Memory) = Keeps old new ⊎ OfMachine run (λ machine. IsScriptOutcome bytes machine old new (Err Memory))
 -- the machine's run ended so
-IsOutcome config bytes old new result = OfMachine config (λ machine. IsScriptOutcome bytes machine old new result)
+IsOutcome run bytes old new result = OfMachine run (λ machine. IsScriptOutcome bytes machine old new result)

@@ -30,7 +30,7 @@ pub fn run_serial<R: Source, W: Sink>(
     reader: &mut R,
     writer: &mut W,
 ) -> Result<(), RunFault>
-    requires { run.now.automove ≡ 0 }
+    requires { run.now.automove ≤ 2 }
 
     // A refused configuration is told, exactly then, and leaves reader and writer alone.
     ensures refused { (number : ℕ) → (result ≡ Err (RunFault.Config number)) ↔ (refusal_number run.now.config ≡ Some number) }
@@ -45,34 +45,35 @@ pub fn run_serial<R: Source, W: Sink>(
 
     // What is answered and written is what the plain machine says of the bytes.
     ensures outcome { IfSome (R.remaining reader.old) (λ bytes.
-        IsOutcome run.now.config bytes (W.contents writer.old) (W.contents writer.new) result) }
+        IsOutcome run.now bytes (W.contents writer.old) (W.contents writer.new) result) }
 {
     let table = match ClassTable::build(alloc, &run.config) {
         Ok(table) => table,
         Err(error) => return Err(fault_of(error)),
     };
     let bytes = read_script(alloc, reader)?;
-    run_script(alloc, table, run.config.bulk, &bytes, writer)
+    run_script(alloc, table, run, &bytes, writer)
 }
 
 /// Reads the commands of a script, and does them.
 fn run_script<W: Sink>(
     alloc: Global,
     table: ClassTable,
-    bulk: u64,
+    run: &Run,
     bytes: &[u8],
     writer: &mut W,
 ) -> Result<(), RunFault>
     requires sound { IsSound table }
-    requires bulk { bulk ≤ 256 }
-    ensures outcome { IsScriptOutcome bytes.now (fresh_machine table bulk) (W.contents writer.old) (W.contents writer.new) result }
+    requires bulk { run.now.config.bulk ≤ 256 }
+    requires automove { run.now.automove ≤ 2 }
+    ensures outcome { IsScriptOutcome bytes.now (fresh_machine table run.now.config.bulk run.now.automove) (W.contents writer.old) (W.contents writer.new) result }
     ensures write { (result ≡ Err RunFault.Write) ↔ (W.failures writer.old < W.failures writer.new) }
 {
     let commands = match commands_of(alloc, bytes) {
         Ok(commands) => commands,
         Err(fault) => return Err(fault),
     };
-    match Keeper::new(alloc, table, bulk) {
+    match Keeper::new(alloc, table, run.config.bulk, run.automove) {
         Ok(keeper) => serve_all(alloc, keeper, &commands, writer),
         Err(_) => Err(RunFault::Memory),
     }

@@ -12,7 +12,7 @@ use Rattle.mc_pages.proofs.Chunks.{times_from_Contains}
 use Rattle.mc_pages.proofs.GrantedPage.{length-owners, length-pages_le}
 use Rattle.mc_keeper.specs.Items.{Items}
 use Rattle.mc_keeper.specs.Kept.{IsKept}
-use Rattle.mc_keeper.specs.Texts.{AreCounts}
+use Rattle.mc_watch.specs.Texts.{AreCounts}
 use Rattle.mc_keeper.proofs.Orders.{in_lists_once, page_of_listed}
 use Rattle.mc_keeper.proofs.Grown.{per_page_kept}
 

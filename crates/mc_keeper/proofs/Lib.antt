@@ -25,3 +25,4 @@ pub mod MoverSaves
 pub mod KeptMoverPass
 pub mod KeptMoverFinish
 pub mod MoverTurns
+pub mod Watched

@@ -1,5 +1,5 @@
 -- What the keeper's index and items keep, beside the pages and chunks.
-use Rattle.std.specs.Prelude.{◌≡◌, ℕ, ◌+◌, ◌/◌, ◌≤◌, List, [], ◌∷◌, length, map, None}
+use Rattle.std.specs.Prelude.{◌≡◌, ℕ, ◌+◌, ◌/◌, ◌^◌, ◌<◌, ◌≤◌, false, slice_index_or, List, [], ◌∷◌, length, map, None}
 use Rattle.std.specs.Ordering.{nat_cmp}
 use Rattle.std.specs.BTreeMap.{is_at}
 use Rattle.std.specs.Map.{lookup}
@@ -9,6 +9,8 @@ use Rattle.mc_pages.specs.ClassState.{times}
 use Rattle.mc_pages.specs.SlabState.{SlabState, IsClass, class_at, class_of_chunk}
 use Rattle.mc_pages.specs.Accounted.{truth, IsAccounted}
 use Rattle.mc_keeper.specs.declared.keeper.Keeper.TheInside.{Inside}
+use Rattle.mc_watch.specs.Decider.{DeciderState, has_fallen}
+use Rattle.mc_keeper.specs.Automove.{eviction_counts}
 use Rattle.mc_keeper.specs.Item.{is_linked_to}
 use Rattle.mc_keeper.specs.Items.{Items, chunk_cmp, linked_chunk}
 
@@ -39,7 +41,15 @@ pub record IsKept (table : Classes) (slabs : SlabState) (index : List (ℕ × Ch
   -- and a chunk that is handed out has an item
   pub stored : (class : ℕ) (chunk : ChunkId) → IsClass slabs class → times chunk (class_at slabs class).order ≤ places chunk items
 
+-- the decider knows as many classes, and no class has fewer evictions than it was told of, so it refuses no window
+pub record IsWatched (slabs : SlabState) (decider : DeciderState) : Type 0 where
+  pub of_each : length decider.classes ≡ length slabs.classes
+  pub risen : has_fallen decider.classes (eviction_counts slabs) ≡ false
+  -- a counter has 64 bits
+  pub small : (place : ℕ) → slice_index_or (eviction_counts slabs) place 0 < 2 ^ 64
+
 -- what the keeper keeps
 pub record AreKept (keeper : Inside) : Type 0 where
+  pub watched : IsWatched keeper.slabs keeper.decider
   pub kept : IsKept keeper.table keeper.slabs keeper.index.entries keeper.items.entries
   pub bulk : keeper.bulk ≤ 256

@@ -4,6 +4,7 @@ pub mod Holds
 pub mod HoldsKept
 pub mod Machine
 pub mod Supply
+pub mod Automove
 pub mod Mover
 pub mod Lines
 pub mod Texts

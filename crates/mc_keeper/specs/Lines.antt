@@ -9,16 +9,18 @@ use Rattle.mc_pages.specs.SlabState.{granted_count}
 use Rattle.mc_pages.specs.Accounted.{truth}
 use Rattle.mc_pages.specs.Changes.{after_pop, after_touch}
 use Rattle.mc_pages.specs.Answer.{answer_of}
-use Rattle.mc_pages.specs.Moves.{after_begin}
 use Rattle.mc_script.specs.declared.command.Command.{Command}
 use Rattle.mc_script.specs.declared.command.Command.TheVariants as command
 use Rattle.mc_keeper.specs.Item.{Item, item_bytes, new_item, words_from}
 use Rattle.mc_keeper.specs.Items.{item_at, linked_chunk, unlinked_items, with_item, has_key}
 use Rattle.mc_keeper.specs.Holds.{held_by, is_full, with_hold, without_hold}
-use Rattle.mc_keeper.specs.Machine.{Machine, all_swept}
-use Rattle.mc_keeper.specs.Supply.{supplied, supply}
+use Rattle.mc_watch.specs.declared.decider.Decision.{Decision}
+use Rattle.mc_keeper.specs.Machine.{Machine, all_swept, with_mode}
+use Rattle.mc_keeper.specs.Supply.{supplied, supply, asks_for_page}
+use Rattle.mc_keeper.specs.Automove.{begun, decision, free_counts, page_counts, with_asked_page, with_window}
 use Rattle.mc_keeper.specs.Mover.{Turned, after_turns}
-use Rattle.mc_keeper.specs.Texts.{line, key_line, words_line, turn_line, slabs_text, general_text}
+use Rattle.mc_watch.specs.Texts.{line, slabs_text, general_text}
+use Rattle.mc_keeper.specs.Texts.{key_line, spaced, words_line, turn_line}
 
 -- a reply, and the machine after it
 pub record Served : Type 0 where
@@ -29,18 +31,23 @@ pub record Served : Type 0 where
 abbrev pub told : Machine → List ℕ → Served
 told m reply = record { reply = reply; machine = m }
 
--- the item comes into this chunk, if there is one, and its key leads to no other
-abbrev pub stored : Machine → ℕ → ℕ → List ℕ → Option ChunkId → Served
-stored m class key words None = told m (key_line (codes "NO_ROOM") key)
-stored m class key words (Some chunk) = record {
-  reply = key_line (codes "STORED") key;
-  machine = record m { slabs = after_pop m.slabs class; items = with_item (unlinked_items m.items key) chunk (new_item key words) };
+-- the item comes into this chunk, which is handed out, and its key leads to no other
+abbrev pub with_stored : Machine → ℕ → ℕ → List ℕ → ChunkId → Machine
+with_stored m class key words chunk = record m {
+  slabs = after_pop m.slabs class;
+  items = with_item (unlinked_items m.items key) chunk (new_item key words);
 }
+
+-- the item comes into this chunk, if there is one, and a page is asked for where that is due
+abbrev pub stored : Machine → ℕ → ℕ → List ℕ → Bool → Option ChunkId → Served
+stored m class key words asks None = told m (key_line (codes "NO_ROOM") key)
+stored m class key words asks (Some chunk) = let done = with_stored m class key words chunk in
+    record { reply = key_line (codes "STORED") key; machine = if asks then with_asked_page done class else done }
 
 -- a set of an item of this class, or of none where it is too large
 abbrev pub set_in : Machine → Option ℕ → ℕ → List ℕ → Served
 set_in m None key words = told m (key_line (codes "TOO_LARGE") key)
-set_in m (Some class) key words = stored (supplied m class) class key words (supply m class)
+set_in m (Some class) key words = stored (supplied m class) class key words (asks_for_page m class) (supply m class)
 
 -- the words of the item that was found
 abbrev pub read : Machine → ℕ → Option Item → Served
@@ -99,10 +106,26 @@ name_of BadClass = codes "BADCLASS"
 name_of NoSpare = codes "NOSPARE"
 name_of NoMemory = []
 
+-- what is answered to whoever wants a page moved
+abbrev pub answer_name : Result ℕ Reassign → List ℕ
+answer_name (Err refusal) = name_of refusal
+answer_name (Ok source) = codes "OK"
+
 -- a page begins to move, or why it doesn't
 abbrev pub reassigned : Machine → Option ℕ → ℕ → Result ℕ Reassign → Served
-reassigned m src dst (Err refusal) = told m (line (name_of refusal))
-reassigned m src dst (Ok source) = record { reply = line (codes "OK"); machine = record m { slabs = after_begin m.slabs src source dst } }
+reassigned m src dst answer = record { reply = line (answer_name answer); machine = begun m src dst answer }
+
+-- a page begins to move as the automover decided, or why it doesn't
+abbrev pub moved : Machine → ℕ → ℕ → Result ℕ Reassign → Served
+moved m src dst answer = record {
+  reply = line (codes "WINDOW" ++ spaced (src ∷ dst ∷ []) ++ codes " " ++ answer_name answer);
+  machine = begun m (Some src) dst answer;
+}
+
+-- the decision, if there is one, is acted on
+abbrev pub acted : Machine → Option Decision → Served
+acted m None = told m (line (codes "WINDOW none"))
+acted m (Some d) = moved m d.src d.dst (answer_of m.slabs (Some d.src) d.dst)
 
 -- the turns are done
 abbrev pub after_turn : Turned → Served
@@ -111,8 +134,7 @@ after_turn t = record { reply = turn_line t.ending t.counts; machine = t.machine
 -- the text of the statistics of the classes in this state
 abbrev pub slabs_text_of : Machine → List ℕ
 slabs_text_of m =
-    slabs_text m.table (map (λ class. length class.pages) m.slabs.classes) (map (λ class. length class.free) m.slabs.classes)
-    (granted_count m.slabs * m.slabs.page)
+    slabs_text m.table (page_counts m.slabs) (free_counts m.slabs) (granted_count m.slabs * m.slabs.page)
 
 -- the text of the general statistics in this state
 abbrev pub general_text_of : Machine → List ℕ
@@ -128,6 +150,8 @@ serve m (command.Drop worker key) = Some (dropped m worker key (last_hold m work
 serve m (command.Delete worker key) = Some (deleted m key (linked_chunk m.items key))
 serve m (command.Touch worker key) = Some (made_youngest m key (linked_chunk m.items key))
 serve m (command.Reassign src dst) = Some (reassigned m src dst (answer_of m.slabs src dst))
+serve m (command.Automove mode) = Some (record { reply = line (codes "OK"); machine = record m { slabs = with_mode m.slabs mode } })
+serve m command.Window = let fed = with_window (all_swept m) in Some (acted fed (decision fed))
 serve m (command.Turn turns) = option_map after_turn (after_turns m turns)
 serve m command.Stats = Some (told m (general_text_of m))
 serve m command.StatsSlabs = let swept = all_swept m in Some (told swept (slabs_text_of swept))

@@ -6,11 +6,12 @@ use Rattle.mc_pages.specs.declared.ids.ChunkId.{ChunkId}
 use Rattle.mc_pages.specs.SlabState.{SlabState, fresh_slabs, class_at}
 use Rattle.mc_pages.specs.Accounted.{first_chunks}
 use Rattle.mc_pages.specs.Changes.{after_back, after_grow, after_cut, next_page}
+use Rattle.mc_watch.specs.Decider.{DeciderState, fresh_decider}
 use Rattle.mc_keeper.specs.Items.{Items, is_linked, is_unlinked, without_item}
 use Rattle.mc_keeper.specs.Holds.{Holds, no_holds, is_held}
 
 -- the size classes, how many chunks a turn of the mover looks at, the pages and chunks, the items, who holds which,
--- and how many turns of the mover were done
+-- how many turns of the mover were done, and what the automover knows of the last windows
 pub record Machine : Type 0 where
   pub table : Classes
   pub bulk : ℕ
@@ -18,10 +19,23 @@ pub record Machine : Type 0 where
   pub items : Items
   pub holds : Holds
   pub turns : ℕ
+  pub decider : DeciderState
 
--- nothing is stored yet
-abbrev pub fresh_machine : Classes → ℕ → Machine
-fresh_machine table bulk = record { table = table; bulk = bulk; slabs = fresh_slabs table; items = []; holds = no_holds; turns = 0 }
+-- the automover works in this mode
+abbrev pub with_mode : SlabState → ℕ → SlabState
+with_mode slabs mode = record slabs { automove = mode }
+
+-- nothing is stored yet, and the automover works in this mode
+abbrev pub fresh_machine : Classes → ℕ → ℕ → Machine
+fresh_machine table bulk mode = record {
+  table = table;
+  bulk = bulk;
+  slabs = with_mode (fresh_slabs table) mode;
+  items = [];
+  holds = no_holds;
+  turns = 0;
+  decider = fresh_decider table;
+}
 
 -- the class has a free chunk
 abbrev pub has_free : Machine → ℕ → Bool

@@ -1,5 +1,6 @@
 -- How a set comes to a chunk: a free one, else a dead one, else one of a new page, else one whose item is evicted.
-use Rattle.std.specs.Prelude.{ℕ, take, find, Option, Some, None, if◌then◌else◌}
+use Rattle.std.specs.Prelude.{ℕ, ◌==◌, Bool, not, ◌&&◌, take, find, Option, Some, None, if◌then◌else◌}
+use Rattle.std.specs.Option.{is_some}
 use Rattle.mc_pages.specs.declared.ids.ChunkId.{ChunkId}
 use Rattle.mc_pages.specs.ClassState.{first_free}
 use Rattle.mc_pages.specs.SlabState.{class_at}
@@ -31,3 +32,11 @@ supplied m class = relieved (stocked m class) class
 -- the chunk that the class hands out next then
 abbrev pub supply : Machine → ℕ → Option ChunkId
 supply m class = first_free (class_at (supplied m class).slabs class)
+
+-- a set in this class evicts an item: neither a free nor a dead chunk nor a page is there for it
+abbrev pub evicts : Machine → ℕ → Bool
+evicts m class = not (has_free (stocked m class) class) && is_some (victim (stocked m class) class)
+
+-- in mode 2 an eviction asks for a page
+abbrev pub asks_for_page : Machine → ℕ → Bool
+asks_for_page m class = evicts m class && m.slabs.automove == 2

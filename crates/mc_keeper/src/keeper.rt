@@ -3,6 +3,7 @@ ghost use Rattle.std.specs.Prelude.{◌≡◌, ◌≤◌, IfOk};
 ghost use Rattle.mc_classes.specs.Classes.{IsSound};
 ghost use Rattle.mc_keeper.specs.Machine.{fresh_machine};
 
+mod automove;
 mod evict;
 mod holds;
 mod item;
@@ -10,6 +11,7 @@ mod mover;
 mod pages;
 mod refs;
 mod serve;
+mod statistics;
 mod store;
 mod sweep;
 mod turn;
@@ -18,6 +20,7 @@ use holds::Holds;
 use item::Item;
 use mc_classes::ClassTable;
 use mc_pages::{ChunkId, Slabs};
+use mc_watch::Decider;
 pub use serve::Stop;
 use std::alloc::{AllocError, Global};
 use std::collections::BTreeMap;
@@ -37,6 +40,8 @@ pub struct Keeper {
     holds: Holds,
     /// How many turns of the mover were begun.
     turns: u64,
+    /// What the automover knows of the last windows.
+    decider: Decider,
 }
 
 impl Model for Keeper {
@@ -46,20 +51,27 @@ impl Model for Keeper {
 
     ghost use Rattle.mc_keeper.specs.Kept.{AreKept};
 
-    ghost view = { λ k. record { table = k.table; bulk = k.bulk; slabs = k.slabs; items = k.items.entries; holds = k.holds; turns = k.turns } };
+    ghost view = { λ k. record { table = k.table; bulk = k.bulk; slabs = k.slabs; items = k.items.entries; holds = k.holds; turns = k.turns; decider = k.decider } };
 
     ghost invariant = { AreKept };
 }
 
 impl Keeper {
-    /// Nothing is stored yet. A turn of the mover is to look at up to `bulk` chunks.
-    pub fn new(alloc: Global, table: ClassTable, bulk: u64) -> Result<Keeper, AllocError>
+    /// Nothing is stored yet. A turn of the mover is to look at up to `bulk` chunks, and the automover works in
+    /// `mode`: 0 is off, 1 acts on each window, 2 on each eviction.
+    pub fn new(alloc: Global, table: ClassTable, bulk: u64, mode: u64) -> Result<Keeper, AllocError>
         requires sound { IsSound table }
         requires bulk { bulk ≤ 256 }
-        ensures { IfOk result (λ keeper. keeper ≡ fresh_machine table bulk) }
+        requires mode { mode ≤ 2 }
+        ensures { IfOk result (λ keeper. keeper ≡ fresh_machine table bulk mode) }
     {
-        let slabs = match Slabs::new(alloc, &table) {
+        let mut slabs = match Slabs::new(alloc, &table) {
             Ok(slabs) => slabs,
+            Err(_) => return Err(AllocError),
+        };
+        slabs.set_automove(mode);
+        let decider = match Decider::new(alloc, &table) {
+            Ok(decider) => decider,
             Err(_) => return Err(AllocError),
         };
         let holds = Holds::new(alloc)?;
@@ -72,6 +84,7 @@ impl Keeper {
             items: BTreeMap::new(alloc),
             holds,
             turns: 0,
+            decider,
         })
     }
 }

@@ -7,6 +7,7 @@
 
 mod keeper;
 pub mod laws;
+mod reply;
 mod text;
 
 pub use keeper::{Keeper, Stop};

@@ -38,13 +38,18 @@ impl<L: Ledger> Source for MemorySource<'_, L> {
     }
 }
 
-/// Keeps what is written, and fails where memory runs out or `good` writes were made.
+/// Keeps what is written, and fails where memory runs out or `good` writes were made. Tells whether a write was tried
+/// after one that failed.
 #[derive(Drop)]
 pub struct MemorySink<L: Ledger> {
     /// What was written.
     pub bytes: Vec<u8>,
     /// How many writes are made before every write fails.
     pub good: u64,
+    /// Whether a write has failed.
+    pub has_failed: bool,
+    /// Whether a write was tried after that.
+    pub was_tried_again: bool,
     /// The failures so far.
     pub failures: Failures<L>,
 }
@@ -57,7 +62,9 @@ impl<L: Ledger> Sink for MemorySink<L> {
     ghost failures = { λ s. s.failures };
 
     fn write_all(&mut self, bytes: &[u8]) -> Result<(), Fault> {
+        self.was_tried_again = self.was_tried_again || self.has_failed;
         if self.good == 0 || self.bytes.extend_from_slice(bytes).is_err() {
+            self.has_failed = true;
             self.failures.add();
             return Err(Fault);
         }

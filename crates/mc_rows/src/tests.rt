@@ -1,10 +1,12 @@
 //! Worked examples, by name: a script, the replies and how the run ends.
+mod automove;
 mod holds;
+mod hostile;
 mod moves;
 mod rows;
 mod streams;
 
-ghost use Rattle.std.specs.Prelude.{◌≡◌, ◌<◌};
+ghost use Rattle.std.specs.Prelude.{◌≡◌, ◌<◌, ◌≤◌};
 
 use crate::devices::{MemorySink, MemorySource};
 use mc_classes::{Config, Failures};
@@ -37,39 +39,57 @@ struct StreamLimits {
     good_writes: u64,
 }
 
-/// StreamLimits that never fail.
+/// Streams that never fail.
 const WHOLE: StreamLimits = StreamLimits {
     piece: usize::MAX,
     good_bytes: usize::MAX,
     good_writes: u64::MAX,
 };
 
-/// What a run wrote, and how it ended.
+/// What a run wrote, how it ended, and whether it wrote again after a write had failed.
 #[derive(Drop)]
 struct Played {
     text: Vec<u8>,
     end: Result<(), RunFault>,
+    wrote_again: bool,
 }
 
-/// Runs a script.
+/// Runs a script in mode 0 of the automover.
 fn play(
     alloc: Global,
     config: Config,
     script: &[u8],
     limits: StreamLimits,
 ) -> Result<Played, AllocError> {
-    play_counting::<Brand, Brand>(alloc, config, script, limits, Blank::new(1), Blank::new(1))
+    let run = Run {
+        config,
+        automove: 0,
+    };
+    play_run(alloc, run, script, limits)
+}
+
+/// Runs a script.
+fn play_run(
+    alloc: Global,
+    run: Run,
+    script: &[u8],
+    limits: StreamLimits,
+) -> Result<Played, AllocError>
+    requires { run.automove ≤ 2 }
+{
+    play_counting::<Brand, Brand>(alloc, run, script, limits, Blank::new(1), Blank::new(1))
 }
 
 /// Runs a script, where these count the failures of reader and writer.
 fn play_counting<I: Ledger, O: Ledger>(
     alloc: Global,
-    config: Config,
+    run: Run,
     script: &[u8],
     limits: StreamLimits,
     reads: Blank,
     writes: Blank,
 ) -> Result<Played, AllocError>
+    requires automove { run.automove ≤ 2 }
     requires reads_name { reads.name ≡ I.name }
     requires reads_parts { reads.parts ≡ I.parts }
     requires reads_some { 0 < reads.parts }
@@ -86,19 +106,23 @@ fn play_counting<I: Ledger, O: Ledger>(
     let mut writer = MemorySink::<O> {
         bytes: Vec::new(alloc),
         good: limits.good_writes,
+        has_failed: false,
+        was_tried_again: false,
         failures: Failures::new(writes),
-    };
-    let run = Run {
-        config,
-        automove: 0,
     };
     let end = run_serial(alloc, &run, &mut reader, &mut writer);
     let MemorySink {
         bytes,
         good: _,
+        has_failed: _,
+        was_tried_again,
         failures: _,
     } = writer;
-    Ok(Played { text: bytes, end })
+    Ok(Played {
+        text: bytes,
+        end,
+        wrote_again: was_tried_again,
+    })
 }
 
 /// Each row's script has the replies and the end of the row.

@@ -1,8 +1,9 @@
 //! How a set comes to a chunk in a full class: an item is evicted.
-ghost use Rattle.std.specs.Prelude.{◌≡◌, true, Contains, OnOk, Some};
+ghost use Rattle.std.specs.Prelude.{◌≡◌, true, Contains, IfOk, OnOk, Some};
+ghost use Rattle.std.specs.Option.{is_some};
 ghost use Rattle.mc_pages.specs.SlabState.{IsClass, class_at};
 ghost use Rattle.mc_keeper.specs.Machine.{is_idle};
-ghost use Rattle.mc_keeper.specs.Supply.{victim, with_eviction, supplied};
+ghost use Rattle.mc_keeper.specs.Supply.{evicts, victim, with_eviction, supplied};
 
 use super::Keeper;
 use mc_classes::ClassId;
@@ -13,26 +14,33 @@ use std::alloc::AllocError;
 const TRIES: u64 = 5;
 
 impl Keeper {
-    /// Sees to it that the class has a free chunk, where there is a way to one.
+    /// Sees to it that the class has a free chunk, where there is a way to one. Says whether an item was evicted for it.
     #[tactic(auto, using(crate::proofs::Stocks::class_stays))]
-    pub(super) fn supply(&mut self, class: ClassId) -> Result<(), AllocError>
+    pub(super) fn supply(&mut self, class: ClassId) -> Result<bool, AllocError>
         requires { IsClass self.old.slabs class }
-        ensures { OnOk result (self.new ≡ supplied self.old class) }
+        ensures evicted { IfOk result (λ evicted. evicted ≡ evicts self.old class) }
+        ensures after { OnOk result (self.new ≡ supplied self.old class) }
     {
         self.stock(class)?;
-        if !self.has_free(class) {
-            self.relieve(class);
+        if self.has_free(class) {
+            return Ok(false);
         }
-        Ok(())
+        Ok(self.relieve(class))
     }
 
-    /// Evicts the first item of the class's oldest that nobody holds, if there is one among those that are looked at.
-    fn relieve(&mut self, class: ClassId)
+    /// Evicts the first item of the class's oldest that nobody holds, if there is one among those that are looked at,
+    /// and says whether there was.
+    fn relieve(&mut self, class: ClassId) -> bool
         requires { IsClass self.old.slabs class }
-        ensures { self.new ≡ with_eviction self.old class (victim self.old class) }
+        ensures evicted { result ≡ is_some (victim self.old class) }
+        ensures after { self.new ≡ with_eviction self.old class (victim self.old class) }
     {
-        if let Some(chunk) = self.victim(class) {
-            self.evict(class, chunk);
+        match self.victim(class) {
+            Some(chunk) => {
+                self.evict(class, chunk);
+                true
+            }
+            None => false,
         }
     }
 

@@ -1,19 +1,18 @@
 //! Commands, one after another: each is done, and the bytes of its reply are put together.
-ghost use Rattle.std.specs.Prelude.{◌≡◌, ◌≤◌, ◌<◌, ◌++◌, None, Err, length, map, OnOk, IfOk};
+ghost use Rattle.std.specs.Prelude.{◌≡◌, ◌≤◌, ◌++◌, None, Err, OnOk};
 ghost use Rattle.mc_classes.specs.Classes.{class_of};
 ghost use Rattle.mc_script.specs.Command.{IsValid};
-ghost use Rattle.mc_pages.specs.Answer.{answer_of};
 ghost use Rattle.mc_keeper.specs.Item.{item_bytes, words_from};
 ghost use Rattle.mc_keeper.specs.Items.{linked_chunk};
-ghost use Rattle.mc_keeper.specs.Machine.{all_swept};
-ghost use Rattle.mc_keeper.specs.Lines.{IsServed, serve, set_in, deleted, reassigned, slabs_text_of, general_text_of};
+ghost use Rattle.mc_keeper.specs.Lines.{IsServed, serve, set_in, deleted};
 
 use super::Keeper;
 use super::item::words_from;
-use crate::text::{push_answer, push_general, push_key_line, push_slabs, push_turn_line};
-use mc_pages::Reassign;
+use crate::text::{push_key_line, push_turn_line};
 use mc_script::Command;
 use std::alloc::AllocError;
+use std::marker::Brand;
+use std::sync::ledger::Blank;
 
 /// Why a command wasn't done.
 #[derive(Clone, Copy, Debug, PartialEq, Eq)]
@@ -55,12 +54,14 @@ impl Keeper {
             Command::Delete { worker: _, key } => self.delete(key, text)?,
             Command::Touch { worker: _, key } => self.touch(key, text)?,
             Command::Reassign { src, dst } => self.reassign(src, dst, text)?,
+            Command::Automove { mode } => self.set_automove(mode, text)?,
+            Command::Window => self.window(text)?,
             Command::Turn { turns } => {
                 let (ending, counts) = self.turns(turns)?;
                 push_turn_line(text, ending, counts)?;
             }
-            Command::Stats => self.general_statistics(text)?,
-            Command::StatsSlabs => self.statistics(text)?,
+            Command::Stats => self.general_statistics::<Brand>(Blank::new(1), text)?,
+            Command::StatsSlabs => self.statistics::<Brand>(Blank::new(1), text)?,
         }
         Ok(())
     }
@@ -88,69 +89,5 @@ impl Keeper {
     {
         let had = self.unlink(key);
         push_key_line(text, if had { b"DELETED" } else { b"NOT_FOUND" }, key)
-    }
-
-    /// Begins to move a page, or answers why not.
-    fn reassign(&mut self, src: Option<u64>, dst: u64, text: &mut Vec<u8>) -> Result<(), AllocError>
-        ensures reply { OnOk result (text.new.items ≡ text.old.items ++ (reassigned self.old src dst (answer_of self.old.slabs src dst)).reply) }
-        ensures after { OnOk result (self.new ≡ (reassigned self.old src dst (answer_of self.old.slabs src dst)).machine) }
-    {
-        let answer = match self.slabs.begin_move(src, dst) {
-            Ok(()) => b"OK".as_slice(),
-            Err(Reassign::Busy) => b"BUSY",
-            Err(Reassign::Same) => b"SAME",
-            Err(Reassign::BadClass) => b"BADCLASS",
-            Err(Reassign::NoSpare) => b"NOSPARE",
-            Err(Reassign::NoMemory) => return Err(AllocError),
-        };
-        push_answer(text, answer)
-    }
-
-    /// Gives the general statistics.
-    fn general_statistics(&self, text: &mut Vec<u8>) -> Result<(), AllocError>
-        ensures { OnOk result (text.new.items ≡ text.old.items ++ general_text_of self.now) }
-    {
-        push_general(text, self.slabs.totals(), self.slabs.moving().is_some())
-    }
-
-    /// Puts back the dead of all classes, and gives their statistics.
-    fn statistics(&mut self, text: &mut Vec<u8>) -> Result<(), AllocError>
-        ensures reply { OnOk result (text.new.items ≡ text.old.items ++ slabs_text_of (all_swept self.old)) }
-        ensures after { OnOk result (self.new ≡ all_swept self.old) }
-    {
-        self.sweep_all();
-        self.push_statistics(text)
-    }
-
-    /// Adds the statistics of the classes as they are now.
-    fn push_statistics(&self, text: &mut Vec<u8>) -> Result<(), AllocError>
-        ensures { OnOk result (text.new.items ≡ text.old.items ++ slabs_text_of self.now) }
-    {
-        let pages = self.page_counts()?;
-        let free = self.free_counts()?;
-        let malloced = self.slabs.totals().granted * self.table.page();
-        push_slabs(text, &self.table, &pages, &free, malloced)
-    }
-
-    /// How many pages each class has.
-    fn page_counts(&self) -> Result<Vec<u64>, AllocError>
-        ensures { IfOk result (λ counts. counts.items ≡ map (λ class. length class.pages) self.now.slabs.classes) }
-    {
-        let mut counts = Vec::new(self.alloc);
-        for place in 0..self.table.count() {
-            counts.push(self.slabs.numbers(place + 1).pages)?;
-        }
-        Ok(counts)
-    }
-
-    /// How many free chunks each class has.
-    fn free_counts(&self) -> Result<Vec<u64>, AllocError>
-        ensures { IfOk result (λ counts. counts.items ≡ map (λ class. length class.free) self.now.slabs.classes) }
-    {
-        let mut counts = Vec::new(self.alloc);
-        for place in 0..self.table.count() {
-            counts.push(self.slabs.numbers(place + 1).free)?;
-        }
-        Ok(counts)
     }
 }

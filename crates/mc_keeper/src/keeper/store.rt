@@ -7,7 +7,7 @@ ghost use Rattle.mc_pages.specs.Changes.{after_pop};
 ghost use Rattle.mc_keeper.specs.Items.{item_at, linked_chunk, unlinked_in, unlinked_items, with_item};
 ghost use Rattle.mc_keeper.specs.Item.{new_item};
 ghost use Rattle.mc_keeper.specs.Lines.{stored};
-ghost use Rattle.mc_keeper.specs.Supply.{supplied, supply};
+ghost use Rattle.mc_keeper.specs.Supply.{asks_for_page, supplied, supply};
 
 use super::Keeper;
 use super::item::Item;
@@ -18,7 +18,8 @@ use std::collections::BTreeMap;
 
 impl Keeper {
     /// Stores an item in a chunk of the class, in the place of the key's old one, and says whether there was a
-    /// chunk for it. Where there is none, the old item stays, unless it was the one evicted.
+    /// chunk for it. Where there is none, the old item stays, unless it was the one evicted. In mode 2 of the automover
+    /// an eviction asks for a page (after memcached's `slabs automove 2`).
     #[tactic(auto, using(crate::proofs::Stocks::store_steps))]
     pub(super) fn store(
         &mut self,
@@ -28,13 +29,16 @@ impl Keeper {
     ) -> Result<bool, AllocError>
         requires { IsClass self.old.slabs class }
         ensures stored { IfOk result (λ stored. stored ≡ is_some (supply self.old class)) }
-        ensures after { OnOk result (self.new ≡ (stored (supplied self.old class) class key words.items (supply self.old class)).machine) }
+        ensures after { OnOk result (self.new ≡ (stored (supplied self.old class) class key words.items (asks_for_page self.old class) (supply self.old class)).machine) }
     {
-        self.supply(class)?;
+        let evicted = self.supply(class)?;
         match self.slabs.free_at(class, 0) {
             Some(chunk) => {
                 self.unlink(key);
                 self.put(class, chunk, key, words)?;
+                if evicted && self.slabs.automove() == 2 {
+                    self.ask_for_page(class)?;
+                }
                 Ok(true)
             }
             None => Ok(false),

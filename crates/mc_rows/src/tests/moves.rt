@@ -4,7 +4,7 @@ use mc_classes::Config;
 use mc_driver::RunFault;
 use std::test::Fail;
 
-const ROWS: [Row<'static>; 7] = [
+pub(super) const ROWS: [Row<'static>; 7] = [
     (
         "a page goes to another class, and its items are evicted",
         "1 set 1 61 0\n1 set 2 61 0\n1 set 3 61 0\n1 set 4 61 0\n1 set 5 61 0\n1 set 6 61 0\n1 set 7 61 0\n1 set 8 61 0\nreassign 4 1\nturn 1\nstats\nstats slabs\n",

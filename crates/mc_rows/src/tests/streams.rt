@@ -1,5 +1,5 @@
 //! Runs whose streams come in pieces or fail.
-use super::{FOUR_CLASSES, StreamLimits, WHOLE, play};
+use super::{FOUR_CLASSES, StreamLimits, WHOLE, moves, play};
 use mc_driver::RunFault;
 use std::test::Fail;
 
@@ -61,5 +61,52 @@ fn a_writer_that_fails_ends_the_run(rt: HostRuntime) -> Result<(), Fail> {
         );
         so_far.extend_from_slice(reply)?;
     }
+    Ok(())
+}
+
+/// A held item holds up a move: no read and no write of that run may fail and be overlooked.
+#[test]
+fn a_reader_that_fails_in_a_long_script(rt: HostRuntime) -> Result<(), Fail> {
+    let (_, script, _, _) = moves::ROWS[2];
+    for good_bytes in 0..=script.len() {
+        let limits = StreamLimits {
+            good_bytes,
+            ..WHOLE
+        };
+        let played = play(rt.alloc(), FOUR_CLASSES, script.as_bytes(), limits)?;
+        assert_eq!(rt; played.end, Err(RunFault::Read), "after {good_bytes} bytes");
+        assert_eq!(rt; played.text.len(), 0, "after {good_bytes} bytes");
+    }
+    Ok(())
+}
+
+/// What was written begins the whole text, and nothing is written after a fault.
+#[test]
+fn a_writer_that_fails_in_a_long_script(rt: HostRuntime) -> Result<(), Fail> {
+    let (_, script, replies, _) = moves::ROWS[2];
+    let mut good_writes = 0;
+    loop {
+        let limits = StreamLimits {
+            good_writes,
+            ..WHOLE
+        };
+        let played = play(rt.alloc(), FOUR_CLASSES, script.as_bytes(), limits)?;
+        assert!(rt; !played.wrote_again, "after {good_writes} writes");
+        if played.end == Ok(()) {
+            assert_eq!(rt; played.text.as_slice(), replies.as_bytes());
+            break;
+        }
+        assert_eq!(rt;
+            played.end,
+            Err(RunFault::Write),
+            "after {good_writes} writes"
+        );
+        assert!(rt;
+            replies.as_bytes().starts_with(&played.text),
+            "after {good_writes} writes"
+        );
+        good_writes += 1;
+    }
+    assert_eq!(rt; good_writes, 16);
     Ok(())
 }

@@ -6,14 +6,14 @@ use Rattle.mc_driver.proofs.run.run_serial.Goals as goal
 
 pub returns-in-Err-clause-refused : goal.returns-in-Err-clause-refused
 returns-in-Err-clause-refused g c =
-    let ends : Unbuilt c.args.run.now.config c.in-Err.error = unbuilt c.args.run.now.config c.in-Err.error c.in-Err.ensures.refused in
+    let ends : Unbuilt c.args.run.now c.in-Err.error = unbuilt c.args.run.now c.in-Err.error c.in-Err.ensures.refused in
     λ number. (
       (λ h. let same : c.fault_of.result ≡ Config number = cc in ends.told number (sym c.fault_of.ensures ∙ same)),
       (λ h. ap (λ (fault : RunFault). Err fault) (c.fault_of.ensures ∙ ends.tells number h)),
     )
 
 pub returns-in-Err-clause-outcome : goal.returns-in-Err-clause-outcome
-returns-in-Err-clause-outcome g c = rw c.fault_of.ensures ((unbuilt c.args.run.now.config c.in-Err.error c.in-Err.ensures.refused).outcome _ _)
+returns-in-Err-clause-outcome g c = rw c.fault_of.ensures ((unbuilt c.args.run.now c.in-Err.error c.in-Err.ensures.refused).outcome _ _)
 
 pub returns-clause-outcome : goal.returns-clause-outcome
 returns-clause-outcome g c =

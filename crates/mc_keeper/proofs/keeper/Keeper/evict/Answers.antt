@@ -5,6 +5,7 @@ use Rattle.mc_pages.proofs.HandedOut.{class_of_handed_out}
 use Rattle.mc_keeper.specs.Items.{item_at, is_linked}
 use Rattle.mc_keeper.specs.Machine.{Machine}
 use Rattle.mc_keeper.proofs.KeptEvict.{kept_evict, linked_item}
+use Rattle.mc_keeper.proofs.Watched.{evictions-with_class, watched-evicted, watched-same}
 use Rattle.mc_keeper.proofs.keeper.Keeper.evict.Goals as goal
 
 pub back-requires : goal.back-requires
@@ -24,6 +25,8 @@ invariant_of-self c =
           (kept_evict _ _ _ _ _ c.args.class c.args.chunk c.in-Some.item c.self.invariant.kept
           (rw c.back.ensures.back at c.back.ensures.accounted) (rw (c.evicted.ensures.evicted, c.back.ensures.back) at c.evicted.ensures.accounted)
           at linked (rw c.key.ensures at c.remove-in-Some.ensures.updates.0));
+      watched = rw (c.evicted.ensures.evicted, c.back.ensures.back) (watched-evicted (after_back c.self.inside.slabs c.args.chunk) c.args.class _ back_class
+          (watched-same c.self.inside.slabs _ _ (evictions-with_class c.self.inside.slabs _ _ refl) c.self.invariant.watched));
       bulk = c.self.invariant.bulk;
     }
 

@@ -5,6 +5,7 @@ use Rattle.mc_keeper.specs.Items.{item_at, linked_chunk}
 use Rattle.mc_keeper.specs.Machine.{Machine}
 use Rattle.mc_keeper.proofs.KeptStore.{is_next, kept_store}
 use Rattle.mc_keeper.proofs.Links.{without_item-with_item}
+use Rattle.mc_keeper.proofs.Watched.{evictions-pop, watched-same}
 use Rattle.mc_keeper.proofs.keeper.Keeper.put.Goals as goal
 
 pub pop-requires : goal.pop-requires
@@ -19,6 +20,7 @@ invariant_of-self-in-Ok c =
       kept = rw (c.in_ok-insert.ensures.entries, c.new.ensures, c.pop.ensures.popped)
           (kept_store _ _ _ _ _ c.args.class c.args.key c.args.words.items c.args.chunk c.self.invariant.kept valid head
           (rw c.pop.ensures.popped at c.pop.ensures.accounted) unlinked c.in-Ok.ensures.updates.0);
+      watched = rw c.pop.ensures.popped (watched-same c.self.inside.slabs _ _ (evictions-pop c.self.inside.slabs c.args.class) c.self.invariant.watched);
       bulk = c.self.invariant.bulk;
     }
 
@@ -31,5 +33,6 @@ invariant_of-self-in-Err c =
     = (is_next _ _ _ _ c.args.class c.args.chunk c.self.invariant.kept valid head).empty in
     record {
       kept = rw (c.in-Err.ensures.err, c.remove.ensures.entries, c.in_ok-insert.ensures.entries, without_item-with_item c.args.chunk _ _ empty) c.self.invariant.kept;
+      watched = c.self.invariant.watched;
       bulk = c.self.invariant.bulk;
     }

@@ -14,6 +14,7 @@ invariant_of-self c =
     = rw c.unlink_in.ensures (unlinks_found _ _ _ _ c.args.key c.in-Some.chunk c.self.invariant.kept found) in
     record {
       kept = rw unlinks (kept_unlink _ _ _ _ _ c.args.key c.self.invariant.kept c.remove.ensures.updates.0);
+      watched = c.self.invariant.watched;
       bulk = c.self.invariant.bulk;
     }
 

@@ -1,4 +1,4 @@
-use Rattle.mc_rows.proofs.tests.play.Given as goal
+use Rattle.mc_rows.proofs.tests.play_run.Given as goal
 
 -- the ledger of each blank
 abbrev pub ghosts-play_counting-I-Ledger : goal.ghosts-play_counting-I-Ledger

@@ -1,5 +1,5 @@
 use Rattle.mc_keeper.proofs.KeptBegin.{kept_reassign}
-use Rattle.mc_keeper.proofs.keeper.Keeper.reassign.Goals as goal
+use Rattle.mc_keeper.proofs.keeper.Keeper.begin.Goals as goal
 
 pub invariant_of-self-2 : goal.invariant_of-self-2
 invariant_of-self-2 c = record {

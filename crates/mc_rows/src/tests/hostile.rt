@@ -1,0 +1,89 @@
+//! Scripts that are refused, and scripts at the edge of what is taken.
+use super::{FOUR_CLASSES, Row, WHOLE, moves, play, plays_rows};
+use mc_driver::RunFault;
+use std::test::Fail;
+
+/// Lines that are none. Nothing of their scripts is done.
+const REFUSED: [&str; 14] = [
+    "1 get 18446744073709551616\n",
+    "1 get 000000000000000000001\n",
+    "0 get 1\n",
+    "64 get 1\n",
+    "1 set 1 4097 0\n",
+    "turn 0\n",
+    "turn 1000001\n",
+    "automove 3\n",
+    "reassign -2 1\n",
+    "1\tget 1\n",
+    "1 get\r 1\n",
+    "stats\r",
+    "window 1\n",
+    "1 window\n",
+];
+
+const TAKEN: [Row<'static>; 3] = [
+    (
+        "the most words",
+        "1 set 1 4096 0\n",
+        "TOO_LARGE 1\r\n",
+        Ok(()),
+    ),
+    (
+        "words that pass the greatest number",
+        "1 set 1 3 18446744073709551615\n1 get 1\n",
+        "STORED 1\r\nVALUE 1 3 18446744073709551615 0 1\r\n",
+        Ok(()),
+    ),
+    (
+        "no words",
+        "1 set 1 0 5\n1 get 1\n1 hold 1\n1 drop 1\n",
+        "STORED 1\r\nVALUE 1 0\r\nHELD 1\r\nDROPPED 1 0\r\n",
+        Ok(()),
+    ),
+];
+
+#[test]
+fn refused_lines(rt: HostRuntime) -> Result<(), Fail> {
+    for script in REFUSED {
+        let played = play(rt.alloc(), FOUR_CLASSES, script.as_bytes(), WHOLE)?;
+        assert_eq!(rt; played.end, Err(RunFault::Script(1)), "{script:?}");
+        assert_eq!(rt; played.text.len(), 0, "{script:?}");
+    }
+    Ok(())
+}
+
+#[test]
+fn lines_at_the_edge(rt: HostRuntime) -> Result<(), Fail> {
+    plays_rows(&rt, rt.alloc(), &TAKEN)?;
+    Ok(())
+}
+
+/// A script that is cut off somewhere is refused by its last line, or runs as the shorter script: the lines before the
+/// last one answer what they answer alone.
+#[test]
+fn truncated_scripts(rt: HostRuntime) -> Result<(), Fail> {
+    let (_, script, _, _) = moves::ROWS[5];
+    let script = script.as_bytes();
+    let mut lines = 0;
+    let mut before = Vec::new(rt.alloc());
+    for length in 0..script.len() {
+        let played = play(rt.alloc(), FOUR_CLASSES, &script[..length], WHOLE)?;
+        match played.end {
+            Ok(()) => {
+                assert!(rt; played.text.starts_with(&before), "{length} bytes");
+            }
+            end => {
+                assert_eq!(rt; end, Err(RunFault::Script(lines + 1)), "{length} bytes");
+                assert_eq!(rt; played.text.len(), 0, "{length} bytes");
+            }
+        }
+        if script[length] == b'\n' {
+            lines += 1;
+            let whole = play(rt.alloc(), FOUR_CLASSES, &script[..=length], WHOLE)?;
+            assert_eq!(rt; whole.end, Ok(()), "{lines} lines");
+            before = whole.text;
+        }
+    }
+    assert_eq!(rt; lines, 15);
+    Ok(())
+}
