@@ -1,1 +1,2 @@
 pub mod Decider
+pub mod Texts

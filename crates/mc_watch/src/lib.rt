@@ -7,7 +7,9 @@
 
 mod decider;
 mod refusal;
+mod statistics;
 mod watched;
 
 pub use decider::{Decider, Decision};
 pub use refusal::{Feed, NoMemory};
+pub use statistics::{stats_general, stats_slabs};
