@@ -1,0 +1,127 @@
+//! The automover's decider (after slabs.c's `slab_automove_decision`).
+ghost use Rattle.std.specs.Prelude.{◌≡◌, IfOk, OnOk, IfErr, OnErr, None, Some};
+ghost use Rattle.mc_watch.specs.Decider.{steady_leader, fresh_decider};
+
+use crate::refusal::{Feed, NoMemory};
+use crate::watched::{Watched, has_fallen, leader, note_all, quiet_class, spare_class};
+use mc_classes::{ClassId, ClassTable};
+use std::alloc::{AllocError, Global};
+use std::marker::Model;
+
+/// A page is to go from one class to another.
+#[derive(Clone, Copy, Debug, PartialEq, Eq)]
+pub struct Decision {
+    /// The class that gives a page.
+    pub src: ClassId,
+    /// The class that gets it, or 0 for the page pool.
+    pub dst: ClassId,
+}
+
+/// Decides after each window whether a page is to move. All its room is made by `new`.
+#[derive(Drop)]
+pub struct Decider {
+    classes: Vec<Watched>,
+    /// The classes that led the last three windows, the newest first.
+    leaders: [Option<ClassId>; 3],
+}
+
+impl Model for Decider {
+    ghost use Rattle.mc_watch.specs.Decider.{DeciderState};
+
+    ghost Value = { DeciderState };
+
+    ghost view = { λ d. record { classes = d.classes.items; leaders = d.leaders } };
+}
+
+impl Decider {
+    ghost use Rattle.std.specs.Prelude.{◌≡◌, IfOk, OnOk, IfErr, OnErr, None, Some};
+    ghost use Rattle.mc_watch.specs.Decider.{fresh_decider, refusal_of, after_window, decision_of, eviction_rule, free_page_rule};
+
+    /// No window was fed yet, and nothing was evicted.
+    pub fn new(alloc: Global, table: &ClassTable) -> Result<Decider, NoMemory>
+        ensures { IfOk result (λ decider. decider ≡ fresh_decider table.now) }
+    {
+        Ok(Decider {
+            classes: classes_of(alloc, table)?,
+            leaders: [None; 3],
+        })
+    }
+
+    /// Takes the numbers of a window, one of each for each class: its evictions so far, its pages and its free
+    /// chunks. Says whether a page is to move.
+    ///
+    /// A class is quiet in a window where none of its items was evicted and it has more than 2 pages. A window is led by
+    /// the lowest class with the most evictions, if there were any. A page goes from the lowest class that was quiet in
+    /// the last three windows to the class that led all three. Where there aren't both, the lowest class with at least
+    /// 2 pages, and more free chunks than two and a half pages have, gives a page to the pool. A decision resets nothing.
+    pub fn feed(
+        &mut self,
+        evictions: &[u64],
+        pages: &[u64],
+        free: &[u64],
+    ) -> Result<Option<Decision>, Feed>
+        ensures refused { IfErr result (λ refusal. refusal_of self.old evictions.now pages.now free.now ≡ Some refusal) }
+        ensures accepted { OnOk result (refusal_of self.old evictions.now pages.now free.now ≡ None) }
+        ensures noted { OnOk result (self.new ≡ after_window self.old evictions.now pages.now free.now) }
+        ensures decided { IfOk result (λ decision. decision ≡ decision_of self.new) }
+        ensures kept { OnErr result (self.new ≡ self.old) }
+    {
+        let count = self.classes.len();
+        if evictions.len() != count || pages.len() != count || free.len() != count {
+            return Err(Feed::Length);
+        }
+        if has_fallen(&self.classes, evictions) {
+            return Err(Feed::Backwards);
+        }
+        note_all(&mut self.classes, evictions, pages, free);
+        self.leaders = [leader(&self.classes), self.leaders[0], self.leaders[1]];
+        Ok(self.decision())
+    }
+
+    /// What the last three windows say, or else the last one's free chunks.
+    fn decision(&self) -> Option<Decision>
+        ensures { result ≡ decision_of self.now }
+    {
+        self.by_evictions().or_else(|| self.by_free_pages())
+    }
+
+    /// A page for the class that led the last three windows.
+    fn by_evictions(&self) -> Option<Decision>
+        ensures { result ≡ eviction_rule self.now }
+    {
+        let dst = steady_leader(&self.leaders)?;
+        let src = quiet_class(&self.classes)?;
+        Some(Decision { src, dst })
+    }
+
+    /// A page for the pool.
+    fn by_free_pages(&self) -> Option<Decision>
+        ensures { result ≡ free_page_rule self.now }
+    {
+        let src = spare_class(&self.classes)?;
+        Some(Decision { src, dst: 0 })
+    }
+}
+
+/// The classes of the table, before any window.
+fn classes_of(alloc: Global, table: &ClassTable) -> Result<Vec<Watched>, AllocError>
+    ensures { IfOk result (λ classes. classes.items ≡ (fresh_decider table.now).classes) }
+{
+    let mut classes = Vec::with_capacity(alloc, table.count() as usize)?;
+    for place in 0..table.count() {
+        classes.push(Watched::new(table.per_page(place + 1)))?;
+    }
+    Ok(classes)
+}
+
+/// The class that led all three windows.
+fn steady_leader(leaders: &[Option<ClassId>; 3]) -> Option<ClassId>
+    ensures { result ≡ steady_leader leaders.now }
+{
+    match *leaders {
+        [Some(newest), Some(middle), Some(oldest)] if newest == middle && middle == oldest => {
+            Some(newest)
+        }
+        _ => None,
+    }
+}
