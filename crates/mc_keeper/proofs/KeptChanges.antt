@@ -18,6 +18,7 @@ use Rattle.mc_pages.specs.SlabState.{SlabState, IsClass, class_at, class_of_owne
 use Rattle.mc_pages.specs.Accounted.{truth, IsAccounted}
 use Rattle.mc_pages.specs.Changes.{after_back, after_grow, after_cut, next_page}
 use Rattle.mc_keeper.specs.Item.{Item}
+use Rattle.mc_keeper.specs.Machine.{with_mode}
 use Rattle.mc_keeper.specs.Items.{Items, item_at, is_unlinked, without_item, unlinked_in, unlinked_items, linked_chunk}
 use Rattle.mc_keeper.specs.Kept.{places, IsKept}
 use Rattle.mc_keeper.proofs.Chunks.{places-unlinked_items, places-without_item, places-without_item-le, places-without_item-other}
@@ -67,9 +68,9 @@ no_orders_fresh : (table : Classes) (class : ℕ) (x : ChunkId) → times x (cla
 no_orders_fresh table class x = omega (arith, ap (λ (cs : List ChunkId). times x cs) (order-fresh table.page table.sizes (class - 1)))
 
 -- where nothing is stored yet
-pub kept_fresh : (table : Classes) (slabs : SlabState) (index : List (ℕ × ChunkId)) (items : Items)
-    → IsSound table → slabs ≡ fresh_slabs table → IsAccounted slabs → index ≡ [] → items ≡ [] → IsKept table slabs index items
-kept_fresh table slabs index items sound slabs_is accounted index_is items_is = rw (index_is, items_is) (record {
+pub kept_fresh : (table : Classes) (mode : ℕ) (slabs : SlabState) (index : List (ℕ × ChunkId)) (items : Items)
+    → IsSound table → slabs ≡ with_mode (fresh_slabs table) mode → IsAccounted slabs → index ≡ [] → items ≡ [] → IsKept table slabs index items
+kept_fresh table mode slabs index items sound slabs_is accounted index_is items_is = rw (index_is, items_is) (record {
   sound = sound;
   classes = rw slabs_is (length-map table.sizes (λ size. new_class size (table.page / size)));
   per_page = rw slabs_is (per_pages-fresh table.page table.sizes);

@@ -1,6 +1,6 @@
 -- The decider refuses no window: what each change of the pages and chunks does to the counters of evictions.
 use Rattle.std.proofs.Common.{◌≡◌, ◌≢◌, ℕ, ◌+◌, ◌-◌, ◌/◌, ◌^◌, ◌<◌, ◌≤◌, List, [], ◌∷◌, length, get_or, set, map, min, suc, zero, Bool, true, false, Option, Some, None, inl, inr, refl, ap, sym, ◌∙◌, arith}
-use Rattle.std.specs.Prelude.{◌==◌, fold, nat_lt}
+use Rattle.std.specs.Prelude.{◌==◌, fold, nat_lt, Result, Ok, Err, IfOk, OnOk, OnErr}
 use Rattle.std.proofs.Math.Seq.{map-set_same}
 use Rattle.std.proofs.lemmas.Bool.{cases_Bool, cases_lt}
 use Rattle.std.proofs.lemmas.Bool.Decides.{nat_tests, leb_tells}
@@ -8,19 +8,22 @@ use Rattle.std.proofs.lemmas.List.{get_or-set_same, get_or-set_other, get_or-map
 use Rattle.mc_classes.specs.Classes.{Classes}
 use Rattle.mc_pages.specs.declared.ids.ChunkId.{ChunkId}
 use Rattle.mc_pages.specs.declared.ids.Moving.{Moving}
-use Rattle.mc_pages.specs.ClassState.{ClassState, new_class, handed_out, popped, counted, evicted, with_page, without_page}
-use Rattle.mc_pages.specs.SlabState.{SlabState, IsClass, class_at, class_of_page, fresh_slabs}
-use Rattle.mc_pages.specs.Changes.{with_class, with_given, after_cut, after_evicted, after_grow, after_pop}
-use Rattle.mc_pages.specs.Moves.{released, finished}
+use Rattle.mc_pages.specs.ClassState.{ClassState, new_class, handed_out, popped, put_back, touched, replaced, cleared, counted, evicted, with_page, without_page}
+use Rattle.mc_pages.specs.SlabState.{SlabState, IsClass, class_at, class_of_page, class_of_chunk, fresh_slabs}
+use Rattle.mc_pages.specs.Changes.{with_class, with_given, after_back, after_clear, after_cut, after_evicted, after_grow, after_pop, after_replace, after_touch}
+use Rattle.mc_pages.specs.declared.moves.Reassign.{Reassign}
+use Rattle.mc_pages.specs.Answer.{answer_of, MayAnswer}
+use Rattle.mc_pages.specs.Moves.{after_begin, released, finished}
 use Rattle.mc_watch.specs.declared.watched.Watched.{Watched}
 use Rattle.mc_watch.specs.Decider.{DeciderState, after_window, all_noted, fresh_class, fresh_decider, has_fallen, refusal_of}
 use Rattle.mc_keeper.specs.Automove.{eviction_counts, free_counts, page_counts}
+use Rattle.mc_keeper.specs.Machine.{with_mode}
 use Rattle.mc_keeper.specs.Kept.{IsWatched}
 use Rattle.mc_keeper.proofs.GivenPage.{classes-grown}
 
 -- ---- the counters through each change
 
-pub evictions-with_class : (slabs : SlabState) (class : ℕ) (state : ClassState) → state.evictions ≡ (class_at slabs class).evictions
+evictions-with_class : (slabs : SlabState) (class : ℕ) (state : ClassState) → state.evictions ≡ (class_at slabs class).evictions
     → eviction_counts (with_class slabs class state) ≡ eviction_counts slabs
 evictions-with_class slabs class state same = map-set_same (λ (c : ClassState). c.evictions) slabs.classes (class - 1) state (new_class 0 0) same
 
@@ -28,14 +31,14 @@ evictions-handed : (class : ClassState) (free : List ChunkId) → (handed_out cl
 evictions-handed class [] = refl
 evictions-handed class (c ∷ free) = refl
 
-pub evictions-pop : (slabs : SlabState) (class : ℕ) → eviction_counts (after_pop slabs class) ≡ eviction_counts slabs
+evictions-pop : (slabs : SlabState) (class : ℕ) → eviction_counts (after_pop slabs class) ≡ eviction_counts slabs
 evictions-pop slabs class = evictions-with_class slabs class (popped (class_at slabs class)) (evictions-handed (class_at slabs class) (class_at slabs class).free)
 
-pub evictions-cuts : (slabs : SlabState) (chunks : List ChunkId) → eviction_counts (fold after_cut slabs chunks) ≡ eviction_counts slabs
+evictions-cuts : (slabs : SlabState) (chunks : List ChunkId) → eviction_counts (fold after_cut slabs chunks) ≡ eviction_counts slabs
 evictions-cuts slabs [] = refl
 evictions-cuts slabs (c ∷ chunks) = evictions-cuts (after_cut slabs c) chunks ∙ evictions-with_class slabs (class_of_page slabs c.page) _ refl
 
-pub evictions-grown : (slabs : SlabState) (class page : ℕ) (chunks : List ChunkId) → eviction_counts (fold after_cut (after_grow slabs class page) chunks) ≡ eviction_counts slabs
+evictions-grown : (slabs : SlabState) (class page : ℕ) (chunks : List ChunkId) → eviction_counts (fold after_cut (after_grow slabs class page) chunks) ≡ eviction_counts slabs
 evictions-grown slabs class page chunks =
     evictions-cuts (after_grow slabs class page) chunks
     ∙ ap (λ cs. map (λ (c : ClassState). c.evictions) cs) (classes-grown slabs class page)
@@ -53,7 +56,7 @@ finished_way : (b : Bool) (slabs : SlabState) (move : Moving) → (move.dst == 0
 finished_way true slabs move pool = rw pool (evictions-released slabs move.page move.src)
 finished_way false slabs move class = rw class (evictions-given slabs move.page move.src move.dst)
 
-pub evictions-finished : (slabs : SlabState) (move : Moving) → eviction_counts (finished slabs move) ≡ eviction_counts slabs
+evictions-finished : (slabs : SlabState) (move : Moving) → eviction_counts (finished slabs move) ≡ eviction_counts slabs
 evictions-finished slabs move = finished_way (move.dst == 0) slabs move refl
 
 -- ---- what is kept
@@ -66,6 +69,48 @@ watched-same old new decider same was = record {
   risen = rw same was.risen;
   small = λ place. rw same (was.small place);
 }
+
+module _ (slabs : SlabState) (decider : DeciderState) (was : IsWatched slabs decider) where
+  pub watched-back : (chunk : ChunkId) → IsWatched (after_back slabs chunk) decider
+  watched-back chunk =
+      watched-same slabs _ decider (evictions-with_class slabs (class_of_page slabs chunk.page) (put_back (class_of_chunk slabs chunk) chunk) refl) was
+
+  pub watched-touch : (chunk : ChunkId) → IsWatched (after_touch slabs chunk) decider
+  watched-touch chunk =
+      watched-same slabs _ decider (evictions-with_class slabs (class_of_page slabs chunk.page) (touched (class_of_chunk slabs chunk) chunk) refl) was
+
+  pub watched-replace : (new old : ChunkId) → IsWatched (after_replace slabs new old) decider
+  watched-replace new old =
+      watched-same slabs _ decider (evictions-with_class slabs (class_of_page slabs old.page) (replaced (class_of_chunk slabs old) new old) refl) was
+
+  pub watched-clear : (chunk : ChunkId) → IsWatched (after_clear slabs chunk) decider
+  watched-clear chunk =
+      watched-same slabs _ decider (evictions-with_class slabs (class_of_page slabs chunk.page) (cleared (class_of_chunk slabs chunk) chunk) refl) was
+
+  pub watched-pop : (class : ℕ) → IsWatched (after_pop slabs class) decider
+  watched-pop class = watched-same slabs _ decider (evictions-pop slabs class) was
+
+  pub watched-grown : (class page : ℕ) (chunks : List ChunkId) → IsWatched (fold after_cut (after_grow slabs class page) chunks) decider
+  watched-grown class page chunks = watched-same slabs _ decider (evictions-grown slabs class page chunks) was
+
+  pub watched-finished : (move : Moving) → IsWatched (finished slabs move) decider
+  watched-finished move = watched-same slabs _ decider (evictions-finished slabs move) was
+
+  pub watched-recut : (move : Moving) (chunks : List ChunkId) → IsWatched (fold after_cut (finished slabs move) chunks) decider
+  watched-recut move chunks = watched-same slabs _ decider (evictions-cuts (finished slabs move) chunks ∙ evictions-finished slabs move) was
+
+-- a page begins to move, or doesn't
+module _ (slabs new : SlabState) (decider : DeciderState) (src : Option ℕ) (dst : ℕ) (was : IsWatched slabs decider) where
+  begun_as : (answer : Result ℕ Reassign) (result : Result (Unit {0}) Reassign) → MayAnswer answer result
+      → OnOk result (IfOk answer (λ source. new ≡ after_begin slabs src source dst)) → OnErr result (new ≡ slabs) → IsWatched new decider
+  begun_as answer (Err refusal) may began same = rw same was
+  begun_as (Ok source) (Ok unit) may began same = rw began (watched-same slabs _ decider refl was)
+  begun_as (Err refusal) (Ok unit) may began same = cc
+
+  pub watched_begun : (result : Result (Unit {0}) Reassign) → MayAnswer (answer_of slabs src dst) result
+      → OnOk result (IfOk (answer_of slabs src dst) (λ source. new ≡ after_begin slabs src source dst)) → OnErr result (new ≡ slabs)
+      → IsWatched new decider
+  watched_begun result may began same = begun_as (answer_of slabs src dst) result may began same
 
 -- one counter is not lower than before
 risen-set : (classes : List Watched) (counts : List ℕ) (place count : ℕ) → get_or counts place 0 ≤ count → has_fallen classes counts ≡ false
@@ -111,12 +156,14 @@ small-fresh page [] place = omega arith
 small-fresh page (size ∷ sizes) zero = omega arith
 small-fresh page (size ∷ sizes) (suc place) = small-fresh page sizes place
 
-pub watched-fresh : (table : Classes) → IsWatched (fresh_slabs table) (fresh_decider table)
-watched-fresh table = record {
+-- nothing is stored yet
+pub watched_fresh : (table : Classes) (mode : ℕ) (slabs : SlabState) (decider : DeciderState)
+    → slabs ≡ with_mode (fresh_slabs table) mode → decider ≡ fresh_decider table → IsWatched slabs decider
+watched_fresh table mode slabs decider slabs_is decider_is = rw (slabs_is, decider_is) (record {
   of_each = length-map table.sizes (λ size. fresh_class (table.page / size)) ∙ sym (length-map table.sizes (λ size. new_class size (table.page / size)));
   risen = risen-fresh table.page table.sizes;
   small = small-fresh table.page table.sizes;
-}
+})
 
 -- ---- a window
 
@@ -156,3 +203,10 @@ watched-window slabs decider was =
       risen = risen-noted decider.classes (eviction_counts slabs) (page_counts slabs) (free_counts slabs);
       small = was.small;
     }
+
+-- the decider has learned the numbers of a window, as the counts tell them
+pub watched_fed : (slabs seen : SlabState) (decider fed : DeciderState) (evictions pages free : List ℕ) → IsWatched slabs decider → seen ≡ slabs
+    → evictions ≡ eviction_counts seen → pages ≡ page_counts seen → free ≡ free_counts seen
+    → fed ≡ after_window decider evictions pages free → IsWatched slabs fed
+watched_fed slabs seen decider fed evictions pages free was same e p f is =
+    rw (is, e, p, f, same) (watched-window slabs decider was)

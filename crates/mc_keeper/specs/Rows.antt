@@ -13,7 +13,7 @@ four_classes = record { page = 1024; limit = 4096; sizes = 48 ∷ 96 ∷ 192 ∷
 
 -- what is replied to these commands, with at most 64 chunks a turn
 abbrev pub replies : List Command → List ℕ
-replies commands = replies_to (fresh_machine four_classes 64) commands
+replies commands = replies_to (fresh_machine four_classes 64 0) commands
 
 -- so many items of so many words, from this key on
 abbrev pub sets : ℕ → ℕ → ℕ → ℕ → List Command
@@ -86,5 +86,5 @@ ShadowedHold = replies (Set 1 1 3 7 ∷ Hold 1 1 ∷ Set 1 1 3 50 ∷ Get 1 1 �
 
 -- with one chunk a turn, the second turn ends the move
 abbrev pub OneChunkATurn : Type 0
-OneChunkATurn = replies_to (fresh_machine four_classes 1) (sets 1 8 61 0 ++ Reassign (Some 4) 1 ∷ Turn 1 ∷ Turn 1 ∷ [])
+OneChunkATurn = replies_to (fresh_machine four_classes 1 0) (sets 1 8 61 0 ++ Reassign (Some 4) 1 ∷ Turn 1 ∷ Turn 1 ∷ [])
     ≡ codes "STORED 1\r\nSTORED 2\r\nSTORED 3\r\nSTORED 4\r\nSTORED 5\r\nSTORED 6\r\nSTORED 7\r\nSTORED 8\r\nOK\r\nTURN WENT 1 0 1 0 0\r\nTURN FINISHED 1 0 1 0 0\r\n"

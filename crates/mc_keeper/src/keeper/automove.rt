@@ -1,5 +1,5 @@
 //! Pages that begin to move: as a script asks, as an eviction asks, and as the automover decides at a window's end.
-ghost use Rattle.std.specs.Prelude.{◌≡◌, ◌≤◌, ◌++◌, IfOk, OnOk, None};
+ghost use Rattle.std.specs.Prelude.{◌≡◌, ◌≤◌, ◌++◌, codes, IfOk, OnOk, None};
 ghost use Rattle.mc_pages.specs.Answer.{answer_of};
 ghost use Rattle.mc_watch.specs.Decider.{decision_of};
 ghost use Rattle.mc_watch.specs.Texts.{line};
@@ -63,7 +63,7 @@ impl Keeper {
     /// Lets the decider learn the numbers of a window. Gives the decision to act on, if there is one.
     fn decide(&mut self) -> Result<Option<Decision>, AllocError>
         ensures after { OnOk result (self.new ≡ with_window self.old) }
-        ensures decided { IfOk result (λ decision. decision ≡ decision self.new) }
+        ensures decided { IfOk result (λ decided. decided ≡ decision self.new) }
     {
         let counts = self.counts()?;
         let decision = self

@@ -1,6 +1,6 @@
 use Rattle.std.proofs.Common.{arith}
 use Rattle.mc_keeper.proofs.KeptMoverClear.{cleared_after, dead_here, handed_item, kept_cleared, leads_dead}
-use Rattle.mc_keeper.proofs.Watched.{evictions-with_class, watched-same}
+use Rattle.mc_keeper.proofs.Watched.{watched-clear}
 use Rattle.mc_keeper.proofs.keeper.Keeper.clear.Goals as goal
 
 pub clear-requires-clause-listed : goal.clear-requires-clause-listed
@@ -15,7 +15,7 @@ invariant_of-self c =
       kept = rw (c.clear.ensures.cleared, c.remove.ensures.entries) (kept_cleared _ _ _ _ _ c.args.chunk found.0 c.self.invariant.kept found.1
           (rw c.clear.ensures.cleared at c.clear.ensures.accounted)
           (leads_dead _ _ _ _ c.args.chunk found.0 c.self.invariant.kept found.1 found.2));
-      watched = rw c.clear.ensures.cleared (watched-same c.self.inside.slabs _ _ (evictions-with_class c.self.inside.slabs _ _ refl) c.self.invariant.watched);
+      watched = rw c.clear.ensures.cleared (watched-clear c.self.inside.slabs _ c.self.invariant.watched c.args.chunk);
       bulk = c.self.invariant.bulk;
     }
 

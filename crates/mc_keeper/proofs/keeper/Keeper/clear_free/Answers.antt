@@ -7,7 +7,7 @@ use Rattle.mc_pages.specs.SlabState.{IsClass, class_at, class_of_page}
 use Rattle.mc_keeper.specs.Items.{item_at}
 use Rattle.mc_keeper.specs.Machine.{Machine}
 use Rattle.mc_keeper.proofs.KeptMoverClear.{cleared_after, cleared_there, kept_freed, not_handed, own_from_cut}
-use Rattle.mc_keeper.proofs.Watched.{evictions-with_class, watched-same}
+use Rattle.mc_keeper.proofs.Watched.{watched-clear}
 use Rattle.mc_keeper.proofs.keeper.Keeper.clear_free.Goals as goal
 
 pub invariant_of-self : goal.invariant_of-self
@@ -19,7 +19,7 @@ invariant_of-self c =
     let empty : item_at c.self.inside.items.entries c.args.chunk ≡ None = rw (ap (λ (m : Machine). m.items) c.self.view_is) c.requires.empty in
     record {
       kept = rw c.clear.ensures.cleared (kept_freed _ _ _ _ c.args.chunk c.self.invariant.kept empty valid (rw c.clear.ensures.cleared at c.clear.ensures.accounted));
-      watched = rw c.clear.ensures.cleared (watched-same c.self.inside.slabs _ _ (evictions-with_class c.self.inside.slabs _ _ refl) c.self.invariant.watched);
+      watched = rw c.clear.ensures.cleared (watched-clear c.self.inside.slabs _ c.self.invariant.watched c.args.chunk);
       bulk = c.self.invariant.bulk;
     }
 

@@ -1,8 +1,10 @@
-use Rattle.std.proofs.Common.{◌≡◌, length, take}
-use Rattle.std.specs.Prelude.{map}
-use Rattle.mc_pages.specs.ClassState.{ClassState}
-use Rattle.mc_keeper.proofs.keeper.Keeper.page_counts.Given as goal
+use Rattle.std.proofs.Common.{◌≡◌, take}
+use Rattle.mc_keeper.specs.Automove.{eviction_counts, free_counts, page_counts}
+use Rattle.mc_keeper.proofs.keeper.Keeper.counts.Given as goal
 
 -- the numbers of the classes below
 abbrev pub invariant-loop-place : goal.invariant-loop-place
-invariant-loop-place l = l.counts.items ≡ take l.place (map (λ (class : ClassState). length class.pages) l.self.slabs.classes)
+invariant-loop-place l =
+    (l.evictions.items ≡ take l.place (eviction_counts l.self.slabs))
+    × (l.pages.items ≡ take l.place (page_counts l.self.slabs))
+    × (l.free.items ≡ take l.place (free_counts l.self.slabs))

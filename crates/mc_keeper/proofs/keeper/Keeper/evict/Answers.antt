@@ -1,11 +1,13 @@
 use Rattle.std.proofs.Common.{◌≡◌, true, Some, Contains, sym, ap, subst, ◌∙◌, ℕ}
 use Rattle.std.proofs.lemmas.Bool.{and_parts}
+use Rattle.std.proofs.lemmas.List.{length-set}
 use Rattle.mc_pages.specs.SlabState.{IsClass, class_at}
+use Rattle.mc_pages.specs.Changes.{after_back}
 use Rattle.mc_pages.proofs.HandedOut.{class_of_handed_out}
 use Rattle.mc_keeper.specs.Items.{item_at, is_linked}
 use Rattle.mc_keeper.specs.Machine.{Machine}
 use Rattle.mc_keeper.proofs.KeptEvict.{kept_evict, linked_item}
-use Rattle.mc_keeper.proofs.Watched.{evictions-with_class, watched-evicted, watched-same}
+use Rattle.mc_keeper.proofs.Watched.{watched-back, watched-evicted}
 use Rattle.mc_keeper.proofs.keeper.Keeper.evict.Goals as goal
 
 pub back-requires : goal.back-requires
@@ -17,6 +19,7 @@ back-requires c =
 
 pub invariant_of-self : goal.invariant_of-self
 invariant_of-self c =
+    let valid : IsClass c.self.inside.slabs c.args.class = rw (ap (λ (m : Machine). m.slabs) c.self.view_is) c.requires.class in
     let at : item_at c.self.inside.items.entries c.args.chunk ≡ Some c.in-Some.item = sym c.in-Some.ensures.value in
     let idle : is_linked c.self.inside.items.entries c.args.chunk ≡ true = rw (ap (λ (m : Machine). m.items) c.self.view_is) (and_parts _ _ c.requires.idle).0 in
     let linked : c.in-Some.item.linked ≡ true = rw at at idle in
@@ -25,8 +28,8 @@ invariant_of-self c =
           (kept_evict _ _ _ _ _ c.args.class c.args.chunk c.in-Some.item c.self.invariant.kept
           (rw c.back.ensures.back at c.back.ensures.accounted) (rw (c.evicted.ensures.evicted, c.back.ensures.back) at c.evicted.ensures.accounted)
           at linked (rw c.key.ensures at c.remove-in-Some.ensures.updates.0));
-      watched = rw (c.evicted.ensures.evicted, c.back.ensures.back) (watched-evicted (after_back c.self.inside.slabs c.args.chunk) c.args.class _ back_class
-          (watched-same c.self.inside.slabs _ _ (evictions-with_class c.self.inside.slabs _ _ refl) c.self.invariant.watched));
+      watched = rw (c.evicted.ensures.evicted, c.back.ensures.back) (watched-evicted (after_back c.self.inside.slabs c.args.chunk) c.args.class _ (valid.0, rw (length-set c.self.inside.slabs.classes _ _) valid.1)
+          (watched-back c.self.inside.slabs _ c.self.invariant.watched c.args.chunk));
       bulk = c.self.invariant.bulk;
     }
 

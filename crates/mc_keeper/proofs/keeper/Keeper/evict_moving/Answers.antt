@@ -2,7 +2,7 @@ use Rattle.std.proofs.Common.{◌≡◌, ap, sym, ◌∙◌, arith}
 use Rattle.std.proofs.lemmas.Option.{none-some, same_Some}
 use Rattle.mc_keeper.specs.Item.{Item}
 use Rattle.mc_keeper.proofs.KeptMoverClear.{cleared_after, idle_here, handed_item, kept_cleared, leads_gone}
-use Rattle.mc_keeper.proofs.Watched.{evictions-with_class, watched-same}
+use Rattle.mc_keeper.proofs.Watched.{watched-clear}
 use Rattle.mc_keeper.proofs.keeper.Keeper.evict_moving.Goals.{in-Some, in_default}
 use Rattle.mc_keeper.proofs.keeper.Keeper.evict_moving.Goals as goal
 
@@ -27,7 +27,7 @@ invariant_of-self c =
                 (rw cleared at c.clear.ensures.accounted)
                 (leads_gone _ _ _ _ _ c.args.chunk found.0 w.key.result c.self.invariant.kept found.1 found.2
                 (w.key.ensures ∙ sym (ap (λ (item : Item). item.key) same)) w.remove-in-Some.ensures.updates.0));
-            watched = watched-same c.self.inside.slabs _ _ (evictions-with_class c.self.inside.slabs _ _ refl) c.self.invariant.watched;
+            watched = watched-clear c.self.inside.slabs _ c.self.invariant.watched c.args.chunk;
             bulk = c.self.invariant.bulk;
           })
       | in_default w ↦ absurd (none-some found.0 (w.in_default.ensures.value ∙ found.1))

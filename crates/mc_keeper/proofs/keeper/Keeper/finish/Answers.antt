@@ -8,7 +8,7 @@ use Rattle.mc_pages.specs.SlabState.{SlabState, IsClass}
 use Rattle.mc_keeper.specs.Machine.{Machine}
 use Rattle.mc_keeper.proofs.Grown.{per_page_kept}
 use Rattle.mc_keeper.proofs.KeptMoverFinish.{finish_view, kept_pooled, kept_recut, per_page_finished, per_page_there}
-use Rattle.mc_keeper.proofs.Watched.{evictions-cuts, evictions-finished, watched-same}
+use Rattle.mc_keeper.proofs.Watched.{watched-finished, watched-recut}
 use Rattle.mc_keeper.proofs.keeper.Keeper.finish.Goals as goal
 
 pub cut_page-requires-clause-chunks : goal.cut_page-requires-clause-chunks
@@ -32,8 +32,7 @@ invariant_of-self c =
     record {
       kept = rw cut (kept_recut _ _ _ _ c.args.moving (first_chunks c.args.moving.page c.per_page.result) c.self.invariant.kept can
           (rw cut at c.cut_page.ensures.whole) (rw cut at c.cut_page.ensures.accounted));
-      watched = rw cut (watched-same c.self.inside.slabs _ _ (evictions-cuts (finished c.self.inside.slabs c.args.moving) (first_chunks c.args.moving.page c.per_page.result)
-          ∙ evictions-finished c.self.inside.slabs c.args.moving) c.self.invariant.watched);
+      watched = rw cut (watched-recut c.self.inside.slabs _ c.self.invariant.watched c.args.moving (first_chunks c.args.moving.page c.per_page.result));
       bulk = c.self.invariant.bulk;
     }
 
@@ -44,7 +43,7 @@ invariant_of-self-else-moving-ne0 c =
     = c.finish_move.ensures.finished ∙ ap (λ (o : Option Moving). after_finish c.self.inside.slabs o) can.runs in
     record {
       kept = rw after (kept_pooled _ _ _ _ c.args.moving c.self.invariant.kept can c.if-moving-ne0.false (rw after at c.finish_move.ensures.accounted));
-      watched = rw after (watched-same c.self.inside.slabs _ _ (evictions-finished c.self.inside.slabs c.args.moving) c.self.invariant.watched);
+      watched = rw after (watched-finished c.self.inside.slabs _ c.self.invariant.watched c.args.moving);
       bulk = c.self.invariant.bulk;
     }
 

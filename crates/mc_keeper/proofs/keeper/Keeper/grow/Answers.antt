@@ -6,7 +6,7 @@ use Rattle.mc_pages.specs.SlabState.{SlabState, IsClass}
 use Rattle.mc_keeper.specs.Machine.{Machine}
 use Rattle.mc_keeper.proofs.KeptChanges.{kept_grow}
 use Rattle.mc_keeper.proofs.Grown.{per_page_kept, per_page_given, per_page_grown, new_page_view}
-use Rattle.mc_keeper.proofs.Watched.{evictions-grown, watched-same}
+use Rattle.mc_keeper.proofs.Watched.{watched-grown}
 use Rattle.mc_keeper.proofs.keeper.Keeper.grow.Goals as goal
 
 pub cut_page-requires-clause-chunks : goal.cut_page-requires-clause-chunks
@@ -25,7 +25,7 @@ invariant_of-self c =
           (rw (c.cut_page.ensures.cut, c.in-Ok.ensures.given.1) at c.cut_page.ensures.accounted)
           (rw (c.cut_page.ensures.cut, c.in-Ok.ensures.given.1) at c.cut_page.ensures.whole));
       watched = rw (c.cut_page.ensures.cut, c.in-Ok.ensures.given.1)
-          (watched-same c.self.inside.slabs _ _ (evictions-grown c.self.inside.slabs c.args.class c.in-Ok.page (first_chunks c.in-Ok.page c.per_page-per_page.result)) c.self.invariant.watched);
+          (watched-grown c.self.inside.slabs _ c.self.invariant.watched c.args.class c.in-Ok.page (first_chunks c.in-Ok.page c.per_page-per_page.result));
       bulk = c.self.invariant.bulk;
     }
 

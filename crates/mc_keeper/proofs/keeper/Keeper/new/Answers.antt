@@ -1,8 +1,16 @@
+use Rattle.std.proofs.Common.{◌≡◌, ap, ◌∙◌}
+use Rattle.mc_pages.specs.SlabState.{SlabState, fresh_slabs}
+use Rattle.mc_keeper.specs.Machine.{with_mode}
 use Rattle.mc_keeper.proofs.KeptChanges.{kept_fresh}
+use Rattle.mc_keeper.proofs.Watched.{watched_fresh}
 use Rattle.mc_keeper.proofs.keeper.Keeper.new.Goals as goal
 
 pub invariant_of-result : goal.invariant_of-result
-invariant_of-result c = record {
-  kept = kept_fresh _ _ _ _ c.requires.sound c.in-Ok.ensures.fresh c.in-Ok.ensures.accounted c.new-3.ensures.empty c.new-4.ensures.empty;
-  bulk = c.requires.bulk;
-}
+invariant_of-result c =
+    let slabs : c.set_automove.new.self ≡ with_mode (fresh_slabs c.args.table) c.args.mode
+    = c.set_automove.ensures.mode ∙ ap (λ (s : SlabState). with_mode s c.args.mode) c.in-Ok.ensures.fresh in
+    record {
+      kept = kept_fresh _ c.args.mode _ _ _ c.requires.sound slabs c.set_automove.ensures.accounted c.new-4.ensures.empty c.new-5.ensures.empty;
+      watched = watched_fresh c.args.table c.args.mode _ _ slabs c.in-Ok-new.ensures;
+      bulk = c.requires.bulk;
+    }

@@ -1,9 +1,13 @@
-use Rattle.std.proofs.Common.{ap}
-use Rattle.mc_keeper.specs.Machine.{Machine}
-use Rattle.mc_keeper.proofs.Bounds.{are_counts}
+use Rattle.std.proofs.Common.{rules, ◌≡◌, ◌<◌, ◌++◌, IfOk, OnOk, ℕ, ◌+◌, ◌-◌, ◌*◌, ◌≤◌, length, ◌/◌, ◌%◌, Bool, true, false, nat_eq, nat_lt, List, [], ◌∷◌, slice_index_or, slice_set, bit_and, bit_or, Fits, w8, w32, w64, Bor, MutBor}
+use Rattle.mc_keeper.specs.Automove.{eviction_counts, free_counts, page_counts}
+use Rattle.mc_keeper.specs.Lines.{general_text_of, slabs_text_of}
+use Rattle.mc_keeper.specs.Machine.{all_swept}
 use Rattle.mc_keeper.proofs.keeper.Keeper.push_statistics.Goals as goal
 
-pub push_slabs-requires : goal.push_slabs-requires
-push_slabs-requires c =
-    rw (c.deref.ensures.value, c.deref-2.ensures.value, c.in_ok-pages.ensures, c.in_ok-free.ensures, ← ap (λ (m : Machine). m.slabs) c.self.view_is)
-    (are_counts _ _ _ _ c.self.invariant.kept)
+-- src/keeper/statistics.rt:60:13
+pub stats_slabs-written-requires : goal.stats_slabs-written-requires
+stats_slabs-written-requires g c = ?
+
+-- src/keeper/statistics.rt:44:5
+pub returns : goal.returns
+returns g c = ?

@@ -5,7 +5,7 @@ use Rattle.mc_keeper.specs.Items.{item_at, linked_chunk}
 use Rattle.mc_keeper.specs.Machine.{Machine}
 use Rattle.mc_keeper.proofs.KeptStore.{is_next, kept_store}
 use Rattle.mc_keeper.proofs.Links.{without_item-with_item}
-use Rattle.mc_keeper.proofs.Watched.{evictions-pop, watched-same}
+use Rattle.mc_keeper.proofs.Watched.{watched-pop}
 use Rattle.mc_keeper.proofs.keeper.Keeper.put.Goals as goal
 
 pub pop-requires : goal.pop-requires
@@ -20,7 +20,7 @@ invariant_of-self-in-Ok c =
       kept = rw (c.in_ok-insert.ensures.entries, c.new.ensures, c.pop.ensures.popped)
           (kept_store _ _ _ _ _ c.args.class c.args.key c.args.words.items c.args.chunk c.self.invariant.kept valid head
           (rw c.pop.ensures.popped at c.pop.ensures.accounted) unlinked c.in-Ok.ensures.updates.0);
-      watched = rw c.pop.ensures.popped (watched-same c.self.inside.slabs _ _ (evictions-pop c.self.inside.slabs c.args.class) c.self.invariant.watched);
+      watched = rw c.pop.ensures.popped (watched-pop c.self.inside.slabs _ c.self.invariant.watched c.args.class);
       bulk = c.self.invariant.bulk;
     }
 

@@ -3,7 +3,7 @@ use Rattle.std.proofs.lemmas.Bool.{and_parts}
 use Rattle.mc_keeper.specs.Items.{is_unlinked}
 use Rattle.mc_keeper.specs.Machine.{Machine}
 use Rattle.mc_keeper.proofs.KeptChanges.{kept_reclaim}
-use Rattle.mc_keeper.proofs.Watched.{evictions-with_class, watched-same}
+use Rattle.mc_keeper.proofs.Watched.{watched-back}
 use Rattle.mc_keeper.proofs.keeper.Keeper.reclaim.Goals as goal
 
 pub invariant_of-self : goal.invariant_of-self
@@ -13,6 +13,6 @@ invariant_of-self c =
     record {
       kept = rw (c.back.ensures.back, c.remove.ensures.entries)
           (kept_reclaim _ _ _ _ c.args.chunk c.self.invariant.kept (rw c.back.ensures.back at c.back.ensures.accounted) unlinked);
-      watched = rw c.back.ensures.back (watched-same c.self.inside.slabs _ _ (evictions-with_class c.self.inside.slabs _ _ refl) c.self.invariant.watched);
+      watched = rw c.back.ensures.back (watched-back c.self.inside.slabs _ c.self.invariant.watched c.args.chunk);
       bulk = c.self.invariant.bulk;
     }

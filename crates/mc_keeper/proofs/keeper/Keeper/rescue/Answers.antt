@@ -6,7 +6,7 @@ use Rattle.mc_pages.specs.SlabState.{SlabState, class_of_chunk}
 use Rattle.mc_pages.specs.Changes.{after_clear, after_replace}
 use Rattle.mc_keeper.proofs.KeptMoverClear.{cleared_after, idle_here, handed_item, contains_counted, kept_back, leads_gone}
 use Rattle.mc_keeper.proofs.KeptMoverRescue.{kept_rescued, listed_still}
-use Rattle.mc_keeper.proofs.Watched.{evictions-with_class, watched-same}
+use Rattle.mc_keeper.proofs.Watched.{watched-back, watched-clear, watched-replace}
 use Rattle.mc_keeper.proofs.keeper.Keeper.rescue.Goals as goal
 
 pub back-requires : goal.back-requires
@@ -42,8 +42,8 @@ invariant_of-self-in-Ok c =
       kept = rw (slabs, c.lead_to.ensures, c.key-key.ensures, c.in-Ok.ensures.entries, c.remove.ensures.entries)
           (kept_rescued _ _ _ _ c.args.old c.args.new c.in-Some.item c.self.invariant.kept (sym c.in-Some.ensures.value) linked free
           (rw slabs at c.clear.ensures.accounted));
-      watched = rw slabs (watched-same c.self.inside.slabs _ _
-          (evictions-with_class (after_replace c.self.inside.slabs c.args.new c.args.old) _ _ refl ∙ evictions-with_class c.self.inside.slabs _ _ refl) c.self.invariant.watched);
+      watched = rw slabs (watched-clear (after_replace c.self.inside.slabs c.args.new c.args.old) _
+          (watched-replace c.self.inside.slabs _ c.self.invariant.watched c.args.new c.args.old) c.args.old);
       bulk = c.self.invariant.bulk;
     }
 
@@ -62,7 +62,7 @@ invariant_of-self-in-Err c =
           (rw c.back.ensures.back at c.back.ensures.accounted)
           (leads_gone _ _ _ _ _ c.args.old found.0 c.key-key.result c.self.invariant.kept found.1 found.2
           (c.key-key.ensures ∙ sym (ap (λ (item : Item). item.key) same)) c.remove-in-Err.ensures.updates.0));
-      watched = rw c.back.ensures.back (watched-same c.self.inside.slabs _ _ (evictions-with_class c.self.inside.slabs _ _ refl) c.self.invariant.watched);
+      watched = rw c.back.ensures.back (watched-back c.self.inside.slabs _ c.self.invariant.watched c.args.old);
       bulk = c.self.invariant.bulk;
     }
 

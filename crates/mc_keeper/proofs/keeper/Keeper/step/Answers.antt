@@ -1,7 +1,7 @@
-use Rattle.std.proofs.Common.{◌≡◌, ◌<◌, ap, sym, arith, Some}
+use Rattle.std.proofs.Common.{◌≡◌, ◌<◌, ap, sym, arith, refl, Some}
 use Rattle.std.proofs.lemmas.Bool.Decides.{nat_tests}
 use Rattle.mc_pages.specs.SlabState.{class_at}
-use Rattle.mc_pages.specs.Moves.{CanPass}
+use Rattle.mc_pages.specs.Moves.{CanPass, after_passed}
 use Rattle.mc_keeper.specs.Machine.{Machine}
 use Rattle.mc_keeper.proofs.KeptMoverPass.{kept_moved, can_pass, move_here, position_cut}
 use Rattle.mc_keeper.proofs.Watched.{watched-same}
@@ -31,6 +31,6 @@ passed-requires c =
 pub invariant_of-self : goal.invariant_of-self
 invariant_of-self c = record {
   kept = rw c.passed.ensures.passed (kept_moved _ _ _ _ _ _ _ _ c.self-2.invariant.kept (rw c.passed.ensures.passed at c.passed.ensures.accounted));
-  watched = rw c.passed.ensures.passed (watched-same _ _ _ refl c.self-2.invariant.watched);
+  watched = rw c.passed.ensures.passed (watched-same c.self-2.inside.slabs (after_passed c.self-2.inside.slabs c.in_ok-found.found) _ refl c.self-2.invariant.watched);
   bulk = c.self-2.invariant.bulk;
 }

@@ -3,7 +3,7 @@ use Rattle.std.specs.Ordering.{nat_cmp}
 use Rattle.std.specs.BTreeMap.{is_at}
 use Rattle.std.specs.Map.{lookup}
 use Rattle.mc_keeper.proofs.KeptTouch.{leads_to_handed_out, kept_touch}
-use Rattle.mc_keeper.proofs.Watched.{evictions-with_class, watched-same}
+use Rattle.mc_keeper.proofs.Watched.{watched-touch}
 use Rattle.mc_keeper.proofs.keeper.Keeper.touch.Goals as goal
 
 pub touch-requires : goal.touch-requires
@@ -20,6 +20,6 @@ invariant_of-self c =
       kept = rw c.touch.ensures.touched (kept_touch _ _ _ _ c.in-Some.chunk c.self.invariant.kept
           (leads_to_handed_out _ _ _ _ c.args.key c.in-Some.chunk c.self.invariant.kept found)
           (rw c.touch.ensures.touched at c.touch.ensures.accounted));
-      watched = rw c.touch.ensures.touched (watched-same c.self.inside.slabs _ _ (evictions-with_class c.self.inside.slabs _ _ refl) c.self.invariant.watched);
+      watched = rw c.touch.ensures.touched (watched-touch c.self.inside.slabs _ c.self.invariant.watched c.in-Some.chunk);
       bulk = c.self.invariant.bulk;
     }
