@@ -27,12 +27,13 @@ pub fn worked_examples()
 {}
 
 /// The words of each VALUE line are those of the last stored set of its key before it, with no DELETED of the key between.
+/// So it is after any valid commands, for every table and however many chunks a turn looks at.
 pub fn values_were_stored()
     ensures { (table : Classes) (bulk : ℕ) (commands : List Command) → IsSound table → All IsValid commands → TellsLastWords table bulk commands }
 {}
 
 /// The words of each DROPPED line are the ones that stood at its hold: what the worker last held of the key and has not
-/// dropped since. A drop of a key of which the worker holds nothing is answered NOT_HELD.
+/// dropped since. A drop of a key of which the worker holds nothing is answered NOT_HELD. So it is after any valid commands.
 pub fn dropped_were_held()
     ensures { (table : Classes) (bulk : ℕ) (commands : List Command) → IsSound table → All IsValid commands → TellsHeldWords table bulk commands }
 {}
