@@ -140,7 +140,7 @@ module _ (table : Classes) (slabs : SlabState) (index : List (ℕ × ChunkId)) (
   handed = handed_item table slabs index items old item kept there
 
   -- the free chunk isn't handed out, so it has no item
-  vacant : item_at (without_item items old) new ≡ None
+  pub vacant : item_at (without_item items old) new ≡ None
   vacant =
       let some : 1 ≤ times new (class_of_chunk slabs old).free = times_from_Contains new (class_of_chunk slabs old).free free in
       let sum = kept.accounted.chunks (class_of_page slabs old.page) new valid in

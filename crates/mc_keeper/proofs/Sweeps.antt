@@ -37,7 +37,7 @@ without-append p x (c ∷ before) after none pass = without_step (p c) (is_chunk
         rw same (ap (λ cs. c ∷ cs) (more rest pass))
 
 -- the tests of the other chunks stay as they were
-is_dead-reclaimed : (m : Machine) (x y : ChunkId) → is_chunk x y ≡ false → is_dead (after_reclaim m x) y ≡ is_dead m y
+pub is_dead-reclaimed : (m : Machine) (x y : ChunkId) → is_chunk x y ≡ false → is_dead (after_reclaim m x) y ≡ is_dead m y
 is_dead-reclaimed m x y apart = rw (item_at-without_item m.items x y apart) refl
 
 filter-reclaimed : (m : Machine) (x : ChunkId) (chunks : List ChunkId) → times x chunks ≡ 0

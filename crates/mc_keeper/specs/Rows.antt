@@ -6,6 +6,7 @@ use Rattle.mc_script.specs.declared.command.Command.{Command}
 use Rattle.mc_script.specs.declared.command.Command.TheVariants.{Set, Get, Hold, Drop, Delete, Touch, Reassign, Turn, Stats, StatsSlabs}
 use Rattle.mc_keeper.specs.Machine.{fresh_machine}
 use Rattle.mc_keeper.specs.Lines.{replies_to}
+use Rattle.mc_keeper.specs.Answered.{answers, last_words, held_words}
 
 -- pages of 1024 bytes, four of them, and four classes
 abbrev pub four_classes : Classes
@@ -88,3 +89,12 @@ ShadowedHold = replies (Set 1 1 3 7 ∷ Hold 1 1 ∷ Set 1 1 3 50 ∷ Get 1 1 �
 abbrev pub OneChunkATurn : Type 0
 OneChunkATurn = replies_to (fresh_machine four_classes 1 0) (sets 1 8 61 0 ++ Reassign (Some 4) 1 ∷ Turn 1 ∷ Turn 1 ∷ [])
     ≡ codes "STORED 1\r\nSTORED 2\r\nSTORED 3\r\nSTORED 4\r\nSTORED 5\r\nSTORED 6\r\nSTORED 7\r\nSTORED 8\r\nOK\r\nTURN WENT 1 0 1 0 0\r\nTURN FINISHED 1 0 1 0 0\r\n"
+
+-- what the answers tell of the words: key 1 was stored anew while it was held, and a third set of it was refused; key 2
+-- was deleted while it was held; the last hold of key 1 was dropped
+abbrev pub WordsFromAnswers : Type 0
+WordsFromAnswers = let told = answers (fresh_machine four_classes 64 0) (
+    Set 1 1 3 7 ∷ Hold 1 1 ∷ Set 1 1 2 50 ∷ Set 2 2 1 9 ∷ Hold 1 2 ∷ Delete 2 2 ∷ Hold 1 1 ∷ Drop 1 1 ∷ Drop 2 1 ∷ Set 1 1 100 0 ∷ []
+    ) [] in
+    (last_words 1 told ≡ Some (50 ∷ 51 ∷ [])) × (last_words 2 told ≡ None)
+    × (held_words 1 told ≡ record { key = 2; words = 9 ∷ [] } ∷ record { key = 1; words = 7 ∷ 8 ∷ 9 ∷ [] } ∷ []) × (held_words 2 told ≡ [])

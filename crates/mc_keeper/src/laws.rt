@@ -1,5 +1,11 @@
-//! Worked examples of the plain machine, computed by the prover: each the contract of a function with nothing to do.
-ghost use Rattle.mc_keeper.specs.Rows.{AnswersOfReassign, BusyItem, DeadMakesRoom, FirstPath, FullClassEvicts, HeldIsKept, OneChunkATurn, PageThroughThePool, PageToAnotherClass, RescueIntoDead, ShadowedHold, TooManyHeld, TouchedIsKept, TwoMovesByThePick};
+//! Laws of the plain machine, and worked examples that the prover computes: each the contract of a function with nothing
+//! to do.
+ghost use Rattle.std.specs.Prelude.{ℕ, All, List};
+ghost use Rattle.mc_classes.specs.Classes.{Classes, IsSound};
+ghost use Rattle.mc_script.specs.Command.{IsValid};
+ghost use Rattle.mc_script.specs.declared.command.Command.{Command};
+ghost use Rattle.mc_keeper.specs.Rows.{AnswersOfReassign, BusyItem, DeadMakesRoom, FirstPath, FullClassEvicts, HeldIsKept, OneChunkATurn, PageThroughThePool, PageToAnotherClass, RescueIntoDead, ShadowedHold, TooManyHeld, TouchedIsKept, TwoMovesByThePick, WordsFromAnswers};
+ghost use Rattle.mc_keeper.specs.Words.{TellsHeldWords, TellsLastWords};
 
 /// What scripts of all forms of lines are answered: items that come and go, are held and touched, and pages that move.
 pub fn worked_examples()
@@ -17,4 +23,18 @@ pub fn worked_examples()
     ensures too_many_held { TooManyHeld }
     ensures shadowed_hold { ShadowedHold }
     ensures one_chunk_a_turn { OneChunkATurn }
+    ensures words_from_answers { WordsFromAnswers }
+{}
+
+/// The words of each VALUE line are those of the last stored set of its key before it, with no DELETED of the key between.
+/// So it is after any valid commands, for every table, however many chunks a turn looks
+/// at, and in each mode of the automover.
+pub fn values_were_stored()
+    ensures { (table : Classes) (bulk mode : ℕ) (commands : List Command) → IsSound table → All IsValid commands → TellsLastWords table bulk mode commands }
+{}
+
+/// The words of each DROPPED line are the ones that stood at its hold: what the worker last held of the key and has not
+/// dropped since. A drop of a key of which the worker holds nothing is answered NOT_HELD. So it is after any valid commands.
+pub fn dropped_were_held()
+    ensures { (table : Classes) (bulk mode : ℕ) (commands : List Command) → IsSound table → All IsValid commands → TellsHeldWords table bulk mode commands }
 {}

@@ -6,7 +6,7 @@ ghost use Rattle.mc_keeper.specs.Machine.{all_swept};
 
 use super::Keeper;
 use crate::reply::Reply;
-use mc_classes::Failures;
+use mc_classes::{Failures, Fault};
 use mc_watch::{stats_general, stats_slabs};
 use std::alloc::AllocError;
 use std::mem;
@@ -65,7 +65,10 @@ impl Keeper {
             &mut reply,
         );
         *text = reply.into_text();
-        written.map_err(|_| AllocError)
+        match written {
+            Ok(()) => Ok(()),
+            Err(Fault) => Err(AllocError),
+        }
     }
 
     /// Gives the general statistics.
@@ -95,7 +98,10 @@ impl Keeper {
             &mut reply,
         );
         *text = reply.into_text();
-        written.map_err(|_| AllocError)
+        match written {
+            Ok(()) => Ok(()),
+            Err(Fault) => Err(AllocError),
+        }
     }
 
     /// The numbers of all classes.

@@ -57,3 +57,7 @@ returns-clause-shadowed_hold c = refl
 pub returns-clause-one_chunk_a_turn : goal.returns-clause-one_chunk_a_turn
 unfolding digits
 returns-clause-one_chunk_a_turn c = refl
+
+pub returns-clause-words_from_answers : goal.returns-clause-words_from_answers
+unfolding digits
+returns-clause-words_from_answers c = (refl, refl, refl, refl)

@@ -1,13 +1,25 @@
-use Rattle.std.proofs.Common.{rules, ◌≡◌, ◌<◌, ◌++◌, IfOk, OnOk, ℕ, ◌+◌, ◌-◌, ◌*◌, ◌≤◌, length, ◌/◌, ◌%◌, Bool, true, false, nat_eq, nat_lt, List, [], ◌∷◌, slice_index_or, slice_set, bit_and, bit_or, Fits, w8, w32, w64, Bor, MutBor}
-use Rattle.mc_keeper.specs.Automove.{eviction_counts, free_counts, page_counts}
-use Rattle.mc_keeper.specs.Lines.{general_text_of, slabs_text_of}
-use Rattle.mc_keeper.specs.Machine.{all_swept}
+use Rattle.std.proofs.Common.{◌≡◌, ℕ, Vec, Global, ap, sym, ◌∙◌}
+use Rattle.mc_keeper.specs.Machine.{Machine}
+use Rattle.mc_keeper.proofs.Bounds.{are_counts}
 use Rattle.mc_keeper.proofs.keeper.Keeper.push_statistics.Goals as goal
 
--- src/keeper/statistics.rt:60:13
 pub stats_slabs-written-requires : goal.stats_slabs-written-requires
-stats_slabs-written-requires g c = ?
+stats_slabs-written-requires g c =
+    rw (c.deref.ensures.value, c.deref-2.ensures.value, c.in_ok-counts.ensures.pages, c.in_ok-counts.ensures.free, ← ap (λ (m : Machine). m.slabs) c.self.view_is)
+    (are_counts _ _ _ _ c.self.invariant.kept)
 
--- src/keeper/statistics.rt:44:5
-pub returns : goal.returns
-returns g c = ?
+pub returns-in-Ok : goal.returns-in-Ok
+returns-in-Ok g c =
+    rw (← c.self.view_is) (rw c.self.invariant.kept.page
+    (ap (λ (v : Vec ℕ Global). v.items) c.into_text.ensures
+    ∙ (rw (
+      c.deref.ensures.value,
+      c.deref-2.ensures.value,
+      c.in_ok-counts.ensures.pages,
+      c.in_ok-counts.ensures.free,
+      ← c.self.view_is,
+      c.totals.ensures,
+      c.page.ensures.page,
+      c.new-reply.ensures.text,
+      c.replace.ensures.value,
+    ) at c.in-Ok.ensures.bytes)))

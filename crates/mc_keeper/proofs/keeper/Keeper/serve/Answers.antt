@@ -1,8 +1,10 @@
-use Rattle.std.proofs.Common.{◌≡◌, Some, refl}
+use Rattle.std.proofs.Common.{◌≡◌, Some, refl, codes}
 use Rattle.mc_keeper.specs.Texts.{turn_line}
 use Rattle.mc_keeper.specs.Mover.{Turned, after_turns}
-use Rattle.mc_keeper.specs.Machine.{all_swept}
-use Rattle.mc_keeper.specs.Lines.{slabs_text_of, general_text_of}
+use Rattle.mc_pages.specs.Answer.{answer_of}
+use Rattle.mc_watch.specs.Texts.{line}
+use Rattle.mc_keeper.specs.Machine.{all_swept, with_mode}
+use Rattle.mc_keeper.specs.Lines.{slabs_text_of, general_text_of, reassigned}
 use Rattle.mc_keeper.proofs.keeper.Keeper.serve.Goals as goal
 
 pub returns-in_ok-push_turn_line-in-Turn-clause-served :
@@ -33,4 +35,22 @@ returns-in_ok-statistics-in-StatsSlabs-clause-served c = record {
   is = rw c.in-StatsSlabs.is refl;
   reply = c.in_ok-statistics-in-StatsSlabs.ensures.reply;
   after = c.in_ok-statistics-in-StatsSlabs.ensures.after;
+}
+
+pub returns-in_ok-reassign-in-Reassign-clause-served :
+    goal.returns-in_ok-reassign-in-Reassign-clause-served
+returns-in_ok-reassign-in-Reassign-clause-served c = record {
+  served = reassigned c.args.self.now c.in-Reassign.src c.in-Reassign.dst (answer_of c.args.self.now.slabs c.in-Reassign.src c.in-Reassign.dst);
+  is = rw c.in-Reassign.is refl;
+  reply = c.in_ok-reassign-in-Reassign.ensures.reply;
+  after = c.in_ok-reassign-in-Reassign.ensures.after;
+}
+
+pub returns-in_ok-set_automove-in-Automove-clause-served :
+    goal.returns-in_ok-set_automove-in-Automove-clause-served
+returns-in_ok-set_automove-in-Automove-clause-served c = record {
+  served = record { reply = line (codes "OK"); machine = record c.args.self.now { slabs = with_mode c.args.self.now.slabs c.in-Automove.mode } };
+  is = rw c.in-Automove.is refl;
+  reply = c.in_ok-set_automove-in-Automove.ensures.reply;
+  after = c.in_ok-set_automove-in-Automove.ensures.after;
 }

@@ -1,19 +1,35 @@
-use Rattle.std.proofs.Common.{rules, ◌≡◌, Option, None, Some, IfOk, OnOk, ℕ, ◌+◌, ◌-◌, ◌*◌, ◌<◌, ◌≤◌, length, ◌/◌, ◌%◌, Bool, true, false, nat_eq, nat_lt, List, [], ◌∷◌, ◌++◌, slice_index_or, slice_set, bit_and, bit_or, Fits, w8, w32, w64, Bor, MutBor}
-use Rattle.std.specs.Option.{is_some}
+use Rattle.std.proofs.Common.{◌≡◌, ℕ, Bool, true, false, Some, ap, sym, ◌∙◌}
+use Rattle.mc_keeper.specs.Machine.{Machine}
+use Rattle.mc_keeper.specs.Supply.{evicts, supplied, supply}
 use Rattle.mc_pages.specs.ClassState.{first_free}
-use Rattle.mc_pages.specs.SlabState.{IsClass, class_at}
-use Rattle.mc_pages.specs.Changes.{after_pop}
-use Rattle.mc_keeper.specs.Items.{item_at, linked_chunk, unlinked_in, unlinked_items, with_item}
-use Rattle.mc_keeper.specs.Item.{new_item}
-use Rattle.mc_keeper.specs.Lines.{stored}
-use Rattle.mc_keeper.specs.Supply.{asks_for_page, supplied, supply}
+use Rattle.mc_pages.specs.SlabState.{class_at}
+use Rattle.mc_keeper.proofs.StoredItems.{stored_asking, stored_in_mode, stored_quietly}
+use Rattle.mc_keeper.proofs.keeper.Keeper.store.Goals.{else-evicted-via-then-evicted+else-automove-eq2, else-evicted-via-else-evicted}
 use Rattle.mc_keeper.proofs.keeper.Keeper.store.Goals as goal
 
--- src/keeper/store.rt:23:5
 pub returns-in_ok-ask_for_page-in-Some-clause-after :
     goal.returns-in_ok-ask_for_page-in-Some-clause-after
-returns-in_ok-ask_for_page-in-Some-clause-after c = ?
+returns-in_ok-ask_for_page-in-Some-clause-after c =
+    let head : supply c.args.self.now c.args.class ≡ Some c.in-Some.chunk
+    = sym (ap (λ (m : Machine). first_free (class_at m.slabs c.args.class)) (c.self.view_is ∙ c.in_ok-evicted.ensures.after)) ∙ sym c.in-Some.ensures in
+    stored_asking c.args.self.now _ _ _ c.args.class c.args.key c.args.words.items c.in-Some.chunk
+    c.in_ok-evicted.ensures.after c.unlink.ensures.unlinked c.in_ok-put-in-Some.ensures.put head
+    c.ask_for_page.new.self (sym c.in_ok-evicted.ensures.evicted ∙ c.if-evicted.true)
+    (ap (λ (m : Machine). m.slabs.automove) (sym c.self-then-evicted.view_is) ∙ sym c.automove.ensures ∙ c.if-automove-eq2.true)
+    c.in_ok-ask_for_page-in-Some.ensures
 
--- src/keeper/store.rt:23:5
 pub returns-else-evicted-clause-after : goal.returns-else-evicted-clause-after
-returns-else-evicted-clause-after c = ?
+returns-else-evicted-clause-after c =
+    let head : supply c.args.self.now c.args.class ≡ Some c.in-Some.chunk
+    = sym (ap (λ (m : Machine). first_free (class_at m.slabs c.args.class)) (c.self.view_is ∙ c.in_ok-evicted.ensures.after)) ∙ sym c.in-Some.ensures in
+    elim c.else-evicted.branch [
+      | else-evicted-via-then-evicted+else-automove-eq2 w ↦
+          stored_in_mode c.args.self.now _ _ _ c.args.class c.args.key c.args.words.items c.in-Some.chunk
+          c.in_ok-evicted.ensures.after c.unlink.ensures.unlinked c.in_ok-put-in-Some.ensures.put head
+          (sym c.in_ok-evicted.ensures.evicted ∙ w.if-evicted.true)
+          (λ two. w.if-automove-eq2.false (w.automove.ensures ∙ ap (λ (m : Machine). m.slabs.automove) w.self-then-evicted.view_is ∙ two))
+      | else-evicted-via-else-evicted w ↦
+          stored_quietly c.args.self.now _ _ _ c.args.class c.args.key c.args.words.items c.in-Some.chunk
+          c.in_ok-evicted.ensures.after c.unlink.ensures.unlinked c.in_ok-put-in-Some.ensures.put head
+          (sym c.in_ok-evicted.ensures.evicted ∙ w.if-evicted.false)
+    ]
