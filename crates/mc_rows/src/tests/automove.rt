@@ -45,13 +45,14 @@ fn pages_move_by_themselves(rt: HostRuntime) -> Result<(), Fail> {
 
 /// Adds a line, and its reply.
 fn push_pair(
+    alloc: Global,
     script: &mut Vec<u8>,
     replies: &mut Vec<u8>,
     line: (&str, u64, &str),
     reply: &str,
 ) -> Result<(), AllocError> {
     let (before, key, after) = line;
-    let digits = format!(in script.allocator(); "{key}")?;
+    let digits = format!(in alloc; "{key}")?;
     script.extend_from_slice(before.as_bytes())?;
     script.extend_from_slice(digits.as_bytes())?;
     script.extend_from_slice(after.as_bytes())?;
@@ -67,6 +68,7 @@ fn three_pages(alloc: Global, deleted: u64) -> Result<(Vec<u8>, Vec<u8>), AllocE
     let mut replies = Vec::new(alloc);
     for key in 1..64 {
         push_pair(
+            alloc,
             &mut script,
             &mut replies,
             ("1 set ", key, " 3 0\n"),
@@ -74,7 +76,13 @@ fn three_pages(alloc: Global, deleted: u64) -> Result<(Vec<u8>, Vec<u8>), AllocE
         )?;
     }
     for key in 1..=deleted {
-        push_pair(&mut script, &mut replies, ("1 del ", key, "\n"), "DELETED ")?;
+        push_pair(
+            alloc,
+            &mut script,
+            &mut replies,
+            ("1 del ", key, "\n"),
+            "DELETED ",
+        )?;
     }
     Ok((script, replies))
 }
