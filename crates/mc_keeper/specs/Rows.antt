@@ -3,7 +3,7 @@ use Rattle.std.specs.Prelude.{◌≡◌, ℕ, List, [], ◌∷◌, ◌++◌, cod
 use Rattle.std.specs.List.{range_with_len}
 use Rattle.mc_classes.specs.Classes.{Classes}
 use Rattle.mc_script.specs.declared.command.Command.{Command}
-use Rattle.mc_script.specs.declared.command.Command.TheVariants.{Set, Get, Hold, Drop, Delete, Touch, Reassign, Turn, Stats, StatsSlabs}
+use Rattle.mc_script.specs.declared.command.Command.TheVariants.{Set, Get, Hold, Drop, Delete, Touch, Reassign, Automove, Window, Turn, Stats, StatsSlabs}
 use Rattle.mc_keeper.specs.Machine.{fresh_machine}
 use Rattle.mc_keeper.specs.Lines.{replies_to}
 use Rattle.mc_keeper.specs.Answered.{answers, last_words, held_words}
@@ -89,6 +89,21 @@ ShadowedHold = replies (Set 1 1 3 7 ∷ Hold 1 1 ∷ Set 1 1 3 50 ∷ Get 1 1 �
 abbrev pub OneChunkATurn : Type 0
 OneChunkATurn = replies_to (fresh_machine four_classes 1 0) (sets 1 8 61 0 ++ Reassign (Some 4) 1 ∷ Turn 1 ∷ Turn 1 ∷ [])
     ≡ codes "STORED 1\r\nSTORED 2\r\nSTORED 3\r\nSTORED 4\r\nSTORED 5\r\nSTORED 6\r\nSTORED 7\r\nSTORED 8\r\nOK\r\nTURN WENT 1 0 1 0 0\r\nTURN FINISHED 1 0 1 0 0\r\n"
+
+-- in mode 2 an eviction asks for a page, and a turn later there is room again
+abbrev pub EvictionAsksForAPage : Type 0
+EvictionAsksForAPage = replies (Automove 2 ∷ sets 1 4 61 0 ++ sets 11 6 20 0 ++ Set 1 5 61 0 ∷ Turn 1 ∷ Set 1 6 61 0 ∷ Touch 1 2 ∷ Touch 1 1 ∷ [])
+    ≡ codes "OK\r\nSTORED 1\r\nSTORED 2\r\nSTORED 3\r\nSTORED 4\r\nSTORED 11\r\nSTORED 12\r\nSTORED 13\r\nSTORED 14\r\nSTORED 15\r\nSTORED 16\r\nSTORED 5\r\nTURN FINISHED 5 4 1 0 0\r\nSTORED 6\r\nTOUCHED 2\r\nNOT_FOUND 1\r\n"
+
+-- in mode 1 a class with more free chunks than two and a half pages have gives a page to the pool
+abbrev pub PageToSpare : Type 0
+PageToSpare = replies (Automove 1 ∷ sets 1 6 61 0 ++ map (λ key. Delete 1 key) (range_with_len 1 6) ++ Window ∷ Window ∷ Turn 1 ∷ [])
+    ≡ codes "OK\r\nSTORED 1\r\nSTORED 2\r\nSTORED 3\r\nSTORED 4\r\nSTORED 5\r\nSTORED 6\r\nDELETED 1\r\nDELETED 2\r\nDELETED 3\r\nDELETED 4\r\nDELETED 5\r\nDELETED 6\r\nWINDOW 4 0 OK\r\nWINDOW 4 0 BUSY\r\nTURN FINISHED 2 0 0 0 0\r\n"
+
+-- three windows that one class leads, while another is quiet, move a page between them
+abbrev pub PageToTheLeader : Type 0
+PageToTheLeader = replies (Automove 1 ∷ sets 11 15 20 0 ++ sets 1 3 61 0 ++ Window ∷ Set 1 4 61 0 ∷ Window ∷ Set 1 5 61 0 ∷ Window ∷ Turn 1 ∷ [])
+    ≡ codes "OK\r\nSTORED 11\r\nSTORED 12\r\nSTORED 13\r\nSTORED 14\r\nSTORED 15\r\nSTORED 16\r\nSTORED 17\r\nSTORED 18\r\nSTORED 19\r\nSTORED 20\r\nSTORED 21\r\nSTORED 22\r\nSTORED 23\r\nSTORED 24\r\nSTORED 25\r\nSTORED 1\r\nSTORED 2\r\nSTORED 3\r\nWINDOW none\r\nSTORED 4\r\nWINDOW none\r\nSTORED 5\r\nWINDOW 3 4 OK\r\nTURN FINISHED 5 0 5 0 0\r\n"
 
 -- what the answers tell of the words: key 1 was stored anew while it was held, and a third set of it was refused; key 2
 -- was deleted while it was held; the last hold of key 1 was dropped

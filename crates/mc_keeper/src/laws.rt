@@ -4,10 +4,11 @@ ghost use Rattle.std.specs.Prelude.{ℕ, All, List};
 ghost use Rattle.mc_classes.specs.Classes.{Classes, IsSound};
 ghost use Rattle.mc_script.specs.Command.{IsValid};
 ghost use Rattle.mc_script.specs.declared.command.Command.{Command};
-ghost use Rattle.mc_keeper.specs.Rows.{AnswersOfReassign, BusyItem, DeadMakesRoom, FirstPath, FullClassEvicts, HeldIsKept, OneChunkATurn, PageThroughThePool, PageToAnotherClass, RescueIntoDead, ShadowedHold, TooManyHeld, TouchedIsKept, TwoMovesByThePick, WordsFromAnswers};
+ghost use Rattle.mc_keeper.specs.Rows.{AnswersOfReassign, BusyItem, DeadMakesRoom, EvictionAsksForAPage, FirstPath, FullClassEvicts, HeldIsKept, OneChunkATurn, PageThroughThePool, PageToAnotherClass, PageToSpare, PageToTheLeader, RescueIntoDead, ShadowedHold, TooManyHeld, TouchedIsKept, TwoMovesByThePick, WordsFromAnswers};
 ghost use Rattle.mc_keeper.specs.Words.{TellsHeldWords, TellsLastWords};
 
-/// What scripts of all forms of lines are answered: items that come and go, are held and touched, and pages that move.
+/// What scripts of all forms of lines are answered: items that come and go, are held and touched, and pages that
+/// move, also by themselves.
 pub fn worked_examples()
     ensures first_path { FirstPath }
     ensures dead_makes_room { DeadMakesRoom }
@@ -23,6 +24,9 @@ pub fn worked_examples()
     ensures too_many_held { TooManyHeld }
     ensures shadowed_hold { ShadowedHold }
     ensures one_chunk_a_turn { OneChunkATurn }
+    ensures eviction_asks_for_a_page { EvictionAsksForAPage }
+    ensures page_to_spare { PageToSpare }
+    ensures page_to_the_leader { PageToTheLeader }
     ensures words_from_answers { WordsFromAnswers }
 {}
 

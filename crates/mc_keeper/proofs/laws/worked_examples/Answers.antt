@@ -58,6 +58,18 @@ pub returns-clause-one_chunk_a_turn : goal.returns-clause-one_chunk_a_turn
 unfolding digits
 returns-clause-one_chunk_a_turn c = refl
 
+pub returns-clause-eviction_asks_for_a_page : goal.returns-clause-eviction_asks_for_a_page
+unfolding digits
+returns-clause-eviction_asks_for_a_page c = refl
+
+pub returns-clause-page_to_spare : goal.returns-clause-page_to_spare
+unfolding digits
+returns-clause-page_to_spare c = refl
+
+pub returns-clause-page_to_the_leader : goal.returns-clause-page_to_the_leader
+unfolding digits
+returns-clause-page_to_the_leader c = refl
+
 pub returns-clause-words_from_answers : goal.returns-clause-words_from_answers
 unfolding digits
 returns-clause-words_from_answers c = (refl, refl, refl, refl)
