@@ -125,3 +125,6 @@ fn steady_leader(leaders: &[Option<ClassId>; 3]) -> Option<ClassId>
         _ => None,
     }
 }
+
+#[cfg(test)]
+mod tests;
