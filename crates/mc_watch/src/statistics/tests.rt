@@ -24,7 +24,7 @@ const A: Config = Config {
 /// Room for each text.
 const ROOM: usize = 1024;
 
-/// Keeps what is written. One write fails, the last that the test looks for, and half of its bytes are kept all the same.
+/// Keeps what is written. One write fails, and half of its bytes are kept all the same; those behind it would go well.
 #[derive(Drop)]
 struct FailingSink<L: Ledger> {
     bytes: Vec<u8>,
