@@ -1,5 +1,5 @@
 -- Classes, which are numbered from 1, by their places, which are counted from 0.
-use Rattle.std.proofs.Common.{◌≡◌, ℕ, ◌+◌, Option, Some, None, option_map, refl, ap, ◌∙◌}
+use Rattle.std.proofs.Common.{◌≡◌, ℕ, ◌+◌, Option, Some, None, option_map, ap}
 use Rattle.std.specs.Option.{MatchOption, IsSomeAnd}
 
 -- the class at the place, if there is one

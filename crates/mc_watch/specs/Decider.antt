@@ -1,5 +1,5 @@
 -- What the automover decides after each window.
-use Rattle.std.specs.Prelude.{ℕ, ◌+◌, ◌-◌, ◌*◌, ◌/◌, ◌==◌, Bool, true, false, not, ◌&&◌, nat_lt, nat_le, if◌then◌else◌, max, List, [], ◌∷◌, length, map, take, fold, position, Option, Some, None}
+use Rattle.std.specs.Prelude.{ℕ, ◌+◌, ◌-◌, ◌*◌, ◌/◌, ◌==◌, Bool, false, not, ◌&&◌, nat_lt, nat_le, if◌then◌else◌, max, List, [], ◌∷◌, length, map, take, fold, position, Option, Some, None}
 use Rattle.std.specs.List.{list_all, list_any, zip}
 use Rattle.std.specs.Option.{option_map, option_and_then, option_or}
 use Rattle.mc_classes.specs.Classes.{Classes}

@@ -1,2 +1,3 @@
 pub mod Decider
 pub mod Texts
+pub mod Rows

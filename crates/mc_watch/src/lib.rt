@@ -6,10 +6,12 @@
 #![tactic(auto)]
 
 mod decider;
+mod laws;
 mod refusal;
 mod statistics;
 mod watched;
 
 pub use decider::{Decider, Decision};
+pub use laws::worked_windows;
 pub use refusal::{Feed, NoMemory};
 pub use statistics::{stats_general, stats_slabs};

@@ -56,7 +56,8 @@ impl Watched {
         self.quiet.iter().all(|quiet| *quiet)
     }
 
-    /// Whether it has a page to spare (own threshold): more free chunks than two and a half pages have.
+    /// Whether it has a page to spare (own threshold): more free chunks than two and a half pages have. Both sides are
+    /// doubled, and in 128 bits no number is too large for that.
     fn has_spare_page(&self) -> bool
         ensures { result ≡ has_spare_page self.now }
     {

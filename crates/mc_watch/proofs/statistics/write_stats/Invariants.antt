@@ -6,6 +6,6 @@ use Rattle.mc_watch.proofs.statistics.write_stats.Given as goal
 -- the writer has the lines so far, and no write failed
 abbrev pub invariant-loop-name : goal.invariant-loop-name
 invariant-loop-name g l = record {
-  bytes : Appends (g.W.Sink.contents l.initial.writer) (g.W.Sink.contents l.writer) (flat_map (λ stat. stat_line  stat.0.now stat.1) (take l.name-index l.stats));
+  bytes : Appends (g.W.Sink.contents l.initial.writer) (g.W.Sink.contents l.writer) (flat_map (λ stat. stat_line stat.0.now stat.1) (take l.name-index l.stats));
   quiet : g.W.Sink.failures l.writer ≡ g.W.Sink.failures l.initial.writer;
 }

@@ -1,5 +1,5 @@
-use Rattle.std.proofs.Common.{ℕ, ◌+◌, Bool, nat_lt, nat_eq, ◌&&◌, Option, option_map, ap, ◌∙◌, rules, tests, sym}
-use Rattle.std.specs.Prelude.{◌==◌, position}
+use Rattle.std.proofs.Common.{ℕ, ◌+◌, nat_lt, ◌&&◌, Option, option_map, ap, ◌∙◌, rules, tests}
+use Rattle.std.specs.Prelude.{◌==◌}
 use Rattle.std.proofs.lemmas.Iterator.{YieldsList-from_slice}
 use Rattle.std.proofs.lemmas.Iterator.Search.{position_from_yields_List}
 use Rattle.mc_watch.specs.declared.watched.Watched.{Watched}

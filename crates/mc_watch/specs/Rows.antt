@@ -1,0 +1,61 @@
+-- Worked examples of the decider, which the prover computes.
+use Rattle.std.specs.Prelude.{◌≡◌, ℕ, List, [], ◌∷◌, Option, Some, None}
+use Rattle.mc_watch.specs.declared.decider.Decision.{Decision}
+use Rattle.mc_watch.specs.declared.refusal.Feed.TheVariants.{Length, Backwards}
+use Rattle.mc_watch.specs.Decider.{DeciderState, fresh_decider, after_window, decision_of, refusal_of}
+
+-- a number for each of four classes
+abbrev pub four : ℕ → ℕ → ℕ → ℕ → List ℕ
+four a b c d = a ∷ b ∷ c ∷ d ∷ []
+
+-- four classes, with 21, 10, 5 and 2 chunks a page, before any window
+abbrev pub fresh_four : DeciderState
+fresh_four = fresh_decider (record { page = 1024; limit = 4096; sizes = four 48 96 192 512 })
+
+-- a page is to go from one class to another
+abbrev pub moves : ℕ → ℕ → Option Decision
+moves src dst = Some (record { src = src; dst = dst })
+
+-- after a window with these evictions so far; the classes have 3, 1, 1 and 2 pages, and no chunk is free
+abbrev pub after_evictions : DeciderState → List ℕ → DeciderState
+after_evictions decider evictions = after_window decider evictions (four 3 1 1 2) (four 0 0 0 0)
+
+-- after several such windows
+abbrev pub after_all_evictions : DeciderState → List (List ℕ) → DeciderState
+after_all_evictions decider [] = decider
+after_all_evictions decider (evictions ∷ more) = after_all_evictions (after_evictions decider evictions) more
+
+-- what is decided after each of them
+abbrev pub decisions : DeciderState → List (List ℕ) → List (Option Decision)
+decisions decider [] = []
+decisions decider (evictions ∷ more) =
+    decision_of (after_evictions decider evictions) ∷ decisions (after_evictions decider evictions) more
+
+-- class 1 is quiet and class 4 leads three windows, and a fourth: the decision resets nothing
+abbrev pub ThreeWindows : Type 0
+ThreeWindows =
+    decisions fresh_four (four 0 0 0 5 ∷ four 0 0 0 6 ∷ four 0 0 0 9 ∷ four 0 0 0 10 ∷ [])
+    ≡ None ∷ None ∷ moves 1 4 ∷ moves 1 4 ∷ []
+
+-- class 2 leads the second window: class 4 leads four in all, but three running only after the fifth
+abbrev pub five_windows : List (List ℕ)
+five_windows = four 0 0 0 5 ∷ four 0 7 0 6 ∷ four 0 7 0 9 ∷ four 0 7 0 10 ∷ four 0 7 0 11 ∷ []
+
+abbrev pub ThreeRunning : Type 0
+ThreeRunning = decisions fresh_four five_windows ≡ None ∷ None ∷ None ∷ None ∷ moves 1 4 ∷ []
+
+-- then the evictions of class 4 become fewer
+abbrev pub FewerEvictions : Type 0
+FewerEvictions =
+    refusal_of (after_all_evictions fresh_four five_windows) (four 0 7 0 10) (four 3 1 1 2) (four 0 0 0 0) ≡ Some Backwards
+
+-- and a list is too short, which is told first
+abbrev pub ShortList : Type 0
+ShortList = refusal_of (after_all_evictions fresh_four five_windows) (four 0 7 0 10) (four 3 1 1 2) [] ≡ Some Length
+
+-- 3 pages of class 1 have 63 chunks; with 53 of them free one is given up, with 52 none
+abbrev pub SparePage : Type 0
+SparePage = decision_of (after_window fresh_four (four 0 0 0 0) (four 3 0 0 0) (four 53 0 0 0)) ≡ moves 1 0
+
+abbrev pub NoSparePage : Type 0
+NoSparePage = decision_of (after_window fresh_four (four 0 0 0 0) (four 3 0 0 0) (four 52 0 0 0)) ≡ None
