@@ -1,16 +1,17 @@
 -- What a parse of the command line finds.
-use Rattle.std.proofs.Common.{◌≡◌, ◌∙◌, inl, inr, Bool, true, false, List, [], ◌∷◌, refl, ap, subst, drop, find, fold, IfSome, option_map, option_and_then, slice_get, Option, Some, None}
+use Rattle.std.proofs.Common.{◌≡◌, ◌∙◌, inl, inr, ℕ, Bool, true, false, List, [], ◌∷◌, refl, ap, subst, drop, find, fold, IfSome, option_map, option_and_then, slice_get, Option, Some, None}
 use Rattle.clap.specs.Walk.{Row, Rule, arg_by_id, first_of, has_row, one_of, row_text, rows_of, settled, walk_from, with_default}
 use Rattle.clap.specs.Simple.{App, HasMatchesOf, Shape, built, matches_of}
 use Rattle.clap.specs.Faults.{fault_of, is_simple_and_free, values_fault, walk_fault}
 use Rattle.clap.specs.Matches.{first_value, found_of, one_text}
 use Rattle.clap.specs.declared.parser.matches.ArgMatches.{ArgMatches}
 use Rattle.clap.specs.ValueTests.{accepts}
+use Rattle.clap.specs.Values.{IsUnsignedIn}
 use Rattle.clap.proofs.ValueTestLemmas.{accepts-Accepts}
 use Rattle.clap.proofs.WalkLemmas.{first_value-rows, one_text-rows}
 use Rattle.clap.specs.declared.builder.value_parser.ValueParser.TheVariants as vp
 use Rattle.clap.specs.declared.error.kind.ErrorKind.TheVariants as kind
-use Rattle.mc_options.specs.Options.{IsNumber, value_of}
+use Rattle.mc_options.specs.Options.{value_of}
 use Rattle.mc_options.proofs.OptionCut.{IsName, Text}
 use Rattle.mc_options.proofs.OptionRows.{IsValued, has_id, new_row}
 use Rattle.mc_options.proofs.OptionWalk.{AreOptions, IsOption, IsQuiet, Says, end, ends, holds, or_nil, words_say}
@@ -37,7 +38,10 @@ are_options = (
             valued _ (record { action = refl; range = refl; short = refl; short_aliases = refl; reading = refl }) refl refl refl,
             (
               valued _ (record { action = refl; range = refl; short = refl; short_aliases = refl; reading = refl }) refl refl refl,
-              (record { long = refl; aliases = refl; index = refl; does = inr (record { action = refl; range = refl }) }, tt),
+              (
+                valued _ (record { action = refl; range = refl; short = refl; short_aliases = refl; reading = refl }) refl refl refl,
+                (record { long = refl; aliases = refl; index = refl; does = inr (record { action = refl; range = refl }) }, tt),
+              ),
             ),
           ),
         ),
@@ -52,7 +56,7 @@ HaveNone [] = Unit {0}
 HaveNone (a ∷ rest) = (a.defaults ≡ []) × HaveNone rest
 
 pub have_none : HaveNone top.rules
-have_none = (refl, (refl, (refl, (refl, (refl, (refl, (refl, (refl, tt))))))))
+have_none = (refl, (refl, (refl, (refl, (refl, (refl, (refl, (refl, (refl, tt)))))))))
 
 one_default : (rows : List Row) (a : Rule) → a.defaults ≡ [] → with_default rows a ≡ rows
 one_default rows a e = go (has_row a.id rows) refl
@@ -100,20 +104,20 @@ one_found words id q n =
     go (Some v) = refl
 
 -- a number's value passes clap's reader
-pub number_found : (words : List Text) (id : Text) (a : Rule) → fault_of mcslab words ≡ [] → IsName id → arg_by_id top.rules id ≡ Some a → a.parser ≡ Some (vp.Unsigned 0 18446744073709551615)
-    → IfSome (value_of id (drop 1 words)) IsNumber
-number_found words id a q n found parser = go (value_of id (drop 1 words)) ((says words q).passes id n)
+pub number_found : (words : List Text) (id : Text) (a : Rule) (most : ℕ) → fault_of mcslab words ≡ [] → IsName id → arg_by_id top.rules id ≡ Some a → a.parser ≡ Some (vp.Unsigned 0 most)
+    → IfSome (value_of id (drop 1 words)) (IsUnsignedIn 0 most)
+number_found words id a most q n found parser = go (value_of id (drop 1 words)) ((says words q).passes id n)
   where
-    passed : (v : Text) → values_fault a (v ∷ []) ≡ [] → IsNumber v
-    passed v h = is_in (accepts a.ignore_case (vp.Unsigned 0 18446744073709551615) v) refl
+    passed : (v : Text) → values_fault a (v ∷ []) ≡ [] → IsUnsignedIn 0 most v
+    passed v h = is_in (accepts a.ignore_case (vp.Unsigned 0 most) v) refl
       where
-        is_in : (b : Bool) → accepts a.ignore_case (vp.Unsigned 0 18446744073709551615) v ≡ b → IsNumber v
-        is_in true e = let all = accepts-Accepts a.ignore_case (vp.Unsigned 0 18446744073709551615) v e in (all.0, all.1)
+        is_in : (b : Bool) → accepts a.ignore_case (vp.Unsigned 0 most) v ≡ b → IsUnsignedIn 0 most v
+        is_in true e = accepts-Accepts a.ignore_case (vp.Unsigned 0 most) v e
         is_in false e =
             let bad : kind.ValueValidation ∷ [] ≡ [] = rw (parser, e) at h in
             cc
 
-    go : (o : Option Text) → IfSome o (λ v. IfSome (arg_by_id top.rules id) (λ r. values_fault r (v ∷ []) ≡ [])) → IfSome o IsNumber
+    go : (o : Option Text) → IfSome o (λ v. IfSome (arg_by_id top.rules id) (λ r. values_fault r (v ∷ []) ≡ [])) → IfSome o (IsUnsignedIn 0 most)
     go None h = tt
     go (Some v) h = passed v (rw found at h)
 

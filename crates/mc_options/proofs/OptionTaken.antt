@@ -8,10 +8,11 @@ use Rattle.clap.specs.Simple.{Shape, built, entered}
 use Rattle.clap.specs.Faults.{check_fault, entered_fault, given_default_fault, defaults_fault, fault_of, use_fault, values_fault, walk_fault}
 use Rattle.clap.specs.Kinds.{or_else}
 use Rattle.clap.specs.ValueTests.{accepts}
+use Rattle.clap.specs.Values.{IsUnsignedIn}
 use Rattle.clap.proofs.ValueTestLemmas.{Accepts-accepts}
 use Rattle.clap.specs.declared.builder.value_parser.ValueParser.TheVariants as vp
 use Rattle.mc_options.specs.CommandLine.{mcslab}
-use Rattle.mc_options.specs.Options.{AreTaken, Choice, IsCommandLine, IsNewTo, IsNumber, IsNumberName, TakesValue, is_flag, words_of}
+use Rattle.mc_options.specs.Options.{AreTaken, Choice, IsCommandLine, IsMode, IsNewTo, IsNumber, IsNumberName, TakesValue, is_flag, words_of}
 use Rattle.mc_options.proofs.OptionCut.{IsName, Text, first_name, next_name}
 use Rattle.mc_options.proofs.OptionRows.{IsValued, new_row, used_new}
 use Rattle.mc_options.proofs.OptionWalk.{AreOptions, IsQuiet, apart_next, apart_turn, attached_next, end, ends, found_option, holds, joined_turn, more_quiet, next, pending_used, takes_valued, turn, valued_one, value_next, value_turn, waits_from}
@@ -30,20 +31,26 @@ pub record Takes (rules : List Rule) (name value : Text) : Type 0 where
 named : (i : ℕ) (is : List ℕ) → i ∷ is ≡ [] → ⊥
 named i is e = cc
 
-number_takes : (name value : Text) (a : Rule) → IsName name → arg_by_id top.rules name ≡ Some a → IsValued a → a.parser ≡ Some (vp.Unsigned 0 18446744073709551615) → IsNumber value → Takes top.rules name value
-number_takes name value a n found valued parser number =
-    let pass : accepts a.ignore_case (vp.Unsigned 0 18446744073709551615) value ≡ true = Accepts-accepts a.ignore_case (vp.Unsigned 0 18446744073709551615) value (number.0, number.1, omega arith, omega arith) in
+number_takes : (name value : Text) (a : Rule) (most : ℕ) → IsName name → arg_by_id top.rules name ≡ Some a → IsValued a → a.parser ≡ Some (vp.Unsigned 0 most) → IsUnsignedIn 0 most value → Takes top.rules name value
+number_takes name value a most n found valued parser number =
+    let pass : accepts a.ignore_case (vp.Unsigned 0 most) value ≡ true = Accepts-accepts a.ignore_case (vp.Unsigned 0 most) value number in
     record { is_name = n; rule = a; found = found; valued = valued; passes = rw (parser, pass) refl }
 
 number_name_takes : (name value : Text) → IsNumberName name → IsNumber value → Takes top.rules name value
-number_name_takes name value n number = elim n [
-  | inl e ↦ subst (λ (t : Text). Takes top.rules t value) (sym e) (number_takes (codes "page") value _ (refl, named _ _) refl (record { action = refl; range = refl; short = refl; short_aliases = refl; reading = refl }) refl number)
-  | inr (inl e) ↦ subst (λ (t : Text). Takes top.rules t value) (sym e) (number_takes (codes "limit") value _ (refl, named _ _) refl (record { action = refl; range = refl; short = refl; short_aliases = refl; reading = refl }) refl number)
-  | inr (inr (inl e)) ↦ subst (λ (t : Text). Takes top.rules t value) (sym e) (number_takes (codes "first") value _ (refl, named _ _) refl (record { action = refl; range = refl; short = refl; short_aliases = refl; reading = refl }) refl number)
-  | inr (inr (inr (inl e))) ↦ subst (λ (t : Text). Takes top.rules t value) (sym e) (number_takes (codes "max") value _ (refl, named _ _) refl (record { action = refl; range = refl; short = refl; short_aliases = refl; reading = refl }) refl number)
-  | inr (inr (inr (inr (inl e)))) ↦ subst (λ (t : Text). Takes top.rules t value) (sym e) (number_takes (codes "stripes") value _ (refl, named _ _) refl (record { action = refl; range = refl; short = refl; short_aliases = refl; reading = refl }) refl number)
-  | inr (inr (inr (inr (inr e)))) ↦ subst (λ (t : Text). Takes top.rules t value) (sym e) (number_takes (codes "bulk") value _ (refl, named _ _) refl (record { action = refl; range = refl; short = refl; short_aliases = refl; reading = refl }) refl number)
-]
+number_name_takes name value n number =
+    let up_to : IsUnsignedIn 0 18446744073709551615 value = (number.0, number.1, omega arith, omega arith) in
+    elim n [
+      | inl e ↦ subst (λ (t : Text). Takes top.rules t value) (sym e) (number_takes (codes "page") value _ _ (refl, named _ _) refl (record { action = refl; range = refl; short = refl; short_aliases = refl; reading = refl }) refl up_to)
+      | inr (inl e) ↦ subst (λ (t : Text). Takes top.rules t value) (sym e) (number_takes (codes "limit") value _ _ (refl, named _ _) refl (record { action = refl; range = refl; short = refl; short_aliases = refl; reading = refl }) refl up_to)
+      | inr (inr (inl e)) ↦ subst (λ (t : Text). Takes top.rules t value) (sym e) (number_takes (codes "first") value _ _ (refl, named _ _) refl (record { action = refl; range = refl; short = refl; short_aliases = refl; reading = refl }) refl up_to)
+      | inr (inr (inr (inl e))) ↦ subst (λ (t : Text). Takes top.rules t value) (sym e) (number_takes (codes "max") value _ _ (refl, named _ _) refl (record { action = refl; range = refl; short = refl; short_aliases = refl; reading = refl }) refl up_to)
+      | inr (inr (inr (inr (inl e)))) ↦ subst (λ (t : Text). Takes top.rules t value) (sym e) (number_takes (codes "stripes") value _ _ (refl, named _ _) refl (record { action = refl; range = refl; short = refl; short_aliases = refl; reading = refl }) refl up_to)
+      | inr (inr (inr (inr (inr e)))) ↦ subst (λ (t : Text). Takes top.rules t value) (sym e) (number_takes (codes "bulk") value _ _ (refl, named _ _) refl (record { action = refl; range = refl; short = refl; short_aliases = refl; reading = refl }) refl up_to)
+    ]
+
+automove_takes : (value : Text) → IsMode value → Takes top.rules (codes "automove") value
+automove_takes value mode =
+    number_takes (codes "automove") value _ 2 (refl, named _ _) refl (record { action = refl; range = refl; short = refl; short_aliases = refl; reading = refl }) refl (mode.0.0, mode.0.1, omega arith, mode.1)
 
 factor_takes : (value : Text) → Takes top.rules (codes "factor") value
 factor_takes value = record {
@@ -57,7 +64,8 @@ factor_takes value = record {
 pub takes : (name value : Text) → TakesValue name value → Takes top.rules name value
 takes name value t = elim t [
   | inl e ↦ subst (λ (n : Text). Takes top.rules n value) (sym e) (factor_takes value)
-  | inr both ↦ number_name_takes name value both.0 both.1
+  | inr (inl mode) ↦ subst (λ (n : Text). Takes top.rules n value) (sym mode.0) (automove_takes value mode.1)
+  | inr (inr number) ↦ number_name_takes name value number.0 number.1
 ]
 
 -- ---- the words

@@ -15,8 +15,12 @@ number_rule name = record (new_rule name) {
 abbrev pub factor_rule : Rule
 factor_rule = record (new_rule (codes "factor")) { long = Some (codes "factor"); value_names = 1 }
 
+-- the option of the automover's mode: a number from 0 to 2
+abbrev pub automove_rule : Rule
+automove_rule = record (number_rule (codes "automove")) { parser = Some (vp.Unsigned 0 2) }
+
 -- the options in their order
 abbrev pub mcslab : App
-mcslab = with_rule (with_rule (with_rule (with_rule (with_rule (with_rule (with_rule (new_app (codes "mcslab"))
+mcslab = with_rule (with_rule (with_rule (with_rule (with_rule (with_rule (with_rule (with_rule (new_app (codes "mcslab"))
     (number_rule (codes "page"))) (number_rule (codes "limit"))) (number_rule (codes "first"))) factor_rule)
-    (number_rule (codes "max"))) (number_rule (codes "stripes"))) (number_rule (codes "bulk"))
+    (number_rule (codes "max"))) (number_rule (codes "stripes"))) (number_rule (codes "bulk"))) automove_rule

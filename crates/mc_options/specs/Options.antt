@@ -1,5 +1,5 @@
 -- What the words of a command line ask for. A word's bytes are those of its text.
-use Rattle.std.specs.Prelude.{◌≡◌, ◌≢◌, ◌⊎◌, ℕ, ◌==◌, ◌&&◌, ◌||◌, ◌^◌, ◌<◌, ◌++◌, not, Bool, true, false, List, [], ◌∷◌, codes, length, nat_le, slice_get, if◌then◌else◌, Option, Some, None}
+use Rattle.std.specs.Prelude.{◌≡◌, ◌≢◌, ◌⊎◌, ℕ, ◌==◌, ◌&&◌, ◌||◌, ◌^◌, ◌<◌, ◌≤◌, ◌++◌, not, Bool, true, false, List, [], ◌∷◌, codes, length, nat_le, slice_get, if◌then◌else◌, Option, Some, None}
 use Rattle.std.specs.List.{before_first, after_first}
 use Rattle.std.specs.Str.{all_ascii_digits}
 use Rattle.std.specs.Str.Parse.{IsNumeral, digits_value, without_leading_plus}
@@ -30,6 +30,10 @@ value_of name (word ∷ rest) = value_from (after (codes "--" ++ name) word) res
 -- decimal digits of a number below 2^64, perhaps behind a `+`
 abbrev pub IsNumber : List ℕ → Type 0
 IsNumber text = IsNumeral 10 (without_leading_plus text) × (digits_value 10 (without_leading_plus text) < 2 ^ 64)
+
+-- a number that is at most 2, as the automover's modes are
+abbrev pub IsMode : List ℕ → Type 0
+IsMode text = IsNumber text × (digits_value 10 (without_leading_plus text) ≤ 2)
 
 -- the number that a value writes, or what it is where there is no value
 abbrev pub number_or : ℕ → Option (List ℕ) → ℕ
@@ -78,9 +82,9 @@ words_of (choice ∷ rest) = written choice ++ words_of rest
 abbrev pub IsNumberName : List ℕ → Type 0
 IsNumberName name = (name ≡ codes "page") ⊎ ((name ≡ codes "limit") ⊎ ((name ≡ codes "first") ⊎ ((name ≡ codes "max") ⊎ ((name ≡ codes "stripes") ⊎ (name ≡ codes "bulk")))))
 
--- the option takes the value: the factor takes any
+-- the option takes the value: the factor takes any, and the automover a mode
 abbrev pub TakesValue : List ℕ → List ℕ → Type 0
-TakesValue name value = (name ≡ codes "factor") ⊎ (IsNumberName name × IsNumber value)
+TakesValue name value = (name ≡ codes "factor") ⊎ (((name ≡ codes "automove") × IsMode value) ⊎ (IsNumberName name × IsNumber value))
 
 -- a hyphen (45) and more behind it
 abbrev pub is_flag : List ℕ → Bool
@@ -123,4 +127,7 @@ config_of words = record {
 
 -- what the words behind the program's name ask for
 abbrev pub options_of : List (List ℕ) → Options
-options_of words = record { run = record { config = config_of words; automove = 0 }; threads = false }
+options_of words = record {
+  run = record { config = config_of words; automove = number_or 0 (value_of (codes "automove") words) };
+  threads = false;
+}

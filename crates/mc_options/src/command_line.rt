@@ -1,8 +1,8 @@
 //! The command line of `mcslab`.
-ghost use Rattle.std.specs.Prelude.{◌≡◌, IfErr, IfOk, IfSome, codes, drop, false, map};
+ghost use Rattle.std.specs.Prelude.{◌≡◌, ◌≤◌, IfErr, IfOk, IfSome, codes, drop, false, map};
 ghost use Rattle.std.specs.Str.{all_ascii_digits};
 ghost use Rattle.clap.specs.Words.{app_of, first_value, found_of, kind_of, one_text, rule_of};
-ghost use Rattle.mc_options.specs.CommandLine.{factor_rule, mcslab, number_rule};
+ghost use Rattle.mc_options.specs.CommandLine.{automove_rule, factor_rule, mcslab, number_rule};
 ghost use Rattle.mc_options.specs.Options.{IsCommandLine, IsNumber, factor_of, factor_or, is_short_number, number_or, options_of, short_number_of};
 
 use crate::settings::{Options, Run};
@@ -35,6 +35,19 @@ fn factor_option<'a>(alloc: Global) -> Arg<'a>
         .help(
             "Growth from class to class, a ratio of two numbers of 1 to 5 digits; default 2/1, above 1, NUM up to 65535",
         )
+}
+
+/// The option of the automover's mode.
+fn automove_option<'a>(alloc: Global) -> Arg<'a>
+    ensures rule { rule_of result ≡ automove_rule }
+    ensures local { result.global ≡ false }
+{
+    number_option(
+        alloc,
+        "automove",
+        "Mode of the automover: 0 is off, 1 acts on windows, 2 on evictions; default 0",
+    )
+    .value_parser(value_parser!(u64).range(0..=2))
 }
 
 /// The command line's options.
@@ -73,6 +86,7 @@ fn command<'a>(alloc: Global) -> Result<Command<'a>, Error>
         "bulk",
         "Chunks that the mover looks at in a turn; default 64, from 1 to 256",
     );
+    let automove = automove_option(alloc);
     let command = Command::new(alloc, "mcslab")
         .about(
             "Runs a script on a slab memory: commands from standard input, replies to standard output",
@@ -83,7 +97,8 @@ fn command<'a>(alloc: Global) -> Result<Command<'a>, Error>
         .arg(factor)?
         .arg(max)?
         .arg(stripes)?
-        .arg(bulk)?;
+        .arg(bulk)?
+        .arg(automove)?;
     Ok(command)
 }
 
@@ -146,6 +161,7 @@ fn factor_or_default(matches: &ArgMatches<'_>) -> (u64, u64)
 /// Reads the words of a command line, of which the first is the program's name.
 pub fn options<S: AsStr>(alloc: Global, words: &[S]) -> Result<Options, Error>
     ensures taken { IfOk result (λ options. options ≡ options_of (drop 1 (map S.text words.now))) }
+    ensures mode { IfOk result (λ options. options.run.automove ≤ 2) }
     ensures refused { IfErr result (λ error. IsCommandLine (drop 1 (map S.text words.now)) → kind_of error ≡ ErrorKind.OutOfMemory) }
 {
     let matches = command(alloc)?.try_get_matches_from(words)?;
@@ -163,7 +179,7 @@ pub fn options<S: AsStr>(alloc: Global, words: &[S]) -> Result<Options, Error>
     Ok(Options {
         run: Run {
             config,
-            automove: 0,
+            automove: number_or(&matches, "automove", 0),
         },
         threads: false,
     })

@@ -6,7 +6,7 @@ use mc_classes::Config;
 pub struct Run {
     /// Sizes and limits.
     pub config: Config,
-    /// The automover's mode: 0 is off, and there is no other yet.
+    /// The automover's mode: 0 is off, 1 acts on the decision of each window, 2 asks for a page after each eviction.
     pub automove: u64,
 }
 

@@ -116,6 +116,8 @@ fn reads_all_options(rt: HostRuntime) -> Result<(), Fail> {
         "--bulk=8",
         "--stripes",
         "7",
+        "--automove",
+        "2",
         "--max",
         "6",
         "--factor",
@@ -135,7 +137,17 @@ fn reads_all_options(rt: HostRuntime) -> Result<(), Fail> {
         stripes: 7,
         bulk: 8,
     };
-    assert_eq!(rt; config_of(&rt, &words)?, config);
+    let run = Run {
+        config,
+        automove: 2,
+    };
+    assert_eq!(rt;
+        options(rt.alloc(), &words)?,
+        Options {
+            run,
+            threads: false,
+        }
+    );
     Ok(())
 }
 
@@ -164,6 +176,38 @@ fn reads_any_factor(rt: HostRuntime) -> Result<(), Fail> {
     Ok(())
 }
 
+#[test]
+fn reads_the_mode_of_the_automover(rt: HostRuntime) -> Result<(), Fail> {
+    let rows: [(&[&str], u64); 12] = [
+        (&["mcslab"], 0),
+        (&["mcslab", "--bulk", "64"], 0),
+        (&["mcslab", "--automove", "0"], 0),
+        (&["mcslab", "--automove=0"], 0),
+        (&["mcslab", "--automove", "1"], 1),
+        (&["mcslab", "--automove=1"], 1),
+        (&["mcslab", "--automove", "2"], 2),
+        (&["mcslab", "--automove=2"], 2),
+        (&["mcslab", "--automove", "01"], 1),
+        (&["mcslab", "--automove=+1"], 1),
+        (&["mcslab", "--automove=2", "--stripes", "4"], 2),
+        (&["mcslab", "--stripes=4", "--automove", "+002"], 2),
+    ];
+    for (words, automove) in rows {
+        assert_eq!(rt;
+            options(rt.alloc(), words)?,
+            Options {
+                run: Run {
+                    config: DEFAULTS,
+                    automove,
+                },
+                threads: false,
+            },
+            "{words:?}"
+        );
+    }
+    Ok(())
+}
+
 /// The kind of the error that words are refused with.
 fn refusal_of(rt: &impl AllocGlobal, words: &[&str]) -> Result<Option<ErrorKind>, Fail> {
     match options(rt.alloc(), words) {
@@ -175,7 +219,7 @@ fn refusal_of(rt: &impl AllocGlobal, words: &[&str]) -> Result<Option<ErrorKind>
 
 #[test]
 fn refuses_other_words(rt: HostRuntime) -> Result<(), Fail> {
-    let rows: [(&[&str], ErrorKind); 11] = [
+    let rows: [(&[&str], ErrorKind); 19] = [
         (&["mcslab", "--page"], ErrorKind::InvalidValue),
         (&["mcslab", "--page", "--max", "8"], ErrorKind::InvalidValue),
         (&["mcslab", "--page", "x"], ErrorKind::ValueValidation),
@@ -187,6 +231,20 @@ fn refuses_other_words(rt: HostRuntime) -> Result<(), Fail> {
         (&["mcslab", "--page", "-1"], ErrorKind::UnknownArgument),
         (
             &["mcslab", "--page", "1", "--page=2"],
+            ErrorKind::ArgumentConflict,
+        ),
+        (&["mcslab", "--automove"], ErrorKind::InvalidValue),
+        (&["mcslab", "--automove", "3"], ErrorKind::ValueValidation),
+        (&["mcslab", "--automove=3"], ErrorKind::ValueValidation),
+        (
+            &["mcslab", "--automove", "18446744073709551615"],
+            ErrorKind::ValueValidation,
+        ),
+        (&["mcslab", "--automove", "x"], ErrorKind::ValueValidation),
+        (&["mcslab", "--automove", ""], ErrorKind::ValueValidation),
+        (&["mcslab", "--automove="], ErrorKind::ValueValidation),
+        (
+            &["mcslab", "--automove", "1", "--automove=1"],
             ErrorKind::ArgumentConflict,
         ),
         (&["mcslab", "--bogus"], ErrorKind::UnknownArgument),

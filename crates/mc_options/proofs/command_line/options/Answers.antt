@@ -1,8 +1,9 @@
-use Rattle.std.proofs.Common.{◌≡◌, ◌∙◌, ℕ, List, [], ◌∷◌, IfSome, inl, inr, true, false, Option, Some, codes, drop, ap, refl, sym, subst}
+use Rattle.std.proofs.Common.{◌≡◌, ◌∙◌, ◌≤◌, ℕ, None, arith, List, [], ◌∷◌, IfSome, inl, inr, true, false, Option, Some, codes, drop, ap, refl, sym, subst}
 use Rattle.clap.specs.Words.{HasKind, Kinds, kind_of, first_value, found_of, one_text, HasMatchesOf}
 use Rattle.clap.specs.Faults.{fault_of, is_simple_and_free}
 use Rattle.clap.specs.Walk.{Rule, arg_by_id}
 use Rattle.clap.specs.Simple.{App}
+use Rattle.clap.specs.Values.{IsUnsignedIn}
 use Rattle.clap.specs.declared.builder.value_parser.ValueParser.TheVariants as vp
 use Rattle.clap.specs.declared.parser.matches.ArgMatches.{ArgMatches}
 use Rattle.std.proofs.lemmas.Result.{err_from_is_err_and}
@@ -18,12 +19,22 @@ use Rattle.mc_options.proofs.command_line.options.Goals as goal
 named : (i : ℕ) (is : List ℕ) → i ∷ is ≡ [] → ⊥
 named i is e = cc
 
--- a number's text is a number
-is_number : (a : App) (words : List (List ℕ)) (m : ArgMatches) (id : List ℕ) (r : Rule) → a ≡ mcslab → HasMatchesOf a words m → (is_simple_and_free a ≡ true → fault_of a words ≡ []) → IsName id
-    → arg_by_id top.rules id ≡ Some r → r.parser ≡ Some (vp.Unsigned 0 18446744073709551615) → IfSome (one_text (found_of m) id) IsNumber
-is_number a words m id r is h kinds n found parser =
+-- a number's text passed clap's reader
+is_up_to : (most : ℕ) (a : App) (words : List (List ℕ)) (m : ArgMatches) (id : List ℕ) (r : Rule) → a ≡ mcslab → HasMatchesOf a words m → (is_simple_and_free a ≡ true → fault_of a words ≡ []) → IsName id
+    → arg_by_id top.rules id ≡ Some r → r.parser ≡ Some (vp.Unsigned 0 most) → IfSome (one_text (found_of m) id) (IsUnsignedIn 0 most)
+is_up_to most a words m id r is h kinds n found parser =
     let q = no_fault a words is kinds in
-    subst (λ (o : Option (List ℕ)). IfSome o IsNumber) (sym (one_is a words m id is h q n)) (number_found words id r q n found parser)
+    subst (λ (o : Option (List ℕ)). IfSome o (IsUnsignedIn 0 most)) (sym (one_is a words m id is h q n)) (number_found words id r most q n found parser)
+
+-- so it is a number
+is_number : (most : ℕ) (text : Option (List ℕ)) → IfSome text (IsUnsignedIn 0 most) → IfSome text IsNumber
+is_number most None h = tt
+is_number most (Some text) h = (h.0, h.1)
+
+-- and at most the most
+at_most : (most value : ℕ) (text : Option (List ℕ)) → IfSome text (IsUnsignedIn 0 most) → value ≡ number_or 0 text → value ≤ most
+at_most most value None h e = rw e (omega arith)
+at_most most value (Some text) h e = rw e h.3
 
 -- and is what the words have
 number_is : (a : App) (words : List (List ℕ)) (m : ArgMatches) (id : List ℕ) (default value : ℕ) → a ≡ mcslab → HasMatchesOf a words m → (is_simple_and_free a ≡ true → fault_of a words ≡ []) → IsName id
@@ -35,22 +46,30 @@ factor_is : (a : App) (words : List (List ℕ)) (m : ArgMatches) (id : List ℕ)
 factor_is a words m id value is h kinds n e = e ∙ ap factor_or (first_is a words m id is h (no_fault a words is kinds) n)
 
 pub number_or-requires : goal.number_or-requires
-number_or-requires g c = is_number _ _ c.in_ok-matches.matches (codes "page") _ c.in_ok-command.ensures.app c.in_ok-matches.ensures.matches c.in_ok-matches.ensures.kinds (refl, named _ _) refl refl
+number_or-requires g c = is_number 18446744073709551615 _ (is_up_to 18446744073709551615 _ _ c.in_ok-matches.matches (codes "page") _ c.in_ok-command.ensures.app c.in_ok-matches.ensures.matches c.in_ok-matches.ensures.kinds (refl, named _ _) refl refl)
 
 pub number_or-requires-2 : goal.number_or-requires-2
-number_or-requires-2 g c = is_number _ _ c.in_ok-matches.matches (codes "limit") _ c.in_ok-command.ensures.app c.in_ok-matches.ensures.matches c.in_ok-matches.ensures.kinds (refl, named _ _) refl refl
+number_or-requires-2 g c = is_number 18446744073709551615 _ (is_up_to 18446744073709551615 _ _ c.in_ok-matches.matches (codes "limit") _ c.in_ok-command.ensures.app c.in_ok-matches.ensures.matches c.in_ok-matches.ensures.kinds (refl, named _ _) refl refl)
 
 pub number_or-requires-3 : goal.number_or-requires-3
-number_or-requires-3 g c = is_number _ _ c.in_ok-matches.matches (codes "first") _ c.in_ok-command.ensures.app c.in_ok-matches.ensures.matches c.in_ok-matches.ensures.kinds (refl, named _ _) refl refl
+number_or-requires-3 g c = is_number 18446744073709551615 _ (is_up_to 18446744073709551615 _ _ c.in_ok-matches.matches (codes "first") _ c.in_ok-command.ensures.app c.in_ok-matches.ensures.matches c.in_ok-matches.ensures.kinds (refl, named _ _) refl refl)
 
 pub number_or-requires-4 : goal.number_or-requires-4
-number_or-requires-4 g c = is_number _ _ c.in_ok-matches.matches (codes "max") _ c.in_ok-command.ensures.app c.in_ok-matches.ensures.matches c.in_ok-matches.ensures.kinds (refl, named _ _) refl refl
+number_or-requires-4 g c = is_number 18446744073709551615 _ (is_up_to 18446744073709551615 _ _ c.in_ok-matches.matches (codes "max") _ c.in_ok-command.ensures.app c.in_ok-matches.ensures.matches c.in_ok-matches.ensures.kinds (refl, named _ _) refl refl)
 
 pub number_or-requires-5 : goal.number_or-requires-5
-number_or-requires-5 g c = is_number _ _ c.in_ok-matches.matches (codes "stripes") _ c.in_ok-command.ensures.app c.in_ok-matches.ensures.matches c.in_ok-matches.ensures.kinds (refl, named _ _) refl refl
+number_or-requires-5 g c = is_number 18446744073709551615 _ (is_up_to 18446744073709551615 _ _ c.in_ok-matches.matches (codes "stripes") _ c.in_ok-command.ensures.app c.in_ok-matches.ensures.matches c.in_ok-matches.ensures.kinds (refl, named _ _) refl refl)
 
 pub number_or-requires-6 : goal.number_or-requires-6
-number_or-requires-6 g c = is_number _ _ c.in_ok-matches.matches (codes "bulk") _ c.in_ok-command.ensures.app c.in_ok-matches.ensures.matches c.in_ok-matches.ensures.kinds (refl, named _ _) refl refl
+number_or-requires-6 g c = is_number 18446744073709551615 _ (is_up_to 18446744073709551615 _ _ c.in_ok-matches.matches (codes "bulk") _ c.in_ok-command.ensures.app c.in_ok-matches.ensures.matches c.in_ok-matches.ensures.kinds (refl, named _ _) refl refl)
+
+pub number_or-requires-7 : goal.number_or-requires-7
+number_or-requires-7 g c = is_number 2 _ (is_up_to 2 _ _ c.in_ok-matches.matches (codes "automove") _ c.in_ok-command.ensures.app c.in_ok-matches.ensures.matches c.in_ok-matches.ensures.kinds (refl, named _ _) refl refl)
+
+pub returns-clause-mode : goal.returns-clause-mode
+returns-clause-mode g c =
+    let mode = is_up_to 2 _ _ c.in_ok-matches.matches (codes "automove") _ c.in_ok-command.ensures.app c.in_ok-matches.ensures.matches c.in_ok-matches.ensures.kinds (refl, named _ _) refl refl in
+    at_most 2 c.number_or-7.result _ mode c.number_or-7.ensures
 
 pub returns-clause-taken : goal.returns-clause-taken
 returns-clause-taken g c =
@@ -60,11 +79,12 @@ returns-clause-taken g c =
     let max = number_is _ _ c.in_ok-matches.matches (codes "max") 512 c.number_or-4.result c.in_ok-command.ensures.app c.in_ok-matches.ensures.matches c.in_ok-matches.ensures.kinds (refl, named _ _) c.number_or-4.ensures in
     let stripes = number_is _ _ c.in_ok-matches.matches (codes "stripes") 4 c.number_or-5.result c.in_ok-command.ensures.app c.in_ok-matches.ensures.matches c.in_ok-matches.ensures.kinds (refl, named _ _) c.number_or-5.ensures in
     let bulk = number_is _ _ c.in_ok-matches.matches (codes "bulk") 64 c.number_or-6.result c.in_ok-command.ensures.app c.in_ok-matches.ensures.matches c.in_ok-matches.ensures.kinds (refl, named _ _) c.number_or-6.ensures in
+    let automove = number_is _ _ c.in_ok-matches.matches (codes "automove") 0 c.number_or-7.result c.in_ok-command.ensures.app c.in_ok-matches.ensures.matches c.in_ok-matches.ensures.kinds (refl, named _ _) c.number_or-7.ensures in
     let factor = factor_is _ _ c.in_ok-matches.matches (codes "factor") c.factor_or_default-num.result c.in_ok-command.ensures.app c.in_ok-matches.ensures.matches c.in_ok-matches.ensures.kinds (refl, named _ _) c.factor_or_default-num.ensures in
     λ i. record {
       run = record {
         config = record { page = page i; limit = limit i; first = first i; num = (factor i).0; den = (factor i).1; max = max i; stripes = stripes i; bulk = bulk i };
-        automove = 0;
+        automove = automove i;
       };
       threads = false;
     }
