@@ -64,26 +64,31 @@ fn lines_at_the_edge(rt: HostRuntime) -> Result<(), Fail> {
 fn truncated_scripts(rt: HostRuntime) -> Result<(), Fail> {
     let (_, script, _, _) = moves::ROWS[5];
     let script = script.as_bytes();
-    let mut lines = 0;
     let mut before = Vec::new(rt.alloc());
-    for length in 0..script.len() {
-        let played = play(rt.alloc(), FOUR_CLASSES, &script[..length], WHOLE)?;
+    for (length, byte) in script.iter().enumerate() {
+        let cut = &script[..length];
+        let played = play(rt.alloc(), FOUR_CLASSES, cut, WHOLE)?;
         match played.end {
             Ok(()) => {
                 assert!(rt; played.text.starts_with(&before), "{length} bytes");
             }
-            end => {
-                assert_eq!(rt; end, Err(RunFault::Script(lines + 1)), "{length} bytes");
+            Err(fault) => {
+                assert_eq!(rt; fault, RunFault::Script(last_line(cut)), "{length} bytes");
                 assert_eq!(rt; played.text.len(), 0, "{length} bytes");
             }
         }
-        if script[length] == b'\n' {
-            lines += 1;
+        if *byte == b'\n' {
             let whole = play(rt.alloc(), FOUR_CLASSES, &script[..=length], WHOLE)?;
-            assert_eq!(rt; whole.end, Ok(()), "{lines} lines");
+            assert_eq!(rt; whole.end, Ok(()), "{length} bytes");
             before = whole.text;
         }
     }
-    assert_eq!(rt; lines, 15);
+    assert_eq!(rt; last_line(script), 16);
     Ok(())
+}
+
+/// The number of the line with which a script ends.
+fn last_line(script: &[u8]) -> u64 {
+    let ends = script.iter().filter(|byte| **byte == b'\n').count();
+    (ends as u64).saturating_add(1)
 }

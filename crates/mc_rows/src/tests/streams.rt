@@ -84,8 +84,8 @@ fn a_reader_that_fails_in_a_long_script(rt: HostRuntime) -> Result<(), Fail> {
 #[test]
 fn a_writer_that_fails_in_a_long_script(rt: HostRuntime) -> Result<(), Fail> {
     let (_, script, replies, _) = moves::ROWS[2];
-    let mut good_writes = 0;
-    loop {
+    let mut whole = None;
+    for good_writes in 0..32 {
         let limits = StreamLimits {
             good_writes,
             ..WHOLE
@@ -94,6 +94,7 @@ fn a_writer_that_fails_in_a_long_script(rt: HostRuntime) -> Result<(), Fail> {
         assert!(rt; !played.wrote_again, "after {good_writes} writes");
         if played.end == Ok(()) {
             assert_eq!(rt; played.text.as_slice(), replies.as_bytes());
+            whole = Some(good_writes);
             break;
         }
         assert_eq!(rt;
@@ -105,8 +106,7 @@ fn a_writer_that_fails_in_a_long_script(rt: HostRuntime) -> Result<(), Fail> {
             replies.as_bytes().starts_with(&played.text),
             "after {good_writes} writes"
         );
-        good_writes += 1;
     }
-    assert_eq!(rt; good_writes, 16);
+    assert_eq!(rt; whole, Some(16));
     Ok(())
 }
