@@ -5,7 +5,7 @@
 //! of the mover.
 #![tactic(auto)]
 
-ghost use Rattle.std.specs.Prelude.{◌≡◌, ◌<◌, IfOk};
+ghost use Rattle.std.specs.Prelude.{◌≡◌, ◌<◌, ◌≤◌, IfOk};
 ghost use Rattle.mc_driver.specs.Status.{status_of};
 
 use mc_classes::{Failures, Fault};
@@ -59,7 +59,7 @@ impl From<io::Error> for Stop {
 
 /// The options that the program was started with.
 fn started_with<R: Env + AllocGlobal>(rt: &R) -> Result<Options, Stop>
-    ensures { IfOk result (λ options. options.run.automove ≡ 0) }
+    ensures { IfOk result (λ options. options.run.automove ≤ 2) }
 {
     let words: Vec<String> = env::args(rt)?.collect(rt.alloc()).map_err(RunFault::from)?;
     Ok(options(rt.alloc(), words.as_slice())?)
@@ -72,7 +72,7 @@ fn serve<R: Input + Print + AllocGlobal, I: Ledger, O: Ledger>(
     reads: Blank,
     writes: Blank,
 ) -> Result<(), RunFault>
-    requires automove { run.now.automove ≡ 0 }
+    requires automove { run.now.automove ≤ 2 }
     requires reads_name { reads.name ≡ I.name }
     requires reads_parts { reads.parts ≡ I.parts }
     requires reads_some { 0 < reads.parts }
