@@ -31,7 +31,7 @@ value_of name (word ∷ rest) = value_from (after (codes "--" ++ name) word) res
 abbrev pub IsNumber : List ℕ → Type 0
 IsNumber text = IsNumeral 10 (without_leading_plus text) × (digits_value 10 (without_leading_plus text) < 2 ^ 64)
 
--- a number that is at most 2, as the automover's modes are
+-- a mode of the automover: a number that is at most 2
 abbrev pub IsMode : List ℕ → Type 0
 IsMode text = IsNumber text × (digits_value 10 (without_leading_plus text) ≤ 2)
 

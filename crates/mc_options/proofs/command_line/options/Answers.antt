@@ -46,30 +46,25 @@ factor_is : (a : App) (words : List (List ℕ)) (m : ArgMatches) (id : List ℕ)
 factor_is a words m id value is h kinds n e = e ∙ ap factor_or (first_is a words m id is h (no_fault a words is kinds) n)
 
 pub number_or-requires : goal.number_or-requires
-number_or-requires g c = is_number 18446744073709551615 _ (is_up_to 18446744073709551615 _ _ c.in_ok-matches.matches (codes "page") _ c.in_ok-command.ensures.app c.in_ok-matches.ensures.matches c.in_ok-matches.ensures.kinds (refl, named _ _) refl refl)
+number_or-requires g c = is_number _ _ (is_up_to _ _ _ c.in_ok-matches.matches _ _ c.in_ok-command.ensures.app c.in_ok-matches.ensures.matches c.in_ok-matches.ensures.kinds (refl, named _ _) refl refl)
 
 pub number_or-requires-2 : goal.number_or-requires-2
-number_or-requires-2 g c = is_number 18446744073709551615 _ (is_up_to 18446744073709551615 _ _ c.in_ok-matches.matches (codes "limit") _ c.in_ok-command.ensures.app c.in_ok-matches.ensures.matches c.in_ok-matches.ensures.kinds (refl, named _ _) refl refl)
+number_or-requires-2 g c = is_number _ _ (is_up_to _ _ _ c.in_ok-matches.matches _ _ c.in_ok-command.ensures.app c.in_ok-matches.ensures.matches c.in_ok-matches.ensures.kinds (refl, named _ _) refl refl)
 
 pub number_or-requires-3 : goal.number_or-requires-3
-number_or-requires-3 g c = is_number 18446744073709551615 _ (is_up_to 18446744073709551615 _ _ c.in_ok-matches.matches (codes "first") _ c.in_ok-command.ensures.app c.in_ok-matches.ensures.matches c.in_ok-matches.ensures.kinds (refl, named _ _) refl refl)
+number_or-requires-3 g c = is_number _ _ (is_up_to _ _ _ c.in_ok-matches.matches _ _ c.in_ok-command.ensures.app c.in_ok-matches.ensures.matches c.in_ok-matches.ensures.kinds (refl, named _ _) refl refl)
 
 pub number_or-requires-4 : goal.number_or-requires-4
-number_or-requires-4 g c = is_number 18446744073709551615 _ (is_up_to 18446744073709551615 _ _ c.in_ok-matches.matches (codes "max") _ c.in_ok-command.ensures.app c.in_ok-matches.ensures.matches c.in_ok-matches.ensures.kinds (refl, named _ _) refl refl)
+number_or-requires-4 g c = is_number _ _ (is_up_to _ _ _ c.in_ok-matches.matches _ _ c.in_ok-command.ensures.app c.in_ok-matches.ensures.matches c.in_ok-matches.ensures.kinds (refl, named _ _) refl refl)
 
 pub number_or-requires-5 : goal.number_or-requires-5
-number_or-requires-5 g c = is_number 18446744073709551615 _ (is_up_to 18446744073709551615 _ _ c.in_ok-matches.matches (codes "stripes") _ c.in_ok-command.ensures.app c.in_ok-matches.ensures.matches c.in_ok-matches.ensures.kinds (refl, named _ _) refl refl)
+number_or-requires-5 g c = is_number _ _ (is_up_to _ _ _ c.in_ok-matches.matches _ _ c.in_ok-command.ensures.app c.in_ok-matches.ensures.matches c.in_ok-matches.ensures.kinds (refl, named _ _) refl refl)
 
 pub number_or-requires-6 : goal.number_or-requires-6
-number_or-requires-6 g c = is_number 18446744073709551615 _ (is_up_to 18446744073709551615 _ _ c.in_ok-matches.matches (codes "bulk") _ c.in_ok-command.ensures.app c.in_ok-matches.ensures.matches c.in_ok-matches.ensures.kinds (refl, named _ _) refl refl)
+number_or-requires-6 g c = is_number _ _ (is_up_to _ _ _ c.in_ok-matches.matches _ _ c.in_ok-command.ensures.app c.in_ok-matches.ensures.matches c.in_ok-matches.ensures.kinds (refl, named _ _) refl refl)
 
 pub number_or-requires-7 : goal.number_or-requires-7
-number_or-requires-7 g c = is_number 2 _ (is_up_to 2 _ _ c.in_ok-matches.matches (codes "automove") _ c.in_ok-command.ensures.app c.in_ok-matches.ensures.matches c.in_ok-matches.ensures.kinds (refl, named _ _) refl refl)
-
-pub returns-clause-mode : goal.returns-clause-mode
-returns-clause-mode g c =
-    let mode = is_up_to 2 _ _ c.in_ok-matches.matches (codes "automove") _ c.in_ok-command.ensures.app c.in_ok-matches.ensures.matches c.in_ok-matches.ensures.kinds (refl, named _ _) refl refl in
-    at_most 2 c.number_or-7.result _ mode c.number_or-7.ensures
+number_or-requires-7 g c = is_number _ _ (is_up_to _ _ _ c.in_ok-matches.matches _ _ c.in_ok-command.ensures.app c.in_ok-matches.ensures.matches c.in_ok-matches.ensures.kinds (refl, named _ _) refl refl)
 
 pub returns-clause-taken : goal.returns-clause-taken
 returns-clause-taken g c =
@@ -88,6 +83,11 @@ returns-clause-taken g c =
       };
       threads = false;
     }
+
+pub returns-clause-mode : goal.returns-clause-mode
+returns-clause-mode g c =
+    let mode = is_up_to 2 _ _ c.in_ok-matches.matches (codes "automove") _ c.in_ok-command.ensures.app c.in_ok-matches.ensures.matches c.in_ok-matches.ensures.kinds (refl, named _ _) refl refl in
+    at_most 2 c.number_or-7.result _ mode c.number_or-7.ensures
 
 -- a command line fails for want of memory alone
 memory_alone : (a : App) (words : List (List ℕ)) (e : Error) → a ≡ mcslab → (is_simple_and_free a ≡ true → HasKind (fault_of a words) e) → IsCommandLine (drop 1 words) → kind_of e ≡ OutOfMemory
