@@ -9,6 +9,3 @@ pub mod Mover
 pub mod Lines
 pub mod Texts
 pub mod Kept
-pub mod Answered
-pub mod Words
-pub mod Rows

@@ -25,7 +25,7 @@ pub use serve::Stop;
 use std::alloc::{AllocError, Global};
 use std::collections::BTreeMap;
 use std::marker::Model;
-pub(crate) use turn::{Counts, Ending};
+pub use turn::{Counts, Ending};
 
 /// What a serial run stores: pages and chunks, the items in them, where each key leads, and who holds which chunk.
 #[derive(Drop)]

@@ -2,12 +2,11 @@
 //!
 //! [`Keeper`] holds pages, chunks and items as one thread needs them: no lock, no count, no header. What it answers
 //! to a command, and what it is afterwards, is what a plain machine over lists says; that machine is this crate's
-//! definition. The functions of [`laws`] say what follows of the machine alone.
+//! definition.
 #![tactic(auto)]
 
 mod keeper;
-pub mod laws;
 mod reply;
 mod text;
 
-pub use keeper::{Keeper, Stop};
+pub use keeper::{Counts, Ending, Keeper, Stop};

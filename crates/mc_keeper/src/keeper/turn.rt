@@ -6,12 +6,12 @@ use mc_pages::Found;
 
 /// What was done in some turns. Chunks whose item was rescued or evicted were cleared too.
 #[derive(Clone, Copy, Debug, PartialEq, Eq)]
-pub(crate) struct Counts {
-    pub(crate) cleared: u64,
-    pub(crate) rescued: u64,
-    pub(crate) evicted: u64,
-    pub(crate) busy: u64,
-    pub(crate) locked: u64,
+pub struct Counts {
+    pub cleared: u64,
+    pub rescued: u64,
+    pub evicted: u64,
+    pub busy: u64,
+    pub locked: u64,
 }
 
 impl Counts {
@@ -52,7 +52,7 @@ impl Counts {
 
 /// How a turn ends.
 #[derive(Clone, Copy, Debug, PartialEq, Eq)]
-pub(crate) enum Ending {
+pub enum Ending {
     /// No page is moving.
     Idle,
     /// The page goes on moving.

@@ -1,12 +1,12 @@
 use Rattle.std.proofs.Common.{[], subst}
 use Rattle.std.proofs.lemmas.Option.{same_Some}
-use Rattle.mc_keeper.specs.Answered.{answers, last_words}
+use Rattle.mc_laws.specs.Answered.{answers, last_words}
 use Rattle.mc_keeper.specs.Lines.{Served, looked_up}
 use Rattle.mc_keeper.specs.Machine.{fresh_machine}
-use Rattle.mc_keeper.specs.Words.{IsReplyToGet}
-use Rattle.mc_keeper.proofs.ToldRuns.{told_run}
-use Rattle.mc_keeper.proofs.ToldWords.{get_tells}
-use Rattle.mc_keeper.proofs.laws.values_were_stored.Goals as goal
+use Rattle.mc_laws.specs.Words.{IsReplyToGet}
+use Rattle.mc_laws.proofs.ToldRuns.{told_run}
+use Rattle.mc_laws.proofs.ToldWords.{get_tells}
+use Rattle.mc_laws.proofs.laws.values_were_stored.Goals as goal
 
 pub returns : goal.returns
 returns c = λ table bulk mode commands sound valid m worker key served after is.

@@ -1,6 +1,6 @@
 use Rattle.std.proofs.Common.{refl}
 use Rattle.std.specs.Fmt.{digits}
-use Rattle.mc_keeper.proofs.laws.worked_examples.Goals as goal
+use Rattle.mc_laws.proofs.laws.worked_examples.Goals as goal
 
 pub returns-clause-first_path : goal.returns-clause-first_path
 unfolding digits

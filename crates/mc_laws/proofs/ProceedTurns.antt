@@ -16,9 +16,9 @@ use Rattle.mc_keeper.specs.Machine.{Machine, with_cut_page}
 use Rattle.mc_keeper.specs.Mover.{Counted, Turned, is_at_end, is_went, most_turns, turned, turns_from, with_chunks, with_end, with_finish}
 use Rattle.mc_keeper.proofs.KeptMoverFinish.{kept_pooled, kept_recut, per_page_finished, per_page_there, uncut_finished}
 use Rattle.mc_keeper.proofs.KeptMoverPass.{kept_moved}
-use Rattle.mc_keeper.proofs.Lawful.{IsLawful, Proceeds, proceeds_same, proceeds_from, proceeds_slabs, proceeds_then}
-use Rattle.mc_keeper.proofs.ProceedLooks.{proceeds_chunks}
-use Rattle.mc_keeper.proofs.ProceedPages.{all_cut}
+use Rattle.mc_laws.proofs.Lawful.{IsLawful, Proceeds, proceeds_same, proceeds_from, proceeds_slabs, proceeds_then}
+use Rattle.mc_laws.proofs.ProceedLooks.{proceeds_chunks}
+use Rattle.mc_laws.proofs.ProceedPages.{all_cut}
 
 -- a pass begins anew
 proceeds_wrapped : (m : Machine) (move : Moving) → IsLawful m → m.slabs.moving ≡ Some move → is_at_end m move ≡ true → nat_lt 0 move.busy ≡ true

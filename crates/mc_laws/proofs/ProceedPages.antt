@@ -14,9 +14,9 @@ use Rattle.mc_keeper.proofs.Cuts.{chunk_at, cuts_more, next_after_cut, next_cut}
 use Rattle.mc_keeper.proofs.Grown.{per_page_given, per_page_grown}
 use Rattle.mc_keeper.proofs.KeptChanges.{kept_grow}
 use Rattle.mc_keeper.proofs.Stocks.{IsClass-stocked, IsClass-swept}
-use Rattle.mc_keeper.proofs.Lawful.{IsLawful, Proceeds, proceeds_same, proceeds_slabs, proceeds_then}
-use Rattle.mc_keeper.proofs.ProceedEvicts.{proceeds_relieved}
-use Rattle.mc_keeper.proofs.ProceedSweeps.{proceeds_swept}
+use Rattle.mc_laws.proofs.Lawful.{IsLawful, Proceeds, proceeds_same, proceeds_slabs, proceeds_then}
+use Rattle.mc_laws.proofs.ProceedEvicts.{proceeds_relieved}
+use Rattle.mc_laws.proofs.ProceedSweeps.{proceeds_swept}
 
 -- the chunks of a page are cut, one after another
 pub cuts_in_order : (slabs : SlabState) (granted page per_page index : ℕ) → IsInOrder slabs granted → slabs.uncut ≡ next_cut page per_page 0

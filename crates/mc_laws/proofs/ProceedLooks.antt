@@ -23,9 +23,9 @@ use Rattle.std.proofs.lemmas.Bool.{and_parts, not-true}
 use Rattle.mc_keeper.proofs.KeptMoverClear.{idle_here, own_from_cut}
 use Rattle.mc_keeper.proofs.KeptMoverPass.{can_pass, kept_moved, position_cut}
 use Rattle.mc_keeper.proofs.MoverSaves.{class_swept, idle_swept, moving-swept, own_swept, target_free}
-use Rattle.mc_keeper.proofs.Lawful.{IsLawful, Proceeds, proceeds_same, proceeds_slabs, proceeds_then}
-use Rattle.mc_keeper.proofs.ProceedClears.{Clears, clears_dead, clears_free, clears_idle, clears_rescued}
-use Rattle.mc_keeper.proofs.ProceedSweeps.{proceeds_swept}
+use Rattle.mc_laws.proofs.Lawful.{IsLawful, Proceeds, proceeds_same, proceeds_slabs, proceeds_then}
+use Rattle.mc_laws.proofs.ProceedClears.{Clears, clears_dead, clears_free, clears_idle, clears_rescued}
+use Rattle.mc_laws.proofs.ProceedSweeps.{proceeds_swept}
 
 -- the machine went on, and the chunk is cleared where nothing held it up
 pub record LooksOn (m : Machine) (class : ℕ) (chunk : ChunkId) (looked : Looked) : Type 0 where

@@ -20,15 +20,15 @@ use Rattle.mc_keeper.specs.Kept.{places}
 use Rattle.mc_keeper.specs.Machine.{Machine, is_dead, is_idle}
 use Rattle.mc_keeper.specs.Mover.{with_cleared}
 use Rattle.mc_keeper.proofs.Chunks.{none-places, places_none}
-use Rattle.mc_keeper.proofs.FoundItems.{found_before, item_at-with_item}
-use Rattle.mc_keeper.proofs.Indexes.{index_of, leads_index}
+use Rattle.mc_laws.proofs.FoundItems.{found_before, item_at-with_item}
+use Rattle.mc_laws.proofs.Indexes.{index_of, leads_index}
 use Rattle.mc_keeper.proofs.KeptChanges.{place_once}
 use Rattle.mc_keeper.proofs.KeptMoverClear.{cleared_after, contains_counted, dead_here, handed_item, idle_here, kept_cleared, kept_freed, leads_dead}
 use Rattle.mc_keeper.proofs.KeptMoverRescue.{kept_rescued, listed_still, vacant}
 use Rattle.mc_keeper.proofs.KeptStore.{is_at-tells}
 use Rattle.mc_keeper.proofs.Orders.{in_lists_once}
 use Rattle.mc_keeper.proofs.Sweeps.{item_at-without_item}
-use Rattle.mc_keeper.proofs.Lawful.{IsLawful, Proceeds, as_held, not_held, proceeds_from, proceeds_slabs, proceeds_without}
+use Rattle.mc_laws.proofs.Lawful.{IsLawful, Proceeds, as_held, not_held, proceeds_from, proceeds_slabs, proceeds_without}
 
 -- the machine went on, and the chunk is cleared
 pub record Clears (m new : Machine) (class : ℕ) (chunk : ChunkId) : Type 0 where

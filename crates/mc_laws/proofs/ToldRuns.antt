@@ -24,15 +24,15 @@ use Rattle.mc_keeper.specs.Machine.{Machine, all_swept, fresh_machine, with_mode
 use Rattle.mc_keeper.specs.Mover.{Turned, after_turns, no_counts}
 use Rattle.mc_keeper.specs.declared.keeper.turn.Ending.TheVariants.{Idle}
 use Rattle.mc_keeper.specs.Texts.{key_line}
-use Rattle.mc_keeper.specs.Answered.{Answered, answers}
+use Rattle.mc_laws.specs.Answered.{Answered, answers}
 use Rattle.mc_keeper.proofs.KeptChanges.{kept_fresh}
-use Rattle.mc_keeper.proofs.Lawful.{proceeds_same, proceeds_then}
-use Rattle.mc_keeper.proofs.ProceedCommands.{proceeds_acted, proceeds_asked, proceeds_automove, proceeds_fed, proceeds_touched}
-use Rattle.mc_keeper.proofs.ProceedSweeps.{proceeds_all_swept}
-use Rattle.mc_keeper.proofs.ProceedTurns.{proceeds_turns}
-use Rattle.mc_keeper.proofs.Told.{AreTold, told_on}
-use Rattle.mc_keeper.proofs.ToldSets.{answered_by, told_delete, told_set}
-use Rattle.mc_keeper.proofs.ToldHolds.{told_drop, told_hold}
+use Rattle.mc_laws.proofs.Lawful.{proceeds_same, proceeds_then}
+use Rattle.mc_laws.proofs.ProceedCommands.{proceeds_acted, proceeds_asked, proceeds_automove, proceeds_fed, proceeds_touched}
+use Rattle.mc_laws.proofs.ProceedSweeps.{proceeds_all_swept}
+use Rattle.mc_laws.proofs.ProceedTurns.{proceeds_turns}
+use Rattle.mc_laws.proofs.Told.{AreTold, told_on}
+use Rattle.mc_laws.proofs.ToldSets.{answered_by, told_delete, told_set}
+use Rattle.mc_laws.proofs.ToldHolds.{told_drop, told_hold}
 
 -- nobody holds anything at first
 none_held : (count worker : ℕ) → held_by (replicate count []) worker ≡ []

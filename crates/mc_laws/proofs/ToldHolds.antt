@@ -17,13 +17,13 @@ use Rattle.mc_keeper.specs.Kept.{places}
 use Rattle.mc_keeper.specs.Lines.{Served, dropped, held, last_hold, let_go, told as told_line}
 use Rattle.mc_keeper.specs.Machine.{Machine}
 use Rattle.mc_keeper.specs.Texts.{key_line}
-use Rattle.mc_keeper.specs.Answered.{Answered, held_words, last_words, with_held, without_held}
+use Rattle.mc_laws.specs.Answered.{Answered, held_words, last_words, with_held, without_held}
 use Rattle.mc_keeper.proofs.Links.{LinkedIn, linked_in, some_places}
 use Rattle.mc_keeper.proofs.KeptChanges.{place_once}
-use Rattle.mc_keeper.proofs.Lawful.{IsLawful, as_held, proceeds_same, stored_as}
-use Rattle.mc_keeper.proofs.Stands.{Stand, finds_passing, stand_without, times-without-le}
-use Rattle.mc_keeper.proofs.Told.{AreTold, told_on}
-use Rattle.mc_keeper.proofs.ToldSets.{answered_by, both_pass, first_fails, same_text, second_fails}
+use Rattle.mc_laws.proofs.Lawful.{IsLawful, as_held, proceeds_same, stored_as}
+use Rattle.mc_laws.proofs.Stands.{Stand, finds_passing, stand_without, times-without-le}
+use Rattle.mc_laws.proofs.Told.{AreTold, told_on}
+use Rattle.mc_laws.proofs.ToldSets.{answered_by, both_pass, first_fails, same_text, second_fails}
 
 -- a worker holds other chunks, and one more answer tells what they store
 module _ (m : Machine) (answers : List Answered) (answered : Answered) (worker : ℕ) (chunks : List ChunkId) (told : AreTold m answers) (few : worker ≤ 63)

@@ -1,11 +1,11 @@
 use Rattle.std.proofs.Common.{[], ap, sym, ◌∙◌}
 use Rattle.std.proofs.lemmas.Option.{same_Some}
-use Rattle.mc_keeper.specs.Answered.{answers}
+use Rattle.mc_laws.specs.Answered.{answers}
 use Rattle.mc_keeper.specs.Lines.{Served, dropped, last_hold}
 use Rattle.mc_keeper.specs.Machine.{fresh_machine}
-use Rattle.mc_keeper.proofs.ToldRuns.{told_run}
-use Rattle.mc_keeper.proofs.ToldWords.{drop_tells}
-use Rattle.mc_keeper.proofs.laws.dropped_were_held.Goals as goal
+use Rattle.mc_laws.proofs.ToldRuns.{told_run}
+use Rattle.mc_laws.proofs.ToldWords.{drop_tells}
+use Rattle.mc_laws.proofs.laws.dropped_were_held.Goals as goal
 
 pub returns : goal.returns
 returns c = λ table bulk mode commands sound valid m worker key served after is.

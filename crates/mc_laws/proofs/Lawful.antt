@@ -17,12 +17,12 @@ use Rattle.mc_keeper.specs.Items.{Items, item_at, without_item}
 use Rattle.mc_keeper.specs.Holds.{Holds, held_by, hold_count, is_held}
 use Rattle.mc_keeper.specs.Kept.{places, IsKept}
 use Rattle.mc_keeper.specs.Machine.{Machine}
-use Rattle.mc_keeper.specs.Answered.{HeldWords}
+use Rattle.mc_laws.specs.Answered.{HeldWords}
 use Rattle.mc_keeper.proofs.Chunks.{places_none}
 use Rattle.mc_keeper.proofs.Links.{some_places}
 use Rattle.mc_keeper.proofs.KeptChanges.{place_once}
 use Rattle.mc_keeper.proofs.Sweeps.{item_at-without_item}
-use Rattle.mc_keeper.proofs.FoundItems.{found_before}
+use Rattle.mc_laws.proofs.FoundItems.{found_before}
 
 pub record IsLawful (m : Machine) : Type 0 where
   -- some index leads where the items' keys lead

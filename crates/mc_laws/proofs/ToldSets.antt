@@ -18,12 +18,12 @@ use Rattle.mc_keeper.specs.Lines.{Served, deleted, set_in, stored, with_stored}
 use Rattle.mc_keeper.specs.Machine.{Machine}
 use Rattle.mc_keeper.specs.Supply.{asks_for_page, supplied, supply}
 use Rattle.mc_keeper.specs.Texts.{key_line}
-use Rattle.mc_keeper.specs.Answered.{Answered, last_words}
+use Rattle.mc_laws.specs.Answered.{Answered, last_words}
 use Rattle.mc_keeper.proofs.Stocks.{IsClass-supplied, nowhere-unlinked}
-use Rattle.mc_keeper.proofs.Lawful.{Proceeds, proceeds_same, proceeds_then}
-use Rattle.mc_keeper.proofs.ProceedCommands.{linked_still, proceeds_asked, proceeds_unlinked}
-use Rattle.mc_keeper.proofs.ProceedPages.{proceeds_supplied}
-use Rattle.mc_keeper.proofs.Told.{AreTold, told_on, told_still, told_stored, told_unlinked}
+use Rattle.mc_laws.proofs.Lawful.{Proceeds, proceeds_same, proceeds_then}
+use Rattle.mc_laws.proofs.ProceedCommands.{linked_still, proceeds_asked, proceeds_unlinked}
+use Rattle.mc_laws.proofs.ProceedPages.{proceeds_supplied}
+use Rattle.mc_laws.proofs.Told.{AreTold, told_on, told_still, told_stored, told_unlinked}
 
 -- a text is itself
 pub same_text : (text : List ℕ) → bytes_eq text text ≡ true

@@ -20,7 +20,7 @@ use Rattle.mc_keeper.proofs.KeptChanges.{kept_reclaim}
 use Rattle.mc_keeper.proofs.KeptMoverClear.{contains_counted, dead_here, handed_item}
 use Rattle.mc_keeper.proofs.Stocks.{classes-sweeps, sweeps_more}
 use Rattle.mc_keeper.proofs.Sweeps.{is_dead-reclaimed}
-use Rattle.mc_keeper.proofs.Lawful.{IsLawful, Proceeds, proceeds_same, proceeds_then, proceeds_without}
+use Rattle.mc_laws.proofs.Lawful.{IsLawful, Proceeds, proceeds_same, proceeds_then, proceeds_without}
 
 -- the chunk of an item goes back to its class
 pub order_back : (m : Machine) (chunk : ChunkId) (item : Item) (lawful : IsLawful m) → item_at m.items chunk ≡ Some item

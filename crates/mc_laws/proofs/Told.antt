@@ -18,14 +18,14 @@ use Rattle.mc_keeper.specs.Item.{Item, is_linked_to, new_item}
 use Rattle.mc_keeper.specs.Items.{chunk_cmp, item_at, linked_chunk, with_item}
 use Rattle.mc_keeper.specs.Holds.{held_by}
 use Rattle.mc_keeper.specs.Machine.{Machine}
-use Rattle.mc_keeper.specs.Answered.{Answered, HeldWords, last_words, held_words}
+use Rattle.mc_laws.specs.Answered.{Answered, HeldWords, last_words, held_words}
 use Rattle.mc_keeper.proofs.Chunks.{places-with_item, places_none}
-use Rattle.mc_keeper.proofs.FoundItems.{item_at-with_item}
-use Rattle.mc_keeper.proofs.Indexes.{index_of, leads_index}
+use Rattle.mc_laws.proofs.FoundItems.{item_at-with_item}
+use Rattle.mc_laws.proofs.Indexes.{index_of, leads_index}
 use Rattle.mc_keeper.proofs.KeptStore.{IsNext, is_at-tells, is_next, kept_store}
 use Rattle.mc_keeper.proofs.Links.{linked_chunk-with_item}
-use Rattle.mc_keeper.proofs.Lawful.{IsLawful, Proceeds, as_held, stored_as}
-use Rattle.mc_keeper.proofs.Stands.{Stand, stand_on}
+use Rattle.mc_laws.proofs.Lawful.{IsLawful, Proceeds, as_held, stored_as}
+use Rattle.mc_laws.proofs.Stands.{Stand, stand_on}
 
 pub record AreTold (m : Machine) (answers : List Answered) : Type 0 where
   pub lawful : IsLawful m

@@ -12,12 +12,12 @@ use Rattle.mc_keeper.specs.Items.{is_linked, without_item}
 use Rattle.mc_keeper.specs.Holds.{is_held}
 use Rattle.mc_keeper.specs.Machine.{Machine, has_free, is_idle}
 use Rattle.mc_keeper.specs.Supply.{eviction_tries, relieved, victim, with_eviction}
-use Rattle.mc_keeper.proofs.Indexes.{index_of, leads_index}
+use Rattle.mc_laws.proofs.Indexes.{index_of, leads_index}
 use Rattle.mc_keeper.proofs.KeptEvict.{kept_counted}
 use Rattle.mc_keeper.proofs.KeptMoverClear.{idle_here, kept_back}
 use Rattle.mc_keeper.proofs.Victims.{found_holds}
-use Rattle.mc_keeper.proofs.Lawful.{IsLawful, Proceeds, proceeds_same, proceeds_without}
-use Rattle.mc_keeper.proofs.ProceedSweeps.{order_back}
+use Rattle.mc_laws.proofs.Lawful.{IsLawful, Proceeds, proceeds_same, proceeds_without}
+use Rattle.mc_laws.proofs.ProceedSweeps.{order_back}
 
 proceeds_evicted : (m : Machine) (class : ℕ) (chunk : ChunkId) → IsLawful m → IsClass m.slabs class → is_idle m chunk ≡ true
     → Proceeds m (with_eviction m class (Some chunk))

@@ -10,13 +10,13 @@ use Rattle.mc_keeper.specs.Holds.{held_by, is_full}
 use Rattle.mc_keeper.specs.Lines.{dropped, last_hold, let_go, looked_up, read, told}
 use Rattle.mc_keeper.specs.Machine.{Machine}
 use Rattle.mc_keeper.specs.Texts.{key_line, words_line}
-use Rattle.mc_keeper.specs.Answered.{Answered, HeldWords, held_words, last_words}
-use Rattle.mc_keeper.specs.Words.{IsReplyToGet, absent, found, full, reply_to_drop}
+use Rattle.mc_laws.specs.Answered.{Answered, HeldWords, held_words, last_words}
+use Rattle.mc_laws.specs.Words.{IsReplyToGet, absent, found, full, reply_to_drop}
 use Rattle.mc_keeper.proofs.KeptChanges.{place_once}
-use Rattle.mc_keeper.proofs.Lawful.{as_held}
+use Rattle.mc_laws.proofs.Lawful.{as_held}
 use Rattle.mc_keeper.proofs.Links.{LinkedIn, linked_in}
-use Rattle.mc_keeper.proofs.Stands.{FindsSame, finds_same}
-use Rattle.mc_keeper.proofs.Told.{AreTold}
+use Rattle.mc_laws.proofs.Stands.{FindsSame, finds_same}
+use Rattle.mc_laws.proofs.Told.{AreTold}
 
 module _ (m : Machine) (answers : List Answered) (all : AreTold m answers) where
   -- a look-up of the chunk to which the key leads

@@ -4,8 +4,8 @@ ghost use Rattle.std.specs.Prelude.{ℕ, All, List};
 ghost use Rattle.mc_classes.specs.Classes.{Classes, IsSound};
 ghost use Rattle.mc_script.specs.Command.{IsValid};
 ghost use Rattle.mc_script.specs.declared.command.Command.{Command};
-ghost use Rattle.mc_keeper.specs.Rows.{AnswersOfReassign, BusyItem, DeadMakesRoom, EvictionAsksForAPage, FirstPath, FullClassEvicts, HeldIsKept, OneChunkATurn, PageThroughThePool, PageToAnotherClass, PageToSpare, PageToTheLeader, RescueIntoDead, ShadowedHold, TooManyHeld, TouchedIsKept, TwoMovesByThePick, WordsFromAnswers};
-ghost use Rattle.mc_keeper.specs.Words.{TellsHeldWords, TellsLastWords};
+ghost use Rattle.mc_laws.specs.Rows.{AnswersOfReassign, BusyItem, DeadMakesRoom, EvictionAsksForAPage, FirstPath, FullClassEvicts, HeldIsKept, OneChunkATurn, PageThroughThePool, PageToAnotherClass, PageToSpare, PageToTheLeader, RescueIntoDead, ShadowedHold, TooManyHeld, TouchedIsKept, TwoMovesByThePick, WordsFromAnswers};
+ghost use Rattle.mc_laws.specs.Words.{TellsHeldWords, TellsLastWords};
 
 /// What scripts of all forms of lines are answered: items that come and go, are held and touched, and pages that
 /// move, also by themselves.

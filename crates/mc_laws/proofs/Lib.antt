@@ -1,0 +1,16 @@
+pub mod FoundItems
+pub mod Indexes
+pub mod Lawful
+pub mod ProceedSweeps
+pub mod ProceedEvicts
+pub mod ProceedPages
+pub mod ProceedClears
+pub mod ProceedLooks
+pub mod ProceedTurns
+pub mod ProceedCommands
+pub mod Stands
+pub mod Told
+pub mod ToldSets
+pub mod ToldHolds
+pub mod ToldRuns
+pub mod ToldWords
