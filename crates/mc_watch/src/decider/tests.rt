@@ -1,6 +1,6 @@
 use crate::decider::{Decider, Decision};
 use crate::refusal::{Feed, NoMemory};
-use mc_classes::{ClassTable, Config};
+use mc_classes::{ClassTable, Config, ConfigError};
 use std::alloc::Global;
 use std::process::Abort;
 use std::test::Fail;
@@ -160,6 +160,27 @@ fn refusals_leave_the_decider_alone(rt: HostRuntime) -> Result<(), Fail> {
         assert_eq!(rt; fed, Err(refusal), "{evictions:?}");
     }
     assert_eq!(rt; decider.feed(&[0, 0, 0, 9], &PAGES, &NONE), Ok(moves(1, 4)));
+    Ok(())
+}
+
+/// Where one allocation is refused (`rt try --test --fail-alloc N`), the call answers that, and its repeat goes well.
+#[test]
+fn made_at_the_second_try(rt: HostRuntime) -> Result<(), Fail> {
+    let table = match ClassTable::build(rt.alloc(), &A) {
+        Ok(table) => table,
+        Err(error) => {
+            assert_eq!(rt; error, ConfigError::NoMemory);
+            ClassTable::build(rt.alloc(), &A)?
+        }
+    };
+    let mut decider = match Decider::new(rt.alloc(), &table) {
+        Ok(decider) => decider,
+        Err(NoMemory) => Decider::new(rt.alloc(), &table)?,
+    };
+    assert_eq!(rt;
+        decider.feed(&NONE, &PAGES, &[53, 0, 0, 0]),
+        Ok(moves(1, 0))
+    );
     Ok(())
 }
 
