@@ -118,6 +118,10 @@ check_options() {
 --page -1
 --page 18446744073709551616
 --page 1024 --page 1024
+--automove 3
+--automove x
+--automove 18446744073709551616
+--automove 1 --automove 1
 --frob
 more
 ROWS
@@ -152,6 +156,21 @@ check_taken() {
         'STAT total_malloced 16384' END
     run_on "$room/script" --page 16384 --limit 65536 --first 64 --stripes 64 --bulk 256
     wants "a page of 16384 bytes" 0
+    {
+        printf '1 set %s 61 0\n' 1 2 3 4 5 6
+        printf '1 del %s\n' 1 2 3 4 5 6
+        printf 'window\n'
+    } >"$room/script"
+    replies 'STORED 1' 'STORED 2' 'STORED 3' 'STORED 4' 'STORED 5' 'STORED 6' \
+        'DELETED 1' 'DELETED 2' 'DELETED 3' 'DELETED 4' 'DELETED 5' 'DELETED 6' 'WINDOW 4 0 OK'
+    run_on "$room/script" --automove 1
+    wants "--automove 1" 0
+    run_on "$room/script" --automove=01
+    wants "--automove=01" 0
+    head -c -15 "$room/want" >"$room/shorter"
+    printf 'WINDOW none\r\n' | cat "$room/shorter" - >"$room/want"
+    run_on "$room/script" --automove 2
+    wants "--automove 2" 0
     printf '1 set 1 61 0\n1 set 2 61 0\n1 set 3 61 0\n1 get 1\n' >"$room/script"
     replies 'STORED 1' 'STORED 2' 'STORED 3' 'NOT_FOUND 1'
     run_on "$room/script" --limit 2047
