@@ -1,5 +1,11 @@
 pub mod Chunks
 pub mod Lists
+pub mod Runs
+pub mod RunChanges
+pub mod RowFields
+pub mod Joined
+pub mod Linked
+pub mod ClassRows
 pub mod Owners
 pub mod Replays
 pub mod OneClass
