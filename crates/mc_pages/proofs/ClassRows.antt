@@ -1,6 +1,7 @@
 -- A class's lists after a chunk went from one to the other.
-use Rattle.std.proofs.Common.{◌≡◌, ◌≢◌, ℕ, ◌+◌, ◌<◌, ◌≤◌, Bool, true, false, cond, List, [], ◌∷◌, ◌++◌, length, slice_get, Option, Some, None, refl, sym, ap, ap₂, ◌∙◌, subst, inl, inr, arith}
+use Rattle.std.proofs.Common.{◌≡◌, ◌≢◌, ℕ, ◌+◌, ◌<◌, ◌≤◌, zero, suc, Bool, true, false, cond, List, [], ◌∷◌, ◌++◌, length, slice_get, Option, Some, None, refl, sym, ap, ap₂, ◌∙◌, subst, inl, inr, arith}
 use Rattle.std.proofs.lemmas.Bool.{cases_Bool, cases_lt, false≢true}
+use Rattle.std.proofs.lemmas.Option.{slice_get_cases, slice_get_past}
 use Rattle.mc_pages.specs.declared.ids.ChunkId.{ChunkId}
 use Rattle.mc_pages.specs.declared.rows.ListName.{ListName}
 use Rattle.mc_pages.specs.declared.rows.ListName.TheVariants.{Free, Out}
@@ -10,8 +11,9 @@ use Rattle.mc_pages.specs.Accounted.{truth}
 use Rattle.mc_pages.specs.Rows.{RowsState, IsRow, row_at, field_of, length_of}
 use Rattle.mc_pages.specs.Linked.{IsRun, AreLinked, IsUnlisted, chunks_of, with_list, sizes_of}
 use Rattle.mc_pages.specs.ClassRows.{with_lists, HasBecome}
-use Rattle.mc_pages.proofs.Chunks.{is_chunk-same, same_from_is_chunk, times-tail, times-without, times_from_Contains, Contains_from_slice_get}
+use Rattle.mc_pages.proofs.Chunks.{is_chunk-same, same_from_is_chunk, times-cons, times-tail, times-without, times_from_Contains, Contains_from_slice_get}
 use Rattle.mc_pages.proofs.Runs.{Links, None≢Some}
+use Rattle.mc_pages.proofs.RunChanges.{IsOnce, once-rest}
 use Rattle.mc_pages.proofs.RowFields.{cases_list}
 use Rattle.mc_pages.proofs.Joined.{forth_in, back_in}
 use Rattle.mc_pages.proofs.Linked.{with_list-same, with_list-other}
@@ -159,4 +161,33 @@ listed_free rows class chunk is listed side =
     elim (cases_lt 0 (times chunk (chunks_of rows (Out class)))) [
       | inl there ↦ absurd (false≢true (sym side ∙ is.sides (Out class) chunk there))
       | inr none ↦ omega (arith, none, listed)
+    ]
+
+-- behind the chunk at a place of a list stands the chunk at the next place
+behind_at_some : (chunk : ChunkId) (chunks : List ChunkId) (place : ℕ) → IsOnce chunks → slice_get chunks place ≡ Some chunk → behind chunk chunks ≡ slice_get chunks (suc place)
+behind_at_some chunk [] place once h = absurd (None≢Some chunk h)
+behind_at_some chunk (c ∷ cs) zero once h =
+    let same : c ≡ chunk = cc h in
+    ap (λ b. cond b (slice_get cs 0) (behind chunk cs)) (subst (λ (x : ChunkId). is_chunk c x ≡ true) same (is_chunk-same c))
+behind_at_some chunk (c ∷ cs) (suc place) once h =
+    let read : Bool → Option ChunkId = λ b. cond b (slice_get cs 0) (behind chunk cs) in
+    elim (cases_Bool (is_chunk c chunk)) [
+      | inl same ↦
+          let there = times_from_Contains chunk cs (Contains_from_slice_get chunk cs place h) in
+          absurd (omega (arith, there, once chunk, times-cons chunk c cs, ap truth same))
+      | inr other ↦ ap read other ∙ behind_at_some chunk cs place (once-rest c cs once) h
+    ]
+
+pub behind_at : (rows : RowsState) (list : ListName) (chunk : ChunkId) (place : ℕ) → AreLinked rows → slice_get (chunks_of rows list) place ≡ Some chunk → behind chunk (chunks_of rows list) ≡ slice_get (chunks_of rows list) (place + 1)
+behind_at rows list chunk place is h = behind_at_some chunk (chunks_of rows list) place (is.once list) h ∙ ap (λ (n : ℕ). slice_get (chunks_of rows list) n) (omega arith)
+
+-- past a place where a list has no chunk it has none
+pub none_past : (chunks : List ChunkId) (place later : ℕ) → slice_get chunks place ≡ None → place ≤ later → slice_get chunks later ≡ None
+none_past chunks place later h le =
+    elim (cases_lt place (length chunks)) [
+      | inl within ↦ elim (slice_get_cases chunks place).1 [
+        | inl (x, _, there, _) ↦ absurd (None≢Some x (sym h ∙ there))
+        | inr (past, _) ↦ absurd (omega (arith, past, within))
+      ]
+      | inr past ↦ slice_get_past chunks later (omega (arith, past, le))
     ]

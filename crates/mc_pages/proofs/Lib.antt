@@ -29,6 +29,7 @@ pub mod KeptFinish
 pub mod HandedOut
 pub mod Kept
 pub mod Roomy
+pub mod States
 pub mod RoomySlabs
 pub mod RoomyFresh
 pub mod RoomyGrow

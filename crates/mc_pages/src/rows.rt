@@ -190,3 +190,6 @@ impl Rows {
         (chunk.page * self.most + chunk.index) as usize
     }
 }
+
+#[cfg(test)]
+pub(crate) mod tests;

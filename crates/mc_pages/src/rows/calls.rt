@@ -113,4 +113,20 @@ impl Rows {
     {
         self.get(Field::Next(chunk))
     }
+
+    /// The chunk at this place of a list. It walks along the list.
+    pub(crate) fn at(&self, list: ListName, place: u64) -> Option<ChunkId>
+        requires linked { AreLinked self.now }
+        requires list { IsList self.now list }
+        ensures { result ≡ slice_get (chunks_of self.now list) place }
+    {
+        let mut link = self.first(list);
+        for _ in 0..place {
+            match link {
+                Some(chunk) => link = self.next(list, chunk),
+                None => return None,
+            }
+        }
+        link
+    }
 }
