@@ -1,5 +1,11 @@
 pub mod Chunks
 pub mod Lists
+pub mod Runs
+pub mod RunChanges
+pub mod RowFields
+pub mod Joined
+pub mod Linked
+pub mod ClassRows
 pub mod Owners
 pub mod Replays
 pub mod OneClass
@@ -23,6 +29,7 @@ pub mod KeptFinish
 pub mod HandedOut
 pub mod Kept
 pub mod Roomy
+pub mod States
 pub mod RoomySlabs
 pub mod RoomyFresh
 pub mod RoomyGrow

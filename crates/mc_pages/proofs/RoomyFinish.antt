@@ -10,14 +10,17 @@ use Rattle.mc_pages.specs.declared.ledger.Entry.{Entry}
 use Rattle.mc_pages.specs.declared.ledger.Entry.TheVariants.{Ended}
 use Rattle.mc_pages.specs.declared.slabs.Slabs.TheInside.{Inside}
 use Rattle.mc_pages.specs.ClassState.{ClassState, counted, with_page, without_page}
-use Rattle.mc_pages.specs.Room.{RoomyClass, in_state}
+use Rattle.mc_pages.specs.Rows.{RowsState}
+use Rattle.mc_pages.specs.Room.{RoomyClass, in_state, states}
 use Rattle.mc_pages.specs.SlabState.{SlabState, IsClass, class_at}
 use Rattle.mc_pages.specs.Changes.{with_class, with_given}
 use Rattle.mc_pages.specs.Moves.{released, finished}
 use Rattle.mc_pages.specs.Accounted.{truth, IsMove}
-use Rattle.mc_pages.specs.InOrder.{AreKept, slabs_of, is_awaited}
+use Rattle.mc_pages.specs.Linked.{Sizes, sizes_of}
+use Rattle.mc_pages.specs.InOrder.{HasRows, AreKept, slabs_of, is_awaited}
 use Rattle.mc_pages.proofs.Owners.{within_from_owned}
-use Rattle.mc_pages.proofs.RoomySlabs.{states, roomy_at, state_at-roomy, roomy_at_read, Fits, Fits-set, IsClass-set, length-states, read_state, read_room, with_roomy, slabs_of-changed}
+use Rattle.mc_pages.proofs.States.{pages_at}
+use Rattle.mc_pages.proofs.RoomySlabs.{roomy_at, roomy_at_read, Fits, Fits-set, IsClass-set, length-classes, read_state, read_room, with_roomy, slabs_of-changed, HasRows-changed}
 
 -- what a moving page's owner is says that it is one of the pages
 pub moving_within : (slabs : SlabState) (move : Moving) → IsMove slabs move → move.page < length slabs.owners
@@ -47,11 +50,11 @@ arrives slabs move pooled = record (if pooled then released slabs move.page move
 }
 
 -- the page goes into the pool
-pub pooled_is : (slabs : Inside) (move : Moving) (read removed : RoomyClass) (pool : List ℕ) (ledger : List Entry) (moved : ℕ) → IsClass (slabs_of slabs) move.src → read ≡ slice_index_or slabs.classes.items (move.src - 1) read → removed ≡ in_state read (without_page read.state move.page) → pool ≡ slabs.pool.items ++ move.page ∷ [] → ledger ≡ slabs.ledger.items ++ Ended move.page move.dst ∷ [] → moved ≡ counted slabs.moved 1 → move.dst ≡ 0 → ended_with (slabs_of slabs) (states (set slabs.classes.items (move.src - 1) removed)) (set slabs.owners.items move.page Pool) pool ledger moved ≡ finished (slabs_of slabs) move
+pub pooled_is : (slabs : Inside) (move : Moving) (read removed : RoomyClass) (pool : List ℕ) (ledger : List Entry) (moved : ℕ) → IsClass (slabs_of slabs) move.src → read ≡ slice_index_or slabs.classes.items (move.src - 1) read → removed ≡ in_state read (without_page read.state move.page) → pool ≡ slabs.pool.items ++ move.page ∷ [] → ledger ≡ slabs.ledger.items ++ Ended move.page move.dst ∷ [] → moved ≡ counted slabs.moved 1 → move.dst ≡ 0 → ended_with (slabs_of slabs) (states slabs.rows (set slabs.classes.items (move.src - 1) removed)) (set slabs.owners.items move.page Pool) pool ledger moved ≡ finished (slabs_of slabs) move
 pooled_is slabs move read removed pool ledger moved is h changed pool_is ledger_is moved_is to_pool =
     let s = slabs_of slabs in
     let owners : List Owner = set slabs.owners.items move.page Pool in
-    let left = slabs_of-changed slabs move.src (move.src - 1) read removed (λ class. without_page class move.page) is refl h changed in
+    let left = slabs_of-changed slabs move.src (move.src - 1) read removed (λ class. without_page class move.page) is refl h changed refl in
     let classes = (with_class s move.src (without_page (class_at s move.src) move.page)).classes in
     ap (λ (t : SlabState). ended_with s t.classes owners pool ledger moved) left
     ∙ (ap₂ (λ (ps : List ℕ) (es : List Entry). ended_with s classes owners ps es moved) pool_is ledger_is
@@ -62,17 +65,17 @@ pooled_is slabs move read removed pool ledger moved is h changed pool_is ledger_
 abbrev pub joined_with : SlabState → Moving → List ClassState → List Owner → List Entry → ℕ → SlabState
 joined_with slabs move classes owners ledger moved = record (ended_with slabs classes owners slabs.pool ledger moved) { uncut = Some (record { page = move.page; index = 0 }) }
 
-pub joined_is : (slabs : Inside) (move : Moving) (read removed read-2 added : RoomyClass) (ledger : List Entry) (moved : ℕ) → IsClass (slabs_of slabs) move.src → IsClass (slabs_of slabs) move.dst → read ≡ slice_index_or slabs.classes.items (move.src - 1) read → removed ≡ in_state read (without_page read.state move.page) → read-2 ≡ slice_index_or (set slabs.classes.items (move.src - 1) removed) (move.dst - 1) read-2 → added ≡ in_state read-2 (with_page read-2.state move.page) → ledger ≡ slabs.ledger.items ++ Ended move.page move.dst ∷ [] → moved ≡ counted slabs.moved 1 → move.dst ≢ 0 → joined_with (slabs_of slabs) move (states (set (set slabs.classes.items (move.src - 1) removed) (move.dst - 1) added)) (set slabs.owners.items move.page (Class move.dst)) ledger moved ≡ finished (slabs_of slabs) move
+pub joined_is : (slabs : Inside) (move : Moving) (read removed read-2 added : RoomyClass) (ledger : List Entry) (moved : ℕ) → IsClass (slabs_of slabs) move.src → IsClass (slabs_of slabs) move.dst → read ≡ slice_index_or slabs.classes.items (move.src - 1) read → removed ≡ in_state read (without_page read.state move.page) → read-2 ≡ slice_index_or (set slabs.classes.items (move.src - 1) removed) (move.dst - 1) read-2 → added ≡ in_state read-2 (with_page read-2.state move.page) → ledger ≡ slabs.ledger.items ++ Ended move.page move.dst ∷ [] → moved ≡ counted slabs.moved 1 → move.dst ≢ 0 → joined_with (slabs_of slabs) move (states slabs.rows (set (set slabs.classes.items (move.src - 1) removed) (move.dst - 1) added)) (set slabs.owners.items move.page (Class move.dst)) ledger moved ≡ finished (slabs_of slabs) move
 joined_is slabs move read removed read-2 added ledger moved is is-2 h changed h-2 changed-2 ledger_is moved_is to_class =
     let s = slabs_of slabs in
     let shorter = without_page (class_at s move.src) move.page in
     let between : Inside = with_roomy slabs (move.src - 1) removed in
     let released_from : SlabState = with_class s move.src shorter in
-    let left : slabs_of between ≡ released_from = slabs_of-changed slabs move.src (move.src - 1) read removed (λ class. without_page class move.page) is refl h changed in
+    let left : slabs_of between ≡ released_from = slabs_of-changed slabs move.src (move.src - 1) read removed (λ class. without_page class move.page) is refl h changed refl in
     let there : IsClass released_from move.dst = (is-2.0, omega (arith, is-2.1, length-set s.classes (move.src - 1) shorter)) in
     let joins = λ (t : SlabState). with_class t move.dst (with_page (class_at t move.dst) move.page) in
     let both : slabs_of (with_roomy between (move.dst - 1) added) ≡ joins released_from =
-    slabs_of-changed between move.dst (move.dst - 1) read-2 added (λ class. with_page class move.page) (subst (λ (t : SlabState). IsClass t move.dst) (sym left) there) refl h-2 changed-2 ∙ ap joins left in
+    slabs_of-changed between move.dst (move.dst - 1) read-2 added (λ class. with_page class move.page) (subst (λ (t : SlabState). IsClass t move.dst) (sym left) there) refl h-2 changed-2 refl ∙ ap joins left in
     let classes = (joins released_from).classes in
     let owners : List Owner = set slabs.owners.items move.page (Class move.dst) in
     let twice : List Owner = set (set slabs.owners.items move.page Pool) move.page (Class move.dst) in
@@ -82,18 +85,18 @@ joined_is slabs move read removed read-2 added ledger moved is is-2 h changed h-
     ∙ sym (ap (arrives s move) (ne_eqb move.dst 0 to_class))))
 
 -- there is still room in each class that gives a page up
-pub fits-pooled : (slabs : Inside) (move : Moving) (read removed : RoomyClass) → AreKept slabs → IsClass (slabs_of slabs) move.src → read ≡ slice_index_or slabs.classes.items (move.src - 1) read → removed ≡ in_state read (without_page read.state move.page) → (other : ℕ) → 1 ≤ other → other ≤ length (states slabs.classes.items) → Fits (set slabs.classes.items (move.src - 1) removed) 0 other
+pub fits-pooled : (slabs : Inside) (move : Moving) (read removed : RoomyClass) → AreKept slabs → IsClass (slabs_of slabs) move.src → read ≡ slice_index_or slabs.classes.items (move.src - 1) read → removed ≡ in_state read (without_page read.state move.page) → (other : ℕ) → 1 ≤ other → other ≤ length (states slabs.rows slabs.classes.items) → Fits slabs.rows (set slabs.classes.items (move.src - 1) removed) 0 other
 fits-pooled slabs move read removed kept is h changed other first within =
     let state = read_state slabs move.src (move.src - 1) read is refl h in
     let room = read_room slabs move.src (move.src - 1) read is refl h in
-    Fits-set slabs.classes.items move.src other 0 removed is.0 (length-states slabs move.src is) first
+    Fits-set slabs.rows slabs.classes.items move.src other 0 removed is.0 (length-classes slabs move.src is) first
     (λ e. omega (arith, ap (λ (c : RoomyClass). length c.state.pages) changed, ap (λ (c : RoomyClass). c.room) changed, length-without_page read.state move.page, ap (λ (c : ClassState). length c.pages) state, room, kept.classes move.src is))
     (λ differs. omega (arith, kept.classes other (first, within)))
 
 -- what is read of the destination is as it was before the source gave its page up
 dst_read : (slabs : Inside) (move : Moving) (removed read-2 : RoomyClass) → IsClass (slabs_of slabs) move.src → IsClass (slabs_of slabs) move.dst → move.src ≢ move.dst → read-2 ≡ slice_index_or (set slabs.classes.items (move.src - 1) removed) (move.dst - 1) read-2 → read-2 ≡ roomy_at slabs.classes.items move.dst
 dst_read slabs move removed read-2 is is-2 apart h-2 =
-    roomy_at_read (set slabs.classes.items (move.src - 1) removed) move.dst (move.dst - 1) read-2 is-2.0 (omega (arith, length-states slabs move.dst is-2, length-set slabs.classes.items (move.src - 1) removed)) refl h-2
+    roomy_at_read (set slabs.classes.items (move.src - 1) removed) move.dst (move.dst - 1) read-2 is-2.0 (omega (arith, length-classes slabs move.dst is-2, length-set slabs.classes.items (move.src - 1) removed)) refl h-2
     ∙ get_or-set_other slabs.classes.items (move.src - 1) (move.dst - 1) removed _ (λ e. apart (omega (arith, is.0, is-2.0)))
 
 -- the destination has room for the page
@@ -102,17 +105,31 @@ dst_has_room slabs move removed read-2 kept runs is is-2 apart h-2 =
     let read = dst_read slabs move removed read-2 is is-2 apart h-2 in
     let awaited = ap (λ (o : Option Moving). truth (is_awaited o move.dst)) runs in
     let one : truth (move.dst == move.dst) ≡ 1 = ap truth (eq-eqb move.dst move.dst refl) in
-    omega (arith, ap (λ (c : RoomyClass). length c.state.pages) read, ap (λ (c : RoomyClass). c.room) read, ap (λ (c : ClassState). length c.pages) (state_at-roomy slabs.classes.items move.dst), kept.classes move.dst is-2, awaited, one)
+    omega (arith, ap (λ (c : RoomyClass). length c.state.pages) read, ap (λ (c : RoomyClass). c.room) read, ap length (pages_at slabs.rows slabs.classes.items (move.dst - 1)), kept.classes move.dst is-2, awaited, one)
 
 -- and there is still room in each class when the page has come to it
-pub fits-joined : (slabs : Inside) (move : Moving) (read removed read-2 added : RoomyClass) → AreKept slabs → slabs.moving ≡ Some move → IsClass (slabs_of slabs) move.src → IsClass (slabs_of slabs) move.dst → move.src ≢ move.dst → read ≡ slice_index_or slabs.classes.items (move.src - 1) read → removed ≡ in_state read (without_page read.state move.page) → read-2 ≡ slice_index_or (set slabs.classes.items (move.src - 1) removed) (move.dst - 1) read-2 → added ≡ in_state read-2 (with_page read-2.state move.page) → (other : ℕ) → 1 ≤ other → other ≤ length (states slabs.classes.items) → Fits (set (set slabs.classes.items (move.src - 1) removed) (move.dst - 1) added) 0 other
+pub fits-joined : (slabs : Inside) (move : Moving) (read removed read-2 added : RoomyClass) → AreKept slabs → slabs.moving ≡ Some move → IsClass (slabs_of slabs) move.src → IsClass (slabs_of slabs) move.dst → move.src ≢ move.dst → read ≡ slice_index_or slabs.classes.items (move.src - 1) read → removed ≡ in_state read (without_page read.state move.page) → read-2 ≡ slice_index_or (set slabs.classes.items (move.src - 1) removed) (move.dst - 1) read-2 → added ≡ in_state read-2 (with_page read-2.state move.page) → (other : ℕ) → 1 ≤ other → other ≤ length (states slabs.rows slabs.classes.items) → Fits slabs.rows (set (set slabs.classes.items (move.src - 1) removed) (move.dst - 1) added) 0 other
 fits-joined slabs move read removed read-2 added kept runs is is-2 apart h changed h-2 changed-2 other first within =
     let between = set slabs.classes.items (move.src - 1) removed in
     let room = dst_has_room slabs move removed read-2 kept runs is is-2 apart h-2 in
-    Fits-set between move.dst other 0 added is-2.0 (omega (arith, length-states slabs move.dst is-2, length-set slabs.classes.items (move.src - 1) removed)) first
+    Fits-set slabs.rows between move.dst other 0 added is-2.0 (omega (arith, length-classes slabs move.dst is-2, length-set slabs.classes.items (move.src - 1) removed)) first
     (λ e. omega (arith, ap (λ (c : RoomyClass). length c.state.pages) changed-2, ap (λ (c : RoomyClass). c.room) changed-2, length-append read-2.state.pages (move.page ∷ []), room))
     (λ differs. fits-pooled slabs move read removed kept is h changed other first within)
 
 -- a class of the whole where two classes have changed
-pub within-both : (classes : List RoomyClass) (place place-2 other : ℕ) (new new-2 : RoomyClass) → other ≤ length (states (set (set classes place new) place-2 new-2)) → other ≤ length (states classes)
-within-both classes place place-2 other new new-2 h = IsClass-set classes place other new (IsClass-set (set classes place new) place-2 other new-2 h)
+pub within-both : (rows : RowsState) (classes : List RoomyClass) (place place-2 other : ℕ) (new new-2 : RoomyClass) → other ≤ length (states rows (set (set classes place new) place-2 new-2)) → other ≤ length (states rows classes)
+within-both rows classes place place-2 other new new-2 h = IsClass-set rows classes place other new (IsClass-set rows (set classes place new) place-2 other new-2 h)
+
+-- the rows are as many as before, for the page that goes into the pool
+pub rows-pooled : (slabs : Inside) (move : Moving) (pages : ℕ) (sizes : Sizes) (read removed : RoomyClass) → HasRows (slabs_of slabs).classes pages sizes → IsClass (slabs_of slabs) move.src → read ≡ slice_index_or slabs.classes.items (move.src - 1) read → removed ≡ in_state read (without_page read.state move.page) → HasRows (states slabs.rows (set slabs.classes.items (move.src - 1) removed)) pages sizes
+rows-pooled slabs move pages sizes read removed has is h changed = HasRows-changed slabs move.src pages sizes read removed (λ class. without_page class move.page) has is h changed refl refl
+
+-- and for the one that joins its destination
+pub rows-joined : (slabs : Inside) (move : Moving) (pages : ℕ) (sizes : Sizes) (read removed read-2 added : RoomyClass) → HasRows (slabs_of slabs).classes pages sizes → IsClass (slabs_of slabs) move.src → IsClass (slabs_of slabs) move.dst → read ≡ slice_index_or slabs.classes.items (move.src - 1) read → removed ≡ in_state read (without_page read.state move.page) → read-2 ≡ slice_index_or (set slabs.classes.items (move.src - 1) removed) (move.dst - 1) read-2 → added ≡ in_state read-2 (with_page read-2.state move.page) → HasRows (states slabs.rows (set (set slabs.classes.items (move.src - 1) removed) (move.dst - 1) added)) pages sizes
+rows-joined slabs move pages sizes read removed read-2 added has is is-2 h changed h-2 changed-2 =
+    let s = slabs_of slabs in
+    let between : Inside = with_roomy slabs (move.src - 1) removed in
+    let shorter = without_page (class_at s move.src) move.page in
+    let left : slabs_of between ≡ with_class s move.src shorter = slabs_of-changed slabs move.src (move.src - 1) read removed (λ class. without_page class move.page) is refl h changed refl in
+    let there : IsClass (with_class s move.src shorter) move.dst = (is-2.0, omega (arith, is-2.1, length-set s.classes (move.src - 1) shorter)) in
+    HasRows-changed between move.dst pages sizes read-2 added (λ class. with_page class move.page) (rows-pooled slabs move pages sizes read removed has is h changed) (subst (λ (t : SlabState). IsClass t move.dst) (sym left) there) h-2 changed-2 refl refl

@@ -3,7 +3,7 @@ use Rattle.std.proofs.Common.{◌≡◌, ℕ, ◌+◌, ◌-◌, ◌<◌, ◌≤�
 use mir.Val.{bool_byte}
 use Rattle.std.specs.Option.{option_or}
 use Rattle.std.proofs.lemmas.Bool.{cases_lt}
-use Rattle.std.proofs.lemmas.List.{map-set, set-get_or}
+use Rattle.std.proofs.lemmas.List.{set-get_or}
 use Rattle.std.proofs.lemmas.List.Sums.{get_or-le-sum_by}
 use Rattle.std.proofs.lemmas.Option.{slice_get_past, slice_get-get_or}
 use Rattle.mc_pages.specs.declared.ledger.Owner.{Owner}
@@ -12,13 +12,14 @@ use Rattle.mc_pages.specs.declared.ledger.Entry.{Entry}
 use Rattle.mc_pages.specs.declared.ledger.Entry.TheVariants.{Granted, Taken}
 use Rattle.mc_pages.specs.declared.slabs.Slabs.TheInside.{Inside}
 use Rattle.mc_pages.specs.ClassState.{ClassState, new_class, with_page}
-use Rattle.mc_pages.specs.Room.{RoomyClass, in_state}
+use Rattle.mc_pages.specs.ClassRows.{with_lists}
+use Rattle.mc_pages.specs.Room.{RoomyClass, in_state, states}
 use Rattle.mc_pages.specs.SlabState.{SlabState, IsClass, class_at, untouched_page}
 use Rattle.mc_pages.specs.Changes.{pooled_page, next_page, after_grant, after_take, after_grow}
 use Rattle.mc_pages.specs.Accounted.{truth, is_pool, IsAccounted}
 use Rattle.mc_pages.specs.InOrder.{IsInOrder, AreKept, slabs_of, is_awaited}
 use Rattle.mc_pages.proofs.Owners.{position-AreGranted, position-AreGranted_all, within_from_owned}
-use Rattle.mc_pages.proofs.RoomySlabs.{states, Fits, Fits-set, IsClass-set, length-states, read_state, read_room, with_roomy, fits-changed}
+use Rattle.mc_pages.proofs.RoomySlabs.{Fits, Fits-set, IsClass-set, length-classes, read_state, read_room, with_roomy, fits-changed, states-changed}
 
 -- a page is no lack of one
 None≢Some : (page : ℕ) → None ≡ Some page → ⊥
@@ -87,20 +88,21 @@ given_with slabs class page classes pool ledger = record slabs {
 }
 
 -- the classes, one of which has got a page
-states_given : (slabs : Inside) (class page : ℕ) (read roomy added : RoomyClass) → IsClass (slabs_of slabs) class → read ≡ slice_index_or slabs.classes.items (class - 1) read → roomy.state ≡ read.state → added ≡ in_state roomy (with_page roomy.state page) → states (set slabs.classes.items (class - 1) added) ≡ set (slabs_of slabs).classes (class - 1) (with_page (class_at (slabs_of slabs) class) page)
+states_given : (slabs : Inside) (class page : ℕ) (read roomy added : RoomyClass) → IsClass (slabs_of slabs) class → read ≡ slice_index_or slabs.classes.items (class - 1) read → roomy.state ≡ read.state → added ≡ in_state roomy (with_page roomy.state page) → states slabs.rows (set slabs.classes.items (class - 1) added) ≡ set (slabs_of slabs).classes (class - 1) (with_page (class_at (slabs_of slabs) class) page)
 states_given slabs class page read roomy added is h same changed =
-    let before = same ∙ read_state slabs class (class - 1) read is refl h in
-    let state : added.state ≡ with_page (class_at (slabs_of slabs) class) page = ap (λ (c : RoomyClass). c.state) changed ∙ ap (λ (c : ClassState). with_page c page) before in
-    map-set (λ (c : RoomyClass). c.state) slabs.classes.items (class - 1) added ∙ ap (λ (c : ClassState). set (slabs_of slabs).classes (class - 1) c) state
+    let own = λ (c : ClassState). with_lists c slabs.rows (class - 1) in
+    let before : own roomy.state ≡ class_at (slabs_of slabs) class = ap own same ∙ read_state slabs class (class - 1) read is refl h in
+    let state : own added.state ≡ with_page (class_at (slabs_of slabs) class) page = ap (λ (c : RoomyClass). own c.state) changed ∙ ap (λ (c : ClassState). with_page c page) before in
+    states-changed slabs class (class - 1) added is refl ∙ ap (λ (c : ClassState). set (slabs_of slabs).classes (class - 1) c) state
 
 -- the page came out of the pool
-pub take_is : (slabs : Inside) (class page : ℕ) (read roomy added : RoomyClass) (pool : List ℕ) (ledger : List Entry) → IsClass (slabs_of slabs) class → read ≡ slice_index_or slabs.classes.items (class - 1) read → roomy.state ≡ read.state → added ≡ in_state roomy (with_page roomy.state page) → pool ≡ take (length slabs.pool.items - 1) slabs.pool.items → ledger ≡ slabs.ledger.items ++ Taken page class ∷ [] → given_with (slabs_of slabs) class page (states (set slabs.classes.items (class - 1) added)) pool ledger ≡ after_take (slabs_of slabs) class page
+pub take_is : (slabs : Inside) (class page : ℕ) (read roomy added : RoomyClass) (pool : List ℕ) (ledger : List Entry) → IsClass (slabs_of slabs) class → read ≡ slice_index_or slabs.classes.items (class - 1) read → roomy.state ≡ read.state → added ≡ in_state roomy (with_page roomy.state page) → pool ≡ take (length slabs.pool.items - 1) slabs.pool.items → ledger ≡ slabs.ledger.items ++ Taken page class ∷ [] → given_with (slabs_of slabs) class page (states slabs.rows (set slabs.classes.items (class - 1) added)) pool ledger ≡ after_take (slabs_of slabs) class page
 take_is slabs class page read roomy added pool ledger is h same changed pool_is ledger_is =
     ap (λ (cs : List ClassState). given_with (slabs_of slabs) class page cs pool ledger) (states_given slabs class page read roomy added is h same changed)
     ∙ ap₂ (given_with (slabs_of slabs) class page (set (slabs_of slabs).classes (class - 1) (with_page (class_at (slabs_of slabs) class) page))) pool_is ledger_is
 
 -- the page was untouched
-pub grant_is : (slabs : Inside) (class page : ℕ) (read roomy added : RoomyClass) (pool : List ℕ) (ledger : List Entry) → IsClass (slabs_of slabs) class → read ≡ slice_index_or slabs.classes.items (class - 1) read → roomy.state ≡ read.state → added ≡ in_state roomy (with_page roomy.state page) → pool ≡ slabs.pool.items → ledger ≡ slabs.ledger.items ++ Granted page class ∷ [] → given_with (slabs_of slabs) class page (states (set slabs.classes.items (class - 1) added)) pool ledger ≡ after_grant (slabs_of slabs) class page
+pub grant_is : (slabs : Inside) (class page : ℕ) (read roomy added : RoomyClass) (pool : List ℕ) (ledger : List Entry) → IsClass (slabs_of slabs) class → read ≡ slice_index_or slabs.classes.items (class - 1) read → roomy.state ≡ read.state → added ≡ in_state roomy (with_page roomy.state page) → pool ≡ slabs.pool.items → ledger ≡ slabs.ledger.items ++ Granted page class ∷ [] → given_with (slabs_of slabs) class page (states slabs.rows (set slabs.classes.items (class - 1) added)) pool ledger ≡ after_grant (slabs_of slabs) class page
 grant_is slabs class page read roomy added pool ledger is h same changed pool_is ledger_is =
     ap (λ (cs : List ClassState). given_with (slabs_of slabs) class page cs pool ledger) (states_given slabs class page read roomy added is h same changed)
     ∙ ap₂ (given_with (slabs_of slabs) class page (set (slabs_of slabs).classes (class - 1) (with_page (class_at (slabs_of slabs) class) page))) pool_is ledger_is
@@ -116,25 +118,26 @@ truth_le true = omega arith
 truth_le false = omega arith
 
 -- more room changes no class
-pub states_roomier : (slabs : Inside) (class : ℕ) (read roomy : RoomyClass) → IsClass (slabs_of slabs) class → read ≡ slice_index_or slabs.classes.items (class - 1) read → roomy.state ≡ read.state → states (set slabs.classes.items (class - 1) roomy) ≡ (slabs_of slabs).classes
+pub states_roomier : (slabs : Inside) (class : ℕ) (read roomy : RoomyClass) → IsClass (slabs_of slabs) class → read ≡ slice_index_or slabs.classes.items (class - 1) read → roomy.state ≡ read.state → states slabs.rows (set slabs.classes.items (class - 1) roomy) ≡ (slabs_of slabs).classes
 states_roomier slabs class read roomy is h same =
-    map-set (λ (c : RoomyClass). c.state) slabs.classes.items (class - 1) roomy
-    ∙ (ap (λ (c : ClassState). set (slabs_of slabs).classes (class - 1) c) (same ∙ read_state slabs class (class - 1) read is refl h)
+    let own = λ (c : ClassState). with_lists c slabs.rows (class - 1) in
+    states-changed slabs class (class - 1) roomy is refl
+    ∙ (ap (λ (c : ClassState). set (slabs_of slabs).classes (class - 1) c) (ap own same ∙ read_state slabs class (class - 1) read is refl h)
     ∙ set-get_or (slabs_of slabs).classes (class - 1) (new_class 0 0))
 
 -- there is still room in each class
-pub fits-roomier : (slabs : Inside) (class : ℕ) (read roomy : RoomyClass) → AreKept slabs → IsClass (slabs_of slabs) class → read ≡ slice_index_or slabs.classes.items (class - 1) read → roomy.state ≡ read.state → read.room ≤ roomy.room → (other : ℕ) → IsClass (slabs_of (with_roomy slabs (class - 1) roomy)) other → Fits (set slabs.classes.items (class - 1) roomy) (truth (is_awaited slabs.moving other)) other
+pub fits-roomier : (slabs : Inside) (class : ℕ) (read roomy : RoomyClass) → AreKept slabs → IsClass (slabs_of slabs) class → read ≡ slice_index_or slabs.classes.items (class - 1) read → roomy.state ≡ read.state → read.room ≤ roomy.room → (other : ℕ) → IsClass (slabs_of (with_roomy slabs (class - 1) roomy)) other → Fits slabs.rows (set slabs.classes.items (class - 1) roomy) (truth (is_awaited slabs.moving other)) other
 fits-roomier slabs class read roomy kept is h same room =
-    let state = same ∙ read_state slabs class (class - 1) read is refl h in
+    let state = ap (λ (c : ClassState). with_lists c slabs.rows (class - 1)) same ∙ read_state slabs class (class - 1) read is refl h in
     fits-changed slabs class (class - 1) roomy kept is refl (ap (λ (c : ClassState). length c.pages) state) (omega (arith, read_room slabs class (class - 1) read is refl h, room))
 
 -- with its new page the class still has room for one that is on the move to it
-pub fits-given : (slabs : Inside) (class page : ℕ) (read roomy added : RoomyClass) → AreKept slabs → IsClass (slabs_of slabs) class → read ≡ slice_index_or slabs.classes.items (class - 1) read → roomy.state ≡ read.state → added ≡ in_state roomy (with_page roomy.state page) → length (class_at (slabs_of slabs) class).pages + 1 + truth (is_awaited slabs.moving class) ≤ roomy.room → (other : ℕ) → IsClass (slabs_of (with_roomy slabs (class - 1) added)) other → Fits (set slabs.classes.items (class - 1) added) (truth (is_awaited slabs.moving other)) other
+pub fits-given : (slabs : Inside) (class page : ℕ) (read roomy added : RoomyClass) → AreKept slabs → IsClass (slabs_of slabs) class → read ≡ slice_index_or slabs.classes.items (class - 1) read → roomy.state ≡ read.state → added ≡ in_state roomy (with_page roomy.state page) → length (class_at (slabs_of slabs) class).pages + 1 + truth (is_awaited slabs.moving class) ≤ roomy.room → (other : ℕ) → IsClass (slabs_of (with_roomy slabs (class - 1) added)) other → Fits slabs.rows (set slabs.classes.items (class - 1) added) (truth (is_awaited slabs.moving other)) other
 fits-given slabs class page read roomy added kept is h same changed room other here =
-    let before : IsClass (slabs_of slabs) other = (here.0, IsClass-set slabs.classes.items (class - 1) other added here.1) in
-    let state = same ∙ read_state slabs class (class - 1) read is refl h in
+    let before : IsClass (slabs_of slabs) other = (here.0, IsClass-set slabs.rows slabs.classes.items (class - 1) other added here.1) in
+    let state = ap (λ (c : ClassState). with_lists c slabs.rows (class - 1)) same ∙ read_state slabs class (class - 1) read is refl h in
     let more = length-append roomy.state.pages (page ∷ []) in
-    Fits-set slabs.classes.items class other (truth (is_awaited slabs.moving other)) added is.0 (length-states slabs class is) here.0
+    Fits-set slabs.rows slabs.classes.items class other (truth (is_awaited slabs.moving other)) added is.0 (length-classes slabs class is) here.0
     (λ e. omega (arith, ap (λ (c : RoomyClass). length c.state.pages) changed, ap (λ (c : RoomyClass). c.room) changed, more, ap (λ (c : ClassState). length c.pages) state, room, ap (λ (n : ℕ). truth (is_awaited slabs.moving n)) e))
     (λ differs. kept.classes other before)
 

@@ -8,13 +8,14 @@ use Rattle.mc_pages.specs.declared.ledger.Entry.TheVariants.{Began}
 use Rattle.mc_pages.specs.declared.moves.Found.{Found}
 use Rattle.mc_pages.specs.declared.slabs.Slabs.TheInside.{Inside}
 use Rattle.mc_pages.specs.ClassState.{ClassState, counted}
+use Rattle.mc_pages.specs.ClassRows.{with_lists}
 use Rattle.mc_pages.specs.Room.{RoomyClass}
 use Rattle.mc_pages.specs.SlabState.{SlabState, IsClass, class_at}
 use Rattle.mc_pages.specs.Answer.{cursor_after}
 use Rattle.mc_pages.specs.Accounted.{truth}
 use Rattle.mc_pages.specs.Moves.{is_held_up, rescued_of, evicted_of, moved_on, first_page, with_move, after_begin, after_passed, after_wrap, begun_anew, busy_of, CanPass}
 use Rattle.mc_pages.specs.InOrder.{IsInOrder, AreKept, slabs_of, is_awaited}
-use Rattle.mc_pages.proofs.RoomySlabs.{Fits, Fits-set, IsClass-set, length-states, read_state, with_roomy}
+use Rattle.mc_pages.proofs.RoomySlabs.{Fits, Fits-set, IsClass-set, length-classes, read_state, with_roomy}
 use Rattle.mc_pages.proofs.RoomyGrow.{truth_le}
 
 -- two equal options hold the same move
@@ -60,6 +61,8 @@ AreKept-passed slabs found m held rescues nomem runs held_is rescues_is nomem_is
       ledger = omega (arith, kept.ledger, ap (λ (o : Option Moving). truth (is_some o)) runs);
       pool = omega (arith, kept.pool, awaited 0);
       classes = λ class is. omega (arith, kept.classes class is, awaited class);
+      linked = kept.linked;
+      rows = kept.rows;
     }
 
 -- the whole after the pass began anew, as the code leaves it
@@ -81,6 +84,8 @@ AreKept-wrapped slabs m busy runs busy_is kept order =
       ledger = omega (arith, kept.ledger, ap (λ (o : Option Moving). truth (is_some o)) runs);
       pool = omega (arith, kept.pool, awaited 0);
       classes = λ class is. omega (arith, kept.classes class is, awaited class);
+      linked = kept.linked;
+      rows = kept.rows;
     }
 
 -- a fact of the value of a result that is known
@@ -110,14 +115,14 @@ pub not_awaited : (dst class : ℕ) → dst ≢ class → truth (dst == class) �
 not_awaited dst class differs = ap truth (ne_eqb dst class differs)
 
 -- where the page moves to the pool, each class has the room that it needs
-pub fits-to_pool : (slabs : Inside) (dst : ℕ) → AreKept slabs → dst ≡ 0 → (other : ℕ) → IsClass (slabs_of slabs) other → Fits slabs.classes.items (truth (dst == other)) other
+pub fits-to_pool : (slabs : Inside) (dst : ℕ) → AreKept slabs → dst ≡ 0 → (other : ℕ) → IsClass (slabs_of slabs) other → Fits slabs.rows slabs.classes.items (truth (dst == other)) other
 fits-to_pool slabs dst kept pool other is = omega (arith, kept.classes other is, not_awaited dst other (λ e. absurd (omega (arith, is.0))))
 
 -- where it moves to a class, that one has room for it
-pub fits-to_class : (slabs : Inside) (dst : ℕ) (read roomy : RoomyClass) → AreKept slabs → IsClass (slabs_of slabs) dst → read ≡ slice_index_or slabs.classes.items (dst - 1) read → roomy.state ≡ read.state → length (class_at (slabs_of slabs) dst).pages + 1 ≤ roomy.room → (other : ℕ) → IsClass (slabs_of (with_roomy slabs (dst - 1) roomy)) other → Fits (set slabs.classes.items (dst - 1) roomy) (truth (dst == other)) other
+pub fits-to_class : (slabs : Inside) (dst : ℕ) (read roomy : RoomyClass) → AreKept slabs → IsClass (slabs_of slabs) dst → read ≡ slice_index_or slabs.classes.items (dst - 1) read → roomy.state ≡ read.state → length (class_at (slabs_of slabs) dst).pages + 1 ≤ roomy.room → (other : ℕ) → IsClass (slabs_of (with_roomy slabs (dst - 1) roomy)) other → Fits slabs.rows (set slabs.classes.items (dst - 1) roomy) (truth (dst == other)) other
 fits-to_class slabs dst read roomy kept is h same room other here =
-    let before : IsClass (slabs_of slabs) other = (here.0, IsClass-set slabs.classes.items (dst - 1) other roomy here.1) in
-    let state = same ∙ read_state slabs dst (dst - 1) read is refl h in
-    Fits-set slabs.classes.items dst other (truth (dst == other)) roomy is.0 (length-states slabs dst is) here.0
+    let before : IsClass (slabs_of slabs) other = (here.0, IsClass-set slabs.rows slabs.classes.items (dst - 1) other roomy here.1) in
+    let state = ap (λ (c : ClassState). with_lists c slabs.rows (dst - 1)) same ∙ read_state slabs dst (dst - 1) read is refl h in
+    Fits-set slabs.rows slabs.classes.items dst other (truth (dst == other)) roomy is.0 (length-classes slabs dst is) here.0
     (λ e. omega (arith, ap (λ (c : ClassState). length c.pages) state, room, truth_le (dst == other)))
     (λ differs. omega (arith, kept.classes other before, not_awaited dst other (λ e. differs (sym e))))

@@ -12,30 +12,6 @@ use Rattle.mc_pages.specs.Accounted.{truth, is_of_class, cut_count, is_cut, plac
 use Rattle.mc_pages.specs.Moves.{is_held_up, chunk_at_position, CanPass}
 use Rattle.mc_pages.proofs.Chunks.{Contains_from_slice_get, length-without}
 use Rattle.mc_pages.proofs.HandedOut.{class_of_placed, class_of_handed_out}
-use Rattle.mc_pages.proofs.Roomy.{without-absent, without-not_found, position_is, remove-found}
-
--- a place is no lack of one
-None≢Some : (place : ℕ) → None ≡ Some place → ⊥
-None≢Some place h = cc
-
--- a chunk that has a first place stands in the list
-pub found_counts : (chunk : ChunkId) (chunks : List ChunkId) (place : ℕ) → position (λ c. is_chunk c chunk) chunks ≡ Some place → 1 ≤ times chunk chunks
-found_counts chunk chunks place found =
-    let at = position_is chunk chunks place found in
-    elim (cases_lt 0 (times chunk chunks)) [
-      | inl some ↦ some
-      | inr none ↦
-          let same = remove-found chunk chunks place found ∙ without-absent chunk chunks (omega arith) in
-          absurd (omega (arith, length-remove chunks place at.1, ap length same))
-    ]
-
--- and one that has none doesn't
-pub not_found_counts : (chunk : ChunkId) (chunks : List ChunkId) → ((place : ℕ) → position (λ c. is_chunk c chunk) chunks ≡ Some place → ⊥) → times chunk chunks ≡ 0
-not_found_counts chunk chunks none =
-    elim (cases_lt 0 (times chunk chunks)) [
-      | inl some ↦ absurd (omega (arith, length-without chunk chunks some, ap length (without-not_found chunk chunks none)))
-      | inr zero ↦ omega arith
-    ]
 
 -- a free chunk of the class of a handed-out one
 pub free_beside : (slabs : SlabState) (class free place : ℕ) (new old : ChunkId) → IsAccounted slabs → IsClass slabs class → slice_get (class_at slabs class).free free ≡ Some new → slice_get (class_at slabs class).order place ≡ Some old → Contains (class_of_chunk slabs old).free new
@@ -70,9 +46,3 @@ placed_looked slabs class chunk all is placed = subst (λ (n : ℕ). 1 ≤ place
 -- the class that gives the page that moves is one of the classes
 pub moving_class : (slabs : SlabState) (move : Moving) → IsAccounted slabs → slabs.moving ≡ Some move → IsClass slabs move.src
 moving_class slabs move all runs = (all.move move runs).src
-
--- a chunk of a list has a first place there, and no other has
-pub counts_from_position : (chunk : ChunkId) (chunks : List ChunkId) (place : Option ℕ) → place ≡ position (λ c. is_chunk c chunk) chunks → IsTrue (is_some place) ↔ (1 ≤ times chunk chunks)
-counts_from_position chunk chunks (Some place) h = (λ _. found_counts chunk chunks place (sym h), λ _. refl)
-counts_from_position chunk chunks None h =
-    (λ yes. absurd (false≢true yes), λ some. absurd (omega (arith, not_found_counts chunk chunks (λ place found. None≢Some place (h ∙ found)))))

@@ -1,5 +1,5 @@
 -- One size class: its pages, its free list and its hand-out order.
-use Rattle.std.specs.Prelude.{ℕ, ◌+◌, ◌-◌, ◌^◌, min, ◌==◌, Bool, not, ◌&&◌, if◌then◌else◌, List, [], ◌∷◌, ◌++◌, length, count_by, filter, slice_get, Option}
+use Rattle.std.specs.Prelude.{ℕ, ◌+◌, ◌-◌, ◌^◌, min, ◌==◌, Bool, not, ◌&&◌, if◌then◌else◌, List, [], ◌∷◌, ◌++◌, length, count_by, filter, slice_get, Option, None}
 use Rattle.mc_pages.specs.declared.ids.ChunkId.{ChunkId}
 use Rattle.mc_pages.specs.declared.numbers.Numbers.{Numbers}
 
@@ -87,3 +87,8 @@ evicted class = record class { evictions = counted class.evictions 1 }
 -- its numbers
 abbrev pub numbers_of : ClassState → Numbers
 numbers_of class = record { pages = length class.pages; free = length class.free; evictions = class.evictions }
+
+-- the chunk directly behind this one in the list
+abbrev pub behind : ChunkId → List ChunkId → Option ChunkId
+behind chunk [] = None
+behind chunk (c ∷ chunks) = if is_chunk c chunk then slice_get chunks 0 else behind chunk chunks

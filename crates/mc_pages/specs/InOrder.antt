@@ -1,5 +1,5 @@
 -- What all pages and chunks keep beside that they are accounted for, and the room that is kept for them.
-use Rattle.std.specs.Prelude.{◌≡◌, ℕ, ◌+◌, ◌-◌, ◌<◌, ◌≤◌, ◌==◌, Bool, false, IsTrue, not, List, length, map, slice_get, slice_index_or, vec_len, vec_capacity, is_some, Option, Some}
+use Rattle.std.specs.Prelude.{◌≡◌, ℕ, ◌+◌, ◌-◌, ◌*◌, ◌<◌, ◌≤◌, ◌==◌, Bool, false, IsTrue, not, List, length, map, slice_get, slice_index_or, vec_len, vec_capacity, is_some, Option, Some}
 use Rattle.std.specs.Option.{option_map_or}
 use Rattle.mc_pages.specs.declared.ids.ChunkId.{ChunkId}
 use Rattle.mc_pages.specs.declared.ids.Moving.{Moving}
@@ -8,7 +8,8 @@ use Rattle.mc_pages.specs.declared.ledger.Owner.TheVariants.{Untouched}
 use Rattle.mc_pages.specs.declared.slabs.Slabs.TheInside.{Inside}
 use Rattle.mc_pages.specs.Ledger.{owner_at}
 use Rattle.mc_pages.specs.ClassState.{ClassState, new_class}
-use Rattle.mc_pages.specs.Room.{RoomyClass}
+use Rattle.mc_pages.specs.Linked.{AreLinked, Sizes, sizes_of}
+use Rattle.mc_pages.specs.Room.{RoomyClass, no_class, states}
 use Rattle.mc_pages.specs.SlabState.{SlabState, IsClass, class_at, class_of_page, class_of_chunk, is_untouched}
 use Rattle.mc_pages.specs.Accounted.{truth, is_moving, IsAccounted}
 
@@ -21,7 +22,7 @@ abbrev pub slabs_of : Inside → SlabState
 slabs_of slabs = record {
   page = slabs.page;
   limit = slabs.limit;
-  classes = map (λ class. class.state) slabs.classes.items;
+  classes = states slabs.rows slabs.classes.items;
   owners = slabs.owners.items;
   pool = slabs.pool.items;
   ledger = slabs.ledger.items;
@@ -63,7 +64,16 @@ is_awaited moving class = option_map_or (λ move. move.dst == class) moving fals
 
 -- for how many pages the class has room
 abbrev pub room_at : List RoomyClass → ℕ → ℕ
-room_at classes class = (slice_index_or classes (class - 1) (record { state = new_class 0 0; room = 0 })).room
+room_at classes class = (slice_index_or classes (class - 1) no_class).room
+
+-- there are rows for all chunks that so many pages can have, and lists for all classes
+pub record HasRows (classes : List ClassState) (pages : ℕ) (sizes : Sizes) : Type 0 where
+  pub rows : sizes.rows ≡ pages * sizes.most
+  pub most : (class : ℕ) → 1 ≤ class → (slice_index_or classes (class - 1) (new_class 0 0)).per_page ≤ sizes.most
+  pub free : sizes.free ≡ length classes
+  pub out : sizes.out ≡ length classes
+  pub free_lengths : sizes.free_lengths ≡ length classes
+  pub out_lengths : sizes.out_lengths ≡ length classes
 
 pub record AreKept (slabs : Inside) : Type 0 where
   pub order : IsInOrder (slabs_of slabs) slabs.granted
@@ -72,3 +82,6 @@ pub record AreKept (slabs : Inside) : Type 0 where
   pub pool : vec_len slabs.pool + truth (is_awaited slabs.moving 0) ≤ vec_capacity slabs.pool
   pub classes : (class : ℕ) → IsClass (slabs_of slabs) class →
       length (class_at (slabs_of slabs) class).pages + truth (is_awaited slabs.moving class) ≤ room_at slabs.classes.items class
+  -- the lists stand in the rows
+  pub linked : AreLinked slabs.rows
+  pub rows : HasRows (slabs_of slabs).classes (vec_len slabs.owners) (sizes_of slabs.rows)

@@ -1,5 +1,9 @@
 pub mod Ledger
 pub mod ClassState
+pub mod Rows
+pub mod RowsInside
+pub mod Linked
+pub mod ClassRows
 pub mod Room
 pub mod SlabState
 pub mod Changes

@@ -1,9 +1,12 @@
--- A size class with its room: how many pages' chunks its lists can take.
-use Rattle.std.specs.Prelude.{ℕ, ◌+◌, ◌*◌, ◌≤◌, reverse, vec_len, vec_capacity}
-use Rattle.mc_pages.specs.ClassState.{ClassState}
+-- A size class without its lists, with the room of its page list, and all classes with the lists that stand in the rows.
+use Rattle.std.specs.Prelude.{ℕ, ◌≤◌, List, [], length, map, slice_index_or, vec_len, vec_capacity}
+use Rattle.std.specs.List.{range_with_len}
+use Rattle.mc_pages.specs.ClassState.{ClassState, new_class}
+use Rattle.mc_pages.specs.Rows.{RowsState}
+use Rattle.mc_pages.specs.ClassRows.{with_lists}
 use Rattle.mc_pages.specs.declared.class.SlabClass.TheInside.{Inside}
 
--- the class, and for how many pages there is room
+-- the class, its lists empty, and for how many pages there is room
 pub record RoomyClass : Type 0 where
   pub state : ClassState
   pub room : ℕ
@@ -12,14 +15,14 @@ pub record RoomyClass : Type 0 where
 abbrev pub in_state : RoomyClass → ClassState → RoomyClass
 in_state class state = record class { state = state }
 
--- the class as its callers see it: the next chunk to hand out stands last in the vector
+-- the class without its lists
 abbrev pub state_of : Inside → ClassState
 state_of class = record {
   size = class.size;
   per_page = class.per_page;
   pages = class.pages.items;
-  free = reverse class.free.items;
-  order = class.order.items;
+  free = [];
+  order = [];
   evictions = class.evictions;
 }
 
@@ -27,12 +30,15 @@ state_of class = record {
 abbrev pub roomy_of : Inside → RoomyClass
 roomy_of class = record { state = state_of class; room = class.room }
 
+-- so many pages fit into the page list, and no more are there
 pub record HasRoom (class : Inside) : Type 0 where
-  -- so many pages, and their chunks, fit into the lists
   pub pages : class.room ≤ vec_capacity class.pages
-  pub free : class.room * class.per_page ≤ vec_capacity class.free
-  pub order : class.room * class.per_page ≤ vec_capacity class.order
-  -- no more pages than that, and no more cut chunks than the pages have
   pub within : vec_len class.pages ≤ class.room
-  pub cut : vec_len class.free + vec_len class.order ≤ vec_len class.pages * class.per_page
-  pub per_page : class.per_page ≤ 256
+
+-- a class without pages and room
+abbrev pub no_class : RoomyClass
+no_class = record { state = new_class 0 0; room = 0 }
+
+-- the classes with their lists, class 1 first
+abbrev pub states : RowsState → List RoomyClass → List ClassState
+states rows classes = map (λ place. with_lists (slice_index_or classes place no_class).state rows place) (range_with_len 0 (length classes))

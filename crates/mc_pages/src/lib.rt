@@ -10,10 +10,14 @@ mod ids;
 mod ledger;
 mod moves;
 mod numbers;
+mod rows;
 mod slabs;
+mod writes;
 
 pub use ids::{ChunkId, Moving};
 pub use ledger::{Entry, Owner};
 pub use moves::{Found, Reassign};
 pub use numbers::{Numbers, Totals};
+pub use rows::{Change, Field, ListName, Rows};
 pub use slabs::{Grow, NoMemory, Slabs};
+pub use writes::Writes;

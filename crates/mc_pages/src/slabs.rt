@@ -1,8 +1,12 @@
 //! The sequential value behind the slabs lock: all pages and all chunks.
-ghost use Rattle.std.specs.Prelude.{◌≡◌, ◌-◌, ◌<◌, ◌≤◌, length, slice_get, IfOk, None};
+ghost use Rattle.std.specs.Prelude.{◌≡◌, ℕ, ◌-◌, ◌*◌, ◌<◌, ◌≤◌, length, slice_get, IfOk, None};
 ghost use Rattle.std.specs.Option.{option_map};
 ghost use Rattle.mc_pages.specs.ClassState.{new_class, numbers_of};
+ghost use Rattle.mc_classes.specs.Classes.{pages_of, per_page_of};
 ghost use Rattle.mc_pages.specs.Ledger.{owner_at};
+ghost use Rattle.mc_pages.specs.declared.rows.ListName.TheVariants.{Free, Out};
+ghost use Rattle.mc_pages.specs.Rows.{fresh_rows};
+ghost use Rattle.mc_pages.specs.Linked.{AreLinked, chunks_of};
 ghost use Rattle.mc_pages.specs.SlabState.{fresh_slabs, IsClass, class_at, class_of_page, totals_of};
 ghost use Rattle.mc_pages.specs.Accounted.{IsAccounted};
 ghost use Rattle.mc_pages.specs.InOrder.{roomless};
@@ -15,6 +19,7 @@ use crate::class::SlabClass;
 use crate::ids::{ChunkId, Moving};
 use crate::ledger::{Entry, Owner};
 use crate::numbers::{Numbers, Totals};
+use crate::rows::{ListName, Rows};
 use mc_classes::{ClassId, ClassTable, PageId};
 pub use pages::Grow;
 use std::alloc::{AllocError, Global};
@@ -38,6 +43,7 @@ pub struct Slabs {
     page: u64,
     limit: u64,
     classes: Vec<SlabClass>,
+    rows: Rows,
     owners: Vec<Owner>,
     /// How many pages were granted. They are the lowest ones.
     granted: usize,
@@ -75,10 +81,12 @@ impl Slabs {
     {
         let classes = classes_of(alloc, table)?;
         let owners = vec![in alloc; Owner::Untouched; table.pages() as usize]?;
+        let rows = rows_of(alloc, table)?;
         Ok(Slabs {
             page: table.page(),
             limit: table.limit(),
             classes,
+            rows,
             owners,
             granted: 0,
             pool: Vec::new(alloc),
@@ -107,7 +115,13 @@ impl Slabs {
         requires { IsClass self.now class }
         ensures { result ≡ numbers_of (class_at self.now class) }
     {
-        self.classes[class as usize - 1].numbers()
+        let place = class as usize - 1;
+        let slab = &self.classes[place];
+        Numbers {
+            pages: slab.page_count() as u64,
+            free: self.rows.length(ListName::Free(place)),
+            evictions: slab.evictions(),
+        }
     }
 
     /// What all classes have together.
@@ -129,6 +143,15 @@ impl Slabs {
         ensures { result.now ≡ self.now.ledger }
     {
         self.ledger.as_slice()
+    }
+
+    /// The rows in which the free lists and the hand-out orders of all classes stand.
+    pub fn rows(&self) -> &Rows
+        ensures linked { AreLinked result.now }
+        ensures free { (class : ℕ) → IsClass self.now class → chunks_of result.now (Free (class - 1)) ≡ (class_at self.now class).free }
+        ensures order { (class : ℕ) → IsClass self.now class → chunks_of result.now (Out (class - 1)) ≡ (class_at self.now class).order }
+    {
+        &self.rows
     }
 
     /// The automover's mode.
@@ -167,6 +190,16 @@ fn classes_of(alloc: Global, table: &ClassTable) -> Result<Vec<SlabClass>, Alloc
         classes.push(SlabClass::new(alloc, table.size(class), table.per_page(class)))?;
     }
     Ok(classes)
+}
+
+/// Rows for all chunks of the table's pages, and empty lists for its classes. No class has more chunks a page than
+/// the first.
+fn rows_of(alloc: Global, table: &ClassTable) -> Result<Rows, AllocError>
+    ensures { IfOk result (λ rows. rows ≡ fresh_rows (per_page_of table.now 1) (pages_of table.now * per_page_of table.now 1) (length table.now.sizes)) }
+{
+    let classes = table.count() as usize;
+    let pages = table.pages() as usize;
+    Rows::new(alloc, table.per_page(1), pages, classes)
 }
 
 #[cfg(test)]

@@ -1,13 +1,14 @@
 //! The chunks of the classes: handed out, given back, touched, replaced, cleared and cut.
 ghost use Rattle.std.specs.Prelude.{◌≡◌, ◌+◌, ◌<◌, ◌≤◌, slice_get, Contains, None, Some};
 ghost use Rattle.std.specs.Option.{option_map};
-ghost use Rattle.mc_pages.specs.ClassState.{first_free, times};
+ghost use Rattle.mc_pages.specs.ClassState.{first_free, behind};
 ghost use Rattle.mc_pages.specs.SlabState.{IsClass, class_at, class_of_page, class_of_chunk};
 ghost use Rattle.mc_pages.specs.Changes.{after_pop, after_back, after_touch, after_replace, after_clear, after_cut, after_evicted, next_uncut};
 ghost use Rattle.mc_pages.specs.Accounted.{IsAccounted, places_in};
 
 use super::Slabs;
 use crate::ids::ChunkId;
+use crate::rows::ListName;
 use mc_classes::{ClassId, PageId};
 
 impl Slabs {
@@ -18,7 +19,7 @@ impl Slabs {
         ensures popped { self.new ≡ after_pop self.old class }
         ensures accounted { IsAccounted self.new }
     {
-        self.classes[class as usize - 1].pop()
+        self.rows.pop(class as usize - 1)
     }
 
     /// Takes a handed-out chunk back: it leaves the hand-out order and is the next to be handed out. (slabs.c's `do_slabs_free`)
@@ -28,7 +29,7 @@ impl Slabs {
         ensures accounted { IsAccounted self.new }
     {
         let place = self.class_place(chunk.page);
-        self.classes[place].put_back(chunk);
+        self.rows.back(place, chunk);
     }
 
     /// Takes a handed-out chunk to the back of the hand-out order, as if it had just been handed out. (own)
@@ -38,7 +39,7 @@ impl Slabs {
         ensures accounted { IsAccounted self.new }
     {
         let place = self.class_place(chunk.page);
-        self.classes[place].touch(chunk);
+        self.rows.touch(place, chunk);
     }
 
     /// Gives a free chunk the place of a handed-out one in the hand-out order. The old one stands directly behind it. (own)
@@ -49,7 +50,7 @@ impl Slabs {
         ensures accounted { IsAccounted self.new }
     {
         let place = self.class_place(old.page);
-        self.classes[place].replace(new, old);
+        self.rows.replace(place, new, old);
     }
 
     /// Clears a free or handed-out chunk of the moving page: it is in no list any more. (slabs.c's `slab_rebalance_move`)
@@ -60,7 +61,7 @@ impl Slabs {
         ensures accounted { IsAccounted self.new }
     {
         let place = self.class_place(chunk.page);
-        self.classes[place].clear(chunk);
+        self.rows.clear(place, chunk);
     }
 
     /// Cuts the lowest uncut chunk of the page just given: it goes to the head of its class's free list.
@@ -71,9 +72,9 @@ impl Slabs {
     {
         let chunk = ChunkId { page, index };
         let place = self.class_place(page);
-        let slab = &mut self.classes[place];
-        self.uncut = behind(chunk, slab.per_page());
-        slab.cut(chunk);
+        let per_page = self.classes[place].per_page();
+        self.uncut = next_to_cut(chunk, per_page);
+        self.rows.cut(place, chunk);
     }
 
     /// Counts an eviction from the class. The counter stays at 2^64 - 1 once there (own).
@@ -92,25 +93,59 @@ impl Slabs {
         self.uncut.map(|chunk| chunk.page)
     }
 
-    /// The chunk at this place of the class's free list: 0 is handed out next. None past its end.
+    /// The head of the class's free list: the chunk that is handed out next. None where the list is empty.
+    pub fn first_free(&self, class: ClassId) -> Option<ChunkId>
+        requires { IsClass self.now class }
+        ensures { result ≡ slice_get (class_at self.now class).free 0 }
+    {
+        self.rows.first(ListName::Free(class as usize - 1))
+    }
+
+    /// The chunk behind a free one in the free list of its class. None behind the last.
+    pub fn next_free(&self, chunk: ChunkId) -> Option<ChunkId>
+        requires { Contains (class_of_chunk self.now chunk).free chunk }
+        ensures { result ≡ behind chunk (class_of_chunk self.now chunk).free }
+    {
+        let rows = &self.rows;
+        rows.next(ListName::Free(self.class_place(chunk.page)), chunk)
+    }
+
+    /// The oldest chunk of the class's hand-out order. None where nothing is handed out.
+    pub fn first_out(&self, class: ClassId) -> Option<ChunkId>
+        requires { IsClass self.now class }
+        ensures { result ≡ slice_get (class_at self.now class).order 0 }
+    {
+        self.rows.first(ListName::Out(class as usize - 1))
+    }
+
+    /// The chunk behind a handed-out one in the hand-out order of its class. None behind the youngest.
+    pub fn next_out(&self, chunk: ChunkId) -> Option<ChunkId>
+        requires { Contains (class_of_chunk self.now chunk).order chunk }
+        ensures { result ≡ behind chunk (class_of_chunk self.now chunk).order }
+    {
+        let rows = &self.rows;
+        rows.next(ListName::Out(self.class_place(chunk.page)), chunk)
+    }
+
+    /// The chunk at this place of the class's free list: 0 is handed out next. None past its end. It walks to it.
     pub fn free_at(&self, class: ClassId, place: u64) -> Option<ChunkId>
         requires { IsClass self.now class }
         ensures { result ≡ slice_get (class_at self.now class).free place }
     {
-        self.classes[class as usize - 1].free_at(place)
+        self.rows.at(ListName::Free(class as usize - 1), place)
     }
 
-    /// The chunk at this place of the class's hand-out order: 0 is the oldest. None past its end.
+    /// The chunk at this place of the class's hand-out order: 0 is the oldest. None past its end. It walks to it.
     pub fn order_at(&self, class: ClassId, place: u64) -> Option<ChunkId>
         requires { IsClass self.now class }
         ensures { result ≡ slice_get (class_at self.now class).order place }
     {
-        self.classes[class as usize - 1].order_at(place)
+        self.rows.at(ListName::Out(class as usize - 1), place)
     }
 }
 
 /// The chunk behind, if the page has one more.
-fn behind(chunk: ChunkId, per_page: u64) -> Option<ChunkId>
+fn next_to_cut(chunk: ChunkId, per_page: u64) -> Option<ChunkId>
     requires { chunk.index < per_page }
     ensures { result ≡ next_uncut per_page chunk }
 {

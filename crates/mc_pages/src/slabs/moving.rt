@@ -1,5 +1,5 @@
 //! A page on its way from one class to another, or to the pool.
-ghost use Rattle.std.specs.Prelude.{◌≡◌, ◌≤◌, length, nat_lt, IfOk, OnOk, OnErr, None};
+ghost use Rattle.std.specs.Prelude.{◌≡◌, ◌^◌, ◌<◌, ◌≤◌, length, nat_lt, IfOk, OnOk, OnErr, None};
 ghost use Rattle.mc_pages.specs.declared.ids.Moving.{Moving};
 ghost use Rattle.mc_pages.specs.SlabState.{IsClass, class_at};
 ghost use Rattle.mc_pages.specs.Answer.{answer_of, cursor_after, pick, MayAnswer};
@@ -123,7 +123,7 @@ impl Slabs {
             Some(src) => src,
             None => self.pick(dst).ok_or(Reassign::BadClass)?,
         };
-        let count = self.classes.len() as u64;
+        let count = self.class_count();
         if source == 0 || source > count || dst > count {
             return Err(Reassign::BadClass);
         }
@@ -137,7 +137,7 @@ impl Slabs {
     fn pick(&self, dst: u64) -> Option<ClassId>
         ensures { result ≡ pick self.now dst }
     {
-        let count = self.classes.len() as u64;
+        let count = self.class_count();
         (self.cursor + 1..count + 1)
             .chain(1..self.cursor + 1)
             .find(|class| *class != dst && self.has_spare(*class))
@@ -166,9 +166,15 @@ impl Slabs {
     fn has_spare(&self, class: ClassId) -> bool
         ensures { result ≡ nat_lt 1 (length (class_at self.now class).pages) }
     {
-        match self.classes.get((class as usize).saturating_sub(1)) {
-            Some(slab) => slab.page_count() > 1,
-            None => false,
-        }
+        let place = (class as usize).saturating_sub(1);
+        place < self.classes.len() && self.classes[place].page_count() > 1
+    }
+
+    /// How many classes there are.
+    fn class_count(&self) -> u64
+        ensures count { result ≡ length self.now.classes }
+        ensures below { result < 2 ^ 63 }
+    {
+        self.classes.len() as u64
     }
 }

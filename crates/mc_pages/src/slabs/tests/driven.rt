@@ -8,6 +8,7 @@ ghost use Rattle.mc_pages.specs.Moves.{CanPass, CanWrap, CanFinish, chunk_at_pos
 use crate::{
     ChunkId, Entry, Found, Grow, Moving, NoMemory, Numbers, Owner, Reassign, Slabs, Totals,
 };
+use crate::rows::ListName;
 use mc_classes::{ClassId, ClassTable, PageId};
 use std::alloc::Global;
 
@@ -297,7 +298,9 @@ fn has(slabs: &Slabs, class: ClassId, chunk: ChunkId) -> bool
     requires { IsClass slabs.now class }
     ensures { IsTrue result ↔ (1 ≤ places_in slabs.now class chunk) }
 {
-    crate::class::tests::has(&slabs.classes[class as usize - 1], chunk)
+    let place = class as usize - 1;
+    crate::rows::tests::has(&slabs.rows, ListName::Free(place), chunk)
+        || crate::rows::tests::has(&slabs.rows, ListName::Out(place), chunk)
 }
 
 /// How many chunks a page of the class has.

@@ -8,12 +8,14 @@ use Rattle.mc_pages.specs.ClassState.{ClassState}
 use Rattle.mc_pages.specs.SlabState.{SlabState, IsClass, class_at}
 use Rattle.mc_pages.specs.Answer.{answer_of, cursor_after}
 use Rattle.mc_pages.specs.Moves.{first_page, after_begin}
-use Rattle.mc_pages.specs.InOrder.{IsInOrder, AreKept, slabs_of}
+use Rattle.mc_pages.specs.Linked.{sizes_of}
+use Rattle.mc_pages.specs.Room.{states}
+use Rattle.mc_pages.specs.InOrder.{IsInOrder, HasRows, AreKept, slabs_of}
 use Rattle.mc_pages.proofs.Kept.{pages_below}
 use Rattle.mc_pages.proofs.KeptMoves.{first_page_within, IsInOrder-after_begin}
 use Rattle.mc_pages.proofs.Source.{source_is}
 use Rattle.mc_pages.proofs.Roomy.{if_ok}
-use Rattle.mc_pages.proofs.RoomySlabs.{states, length-states, read_state}
+use Rattle.mc_pages.proofs.RoomySlabs.{length-classes, read_state}
 use Rattle.mc_pages.proofs.RoomyGrow.{on_err, truth_le, states_roomier, fits-roomier}
 use Rattle.mc_pages.proofs.RoomyMoves.{if_ok_at, begun_with, begun_is, not_awaited, fits-to_pool, fits-to_class}
 use Rattle.mc_pages.proofs.slabs.Slabs.begin_move.Goals as goal
@@ -30,7 +32,7 @@ is_class c some = (omega arith, (source_is (slabs_of c.self.inside) c.args.src c
 pub index_mut-slab-requires : goal.index_mut-slab-requires
 index_mut-slab-requires c =
     let is = is_class (goal.at.index_mut-slab-requires c).After-reserve c.if-dst-eq0.false in
-    omega (arith, is.0, length-states c.self.inside c.args.dst is)
+    omega (arith, is.0, length-classes c.self.inside c.args.dst is)
 
 -- how many pages the destination has
 page_count : (c : After-page_count) → c.page_count.result ≡ length (class_at (slabs_of c.self.inside) c.args.dst).pages
@@ -50,7 +52,7 @@ pub make_room-requires : goal.make_room-requires
 make_room-requires c = omega (arith, few (goal.at.make_room-requires c).After-page_count)
 
 -- what was reserved changes nothing that callers see
-refused_is : (c : goal.After-from_residual-in_err-make_room) → record (slabs_of c.self.inside) { classes = states (set c.self.inside.classes.items (c.args.dst - 1) c.make_room.new.self); ledger = c.reserve.new.self.items } ≡ slabs_of c.self.inside
+refused_is : (c : goal.After-from_residual-in_err-make_room) → record (slabs_of c.self.inside) { classes = states c.self.inside.rows (set c.self.inside.classes.items (c.args.dst - 1) c.make_room.new.self); ledger = c.reserve.new.self.items } ≡ slabs_of c.self.inside
 refused_is c =
     let is = is_class (goal.at.invariant_of-self-in_err-make_room c).After-reserve c.if-dst-eq0.false in
     ap₂ (λ (classes : List ClassState) (ledger : List Entry). record (slabs_of c.self.inside) { classes = classes; ledger = ledger })
@@ -65,6 +67,8 @@ invariant_of-self-in_err-make_room c =
       ledger = omega (arith, c.self.invariant.ledger, c.in_ok-reserve.ensures.len, c.in_ok-reserve.ensures.capacity);
       pool = c.self.invariant.pool;
       classes = fits-roomier c.self.inside c.args.dst _ c.make_room.new.self c.self.invariant is c.index_mut-slab.ensures.value c.in_err-make_room.ensures.state c.in_err-make_room.ensures.kept;
+      linked = c.self.invariant.linked;
+      rows = subst (λ (s : SlabState). HasRows s.classes (vec_len c.self.inside.owners) (sizes_of c.self.inside.rows)) (sym (refused_is c)) c.self.invariant.rows;
     }
 
 pub returns-in_err-make_room-clause-refused : goal.returns-in_err-make_room-clause-refused
@@ -127,6 +131,8 @@ invariant_of-self-2 c =
             ledger = ledger_fits c (ap (λ (i : Inside). vec_len i.ledger) w.self-inside-is) (ap (λ (i : Inside). vec_capacity i.ledger) w.self-inside-is);
             pool = omega (arith, w.in_ok-reserve-2.ensures.ok, truth_le (c.args.dst == 0));
             classes = fits-to_pool c.self.inside c.args.dst c.self.invariant w.if-dst-eq0.true;
+            linked = c.self.invariant.linked;
+            rows = c.self.invariant.rows;
           })
       | else-dst-eq0+in_ok-make_room w ↦
           let is = is_class here w.if-dst-eq0.false in
@@ -138,6 +144,9 @@ invariant_of-self-2 c =
             pool = omega (arith, c.self.invariant.pool, not_awaited c.args.dst 0 w.if-dst-eq0.false);
             classes = fits-to_class c.self.inside c.args.dst _ w.make_room.new.self c.self.invariant is w.index_mut-slab.ensures.value w.in_ok-make_room.ensures.state
                 (omega (arith, w.page_count.ensures, ap (λ (class : ClassState). length class.pages) read, w.in_ok-make_room.ensures.ok));
+            linked = c.self.invariant.linked;
+            rows = subst (λ (classes : List ClassState). HasRows classes (vec_len c.self.inside.owners) (sizes_of c.self.inside.rows))
+                (sym (states_roomier c.self.inside c.args.dst _ w.make_room.new.self is w.index_mut-slab.ensures.value w.in_ok-make_room.ensures.state)) c.self.invariant.rows;
           })
     ]
 

@@ -1,17 +1,19 @@
-use Rattle.std.proofs.Common.{◌≡◌, ◌≢◌, ◌+◌, ◌-◌, ◌*◌, ◌≤◌, [], ◌∷◌, ◌++◌, length, set, None, refl, sym, ap, ◌∙◌, subst, arith}
+use Rattle.std.proofs.Common.{◌≡◌, ◌≢◌, ◌+◌, ◌-◌, ◌*◌, ◌≤◌, [], ◌∷◌, ◌++◌, length, vec_len, set, None, refl, sym, ap, ◌∙◌, subst, arith}
 use Rattle.mc_pages.specs.declared.ids.Moving.{Moving}
 use Rattle.mc_pages.specs.declared.ledger.Owner.TheVariants.{Pool, Class}
 use Rattle.mc_pages.specs.declared.ledger.Entry.TheVariants.{Ended}
 use Rattle.mc_pages.specs.ClassState.{ClassState, without_page}
+use Rattle.mc_pages.specs.Linked.{sizes_of}
+use Rattle.mc_pages.specs.Room.{states}
 use Rattle.mc_pages.specs.SlabState.{SlabState, IsClass}
 use Rattle.mc_pages.specs.Accounted.{IsMove}
 use Rattle.mc_pages.specs.Moves.{finished, after_finish, CanFinish}
 use Rattle.mc_pages.specs.InOrder.{IsInOrder, slabs_of}
-use Rattle.mc_pages.proofs.KeptFinish.{release_fits, IsInOrder-finished}
+use Rattle.mc_pages.proofs.KeptFinish.{IsInOrder-finished}
 use Rattle.mc_pages.proofs.Roomy.{if_ok}
-use Rattle.mc_pages.proofs.RoomySlabs.{states, length-states, IsClass-set, read_state}
+use Rattle.mc_pages.proofs.RoomySlabs.{length-classes, IsClass-set}
 use Rattle.mc_pages.proofs.RoomyMoves.{Some-same}
-use Rattle.mc_pages.proofs.RoomyFinish.{moving_within, ended_with, joined_with, pooled_is, joined_is, fits-pooled, dst_has_room, fits-joined, within-both}
+use Rattle.mc_pages.proofs.RoomyFinish.{moving_within, ended_with, joined_with, pooled_is, joined_is, fits-pooled, dst_has_room, fits-joined, within-both, rows-pooled, rows-joined}
 use Rattle.mc_pages.proofs.slabs.Slabs.finish_move.Goals as goal
 use Rattle.mc_pages.proofs.slabs.Slabs.finish_move.Goals.{After-index_mut, After-saturating_add-self-inside}
 
@@ -42,19 +44,10 @@ index_mut-requires-then-dst-eq0 c = omega (arith, moving_within (slabs_of c.self
 pub index_mut-requires-else-dst-eq0 : goal.index_mut-requires-else-dst-eq0
 index_mut-requires-else-dst-eq0 c =
     let is = is_class (goal.at.index_mut-requires-else-dst-eq0 c).After-index_mut c.if-dst-eq0.false in
-    omega (arith, is.0, length-states c.self.inside c.in-Some.moving.dst is)
+    omega (arith, is.0, length-classes c.self.inside c.in-Some.moving.dst is)
 
 pub index_mut-requires-else-dst-eq0-2 : goal.index_mut-requires-else-dst-eq0-2
 index_mut-requires-else-dst-eq0-2 c = omega (arith, moving_within (slabs_of c.self.inside) c.in-Some.moving (is_move (goal.at.index_mut-requires-else-dst-eq0-2 c).After-index_mut))
-
-pub remove_page-requires : goal.remove_page-requires
-remove_page-requires c =
-    let slabs = slabs_of c.self.inside in
-    let move = c.in-Some.moving in
-    let here = (goal.at.remove_page-requires c).After-index_mut in
-    let read = read_state c.self.inside move.src _ _ (is_move here).src refl c.index_mut.ensures.value in
-    subst (λ (class : ClassState). length class.free + length class.order ≤ length (without_page class move.page).pages * class.per_page) (sym read)
-    (release_fits slabs c.self.inside.granted move c.self.invariant.order (whole here) (can_finish here))
 
 -- the ledger has the entry at its end
 pushed : (c : After-saturating_add-self-inside) → c.push.new.self.items ≡ c.self.inside.ledger.items ++ Ended c.in-Some.moving.page c.in-Some.moving.dst ∷ []
@@ -69,7 +62,7 @@ seen : (c : After-index_mut) → finished (slabs_of c.self.inside) c.in-Some.mov
 seen c = ap (after_finish (slabs_of c.self.inside)) (sym c.in-Some.is) ∙ ap (λ (s : SlabState). after_finish s s.moving) c.self.view_is
 
 -- the whole where the page went into the pool
-pooled : (c : goal.After-self-then-dst-eq0-1) → ended_with (slabs_of c.self.inside) (states (set c.self.inside.classes.items (c.in-Some.moving.src - 1) c.remove_page.new.self)) (set c.self.inside.owners.items c.in-Some.moving.page Pool) c.push-then-dst-eq0.new.self.items c.push.new.self.items c.saturating_add-self-inside.result ≡ finished (slabs_of c.self.inside) c.in-Some.moving
+pooled : (c : goal.After-self-then-dst-eq0-1) → ended_with (slabs_of c.self.inside) (states c.self.inside.rows (set c.self.inside.classes.items (c.in-Some.moving.src - 1) c.remove_page.new.self)) (set c.self.inside.owners.items c.in-Some.moving.page Pool) c.push-then-dst-eq0.new.self.items c.push.new.self.items c.saturating_add-self-inside.result ≡ finished (slabs_of c.self.inside) c.in-Some.moving
 pooled c =
     let pool = c.push-then-dst-eq0.ensures.items ∙ if_ok c.push-then-dst-eq0.result _ _ _ c.unwrap-then-dst-eq0.ensures in
     pooled_is c.self.inside c.in-Some.moving _ _ _ _ _ (is_move (goal.at.invariant_of-self c).After-index_mut).src c.index_mut.ensures.value c.remove_page.ensures
@@ -84,7 +77,9 @@ invariant_of-self c =
       order = subst (λ (s : SlabState). IsInOrder s c.self.inside.granted) (sym (pooled c)) (in_order here);
       ledger = omega (arith, c.push.new.self.ok.1);
       pool = omega (arith, c.push-then-dst-eq0.new.self.ok.1);
-      classes = λ other there. fits-pooled c.self.inside move _ _ c.self.invariant is c.index_mut.ensures.value c.remove_page.ensures other there.0 (IsClass-set _ _ other _ there.1);
+      classes = λ other there. fits-pooled c.self.inside move _ _ c.self.invariant is c.index_mut.ensures.value c.remove_page.ensures other there.0 (IsClass-set c.self.inside.rows _ _ other _ there.1);
+      linked = c.self.invariant.linked;
+      rows = rows-pooled c.self.inside move (vec_len c.self.inside.owners) (sizes_of c.self.inside.rows) _ _ c.self.invariant.rows is c.index_mut.ensures.value c.remove_page.ensures;
     }
 
 pub returns-then-dst-eq0-clause-finished : goal.returns-then-dst-eq0-clause-finished
@@ -99,7 +94,7 @@ add_page-requires c =
     dst_has_room c.self.inside c.in-Some.moving _ _ c.self.invariant c.in-Some.is (is_move here).src (is_class here c.if-dst-eq0.false) (is_move here).apart c.index_mut-else-dst-eq0.ensures.value
 
 -- the whole where the page has joined its destination
-joined : (c : goal.After-self-else-dst-eq0-3-1) → joined_with (slabs_of c.self.inside) c.in-Some.moving (states (set (set c.self.inside.classes.items (c.in-Some.moving.src - 1) c.remove_page.new.self) (c.in-Some.moving.dst - 1) c.add_page.new.self)) (set c.self.inside.owners.items c.in-Some.moving.page (Class c.in-Some.moving.dst)) c.push.new.self.items c.saturating_add-self-inside.result ≡ finished (slabs_of c.self.inside) c.in-Some.moving
+joined : (c : goal.After-self-else-dst-eq0-3-1) → joined_with (slabs_of c.self.inside) c.in-Some.moving (states c.self.inside.rows (set (set c.self.inside.classes.items (c.in-Some.moving.src - 1) c.remove_page.new.self) (c.in-Some.moving.dst - 1) c.add_page.new.self)) (set c.self.inside.owners.items c.in-Some.moving.page (Class c.in-Some.moving.dst)) c.push.new.self.items c.saturating_add-self-inside.result ≡ finished (slabs_of c.self.inside) c.in-Some.moving
 joined c =
     let here = (goal.at.invariant_of-self-else-dst-eq0 c).After-index_mut in
     joined_is c.self.inside c.in-Some.moving _ _ _ _ _ _ (is_move here).src (is_class here c.if-dst-eq0.false) c.index_mut.ensures.value c.remove_page.ensures c.index_mut-else-dst-eq0.ensures.value c.add_page.ensures
@@ -116,7 +111,9 @@ invariant_of-self-else-dst-eq0 c =
       ledger = omega (arith, c.push.new.self.ok.1);
       pool = omega (arith, c.self.inside.pool.ok.1);
       classes = λ other there.
-          fits-joined c.self.inside move _ _ _ _ c.self.invariant c.in-Some.is is.src to is.apart c.index_mut.ensures.value c.remove_page.ensures c.index_mut-else-dst-eq0.ensures.value c.add_page.ensures other there.0 (within-both _ _ _ other _ _ there.1);
+          fits-joined c.self.inside move _ _ _ _ c.self.invariant c.in-Some.is is.src to is.apart c.index_mut.ensures.value c.remove_page.ensures c.index_mut-else-dst-eq0.ensures.value c.add_page.ensures other there.0 (within-both c.self.inside.rows _ _ _ other _ _ there.1);
+      linked = c.self.invariant.linked;
+      rows = rows-joined c.self.inside move (vec_len c.self.inside.owners) (sizes_of c.self.inside.rows) _ _ _ _ c.self.invariant.rows is.src to c.index_mut.ensures.value c.remove_page.ensures c.index_mut-else-dst-eq0.ensures.value c.add_page.ensures;
     }
 
 pub returns-else-dst-eq0-clause-finished : goal.returns-else-dst-eq0-clause-finished
@@ -124,3 +121,8 @@ returns-else-dst-eq0-clause-finished c = joined c ∙ seen (goal.at.invariant_of
 
 pub returns-else-dst-eq0-clause-accounted : goal.returns-else-dst-eq0-clause-accounted
 returns-else-dst-eq0-clause-accounted c = (invariant_of-self-else-dst-eq0 c).order.accounted
+
+pub index_mut-requires : goal.index_mut-requires
+index_mut-requires c =
+    let is = (c.self.invariant.order.accounted.move c.in-Some.moving c.in-Some.is).src in
+    omega (arith, is.0, length-classes c.self.inside c.in-Some.moving.src is)

@@ -4,15 +4,17 @@ use Rattle.mc_pages.specs.declared.ledger.Owner.TheVariants.{Class}
 use Rattle.mc_pages.specs.declared.ledger.Entry.{Entry}
 use Rattle.mc_pages.specs.declared.ledger.Entry.TheVariants.{Granted, Taken}
 use Rattle.mc_pages.specs.declared.slabs.Slabs.TheInside.{Inside}
-use Rattle.mc_pages.specs.ClassState.{ClassState}
+use Rattle.mc_pages.specs.ClassState.{ClassState, with_page}
 use Rattle.mc_pages.specs.SlabState.{SlabState, IsClass, class_at}
 use Rattle.mc_pages.specs.Changes.{next_page, after_grow, after_take, after_grant}
 use Rattle.mc_pages.specs.Accounted.{truth}
-use Rattle.mc_pages.specs.InOrder.{IsInOrder, AreKept, slabs_of, is_awaited}
+use Rattle.mc_pages.specs.Linked.{sizes_of}
+use Rattle.mc_pages.specs.Room.{states}
+use Rattle.mc_pages.specs.InOrder.{IsInOrder, HasRows, AreKept, slabs_of, is_awaited}
 use Rattle.mc_pages.proofs.Kept.{pages_below}
 use Rattle.mc_pages.proofs.KeptPages.{IsInOrder-after_take, IsInOrder-after_grant}
 use Rattle.mc_pages.proofs.Roomy.{if_ok}
-use Rattle.mc_pages.proofs.RoomySlabs.{Fits, states, read_state, with_roomy}
+use Rattle.mc_pages.proofs.RoomySlabs.{Fits, length-classes, read_state, with_roomy, HasRows-with_class}
 use Rattle.mc_pages.proofs.RoomyGrow.{on_err, truth_le, truth_byte, grow_takes, grow_grants, take_is, grant_is, next_pooled, next_granted, fits-given, next_within, states_roomier, fits-roomier}
 use Rattle.mc_pages.proofs.slabs.Slabs.grow.Goals as goal
 use Rattle.mc_pages.proofs.slabs.Slabs.grow.Goals.{After-page_count, in-Some, in-None}
@@ -51,7 +53,7 @@ is_next : (c : After-page_count) → next_page (slabs_of c.self.inside) ≡ Some
 is_next c = ap next_page c.self.view_is ∙ (sym c.next_page.ensures ∙ c.in_ok-page.ensures.ok_part)
 
 -- what was reserved changes nothing that callers see
-refused_is : (c : goal.After-from_residual-in_err-make_room) → record (slabs_of c.self.inside) { classes = states (set c.self.inside.classes.items (c.args.class - 1) c.make_room.new.self); ledger = c.reserve.new.self.items } ≡ slabs_of c.self.inside
+refused_is : (c : goal.After-from_residual-in_err-make_room) → record (slabs_of c.self.inside) { classes = states c.self.inside.rows (set c.self.inside.classes.items (c.args.class - 1) c.make_room.new.self); ledger = c.reserve.new.self.items } ≡ slabs_of c.self.inside
 refused_is c =
     let is = is_class (goal.at.invariant_of-self-in_err-make_room c).After-page_count in
     ap₂ (λ (classes : List ClassState) (ledger : List Entry). record (slabs_of c.self.inside) { classes = classes; ledger = ledger })
@@ -66,6 +68,8 @@ invariant_of-self-in_err-make_room c =
       ledger = omega (arith, c.self.invariant.ledger, c.in_ok-reserve.ensures.len, c.in_ok-reserve.ensures.capacity);
       pool = c.self.invariant.pool;
       classes = fits-roomier c.self.inside c.args.class _ c.make_room.new.self c.self.invariant is c.index_mut-slab.ensures.value c.in_err-make_room.ensures.state c.in_err-make_room.ensures.kept;
+      linked = c.self.invariant.linked;
+      rows = subst (λ (s : SlabState). HasRows s.classes (vec_len c.self.inside.owners) (sizes_of c.self.inside.rows)) (sym (refused_is c)) c.self.invariant.rows;
     }
 
 pub returns-in_err-make_room-clause-refused : goal.returns-in_err-make_room-clause-refused
@@ -114,11 +118,16 @@ ledger_fits c len capacity =
     omega (arith, len, capacity, c.push.ensures.upper_bound, c.push.ensures.capacity, c.in_ok-reserve.ensures.ok, entries (goal.at.invariant_of-self-3 c).After-page_count)
 
 -- each class keeps its room
-all_fit : (c : goal.After-self-4-1) (other : ℕ) → IsClass (slabs_of (with_roomy c.self.inside (c.args.class - 1) c.add_page.new.self)) other → Fits (set c.self.inside.classes.items (c.args.class - 1) c.add_page.new.self) (truth (is_awaited c.self.inside.moving other)) other
+all_fit : (c : goal.After-self-4-1) (other : ℕ) → IsClass (slabs_of (with_roomy c.self.inside (c.args.class - 1) c.add_page.new.self)) other → Fits c.self.inside.rows (set c.self.inside.classes.items (c.args.class - 1) c.add_page.new.self) (truth (is_awaited c.self.inside.moving other)) other
 all_fit c =
     let here = (goal.at.invariant_of-self-3 c).After-page_count in
     fits-given c.self.inside c.args.class c.in_ok-page.page _ c.make_room.new.self _ c.self.invariant (is_class here) c.index_mut-slab.ensures.value c.in_ok-make_room.ensures.state c.add_page.ensures
     (omega (arith, page_count here, awaited here, c.in_ok-make_room.ensures.ok))
+
+-- the rows are as many as before
+has_rows : (c : goal.After-self-4-1) → HasRows (set (slabs_of c.self.inside).classes (c.args.class - 1) (with_page (class_at (slabs_of c.self.inside) c.args.class) c.in_ok-page.page)) (vec_len c.self.inside.owners) (sizes_of c.self.inside.rows)
+has_rows c =
+    HasRows-with_class (slabs_of c.self.inside) c.args.class (vec_len c.self.inside.owners) (sizes_of c.self.inside.rows) (with_page (class_at (slabs_of c.self.inside) c.args.class) c.in_ok-page.page) c.self.invariant.rows (is_class (goal.at.invariant_of-self-3 c).After-page_count) refl
 
 -- the whole where the page came out of the pool
 taken_is : (c : goal.After-self-4-1) → c.match-pop.self-inside ≡ taken_inside c → c.match-pop.entry ≡ Taken c.in_ok-page.page c.args.class → slabs_of (given c (taken_inside c)) ≡ after_take (slabs_of c.self.inside) c.args.class c.in_ok-page.page
@@ -138,6 +147,8 @@ taken_kept c is entry some =
       ledger = ledger_fits c (ap (λ (i : Inside). vec_len i.ledger) is) (ap (λ (i : Inside). vec_capacity i.ledger) is);
       pool = omega (arith, c.self.invariant.pool, c.pop.ensures.len, c.pop.ensures.capacity);
       classes = all_fit c;
+      linked = c.self.invariant.linked;
+      rows = subst (λ (s : SlabState). HasRows s.classes (vec_len c.self.inside.owners) (sizes_of c.self.inside.rows)) (sym (taken_is c is entry)) (has_rows c);
     }
 
 -- the whole where the page was untouched
@@ -160,6 +171,8 @@ granted_kept c is entry none =
       ledger = ledger_fits c (ap (λ (i : Inside). vec_len i.ledger) is) (ap (λ (i : Inside). vec_capacity i.ledger) is);
       pool = omega (arith, c.self.invariant.pool, c.pop.ensures.len, c.pop.ensures.capacity);
       classes = all_fit c;
+      linked = c.self.invariant.linked;
+      rows = subst (λ (s : SlabState). HasRows s.classes (vec_len c.self.inside.owners) (sizes_of c.self.inside.rows)) (sym (granted_is c is entry none)) (has_rows c);
     }
 
 pub invariant_of-self-3 : goal.invariant_of-self-3
@@ -191,3 +204,8 @@ returns-clause-given c =
 
 pub returns-clause-accounted : goal.returns-clause-accounted
 returns-clause-accounted c = (invariant_of-self-3 c).order.accounted
+
+pub index_mut-slab-requires : goal.index_mut-slab-requires
+index_mut-slab-requires c =
+    let is = subst (λ (s : SlabState). IsClass s c.args.class) (sym c.self.view_is) c.requires.class in
+    omega (arith, is.0, length-classes c.self.inside c.args.class is)

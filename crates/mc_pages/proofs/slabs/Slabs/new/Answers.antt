@@ -1,13 +1,18 @@
-use Rattle.std.proofs.Common.{◌≡◌, ℕ, List, None, length, arith, sym, ap, ap₂, ◌∙◌, subst}
+use Rattle.std.proofs.Common.{◌≡◌, ℕ, ◌*◌, vec_len, List, None, length, arith, sym, ap, ap₂, ◌∙◌, subst}
+use Rattle.std.proofs.lemmas.List.{length-replicate}
 use Rattle.mc_pages.specs.declared.ledger.Owner.{Owner}
+use Rattle.mc_pages.specs.declared.ledger.Owner.TheVariants.{Untouched}
 use Rattle.mc_pages.specs.declared.ledger.Entry.{Entry}
 use Rattle.mc_pages.specs.Ledger.{all_untouched}
 use Rattle.mc_pages.specs.ClassState.{ClassState}
 use Rattle.mc_pages.specs.SlabState.{SlabState, IsClass, class_at, fresh_slabs}
-use Rattle.mc_pages.specs.InOrder.{IsInOrder}
-use Rattle.mc_pages.proofs.RoomySlabs.{states}
+use Rattle.mc_classes.specs.Classes.{pages_of, per_page_of}
+use Rattle.mc_pages.specs.Rows.{RowsState, fresh_rows}
+use Rattle.mc_pages.specs.Linked.{AreLinked, sizes_of}
+use Rattle.mc_pages.specs.Room.{RoomyClass, states}
+use Rattle.mc_pages.specs.InOrder.{IsInOrder, HasRows, roomless}
 use Rattle.mc_pages.proofs.Fresh.{IsInOrder-fresh}
-use Rattle.mc_pages.proofs.RoomyFresh.{pages-fresh, states-roomless}
+use Rattle.mc_pages.proofs.RoomyFresh.{pages-fresh, states-fresh, AreLinked-fresh, HasRows-fresh}
 use Rattle.mc_pages.proofs.slabs.Slabs.new.Goals as goal
 
 -- a whole of which nothing was granted
@@ -31,9 +36,11 @@ fresh_with page limit cursor classes owners pool ledger = record {
 
 pub returns-clause-fresh : goal.returns-clause-fresh
 returns-clause-fresh c =
-    let classes : states c.in_ok-classes.classes.items ≡ (fresh_slabs c.args.table.now).classes = ap states c.in_ok-classes.ensures ∙ states-roomless (fresh_slabs c.args.table.now).classes in
+    let table = c.args.table.now in
+    let classes : states c.in_ok-rows.rows c.in_ok-classes.classes.items ≡ (fresh_slabs table).classes =
+        ap₂ (λ (rows : RowsState) (all : List RoomyClass). states rows all) c.in_ok-rows.ensures c.in_ok-classes.ensures ∙ states-fresh table (per_page_of table 1) (pages_of table * per_page_of table 1) (length table.sizes) in
     let owners = c.in_ok-owners.ensures.items_if_clones_equal (λ y e. e) ∙ ap all_untouched c.pages.ensures.pages in
-    ap₂ (λ (page limit : ℕ). fresh_with page limit c.count.result (states c.in_ok-classes.classes.items) c.in_ok-owners.owners.items c.new.result.items c.new-2.result.items) c.page.ensures.page c.limit.ensures.limit
+    ap₂ (λ (page limit : ℕ). fresh_with page limit c.count.result (states c.in_ok-rows.rows c.in_ok-classes.classes.items) c.in_ok-owners.owners.items c.new.result.items c.new-2.result.items) c.page.ensures.page c.limit.ensures.limit
     ∙ (ap₂ (λ (cs : List ClassState) (os : List Owner). fresh_with c.args.table.now.page c.args.table.now.limit c.count.result cs os c.new.result.items c.new-2.result.items) classes owners
     ∙ (ap₂ (λ (pool : List ℕ) (ledger : List Entry). fresh_with c.args.table.now.page c.args.table.now.limit c.count.result (fresh_slabs c.args.table.now).classes (fresh_slabs c.args.table.now).owners pool ledger) c.new.ensures.items c.new-2.ensures.items
     ∙ ap (λ (n : ℕ). record (fresh_slabs c.args.table.now) { cursor = n }) c.count.ensures.count))
@@ -43,11 +50,16 @@ invariant_of-result c =
     let fresh = returns-clause-fresh c in
     let table = c.args.table.now in
     let sound = c.count.ensures.sound in
+    let pages : pages_of table ≡ vec_len c.in_ok-owners.owners = omega (arith, ap (λ (s : SlabState). length s.owners) fresh, length-replicate (pages_of table) Untouched, c.in_ok-owners.owners.ok.0) in
     record {
       order = subst (λ (s : SlabState). IsInOrder s 0) (sym fresh) (IsInOrder-fresh table sound);
       ledger = omega (arith, c.new-2.ensures.len);
       pool = omega (arith, c.new.ensures.len);
       classes = λ class is. omega (arith, ap (λ (s : SlabState). length (class_at s class).pages) fresh, pages-fresh table class (subst (λ (s : SlabState). IsClass s class) fresh is));
+      linked = subst AreLinked (sym c.in_ok-rows.ensures) (AreLinked-fresh (per_page_of table 1) (pages_of table * per_page_of table 1) (length table.sizes));
+      rows = subst (λ (s : SlabState). HasRows s.classes (vec_len c.in_ok-owners.owners) (sizes_of c.in_ok-rows.rows)) (sym fresh)
+          (subst (λ (rows : RowsState). HasRows (fresh_slabs table).classes (vec_len c.in_ok-owners.owners) (sizes_of rows)) (sym c.in_ok-rows.ensures)
+          (subst (λ (n : ℕ). HasRows (fresh_slabs table).classes n (sizes_of (fresh_rows (per_page_of table 1) (pages_of table * per_page_of table 1) (length table.sizes)))) pages (HasRows-fresh table (pages_of table) sound)));
     }
 
 pub returns-clause-accounted : goal.returns-clause-accounted

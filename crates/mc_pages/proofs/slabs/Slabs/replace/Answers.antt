@@ -1,12 +1,12 @@
-use Rattle.std.proofs.Common.{ℕ, ◌-◌, Contains, refl, sym, ap, ◌∙◌, subst}
+use Rattle.std.proofs.Common.{ℕ, ◌-◌, List, Contains, refl, sym, ap, ◌∙◌, subst}
 use Rattle.mc_pages.specs.declared.ids.ChunkId.{ChunkId}
-use Rattle.mc_pages.specs.ClassState.{ClassState, times, replaced}
+use Rattle.mc_pages.specs.ClassState.{replaced}
 use Rattle.mc_pages.specs.SlabState.{SlabState, IsClass, class_of_page, class_of_chunk}
 use Rattle.mc_pages.specs.Changes.{after_replace}
 use Rattle.mc_pages.specs.InOrder.{slabs_of}
-use Rattle.mc_pages.proofs.HandedOut.{IsClass-handed_out, times_free_one}
+use Rattle.mc_pages.proofs.HandedOut.{IsClass-handed_out}
 use Rattle.mc_pages.proofs.Kept.{IsInOrder-after_replace}
-use Rattle.mc_pages.proofs.RoomySlabs.{read_state, slabs_of-changed, AreKept-changed}
+use Rattle.mc_pages.proofs.RoomySlabs.{IsPlace-class, lists_at, lengths_below, slabs_of-became, AreKept-became}
 use Rattle.mc_pages.proofs.slabs.Slabs.replace.Goals as goal
 
 -- the chunk was handed out
@@ -27,6 +27,14 @@ class_place-place-requires c =
     subst (λ (slabs : SlabState). IsClass slabs (class_of_page slabs c.args.old.page)) c.self.view_is
     (IsClass-handed_out (slabs_of c.self.inside) c.args.old c.self.invariant.order.accounted handed)
 
+pub replace-requires-clause-class : goal.replace-requires-clause-class
+replace-requires-clause-class c =
+    let slabs = slabs_of c.self.inside in
+    let handed = subst (IsHandedOut c.args.old) (sym c.self.view_is) c.requires.handed_out in
+    let is = IsClass-handed_out slabs c.args.old c.self.invariant.order.accounted handed in
+    let at = c.class_place-place.ensures ∙ ap (place_in c.args.old) (sym c.self.view_is) in
+    IsPlace-class c.self.inside (class_of_page slabs c.args.old.page) _ c.self.invariant is at
+
 pub replace-requires-clause-free : goal.replace-requires-clause-free
 replace-requires-clause-free c =
     let slabs = slabs_of c.self.inside in
@@ -34,8 +42,23 @@ replace-requires-clause-free c =
     let handed = subst (IsHandedOut c.args.old) (sym c.self.view_is) c.requires.handed_out in
     let is = IsClass-handed_out slabs c.args.old c.self.invariant.order.accounted handed in
     let at = c.class_place-place.ensures ∙ ap (place_in c.args.old) (sym c.self.view_is) in
-    let read = read_state c.self.inside (class_of_page slabs c.args.old.page) _ _ is at c.index_mut.ensures.value in
-    ap (λ (class : ClassState). times c.args.new class.free) read ∙ times_free_one slabs c.self.inside.granted c.args.new c.args.old c.self.invariant.order free handed
+    subst (λ (chunks : List ChunkId). Contains chunks c.args.new) (sym (lists_at c.self.inside (class_of_page slabs c.args.old.page) _ is at).0) free
+
+pub replace-requires-clause-handed_out : goal.replace-requires-clause-handed_out
+replace-requires-clause-handed_out c =
+    let slabs = slabs_of c.self.inside in
+    let handed = subst (IsHandedOut c.args.old) (sym c.self.view_is) c.requires.handed_out in
+    let is = IsClass-handed_out slabs c.args.old c.self.invariant.order.accounted handed in
+    let at = c.class_place-place.ensures ∙ ap (place_in c.args.old) (sym c.self.view_is) in
+    subst (λ (chunks : List ChunkId). Contains chunks c.args.old) (sym (lists_at c.self.inside (class_of_page slabs c.args.old.page) _ is at).1) handed
+
+pub replace-requires-clause-below : goal.replace-requires-clause-below
+replace-requires-clause-below c =
+    let slabs = slabs_of c.self.inside in
+    let handed = subst (IsHandedOut c.args.old) (sym c.self.view_is) c.requires.handed_out in
+    let is = IsClass-handed_out slabs c.args.old c.self.invariant.order.accounted handed in
+    let at = c.class_place-place.ensures ∙ ap (place_in c.args.old) (sym c.self.view_is) in
+    (lengths_below c.self.inside (class_of_page slabs c.args.old.page) _ c.self.invariant is at).1
 
 pub invariant_of-self : goal.invariant_of-self
 invariant_of-self c =
@@ -44,7 +67,7 @@ invariant_of-self c =
     let handed = subst (IsHandedOut c.args.old) (sym c.self.view_is) c.requires.handed_out in
     let is = IsClass-handed_out slabs c.args.old c.self.invariant.order.accounted handed in
     let at = c.class_place-place.ensures ∙ ap (place_in c.args.old) (sym c.self.view_is) in
-    AreKept-changed c.self.inside (class_of_page slabs c.args.old.page) _ _ _ (λ class. replaced class c.args.new c.args.old) c.self.invariant is at c.index_mut.ensures.value c.replace.ensures refl
+    AreKept-became c.self.inside _ (class_of_page slabs c.args.old.page) _ (λ class. replaced class c.args.new c.args.old) c.self.invariant is at c.replace.ensures.replaced refl
     (IsInOrder-after_replace slabs c.self.inside.granted c.args.new c.args.old c.self.invariant.order free handed)
 
 pub returns-clause-replaced : goal.returns-clause-replaced
@@ -53,7 +76,7 @@ returns-clause-replaced c =
     let handed = subst (IsHandedOut c.args.old) (sym c.self.view_is) c.requires.handed_out in
     let is = IsClass-handed_out slabs c.args.old c.self.invariant.order.accounted handed in
     let at = c.class_place-place.ensures ∙ ap (place_in c.args.old) (sym c.self.view_is) in
-    slabs_of-changed c.self.inside (class_of_page slabs c.args.old.page) _ _ _ (λ class. replaced class c.args.new c.args.old) is at c.index_mut.ensures.value c.replace.ensures
+    slabs_of-became c.self.inside _ (class_of_page slabs c.args.old.page) _ (λ class. replaced class c.args.new c.args.old) is at c.replace.ensures.replaced
     ∙ ap (λ (s : SlabState). after_replace s c.args.new c.args.old) c.self.view_is
 
 pub returns-clause-accounted : goal.returns-clause-accounted

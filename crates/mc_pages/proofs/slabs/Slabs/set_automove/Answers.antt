@@ -9,6 +9,8 @@ invariant_of-self c =
       ledger = c.self.invariant.ledger;
       pool = c.self.invariant.pool;
       classes = c.self.invariant.classes;
+      linked = c.self.invariant.linked;
+      rows = c.self.invariant.rows;
     }
 
 pub returns-clause-accounted : goal.returns-clause-accounted

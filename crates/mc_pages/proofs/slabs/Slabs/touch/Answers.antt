@@ -1,14 +1,13 @@
-use Rattle.std.proofs.Common.{ℕ, ◌-◌, Contains, refl, sym, ap, ◌∙◌, subst}
+use Rattle.std.proofs.Common.{ℕ, ◌-◌, List, Contains, refl, sym, ap, ◌∙◌, subst}
 use Rattle.mc_pages.specs.declared.ids.ChunkId.{ChunkId}
-use Rattle.mc_pages.specs.ClassState.{ClassState, touched}
+use Rattle.mc_pages.specs.ClassState.{touched}
 use Rattle.mc_pages.specs.SlabState.{SlabState, IsClass, class_of_page, class_of_chunk}
 use Rattle.mc_pages.specs.Changes.{after_touch}
 use Rattle.mc_pages.specs.InOrder.{slabs_of}
 use Rattle.mc_pages.proofs.HandedOut.{IsClass-handed_out}
 use Rattle.mc_pages.proofs.Kept.{IsInOrder-after_touch}
-use Rattle.mc_pages.proofs.RoomySlabs.{read_state, slabs_of-changed, AreKept-changed}
+use Rattle.mc_pages.proofs.RoomySlabs.{IsPlace-class, lists_at, lengths_below, slabs_of-became, AreKept-became}
 use Rattle.mc_pages.proofs.slabs.Slabs.touch.Goals as goal
-use Rattle.mc_pages.proofs.slabs.Slabs.touch.Goals.{Start, After-index_mut}
 
 -- the chunk was handed out
 abbrev IsHandedOut : ChunkId → SlabState → Type 0
@@ -24,14 +23,29 @@ class_place-place-requires c =
     subst (λ (slabs : SlabState). IsClass slabs (class_of_page slabs c.args.chunk.page)) c.self.view_is
     (IsClass-handed_out (slabs_of c.self.inside) c.args.chunk c.self.invariant.order.accounted handed)
 
-pub touch-requires : goal.touch-requires
-touch-requires c =
+pub touch-requires-clause-class : goal.touch-requires-clause-class
+touch-requires-clause-class c =
     let slabs = slabs_of c.self.inside in
     let handed = subst (IsHandedOut c.args.chunk) (sym c.self.view_is) c.requires in
     let is = IsClass-handed_out slabs c.args.chunk c.self.invariant.order.accounted handed in
     let at = c.class_place-place.ensures ∙ ap (place_in c.args.chunk) (sym c.self.view_is) in
-    let read = read_state c.self.inside (class_of_page slabs c.args.chunk.page) _ _ is at c.index_mut.ensures.value in
-    subst (λ (class : ClassState). Contains class.order c.args.chunk) (sym read) handed
+    IsPlace-class c.self.inside (class_of_page slabs c.args.chunk.page) _ c.self.invariant is at
+
+pub touch-requires-clause-handed_out : goal.touch-requires-clause-handed_out
+touch-requires-clause-handed_out c =
+    let slabs = slabs_of c.self.inside in
+    let handed = subst (IsHandedOut c.args.chunk) (sym c.self.view_is) c.requires in
+    let is = IsClass-handed_out slabs c.args.chunk c.self.invariant.order.accounted handed in
+    let at = c.class_place-place.ensures ∙ ap (place_in c.args.chunk) (sym c.self.view_is) in
+    subst (λ (chunks : List ChunkId). Contains chunks c.args.chunk) (sym (lists_at c.self.inside (class_of_page slabs c.args.chunk.page) _ is at).1) handed
+
+pub touch-requires-clause-below : goal.touch-requires-clause-below
+touch-requires-clause-below c =
+    let slabs = slabs_of c.self.inside in
+    let handed = subst (IsHandedOut c.args.chunk) (sym c.self.view_is) c.requires in
+    let is = IsClass-handed_out slabs c.args.chunk c.self.invariant.order.accounted handed in
+    let at = c.class_place-place.ensures ∙ ap (place_in c.args.chunk) (sym c.self.view_is) in
+    (lengths_below c.self.inside (class_of_page slabs c.args.chunk.page) _ c.self.invariant is at).1
 
 pub invariant_of-self : goal.invariant_of-self
 invariant_of-self c =
@@ -39,7 +53,7 @@ invariant_of-self c =
     let handed = subst (IsHandedOut c.args.chunk) (sym c.self.view_is) c.requires in
     let is = IsClass-handed_out slabs c.args.chunk c.self.invariant.order.accounted handed in
     let at = c.class_place-place.ensures ∙ ap (place_in c.args.chunk) (sym c.self.view_is) in
-    AreKept-changed c.self.inside (class_of_page slabs c.args.chunk.page) _ _ _ (λ class. touched class c.args.chunk) c.self.invariant is at c.index_mut.ensures.value c.touch.ensures refl
+    AreKept-became c.self.inside _ (class_of_page slabs c.args.chunk.page) _ (λ class. touched class c.args.chunk) c.self.invariant is at c.touch.ensures.touched refl
     (IsInOrder-after_touch slabs c.self.inside.granted c.args.chunk c.self.invariant.order handed)
 
 pub returns-clause-touched : goal.returns-clause-touched
@@ -48,7 +62,7 @@ returns-clause-touched c =
     let handed = subst (IsHandedOut c.args.chunk) (sym c.self.view_is) c.requires in
     let is = IsClass-handed_out slabs c.args.chunk c.self.invariant.order.accounted handed in
     let at = c.class_place-place.ensures ∙ ap (place_in c.args.chunk) (sym c.self.view_is) in
-    slabs_of-changed c.self.inside (class_of_page slabs c.args.chunk.page) _ _ _ (λ class. touched class c.args.chunk) is at c.index_mut.ensures.value c.touch.ensures
+    slabs_of-became c.self.inside _ (class_of_page slabs c.args.chunk.page) _ (λ class. touched class c.args.chunk) is at c.touch.ensures.touched
     ∙ ap (λ (s : SlabState). after_touch s c.args.chunk) c.self.view_is
 
 pub returns-clause-accounted : goal.returns-clause-accounted

@@ -1,0 +1,193 @@
+-- A class's lists after a chunk went from one to the other.
+use Rattle.std.proofs.Common.{◌≡◌, ◌≢◌, ℕ, ◌+◌, ◌<◌, ◌≤◌, zero, suc, Bool, true, false, cond, List, [], ◌∷◌, ◌++◌, length, slice_get, Option, Some, None, refl, sym, ap, ap₂, ◌∙◌, subst, inl, inr, arith}
+use Rattle.std.proofs.lemmas.Bool.{cases_Bool, cases_lt, false≢true}
+use Rattle.std.proofs.lemmas.Option.{slice_get_cases, slice_get_past}
+use Rattle.mc_pages.specs.declared.ids.ChunkId.{ChunkId}
+use Rattle.mc_pages.specs.declared.rows.ListName.{ListName}
+use Rattle.mc_pages.specs.declared.rows.ListName.TheVariants.{Free, Out}
+use Rattle.mc_pages.specs.declared.rows.Field.TheVariants.{Next, Head}
+use Rattle.mc_pages.specs.ClassState.{ClassState, is_chunk, times, without, first_free, popped, behind}
+use Rattle.mc_pages.specs.Accounted.{truth}
+use Rattle.mc_pages.specs.Rows.{RowsState, IsRow, row_at, field_of, length_of}
+use Rattle.mc_pages.specs.Linked.{IsRun, AreLinked, IsUnlisted, chunks_of, with_list, sizes_of}
+use Rattle.mc_pages.specs.ClassRows.{with_lists, HasBecome}
+use Rattle.mc_pages.proofs.Chunks.{is_chunk-same, same_from_is_chunk, times-cons, times-tail, times-without, times_from_Contains, Contains_from_slice_get}
+use Rattle.mc_pages.proofs.Runs.{Links, None≢Some}
+use Rattle.mc_pages.proofs.RunChanges.{IsOnce, once-rest}
+use Rattle.mc_pages.proofs.RowFields.{cases_list}
+use Rattle.mc_pages.proofs.Joined.{forth_in, back_in}
+use Rattle.mc_pages.proofs.Linked.{with_list-same, with_list-other}
+
+-- free lists and hand-out orders are apart
+pub free≢out : (a b : ℕ) → Free a ≢ Out b
+free≢out a b h = cc h
+
+pub out≢free : (a b : ℕ) → Out a ≢ Free b
+out≢free a b h = cc h
+
+pub free≢free : (a b : ℕ) → a ≢ b → Free a ≢ Free b
+free≢free a b differs h = differs (cc h)
+
+pub out≢out : (a b : ℕ) → a ≢ b → Out a ≢ Out b
+out≢out a b differs h = differs (cc h)
+
+-- one list has changed
+abbrev pub Changes : (ListName → List ChunkId) → (ListName → List ChunkId) → ListName → List ChunkId → Type 0
+Changes before after list chunks = (other : ListName) → after other ≡ with_list before list chunks other
+
+changed-same : (before after : ListName → List ChunkId) (list : ListName) (chunks : List ChunkId) → Changes before after list chunks → after list ≡ chunks
+changed-same before after list chunks h = h list ∙ with_list-same before list chunks
+
+pub changed-other : (before after : ListName → List ChunkId) (list other : ListName) (chunks : List ChunkId) → other ≢ list → Changes before after list chunks → after other ≡ before other
+changed-other before after list other chunks differs h = h other ∙ with_list-other before list other chunks differs
+
+-- the lists of a class where one of them has changed, and where both have
+pub became_free : (before after : RowsState) (place : ℕ) (change : ClassState → ClassState) (free : List ChunkId) → AreLinked after → sizes_of after ≡ sizes_of before → Changes (chunks_of before) (chunks_of after) (Free place) free → ((class : ClassState) → record class { free = free; order = chunks_of before (Out place) } ≡ change (with_lists class before place)) → HasBecome before after place change
+became_free before after place change free is sizes changes so =
+    let kept = λ (other : ListName) (differs : other ≢ Free place). changed-other (chunks_of before) (chunks_of after) (Free place) other free differs changes in
+    record {
+      linked = is;
+      sizes = sizes;
+      here = λ class. ap₂ (λ (f o : List ChunkId). record class { free = f; order = o }) (changed-same (chunks_of before) (chunks_of after) (Free place) free changes) (kept (Out place) (out≢free place place)) ∙ so class;
+      others = λ class other differs. ap₂ (λ (f o : List ChunkId). record class { free = f; order = o }) (kept (Free other) (free≢free other place differs)) (kept (Out other) (out≢free other place));
+    }
+
+pub became_out : (before after : RowsState) (place : ℕ) (change : ClassState → ClassState) (order : List ChunkId) → AreLinked after → sizes_of after ≡ sizes_of before → Changes (chunks_of before) (chunks_of after) (Out place) order → ((class : ClassState) → record class { free = chunks_of before (Free place); order = order } ≡ change (with_lists class before place)) → HasBecome before after place change
+became_out before after place change order is sizes changes so =
+    let kept = λ (other : ListName) (differs : other ≢ Out place). changed-other (chunks_of before) (chunks_of after) (Out place) other order differs changes in
+    record {
+      linked = is;
+      sizes = sizes;
+      here = λ class. ap₂ (λ (f o : List ChunkId). record class { free = f; order = o }) (kept (Free place) (free≢out place place)) (changed-same (chunks_of before) (chunks_of after) (Out place) order changes) ∙ so class;
+      others = λ class other differs. ap₂ (λ (f o : List ChunkId). record class { free = f; order = o }) (kept (Free other) (free≢out other place)) (kept (Out other) (out≢out other place differs));
+    }
+
+-- one change after another
+pub became_then : (before between after : RowsState) (place : ℕ) (first second change : ClassState → ClassState) → HasBecome before between place first → HasBecome between after place second → ((class : ClassState) → second (first (with_lists class before place)) ≡ change (with_lists class before place)) → HasBecome before after place change
+became_then before between after place first second change one two so =
+    record {
+      linked = two.linked;
+      sizes = two.sizes ∙ one.sizes;
+      here = λ class. two.here class ∙ (ap second (one.here class) ∙ so class);
+      others = λ class other differs. two.others class other differs ∙ one.others class other differs;
+    }
+
+-- nothing has changed
+pub became_same : (rows : RowsState) (place : ℕ) (change : ClassState → ClassState) → AreLinked rows → ((class : ClassState) → with_lists class rows place ≡ change (with_lists class rows place)) → HasBecome rows rows place change
+became_same rows place change is so =
+    record { linked = is; sizes = refl; here = so; others = λ class other differs. refl }
+
+-- a chunk that has left its list is in none
+pub unlisted : (before after : RowsState) (list : ListName) (chunk : ChunkId) → AreLinked before → 1 ≤ times chunk (chunks_of before list) → Changes (chunks_of before) (chunks_of after) list (without chunk (chunks_of before list)) → IsUnlisted after chunk
+unlisted before after list chunk is there changes other =
+    elim (cases_list other list) [
+      | inl same ↦
+          subst (λ (l : ListName). times chunk (chunks_of after l) ≡ 0) (sym same)
+          (omega (arith, ap (times chunk) (changed-same (chunks_of before) (chunks_of after) list _ changes), times-without chunk chunk (chunks_of before list) there, ap truth (is_chunk-same chunk), is.once list chunk))
+      | inr differs ↦ ap (times chunk) (changed-other (chunks_of before) (chunks_of after) list other _ differs changes) ∙ is.apart list other chunk differs there
+    ]
+
+-- the lengths of lists of which one has changed
+pub length-changed : (before after : RowsState) (list : ListName) (chunks : List ChunkId) → AreLinked after → Changes (chunks_of before) (chunks_of after) list chunks → length_of after list ≡ length chunks
+length-changed before after list chunks is changes = is.long list ∙ ap length (changed-same (chunks_of before) (chunks_of after) list chunks changes)
+
+pub length-kept : (before after : RowsState) (list other : ListName) (chunks : List ChunkId) → AreLinked before → AreLinked after → other ≢ list → Changes (chunks_of before) (chunks_of after) list chunks → length_of after other ≡ length_of before other
+length-kept before after list other chunks is is-2 differs changes =
+    is-2.long other ∙ (ap length (changed-other (chunks_of before) (chunks_of after) list other chunks differs changes) ∙ sym (is.long other))
+
+-- a run begins with the first chunk of the list
+first_run : (n p : Links) (from : Option ChunkId) (chunks : List ChunkId) → IsRun n p from chunks → n from ≡ slice_get chunks 0
+first_run n p from [] run = run.0
+first_run n p from (c ∷ cs) run = run.0
+
+pub first_is : (rows : RowsState) (list : ListName) → AreLinked rows → field_of rows (Head list) ≡ slice_get (chunks_of rows list) 0
+first_is rows list is = first_run (forth_in rows list) (back_in rows list) None (chunks_of rows list) (is.runs list)
+
+-- and goes on from each chunk to the one behind it
+behind_run : (n p : Links) (from : Option ChunkId) (chunks : List ChunkId) (chunk : ChunkId) → IsRun n p from chunks → 1 ≤ times chunk chunks → n (Some chunk) ≡ behind chunk chunks
+behind_run n p from [] chunk run there = absurd (omega (arith, there))
+behind_run n p from (c ∷ cs) chunk run there =
+    let read : Bool → Option ChunkId = λ b. cond b (slice_get cs 0) (behind chunk cs) in
+    elim (cases_Bool (is_chunk c chunk)) [
+      | inl same ↦
+          ap (λ (x : ChunkId). n (Some x)) (sym (same_from_is_chunk c chunk same)) ∙ (first_run n p (Some c) cs run.2 ∙ sym (ap read same))
+      | inr other ↦ behind_run n p (Some c) cs chunk run.2 (omega (arith, there, times-tail chunk c cs other)) ∙ sym (ap read other)
+    ]
+
+pub next_is : (rows : RowsState) (list : ListName) (chunk : ChunkId) → AreLinked rows → 1 ≤ times chunk (chunks_of rows list) → field_of rows (Next chunk) ≡ behind chunk (chunks_of rows list)
+next_is rows list chunk is there = behind_run (forth_in rows list) (back_in rows list) None (chunks_of rows list) chunk (is.runs list) there
+
+-- a class without free chunks hands out none
+popped_none_at : (class : ClassState) (free : List ChunkId) → slice_get free 0 ≡ None → record class { free = free } ≡ popped (record class { free = free })
+popped_none_at class [] h = refl
+popped_none_at class (c ∷ cs) h = absurd (None≢Some c (sym h))
+
+pub popped_none : (class : ClassState) → first_free class ≡ None → class ≡ popped class
+popped_none class h = popped_none_at class class.free h
+
+-- and else the first one goes to the back of the order
+popped_some_at : (class : ClassState) (free : List ChunkId) (chunk : ChunkId) → slice_get free 0 ≡ Some chunk → record class { free = without chunk free; order = class.order ++ chunk ∷ [] } ≡ popped (record class { free = free })
+popped_some_at class [] chunk h = absurd (None≢Some chunk h)
+popped_some_at class (c ∷ cs) chunk h =
+    let same : c ≡ chunk = cc h in
+    let first : without c (c ∷ cs) ≡ cs = ap (λ b. cond b cs (c ∷ without c cs)) (is_chunk-same c) in
+    subst (λ (x : ChunkId). record class { free = without x (c ∷ cs); order = class.order ++ x ∷ [] } ≡ popped (record class { free = c ∷ cs })) same
+    (ap (λ (f : List ChunkId). record class { free = f; order = class.order ++ c ∷ [] }) first)
+
+pub popped_some : (class : ClassState) (chunk : ChunkId) → first_free class ≡ Some chunk → record class { free = without chunk class.free; order = class.order ++ chunk ∷ [] } ≡ popped class
+popped_some class chunk h = popped_some_at class class.free chunk h
+
+-- the first chunk is in the list
+pub first_there : (chunk : ChunkId) (chunks : List ChunkId) → slice_get chunks 0 ≡ Some chunk → 1 ≤ times chunk chunks
+first_there chunk chunks h = times_from_Contains chunk chunks (Contains_from_slice_get chunk chunks 0 h)
+
+-- a chunk of a class that is handed out stands in the order, and one that isn't in the free list
+pub listed_row : (rows : RowsState) (class : ℕ) (chunk : ChunkId) → AreLinked rows → 1 ≤ times chunk (chunks_of rows (Free class)) + times chunk (chunks_of rows (Out class)) → IsRow rows chunk
+listed_row rows class chunk is listed =
+    elim (cases_lt 0 (times chunk (chunks_of rows (Free class)))) [
+      | inl there ↦ is.placed (Free class) chunk there
+      | inr none ↦ is.placed (Out class) chunk (omega (arith, none, listed))
+    ]
+
+pub listed_out : (rows : RowsState) (class : ℕ) (chunk : ChunkId) → AreLinked rows → 1 ≤ times chunk (chunks_of rows (Free class)) + times chunk (chunks_of rows (Out class)) → (row_at rows chunk).out ≡ true → 1 ≤ times chunk (chunks_of rows (Out class))
+listed_out rows class chunk is listed side =
+    elim (cases_lt 0 (times chunk (chunks_of rows (Free class)))) [
+      | inl there ↦ absurd (false≢true (sym (is.sides (Free class) chunk there) ∙ side))
+      | inr none ↦ omega (arith, none, listed)
+    ]
+
+pub listed_free : (rows : RowsState) (class : ℕ) (chunk : ChunkId) → AreLinked rows → 1 ≤ times chunk (chunks_of rows (Free class)) + times chunk (chunks_of rows (Out class)) → (row_at rows chunk).out ≡ false → 1 ≤ times chunk (chunks_of rows (Free class))
+listed_free rows class chunk is listed side =
+    elim (cases_lt 0 (times chunk (chunks_of rows (Out class)))) [
+      | inl there ↦ absurd (false≢true (sym side ∙ is.sides (Out class) chunk there))
+      | inr none ↦ omega (arith, none, listed)
+    ]
+
+-- behind the chunk at a place of a list stands the chunk at the next place
+behind_at_some : (chunk : ChunkId) (chunks : List ChunkId) (place : ℕ) → IsOnce chunks → slice_get chunks place ≡ Some chunk → behind chunk chunks ≡ slice_get chunks (suc place)
+behind_at_some chunk [] place once h = absurd (None≢Some chunk h)
+behind_at_some chunk (c ∷ cs) zero once h =
+    let same : c ≡ chunk = cc h in
+    ap (λ b. cond b (slice_get cs 0) (behind chunk cs)) (subst (λ (x : ChunkId). is_chunk c x ≡ true) same (is_chunk-same c))
+behind_at_some chunk (c ∷ cs) (suc place) once h =
+    let read : Bool → Option ChunkId = λ b. cond b (slice_get cs 0) (behind chunk cs) in
+    elim (cases_Bool (is_chunk c chunk)) [
+      | inl same ↦
+          let there = times_from_Contains chunk cs (Contains_from_slice_get chunk cs place h) in
+          absurd (omega (arith, there, once chunk, times-cons chunk c cs, ap truth same))
+      | inr other ↦ ap read other ∙ behind_at_some chunk cs place (once-rest c cs once) h
+    ]
+
+pub behind_at : (rows : RowsState) (list : ListName) (chunk : ChunkId) (place : ℕ) → AreLinked rows → slice_get (chunks_of rows list) place ≡ Some chunk → behind chunk (chunks_of rows list) ≡ slice_get (chunks_of rows list) (place + 1)
+behind_at rows list chunk place is h = behind_at_some chunk (chunks_of rows list) place (is.once list) h ∙ ap (λ (n : ℕ). slice_get (chunks_of rows list) n) (omega arith)
+
+-- past a place where a list has no chunk it has none
+pub none_past : (chunks : List ChunkId) (place later : ℕ) → slice_get chunks place ≡ None → place ≤ later → slice_get chunks later ≡ None
+none_past chunks place later h le =
+    elim (cases_lt place (length chunks)) [
+      | inl within ↦ elim (slice_get_cases chunks place).1 [
+        | inl (x, _, there, _) ↦ absurd (None≢Some x (sym h ∙ there))
+        | inr (past, _) ↦ absurd (omega (arith, past, within))
+      ]
+      | inr past ↦ slice_get_past chunks later (omega (arith, past, le))
+    ]

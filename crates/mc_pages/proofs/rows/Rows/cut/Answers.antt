@@ -1,0 +1,8 @@
+use Rattle.std.proofs.Common.{refl}
+use Rattle.mc_pages.specs.ClassState.{with_cut}
+use Rattle.mc_pages.proofs.ClassRows.{became_free}
+use Rattle.mc_pages.proofs.rows.Rows.cut.Goals as goal
+
+pub returns-clause-cut : goal.returns-clause-cut
+returns-clause-cut c =
+    became_free c.args.self.now _ c.args.class (λ state. with_cut state c.args.next) _ c.put_first.ensures.linked c.put_first.ensures.sizes c.put_first.ensures.lists (λ state. refl)

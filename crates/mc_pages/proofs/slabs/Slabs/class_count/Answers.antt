@@ -1,0 +1,7 @@
+use Rattle.std.proofs.Common.{length, sym, ap, ◌∙◌, arith}
+use Rattle.mc_pages.specs.SlabState.{SlabState}
+use Rattle.mc_pages.proofs.States.{length-states}
+use Rattle.mc_pages.proofs.slabs.Slabs.class_count.Goals as goal
+
+pub returns-clause-count : goal.returns-clause-count
+returns-clause-count c = omega (arith, c.len.ensures, length-states c.self.inside.rows c.self.inside.classes.items, ap (λ (s : SlabState). length s.classes) c.self.view_is)

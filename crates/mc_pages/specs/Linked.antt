@@ -1,0 +1,97 @@
+-- What rows, heads and tails mean as lists, and when they do.
+use Rattle.std.specs.Prelude.{◌≡◌, ◌≢◌, ℕ, ◌≤◌, ◌==◌, zero, suc, Bool, true, false, if◌then◌else◌, List, [], ◌∷◌, length, Option, Some, None}
+use Rattle.mc_pages.specs.declared.ids.ChunkId.{ChunkId}
+use Rattle.mc_pages.specs.declared.rows.ListName.{ListName}
+use Rattle.mc_pages.specs.declared.rows.ListName.TheVariants.{Free, Out}
+use Rattle.mc_pages.specs.declared.rows.Field.{Field}
+use Rattle.mc_pages.specs.declared.rows.Field.TheVariants.{Next, Previous, Head, Tail}
+use Rattle.mc_pages.specs.ClassState.{times}
+use Rattle.mc_pages.specs.Rows.{RowsState, IsRow, row_at, field_of, length_of, with_field, with_side, lengthened, shortened}
+
+-- the chunks from this one on, at most so many
+abbrev pub walk : (ChunkId → Option ChunkId) → ℕ → Option ChunkId → List ChunkId
+walk next zero link = []
+walk next (suc count) None = []
+walk next (suc count) (Some chunk) = chunk ∷ walk next count (next chunk)
+
+-- the chunks of a list, from its head on
+abbrev pub chunks_of : RowsState → ListName → List ChunkId
+chunks_of rows list = walk (λ chunk. field_of rows (Next chunk)) (length_of rows list) (field_of rows (Head list))
+
+-- where a list goes on behind a chunk; behind no chunk its head stands
+abbrev pub forth : ListName → Option ChunkId → Field
+forth list None = Head list
+forth list (Some chunk) = Next chunk
+
+-- and where it goes back to
+abbrev pub back : ListName → Option ChunkId → Field
+back list None = Tail list
+back list (Some chunk) = Previous chunk
+
+-- each chunk leads to the one behind it, and that one back
+abbrev pub IsRun : (Option ChunkId → Option ChunkId) → (Option ChunkId → Option ChunkId) → Option ChunkId → List ChunkId → Type 0
+IsRun next previous from [] = (next from ≡ None) × (previous None ≡ from)
+IsRun next previous from (chunk ∷ chunks) = (next from ≡ Some chunk) × (previous (Some chunk) ≡ from) × IsRun next previous (Some chunk) chunks
+
+-- the list is a hand-out order
+abbrev pub is_order : ListName → Bool
+is_order (Free class) = false
+is_order (Out class) = true
+
+-- the rows are these lists: each runs from its head to its tail, and a chunk is in one of them at most, and once
+pub record IsLinked (rows : RowsState) (lists : ListName → List ChunkId) : Type 0 where
+  pub runs : (list : ListName) → IsRun (λ link. field_of rows (forth list link)) (λ link. field_of rows (back list link)) None (lists list)
+  pub long : (list : ListName) → length_of rows list ≡ length (lists list)
+  pub once : (list : ListName) (chunk : ChunkId) → times chunk (lists list) ≤ 1
+  pub apart : (list other : ListName) (chunk : ChunkId) → other ≢ list → 1 ≤ times chunk (lists list) → times chunk (lists other) ≡ 0
+  pub sides : (list : ListName) (chunk : ChunkId) → 1 ≤ times chunk (lists list) → (row_at rows chunk).out ≡ is_order list
+  pub placed : (list : ListName) (chunk : ChunkId) → 1 ≤ times chunk (lists list) → IsRow rows chunk
+
+-- the rows are lists
+abbrev pub AreLinked : RowsState → Type 0
+AreLinked rows = IsLinked rows (chunks_of rows)
+
+-- two names of one list
+abbrev pub is_list : ListName → ListName → Bool
+is_list (Free a) (Free b) = a == b
+is_list (Out a) (Out b) = a == b
+is_list a b = false
+
+-- the lists, one of which is now this
+abbrev pub with_list : (ListName → List ChunkId) → ListName → List ChunkId → ListName → List ChunkId
+with_list lists list chunks other = if is_list other list then chunks else lists other
+
+-- how many rows and lists there are
+pub record Sizes : Type 0 where
+  pub most : ℕ
+  pub rows : ℕ
+  pub free : ℕ
+  pub out : ℕ
+  pub free_lengths : ℕ
+  pub out_lengths : ℕ
+
+abbrev pub sizes_of : RowsState → Sizes
+sizes_of rows = record {
+  most = rows.most;
+  rows = length rows.rows;
+  free = length rows.free;
+  out = length rows.out;
+  free_lengths = length rows.free_lengths;
+  out_lengths = length rows.out_lengths;
+}
+
+-- two chunks become neighbours; None stands for the list's end
+abbrev pub joined : RowsState → ListName → Option ChunkId → Option ChunkId → RowsState
+joined rows list before behind = with_field (with_field rows (forth list before) behind) (back list behind) before
+
+-- a chunk comes between two neighbours
+abbrev pub linked : RowsState → ListName → Option ChunkId → ChunkId → Option ChunkId → RowsState
+linked rows list before chunk behind = lengthened (with_side (joined (joined rows list before (Some chunk)) list (Some chunk) behind) chunk (is_order list)) list
+
+-- a chunk leaves the list
+abbrev pub unlinked : RowsState → ListName → ChunkId → RowsState
+unlinked rows list chunk = shortened (joined rows list (field_of rows (Previous chunk)) (field_of rows (Next chunk))) list
+
+-- a chunk is in no list
+abbrev pub IsUnlisted : RowsState → ChunkId → Type 0
+IsUnlisted rows chunk = (list : ListName) → times chunk (chunks_of rows list) ≡ 0

@@ -1,0 +1,121 @@
+-- The lists of all classes as rows, heads and tails, and what they mean.
+use Rattle.std.specs.Prelude.{ℕ, ◌+◌, ◌-◌, ◌*◌, ◌<◌, Bool, false, nat_lt, if◌then◌else◌, List, [], ◌∷◌, length, replicate, slice_index_or, slice_set, Option, Some, None}
+use Rattle.mc_pages.specs.declared.ids.ChunkId.{ChunkId}
+use Rattle.mc_pages.specs.declared.rows.Row.{Row}
+use Rattle.mc_pages.specs.declared.rows.ListName.{ListName}
+use Rattle.mc_pages.specs.declared.rows.ListName.TheVariants.{Free, Out}
+use Rattle.mc_pages.specs.declared.rows.Field.{Field}
+use Rattle.mc_pages.specs.declared.rows.Field.TheVariants.{Next, Previous, Head, Tail}
+use Rattle.mc_pages.specs.declared.rows.Change.{Change}
+use Rattle.mc_pages.specs.declared.rows.Change.TheVariants as change
+
+-- the most chunks that a page has, a row for each chunk, the own rows of the lists, their lengths,
+-- and how many fields were written
+pub record RowsState : Type 0 where
+  pub most : ℕ
+  pub rows : List Row
+  pub free : List Row
+  pub out : List Row
+  pub free_lengths : List ℕ
+  pub out_lengths : List ℕ
+  pub writes : ℕ
+
+-- a row without neighbours
+abbrev pub no_row : Row
+no_row = record { next = None; previous = None; out = false }
+
+-- so many rows, and lists of so many classes, all empty
+abbrev pub fresh_rows : ℕ → ℕ → ℕ → RowsState
+fresh_rows most rows classes = record {
+  most = most;
+  rows = replicate rows no_row;
+  free = replicate classes no_row;
+  out = replicate classes no_row;
+  free_lengths = replicate classes 0;
+  out_lengths = replicate classes 0;
+  writes = 0;
+}
+
+-- where a chunk's row stands
+abbrev pub row_place : ℕ → ChunkId → ℕ
+row_place most chunk = chunk.page * most + chunk.index
+
+-- the row of a chunk
+abbrev pub row_at : RowsState → ChunkId → Row
+row_at rows chunk = if nat_lt chunk.index rows.most then slice_index_or rows.rows (row_place rows.most chunk) no_row else no_row
+
+-- the own row of a list
+abbrev pub ends_of : RowsState → ListName → Row
+ends_of rows (Free class) = slice_index_or rows.free class no_row
+ends_of rows (Out class) = slice_index_or rows.out class no_row
+
+-- how many chunks a list has
+abbrev pub length_of : RowsState → ListName → ℕ
+length_of rows (Free class) = slice_index_or rows.free_lengths class 0
+length_of rows (Out class) = slice_index_or rows.out_lengths class 0
+
+-- what a field holds
+abbrev pub field_of : RowsState → Field → Option ChunkId
+field_of rows (Next chunk) = (row_at rows chunk).next
+field_of rows (Previous chunk) = (row_at rows chunk).previous
+field_of rows (Head list) = (ends_of rows list).next
+field_of rows (Tail list) = (ends_of rows list).previous
+
+-- a chunk has a row
+abbrev pub IsRow : RowsState → ChunkId → Type 0
+IsRow rows chunk = (chunk.index < rows.most) × (row_place rows.most chunk < length rows.rows)
+
+-- a list of one of the classes
+abbrev pub IsList : RowsState → ListName → Type 0
+IsList rows (Free class) = (class < length rows.free) × (class < length rows.free_lengths)
+IsList rows (Out class) = (class < length rows.out) × (class < length rows.out_lengths)
+
+-- a field of one of the rows
+abbrev pub IsField : RowsState → Field → Type 0
+IsField rows (Next chunk) = IsRow rows chunk
+IsField rows (Previous chunk) = IsRow rows chunk
+IsField rows (Head list) = IsList rows list
+IsField rows (Tail list) = IsList rows list
+
+-- the row of a chunk is now this
+abbrev pub with_row : RowsState → ChunkId → Row → RowsState
+with_row rows chunk row = record rows { rows = slice_set rows.rows (row_place rows.most chunk) row; writes = rows.writes + 1 }
+
+-- the own row of a list is now this
+abbrev pub with_ends : RowsState → ListName → Row → RowsState
+with_ends rows (Free class) row = record rows { free = slice_set rows.free class row; writes = rows.writes + 1 }
+with_ends rows (Out class) row = record rows { out = slice_set rows.out class row; writes = rows.writes + 1 }
+
+-- a field is now this
+abbrev pub with_field : RowsState → Field → Option ChunkId → RowsState
+with_field rows (Next chunk) link = with_row rows chunk (record (row_at rows chunk) { next = link })
+with_field rows (Previous chunk) link = with_row rows chunk (record (row_at rows chunk) { previous = link })
+with_field rows (Head list) link = with_ends rows list (record (ends_of rows list) { next = link })
+with_field rows (Tail list) link = with_ends rows list (record (ends_of rows list) { previous = link })
+
+-- the chunk is handed out now, or is not
+abbrev pub with_side : RowsState → ChunkId → Bool → RowsState
+with_side rows chunk is_out = with_row rows chunk (record (row_at rows chunk) { out = is_out })
+
+-- one thing is written
+abbrev pub with_change : RowsState → Change → RowsState
+with_change rows (change.Link field link) = with_field rows field link
+with_change rows (change.Out chunk is_out) = with_side rows chunk is_out
+
+-- it is written into one of the rows
+abbrev pub IsChange : RowsState → Change → Type 0
+IsChange rows (change.Link field link) = IsField rows field
+IsChange rows (change.Out chunk is_out) = IsRow rows chunk
+
+-- the length of a list is now this
+abbrev pub with_length : RowsState → ListName → ℕ → RowsState
+with_length rows (Free class) count = record rows { free_lengths = slice_set rows.free_lengths class count }
+with_length rows (Out class) count = record rows { out_lengths = slice_set rows.out_lengths class count }
+
+-- the list is longer by one
+abbrev pub lengthened : RowsState → ListName → RowsState
+lengthened rows list = with_length rows list (length_of rows list + 1)
+
+-- the list is shorter by one
+abbrev pub shortened : RowsState → ListName → RowsState
+shortened rows list = with_length rows list (length_of rows list - 1)

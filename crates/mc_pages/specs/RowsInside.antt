@@ -1,0 +1,19 @@
+-- The rows as their callers see them.
+use Rattle.std.specs.Prelude.{◌≤◌, length, vec_len}
+use Rattle.mc_pages.specs.declared.rows.Rows.TheInside.{Inside}
+use Rattle.mc_pages.specs.Rows.{RowsState}
+
+abbrev pub rows_of : Inside → RowsState
+rows_of rows = record {
+  most = rows.most;
+  rows = rows.rows.items;
+  free = rows.free.items;
+  out = rows.out.items;
+  free_lengths = rows.free_lengths.items;
+  out_lengths = rows.out_lengths.items;
+  writes = rows.writes.total;
+}
+
+-- a row's place is a number of the machine
+abbrev pub HasSpace : Inside → Type 0
+HasSpace rows = vec_len rows.rows ≤ 16384

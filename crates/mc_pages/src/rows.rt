@@ -1,0 +1,195 @@
+//! The free lists and hand-out orders of all classes, as doubly linked rows.
+ghost use Rattle.std.specs.Prelude.{◌≡◌, ℕ, ◌+◌, ◌*◌, ◌<◌, ◌≤◌, IfOk, length};
+ghost use Rattle.mc_pages.specs.Rows.{RowsState, IsChange, IsField, IsRow, IsList, field_of, with_change, row_at, row_place, length_of, lengthened, shortened, fresh_rows};
+
+mod calls;
+mod lists;
+
+use crate::ids::ChunkId;
+use crate::writes::Writes;
+use std::alloc::{AllocError, Global};
+use std::marker::Model;
+
+/// The chunks beside a chunk in its list. A list has a row of its own: `next` is its head there and `previous` its tail.
+#[derive(Clone, Copy)]
+pub(crate) struct Row {
+    next: Option<ChunkId>,
+    previous: Option<ChunkId>,
+    /// The list is a hand-out order.
+    out: bool,
+}
+
+/// One of the two lists of a class, by the class's place: class 1 stands at 0.
+#[derive(Clone, Copy, Debug, PartialEq, Eq)]
+pub enum ListName {
+    /// The chunks that are free, with the next to hand out first.
+    Free(usize),
+    /// The chunks that are handed out, with the oldest first.
+    Out(usize),
+}
+
+/// A field of the rows.
+#[derive(Clone, Copy, Debug, PartialEq, Eq)]
+pub enum Field {
+    /// The chunk behind this one in its list.
+    Next(ChunkId),
+    /// The chunk before this one in its list.
+    Previous(ChunkId),
+    /// The first chunk of the list.
+    Head(ListName),
+    /// The last chunk of the list.
+    Tail(ListName),
+}
+
+/// What is written.
+#[derive(Clone, Copy, Debug, PartialEq, Eq)]
+pub enum Change {
+    /// The chunk to which a field leads.
+    Link(Field, Option<ChunkId>),
+    /// Whether the chunk is handed out.
+    Out(ChunkId, bool),
+}
+
+/// A row for each chunk, and head, tail and length of each list.
+#[derive(Drop)]
+pub struct Rows {
+    /// The most chunks that a page has.
+    most: u64,
+    rows: Vec<Row>,
+    free: Vec<Row>,
+    out: Vec<Row>,
+    free_lengths: Vec<u64>,
+    out_lengths: Vec<u64>,
+    writes: Writes,
+}
+
+impl Model for Rows {
+    ghost use Rattle.mc_pages.specs.Rows.{RowsState};
+
+    ghost Value = { RowsState };
+
+    ghost use Rattle.mc_pages.specs.RowsInside.{rows_of, HasSpace};
+
+    ghost view = { rows_of };
+
+    ghost invariant = { HasSpace };
+}
+
+impl Rows {
+    /// Empty lists for so many classes, and rows for so many pages.
+    pub(crate) fn new(alloc: Global, most: u64, pages: usize, classes: usize) -> Result<Rows, AllocError>
+        requires most { most ≤ 256 }
+        requires pages { pages ≤ 64 }
+        ensures { IfOk result (λ rows. rows ≡ fresh_rows most (pages * most) classes) }
+    {
+        let none = Row {
+            next: None,
+            previous: None,
+            out: false,
+        };
+        Ok(Rows {
+            most,
+            rows: vec![in alloc; none; pages * most as usize]?,
+            free: vec![in alloc; none; classes]?,
+            out: vec![in alloc; none; classes]?,
+            free_lengths: vec![in alloc; 0; classes]?,
+            out_lengths: vec![in alloc; 0; classes]?,
+            writes: Writes::new(),
+        })
+    }
+
+    /// What the field holds.
+    pub(crate) fn get(&self, field: Field) -> Option<ChunkId>
+        requires { IsField self.now field }
+        ensures { result ≡ field_of self.now field }
+    {
+        match field {
+            Field::Next(chunk) => self.rows[self.place(chunk)].next,
+            Field::Previous(chunk) => self.rows[self.place(chunk)].previous,
+            Field::Head(ListName::Free(class)) => self.free[class].next,
+            Field::Head(ListName::Out(class)) => self.out[class].next,
+            Field::Tail(ListName::Free(class)) => self.free[class].previous,
+            Field::Tail(ListName::Out(class)) => self.out[class].previous,
+        }
+    }
+
+    /// Whether the chunk is handed out. It tells nothing of a chunk that is in no list.
+    pub(crate) fn is_out(&self, chunk: ChunkId) -> bool
+        requires { IsRow self.now chunk }
+        ensures { result ≡ (row_at self.now chunk).out }
+    {
+        self.rows[self.place(chunk)].out
+    }
+
+    /// Writes a field. No other call does.
+    pub(crate) fn put(&mut self, change: Change)
+        requires { IsChange self.old change }
+        ensures { self.new ≡ with_change self.old change }
+    {
+        self.writes.add();
+        match change {
+            Change::Link(Field::Next(chunk), link) => {
+                let place = self.place(chunk);
+                self.rows[place].next = link;
+            }
+            Change::Link(Field::Previous(chunk), link) => {
+                let place = self.place(chunk);
+                self.rows[place].previous = link;
+            }
+            Change::Link(Field::Head(ListName::Free(class)), link) => self.free[class].next = link,
+            Change::Link(Field::Head(ListName::Out(class)), link) => self.out[class].next = link,
+            Change::Link(Field::Tail(ListName::Free(class)), link) => self.free[class].previous = link,
+            Change::Link(Field::Tail(ListName::Out(class)), link) => self.out[class].previous = link,
+            Change::Out(chunk, is_out) => {
+                let place = self.place(chunk);
+                self.rows[place].out = is_out;
+            }
+        }
+    }
+
+    /// How many chunks the list has.
+    pub(crate) fn length(&self, list: ListName) -> u64
+        requires { IsList self.now list }
+        ensures { result ≡ length_of self.now list }
+    {
+        match list {
+            ListName::Free(class) => self.free_lengths[class],
+            ListName::Out(class) => self.out_lengths[class],
+        }
+    }
+
+    /// The list has one chunk more.
+    fn lengthen(&mut self, list: ListName)
+        requires list { IsList self.old list }
+        requires below { length_of self.old list < 65536 }
+        ensures { self.new ≡ lengthened self.old list }
+    {
+        match list {
+            ListName::Free(class) => self.free_lengths[class] += 1,
+            ListName::Out(class) => self.out_lengths[class] += 1,
+        }
+    }
+
+    /// The list has one chunk less.
+    fn shorten(&mut self, list: ListName)
+        requires list { IsList self.old list }
+        requires some { 1 ≤ length_of self.old list }
+        ensures { self.new ≡ shortened self.old list }
+    {
+        match list {
+            ListName::Free(class) => self.free_lengths[class] -= 1,
+            ListName::Out(class) => self.out_lengths[class] -= 1,
+        }
+    }
+
+    /// Where the chunk's row stands.
+    fn place(&self, chunk: ChunkId) -> usize
+        requires { IsRow self.now chunk }
+        ensures { result ≡ row_place self.now.most chunk }
+    {
+        (chunk.page * self.most + chunk.index) as usize
+    }
+}
+
+#[cfg(test)]
+pub(crate) mod tests;

@@ -1,0 +1,128 @@
+//! How a chunk comes into a list and leaves it.
+ghost use Rattle.std.specs.Prelude.{◌≡◌, ◌+◌, ◌<◌, ◌≤◌, [], ◌∷◌, ◌++◌};
+ghost use Rattle.mc_pages.specs.declared.rows.ListName.{ListName};
+ghost use Rattle.mc_pages.specs.ClassState.{times, without, with_before};
+ghost use Rattle.mc_pages.specs.Rows.{IsRow, IsList, IsField, length_of};
+ghost use Rattle.mc_pages.specs.Linked.{AreLinked, IsUnlisted, chunks_of, with_list, forth, back, is_order, joined, linked, sizes_of};
+
+use super::{Change, Field, ListName, Rows};
+use crate::ids::ChunkId;
+
+impl Rows {
+    /// Takes a chunk out of its list.
+    pub(crate) fn unlink(&mut self, list: ListName, chunk: ChunkId)
+        requires linked { AreLinked self.old }
+        requires list { IsList self.old list }
+        requires there { 1 ≤ times chunk (chunks_of self.old list) }
+        ensures linked { AreLinked self.new }
+        ensures lists { (other : ListName) → chunks_of self.new other ≡ with_list (chunks_of self.old) list (without chunk (chunks_of self.old list)) other }
+        ensures sizes { sizes_of self.new ≡ sizes_of self.old }
+        ensures writes { self.new.writes ≡ self.old.writes + 2 }
+    {
+        let before = self.get(Field::Previous(chunk));
+        let behind = self.get(Field::Next(chunk));
+        self.join(list, before, behind);
+        self.shorten(list);
+    }
+
+    /// Puts a chunk first in a list.
+    pub(crate) fn put_first(&mut self, list: ListName, chunk: ChunkId)
+        requires linked { AreLinked self.old }
+        requires list { IsList self.old list }
+        requires row { IsRow self.old chunk }
+        requires unlisted { IsUnlisted self.old chunk }
+        requires below { length_of self.old list < 65536 }
+        ensures linked { AreLinked self.new }
+        ensures lists { (other : ListName) → chunks_of self.new other ≡ with_list (chunks_of self.old) list (chunk ∷ chunks_of self.old list) other }
+        ensures sizes { sizes_of self.new ≡ sizes_of self.old }
+        ensures writes { self.new.writes ≡ self.old.writes + 5 }
+    {
+        let head = self.get(Field::Head(list));
+        self.link(list, None, chunk, head);
+    }
+
+    /// Puts a chunk last in a list.
+    pub(crate) fn put_last(&mut self, list: ListName, chunk: ChunkId)
+        requires linked { AreLinked self.old }
+        requires list { IsList self.old list }
+        requires row { IsRow self.old chunk }
+        requires unlisted { IsUnlisted self.old chunk }
+        requires below { length_of self.old list < 65536 }
+        ensures linked { AreLinked self.new }
+        ensures lists { (other : ListName) → chunks_of self.new other ≡ with_list (chunks_of self.old) list (chunks_of self.old list ++ chunk ∷ []) other }
+        ensures sizes { sizes_of self.new ≡ sizes_of self.old }
+        ensures writes { self.new.writes ≡ self.old.writes + 5 }
+    {
+        let tail = self.get(Field::Tail(list));
+        self.link(list, tail, chunk, None);
+    }
+
+    /// Puts a chunk directly before another in a list.
+    pub(crate) fn put_before(&mut self, list: ListName, chunk: ChunkId, old: ChunkId)
+        requires linked { AreLinked self.old }
+        requires list { IsList self.old list }
+        requires row { IsRow self.old chunk }
+        requires unlisted { IsUnlisted self.old chunk }
+        requires there { 1 ≤ times old (chunks_of self.old list) }
+        requires below { length_of self.old list < 65536 }
+        ensures linked { AreLinked self.new }
+        ensures lists { (other : ListName) → chunks_of self.new other ≡ with_list (chunks_of self.old) list (with_before chunk old (chunks_of self.old list)) other }
+        ensures sizes { sizes_of self.new ≡ sizes_of self.old }
+        ensures writes { self.new.writes ≡ self.old.writes + 5 }
+    {
+        let before = self.get(Field::Previous(old));
+        self.link(list, before, chunk, Some(old));
+    }
+
+    /// Puts a chunk between two neighbours. None stands for the list's end.
+    fn link(&mut self, list: ListName, before: Option<ChunkId>, chunk: ChunkId, behind: Option<ChunkId>)
+        requires list { IsList self.old list }
+        requires row { IsRow self.old chunk }
+        requires before { IsField self.old (forth list before) }
+        requires behind { IsField self.old (back list behind) }
+        requires below { length_of self.old list < 65536 }
+        ensures { self.new ≡ linked self.old list before chunk behind }
+    {
+        self.join(list, before, Some(chunk));
+        self.join(list, Some(chunk), behind);
+        self.put(Change::Out(chunk, is_order(list)));
+        self.lengthen(list);
+    }
+
+    /// Makes two chunks of a list neighbours. None stands for the list's end.
+    fn join(&mut self, list: ListName, before: Option<ChunkId>, behind: Option<ChunkId>)
+        requires before { IsField self.old (forth list before) }
+        requires behind { IsField self.old (back list behind) }
+        ensures { self.new ≡ joined self.old list before behind }
+    {
+        self.put(Change::Link(forth(list, before), behind));
+        self.put(Change::Link(back(list, behind), before));
+    }
+}
+
+/// Where a list goes on behind a chunk; behind no chunk its head stands.
+fn forth(list: ListName, link: Option<ChunkId>) -> Field
+    ensures { result ≡ forth list link }
+{
+    match link {
+        Some(chunk) => Field::Next(chunk),
+        None => Field::Head(list),
+    }
+}
+
+/// Where a list goes back to before a chunk; before no chunk its tail stands.
+fn back(list: ListName, link: Option<ChunkId>) -> Field
+    ensures { result ≡ back list link }
+{
+    match link {
+        Some(chunk) => Field::Previous(chunk),
+        None => Field::Tail(list),
+    }
+}
+
+/// The list is a hand-out order.
+fn is_order(list: ListName) -> bool
+    ensures { result ≡ is_order list }
+{
+    matches!(list, ListName::Out(_))
+}

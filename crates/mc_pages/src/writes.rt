@@ -1,0 +1,32 @@
+//! A count that contracts alone read.
+ghost use Rattle.std.specs.Prelude.{◌≡◌, ℕ, ◌+◌};
+ghost use Rattle.std.specs.Borrow.{ftrue};
+
+use std::marker::Model;
+
+/// How many fields of rows were written. It has no bytes and does nothing at run time, so it has no bound.
+#[derive(Drop)]
+pub struct Writes {
+    pub ghost total: { ℕ },
+}
+
+impl Model for Writes {
+    ghost also_owns = { λ _. ftrue };
+}
+
+// It owns nothing.
+unsafe impl Send for Writes {}
+
+impl Writes {
+    /// None yet.
+    pub(crate) fn new() -> Writes
+        ensures { result.total ≡ 0 }
+    {
+        Writes {}
+    }
+
+    /// One more.
+    pub(crate) fn add(&mut self)
+        ensures { self.new.total ≡ self.old.total + 1 }
+    {}
+}
