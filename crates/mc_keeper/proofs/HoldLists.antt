@@ -10,9 +10,16 @@ use Rattle.std.proofs.lemmas.List.Edits.{remove-append_left, remove-append_right
 use Rattle.std.proofs.lemmas.List.Sums.{sum_by-cons}
 use Rattle.mc_pages.specs.declared.ids.ChunkId.{ChunkId}
 use Rattle.mc_pages.specs.ClassState.{is_chunk, times}
-use Rattle.mc_pages.proofs.Chunks.{times-cons}
-use Rattle.mc_pages.proofs.Roomy.{times-reverse}
+use Rattle.mc_pages.proofs.Chunks.{times-append, times-cons}
+
 use Rattle.mc_keeper.specs.Holds.{held_by}
+
+-- the order of a list doesn't change how often a chunk stands there
+times-reverse : (chunk : ChunkId) (chunks : List ChunkId) → times chunk (reverse chunks) ≡ times chunk chunks
+times-reverse chunk [] = refl
+times-reverse chunk (c ∷ chunks) =
+    let turned : reverse (c ∷ chunks) ≡ reverse chunks ++ c ∷ [] = reverse-append (c ∷ []) chunks in
+    omega (arith, ap (λ (cs : List ChunkId). times chunk cs) turned, times-append chunk (reverse chunks) (c ∷ []), times-cons chunk c chunks, times-cons chunk c [], times-reverse chunk chunks)
 
 -- a vector is replaced, and f says what each means
 module _ {A : Type 0} (f : A → List ChunkId) (vectors : List A) (worker : ℕ) (old new : A) (inside : worker < length vectors)

@@ -28,3 +28,4 @@ pub mod MoverTurns
 pub mod Watched
 pub mod Modes
 pub mod StoredItems
+pub mod Walks

@@ -1,19 +1,16 @@
--- The mover's searches in a free list, and how long that list may be.
-use Rattle.std.proofs.Common.{◌≡◌, ℕ, ◌+◌, ◌/◌, ◌≤◌, ◌<◌, List, [], ◌∷◌, length, drop, get_or, zero, suc, Bool, true, false, Some, None, refl, sym, ◌∙◌, arith, slice_get}
+-- The mover's searches in a free list.
+use Rattle.std.proofs.Common.{◌≡◌, ℕ, ◌+◌, ◌/◌, ◌≤◌, ◌<◌, List, [], ◌∷◌, length, drop, get_or, zero, suc, Bool, true, false, Option, Some, None, refl, sym, ◌∙◌, arith, slice_get, Contains}
 use Rattle.std.specs.Prelude.{find}
 use Rattle.std.proofs.lemmas.Option.{get_or_from_slice_get, slice_get_within}
 use Rattle.std.proofs.Math.Seq.{drop-cons, drop-nil}
-use Rattle.std.proofs.Math.Nat.{mul-le-mul_left}
-use Rattle.mc_classes.specs.Classes.{Classes}
 use Rattle.mc_pages.specs.declared.ids.ChunkId.{ChunkId}
-use Rattle.mc_pages.specs.ClassState.{is_chunk, times}
-use Rattle.mc_pages.specs.SlabState.{SlabState, IsClass, class_at}
-use Rattle.mc_pages.proofs.GrantedPage.{length-owners, length-pages_le}
-use Rattle.mc_pages.proofs.Chunks.{times-cons}
-use Rattle.mc_keeper.specs.Items.{Items}
+use Rattle.mc_pages.specs.ClassState.{behind, is_chunk, times}
+use Rattle.mc_pages.specs.SlabState.{IsClass, class_at, class_of_chunk, class_of_page}
+use Rattle.mc_pages.proofs.Chunks.{times-cons, times_from_Contains}
 use Rattle.mc_keeper.specs.Kept.{IsKept}
 use Rattle.mc_keeper.specs.Machine.{Machine}
-use Rattle.mc_keeper.proofs.Grown.{per_page_kept}
+use Rattle.mc_keeper.proofs.Orders.{in_lists_once, page_of_listed}
+use Rattle.mc_keeper.proofs.Walks.{behind_there, rest_from, rest_long, rest_short}
 
 -- what stands from a place on: the chunk there, and what is behind it
 pub drop_there : (chunks : List ChunkId) (place : ℕ) (x : ChunkId) → slice_get chunks place ≡ Some x → drop place chunks ≡ x ∷ drop (place + 1) chunks
@@ -51,38 +48,33 @@ pub find_there : (p : ChunkId → Bool) (chunks : List ChunkId) (place : ℕ) (x
     → find p (drop place chunks) ≡ Some x
 find_there p chunks place x at passes = rw (drop_there chunks place x at) (rw passes refl)
 
--- a free list isn't long
-pub free_short : (table : Classes) (slabs : SlabState) (index : List (ℕ × ChunkId)) (items : Items) (class : ℕ)
-    → IsKept table slabs index items → IsClass slabs class → length (class_at slabs class).free ≤ 16384
-free_short table slabs index items class kept valid =
-    let owners : length slabs.owners ≡ table.limit / table.page = rw (← kept.limit, ← kept.page) (length-owners slabs kept.accounted) in
-    let pages : length (class_at slabs class).pages ≤ 64
-    = omega (arith, length-pages_le slabs class kept.accounted valid, owners, kept.sound.pages.1) in
-    let inside : class ≤ length table.sizes = omega (arith, valid.1, kept.classes) in
-    let chunks : (class_at slabs class).per_page ≤ 256
-    = rw (per_page_kept table slabs index items class kept valid) (kept.sound.chunks class (valid.0, inside)).1 in
-    omega (arith, kept.accounted.total class valid, pages, chunks, mul-le-mul_left (length (class_at slabs class).pages) chunks)
-
 -- what was found at a place of a class's free list
 pub record FreeAt (m : Machine) (class place : ℕ) (x : ChunkId) : Type 0 where
   pub at : slice_get (class_at m.slabs class).free place ≡ Some x
   pub inside : place < length (class_at m.slabs class).free
-  pub short : place + 1 ≤ 16384
+  pub listed : Contains (class_of_chunk m.slabs x).free x
+  pub once : (y : ChunkId) → times y (class_at m.slabs class).free ≤ 1
+  -- and the chunk behind it is at the next
+  pub next : behind x (class_of_chunk m.slabs x).free ≡ slice_get (class_at m.slabs class).free (place + 1)
+  -- so that one chunk less is left from there on
+  pub smaller : (next : Option ChunkId) → next ≡ slice_get (class_at m.slabs class).free (place + 1)
+      → length (rest_from next (class_at m.slabs class).free) + 1 ≤ length (rest_from (Some x) (class_at m.slabs class).free)
 
 pub found_free : (m now : Machine) (class place : ℕ) (x : ChunkId) (index : List (ℕ × ChunkId)) → IsKept m.table m.slabs index m.items → m ≡ now
-    → IsClass now.slabs class → Some x ≡ slice_get (class_at m.slabs class).free place → FreeAt now class place x
-found_free m now class place x index kept same valid found =
+    → IsClass now.slabs class → slice_get (class_at now.slabs class).free place ≡ Some x → FreeAt now class place x
+found_free m now class place x index kept same valid at =
     let kept_now : IsKept now.table now.slabs index now.items = rw same at kept in
-    let at_now : slice_get (class_at now.slabs class).free place ≡ Some x = rw (← same) (sym found) in
-    let inside : place < length (class_at now.slabs class).free = slice_get_within (class_at now.slabs class).free place x at_now in
+    let free : List ChunkId = (class_at now.slabs class).free in
+    let inside : place < length free = slice_get_within free place x at in
+    let here : Contains free x = (place, inside, get_or_from_slice_get free place x x at) in
+    let some : 1 ≤ times x free = times_from_Contains x free here in
+    let own : class_of_page now.slabs x.page ≡ class = page_of_listed now.slabs class x kept_now.accounted valid (omega (arith, some)) in
+    let once : (y : ChunkId) → times y free ≤ 1 = λ y. omega (arith, in_lists_once now.slabs class y kept_now.accounted valid) in
     record {
-      at = at_now;
+      at = at;
       inside = inside;
-      short = omega (arith, free_short now.table now.slabs index now.items class kept_now valid, inside);
+      listed = rw own here;
+      once = once;
+      next = rw own (behind_there free place x at (once x));
+      smaller = λ next is. omega (arith, inside, rest_short free (place + 1) next is once, rest_long free place x at (once x));
     }
-
--- nothing stands at the place
-pub found_none : (m now : Machine) (class place : ℕ) → m ≡ now → None ≡ slice_get (class_at m.slabs class).free place
-    → drop place (class_at now.slabs class).free ≡ []
-found_none m now class place same none =
-    drop_past (class_at now.slabs class).free place (rw (← same) (sym none))

@@ -4,7 +4,7 @@ use Rattle.std.specs.Prelude.{fold, filter, slice_get}
 use Rattle.std.proofs.lemmas.Bool.Decides.{nat_tests}
 use Rattle.std.proofs.lemmas.List.{length-set, take-append-drop, take_more, take_all, length-append, length-take}
 use Rattle.std.proofs.lemmas.Option.{get_or_from_slice_get, slice_get_within}
-use Rattle.std.proofs.Math.Seq.{drop-cons, take-append_seam}
+use Rattle.std.proofs.Math.Seq.{drop-cons, take-append_seam, take-nil}
 use Rattle.std.proofs.lemmas.List.Elements.{filter-append}
 use Rattle.mc_pages.specs.declared.ids.ChunkId.{ChunkId}
 use Rattle.mc_pages.specs.ClassState.{ClassState, is_chunk, times, without, put_back}
@@ -93,12 +93,23 @@ finds_dead m before x after once none dead =
       none = none_then;
     }
 
+-- where a chunk is left out, the one behind it comes to its place
+skipped : (chunks : List ChunkId) (place : ℕ) → slice_get (take place chunks ++ drop (suc place) chunks) place ≡ slice_get chunks (place + 1)
+skipped [] place = rw (take-nil place) refl
+skipped (c ∷ chunks) zero = refl
+skipped (c ∷ chunks) (suc place) =
+    let next : suc place + 1 ≡ suc (place + 1) = omega arith in
+    rw next (skipped chunks place)
+
 -- one turn of a sweep: the first dead chunk is put back, and the rest of the sweep is what it was
 pub record SweepsOn (m : Machine) (class : ℕ) (place : ℕ) (x : ChunkId) : Type 0 where
   pub same : swept (after_reclaim m x) class ≡ swept m class
   pub none : filter (is_dead (after_reclaim m x)) (take place (class_at (after_reclaim m x).slabs class).order) ≡ []
   pub shorter : length (class_at (after_reclaim m x).slabs class).order + 1 ≡ length (class_at m.slabs class).order
   pub within : place ≤ length (class_at (after_reclaim m x).slabs class).order
+  -- the chunk behind it comes to its place
+  pub behind : slice_get (class_at (after_reclaim m x).slabs class).order place ≡ slice_get (class_at m.slabs class).order (place + 1)
+  pub once : (y : ChunkId) → times y (class_at m.slabs class).order ≤ 1 → times y (class_at (after_reclaim m x).slabs class).order ≤ 1
 
 pub sweeps_on : (m : Machine) (class place : ℕ) (x : ChunkId) → IsClass m.slabs class → class_of_page m.slabs x.page ≡ class
     → times x (class_at m.slabs class).order ≤ 1 → slice_get (class_at m.slabs class).order place ≡ Some x
@@ -127,6 +138,9 @@ sweeps_on m class place x valid own once at none dead =
       none = ap (λ cs. filter (is_dead (after_reclaim m x)) cs) (ap (λ cs. take place cs) new_order ∙ kept_before) ∙ found.none;
       shorter = omega (arith, lengths, new_length);
       within = omega (arith, long, new_length);
+      behind = ap (λ cs. slice_get cs place) new_order ∙ skipped order place;
+      once = λ y one.
+          omega (arith, one, ap (λ cs. times y cs) split, ap (λ cs. times y cs) new_order, times-append y before (x ∷ after), times-append y before after, times-cons y x after);
     }
 
 -- where no chunk up to a place is dead and the chunk there isn't, none up to the next place is

@@ -165,12 +165,12 @@ impl Keeper {
         requires { IsClass self.now.slabs class }
         ensures { result ≡ nat_lt 0 (times chunk (class_at self.now.slabs class).free) }
     {
-        let mut place = 0;
-        while let Some(free) = self.slabs.free_at(class, place) {
+        let mut next = self.slabs.first_free(class);
+        while let Some(free) = next {
             if free == chunk {
                 return true;
             }
-            place += 1;
+            next = self.slabs.next_free(free);
         }
         false
     }
@@ -213,12 +213,12 @@ impl Keeper {
         requires { IsClass self.now.slabs class }
         ensures { result ≡ target self.now class page }
     {
-        let mut place = 0;
-        while let Some(free) = self.slabs.free_at(class, place) {
+        let mut next = self.slabs.first_free(class);
+        while let Some(free) = next {
             if free.page != page {
                 return Some(free);
             }
-            place += 1;
+            next = self.slabs.next_free(free);
         }
         None
     }

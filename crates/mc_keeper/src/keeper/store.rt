@@ -32,7 +32,7 @@ impl Keeper {
         ensures after { OnOk result (self.new ≡ (stored (supplied self.old class) class key words.items (asks_for_page self.old class) (supply self.old class)).machine) }
     {
         let evicted = self.supply(class)?;
-        match self.slabs.free_at(class, 0) {
+        match self.slabs.first_free(class) {
             Some(chunk) => {
                 self.unlink(key);
                 self.put(class, chunk, key, words)?;

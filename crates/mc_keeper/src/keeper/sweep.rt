@@ -13,12 +13,11 @@ impl Keeper {
         requires { IsClass self.old.slabs class }
         ensures { self.new ≡ swept self.old class }
     {
-        let mut place = 0;
-        while let Some(chunk) = self.slabs.order_at(class, place) {
+        let mut next = self.slabs.first_out(class);
+        while let Some(chunk) = next {
+            next = self.slabs.next_out(chunk);
             if self.is_dead(chunk) {
                 self.reclaim(chunk);
-            } else {
-                place += 1;
             }
         }
     }

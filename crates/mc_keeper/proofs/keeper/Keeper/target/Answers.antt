@@ -1,36 +1,51 @@
-use Rattle.std.proofs.Common.{◌≡◌, ◌==◌, ◌∙◌, false, true, not, sym, ap, arith, List}
-use Rattle.std.specs.Prelude.{find}
+use Rattle.std.proofs.Common.{◌≡◌, ℕ, ◌+◌, ◌==◌, ◌∙◌, false, true, not, sym, ap, arith, List, [], length, drop, Option, Some, None}
+use Rattle.std.specs.Prelude.{find, slice_get}
 use Rattle.std.proofs.lemmas.Bool.Decides.{nat_tests}
 use Rattle.mc_pages.specs.declared.ids.ChunkId.{ChunkId}
-use Rattle.mc_keeper.proofs.MoverLists.{FreeAt, found_free, found_none, find_behind, find_there}
+use Rattle.mc_pages.specs.ClassState.{behind}
+use Rattle.mc_pages.specs.SlabState.{class_at, class_of_chunk}
+use Rattle.mc_keeper.specs.Machine.{Machine}
+use Rattle.mc_keeper.proofs.MoverLists.{FreeAt, drop_past, find_behind, find_there, found_free}
+use Rattle.mc_keeper.proofs.Walks.{rest_from}
 use Rattle.mc_keeper.proofs.keeper.Keeper.target.Goals as goal
 
 pub returns-then-free-page : goal.returns-then-free-page
 returns-then-free-page c =
-    let here : FreeAt c.args.self.now c.args.class c.loop-free.place c.in-Some.free
-    = found_free _ _ _ _ _ _ c.self.invariant.kept c.self.view_is c.requires c.in-Some.ensures in
+    let here : FreeAt c.args.self.now c.args.class c.loop-next.invariant.place c.in-Some.free
+    = found_free _ _ _ _ _ _ c.self.invariant.kept c.self.view_is c.requires (sym c.loop-next.invariant.at ∙ c.in-Some.is) in
     let off : not (c.in-Some.free.page == c.args.page) ≡ true = grind (arith, nat_tests) in
-    sym (find_there (λ chunk. not (chunk.page == c.args.page)) _ c.loop-free.place c.in-Some.free here.at off) ∙ c.loop-free.invariant
+    sym (find_there (λ chunk. not (chunk.page == c.args.page)) _ c.loop-next.invariant.place c.in-Some.free here.at off) ∙ c.loop-next.invariant.rest
 
-pub overflow_add-place : goal.overflow_add-place
-overflow_add-place c =
-    let here : FreeAt c.args.self.now c.args.class c.loop-free.place c.in-Some.free
-    = found_free _ _ _ _ _ _ c.self.invariant.kept c.self.view_is c.requires c.in-Some.ensures in
-    omega (arith, here.short)
+pub next_free-next-requires : goal.next_free-next-requires
+next_free-next-requires c =
+    let here : FreeAt c.args.self.now c.args.class c.loop-next.invariant.place c.in-Some.free
+    = found_free _ _ _ _ _ _ c.self.invariant.kept c.self.view_is c.requires (sym c.loop-next.invariant.at ∙ c.in-Some.is) in
+    rw (ap (λ (m : Machine). m.slabs) c.self.view_is) here.listed
 
-pub loop-free-smaller : goal.loop-free-smaller
-loop-free-smaller c =
-    let here : FreeAt c.args.self.now c.args.class c.loop-free.place c.in-Some.free
-    = found_free _ _ _ _ _ _ c.self.invariant.kept c.self.view_is c.requires c.in-Some.ensures in
-    omega (arith, here.inside)
+pub loop-next-smaller : goal.loop-next-smaller
+loop-next-smaller c =
+    let here : FreeAt c.args.self.now c.args.class c.loop-next.invariant.place c.in-Some.free
+    = found_free _ _ _ _ _ _ c.self.invariant.kept c.self.view_is c.requires (sym c.loop-next.invariant.at ∙ c.in-Some.is) in
+    let next : c.next_free-next.result ≡ slice_get (class_at c.args.self.now.slabs c.args.class).free (c.loop-next.invariant.place + 1)
+    = c.next_free-next.ensures ∙ ap (λ (m : Machine). behind c.in-Some.free (class_of_chunk m.slabs c.in-Some.free).free) c.self.view_is ∙ here.next in
+    let left = ap (λ (n : Option ChunkId). length (rest_from n (class_at c.args.self.now.slabs c.args.class).free)) c.in-Some.is in
+    omega (arith, left, here.smaller c.next_free-next.result next)
 
-pub loop-free-preserved : goal.loop-free-preserved
-loop-free-preserved c =
-    let here : FreeAt c.args.self.now c.args.class c.loop-free.place c.in-Some.free
-    = found_free _ _ _ _ _ _ c.self.invariant.kept c.self.view_is c.requires c.in-Some.ensures in
+pub loop-next-preserved : goal.loop-next-preserved
+loop-next-preserved c =
+    let here : FreeAt c.args.self.now c.args.class c.loop-next.invariant.place c.in-Some.free
+    = found_free _ _ _ _ _ _ c.self.invariant.kept c.self.view_is c.requires (sym c.loop-next.invariant.at ∙ c.in-Some.is) in
+    let next : c.next_free-next.result ≡ slice_get (class_at c.args.self.now.slabs c.args.class).free (c.loop-next.invariant.place + 1)
+    = c.next_free-next.ensures ∙ ap (λ (m : Machine). behind c.in-Some.free (class_of_chunk m.slabs c.in-Some.free).free) c.self.view_is ∙ here.next in
     let on : not (c.in-Some.free.page == c.args.page) ≡ false = grind (arith, nat_tests) in
-    find_behind (λ chunk. not (chunk.page == c.args.page)) _ c.loop-free.place c.in-Some.free here.at on ∙ c.loop-free.invariant
+    record {
+      place = c.loop-next.invariant.place + 1;
+      at = next;
+      rest = find_behind (λ chunk. not (chunk.page == c.args.page)) _ c.loop-next.invariant.place c.in-Some.free here.at on ∙ c.loop-next.invariant.rest;
+    }
 
 pub returns : goal.returns
 returns c =
-    sym (ap (λ (chunks : List ChunkId). find (λ chunk. not (chunk.page == c.args.page)) chunks) (found_none _ _ c.args.class c.loop-free.place c.self.view_is c.in_default.ensures)) ∙ c.loop-free.invariant
+    let none : drop c.loop-next.invariant.place (class_at c.args.self.now.slabs c.args.class).free ≡ []
+    = drop_past (class_at c.args.self.now.slabs c.args.class).free c.loop-next.invariant.place (sym c.loop-next.invariant.at ∙ c.in_default.is) in
+    sym (ap (λ (chunks : List ChunkId). find (λ chunk. not (chunk.page == c.args.page)) chunks) none) ∙ c.loop-next.invariant.rest
