@@ -164,7 +164,7 @@ listed_free rows class chunk is listed side =
     ]
 
 -- behind the chunk at a place of a list stands the chunk at the next place
-behind_at_some : (chunk : ChunkId) (chunks : List ChunkId) (place : ℕ) → IsOnce chunks → slice_get chunks place ≡ Some chunk → behind chunk chunks ≡ slice_get chunks (suc place)
+pub behind_at_some : (chunk : ChunkId) (chunks : List ChunkId) (place : ℕ) → IsOnce chunks → slice_get chunks place ≡ Some chunk → behind chunk chunks ≡ slice_get chunks (suc place)
 behind_at_some chunk [] place once h = absurd (None≢Some chunk h)
 behind_at_some chunk (c ∷ cs) zero once h =
     let same : c ≡ chunk = cc h in

@@ -220,7 +220,7 @@ not_cut slabs class chunk h =
     let mine = is_of_class class (owner_at slabs.owners chunk.page) in
     let tested : Option ChunkId → Bool = λ uncut. mine && nat_lt chunk.index (cut_count uncut chunk.page size) in
     let here : nat_lt chunk.index (cut_count (Some chunk) chunk.page size) ≡ false =
-        ap (λ b. nat_lt chunk.index (if b then chunk.index else size)) (eq-eqb chunk.page chunk.page refl) ∙ le-ltb chunk.index chunk.index (omega arith) in
+    ap (λ b. nat_lt chunk.index (if b then chunk.index else size)) (eq-eqb chunk.page chunk.page refl) ∙ le-ltb chunk.index chunk.index (omega arith) in
     ap tested h ∙ (ap (λ b. mine && b) here ∙ and-false mine)
 
 -- so it is in no list
