@@ -1,11 +1,11 @@
 -- A run after a chunk left it, and after one came into it.
-use Rattle.std.proofs.Common.{◌≡◌, ◌≢◌, ℕ, ◌+◌, ◌≤◌, Bool, cond, List, [], ◌∷◌, ◌++◌, Option, Some, None, sym, ap, ◌∙◌, subst, inl, inr, arith}
+use Rattle.std.proofs.Common.{◌≡◌, ◌≢◌, ◌≤◌, Bool, cond, List, [], ◌∷◌, ◌++◌, Option, Some, None, sym, ap, ◌∙◌, subst, inl, inr, arith}
 use Rattle.std.proofs.lemmas.Bool.{cases_Bool}
 use Rattle.mc_pages.specs.declared.ids.ChunkId.{ChunkId}
 use Rattle.mc_pages.specs.ClassState.{is_chunk, times, without, with_before}
 use Rattle.mc_pages.specs.Linked.{IsRun}
 use Rattle.mc_pages.proofs.Chunks.{same_from_is_chunk, times-tail}
-use Rattle.mc_pages.proofs.Runs.{Links, IsOutside, Some≢None, None≢Some, same_Some, times-head, times-behind, differs, run_frame, before_in, behind_in, last_in}
+use Rattle.mc_pages.proofs.Runs.{Links, IsOutside, Some≢None, None≢Some, times-head, times-behind, differs, run_frame, before_in, behind_in, last_in}
 
 -- no chunk stands twice in the list
 abbrev pub IsOnce : List ChunkId → Type 0

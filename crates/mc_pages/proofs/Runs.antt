@@ -1,8 +1,8 @@
 -- Runs of chunks, of which one is taken out or to which one is added.
-use Rattle.std.proofs.Common.{◌≡◌, ◌≢◌, ℕ, ◌+◌, ◌≤◌, suc, true, false, cond, List, [], ◌∷◌, ◌++◌, length, Option, Some, None, refl, sym, ap, ◌∙◌, subst, inl, inr, arith, ◌⊎◌}
-use Rattle.std.proofs.lemmas.Bool.{cases_Bool, both_ways}
+use Rattle.std.proofs.Common.{◌≡◌, ◌≢◌, ◌+◌, ◌≤◌, List, [], ◌∷◌, length, Option, Some, None, refl, sym, ap, ◌∙◌, inl, inr, arith, ◌⊎◌}
+use Rattle.std.proofs.lemmas.Bool.{cases_Bool}
 use Rattle.mc_pages.specs.declared.ids.ChunkId.{ChunkId}
-use Rattle.mc_pages.specs.ClassState.{is_chunk, times, without, with_before}
+use Rattle.mc_pages.specs.ClassState.{is_chunk, times}
 use Rattle.mc_pages.specs.Accounted.{truth}
 use Rattle.mc_pages.specs.Linked.{walk, IsRun}
 use Rattle.mc_pages.proofs.Chunks.{is_chunk-same, same_from_is_chunk, times-cons, times-tail}

@@ -1,14 +1,14 @@
 -- A walk along a free list or a hand-out order, from its first chunk on: what each next chunk is.
-use Rattle.std.proofs.Common.{◌≡◌, ℕ, ◌+◌, ◌≤◌, List, length, slice_get, Some, sym, ap, ◌∙◌, subst, arith, Contains}
+use Rattle.std.proofs.Common.{◌≡◌, ℕ, ◌+◌, slice_get, Some, sym, ap, ◌∙◌, subst, arith, Contains}
 use Rattle.mc_pages.specs.declared.ids.ChunkId.{ChunkId}
-use Rattle.mc_pages.specs.ClassState.{times, behind}
-use Rattle.mc_pages.specs.SlabState.{SlabState, IsClass, class_at, class_of_page, class_of_chunk}
+use Rattle.mc_pages.specs.ClassState.{behind}
+use Rattle.mc_pages.specs.SlabState.{SlabState, IsClass, class_at, class_of_chunk}
 use Rattle.mc_pages.specs.Accounted.{is_cut, IsAccounted}
 use Rattle.mc_pages.proofs.Chunks.{times_from_Contains, Contains_from_slice_get}
 use Rattle.mc_pages.proofs.Cleared.{truth-le_one}
 use Rattle.mc_pages.proofs.ClassRows.{behind_at_some}
 use Rattle.mc_pages.proofs.RunChanges.{IsOnce}
-use Rattle.mc_pages.proofs.HandedOut.{class_of_placed, class_of_handed_out, IsClass-handed_out}
+use Rattle.mc_pages.proofs.HandedOut.{class_of_placed, class_of_handed_out}
 
 -- no chunk stands twice in a list of a class
 free_once : (slabs : SlabState) (class : ℕ) → IsAccounted slabs → IsClass slabs class → IsOnce (class_at slabs class).free

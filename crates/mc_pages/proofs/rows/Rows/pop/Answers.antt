@@ -1,4 +1,4 @@
-use Rattle.std.proofs.Common.{◌≡◌, [], ◌∷◌, ◌++◌, Some, slice_get, refl, sym, ◌∙◌, arith}
+use Rattle.std.proofs.Common.{[], ◌∷◌, ◌++◌, refl, sym, ◌∙◌, arith}
 use Rattle.mc_pages.specs.declared.rows.ListName.TheVariants.{Free, Out}
 use Rattle.mc_pages.specs.ClassState.{without, popped}
 use Rattle.mc_pages.specs.Linked.{chunks_of}

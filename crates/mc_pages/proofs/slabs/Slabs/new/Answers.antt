@@ -10,7 +10,7 @@ use Rattle.mc_classes.specs.Classes.{pages_of, per_page_of}
 use Rattle.mc_pages.specs.Rows.{RowsState, fresh_rows}
 use Rattle.mc_pages.specs.Linked.{AreLinked, sizes_of}
 use Rattle.mc_pages.specs.Room.{RoomyClass, states}
-use Rattle.mc_pages.specs.InOrder.{IsInOrder, HasRows, roomless}
+use Rattle.mc_pages.specs.InOrder.{IsInOrder, HasRows}
 use Rattle.mc_pages.proofs.Fresh.{IsInOrder-fresh}
 use Rattle.mc_pages.proofs.RoomyFresh.{pages-fresh, states-fresh, AreLinked-fresh, HasRows-fresh}
 use Rattle.mc_pages.proofs.slabs.Slabs.new.Goals as goal

@@ -1,6 +1,6 @@
-use Rattle.std.proofs.Common.{◌≡◌, ◌+◌, ◌-◌, ◌≤◌, inl, inr, refl, sym, ap, ◌∙◌, subst, arith}
+use Rattle.std.proofs.Common.{◌≡◌, ◌-◌, inl, inr, refl, sym, ap, ◌∙◌, subst, arith}
 use Rattle.std.proofs.lemmas.Bool.{cases_lt, false≢true}
-use Rattle.mc_pages.specs.declared.rows.ListName.TheVariants.{Free, Out}
+use Rattle.mc_pages.specs.declared.rows.ListName.TheVariants.{Free}
 use Rattle.mc_pages.specs.ClassState.{times}
 use Rattle.mc_pages.specs.Linked.{chunks_of}
 use Rattle.mc_pages.specs.SlabState.{SlabState, IsClass}
