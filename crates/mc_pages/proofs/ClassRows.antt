@@ -1,5 +1,5 @@
 -- A class's lists after a chunk went from one to the other.
-use Rattle.std.proofs.Common.{◌≡◌, ◌≢◌, ℕ, ◌+◌, ◌<◌, ◌≤◌, zero, suc, Bool, true, false, cond, List, [], ◌∷◌, ◌++◌, length, slice_get, Option, Some, None, refl, sym, ap, ap₂, ◌∙◌, subst, inl, inr, arith}
+use Rattle.std.proofs.Common.{◌≡◌, ◌≢◌, ℕ, ◌+◌, ◌≤◌, zero, suc, Bool, true, false, cond, List, [], ◌∷◌, ◌++◌, length, slice_get, Option, Some, None, refl, sym, ap, ap₂, ◌∙◌, subst, inl, inr, arith}
 use Rattle.std.proofs.lemmas.Bool.{cases_Bool, cases_lt, false≢true}
 use Rattle.std.proofs.lemmas.Option.{slice_get_cases, slice_get_past}
 use Rattle.mc_pages.specs.declared.ids.ChunkId.{ChunkId}
@@ -164,7 +164,7 @@ listed_free rows class chunk is listed side =
     ]
 
 -- behind the chunk at a place of a list stands the chunk at the next place
-behind_at_some : (chunk : ChunkId) (chunks : List ChunkId) (place : ℕ) → IsOnce chunks → slice_get chunks place ≡ Some chunk → behind chunk chunks ≡ slice_get chunks (suc place)
+pub behind_at_some : (chunk : ChunkId) (chunks : List ChunkId) (place : ℕ) → IsOnce chunks → slice_get chunks place ≡ Some chunk → behind chunk chunks ≡ slice_get chunks (suc place)
 behind_at_some chunk [] place once h = absurd (None≢Some chunk h)
 behind_at_some chunk (c ∷ cs) zero once h =
     let same : c ≡ chunk = cc h in

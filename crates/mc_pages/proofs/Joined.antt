@@ -4,10 +4,9 @@ use Rattle.mc_pages.specs.declared.ids.ChunkId.{ChunkId}
 use Rattle.mc_pages.specs.declared.rows.ListName.{ListName}
 use Rattle.mc_pages.specs.declared.rows.Field.{Field}
 use Rattle.mc_pages.specs.declared.rows.Field.TheVariants.{Next, Previous, Head, Tail}
-use Rattle.mc_pages.specs.ClassState.{times}
-use Rattle.mc_pages.specs.Rows.{RowsState, IsField, IsRow, IsList, row_at, field_of, length_of, with_field, with_side, with_length}
+use Rattle.mc_pages.specs.Rows.{RowsState, IsField, IsRow, row_at, field_of, length_of, with_field, with_side, with_length}
 use Rattle.mc_pages.specs.Linked.{sizes_of, forth, back, IsRun, joined}
-use Rattle.mc_pages.proofs.Runs.{Links, IsOutside, same_Some, run_frame}
+use Rattle.mc_pages.proofs.Runs.{Links, IsOutside, run_frame}
 use Rattle.mc_pages.proofs.RunChanges.{Joins, Comes}
 use Rattle.mc_pages.proofs.RowFields.{field-same, field-other, field-with_length, field-with_side, side-with_field, sizes-with_field, writes-with_field, length-with_field, IsField-sizes}
 

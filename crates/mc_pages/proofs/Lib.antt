@@ -27,6 +27,7 @@ pub mod KeptPages
 pub mod KeptMoves
 pub mod KeptFinish
 pub mod HandedOut
+pub mod Walks
 pub mod Kept
 pub mod Roomy
 pub mod States

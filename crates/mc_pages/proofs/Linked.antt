@@ -1,5 +1,5 @@
 -- The lists that rows are, after a chunk left one of them or came into it.
-use Rattle.std.proofs.Common.{◌≡◌, ◌≢◌, ℕ, ◌+◌, ◌-◌, ◌≤◌, Bool, true, if◌then◌else◌, List, [], ◌∷◌, ◌++◌, length, Option, Some, None, refl, sym, ap, ◌∙◌, subst, inl, inr, ◌⊎◌, arith, length-append}
+use Rattle.std.proofs.Common.{◌≡◌, ◌≢◌, ℕ, ◌+◌, ◌-◌, ◌≤◌, if◌then◌else◌, List, [], ◌∷◌, ◌++◌, length, Option, Some, None, refl, sym, ap, ◌∙◌, subst, inl, inr, ◌⊎◌, arith, length-append}
 use Rattle.std.proofs.lemmas.Bool.{cases_Bool, cases_lt}
 use Rattle.mc_pages.specs.declared.ids.ChunkId.{ChunkId}
 use Rattle.mc_pages.specs.declared.rows.ListName.{ListName}
@@ -181,15 +181,15 @@ come_linked rows lists list a chunk b chunks is there row absent near near-2 run
     let count = length_of between list + 1 in
     let after = with_length between list count in
     let comes = joins_comes (forth_in rows list) (back_in rows list) (forth_in first list) (back_in first list) (forth_in both list) (back_in both list) a chunk b (near_apart a (lists list) chunk near (absent list)) (near_apart b (lists list) chunk near-2 (absent list))
-        (joined_joins rows list a (Some chunk) field row) (joined_joins first list (Some chunk) b row-2 field-3) in
+    (joined_joins rows list a (Some chunk) field row) (joined_joins first list (Some chunk) b row-2 field-3) in
     let out : (other : ListName) → IsOutside (Some chunk) (lists other) = λ other c within h. absurd (omega (arith, within, absent other, ap (λ (x : ChunkId). times x (lists other)) (same_Some c chunk h))) in
     let side : (x : ChunkId) → x ≢ chunk → (row_at after x).out ≡ (row_at rows x).out =
-        λ x differs. side-with_length between list count x ∙ (side-other both chunk x (is_order list) row-3 differs ∙ (side-joined first list (Some chunk) b x row-2 field-3 ∙ side-joined rows list a (Some chunk) x field row)) in
+    λ x differs. side-with_length between list count x ∙ (side-other both chunk x (is_order list) row-3 differs ∙ (side-joined first list (Some chunk) b x row-2 field-3 ∙ side-joined rows list a (Some chunk) x field row)) in
     relinked rows after lists list chunks is (sizes-with_length between list count ∙ sizes-3)
     (run-with_length between list list count None _ (run-with_side both chunk (is_order list) list _ row-3 (runs _ _ comes)))
     (λ other differs. run-with_length between list other count None _ (run-with_side both chunk (is_order list) other _ row-3
-        (run-joined first list other (Some chunk) b (lists other) row-2 field-3 differs (out other) (near_outside rows lists list other b is differs near-2)
-        (run-joined rows list other a (Some chunk) (lists other) field row differs (near_outside rows lists list other a is differs near) (out other) (is.runs other)))))
+    (run-joined first list other (Some chunk) b (lists other) row-2 field-3 differs (out other) (near_outside rows lists list other b is differs near-2)
+    (run-joined rows list other a (Some chunk) (lists other) field row differs (near_outside rows lists list other a is differs near) (out other) (is.runs other)))))
     (omega (arith, length-same between list count (IsList-sizes rows between list sizes-3 there), length-with_side both chunk (is_order list) list, length-joined first list list (Some chunk) b, length-joined rows list list a (Some chunk), is.long list, longer))
     (λ other differs. length-other between list other count differs ∙ (length-with_side both chunk (is_order list) other ∙ (length-joined first list other (Some chunk) b ∙ length-joined rows list other a (Some chunk))))
     (λ x. elim (cases_Bool (is_chunk chunk x)) [

@@ -16,7 +16,7 @@ use Rattle.mc_pages.specs.SlabState.{SlabState, IsClass, class_at}
 use Rattle.mc_pages.specs.Changes.{with_class, with_given}
 use Rattle.mc_pages.specs.Moves.{released, finished}
 use Rattle.mc_pages.specs.Accounted.{truth, IsMove}
-use Rattle.mc_pages.specs.Linked.{Sizes, sizes_of}
+use Rattle.mc_pages.specs.Linked.{Sizes}
 use Rattle.mc_pages.specs.InOrder.{HasRows, AreKept, slabs_of, is_awaited}
 use Rattle.mc_pages.proofs.Owners.{within_from_owned}
 use Rattle.mc_pages.proofs.States.{pages_at}

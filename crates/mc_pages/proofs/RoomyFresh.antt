@@ -1,5 +1,5 @@
 -- No page is granted yet, no room is kept, and all lists are empty.
-use Rattle.std.proofs.Common.{◌≡◌, ℕ, ◌+◌, ◌-◌, ◌*◌, ◌/◌, ◌<◌, ◌≤◌, List, [], ◌∷◌, length, replicate, slice_index_or, Option, None, refl, sym, ap, ap₂, ◌∙◌, inl, inr, arith}
+use Rattle.std.proofs.Common.{◌≡◌, ℕ, ◌-◌, ◌*◌, ◌/◌, ◌<◌, ◌≤◌, List, [], length, replicate, slice_index_or, sym, ap, ap₂, ◌∙◌, inl, inr, arith}
 use Rattle.std.proofs.Math.ListN.{get_or-map as get_or-map_at}
 use Rattle.std.proofs.Math.Nat.{div-mul-le_self, mul-le-mul_left}
 use Rattle.std.proofs.lemmas.Bool.{cases_lt}
@@ -10,11 +10,11 @@ use Rattle.mc_pages.specs.declared.ids.ChunkId.{ChunkId}
 use Rattle.mc_pages.specs.declared.rows.Row.{Row}
 use Rattle.mc_pages.specs.declared.rows.ListName.{ListName}
 use Rattle.mc_pages.specs.declared.rows.ListName.TheVariants.{Free, Out}
-use Rattle.mc_pages.specs.ClassState.{ClassState, new_class, times}
+use Rattle.mc_pages.specs.ClassState.{ClassState, new_class}
 use Rattle.mc_pages.specs.Rows.{no_row, ends_of, length_of, fresh_rows}
-use Rattle.mc_pages.specs.Linked.{IsLinked, AreLinked, chunks_of, sizes_of}
+use Rattle.mc_pages.specs.Linked.{IsLinked, AreLinked, sizes_of}
 use Rattle.mc_pages.specs.ClassRows.{with_lists}
-use Rattle.mc_pages.specs.Room.{RoomyClass, no_class, states}
+use Rattle.mc_pages.specs.Room.{RoomyClass, states}
 use Rattle.mc_pages.specs.SlabState.{IsClass, class_at, fresh_slabs}
 use Rattle.mc_pages.specs.InOrder.{HasRows, roomless}
 use Rattle.mc_pages.proofs.Linked.{chunks_are, are_linked}

@@ -1,5 +1,5 @@
 -- The classes with their room, as the code reads and writes them.
-use Rattle.std.proofs.Common.{◌≡◌, ◌≢◌, ℕ, ◌+◌, ◌-◌, ◌*◌, ◌<◌, ◌≤◌, Bool, false, ◌&&◌, nat_lt, if◌then◌else◌, Option, Some, eq-eqb, le-ltb, List, [], ◌∷◌, length, set, slice_index_or, vec_len, refl, sym, ap, ap₂, ◌∙◌, subst, inl, inr, arith, get_or-set_same, get_or-set_other, length-set}
+use Rattle.std.proofs.Common.{◌≡◌, ◌≢◌, ℕ, ◌+◌, ◌-◌, ◌*◌, ◌<◌, ◌≤◌, Bool, false, ◌&&◌, nat_lt, if◌then◌else◌, Option, Some, eq-eqb, le-ltb, List, [], ◌∷◌, length, set, slice_index_or, vec_len, refl, sym, ap, ◌∙◌, subst, inl, inr, arith, get_or-set_same, get_or-set_other, length-set}
 use Rattle.std.specs.Vec.{with_item}
 use Rattle.std.proofs.Math.Bool.{and-false}
 use Rattle.std.proofs.Math.Nat.{mul-le-mul, mul-le-mul_right}
@@ -220,7 +220,7 @@ not_cut slabs class chunk h =
     let mine = is_of_class class (owner_at slabs.owners chunk.page) in
     let tested : Option ChunkId → Bool = λ uncut. mine && nat_lt chunk.index (cut_count uncut chunk.page size) in
     let here : nat_lt chunk.index (cut_count (Some chunk) chunk.page size) ≡ false =
-        ap (λ b. nat_lt chunk.index (if b then chunk.index else size)) (eq-eqb chunk.page chunk.page refl) ∙ le-ltb chunk.index chunk.index (omega arith) in
+    ap (λ b. nat_lt chunk.index (if b then chunk.index else size)) (eq-eqb chunk.page chunk.page refl) ∙ le-ltb chunk.index chunk.index (omega arith) in
     ap tested h ∙ (ap (λ b. mine && b) here ∙ and-false mine)
 
 -- so it is in no list

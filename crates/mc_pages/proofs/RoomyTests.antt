@@ -1,7 +1,9 @@
 -- What the tests' look at a slab memory says of it.
-use Rattle.std.proofs.Common.{◌≡◌, ℕ, ◌<◌, ◌≤◌, ◌↔◌, IsTrue, Bool, true, false, nat_lt, List, length, Option, Some, None, is_some, refl, sym, ap, ◌∙◌, subst, inl, inr, arith, Contains, position, slice_get, eq-eqb, lt-ltb}
-use Rattle.std.proofs.lemmas.Bool.{cases_lt, and_from, false≢true}
-use Rattle.std.proofs.lemmas.List.Edits.{length-remove}
+use Rattle.std.proofs.Common.{◌≡◌, ℕ, ◌+◌, ◌<◌, ◌≤◌, take, Bool, true, false, nat_lt, List, length, Option, Some, None, refl, sym, ap, ◌∙◌, subst, arith, Contains, slice_get, eq-eqb, lt-ltb}
+use Rattle.std.specs.Option.{option_eq}
+use Rattle.std.proofs.lemmas.Bool.{and_from, false≢true}
+use Rattle.std.proofs.lemmas.Option.{slice_get-get_or, get_or_from_slice_get}
+use Rattle.std.proofs.lemmas.List.Sums.{count_by_more_no}
 use Rattle.mc_pages.specs.declared.ids.ChunkId.{ChunkId}
 use Rattle.mc_pages.specs.declared.ids.Moving.{Moving}
 use Rattle.mc_pages.specs.declared.moves.Found.{Found}
@@ -10,7 +12,7 @@ use Rattle.mc_pages.specs.ClassState.{is_chunk, times}
 use Rattle.mc_pages.specs.SlabState.{SlabState, IsClass, class_at, class_of_page, class_of_chunk}
 use Rattle.mc_pages.specs.Accounted.{truth, is_of_class, cut_count, is_cut, places_in, IsAccounted}
 use Rattle.mc_pages.specs.Moves.{is_held_up, chunk_at_position, CanPass}
-use Rattle.mc_pages.proofs.Chunks.{Contains_from_slice_get, length-without}
+use Rattle.mc_pages.proofs.Chunks.{None≢Some, same_from_is_chunk, times_from_Contains, Contains_from_slice_get}
 use Rattle.mc_pages.proofs.HandedOut.{class_of_placed, class_of_handed_out}
 
 -- a free chunk of the class of a handed-out one
@@ -46,3 +48,16 @@ placed_looked slabs class chunk all is placed = subst (λ (n : ℕ). 1 ≤ place
 -- the class that gives the page that moves is one of the classes
 pub moving_class : (slabs : SlabState) (move : Moving) → IsAccounted slabs → slabs.moving ≡ Some move → IsClass slabs move.src
 moving_class slabs move all runs = (all.move move runs).src
+
+-- a chunk that was found at a place of a list stands there
+pub found_there : (chunk : ChunkId) (chunks : List ChunkId) (place : ℕ) (found : Option ChunkId) → found ≡ slice_get chunks place → option_eq is_chunk found (Some chunk) ≡ true → 1 ≤ times chunk chunks
+found_there chunk chunks place None h same = absurd (false≢true same)
+found_there chunk chunks place (Some c) h same =
+    let is = same_from_is_chunk c chunk same in
+    times_from_Contains chunk chunks (Contains_from_slice_get chunk chunks place (sym h ∙ ap (λ (x : ChunkId). Some x) is))
+
+-- and one that wasn't found is no more often among the first ones
+pub not_found_there : (chunk : ChunkId) (chunks : List ChunkId) (place : ℕ) (found : Option ChunkId) → found ≡ slice_get chunks place → place < length chunks → option_eq is_chunk found (Some chunk) ≡ false → times chunk (take (place + 1) chunks) ≡ times chunk (take place chunks)
+not_found_there chunk chunks place None h within other = absurd (None≢Some _ (h ∙ slice_get-get_or chunks place chunk within))
+not_found_there chunk chunks place (Some c) h within other =
+    count_by_more_no (λ x. is_chunk x chunk) chunks place chunk within (ap (λ (x : ChunkId). is_chunk x chunk) (get_or_from_slice_get chunks place c chunk (sym h)) ∙ other)

@@ -1,11 +1,11 @@
 -- A run after a chunk left it, and after one came into it.
-use Rattle.std.proofs.Common.{◌≡◌, ◌≢◌, ℕ, ◌+◌, ◌≤◌, Bool, cond, List, [], ◌∷◌, ◌++◌, Option, Some, None, sym, ap, ◌∙◌, subst, inl, inr, arith}
+use Rattle.std.proofs.Common.{◌≡◌, ◌≢◌, ◌≤◌, Bool, cond, List, [], ◌∷◌, ◌++◌, Option, Some, None, sym, ap, ◌∙◌, subst, inl, inr, arith}
 use Rattle.std.proofs.lemmas.Bool.{cases_Bool}
 use Rattle.mc_pages.specs.declared.ids.ChunkId.{ChunkId}
 use Rattle.mc_pages.specs.ClassState.{is_chunk, times, without, with_before}
 use Rattle.mc_pages.specs.Linked.{IsRun}
 use Rattle.mc_pages.proofs.Chunks.{same_from_is_chunk, times-tail}
-use Rattle.mc_pages.proofs.Runs.{Links, IsOutside, Some≢None, None≢Some, same_Some, times-head, times-behind, differs, run_frame, before_in, behind_in, last_in}
+use Rattle.mc_pages.proofs.Runs.{Links, IsOutside, Some≢None, None≢Some, times-head, times-behind, differs, run_frame, before_in, behind_in, last_in}
 
 -- no chunk stands twice in the list
 abbrev pub IsOnce : List ChunkId → Type 0
@@ -46,13 +46,16 @@ run_skip : (n p n' p' : Links) (from : Option ChunkId) (c : ChunkId) (cs : List 
 run_skip n p n' p' from c [] outside once joins run = (joins.forth ∙ run.0, ap p' (sym run.0) ∙ joins.back)
 run_skip n p n' p' from c (d ∷ ds) outside once joins run =
     let here : 1 ≤ times d (d ∷ ds) = omega (arith, times-head d ds) in
-    let apart : (x : Option ChunkId) → x ≢ Some d → p' x ≡ p x = λ x h. joins.previous x (λ e. h (e ∙ run.0)) in
-    (joins.forth ∙ run.0, ap p' (sym run.0) ∙ joins.back, run_frame n p n' p' (Some d) ds
-    (joins.next (Some d) (outside d here))
-    (apart None (None≢Some d))
-    (λ x there. joins.next (Some x) (outside x (omega (arith, there, times-behind x d ds))))
-    (λ x there. apart (Some x) (outside-head d ds once x there))
-    run.2)
+    let apart : (x : Option ChunkId) → x ≢ Some d → p' x ≡ p x = λ x h. joins.previous x (λ e. h (e ∙ run.0)) in (
+      joins.forth ∙ run.0,
+      ap p' (sym run.0) ∙ joins.back,
+      run_frame n p n' p' (Some d) ds
+          (joins.next (Some d) (outside d here))
+          (apart None (None≢Some d))
+          (λ x there. joins.next (Some x) (outside x (omega (arith, there, times-behind x d ds))))
+          (λ x there. apart (Some x) (outside-head d ds once x there))
+          run.2,
+    )
 
 -- what a run comes from doesn't stand before one of its later chunks
 from_apart : (n p : Links) (from : Option ChunkId) (c : ChunkId) (cs : List ChunkId) (chunk : ChunkId) → IsOutside from (c ∷ cs) → IsRun n p (Some c) cs → 1 ≤ times chunk cs → from ≢ p (Some chunk)
@@ -96,13 +99,20 @@ run_cons n p n' p' from chunk [] outside new once comes run = (comes.to, comes.f
 run_cons n p n' p' from chunk (d ∷ ds) outside new once comes run =
     let here : 1 ≤ times d (d ∷ ds) = omega (arith, times-head d ds) in
     let apart : (x : Option ChunkId) → x ≢ Some d → x ≢ Some chunk → p' x ≡ p x = λ x h. comes.previous x (λ e. h (e ∙ run.0)) in
-    let later : (x : ChunkId) → 1 ≤ times x ds → 1 ≤ times x (d ∷ ds) = λ x there. omega (arith, there, times-behind x d ds) in
-    (comes.to, comes.from, (comes.on ∙ run.0, ap p' (sym run.0) ∙ comes.back, run_frame n p n' p' (Some d) ds
-    (comes.next (Some d) (outside d here) (new d here))
-    (apart None (None≢Some d) (None≢Some chunk))
-    (λ x there. comes.next (Some x) (outside x (later x there)) (new x (later x there)))
-    (λ x there. apart (Some x) (outside-head d ds once x there) (new x (later x there)))
-    run.2))
+    let later : (x : ChunkId) → 1 ≤ times x ds → 1 ≤ times x (d ∷ ds) = λ x there. omega (arith, there, times-behind x d ds) in (
+      comes.to,
+      comes.from,
+      (
+        comes.on ∙ run.0,
+        ap p' (sym run.0) ∙ comes.back,
+        run_frame n p n' p' (Some d) ds
+            (comes.next (Some d) (outside d here) (new d here))
+            (apart None (None≢Some d) (None≢Some chunk))
+            (λ x there. comes.next (Some x) (outside x (later x there)) (new x (later x there)))
+            (λ x there. apart (Some x) (outside-head d ds once x there) (new x (later x there)))
+            run.2,
+      ),
+    )
 
 -- a chunk comes directly before another
 pub run_before : (n p n' p' : Links) (from : Option ChunkId) (chunks : List ChunkId) (chunk old : ChunkId) → 1 ≤ times old chunks → IsOnce chunks → IsOutside from chunks → IsOutside (Some chunk) chunks → from ≢ Some chunk → Comes n p n' p' (p (Some old)) chunk (Some old) → IsRun n p from chunks → IsRun n' p' from (with_before chunk old chunks)
@@ -133,8 +143,7 @@ run_push n p n' p' from (c ∷ cs) chunk once outside new apart comes run =
     let last : from ≢ p None = λ h. elim (last_in n p (Some c) cs run.2) [
       | inl first ↦ outside c here (sym (h ∙ first))
       | inr (x, is, within) ↦ outside x (omega (arith, within, times-behind x c cs)) (sym (h ∙ is))
-    ] in
-    (
+    ] in (
       comes.next from last apart ∙ run.0,
       comes.previous (Some c) (Some≢None c) (new c here) ∙ run.1,
       run_push n p n' p' (Some c) cs chunk (once-rest c cs once) (outside-head c cs once) (outside-rest (Some chunk) c cs new) (new c here) comes run.2,

@@ -1,8 +1,8 @@
 -- Runs of chunks, of which one is taken out or to which one is added.
-use Rattle.std.proofs.Common.{◌≡◌, ◌≢◌, ℕ, ◌+◌, ◌≤◌, suc, true, false, cond, List, [], ◌∷◌, ◌++◌, length, Option, Some, None, refl, sym, ap, ◌∙◌, subst, inl, inr, arith, ◌⊎◌}
-use Rattle.std.proofs.lemmas.Bool.{cases_Bool, both_ways}
+use Rattle.std.proofs.Common.{◌≡◌, ◌≢◌, ◌+◌, ◌≤◌, List, [], ◌∷◌, length, Option, Some, None, refl, sym, ap, ◌∙◌, inl, inr, arith, ◌⊎◌}
+use Rattle.std.proofs.lemmas.Bool.{cases_Bool}
 use Rattle.mc_pages.specs.declared.ids.ChunkId.{ChunkId}
-use Rattle.mc_pages.specs.ClassState.{is_chunk, times, without, with_before}
+use Rattle.mc_pages.specs.ClassState.{is_chunk, times}
 use Rattle.mc_pages.specs.Accounted.{truth}
 use Rattle.mc_pages.specs.Linked.{walk, IsRun}
 use Rattle.mc_pages.proofs.Chunks.{is_chunk-same, same_from_is_chunk, times-cons, times-tail}
@@ -38,11 +38,14 @@ differs a b chunks there absent h = absurd (omega (arith, there, absent, ap (λ 
 pub run_frame : (n p n' p' : Links) (from : Option ChunkId) (chunks : List ChunkId) → n' from ≡ n from → p' None ≡ p None → ((c : ChunkId) → 1 ≤ times c chunks → n' (Some c) ≡ n (Some c)) → ((c : ChunkId) → 1 ≤ times c chunks → p' (Some c) ≡ p (Some c)) → IsRun n p from chunks → IsRun n' p' from chunks
 run_frame n p n' p' from [] first last next previous run = (first ∙ run.0, last ∙ run.1)
 run_frame n p n' p' from (c ∷ cs) first last next previous run =
-    let here : 1 ≤ times c (c ∷ cs) = omega (arith, times-head c cs) in
-    (first ∙ run.0, previous c here ∙ run.1, run_frame n p n' p' (Some c) cs (next c here) last
-    (λ x there. next x (omega (arith, there, times-behind x c cs)))
-    (λ x there. previous x (omega (arith, there, times-behind x c cs)))
-    run.2)
+    let here : 1 ≤ times c (c ∷ cs) = omega (arith, times-head c cs) in (
+      first ∙ run.0,
+      previous c here ∙ run.1,
+      run_frame n p n' p' (Some c) cs (next c here) last
+          (λ x there. next x (omega (arith, there, times-behind x c cs)))
+          (λ x there. previous x (omega (arith, there, times-behind x c cs)))
+          run.2,
+    )
 
 -- what stands before a chunk of a run is a chunk of it, or what it comes from
 pub before_in : (n p : Links) (from : Option ChunkId) (chunks : List ChunkId) (chunk : ChunkId) → IsRun n p from chunks → 1 ≤ times chunk chunks → (p (Some chunk) ≡ from) ⊎ ((c : ChunkId) × (p (Some chunk) ≡ Some c) × (1 ≤ times c chunks))

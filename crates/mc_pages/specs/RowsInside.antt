@@ -1,5 +1,5 @@
 -- The rows as their callers see them.
-use Rattle.std.specs.Prelude.{◌≤◌, length, vec_len}
+use Rattle.std.specs.Prelude.{◌≤◌, vec_len}
 use Rattle.mc_pages.specs.declared.rows.Rows.TheInside.{Inside}
 use Rattle.mc_pages.specs.Rows.{RowsState}
 

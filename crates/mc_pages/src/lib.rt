@@ -18,6 +18,5 @@ pub use ids::{ChunkId, Moving};
 pub use ledger::{Entry, Owner};
 pub use moves::{Found, Reassign};
 pub use numbers::{Numbers, Totals};
-pub use rows::{Change, Field, ListName, Rows};
+pub use rows::{ListName, Rows};
 pub use slabs::{Grow, NoMemory, Slabs};
-pub use writes::Writes;

@@ -1,4 +1,7 @@
 //! The free lists and hand-out orders of all classes, as doubly linked rows.
+//!
+//! Each chunk has a row, whatever class its page is cut for. No call walks but `at`, and none takes memory but `new`.
+//! The links and the prefix of a free chunk stand in the chunk itself in slabs.c; rows beside the pages are own.
 ghost use Rattle.std.specs.Prelude.{◌≡◌, ℕ, ◌+◌, ◌*◌, ◌<◌, ◌≤◌, IfOk, length};
 ghost use Rattle.mc_pages.specs.Rows.{RowsState, IsChange, IsField, IsRow, IsList, field_of, with_change, row_at, row_place, length_of, lengthened, shortened, fresh_rows};
 
@@ -10,12 +13,12 @@ use crate::writes::Writes;
 use std::alloc::{AllocError, Global};
 use std::marker::Model;
 
-/// The chunks beside a chunk in its list. A list has a row of its own: `next` is its head there and `previous` its tail.
+/// The chunks beside a chunk in its list. A list has a row of its own, where `next` is its head and `previous` its tail.
 #[derive(Clone, Copy)]
 pub(crate) struct Row {
     next: Option<ChunkId>,
     previous: Option<ChunkId>,
-    /// The list is a hand-out order.
+    /// The list that the chunk is in, or was in last, is a hand-out order.
     out: bool,
 }
 
@@ -28,9 +31,9 @@ pub enum ListName {
     Out(usize),
 }
 
-/// A field of the rows.
+/// A field of the rows that leads to a chunk.
 #[derive(Clone, Copy, Debug, PartialEq, Eq)]
-pub enum Field {
+pub(crate) enum Field {
     /// The chunk behind this one in its list.
     Next(ChunkId),
     /// The chunk before this one in its list.
@@ -41,16 +44,17 @@ pub enum Field {
     Tail(ListName),
 }
 
-/// What is written.
+/// What is written into a field.
 #[derive(Clone, Copy, Debug, PartialEq, Eq)]
-pub enum Change {
+pub(crate) enum Change {
     /// The chunk to which a field leads.
     Link(Field, Option<ChunkId>),
     /// Whether the chunk is handed out.
     Out(ChunkId, bool),
 }
 
-/// A row for each chunk, and head, tail and length of each list.
+/// A row for each chunk, and head, tail and length of each list. Fields are written one at a time, and contracts count
+/// how often, as `writes`. Lengths aren't counted.
 #[derive(Drop)]
 pub struct Rows {
     /// The most chunks that a page has.
@@ -77,7 +81,12 @@ impl Model for Rows {
 
 impl Rows {
     /// Empty lists for so many classes, and rows for so many pages.
-    pub(crate) fn new(alloc: Global, most: u64, pages: usize, classes: usize) -> Result<Rows, AllocError>
+    pub(crate) fn new(
+        alloc: Global,
+        most: u64,
+        pages: usize,
+        classes: usize,
+    ) -> Result<Rows, AllocError>
         requires most { most ≤ 256 }
         requires pages { pages ≤ 64 }
         ensures { IfOk result (λ rows. rows ≡ fresh_rows most (pages * most) classes) }
@@ -99,7 +108,7 @@ impl Rows {
     }
 
     /// What the field holds.
-    pub(crate) fn get(&self, field: Field) -> Option<ChunkId>
+    fn get(&self, field: Field) -> Option<ChunkId>
         requires { IsField self.now field }
         ensures { result ≡ field_of self.now field }
     {
@@ -114,7 +123,7 @@ impl Rows {
     }
 
     /// Whether the chunk is handed out. It tells nothing of a chunk that is in no list.
-    pub(crate) fn is_out(&self, chunk: ChunkId) -> bool
+    fn is_out(&self, chunk: ChunkId) -> bool
         requires { IsRow self.now chunk }
         ensures { result ≡ (row_at self.now chunk).out }
     {
@@ -122,7 +131,7 @@ impl Rows {
     }
 
     /// Writes a field. No other call does.
-    pub(crate) fn put(&mut self, change: Change)
+    fn put(&mut self, change: Change)
         requires { IsChange self.old change }
         ensures { self.new ≡ with_change self.old change }
     {
@@ -138,8 +147,10 @@ impl Rows {
             }
             Change::Link(Field::Head(ListName::Free(class)), link) => self.free[class].next = link,
             Change::Link(Field::Head(ListName::Out(class)), link) => self.out[class].next = link,
-            Change::Link(Field::Tail(ListName::Free(class)), link) => self.free[class].previous = link,
-            Change::Link(Field::Tail(ListName::Out(class)), link) => self.out[class].previous = link,
+            Change::Link(Field::Tail(ListName::Free(class)), link) => self.free[class].previous =
+                link,
+            Change::Link(Field::Tail(ListName::Out(class)), link) => self.out[class].previous =
+                link,
             Change::Out(chunk, is_out) => {
                 let place = self.place(chunk);
                 self.rows[place].out = is_out;

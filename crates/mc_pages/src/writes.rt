@@ -6,7 +6,7 @@ use std::marker::Model;
 
 /// How many fields of rows were written. It has no bytes and does nothing at run time, so it has no bound.
 #[derive(Drop)]
-pub struct Writes {
+pub(crate) struct Writes {
     pub ghost total: { ℕ },
 }
 

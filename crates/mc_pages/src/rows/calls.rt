@@ -20,12 +20,12 @@ impl Rows {
         ensures popped { HasBecome self.old self.new class popped }
         ensures writes { self.new.writes ≤ self.old.writes + 8 }
     {
-        let Some(chunk) = self.get(Field::Head(ListName::Free(class))) else {
+        let Some(head) = self.get(Field::Head(ListName::Free(class))) else {
             return None;
         };
-        self.unlink(ListName::Free(class), chunk);
-        self.put_last(ListName::Out(class), chunk);
-        Some(chunk)
+        self.unlink(ListName::Free(class), head);
+        self.put_last(ListName::Out(class), head);
+        Some(head)
     }
 
     /// Takes a handed-out chunk to the head of the class's free list.

@@ -10,7 +10,7 @@ use crate::ids::ChunkId;
 
 impl Rows {
     /// Takes a chunk out of its list.
-    pub(crate) fn unlink(&mut self, list: ListName, chunk: ChunkId)
+    pub(super) fn unlink(&mut self, list: ListName, chunk: ChunkId)
         requires linked { AreLinked self.old }
         requires list { IsList self.old list }
         requires there { 1 ≤ times chunk (chunks_of self.old list) }
@@ -26,7 +26,7 @@ impl Rows {
     }
 
     /// Puts a chunk first in a list.
-    pub(crate) fn put_first(&mut self, list: ListName, chunk: ChunkId)
+    pub(super) fn put_first(&mut self, list: ListName, chunk: ChunkId)
         requires linked { AreLinked self.old }
         requires list { IsList self.old list }
         requires row { IsRow self.old chunk }
@@ -42,7 +42,7 @@ impl Rows {
     }
 
     /// Puts a chunk last in a list.
-    pub(crate) fn put_last(&mut self, list: ListName, chunk: ChunkId)
+    pub(super) fn put_last(&mut self, list: ListName, chunk: ChunkId)
         requires linked { AreLinked self.old }
         requires list { IsList self.old list }
         requires row { IsRow self.old chunk }
@@ -58,7 +58,7 @@ impl Rows {
     }
 
     /// Puts a chunk directly before another in a list.
-    pub(crate) fn put_before(&mut self, list: ListName, chunk: ChunkId, old: ChunkId)
+    pub(super) fn put_before(&mut self, list: ListName, chunk: ChunkId, old: ChunkId)
         requires linked { AreLinked self.old }
         requires list { IsList self.old list }
         requires row { IsRow self.old chunk }
@@ -75,7 +75,13 @@ impl Rows {
     }
 
     /// Puts a chunk between two neighbours. None stands for the list's end.
-    fn link(&mut self, list: ListName, before: Option<ChunkId>, chunk: ChunkId, behind: Option<ChunkId>)
+    fn link(
+        &mut self,
+        list: ListName,
+        before: Option<ChunkId>,
+        chunk: ChunkId,
+        behind: Option<ChunkId>,
+    )
         requires list { IsList self.old list }
         requires row { IsRow self.old chunk }
         requires before { IsField self.old (forth list before) }

@@ -1,4 +1,6 @@
 //! The chunks of the classes: handed out, given back, touched, replaced, cleared and cut.
+//!
+//! Each of these six makes one call of [`crate::rows::Rows`], whose contract says that it writes eight fields at most.
 ghost use Rattle.std.specs.Prelude.{◌≡◌, ◌+◌, ◌<◌, ◌≤◌, slice_get, Contains, None, Some};
 ghost use Rattle.std.specs.Option.{option_map};
 ghost use Rattle.mc_pages.specs.ClassState.{first_free, behind};

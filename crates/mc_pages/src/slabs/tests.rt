@@ -221,6 +221,26 @@ fn assert_same_class(rt: &impl Abort, all: &Driven, own: &PlainClass, class: Cla
     assert_eq!(rt; all.order_at(class, own.order.len() as u64), None);
 }
 
+/// A walk along both lists by their first and next chunks finds the same.
+fn assert_same_walks(rt: &impl Abort, all: &Driven, own: &PlainClass, class: ClassId) {
+    assert_eq!(rt; all.first_free(class), own.free.first().copied());
+    for at in 0..own.free.len() {
+        assert_eq!(rt;
+            all.next_free(class, at as u64),
+            own.free.get(at.wrapping_add(1)).copied(),
+            "class {class} behind {at}"
+        );
+    }
+    assert_eq!(rt; all.first_out(class), own.order.first().copied());
+    for at in 0..own.order.len() {
+        assert_eq!(rt;
+            all.next_out(class, at as u64),
+            own.order.get(at.wrapping_add(1)).copied(),
+            "class {class} behind {at}"
+        );
+    }
+}
+
 /// Both have the same lists, owners, entries and numbers.
 fn assert_same(rt: &impl Abort, all: &Driven, plain: &Plain) {
     for (place, own) in plain.classes.iter().enumerate() {
@@ -339,6 +359,30 @@ fn random_calls_leave_what_plain_lists_hold(rt: HostRuntime) -> Result<(), Fail>
         moved = moved.wrapping_add(all.totals().moved);
     }
     assert_eq!(rt; moved > 16, true, "{moved} moves ended");
+    Ok(())
+}
+
+#[test]
+fn rows_are_the_plain_lists(rt: HostRuntime) -> Result<(), Fail> {
+    let table = ClassTable::build(rt.alloc(), &Config { limit: 6144, ..A })?;
+    for seed in 100..108 {
+        let mut random = Random(seed);
+        let mut all = Driven::new(rt.alloc(), &table)?;
+        let mut plain = Plain::new(rt.alloc(), &table)?;
+        for call in 0..400 {
+            if call % 4 == 0 {
+                assert_page_call(&rt, &mut all, &mut plain, &mut random)?;
+            } else {
+                assert_chunk_call(&rt, &mut all, &mut plain, &mut random)?;
+            }
+            for (place, own) in plain.classes.iter().enumerate() {
+                let class = place as u64 + 1;
+                assert_same_class(&rt, &all, own, class);
+                assert_same_walks(&rt, &all, own, class);
+            }
+        }
+        assert_eq!(rt; all.totals().granted > 1, true);
+    }
     Ok(())
 }
 

@@ -5,10 +5,10 @@ ghost use Rattle.mc_pages.specs.SlabState.{IsClass, class_at};
 ghost use Rattle.mc_pages.specs.Accounted.{IsAccounted, places_in};
 ghost use Rattle.mc_pages.specs.Moves.{CanPass, CanWrap, CanFinish, chunk_at_position};
 
+use crate::rows::ListName;
 use crate::{
     ChunkId, Entry, Found, Grow, Moving, NoMemory, Numbers, Owner, Reassign, Slabs, Totals,
 };
-use crate::rows::ListName;
 use mc_classes::{ClassId, ClassTable, PageId};
 use std::alloc::Global;
 
@@ -256,6 +256,42 @@ impl Driven {
         } else {
             None
         }
+    }
+
+    pub(super) fn first_free(&self, class: ClassId) -> Option<ChunkId> {
+        if self.is_class(class) {
+            self.slabs.first_free(class)
+        } else {
+            None
+        }
+    }
+
+    /// The chunk behind the one at this place of the class's free list.
+    #[tactic(auto, using(crate::proofs::Walks::free_there_at))]
+    pub(super) fn next_free(&self, class: ClassId, place: u64) -> Option<ChunkId> {
+        if !self.is_class(class) {
+            return None;
+        }
+        let chunk = self.slabs.free_at(class, place)?;
+        self.slabs.next_free(chunk)
+    }
+
+    pub(super) fn first_out(&self, class: ClassId) -> Option<ChunkId> {
+        if self.is_class(class) {
+            self.slabs.first_out(class)
+        } else {
+            None
+        }
+    }
+
+    /// The chunk behind the one at this place of the class's hand-out order.
+    #[tactic(auto, using(crate::proofs::HandedOut::handed_out_at))]
+    pub(super) fn next_out(&self, class: ClassId, place: u64) -> Option<ChunkId> {
+        if !self.is_class(class) {
+            return None;
+        }
+        let chunk = self.slabs.order_at(class, place)?;
+        self.slabs.next_out(chunk)
     }
 
     pub(super) fn owner(&self, page: PageId) -> Option<Owner> {

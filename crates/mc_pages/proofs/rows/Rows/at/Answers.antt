@@ -1,4 +1,4 @@
-use Rattle.std.proofs.Common.{List, slice_get, arith, sym, ap, ◌∙◌}
+use Rattle.std.proofs.Common.{slice_get, arith, sym, ap, ◌∙◌}
 use Rattle.mc_pages.specs.Linked.{chunks_of}
 use Rattle.mc_pages.proofs.Chunks.{Contains_from_slice_get}
 use Rattle.mc_pages.proofs.ClassRows.{behind_at, none_past}

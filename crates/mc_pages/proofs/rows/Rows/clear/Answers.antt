@@ -1,4 +1,4 @@
-use Rattle.std.proofs.Common.{List, sym, ap, ◌∙◌, arith}
+use Rattle.std.proofs.Common.{List, sym, ap, ◌∙◌}
 use Rattle.mc_pages.specs.declared.ids.ChunkId.{ChunkId}
 use Rattle.mc_pages.specs.declared.rows.ListName.TheVariants.{Free, Out}
 use Rattle.mc_pages.specs.ClassState.{without, cleared}

@@ -1,4 +1,4 @@
-use Rattle.std.proofs.Common.{◌≡◌, [], ◌∷◌, ◌++◌, Some, slice_get, refl, sym, ◌∙◌, arith}
+use Rattle.std.proofs.Common.{[], ◌∷◌, ◌++◌, refl, sym, ◌∙◌, arith}
 use Rattle.mc_pages.specs.declared.rows.ListName.TheVariants.{Free, Out}
 use Rattle.mc_pages.specs.ClassState.{without, popped}
 use Rattle.mc_pages.specs.Linked.{chunks_of}
@@ -8,17 +8,17 @@ use Rattle.mc_pages.proofs.ClassRows.{out≢free, unlisted, length-kept, first_i
 use Rattle.mc_pages.proofs.rows.Rows.pop.Goals as goal
 
 pub unlink-requires-clause-there : goal.unlink-requires-clause-there
-unlink-requires-clause-there c = first_there c.in-Some.chunk (chunks_of c.args.self.now (Free c.args.class)) (sym (first_is c.args.self.now (Free c.args.class) c.requires.linked) ∙ (sym c.get.ensures ∙ c.in-Some.is))
+unlink-requires-clause-there c = first_there c.in-Some.head (chunks_of c.args.self.now (Free c.args.class)) (sym (first_is c.args.self.now (Free c.args.class) c.requires.linked) ∙ (sym c.get.ensures ∙ c.in-Some.is))
 
 pub put_last-requires-clause-row : goal.put_last-requires-clause-row
 put_last-requires-clause-row c =
-    let there = first_there c.in-Some.chunk (chunks_of c.args.self.now (Free c.args.class)) (sym (first_is c.args.self.now (Free c.args.class) c.requires.linked) ∙ (sym c.get.ensures ∙ c.in-Some.is)) in
-    IsRow-sizes c.args.self.now c.unlink.new.self c.in-Some.chunk c.unlink.ensures.sizes (c.requires.linked.placed (Free c.args.class) c.in-Some.chunk there)
+    let there = first_there c.in-Some.head (chunks_of c.args.self.now (Free c.args.class)) (sym (first_is c.args.self.now (Free c.args.class) c.requires.linked) ∙ (sym c.get.ensures ∙ c.in-Some.is)) in
+    IsRow-sizes c.args.self.now c.unlink.new.self c.in-Some.head c.unlink.ensures.sizes (c.requires.linked.placed (Free c.args.class) c.in-Some.head there)
 
 pub put_last-requires-clause-unlisted : goal.put_last-requires-clause-unlisted
 put_last-requires-clause-unlisted c =
-    let there = first_there c.in-Some.chunk (chunks_of c.args.self.now (Free c.args.class)) (sym (first_is c.args.self.now (Free c.args.class) c.requires.linked) ∙ (sym c.get.ensures ∙ c.in-Some.is)) in
-    unlisted c.args.self.now c.unlink.new.self (Free c.args.class) c.in-Some.chunk c.requires.linked there c.unlink.ensures.lists
+    let there = first_there c.in-Some.head (chunks_of c.args.self.now (Free c.args.class)) (sym (first_is c.args.self.now (Free c.args.class) c.requires.linked) ∙ (sym c.get.ensures ∙ c.in-Some.is)) in
+    unlisted c.args.self.now c.unlink.new.self (Free c.args.class) c.in-Some.head c.requires.linked there c.unlink.ensures.lists
 
 pub put_last-requires-clause-below : goal.put_last-requires-clause-below
 put_last-requires-clause-below c =
@@ -30,7 +30,7 @@ returns-clause-chunk c = sym (sym (first_is c.args.self.now (Free c.args.class) 
 pub returns-clause-popped : goal.returns-clause-popped
 returns-clause-popped c =
     let at = sym (first_is c.args.self.now (Free c.args.class) c.requires.linked) ∙ (sym c.get.ensures ∙ c.in-Some.is) in
-    became_then c.args.self.now _ _ c.args.class (λ state. record state { free = without c.in-Some.chunk state.free }) (λ state. record state { order = state.order ++ c.in-Some.chunk ∷ [] }) popped
+    became_then c.args.self.now _ _ c.args.class (λ state. record state { free = without c.in-Some.head state.free }) (λ state. record state { order = state.order ++ c.in-Some.head ∷ [] }) popped
     (became_free c.args.self.now _ c.args.class _ _ c.unlink.ensures.linked c.unlink.ensures.sizes c.unlink.ensures.lists (λ state. refl))
     (became_out _ _ c.args.class _ _ c.put_last.ensures.linked c.put_last.ensures.sizes c.put_last.ensures.lists (λ state. refl))
-    (λ state. popped_some (with_lists state c.args.self.now c.args.class) c.in-Some.chunk at)
+    (λ state. popped_some (with_lists state c.args.self.now c.args.class) c.in-Some.head at)

@@ -1,4 +1,4 @@
-use Rattle.std.proofs.Common.{◌≡◌, ◌≤◌, refl, arith, ap}
+use Rattle.std.proofs.Common.{◌≤◌, refl, arith, ap}
 use Rattle.mc_pages.specs.declared.rows.ListName.TheVariants.{Free, Out}
 use Rattle.mc_pages.specs.ClassState.{times, without, with_before, replaced}
 use Rattle.mc_pages.specs.Linked.{chunks_of}

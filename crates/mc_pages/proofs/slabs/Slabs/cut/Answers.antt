@@ -1,7 +1,7 @@
 use Rattle.std.proofs.Common.{◌≡◌, ℕ, ◌-◌, Option, Some, refl, arith, sym, ap, ap₂, ◌∙◌, subst}
 use Rattle.mc_pages.specs.declared.ids.ChunkId.{ChunkId}
 use Rattle.mc_pages.specs.ClassState.{ClassState, with_cut}
-use Rattle.mc_pages.specs.SlabState.{SlabState, IsClass, class_of_page, class_of_chunk}
+use Rattle.mc_pages.specs.SlabState.{SlabState, IsClass, class_of_page}
 use Rattle.mc_pages.specs.Changes.{next_uncut, after_cut}
 use Rattle.mc_pages.specs.InOrder.{IsInOrder, slabs_of}
 use Rattle.mc_pages.proofs.Kept.{IsInOrder-after_cut}

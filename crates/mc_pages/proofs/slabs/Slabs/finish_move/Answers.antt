@@ -1,8 +1,7 @@
-use Rattle.std.proofs.Common.{◌≡◌, ◌≢◌, ◌+◌, ◌-◌, ◌*◌, ◌≤◌, [], ◌∷◌, ◌++◌, length, vec_len, set, None, refl, sym, ap, ◌∙◌, subst, arith}
+use Rattle.std.proofs.Common.{◌≡◌, ◌≢◌, ◌-◌, [], ◌∷◌, ◌++◌, vec_len, set, None, sym, ap, ◌∙◌, subst, arith}
 use Rattle.mc_pages.specs.declared.ids.Moving.{Moving}
 use Rattle.mc_pages.specs.declared.ledger.Owner.TheVariants.{Pool, Class}
 use Rattle.mc_pages.specs.declared.ledger.Entry.TheVariants.{Ended}
-use Rattle.mc_pages.specs.ClassState.{ClassState, without_page}
 use Rattle.mc_pages.specs.Linked.{sizes_of}
 use Rattle.mc_pages.specs.Room.{states}
 use Rattle.mc_pages.specs.SlabState.{SlabState, IsClass}

@@ -1,4 +1,4 @@
-use Rattle.std.proofs.Common.{ℕ, ◌-◌, length, nat_lt, slice_index_or, ap, ◌∙◌, arith}
+use Rattle.std.proofs.Common.{ℕ, length, nat_lt, slice_index_or, ap, ◌∙◌, arith}
 use Rattle.mc_pages.specs.ClassState.{new_class}
 use Rattle.mc_pages.specs.SlabState.{SlabState, class_at}
 use Rattle.mc_pages.specs.InOrder.{slabs_of}

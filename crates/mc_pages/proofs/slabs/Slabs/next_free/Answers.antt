@@ -1,4 +1,4 @@
-use Rattle.std.proofs.Common.{ℕ, ◌-◌, ◌≤◌, List, Contains, refl, sym, ap, ◌∙◌, subst, arith}
+use Rattle.std.proofs.Common.{ℕ, ◌-◌, List, Contains, sym, ap, ◌∙◌, subst, arith}
 use Rattle.mc_pages.specs.declared.ids.ChunkId.{ChunkId}
 use Rattle.mc_pages.specs.ClassState.{behind}
 use Rattle.mc_pages.specs.SlabState.{SlabState, IsClass, class_of_page, class_of_chunk}

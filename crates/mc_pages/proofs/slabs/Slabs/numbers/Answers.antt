@@ -1,5 +1,4 @@
-use Rattle.std.proofs.Common.{◌≡◌, ℕ, ◌-◌, List, length, refl, sym, ap, ap₂, ◌∙◌, subst, arith}
-use Rattle.mc_pages.specs.declared.ids.ChunkId.{ChunkId}
+use Rattle.std.proofs.Common.{ℕ, ◌-◌, length, refl, sym, ap, ap₂, ◌∙◌, subst, arith}
 use Rattle.mc_pages.specs.declared.numbers.Numbers.{Numbers}
 use Rattle.mc_pages.specs.declared.rows.ListName.TheVariants.{Free}
 use Rattle.mc_pages.specs.ClassState.{ClassState, numbers_of}
