@@ -16,6 +16,7 @@ pub mod ClassCounts
 pub mod KeptTouch
 pub mod KeptBegin
 pub mod HoldLists
+pub mod FoundHolds
 pub mod Appends
 pub mod MoverLists
 pub mod KeptMoverChange

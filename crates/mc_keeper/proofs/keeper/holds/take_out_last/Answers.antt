@@ -2,7 +2,7 @@ use Rattle.std.proofs.Common.{◌≡◌, List, Some, position, reverse, sym, ap,
 use Rattle.std.proofs.lemmas.List.{length-reverse}
 use Rattle.mc_pages.specs.declared.ids.ChunkId.{ChunkId}
 use Rattle.mc_pages.specs.ClassState.{is_chunk}
-use Rattle.mc_pages.proofs.Roomy.{position_is, remove-found, without-not_found}
+use Rattle.mc_keeper.proofs.FoundHolds.{position_is, remove-found, without-not_found}
 use Rattle.mc_keeper.proofs.HoldLists.{reverse-remove}
 use Rattle.mc_keeper.proofs.keeper.holds.take_out_last.Goals as goal
 
