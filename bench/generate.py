@@ -166,7 +166,7 @@ def parser():
     it.add_argument("--automove", type=int, default=0, help="the first line sets this mode of the automover")
     it.add_argument("--windows-every", type=int, default=0, help="every so many lines a window ends")
     it.add_argument("--turn-every", type=int, default=0, help="every so many lines the mover has a turn")
-    it.add_argument("--shift-every", type=int, default=0, help="after so many lines the sizes of so many are of one doubling")
+    it.add_argument("--shift-every", type=int, default=0, help="so many lines have sizes of one doubling, then others")
     return it
 
 
@@ -175,7 +175,8 @@ SCRIPTS = {
     "evictions": "--fill 90 --forget --deletes 0 --overwrites 10 --reads 20",
     "holds-and-drops": "--fill 50 --holds 50 --most-held 2000 --workers 16 --reads 10",
     "moves-with-rescues": "--fill 50 --max-words 63 --moves-every 50 --turns 8 --classes 10 --reads 10",
-    "mode-2-churn": "--fill 80 --forget --deletes 5 --automove 2 --shift-every 3000 --turn-every 10 --windows-every 500",
+    "mode-2-churn": "--fill 80 --forget --deletes 5 --automove 2 --shift-every 3000 --turn-every 10"
+    " --windows-every 500",
 }
 
 

@@ -2,8 +2,9 @@
 
 use std::collections::HashMap;
 
+use crate::chunk::{Chunk, State};
 use crate::script::MOST_WORKER;
-use crate::slabs::{Chunk, Slabs, State};
+use crate::slabs::Slabs;
 
 /// A worker holds at most so many items.
 const MOST_HOLDS: usize = 255;
@@ -35,7 +36,13 @@ pub struct Cache {
 impl Cache {
     pub fn new(slabs: Slabs, automove: u64) -> Cache {
         let holds = vec![Vec::new(); MOST_WORKER as usize + 1];
-        Cache { slabs, index: HashMap::new(), holds, automove, stamps: 0 }
+        Cache {
+            slabs,
+            index: HashMap::new(),
+            holds,
+            automove,
+            stamps: 0,
+        }
     }
 
     pub fn key(&self, chunk: Chunk) -> u64 {
@@ -51,7 +58,11 @@ impl Cache {
     /// Stores `count` words from `base` upward.
     pub fn set(&mut self, key: u64, count: usize, base: u64) -> Result<(), SetRefusal> {
         let bytes = 8 * (ITEM_HEADER + count);
-        let class = self.slabs.table.class_for(bytes).ok_or(SetRefusal::TooLarge)?;
+        let class = self
+            .slabs
+            .table
+            .class_for(bytes)
+            .ok_or(SetRefusal::TooLarge)?;
         let chunk = self.chunk_for(class).ok_or(SetRefusal::NoRoom)?;
         self.delete(key);
         self.stamps += 1;
@@ -88,7 +99,10 @@ impl Cache {
     /// Of the oldest few items the first that nobody holds gives up its chunk.
     fn evict(&mut self, class: usize) -> Option<()> {
         let order = &self.slabs.class(class).order;
-        let place = order.iter().take(EVICTION_TRIES).position(|&chunk| self.slabs.header(chunk).is_idle())?;
+        let place = order
+            .iter()
+            .take(EVICTION_TRIES)
+            .position(|&chunk| self.slabs.header(chunk).is_idle())?;
         let key = self.key(order[place]);
         self.index.remove(&key);
         self.slabs.back_at(class, place);
@@ -112,7 +126,9 @@ impl Cache {
 
     /// The chunk of the worker's last hold of the key. It is to be let go once its words were read.
     pub fn take_hold(&mut self, worker: usize, key: u64) -> Option<Chunk> {
-        let place = self.holds[worker].iter().rposition(|&chunk| self.key(chunk) == key)?;
+        let place = self.holds[worker]
+            .iter()
+            .rposition(|&chunk| self.key(chunk) == key)?;
         Some(self.holds[worker].remove(place))
     }
 
@@ -122,7 +138,9 @@ impl Cache {
     }
 
     pub fn delete(&mut self, key: u64) -> bool {
-        let Some(chunk) = self.index.remove(&key) else { return false };
+        let Some(chunk) = self.index.remove(&key) else {
+            return false;
+        };
         self.slabs.header_mut(chunk).state = State::Unlinked;
         self.count_dead(chunk);
         true
@@ -136,7 +154,9 @@ impl Cache {
     }
 
     pub fn touch(&mut self, key: u64) -> bool {
-        let Some(&chunk) = self.index.get(&key) else { return false };
+        let Some(&chunk) = self.index.get(&key) else {
+            return false;
+        };
         self.slabs.touch(chunk);
         true
     }

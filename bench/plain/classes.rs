@@ -20,7 +20,16 @@ pub struct Config {
 
 impl Default for Config {
     fn default() -> Config {
-        Config { page: 1024, limit: 4096, first: 48, num: 2, den: 1, max: 512, stripes: 4, bulk: 64 }
+        Config {
+            page: 1024,
+            limit: 4096,
+            first: 48,
+            num: 2,
+            den: 1,
+            max: 512,
+            stripes: 4,
+            bulk: 64,
+        }
     }
 }
 
@@ -56,7 +65,16 @@ impl ClassTable {
 }
 
 fn check(config: &Config) -> Result<(), u8> {
-    let Config { page, limit, first, num, den, max, stripes, bulk } = *config;
+    let Config {
+        page,
+        limit,
+        first,
+        num,
+        den,
+        max,
+        stripes,
+        bulk,
+    } = *config;
     let tests = [
         page.is_multiple_of(8) && (64..=16_384).contains(&page),
         (24..=page).contains(&first),

@@ -21,7 +21,9 @@ pub struct Decider {
 
 impl Decider {
     pub fn new(classes: usize) -> Decider {
-        Decider { past: vec![Past::default(); classes] }
+        Decider {
+            past: vec![Past::default(); classes],
+        }
     }
 
     /// Feeds a window. A decision is a source and a destination, 0 being the pool.
@@ -30,7 +32,11 @@ impl Decider {
         for (place, (past, class)) in self.past.iter_mut().zip(classes).enumerate() {
             let quiet = class.evictions == past.evictions && class.pages.len() > 2;
             past.quiet = if quiet { past.quiet + 1 } else { 0 };
-            past.led = if leader == Some(place) { past.led + 1 } else { 0 };
+            past.led = if leader == Some(place) {
+                past.led + 1
+            } else {
+                0
+            };
             past.evictions = class.evictions;
         }
         let source = self.past.iter().position(|past| past.quiet >= WINDOWS);
@@ -43,14 +49,24 @@ impl Decider {
 
     /// The lowest class with the most evictions in this window, if there are any.
     fn leader(&self, classes: &[Class]) -> Option<usize> {
-        let rises = self.past.iter().zip(classes).map(|(past, class)| class.evictions - past.evictions);
-        let (place, most) = rises.enumerate().reduce(|best, next| if next.1 > best.1 { next } else { best })?;
+        let rises = self
+            .past
+            .iter()
+            .zip(classes)
+            .map(|(past, class)| class.evictions - past.evictions);
+        let (place, most) = rises
+            .enumerate()
+            .reduce(|best, next| if next.1 > best.1 { next } else { best })?;
         (most > 0).then_some(place)
     }
 }
 
 /// The lowest class with more than two and a half pages' worth of free chunks gives a page to the pool.
 fn spare(classes: &[Class]) -> Option<(usize, usize)> {
-    let has_spare = |class: &Class| class.pages.len() >= 2 && 2 * class.free.len() > 5 * class.per_page;
-    classes.iter().position(has_spare).map(|place| (place + 1, 0))
+    let has_spare =
+        |class: &Class| class.pages.len() >= 2 && 2 * class.free.len() > 5 * class.per_page;
+    classes
+        .iter()
+        .position(has_spare)
+        .map(|place| (place + 1, 0))
 }

@@ -4,9 +4,11 @@
 //! statuses. `bench/compare` looks for differences.
 
 mod cache;
+mod chunk;
 mod classes;
 mod decider;
 mod mover;
+mod moves;
 mod options;
 mod reply;
 mod script;
@@ -61,7 +63,11 @@ impl Fault {
 fn read_script() -> Result<Vec<u8>, Fault> {
     let mut bytes = Vec::new();
     let most = MOST_BYTES as u64 + 1;
-    io::stdin().lock().take(most).read_to_end(&mut bytes).map_err(|_| Fault::Read)?;
+    io::stdin()
+        .lock()
+        .take(most)
+        .read_to_end(&mut bytes)
+        .map_err(|_| Fault::Read)?;
     if bytes.len() > MOST_BYTES {
         return Err(Fault::TooLong);
     }

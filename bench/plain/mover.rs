@@ -1,7 +1,8 @@
 //! The mover's pass over a page.
 
 use crate::cache::Cache;
-use crate::slabs::{Chunk, Move, State};
+use crate::chunk::{Chunk, State};
+use crate::moves::Move;
 
 #[derive(Clone, Copy, PartialEq, Eq)]
 pub enum Ended {
@@ -22,11 +23,16 @@ pub struct Counts {
 
 /// One turn: up to `bulk` chunks, not past the page's end.
 pub fn turn(cache: &mut Cache, counts: &mut Counts) -> Ended {
-    let Some(mut moving) = cache.slabs.moving else { return Ended::Idle };
+    let Some(mut moving) = cache.slabs.moving else {
+        return Ended::Idle;
+    };
     let per_page = cache.slabs.class(moving.source).per_page;
     let stop = per_page.min(moving.position + cache.slabs.table.bulk);
     while moving.position < stop {
-        let chunk = Chunk { page: moving.page as u32, index: moving.position as u32 };
+        let chunk = Chunk {
+            page: moving.page as u32,
+            index: moving.position as u32,
+        };
         if !pass(cache, chunk, counts) {
             moving.busy += 1;
         }
@@ -38,7 +44,11 @@ pub fn turn(cache: &mut Cache, counts: &mut Counts) -> Ended {
     }
     if moving.position == per_page {
         cache.slabs.totals.busy += moving.busy;
-        moving = Move { position: 0, busy: 0, ..moving };
+        moving = Move {
+            position: 0,
+            busy: 0,
+            ..moving
+        };
     }
     cache.slabs.moving = Some(moving);
     Ended::Went

@@ -20,7 +20,9 @@ impl Options {
                 Some((name, value)) => (name.to_string(), Some(value.to_string())),
                 None => (word, None),
             };
-            let value = value.or_else(|| words.next()).ok_or(format!("{name}: no value"))?;
+            let value = value
+                .or_else(|| words.next())
+                .ok_or(format!("{name}: no value"))?;
             if given.contains(&name) {
                 return Err(format!("{name}: given twice"));
             }

@@ -1,16 +1,40 @@
 //! The script language: commands, a line each.
 
 pub enum Command {
-    Set { key: u64, count: usize, base: u64 },
-    Get { worker: usize, key: u64 },
-    Hold { worker: usize, key: u64 },
-    Drop { worker: usize, key: u64 },
-    Delete { key: u64 },
-    Touch { key: u64 },
-    Reassign { source: Option<u64>, destination: u64 },
-    Automove { mode: u64 },
+    Set {
+        key: u64,
+        count: usize,
+        base: u64,
+    },
+    Get {
+        worker: usize,
+        key: u64,
+    },
+    Hold {
+        worker: usize,
+        key: u64,
+    },
+    Drop {
+        worker: usize,
+        key: u64,
+    },
+    Delete {
+        key: u64,
+    },
+    Touch {
+        key: u64,
+    },
+    Reassign {
+        source: Option<u64>,
+        destination: u64,
+    },
+    Automove {
+        mode: u64,
+    },
     Window,
-    Turn { most: u64 },
+    Turn {
+        most: u64,
+    },
     Stats,
     StatsSlabs,
 }
@@ -24,7 +48,10 @@ const MOST_TURNS: u64 = 1_000_000;
 pub fn read(bytes: &[u8]) -> Result<Vec<Command>, usize> {
     let mut commands = Vec::new();
     for (place, line) in lines(bytes).enumerate() {
-        let words: Vec<&[u8]> = line.split(|&byte| byte == b' ').filter(|word| !word.is_empty()).collect();
+        let words: Vec<&[u8]> = line
+            .split(|&byte| byte == b' ')
+            .filter(|word| !word.is_empty())
+            .collect();
         if words.first().is_some_and(|word| !word.starts_with(b"#")) {
             commands.push(command(&words).ok_or(place + 1)?);
         }
@@ -34,10 +61,12 @@ pub fn read(bytes: &[u8]) -> Result<Vec<Command>, usize> {
 
 /// Lines without their ends, LF or CR LF. The last one may have no end.
 fn lines(bytes: &[u8]) -> impl Iterator<Item = &[u8]> {
-    bytes.split_inclusive(|&byte| byte == b'\n').map(|line| match line {
-        [line @ .., b'\r', b'\n'] | [line @ .., b'\n'] => line,
-        _ => line,
-    })
+    bytes
+        .split_inclusive(|&byte| byte == b'\n')
+        .map(|line| match line {
+            [line @ .., b'\r', b'\n'] | [line @ .., b'\n'] => line,
+            _ => line,
+        })
 }
 
 fn command(words: &[&[u8]]) -> Option<Command> {
@@ -45,16 +74,31 @@ fn command(words: &[&[u8]]) -> Option<Command> {
         [worker, b"set", key, count, base] => {
             in_range(worker, 1, MOST_WORKER)?;
             let count = in_range(count, 0, MOST_WORDS)? as usize;
-            Command::Set { key: number(key)?, count, base: number(base)? }
+            Command::Set {
+                key: number(key)?,
+                count,
+                base: number(base)?,
+            }
         }
         [b"reassign", source, destination] => {
-            let source = if source == b"-1" { None } else { Some(number(source)?) };
-            Command::Reassign { source, destination: number(destination)? }
+            let source = if source == b"-1" {
+                None
+            } else {
+                Some(number(source)?)
+            };
+            Command::Reassign {
+                source,
+                destination: number(destination)?,
+            }
         }
         [worker, verb, key] => of_worker(worker, verb, key)?,
-        [b"automove", mode] => Command::Automove { mode: in_range(mode, 0, 2)? },
+        [b"automove", mode] => Command::Automove {
+            mode: in_range(mode, 0, 2)?,
+        },
         [b"window"] => Command::Window,
-        [b"turn", most] => Command::Turn { most: in_range(most, 1, MOST_TURNS)? },
+        [b"turn", most] => Command::Turn {
+            most: in_range(most, 1, MOST_TURNS)?,
+        },
         [b"stats"] => Command::Stats,
         [b"stats", b"slabs"] => Command::StatsSlabs,
         _ => return None,

@@ -4,10 +4,11 @@ use crate::cache::{Cache, GetRefusal, SetRefusal};
 use crate::classes::ClassTable;
 use crate::decider::Decider;
 use crate::mover::{self, Counts, Ended};
+use crate::moves::Refusal;
 use crate::options::Options;
 use crate::reply;
 use crate::script::Command;
-use crate::slabs::{Refusal, Slabs};
+use crate::slabs::Slabs;
 
 /// The turns of a run.
 const MOST_TURNS: u64 = 1_000_000;
@@ -24,19 +25,28 @@ pub struct Server {
 impl Server {
     pub fn new(table: ClassTable, options: &Options) -> Server {
         let decider = Decider::new(table.sizes.len());
-        Server { cache: Cache::new(Slabs::new(table), options.automove), decider, turns: 0 }
+        Server {
+            cache: Cache::new(Slabs::new(table), options.automove),
+            decider,
+            turns: 0,
+        }
     }
 
     /// Does a command and adds its reply.
     pub fn serve(&mut self, command: &Command, reply: &mut Vec<u8>) -> Result<(), TurnsAreUp> {
         match *command {
-            Command::Set { key, count, base } => reply::line(reply, self.set(key, count, base), &[key]),
+            Command::Set { key, count, base } => {
+                reply::line(reply, self.set(key, count, base), &[key])
+            }
             Command::Get { worker, key } => self.get(worker, key, reply),
             Command::Hold { worker, key } => reply::line(reply, self.hold(worker, key), &[key]),
             Command::Drop { worker, key } => self.let_go(worker, key, reply),
             Command::Delete { key } => found(reply, self.cache.delete(key), "DELETED", key),
             Command::Touch { key } => found(reply, self.cache.touch(key), "TOUCHED", key),
-            Command::Reassign { source, destination } => {
+            Command::Reassign {
+                source,
+                destination,
+            } => {
                 reply::line(reply, self.reassign(source, destination), &[]);
             }
             Command::Automove { mode } => {
@@ -102,7 +112,9 @@ impl Server {
             Some((source, destination)) => {
                 let (source, destination) = (source as u64, destination as u64);
                 let answer = self.reassign(Some(source), destination);
-                reply.extend_from_slice(format!("WINDOW {source} {destination} {answer}\r\n").as_bytes());
+                reply.extend_from_slice(
+                    format!("WINDOW {source} {destination} {answer}\r\n").as_bytes(),
+                );
             }
         }
     }
@@ -126,7 +138,12 @@ impl Server {
             Ended::Went => "TURN WENT",
             Ended::Finished => "TURN FINISHED",
         };
-        let Counts { cleared, rescued, evicted, busy } = counts;
+        let Counts {
+            cleared,
+            rescued,
+            evicted,
+            busy,
+        } = counts;
         reply::line(reply, word, &[cleared, rescued, evicted, busy, 0]);
         Ok(())
     }
@@ -134,10 +151,18 @@ impl Server {
     fn stats(&self, reply: &mut Vec<u8>) {
         let slabs = &self.cache.slabs;
         reply::stat(reply, "slab_global_page_pool", slabs.pool.len() as u64);
-        reply::stat(reply, "slab_reassign_running", u64::from(slabs.moving.is_some()));
+        reply::stat(
+            reply,
+            "slab_reassign_running",
+            u64::from(slabs.moving.is_some()),
+        );
         reply::stat(reply, "slabs_moved", slabs.totals.moved);
         reply::stat(reply, "slab_reassign_rescues", slabs.totals.rescues);
-        reply::stat(reply, "slab_reassign_evictions_nomem", slabs.totals.evictions);
+        reply::stat(
+            reply,
+            "slab_reassign_evictions_nomem",
+            slabs.totals.evictions,
+        );
         reply::stat(reply, "slab_reassign_busy_items", slabs.totals.busy);
         reply::line(reply, "END", &[]);
     }
@@ -146,7 +171,12 @@ impl Server {
         self.cache.slabs.sweep_all();
         let slabs = &self.cache.slabs;
         let mut active = 0;
-        for (place, class) in slabs.classes().iter().enumerate().filter(|(_, class)| !class.pages.is_empty()) {
+        for (place, class) in slabs
+            .classes()
+            .iter()
+            .enumerate()
+            .filter(|(_, class)| !class.pages.is_empty())
+        {
             let total = class.pages.len() * class.per_page;
             let id = place + 1;
             reply::class_stat(reply, id, "chunk_size", class.size as u64);
@@ -158,7 +188,11 @@ impl Server {
             active += 1;
         }
         reply::stat(reply, "active_slabs", active);
-        reply::stat(reply, "total_malloced", (slabs.granted() * slabs.table.page) as u64);
+        reply::stat(
+            reply,
+            "total_malloced",
+            (slabs.granted() * slabs.table.page) as u64,
+        );
         reply::line(reply, "END", &[]);
     }
 }

@@ -1,49 +1,10 @@
-//! Pages, chunks and size classes: free lists, hand-out orders, the page pool, and moves of pages.
+//! Pages and size classes: free lists, hand-out orders and the page pool.
 
 use std::collections::VecDeque;
 
+use crate::chunk::{Chunk, Header, Page, State};
 use crate::classes::ClassTable;
-
-#[derive(Clone, Copy, PartialEq, Eq)]
-pub struct Chunk {
-    pub page: u32,
-    pub index: u32,
-}
-
-#[derive(Clone, Copy, PartialEq, Eq)]
-pub enum State {
-    /// In no list: cleared away while its page moves.
-    Cleared,
-    Free,
-    Linked,
-    /// Handed out, and no key leads to it.
-    Unlinked,
-}
-
-#[derive(Clone, Copy)]
-pub struct Header {
-    pub state: State,
-    /// Holds of all workers.
-    pub holds: u32,
-}
-
-impl Header {
-    pub fn is_dead(self) -> bool {
-        self.state == State::Unlinked && self.holds == 0
-    }
-
-    pub fn is_idle(self) -> bool {
-        self.state == State::Linked && self.holds == 0
-    }
-}
-
-/// The memory of a page. An item is its key, a stamp, its length in words, and the words.
-#[derive(Default)]
-pub struct Page {
-    pub class: usize,
-    headers: Vec<Header>,
-    words: Vec<u64>,
-}
+use crate::moves::Move;
 
 pub struct Class {
     /// Bytes of a chunk.
@@ -58,26 +19,6 @@ pub struct Class {
     /// Dead chunks of the hand-out order.
     pub dead: usize,
     pub evictions: u64,
-}
-
-/// A page on its way from one class to another, or to the pool where `destination` is 0.
-#[derive(Clone, Copy)]
-pub struct Move {
-    pub page: usize,
-    pub source: usize,
-    pub destination: usize,
-    /// Chunks that this pass has looked at.
-    pub position: usize,
-    /// Chunks that held up this pass.
-    pub busy: u64,
-}
-
-/// Why no move begins.
-pub enum Refusal {
-    Busy,
-    Same,
-    BadClass,
-    NoSpare,
 }
 
 #[derive(Default)]
@@ -96,7 +37,7 @@ pub struct Slabs {
     pub pool: Vec<usize>,
     pub moving: Option<Move>,
     /// The class that the last pick stopped at.
-    cursor: usize,
+    pub cursor: usize,
     pub totals: Totals,
 }
 
@@ -114,7 +55,15 @@ impl Slabs {
         let classes: Vec<Class> = table.sizes.iter().map(class).collect();
         let cursor = classes.len();
         let (pages, pool) = (Vec::new(), Vec::new());
-        Slabs { table, classes, pages, pool, moving: None, cursor, totals: Totals::default() }
+        Slabs {
+            table,
+            classes,
+            pages,
+            pool,
+            moving: None,
+            cursor,
+            totals: Totals::default(),
+        }
     }
 
     pub fn classes(&self) -> &[Class] {
@@ -170,13 +119,18 @@ impl Slabs {
         let own = self.class_mut(class);
         let chunk = own.free.pop()?;
         own.order.push_back(chunk);
-        *self.header_mut(chunk) = Header { state: State::Unlinked, holds: 0 };
+        *self.header_mut(chunk) = Header {
+            state: State::Unlinked,
+            holds: 0,
+        };
         Some(chunk)
     }
 
     /// Puts back the dead chunks of a class, oldest first.
     pub fn sweep(&mut self, class: usize) {
-        let Class { free, order, dead, .. } = &mut self.classes[class - 1];
+        let Class {
+            free, order, dead, ..
+        } = &mut self.classes[class - 1];
         if *dead == 0 {
             return;
         }
@@ -204,7 +158,10 @@ impl Slabs {
         let page = match self.pool.pop() {
             Some(page) => page,
             None if self.pages.len() < self.table.pages => {
-                self.pages.push(Page { words: vec![0; self.table.page / 8], ..Page::default() });
+                self.pages.push(Page {
+                    words: vec![0; self.table.page / 8],
+                    ..Page::default()
+                });
                 self.pages.len() - 1
             }
             None => return false,
@@ -214,13 +171,22 @@ impl Slabs {
     }
 
     /// The page joins the class, and its chunks the free list. The last one is handed out first.
-    fn cut(&mut self, page: usize, class: usize) {
+    pub fn cut(&mut self, page: usize, class: usize) {
         let own = &mut self.classes[class - 1];
         own.pages.push(page);
-        own.free.extend((0..own.per_page).map(|index| Chunk { page: page as u32, index: index as u32 }));
+        own.free.extend((0..own.per_page).map(|index| Chunk {
+            page: page as u32,
+            index: index as u32,
+        }));
         self.pages[page].class = class;
         self.pages[page].headers.clear();
-        self.pages[page].headers.resize(own.per_page, Header { state: State::Free, holds: 0 });
+        self.pages[page].headers.resize(
+            own.per_page,
+            Header {
+                state: State::Free,
+                holds: 0,
+            },
+        );
     }
 
     /// Puts back the handed-out chunk at this place of the hand-out order.
@@ -234,7 +200,10 @@ impl Slabs {
 
     /// Where a handed-out chunk stands in the hand-out order.
     fn place(&self, chunk: Chunk) -> Option<usize> {
-        self.class(self.class_of(chunk)).order.iter().position(|&other| other == chunk)
+        self.class(self.class_of(chunk))
+            .order
+            .iter()
+            .position(|&other| other == chunk)
     }
 
     /// The chunk becomes the youngest of the hand-out order.
@@ -266,56 +235,11 @@ impl Slabs {
         let found = own.free.iter().rposition(|other| other.page != old.page)?;
         let new = own.free.remove(found);
         own.order[place] = new;
-        *self.header_mut(new) = Header { state: State::Linked, holds: 0 };
+        *self.header_mut(new) = Header {
+            state: State::Linked,
+            holds: 0,
+        };
         self.header_mut(old).state = State::Cleared;
         Some(new)
-    }
-
-    /// The first page of the source begins to move. Without a source the pick finds one.
-    pub fn begin_move(&mut self, source: Option<u64>, destination: u64) -> Result<(), Refusal> {
-        if self.moving.is_some() {
-            return Err(Refusal::Busy);
-        }
-        if source == Some(destination) {
-            return Err(Refusal::Same);
-        }
-        let count = self.classes.len() as u64;
-        let from = match source {
-            Some(source) => source,
-            None => self.pick(destination).ok_or(Refusal::BadClass)? as u64,
-        };
-        if from == 0 || from > count || destination > count {
-            return Err(Refusal::BadClass);
-        }
-        let (from, destination) = (from as usize, destination as usize);
-        if self.class(from).pages.len() < 2 {
-            return Err(Refusal::NoSpare);
-        }
-        if source.is_none() {
-            self.cursor = from;
-        }
-        let page = self.class(from).pages[0];
-        self.moving = Some(Move { page, source: from, destination, position: 0, busy: 0 });
-        Ok(())
-    }
-
-    /// The first class behind the cursor, the destination left out, with more than one page.
-    fn pick(&self, destination: u64) -> Option<usize> {
-        let count = self.classes.len();
-        let tries = (0..count).map(|step| (self.cursor + step) % count + 1);
-        let mut others = tries.filter(|&class| class as u64 != destination);
-        others.find(|&class| self.class(class).pages.len() > 1)
-    }
-
-    /// The moving page, all of it cleared, comes to its destination.
-    pub fn finish_move(&mut self, ending: Move) {
-        self.class_mut(ending.source).pages.retain(|&page| page != ending.page);
-        if ending.destination == 0 {
-            self.pool.push(ending.page);
-        } else {
-            self.cut(ending.page, ending.destination);
-        }
-        self.moving = None;
-        self.totals.moved += 1;
     }
 }
