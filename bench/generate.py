@@ -1,9 +1,13 @@
 #!/usr/bin/env python3
-"""Writes a script for mcslab, just under its limit of 1,048,576 bytes: sets, deletes and `stats slabs`, and with
-`--reads`, `--holds` and `--moves-every` also gets, touches, holds and drops, and pages that move.
+"""Writes a script for mcslab, just under its limit of 1,048,576 bytes: sets, deletes and `stats slabs`, and by its
+options also gets, touches, holds and drops, pages that move, and windows of the automover.
 
-The same options give the same bytes, with any version of Python 3. The live items are kept near `--fill` of the
-memory of the largest configuration (CONFIGURATION below); above 100 the program evicts.
+    bench/generate.py NAME
+    bench/generate.py [options]
+
+A name is one of `bench/run`: evictions, holds-and-drops, moves-with-rescues, mode-2-churn. The same options give the
+same bytes, with any version of Python 3. The live items are kept near `--fill` of the memory of the largest
+configuration (CONFIGURATION below); above 100 the program evicts.
 """
 import argparse
 import sys
@@ -44,23 +48,26 @@ class Script:
         self.bytes = 0
         self.held = []
 
-    def words(self):
-        """So many words: each doubling of the size up to the largest is as likely as any other."""
+    def words(self, count):
+        """So many words: each doubling of the size up to the largest is as likely as any other. With `--shift-every`
+        one doubling gives the sizes of so many lines, and then another, behind as many lines with all sizes."""
         doublings = (self.options.max_words + 1).bit_length()
-        low = 2 ** self.numbers.below(doublings) - 1
+        shift = self.options.shift_every
+        shifts = shift and count >= shift
+        doubling = Numbers(count // shift).below(doublings) if shifts else self.numbers.below(doublings)
+        low = 2**doubling - 1
         return min(low + self.numbers.below(low + 1), self.options.max_words)
 
     def live_key(self):
         return self.keys[self.numbers.below(len(self.keys))]
 
-    def set(self, key):
-        words = self.words()
+    def set(self, key, count):
+        words = self.words(count)
         if key not in self.words_of:
             self.keys.append(key)
         self.bytes += item_bytes(words) - item_bytes(self.words_of[key]) if key in self.words_of else item_bytes(words)
         self.words_of[key] = words
-        worker = 1 + self.numbers.below(self.options.workers)
-        return f"{worker} set {key} {words} {self.numbers.below(1000)}"
+        return f"{self.worker()} set {key} {words} {self.numbers.below(1000)}"
 
     def delete(self):
         place = self.numbers.below(len(self.keys))
@@ -68,8 +75,12 @@ class Script:
         self.keys[place] = self.keys[-1]
         self.keys.pop()
         self.bytes -= item_bytes(self.words_of.pop(key))
-        worker = 1 + self.numbers.below(self.options.workers)
-        return f"{worker} del {key}"
+        return f"{self.worker()} del {key}"
+
+    def forget(self):
+        """The oldest keys, as many as are too much for the memory: the program has evicted such ones."""
+        while self.bytes > self.target:
+            self.bytes -= item_bytes(self.words_of.pop(self.keys.pop(0)))
 
     def worker(self):
         return 1 + self.numbers.below(self.options.workers)
@@ -86,13 +97,28 @@ class Script:
         verb = "get" if self.numbers.below(2) else "touch"
         return f"{self.worker()} {verb} {self.live_key()}"
 
-    def line(self, count):
+    def regular(self, count):
+        """The line that comes every so many lines, if one is due."""
+        if count == 0 and self.options.automove:
+            return f"automove {self.options.automove}"
         if count % self.options.stats_every == self.options.stats_every - 1:
             return "stats slabs"
+        if self.options.windows_every and count % self.options.windows_every == self.options.windows_every - 2:
+            return "window"
+        if self.options.turn_every and count % self.options.turn_every == 0:
+            return "turn 1"
         if self.options.moves_every and count % self.options.moves_every == 0:
             return f"reassign -1 {1 + self.numbers.below(self.options.classes)}"
         if self.options.moves_every and count % self.options.moves_every <= self.options.turns:
             return "turn 1"
+        return None
+
+    def line(self, count):
+        regular = self.regular(count)
+        if regular:
+            return regular
+        if self.options.forget:
+            self.forget()
         if self.options.reads or self.options.holds:
             drawn = self.numbers.below(100)
             if drawn < self.options.reads and self.keys:
@@ -105,8 +131,8 @@ class Script:
         if drawn < self.options.deletes and self.keys:
             return self.delete()
         if drawn < self.options.deletes + self.options.overwrites and self.keys:
-            return self.set(self.live_key())
-        return self.set(self.numbers.below(self.options.keys))
+            return self.set(self.live_key(), count)
+        return self.set(self.numbers.below(self.options.keys), count)
 
 
 def script(options):
@@ -136,8 +162,58 @@ def parser():
     it.add_argument("--turns", type=int, default=8, help="so many turns of the mover behind each")
     it.add_argument("--classes", type=int, default=25, help="pages move to one of so many classes")
     it.add_argument("--workers", type=int, default=4, help="workers 1 to this")
+    it.add_argument("--forget", action="store_true", help="past the fill, forget the oldest keys and delete none")
+    it.add_argument("--automove", type=int, default=0, help="the first line sets this mode of the automover")
+    it.add_argument("--windows-every", type=int, default=0, help="every so many lines a window ends")
+    it.add_argument("--turn-every", type=int, default=0, help="every so many lines the mover has a turn")
+    it.add_argument("--shift-every", type=int, default=0, help="so many lines have sizes of one doubling, then others")
     return it
 
 
+# The scripts that bench/run names: options of the parser above.
+SCRIPTS = {
+    "evictions": "--fill 90 --forget --deletes 0 --overwrites 10 --reads 20",
+    "holds-and-drops": "--fill 50 --holds 50 --most-held 2000 --workers 16 --reads 10",
+    "moves-with-rescues": "--fill 50 --max-words 63 --moves-every 50 --turns 8 --classes 10 --reads 10",
+    "mode-2-churn": "--fill 80 --forget --deletes 5 --automove 2 --shift-every 3000 --turn-every 10"
+    " --windows-every 500",
+}
+
+
+def named(name, most_bytes=MOST_BYTES):
+    """The script of this name, of at most so many bytes."""
+    return script(parser().parse_args([*SCRIPTS[name].split(), "--bytes", str(most_bytes)]))
+
+
+# Items of 64 bytes, one class, as many chunks as a page may have: what a line of each kind costs by the live items.
+LINE_KINDS = {
+    "get": lambda key, live: f"1 get {key % live}",
+    "touch": lambda key, live: f"1 touch {key % live}",
+    "set that evicts": lambda key, live: f"1 set {live + key} 5 {key % 1000}",
+    "del and set": lambda key, live: f"1 del {key % live}\n1 set {key % live} 5 {key % 1000}",
+}
+
+
+def one_class(live):
+    """A configuration with room for so many items of 64 bytes, a multiple of 256, and no more."""
+    sizes = ["--page", str(PAGE), "--first", "64", "--factor", "2/1", "--max", "64"]
+    return [*sizes, "--limit", str(PAGE * live // 256)]
+
+
+def fill(live):
+    """So many items, which take all memory."""
+    return "".join(f"1 set {key} 5 {key % 1000}\n" for key in range(live))
+
+
+def lines_of(kind, live, count):
+    """So many lines of a kind, or pairs of lines, over drawn keys; the sets that evict have new keys."""
+    numbers = Numbers(1)
+    keys = (number if kind == "set that evicts" else numbers.below(live) for number in range(count))
+    return "".join(LINE_KINDS[kind](key, live) + "\n" for key in keys)
+
+
 if __name__ == "__main__":
-    sys.stdout.write(script(parser().parse_args()))
+    if sys.argv[1:] and sys.argv[1] in SCRIPTS:
+        sys.stdout.write(named(sys.argv[1]))
+    else:
+        sys.stdout.write(script(parser().parse_args()))
