@@ -1,0 +1,6 @@
+pub mod Entries
+pub mod History
+pub mod StripeState
+pub mod Changes
+pub mod Legal
+pub mod InOrder
