@@ -107,7 +107,6 @@ module _ {X : Type 0} where
   at_by_key [] q = refl
   at_by_key (entry ∷ entries) q = at_with_entry (by_key entries) entry.0 entry.1 q ∙ ap (λ (o : Option X). cond (nat_eq q entry.0) (Some entry.1) o) (at_by_key entries q)
 
-  -- no key of these is above a key below all of those, if both lead to the same
   not_missing : (value : X) → Some value ≡ None → ⊥
   not_missing value is = cc
 

@@ -1,1 +1,6 @@
 pub mod Entries
+pub mod Tables
+pub mod Histories
+pub mod Stamps
+pub mod Kept
+pub mod Pushed

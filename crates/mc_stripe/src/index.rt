@@ -1,6 +1,7 @@
 //! The table from keys to chunks and stamps. Contracts see its entries by rising key.
 ghost use Rattle.std.specs.Prelude.{◌≡◌, ◌+◌, ◌<◌, ◌≤◌, OnOk, IsOk};
 ghost use Rattle.std.specs.HashMap.{spare};
+ghost use Rattle.std.specs.Option.{option_map};
 ghost use Rattle.mc_stripe.specs.Entries.{by_key, entry_at, with_entry, without_entry};
 
 use crate::history::{Key, Stamp};
@@ -16,6 +17,13 @@ pub(crate) fn place_in(index: &Index, key: Key) -> Option<(ChunkId, Stamp)>
     ensures { result ≡ entry_at (by_key index.now.entries) key }
 {
     index.get(&key).copied()
+}
+
+/// The key's stamp.
+pub(crate) fn stamp_in(index: &Index, key: Key) -> Option<Stamp>
+    ensures { result ≡ option_map (λ place. place.1) (entry_at (by_key index.now.entries) key) }
+{
+    place_in(index, key).map(|place| place.1)
 }
 
 /// Makes room for one more key.
@@ -45,4 +53,13 @@ pub(crate) fn take(index: &mut Index, key: Key) -> Option<(ChunkId, Stamp)>
     ensures kept { spare index.old ≤ spare index.new }
 {
     index.remove(&key)
+}
+
+/// Takes the key's entry out of the table, if it is there.
+pub(crate) fn take_entry(index: &mut Index, key: Key) -> Option<(Key, (ChunkId, Stamp))>
+    ensures entry { result ≡ option_map (λ place. (key, place)) (entry_at (by_key index.old.entries) key) }
+    ensures entries { by_key index.new.entries ≡ without_entry (by_key index.old.entries) key }
+    ensures kept { spare index.old ≤ spare index.new }
+{
+    take(index, key).map(|place| (key, place))
 }

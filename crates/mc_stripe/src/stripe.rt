@@ -113,7 +113,7 @@ impl Stripe {
         ensures told { self.new ≡ used_up (after_got self.old.state hand key) }
         ensures legal { IsLegal self.new.state }
     {
-        let stamp = index::place_in(&self.index, key).map(|place| place.1);
+        let stamp = index::stamp_in(&self.index, key);
         self.history.push(Call::Get(hand, key, stamp)).unwrap();
         self.ready = false;
     }
@@ -137,7 +137,7 @@ impl Stripe {
         ensures lifted { self.new ≡ record self.old { state = after_lift self.old.state key } }
         ensures legal { IsLegal self.new.state }
     {
-        self.aside = index::take(&mut self.index, key).map(|place| (key, place));
+        self.aside = index::take_entry(&mut self.index, key);
     }
 
     /// The entry aside comes back, in another chunk and with the stamp that it had. (slabs.c's `slab_rebalance_move`)

@@ -1,12 +1,13 @@
-use Rattle.std.proofs.Common.{◌≡◌, ℕ, nat_eq, cond, Option, Some, sym, ap, ◌∙◌}
-use Rattle.mc_pages.specs.declared.ids.ChunkId.{ChunkId}
-use Rattle.mc_stripe.specs.Entries.{entry_at, with_entry, by_key}
-use Rattle.mc_stripe.proofs.Entries.{at_with_entry, rising_with_entry, rising_by_key, at_by_key, one_list}
+use Rattle.std.proofs.Common.{◌≡◌, Result, Ok, Err, OnOk}
+use Rattle.mc_stripe.proofs.Tables.{by_key_put}
 use Rattle.mc_stripe.proofs.index.put.Goals as goal
+
+-- what is so at an Ok
+at_ok : {T E : Type 0} (result : Result T E) (value : T) (P : Type 0) → result ≡ Ok value → OnOk result P → P
+at_ok (Ok _) value P is holds = holds
+at_ok (Err _) value P is holds = absurd cc
 
 pub returns : goal.returns
 returns c =
-    let old = c.args.index.now.entries in
-    let new = c.insert-put.new.self.entries in
-    one_list (by_key new) (with_entry (by_key old) c.args.key c.args.place) (rising_by_key new) (rising_with_entry _ _ _ (rising_by_key old))
-    (λ q. ?)
+    by_key_put c.args.index.now.entries c.insert-put.new.self.entries c.args.key c.args.place
+    (λ q. (at_ok c.insert-put.result _ _ c.unwrap.ensures c.insert-put.ensures.updates).0 q)
