@@ -41,13 +41,13 @@ module _ {X : Type 0} where
   at_with_entry [] key value q = refl
   at_with_entry (entry ∷ entries) key value q =
       by_order key entry.0
-        (λ below _. rw below refl)
-        (λ above equal is. by_equal q entry.0
-          (λ here _. rw (above, equal, is, here) refl)
-          (λ apart _. rw (above, equal, is, apart) refl))
-        (λ above apart more. by_equal q entry.0
-          (λ here at. rw (above, apart, not_both q key entry.0 (omega arith) at, here) refl)
-          (λ other _. rw (above, apart, other) (at_with_entry entries key value q)))
+      (λ below _. rw below refl)
+      (λ above equal is. by_equal q entry.0
+      (λ here _. rw (above, equal, is, here) refl)
+      (λ apart _. rw (above, equal, is, apart) refl))
+      (λ above apart more. by_equal q entry.0
+      (λ here at. rw (above, apart, not_both q key entry.0 (omega arith) at, here) refl)
+      (λ other _. rw (above, apart, other) (at_with_entry entries key value q)))
 
   pub below_further : (low key : ℕ) (entries : List (ℕ × X)) → low < key → IsBelow key entries → IsBelow low entries
   below_further low key [] less below = tt
@@ -57,31 +57,31 @@ module _ {X : Type 0} where
   below_with_entry low key value [] less below = (less, tt)
   below_with_entry low key value (entry ∷ entries) less below =
       by_order key entry.0
-        (λ before _. rw before (less, below))
-        (λ not_before equal is. rw (not_before, equal) below)
-        (λ not_before apart more. rw (not_before, apart) (below.0, below_with_entry low key value entries less below.1))
+      (λ before _. rw before (less, below))
+      (λ not_before equal is. rw (not_before, equal) below)
+      (λ not_before apart more. rw (not_before, apart) (below.0, below_with_entry low key value entries less below.1))
 
   pub rising_with_entry : (entries : List (ℕ × X)) (key : ℕ) (value : X) → AreRising entries → AreRising (with_entry entries key value)
   rising_with_entry [] key value rising = (tt, tt)
   rising_with_entry (entry ∷ entries) key value rising =
       by_order key entry.0
-        (λ before less. rw before ((less, below_further key entry.0 entries less rising.0), rising))
-        (λ not_before equal is. rw (not_before, equal) rising)
-        (λ not_before apart more. rw (not_before, apart) (below_with_entry entry.0 key value entries more rising.0, rising_with_entry entries key value rising.1))
+      (λ before less. rw before ((less, below_further key entry.0 entries less rising.0), rising))
+      (λ not_before equal is. rw (not_before, equal) rising)
+      (λ not_before apart more. rw (not_before, apart) (below_with_entry entry.0 key value entries more rising.0, rising_with_entry entries key value rising.1))
 
   pub below_without_entry : (low key : ℕ) (entries : List (ℕ × X)) → IsBelow low entries → IsBelow low (without_entry entries key)
   below_without_entry low key [] below = tt
   below_without_entry low key (entry ∷ entries) below =
       by_equal key entry.0
-        (λ here _. rw here below.1)
-        (λ apart _. rw apart (below.0, below_without_entry low key entries below.1))
+      (λ here _. rw here below.1)
+      (λ apart _. rw apart (below.0, below_without_entry low key entries below.1))
 
   pub rising_without_entry : (entries : List (ℕ × X)) (key : ℕ) → AreRising entries → AreRising (without_entry entries key)
   rising_without_entry [] key rising = tt
   rising_without_entry (entry ∷ entries) key rising =
       by_equal key entry.0
-        (λ here _. rw here rising.1)
-        (λ apart _. rw apart (below_without_entry entry.0 key entries rising.0, rising_without_entry entries key rising.1))
+      (λ here _. rw here rising.1)
+      (λ apart _. rw apart (below_without_entry entry.0 key entries rising.0, rising_without_entry entries key rising.1))
 
   -- a key below all leads nowhere
   pub none_below : (key : ℕ) (entries : List (ℕ × X)) → IsBelow key entries → entry_at entries key ≡ None
@@ -92,12 +92,12 @@ module _ {X : Type 0} where
   at_without_entry [] key q rising = by_equal q key (λ here _. rw here refl) (λ apart _. rw apart refl)
   at_without_entry (entry ∷ entries) key q rising =
       by_equal key entry.0
-        (λ here is. by_equal q entry.0
-          (λ there at. rw (here, is, there) (none_below q entries (subst (λ (k : ℕ). IsBelow k entries) (sym at) rising.0)))
-          (λ apart _. rw (here, is, apart) refl))
-        (λ apart other. by_equal q entry.0
-          (λ there at. rw (apart, there, not_both q key entry.0 other at) refl)
-          (λ elsewhere _. rw (apart, elsewhere) (at_without_entry entries key q rising.1)))
+      (λ here is. by_equal q entry.0
+      (λ there at. rw (here, is, there) (none_below q entries (subst (λ (k : ℕ). IsBelow k entries) (sym at) rising.0)))
+      (λ apart _. rw (here, is, apart) refl))
+      (λ apart other. by_equal q entry.0
+      (λ there at. rw (apart, there, not_both q key entry.0 other at) refl)
+      (λ elsewhere _. rw (apart, elsewhere) (at_without_entry entries key q rising.1)))
 
   pub rising_by_key : (entries : List (ℕ × X)) → AreRising (by_key entries)
   rising_by_key [] = tt
@@ -120,12 +120,12 @@ module _ {X : Type 0} where
   one_list (entry ∷ entries) (other ∷ others) rising rising' same =
       let here : (e : ℕ × X) (es : List (ℕ × X)) → entry_at (e ∷ es) e.0 ≡ Some e.1 = λ e es. rw (nat_eq_same e.0 e.0 refl) refl in
       by_order entry.0 other.0
-        (λ _ less. absurd (not_missing entry.1 (sym (here entry entries) ∙ (same entry.0 ∙ none_below entry.0 (other ∷ others) (less, below_further entry.0 other.0 others less rising'.0)))))
-        (λ _ _ is.
-          let value : Some entry.1 ≡ Some other.1 = sym (here entry entries) ∙ (same entry.0 ∙ (ap (entry_at (other ∷ others)) is ∙ here other others)) in
-          let first : entry ≡ other = ap₂ (λ (k : ℕ) (v : X). (k, v)) is cc in
-          let rest = one_list entries others rising.1 rising'.1 (λ q. by_equal q entry.0
-            (λ _ at. none_below q entries (subst (λ (k : ℕ). IsBelow k entries) (sym at) rising.0) ∙ sym (none_below q others (subst (λ (k : ℕ). IsBelow k others) (sym (at ∙ is)) rising'.0)))
-            (λ apart other_key. sym (rw apart refl) ∙ (same q ∙ rw (nat_eq_other q other.0 (λ at. other_key (at ∙ sym is))) refl))) in
-          ap₂ (λ (e : ℕ × X) (es : List (ℕ × X)). e ∷ es) first rest)
-        (λ _ _ more. absurd (not_missing other.1 (sym (here other others) ∙ (sym (same other.0) ∙ none_below other.0 (entry ∷ entries) (more, below_further other.0 entry.0 entries more rising.0)))))
+      (λ _ less. absurd (not_missing entry.1 (sym (here entry entries) ∙ (same entry.0 ∙ none_below entry.0 (other ∷ others) (less, below_further entry.0 other.0 others less rising'.0)))))
+      (λ _ _ is.
+      let value : Some entry.1 ≡ Some other.1 = sym (here entry entries) ∙ (same entry.0 ∙ (ap (entry_at (other ∷ others)) is ∙ here other others)) in
+      let first : entry ≡ other = ap₂ (λ (k : ℕ) (v : X). (k, v)) is cc in
+      let rest = one_list entries others rising.1 rising'.1 (λ q. by_equal q entry.0
+      (λ _ at. none_below q entries (subst (λ (k : ℕ). IsBelow k entries) (sym at) rising.0) ∙ sym (none_below q others (subst (λ (k : ℕ). IsBelow k others) (sym (at ∙ is)) rising'.0)))
+      (λ apart other_key. sym (rw apart refl) ∙ (same q ∙ rw (nat_eq_other q other.0 (λ at. other_key (at ∙ sym is))) refl))) in
+      ap₂ (λ (e : ℕ × X) (es : List (ℕ × X)). e ∷ es) first rest)
+      (λ _ _ more. absurd (not_missing other.1 (sym (here other others) ∙ (sym (same other.0) ∙ none_below other.0 (entry ∷ entries) (more, below_further other.0 entry.0 entries more rising.0)))))

@@ -72,6 +72,20 @@ impl Stripe {
         index::place_in(&self.index, key)
     }
 
+    /// Whether there is room for one more call.
+    pub fn is_ready(&self) -> bool
+        ensures { result ≡ self.now.ready }
+    {
+        self.ready
+    }
+
+    /// The key whose entry is aside, if one is.
+    pub fn aside(&self) -> Option<Key>
+        ensures { result ≡ key_aside self.now.state }
+    {
+        self.aside.map(|entry| entry.0)
+    }
+
     /// All calls, the oldest first.
     pub fn history(&self) -> &[Call]
         ensures history { result.now ≡ self.now.state.history }
@@ -102,7 +116,9 @@ impl Stripe {
         ensures legal { IsLegal self.new.state }
     {
         let was_there = index::take(&mut self.index, key).is_some();
-        self.history.push(Call::Delete(hand, key, was_there)).unwrap();
+        self.history
+            .push(Call::Delete(hand, key, was_there))
+            .unwrap();
         self.ready = false;
     }
 
@@ -155,3 +171,6 @@ impl Stripe {
         }
     }
 }
+
+#[cfg(test)]
+mod tests;
