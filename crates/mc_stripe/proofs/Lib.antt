@@ -3,4 +3,4 @@ pub mod Tables
 pub mod Histories
 pub mod Stamps
 pub mod Kept
-pub mod Pushed
+pub mod Fields

@@ -1,13 +1,15 @@
 //! The sequential value behind a stripe's lock.
-ghost use Rattle.std.specs.Prelude.{◌≡◌, true, None, Some, OnOk, OnErr, IsOk, IsSome, IfSome, ◌≢◌};
+ghost use Rattle.std.specs.Prelude.{◌≡◌, ◌≢◌, true, None, Some, OnOk, OnErr, IsOk, IsSome, IfSome};
 ghost use Rattle.mc_stripe.specs.StripeState.{new_stripe, key_aside, place_of};
 ghost use Rattle.mc_stripe.specs.Changes.{after_link, after_unlink, after_got, after_evict, after_lift, after_rescue, used_up};
 ghost use Rattle.mc_stripe.specs.Legal.{IsLegal};
 
+mod looks;
+
 use crate::history::{Call, HandId, Key, Stamp};
-use crate::index;
 use crate::index::Index;
 use crate::refusal::NoMemory;
+use crate::{history, index};
 use mc_pages::ChunkId;
 use std::alloc::Global;
 use std::collections::HashMap;
@@ -65,35 +67,6 @@ impl Stripe {
         Ok(())
     }
 
-    /// The key's chunk and stamp, if the index has it.
-    pub fn find(&self, key: Key) -> Option<(ChunkId, Stamp)>
-        ensures { result ≡ place_of self.now.state key }
-    {
-        index::place_in(&self.index, key)
-    }
-
-    /// Whether there is room for one more call.
-    pub fn is_ready(&self) -> bool
-        ensures { result ≡ self.now.ready }
-    {
-        self.ready
-    }
-
-    /// The key whose entry is aside, if one is.
-    pub fn aside(&self) -> Option<Key>
-        ensures { result ≡ key_aside self.now.state }
-    {
-        self.aside.map(|entry| entry.0)
-    }
-
-    /// All calls, the oldest first.
-    pub fn history(&self) -> &[Call]
-        ensures history { result.now ≡ self.now.state.history }
-        ensures legal { IsLegal self.now.state }
-    {
-        self.history.as_slice()
-    }
-
     /// An item is stored under the key, in this chunk. (items.c's `do_item_link`)
     pub fn link(&mut self, hand: HandId, key: Key, chunk: ChunkId, stamp: Stamp)
         requires ready { self.old.ready ≡ true }
@@ -104,7 +77,7 @@ impl Stripe {
     {
         self.aside = None;
         index::put(&mut self.index, key, (chunk, stamp));
-        self.history.push(Call::Set(hand, key, stamp)).unwrap();
+        history::tell(&mut self.history, Call::Set(hand, key, stamp));
         self.ready = false;
     }
 
@@ -116,13 +89,11 @@ impl Stripe {
         ensures legal { IsLegal self.new.state }
     {
         let was_there = index::take(&mut self.index, key).is_some();
-        self.history
-            .push(Call::Delete(hand, key, was_there))
-            .unwrap();
+        history::tell(&mut self.history, Call::Delete(hand, key, was_there));
         self.ready = false;
     }
 
-    /// The key is looked up. (items.c's `do_item_get`)
+    /// The key was looked up, and its item was got if it has one. (items.c's `do_item_get`)
     pub fn got(&mut self, hand: HandId, key: Key)
         requires ready { self.old.ready ≡ true }
         requires aside { IfSome (key_aside self.old.state) (λ other. other ≢ key) }
@@ -130,11 +101,11 @@ impl Stripe {
         ensures legal { IsLegal self.new.state }
     {
         let stamp = index::stamp_in(&self.index, key);
-        self.history.push(Call::Get(hand, key, stamp)).unwrap();
+        history::tell(&mut self.history, Call::Get(hand, key, stamp));
         self.ready = false;
     }
 
-    /// The key's item is evicted. (slabs.c and items.c unlink it, and no call tells of it)
+    /// The key's item is evicted, to make room. (items.c's `do_item_unlink_nolock`)
     pub fn evict(&mut self, hand: HandId, key: Key)
         requires ready { self.old.ready ≡ true }
         requires there { IsSome (place_of self.old.state key) }
@@ -142,7 +113,7 @@ impl Stripe {
         ensures legal { IsLegal self.new.state }
     {
         index::take(&mut self.index, key);
-        self.history.push(Call::Evict(hand, key)).unwrap();
+        history::tell(&mut self.history, Call::Evict(hand, key));
         self.ready = false;
     }
 
@@ -166,7 +137,7 @@ impl Stripe {
         if let Some((_, (_, stamp))) = self.aside {
             self.aside = None;
             index::put(&mut self.index, key, (chunk, stamp));
-            self.history.push(Call::Rescue(hand, key)).unwrap();
+            history::tell(&mut self.history, Call::Rescue(hand, key));
             self.ready = false;
         }
     }

@@ -3,7 +3,7 @@ use Rattle.mc_stripe.specs.StripeState.{ReadyStripe, place_of}
 use Rattle.mc_stripe.specs.Changes.{after_lift}
 use Rattle.mc_stripe.specs.InOrder.{state_of}
 use Rattle.mc_stripe.proofs.Kept.{IsLegal-after_lift}
-use Rattle.mc_stripe.proofs.Pushed.{IsLegal-fields}
+use Rattle.mc_stripe.proofs.Fields.{IsLegal-fields}
 use Rattle.mc_stripe.proofs.stripe.Stripe.lift.Goals as goal
 
 pub invariant_of-self : goal.invariant_of-self

@@ -2,7 +2,7 @@ use Rattle.std.proofs.Common.{refl, ap}
 use Rattle.mc_stripe.specs.Entries.{by_key}
 use Rattle.mc_stripe.specs.StripeState.{new_stripe}
 use Rattle.mc_stripe.proofs.Kept.{IsLegal-new}
-use Rattle.mc_stripe.proofs.Pushed.{IsLegal-fields}
+use Rattle.mc_stripe.proofs.Fields.{IsLegal-fields}
 use Rattle.mc_stripe.proofs.stripe.Stripe.new.Goals as goal
 
 pub invariant_of-result : goal.invariant_of-result

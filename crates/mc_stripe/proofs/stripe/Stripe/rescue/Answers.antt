@@ -7,7 +7,7 @@ use Rattle.mc_stripe.specs.Changes.{after_rescue}
 use Rattle.mc_stripe.specs.InOrder.{state_of}
 use Rattle.mc_stripe.proofs.Kept.{IsLegal-after_rescue}
 use Rattle.mc_stripe.proofs.Stamps.{Place}
-use Rattle.mc_stripe.proofs.Pushed.{pushed, IsLegal-fields}
+use Rattle.mc_stripe.proofs.Fields.{IsLegal-fields}
 use Rattle.mc_stripe.proofs.stripe.Stripe.rescue.Goals as goal
 
 -- the stamp is that of the entry aside
@@ -18,9 +18,8 @@ pub invariant_of-self : goal.invariant_of-self
 invariant_of-self c =
     let stripe = state_of c.self.inside in
     let is = subst (λ (s : ReadyStripe). key_aside s.state ≡ Some c.args.key) (sym c.self.view_is) c.requires.aside in
-    let told = pushed c.push.result _ _ _ _ _ refl c.unwrap.ensures c.push.ensures.items in
     record {
-      legal = IsLegal-fields (after_rescue stripe c.args.hand c.args.key c.args.chunk) _ _ _ (c.put.ensures ∙ chunk_put stripe.index _ _ c.args.key c.args.chunk c.in-Some.is) refl told (IsLegal-after_rescue stripe c.args.hand c.args.key c.args.chunk c.self.invariant.legal is);
+      legal = IsLegal-fields (after_rescue stripe c.args.hand c.args.key c.args.chunk) _ _ _ (c.put.ensures ∙ chunk_put stripe.index _ _ c.args.key c.args.chunk c.in-Some.is) refl c.tell.ensures (IsLegal-after_rescue stripe c.args.hand c.args.key c.args.chunk c.self.invariant.legal is);
       entry = λ is. absurd cc;
       call = λ is. absurd cc;
     }
