@@ -5,7 +5,7 @@ use Rattle.mc_stripe.specs.declared.history.Call.{Call}
 use Rattle.mc_stripe.specs.History.{Stamps, fits, stamps_after, replay}
 
 -- a replay that stops leaves no stamps
-None≢Some : (stamps : Stamps) → None ≡ Some stamps → ⊥
+pub None≢Some : (stamps : Stamps) → None ≡ Some stamps → ⊥
 None≢Some stamps h = cc
 
 -- one more call, whose reply is right
@@ -19,7 +19,3 @@ replay-push start stamps (first ∷ history) call h fit =
       | inl right ↦ rw right (replay-push (stamps_after first start) stamps history call (rw right at h) fit)
       | inr wrong ↦ absurd (None≢Some stamps (rw wrong at h))
     ]
-
--- a legal history has one replay
-pub one_replay : (start : Stamps) (history : List Call) (a b : Stamps) → replay start history ≡ Some a → replay start history ≡ Some b → a ≡ b
-one_replay start history a b left right = cc

@@ -1,5 +1,6 @@
 pub mod Entries
 pub mod History
+pub mod Sequential
 pub mod StripeState
 pub mod Changes
 pub mod Legal

@@ -13,6 +13,6 @@ mod refusal;
 mod stripe;
 
 pub use history::{Call, HandId, Key, Stamp};
-pub use laws::one_replay;
+pub use laws::{one_replay, replay_is_exact, worked_histories};
 pub use refusal::NoMemory;
 pub use stripe::Stripe;
