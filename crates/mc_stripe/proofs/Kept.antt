@@ -1,0 +1,149 @@
+-- Each call keeps that the history is legal and makes the index.
+use Rattle.std.proofs.Common.{◌≡◌, ◌≢◌, ℕ, nat_eq, true, false, cond, List, [], ◌∷◌, ◌++◌, is_some, is_none, IfSome, IsSome, Option, Some, None, refl, sym, ap, ap₂, ◌∙◌, subst, arith, inl, inr}
+use Rattle.std.specs.Option.{option_map, option_map_or, option_eq}
+use Rattle.std.proofs.lemmas.Bool.{cases_Bool}
+use Rattle.mc_pages.specs.declared.ids.ChunkId.{ChunkId}
+use Rattle.mc_stripe.specs.declared.history.Call.{Call}
+use Rattle.mc_stripe.specs.declared.history.Call.TheVariants.{Set, Get, Delete, Evict, Rescue}
+use Rattle.mc_stripe.specs.Entries.{entry_at, with_entry, without_entry, AreRising}
+use Rattle.mc_stripe.specs.History.{Stamps, fits, stamps_after, replay}
+use Rattle.mc_stripe.specs.StripeState.{Index, StripeState, new_stripe, key_aside, place_of, stamp_of, with_aside, stamps_in, stamps_of}
+use Rattle.mc_stripe.specs.Changes.{told, with_place, without_place, after_link, after_unlink, after_got, after_evict, after_lift, after_rescue, stamp_aside}
+use Rattle.mc_stripe.specs.Legal.{IsLegal}
+use Rattle.mc_stripe.proofs.Entries.{by_equal, nat_eq_same, nat_eq_other, at_with_entry, at_without_entry, rising_with_entry, rising_without_entry}
+use Rattle.mc_stripe.proofs.Stamps.{Place, stamps-with_entry, stamps-without_entry, stamp_at, with_entry_twice, with_entry_again, with_entry_without}
+use Rattle.mc_stripe.proofs.Histories.{replay-push}
+
+pub IsLegal-new : IsLegal new_stripe.state
+IsLegal-new = record { rising = tt; apart = λ entry is. absurd cc; replayed = refl }
+
+-- one more call, whose reply is right
+replayed-told : (start stamps after : Stamps) (history : List Call) (call : Call) → replay start history ≡ Some stamps → fits call stamps ≡ true → stamps_after call stamps ≡ after → replay start (history ++ call ∷ []) ≡ Some after
+replayed-told start stamps after history call h fit leaves = replay-push start stamps history call h fit ∙ ap (λ (s : Stamps). Some s) leaves
+
+-- a reply that tells what is there is right
+found_is_found : (found : Option ℕ) → option_eq nat_eq found found ≡ true
+found_is_found None = refl
+found_is_found (Some stamp) = nat_eq_same stamp stamp refl
+
+there_is_there : (found : Option ℕ) → cond (is_some found) (is_some found) (is_none found) ≡ true
+there_is_there None = refl
+there_is_there (Some stamp) = refl
+
+is_some-map : (found : Option Place) → is_some (option_map (λ (place : Place). place.1) found) ≡ is_some found
+is_some-map None = refl
+is_some-map (Some place) = refl
+
+-- a key that isn't aside has the stamp that the index has
+stamp_known : (index : Index) (aside : Option (ℕ × Place)) (key : ℕ) → IfSome (option_map (λ (entry : ℕ × Place). entry.0) aside) (λ other. other ≢ key) → entry_at (stamps_in (with_aside index aside)) key ≡ option_map (λ (place : Place). place.1) (entry_at index key)
+stamp_known index None key apart = stamp_at index key
+stamp_known index (Some entry) key apart =
+    stamp_at (with_entry index entry.0 entry.1) key
+    ∙ ap (option_map (λ (place : Place). place.1)) (at_with_entry index entry.0 entry.1 key ∙ rw (nat_eq_other key entry.0 (λ is. apart (sym is))) refl)
+
+-- what is left of the stamps without a key that isn't aside
+stamps_without : (index : Index) (aside : Option (ℕ × Place)) (key : ℕ) → AreRising index → IfSome (option_map (λ (entry : ℕ × Place). entry.0) aside) (λ other. other ≢ key) → without_entry (stamps_in (with_aside index aside)) key ≡ stamps_in (with_aside (without_entry index key) aside)
+stamps_without index None key rising apart = sym (stamps-without_entry index key)
+stamps_without index (Some entry) key rising apart = sym (stamps-without_entry (with_entry index entry.0 entry.1) key) ∙ ap stamps_in (sym (with_entry_without index entry.0 key entry.1 rising apart))
+
+-- the stamps with a key that is new or aside
+stamps_with : (index : Index) (aside : Option (ℕ × Place)) (key : ℕ) (place : Place) → AreRising index → IfSome (option_map (λ (entry : ℕ × Place). entry.0) aside) (λ other. other ≡ key) → with_entry (stamps_in (with_aside index aside)) key place.1 ≡ stamps_in (with_entry index key place)
+stamps_with index None key place rising same = sym (stamps-with_entry index key place)
+stamps_with index (Some entry) key place rising same =
+    sym (stamps-with_entry (with_entry index entry.0 entry.1) key place)
+    ∙ ap stamps_in (ap (λ (k : ℕ). with_entry (with_entry index k entry.1) key place) same ∙ with_entry_twice index key entry.1 place rising)
+
+pub IsLegal-after_link : (stripe : StripeState) (hand key : ℕ) (chunk : ChunkId) (stamp : ℕ) → IsLegal stripe → IfSome (key_aside stripe) (λ other. other ≡ key) → IsLegal (after_link stripe hand key chunk stamp)
+IsLegal-after_link stripe hand key chunk stamp legal same = record {
+  rising = rising_with_entry stripe.index key (chunk, stamp) legal.rising;
+  apart = λ entry is. absurd cc;
+  replayed = replayed-told [] (stamps_of stripe) _ stripe.history (Set hand key stamp) legal.replayed refl (stamps_with stripe.index stripe.aside key (chunk, stamp) legal.rising same);
+}
+
+-- the key aside isn't in what is left of the index
+apart_without : (stripe : StripeState) (key : ℕ) → IsLegal stripe → (entry : ℕ × Place) → stripe.aside ≡ Some entry → entry_at (without_entry stripe.index key) entry.0 ≡ None
+apart_without stripe key legal entry is =
+    at_without_entry stripe.index key entry.0 legal.rising
+    ∙ by_equal entry.0 key (λ here _. rw here refl) (λ elsewhere _. rw elsewhere (legal.apart entry is))
+
+pub IsLegal-after_unlink : (stripe : StripeState) (hand key : ℕ) → IsLegal stripe → IfSome (key_aside stripe) (λ other. other ≢ key) → IsLegal (after_unlink stripe hand key)
+IsLegal-after_unlink stripe hand key legal apart =
+    let known = stamp_known stripe.index stripe.aside key apart in
+    let call = Delete hand key (is_some (place_of stripe key)) in
+    let fit : fits call (stamps_of stripe) ≡ true = rw (known, sym (is_some-map (place_of stripe key))) (there_is_there (stamp_of stripe key)) in
+    record {
+      rising = rising_without_entry stripe.index key legal.rising;
+      apart = apart_without stripe key legal;
+      replayed = replayed-told [] (stamps_of stripe) _ stripe.history call legal.replayed fit (stamps_without stripe.index stripe.aside key legal.rising apart);
+    }
+
+pub IsLegal-after_got : (stripe : StripeState) (hand key : ℕ) → IsLegal stripe → IfSome (key_aside stripe) (λ other. other ≢ key) → IsLegal (after_got stripe hand key)
+IsLegal-after_got stripe hand key legal apart =
+    let call = Get hand key (stamp_of stripe key) in
+    let fit : fits call (stamps_of stripe) ≡ true = rw (stamp_known stripe.index stripe.aside key apart) (found_is_found (stamp_of stripe key)) in
+    record {
+      rising = legal.rising;
+      apart = legal.apart;
+      replayed = replayed-told [] (stamps_of stripe) _ stripe.history call legal.replayed fit refl;
+    }
+
+-- what is there isn't missing
+missing : (found : Option Place) → found ≡ None → IsSome found → ⊥
+missing None is there = cc
+missing (Some place) is there = cc
+
+-- a key of the index isn't aside
+not_aside : (index : Index) (aside : Option (ℕ × Place)) (key : ℕ) → ((entry : ℕ × Place) → aside ≡ Some entry → entry_at index entry.0 ≡ None) → IsSome (entry_at index key) → IfSome (option_map (λ (entry : ℕ × Place). entry.0) aside) (λ other. other ≢ key)
+not_aside index None key apart there = tt
+not_aside index (Some entry) key apart there = λ is. missing (entry_at index key) (ap (entry_at index) (sym is) ∙ apart entry refl) there
+
+pub IsLegal-after_evict : (stripe : StripeState) (hand key : ℕ) → IsLegal stripe → IsSome (place_of stripe key) → IsLegal (after_evict stripe hand key)
+IsLegal-after_evict stripe hand key legal there =
+    let apart = not_aside stripe.index stripe.aside key legal.apart there in
+    let fit : fits (Evict hand key) (stamps_of stripe) ≡ true = rw (stamp_known stripe.index stripe.aside key apart) (is_some-map (place_of stripe key) ∙ there) in
+    record {
+      rising = rising_without_entry stripe.index key legal.rising;
+      apart = apart_without stripe key legal;
+      replayed = replayed-told [] (stamps_of stripe) _ stripe.history (Evict hand key) legal.replayed fit (stamps_without stripe.index stripe.aside key legal.rising apart);
+    }
+
+-- an entry that was lifted counts in as before
+lifted_counts : (index : Index) (key : ℕ) (found : Option Place) → AreRising index → entry_at index key ≡ found → IsSome found → with_aside (without_entry index key) (option_map (λ (place : Place). (key, place)) found) ≡ index
+lifted_counts index key None rising is there = absurd (missing None refl there)
+lifted_counts index key (Some place) rising is there = with_entry_again index key place rising is
+
+-- the key of the entry that was lifted
+lifted_key : (key : ℕ) (entry : ℕ × Place) (found : Option Place) → option_map (λ (place : Place). (key, place)) found ≡ Some entry → entry.0 ≡ key
+lifted_key key entry None is = absurd cc
+lifted_key key entry (Some place) is = let same : (key, place) ≡ entry = cc in ap (λ (e : ℕ × Place). e.0) (sym same)
+
+pub IsLegal-after_lift : (stripe : StripeState) (key : ℕ) → IsLegal stripe → IsSome (place_of stripe key) → stripe.aside ≡ None → IsLegal (after_lift stripe key)
+IsLegal-after_lift stripe key legal there none =
+    record {
+      rising = rising_without_entry stripe.index key legal.rising;
+      apart = λ entry is. at_without_entry stripe.index key entry.0 legal.rising ∙ rw (nat_eq_same entry.0 key (lifted_key key entry (place_of stripe key) is)) refl;
+      replayed = legal.replayed ∙ ap (λ (index : Index). Some (stamps_in index)) (ap (with_aside stripe.index) none ∙ sym (lifted_counts stripe.index key (place_of stripe key) legal.rising refl there));
+    }
+
+-- the stamps with the entry aside in another chunk
+stamps_rescued : (index : Index) (aside : Option (ℕ × Place)) (key : ℕ) (chunk : ChunkId) → option_map (λ (entry : ℕ × Place). entry.0) aside ≡ Some key → stamps_in (with_aside index aside) ≡ stamps_in (with_entry index key (chunk, option_map_or (λ (entry : ℕ × Place). entry.1.1) aside 0))
+stamps_rescued index None key chunk is = absurd cc
+stamps_rescued index (Some entry) key chunk is =
+    let same : entry.0 ≡ key = cc in
+    stamps-with_entry index entry.0 entry.1 ∙ (ap (λ (k : ℕ). with_entry (stamps_in index) k entry.1.1) same ∙ sym (stamps-with_entry index key (chunk, entry.1.1)))
+
+-- the key aside has a stamp
+aside_has_stamp : (index : Index) (aside : Option (ℕ × Place)) (key : ℕ) → option_map (λ (entry : ℕ × Place). entry.0) aside ≡ Some key → is_some (entry_at (stamps_in (with_aside index aside)) key) ≡ true
+aside_has_stamp index None key is = absurd cc
+aside_has_stamp index (Some entry) key is =
+    let same : entry.0 ≡ key = cc in
+    ap is_some (stamp_at (with_entry index entry.0 entry.1) key)
+    ∙ (is_some-map (entry_at (with_entry index entry.0 entry.1) key)
+    ∙ rw (at_with_entry index entry.0 entry.1 key, nat_eq_same key entry.0 (sym same)) refl)
+
+pub IsLegal-after_rescue : (stripe : StripeState) (hand key : ℕ) (chunk : ChunkId) → IsLegal stripe → key_aside stripe ≡ Some key → IsLegal (after_rescue stripe hand key chunk)
+IsLegal-after_rescue stripe hand key chunk legal is = record {
+  rising = rising_with_entry stripe.index key (chunk, stamp_aside stripe) legal.rising;
+  apart = λ entry none. absurd cc;
+  replayed = replayed-told [] (stamps_of stripe) _ stripe.history (Rescue hand key) legal.replayed (aside_has_stamp stripe.index stripe.aside key is) (stamps_rescued stripe.index stripe.aside key chunk is);
+}

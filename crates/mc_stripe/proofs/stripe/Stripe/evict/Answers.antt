@@ -1,0 +1,20 @@
+use Rattle.std.proofs.Common.{IsSome, refl, sym, subst}
+use Rattle.mc_stripe.specs.StripeState.{ReadyStripe, place_of}
+use Rattle.mc_stripe.specs.Changes.{after_evict}
+use Rattle.mc_stripe.specs.InOrder.{state_of}
+use Rattle.mc_stripe.proofs.Kept.{IsLegal-after_evict}
+use Rattle.mc_stripe.proofs.Fields.{IsLegal-fields}
+use Rattle.mc_stripe.proofs.stripe.Stripe.evict.Goals as goal
+
+pub invariant_of-self : goal.invariant_of-self
+invariant_of-self c =
+    let stripe = state_of c.self.inside in
+    let there = subst (λ (s : ReadyStripe). IsSome (place_of s.state c.args.key)) (sym c.self.view_is) c.requires.there in
+    record {
+      legal = IsLegal-fields (after_evict stripe c.args.hand c.args.key) _ _ _ c.take.ensures.entries refl c.tell.ensures (IsLegal-after_evict stripe c.args.hand c.args.key c.self.invariant.legal there);
+      entry = λ is. absurd cc;
+      call = λ is. absurd cc;
+    }
+
+pub returns-clause-legal : goal.returns-clause-legal
+returns-clause-legal c = (invariant_of-self c).legal

@@ -1,0 +1,52 @@
+-- What each call changes.
+use Rattle.std.specs.Prelude.{ℕ, false, List, [], ◌∷◌, ◌++◌, is_some, Option, Some, None}
+use Rattle.std.specs.Option.{option_map, option_map_or}
+use Rattle.mc_pages.specs.declared.ids.ChunkId.{ChunkId}
+use Rattle.mc_stripe.specs.declared.history.Call.{Call}
+use Rattle.mc_stripe.specs.declared.history.Call.TheVariants.{Set, Get, Delete, Evict, Rescue}
+use Rattle.mc_stripe.specs.Entries.{with_entry, without_entry}
+use Rattle.mc_stripe.specs.StripeState.{Index, StripeState, ReadyStripe, place_of, stamp_of}
+
+-- the call comes last in the history
+abbrev pub told : StripeState → Call → StripeState
+told stripe call = record stripe { history = stripe.history ++ call ∷ [] }
+
+-- a key that is in no entry of the index comes there, and none is aside then
+abbrev pub with_place : StripeState → ℕ → ChunkId × ℕ → StripeState
+with_place stripe key place = record stripe { index = with_entry stripe.index key place; aside = None }
+
+-- the key leaves the index
+abbrev pub without_place : StripeState → ℕ → StripeState
+without_place stripe key = record stripe { index = without_entry stripe.index key }
+
+-- an item is stored in the chunk
+abbrev pub after_link : StripeState → ℕ → ℕ → ChunkId → ℕ → StripeState
+after_link stripe hand key chunk stamp = told (with_place stripe key (chunk, stamp)) (Set hand key stamp)
+
+-- the key is deleted
+abbrev pub after_unlink : StripeState → ℕ → ℕ → StripeState
+after_unlink stripe hand key = told (without_place stripe key) (Delete hand key (is_some (place_of stripe key)))
+
+-- the key is looked up
+abbrev pub after_got : StripeState → ℕ → ℕ → StripeState
+after_got stripe hand key = told stripe (Get hand key (stamp_of stripe key))
+
+-- the key's item is evicted
+abbrev pub after_evict : StripeState → ℕ → ℕ → StripeState
+after_evict stripe hand key = told (without_place stripe key) (Evict hand key)
+
+-- the key's entry is put aside
+abbrev pub after_lift : StripeState → ℕ → StripeState
+after_lift stripe key = record (without_place stripe key) { aside = option_map (λ place. (key, place)) (place_of stripe key) }
+
+-- the stamp of the entry aside
+abbrev pub stamp_aside : StripeState → ℕ
+stamp_aside stripe = option_map_or (λ entry. entry.1.1) stripe.aside 0
+
+-- the entry aside comes back, with another chunk and the same stamp
+abbrev pub after_rescue : StripeState → ℕ → ℕ → ChunkId → StripeState
+after_rescue stripe hand key chunk = told (with_place stripe key (chunk, stamp_aside stripe)) (Rescue hand key)
+
+-- the stripe is now this, and the room is used up
+abbrev pub used_up : StripeState → ReadyStripe
+used_up stripe = record { state = stripe; ready = false }

@@ -1,0 +1,7 @@
+pub mod Entries
+pub mod History
+pub mod Sequential
+pub mod StripeState
+pub mod Changes
+pub mod Legal
+pub mod InOrder

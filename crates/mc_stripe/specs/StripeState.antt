@@ -1,0 +1,52 @@
+-- The items of a stripe's keys, and the stripe's history.
+use Rattle.std.specs.Prelude.{ℕ, Bool, false, List, [], map, Option, Some, None}
+use Rattle.std.specs.Option.{option_map}
+use Rattle.mc_pages.specs.declared.ids.ChunkId.{ChunkId}
+use Rattle.mc_stripe.specs.declared.history.Call.{Call}
+use Rattle.mc_stripe.specs.Entries.{entry_at, with_entry}
+use Rattle.mc_stripe.specs.History.{Stamps}
+
+-- the keys, each with the chunk and the stamp of its item, by rising key
+abbrev pub Index : Type 0
+Index = List (ℕ × (ChunkId × ℕ))
+
+pub record StripeState : Type 0 where
+  pub index : Index
+  -- an entry that was lifted out of the index, until its key comes back
+  pub aside : Option (ℕ × (ChunkId × ℕ))
+  -- the oldest call first
+  pub history : List Call
+
+-- the stripe, and whether there is room for one more entry of the index and one more call
+pub record ReadyStripe : Type 0 where
+  pub state : StripeState
+  pub ready : Bool
+
+-- no key was ever stored, and no room was made
+abbrev pub new_stripe : ReadyStripe
+new_stripe = record { state = record { index = []; aside = None; history = [] }; ready = false }
+
+-- the key whose entry is aside
+abbrev pub key_aside : StripeState → Option ℕ
+key_aside stripe = option_map (λ entry. entry.0) stripe.aside
+
+-- the key's chunk and stamp
+abbrev pub place_of : StripeState → ℕ → Option (ChunkId × ℕ)
+place_of stripe key = entry_at stripe.index key
+
+-- the key's stamp
+abbrev pub stamp_of : StripeState → ℕ → Option ℕ
+stamp_of stripe key = option_map (λ place. place.1) (place_of stripe key)
+
+-- the index, an entry aside counted in
+abbrev pub with_aside : Index → Option (ℕ × (ChunkId × ℕ)) → Index
+with_aside index None = index
+with_aside index (Some entry) = with_entry index entry.0 entry.1
+
+-- the stamps of these keys
+abbrev pub stamps_in : Index → Stamps
+stamps_in index = map (λ entry. (entry.0, entry.1.1)) index
+
+-- the stamps of all keys, the one aside counted in
+abbrev pub stamps_of : StripeState → Stamps
+stamps_of stripe = stamps_in (with_aside stripe.index stripe.aside)

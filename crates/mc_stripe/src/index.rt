@@ -1,0 +1,65 @@
+//! The table from keys to chunks and stamps. Contracts see its entries by rising key.
+ghost use Rattle.std.specs.Prelude.{◌≡◌, ◌+◌, ◌<◌, ◌≤◌, OnOk, IsOk};
+ghost use Rattle.std.specs.HashMap.{spare};
+ghost use Rattle.std.specs.Option.{option_map};
+ghost use Rattle.mc_stripe.specs.Entries.{by_key, entry_at, with_entry, without_entry};
+
+use crate::history::{Key, Stamp};
+use mc_pages::ChunkId;
+use std::alloc::AllocError;
+use std::collections::HashMap;
+
+/// Where the items of some keys are, and under which stamps they were stored.
+pub(crate) type Index = HashMap<Key, (ChunkId, Stamp)>;
+
+/// The key's chunk and stamp.
+pub(crate) fn place_in(index: &Index, key: Key) -> Option<(ChunkId, Stamp)>
+    ensures { result ≡ entry_at (by_key index.now.entries) key }
+{
+    index.get(&key).copied()
+}
+
+/// The key's stamp.
+pub(crate) fn stamp_in(index: &Index, key: Key) -> Option<Stamp>
+    ensures { result ≡ option_map (λ place. place.1) (entry_at (by_key index.now.entries) key) }
+{
+    place_in(index, key).map(|place| place.1)
+}
+
+/// Makes room for one more key.
+pub(crate) fn reserve_one(index: &mut Index) -> Result<(), AllocError>
+    ensures entries { by_key index.new.entries ≡ by_key index.old.entries }
+    ensures room { OnOk result (0 < spare index.new) }
+    ensures kept { spare index.old ≤ spare index.new }
+    ensures succeeds { 0 < spare index.old → IsOk result }
+{
+    index.reserve(1)
+}
+
+/// The key leads to this place now. There is room for it.
+pub(crate) fn put(index: &mut Index, key: Key, place: (ChunkId, Stamp))
+    requires { 0 < spare index.old }
+    ensures { by_key index.new.entries ≡ with_entry (by_key index.old.entries) key place }
+{
+    // The index has room.
+    let put: Result<_, _> = index.insert(key, place);
+    put.unwrap();
+}
+
+/// The key leads nowhere any more: where it led, if it was there.
+pub(crate) fn take(index: &mut Index, key: Key) -> Option<(ChunkId, Stamp)>
+    ensures place { result ≡ entry_at (by_key index.old.entries) key }
+    ensures entries { by_key index.new.entries ≡ without_entry (by_key index.old.entries) key }
+    ensures kept { spare index.old ≤ spare index.new }
+{
+    index.remove(&key)
+}
+
+/// Takes the key's entry out of the table, if it is there.
+pub(crate) fn take_entry(index: &mut Index, key: Key) -> Option<(Key, (ChunkId, Stamp))>
+    ensures entry { result ≡ option_map (λ place. (key, place)) (entry_at (by_key index.old.entries) key) }
+    ensures entries { by_key index.new.entries ≡ without_entry (by_key index.old.entries) key }
+    ensures kept { spare index.old ≤ spare index.new }
+{
+    take(index, key).map(|place| (key, place))
+}

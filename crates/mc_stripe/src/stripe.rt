@@ -1,0 +1,147 @@
+//! The sequential value behind a stripe's lock.
+ghost use Rattle.std.specs.Prelude.{◌≡◌, ◌≢◌, true, None, Some, OnOk, OnErr, IsOk, IsSome, IfSome};
+ghost use Rattle.mc_stripe.specs.StripeState.{new_stripe, key_aside, place_of};
+ghost use Rattle.mc_stripe.specs.Changes.{after_link, after_unlink, after_got, after_evict, after_lift, after_rescue, used_up};
+ghost use Rattle.mc_stripe.specs.Legal.{IsLegal};
+
+mod looks;
+
+use crate::history::{Call, HandId, Key, Stamp};
+use crate::index::Index;
+use crate::refusal::NoMemory;
+use crate::{history, index};
+use mc_pages::ChunkId;
+use std::alloc::Global;
+use std::collections::HashMap;
+use std::marker::Model;
+
+/// The index and the history of one item lock's part.
+///
+/// [`Stripe::reserve`] makes room for one call. The calls that need it, and use it up, take no memory and can't fail.
+#[derive(Drop)]
+pub struct Stripe {
+    index: Index,
+    /// An entry that was lifted out of the index, until its key comes back.
+    aside: Option<(Key, (ChunkId, Stamp))>,
+    history: Vec<Call>,
+    /// There is room for one more entry of the index and one more call.
+    ready: bool,
+}
+
+impl Model for Stripe {
+    ghost use Rattle.mc_stripe.specs.StripeState.{ReadyStripe};
+
+    ghost Value = { ReadyStripe };
+
+    ghost use Rattle.mc_stripe.specs.InOrder.{ready_of, IsInOrder};
+
+    ghost view = { ready_of };
+
+    ghost invariant = { IsInOrder };
+}
+
+impl Stripe {
+    /// No key was ever stored.
+    pub fn new(alloc: Global) -> Stripe
+        ensures new { result ≡ new_stripe }
+        ensures legal { IsLegal result.state }
+    {
+        Stripe {
+            index: HashMap::new(alloc),
+            aside: None,
+            history: Vec::new(alloc),
+            ready: false,
+        }
+    }
+
+    /// Makes room for one more entry of the index and one more call. Where there is room, it takes no memory.
+    pub fn reserve(&mut self) -> Result<(), NoMemory>
+        ensures reserved { OnOk result (self.new ≡ record self.old { ready = true }) }
+        ensures refused { OnErr result (self.new ≡ self.old) }
+        ensures succeeds { self.old.ready ≡ true → IsOk result }
+        ensures legal { IsLegal self.new.state }
+    {
+        index::reserve_one(&mut self.index)?;
+        self.history.reserve(1)?;
+        self.ready = true;
+        Ok(())
+    }
+
+    /// An item is stored under the key, in this chunk. (items.c's `do_item_link`)
+    pub fn link(&mut self, hand: HandId, key: Key, chunk: ChunkId, stamp: Stamp)
+        requires ready { self.old.ready ≡ true }
+        requires new { place_of self.old.state key ≡ None }
+        requires aside { IfSome (key_aside self.old.state) (λ other. other ≡ key) }
+        ensures linked { self.new ≡ used_up (after_link self.old.state hand key chunk stamp) }
+        ensures legal { IsLegal self.new.state }
+    {
+        self.aside = None;
+        index::put(&mut self.index, key, (chunk, stamp));
+        history::tell(&mut self.history, Call::Set(hand, key, stamp));
+        self.ready = false;
+    }
+
+    /// The key is deleted, if it is there. (items.c's `do_item_unlink`)
+    pub fn unlink(&mut self, hand: HandId, key: Key)
+        requires ready { self.old.ready ≡ true }
+        requires aside { IfSome (key_aside self.old.state) (λ other. other ≢ key) }
+        ensures unlinked { self.new ≡ used_up (after_unlink self.old.state hand key) }
+        ensures legal { IsLegal self.new.state }
+    {
+        let was_there = index::take(&mut self.index, key).is_some();
+        history::tell(&mut self.history, Call::Delete(hand, key, was_there));
+        self.ready = false;
+    }
+
+    /// The key was looked up, and its item was got if it has one. (items.c's `do_item_get`)
+    pub fn got(&mut self, hand: HandId, key: Key)
+        requires ready { self.old.ready ≡ true }
+        requires aside { IfSome (key_aside self.old.state) (λ other. other ≢ key) }
+        ensures told { self.new ≡ used_up (after_got self.old.state hand key) }
+        ensures legal { IsLegal self.new.state }
+    {
+        let stamp = index::stamp_in(&self.index, key);
+        history::tell(&mut self.history, Call::Get(hand, key, stamp));
+        self.ready = false;
+    }
+
+    /// The key's item is evicted, to make room. (items.c's `do_item_unlink_nolock`)
+    pub fn evict(&mut self, hand: HandId, key: Key)
+        requires ready { self.old.ready ≡ true }
+        requires there { IsSome (place_of self.old.state key) }
+        ensures evicted { self.new ≡ used_up (after_evict self.old.state hand key) }
+        ensures legal { IsLegal self.new.state }
+    {
+        index::take(&mut self.index, key);
+        history::tell(&mut self.history, Call::Evict(hand, key));
+        self.ready = false;
+    }
+
+    /// The key's entry is put aside, until its `link` or `rescue`. (own)
+    pub fn lift(&mut self, key: Key)
+        requires there { IsSome (place_of self.old.state key) }
+        requires none { self.old.state.aside ≡ None }
+        ensures lifted { self.new ≡ record self.old { state = after_lift self.old.state key } }
+        ensures legal { IsLegal self.new.state }
+    {
+        self.aside = index::take_entry(&mut self.index, key);
+    }
+
+    /// The entry aside comes back, in another chunk and with the stamp that it had. (slabs.c's `slab_rebalance_move`)
+    pub fn rescue(&mut self, hand: HandId, key: Key, chunk: ChunkId)
+        requires ready { self.old.ready ≡ true }
+        requires aside { key_aside self.old.state ≡ Some key }
+        ensures rescued { self.new ≡ used_up (after_rescue self.old.state hand key chunk) }
+        ensures legal { IsLegal self.new.state }
+    {
+        if let Some((_, (_, stamp))) = self.aside {
+            self.aside = None;
+            index::put(&mut self.index, key, (chunk, stamp));
+            history::tell(&mut self.history, Call::Rescue(hand, key));
+            self.ready = false;
+        }
+    }
+}
+
+#[cfg(test)]
+mod tests;
