@@ -1,5 +1,5 @@
 -- The replay of a history.
-use Rattle.std.proofs.Common.{◌≡◌, ℕ, true, false, cond, List, [], ◌∷◌, ◌++◌, Option, Some, None, refl, sym, ◌∙◌, inl, inr}
+use Rattle.std.proofs.Common.{◌≡◌, true, List, [], ◌∷◌, ◌++◌, Some, None, refl, inl, inr}
 use Rattle.std.proofs.lemmas.Bool.{cases_Bool}
 use Rattle.mc_stripe.specs.declared.history.Call.{Call}
 use Rattle.mc_stripe.specs.History.{Stamps, fits, stamps_after, replay}

@@ -1,14 +1,13 @@
 -- Each call keeps that the history is legal and makes the index.
-use Rattle.std.proofs.Common.{◌≡◌, ◌≢◌, ℕ, nat_eq, true, false, cond, List, [], ◌∷◌, ◌++◌, is_some, is_none, IfSome, IsSome, Option, Some, None, refl, sym, ap, ap₂, ◌∙◌, subst, arith, inl, inr}
+use Rattle.std.proofs.Common.{◌≡◌, ◌≢◌, ℕ, nat_eq, true, cond, List, [], ◌∷◌, ◌++◌, is_some, is_none, IfSome, IsSome, Option, Some, None, refl, sym, ap, ◌∙◌}
 use Rattle.std.specs.Option.{option_map, option_map_or, option_eq}
-use Rattle.std.proofs.lemmas.Bool.{cases_Bool}
 use Rattle.mc_pages.specs.declared.ids.ChunkId.{ChunkId}
 use Rattle.mc_stripe.specs.declared.history.Call.{Call}
 use Rattle.mc_stripe.specs.declared.history.Call.TheVariants.{Set, Get, Delete, Evict, Rescue}
 use Rattle.mc_stripe.specs.Entries.{entry_at, with_entry, without_entry, AreRising}
 use Rattle.mc_stripe.specs.History.{Stamps, fits, stamps_after, replay}
 use Rattle.mc_stripe.specs.StripeState.{Index, StripeState, new_stripe, key_aside, place_of, stamp_of, with_aside, stamps_in, stamps_of}
-use Rattle.mc_stripe.specs.Changes.{told, with_place, without_place, after_link, after_unlink, after_got, after_evict, after_lift, after_rescue, stamp_aside}
+use Rattle.mc_stripe.specs.Changes.{after_link, after_unlink, after_got, after_evict, after_lift, after_rescue, stamp_aside}
 use Rattle.mc_stripe.specs.Legal.{IsLegal}
 use Rattle.mc_stripe.proofs.Entries.{by_equal, nat_eq_same, nat_eq_other, at_with_entry, at_without_entry, rising_with_entry, rising_without_entry}
 use Rattle.mc_stripe.proofs.Stamps.{Place, stamps-with_entry, stamps-without_entry, stamp_at, with_entry_twice, with_entry_again, with_entry_without}

@@ -1,10 +1,10 @@
 -- The stamps of an index after a change, and of an index with an entry aside.
-use Rattle.std.proofs.Common.{◌≡◌, ◌≢◌, ℕ, nat_eq, cond, List, [], ◌∷◌, Option, Some, None, refl, sym, ap, ap₂, ◌∙◌, subst, arith}
+use Rattle.std.proofs.Common.{◌≡◌, ◌≢◌, ℕ, List, [], ◌∷◌, Some, refl, sym, ap, ◌∙◌}
 use Rattle.std.specs.Option.{option_map}
 use Rattle.mc_pages.specs.declared.ids.ChunkId.{ChunkId}
 use Rattle.mc_stripe.specs.Entries.{entry_at, with_entry, without_entry, AreRising}
-use Rattle.mc_stripe.specs.StripeState.{Index, stamps_in, with_aside}
-use Rattle.mc_stripe.proofs.Entries.{by_order, by_equal, nat_eq_same, nat_eq_other, at_with_entry, at_without_entry, rising_with_entry, rising_without_entry, one_list}
+use Rattle.mc_stripe.specs.StripeState.{Index, stamps_in}
+use Rattle.mc_stripe.proofs.Entries.{by_order, by_equal, nat_eq_other, at_with_entry, at_without_entry, rising_with_entry, rising_without_entry, one_list}
 
 -- what can be in an index
 abbrev pub Place : Type 0

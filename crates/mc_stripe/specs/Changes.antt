@@ -1,11 +1,11 @@
 -- What each call changes.
-use Rattle.std.specs.Prelude.{ℕ, false, List, [], ◌∷◌, ◌++◌, is_some, Option, Some, None}
+use Rattle.std.specs.Prelude.{ℕ, false, [], ◌∷◌, ◌++◌, is_some, None}
 use Rattle.std.specs.Option.{option_map, option_map_or}
 use Rattle.mc_pages.specs.declared.ids.ChunkId.{ChunkId}
 use Rattle.mc_stripe.specs.declared.history.Call.{Call}
 use Rattle.mc_stripe.specs.declared.history.Call.TheVariants.{Set, Get, Delete, Evict, Rescue}
 use Rattle.mc_stripe.specs.Entries.{with_entry, without_entry}
-use Rattle.mc_stripe.specs.StripeState.{Index, StripeState, ReadyStripe, place_of, stamp_of}
+use Rattle.mc_stripe.specs.StripeState.{StripeState, ReadyStripe, place_of, stamp_of}
 
 -- the call comes last in the history
 abbrev pub told : StripeState → Call → StripeState

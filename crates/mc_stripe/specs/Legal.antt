@@ -1,5 +1,5 @@
 -- What is so after every call: the history is legal, and makes the index.
-use Rattle.std.specs.Prelude.{◌≡◌, ℕ, [], Option, Some, None}
+use Rattle.std.specs.Prelude.{◌≡◌, ℕ, [], Some, None}
 use Rattle.mc_pages.specs.declared.ids.ChunkId.{ChunkId}
 use Rattle.mc_stripe.specs.Entries.{AreRising}
 use Rattle.mc_stripe.specs.History.{replay}

@@ -5,7 +5,6 @@ mod plain;
 use crate::{Call, HandId, Key, NoMemory, Stamp, Stripe};
 use mc_pages::ChunkId;
 use plain::Plain;
-use std::alloc::Global;
 use std::process::Abort;
 use std::test::Fail;
 
@@ -309,5 +308,12 @@ fn room_is_made_once(rt: HostRuntime) -> Result<(), Fail> {
     assert_eq!(rt; made(&mut stripe, Got(0, 1)), true);
     assert_eq!(rt; made(&mut stripe, Got(0, 1)), false);
     assert_eq!(rt; stripe.history(), [Call::Get(0, 1, None)].as_slice());
+    Ok(())
+}
+
+#[test]
+fn a_refusal_is_told(rt: HostRuntime) -> Result<(), Fail> {
+    let text = NoMemory.to_string(rt.alloc())?;
+    assert_eq!(rt; text.as_str(), "out of memory");
     Ok(())
 }

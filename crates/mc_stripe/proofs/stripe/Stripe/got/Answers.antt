@@ -1,6 +1,6 @@
-use Rattle.std.proofs.Common.{◌≢◌, IfSome, refl, sym, ap, ◌∙◌, subst}
+use Rattle.std.proofs.Common.{◌≢◌, IfSome, refl, sym, ap, subst}
 use Rattle.mc_stripe.specs.declared.history.Call.TheVariants.{Get}
-use Rattle.mc_stripe.specs.StripeState.{ReadyStripe, key_aside, stamp_of}
+use Rattle.mc_stripe.specs.StripeState.{ReadyStripe, key_aside}
 use Rattle.mc_stripe.specs.Changes.{after_got}
 use Rattle.mc_stripe.specs.InOrder.{state_of}
 use Rattle.mc_stripe.proofs.Kept.{IsLegal-after_got}

@@ -1,6 +1,6 @@
 use Rattle.std.proofs.Common.{◌≢◌, is_some, IfSome, refl, sym, ap, ◌∙◌, subst}
 use Rattle.mc_stripe.specs.declared.history.Call.TheVariants.{Delete}
-use Rattle.mc_stripe.specs.StripeState.{ReadyStripe, key_aside, place_of}
+use Rattle.mc_stripe.specs.StripeState.{ReadyStripe, key_aside}
 use Rattle.mc_stripe.specs.Changes.{after_unlink}
 use Rattle.mc_stripe.specs.InOrder.{state_of}
 use Rattle.mc_stripe.proofs.Kept.{IsLegal-after_unlink}
