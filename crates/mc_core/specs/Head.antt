@@ -1,0 +1,51 @@
+-- The header of a chunk, and the word that it is.
+use Rattle.std.specs.Prelude.{ℕ, zero, suc, ◌+◌, ◌*◌, ◌/◌, ◌%◌, ◌==◌, Bool, true, false, ◌&&◌}
+use Rattle.mc_core.specs.declared.head.Head.{Head}
+use Rattle.mc_core.specs.declared.head.Tag.{Tag}
+use Rattle.mc_core.specs.declared.head.Tag.TheVariants.{Out, Free, Unlinked, Linked}
+
+abbrev pub number_of : Tag → ℕ
+number_of Out = 0
+number_of Free = 1
+number_of Unlinked = 2
+number_of Linked = 3
+
+-- the tag of a number; any beyond is read as Linked
+abbrev pub tag_of : ℕ → Tag
+tag_of zero = Out
+tag_of (suc zero) = Free
+tag_of (suc (suc zero)) = Unlinked
+tag_of (suc (suc (suc n))) = Linked
+
+-- the header as a word
+abbrev pub code : Head → ℕ
+code head = head.issue * 262144 + number_of head.tag * 65536 + head.count
+
+-- the header that a word is
+abbrev pub decode : ℕ → Head
+decode word = record { issue = word / 262144; tag = tag_of (word / 65536 % 4); count = word % 65536 }
+
+-- the chunk was cut, and waits on its free list
+abbrev pub is_free : Tag → Bool
+is_free Free = true
+is_free tag = false
+
+abbrev pub is_out : Tag → Bool
+is_out Out = true
+is_out tag = false
+
+abbrev pub is_unlinked : Tag → Bool
+is_unlinked Unlinked = true
+is_unlinked tag = false
+
+abbrev pub is_linked : Tag → Bool
+is_linked Linked = true
+is_linked tag = false
+
+-- nobody holds the chunk, and no key leads to it
+abbrev pub is_dead : Head → Bool
+is_dead head = is_unlinked head.tag && head.count == 0
+
+-- the header of a chunk that was never cut
+abbrev pub never_cut : Head
+never_cut = record { issue = 0; tag = Out; count = 0 }

@@ -1,0 +1,59 @@
+//! The header of a chunk: one word that says what state the chunk is in.
+ghost use Rattle.std.specs.Prelude.{◌≡◌, ◌^◌, ◌<◌};
+ghost use Rattle.mc_core.specs.Head.{code, is_dead};
+
+/// The state of a chunk.
+#[derive(Clone, Copy, Debug, PartialEq, Eq)]
+pub enum Tag {
+    /// It is on no list, and its page isn't cut for it, or moves away.
+    Out,
+    /// It is on its class's free list.
+    Free,
+    /// It is handed out, and no key leads to it.
+    Unlinked,
+    /// Its key leads to it.
+    Linked,
+}
+
+/// A header, taken apart. As a word it is `issue * 2^18 + tag * 2^16 + count`, the tags being 0 to 3.
+#[derive(Clone, Copy, Debug, PartialEq, Eq)]
+pub struct Head {
+    /// How often the chunk was handed out.
+    pub issue: u64,
+    pub tag: Tag,
+    /// How many hands' holdings there are, and one more where the chunk is linked.
+    pub count: u16,
+}
+
+impl Tag {
+    ghost use Rattle.mc_core.specs.Head.{number_of};
+
+    /// The tag's number, 0 to 3.
+    pub fn number(self) -> u64
+        ensures { result ≡ number_of self }
+    {
+        match self {
+            Tag::Out => 0,
+            Tag::Free => 1,
+            Tag::Unlinked => 2,
+            Tag::Linked => 3,
+        }
+    }
+}
+
+impl Head {
+    /// The header as a word.
+    pub fn word(self) -> u64
+        requires { self.issue < 2 ^ 46 }
+        ensures { result ≡ code self }
+    {
+        self.issue * 262_144 + self.tag.number() * 65_536 + u64::from(self.count)
+    }
+
+    /// Nobody holds the chunk, and no key leads to it, but it is on no free list yet.
+    pub fn is_dead(self) -> bool
+        ensures { result ≡ is_dead self }
+    {
+        self.tag == Tag::Unlinked && self.count == 0
+    }
+}

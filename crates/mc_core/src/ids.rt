@@ -1,0 +1,10 @@
+//! Who a hand is.
+
+/// A hand's number, and how many stamps it gave out.
+#[derive(Clone, Copy, Debug, PartialEq, Eq)]
+pub struct Ids {
+    /// None once another hand took over.
+    pub number: Option<u8>,
+    /// How many stamps there are of this number.
+    pub stamps: u64,
+}

@@ -1,0 +1,21 @@
+//! The arena that threads share, as a model that runs: its state, and the events that change it.
+//!
+//! An [`Event`] is one operation on one word, by one hand. [`Step`] says what is done, and [`Change`] what the hand
+//! changed before of the values behind the locks that it holds.
+#![tactic(auto)]
+
+mod event;
+mod head;
+mod holding;
+mod ids;
+mod look;
+mod series;
+mod stop;
+
+pub use event::{Change, Event, Step};
+pub use head::{Head, Tag};
+pub use holding::{Holding, Kind, Purpose};
+pub use ids::Ids;
+pub use look::Look;
+pub use series::Series;
+pub use stop::Stop;

@@ -1,0 +1,49 @@
+//! A list that contracts compare.
+ghost use Rattle.std.specs.Prelude.{◌≡◌, ◌<◌, [], ◌∷◌, ◌++◌, length, slice_set, OnOk, OnErr};
+ghost use Rattle.std.specs.List.{remove};
+
+use std::alloc::{AllocError, Global};
+use std::marker::Model;
+
+/// Values, one after another. Two series of the same values are equal, whatever room they have.
+#[derive(Debug, Drop)]
+pub struct Series<T> {
+    items: Vec<T>,
+}
+
+impl<T> Model for Series<T> {
+    ghost use Rattle.std.specs.Prelude.{List};
+
+    ghost Value = { List T };
+
+    ghost view = { λ series. series.items.items };
+}
+
+impl<T> Series<T> {
+    /// No value.
+    pub fn new(alloc: Global) -> Series<T>
+        ensures { result ≡ [] }
+    {
+        Series {
+            items: Vec::new(alloc),
+        }
+    }
+
+    /// The values.
+    pub fn as_slice(&self) -> &[T]
+        ensures { result.now ≡ self.now }
+    {
+        self.items.as_slice()
+    }
+}
+
+impl<T: Copy> Series<T> {
+    /// One more value, behind the others.
+    pub fn push(&mut self, value: T) -> Result<(), AllocError>
+        ensures added { OnOk result (self.new ≡ self.old ++ value ∷ []) }
+        ensures refused { OnErr result (self.new ≡ self.old) }
+    {
+        self.items.push(value)?;
+        Ok(())
+    }
+}
