@@ -1,1 +1,12 @@
 pub mod Head
+pub mod Holdings
+pub mod Looks
+pub mod State
+pub mod Silent
+pub mod Locks
+pub mod Chunks
+pub mod Items
+pub mod Evictions
+pub mod Hands
+pub mod Run
+pub mod Rows

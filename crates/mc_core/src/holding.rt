@@ -32,5 +32,5 @@ pub enum Purpose {
     /// A copy of the item in this chunk of the moving page.
     Copy(ChunkId),
     /// The same, and the old chunk was condemned: its words as it was.
-    Rescue(ChunkId, Series<u64>),
+    Rescue(ChunkId, Series<Option<u64>>),
 }

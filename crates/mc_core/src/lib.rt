@@ -8,6 +8,7 @@ mod event;
 mod head;
 mod holding;
 mod ids;
+pub mod laws;
 mod look;
 mod series;
 mod stop;

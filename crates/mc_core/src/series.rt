@@ -37,7 +37,7 @@ impl<T> Series<T> {
     }
 }
 
-impl<T: Copy> Series<T> {
+impl<T: Drop> Series<T> {
     /// One more value, behind the others.
     pub fn push(&mut self, value: T) -> Result<(), AllocError>
         ensures added { OnOk result (self.new ≡ self.old ++ value ∷ []) }

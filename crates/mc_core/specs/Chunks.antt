@@ -1,0 +1,162 @@
+-- Chunks that are handed out, filled, given up, put back, cleared and cut.
+use Rattle.std.specs.Prelude.{ℕ, ◌+◌, ◌-◌, ◌^◌, ◌==◌, Bool, true, false, not, ◌&&◌, ◌||◌, nat_lt, find, length, replicate, slice_set, Option, Some, None}
+use Rattle.std.specs.Option.{option_map_or}
+use Rattle.mc_pages.specs.declared.ids.ChunkId.{ChunkId}
+use Rattle.mc_pages.specs.ClassState.{is_chunk, first_free}
+use Rattle.mc_pages.specs.SlabState.{SlabState, class_at, class_of_page}
+use Rattle.mc_pages.specs.Changes as slabs_changes
+use Rattle.mc_core.specs.declared.head.Head.{Head}
+use Rattle.mc_core.specs.declared.head.Tag.TheVariants.{Out, Free, Unlinked}
+use Rattle.mc_core.specs.declared.holding.Holding.{Holding}
+use Rattle.mc_core.specs.declared.holding.Kind.TheVariants.{Fresh}
+use Rattle.mc_core.specs.declared.holding.Purpose.{Purpose}
+use Rattle.mc_core.specs.declared.holding.Purpose.TheVariants.{Item, Copy}
+use Rattle.mc_core.specs.declared.look.Look.TheVariants.{Popped, PoppedOff, PutBack, Cleared, Cut}
+use Rattle.mc_core.specs.Head.{is_free, is_out, is_dead}
+use Rattle.mc_core.specs.Holdings.{is_of, is_fresh, holding_of}
+use Rattle.mc_core.specs.State.{State, is_class, has_chunk, head_at, with_head, room_at, with_word, has_slabs, with_slabs, holdings_at, with_holding, without_holding, with_look}
+use Rattle.mc_core.specs.Silent.{is_out_of_class, is_listed}
+
+-- the greatest issue number, with which a chunk is used up
+abbrev pub most_issue : ℕ
+most_issue = 2 ^ 46 - 1
+
+-- the most holdings of a hand
+abbrev pub most_holdings : ℕ
+most_holdings = 256
+
+-- the hand may hold one more chunk
+abbrev pub has_place : State → ℕ → Bool
+has_place state hand = nat_lt (length (holdings_at state hand)) most_holdings
+
+-- the chunk is free and isn't used up
+abbrev pub can_hand_out : State → Option ChunkId → Bool
+can_hand_out state None = false
+can_hand_out state (Some chunk) = is_free (head_at state chunk).tag && nat_lt (head_at state chunk).issue most_issue
+
+-- a header after its chunk is handed out: the next issue, one holder
+abbrev pub handed_out : Head → Head
+handed_out head = record { issue = head.issue + 1; tag = Unlinked; count = 1 }
+
+-- a chunk that nobody has filled yet
+abbrev pub new_holding : State → ChunkId → Purpose → Holding
+new_holding state chunk purpose = record {
+  chunk = chunk;
+  issue = (head_at state chunk).issue + 1;
+  kind = Fresh purpose;
+  words = replicate (room_at state chunk) None;
+}
+
+-- the header and the hand's holdings after the chunk is handed out to it
+abbrev pub with_fresh : State → ℕ → ChunkId → Purpose → State
+with_fresh state hand chunk purpose = with_holding (with_head state chunk (handed_out (head_at state chunk))) hand (new_holding state chunk purpose)
+
+abbrev pub next_free : State → ℕ → Option ChunkId
+next_free state class = first_free (class_at state.slabs class)
+
+abbrev pub can_pop : State → ℕ → ℕ → Bool
+can_pop state hand class = has_slabs state hand && is_class state.table class && has_place state hand && can_hand_out state (next_free state class)
+
+abbrev pub popped : State → ℕ → Option ChunkId → State
+popped state hand None = state
+popped state hand (Some chunk) = with_look (with_fresh state hand chunk Item) hand (Popped chunk (handed_out (head_at state chunk)))
+
+abbrev pub after_pop : State → ℕ → ℕ → State
+after_pop state hand class = popped (with_slabs state (slabs_changes.after_pop state.slabs class)) hand (next_free state class)
+
+-- the page is on the move
+abbrev pub is_moving_page : SlabState → ℕ → Bool
+is_moving_page slabs page = option_map_or (λ move. move.page == page) slabs.moving false
+
+-- the chunk is off the page and isn't used up
+abbrev pub is_target : State → ℕ → ChunkId → Bool
+is_target state page chunk = not (chunk.page == page) && nat_lt (head_at state chunk).issue most_issue
+
+-- the first free chunk of the class that an item of the page can be taken to
+abbrev pub target_of : State → ℕ → Option ChunkId
+target_of state page = find (is_target state page) (class_at state.slabs (class_of_page state.slabs page)).free
+
+abbrev pub can_pop_off : State → ℕ → ChunkId → Bool
+can_pop_off state hand old =
+    has_slabs state hand && is_moving_page state.slabs old.page && is_out_of_class state.slabs old && has_place state hand && can_hand_out state (target_of state old.page)
+
+abbrev pub popped_off : State → ℕ → ChunkId → Option ChunkId → State
+popped_off state hand old None = state
+popped_off state hand old (Some chunk) =
+    with_look (with_fresh (with_slabs state (slabs_changes.after_replace state.slabs chunk old)) hand chunk (Copy old)) hand
+    (PoppedOff chunk old (handed_out (head_at state chunk)))
+
+abbrev pub after_pop_off : State → ℕ → ChunkId → State
+after_pop_off state hand old = popped_off state hand old (target_of state old.page)
+
+-- the holding is fresh, and its chunk has such a place
+abbrev pub can_fill_in : ℕ → Option Holding → Bool
+can_fill_in place None = false
+can_fill_in place (Some holding) = is_fresh holding && nat_lt place (length holding.words)
+
+abbrev pub can_fill : State → ℕ → ChunkId → ℕ → Bool
+can_fill state hand chunk place = can_fill_in place (holding_of chunk (holdings_at state hand))
+
+-- the holding comes back with one more word
+abbrev pub refilled : State → ℕ → ℕ → ℕ → Option Holding → State
+refilled state hand place word None = state
+refilled state hand place word (Some holding) = with_holding state hand (record holding { words = slice_set holding.words place (Some word) })
+
+abbrev pub after_fill : State → ℕ → ChunkId → ℕ → ℕ → State
+after_fill state hand chunk place word =
+    with_word (refilled (without_holding state hand (is_of chunk)) hand place word (holding_of chunk (holdings_at state hand))) chunk place word
+
+-- one holder less
+abbrev pub let_go : Head → Head
+let_go head = record head { count = head.count - 1 }
+
+-- the first holding of the chunk is fresh, or isn't
+abbrev pub holds_as : Bool → Option Holding → Bool
+holds_as fresh None = false
+holds_as fresh (Some holding) = is_fresh holding && fresh || not (is_fresh holding) && not fresh
+
+abbrev pub can_discard : State → ℕ → ChunkId → Bool
+can_discard state hand chunk = holds_as true (holding_of chunk (holdings_at state hand))
+
+abbrev pub can_release : State → ℕ → ChunkId → Bool
+can_release state hand chunk = holds_as false (holding_of chunk (holdings_at state hand))
+
+-- a holding is given up
+abbrev pub after_drop : State → ℕ → ChunkId → State
+after_drop state hand chunk = without_holding (with_head state chunk (let_go (head_at state chunk))) hand (is_of chunk)
+
+abbrev pub with_tag_free : Head → Head
+with_tag_free head = record head { tag = Free }
+
+abbrev pub with_tag_out : Head → Head
+with_tag_out head = record head { tag = Out }
+
+abbrev pub can_put_back : State → ℕ → ChunkId → Bool
+can_put_back state hand chunk = has_slabs state hand && has_chunk state.table chunk && is_dead (head_at state chunk) && is_out_of_class state.slabs chunk
+
+abbrev pub after_put_back : State → ℕ → ChunkId → State
+after_put_back state hand chunk =
+    with_look (with_head (with_slabs state (slabs_changes.after_back state.slabs chunk)) chunk (with_tag_free (head_at state chunk))) hand
+    (PutBack chunk (with_tag_free (head_at state chunk)))
+
+abbrev pub can_clear : State → ℕ → ChunkId → Bool
+can_clear state hand chunk =
+    has_slabs state hand && has_chunk state.table chunk && is_moving_page state.slabs chunk.page && (is_free (head_at state chunk).tag || is_dead (head_at state chunk))
+    && is_listed state.slabs (class_of_page state.slabs chunk.page) chunk
+
+abbrev pub after_clear : State → ℕ → ChunkId → State
+after_clear state hand chunk =
+    with_look (with_head (with_slabs state (slabs_changes.after_clear state.slabs chunk)) chunk (with_tag_out (head_at state chunk))) hand
+    (Cleared chunk (with_tag_out (head_at state chunk)))
+
+-- the chunk is the one to be cut next
+abbrev pub is_next_uncut : SlabState → ChunkId → Bool
+is_next_uncut slabs chunk = option_map_or (λ next. is_chunk next chunk) slabs.uncut false
+
+abbrev pub can_cut : State → ℕ → ChunkId → Bool
+can_cut state hand chunk = has_slabs state hand && has_chunk state.table chunk && is_next_uncut state.slabs chunk && is_out (head_at state chunk).tag
+
+abbrev pub after_cut : State → ℕ → ChunkId → State
+after_cut state hand chunk =
+    with_look (with_head (with_slabs state (slabs_changes.after_cut state.slabs chunk)) chunk (with_tag_free (head_at state chunk))) hand
+    (Cut chunk (with_tag_free (head_at state chunk)))

@@ -1,0 +1,67 @@
+-- The holdings of one hand, and the words of an item.
+use Rattle.std.specs.Prelude.{ℕ, ◌+◌, Bool, true, false, ◌&&◌, nat_le, if◌then◌else◌, List, [], ◌∷◌, length, take, find, slice_index_or, is_some, unwrap_or, Option, None}
+use Rattle.std.specs.List.{list_any, list_all}
+use Rattle.mc_pages.specs.declared.ids.ChunkId.{ChunkId}
+use Rattle.mc_pages.specs.ClassState.{is_chunk}
+use Rattle.mc_core.specs.declared.holding.Holding.{Holding}
+use Rattle.mc_core.specs.declared.holding.Kind.{Kind}
+use Rattle.mc_core.specs.declared.holding.Kind.TheVariants.{Reference, Fresh}
+use Rattle.mc_core.specs.declared.holding.Purpose.TheVariants.{Copy}
+
+-- the words of a chunk, as far as they are known
+abbrev pub Words : Type 0
+Words = List (Option ℕ)
+
+-- a word by its place, 0 where it isn't known
+abbrev pub word_in : Words → ℕ → ℕ
+word_in words place = unwrap_or (slice_index_or words place None) 0
+
+abbrev pub key_in : Words → ℕ
+key_in words = word_in words 0
+
+abbrev pub stamp_in : Words → ℕ
+stamp_in words = word_in words 1
+
+-- how many words an item takes: key, stamp and length, and then as many as its length says
+abbrev pub item_length : Words → ℕ
+item_length words = 3 + word_in words 2
+
+-- the words of the item
+abbrev pub item_in : Words → Words
+item_in words = take (item_length words) words
+
+-- the item fits, and all its words are known
+abbrev pub is_complete : Words → Bool
+is_complete words = nat_le (item_length words) (length words) && list_all is_some (item_in words)
+
+-- the holding is of this chunk
+abbrev pub is_of : ChunkId → Holding → Bool
+is_of chunk holding = is_chunk holding.chunk chunk
+
+-- the first holding of the chunk
+abbrev pub holding_of : ChunkId → List Holding → Option Holding
+holding_of chunk holdings = find (is_of chunk) holdings
+
+-- less the first holding that passes the test
+abbrev pub lose : (Holding → Bool) → List Holding → List Holding
+lose test [] = []
+lose test (holding ∷ holdings) = if test holding then holdings else holding ∷ lose test holdings
+
+abbrev pub is_fresh_kind : Kind → Bool
+is_fresh_kind Reference = false
+is_fresh_kind (Fresh purpose) = true
+
+abbrev pub is_fresh : Holding → Bool
+is_fresh holding = is_fresh_kind holding.kind
+
+-- the fresh chunk is to be a copy of the item in this chunk, which wasn't condemned yet
+abbrev pub is_copy_kind : ChunkId → Kind → Bool
+is_copy_kind old (Fresh (Copy chunk)) = is_chunk chunk old
+is_copy_kind old kind = false
+
+abbrev pub is_copy_of : ChunkId → Holding → Bool
+is_copy_of old holding = is_copy_kind old holding.kind
+
+-- the hand holds a fresh chunk
+abbrev pub has_fresh : List Holding → Bool
+has_fresh holdings = list_any is_fresh holdings

@@ -1,0 +1,203 @@
+-- Items that are linked, referred to, read and unlinked.
+use Rattle.std.specs.Prelude.{ℕ, ◌+◌, ◌-◌, ◌/◌, ◌%◌, ◌^◌, ◌==◌, Bool, true, false, not, ◌&&◌, ◌||◌, nat_lt, if◌then◌else◌, [], ◌∷◌, length, is_none, nat_eq, Option, Some, None}
+use Rattle.std.specs.Option.{option_eq, option_map_or}
+use Rattle.mc_pages.specs.declared.ids.ChunkId.{ChunkId}
+use Rattle.mc_pages.specs.ClassState.{is_chunk}
+use Rattle.mc_stripe.specs.StripeState.{StripeState, ReadyStripe, place_of}
+use Rattle.mc_stripe.specs.Changes as stripe_changes
+use Rattle.mc_stripe.specs.Changes.{after_got, after_lift, after_rescue, used_up}
+use Rattle.mc_core.specs.declared.head.Head.{Head}
+use Rattle.mc_core.specs.declared.head.Tag.TheVariants.{Unlinked, Linked}
+use Rattle.mc_core.specs.declared.ids.Ids.{Ids}
+use Rattle.mc_core.specs.declared.holding.Holding.{Holding}
+use Rattle.mc_core.specs.declared.holding.Kind.{Kind}
+use Rattle.mc_core.specs.declared.holding.Kind.TheVariants.{Reference, Fresh}
+use Rattle.mc_core.specs.declared.holding.Purpose.TheVariants.{Rescue}
+use Rattle.mc_core.specs.declared.look.Look.TheVariants.{Read}
+use Rattle.mc_core.specs.Head.{is_linked, is_unlinked}
+use Rattle.mc_core.specs.Holdings.{Words, key_in, stamp_in, item_in, is_complete, is_of, is_fresh, has_fresh, holding_of}
+use Rattle.mc_core.specs.Looks.{was_linked}
+use Rattle.mc_core.specs.State.{State, has_chunk, head_at, with_head, room_at, word_at, item_at, ids_at, with_ids, has_slabs, has_stripe, stripe_of, stripe_at, with_stripe, holdings_at, with_holding, without_holding, looks_at, with_look}
+use Rattle.mc_core.specs.Silent.{is_aside, writer_of}
+use Rattle.mc_core.specs.Chunks.{has_place}
+
+-- a header after its chunk is linked: the link counts 1
+abbrev pub linked : Head → Head
+linked head = record { issue = head.issue; tag = Linked; count = head.count + 1 }
+
+-- a header after its chunk is unlinked
+abbrev pub unlinked : Head → Head
+unlinked head = record { issue = head.issue; tag = Unlinked; count = head.count - 1 }
+
+-- one holder more
+abbrev pub referred : Head → Head
+referred head = record head { count = head.count + 1 }
+
+-- one more fits into the 16 bits of the count
+abbrev pub can_count : Head → Bool
+can_count head = nat_lt head.count 65535
+
+-- the most stamps of a hand
+abbrev pub most_stamps : ℕ
+most_stamps = 2 ^ 48 - 1
+
+-- the stamp is the next one of the hand: its number times 2^48, plus a count from 1
+abbrev pub is_next_stamp : Ids → ℕ → Bool
+is_next_stamp ids stamp =
+    nat_lt ids.stamps most_stamps && option_eq nat_eq ids.number (Some (stamp / 2 ^ 48)) && stamp % 2 ^ 48 == ids.stamps + 1
+
+-- two items have the same words
+abbrev pub are_same : Words → Words → Bool
+are_same [] [] = true
+are_same [] (y ∷ ys) = false
+are_same (x ∷ xs) [] = false
+are_same (x ∷ xs) (y ∷ ys) = option_eq nat_eq x y && are_same xs ys
+
+-- the entry aside is of this key, chunk and stamp
+abbrev pub is_entry_aside : StripeState → ℕ → ChunkId → ℕ → Bool
+is_entry_aside stripe key chunk stamp = option_map_or (λ entry. entry.0 == key && is_chunk entry.1.0 chunk && entry.1.1 == stamp) stripe.aside false
+
+-- no other key is aside
+abbrev pub is_none_else_aside : StripeState → ℕ → Bool
+is_none_else_aside stripe key = is_none stripe.aside || is_aside stripe key
+
+-- an item of the hand's own has its next stamp; a copy has the words of the item that was condemned, whose entry is aside
+abbrev pub suits : State → ℕ → Words → Kind → Bool
+suits state hand words Reference = false
+suits state hand words (Fresh (Rescue old item)) =
+    are_same (item_in words) item && is_entry_aside (stripe_at state (stripe_of state (key_in words))).state (key_in words) old (stamp_in words)
+suits state hand words (Fresh purpose) =
+    is_next_stamp (ids_at state hand) (stamp_in words) && is_none_else_aside (stripe_at state (stripe_of state (key_in words))).state (key_in words)
+
+-- the stripe of the key is held, has room for a call, and the key leads nowhere
+abbrev pub can_link_key : State → ℕ → ℕ → Bool
+can_link_key state hand key =
+    has_stripe state hand (stripe_of state key) && (stripe_at state (stripe_of state key)).ready && is_none (place_of (stripe_at state (stripe_of state key)).state key)
+
+abbrev pub can_link_holding : State → ℕ → ChunkId → Option Holding → Bool
+can_link_holding state hand chunk None = false
+can_link_holding state hand chunk (Some holding) =
+    is_complete holding.words && can_link_key state hand (key_in holding.words) && suits state hand holding.words holding.kind
+    && is_unlinked (head_at state chunk).tag && can_count (head_at state chunk)
+
+abbrev pub can_link : State → ℕ → ChunkId → Bool
+can_link state hand chunk = can_link_holding state hand chunk (holding_of chunk (holdings_at state hand))
+
+-- the hand gave out one more stamp
+abbrev pub stamped : Ids → Ids
+stamped ids = record ids { stamps = ids.stamps + 1 }
+
+-- the stripe after the link: the entry aside comes back, or an item is stored
+abbrev pub stripe_linked : StripeState → ℕ → Words → ChunkId → Kind → StripeState
+stripe_linked stripe writer words chunk (Fresh (Rescue old item)) = after_rescue stripe writer (key_in words) chunk
+stripe_linked stripe writer words chunk kind = stripe_changes.after_link stripe writer (key_in words) chunk (stamp_in words)
+
+-- a stamp is given out, but for a copy
+abbrev pub ids_linked : Ids → Kind → Ids
+ids_linked ids (Fresh (Rescue old item)) = ids
+ids_linked ids kind = stamped ids
+
+-- the hand refers to the item
+abbrev pub as_reference : Holding → Holding
+as_reference holding = record holding { kind = Reference; words = item_in holding.words }
+
+abbrev pub after_link_of : State → ℕ → ChunkId → Option Holding → State
+after_link_of state hand chunk None = state
+after_link_of state hand chunk (Some holding) =
+    let stripe = stripe_of state (key_in holding.words) in
+    with_holding (with_head (with_ids (with_stripe state stripe
+    (used_up (stripe_linked (stripe_at state stripe).state (writer_of state hand) holding.words chunk holding.kind)))
+    hand (ids_linked (ids_at state hand) holding.kind))
+    chunk (linked (head_at state chunk)))
+    hand (as_reference holding)
+
+abbrev pub after_link : State → ℕ → ChunkId → State
+after_link state hand chunk = after_link_of (without_holding state hand (is_of chunk)) hand chunk (holding_of chunk (holdings_at state hand))
+
+-- a reference to the item in the chunk
+abbrev pub new_reference : State → ChunkId → Holding
+new_reference state chunk = record { chunk = chunk; issue = (head_at state chunk).issue; kind = Reference; words = item_at state chunk }
+
+abbrev pub with_reference : State → ℕ → ChunkId → State
+with_reference state hand chunk = with_holding (with_head state chunk (referred (head_at state chunk))) hand (new_reference state chunk)
+
+-- the chunk to which the key leads
+abbrev pub chunk_of : State → ℕ → Option (ChunkId × ℕ)
+chunk_of state key = place_of (stripe_at state (stripe_of state key)).state key
+
+-- a linked chunk, with room in its count
+abbrev pub can_refer_to : State → Option (ChunkId × ℕ) → Bool
+can_refer_to state None = false
+can_refer_to state (Some place) = is_linked (head_at state place.0).tag && can_count (head_at state place.0)
+
+-- the stripe of the key is held, and has room for a call
+abbrev pub is_ready_for : State → ℕ → ℕ → Bool
+is_ready_for state hand key =
+    has_stripe state hand (stripe_of state key) && (stripe_at state (stripe_of state key)).ready && not (is_aside (stripe_at state (stripe_of state key)).state key)
+
+abbrev pub can_refer : State → ℕ → ℕ → Bool
+can_refer state hand key = is_ready_for state hand key && has_place state hand && can_refer_to state (chunk_of state key)
+
+abbrev pub referred_to : State → ℕ → Option (ChunkId × ℕ) → State
+referred_to state hand None = state
+referred_to state hand (Some place) = with_reference state hand place.0
+
+abbrev pub with_got : State → ℕ → ℕ → State
+with_got state hand key =
+    with_stripe state (stripe_of state key) (used_up (after_got (stripe_at state (stripe_of state key)).state (writer_of state hand) key))
+
+abbrev pub after_refer : State → ℕ → ℕ → State
+after_refer state hand key = referred_to (with_got state hand key) hand (chunk_of state key)
+
+-- a hand with a fresh chunk puts the entry aside, and so none may be there
+abbrev pub can_lift : State → ℕ → ℕ → Bool
+can_lift state hand key = not (has_fresh (holdings_at state hand)) || is_none (stripe_at state (stripe_of state key)).state.aside
+
+abbrev pub is_linked_at : State → Option (ChunkId × ℕ) → Bool
+is_linked_at state None = false
+is_linked_at state (Some place) = is_linked (head_at state place.0).tag
+
+abbrev pub can_unlink : State → ℕ → ℕ → Bool
+can_unlink state hand key = is_ready_for state hand key && can_lift state hand key && is_linked_at state (chunk_of state key)
+
+-- the stripe after the key is deleted, or its entry put aside
+abbrev pub stripe_unlinked : ReadyStripe → Bool → ℕ → ℕ → ReadyStripe
+stripe_unlinked stripe lifts writer key =
+    if lifts then record stripe { state = after_lift stripe.state key } else used_up (stripe_changes.after_unlink stripe.state writer key)
+
+abbrev pub with_unlinked : State → Option (ChunkId × ℕ) → State
+with_unlinked state None = state
+with_unlinked state (Some place) = with_head state place.0 (unlinked (head_at state place.0))
+
+abbrev pub after_unlink : State → ℕ → ℕ → State
+after_unlink state hand key =
+    with_unlinked (with_stripe state (stripe_of state key)
+    (stripe_unlinked (stripe_at state (stripe_of state key)) (has_fresh (holdings_at state hand)) (writer_of state hand) key))
+    (chunk_of state key)
+
+-- the most holdings of a hand that takes a reference without a lock
+abbrev pub has_place_again : State → ℕ → Bool
+has_place_again state hand = nat_lt (length (holdings_at state hand)) 255
+
+abbrev pub can_again : State → ℕ → ChunkId → ℕ → Bool
+can_again state hand chunk issue =
+    has_chunk state.table chunk && has_place_again state hand && is_linked (head_at state chunk).tag && (head_at state chunk).issue == issue && can_count (head_at state chunk)
+
+abbrev pub after_again : State → ℕ → ChunkId → State
+after_again state hand chunk = with_reference state hand chunk
+
+-- the first holding of the chunk is a reference, and its item has such a word
+abbrev pub can_read_in : ℕ → Option Holding → Bool
+can_read_in place None = false
+can_read_in place (Some holding) = not (is_fresh holding) && nat_lt place (length holding.words)
+
+abbrev pub can_word : State → ℕ → ChunkId → ℕ → Bool
+can_word state hand chunk place = can_read_in place (holding_of chunk (holdings_at state hand))
+
+-- a word of a chunk that the hand found linked under the slabs lock
+abbrev pub can_word_held : State → ℕ → ChunkId → ℕ → Bool
+can_word_held state hand chunk place =
+    has_slabs state hand && has_chunk state.table chunk && was_linked (looks_at state hand) chunk && nat_lt place (room_at state chunk)
+
+abbrev pub after_word_held : State → ℕ → ChunkId → ℕ → State
+after_word_held state hand chunk place = with_look state hand (Read chunk place (word_at state chunk place))

@@ -1,0 +1,131 @@
+-- Changes of the values behind locks that touch no word.
+use Rattle.std.specs.Prelude.{ℕ, ◌==◌, Bool, true, false, not, ◌&&◌, ◌||◌, nat_le, nat_lt, List, [], ◌∷◌, is_some, is_none, is_ok, unwrap_or, Option, Some, None, Result, Ok, Err}
+use Rattle.std.specs.List.{list_any}
+use Rattle.std.specs.Option.{option_map_or}
+use Rattle.mc_classes.specs.Classes.{Classes, per_page_of}
+use Rattle.mc_pages.specs.declared.ids.ChunkId.{ChunkId}
+use Rattle.mc_pages.specs.declared.ids.Moving.{Moving}
+use Rattle.mc_pages.specs.declared.moves.Found.{Found}
+use Rattle.mc_pages.specs.declared.moves.Reassign.{Reassign}
+use Rattle.mc_pages.specs.ClassState.{is_chunk}
+use Rattle.mc_pages.specs.SlabState.{SlabState, class_at, class_of_chunk}
+use Rattle.mc_pages.specs.Changes.{after_touch, after_evicted, after_grow, next_page}
+use Rattle.mc_pages.specs.Answer.{answer_of}
+use Rattle.mc_pages.specs.Moves.{after_begin, after_finish, after_passed, after_wrap, is_held_up, chunk_at_position}
+use Rattle.mc_stripe.specs.StripeState.{StripeState, ReadyStripe, key_aside, place_of}
+use Rattle.mc_stripe.specs.Changes.{after_got, after_unlink, used_up}
+use Rattle.mc_core.specs.declared.event.Change.{Change}
+use Rattle.mc_core.specs.declared.event.Change.TheVariants.{Grow, BeginMove, FinishMove, Touch, SetAutomove, Passed, Wrap, Evicted, Reserve, GotNone, DeletedNone}
+use Rattle.mc_core.specs.declared.look.Look.TheVariants.{Changed}
+use Rattle.mc_core.specs.State.{State, is_class, number_at, has_slabs, has_stripe, stripe_of, stripe_at, with_stripe, with_slabs, with_look}
+
+-- the chunk stands in the list
+abbrev pub is_among : List ChunkId → ChunkId → Bool
+is_among chunks chunk = list_any (λ c. is_chunk c chunk) chunks
+
+-- the chunk is handed out
+abbrev pub is_out_of_class : SlabState → ChunkId → Bool
+is_out_of_class slabs chunk = is_among (class_of_chunk slabs chunk).order chunk
+
+-- the chunk is in a list of the class
+abbrev pub is_listed : SlabState → ℕ → ChunkId → Bool
+is_listed slabs class chunk = is_among (class_at slabs class).free chunk || is_among (class_at slabs class).order chunk
+
+-- some chunk of the page is in a list of the class
+abbrev pub has_listed : SlabState → ℕ → ℕ → Bool
+has_listed slabs class page =
+    list_any (λ c. c.page == page) (class_at slabs class).free || list_any (λ c. c.page == page) (class_at slabs class).order
+
+-- a page is whole, or its chunks aren't all cut yet
+abbrev pub is_whole : SlabState → Bool
+is_whole slabs = is_none slabs.uncut
+
+abbrev pub can_grow : Classes → SlabState → ℕ → Bool
+can_grow table slabs class = is_class table class && is_whole slabs && is_some (next_page slabs)
+
+-- each chunk of the moving page is cleared
+abbrev pub can_finish : SlabState → Option Moving → Bool
+can_finish slabs None = false
+can_finish slabs (Some move) = is_whole slabs && not (has_listed slabs move.src move.page)
+
+-- the chunk at the position is cleared, or holds up the move
+abbrev pub can_pass : Classes → SlabState → Found → Option Moving → Bool
+can_pass table slabs found None = false
+can_pass table slabs found (Some move) =
+    nat_lt move.at (per_page_of table move.src) && (is_held_up found || not (is_listed slabs move.src (chunk_at_position move)))
+
+-- the pass is at the page's end, and something held it up
+abbrev pub can_wrap : Classes → Option Moving → Bool
+can_wrap table None = false
+can_wrap table (Some move) = move.at == per_page_of table move.src && nat_le 1 move.busy
+
+-- a change of pages and lists is allowed
+abbrev pub can_change_slabs : Classes → SlabState → Change → Bool
+can_change_slabs table slabs (Grow class) = can_grow table slabs class
+can_change_slabs table slabs (BeginMove src dst) = is_ok (answer_of slabs src dst)
+can_change_slabs table slabs FinishMove = can_finish slabs slabs.moving
+can_change_slabs table slabs (Touch chunk) = is_out_of_class slabs chunk
+can_change_slabs table slabs (SetAutomove mode) = nat_le mode 2
+can_change_slabs table slabs (Passed found) = can_pass table slabs found slabs.moving
+can_change_slabs table slabs Wrap = can_wrap table slabs.moving
+can_change_slabs table slabs (Evicted class) = is_class table class
+can_change_slabs table slabs change = false
+
+-- the class got the next page, where there is one
+abbrev pub grown : SlabState → ℕ → Option ℕ → SlabState
+grown slabs class None = slabs
+grown slabs class (Some page) = after_grow slabs class page
+
+-- the page began to move, where the answer is OK
+abbrev pub begun : SlabState → Option ℕ → ℕ → Result ℕ Reassign → SlabState
+begun slabs src dst (Err refusal) = slabs
+begun slabs src dst (Ok source) = after_begin slabs src source dst
+
+-- pages and lists after the change
+abbrev pub slabs_after : SlabState → Change → SlabState
+slabs_after slabs (Grow class) = grown slabs class (next_page slabs)
+slabs_after slabs (BeginMove src dst) = begun slabs src dst (answer_of slabs src dst)
+slabs_after slabs FinishMove = after_finish slabs slabs.moving
+slabs_after slabs (Touch chunk) = after_touch slabs chunk
+slabs_after slabs (SetAutomove mode) = record slabs { automove = mode }
+slabs_after slabs (Passed found) = after_passed slabs found
+slabs_after slabs Wrap = after_wrap slabs
+slabs_after slabs (Evicted class) = after_evicted slabs class
+slabs_after slabs change = slabs
+
+-- the key's entry is aside
+abbrev pub is_aside : StripeState → ℕ → Bool
+is_aside stripe key = option_map_or (λ other. other == key) (key_aside stripe) false
+
+-- there is room for a call, and the key leads nowhere
+abbrev pub can_tell_none : ReadyStripe → ℕ → Bool
+can_tell_none stripe key = stripe.ready && not (is_aside stripe.state key) && is_none (place_of stripe.state key)
+
+-- the number that a hand writes into histories
+abbrev pub writer_of : State → ℕ → ℕ
+writer_of state hand = unwrap_or (number_at state hand) 0
+
+-- the hand may make this change of a value behind a lock that it has
+abbrev pub allows_change : State → ℕ → Change → Bool
+allows_change state hand (Reserve stripe) = has_stripe state hand stripe
+allows_change state hand (GotNone key) = has_stripe state hand (stripe_of state key) && can_tell_none (stripe_at state (stripe_of state key)) key
+allows_change state hand (DeletedNone key) = has_stripe state hand (stripe_of state key) && can_tell_none (stripe_at state (stripe_of state key)) key
+allows_change state hand change = has_slabs state hand && can_change_slabs state.table state.slabs change
+
+-- the state after the change
+abbrev pub after_change : State → ℕ → Change → State
+after_change state hand (Reserve stripe) = with_stripe state stripe (record (stripe_at state stripe) { ready = true })
+after_change state hand (GotNone key) =
+    with_stripe state (stripe_of state key) (used_up (after_got (stripe_at state (stripe_of state key)).state (writer_of state hand) key))
+after_change state hand (DeletedNone key) =
+    with_stripe state (stripe_of state key) (used_up (after_unlink (stripe_at state (stripe_of state key)).state (writer_of state hand) key))
+after_change state hand change = with_look (with_slabs state (slabs_after state.slabs change)) hand (Changed change)
+
+-- all these changes, one after another, are allowed
+abbrev pub allows_changes : State → ℕ → List Change → Bool
+allows_changes state hand [] = true
+allows_changes state hand (change ∷ changes) = allows_change state hand change && allows_changes (after_change state hand change) hand changes
+
+abbrev pub after_changes : State → ℕ → List Change → State
+after_changes state hand [] = state
+after_changes state hand (change ∷ changes) = after_changes (after_change state hand change) hand changes

@@ -1,0 +1,154 @@
+-- The arena between two steps: a column for each kind of word, the values behind the locks, and what each hand has.
+use Rattle.std.specs.Prelude.{ℕ, ◌+◌, ◌*◌, ◌/◌, ◌%◌, min, ◌==◌, Bool, false, ◌&&◌, nat_le, nat_lt, if◌then◌else◌, List, [], ◌∷◌, ◌++◌, length, map, replicate, slice_index, slice_index_or, slice_set, is_some, Option, Some, None}
+use Rattle.std.specs.List.{range_with_len}
+use Rattle.mc_classes.specs.Classes.{Classes, pages_of, size_of, per_page_of}
+use Rattle.mc_pages.specs.declared.ids.ChunkId.{ChunkId}
+use Rattle.mc_pages.specs.SlabState.{SlabState, fresh_slabs, class_of_page}
+use Rattle.mc_stripe.specs.StripeState.{ReadyStripe, new_stripe}
+use Rattle.mc_core.specs.declared.head.Head.{Head}
+use Rattle.mc_core.specs.declared.ids.Ids.{Ids}
+use Rattle.mc_core.specs.declared.holding.Holding.{Holding}
+use Rattle.mc_core.specs.declared.look.Look.{Look}
+use Rattle.mc_core.specs.Head.{never_cut}
+use Rattle.mc_core.specs.Holdings.{Words, lose}
+
+pub record State : Type 0 where
+  -- the size classes, which never change
+  pub table : Classes
+  -- a header for each index of each page
+  pub heads : List Head
+  -- the data words, page 0 first
+  pub words : List ℕ
+  -- 0, or the number of the hand that has the lock, plus 1
+  pub slabs_lock : ℕ
+  pub stripe_locks : List ℕ
+  -- the values behind the locks, wherever they are
+  pub slabs : SlabState
+  pub stripes : List ReadyStripe
+  -- of each hand: who it is, what it holds, and what it saw under its last hold of the slabs lock
+  pub ids : List Ids
+  pub holdings : List (List Holding)
+  pub looks : List (List Look)
+
+-- the most chunks of a page
+abbrev pub most_of : Classes → ℕ
+most_of table = per_page_of table 1
+
+-- the words of a page
+abbrev pub page_words : Classes → ℕ
+page_words table = table.page / 8
+
+abbrev pub is_class : Classes → ℕ → Bool
+is_class table class = nat_le 1 class && nat_le class (length table.sizes)
+
+-- the words of a chunk of the class, none where there is no such class
+abbrev pub room_in : Classes → ℕ → ℕ
+room_in table class = if is_class table class then size_of table class / 8 else 0
+
+-- the arena has such a chunk
+abbrev pub has_chunk : Classes → ChunkId → Bool
+has_chunk table chunk = nat_lt chunk.page (pages_of table) && nat_lt chunk.index (most_of table)
+
+-- where the header of a chunk stands
+abbrev pub head_place : Classes → ChunkId → ℕ
+head_place table chunk = chunk.page * most_of table + chunk.index
+
+abbrev pub head_at : State → ChunkId → Head
+head_at state chunk = slice_index_or state.heads (head_place state.table chunk) never_cut
+
+abbrev pub with_head : State → ChunkId → Head → State
+with_head state chunk head = record state { heads = slice_set state.heads (head_place state.table chunk) head }
+
+-- how many words a chunk of the page has
+abbrev pub room_at : State → ChunkId → ℕ
+room_at state chunk = room_in state.table (class_of_page state.slabs chunk.page)
+
+-- where a word of a chunk stands
+abbrev pub word_place : State → ChunkId → ℕ → ℕ
+word_place state chunk place = chunk.page * page_words state.table + chunk.index * room_at state chunk + place
+
+abbrev pub word_at : State → ChunkId → ℕ → ℕ
+word_at state chunk place = slice_index state.words (word_place state chunk place)
+
+abbrev pub with_word : State → ChunkId → ℕ → ℕ → State
+with_word state chunk place word = record state { words = slice_set state.words (word_place state chunk place) word }
+
+-- the item in a chunk: key, stamp, length, and as many words as its length says, as far as the chunk goes
+abbrev pub item_at : State → ChunkId → Words
+item_at state chunk = map (λ place. Some (word_at state chunk place)) (range_with_len 0 (min (3 + word_at state chunk 2) (room_at state chunk)))
+
+-- a hand that another took over
+abbrev pub gone : Ids
+gone = record { number = None; stamps = 0 }
+
+abbrev pub ids_at : State → ℕ → Ids
+ids_at state hand = slice_index_or state.ids hand gone
+
+-- the number of a hand, none where it is gone or was never there
+abbrev pub number_at : State → ℕ → Option ℕ
+number_at state hand = (ids_at state hand).number
+
+abbrev pub is_hand : State → ℕ → Bool
+is_hand state hand = is_some (number_at state hand)
+
+abbrev pub with_ids : State → ℕ → Ids → State
+with_ids state hand ids = record state { ids = slice_set state.ids hand ids }
+
+-- the word of a lock says that the hand of this number has it
+abbrev pub is_held_by : ℕ → Option ℕ → Bool
+is_held_by word None = false
+is_held_by word (Some number) = word == number + 1
+
+abbrev pub has_slabs : State → ℕ → Bool
+has_slabs state hand = is_held_by state.slabs_lock (number_at state hand)
+
+abbrev pub has_stripe : State → ℕ → ℕ → Bool
+has_stripe state hand stripe = is_held_by (slice_index state.stripe_locks stripe) (number_at state hand)
+
+-- the stripe of a key
+abbrev pub stripe_of : State → ℕ → ℕ
+stripe_of state key = key % length state.stripes
+
+abbrev pub stripe_at : State → ℕ → ReadyStripe
+stripe_at state stripe = slice_index_or state.stripes stripe new_stripe
+
+abbrev pub with_stripe : State → ℕ → ReadyStripe → State
+with_stripe state stripe value = record state { stripes = slice_set state.stripes stripe value }
+
+abbrev pub with_slabs : State → SlabState → State
+with_slabs state slabs = record state { slabs = slabs }
+
+abbrev pub holdings_at : State → ℕ → List Holding
+holdings_at state hand = slice_index_or state.holdings hand []
+
+abbrev pub with_holding : State → ℕ → Holding → State
+with_holding state hand holding = record state { holdings = slice_set state.holdings hand (holdings_at state hand ++ holding ∷ []) }
+
+-- less the hand's first holding that passes the test
+abbrev pub without_holding : State → ℕ → (Holding → Bool) → State
+without_holding state hand test = record state { holdings = slice_set state.holdings hand (lose test (holdings_at state hand)) }
+
+abbrev pub looks_at : State → ℕ → List Look
+looks_at state hand = slice_index_or state.looks hand []
+
+abbrev pub with_looks : State → ℕ → List Look → State
+with_looks state hand looks = record state { looks = slice_set state.looks hand looks }
+
+-- what the hand saw or did under the slabs lock
+abbrev pub with_look : State → ℕ → Look → State
+with_look state hand look = with_looks state hand (looks_at state hand ++ look ∷ [])
+
+-- all pages untouched, all locks free, and hands numbered from 0 that hold nothing
+abbrev pub new_state : Classes → ℕ → ℕ → State
+new_state table stripes hands = record {
+  table = table;
+  heads = replicate (pages_of table * most_of table) never_cut;
+  words = replicate (pages_of table * page_words table) 0;
+  slabs_lock = 0;
+  stripe_locks = replicate stripes 0;
+  slabs = fresh_slabs table;
+  stripes = replicate stripes new_stripe;
+  ids = map (λ number. record { number = Some number; stamps = 0 }) (range_with_len 0 hands);
+  holdings = replicate hands [];
+  looks = replicate hands [];
+}
