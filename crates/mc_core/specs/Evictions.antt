@@ -1,5 +1,5 @@
 -- Items that are taken away from their chunks, to make room or since their page moves.
-use Rattle.std.specs.Prelude.{ℕ, ◌==◌, Bool, not, ◌&&◌, ◌||◌, find, is_some, is_none, Option, Some, None}
+use Rattle.std.specs.Prelude.{ℕ, ◌==◌, Bool, not, ◌&&◌, ◌||◌, if◌then◌else◌, find, is_some, is_none, Option, Some, None}
 use Rattle.std.specs.List.{list_all, list_any}
 use Rattle.mc_classes.specs.Classes.{pages_of}
 use Rattle.mc_pages.specs.declared.ids.ChunkId.{ChunkId}
@@ -77,18 +77,24 @@ with_rescue state hand old item None = state
 with_rescue state hand old item (Some holding) = with_holding state hand (as_rescue old item holding)
 
 -- the stripe of the key: its entry is put aside for a rescue, and else evicted
-abbrev pub stripe_condemned : ReadyStripe → Option Holding → ℕ → ℕ → ReadyStripe
-stripe_condemned stripe None writer key = used_up (after_evict stripe.state writer key)
-stripe_condemned stripe (Some holding) writer key = record stripe { state = after_lift stripe.state key }
+abbrev pub stripe_condemned : ReadyStripe → Bool → ℕ → ℕ → ReadyStripe
+stripe_condemned stripe rescues writer key =
+    if rescues then record stripe { state = after_lift stripe.state key } else used_up (after_evict stripe.state writer key)
 
 -- the hand's copy of this chunk
 abbrev pub copy_of : State → ℕ → ChunkId → Option Holding
 copy_of state hand chunk = find (is_copy_of chunk) (holdings_at state hand)
 
+-- the hand's copy of this chunk, if it has one, is to have these words
+abbrev pub with_bound : State → ℕ → ChunkId → Words → State
+with_bound state hand chunk item = with_rescue (without_holding state hand (is_copy_of chunk)) hand chunk item (copy_of state hand chunk)
+
+-- the stripe of the key knows that the item was taken away
+abbrev pub with_told : State → ℕ → ChunkId → ℕ → State
+with_told state hand chunk key =
+    with_stripe state (stripe_of state key) (stripe_condemned (stripe_at state (stripe_of state key)) (has_copy state hand chunk) (writer_of state hand) key)
+
 abbrev pub after_condemn : State → ℕ → ChunkId → State
 after_condemn state hand chunk =
-    let key = key_at state chunk in
-    let taken = with_stripe state (stripe_of state key) (stripe_condemned (stripe_at state (stripe_of state key)) (copy_of state hand chunk) (writer_of state hand) key) in
-    with_look (with_head (with_rescue (without_holding taken hand (is_copy_of chunk)) hand chunk (item_at state chunk) (copy_of state hand chunk))
-    chunk (condemned (head_at state chunk)))
+    with_look (with_head (with_bound (with_told state hand chunk (key_at state chunk)) hand chunk (item_at state chunk)) chunk (condemned (head_at state chunk)))
     hand (Condemned chunk (condemned (head_at state chunk)))

@@ -30,9 +30,13 @@ item_length words = 3 + word_in words 2
 abbrev pub item_in : Words → Words
 item_in words = take (item_length words) words
 
+-- there are as many words as the item takes
+abbrev pub fits : Words → Bool
+fits words = nat_le (item_length words) (length words)
+
 -- the item fits, and all its words are known
 abbrev pub is_complete : Words → Bool
-is_complete words = nat_le (item_length words) (length words) && list_all is_some (item_in words)
+is_complete words = fits words && list_all is_some (item_in words)
 
 -- the holding is of this chunk
 abbrev pub is_of : ChunkId → Holding → Bool

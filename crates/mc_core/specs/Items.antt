@@ -74,11 +74,14 @@ abbrev pub can_link_key : State → ℕ → ℕ → Bool
 can_link_key state hand key =
     has_stripe state hand (stripe_of state key) && (stripe_at state (stripe_of state key)).ready && is_none (place_of (stripe_at state (stripe_of state key)).state key)
 
+-- the stripe of the key may come to know of the link
+abbrev pub can_tell_link : State → ℕ → Holding → Bool
+can_tell_link state hand holding = can_link_key state hand (key_in holding.words) && suits state hand holding.words holding.kind
+
 abbrev pub can_link_holding : State → ℕ → ChunkId → Option Holding → Bool
 can_link_holding state hand chunk None = false
 can_link_holding state hand chunk (Some holding) =
-    is_complete holding.words && can_link_key state hand (key_in holding.words) && suits state hand holding.words holding.kind
-    && is_unlinked (head_at state chunk).tag && can_count (head_at state chunk)
+    is_complete holding.words && can_tell_link state hand holding && is_unlinked (head_at state chunk).tag && can_count (head_at state chunk)
 
 abbrev pub can_link : State → ℕ → ChunkId → Bool
 can_link state hand chunk = can_link_holding state hand chunk (holding_of chunk (holdings_at state hand))
@@ -87,29 +90,36 @@ can_link state hand chunk = can_link_holding state hand chunk (holding_of chunk 
 abbrev pub stamped : Ids → Ids
 stamped ids = record ids { stamps = ids.stamps + 1 }
 
--- the stripe after the link: the entry aside comes back, or an item is stored
-abbrev pub stripe_linked : StripeState → ℕ → Words → ChunkId → Kind → StripeState
-stripe_linked stripe writer words chunk (Fresh (Rescue old item)) = after_rescue stripe writer (key_in words) chunk
-stripe_linked stripe writer words chunk kind = stripe_changes.after_link stripe writer (key_in words) chunk (stamp_in words)
-
--- a stamp is given out, but for a copy
-abbrev pub ids_linked : Ids → Kind → Ids
-ids_linked ids (Fresh (Rescue old item)) = ids
-ids_linked ids kind = stamped ids
-
 -- the hand refers to the item
 abbrev pub as_reference : Holding → Holding
 as_reference holding = record holding { kind = Reference; words = item_in holding.words }
 
+-- the entry aside comes back with the new chunk
+abbrev pub with_rescued : State → ℕ → Holding → State
+with_rescued state hand holding =
+    let stripe = stripe_of state (key_in holding.words) in
+    with_stripe state stripe (used_up (after_rescue (stripe_at state stripe).state (writer_of state hand) (key_in holding.words) holding.chunk))
+
+-- an item is stored, and a stamp given out
+abbrev pub with_set : State → ℕ → Holding → State
+with_set state hand holding =
+    let stripe = stripe_of state (key_in holding.words) in
+    with_ids (with_stripe state stripe
+    (used_up (stripe_changes.after_link (stripe_at state stripe).state (writer_of state hand) (key_in holding.words) holding.chunk (stamp_in holding.words))))
+    hand (stamped (ids_at state hand))
+
+abbrev pub told_link : State → ℕ → Holding → Kind → State
+told_link state hand holding (Fresh (Rescue old item)) = with_rescued state hand holding
+told_link state hand holding kind = with_set state hand holding
+
+-- the stripe of the key knows of the link
+abbrev pub with_told_link : State → ℕ → Holding → State
+with_told_link state hand holding = told_link state hand holding holding.kind
+
 abbrev pub after_link_of : State → ℕ → ChunkId → Option Holding → State
 after_link_of state hand chunk None = state
 after_link_of state hand chunk (Some holding) =
-    let stripe = stripe_of state (key_in holding.words) in
-    with_holding (with_head (with_ids (with_stripe state stripe
-    (used_up (stripe_linked (stripe_at state stripe).state (writer_of state hand) holding.words chunk holding.kind)))
-    hand (ids_linked (ids_at state hand) holding.kind))
-    chunk (linked (head_at state chunk)))
-    hand (as_reference holding)
+    with_holding (with_head (with_told_link state hand holding) chunk (linked (head_at state chunk))) hand (as_reference holding)
 
 abbrev pub after_link : State → ℕ → ChunkId → State
 after_link state hand chunk = after_link_of (without_holding state hand (is_of chunk)) hand chunk (holding_of chunk (holdings_at state hand))

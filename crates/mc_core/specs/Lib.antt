@@ -3,6 +3,7 @@ pub mod Holdings
 pub mod Looks
 pub mod State
 pub mod Silent
+pub mod Done
 pub mod Locks
 pub mod Chunks
 pub mod Items
@@ -10,3 +11,4 @@ pub mod Evictions
 pub mod Hands
 pub mod Run
 pub mod Rows
+pub mod InOrder

@@ -1,10 +1,14 @@
 -- Lists of events, played one after another.
-use Rattle.std.specs.Prelude.{ℕ, ◌+◌, Bool, true, ◌&&◌, if◌then◌else◌, List, [], ◌∷◌, Result, Ok, Err}
+use Rattle.std.specs.Prelude.{◌≡◌, ◌⊎◌, ℕ, ◌+◌, Bool, true, ◌&&◌, if◌then◌else◌, List, [], ◌∷◌, Result, Ok, Err}
 use Rattle.mc_core.specs.declared.event.Event.{Event}
 use Rattle.mc_core.specs.declared.event.Step.{Step}
 use Rattle.mc_core.specs.declared.event.Step.TheVariants.{TakeSlabs, TakeStripe, MissSlabs, MissStripe, GiveSlabs, GiveStripe, Pop, PopOff, Fill, Word, WordHeld, Link, Refer, Unlink, Release, Discard, Condemn, PutBack, Clear, Cut, Again, Join}
 use Rattle.mc_core.specs.declared.event.Step.TheVariants as step
-use Rattle.mc_core.specs.State.{State, is_hand}
+use Rattle.mc_classes.specs.declared.config.Config.{Config}
+use Rattle.mc_classes.specs.Classes.{Classes, IsTableOf}
+use Rattle.mc_core.specs.declared.stop.Stop.{Stop}
+use Rattle.mc_core.specs.declared.stop.Stop.TheVariants.{NotAllowed, NoMemory}
+use Rattle.mc_core.specs.State.{State, is_hand, new_state}
 use Rattle.mc_core.specs.Silent.{allows_changes, after_changes}
 use Rattle.mc_core.specs.Locks as locks
 use Rattle.mc_core.specs.Chunks as chunks
@@ -80,3 +84,12 @@ play_from place state (event ∷ events) = if is_allowed state event then play_f
 
 abbrev pub play : State → List Event → Result State ℕ
 play state events = play_from 0 state events
+
+-- what the events answer from the beginning: a state, or the place of the first event that isn't allowed; or memory ran out
+abbrev pub TellsEnd : Result State ℕ → Result State Stop → Type 0
+TellsEnd (Ok state) told = (told ≡ Ok state) ⊎ (told ≡ Err NoMemory)
+TellsEnd (Err place) told = (told ≡ Err (NotAllowed place)) ⊎ (told ≡ Err NoMemory)
+
+-- the events were played with the table of this configuration, from the beginning
+pub record IsPlayed (config : Config) (hands : ℕ) (events : List Event) (told : Result State Stop) : Type 0 where
+  pub exact : (table : Classes) → IsTableOf config table → TellsEnd (play (new_state table config.stripes hands) events) told

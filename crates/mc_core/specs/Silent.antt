@@ -1,5 +1,5 @@
 -- Changes of the values behind locks that touch no word.
-use Rattle.std.specs.Prelude.{ℕ, ◌==◌, Bool, true, false, not, ◌&&◌, ◌||◌, nat_le, nat_lt, List, [], ◌∷◌, is_some, is_none, is_ok, unwrap_or, Option, Some, None, Result, Ok, Err}
+use Rattle.std.specs.Prelude.{ℕ, ◌==◌, Bool, true, false, not, ◌&&◌, ◌||◌, nat_le, nat_lt, if◌then◌else◌, List, [], ◌∷◌, is_some, is_none, is_ok, unwrap_or, Option, Some, None, Result, Ok, Err}
 use Rattle.std.specs.List.{list_any}
 use Rattle.std.specs.Option.{option_map_or}
 use Rattle.mc_classes.specs.Classes.{Classes, per_page_of}
@@ -9,6 +9,7 @@ use Rattle.mc_pages.specs.declared.moves.Found.{Found}
 use Rattle.mc_pages.specs.declared.moves.Reassign.{Reassign}
 use Rattle.mc_pages.specs.ClassState.{is_chunk}
 use Rattle.mc_pages.specs.SlabState.{SlabState, class_at, class_of_chunk}
+use Rattle.mc_pages.specs.Accounted.{cut_count}
 use Rattle.mc_pages.specs.Changes.{after_touch, after_evicted, after_grow, next_page}
 use Rattle.mc_pages.specs.Answer.{answer_of}
 use Rattle.mc_pages.specs.Moves.{after_begin, after_finish, after_passed, after_wrap, is_held_up, chunk_at_position}
@@ -31,10 +32,13 @@ is_out_of_class slabs chunk = is_among (class_of_chunk slabs chunk).order chunk
 abbrev pub is_listed : SlabState → ℕ → ChunkId → Bool
 is_listed slabs class chunk = is_among (class_at slabs class).free chunk || is_among (class_at slabs class).order chunk
 
+-- some chunk of the page stands in the list
+abbrev pub has_page : List ChunkId → ℕ → Bool
+has_page chunks page = list_any (λ c. c.page == page) chunks
+
 -- some chunk of the page is in a list of the class
 abbrev pub has_listed : SlabState → ℕ → ℕ → Bool
-has_listed slabs class page =
-    list_any (λ c. c.page == page) (class_at slabs class).free || list_any (λ c. c.page == page) (class_at slabs class).order
+has_listed slabs class page = has_page (class_at slabs class).free page || has_page (class_at slabs class).order page
 
 -- a page is whole, or its chunks aren't all cut yet
 abbrev pub is_whole : SlabState → Bool
@@ -48,16 +52,25 @@ abbrev pub can_finish : SlabState → Option Moving → Bool
 can_finish slabs None = false
 can_finish slabs (Some move) = is_whole slabs && not (has_listed slabs move.src move.page)
 
+-- the move that runs, with the chunks of a page of its source
+abbrev pub run_of : Classes → Option Moving → Option (Moving × ℕ)
+run_of table None = None
+run_of table (Some move) = Some (move, per_page_of table move.src)
+
+-- the chunk at the position was cut and is in no list
+abbrev pub is_cleared_at : SlabState → ℕ → Moving → Bool
+is_cleared_at slabs per_page move =
+    nat_lt move.at (cut_count slabs.uncut move.page per_page) && not (is_listed slabs move.src (chunk_at_position move))
+
 -- the chunk at the position is cleared, or holds up the move
-abbrev pub can_pass : Classes → SlabState → Found → Option Moving → Bool
-can_pass table slabs found None = false
-can_pass table slabs found (Some move) =
-    nat_lt move.at (per_page_of table move.src) && (is_held_up found || not (is_listed slabs move.src (chunk_at_position move)))
+abbrev pub can_pass : SlabState → Found → Option (Moving × ℕ) → Bool
+can_pass slabs found None = false
+can_pass slabs found (Some run) = nat_lt run.0.at run.1 && (is_held_up found || is_cleared_at slabs run.1 run.0)
 
 -- the pass is at the page's end, and something held it up
-abbrev pub can_wrap : Classes → Option Moving → Bool
-can_wrap table None = false
-can_wrap table (Some move) = move.at == per_page_of table move.src && nat_le 1 move.busy
+abbrev pub can_wrap : Option (Moving × ℕ) → Bool
+can_wrap None = false
+can_wrap (Some run) = run.0.at == run.1 && nat_le 1 run.0.busy
 
 -- a change of pages and lists is allowed
 abbrev pub can_change_slabs : Classes → SlabState → Change → Bool
@@ -66,8 +79,8 @@ can_change_slabs table slabs (BeginMove src dst) = is_ok (answer_of slabs src ds
 can_change_slabs table slabs FinishMove = can_finish slabs slabs.moving
 can_change_slabs table slabs (Touch chunk) = is_out_of_class slabs chunk
 can_change_slabs table slabs (SetAutomove mode) = nat_le mode 2
-can_change_slabs table slabs (Passed found) = can_pass table slabs found slabs.moving
-can_change_slabs table slabs Wrap = can_wrap table slabs.moving
+can_change_slabs table slabs (Passed found) = can_pass slabs found (run_of table slabs.moving)
+can_change_slabs table slabs Wrap = can_wrap (run_of table slabs.moving)
 can_change_slabs table slabs (Evicted class) = is_class table class
 can_change_slabs table slabs change = false
 
@@ -129,3 +142,11 @@ allows_changes state hand (change ∷ changes) = allows_change state hand change
 abbrev pub after_changes : State → ℕ → List Change → State
 after_changes state hand [] = state
 after_changes state hand (change ∷ changes) = after_changes (after_change state hand change) hand changes
+
+-- the stripe after it was told of a key that isn't there
+abbrev pub told_none : Bool → StripeState → ℕ → ℕ → StripeState
+told_none deletes stripe writer key = if deletes then after_unlink stripe writer key else after_got stripe writer key
+
+-- the change by which that is told
+abbrev pub call_of : Bool → ℕ → Change
+call_of deletes key = if deletes then DeletedNone key else GotNone key

@@ -42,6 +42,13 @@ impl Tag {
 }
 
 impl Head {
+    /// The header of a chunk that was never cut.
+    pub const NEVER_CUT: Head = Head {
+        issue: 0,
+        tag: Tag::Out,
+        count: 0,
+    };
+
     /// The header as a word.
     pub fn word(self) -> u64
         requires { self.issue < 2 ^ 46 }

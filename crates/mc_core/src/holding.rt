@@ -1,5 +1,8 @@
 //! What a hand holds: references, and chunks that it got and fills.
+ghost use Rattle.std.specs.Prelude.{◌≡◌, true};
+
 use crate::series::Series;
+use crate::words;
 use mc_pages::ChunkId;
 use std::alloc::Global;
 
@@ -33,4 +36,56 @@ pub enum Purpose {
     Copy(ChunkId),
     /// The same, and the old chunk was condemned: its words as it was.
     Rescue(ChunkId, Series<Option<u64>>),
+}
+
+impl Holding {
+    ghost use Rattle.mc_core.specs.Holdings.{is_fresh, is_copy_of, is_complete};
+    ghost use Rattle.mc_core.specs.Items.{as_reference};
+    ghost use Rattle.mc_core.specs.Evictions.{as_rescue};
+
+    /// Whether the chunk wasn't linked yet.
+    pub fn is_fresh(&self) -> bool
+        ensures { result ≡ is_fresh self.now }
+    {
+        match self.kind {
+            Kind::Reference => false,
+            Kind::Fresh(_) => true,
+        }
+    }
+
+    /// Whether the chunk is to be a copy of the item in this one, which wasn't condemned yet.
+    pub(crate) fn is_copy_of(&self, old: ChunkId) -> bool
+        ensures { result ≡ is_copy_of old self.now }
+    {
+        match &self.kind {
+            Kind::Fresh(Purpose::Copy(chunk)) => *chunk == old,
+            _ => false,
+        }
+    }
+
+    /// The item was linked: the hand refers to it.
+    pub(crate) fn into_reference(self) -> Holding
+        requires { is_complete self.words ≡ true }
+        ensures { result ≡ as_reference self }
+    {
+        let length = words::word_in(self.words.as_slice(), 2) as usize + 3;
+        let mut words = self.words;
+        words.truncate(length);
+        Holding {
+            chunk: self.chunk,
+            issue: self.issue,
+            kind: Kind::Reference,
+            words,
+        }
+    }
+
+    /// The item that the chunk is a copy of was condemned: the copy is to have these words.
+    pub(crate) fn into_rescue(self, old: ChunkId, item: Series<Option<u64>>) -> Holding
+        ensures { result ≡ as_rescue old item self }
+    {
+        Holding {
+            kind: Kind::Fresh(Purpose::Rescue(old, item)),
+            ..self
+        }
+    }
 }

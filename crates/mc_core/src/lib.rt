@@ -10,13 +10,18 @@ mod holding;
 mod ids;
 pub mod laws;
 mod look;
+mod run;
 mod series;
+mod state;
 mod stop;
+mod words;
 
 pub use event::{Change, Event, Step};
 pub use head::{Head, Tag};
 pub use holding::{Holding, Kind, Purpose};
 pub use ids::Ids;
 pub use look::Look;
+pub use run::replay;
 pub use series::Series;
+pub use state::State;
 pub use stop::Stop;

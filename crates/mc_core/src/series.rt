@@ -1,5 +1,5 @@
 //! A list that contracts compare.
-ghost use Rattle.std.specs.Prelude.{◌≡◌, ◌<◌, [], ◌∷◌, ◌++◌, length, slice_set, OnOk, OnErr};
+ghost use Rattle.std.specs.Prelude.{◌≡◌, ◌<◌, [], ◌∷◌, ◌++◌, length, slice_index_or, slice_set, take, OnOk, OnErr};
 ghost use Rattle.std.specs.List.{remove};
 
 use std::alloc::{AllocError, Global};
@@ -45,5 +45,30 @@ impl<T: Drop> Series<T> {
     {
         self.items.push(value)?;
         Ok(())
+    }
+
+    /// Takes a value out.
+    pub fn remove(&mut self, place: usize) -> T
+        requires { place < length self.old }
+        ensures value { result ≡ slice_index_or self.old place result }
+        ensures rest { self.new ≡ remove self.old place }
+    {
+        self.items.remove(place)
+    }
+
+    /// Writes a value, where there is one.
+    pub fn set(&mut self, place: usize, value: T)
+        ensures { self.new ≡ slice_set self.old place value }
+    {
+        if place < self.items.len() {
+            self.items[place] = value;
+        }
+    }
+
+    /// Leaves so many first values.
+    pub fn truncate(&mut self, count: usize)
+        ensures { self.new ≡ take count self.old }
+    {
+        self.items.truncate(count);
     }
 }

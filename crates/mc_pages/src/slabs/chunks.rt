@@ -95,6 +95,13 @@ impl Slabs {
         self.uncut.map(|chunk| chunk.page)
     }
 
+    /// The lowest uncut chunk of the page just given, if there is one.
+    pub fn next_uncut(&self) -> Option<ChunkId>
+        ensures { result ≡ self.now.uncut }
+    {
+        self.uncut
+    }
+
     /// The head of the class's free list: the chunk that is handed out next. None where the list is empty.
     pub fn first_free(&self, class: ClassId) -> Option<ChunkId>
         requires { IsClass self.now class }

@@ -30,6 +30,13 @@ impl Stripe {
         self.aside.map(|entry| entry.0)
     }
 
+    /// The entry that is aside, if one is: its key, and the chunk and the stamp of the item.
+    pub fn entry_aside(&self) -> Option<(Key, (ChunkId, Stamp))>
+        ensures { result ≡ self.now.state.aside }
+    {
+        self.aside
+    }
+
     /// All calls, the oldest first.
     pub fn history(&self) -> &[Call]
         ensures history { result.now ≡ self.now.state.history }

@@ -1,0 +1,10 @@
+use Rattle.std.proofs.Common.{refl}
+use Rattle.mc_core.specs.InOrder.{state_of}
+use Rattle.mc_core.proofs.OfTable.{grow_shape}
+use Rattle.mc_core.proofs.Kept.{changed, grown_shape}
+use Rattle.mc_core.proofs.state.State.grow.Goals as goal
+
+pub invariant_of-self : goal.invariant_of-self
+invariant_of-self c =
+    changed (state_of c.self.inside) c.grow.new.self c.grow.new.self c.self.invariant refl
+    (grown_shape c.grow.result c.self.inside.slabs c.grow.new.self c.args.class c.grow.ensures.given c.grow.ensures.refused) c.grow.ensures.accounted

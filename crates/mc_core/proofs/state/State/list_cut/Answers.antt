@@ -1,0 +1,16 @@
+use Rattle.std.proofs.Common.{◌≡◌, true, sym, subst}
+use Rattle.mc_core.specs.InOrder.{state_of}
+use Rattle.mc_core.specs.State.{State}
+use Rattle.mc_core.specs.Chunks.{is_next_uncut}
+use Rattle.mc_core.proofs.OfTable.{cut_shape}
+use Rattle.mc_core.proofs.Listed.{next_uncut_is}
+use Rattle.mc_core.proofs.Kept.{changed}
+use Rattle.mc_core.proofs.state.State.list_cut.Goals as goal
+
+pub cut-requires : goal.cut-requires
+cut-requires c =
+    next_uncut_is c.self.inside.slabs.uncut c.args.chunk
+    (subst (λ (state : State). is_next_uncut state.slabs c.args.chunk ≡ true) (sym c.self.view_is) c.requires)
+
+pub invariant_of-self : goal.invariant_of-self
+invariant_of-self c = changed (state_of c.self.inside) c.cut.new.self _ c.self.invariant c.cut.ensures.cut (cut_shape c.self.inside.slabs c.args.chunk) c.cut.ensures.accounted

@@ -1,0 +1,23 @@
+use Rattle.std.proofs.Common.{◌≡◌, true, sym, subst}
+use Rattle.mc_pages.specs.SlabState.{class_of_chunk}
+use Rattle.mc_core.specs.InOrder.{state_of}
+use Rattle.mc_core.specs.State.{State}
+use Rattle.mc_core.specs.Silent.{is_among, is_out_of_class}
+use Rattle.mc_core.proofs.OfTable.{replace_shape}
+use Rattle.mc_core.proofs.Listed.{Contains_from_among}
+use Rattle.mc_core.proofs.Kept.{changed}
+use Rattle.mc_core.proofs.state.State.list_replace.Goals as goal
+
+pub replace-requires-clause-free : goal.replace-requires-clause-free
+replace-requires-clause-free c =
+    Contains_from_among _ c.args.chunk
+    (subst (λ (state : State). is_among (class_of_chunk state.slabs c.args.old).free c.args.chunk ≡ true) (sym c.self.view_is) c.requires.free)
+
+pub replace-requires-clause-handed_out : goal.replace-requires-clause-handed_out
+replace-requires-clause-handed_out c =
+    Contains_from_among _ c.args.old (subst (λ (state : State). is_out_of_class state.slabs c.args.old ≡ true) (sym c.self.view_is) c.requires.handed_out)
+
+pub invariant_of-self : goal.invariant_of-self
+invariant_of-self c =
+    changed (state_of c.self.inside) c.replace.new.self _ c.self.invariant c.replace.ensures.replaced (replace_shape c.self.inside.slabs c.args.chunk c.args.old)
+    c.replace.ensures.accounted

@@ -1,0 +1,42 @@
+use Rattle.std.proofs.Common.{◌≡◌, ℕ, ◌*◌, ◌/◌, ◌∙◌, replicate, sym, subst, ap₂}
+use Rattle.mc_classes.specs.Classes.{pages_of}
+use Rattle.mc_pages.specs.SlabState.{SlabState}
+use Rattle.mc_pages.specs.Accounted.{IsAccounted}
+use Rattle.mc_core.specs.State.{State, new_state, page_words}
+use Rattle.mc_core.specs.InOrder.{IsInOrder, state_of}
+use Rattle.mc_core.proofs.Made.{new_in_order}
+use Rattle.mc_core.proofs.state.State.new.Goals as goal
+
+pub invariant_of-result : goal.invariant_of-result
+invariant_of-result c =
+    let slabs = c.in_ok-slabs.ensures in
+    let pages = c.pages.ensures.pages in
+    let bytes = c.page.ensures.page in
+    let words : c.in_ok-words.words.items ≡ replicate (pages_of c.args.table * page_words c.args.table) 0 =
+    c.in_ok-words.ensures ∙ ap₂ (λ (n m : ℕ). replicate (n * (m / 8)) 0) pages bytes in
+    let all = subst (λ (s : SlabState). IsAccounted s) slabs.0 slabs.1 in
+    let whole : state_of (record {
+      alloc = c.args.alloc;
+      table = c.args.table;
+      heads = c.in_ok-heads.heads;
+      words = c.in_ok-words.words;
+      slabs_lock = 0;
+      stripe_locks = c.in_ok-stripe_locks.stripe_locks;
+      slabs = c.in_ok-slabs.slabs;
+      stripes = c.in_ok-stripes.stripes;
+      ids = c.in_ok-ids.ids;
+      holdings = c.in_ok-holdings.holdings;
+      looks = c.in_ok-looks.looks;
+    }) ≡ new_state c.args.table c.args.stripes c.args.hands = λ i. record {
+      table = c.args.table;
+      heads = c.in_ok-heads.ensures i;
+      words = words i;
+      slabs_lock = 0;
+      stripe_locks = c.in_ok-stripe_locks.ensures i;
+      slabs = slabs.0 i;
+      stripes = c.in_ok-stripes.ensures i;
+      ids = c.in_ok-ids.ensures i;
+      holdings = c.in_ok-holdings.ensures i;
+      looks = c.in_ok-looks.ensures i;
+    } in
+    subst (λ (s : State). IsInOrder s) (sym whole) (new_in_order c.args.table c.args.stripes c.args.hands c.pages.ensures.sound c.requires.stripes.0 all)

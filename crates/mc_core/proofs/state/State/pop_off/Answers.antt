@@ -1,0 +1,9 @@
+use Rattle.std.proofs.Common.{◌∙◌, sym}
+use Rattle.mc_pages.specs.SlabState.{class_of_chunk}
+use Rattle.mc_core.specs.Chunks.{is_target}
+use Rattle.mc_core.proofs.Listed.{found_among}
+use Rattle.mc_core.proofs.state.State.pop_off.Goals as goal
+
+pub list_replace-requires-clause-free : goal.list_replace-requires-clause-free
+list_replace-requires-clause-free c =
+    found_among (is_target c.args.self.now c.args.old.page) (class_of_chunk c.args.self.now.slabs c.args.old).free c.in-Some.chunk (sym c.in_ok-chunk.ensures ∙ c.in-Some.is)

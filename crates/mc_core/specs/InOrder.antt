@@ -1,0 +1,43 @@
+-- A state in memory, and what it keeps.
+use Rattle.std.specs.Prelude.{◌≡◌, ℕ, ◌/◌, ◌^◌, ◌<◌, ◌≤◌, List, length, map, slice_index_or}
+use Rattle.mc_classes.specs.Classes.{Classes, IsSound, pages_of}
+use Rattle.mc_pages.specs.SlabState.{SlabState}
+use Rattle.mc_pages.specs.Accounted.{IsAccounted}
+use Rattle.mc_core.specs.declared.head.Head.{Head}
+use Rattle.mc_core.specs.declared.state.State.TheInside.{Inside}
+use Rattle.mc_core.specs.Head.{never_cut}
+use Rattle.mc_core.specs.State.{State}
+
+-- the state as its callers see it
+abbrev pub state_of : Inside → State
+state_of state = record {
+  table = state.table;
+  heads = state.heads.items;
+  words = state.words.items;
+  slabs_lock = state.slabs_lock;
+  stripe_locks = state.stripe_locks.items;
+  slabs = state.slabs;
+  stripes = state.stripes.items;
+  ids = state.ids.items;
+  holdings = state.holdings.items;
+  looks = state.looks.items;
+}
+
+-- the pages and chunks are those of the table
+pub record IsOfTable (table : Classes) (slabs : SlabState) : Type 0 where
+  pub per_page : map (λ class. class.per_page) slabs.classes ≡ map (λ size. table.page / size) table.sizes
+  pub owners : length slabs.owners ≡ pages_of table
+  pub accounted : IsAccounted slabs
+
+-- each issue number fits its bits
+abbrev pub AreIssued : List Head → Type 0
+AreIssued heads = (place : ℕ) → (slice_index_or heads place never_cut).issue < 2 ^ 46
+
+pub record IsInOrder (state : State) : Type 0 where
+  pub sound : IsSound state.table
+  pub slabs : IsOfTable state.table state.slabs
+  pub issued : AreIssued state.heads
+  pub stripes : 1 ≤ length state.stripes
+  pub locks : length state.stripe_locks ≡ length state.stripes
+  pub holdings : length state.holdings ≡ length state.ids
+  pub looks : length state.looks ≡ length state.ids

@@ -1,0 +1,36 @@
+//! Lists of events, played from the beginning.
+ghost use Rattle.std.specs.Prelude.{◌≡◌, ◌≤◌, None};
+ghost use Rattle.mc_classes.specs.Refusals.{refusal_of};
+ghost use Rattle.mc_core.specs.Run.{play, TellsEnd, IsPlayed};
+
+use crate::event::Event;
+use crate::state::State;
+use crate::stop::Stop;
+use mc_classes::{ClassTable, Config};
+use std::alloc::Global;
+
+/// Plays the events, one after another, on an arena in which nothing was granted yet.
+pub fn replay(alloc: Global, config: &Config, hands: u64, events: &[Event]) -> Result<State, Stop>
+    requires config { refusal_of config.now ≡ None }
+    requires hands { (1 ≤ hands) × (hands ≤ 64) }
+    ensures { IsPlayed config.now hands events.now result }
+{
+    let Ok(table) = ClassTable::build(alloc, config) else {
+        return Err(Stop::NoMemory);
+    };
+    let state = State::new(alloc, table, config.stripes, hands)?;
+    play_all(state, events)
+}
+
+/// Plays the events, one after another.
+fn play_all(mut state: State, events: &[Event]) -> Result<State, Stop>
+    ensures { TellsEnd (play state events.now) result }
+{
+    for (place, event) in events.iter().enumerate() {
+        let is_done = state.play(event)?;
+        if !is_done {
+            return Err(Stop::NotAllowed(place as u64));
+        }
+    }
+    Ok(state)
+}

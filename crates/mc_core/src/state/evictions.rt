@@ -1,0 +1,207 @@
+//! Items that are taken away from their chunks, to make room or since their page moves.
+ghost use Rattle.std.specs.Prelude.{◌≡◌, ◌<◌, true, length, find, IfOk, OnOk};
+ghost use Rattle.std.specs.List.{position};
+ghost use Rattle.mc_core.specs.Holdings.{is_copy_of, lose};
+ghost use Rattle.mc_core.specs.State.{without_holding, stripe_of, stripe_at, with_stripe};
+ghost use Rattle.mc_core.specs.Silent.{writer_of};
+ghost use Rattle.mc_core.specs.Evictions.{has_copy, none_dead, has_no_page, must_leave, lacks_room, has_reason, is_idle, can_take_away, can_condemn, condemned, stripe_condemned, copy_of, with_bound, after_condemn};
+
+use super::State;
+use crate::head::{Head, Tag};
+use crate::holding::Holding;
+use crate::look;
+use crate::look::Look;
+use crate::series::Series;
+use mc_pages::ChunkId;
+use std::alloc::AllocError;
+
+impl Head {
+    /// Whether the chunk is linked and nobody holds it.
+    fn is_idle(self) -> bool
+        ensures { result ≡ is_idle self }
+    {
+        self.tag == Tag::Linked && self.count == 1
+    }
+
+    /// The header after its chunk's item was taken away.
+    fn condemned(self) -> Head
+        ensures { result ≡ condemned self }
+    {
+        Head {
+            tag: Tag::Unlinked,
+            count: 0,
+            ..self
+        }
+    }
+}
+
+/// Where the first copy of this chunk stands.
+fn place_of_copy(holdings: &[Holding], chunk: ChunkId) -> Option<usize>
+    ensures { result ≡ position (is_copy_of chunk) holdings.now }
+{
+    holdings
+        .iter()
+        .position(|holding| holding.is_copy_of(chunk))
+}
+
+/// Takes the first copy of this chunk.
+fn take_copy_of(holdings: &mut Series<Holding>, chunk: ChunkId) -> Option<Holding>
+    ensures holding { result ≡ find (is_copy_of chunk) holdings.old }
+    ensures without { holdings.new ≡ lose (is_copy_of chunk) holdings.old }
+{
+    match place_of_copy(holdings.as_slice(), chunk) {
+        Some(place) => Some(holdings.remove(place)),
+        None => None,
+    }
+}
+
+impl State {
+    /// Whether the hand got a fresh chunk for a copy of this one.
+    fn has_copy(&self, hand: u64, chunk: ChunkId) -> bool
+        requires { hand < length self.now.ids }
+        ensures { result ≡ has_copy self.now hand chunk }
+    {
+        self.holdings(hand)
+            .iter()
+            .any(|holding| holding.is_copy_of(chunk))
+    }
+
+    /// Whether no handed-out chunk of the chunk's class is dead, as far as the hand saw.
+    fn none_dead(&self, hand: u64, chunk: ChunkId) -> Result<bool, AllocError>
+        requires { hand < length self.now.ids }
+        ensures { IfOk result (λ none. none ≡ none_dead self.now hand chunk) }
+    {
+        let order = self.order(self.class_of_page(chunk.page))?;
+        let looks = self.looks(hand);
+        Ok(
+            order
+                .iter()
+                .all(|other| look::is_found_alive(looks, *other)),
+        )
+    }
+
+    /// Whether there is neither a pooled page nor a page left.
+    fn has_no_page(&self) -> bool
+        ensures { result ≡ has_no_page self.now }
+    {
+        let totals = self.slabs.totals();
+        totals.pool == 0 && totals.granted == self.table.pages()
+    }
+
+    /// Whether the page moves, and there is no other chunk for the item.
+    fn must_leave(&self, hand: u64, chunk: ChunkId) -> Result<bool, AllocError>
+        requires { hand < length self.now.ids }
+        ensures { IfOk result (λ must. must ≡ must_leave self.now hand chunk) }
+    {
+        if !self.is_moving_page(chunk.page) || !self.none_dead(hand, chunk)? {
+            return Ok(false);
+        }
+        Ok(self.target(chunk.page)?.is_none())
+    }
+
+    /// Whether the class has neither a free chunk nor a dead one, and no page is to be had.
+    fn lacks_room(&self, hand: u64, chunk: ChunkId) -> Result<bool, AllocError>
+        requires { hand < length self.now.ids }
+        ensures { IfOk result (λ lacks. lacks ≡ lacks_room self.now hand chunk) }
+    {
+        let has_free = self.next_free(self.class_of_page(chunk.page)).is_some();
+        if has_free || !self.none_dead(hand, chunk)? {
+            return Ok(false);
+        }
+        Ok(self.has_no_page() && self.is_whole())
+    }
+
+    /// Whether there is a reason to take the item away.
+    fn has_reason(&self, hand: u64, chunk: ChunkId) -> Result<bool, AllocError>
+        requires { hand < length self.now.ids }
+        ensures { IfOk result (λ has. has ≡ has_reason self.now hand chunk) }
+    {
+        if self.is_moving_page(chunk.page) && self.has_copy(hand, chunk) {
+            return Ok(true);
+        }
+        if self.must_leave(hand, chunk)? {
+            return Ok(true);
+        }
+        self.lacks_room(hand, chunk)
+    }
+
+    /// Whether the stripe has room for a call, the key is there, and its entry can be put aside where it must.
+    fn can_take_away(&self, key: u64, rescues: bool) -> bool
+        ensures { result ≡ can_take_away (stripe_at self.now (stripe_of self.now key)) key rescues }
+    {
+        let stripe = &self.stripes[self.stripe_of(key) as usize];
+        stripe.is_ready() && stripe.find(key).is_some() && (!rescues || stripe.aside().is_none())
+    }
+
+    /// Whether the hand may take the item of the chunk away.
+    pub(super) fn can_condemn(&self, hand: u64, chunk: ChunkId) -> Result<bool, AllocError>
+        requires { hand < length self.now.ids }
+        ensures { IfOk result (λ can. can ≡ can_condemn self.now hand chunk) }
+    {
+        let key = self.word(chunk, 0);
+        let is_open = self.has_slabs(hand) && self.has_chunk(chunk) && self.head(chunk).is_idle();
+        if !is_open
+            || !self.has_stripe(hand, self.stripe_of(key))
+            || !self.can_take_away(key, self.has_copy(hand, chunk))
+        {
+            return Ok(false);
+        }
+        self.has_reason(hand, chunk)
+    }
+
+    /// The item of the chunk is taken away: it is evicted, or its copy is to have its words.
+    pub(super) fn condemn(&mut self, hand: u64, chunk: ChunkId) -> Result<(), AllocError>
+        requires here { hand < length self.old.ids }
+        requires allowed { can_condemn self.old hand chunk ≡ true }
+        ensures { OnOk result (self.new ≡ after_condemn self.old hand chunk) }
+    {
+        let key = self.word(chunk, 0);
+        let item = self.item(chunk)?;
+        let head = self.head(chunk).condemned();
+        let rescues = self.has_copy(hand, chunk);
+        self.tell_condemn(hand, key, rescues);
+        self.bind_copy(hand, chunk, item)?;
+        self.set_head(chunk, head);
+        self.note(hand, Look::Condemned(chunk, head))
+    }
+
+    /// The hand's copy of this chunk, if it has one, is to have these words.
+    fn bind_copy(
+        &mut self,
+        hand: u64,
+        chunk: ChunkId,
+        item: Series<Option<u64>>,
+    ) -> Result<(), AllocError>
+        requires { hand < length self.old.ids }
+        ensures { OnOk result (self.new ≡ with_bound self.old hand chunk item) }
+    {
+        match self.take_copy(hand, chunk) {
+            Some(holding) => self.gain(hand, holding.into_rescue(chunk, item)),
+            None => Ok(()),
+        }
+    }
+
+    /// Takes the hand's copy of this chunk away from it.
+    fn take_copy(&mut self, hand: u64, chunk: ChunkId) -> Option<Holding>
+        requires { hand < length self.old.ids }
+        ensures copy { result ≡ copy_of self.old hand chunk }
+        ensures without { self.new ≡ without_holding self.old hand (is_copy_of chunk) }
+    {
+        take_copy_of(&mut self.holdings[hand as usize], chunk)
+    }
+
+    /// The stripe of the key comes to know: its entry is put aside, or evicted.
+    fn tell_condemn(&mut self, hand: u64, key: u64, rescues: bool)
+        requires { can_take_away (stripe_at self.old (stripe_of self.old key)) key rescues ≡ true }
+        ensures { self.new ≡ with_stripe self.old (stripe_of self.old key) (stripe_condemned (stripe_at self.old (stripe_of self.old key)) rescues (writer_of self.old hand) key) }
+    {
+        let writer = self.writer(hand);
+        let place = self.stripe_of(key);
+        let stripe = &mut self.stripes[place as usize];
+        if rescues {
+            stripe.lift(key);
+        } else {
+            stripe.evict(writer, key);
+        }
+    }
+}

@@ -1,0 +1,119 @@
+//! The state in which every run begins.
+ghost use Rattle.std.specs.Prelude.{◌≡◌, ◌*◌, ◌≤◌, [], map, replicate, IfOk, Some};
+ghost use Rattle.std.specs.List.{range_with_len};
+ghost use Rattle.mc_stripe.specs.StripeState.{new_stripe};
+ghost use Rattle.mc_classes.specs.Classes.{pages_of};
+ghost use Rattle.mc_pages.specs.SlabState.{fresh_slabs};
+ghost use Rattle.mc_pages.specs.Accounted.{IsAccounted};
+ghost use Rattle.mc_core.specs.Head.{never_cut};
+ghost use Rattle.mc_core.specs.State.{most_of, new_state};
+
+use super::State;
+use crate::head::Head;
+use crate::ids::Ids;
+use crate::series::Series;
+use mc_classes::ClassTable;
+use mc_pages::{NoMemory, Slabs};
+use mc_stripe::Stripe;
+use std::alloc::{AllocError, Global};
+
+impl State {
+    /// All pages are untouched, all locks free, and nobody holds anything.
+    pub(crate) fn new(
+        alloc: Global,
+        table: ClassTable,
+        stripes: u64,
+        hands: u64,
+    ) -> Result<State, AllocError>
+        requires stripes { (1 ≤ stripes) × (stripes ≤ 64) }
+        requires hands { (1 ≤ hands) × (hands ≤ 64) }
+        ensures { IfOk result (λ state. state ≡ new_state table stripes hands) }
+    {
+        let heads = heads_of(alloc, &table)?;
+        let words = zeros(alloc, table.pages() * (table.page() / 8))?;
+        let slabs = slabs_of(alloc, &table)?;
+        let stripe_locks = zeros(alloc, stripes)?;
+        let stripes = stripes_of(alloc, stripes)?;
+        let ids = ids_of(alloc, hands)?;
+        let holdings = rows_of(alloc, hands)?;
+        let looks = rows_of(alloc, hands)?;
+        Ok(State {
+            alloc,
+            table,
+            heads,
+            words,
+            slabs_lock: 0,
+            stripe_locks,
+            slabs,
+            stripes,
+            ids,
+            holdings,
+            looks,
+        })
+    }
+}
+
+/// So many zeros.
+fn zeros(alloc: Global, count: u64) -> Result<Vec<u64>, AllocError>
+    ensures { IfOk result (λ words. words.items ≡ replicate count 0) }
+{
+    vec![in alloc; 0; count as usize]
+}
+
+/// A header for each index of each page.
+fn heads_of(alloc: Global, table: &ClassTable) -> Result<Vec<Head>, AllocError>
+    ensures { IfOk result (λ heads. heads.items ≡ replicate (pages_of table.now * most_of table.now) never_cut) }
+{
+    let count = table.pages() * table.per_page(1);
+    vec![in alloc; Head::NEVER_CUT; count as usize]
+}
+
+/// All pages untouched.
+fn slabs_of(alloc: Global, table: &ClassTable) -> Result<Slabs, AllocError>
+    ensures { IfOk result (λ slabs. (slabs ≡ fresh_slabs table.now) × IsAccounted slabs) }
+{
+    match Slabs::new(alloc, table) {
+        Ok(slabs) => Ok(slabs),
+        Err(NoMemory) => Err(AllocError),
+    }
+}
+
+/// So many stripes, without items.
+#[tactic(auto, using(crate::proofs::Lists::replicate_more))]
+fn stripes_of(alloc: Global, count: u64) -> Result<Vec<Stripe>, AllocError>
+    ensures { IfOk result (λ stripes. stripes.items ≡ replicate count new_stripe) }
+{
+    let mut stripes = Vec::new(alloc);
+    for _ in 0..count {
+        stripes.push(Stripe::new(alloc))?;
+    }
+    Ok(stripes)
+}
+
+/// So many hands, numbered from 0.
+#[tactic(auto, using(crate::proofs::Lists::map_range_more))]
+fn ids_of(alloc: Global, count: u64) -> Result<Vec<Ids>, AllocError>
+    requires { count ≤ 64 }
+    ensures { IfOk result (λ ids. ids.items ≡ map (λ number. record { number = Some number; stamps = 0 }) (range_with_len 0 count)) }
+{
+    let mut ids = Vec::new(alloc);
+    for number in 0..count {
+        ids.push(Ids {
+            number: Some(number as u8),
+            stamps: 0,
+        })?;
+    }
+    Ok(ids)
+}
+
+/// So many empty rows.
+#[tactic(auto, using(crate::proofs::Lists::replicate_more))]
+fn rows_of<T: Drop>(alloc: Global, count: u64) -> Result<Vec<Series<T>>, AllocError>
+    ensures { IfOk result (λ rows. rows.items ≡ replicate count []) }
+{
+    let mut rows = Vec::new(alloc);
+    for _ in 0..count {
+        rows.push(Series::new(alloc))?;
+    }
+    Ok(rows)
+}
