@@ -1,5 +1,5 @@
 -- What the calls on a move ask, from the tests of the core.
-use Rattle.std.proofs.Common.{◌≡◌, ℕ, ◌+◌, ◌<◌, ◌≤◌, ◌==◌, ◌∙◌, ◌||◌, ◌&&◌, Bool, true, false, not, Option, Some, None, refl, sym, ap, subst, arith, eqb-true, leb-true, ltb-true, is_none, nat_lt, nat_le, eq-eqb, lt-ltb}
+use Rattle.std.proofs.Common.{◌≡◌, ℕ, ◌<◌, ◌==◌, ◌∙◌, ◌||◌, Bool, true, false, not, Option, Some, None, refl, sym, ap, subst, arith, eqb-true, leb-true, ltb-true, is_none, nat_lt, nat_le, eq-eqb}
 use Rattle.std.proofs.lemmas.Bool.{and_parts, and_from}
 use Rattle.mc_classes.specs.Classes.{Classes, per_page_of}
 use Rattle.mc_pages.specs.declared.ids.ChunkId.{ChunkId}
@@ -8,7 +8,7 @@ use Rattle.mc_pages.specs.declared.moves.Found.{Found}
 use Rattle.mc_pages.specs.Ledger.{owner_at}
 use Rattle.mc_pages.specs.ClassState.{times}
 use Rattle.mc_pages.specs.SlabState.{SlabState, class_at}
-use Rattle.mc_pages.specs.Accounted.{is_moving, is_of_class, cut_count, is_cleared, places_in, IsAccounted}
+use Rattle.mc_pages.specs.Accounted.{is_moving, is_of_class, cut_count, is_cleared, places_in}
 use Rattle.mc_pages.specs.Moves.{is_held_up, chunk_at_position, CanPass, CanWrap, CanFinish}
 use Rattle.mc_core.specs.Silent.{is_among, is_listed, has_page, has_listed, run_of, is_cleared_at, can_finish, can_pass, can_wrap}
 use Rattle.mc_core.specs.InOrder.{IsOfTable}

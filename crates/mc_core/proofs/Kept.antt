@@ -5,7 +5,7 @@ use Rattle.mc_pages.specs.declared.slabs.pages.Grow.{Grow}
 use Rattle.mc_pages.specs.Changes.{next_page, after_grow}
 use Rattle.mc_pages.specs.Accounted.{IsAccounted}
 use Rattle.mc_core.specs.State.{State}
-use Rattle.mc_core.specs.InOrder.{IsInOrder, IsOfTable}
+use Rattle.mc_core.specs.InOrder.{IsInOrder}
 use Rattle.mc_core.proofs.OfTable.{HasShape, of_table, grow_shape}
 
 -- pages and lists changed, and classes and owners are as many as before

@@ -1,9 +1,9 @@
 -- From a test to what the calls on pages and lists ask.
-use Rattle.std.proofs.Common.{◌≡◌, ◌≢◌, ℕ, zero, suc, ◌+◌, ◌-◌, ◌/◌, ◌<◌, ◌≤◌, ◌==◌, ◌∙◌, ◌||◌, Bool, true, false, not, cond, List, [], ◌∷◌, length, map, get_or, Option, Some, None, refl, sym, ap, subst, inl, inr, arith, Contains, slice_get, slice_index, slice_index_or, nat_le, nat_lt, ◌&&◌, eqb-true, eq-eqb, lt-ltb, leb-true}
+use Rattle.std.proofs.Common.{◌≡◌, ℕ, zero, suc, ◌-◌, ◌/◌, ◌<◌, ◌≤◌, ◌==◌, ◌∙◌, ◌||◌, Bool, true, false, cond, List, [], ◌∷◌, length, map, get_or, Option, Some, None, refl, sym, ap, subst, inl, inr, arith, Contains, slice_get, nat_le, nat_lt, ◌&&◌, eqb-true, eq-eqb, lt-ltb, leb-true}
 use Rattle.std.specs.List.{list_any, find}
 use Rattle.std.specs.Option.{option_map, option_map_or}
 use Rattle.std.proofs.lemmas.Bool.{cases_Bool, and_parts, and_from}
-use Rattle.mc_classes.specs.Classes.{Classes, size_of, per_page_of}
+use Rattle.mc_classes.specs.Classes.{Classes, per_page_of}
 use Rattle.mc_pages.specs.declared.ids.ChunkId.{ChunkId}
 use Rattle.mc_pages.specs.declared.ids.Moving.{Moving}
 use Rattle.mc_pages.specs.ClassState.{ClassState, is_chunk, times, new_class}
@@ -11,7 +11,6 @@ use Rattle.mc_pages.specs.SlabState.{SlabState, IsClass, class_at}
 use Rattle.mc_pages.specs.Accounted.{places_in, is_moving, is_of_class, cut_count, is_cleared, IsAccounted}
 use Rattle.mc_pages.proofs.Chunks.{is_chunk-same, same_from_is_chunk, times_from_Contains, Contains_from_slice_get, times-tail}
 use Rattle.mc_core.specs.Silent.{is_among, is_listed}
-use Rattle.mc_core.specs.Chunks.{is_moving_page, is_next_uncut}
 use Rattle.mc_pages.specs.Ledger.{owner_at}
 use Rattle.mc_core.specs.State.{is_class}
 use Rattle.mc_core.specs.InOrder.{IsOfTable}

@@ -1,5 +1,5 @@
 -- Lists that grow by one, and places in lists.
-use Rattle.std.proofs.Common.{◌≡◌, ◌≢◌, ℕ, zero, suc, ◌+◌, ◌<◌, ◌≤◌, ◌∙◌, Bool, true, false, not, cond, nat_lt, set, get_or, slice_index_or, subst, one-add, lt-ltb, List, [], ◌∷◌, ◌++◌, length, map, take, drop, replicate, Option, Some, None, refl, sym, ap, arith, add-one, slice_get, inl, inr}
+use Rattle.std.proofs.Common.{◌≡◌, ℕ, zero, suc, ◌+◌, ◌<◌, ◌≤◌, ◌∙◌, Bool, true, false, not, cond, nat_lt, set, get_or, slice_index_or, subst, one-add, lt-ltb, List, [], ◌∷◌, ◌++◌, length, map, take, replicate, Some, None, refl, sym, ap, arith, add-one, slice_get, inl, inr}
 use Rattle.std.specs.List.{find, position, position_or_len, remove, range_with_len}
 use Rattle.std.proofs.lemmas.Bool.{cases_lt}
 use Rattle.std.proofs.lemmas.List.Folds.{find_at}

@@ -1,15 +1,15 @@
 -- Changes of pages and lists leave them those of the table.
-use Rattle.std.proofs.Common.{◌≡◌, ◌≢◌, ℕ, zero, suc, ◌+◌, ◌-◌, ◌/◌, ◌<◌, ◌≤◌, ◌==◌, ◌∙◌, Bool, true, false, cond, List, [], ◌∷◌, ◌++◌, length, map, get_or, set, take, filter, Option, Some, None, refl, sym, ap, arith, length-set, slice_index_or, nat_lt}
+use Rattle.std.proofs.Common.{◌≡◌, ℕ, zero, suc, ◌-◌, ◌/◌, ◌==◌, ◌∙◌, Bool, true, false, cond, List, [], ◌∷◌, length, map, get_or, set, Option, Some, None, refl, sym, ap, length-set, nat_lt}
 use Rattle.std.proofs.lemmas.List.{length-map}
-use Rattle.mc_classes.specs.Classes.{Classes, pages_of, per_page_of, size_of}
+use Rattle.mc_classes.specs.Classes.{Classes}
 use Rattle.mc_pages.specs.declared.ids.ChunkId.{ChunkId}
 use Rattle.mc_pages.specs.declared.ids.Moving.{Moving}
 use Rattle.mc_pages.specs.declared.moves.Found.{Found}
 use Rattle.mc_pages.specs.ClassState.{ClassState, new_class, handed_out, popped, with_page, without_page, put_back, touched, replaced, cleared, evicted, with_cut}
-use Rattle.mc_pages.specs.SlabState.{SlabState, IsClass, class_at, class_of_page, class_of_chunk}
+use Rattle.mc_pages.specs.SlabState.{SlabState, class_at, class_of_page, class_of_chunk}
 use Rattle.mc_pages.specs.Accounted.{IsAccounted}
 use Rattle.mc_pages.specs.Changes.{with_class, with_given, after_pop, after_back, after_touch, after_replace, after_clear, after_cut, after_evicted, after_grow, after_grant, after_take}
-use Rattle.mc_pages.specs.Moves.{with_move, released, arrived, finished, after_begin, after_finish, after_passed, after_wrap, first_page}
+use Rattle.mc_pages.specs.Moves.{released, after_begin, after_finish, after_passed, after_wrap, first_page}
 use Rattle.mc_core.specs.InOrder.{IsOfTable}
 
 -- a write that leaves what f makes of the entry

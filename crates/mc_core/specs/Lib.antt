@@ -10,5 +10,15 @@ pub mod Items
 pub mod Evictions
 pub mod Hands
 pub mod Run
+pub mod Past
+pub mod Columns
+pub mod Places
+pub mod Counts
+pub mod Indexed
+pub mod Seen
+pub mod Identities
+pub mod Knowing
+pub mod Histories
+pub mod Lawful
 pub mod Rows
 pub mod InOrder

@@ -1,6 +1,5 @@
 use Rattle.std.proofs.Common.{refl}
 use Rattle.mc_core.specs.InOrder.{state_of}
-use Rattle.mc_core.proofs.OfTable.{grow_shape}
 use Rattle.mc_core.proofs.Kept.{changed, grown_shape}
 use Rattle.mc_core.proofs.state.State.grow.Goals as goal
 

@@ -1,7 +1,7 @@
 use Rattle.std.proofs.Common.{◌≡◌, true, refl, sym, subst}
 use Rattle.mc_core.specs.InOrder.{state_of}
 use Rattle.mc_core.specs.State.{State}
-use Rattle.mc_core.specs.Silent.{can_finish, run_of}
+use Rattle.mc_core.specs.Silent.{can_finish}
 use Rattle.mc_core.proofs.OfTable.{finish_shape}
 use Rattle.mc_core.proofs.Asked.{finish_asked}
 use Rattle.mc_core.proofs.Kept.{changed}

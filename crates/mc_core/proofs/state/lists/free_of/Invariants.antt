@@ -1,4 +1,4 @@
-use Rattle.std.proofs.Common.{◌≡◌, ℕ, ◌-◌, ◌≤◌, length, take, vec_len}
+use Rattle.std.proofs.Common.{◌≡◌, ◌-◌, ◌≤◌, length, take, vec_len}
 use Rattle.mc_pages.specs.SlabState.{class_at}
 use Rattle.mc_core.proofs.state.lists.free_of.Given as goal
 

@@ -1,0 +1,47 @@
+-- Parts of the state that the clauses of the law speak of.
+use Rattle.std.specs.Prelude.{◌≡◌, ◌⊎◌, ℕ, ◌+◌, ◌*◌, ◌≤◌, List, [], ◌∷◌, length, count_by, slice_get, slice_index, slice_index_or, Some, All}
+use Rattle.mc_classes.specs.Classes.{Classes}
+use Rattle.mc_pages.specs.declared.ids.ChunkId.{ChunkId}
+use Rattle.mc_pages.specs.SlabState.{SlabState, class_of_page}
+use Rattle.mc_pages.specs.Accounted.{truth}
+use Rattle.mc_core.specs.declared.head.Head.{Head}
+use Rattle.mc_core.specs.declared.head.Tag.{Tag}
+use Rattle.mc_core.specs.declared.head.Tag.TheVariants.{Unlinked, Linked}
+use Rattle.mc_core.specs.declared.holding.Holding.{Holding}
+use Rattle.mc_core.specs.Head.{never_cut, is_linked}
+use Rattle.mc_core.specs.Holdings.{Words, is_of}
+use Rattle.mc_core.specs.State.{head_place, room_in, page_words}
+
+-- the header of a chunk
+abbrev pub head_in : Classes → List Head → ChunkId → Head
+head_in table heads chunk = slice_index_or heads (head_place table chunk) never_cut
+
+-- where a word of a chunk stands
+abbrev pub place_in : Classes → SlabState → ChunkId → ℕ → ℕ
+place_in table slabs chunk place =
+    chunk.page * page_words table + chunk.index * room_in table (class_of_page slabs chunk.page) + place
+
+-- the known words are the data words of the chunk, and fit it
+pub record Shows (table : Classes) (slabs : SlabState) (words : List ℕ) (chunk : ChunkId) (known : Words) : Type 0 where
+  pub fits : length known ≤ room_in table (class_of_page slabs chunk.page)
+  pub known_words : (place word : ℕ) → slice_get known place ≡ Some (Some word) → slice_index words (place_in table slabs chunk place) ≡ word
+
+-- each entry of each row
+abbrev pub Each : {X : Type 0} → (X → Type 0) → List (List X) → Type 0
+Each P = All (All P)
+
+-- how often one hand, and all hands, hold the chunk
+abbrev pub holds : ChunkId → List Holding → ℕ
+holds chunk holdings = count_by (is_of chunk) holdings
+
+abbrev pub holders : ChunkId → List (List Holding) → ℕ
+holders chunk [] = 0
+holders chunk (row ∷ rows) = holds chunk row + holders chunk rows
+
+-- the link counts 1
+abbrev pub link_of : Tag → ℕ
+link_of tag = truth (is_linked tag)
+
+-- the chunk is handed out with this issue number
+abbrev pub IsHandedOut : Head → ℕ → Type 0
+IsHandedOut head issue = ((head.tag ≡ Unlinked) ⊎ (head.tag ≡ Linked)) × (head.issue ≡ issue)

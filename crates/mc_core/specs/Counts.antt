@@ -1,0 +1,30 @@
+-- Counts of headers, and what hands hold.
+use Rattle.std.specs.Prelude.{◌≡◌, ◌⊎◌, ℕ, ◌+◌, ◌^◌, ◌<◌, ◌≤◌, true, false, List, length, All}
+use Rattle.mc_classes.specs.Classes.{Classes}
+use Rattle.mc_pages.specs.declared.ids.ChunkId.{ChunkId}
+use Rattle.mc_pages.specs.SlabState.{SlabState, class_of_page}
+use Rattle.mc_core.specs.declared.head.Head.{Head}
+use Rattle.mc_core.specs.declared.head.Tag.TheVariants.{Unlinked}
+use Rattle.mc_core.specs.declared.holding.Holding.{Holding}
+use Rattle.mc_core.specs.Head.{is_free, is_out}
+use Rattle.mc_core.specs.Holdings.{item_length, is_complete, is_fresh}
+use Rattle.mc_core.specs.State.{room_in}
+use Rattle.mc_core.specs.Columns.{head_in, Shows, Each, holders, link_of}
+
+-- counts: the link and the holders; what is out or free has none
+pub record AreCounted (table : Classes) (heads : List Head) (holdings : List (List Holding)) : Type 0 where
+  pub counted : (chunk : ChunkId) → (head_in table heads chunk).count ≡ link_of (head_in table heads chunk).tag + holders chunk holdings
+  pub shut : (chunk : ChunkId) → (is_free (head_in table heads chunk).tag ≡ true) ⊎ (is_out (head_in table heads chunk).tag ≡ true) → (head_in table heads chunk).count ≡ 0
+  pub issued : (chunk : ChunkId) → (head_in table heads chunk).issue < 2 ^ 46
+
+-- a reference has its whole item, and a fresh chunk a place for each word
+abbrev pub IsSized : ℕ → Holding → Type 0
+IsSized room holding = (is_fresh holding ≡ true → length holding.words ≡ room) × (is_fresh holding ≡ false → (length holding.words ≡ item_length holding.words) × (is_complete holding.words ≡ true))
+
+-- holdings: each has its header's issue and its chunk's words, and a fresh one is the only one of its chunk
+pub record AreHeld (table : Classes) (slabs : SlabState) (heads : List Head) (words : List ℕ) (holdings : List (List Holding)) : Type 0 where
+  pub issues : Each (λ holding. holding.issue ≡ (head_in table heads holding.chunk).issue) holdings
+  pub shows : Each (λ holding. Shows table slabs words holding.chunk holding.words) holdings
+  pub sized : Each (λ holding. IsSized (room_in table (class_of_page slabs holding.chunk.page)) holding) holdings
+  pub alone : Each (λ holding. is_fresh holding ≡ true → ((head_in table heads holding.chunk).tag ≡ Unlinked) × (holders holding.chunk holdings ≡ 1)) holdings
+  pub most : All (λ row. length row ≤ 256) holdings

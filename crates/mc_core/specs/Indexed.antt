@@ -1,0 +1,29 @@
+-- Stripes: their entries are the linked chunks, and their histories are legal.
+use Rattle.std.specs.Prelude.{◌≡◌, ℕ, ◌+◌, ◌%◌, ◌≤◌, List, length, slice_get, slice_index, Some, None, All}
+use Rattle.mc_classes.specs.Classes.{Classes}
+use Rattle.mc_pages.specs.declared.ids.ChunkId.{ChunkId}
+use Rattle.mc_pages.specs.SlabState.{SlabState, class_of_page}
+use Rattle.mc_stripe.specs.StripeState.{ReadyStripe, place_of}
+use Rattle.mc_stripe.specs.Legal.{IsLegal}
+use Rattle.mc_core.specs.declared.head.Head.{Head}
+use Rattle.mc_core.specs.declared.head.Tag.TheVariants.{Linked}
+use Rattle.mc_core.specs.State.{room_in}
+use Rattle.mc_core.specs.Columns.{head_in, place_in}
+
+-- index: the entries of the stripes are the linked chunks, each under the key and the stamp in its first words
+pub record AreIndexed (table : Classes) (slabs : SlabState) (heads : List Head) (words : List ℕ) (stripes : List ReadyStripe) : Type 0 where
+  pub entries : (stripe key stamp : ℕ) (value : ReadyStripe) (chunk : ChunkId) → slice_get stripes stripe ≡ Some value → place_of value.state key ≡ Some (chunk, stamp) →
+      (key % length stripes ≡ stripe) × ((head_in table heads chunk).tag ≡ Linked)
+      × (slice_index words (place_in table slabs chunk 0) ≡ key) × (slice_index words (place_in table slabs chunk 1) ≡ stamp)
+      × (3 + slice_index words (place_in table slabs chunk 2) ≤ room_in table (class_of_page slabs chunk.page))
+  pub linked : (chunk : ChunkId) → (head_in table heads chunk).tag ≡ Linked →
+      (stripe : ℕ) × (value : ReadyStripe) × (slice_get stripes stripe ≡ Some value)
+      × (place_of value.state (slice_index words (place_in table slabs chunk 0)) ≡ Some (chunk, slice_index words (place_in table slabs chunk 1)))
+
+-- stripes: each history is legal and makes its index; what is free has nothing aside, and what is aside is of its stripe
+pub record AreLegal (stripes : List ReadyStripe) (locks : List ℕ) : Type 0 where
+  pub lock_count : length locks ≡ length stripes
+  pub some : 1 ≤ length stripes
+  pub legal : All (λ (value : ReadyStripe). IsLegal value.state) stripes
+  pub free : (stripe : ℕ) (value : ReadyStripe) → slice_get locks stripe ≡ Some 0 → slice_get stripes stripe ≡ Some value → value.state.aside ≡ None
+  pub aside : (stripe : ℕ) (value : ReadyStripe) (entry : ℕ × (ChunkId × ℕ)) → slice_get stripes stripe ≡ Some value → value.state.aside ≡ Some entry → entry.0 % length stripes ≡ stripe

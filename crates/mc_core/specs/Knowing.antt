@@ -1,0 +1,51 @@
+-- What hands said and know.
+use Rattle.std.specs.Prelude.{◌≡◌, ⊤, ℕ, ◌+◌, ◌≤◌, ◌==◌, true, false, List, [], ◌∷◌, count_by, slice_index_or, All, Contains}
+use Rattle.mc_classes.specs.Classes.{Classes}
+use Rattle.mc_pages.specs.declared.ids.ChunkId.{ChunkId}
+use Rattle.mc_pages.specs.SlabState.{SlabState}
+use Rattle.mc_core.specs.declared.head.Head.{Head}
+use Rattle.mc_core.specs.declared.head.Tag.TheVariants.{Linked}
+use Rattle.mc_core.specs.declared.holding.Holding.{Holding}
+use Rattle.mc_core.specs.declared.holding.Kind.{Kind}
+use Rattle.mc_core.specs.declared.holding.Kind.TheVariants.{Fresh}
+use Rattle.mc_core.specs.declared.holding.Purpose.TheVariants.{Rescue}
+use Rattle.mc_core.specs.Holdings.{Words, stamp_in, is_complete, is_fresh}
+use Rattle.mc_core.specs.Past.{Known, Saying, known_by}
+use Rattle.mc_core.specs.Columns.{head_in, Shows, Each, IsHandedOut}
+
+-- somebody knows this
+abbrev pub IsKnownToSome : List (List Known) → (Known → Type 0) → Type 0
+IsKnownToSome known P = (hand : ℕ) × (k : Known) × Contains (slice_index_or known hand []) k × P k
+
+-- somebody said this
+abbrev pub IsSaid : List (List Saying) → ℕ → Words → Type 0
+IsSaid said stamp words = (hand : ℕ) × (s : Saying) × Contains (slice_index_or said hand []) s × (s.stamp ≡ stamp) × (s.words ≡ words)
+
+-- how often a stamp was said
+abbrev pub said_count : ℕ → List (List Saying) → ℕ
+said_count stamp [] = 0
+said_count stamp (row ∷ rows) = count_by (λ (s : Saying). s.stamp == stamp) row + said_count stamp rows
+
+-- a known item: its chunk was handed out with this issue at the latest, no fresh chunk has it, and while it lasts its words are the chunk's
+pub record IsTrueStill (table : Classes) (slabs : SlabState) (heads : List Head) (words : List ℕ) (holdings : List (List Holding)) (k : Known) : Type 0 where
+  pub older : k.issue ≤ (head_in table heads k.chunk).issue
+  pub shows : IsHandedOut (head_in table heads k.chunk) k.issue → Shows table slabs words k.chunk k.words
+  pub apart : Each (λ holding. is_fresh holding ≡ true → holding.chunk ≡ k.chunk → holding.issue ≡ k.issue → ⊥) holdings
+
+-- known: what hands said and know
+pub record AreKnown (table : Classes) (slabs : SlabState) (heads : List Head) (words : List ℕ) (holdings : List (List Holding)) (said : List (List Saying)) (known : List (List Known)) : Type 0 where
+  pub once : (stamp : ℕ) → said_count stamp said ≤ 1
+  pub agree : Each (λ k. (words : Words) → IsSaid said (stamp_in k.words) words → words ≡ k.words) known
+  pub said_by_some : Each (λ k. IsSaid said (stamp_in k.words) k.words) known
+  pub still : Each (IsTrueStill table slabs heads words holdings) known
+  -- one chunk and issue has one item
+  pub one : Each (λ k. Each (λ other. other.chunk ≡ k.chunk → other.issue ≡ k.issue → other.words ≡ k.words) known) known
+  -- each reference is known to its own hand
+  pub own : (hand : ℕ) → All (λ holding. is_fresh holding ≡ false → Contains (slice_index_or known hand []) (known_by holding)) (slice_index_or holdings hand [])
+  -- each linked chunk is known to some hand
+  pub linked : (chunk : ChunkId) → (head_in table heads chunk).tag ≡ Linked → IsKnownToSome known (λ k. (k.chunk ≡ chunk) × (k.issue ≡ (head_in table heads chunk).issue))
+
+-- an item that is being rescued: its words were said with its stamp
+abbrev pub IsRescue : List (List Saying) → Kind → Type 0
+IsRescue said (Fresh (Rescue old item)) = (is_complete item ≡ true) × IsSaid said (stamp_in item) item
+IsRescue said kind = ⊤

@@ -1,0 +1,190 @@
+-- What hands saw and know, which decides nothing.
+use Rattle.std.specs.Prelude.{ℕ, ◌+◌, ◌==◌, nat_le, if◌then◌else◌, List, [], ◌∷◌, ◌++◌, length, map, drop, replicate, slice_index, slice_index_or, slice_set, Option, Some, None}
+use Rattle.std.specs.List.{range_with_len}
+use Rattle.mc_classes.specs.Classes.{Classes}
+use Rattle.mc_pages.specs.declared.ids.ChunkId.{ChunkId}
+use Rattle.mc_pages.specs.SlabState.{SlabState, fresh_slabs}
+use Rattle.mc_stripe.specs.declared.history.Call.{Call}
+use Rattle.mc_core.specs.declared.head.Head.{Head}
+use Rattle.mc_core.specs.declared.event.Event.{Event}
+use Rattle.mc_core.specs.declared.event.Step.{Step}
+use Rattle.mc_core.specs.declared.event.Step.TheVariants.{TakeSlabs, TakeStripe, MissSlabs, MissStripe, GiveSlabs, GiveStripe, Link, Refer, Again, Join}
+use Rattle.mc_core.specs.declared.event.Step.TheVariants as step
+use Rattle.mc_core.specs.declared.holding.Holding.{Holding}
+use Rattle.mc_core.specs.declared.holding.Kind.{Kind}
+use Rattle.mc_core.specs.declared.holding.Kind.TheVariants.{Fresh}
+use Rattle.mc_core.specs.declared.holding.Purpose.TheVariants.{Rescue}
+use Rattle.mc_core.specs.Holdings.{Words, stamp_in, item_in, holding_of}
+use Rattle.mc_core.specs.State.{State, head_at, number_at, stripe_at, holdings_at}
+use Rattle.mc_core.specs.Silent.{after_changes}
+use Rattle.mc_core.specs.Items.{chunk_of, new_reference}
+use Rattle.mc_core.specs.Run.{after_step}
+
+-- a word that a hand found
+pub data Sight : Type 0 where
+  header : ChunkId → Head → Sight
+  slabs_word : ℕ → Sight
+  stripe_word : ℕ → ℕ → Sight
+
+-- a stamp, and the words that were said with it
+pub record Saying : Type 0 where
+  pub stamp : ℕ
+  pub words : Words
+
+-- the item that a chunk had with this issue number
+pub record Known : Type 0 where
+  pub chunk : ChunkId
+  pub issue : ℕ
+  pub words : Words
+
+-- a hold of the slabs lock: pages and lists as it began and as it ended, and how many holds there were
+pub record Hold : Type 0 where
+  pub found : SlabState
+  pub left : SlabState
+  pub count : ℕ
+
+-- the calls of one number, a list for each stripe
+pub record Own : Type 0 where
+  pub number : ℕ
+  pub calls : List (List Call)
+
+-- of each hand: all words that its looks found; its holds of the slabs lock; its numbers with their calls; for each stripe
+-- the history that it saw; what it said; and the items that it ever held
+pub record Past : Type 0 where
+  pub saw : List (List Sight)
+  pub holds : List Hold
+  pub mine : List (List Own)
+  pub seen : List (List (List Call))
+  pub said : List (List Saying)
+  pub known : List (List Known)
+
+-- a run's state with what the hands know
+pub record Moment : Type 0 where
+  pub state : State
+  pub past : Past
+
+module _ {X : Type 0} where
+  -- one more entry in the row of a hand
+  abbrev pub with_more : List (List X) → ℕ → List X → List (List X)
+  with_more rows hand more = slice_set rows hand (slice_index_or rows hand [] ++ more)
+
+-- what a step finds by a look
+abbrev pub sights_of : State → Step → List Sight
+sights_of state MissSlabs = slabs_word state.slabs_lock ∷ []
+sights_of state (MissStripe stripe) = stripe_word stripe (slice_index state.stripe_locks stripe) ∷ []
+sights_of state (step.Head chunk) = header chunk (head_at state chunk) ∷ []
+sights_of state other = []
+
+-- a hold begins or ends
+abbrev pub hold_after : SlabState → Step → Hold → Hold
+hold_after slabs TakeSlabs hold = record hold { found = slabs; count = hold.count + 1 }
+hold_after slabs GiveSlabs hold = record hold { left = slabs }
+hold_after slabs other hold = hold
+
+-- the item's stamp and words, unless it was rescued
+abbrev pub saying_of : Kind → Words → List Saying
+saying_of (Fresh (Rescue old item)) words = []
+saying_of kind words = record { stamp = stamp_in words; words = item_in words } ∷ []
+
+abbrev pub said_by : Option Holding → List Saying
+said_by None = []
+said_by (Some holding) = saying_of holding.kind holding.words
+
+-- what a link says
+abbrev pub sayings_of : State → ℕ → Step → List Saying
+sayings_of state hand (Link chunk) = said_by (holding_of chunk (holdings_at state hand))
+sayings_of state hand other = []
+
+abbrev pub known_by : Holding → Known
+known_by holding = record { chunk = holding.chunk; issue = holding.issue; words = holding.words }
+
+abbrev pub known_of_holding : Option Holding → List Known
+known_of_holding None = []
+known_of_holding (Some holding) = record { chunk = holding.chunk; issue = holding.issue; words = item_in holding.words } ∷ []
+
+abbrev pub known_of_place : State → Option (ChunkId × ℕ) → List Known
+known_of_place state None = []
+known_of_place state (Some place) = known_by (new_reference state place.0) ∷ []
+
+-- the item to which the hand gets a reference
+abbrev pub known_of : State → ℕ → Step → List Known
+known_of state hand (Link chunk) = known_of_holding (holding_of chunk (holdings_at state hand))
+known_of state hand (Refer key) = known_of_place state (chunk_of state key)
+known_of state hand (Again chunk issue) = known_by (new_reference state chunk) ∷ []
+known_of state hand other = []
+
+abbrev pub history_at : State → ℕ → List Call
+history_at state stripe = (stripe_at state stripe).state.history
+
+-- the calls that came into a stripe's history
+abbrev pub new_calls : State → State → ℕ → List Call
+new_calls before now stripe = drop (length (history_at before stripe)) (history_at now stripe)
+
+-- the calls of the stripes, with those that came in
+abbrev pub told : State → State → ℕ → List (List Call) → List (List Call)
+told before now place [] = []
+told before now place (calls ∷ rows) = (calls ++ new_calls before now place) ∷ told before now (place + 1) rows
+
+-- the number's own calls, with those that came in
+abbrev pub own_after : State → State → Option ℕ → Own → Own
+own_after before now None own = own
+own_after before now (Some number) own = if own.number == number then record own { calls = told before now 0 own.calls } else own
+
+-- a history that is seen as a lock is taken or given
+abbrev pub seen_after : State → Step → List (List Call) → List (List Call)
+seen_after state (TakeStripe stripe) seen = slice_set seen stripe (history_at state stripe)
+seen_after state (GiveStripe stripe) seen = slice_set seen stripe (history_at state stripe)
+seen_after state other seen = seen
+
+-- the longer of two
+abbrev pub longer : List Call → List Call → List Call
+longer a b = if nat_le (length b) (length a) then a else b
+
+abbrev pub longer_each : List (List Call) → List (List Call) → List (List Call)
+longer_each [] ys = ys
+longer_each (x ∷ xs) [] = x ∷ xs
+longer_each (x ∷ xs) (y ∷ ys) = longer x y ∷ longer_each xs ys
+
+abbrev pub no_hold : Classes → Hold
+no_hold table = record { found = fresh_slabs table; left = fresh_slabs table; count = 0 }
+
+-- the first hand knows what the second knew, which knows nothing any more
+abbrev pub joined : Classes → Past → ℕ → ℕ → Past
+joined table past kept spent = record {
+  saw = slice_set past.saw spent [];
+  holds = slice_set past.holds spent (no_hold table);
+  mine = slice_set (with_more past.mine kept (slice_index_or past.mine spent [])) spent [];
+  seen = slice_set (slice_set past.seen kept (longer_each (slice_index_or past.seen kept []) (slice_index_or past.seen spent []))) spent [];
+  said = slice_set (with_more past.said kept (slice_index_or past.said spent [])) spent [];
+  known = slice_set (with_more past.known kept (slice_index_or past.known spent [])) spent [];
+}
+
+-- what the hands know after a step: the state before the event, the one after its silent changes, and the one after the step
+abbrev pub learned : State → State → State → Past → ℕ → Step → Past
+learned before ready now past hand (Join kept spent) = joined before.table past kept spent
+learned before ready now past hand step = record {
+  saw = with_more past.saw hand (sights_of ready step);
+  holds = slice_set past.holds hand (hold_after ready.slabs step (slice_index_or past.holds hand (no_hold before.table)));
+  mine = slice_set past.mine hand (map (own_after before now (number_at before hand)) (slice_index_or past.mine hand []));
+  seen = slice_set past.seen hand (seen_after ready step (slice_index_or past.seen hand []));
+  said = with_more past.said hand (sayings_of ready hand step);
+  known = with_more past.known hand (known_of ready hand step);
+}
+
+-- the moment after an event
+abbrev pub moment_after : Moment → Event → Moment
+moment_after moment event =
+    let ready = after_changes moment.state event.hand event.before in
+    let now = after_step ready event.hand event.step in
+    record { state = now; past = learned moment.state ready now moment.past event.hand event.step }
+
+-- nobody saw or said anything; each hand has its number
+abbrev pub no_past : Classes → ℕ → ℕ → Past
+no_past table stripes hands = record {
+  saw = replicate hands [];
+  holds = replicate hands (no_hold table);
+  mine = map (λ number. record { number = number; calls = replicate stripes [] } ∷ []) (range_with_len 0 hands);
+  seen = replicate hands (replicate stripes []);
+  said = replicate hands [];
+  known = replicate hands [];
+}

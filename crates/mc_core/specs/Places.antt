@@ -1,0 +1,35 @@
+-- Pages and lists: what is owned, and where each chunk is.
+use Rattle.std.specs.Prelude.{◌≡◌, ℕ, ◌≤◌, true, false, not, ◌&&◌, List, Some, None}
+use Rattle.mc_classes.specs.Classes.{Classes}
+use Rattle.mc_pages.specs.declared.ids.ChunkId.{ChunkId}
+use Rattle.mc_pages.specs.ClassState.{times}
+use Rattle.mc_pages.specs.SlabState.{SlabState, IsClass, class_at}
+use Rattle.mc_pages.specs.Accounted.{truth, is_cut, is_moving}
+use Rattle.mc_pages.specs.Ledger.{owner_at}
+use Rattle.mc_pages.specs.InOrder.{IsBeingCut}
+use Rattle.mc_core.specs.declared.head.Head.{Head}
+use Rattle.mc_core.specs.declared.head.Tag.TheVariants.{Out}
+use Rattle.mc_core.specs.Head.{is_free, is_out}
+use Rattle.mc_core.specs.InOrder.{IsOfTable}
+use Rattle.mc_core.specs.Columns.{head_in}
+
+-- pages: owners, limit, lists, pool and move are accounted for, and a page is half cut under the slabs lock alone
+pub record ArePaged (table : Classes) (slabs : SlabState) (slabs_lock : ℕ) : Type 0 where
+  pub of_table : IsOfTable table slabs
+  pub uncut : (chunk : ChunkId) → slabs.uncut ≡ Some chunk → IsBeingCut slabs chunk
+  pub whole : slabs_lock ≡ 0 → slabs.uncut ≡ None
+  pub cursor : IsClass slabs slabs.cursor
+  pub automove : slabs.automove ≤ 2
+
+-- places: a free list has the free chunks, a hand-out order those that are handed out, and all others are out
+pub record ArePlaced (table : Classes) (slabs : SlabState) (heads : List Head) : Type 0 where
+  pub free : (class : ℕ) (chunk : ChunkId) → IsClass slabs class →
+      times chunk (class_at slabs class).free ≡ truth (is_cut slabs class chunk && is_free (head_in table heads chunk).tag)
+  pub order : (class : ℕ) (chunk : ChunkId) → IsClass slabs class →
+      times chunk (class_at slabs class).order
+      ≡ truth (is_cut slabs class chunk && (not (is_free (head_in table heads chunk).tag) && not (is_out (head_in table heads chunk).tag)))
+  -- a cut chunk is out where its page moves alone
+  pub cleared : (class : ℕ) (chunk : ChunkId) → IsClass slabs class → is_cut slabs class chunk ≡ true → (head_in table heads chunk).tag ≡ Out →
+      is_moving (owner_at slabs.owners chunk.page) ≡ true
+  -- elsewhere out
+  pub elsewhere : (chunk : ChunkId) → ((class : ℕ) → IsClass slabs class → is_cut slabs class chunk ≡ false) → (head_in table heads chunk).tag ≡ Out
