@@ -8,14 +8,14 @@ use Rattle.mc_core.specs.declared.head.Tag.TheVariants.{Unlinked}
 use Rattle.mc_core.specs.declared.holding.Holding.{Holding}
 use Rattle.mc_core.specs.Head.{is_free, is_out}
 use Rattle.mc_core.specs.Holdings.{item_length, is_complete, is_fresh}
-use Rattle.mc_core.specs.State.{room_in}
+use Rattle.mc_core.specs.State.{room_in, has_chunk}
 use Rattle.mc_core.specs.Columns.{head_in, Shows, Each, holders, link_of}
 
 -- counts: the link and the holders; what is out or free has none
 pub record AreCounted (table : Classes) (heads : List Head) (holdings : List (List Holding)) : Type 0 where
-  pub counted : (chunk : ChunkId) → (head_in table heads chunk).count ≡ link_of (head_in table heads chunk).tag + holders chunk holdings
-  pub shut : (chunk : ChunkId) → (is_free (head_in table heads chunk).tag ≡ true) ⊎ (is_out (head_in table heads chunk).tag ≡ true) → (head_in table heads chunk).count ≡ 0
-  pub issued : (chunk : ChunkId) → (head_in table heads chunk).issue < 2 ^ 46
+  pub counted : (chunk : ChunkId) → has_chunk table chunk ≡ true → (head_in table heads chunk).count ≡ link_of (head_in table heads chunk).tag + holders chunk holdings
+  pub shut : (chunk : ChunkId) → has_chunk table chunk ≡ true → (is_free (head_in table heads chunk).tag ≡ true) ⊎ (is_out (head_in table heads chunk).tag ≡ true) → (head_in table heads chunk).count ≡ 0
+  pub issued : (chunk : ChunkId) → has_chunk table chunk ≡ true → (head_in table heads chunk).issue < 2 ^ 46
 
 -- a reference has its whole item, and a fresh chunk a place for each word
 abbrev pub IsSized : ℕ → Holding → Type 0

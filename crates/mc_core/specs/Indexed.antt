@@ -1,5 +1,5 @@
 -- Stripes: their entries are the linked chunks, and their histories are legal.
-use Rattle.std.specs.Prelude.{◌≡◌, ℕ, ◌+◌, ◌%◌, ◌≤◌, List, length, slice_get, slice_index, Some, None, All}
+use Rattle.std.specs.Prelude.{true, ◌≡◌, ℕ, ◌+◌, ◌%◌, ◌≤◌, List, length, slice_get, slice_index, Some, None, All}
 use Rattle.mc_classes.specs.Classes.{Classes}
 use Rattle.mc_pages.specs.declared.ids.ChunkId.{ChunkId}
 use Rattle.mc_pages.specs.SlabState.{SlabState, class_of_page}
@@ -7,7 +7,7 @@ use Rattle.mc_stripe.specs.StripeState.{ReadyStripe, place_of}
 use Rattle.mc_stripe.specs.Legal.{IsLegal}
 use Rattle.mc_core.specs.declared.head.Head.{Head}
 use Rattle.mc_core.specs.declared.head.Tag.TheVariants.{Linked}
-use Rattle.mc_core.specs.State.{room_in}
+use Rattle.mc_core.specs.State.{room_in, has_chunk}
 use Rattle.mc_core.specs.Columns.{head_in, place_in}
 
 -- index: the entries of the stripes are the linked chunks, each under the key and the stamp in its first words
@@ -16,7 +16,7 @@ pub record AreIndexed (table : Classes) (slabs : SlabState) (heads : List Head) 
       (key % length stripes ≡ stripe) × ((head_in table heads chunk).tag ≡ Linked)
       × (slice_index words (place_in table slabs chunk 0) ≡ key) × (slice_index words (place_in table slabs chunk 1) ≡ stamp)
       × (3 + slice_index words (place_in table slabs chunk 2) ≤ room_in table (class_of_page slabs chunk.page))
-  pub linked : (chunk : ChunkId) → (head_in table heads chunk).tag ≡ Linked →
+  pub linked : (chunk : ChunkId) → has_chunk table chunk ≡ true → (head_in table heads chunk).tag ≡ Linked →
       (stripe : ℕ) × (value : ReadyStripe) × (slice_get stripes stripe ≡ Some value)
       × (place_of value.state (slice_index words (place_in table slabs chunk 0)) ≡ Some (chunk, slice_index words (place_in table slabs chunk 1)))
 

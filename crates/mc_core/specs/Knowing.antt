@@ -11,6 +11,7 @@ use Rattle.mc_core.specs.declared.holding.Kind.TheVariants.{Fresh}
 use Rattle.mc_core.specs.declared.holding.Purpose.TheVariants.{Rescue}
 use Rattle.mc_core.specs.Holdings.{Words, stamp_in, is_complete, is_fresh}
 use Rattle.mc_core.specs.Past.{Known, Saying, known_by}
+use Rattle.mc_core.specs.State.{has_chunk}
 use Rattle.mc_core.specs.Columns.{head_in, Shows, Each, IsHandedOut}
 
 -- somebody knows this
@@ -43,7 +44,7 @@ pub record AreKnown (table : Classes) (slabs : SlabState) (heads : List Head) (w
   -- each reference is known to its own hand
   pub own : (hand : ℕ) → All (λ holding. is_fresh holding ≡ false → Contains (slice_index_or known hand []) (known_by holding)) (slice_index_or holdings hand [])
   -- each linked chunk is known to some hand
-  pub linked : (chunk : ChunkId) → (head_in table heads chunk).tag ≡ Linked → IsKnownToSome known (λ k. (k.chunk ≡ chunk) × (k.issue ≡ (head_in table heads chunk).issue))
+  pub linked : (chunk : ChunkId) → has_chunk table chunk ≡ true → (head_in table heads chunk).tag ≡ Linked → IsKnownToSome known (λ k. (k.chunk ≡ chunk) × (k.issue ≡ (head_in table heads chunk).issue))
 
 -- an item that is being rescued: its words were said with its stamp
 abbrev pub IsRescue : List (List Saying) → Kind → Type 0

@@ -11,6 +11,7 @@ use Rattle.mc_core.specs.declared.head.Head.{Head}
 use Rattle.mc_core.specs.declared.head.Tag.TheVariants.{Out}
 use Rattle.mc_core.specs.Head.{is_free, is_out}
 use Rattle.mc_core.specs.InOrder.{IsOfTable}
+use Rattle.mc_core.specs.State.{has_chunk}
 use Rattle.mc_core.specs.Columns.{head_in}
 
 -- pages: owners, limit, lists, pool and move are accounted for, and a page is half cut under the slabs lock alone
@@ -32,4 +33,4 @@ pub record ArePlaced (table : Classes) (slabs : SlabState) (heads : List Head) :
   pub cleared : (class : ℕ) (chunk : ChunkId) → IsClass slabs class → is_cut slabs class chunk ≡ true → (head_in table heads chunk).tag ≡ Out →
       is_moving (owner_at slabs.owners chunk.page) ≡ true
   -- elsewhere out
-  pub elsewhere : (chunk : ChunkId) → ((class : ℕ) → IsClass slabs class → is_cut slabs class chunk ≡ false) → (head_in table heads chunk).tag ≡ Out
+  pub elsewhere : (chunk : ChunkId) → has_chunk table chunk ≡ true → ((class : ℕ) → IsClass slabs class → is_cut slabs class chunk ≡ false) → (head_in table heads chunk).tag ≡ Out
