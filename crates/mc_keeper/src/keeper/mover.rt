@@ -14,6 +14,7 @@ ghost use Rattle.mc_keeper.specs.Machine.{is_dead, is_idle};
 ghost use Rattle.mc_keeper.specs.Mover.{AreAtMost, after_turns, is_at_end, looked_at, saved, target, turned, with_chunk, with_cleared, with_end, with_finish, with_saved};
 
 use super::Keeper;
+use super::dead::class_of;
 use super::pages::cut_page;
 use super::serve::Stop;
 use super::turn::{Counts, Ending};
@@ -182,8 +183,10 @@ impl Keeper {
         ensures cleared { self.new ≡ with_cleared self.old chunk }
         ensures clears { is_cleared self.new.slabs (class_of_page self.old.slabs chunk.page) chunk ≡ true }
     {
+        let class = class_of(&self.slabs, chunk);
         self.slabs.clear(chunk);
         self.items.remove(&chunk);
+        self.dead.decrement(class);
     }
 
     /// Takes the chunk's item, which nobody holds, to a free chunk off the page, or else evicts it.

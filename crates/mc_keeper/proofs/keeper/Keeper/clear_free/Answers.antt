@@ -8,6 +8,8 @@ use Rattle.mc_keeper.specs.Items.{item_at}
 use Rattle.mc_keeper.specs.Machine.{Machine}
 use Rattle.mc_keeper.proofs.KeptMoverClear.{cleared_after, cleared_there, kept_freed, not_handed, own_from_cut}
 use Rattle.mc_keeper.proofs.Watched.{watched-clear}
+use Rattle.std.proofs.lemmas.List.{length-set}
+use Rattle.mc_keeper.proofs.Counted.{counted_owned}
 use Rattle.mc_keeper.proofs.keeper.Keeper.clear_free.Goals as goal
 
 pub invariant_of-self : goal.invariant_of-self
@@ -20,6 +22,7 @@ invariant_of-self c =
     record {
       kept = rw c.clear.ensures.cleared (kept_freed _ _ _ _ c.args.chunk c.self.invariant.kept empty valid (rw c.clear.ensures.cleared at c.clear.ensures.accounted));
       watched = rw c.clear.ensures.cleared (watched-clear c.self.inside.slabs _ c.self.invariant.watched c.args.chunk);
+      counted = rw c.clear.ensures.cleared (counted_owned _ _ _ _ _ _ c.self.invariant.counted (length-set c.self.inside.slabs.classes _ _));
       bulk = c.self.invariant.bulk;
     }
 

@@ -9,6 +9,7 @@ invariant_of-self c = record {
   watched = watched_fed c.self.inside.slabs c.args.self.now.slabs c.self.inside.decider _ _ _ _ c.self.invariant.watched (sym (ap (λ (m : Machine). m.slabs) c.self.view_is))
       (c.deref.ensures.value ∙ c.in_ok-counts.ensures.evictions) (c.deref-2.ensures.value ∙ c.in_ok-counts.ensures.pages) (c.deref-3.ensures.value ∙ c.in_ok-counts.ensures.free)
       (rw c.unwrap-decision.ensures at c.feed.ensures.noted);
+  counted = c.self.invariant.counted;
   bulk = c.self.invariant.bulk;
 }
 
@@ -18,5 +19,6 @@ invariant_of-self-2 c = record {
   watched = watched_fed c.self.inside.slabs c.args.self.now.slabs c.self.inside.decider _ _ _ _ c.self.invariant.watched (sym (ap (λ (m : Machine). m.slabs) c.self.view_is))
       (c.deref.ensures.value ∙ c.in_ok-counts.ensures.evictions) (c.deref-2.ensures.value ∙ c.in_ok-counts.ensures.pages) (c.deref-3.ensures.value ∙ c.in_ok-counts.ensures.free)
       (rw c.unwrap-decision.ensures at c.feed.ensures.noted);
+  counted = c.self.invariant.counted;
   bulk = c.self.invariant.bulk;
 }

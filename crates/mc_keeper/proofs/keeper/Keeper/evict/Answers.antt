@@ -8,6 +8,7 @@ use Rattle.mc_keeper.specs.Items.{item_at, is_linked}
 use Rattle.mc_keeper.specs.Machine.{Machine}
 use Rattle.mc_keeper.proofs.KeptEvict.{kept_evict, linked_item}
 use Rattle.mc_keeper.proofs.Watched.{watched-back, watched-evicted}
+use Rattle.mc_keeper.proofs.Counted.{counted_gone}
 use Rattle.mc_keeper.proofs.keeper.Keeper.evict.Goals as goal
 
 pub back-requires : goal.back-requires
@@ -30,6 +31,9 @@ invariant_of-self c =
           at linked (rw c.key.ensures at c.remove-in-Some.ensures.updates.0));
       watched = rw (c.evicted.ensures.evicted, c.back.ensures.back) (watched-evicted (after_back c.self.inside.slabs c.args.chunk) c.args.class _ (valid.0, rw (length-set c.self.inside.slabs.classes _ _) valid.1)
           (watched-back c.self.inside.slabs _ c.self.invariant.watched c.args.chunk));
+      counted = rw (c.evicted.ensures.evicted, c.back.ensures.back, c.remove.ensures.entries)
+          (counted_gone _ _ _ _ _ _ c.args.chunk c.in-Some.item c.self.invariant.counted
+          (length-set (after_back c.self.inside.slabs c.args.chunk).classes _ _ ∙ length-set c.self.inside.slabs.classes _ _) at linked);
       bulk = c.self.invariant.bulk;
     }
 

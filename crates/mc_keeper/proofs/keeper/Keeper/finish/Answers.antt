@@ -7,8 +7,9 @@ use Rattle.mc_pages.specs.Moves.{CanFinish, after_finish, finished}
 use Rattle.mc_pages.specs.SlabState.{SlabState, IsClass}
 use Rattle.mc_keeper.specs.Machine.{Machine}
 use Rattle.mc_keeper.proofs.Grown.{per_page_kept}
-use Rattle.mc_keeper.proofs.KeptMoverFinish.{finish_view, kept_pooled, kept_recut, per_page_finished, per_page_there}
+use Rattle.mc_keeper.proofs.KeptMoverFinish.{Arrives, arrives, arrives_cut, finish_view, kept_pooled, kept_recut, per_page_finished, per_page_there}
 use Rattle.mc_keeper.proofs.Watched.{watched-finished, watched-recut}
+use Rattle.mc_keeper.proofs.Counted.{counted_moved}
 use Rattle.mc_keeper.proofs.keeper.Keeper.finish.Goals as goal
 
 pub cut_page-requires-clause-chunks : goal.cut_page-requires-clause-chunks
@@ -29,10 +30,13 @@ invariant_of-self c =
     = c.finish_move.ensures.finished ∙ ap (λ (o : Option Moving). after_finish c.self.inside.slabs o) can.runs in
     let cut : c.cut_page.new.slabs ≡ fold after_cut (finished c.self.inside.slabs c.args.moving) (first_chunks c.args.moving.page c.per_page.result)
     = c.cut_page.ensures.cut ∙ ap (λ (s : SlabState). fold after_cut s (first_chunks c.args.moving.page c.per_page.result)) after in
+    let come : Arrives c.self.inside.slabs (fold after_cut (finished c.self.inside.slabs c.args.moving) (first_chunks c.args.moving.page c.per_page.result)) c.args.moving.page
+    = arrives_cut _ _ _ (first_chunks c.args.moving.page c.per_page.result) (arrives c.self.inside.slabs c.args.moving) in
     record {
       kept = rw cut (kept_recut _ _ _ _ c.args.moving (first_chunks c.args.moving.page c.per_page.result) c.self.invariant.kept can
           (rw cut at c.cut_page.ensures.whole) (rw cut at c.cut_page.ensures.accounted));
       watched = rw cut (watched-recut c.self.inside.slabs _ c.self.invariant.watched c.args.moving (first_chunks c.args.moving.page c.per_page.result));
+      counted = rw cut (counted_moved _ _ _ _ _ _ _ c.self.invariant.kept (rw cut at c.cut_page.ensures.accounted) come.classes come.order c.self.invariant.counted);
       bulk = c.self.invariant.bulk;
     }
 
@@ -44,6 +48,8 @@ invariant_of-self-else-moving-ne0 c =
     record {
       kept = rw after (kept_pooled _ _ _ _ c.args.moving c.self.invariant.kept can c.if-moving-ne0.false (rw after at c.finish_move.ensures.accounted));
       watched = rw after (watched-finished c.self.inside.slabs _ c.self.invariant.watched c.args.moving);
+      counted = rw after (counted_moved _ _ _ _ _ _ _ c.self.invariant.kept (rw after at c.finish_move.ensures.accounted)
+          (arrives c.self.inside.slabs c.args.moving).classes (arrives c.self.inside.slabs c.args.moving).order c.self.invariant.counted);
       bulk = c.self.invariant.bulk;
     }
 

@@ -7,6 +7,7 @@ use Rattle.mc_keeper.specs.Machine.{Machine}
 use Rattle.mc_keeper.proofs.KeptChanges.{kept_grow}
 use Rattle.mc_keeper.proofs.Grown.{per_page_kept, per_page_given, per_page_grown, new_page_view}
 use Rattle.mc_keeper.proofs.Watched.{watched-grown}
+use Rattle.mc_keeper.proofs.Counted.{counted_moved, classes_given, orders_given}
 use Rattle.mc_keeper.proofs.keeper.Keeper.grow.Goals as goal
 
 pub cut_page-requires-clause-chunks : goal.cut_page-requires-clause-chunks
@@ -26,6 +27,10 @@ invariant_of-self c =
           (rw (c.cut_page.ensures.cut, c.in-Ok.ensures.given.1) at c.cut_page.ensures.whole));
       watched = rw (c.cut_page.ensures.cut, c.in-Ok.ensures.given.1)
           (watched-grown c.self.inside.slabs _ c.self.invariant.watched c.args.class c.in-Ok.page (first_chunks c.in-Ok.page c.per_page-per_page.result));
+      counted = rw (c.cut_page.ensures.cut, c.in-Ok.ensures.given.1)
+          (counted_moved _ _ _ _ _ _ _ c.self.invariant.kept (rw (c.cut_page.ensures.cut, c.in-Ok.ensures.given.1) at c.cut_page.ensures.accounted)
+          (classes_given c.self.inside.slabs c.args.class c.in-Ok.page (first_chunks c.in-Ok.page c.per_page-per_page.result))
+          (orders_given c.self.inside.slabs c.args.class c.in-Ok.page (first_chunks c.in-Ok.page c.per_page-per_page.result)) c.self.invariant.counted);
       bulk = c.self.invariant.bulk;
     }
 

@@ -5,8 +5,10 @@ use Rattle.mc_keeper.specs.Machine.{Machine}
 use Rattle.mc_pages.specs.SlabState.{SlabState, class_of_chunk}
 use Rattle.mc_pages.specs.Changes.{after_clear, after_replace}
 use Rattle.mc_keeper.proofs.KeptMoverClear.{cleared_after, idle_here, handed_item, contains_counted, kept_back, leads_gone}
-use Rattle.mc_keeper.proofs.KeptMoverRescue.{kept_rescued, listed_still}
+use Rattle.mc_keeper.proofs.KeptMoverRescue.{kept_rescued, listed_still, vacant}
 use Rattle.mc_keeper.proofs.Watched.{watched-back, watched-clear, watched-replace}
+use Rattle.std.proofs.lemmas.List.{length-set}
+use Rattle.mc_keeper.proofs.Counted.{counted_come, counted_gone}
 use Rattle.mc_keeper.proofs.keeper.Keeper.rescue.Goals as goal
 
 pub back-requires : goal.back-requires
@@ -44,6 +46,12 @@ invariant_of-self-in-Ok c =
           (rw slabs at c.clear.ensures.accounted));
       watched = rw slabs (watched-clear (after_replace c.self.inside.slabs c.args.new c.args.old) _
           (watched-replace c.self.inside.slabs _ c.self.invariant.watched c.args.new c.args.old) c.args.old);
+      counted = rw (slabs, c.in-Ok.ensures.entries, c.remove.ensures.entries)
+          (counted_come _ _ _ _ _ _ c.args.new c.in-Some.item
+          (counted_gone _ _ _ _ _ _ c.args.old c.in-Some.item c.self.invariant.counted
+          (length-set (after_replace c.self.inside.slabs c.args.new c.args.old).classes _ _ ∙ length-set c.self.inside.slabs.classes _ _)
+          (sym c.in-Some.ensures.value) linked) refl
+          (vacant _ _ _ _ c.args.old c.args.new c.in-Some.item c.self.invariant.kept (sym c.in-Some.ensures.value) linked free) linked);
       bulk = c.self.invariant.bulk;
     }
 
@@ -63,6 +71,8 @@ invariant_of-self-in-Err c =
           (leads_gone _ _ _ _ _ c.args.old found.0 c.key-key.result c.self.invariant.kept found.1 found.2
           (c.key-key.ensures ∙ sym (ap (λ (item : Item). item.key) same)) c.remove-in-Err.ensures.updates.0));
       watched = rw c.back.ensures.back (watched-back c.self.inside.slabs _ c.self.invariant.watched c.args.old);
+      counted = rw (c.back.ensures.back, c.in-Err.ensures.err, c.remove.ensures.entries)
+          (counted_gone _ _ _ _ _ _ c.args.old found.0 c.self.invariant.counted (length-set c.self.inside.slabs.classes _ _) found.1 found.2);
       bulk = c.self.invariant.bulk;
     }
 
