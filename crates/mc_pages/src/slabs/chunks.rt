@@ -1,16 +1,16 @@
 //! The chunks of the classes: handed out, given back, touched, replaced, cleared and cut.
 //!
 //! Each of these six writes eight fields of the rows at most, wherever in its list the chunk stands (own).
-ghost use Rattle.std.specs.Prelude.{◌≡◌, ◌+◌, ◌<◌, ◌≤◌, slice_get, Contains, None, Some};
+ghost use Rattle.std.specs.Prelude.{◌≡◌, ◌+◌, ◌<◌, ◌≤◌, slice_get, nat_lt, Contains, None, Some, true};
 ghost use Rattle.std.specs.Option.{option_map};
-ghost use Rattle.mc_pages.specs.ClassState.{first_free, behind};
+ghost use Rattle.mc_pages.specs.ClassState.{first_free, behind, times};
 ghost use Rattle.mc_pages.specs.SlabState.{IsClass, class_at, class_of_page, class_of_chunk};
 ghost use Rattle.mc_pages.specs.Changes.{after_pop, after_back, after_touch, after_replace, after_clear, after_cut, after_evicted, next_uncut};
-ghost use Rattle.mc_pages.specs.Accounted.{IsAccounted, places_in};
+ghost use Rattle.mc_pages.specs.Accounted.{IsAccounted, is_cut, places_in};
 
 use super::Slabs;
 use crate::ids::ChunkId;
-use crate::rows::ListName;
+use crate::rows::{ListName, Mark};
 use mc_classes::{ClassId, PageId};
 
 impl Slabs {
@@ -99,6 +99,16 @@ impl Slabs {
         ensures { result ≡ option_map (λ chunk. chunk.page) self.now.state.uncut }
     {
         self.uncut.map(|chunk| chunk.page)
+    }
+
+    /// Whether the chunk, which was cut, is in the free list of its class. It reads the mark of the chunk's row, and walks
+    /// along no list. (after the bit `ITEM_SLABBED` of memcached's items, by which `slab_rebalance_move` knows a free chunk)
+    pub fn is_free(&self, chunk: ChunkId) -> bool
+        requires class { IsClass self.now.state (class_of_page self.now.state chunk.page) }
+        requires cut { is_cut self.now.state (class_of_page self.now.state chunk.page) chunk ≡ true }
+        ensures { result ≡ nat_lt 0 (times chunk (class_of_chunk self.now.state chunk).free) }
+    {
+        self.rows.mark(chunk) == Mark::Free
     }
 
     /// The head of the class's free list: the chunk that is handed out next. None where the list is empty.

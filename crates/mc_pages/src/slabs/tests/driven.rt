@@ -294,6 +294,22 @@ impl Driven {
         self.slabs.next_out(chunk)
     }
 
+    /// Whether the chunk is free. None where its page has no class, isn't all cut, or has no such chunk.
+    #[tactic(auto, using(crate::proofs::RoomyTests::cut_looked))]
+    pub(super) fn is_free(&self, chunk: ChunkId) -> Option<bool> {
+        if chunk.page >= self.pages {
+            return None;
+        }
+        let class = self.slabs.owner(chunk.page).class();
+        if !self.is_class(class)
+            || self.uncut.is_some()
+            || chunk.index >= per_page(&self.slabs, class)
+        {
+            return None;
+        }
+        Some(self.slabs.is_free(chunk))
+    }
+
     pub(super) fn owner(&self, page: PageId) -> Option<Owner> {
         if page < self.pages {
             Some(self.slabs.owner(page))
