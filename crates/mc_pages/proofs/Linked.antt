@@ -3,7 +3,6 @@ use Rattle.std.proofs.Common.{◌≡◌, ◌≢◌, ℕ, ◌+◌, ◌-◌, ◌�
 use Rattle.std.proofs.lemmas.Bool.{cases_Bool, cases_lt}
 use Rattle.mc_pages.specs.declared.ids.ChunkId.{ChunkId}
 use Rattle.mc_pages.specs.declared.rows.ListName.{ListName}
-use Rattle.mc_pages.specs.declared.rows.Mark.{Mark}
 use Rattle.mc_pages.specs.declared.rows.Mark.TheVariants.{Unlisted}
 use Rattle.mc_pages.specs.declared.rows.Field.TheVariants.{Next, Previous, Head, Tail}
 use Rattle.mc_pages.specs.ClassState.{is_chunk, times, without, with_before}

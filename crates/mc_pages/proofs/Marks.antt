@@ -1,5 +1,5 @@
 -- What the mark of a chunk tells.
-use Rattle.std.proofs.Common.{◌≡◌, ◌≢◌, ℕ, ◌+◌, ◌-◌, ◌<◌, ◌≤◌, Bool, true, false, nat_lt, if◌then◌else◌, Option, Some, None, List, length, refl, sym, ap, ◌∙◌, subst, inl, inr, arith, eq-eqb, ne_eqb, lt-ltb, le-ltb}
+use Rattle.std.proofs.Common.{◌≡◌, ◌≢◌, ℕ, ◌+◌, ◌-◌, ◌<◌, ◌≤◌, true, false, nat_lt, if◌then◌else◌, Option, Some, None, length, refl, sym, ap, ◌∙◌, subst, inl, inr, arith, eq-eqb, ne_eqb, lt-ltb, le-ltb}
 use Rattle.std.proofs.lemmas.Bool.{and_parts, cases_eq, cases_lt, ltb-true}
 use Rattle.std.proofs.lemmas.List.{get_or_past}
 use Rattle.mc_pages.specs.declared.ids.ChunkId.{ChunkId}
@@ -8,11 +8,12 @@ use Rattle.mc_pages.specs.declared.rows.ListName.TheVariants.{Free, Out}
 use Rattle.mc_pages.specs.declared.rows.Field.TheVariants.{Next, Head}
 use Rattle.mc_pages.specs.declared.rows.Mark.TheVariants as marks
 use Rattle.mc_pages.specs.declared.slabs.Slabs.TheInside.{Inside}
+use Rattle.mc_pages.specs.Ledger.{owner_at}
 use Rattle.mc_pages.specs.ClassState.{times}
 use Rattle.mc_pages.specs.Rows.{IsRow, row_at, field_of}
 use Rattle.mc_pages.specs.Linked.{walk, chunks_of}
 use Rattle.mc_pages.specs.SlabState.{SlabState, IsClass, class_at, class_of_page, class_of_chunk}
-use Rattle.mc_pages.specs.Accounted.{cut_count, is_cut, places_in}
+use Rattle.mc_pages.specs.Accounted.{is_of_class, cut_count, is_cut}
 use Rattle.mc_pages.specs.InOrder.{IsInOrder, AreKept, slabs_of}
 use Rattle.mc_pages.proofs.HandedOut.{class_of_placed}
 use Rattle.mc_pages.proofs.Runs.{None≢Some}
@@ -27,16 +28,19 @@ cut_count_le (Some next) page per_page next_within =
       | inr differs ↦ omega (arith, ap (λ b. if b then next.index else per_page) (ne_eqb next.page page differs))
     ]
 
+-- the lowest uncut chunk, where it is on this page, is one of it
+uncut_within : (slabs : SlabState) (granted page : ℕ) (next : ChunkId) → IsInOrder slabs granted → slabs.uncut ≡ Some next → next.page ≡ page → next.index ≤ (class_at slabs (class_of_page slabs page)).per_page
+uncut_within slabs granted page next kept h same =
+    omega (arith, (kept.uncut next h).within, ap (λ (p : ℕ). (class_at slabs (class_of_page slabs p)).per_page) same)
+
 -- a chunk that was cut is one of its page
 cut_within : (slabs : SlabState) (granted : ℕ) (chunk : ChunkId) → IsInOrder slabs granted → is_cut slabs (class_of_page slabs chunk.page) chunk ≡ true → chunk.index < (class_of_chunk slabs chunk).per_page
 cut_within slabs granted chunk kept cut =
-    let per_page = (class_of_chunk slabs chunk).per_page in
-    let below = ltb-true chunk.index (cut_count slabs.uncut chunk.page per_page) (and_parts _ _ cut).1 in
-    let most = cut_count_le slabs.uncut chunk.page per_page (λ next h same.
-    let within = (kept.uncut next h).within in
-    let size : (class_of_chunk slabs next).per_page ≡ per_page = ap (λ (p : ℕ). (class_at slabs (class_of_page slabs p)).per_page) same in
-    omega (arith, within, size)) in
-    omega (arith, below, most)
+    let own = class_of_page slabs chunk.page in
+    let count = cut_count slabs.uncut chunk.page (class_at slabs own).per_page in
+    let parts = and_parts (is_of_class own (owner_at slabs.owners chunk.page)) (nat_lt chunk.index count) cut in
+    let below : chunk.index < count = ltb-true chunk.index count parts.1 in
+    omega (arith, below, cut_count_le slabs.uncut chunk.page (class_at slabs own).per_page (λ next h same. uncut_within slabs granted chunk.page next kept h same))
 
 -- so it has a row
 pub IsRow-cut : (slabs : Inside) (chunk : ChunkId) → AreKept slabs → IsClass (slabs_of slabs) (class_of_page (slabs_of slabs) chunk.page) → is_cut (slabs_of slabs) (class_of_page (slabs_of slabs) chunk.page) chunk ≡ true → IsRow slabs.rows chunk

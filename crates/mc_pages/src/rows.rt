@@ -13,7 +13,8 @@ use crate::writes::Writes;
 use std::alloc::{AllocError, Global};
 use std::marker::Model;
 
-/// In which kind of list a chunk is. (after the bit `ITEM_SLABBED` of memcached's items, which a free chunk has)
+/// In which kind of list a chunk is. (after the flag `ITEM_SLABBED` of memcached's items, which a free chunk has; own: that
+/// it tells a handed-out chunk from one that is in no list)
 #[derive(Clone, Copy, Debug, PartialEq, Eq)]
 pub(crate) enum Mark {
     /// In none: it isn't cut yet, or was cleared.
