@@ -13,8 +13,7 @@ use crate::writes::Writes;
 use std::alloc::{AllocError, Global};
 use std::marker::Model;
 
-/// In which kind of list a chunk is. (after the flag `ITEM_SLABBED` of memcached's items, which a free chunk has; own: that
-/// it tells a handed-out chunk from one that is in no list)
+/// In which kind of list a chunk is. (after the flag `ITEM_SLABBED` of memcached's items, which a free chunk has)
 #[derive(Clone, Copy, Debug, PartialEq, Eq)]
 pub(crate) enum Mark {
     /// In none: it isn't cut yet, or was cleared.
@@ -25,7 +24,8 @@ pub(crate) enum Mark {
     Out,
 }
 
-/// The chunks beside a chunk in its list. A list has a row of its own, where `next` is its head and `previous` its tail.
+/// The chunks beside a chunk in its list. A list has a row of its own, where `next` is its head, `previous` its tail, and
+/// the mark says nothing.
 #[derive(Clone, Copy)]
 pub(crate) struct Row {
     next: Option<ChunkId>,

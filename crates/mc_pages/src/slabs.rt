@@ -37,8 +37,8 @@ impl From<AllocError> for NoMemory {
 
 /// Pages, free lists, hand-out orders, the pool, the ledger, and the page that is on the move.
 ///
-/// `grow` and `begin_move` make all room that later calls need, so no other call takes memory or can fail. Contracts see
-/// what it holds, as `state`, and how many fields of its rows were ever written, as `writes`.
+/// `grow` and `begin_move` make all room that later calls need, so no other call takes memory or can fail. Contracts
+/// see what it holds, as `state`, and how many fields of its rows were ever written, as `writes`.
 #[derive(Drop)]
 pub struct Slabs {
     page: u64,
@@ -150,9 +150,9 @@ impl Slabs {
     /// `writes` counts.
     pub fn rows(&self) -> &Rows
         ensures linked { AreLinked result.now }
-        ensures writes { result.now.writes ≡ self.now.writes }
         ensures free { (class : ℕ) → IsClass self.now.state class → chunks_of result.now (Free (class - 1)) ≡ (class_at self.now.state class).free }
         ensures order { (class : ℕ) → IsClass self.now.state class → chunks_of result.now (Out (class - 1)) ≡ (class_at self.now.state class).order }
+        ensures writes { result.now.writes ≡ self.now.writes }
     {
         &self.rows
     }

@@ -101,8 +101,8 @@ impl Slabs {
         self.uncut.map(|chunk| chunk.page)
     }
 
-    /// Whether a chunk is in the free list of its class. It must have been cut. It is one read of the chunk's row, and no
-    /// walk. (after the flag `ITEM_SLABBED` of memcached's items, by which slabs.c's `slab_rebalance_move` knows a free chunk)
+    /// Whether a chunk is in the free list of its class. It must have been cut. This reads the chunk's row and walks along
+    /// no list. (after the flag `ITEM_SLABBED` of memcached's items, by which `slab_rebalance_move` knows a free chunk)
     pub fn is_free(&self, chunk: ChunkId) -> bool
         requires class { IsClass self.now.state (class_of_page self.now.state chunk.page) }
         requires cut { is_cut self.now.state (class_of_page self.now.state chunk.page) chunk ≡ true }
