@@ -158,6 +158,7 @@ listed_row rows class chunk is listed =
       | inr none ↦ is.placed (Out class) chunk (omega (arith, none, listed))
     ]
 
+-- marks are apart
 free≢handed_out : marks.Free ≢ marks.Out
 free≢handed_out h = cc h
 

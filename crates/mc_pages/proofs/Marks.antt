@@ -46,6 +46,7 @@ cut_within slabs granted chunk kept cut =
 pub IsRow-cut : (slabs : Inside) (chunk : ChunkId) → AreKept slabs → IsClass (slabs_of slabs) (class_of_page (slabs_of slabs) chunk.page) → is_cut (slabs_of slabs) (class_of_page (slabs_of slabs) chunk.page) chunk ≡ true → IsRow slabs.rows chunk
 IsRow-cut slabs chunk kept is cut = IsRow-page slabs chunk kept is (cut_within (slabs_of slabs) slabs.granted chunk kept.order cut)
 
+-- marks are apart
 free≢unlisted : marks.Free ≢ marks.Unlisted
 free≢unlisted h = cc h
 

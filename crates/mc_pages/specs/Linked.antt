@@ -41,14 +41,14 @@ abbrev pub mark_of : ListName → Mark
 mark_of (Free class) = marks.Free
 mark_of (Out class) = marks.Out
 
--- the rows are these lists: each runs from its head to its tail, and a chunk is in one of them at most, and once; its
--- mark tells in which, but for the chunk that is loose, if one is: it is on its way from one list to another
+-- the rows are these lists: each runs from its head to its tail, and a chunk is in one of them at most, and once
 pub record IsLinked (rows : RowsState) (lists : ListName → List ChunkId) (loose : Option ChunkId) : Type 0 where
   pub runs : (list : ListName) → IsRun (λ link. field_of rows (forth list link)) (λ link. field_of rows (back list link)) None (lists list)
   pub long : (list : ListName) → length_of rows list ≡ length (lists list)
   pub once : (list : ListName) (chunk : ChunkId) → times chunk (lists list) ≤ 1
   pub apart : (list other : ListName) (chunk : ChunkId) → other ≢ list → 1 ≤ times chunk (lists list) → times chunk (lists other) ≡ 0
   pub sides : (list : ListName) (chunk : ChunkId) → 1 ≤ times chunk (lists list) → (row_at rows chunk).mark ≡ mark_of list
+  -- a chunk that is marked as one of a list is in one, but for the loose one, which is on its way to another list
   pub listed : (chunk : ChunkId) → loose ≢ Some chunk → (row_at rows chunk).mark ≢ Unlisted → (list : ListName) × (1 ≤ times chunk (lists list))
   pub placed : (list : ListName) (chunk : ChunkId) → 1 ≤ times chunk (lists list) → IsRow rows chunk
 
