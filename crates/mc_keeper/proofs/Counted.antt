@@ -1,5 +1,5 @@
 -- The counts of the dead stay right: through each change of the items, the holds and the pages.
-use Rattle.std.proofs.Common.{◌≡◌, ◌≢◌, ℕ, ◌+◌, ◌-◌, ◌≤◌, ◌<◌, List, [], ◌∷◌, length, get_or, set, replicate, Contains, Bool, true, false, not, Option, Some, None, inl, inr, refl, ap, sym, ◌∙◌, arith, eqb}
+use Rattle.std.proofs.Common.{◌≡◌, ◌≢◌, ℕ, ◌+◌, ◌-◌, ◌≤◌, ◌<◌, List, [], length, replicate, Contains, Bool, true, false, not, Option, Some, None, refl, ap, sym, ◌∙◌, arith, eqb}
 use Rattle.std.specs.Prelude.{◌==◌, ◌&&◌, fold, if◌then◌else◌, slice_index_or, slice_set, Result, Ok, Err, IfOk, OnOk, OnErr}
 use Rattle.std.proofs.lemmas.Bool.{and_parts}
 use Rattle.std.proofs.lemmas.Bool.Decides.{nat_tests}
@@ -335,7 +335,7 @@ abbrev pub machine_of : Inside → Machine
 machine_of keeper = record {
   table = keeper.table;
   bulk = keeper.bulk;
-  slabs = keeper.slabs;
+  slabs = keeper.slabs.state;
   items = keeper.items.entries;
   holds = keeper.holds;
   turns = keeper.turns;

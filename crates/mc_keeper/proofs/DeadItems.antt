@@ -1,7 +1,5 @@
 -- How many items of a class are dead, through each change of the items, the holds and the owners of pages.
-use Rattle.std.proofs.Common.{◌≡◌, ◌≢◌, ℕ, ◌+◌, ◌≤◌, ◌⊎◌, List, [], ◌∷◌, length, Bool, true, false, not, Option, Some, None, inl, inr, refl, ap, sym, ◌∙◌, arith}
-use Rattle.std.specs.Prelude.{◌==◌, ◌&&◌}
-use Rattle.std.proofs.lemmas.Bool.Decides.{nat_tests, leb_tells}
+use Rattle.std.proofs.Common.{◌≡◌, ℕ, ◌+◌, ◌≤◌, List, [], ◌∷◌, Bool, true, false, Some, None, inl, inr, refl, ap, arith}
 use Rattle.std.specs.declared.cmp.Ordering.{Ordering}
 use Rattle.std.specs.declared.cmp.Ordering.TheVariants.{Less, Equal, Greater}
 use Rattle.std.specs.BTreeMap.{is_at}
@@ -16,7 +14,7 @@ use Rattle.mc_keeper.specs.Holds.{Holds, is_held}
 use Rattle.mc_keeper.specs.Item.{Item}
 use Rattle.mc_keeper.specs.Items.{Items, chunk_cmp, item_at, with_item, without_item}
 use Rattle.mc_keeper.specs.Kept.{dead_items, is_dead_item, places}
-use Rattle.mc_keeper.proofs.Chunks.{chunk_cmp-self, places_none}
+use Rattle.mc_keeper.proofs.Chunks.{chunk_cmp-self}
 use Rattle.mc_keeper.proofs.KeptStore.{is_at-tells}
 
 -- a linked item isn't dead

@@ -1,23 +1,22 @@
 -- The dead items of a class are the dead chunks of its hand-out order.
-use Rattle.std.proofs.Common.{◌≡◌, ◌≢◌, ℕ, ◌+◌, ◌≤◌, ◌<◌, List, [], ◌∷◌, length, Bool, true, false, not, Option, Some, None, inl, inr, refl, ap, sym, ◌∙◌, arith}
-use Rattle.std.specs.Prelude.{◌==◌, ◌&&◌, if◌then◌else◌, count_by, filter}
+use Rattle.std.proofs.Common.{◌≡◌, ℕ, ◌+◌, ◌≤◌, List, [], ◌∷◌, length, Bool, true, false, not, Some, inl, inr, refl, ap, sym, ◌∙◌, arith}
+use Rattle.std.specs.Prelude.{◌==◌, ◌&&◌, if◌then◌else◌, count_by}
 use Rattle.std.proofs.lemmas.Bool.{cases_Bool}
 use Rattle.std.proofs.lemmas.Bool.Decides.{nat_tests, leb_tells}
 use Rattle.std.proofs.lemmas.List.Sums.{count_by-le-length, length-filter, sum_by-cons}
 use Rattle.std.specs.BTreeMap.{is_at}
-use Rattle.mc_classes.specs.Classes.{Classes}
 use Rattle.mc_pages.specs.declared.ids.ChunkId.{ChunkId}
 use Rattle.mc_pages.specs.declared.ledger.Owner.{Owner}
 use Rattle.mc_pages.specs.ClassState.{is_chunk, times, without}
 use Rattle.mc_pages.specs.Ledger.{owner_at}
-use Rattle.mc_pages.specs.SlabState.{SlabState, IsClass, class_at, class_of_owner, class_of_page}
+use Rattle.mc_pages.specs.SlabState.{IsClass, class_at, class_of_owner, class_of_page}
 use Rattle.mc_pages.specs.Accounted.{truth}
 use Rattle.mc_pages.proofs.Chunks.{is_chunk-same, same_from_is_chunk, times-cons, times-without}
 use Rattle.mc_keeper.specs.Holds.{Holds, is_held}
 use Rattle.mc_keeper.specs.Item.{Item}
 use Rattle.mc_keeper.specs.Items.{Items, chunk_cmp, item_at, is_unlinked}
 use Rattle.mc_keeper.specs.Machine.{Machine, dead_chunks, is_dead}
-use Rattle.mc_keeper.specs.Kept.{dead_items, is_dead_item, places, IsKept}
+use Rattle.mc_keeper.specs.Kept.{dead_items, places, IsKept}
 use Rattle.mc_keeper.proofs.Bounds.{order_short}
 use Rattle.mc_keeper.proofs.Chunks.{chunk_cmp-self}
 use Rattle.mc_keeper.proofs.KeptChanges.{place_once}

@@ -1,8 +1,8 @@
 -- A hold of one chunk is taken or given back: who holds the others stays.
-use Rattle.std.proofs.Common.{◌≡◌, ℕ, ◌+◌, ◌≤◌, ◌<◌, List, [], ◌∷◌, length, get_or, set, Contains, Bool, true, false, inl, inr, refl, ap, sym, ◌∙◌, arith}
-use Rattle.std.specs.Prelude.{nat_lt, sum_by}
+use Rattle.std.proofs.Common.{◌≡◌, ℕ, ◌≤◌, List, [], ◌∷◌, length, set, Contains, true, false, inl, inr, refl, ap, arith}
+use Rattle.std.specs.Prelude.{nat_lt}
 use Rattle.std.proofs.lemmas.Bool.{cases_lt}
-use Rattle.std.proofs.lemmas.Bool.Decides.{nat_tests, leb_tells}
+use Rattle.std.proofs.lemmas.Bool.Decides.{nat_tests}
 use Rattle.std.proofs.lemmas.List.{set_past, get_or_past}
 use Rattle.std.proofs.lemmas.List.Sums.{sum_by-set, get_or-le-sum_by}
 use Rattle.mc_pages.specs.declared.ids.ChunkId.{ChunkId}

@@ -68,7 +68,7 @@ pub record AreCounted (classes : ℕ) (owners : List Owner) (holds : Holds) (ite
 
 -- what the keeper keeps
 pub record AreKept (keeper : Inside) : Type 0 where
-  pub watched : IsWatched keeper.slabs keeper.decider
-  pub kept : IsKept keeper.table keeper.slabs keeper.index.entries keeper.items.entries
-  pub counted : AreCounted (length keeper.slabs.classes) keeper.slabs.owners keeper.holds keeper.items.entries keeper.dead
+  pub watched : IsWatched keeper.slabs.state keeper.decider
+  pub kept : IsKept keeper.table keeper.slabs.state keeper.index.entries keeper.items.entries
+  pub counted : AreCounted (length keeper.slabs.state.classes) keeper.slabs.state.owners keeper.holds keeper.items.entries keeper.dead
   pub bulk : keeper.bulk ≤ 256

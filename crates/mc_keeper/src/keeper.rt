@@ -55,7 +55,7 @@ impl Model for Keeper {
 
     ghost use Rattle.mc_keeper.specs.Kept.{AreKept};
 
-    ghost view = { λ k. record { table = k.table; bulk = k.bulk; slabs = k.slabs; items = k.items.entries; holds = k.holds; turns = k.turns; decider = k.decider } };
+    ghost view = { λ k. record { table = k.table; bulk = k.bulk; slabs = k.slabs.state; items = k.items.entries; holds = k.holds; turns = k.turns; decider = k.decider } };
 
     ghost invariant = { AreKept };
 }

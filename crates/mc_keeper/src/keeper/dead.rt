@@ -65,10 +65,10 @@ impl DeadCounts {
 
 /// Counts a chunk as dead where nobody holds it. No key leads to it any more.
 pub(super) fn count_unheld(dead: &mut DeadCounts, holds: &Holds, slabs: &Slabs, chunk: ChunkId)
-    requires class { IsClass slabs.now (class_of_page slabs.now chunk.page) }
-    requires of_each { length dead.old ≡ length slabs.now.classes }
-    requires few { slice_index_or dead.old (class_of_page slabs.now chunk.page - 1) 0 < 65536 }
-    ensures { dead.new ≡ (if is_held holds.now chunk then dead.old else slice_set dead.old (class_of_page slabs.now chunk.page - 1) (slice_index_or dead.old (class_of_page slabs.now chunk.page - 1) 0 + 1)) }
+    requires class { IsClass slabs.now.state (class_of_page slabs.now.state chunk.page) }
+    requires of_each { length dead.old ≡ length slabs.now.state.classes }
+    requires few { slice_index_or dead.old (class_of_page slabs.now.state chunk.page - 1) 0 < 65536 }
+    ensures { dead.new ≡ (if is_held holds.now chunk then dead.old else slice_set dead.old (class_of_page slabs.now.state chunk.page - 1) (slice_index_or dead.old (class_of_page slabs.now.state chunk.page - 1) 0 + 1)) }
 {
     if !holds.is_held(chunk) {
         dead.increment(class_of(slabs, chunk));
@@ -77,8 +77,8 @@ pub(super) fn count_unheld(dead: &mut DeadCounts, holds: &Holds, slabs: &Slabs, 
 
 /// The class that has the chunk.
 pub(super) fn class_of(slabs: &Slabs, chunk: ChunkId) -> ClassId
-    requires { IsClass slabs.now (class_of_page slabs.now chunk.page) }
-    ensures { result ≡ class_of_page slabs.now chunk.page }
+    requires { IsClass slabs.now.state (class_of_page slabs.now.state chunk.page) }
+    ensures { result ≡ class_of_page slabs.now.state chunk.page }
 {
     slabs.owner(chunk.page).class()
 }

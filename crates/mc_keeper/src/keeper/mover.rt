@@ -153,27 +153,12 @@ impl Keeper {
         ensures looked { looked_at self.old class chunk ≡ record { machine = self.new; found = result } }
         ensures clears { is_cleared self.new.slabs class chunk ≡ true }
     {
-        if self.is_free(class, chunk) {
+        if self.slabs.is_free(chunk) {
             self.slabs.clear(chunk);
             Found::Cleared
         } else {
             Found::Already
         }
-    }
-
-    /// Whether the chunk is in the class's free list.
-    fn is_free(&self, class: ClassId, chunk: ChunkId) -> bool
-        requires { IsClass self.now.slabs class }
-        ensures { result ≡ nat_lt 0 (times chunk (class_at self.now.slabs class).free) }
-    {
-        let mut next = self.slabs.first_free(class);
-        while let Some(free) = next {
-            if free == chunk {
-                return true;
-            }
-            next = self.slabs.next_free(free);
-        }
-        false
     }
 
     /// Clears the chunk, and its item is gone.

@@ -41,9 +41,9 @@ invariant_of-self c =
       kept = rw (c.clear.ensures.cleared, c.remove.ensures.entries) (kept_cleared _ _ _ _ _ c.args.chunk found.0 c.self.invariant.kept found.1
           (rw c.clear.ensures.cleared at c.clear.ensures.accounted)
           (leads_dead _ _ _ _ c.args.chunk found.0 c.self.invariant.kept found.1 found.2));
-      watched = rw c.clear.ensures.cleared (watched-clear c.self.inside.slabs _ c.self.invariant.watched c.args.chunk);
+      watched = rw c.clear.ensures.cleared (watched-clear c.self.inside.slabs.state _ c.self.invariant.watched c.args.chunk);
       counted = rw (c.clear.ensures.cleared, c.remove.ensures.entries, c.decrement.ensures, c.class_of-class.ensures)
-          (counted_reclaimed _ _ _ _ _ _ c.args.chunk found.0 c.self.invariant.counted (length-set c.self.inside.slabs.classes _ _) found.1 found.2 unheld class.0 class.1);
+          (counted_reclaimed _ _ _ _ _ _ c.args.chunk found.0 c.self.invariant.counted (length-set c.self.inside.slabs.state.classes _ _) found.1 found.2 unheld class.0 class.1);
       bulk = c.self.invariant.bulk;
     }
 
@@ -52,4 +52,4 @@ returns-clause-clears c =
     let found = dead_here _ _ c.args.chunk c.self.view_is c.requires.dead in
     let handed = handed_item _ _ _ _ c.args.chunk found.0 c.self.invariant.kept found.1 in
     rw (← c.self.view_is, c.clear.ensures.cleared)
-    (cleared_after c.self.inside.slabs c.args.chunk c.self.invariant.kept.accounted (rw c.clear.ensures.cleared at c.clear.ensures.accounted) (omega (arith, handed)))
+    (cleared_after c.self.inside.slabs.state c.args.chunk c.self.invariant.kept.accounted (rw c.clear.ensures.cleared at c.clear.ensures.accounted) (omega (arith, handed)))

@@ -9,7 +9,7 @@ use Rattle.mc_keeper.proofs.keeper.Keeper.new.Goals as goal
 
 pub invariant_of-result : goal.invariant_of-result
 invariant_of-result c =
-    let slabs : c.set_automove.new.self ≡ with_mode (fresh_slabs c.args.table) c.args.mode
+    let slabs : c.set_automove.new.self.state ≡ with_mode (fresh_slabs c.args.table) c.args.mode
     = c.set_automove.ensures.mode ∙ ap (λ (s : SlabState). with_mode s c.args.mode) c.in-Ok.ensures.fresh in
     let dead : c.in_ok-dead.dead ≡ replicate (length c.args.table.sizes) 0 = c.in_ok-dead.ensures ∙ ap (λ (n : ℕ). replicate n 0) c.count.ensures.count in
     record {

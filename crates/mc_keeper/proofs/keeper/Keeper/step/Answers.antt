@@ -32,7 +32,7 @@ passed-requires c =
 pub invariant_of-self : goal.invariant_of-self
 invariant_of-self c = record {
   kept = rw c.passed.ensures.passed (kept_moved _ _ _ _ _ _ _ _ c.self-2.invariant.kept (rw c.passed.ensures.passed at c.passed.ensures.accounted));
-  watched = rw c.passed.ensures.passed (watched-same c.self-2.inside.slabs (after_passed c.self-2.inside.slabs c.in_ok-found.found) _ refl c.self-2.invariant.watched);
+  watched = rw c.passed.ensures.passed (watched-same c.self-2.inside.slabs.state (after_passed c.self-2.inside.slabs.state c.in_ok-found.found) _ refl c.self-2.invariant.watched);
   counted = rw c.passed.ensures.passed (counted_owned _ _ _ _ _ _ c.self-2.invariant.counted refl);
   bulk = c.self-2.invariant.bulk;
 }
