@@ -73,7 +73,7 @@ impl State {
 
     /// Pages and free lists, where nobody has the slabs lock.
     pub fn slabs(&self) -> Option<&Slabs>
-        ensures { MatchOption result (self.now.slabs_lock ≢ 0) (λ slabs. (slabs.now ≡ self.now.slabs) × (self.now.slabs_lock ≡ 0)) }
+        ensures { MatchOption result (self.now.slabs_lock ≢ 0) (λ slabs. (slabs.now.state ≡ self.now.slabs) × (self.now.slabs_lock ≡ 0)) }
     {
         if self.slabs_lock == 0 {
             Some(&self.slabs)

@@ -1,5 +1,5 @@
 -- A chunk that is found in a list and taken out of it: the list is without its first place.
-use Rattle.std.proofs.Common.{◌≡◌, ℕ, ◌<◌, ◌≤◌, cond, List, ◌++◌, length, Some, None, refl, sym, ap, ap₂, ◌∙◌, inl, inr, arith, position, lt-ltb, le-ltb, take_all, append-nil, suc}
+use Rattle.std.proofs.Common.{◌≡◌, ℕ, ◌<◌, ◌≤◌, cond, List, ◌++◌, length, Some, None, sym, ap, ap₂, ◌∙◌, inl, inr, arith, position, lt-ltb, le-ltb, take_all, append-nil, suc}
 use Rattle.std.specs.List.{position_or_len, remove}
 use Rattle.std.proofs.lemmas.Bool.{cases_lt}
 use Rattle.std.proofs.lemmas.List.{drop_all}

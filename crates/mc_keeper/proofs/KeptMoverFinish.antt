@@ -85,7 +85,7 @@ pub arrives : (slabs : SlabState) (move : Moving) → Arrives slabs (finished sl
 arrives slabs move = arrives_way (move.dst == 0) slabs move refl
 
 -- and so where chunks are cut then
-arrives_cut : (slabs new : SlabState) (page : ℕ) (chunks : List ChunkId) → Arrives slabs new page → Arrives slabs (fold after_cut new chunks) page
+pub arrives_cut : (slabs new : SlabState) (page : ℕ) (chunks : List ChunkId) → Arrives slabs new page → Arrives slabs (fold after_cut new chunks) page
 arrives_cut slabs new page chunks first = record {
   classes = classes-cuts new chunks ∙ first.classes;
   per_page = per_pages-cuts new chunks ∙ first.per_page;

@@ -30,3 +30,7 @@ pub mod Watched
 pub mod Modes
 pub mod StoredItems
 pub mod Walks
+pub mod DeadItems
+pub mod DeadOrders
+pub mod HeldElsewhere
+pub mod Counted

@@ -1,5 +1,5 @@
 -- The mover's searches in a free list.
-use Rattle.std.proofs.Common.{◌≡◌, ℕ, ◌+◌, ◌/◌, ◌≤◌, ◌<◌, List, [], ◌∷◌, length, drop, get_or, zero, suc, Bool, true, false, Option, Some, None, refl, sym, ◌∙◌, arith, slice_get, Contains}
+use Rattle.std.proofs.Common.{◌≡◌, ℕ, ◌+◌, ◌≤◌, ◌<◌, List, [], ◌∷◌, length, drop, get_or, zero, suc, Bool, true, false, Option, Some, None, refl, ◌∙◌, arith, slice_get, Contains}
 use Rattle.std.specs.Prelude.{find}
 use Rattle.std.proofs.lemmas.Option.{get_or_from_slice_get, slice_get_within}
 use Rattle.std.proofs.Math.Seq.{drop-cons, drop-nil}

@@ -1,17 +1,20 @@
 -- What the keeper's index and items keep, beside the pages and chunks.
-use Rattle.std.specs.Prelude.{◌≡◌, ℕ, ◌+◌, ◌/◌, ◌^◌, ◌<◌, ◌≤◌, false, slice_index_or, List, [], ◌∷◌, length, map, None}
+use Rattle.std.specs.Prelude.{◌≡◌, ℕ, ◌+◌, ◌-◌, ◌/◌, ◌^◌, ◌<◌, ◌≤◌, ◌==◌, Bool, false, not, ◌&&◌, slice_index_or, List, [], ◌∷◌, length, map, None}
 use Rattle.std.specs.Ordering.{nat_cmp}
 use Rattle.std.specs.BTreeMap.{is_at}
 use Rattle.std.specs.Map.{lookup}
 use Rattle.mc_classes.specs.Classes.{Classes, IsSound}
 use Rattle.mc_pages.specs.declared.ids.ChunkId.{ChunkId}
+use Rattle.mc_pages.specs.declared.ledger.Owner.{Owner}
 use Rattle.mc_pages.specs.ClassState.{times}
-use Rattle.mc_pages.specs.SlabState.{SlabState, IsClass, class_at, class_of_chunk}
+use Rattle.mc_pages.specs.Ledger.{owner_at}
+use Rattle.mc_pages.specs.SlabState.{SlabState, IsClass, class_at, class_of_chunk, class_of_owner}
 use Rattle.mc_pages.specs.Accounted.{truth, IsAccounted}
 use Rattle.mc_keeper.specs.declared.keeper.Keeper.TheInside.{Inside}
 use Rattle.mc_watch.specs.Decider.{DeciderState, has_fallen}
 use Rattle.mc_keeper.specs.Automove.{eviction_counts}
-use Rattle.mc_keeper.specs.Item.{is_linked_to}
+use Rattle.mc_keeper.specs.Holds.{Holds, is_held}
+use Rattle.mc_keeper.specs.Item.{Item, is_linked_to}
 use Rattle.mc_keeper.specs.Items.{Items, chunk_cmp, linked_chunk}
 
 -- how often the chunk stands among the items
@@ -48,8 +51,24 @@ pub record IsWatched (slabs : SlabState) (decider : DeciderState) : Type 0 where
   -- a counter has 64 bits
   pub small : (place : ℕ) → slice_index_or (eviction_counts slabs) place 0 < 2 ^ 64
 
+-- a dead item of the class: no key leads to it, and nobody holds its chunk
+abbrev pub is_dead_item : List Owner → Holds → ℕ → ChunkId × Item → Bool
+is_dead_item owners holds class entry =
+    not entry.1.linked && not (is_held holds entry.0) && class_of_owner (owner_at owners entry.0.page) == class
+
+-- how many dead items the class has
+abbrev pub dead_items : List Owner → Holds → Items → ℕ → ℕ
+dead_items owners holds [] class = 0
+dead_items owners holds (entry ∷ items) class = truth (is_dead_item owners holds class entry) + dead_items owners holds items class
+
+-- the dead items of each of so many classes are counted
+pub record AreCounted (classes : ℕ) (owners : List Owner) (holds : Holds) (items : Items) (counts : List ℕ) : Type 0 where
+  pub of_each : length counts ≡ classes
+  pub dead : (class : ℕ) → 1 ≤ class → class ≤ classes → slice_index_or counts (class - 1) 0 ≡ dead_items owners holds items class
+
 -- what the keeper keeps
 pub record AreKept (keeper : Inside) : Type 0 where
-  pub watched : IsWatched keeper.slabs keeper.decider
-  pub kept : IsKept keeper.table keeper.slabs keeper.index.entries keeper.items.entries
+  pub watched : IsWatched keeper.slabs.state keeper.decider
+  pub kept : IsKept keeper.table keeper.slabs.state keeper.index.entries keeper.items.entries
+  pub counted : AreCounted (length keeper.slabs.state.classes) keeper.slabs.state.owners keeper.holds keeper.items.entries keeper.dead
   pub bulk : keeper.bulk ≤ 256

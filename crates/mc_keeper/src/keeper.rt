@@ -4,6 +4,7 @@ ghost use Rattle.mc_classes.specs.Classes.{IsSound};
 ghost use Rattle.mc_keeper.specs.Machine.{fresh_machine};
 
 mod automove;
+mod dead;
 mod evict;
 mod holds;
 mod item;
@@ -16,6 +17,7 @@ mod store;
 mod sweep;
 mod turn;
 
+use dead::DeadCounts;
 use holds::Holds;
 use item::Item;
 use mc_classes::ClassTable;
@@ -38,6 +40,8 @@ pub struct Keeper {
     index: BTreeMap<u64, ChunkId>,
     items: BTreeMap<ChunkId, Item>,
     holds: Holds,
+    /// How many handed-out chunks of each class are dead, so that a sweep walks only where one is.
+    dead: DeadCounts,
     /// How many turns of the mover were begun.
     turns: u64,
     /// What the automover knows of the last windows.
@@ -51,7 +55,7 @@ impl Model for Keeper {
 
     ghost use Rattle.mc_keeper.specs.Kept.{AreKept};
 
-    ghost view = { λ k. record { table = k.table; bulk = k.bulk; slabs = k.slabs; items = k.items.entries; holds = k.holds; turns = k.turns; decider = k.decider } };
+    ghost view = { λ k. record { table = k.table; bulk = k.bulk; slabs = k.slabs.state; items = k.items.entries; holds = k.holds; turns = k.turns; decider = k.decider } };
 
     ghost invariant = { AreKept };
 }
@@ -75,6 +79,7 @@ impl Keeper {
             Err(_) => return Err(AllocError),
         };
         let holds = Holds::new(alloc)?;
+        let dead = DeadCounts::new(alloc, table.count())?;
         Ok(Keeper {
             alloc,
             table,
@@ -83,6 +88,7 @@ impl Keeper {
             index: BTreeMap::new(alloc),
             items: BTreeMap::new(alloc),
             holds,
+            dead,
             turns: 0,
             decider,
         })

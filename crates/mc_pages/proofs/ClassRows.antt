@@ -1,15 +1,16 @@
 -- A class's lists after a chunk went from one to the other.
-use Rattle.std.proofs.Common.{◌≡◌, ◌≢◌, ℕ, ◌+◌, ◌≤◌, zero, suc, Bool, true, false, cond, List, [], ◌∷◌, ◌++◌, length, slice_get, Option, Some, None, refl, sym, ap, ap₂, ◌∙◌, subst, inl, inr, arith}
-use Rattle.std.proofs.lemmas.Bool.{cases_Bool, cases_lt, false≢true}
+use Rattle.std.proofs.Common.{◌≡◌, ◌≢◌, ℕ, ◌+◌, ◌≤◌, zero, suc, Bool, true, cond, List, [], ◌∷◌, ◌++◌, length, slice_get, Option, Some, None, refl, sym, ap, ap₂, ◌∙◌, subst, inl, inr, arith}
+use Rattle.std.proofs.lemmas.Bool.{cases_Bool, cases_lt}
 use Rattle.std.proofs.lemmas.Option.{slice_get_cases, slice_get_past}
 use Rattle.mc_pages.specs.declared.ids.ChunkId.{ChunkId}
 use Rattle.mc_pages.specs.declared.rows.ListName.{ListName}
 use Rattle.mc_pages.specs.declared.rows.ListName.TheVariants.{Free, Out}
+use Rattle.mc_pages.specs.declared.rows.Mark.TheVariants as marks
 use Rattle.mc_pages.specs.declared.rows.Field.TheVariants.{Next, Head}
 use Rattle.mc_pages.specs.ClassState.{ClassState, is_chunk, times, without, first_free, popped, behind}
 use Rattle.mc_pages.specs.Accounted.{truth}
 use Rattle.mc_pages.specs.Rows.{RowsState, IsRow, row_at, field_of, length_of}
-use Rattle.mc_pages.specs.Linked.{IsRun, AreLinked, IsUnlisted, chunks_of, with_list, sizes_of}
+use Rattle.mc_pages.specs.Linked.{IsRun, IsLinked, AreLinked, IsUnlisted, chunks_of, with_list, sizes_of}
 use Rattle.mc_pages.specs.ClassRows.{with_lists, HasBecome}
 use Rattle.mc_pages.proofs.Chunks.{is_chunk-same, same_from_is_chunk, times-cons, times-tail, times-without, times_from_Contains, Contains_from_slice_get}
 use Rattle.mc_pages.proofs.Runs.{Links, None≢Some}
@@ -41,32 +42,40 @@ changed-same before after list chunks h = h list ∙ with_list-same before list 
 pub changed-other : (before after : ListName → List ChunkId) (list other : ListName) (chunks : List ChunkId) → other ≢ list → Changes before after list chunks → after other ≡ before other
 changed-other before after list other chunks differs h = h other ∙ with_list-other before list other chunks differs
 
+-- the class at this place has changed so in the lists, and no other has
+pub record Becomes (before after : RowsState) (place : ℕ) (change : ClassState → ClassState) : Type 0 where
+  pub sizes : sizes_of after ≡ sizes_of before
+  pub here : (class : ClassState) → with_lists class after place ≡ change (with_lists class before place)
+  pub others : (class : ClassState) (other : ℕ) → other ≢ place → with_lists class after other ≡ with_lists class before other
+
+-- and the rows are lists
+pub has_become : (before after : RowsState) (place : ℕ) (change : ClassState → ClassState) → AreLinked after → Becomes before after place change → HasBecome before after place change
+has_become before after place change is becomes = record { linked = is; sizes = becomes.sizes; here = becomes.here; others = becomes.others }
+
 -- the lists of a class where one of them has changed, and where both have
-pub became_free : (before after : RowsState) (place : ℕ) (change : ClassState → ClassState) (free : List ChunkId) → AreLinked after → sizes_of after ≡ sizes_of before → Changes (chunks_of before) (chunks_of after) (Free place) free → ((class : ClassState) → record class { free = free; order = chunks_of before (Out place) } ≡ change (with_lists class before place)) → HasBecome before after place change
-became_free before after place change free is sizes changes so =
+pub became_free : (before after : RowsState) (place : ℕ) (change : ClassState → ClassState) (free : List ChunkId) → sizes_of after ≡ sizes_of before → Changes (chunks_of before) (chunks_of after) (Free place) free → ((class : ClassState) → record class { free = free; order = chunks_of before (Out place) } ≡ change (with_lists class before place)) → Becomes before after place change
+became_free before after place change free sizes changes so =
     let kept = λ (other : ListName) (differs : other ≢ Free place). changed-other (chunks_of before) (chunks_of after) (Free place) other free differs changes in
     record {
-      linked = is;
       sizes = sizes;
       here = λ class. ap₂ (λ (f o : List ChunkId). record class { free = f; order = o }) (changed-same (chunks_of before) (chunks_of after) (Free place) free changes) (kept (Out place) (out≢free place place)) ∙ so class;
       others = λ class other differs. ap₂ (λ (f o : List ChunkId). record class { free = f; order = o }) (kept (Free other) (free≢free other place differs)) (kept (Out other) (out≢free other place));
     }
 
-pub became_out : (before after : RowsState) (place : ℕ) (change : ClassState → ClassState) (order : List ChunkId) → AreLinked after → sizes_of after ≡ sizes_of before → Changes (chunks_of before) (chunks_of after) (Out place) order → ((class : ClassState) → record class { free = chunks_of before (Free place); order = order } ≡ change (with_lists class before place)) → HasBecome before after place change
-became_out before after place change order is sizes changes so =
+pub became_out : (before after : RowsState) (place : ℕ) (change : ClassState → ClassState) (order : List ChunkId) → sizes_of after ≡ sizes_of before → Changes (chunks_of before) (chunks_of after) (Out place) order → ((class : ClassState) → record class { free = chunks_of before (Free place); order = order } ≡ change (with_lists class before place)) → Becomes before after place change
+became_out before after place change order sizes changes so =
     let kept = λ (other : ListName) (differs : other ≢ Out place). changed-other (chunks_of before) (chunks_of after) (Out place) other order differs changes in
     record {
-      linked = is;
       sizes = sizes;
       here = λ class. ap₂ (λ (f o : List ChunkId). record class { free = f; order = o }) (kept (Free place) (free≢out place place)) (changed-same (chunks_of before) (chunks_of after) (Out place) order changes) ∙ so class;
       others = λ class other differs. ap₂ (λ (f o : List ChunkId). record class { free = f; order = o }) (kept (Free other) (free≢out other place)) (kept (Out other) (out≢out other place differs));
     }
 
 -- one change after another
-pub became_then : (before between after : RowsState) (place : ℕ) (first second change : ClassState → ClassState) → HasBecome before between place first → HasBecome between after place second → ((class : ClassState) → second (first (with_lists class before place)) ≡ change (with_lists class before place)) → HasBecome before after place change
-became_then before between after place first second change one two so =
+pub became_then : (before between after : RowsState) (place : ℕ) (first second change : ClassState → ClassState) → Becomes before between place first → Becomes between after place second → ((class : ClassState) → second (first (with_lists class before place)) ≡ change (with_lists class before place)) → AreLinked after → HasBecome before after place change
+became_then before between after place first second change one two so is =
     record {
-      linked = two.linked;
+      linked = is;
       sizes = two.sizes ∙ one.sizes;
       here = λ class. two.here class ∙ (ap second (one.here class) ∙ so class);
       others = λ class other differs. two.others class other differs ∙ one.others class other differs;
@@ -88,10 +97,10 @@ unlisted before after list chunk is there changes other =
     ]
 
 -- the lengths of lists of which one has changed
-pub length-changed : (before after : RowsState) (list : ListName) (chunks : List ChunkId) → AreLinked after → Changes (chunks_of before) (chunks_of after) list chunks → length_of after list ≡ length chunks
+pub length-changed : {loose : Option ChunkId} (before after : RowsState) (list : ListName) (chunks : List ChunkId) → IsLinked after (chunks_of after) loose → Changes (chunks_of before) (chunks_of after) list chunks → length_of after list ≡ length chunks
 length-changed before after list chunks is changes = is.long list ∙ ap length (changed-same (chunks_of before) (chunks_of after) list chunks changes)
 
-pub length-kept : (before after : RowsState) (list other : ListName) (chunks : List ChunkId) → AreLinked before → AreLinked after → other ≢ list → Changes (chunks_of before) (chunks_of after) list chunks → length_of after other ≡ length_of before other
+pub length-kept : {loose left : Option ChunkId} (before after : RowsState) (list other : ListName) (chunks : List ChunkId) → IsLinked before (chunks_of before) loose → IsLinked after (chunks_of after) left → other ≢ list → Changes (chunks_of before) (chunks_of after) list chunks → length_of after other ≡ length_of before other
 length-kept before after list other chunks is is-2 differs changes =
     is-2.long other ∙ (ap length (changed-other (chunks_of before) (chunks_of after) list other chunks differs changes) ∙ sym (is.long other))
 
@@ -149,17 +158,21 @@ listed_row rows class chunk is listed =
       | inr none ↦ is.placed (Out class) chunk (omega (arith, none, listed))
     ]
 
-pub listed_out : (rows : RowsState) (class : ℕ) (chunk : ChunkId) → AreLinked rows → 1 ≤ times chunk (chunks_of rows (Free class)) + times chunk (chunks_of rows (Out class)) → (row_at rows chunk).out ≡ true → 1 ≤ times chunk (chunks_of rows (Out class))
+-- marks are apart
+free≢handed_out : marks.Free ≢ marks.Out
+free≢handed_out h = cc h
+
+pub listed_out : (rows : RowsState) (class : ℕ) (chunk : ChunkId) → AreLinked rows → 1 ≤ times chunk (chunks_of rows (Free class)) + times chunk (chunks_of rows (Out class)) → (row_at rows chunk).mark ≡ marks.Out → 1 ≤ times chunk (chunks_of rows (Out class))
 listed_out rows class chunk is listed side =
     elim (cases_lt 0 (times chunk (chunks_of rows (Free class)))) [
-      | inl there ↦ absurd (false≢true (sym (is.sides (Free class) chunk there) ∙ side))
+      | inl there ↦ absurd (free≢handed_out (sym (is.sides (Free class) chunk there) ∙ side))
       | inr none ↦ omega (arith, none, listed)
     ]
 
-pub listed_free : (rows : RowsState) (class : ℕ) (chunk : ChunkId) → AreLinked rows → 1 ≤ times chunk (chunks_of rows (Free class)) + times chunk (chunks_of rows (Out class)) → (row_at rows chunk).out ≡ false → 1 ≤ times chunk (chunks_of rows (Free class))
+pub listed_free : (rows : RowsState) (class : ℕ) (chunk : ChunkId) → AreLinked rows → 1 ≤ times chunk (chunks_of rows (Free class)) + times chunk (chunks_of rows (Out class)) → (row_at rows chunk).mark ≢ marks.Out → 1 ≤ times chunk (chunks_of rows (Free class))
 listed_free rows class chunk is listed side =
     elim (cases_lt 0 (times chunk (chunks_of rows (Out class)))) [
-      | inl there ↦ absurd (false≢true (sym side ∙ is.sides (Out class) chunk there))
+      | inl there ↦ absurd (side (is.sides (Out class) chunk there))
       | inr none ↦ omega (arith, none, listed)
     ]
 

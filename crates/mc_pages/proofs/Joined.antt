@@ -1,14 +1,15 @@
 -- The links of a list after two chunks became neighbours, or one came between two.
-use Rattle.std.proofs.Common.{◌≡◌, ◌≢◌, ℕ, Bool, ◌+◌, List, Option, Some, None, refl, sym, ap, ◌∙◌, arith}
+use Rattle.std.proofs.Common.{◌≡◌, ◌≢◌, ℕ, ◌+◌, List, Option, Some, None, refl, sym, ap, ◌∙◌, arith}
 use Rattle.mc_pages.specs.declared.ids.ChunkId.{ChunkId}
 use Rattle.mc_pages.specs.declared.rows.ListName.{ListName}
+use Rattle.mc_pages.specs.declared.rows.Mark.{Mark}
 use Rattle.mc_pages.specs.declared.rows.Field.{Field}
 use Rattle.mc_pages.specs.declared.rows.Field.TheVariants.{Next, Previous, Head, Tail}
-use Rattle.mc_pages.specs.Rows.{RowsState, IsField, IsRow, row_at, field_of, length_of, with_field, with_side, with_length}
+use Rattle.mc_pages.specs.Rows.{RowsState, IsField, IsRow, row_at, field_of, length_of, with_field, with_mark, with_length}
 use Rattle.mc_pages.specs.Linked.{sizes_of, forth, back, IsRun, joined}
 use Rattle.mc_pages.proofs.Runs.{Links, IsOutside, run_frame}
 use Rattle.mc_pages.proofs.RunChanges.{Joins, Comes}
-use Rattle.mc_pages.proofs.RowFields.{field-same, field-other, field-with_length, field-with_side, side-with_field, sizes-with_field, writes-with_field, length-with_field, IsField-sizes}
+use Rattle.mc_pages.proofs.RowFields.{field-same, field-other, field-with_length, field-with_mark, mark-with_field, sizes-with_field, writes-with_field, length-with_field, IsField-sizes}
 
 -- where a list goes on, and where it goes back to
 abbrev pub forth_in : RowsState → ListName → Links
@@ -115,15 +116,15 @@ run-with_length rows list other count from chunks run =
     run_frame (forth_in rows other) (back_in rows other) (forth_in (with_length rows list count) other) (back_in (with_length rows list count) other) from chunks
     (kept (forth other from)) (kept (Tail other)) (λ c there. kept (Next c)) (λ c there. kept (Previous c)) run
 
--- and neither does what tells whether a chunk is handed out
-pub run-with_side : (rows : RowsState) (chunk : ChunkId) (is_out : Bool) (list : ListName) (chunks : List ChunkId) → IsRow rows chunk → IsRun (forth_in rows list) (back_in rows list) None chunks → IsRun (forth_in (with_side rows chunk is_out) list) (back_in (with_side rows chunk is_out) list) None chunks
-run-with_side rows chunk is_out list chunks is run =
-    let kept = λ (field : Field). field-with_side rows chunk is_out field is in
-    run_frame (forth_in rows list) (back_in rows list) (forth_in (with_side rows chunk is_out) list) (back_in (with_side rows chunk is_out) list) None chunks
+-- and neither does a mark
+pub run-with_mark : (rows : RowsState) (chunk : ChunkId) (mark : Mark) (list : ListName) (chunks : List ChunkId) → IsRow rows chunk → IsRun (forth_in rows list) (back_in rows list) None chunks → IsRun (forth_in (with_mark rows chunk mark) list) (back_in (with_mark rows chunk mark) list) None chunks
+run-with_mark rows chunk mark list chunks is run =
+    let kept = λ (field : Field). field-with_mark rows chunk mark field is in
+    run_frame (forth_in rows list) (back_in rows list) (forth_in (with_mark rows chunk mark) list) (back_in (with_mark rows chunk mark) list) None chunks
     (kept (Head list)) (kept (Tail list)) (λ c there. kept (Next c)) (λ c there. kept (Previous c)) run
 
--- new neighbours are handed out or not as before
-pub side-joined : (rows : RowsState) (list : ListName) (a b : Option ChunkId) (chunk : ChunkId) → IsField rows (forth list a) → IsField rows (back list b) → (row_at (joined rows list a b) chunk).out ≡ (row_at rows chunk).out
-side-joined rows list a b chunk is is-2 =
+-- new neighbours keep their marks
+pub mark-joined : (rows : RowsState) (list : ListName) (a b : Option ChunkId) (chunk : ChunkId) → IsField rows (forth list a) → IsField rows (back list b) → (row_at (joined rows list a b) chunk).mark ≡ (row_at rows chunk).mark
+mark-joined rows list a b chunk is is-2 =
     let there = IsField-sizes rows (with_field rows (forth list a) b) (back list b) (sizes-with_field rows (forth list a) b) is-2 in
-    side-with_field (with_field rows (forth list a) b) (back list b) a chunk there ∙ side-with_field rows (forth list a) b chunk is
+    mark-with_field (with_field rows (forth list a) b) (back list b) a chunk there ∙ mark-with_field rows (forth list a) b chunk is

@@ -32,6 +32,7 @@ pub mod Kept
 pub mod Roomy
 pub mod States
 pub mod RoomySlabs
+pub mod Marks
 pub mod RoomyFresh
 pub mod RoomyGrow
 pub mod RoomyMoves

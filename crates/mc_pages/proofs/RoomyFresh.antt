@@ -1,8 +1,8 @@
 -- No page is granted yet, no room is kept, and all lists are empty.
-use Rattle.std.proofs.Common.{◌≡◌, ℕ, ◌-◌, ◌*◌, ◌/◌, ◌<◌, ◌≤◌, List, [], length, replicate, slice_index_or, sym, ap, ap₂, ◌∙◌, inl, inr, arith}
+use Rattle.std.proofs.Common.{◌≡◌, ℕ, ◌-◌, ◌*◌, ◌/◌, ◌<◌, ◌≤◌, Bool, nat_lt, if◌then◌else◌, List, [], length, None, replicate, slice_index_or, sym, ap, ap₂, ◌∙◌, inl, inr, arith}
 use Rattle.std.proofs.Math.ListN.{get_or-map as get_or-map_at}
 use Rattle.std.proofs.Math.Nat.{div-mul-le_self, mul-le-mul_left}
-use Rattle.std.proofs.lemmas.Bool.{cases_lt}
+use Rattle.std.proofs.lemmas.Bool.{cases_Bool, cases_lt}
 use Rattle.std.proofs.lemmas.Nat.{le-div}
 use Rattle.std.proofs.lemmas.List.{ext_get_or, get_or-map, get_or_past, get_or-replicate, length-map, length-replicate}
 use Rattle.mc_classes.specs.Classes.{Classes, IsSound, per_page_of}
@@ -11,7 +11,8 @@ use Rattle.mc_pages.specs.declared.rows.Row.{Row}
 use Rattle.mc_pages.specs.declared.rows.ListName.{ListName}
 use Rattle.mc_pages.specs.declared.rows.ListName.TheVariants.{Free, Out}
 use Rattle.mc_pages.specs.ClassState.{ClassState, new_class}
-use Rattle.mc_pages.specs.Rows.{no_row, ends_of, length_of, fresh_rows}
+use Rattle.mc_pages.specs.declared.rows.Mark.TheVariants.{Unlisted}
+use Rattle.mc_pages.specs.Rows.{no_row, row_place, row_at, ends_of, length_of, fresh_rows}
 use Rattle.mc_pages.specs.Linked.{IsLinked, AreLinked, sizes_of}
 use Rattle.mc_pages.specs.ClassRows.{with_lists}
 use Rattle.mc_pages.specs.Room.{RoomyClass, states}
@@ -43,8 +44,16 @@ length-fresh : (most rows classes : ℕ) (list : ListName) → length_of (fresh_
 length-fresh most rows classes (Free class) = replicated classes class 0
 length-fresh most rows classes (Out class) = replicated classes class 0
 
+mark-fresh : (most rows classes : ℕ) (chunk : ChunkId) → (row_at (fresh_rows most rows classes) chunk).mark ≡ Unlisted
+mark-fresh most rows classes chunk =
+    let read : Bool → Row = λ b. if b then slice_index_or (replicate rows no_row) (row_place most chunk) no_row else no_row in
+    elim (cases_Bool (nat_lt chunk.index most)) [
+      | inl within ↦ ap (λ b. (read b).mark) within ∙ ap (λ (r : Row). r.mark) (replicated rows (row_place most chunk) no_row)
+      | inr past ↦ ap (λ b. (read b).mark) past
+    ]
+
 -- the rows are empty lists
-linked-fresh : (most rows classes : ℕ) → IsLinked (fresh_rows most rows classes) (λ list. [])
+linked-fresh : (most rows classes : ℕ) → IsLinked (fresh_rows most rows classes) (λ list. []) None
 linked-fresh most rows classes =
     record {
       runs = λ list. (ap (λ (r : Row). r.next) (ends-fresh most rows classes list), ap (λ (r : Row). r.previous) (ends-fresh most rows classes list));
@@ -52,6 +61,7 @@ linked-fresh most rows classes =
       once = λ list chunk. omega arith;
       apart = λ list other chunk differs there. absurd (omega (arith, there));
       sides = λ list chunk there. absurd (omega (arith, there));
+      listed = λ chunk _ some. absurd (some (mark-fresh most rows classes chunk));
       placed = λ list chunk there. absurd (omega (arith, there));
     }
 

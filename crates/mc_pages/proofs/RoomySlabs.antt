@@ -15,7 +15,7 @@ use Rattle.mc_pages.specs.Rows.{RowsState, IsRow, field_of, length_of}
 use Rattle.mc_pages.specs.Linked.{Sizes, sizes_of, walk, AreLinked, chunks_of, IsUnlisted}
 use Rattle.mc_pages.specs.ClassRows.{IsPlace, HasBecome, with_lists}
 use Rattle.mc_pages.specs.Room.{RoomyClass, in_state, no_class, states}
-use Rattle.mc_pages.specs.SlabState.{SlabState, IsClass, class_at, class_of_page}
+use Rattle.mc_pages.specs.SlabState.{SlabState, IsClass, class_at, class_of_page, class_of_chunk}
 use Rattle.mc_pages.specs.Changes.{with_class}
 use Rattle.mc_pages.specs.Accounted.{truth, is_of_class, cut_count, is_cut}
 use Rattle.mc_pages.specs.InOrder.{IsInOrder, HasRows, AreKept, slabs_of, room_at, is_awaited}
@@ -244,12 +244,17 @@ unlisted_uncut slabs chunk kept h (Out place) =
       | inr past ↦ ap (λ (n : ℕ). times chunk (walk (λ c. field_of slabs.rows (Next c)) n (field_of slabs.rows (Head (Out place))))) (get_or_past slabs.rows.out_lengths place 0 (omega (arith, past, kept.rows.out_lengths)))
     ]
 
--- and it has a row
+-- a chunk of a class's page has a row
+pub IsRow-page : (slabs : Inside) (chunk : ChunkId) → AreKept slabs → IsClass (slabs_of slabs) (class_of_page (slabs_of slabs) chunk.page) → chunk.index < (class_of_chunk (slabs_of slabs) chunk).per_page → IsRow slabs.rows chunk
+IsRow-page slabs chunk kept is below =
+    let most = slabs.rows.most in
+    let within : chunk.index < most = omega (arith, below, kept.rows.most (class_of_page (slabs_of slabs) chunk.page) is.0) in
+    let page : chunk.page < length slabs.owners.items = within_from_class_of_owner chunk.page slabs.owners.items is.0 in
+    let below : (chunk.page + 1) * most ≤ vec_len slabs.owners * most = mul-le-mul_right most (omega (arith, page)) in
+    (within, omega (arith, within, below, kept.rows.rows))
+
+-- and so has the lowest uncut one
 pub IsRow-uncut : (slabs : Inside) (chunk : ChunkId) → AreKept slabs → slabs.uncut ≡ Some chunk → IsRow slabs.rows chunk
 IsRow-uncut slabs chunk kept h =
     let on = kept.order.uncut chunk h in
-    let most = slabs.rows.most in
-    let within : chunk.index < most = omega (arith, on.within, kept.rows.most (class_of_page (slabs_of slabs) chunk.page) on.owned.0) in
-    let page : chunk.page < length slabs.owners.items = within_from_class_of_owner chunk.page slabs.owners.items on.owned.0 in
-    let below : (chunk.page + 1) * most ≤ vec_len slabs.owners * most = mul-le-mul_right most (omega (arith, page)) in
-    (within, omega (arith, within, below, kept.rows.rows))
+    IsRow-page slabs chunk kept on.owned on.within

@@ -14,6 +14,7 @@ use Rattle.mc_pages.specs.Accounted.{truth, is_of_class, cut_count, is_cut, plac
 use Rattle.mc_pages.specs.Moves.{is_held_up, chunk_at_position, CanPass}
 use Rattle.mc_pages.proofs.Chunks.{None≢Some, same_from_is_chunk, times_from_Contains, Contains_from_slice_get}
 use Rattle.mc_pages.proofs.HandedOut.{class_of_placed, class_of_handed_out}
+use Rattle.mc_pages.proofs.Owners.{is_of_class-class_of_owner}
 
 -- a free chunk of the class of a handed-out one
 pub free_beside : (slabs : SlabState) (class free place : ℕ) (new old : ChunkId) → IsAccounted slabs → IsClass slabs class → slice_get (class_at slabs class).free free ≡ Some new → slice_get (class_at slabs class).order place ≡ Some old → Contains (class_of_chunk slabs old).free new
@@ -40,6 +41,14 @@ can_pass_looked slabs found move all runs whole within looked =
       within = within;
       done = λ free. true_from_one _ (omega (arith, all.chunks move.src chunk is.src, ap truth cut, looked free));
     }
+
+-- a chunk of a page was cut where none is to be cut
+pub cut_looked : (slabs : SlabState) (chunk : ChunkId) → IsClass slabs (class_of_page slabs chunk.page) → slabs.uncut ≡ None → chunk.index < (class_at slabs (class_of_page slabs chunk.page)).per_page → is_cut slabs (class_of_page slabs chunk.page) chunk ≡ true
+cut_looked slabs chunk is whole within =
+    let own = class_of_page slabs chunk.page in
+    let size = (class_at slabs own).per_page in
+    let owned = is_of_class-class_of_owner own (owner_at slabs.owners chunk.page) is.0 refl in
+    and_from _ _ owned (ap (λ (o : Option ChunkId). nat_lt chunk.index (cut_count o chunk.page size)) whole ∙ lt-ltb chunk.index size within)
 
 -- a chunk of the moving page that is in a list may be cleared
 pub placed_looked : (slabs : SlabState) (class : ℕ) (chunk : ChunkId) → IsAccounted slabs → IsClass slabs class → 1 ≤ places_in slabs class chunk → 1 ≤ places_in slabs (class_of_page slabs chunk.page) chunk

@@ -5,11 +5,12 @@ use Rattle.std.proofs.lemmas.Nat.{div-mul-add}
 use Rattle.mc_pages.specs.declared.ids.ChunkId.{ChunkId}
 use Rattle.mc_pages.specs.declared.rows.Row.{Row}
 use Rattle.mc_pages.specs.declared.rows.ListName.{ListName}
+use Rattle.mc_pages.specs.declared.rows.Mark.{Mark}
 use Rattle.mc_pages.specs.declared.rows.ListName.TheVariants.{Free, Out}
 use Rattle.mc_pages.specs.declared.rows.Field.{Field}
 use Rattle.mc_pages.specs.declared.rows.Field.TheVariants.{Next, Previous, Head, Tail}
 use Rattle.mc_pages.specs.ClassState.{is_chunk}
-use Rattle.mc_pages.specs.Rows.{RowsState, no_row, row_place, row_at, ends_of, length_of, field_of, IsRow, IsList, IsField, with_row, with_ends, with_field, with_side, with_length}
+use Rattle.mc_pages.specs.Rows.{RowsState, no_row, row_place, row_at, ends_of, length_of, field_of, IsRow, IsList, IsField, with_row, with_ends, with_field, with_mark, with_length}
 use Rattle.mc_pages.specs.Linked.{Sizes, sizes_of, is_list}
 use Rattle.mc_pages.proofs.Chunks.{is_chunk-same, same_from_is_chunk}
 
@@ -235,35 +236,35 @@ is_list-other a b differs =
       | inr other ↦ other
     ]
 
--- whether a chunk is handed out, where links and lengths are written
-side-with_ends : (rows : RowsState) (list : ListName) (row : Row) (chunk : ChunkId) → (row_at (with_ends rows list row) chunk).out ≡ (row_at rows chunk).out
-side-with_ends rows list row chunk = ap (λ (r : Row). r.out) (row_at-with_ends rows list row chunk)
+-- the mark of a chunk, where links and lengths are written
+mark-with_ends : (rows : RowsState) (list : ListName) (row : Row) (chunk : ChunkId) → (row_at (with_ends rows list row) chunk).mark ≡ (row_at rows chunk).mark
+mark-with_ends rows list row chunk = ap (λ (r : Row). r.mark) (row_at-with_ends rows list row chunk)
 
-pub side-with_field : (rows : RowsState) (field : Field) (link : Option ChunkId) (chunk : ChunkId) → IsField rows field → (row_at (with_field rows field link) chunk).out ≡ (row_at rows chunk).out
-side-with_field rows (Next other) link chunk is = row_at-part (λ r. r.out) rows other chunk _ is refl
-side-with_field rows (Previous other) link chunk is = row_at-part (λ r. r.out) rows other chunk _ is refl
-side-with_field rows (Head list) link chunk is = side-with_ends rows list _ chunk
-side-with_field rows (Tail list) link chunk is = side-with_ends rows list _ chunk
+pub mark-with_field : (rows : RowsState) (field : Field) (link : Option ChunkId) (chunk : ChunkId) → IsField rows field → (row_at (with_field rows field link) chunk).mark ≡ (row_at rows chunk).mark
+mark-with_field rows (Next other) link chunk is = row_at-part (λ r. r.mark) rows other chunk _ is refl
+mark-with_field rows (Previous other) link chunk is = row_at-part (λ r. r.mark) rows other chunk _ is refl
+mark-with_field rows (Head list) link chunk is = mark-with_ends rows list _ chunk
+mark-with_field rows (Tail list) link chunk is = mark-with_ends rows list _ chunk
 
-pub side-with_length : (rows : RowsState) (list : ListName) (count : ℕ) (chunk : ChunkId) → (row_at (with_length rows list count) chunk).out ≡ (row_at rows chunk).out
-side-with_length rows list count chunk = ap (λ (r : Row). r.out) (row_at-with_length rows list count chunk)
+pub mark-with_length : (rows : RowsState) (list : ListName) (count : ℕ) (chunk : ChunkId) → (row_at (with_length rows list count) chunk).mark ≡ (row_at rows chunk).mark
+mark-with_length rows list count chunk = ap (λ (r : Row). r.mark) (row_at-with_length rows list count chunk)
 
 -- and where it is written itself
-pub side-same : (rows : RowsState) (chunk : ChunkId) (is_out : Bool) → IsRow rows chunk → (row_at (with_side rows chunk is_out) chunk).out ≡ is_out
-side-same rows chunk is_out is = ap (λ (r : Row). r.out) (row_at-same rows chunk _ is)
+pub mark-same : (rows : RowsState) (chunk : ChunkId) (mark : Mark) → IsRow rows chunk → (row_at (with_mark rows chunk mark) chunk).mark ≡ mark
+mark-same rows chunk mark is = ap (λ (r : Row). r.mark) (row_at-same rows chunk _ is)
 
-pub side-other : (rows : RowsState) (chunk other : ChunkId) (is_out : Bool) → IsRow rows chunk → other ≢ chunk → (row_at (with_side rows chunk is_out) other).out ≡ (row_at rows other).out
-side-other rows chunk other is_out is differs = ap (λ (r : Row). r.out) (row_at-other rows chunk other _ is differs)
+pub mark-other : (rows : RowsState) (chunk other : ChunkId) (mark : Mark) → IsRow rows chunk → other ≢ chunk → (row_at (with_mark rows chunk mark) other).mark ≡ (row_at rows other).mark
+mark-other rows chunk other mark is differs = ap (λ (r : Row). r.mark) (row_at-other rows chunk other _ is differs)
 
 -- it changes no link, no length and no size
-pub field-with_side : (rows : RowsState) (chunk : ChunkId) (is_out : Bool) (field : Field) → IsRow rows chunk → field_of (with_side rows chunk is_out) field ≡ field_of rows field
-field-with_side rows chunk is_out (Next other) is = row_at-part (λ r. r.next) rows chunk other _ is refl
-field-with_side rows chunk is_out (Previous other) is = row_at-part (λ r. r.previous) rows chunk other _ is refl
-field-with_side rows chunk is_out (Head list) is = ap (λ (r : Row). r.next) (ends_of-with_row rows chunk (record (row_at rows chunk) { out = is_out }) list)
-field-with_side rows chunk is_out (Tail list) is = ap (λ (r : Row). r.previous) (ends_of-with_row rows chunk (record (row_at rows chunk) { out = is_out }) list)
+pub field-with_mark : (rows : RowsState) (chunk : ChunkId) (mark : Mark) (field : Field) → IsRow rows chunk → field_of (with_mark rows chunk mark) field ≡ field_of rows field
+field-with_mark rows chunk mark (Next other) is = row_at-part (λ r. r.next) rows chunk other _ is refl
+field-with_mark rows chunk mark (Previous other) is = row_at-part (λ r. r.previous) rows chunk other _ is refl
+field-with_mark rows chunk mark (Head list) is = ap (λ (r : Row). r.next) (ends_of-with_row rows chunk (record (row_at rows chunk) { mark = mark }) list)
+field-with_mark rows chunk mark (Tail list) is = ap (λ (r : Row). r.previous) (ends_of-with_row rows chunk (record (row_at rows chunk) { mark = mark }) list)
 
-pub length-with_side : (rows : RowsState) (chunk : ChunkId) (is_out : Bool) (list : ListName) → length_of (with_side rows chunk is_out) list ≡ length_of rows list
-length-with_side rows chunk is_out list = length-with_row rows chunk (record (row_at rows chunk) { out = is_out }) list
+pub length-with_mark : (rows : RowsState) (chunk : ChunkId) (mark : Mark) (list : ListName) → length_of (with_mark rows chunk mark) list ≡ length_of rows list
+length-with_mark rows chunk mark list = length-with_row rows chunk (record (row_at rows chunk) { mark = mark }) list
 
-pub sizes-with_side : (rows : RowsState) (chunk : ChunkId) (is_out : Bool) → sizes_of (with_side rows chunk is_out) ≡ sizes_of rows
-sizes-with_side rows chunk is_out = ap (λ (n : ℕ). record (sizes_of rows) { rows = n }) (length-set rows.rows _ _)
+pub sizes-with_mark : (rows : RowsState) (chunk : ChunkId) (mark : Mark) → sizes_of (with_mark rows chunk mark) ≡ sizes_of rows
+sizes-with_mark rows chunk mark = ap (λ (n : ℕ). record (sizes_of rows) { rows = n }) (length-set rows.rows _ _)

@@ -10,14 +10,14 @@ use Rattle.mc_pages.specs.Ledger.{owner_at}
 use Rattle.mc_pages.specs.ClassState.{ClassState, new_class}
 use Rattle.mc_pages.specs.Linked.{AreLinked, Sizes, sizes_of}
 use Rattle.mc_pages.specs.Room.{RoomyClass, no_class, states}
-use Rattle.mc_pages.specs.SlabState.{SlabState, IsClass, class_at, class_of_page, class_of_chunk, is_untouched}
+use Rattle.mc_pages.specs.SlabState.{SlabState, SlabValue, IsClass, class_at, class_of_page, class_of_chunk, is_untouched}
 use Rattle.mc_pages.specs.Accounted.{truth, is_moving, IsAccounted}
 
 -- classes without room for a page
 abbrev pub roomless : List ClassState → List RoomyClass
 roomless classes = map (λ state. record { state = state; room = 0 }) classes
 
--- the whole as its callers see it
+-- what the whole holds
 abbrev pub slabs_of : Inside → SlabState
 slabs_of slabs = record {
   page = slabs.page;
@@ -35,6 +35,10 @@ slabs_of slabs = record {
   busy = slabs.busy;
   automove = slabs.automove;
 }
+
+-- the whole as its callers see it
+abbrev pub value_of : Inside → SlabValue
+value_of slabs = record { state = slabs_of slabs; writes = slabs.rows.writes }
 
 -- so many pages were granted, the lowest ones
 pub record AreGranted (owners : List Owner) (granted : ℕ) : Type 0 where

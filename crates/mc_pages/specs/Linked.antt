@@ -1,12 +1,15 @@
 -- What rows, heads and tails mean as lists, and when they do.
-use Rattle.std.specs.Prelude.{◌≡◌, ◌≢◌, ℕ, ◌≤◌, ◌==◌, zero, suc, Bool, true, false, if◌then◌else◌, List, [], ◌∷◌, length, Option, Some, None}
+use Rattle.std.specs.Prelude.{◌≡◌, ◌≢◌, ℕ, ◌≤◌, ◌==◌, zero, suc, Bool, false, if◌then◌else◌, List, [], ◌∷◌, length, Option, Some, None}
 use Rattle.mc_pages.specs.declared.ids.ChunkId.{ChunkId}
 use Rattle.mc_pages.specs.declared.rows.ListName.{ListName}
 use Rattle.mc_pages.specs.declared.rows.ListName.TheVariants.{Free, Out}
+use Rattle.mc_pages.specs.declared.rows.Mark.{Mark}
+use Rattle.mc_pages.specs.declared.rows.Mark.TheVariants.{Unlisted}
+use Rattle.mc_pages.specs.declared.rows.Mark.TheVariants as marks
 use Rattle.mc_pages.specs.declared.rows.Field.{Field}
 use Rattle.mc_pages.specs.declared.rows.Field.TheVariants.{Next, Previous, Head, Tail}
 use Rattle.mc_pages.specs.ClassState.{times}
-use Rattle.mc_pages.specs.Rows.{RowsState, IsRow, row_at, field_of, length_of, with_field, with_side, lengthened, shortened}
+use Rattle.mc_pages.specs.Rows.{RowsState, IsRow, row_at, field_of, length_of, with_field, with_mark, lengthened, shortened}
 
 -- the chunks from this one on, at most so many
 abbrev pub walk : (ChunkId → Option ChunkId) → ℕ → Option ChunkId → List ChunkId
@@ -33,23 +36,29 @@ abbrev pub IsRun : (Option ChunkId → Option ChunkId) → (Option ChunkId → O
 IsRun next previous from [] = (next from ≡ None) × (previous None ≡ from)
 IsRun next previous from (chunk ∷ chunks) = (next from ≡ Some chunk) × (previous (Some chunk) ≡ from) × IsRun next previous (Some chunk) chunks
 
--- the list is a hand-out order
-abbrev pub is_order : ListName → Bool
-is_order (Free class) = false
-is_order (Out class) = true
+-- how the chunks of the list are marked
+abbrev pub mark_of : ListName → Mark
+mark_of (Free class) = marks.Free
+mark_of (Out class) = marks.Out
 
 -- the rows are these lists: each runs from its head to its tail, and a chunk is in one of them at most, and once
-pub record IsLinked (rows : RowsState) (lists : ListName → List ChunkId) : Type 0 where
+pub record IsLinked (rows : RowsState) (lists : ListName → List ChunkId) (loose : Option ChunkId) : Type 0 where
   pub runs : (list : ListName) → IsRun (λ link. field_of rows (forth list link)) (λ link. field_of rows (back list link)) None (lists list)
   pub long : (list : ListName) → length_of rows list ≡ length (lists list)
   pub once : (list : ListName) (chunk : ChunkId) → times chunk (lists list) ≤ 1
   pub apart : (list other : ListName) (chunk : ChunkId) → other ≢ list → 1 ≤ times chunk (lists list) → times chunk (lists other) ≡ 0
-  pub sides : (list : ListName) (chunk : ChunkId) → 1 ≤ times chunk (lists list) → (row_at rows chunk).out ≡ is_order list
+  pub sides : (list : ListName) (chunk : ChunkId) → 1 ≤ times chunk (lists list) → (row_at rows chunk).mark ≡ mark_of list
+  -- a chunk that is marked as one of a list is in one, but for the loose one, which is on its way to another list
+  pub listed : (chunk : ChunkId) → loose ≢ Some chunk → (row_at rows chunk).mark ≢ Unlisted → (list : ListName) × (1 ≤ times chunk (lists list))
   pub placed : (list : ListName) (chunk : ChunkId) → 1 ≤ times chunk (lists list) → IsRow rows chunk
 
 -- the rows are lists
 abbrev pub AreLinked : RowsState → Type 0
-AreLinked rows = IsLinked rows (chunks_of rows)
+AreLinked rows = IsLinked rows (chunks_of rows) None
+
+-- and so they are but for the mark of this chunk
+abbrev pub AreLinkedBut : RowsState → ChunkId → Type 0
+AreLinkedBut rows chunk = IsLinked rows (chunks_of rows) (Some chunk)
 
 -- two names of one list
 abbrev pub is_list : ListName → ListName → Bool
@@ -86,7 +95,7 @@ joined rows list before behind = with_field (with_field rows (forth list before)
 
 -- a chunk comes between two neighbours
 abbrev pub linked : RowsState → ListName → Option ChunkId → ChunkId → Option ChunkId → RowsState
-linked rows list before chunk behind = lengthened (with_side (joined (joined rows list before (Some chunk)) list (Some chunk) behind) chunk (is_order list)) list
+linked rows list before chunk behind = lengthened (with_mark (joined (joined rows list before (Some chunk)) list (Some chunk) behind) chunk (mark_of list)) list
 
 -- a chunk leaves the list
 abbrev pub unlinked : RowsState → ListName → ChunkId → RowsState

@@ -1,9 +1,11 @@
 -- The lists of all classes as rows, heads and tails, and what they mean.
-use Rattle.std.specs.Prelude.{ℕ, ◌+◌, ◌-◌, ◌*◌, ◌<◌, Bool, false, nat_lt, if◌then◌else◌, List, length, replicate, slice_index_or, slice_set, Option, None}
+use Rattle.std.specs.Prelude.{ℕ, ◌+◌, ◌-◌, ◌*◌, ◌<◌, nat_lt, if◌then◌else◌, List, length, replicate, slice_index_or, slice_set, Option, None}
 use Rattle.mc_pages.specs.declared.ids.ChunkId.{ChunkId}
 use Rattle.mc_pages.specs.declared.rows.Row.{Row}
 use Rattle.mc_pages.specs.declared.rows.ListName.{ListName}
 use Rattle.mc_pages.specs.declared.rows.ListName.TheVariants.{Free, Out}
+use Rattle.mc_pages.specs.declared.rows.Mark.{Mark}
+use Rattle.mc_pages.specs.declared.rows.Mark.TheVariants.{Unlisted}
 use Rattle.mc_pages.specs.declared.rows.Field.{Field}
 use Rattle.mc_pages.specs.declared.rows.Field.TheVariants.{Next, Previous, Head, Tail}
 use Rattle.mc_pages.specs.declared.rows.Change.{Change}
@@ -20,9 +22,9 @@ pub record RowsState : Type 0 where
   pub out_lengths : List ℕ
   pub writes : ℕ
 
--- a row without neighbours
+-- a row without neighbours, of a chunk that is in no list
 abbrev pub no_row : Row
-no_row = record { next = None; previous = None; out = false }
+no_row = record { next = None; previous = None; mark = Unlisted }
 
 -- so many rows, and lists of so many classes, all empty
 abbrev pub fresh_rows : ℕ → ℕ → ℕ → RowsState
@@ -93,19 +95,19 @@ with_field rows (Previous chunk) link = with_row rows chunk (record (row_at rows
 with_field rows (Head list) link = with_ends rows list (record (ends_of rows list) { next = link })
 with_field rows (Tail list) link = with_ends rows list (record (ends_of rows list) { previous = link })
 
--- the chunk is handed out now, or is not
-abbrev pub with_side : RowsState → ChunkId → Bool → RowsState
-with_side rows chunk is_out = with_row rows chunk (record (row_at rows chunk) { out = is_out })
+-- the mark of a chunk is now this
+abbrev pub with_mark : RowsState → ChunkId → Mark → RowsState
+with_mark rows chunk mark = with_row rows chunk (record (row_at rows chunk) { mark = mark })
 
 -- one thing is written
 abbrev pub with_change : RowsState → Change → RowsState
 with_change rows (change.Link field link) = with_field rows field link
-with_change rows (change.Out chunk is_out) = with_side rows chunk is_out
+with_change rows (change.Mark chunk mark) = with_mark rows chunk mark
 
 -- it is written into one of the rows
 abbrev pub IsChange : RowsState → Change → Type 0
 IsChange rows (change.Link field link) = IsField rows field
-IsChange rows (change.Out chunk is_out) = IsRow rows chunk
+IsChange rows (change.Mark chunk mark) = IsRow rows chunk
 
 -- the length of a list is now this
 abbrev pub with_length : RowsState → ListName → ℕ → RowsState

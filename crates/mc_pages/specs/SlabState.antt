@@ -35,6 +35,11 @@ pub record SlabState : Type 0 where
   -- the automover's mode
   pub automove : ℕ
 
+-- what a slab memory holds, and how many fields of its rows, heads and tails were ever written
+pub record SlabValue : Type 0 where
+  pub state : SlabState
+  pub writes : ℕ
+
 -- nothing is granted yet
 abbrev pub fresh_slabs : Classes → SlabState
 fresh_slabs table = record {

@@ -19,7 +19,7 @@ impl Owner {
     ghost use Rattle.mc_pages.specs.SlabState.{class_of_owner};
 
     /// The class whose page list has the page, or 0 where none has.
-    pub(crate) fn class(self) -> ClassId
+    pub fn class(self) -> ClassId
         ensures { result ≡ class_of_owner self }
     {
         match self {

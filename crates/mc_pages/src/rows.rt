@@ -13,13 +13,24 @@ use crate::writes::Writes;
 use std::alloc::{AllocError, Global};
 use std::marker::Model;
 
-/// The chunks beside a chunk in its list. A list has a row of its own, where `next` is its head and `previous` its tail.
+/// In which kind of list a chunk is. (after the flag `ITEM_SLABBED` of memcached's items, which a free chunk has)
+#[derive(Clone, Copy, Debug, PartialEq, Eq)]
+pub(crate) enum Mark {
+    /// In none: it isn't cut yet, or was cleared.
+    Unlisted,
+    /// In a free list.
+    Free,
+    /// In a hand-out order.
+    Out,
+}
+
+/// The chunks beside a chunk in its list. A list has a row of its own, where `next` is its head, `previous` its tail, and
+/// the mark says nothing.
 #[derive(Clone, Copy)]
 pub(crate) struct Row {
     next: Option<ChunkId>,
     previous: Option<ChunkId>,
-    /// The list that the chunk is in, or was in last, is a hand-out order.
-    out: bool,
+    mark: Mark,
 }
 
 /// One of the two lists of a class, by the class's place: class 1 stands at 0.
@@ -49,8 +60,8 @@ pub(crate) enum Field {
 pub(crate) enum Change {
     /// The chunk to which a field leads.
     Link(Field, Option<ChunkId>),
-    /// Whether the chunk is handed out.
-    Out(ChunkId, bool),
+    /// In which kind of list the chunk is.
+    Mark(ChunkId, Mark),
 }
 
 /// A row for each chunk, and head, tail and length of each list. Fields are written one at a time, and contracts count
@@ -94,7 +105,7 @@ impl Rows {
         let none = Row {
             next: None,
             previous: None,
-            out: false,
+            mark: Mark::Unlisted,
         };
         Ok(Rows {
             most,
@@ -122,12 +133,12 @@ impl Rows {
         }
     }
 
-    /// Whether the chunk is handed out. It tells nothing of a chunk that is in no list.
-    fn is_out(&self, chunk: ChunkId) -> bool
+    /// In which kind of list the chunk is.
+    pub(crate) fn mark(&self, chunk: ChunkId) -> Mark
         requires { IsRow self.now chunk }
-        ensures { result ≡ (row_at self.now chunk).out }
+        ensures { result ≡ (row_at self.now chunk).mark }
     {
-        self.rows[self.place(chunk)].out
+        self.rows[self.place(chunk)].mark
     }
 
     /// Writes a field. No other call does.
@@ -151,9 +162,9 @@ impl Rows {
                 link,
             Change::Link(Field::Tail(ListName::Out(class)), link) => self.out[class].previous =
                 link,
-            Change::Out(chunk, is_out) => {
+            Change::Mark(chunk, mark) => {
                 let place = self.place(chunk);
-                self.rows[place].out = is_out;
+                self.rows[place].mark = mark;
             }
         }
     }

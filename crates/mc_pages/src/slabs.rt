@@ -37,7 +37,8 @@ impl From<AllocError> for NoMemory {
 
 /// Pages, free lists, hand-out orders, the pool, the ledger, and the page that is on the move.
 ///
-/// `grow` and `begin_move` make all room that later calls need, so no other call takes memory or can fail.
+/// `grow` and `begin_move` make all room that later calls need, so no other call takes memory or can fail. Contracts
+/// see what it holds, as `state`, and how many fields of its rows were ever written, as `writes`.
 #[derive(Drop)]
 pub struct Slabs {
     page: u64,
@@ -62,13 +63,13 @@ pub struct Slabs {
 }
 
 impl Model for Slabs {
-    ghost use Rattle.mc_pages.specs.SlabState.{SlabState};
+    ghost use Rattle.mc_pages.specs.SlabState.{SlabValue};
 
-    ghost Value = { SlabState };
+    ghost Value = { SlabValue };
 
-    ghost use Rattle.mc_pages.specs.InOrder.{slabs_of, AreKept};
+    ghost use Rattle.mc_pages.specs.InOrder.{value_of, AreKept};
 
-    ghost view = { slabs_of };
+    ghost view = { value_of };
 
     ghost invariant = { AreKept };
 }
@@ -76,8 +77,8 @@ impl Model for Slabs {
 impl Slabs {
     /// No page is granted yet.
     pub fn new(alloc: Global, table: &ClassTable) -> Result<Slabs, NoMemory>
-        ensures fresh { IfOk result (λ slabs. slabs ≡ fresh_slabs table.now) }
-        ensures accounted { IfOk result (λ slabs. IsAccounted slabs) }
+        ensures fresh { IfOk result (λ slabs. slabs.state ≡ fresh_slabs table.now) }
+        ensures accounted { IfOk result (λ slabs. IsAccounted slabs.state) }
     {
         let classes = classes_of(alloc, table)?;
         let owners = vec![in alloc; Owner::Untouched; table.pages() as usize]?;
@@ -104,16 +105,16 @@ impl Slabs {
 
     /// Who owns the page.
     pub fn owner(&self, page: PageId) -> Owner
-        requires { page < length self.now.owners }
-        ensures { result ≡ owner_at self.now.owners page }
+        requires { page < length self.now.state.owners }
+        ensures { result ≡ owner_at self.now.state.owners page }
     {
         self.owners[page as usize]
     }
 
     /// What the class has.
     pub fn numbers(&self, class: ClassId) -> Numbers
-        requires { IsClass self.now class }
-        ensures { result ≡ numbers_of (class_at self.now class) }
+        requires { IsClass self.now.state class }
+        ensures { result ≡ numbers_of (class_at self.now.state class) }
     {
         let place = class as usize - 1;
         let slab = &self.classes[place];
@@ -126,7 +127,7 @@ impl Slabs {
 
     /// What all classes have together.
     pub fn totals(&self) -> Totals
-        ensures { result ≡ totals_of self.now }
+        ensures { result ≡ totals_of self.now.state }
     {
         Totals {
             granted: self.granted as u64,
@@ -140,23 +141,25 @@ impl Slabs {
 
     /// Every change of a page's owner, in order.
     pub fn ledger(&self) -> &[Entry]
-        ensures { result.now ≡ self.now.ledger }
+        ensures { result.now ≡ self.now.state.ledger }
     {
         self.ledger.as_slice()
     }
 
-    /// The rows in which the free lists and the hand-out orders of all classes stand.
+    /// The rows in which the free lists and the hand-out orders of all classes stand. What was written there is what
+    /// `writes` counts.
     pub fn rows(&self) -> &Rows
         ensures linked { AreLinked result.now }
-        ensures free { (class : ℕ) → IsClass self.now class → chunks_of result.now (Free (class - 1)) ≡ (class_at self.now class).free }
-        ensures order { (class : ℕ) → IsClass self.now class → chunks_of result.now (Out (class - 1)) ≡ (class_at self.now class).order }
+        ensures free { (class : ℕ) → IsClass self.now.state class → chunks_of result.now (Free (class - 1)) ≡ (class_at self.now.state class).free }
+        ensures order { (class : ℕ) → IsClass self.now.state class → chunks_of result.now (Out (class - 1)) ≡ (class_at self.now.state class).order }
+        ensures writes { result.now.writes ≡ self.now.writes }
     {
         &self.rows
     }
 
     /// The automover's mode.
     pub fn automove(&self) -> u64
-        ensures { result ≡ self.now.automove }
+        ensures { result ≡ self.now.state.automove }
     {
         self.automove
     }
@@ -164,8 +167,8 @@ impl Slabs {
     /// Sets the automover's mode: 0 is off, 1 acts on each window, 2 on each eviction.
     pub fn set_automove(&mut self, mode: u64)
         requires { mode ≤ 2 }
-        ensures mode { self.new ≡ record self.old { automove = mode } }
-        ensures accounted { IsAccounted self.new }
+        ensures mode { self.new.state ≡ record self.old.state { automove = mode } }
+        ensures accounted { IsAccounted self.new.state }
     {
         self.automove = mode;
     }
@@ -173,8 +176,8 @@ impl Slabs {
     /// Where in `classes` the page's class stands.
     #[tactic(auto, using(crate::proofs::Owners::within_from_class_of_owner))]
     fn class_place(&self, page: PageId) -> usize
-        requires { IsClass self.now (class_of_page self.now page) }
-        ensures { result ≡ class_of_page self.now page - 1 }
+        requires { IsClass self.now.state (class_of_page self.now.state page) }
+        ensures { result ≡ class_of_page self.now.state page - 1 }
     {
         self.owner(page).class() as usize - 1
     }

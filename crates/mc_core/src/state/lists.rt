@@ -14,8 +14,8 @@ pub(super) fn free_of(
     slabs: &Slabs,
     class: ClassId,
 ) -> Result<Vec<ChunkId>, AllocError>
-    requires { IsClass slabs.now class }
-    ensures { IfOk result (λ chunks. chunks.items ≡ (class_at slabs.now class).free) }
+    requires { IsClass slabs.now.state class }
+    ensures { IfOk result (λ chunks. chunks.items ≡ (class_at slabs.now.state class).free) }
 {
     let mut chunks = Vec::new(alloc);
     while let Some(chunk) = slabs.free_at(class, chunks.len() as u64) {
@@ -30,8 +30,8 @@ pub(super) fn order_of(
     slabs: &Slabs,
     class: ClassId,
 ) -> Result<Vec<ChunkId>, AllocError>
-    requires { IsClass slabs.now class }
-    ensures { IfOk result (λ chunks. chunks.items ≡ (class_at slabs.now class).order) }
+    requires { IsClass slabs.now.state class }
+    ensures { IfOk result (λ chunks. chunks.items ≡ (class_at slabs.now.state class).order) }
 {
     let mut chunks = Vec::new(alloc);
     while let Some(chunk) = slabs.order_at(class, chunks.len() as u64) {

@@ -70,7 +70,7 @@ fn heads_of(alloc: Global, table: &ClassTable) -> Result<Vec<Head>, AllocError>
 
 /// All pages untouched.
 fn slabs_of(alloc: Global, table: &ClassTable) -> Result<Slabs, AllocError>
-    ensures { IfOk result (λ slabs. (slabs ≡ fresh_slabs table.now) × IsAccounted slabs) }
+    ensures { IfOk result (λ slabs. (slabs.state ≡ fresh_slabs table.now) × IsAccounted slabs.state) }
 {
     match Slabs::new(alloc, table) {
         Ok(slabs) => Ok(slabs),

@@ -14,6 +14,7 @@ ghost use Rattle.mc_keeper.specs.Machine.{is_dead, is_idle};
 ghost use Rattle.mc_keeper.specs.Mover.{AreAtMost, after_turns, is_at_end, looked_at, saved, target, turned, with_chunk, with_cleared, with_end, with_finish, with_saved};
 
 use super::Keeper;
+use super::dead::class_of;
 use super::pages::cut_page;
 use super::serve::Stop;
 use super::turn::{Counts, Ending};
@@ -152,27 +153,12 @@ impl Keeper {
         ensures looked { looked_at self.old class chunk ≡ record { machine = self.new; found = result } }
         ensures clears { is_cleared self.new.slabs class chunk ≡ true }
     {
-        if self.is_free(class, chunk) {
+        if self.slabs.is_free(chunk) {
             self.slabs.clear(chunk);
             Found::Cleared
         } else {
             Found::Already
         }
-    }
-
-    /// Whether the chunk is in the class's free list.
-    fn is_free(&self, class: ClassId, chunk: ChunkId) -> bool
-        requires { IsClass self.now.slabs class }
-        ensures { result ≡ nat_lt 0 (times chunk (class_at self.now.slabs class).free) }
-    {
-        let mut next = self.slabs.first_free(class);
-        while let Some(free) = next {
-            if free == chunk {
-                return true;
-            }
-            next = self.slabs.next_free(free);
-        }
-        false
     }
 
     /// Clears the chunk, and its item is gone.
@@ -182,8 +168,10 @@ impl Keeper {
         ensures cleared { self.new ≡ with_cleared self.old chunk }
         ensures clears { is_cleared self.new.slabs (class_of_page self.old.slabs chunk.page) chunk ≡ true }
     {
+        let class = class_of(&self.slabs, chunk);
         self.slabs.clear(chunk);
         self.items.remove(&chunk);
+        self.dead.decrement(class);
     }
 
     /// Takes the chunk's item, which nobody holds, to a free chunk off the page, or else evicts it.

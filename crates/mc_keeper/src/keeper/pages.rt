@@ -55,13 +55,13 @@ impl Keeper {
 
 /// Cuts all chunks of a page that was just given to a class.
 pub(super) fn cut_page(slabs: &mut Slabs, page: PageId, per_page: u64)
-    requires first { slabs.old.uncut ≡ Some (record { page = page; index = 0 }) }
-    requires chunks { (class_of_chunk slabs.old (record { page = page; index = 0 })).per_page ≡ per_page }
+    requires first { slabs.old.state.uncut ≡ Some (record { page = page; index = 0 }) }
+    requires chunks { (class_of_chunk slabs.old.state (record { page = page; index = 0 })).per_page ≡ per_page }
     requires some { 1 ≤ per_page }
-    requires accounted { IsAccounted slabs.old }
-    ensures cut { slabs.new ≡ fold after_cut slabs.old (first_chunks page per_page) }
-    ensures whole { slabs.new.uncut ≡ None }
-    ensures accounted { IsAccounted slabs.new }
+    requires accounted { IsAccounted slabs.old.state }
+    ensures cut { slabs.new.state ≡ fold after_cut slabs.old.state (first_chunks page per_page) }
+    ensures whole { slabs.new.state.uncut ≡ None }
+    ensures accounted { IsAccounted slabs.new.state }
 {
     for index in 0..per_page {
         slabs.cut(page, index);

@@ -4,6 +4,7 @@ ghost use Rattle.mc_keeper.specs.Items.{has_key, linked_chunk};
 ghost use Rattle.mc_keeper.specs.Lines.{looked_up, kept, dropped, last_hold, made_youngest};
 
 use super::Keeper;
+use super::dead::count_unheld;
 use crate::text::{push_key_line, push_words_line};
 use mc_pages::ChunkId;
 use std::alloc::AllocError;
@@ -63,7 +64,11 @@ impl Keeper {
         match self.items.get(&chunk) {
             Some(item) => {
                 push_words_line(text, b"DROPPED", key, item.words())?;
+                let is_linked = item.is_linked();
                 self.holds.give_back(worker, chunk);
+                if !is_linked {
+                    count_unheld(&mut self.dead, &self.holds, &self.slabs, chunk);
+                }
                 Ok(())
             }
             None => push_key_line(text, b"NOT_HELD", key),

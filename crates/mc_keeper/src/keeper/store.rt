@@ -10,6 +10,7 @@ ghost use Rattle.mc_keeper.specs.Lines.{stored};
 ghost use Rattle.mc_keeper.specs.Supply.{asks_for_page, supplied, supply};
 
 use super::Keeper;
+use super::dead::count_unheld;
 use super::item::Item;
 use mc_classes::ClassId;
 use mc_pages::ChunkId;
@@ -53,6 +54,7 @@ impl Keeper {
         match self.index.remove(&key) {
             Some(chunk) => {
                 unlink_in(&mut self.items, chunk);
+                count_unheld(&mut self.dead, &self.holds, &self.slabs, chunk);
                 true
             }
             None => false,

@@ -1,20 +1,25 @@
 //! Dead chunks are put back: those that neither a key leads to nor anybody holds.
-ghost use Rattle.std.specs.Prelude.{◌≡◌, ◌≤◌, true, Contains, length};
+ghost use Rattle.std.specs.Prelude.{◌≡◌, ◌≤◌, nat_lt, true, Contains, length};
 ghost use Rattle.mc_pages.specs.SlabState.{IsClass, class_of_page, class_of_chunk};
-ghost use Rattle.mc_keeper.specs.Machine.{is_dead, is_idle, swept, all_swept, after_reclaim};
+ghost use Rattle.mc_keeper.specs.Machine.{dead_chunks, is_dead, is_idle, swept, all_swept, after_reclaim};
 
 use super::Keeper;
+use super::dead::class_of;
 use mc_classes::ClassId;
 use mc_pages::ChunkId;
 
 impl Keeper {
-    /// Puts back the dead chunks of a class, the one that was handed out first of all first.
+    /// Puts back the dead chunks of a class, the one that was handed out first of all first. It walks along the hand-out
+    /// order as far as the last of them.
     pub(super) fn sweep(&mut self, class: ClassId)
         requires { IsClass self.old.slabs class }
         ensures { self.new ≡ swept self.old class }
     {
         let mut next = self.slabs.first_out(class);
         while let Some(chunk) = next {
+            if !self.has_dead(class) {
+                return;
+            }
             next = self.slabs.next_out(chunk);
             if self.is_dead(chunk) {
                 self.reclaim(chunk);
@@ -29,6 +34,14 @@ impl Keeper {
         for place in 0..self.table.count() {
             self.sweep(place + 1);
         }
+    }
+
+    /// Whether a handed-out chunk of the class is dead.
+    fn has_dead(&self, class: ClassId) -> bool
+        requires { IsClass self.now.slabs class }
+        ensures { result ≡ nat_lt 0 (length (dead_chunks self.now class)) }
+    {
+        self.dead.of(class) > 0
     }
 
     /// Whether neither a key leads to the chunk's item nor anybody holds it.
@@ -58,7 +71,9 @@ impl Keeper {
         requires listed { Contains (class_of_chunk self.old.slabs chunk).order chunk }
         ensures { self.new ≡ after_reclaim self.old chunk }
     {
+        let class = class_of(&self.slabs, chunk);
         self.slabs.back(chunk);
         self.items.remove(&chunk);
+        self.dead.decrement(class);
     }
 }

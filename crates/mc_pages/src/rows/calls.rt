@@ -7,7 +7,7 @@ ghost use Rattle.mc_pages.specs.Rows.{IsRow, IsList, length_of};
 ghost use Rattle.mc_pages.specs.Linked.{AreLinked, IsUnlisted, chunks_of};
 ghost use Rattle.mc_pages.specs.ClassRows.{IsPlace, HasBecome};
 
-use super::{Field, ListName, Rows};
+use super::{Field, ListName, Mark, Rows};
 use crate::ids::ChunkId;
 
 impl Rows {
@@ -76,10 +76,9 @@ impl Rows {
         ensures cleared { HasBecome self.old self.new class (λ state. cleared state chunk) }
         ensures writes { self.new.writes ≤ self.old.writes + 8 }
     {
-        if self.is_out(chunk) {
-            self.unlink(ListName::Out(class), chunk);
-        } else {
-            self.unlink(ListName::Free(class), chunk);
+        match self.mark(chunk) {
+            Mark::Out => self.take_out(ListName::Out(class), chunk),
+            _ => self.take_out(ListName::Free(class), chunk),
         }
     }
 

@@ -3,18 +3,18 @@ ghost use Rattle.std.specs.Prelude.{◌≡◌, ◌+◌, ◌<◌, ◌≤◌, [], 
 ghost use Rattle.mc_pages.specs.declared.rows.ListName.{ListName};
 ghost use Rattle.mc_pages.specs.ClassState.{times, without, with_before};
 ghost use Rattle.mc_pages.specs.Rows.{IsRow, IsList, IsField, length_of};
-ghost use Rattle.mc_pages.specs.Linked.{AreLinked, IsUnlisted, chunks_of, with_list, forth, back, is_order, joined, linked, sizes_of};
+ghost use Rattle.mc_pages.specs.Linked.{AreLinked, AreLinkedBut, IsUnlisted, chunks_of, with_list, forth, back, mark_of, joined, linked, sizes_of};
 
-use super::{Change, Field, ListName, Rows};
+use super::{Change, Field, ListName, Mark, Rows};
 use crate::ids::ChunkId;
 
 impl Rows {
-    /// Takes a chunk out of its list.
+    /// Takes a chunk out of its list. What it is marked as is still to be written.
     pub(super) fn unlink(&mut self, list: ListName, chunk: ChunkId)
         requires linked { AreLinked self.old }
         requires list { IsList self.old list }
         requires there { 1 ≤ times chunk (chunks_of self.old list) }
-        ensures linked { AreLinked self.new }
+        ensures linked { AreLinkedBut self.new chunk }
         ensures lists { (other : ListName) → chunks_of self.new other ≡ with_list (chunks_of self.old) list (without chunk (chunks_of self.old list)) other }
         ensures sizes { sizes_of self.new ≡ sizes_of self.old }
         ensures writes { self.new.writes ≡ self.old.writes + 2 }
@@ -25,9 +25,23 @@ impl Rows {
         self.shorten(list);
     }
 
+    /// Takes a chunk out of its list, and marks it as one that is in none.
+    pub(super) fn take_out(&mut self, list: ListName, chunk: ChunkId)
+        requires linked { AreLinked self.old }
+        requires list { IsList self.old list }
+        requires there { 1 ≤ times chunk (chunks_of self.old list) }
+        ensures linked { AreLinked self.new }
+        ensures lists { (other : ListName) → chunks_of self.new other ≡ with_list (chunks_of self.old) list (without chunk (chunks_of self.old list)) other }
+        ensures sizes { sizes_of self.new ≡ sizes_of self.old }
+        ensures writes { self.new.writes ≡ self.old.writes + 3 }
+    {
+        self.unlink(list, chunk);
+        self.put(Change::Mark(chunk, Mark::Unlisted));
+    }
+
     /// Puts a chunk first in a list.
     pub(super) fn put_first(&mut self, list: ListName, chunk: ChunkId)
-        requires linked { AreLinked self.old }
+        requires linked { AreLinkedBut self.old chunk }
         requires list { IsList self.old list }
         requires row { IsRow self.old chunk }
         requires unlisted { IsUnlisted self.old chunk }
@@ -43,7 +57,7 @@ impl Rows {
 
     /// Puts a chunk last in a list.
     pub(super) fn put_last(&mut self, list: ListName, chunk: ChunkId)
-        requires linked { AreLinked self.old }
+        requires linked { AreLinkedBut self.old chunk }
         requires list { IsList self.old list }
         requires row { IsRow self.old chunk }
         requires unlisted { IsUnlisted self.old chunk }
@@ -59,7 +73,7 @@ impl Rows {
 
     /// Puts a chunk directly before another in a list.
     pub(super) fn put_before(&mut self, list: ListName, chunk: ChunkId, old: ChunkId)
-        requires linked { AreLinked self.old }
+        requires linked { AreLinkedBut self.old chunk }
         requires list { IsList self.old list }
         requires row { IsRow self.old chunk }
         requires unlisted { IsUnlisted self.old chunk }
@@ -91,7 +105,7 @@ impl Rows {
     {
         self.join(list, before, Some(chunk));
         self.join(list, Some(chunk), behind);
-        self.put(Change::Out(chunk, is_order(list)));
+        self.put(Change::Mark(chunk, mark_of(list)));
         self.lengthen(list);
     }
 
@@ -126,9 +140,12 @@ fn back(list: ListName, link: Option<ChunkId>) -> Field
     }
 }
 
-/// The list is a hand-out order.
-fn is_order(list: ListName) -> bool
-    ensures { result ≡ is_order list }
+/// How the chunks of the list are marked.
+fn mark_of(list: ListName) -> Mark
+    ensures { result ≡ mark_of list }
 {
-    matches!(list, ListName::Out(_))
+    match list {
+        ListName::Free(_) => Mark::Free,
+        ListName::Out(_) => Mark::Out,
+    }
 }

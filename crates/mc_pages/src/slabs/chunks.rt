@@ -1,34 +1,36 @@
 //! The chunks of the classes: handed out, given back, touched, replaced, cleared and cut.
 //!
-//! Each of these six makes one call of [`crate::rows::Rows`], whose contract says that it writes eight fields at most.
-ghost use Rattle.std.specs.Prelude.{◌≡◌, ◌+◌, ◌<◌, ◌≤◌, slice_get, Contains, None, Some};
+//! Each of these six writes eight fields of the rows at most, wherever in its list the chunk stands (own).
+ghost use Rattle.std.specs.Prelude.{◌≡◌, ◌+◌, ◌<◌, ◌≤◌, slice_get, nat_lt, Contains, None, Some, true};
 ghost use Rattle.std.specs.Option.{option_map};
-ghost use Rattle.mc_pages.specs.ClassState.{first_free, behind};
+ghost use Rattle.mc_pages.specs.ClassState.{first_free, behind, times};
 ghost use Rattle.mc_pages.specs.SlabState.{IsClass, class_at, class_of_page, class_of_chunk};
 ghost use Rattle.mc_pages.specs.Changes.{after_pop, after_back, after_touch, after_replace, after_clear, after_cut, after_evicted, next_uncut};
-ghost use Rattle.mc_pages.specs.Accounted.{IsAccounted, places_in};
+ghost use Rattle.mc_pages.specs.Accounted.{IsAccounted, is_cut, places_in};
 
 use super::Slabs;
 use crate::ids::ChunkId;
-use crate::rows::ListName;
+use crate::rows::{ListName, Mark};
 use mc_classes::{ClassId, PageId};
 
 impl Slabs {
     /// Hands out the head of the class's free list: it goes to the back of the hand-out order. (slabs.c's `do_slabs_alloc`)
     pub fn pop(&mut self, class: ClassId) -> Option<ChunkId>
-        requires { IsClass self.old class }
-        ensures chunk { result ≡ first_free (class_at self.old class) }
-        ensures popped { self.new ≡ after_pop self.old class }
-        ensures accounted { IsAccounted self.new }
+        requires { IsClass self.old.state class }
+        ensures chunk { result ≡ first_free (class_at self.old.state class) }
+        ensures popped { self.new.state ≡ after_pop self.old.state class }
+        ensures accounted { IsAccounted self.new.state }
+        ensures writes { self.new.writes ≤ self.old.writes + 8 }
     {
         self.rows.pop(class as usize - 1)
     }
 
     /// Takes a handed-out chunk back: it leaves the hand-out order and is the next to be handed out. (slabs.c's `do_slabs_free`)
     pub fn back(&mut self, chunk: ChunkId)
-        requires { Contains (class_of_chunk self.old chunk).order chunk }
-        ensures back { self.new ≡ after_back self.old chunk }
-        ensures accounted { IsAccounted self.new }
+        requires { Contains (class_of_chunk self.old.state chunk).order chunk }
+        ensures back { self.new.state ≡ after_back self.old.state chunk }
+        ensures accounted { IsAccounted self.new.state }
+        ensures writes { self.new.writes ≤ self.old.writes + 8 }
     {
         let place = self.class_place(chunk.page);
         self.rows.back(place, chunk);
@@ -36,9 +38,10 @@ impl Slabs {
 
     /// Takes a handed-out chunk to the back of the hand-out order, as if it had just been handed out. (own)
     pub fn touch(&mut self, chunk: ChunkId)
-        requires { Contains (class_of_chunk self.old chunk).order chunk }
-        ensures touched { self.new ≡ after_touch self.old chunk }
-        ensures accounted { IsAccounted self.new }
+        requires { Contains (class_of_chunk self.old.state chunk).order chunk }
+        ensures touched { self.new.state ≡ after_touch self.old.state chunk }
+        ensures accounted { IsAccounted self.new.state }
+        ensures writes { self.new.writes ≤ self.old.writes + 8 }
     {
         let place = self.class_place(chunk.page);
         self.rows.touch(place, chunk);
@@ -46,10 +49,11 @@ impl Slabs {
 
     /// Gives a free chunk the place of a handed-out one in the hand-out order. The old one stands directly behind it. (own)
     pub fn replace(&mut self, new: ChunkId, old: ChunkId)
-        requires free { Contains (class_of_chunk self.old old).free new }
-        requires handed_out { Contains (class_of_chunk self.old old).order old }
-        ensures replaced { self.new ≡ after_replace self.old new old }
-        ensures accounted { IsAccounted self.new }
+        requires free { Contains (class_of_chunk self.old.state old).free new }
+        requires handed_out { Contains (class_of_chunk self.old.state old).order old }
+        ensures replaced { self.new.state ≡ after_replace self.old.state new old }
+        ensures accounted { IsAccounted self.new.state }
+        ensures writes { self.new.writes ≤ self.old.writes + 8 }
     {
         let place = self.class_place(old.page);
         self.rows.replace(place, new, old);
@@ -57,10 +61,11 @@ impl Slabs {
 
     /// Clears a free or handed-out chunk of the moving page: it is in no list any more. (slabs.c's `slab_rebalance_move`)
     pub fn clear(&mut self, chunk: ChunkId)
-        requires moving { option_map (λ move. move.page) self.old.moving ≡ Some chunk.page }
-        requires listed { 1 ≤ places_in self.old (class_of_page self.old chunk.page) chunk }
-        ensures cleared { self.new ≡ after_clear self.old chunk }
-        ensures accounted { IsAccounted self.new }
+        requires moving { option_map (λ move. move.page) self.old.state.moving ≡ Some chunk.page }
+        requires listed { 1 ≤ places_in self.old.state (class_of_page self.old.state chunk.page) chunk }
+        ensures cleared { self.new.state ≡ after_clear self.old.state chunk }
+        ensures accounted { IsAccounted self.new.state }
+        ensures writes { self.new.writes ≤ self.old.writes + 8 }
     {
         let place = self.class_place(chunk.page);
         self.rows.clear(place, chunk);
@@ -68,9 +73,10 @@ impl Slabs {
 
     /// Cuts the lowest uncut chunk of the page just given: it goes to the head of its class's free list.
     pub fn cut(&mut self, page: PageId, index: u64)
-        requires { self.old.uncut ≡ Some (record { page = page; index = index }) }
-        ensures cut { self.new ≡ after_cut self.old (record { page = page; index = index }) }
-        ensures accounted { IsAccounted self.new }
+        requires { self.old.state.uncut ≡ Some (record { page = page; index = index }) }
+        ensures cut { self.new.state ≡ after_cut self.old.state (record { page = page; index = index }) }
+        ensures accounted { IsAccounted self.new.state }
+        ensures writes { self.new.writes ≤ self.old.writes + 8 }
     {
         let chunk = ChunkId { page, index };
         let place = self.class_place(page);
@@ -81,39 +87,49 @@ impl Slabs {
 
     /// Counts an eviction from the class. The counter stays at 2^64 - 1 once there (own).
     pub fn evicted(&mut self, class: ClassId)
-        requires { IsClass self.old class }
-        ensures evicted { self.new ≡ after_evicted self.old class }
-        ensures accounted { IsAccounted self.new }
+        requires { IsClass self.old.state class }
+        ensures evicted { self.new.state ≡ after_evicted self.old.state class }
+        ensures accounted { IsAccounted self.new.state }
     {
         self.classes[class as usize - 1].count_eviction();
     }
 
     /// The page whose chunks aren't all cut yet, if there is one.
     pub fn half_cut(&self) -> Option<PageId>
-        ensures { result ≡ option_map (λ chunk. chunk.page) self.now.uncut }
+        ensures { result ≡ option_map (λ chunk. chunk.page) self.now.state.uncut }
     {
         self.uncut.map(|chunk| chunk.page)
     }
 
     /// The lowest uncut chunk of the page just given, if there is one.
     pub fn next_uncut(&self) -> Option<ChunkId>
-        ensures { result ≡ self.now.uncut }
+        ensures { result ≡ self.now.state.uncut }
     {
         self.uncut
     }
 
+    /// Whether a chunk is in the free list of its class. It must have been cut. This reads the chunk's row and walks along
+    /// no list. (after the flag `ITEM_SLABBED` of memcached's items, by which `slab_rebalance_move` knows a free chunk)
+    pub fn is_free(&self, chunk: ChunkId) -> bool
+        requires class { IsClass self.now.state (class_of_page self.now.state chunk.page) }
+        requires cut { is_cut self.now.state (class_of_page self.now.state chunk.page) chunk ≡ true }
+        ensures { result ≡ nat_lt 0 (times chunk (class_of_chunk self.now.state chunk).free) }
+    {
+        self.rows.mark(chunk) == Mark::Free
+    }
+
     /// The head of the class's free list: the chunk that is handed out next. None where the list is empty.
     pub fn first_free(&self, class: ClassId) -> Option<ChunkId>
-        requires { IsClass self.now class }
-        ensures { result ≡ slice_get (class_at self.now class).free 0 }
+        requires { IsClass self.now.state class }
+        ensures { result ≡ slice_get (class_at self.now.state class).free 0 }
     {
         self.rows.first(ListName::Free(class as usize - 1))
     }
 
     /// The chunk behind a free one in the free list of its class. None behind the last.
     pub fn next_free(&self, chunk: ChunkId) -> Option<ChunkId>
-        requires { Contains (class_of_chunk self.now chunk).free chunk }
-        ensures { result ≡ behind chunk (class_of_chunk self.now chunk).free }
+        requires { Contains (class_of_chunk self.now.state chunk).free chunk }
+        ensures { result ≡ behind chunk (class_of_chunk self.now.state chunk).free }
     {
         let rows = &self.rows;
         rows.next(ListName::Free(self.class_place(chunk.page)), chunk)
@@ -121,16 +137,16 @@ impl Slabs {
 
     /// The oldest chunk of the class's hand-out order. None where nothing is handed out.
     pub fn first_out(&self, class: ClassId) -> Option<ChunkId>
-        requires { IsClass self.now class }
-        ensures { result ≡ slice_get (class_at self.now class).order 0 }
+        requires { IsClass self.now.state class }
+        ensures { result ≡ slice_get (class_at self.now.state class).order 0 }
     {
         self.rows.first(ListName::Out(class as usize - 1))
     }
 
     /// The chunk behind a handed-out one in the hand-out order of its class. None behind the youngest.
     pub fn next_out(&self, chunk: ChunkId) -> Option<ChunkId>
-        requires { Contains (class_of_chunk self.now chunk).order chunk }
-        ensures { result ≡ behind chunk (class_of_chunk self.now chunk).order }
+        requires { Contains (class_of_chunk self.now.state chunk).order chunk }
+        ensures { result ≡ behind chunk (class_of_chunk self.now.state chunk).order }
     {
         let rows = &self.rows;
         rows.next(ListName::Out(self.class_place(chunk.page)), chunk)
@@ -138,16 +154,16 @@ impl Slabs {
 
     /// The chunk at this place of the class's free list: 0 is handed out next. None past its end. It walks to it.
     pub fn free_at(&self, class: ClassId, place: u64) -> Option<ChunkId>
-        requires { IsClass self.now class }
-        ensures { result ≡ slice_get (class_at self.now class).free place }
+        requires { IsClass self.now.state class }
+        ensures { result ≡ slice_get (class_at self.now.state class).free place }
     {
         self.rows.at(ListName::Free(class as usize - 1), place)
     }
 
     /// The chunk at this place of the class's hand-out order: 0 is the oldest. None past its end. It walks to it.
     pub fn order_at(&self, class: ClassId, place: u64) -> Option<ChunkId>
-        requires { IsClass self.now class }
-        ensures { result ≡ slice_get (class_at self.now class).order place }
+        requires { IsClass self.now.state class }
+        ensures { result ≡ slice_get (class_at self.now.state class).order place }
     {
         self.rows.at(ListName::Out(class as usize - 1), place)
     }

@@ -15,7 +15,7 @@ use mc_classes::{ClassId, PageId};
 impl Slabs {
     /// The move that runs, if one does.
     pub fn moving(&self) -> Option<Moving>
-        ensures { result ≡ self.now.moving }
+        ensures { result ≡ self.now.state.moving }
     {
         self.moving
     }
@@ -25,10 +25,10 @@ impl Slabs {
     /// page list until `finish_move`, for which all room is made here. The tests come in the order of [`Reassign`], and
     /// what is refused changes nothing. (slabs.c's `do_slabs_reassign`; the order of the tests is own)
     pub fn begin_move(&mut self, src: Option<u64>, dst: u64) -> Result<(), Reassign>
-        ensures answer { MayAnswer (answer_of self.old src dst) result }
-        ensures began { OnOk result (IfOk (answer_of self.old src dst) (λ source. self.new ≡ after_begin self.old src source dst)) }
-        ensures refused { OnErr result (self.new ≡ self.old) }
-        ensures accounted { IsAccounted self.new }
+        ensures answer { MayAnswer (answer_of self.old.state src dst) result }
+        ensures began { OnOk result (IfOk (answer_of self.old.state src dst) (λ source. self.new.state ≡ after_begin self.old.state src source dst)) }
+        ensures refused { OnErr result (self.new.state ≡ self.old.state) }
+        ensures accounted { IsAccounted self.new.state }
     {
         let source = self.source(src, dst)?;
         let page = self.first_page(source);
@@ -57,10 +57,10 @@ impl Slabs {
     /// Ends the move: the page leaves its class and goes uncut into the pool, or joins its destination, and then its
     /// chunks are to be cut next. All of its chunks must be cleared. (slabs.c's `slab_rebalance_finish`)
     pub fn finish_move(&mut self)
-        requires whole { self.old.uncut ≡ None }
-        requires cleared { (move : Moving) × CanFinish self.old move }
-        ensures finished { self.new ≡ after_finish self.old self.old.moving }
-        ensures accounted { IsAccounted self.new }
+        requires whole { self.old.state.uncut ≡ None }
+        requires cleared { (move : Moving) × CanFinish self.old.state move }
+        ensures finished { self.new.state ≡ after_finish self.old.state self.old.state.moving }
+        ensures accounted { IsAccounted self.new.state }
     {
         let Some(moving) = self.moving else {
             return;
@@ -83,9 +83,9 @@ impl Slabs {
     /// Goes on from the chunk at the move's position, and counts what was found there. Unless it is busy or locked, it
     /// must be cleared. The counters stay at 2^64 - 1 once there (own).
     pub fn passed(&mut self, found: Found)
-        requires { (move : Moving) × CanPass self.old found move }
-        ensures passed { self.new ≡ after_passed self.old found }
-        ensures accounted { IsAccounted self.new }
+        requires { (move : Moving) × CanPass self.old.state found move }
+        ensures passed { self.new.state ≡ after_passed self.old.state found }
+        ensures accounted { IsAccounted self.new.state }
     {
         self.rescues = self.rescues.saturating_add(found.rescued());
         self.evictions_nomem = self.evictions_nomem.saturating_add(found.evicted());
@@ -98,9 +98,9 @@ impl Slabs {
     /// Begins the pass anew from the page's top, and counts the chunks that held it up. The counter stays at 2^64 - 1
     /// once there (own).
     pub fn wrap(&mut self)
-        requires { (move : Moving) × CanWrap self.old move }
-        ensures wrapped { self.new ≡ after_wrap self.old }
-        ensures accounted { IsAccounted self.new }
+        requires { (move : Moving) × CanWrap self.old.state move }
+        ensures wrapped { self.new.state ≡ after_wrap self.old.state }
+        ensures accounted { IsAccounted self.new.state }
     {
         if let Some(moving) = &mut self.moving {
             self.busy = self.busy.saturating_add(moving.busy);
@@ -111,7 +111,7 @@ impl Slabs {
 
     /// The class that gives a page, or why none does, memory aside.
     fn source(&self, src: Option<u64>, dst: u64) -> Result<ClassId, Reassign>
-        ensures { result ≡ answer_of self.now src dst }
+        ensures { result ≡ answer_of self.now.state src dst }
     {
         if self.moving.is_some() {
             return Err(Reassign::Busy);
@@ -135,7 +135,7 @@ impl Slabs {
 
     /// The first class behind the cursor, class 1 after the last, that isn't the destination and has more than one page.
     fn pick(&self, dst: u64) -> Option<ClassId>
-        ensures { result ≡ pick self.now dst }
+        ensures { result ≡ pick self.now.state dst }
     {
         let count = self.class_count();
         (self.cursor + 1..count + 1)
@@ -145,7 +145,7 @@ impl Slabs {
 
     /// Where the pick goes on after a page of this source has begun to move: there, unless the source was named.
     fn cursor_after(&self, src: Option<u64>, source: ClassId) -> ClassId
-        ensures { result ≡ cursor_after self.now src source }
+        ensures { result ≡ cursor_after self.now.state src source }
     {
         match src {
             Some(_) => self.cursor,
@@ -155,16 +155,16 @@ impl Slabs {
 
     /// The first page of the class.
     fn first_page(&self, class: ClassId) -> PageId
-        requires class { IsClass self.now class }
-        requires some { 1 ≤ length (class_at self.now class).pages }
-        ensures { result ≡ first_page self.now class }
+        requires class { IsClass self.now.state class }
+        requires some { 1 ≤ length (class_at self.now.state class).pages }
+        ensures { result ≡ first_page self.now.state class }
     {
         self.classes[class as usize - 1].first_page()
     }
 
     /// The class has more than one page.
     fn has_spare(&self, class: ClassId) -> bool
-        ensures { result ≡ nat_lt 1 (length (class_at self.now class).pages) }
+        ensures { result ≡ nat_lt 1 (length (class_at self.now.state class).pages) }
     {
         let place = (class as usize).saturating_sub(1);
         place < self.classes.len() && self.classes[place].page_count() > 1
@@ -172,7 +172,7 @@ impl Slabs {
 
     /// How many classes there are.
     fn class_count(&self) -> u64
-        ensures count { result ≡ length self.now.classes }
+        ensures count { result ≡ length self.now.state.classes }
         ensures below { result < 2 ^ 63 }
     {
         self.classes.len() as u64

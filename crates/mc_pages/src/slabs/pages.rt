@@ -37,12 +37,12 @@ impl Slabs {
     /// the room of a move that runs. `NoMemory` comes only where there is a page, and what is refused changes nothing.
     /// (slabs.c's `do_slabs_newslab`)
     pub fn grow(&mut self, class: ClassId) -> Result<PageId, Grow>
-        requires class { IsClass self.old class }
-        requires whole { self.old.uncut ≡ None }
-        ensures given { IfOk result (λ page. (next_page self.old ≡ Some page) × (self.new ≡ after_grow self.old class page)) }
-        ensures no_room { (result ≡ Err Grow.NoRoom) ↔ (next_page self.old ≡ None) }
-        ensures refused { OnErr result (self.new ≡ self.old) }
-        ensures accounted { IsAccounted self.new }
+        requires class { IsClass self.old.state class }
+        requires whole { self.old.state.uncut ≡ None }
+        ensures given { IfOk result (λ page. (next_page self.old.state ≡ Some page) × (self.new.state ≡ after_grow self.old.state class page)) }
+        ensures no_room { (result ≡ Err Grow.NoRoom) ↔ (next_page self.old.state ≡ None) }
+        ensures refused { OnErr result (self.new.state ≡ self.old.state) }
+        ensures accounted { IsAccounted self.new.state }
     {
         let page = self.next_page().ok_or(Grow::NoRoom)?;
         self.ledger.reserve(1 + usize::from(self.moving.is_some()))?;
@@ -65,7 +65,7 @@ impl Slabs {
 
     /// The page that a class gets next, if one is left.
     fn next_page(&self) -> Option<PageId>
-        ensures { result ≡ next_page self.now }
+        ensures { result ≡ next_page self.now.state }
     {
         match self.pool.last() {
             Some(page) => Some(*page),
@@ -76,7 +76,7 @@ impl Slabs {
 
     /// Whether a page is on the move to the class, or to the pool where `class` is 0.
     fn awaits(&self, class: u64) -> bool
-        ensures { result ≡ is_awaited self.now.moving class }
+        ensures { result ≡ is_awaited self.now.state.moving class }
     {
         self.moving.is_some_and(|moving| moving.dst == class)
     }

@@ -241,11 +241,29 @@ fn assert_same_walks(rt: &impl Abort, all: &Driven, own: &PlainClass, class: Cla
     }
 }
 
+/// Each chunk of a page that a class has is told to be free where it stands in the class's free list.
+fn assert_same_marks(rt: &impl Abort, all: &Driven, plain: &Plain) {
+    for (page, owner) in plain.owners.iter().enumerate() {
+        let place = (owner.class() as usize).wrapping_sub(1);
+        if let Some(own) = plain.classes.get(place) {
+            for index in 0..own.per_page {
+                let chunk = ChunkId {
+                    page: page as u64,
+                    index,
+                };
+                let want = own.free.iter().any(|c| *c == chunk);
+                assert_eq!(rt; all.is_free(chunk), Some(want), "{chunk:?}");
+            }
+        }
+    }
+}
+
 /// Both have the same lists, owners, entries and numbers.
 fn assert_same(rt: &impl Abort, all: &Driven, plain: &Plain) {
     for (place, own) in plain.classes.iter().enumerate() {
         assert_same_class(rt, all, own, place as u64 + 1);
     }
+    assert_same_marks(rt, all, plain);
     for (page, owner) in plain.owners.iter().enumerate() {
         assert_eq!(rt; all.owner(page as u64), Some(*owner));
     }

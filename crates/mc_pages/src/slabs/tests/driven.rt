@@ -19,10 +19,10 @@ pub(super) struct Driven {
     uncut: Option<ChunkId>,
     classes: u64,
     pages: u64,
-    ghost uncut_is: { uncut ≡ slabs.uncut },
-    ghost classes_are: { classes ≡ length slabs.classes },
-    ghost pages_are: { pages ≡ length slabs.owners },
-    ghost accounted: { IsAccounted slabs },
+    ghost uncut_is: { uncut ≡ slabs.state.uncut },
+    ghost classes_are: { classes ≡ length slabs.state.classes },
+    ghost pages_are: { pages ≡ length slabs.state.owners },
+    ghost accounted: { IsAccounted slabs.state },
 }
 
 impl Driven {
@@ -37,7 +37,7 @@ impl Driven {
     }
 
     fn is_class(&self, class: ClassId) -> bool
-        ensures { IsTrue result ↔ IsClass self.now.slabs class }
+        ensures { IsTrue result ↔ IsClass self.now.slabs.state class }
     {
         class >= 1 && class <= self.classes
     }
@@ -160,7 +160,7 @@ impl Driven {
 
     #[tactic(auto, using(crate::proofs::RoomyTests::moving_class, crate::proofs::RoomyTests::can_pass_looked))]
     fn can_pass(&self, found: Found) -> bool
-        ensures { IsTrue result → (move : Moving) × CanPass self.now.slabs found move }
+        ensures { IsTrue result → (move : Moving) × CanPass self.now.slabs.state found move }
     {
         let Some(moving) = self.slabs.moving() else {
             return false;
@@ -182,7 +182,7 @@ impl Driven {
 
     #[tactic(auto, using(crate::proofs::RoomyTests::moving_class))]
     fn can_wrap(&self) -> bool
-        ensures { IsTrue result → (move : Moving) × CanWrap self.now.slabs move }
+        ensures { IsTrue result → (move : Moving) × CanWrap self.now.slabs.state move }
     {
         let Some(moving) = self.slabs.moving() else {
             return false;
@@ -208,7 +208,7 @@ impl Driven {
     /// The move that runs, if it may end.
     #[tactic(auto, using(crate::proofs::RoomyTests::moving_class, crate::proofs::Passes::all_cleared_at_end))]
     fn finished(&self) -> Option<Moving>
-        ensures { IfSome result (λ move. (self.now.slabs.uncut ≡ None) × CanFinish self.now.slabs move) }
+        ensures { IfSome result (λ move. (self.now.slabs.state.uncut ≡ None) × CanFinish self.now.slabs.state move) }
     {
         let moving = self.slabs.moving()?;
         if self.uncut.is_none()
@@ -294,6 +294,22 @@ impl Driven {
         self.slabs.next_out(chunk)
     }
 
+    /// Whether the chunk is free. None where its page has no class, isn't all cut, or has no such chunk.
+    #[tactic(auto, using(crate::proofs::RoomyTests::cut_looked))]
+    pub(super) fn is_free(&self, chunk: ChunkId) -> Option<bool> {
+        if chunk.page >= self.pages {
+            return None;
+        }
+        let class = self.slabs.owner(chunk.page).class();
+        if !self.is_class(class)
+            || self.uncut.is_some()
+            || chunk.index >= per_page(&self.slabs, class)
+        {
+            return None;
+        }
+        Some(self.slabs.is_free(chunk))
+    }
+
     pub(super) fn owner(&self, page: PageId) -> Option<Owner> {
         if page < self.pages {
             Some(self.slabs.owner(page))
@@ -331,8 +347,8 @@ fn chunk_at(moving: Moving) -> ChunkId
 
 /// The chunk stands in a list of the class.
 fn has(slabs: &Slabs, class: ClassId, chunk: ChunkId) -> bool
-    requires { IsClass slabs.now class }
-    ensures { IsTrue result ↔ (1 ≤ places_in slabs.now class chunk) }
+    requires { IsClass slabs.now.state class }
+    ensures { IsTrue result ↔ (1 ≤ places_in slabs.now.state class chunk) }
 {
     let place = class as usize - 1;
     crate::rows::tests::has(&slabs.rows, ListName::Free(place), chunk)
@@ -341,8 +357,8 @@ fn has(slabs: &Slabs, class: ClassId, chunk: ChunkId) -> bool
 
 /// How many chunks a page of the class has.
 fn per_page(slabs: &Slabs, class: ClassId) -> u64
-    requires { IsClass slabs.now class }
-    ensures { result ≡ (class_at slabs.now class).per_page }
+    requires { IsClass slabs.now.state class }
+    ensures { result ≡ (class_at slabs.now.state class).per_page }
 {
     slabs.classes[class as usize - 1].per_page()
 }

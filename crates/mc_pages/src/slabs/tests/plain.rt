@@ -6,7 +6,7 @@ use std::alloc::{AllocError, Global};
 /// One class's pages and chunks.
 #[derive(Drop)]
 pub(super) struct PlainClass {
-    per_page: u64,
+    pub(super) per_page: u64,
     pub(super) evictions: u64,
     pub(super) pages: Vec<PageId>,
     pub(super) free: Vec<ChunkId>,

@@ -5,5 +5,5 @@ use Rattle.mc_core.proofs.state.State.grow.Goals as goal
 
 pub invariant_of-self : goal.invariant_of-self
 invariant_of-self c =
-    changed (state_of c.self.inside) c.grow.new.self c.grow.new.self c.self.invariant refl
-    (grown_shape c.grow.result c.self.inside.slabs c.grow.new.self c.args.class c.grow.ensures.given c.grow.ensures.refused) c.grow.ensures.accounted
+    changed (state_of c.self.inside) c.grow.new.self.state c.grow.new.self.state c.self.invariant refl
+    (grown_shape c.grow.result c.self.inside.slabs.state c.grow.new.self.state c.args.class c.grow.ensures.given c.grow.ensures.refused) c.grow.ensures.accounted

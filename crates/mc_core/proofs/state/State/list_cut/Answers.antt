@@ -9,8 +9,8 @@ use Rattle.mc_core.proofs.state.State.list_cut.Goals as goal
 
 pub cut-requires : goal.cut-requires
 cut-requires c =
-    next_uncut_is c.self.inside.slabs.uncut c.args.chunk
+    next_uncut_is c.self.inside.slabs.state.uncut c.args.chunk
     (subst (λ (state : State). is_next_uncut state.slabs c.args.chunk ≡ true) (sym c.self.view_is) c.requires)
 
 pub invariant_of-self : goal.invariant_of-self
-invariant_of-self c = changed (state_of c.self.inside) c.cut.new.self _ c.self.invariant c.cut.ensures.cut (cut_shape c.self.inside.slabs c.args.chunk) c.cut.ensures.accounted
+invariant_of-self c = changed (state_of c.self.inside) c.cut.new.self.state _ c.self.invariant c.cut.ensures.cut (cut_shape c.self.inside.slabs.state c.args.chunk) c.cut.ensures.accounted

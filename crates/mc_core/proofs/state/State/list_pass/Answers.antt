@@ -8,7 +8,7 @@ use Rattle.mc_core.proofs.Kept.{changed}
 use Rattle.mc_core.proofs.state.State.list_pass.Goals as goal
 
 pub passed-requires : goal.passed-requires
-passed-requires c = (pass_asked c.self.inside.table c.self.inside.slabs c.args.found c.self.inside.slabs.moving c.self.invariant.slabs refl (subst (λ (state : State). can_pass state.slabs c.args.found (run_of state.table state.slabs.moving) ≡ true) (sym c.self.view_is) c.requires))
+passed-requires c = (pass_asked c.self.inside.table c.self.inside.slabs.state c.args.found c.self.inside.slabs.state.moving c.self.invariant.slabs refl (subst (λ (state : State). can_pass state.slabs c.args.found (run_of state.table state.slabs.moving) ≡ true) (sym c.self.view_is) c.requires))
 
 pub invariant_of-self : goal.invariant_of-self
-invariant_of-self c = changed (state_of c.self.inside) c.passed.new.self _ c.self.invariant c.passed.ensures.passed (passed_shape c.self.inside.slabs c.args.found) c.passed.ensures.accounted
+invariant_of-self c = changed (state_of c.self.inside) c.passed.new.self.state _ c.self.invariant c.passed.ensures.passed (passed_shape c.self.inside.slabs.state c.args.found) c.passed.ensures.accounted

@@ -8,8 +8,8 @@ use Rattle.mc_core.proofs.state.State.list_pop.Goals as goal
 
 pub pop-requires : goal.pop-requires
 pop-requires c =
-    IsClass_from c.self.inside.table c.self.inside.slabs c.args.class c.self.invariant.slabs
+    IsClass_from c.self.inside.table c.self.inside.slabs.state c.args.class c.self.invariant.slabs
     (subst (λ (state : State). is_class state.table c.args.class ≡ true) (sym c.self.view_is) c.requires)
 
 pub invariant_of-self : goal.invariant_of-self
-invariant_of-self c = changed (state_of c.self.inside) c.pop.new.self _ c.self.invariant c.pop.ensures.popped (pop_shape c.self.inside.slabs c.args.class) c.pop.ensures.accounted
+invariant_of-self c = changed (state_of c.self.inside) c.pop.new.self.state _ c.self.invariant c.pop.ensures.popped (pop_shape c.self.inside.slabs.state c.args.class) c.pop.ensures.accounted

@@ -19,5 +19,5 @@ replace-requires-clause-handed_out c =
 
 pub invariant_of-self : goal.invariant_of-self
 invariant_of-self c =
-    changed (state_of c.self.inside) c.replace.new.self _ c.self.invariant c.replace.ensures.replaced (replace_shape c.self.inside.slabs c.args.chunk c.args.old)
+    changed (state_of c.self.inside) c.replace.new.self.state _ c.self.invariant c.replace.ensures.replaced (replace_shape c.self.inside.slabs.state c.args.chunk c.args.old)
     c.replace.ensures.accounted

@@ -12,4 +12,4 @@ touch-requires c =
     Contains_from_among _ c.args.chunk (subst (λ (state : State). is_out_of_class state.slabs c.args.chunk ≡ true) (sym c.self.view_is) c.requires)
 
 pub invariant_of-self : goal.invariant_of-self
-invariant_of-self c = changed (state_of c.self.inside) c.touch.new.self _ c.self.invariant c.touch.ensures.touched (touch_shape c.self.inside.slabs c.args.chunk) c.touch.ensures.accounted
+invariant_of-self c = changed (state_of c.self.inside) c.touch.new.self.state _ c.self.invariant c.touch.ensures.touched (touch_shape c.self.inside.slabs.state c.args.chunk) c.touch.ensures.accounted

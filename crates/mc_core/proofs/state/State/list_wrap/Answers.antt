@@ -8,7 +8,7 @@ use Rattle.mc_core.proofs.Kept.{changed}
 use Rattle.mc_core.proofs.state.State.list_wrap.Goals as goal
 
 pub wrap-requires : goal.wrap-requires
-wrap-requires c = (wrap_asked c.self.inside.table c.self.inside.slabs c.self.inside.slabs.moving c.self.invariant.slabs refl (subst (λ (state : State). can_wrap (run_of state.table state.slabs.moving) ≡ true) (sym c.self.view_is) c.requires))
+wrap-requires c = (wrap_asked c.self.inside.table c.self.inside.slabs.state c.self.inside.slabs.state.moving c.self.invariant.slabs refl (subst (λ (state : State). can_wrap (run_of state.table state.slabs.moving) ≡ true) (sym c.self.view_is) c.requires))
 
 pub invariant_of-self : goal.invariant_of-self
-invariant_of-self c = changed (state_of c.self.inside) c.wrap.new.self _ c.self.invariant c.wrap.ensures.wrapped (wrap_shape c.self.inside.slabs) c.wrap.ensures.accounted
+invariant_of-self c = changed (state_of c.self.inside) c.wrap.new.self.state _ c.self.invariant c.wrap.ensures.wrapped (wrap_shape c.self.inside.slabs.state) c.wrap.ensures.accounted

@@ -1,19 +1,68 @@
-use Rattle.std.proofs.Common.{◌≡◌, Some, sym, ◌∙◌, ap}
+use Rattle.std.proofs.Common.{◌≡◌, Contains, Some, true, false, sym, ◌∙◌, ap, arith}
+use Rattle.std.proofs.lemmas.Bool.Decides.{nat_tests}
 use Rattle.mc_keeper.specs.Items.{has_key, item_at}
 use Rattle.mc_keeper.specs.Holds.{held_by}
 use Rattle.mc_keeper.specs.Lines.{last_hold}
 use Rattle.mc_keeper.specs.Machine.{Machine}
+use Rattle.mc_keeper.proofs.Counted.{counted_given_back, counted_let_go, few_counted, machine_of}
 use Rattle.mc_keeper.proofs.HoldLists.{found_there}
+use Rattle.mc_keeper.proofs.KeptChanges.{place_once}
+use Rattle.mc_keeper.proofs.KeptMoverClear.{class_of_item}
 use Rattle.mc_keeper.proofs.keeper.Keeper.drop.Goals as goal
 
+-- what was found is held
 pub give_back-requires-clause-held : goal.give_back-requires-clause-held
 give_back-requires-clause-held c =
     found_there (has_key c.self.inside.items.entries c.args.key) (held_by c.self.inside.holds c.args.worker) c.in-Some.chunk
     (ap (λ (m : Machine). last_hold m c.args.worker c.args.key) c.self.view_is ∙ sym c.last_hold.ensures ∙ c.in-Some.is)
 
-pub returns-in_ok-push_words_line-in-Some-get-clause-reply :
-    goal.returns-in_ok-push_words_line-in-Some-get-clause-reply
-returns-in_ok-push_words_line-in-Some-get-clause-reply c =
+pub count_unheld-requires-clause-class : goal.count_unheld-requires-clause-class
+count_unheld-requires-clause-class c = class_of_item _ _ _ _ c.in-Some.chunk c.in-Some-get.item.now c.self.invariant.kept (sym c.in-Some-get.ensures.value)
+
+pub count_unheld-requires-clause-few : goal.count_unheld-requires-clause-few
+count_unheld-requires-clause-few c =
+    few_counted (machine_of c.self.inside) _ _ _ c.self.invariant.kept
+    (class_of_item _ _ _ _ c.in-Some.chunk c.in-Some-get.item.now c.self.invariant.kept (sym c.in-Some-get.ensures.value)) c.self.invariant.counted
+
+pub invariant_of-self : goal.invariant_of-self
+invariant_of-self c =
+    let held : Contains (held_by c.self.inside.holds c.args.worker) c.in-Some.chunk
+    = found_there (has_key c.self.inside.items.entries c.args.key) (held_by c.self.inside.holds c.args.worker) c.in-Some.chunk
+    (ap (λ (m : Machine). last_hold m c.args.worker c.args.key) c.self.view_is ∙ sym c.last_hold.ensures ∙ c.in-Some.is) in
+    let dead : c.in-Some-get.item.now.linked ≡ false = grind (arith, nat_tests, c.is_linked-is_linked.ensures, c.if-not-is_linked.true) in
+    let class = class_of_item _ _ _ _ c.in-Some.chunk c.in-Some-get.item.now c.self.invariant.kept (sym c.in-Some-get.ensures.value) in
+    record {
+      kept = c.self.invariant.kept;
+      watched = c.self.invariant.watched;
+      counted = rw (c.count_unheld.ensures, c.give_back.ensures)
+          (counted_given_back _ _ _ _ _ c.args.worker c.in-Some.chunk c.in-Some-get.item.now c.self.invariant.counted (sym c.in-Some-get.ensures.value) dead
+          (place_once _ _ _ _ c.in-Some.chunk c.self.invariant.kept) held class.0 class.1);
+      bulk = c.self.invariant.bulk;
+    }
+
+pub invariant_of-self-else-not-is_linked : goal.invariant_of-self-else-not-is_linked
+invariant_of-self-else-not-is_linked c =
+    let held : Contains (held_by c.self.inside.holds c.args.worker) c.in-Some.chunk
+    = found_there (has_key c.self.inside.items.entries c.args.key) (held_by c.self.inside.holds c.args.worker) c.in-Some.chunk
+    (ap (λ (m : Machine). last_hold m c.args.worker c.args.key) c.self.view_is ∙ sym c.last_hold.ensures ∙ c.in-Some.is) in
+    let linked : c.in-Some-get.item.now.linked ≡ true = grind (arith, nat_tests, c.is_linked-is_linked.ensures, c.if-not-is_linked.false) in
+    record {
+      kept = c.self.invariant.kept;
+      watched = c.self.invariant.watched;
+      counted = rw c.give_back.ensures (counted_let_go _ _ _ _ _ c.args.worker c.in-Some.chunk c.in-Some-get.item.now c.self.invariant.counted
+          (sym c.in-Some-get.ensures.value) linked (place_once _ _ _ _ c.in-Some.chunk c.self.invariant.kept) held);
+      bulk = c.self.invariant.bulk;
+    }
+
+pub returns-then-not-is_linked-clause-reply : goal.returns-then-not-is_linked-clause-reply
+returns-then-not-is_linked-clause-reply c =
+    let last : last_hold c.args.self.now c.args.worker c.args.key ≡ Some c.in-Some.chunk = sym c.last_hold.ensures ∙ c.in-Some.is in
+    let item : item_at c.args.self.now.items c.in-Some.chunk ≡ Some c.in-Some-get.item.now
+    = ap (λ (m : Machine). item_at m.items c.in-Some.chunk) (sym c.self.view_is) ∙ sym c.in-Some-get.ensures.value in
+    rw (last, item, ← c.words.ensures) c.in_ok-push_words_line-in-Some-get.ensures
+
+pub returns-else-not-is_linked-clause-reply : goal.returns-else-not-is_linked-clause-reply
+returns-else-not-is_linked-clause-reply c =
     let last : last_hold c.args.self.now c.args.worker c.args.key ≡ Some c.in-Some.chunk = sym c.last_hold.ensures ∙ c.in-Some.is in
     let item : item_at c.args.self.now.items c.in-Some.chunk ≡ Some c.in-Some-get.item.now
     = ap (λ (m : Machine). item_at m.items c.in-Some.chunk) (sym c.self.view_is) ∙ sym c.in-Some-get.ensures.value in

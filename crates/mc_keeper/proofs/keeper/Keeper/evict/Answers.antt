@@ -8,18 +8,19 @@ use Rattle.mc_keeper.specs.Items.{item_at, is_linked}
 use Rattle.mc_keeper.specs.Machine.{Machine}
 use Rattle.mc_keeper.proofs.KeptEvict.{kept_evict, linked_item}
 use Rattle.mc_keeper.proofs.Watched.{watched-back, watched-evicted}
+use Rattle.mc_keeper.proofs.Counted.{counted_gone}
 use Rattle.mc_keeper.proofs.keeper.Keeper.evict.Goals as goal
 
 pub back-requires : goal.back-requires
 back-requires c =
-    let valid : IsClass c.self.inside.slabs c.args.class = rw (ap (λ (m : Machine). m.slabs) c.self.view_is) c.requires.class in
-    let listed : Contains (class_at c.self.inside.slabs c.args.class).order c.args.chunk = rw (ap (λ (m : Machine). m.slabs) c.self.view_is) c.requires.listed in
-    subst (λ (n : ℕ). Contains (class_at c.self.inside.slabs n).order c.args.chunk)
-    (sym (class_of_handed_out c.self.inside.slabs c.args.class c.args.chunk c.self.invariant.kept.accounted valid listed)) listed
+    let valid : IsClass c.self.inside.slabs.state c.args.class = rw (ap (λ (m : Machine). m.slabs) c.self.view_is) c.requires.class in
+    let listed : Contains (class_at c.self.inside.slabs.state c.args.class).order c.args.chunk = rw (ap (λ (m : Machine). m.slabs) c.self.view_is) c.requires.listed in
+    subst (λ (n : ℕ). Contains (class_at c.self.inside.slabs.state n).order c.args.chunk)
+    (sym (class_of_handed_out c.self.inside.slabs.state c.args.class c.args.chunk c.self.invariant.kept.accounted valid listed)) listed
 
 pub invariant_of-self : goal.invariant_of-self
 invariant_of-self c =
-    let valid : IsClass c.self.inside.slabs c.args.class = rw (ap (λ (m : Machine). m.slabs) c.self.view_is) c.requires.class in
+    let valid : IsClass c.self.inside.slabs.state c.args.class = rw (ap (λ (m : Machine). m.slabs) c.self.view_is) c.requires.class in
     let at : item_at c.self.inside.items.entries c.args.chunk ≡ Some c.in-Some.item = sym c.in-Some.ensures.value in
     let idle : is_linked c.self.inside.items.entries c.args.chunk ≡ true = rw (ap (λ (m : Machine). m.items) c.self.view_is) (and_parts _ _ c.requires.idle).0 in
     let linked : c.in-Some.item.linked ≡ true = rw at at idle in
@@ -28,8 +29,11 @@ invariant_of-self c =
           (kept_evict _ _ _ _ _ c.args.class c.args.chunk c.in-Some.item c.self.invariant.kept
           (rw c.back.ensures.back at c.back.ensures.accounted) (rw (c.evicted.ensures.evicted, c.back.ensures.back) at c.evicted.ensures.accounted)
           at linked (rw c.key.ensures at c.remove-in-Some.ensures.updates.0));
-      watched = rw (c.evicted.ensures.evicted, c.back.ensures.back) (watched-evicted (after_back c.self.inside.slabs c.args.chunk) c.args.class _ (valid.0, rw (length-set c.self.inside.slabs.classes _ _) valid.1)
-          (watched-back c.self.inside.slabs _ c.self.invariant.watched c.args.chunk));
+      watched = rw (c.evicted.ensures.evicted, c.back.ensures.back) (watched-evicted (after_back c.self.inside.slabs.state c.args.chunk) c.args.class _ (valid.0, rw (length-set c.self.inside.slabs.state.classes _ _) valid.1)
+          (watched-back c.self.inside.slabs.state _ c.self.invariant.watched c.args.chunk));
+      counted = rw (c.evicted.ensures.evicted, c.back.ensures.back, c.remove.ensures.entries)
+          (counted_gone _ _ _ _ _ _ c.args.chunk c.in-Some.item c.self.invariant.counted
+          (length-set (after_back c.self.inside.slabs.state c.args.chunk).classes _ _ ∙ length-set c.self.inside.slabs.state.classes _ _) at linked);
       bulk = c.self.invariant.bulk;
     }
 

@@ -3,6 +3,8 @@ use Rattle.std.proofs.lemmas.Option.{none-some, same_Some}
 use Rattle.mc_keeper.specs.Item.{Item}
 use Rattle.mc_keeper.proofs.KeptMoverClear.{cleared_after, idle_here, handed_item, kept_cleared, leads_gone}
 use Rattle.mc_keeper.proofs.Watched.{watched-clear}
+use Rattle.std.proofs.lemmas.List.{length-set}
+use Rattle.mc_keeper.proofs.Counted.{counted_gone}
 use Rattle.mc_keeper.proofs.keeper.Keeper.evict_moving.Goals.{in-Some, in_default}
 use Rattle.mc_keeper.proofs.keeper.Keeper.evict_moving.Goals as goal
 
@@ -27,7 +29,8 @@ invariant_of-self c =
                 (rw cleared at c.clear.ensures.accounted)
                 (leads_gone _ _ _ _ _ c.args.chunk found.0 w.key.result c.self.invariant.kept found.1 found.2
                 (w.key.ensures ∙ sym (ap (λ (item : Item). item.key) same)) w.remove-in-Some.ensures.updates.0));
-            watched = watched-clear c.self.inside.slabs _ c.self.invariant.watched c.args.chunk;
+            watched = watched-clear c.self.inside.slabs.state _ c.self.invariant.watched c.args.chunk;
+            counted = rw c.remove.ensures.entries (counted_gone _ _ _ _ _ _ c.args.chunk found.0 c.self.invariant.counted (length-set c.self.inside.slabs.state.classes _ _) found.1 found.2);
             bulk = c.self.invariant.bulk;
           })
       | in_default w ↦ absurd (none-some found.0 (w.in_default.ensures.value ∙ found.1))
@@ -41,6 +44,6 @@ returns-clause-clears c =
       | in-Some w ↦
           let cleared = rw w.self-inside-is at c.clear.ensures.cleared in
           rw (← c.self.view_is, cleared)
-          (cleared_after c.self.inside.slabs c.args.chunk c.self.invariant.kept.accounted (rw cleared at c.clear.ensures.accounted) (omega (arith, handed)))
+          (cleared_after c.self.inside.slabs.state c.args.chunk c.self.invariant.kept.accounted (rw cleared at c.clear.ensures.accounted) (omega (arith, handed)))
       | in_default w ↦ absurd (none-some found.0 (w.in_default.ensures.value ∙ found.1))
     ]

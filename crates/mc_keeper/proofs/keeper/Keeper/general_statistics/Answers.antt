@@ -1,4 +1,4 @@
-use Rattle.std.proofs.Common.{◌≡◌, ℕ, Vec, Global, ap, ◌∙◌}
+use Rattle.std.proofs.Common.{ℕ, Vec, Global, ap, ◌∙◌}
 use Rattle.mc_keeper.proofs.keeper.Keeper.general_statistics.Goals as goal
 
 pub returns-in-Ok : goal.returns-in-Ok

@@ -5,6 +5,7 @@ use Rattle.mc_pages.specs.Moves.{CanPass, after_passed}
 use Rattle.mc_keeper.specs.Machine.{Machine}
 use Rattle.mc_keeper.proofs.KeptMoverPass.{kept_moved, can_pass, move_here, position_cut}
 use Rattle.mc_keeper.proofs.Watched.{watched-same}
+use Rattle.mc_keeper.proofs.Counted.{counted_owned}
 use Rattle.mc_keeper.proofs.keeper.Keeper.step.Goals as goal
 
 pub is_at_end-requires : goal.is_at_end-requires
@@ -31,6 +32,7 @@ passed-requires c =
 pub invariant_of-self : goal.invariant_of-self
 invariant_of-self c = record {
   kept = rw c.passed.ensures.passed (kept_moved _ _ _ _ _ _ _ _ c.self-2.invariant.kept (rw c.passed.ensures.passed at c.passed.ensures.accounted));
-  watched = rw c.passed.ensures.passed (watched-same c.self-2.inside.slabs (after_passed c.self-2.inside.slabs c.in_ok-found.found) _ refl c.self-2.invariant.watched);
+  watched = rw c.passed.ensures.passed (watched-same c.self-2.inside.slabs.state (after_passed c.self-2.inside.slabs.state c.in_ok-found.found) _ refl c.self-2.invariant.watched);
+  counted = rw c.passed.ensures.passed (counted_owned _ _ _ _ _ _ c.self-2.invariant.counted refl);
   bulk = c.self-2.invariant.bulk;
 }

@@ -1,6 +1,6 @@
-use Rattle.std.proofs.Common.{◌≡◌, ℕ, Bool, true, false, Some, ap, sym, ◌∙◌}
+use Rattle.std.proofs.Common.{◌≡◌, Some, ap, sym, ◌∙◌}
 use Rattle.mc_keeper.specs.Machine.{Machine}
-use Rattle.mc_keeper.specs.Supply.{evicts, supplied, supply}
+use Rattle.mc_keeper.specs.Supply.{supply}
 use Rattle.mc_pages.specs.ClassState.{first_free}
 use Rattle.mc_pages.specs.SlabState.{class_at}
 use Rattle.mc_keeper.proofs.StoredItems.{stored_asking, stored_in_mode, stored_quietly}

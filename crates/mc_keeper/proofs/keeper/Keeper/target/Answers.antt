@@ -1,4 +1,4 @@
-use Rattle.std.proofs.Common.{◌≡◌, ℕ, ◌+◌, ◌==◌, ◌∙◌, false, true, not, sym, ap, arith, List, [], length, drop, Option, Some, None}
+use Rattle.std.proofs.Common.{◌≡◌, ◌+◌, ◌==◌, ◌∙◌, false, true, not, sym, ap, arith, List, [], length, drop, Option}
 use Rattle.std.specs.Prelude.{find, slice_get}
 use Rattle.std.proofs.lemmas.Bool.Decides.{nat_tests}
 use Rattle.mc_pages.specs.declared.ids.ChunkId.{ChunkId}

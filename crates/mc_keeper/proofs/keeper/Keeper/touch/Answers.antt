@@ -4,6 +4,8 @@ use Rattle.std.specs.BTreeMap.{is_at}
 use Rattle.std.specs.Map.{lookup}
 use Rattle.mc_keeper.proofs.KeptTouch.{leads_to_handed_out, kept_touch}
 use Rattle.mc_keeper.proofs.Watched.{watched-touch}
+use Rattle.std.proofs.lemmas.List.{length-set}
+use Rattle.mc_keeper.proofs.Counted.{counted_owned}
 use Rattle.mc_keeper.proofs.keeper.Keeper.touch.Goals as goal
 
 pub touch-requires : goal.touch-requires
@@ -20,6 +22,7 @@ invariant_of-self c =
       kept = rw c.touch.ensures.touched (kept_touch _ _ _ _ c.in-Some.chunk c.self.invariant.kept
           (leads_to_handed_out _ _ _ _ c.args.key c.in-Some.chunk c.self.invariant.kept found)
           (rw c.touch.ensures.touched at c.touch.ensures.accounted));
-      watched = rw c.touch.ensures.touched (watched-touch c.self.inside.slabs _ c.self.invariant.watched c.in-Some.chunk);
+      watched = rw c.touch.ensures.touched (watched-touch c.self.inside.slabs.state _ c.self.invariant.watched c.in-Some.chunk);
+      counted = rw c.touch.ensures.touched (counted_owned _ _ _ _ _ _ c.self.invariant.counted (length-set c.self.inside.slabs.state.classes _ _));
       bulk = c.self.invariant.bulk;
     }

@@ -3,8 +3,20 @@ use Rattle.std.specs.Ordering.{nat_cmp}
 use Rattle.std.specs.BTreeMap.{is_at}
 use Rattle.std.specs.Map.{lookup}
 use Rattle.mc_keeper.specs.Items.{unlinked_items}
+use Rattle.mc_keeper.proofs.Counted.{counted_unlinked, few_counted, leads_linked, machine_of}
 use Rattle.mc_keeper.proofs.KeptChanges.{kept_unlink, unlinks_found, unlinks_none}
 use Rattle.mc_keeper.proofs.keeper.Keeper.unlink.Goals as goal
+
+pub count_unheld-requires-clause-class : goal.count_unheld-requires-clause-class
+count_unheld-requires-clause-class c = (leads_linked _ _ _ _ c.args.key c.in-Some.chunk c.self.invariant.kept (sym c.in-Some.ensures.value)).1
+
+pub count_unheld-requires-clause-of_each : goal.count_unheld-requires-clause-of_each
+count_unheld-requires-clause-of_each c = c.self.invariant.counted.of_each
+
+pub count_unheld-requires-clause-few : goal.count_unheld-requires-clause-few
+count_unheld-requires-clause-few c =
+    let class = (leads_linked _ _ _ _ c.args.key c.in-Some.chunk c.self.invariant.kept (sym c.in-Some.ensures.value)).1 in
+    few_counted (machine_of c.self.inside) _ _ _ c.self.invariant.kept class c.self.invariant.counted
 
 -- the item that the index found is the key's
 pub invariant_of-self : goal.invariant_of-self
@@ -12,9 +24,13 @@ invariant_of-self c =
     let found : lookup (is_at (nat_cmp c.args.key)) c.self.inside.index.entries ≡ Some c.in-Some.chunk = sym c.in-Some.ensures.value in
     let unlinks : c.unlink_in.new.items.entries ≡ unlinked_items c.self.inside.items.entries c.args.key
     = rw c.unlink_in.ensures (unlinks_found _ _ _ _ c.args.key c.in-Some.chunk c.self.invariant.kept found) in
+    let there = leads_linked _ _ _ _ c.args.key c.in-Some.chunk c.self.invariant.kept found in
+    let leads = there.0 in
+    let class = there.1 in
     record {
       kept = rw unlinks (kept_unlink _ _ _ _ _ c.args.key c.self.invariant.kept c.remove.ensures.updates.0);
       watched = c.self.invariant.watched;
+      counted = rw (unlinks, c.count_unheld.ensures) (counted_unlinked _ _ _ _ _ c.args.key c.in-Some.chunk c.self.invariant.counted leads class.0 class.1);
       bulk = c.self.invariant.bulk;
     }
 

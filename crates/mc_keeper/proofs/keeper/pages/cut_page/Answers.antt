@@ -9,8 +9,8 @@ cut-requires c = grind (arith, nat_tests, c.loop-index.invariant.next)
 
 pub loop-index-preserved : goal.loop-index-preserved
 loop-index-preserved c = record {
-  cut = c.cut.ensures.cut ∙ cuts_more c.args.slabs.now c.loop-index.slabs c.args.page c.loop-index.index c.loop-index.invariant.cut;
+  cut = c.cut.ensures.cut ∙ cuts_more c.args.slabs.now.state c.loop-index.slabs.state c.args.page c.loop-index.index c.loop-index.invariant.cut;
   next = ap (λ (s : SlabState). s.uncut) c.cut.ensures.cut
-      ∙ next_after_cut c.args.slabs.now c.loop-index.slabs c.args.page c.args.per_page c.loop-index.index c.loop-index.invariant.cut c.requires.chunks;
+      ∙ next_after_cut c.args.slabs.now.state c.loop-index.slabs.state c.args.page c.args.per_page c.loop-index.index c.loop-index.invariant.cut c.requires.chunks;
   accounted = c.cut.ensures.accounted;
 }

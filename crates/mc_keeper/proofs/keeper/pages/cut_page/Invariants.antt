@@ -8,7 +8,7 @@ use Rattle.mc_keeper.proofs.keeper.pages.cut_page.Given as goal
 -- the chunks below are cut, and the next one is the lowest that isn't
 abbrev pub invariant-loop-index : goal.invariant-loop-index
 invariant-loop-index l = record {
-  cut : l.slabs ≡ fold after_cut l.initial.slabs (first_chunks l.page l.index);
-  next : l.slabs.uncut ≡ next_cut l.page l.per_page l.index;
-  accounted : IsAccounted l.slabs;
+  cut : l.slabs.state ≡ fold after_cut l.initial.slabs.state (first_chunks l.page l.index);
+  next : l.slabs.state.uncut ≡ next_cut l.page l.per_page l.index;
+  accounted : IsAccounted l.slabs.state;
 }

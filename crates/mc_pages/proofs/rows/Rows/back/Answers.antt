@@ -26,7 +26,7 @@ put_first-requires-clause-below c =
 
 pub returns-clause-back : goal.returns-clause-back
 returns-clause-back c =
-    became_then c.args.self.now _ _ c.args.class (λ state. record state { order = without c.args.chunk state.order }) (λ state. record state { free = c.args.chunk ∷ state.free }) (λ state. put_back state c.args.chunk)
-    (became_out c.args.self.now _ c.args.class _ _ c.unlink.ensures.linked c.unlink.ensures.sizes c.unlink.ensures.lists (λ state. refl))
-    (became_free _ _ c.args.class _ _ c.put_first.ensures.linked c.put_first.ensures.sizes c.put_first.ensures.lists (λ state. refl))
-    (λ state. refl)
+    became_then c.args.self.now c.unlink.new.self _ c.args.class (λ state. record state { order = without c.args.chunk state.order }) (λ state. record state { free = c.args.chunk ∷ state.free }) (λ state. put_back state c.args.chunk)
+    (became_out c.args.self.now _ c.args.class _ _ c.unlink.ensures.sizes c.unlink.ensures.lists (λ state. refl))
+    (became_free _ _ c.args.class _ _ c.put_first.ensures.sizes c.put_first.ensures.lists (λ state. refl))
+    (λ state. refl) c.put_first.ensures.linked

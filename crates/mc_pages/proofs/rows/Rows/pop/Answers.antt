@@ -30,7 +30,7 @@ returns-clause-chunk c = sym (sym (first_is c.args.self.now (Free c.args.class) 
 pub returns-clause-popped : goal.returns-clause-popped
 returns-clause-popped c =
     let at = sym (first_is c.args.self.now (Free c.args.class) c.requires.linked) ∙ (sym c.get.ensures ∙ c.in-Some.is) in
-    became_then c.args.self.now _ _ c.args.class (λ state. record state { free = without c.in-Some.head state.free }) (λ state. record state { order = state.order ++ c.in-Some.head ∷ [] }) popped
-    (became_free c.args.self.now _ c.args.class _ _ c.unlink.ensures.linked c.unlink.ensures.sizes c.unlink.ensures.lists (λ state. refl))
-    (became_out _ _ c.args.class _ _ c.put_last.ensures.linked c.put_last.ensures.sizes c.put_last.ensures.lists (λ state. refl))
-    (λ state. popped_some (with_lists state c.args.self.now c.args.class) c.in-Some.head at)
+    became_then c.args.self.now c.unlink.new.self _ c.args.class (λ state. record state { free = without c.in-Some.head state.free }) (λ state. record state { order = state.order ++ c.in-Some.head ∷ [] }) popped
+    (became_free c.args.self.now _ c.args.class _ _ c.unlink.ensures.sizes c.unlink.ensures.lists (λ state. refl))
+    (became_out _ _ c.args.class _ _ c.put_last.ensures.sizes c.put_last.ensures.lists (λ state. refl))
+    (λ state. popped_some (with_lists state c.args.self.now c.args.class) c.in-Some.head at) c.put_last.ensures.linked

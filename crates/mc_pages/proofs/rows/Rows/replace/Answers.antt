@@ -32,7 +32,7 @@ put_before-requires-clause-below c =
 
 pub returns-clause-replaced : goal.returns-clause-replaced
 returns-clause-replaced c =
-    became_then c.args.self.now _ _ c.args.class (λ state. record state { free = without c.args.new state.free }) (λ state. record state { order = with_before c.args.new c.args.old state.order }) (λ state. replaced state c.args.new c.args.old)
-    (became_free c.args.self.now _ c.args.class _ _ c.unlink.ensures.linked c.unlink.ensures.sizes c.unlink.ensures.lists (λ state. refl))
-    (became_out _ _ c.args.class _ _ c.put_before.ensures.linked c.put_before.ensures.sizes c.put_before.ensures.lists (λ state. refl))
-    (λ state. refl)
+    became_then c.args.self.now c.unlink.new.self _ c.args.class (λ state. record state { free = without c.args.new state.free }) (λ state. record state { order = with_before c.args.new c.args.old state.order }) (λ state. replaced state c.args.new c.args.old)
+    (became_free c.args.self.now _ c.args.class _ _ c.unlink.ensures.sizes c.unlink.ensures.lists (λ state. refl))
+    (became_out _ _ c.args.class _ _ c.put_before.ensures.sizes c.put_before.ensures.lists (λ state. refl))
+    (λ state. refl) c.put_before.ensures.linked

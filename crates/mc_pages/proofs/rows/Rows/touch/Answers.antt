@@ -27,7 +27,7 @@ put_last-requires-clause-below c =
 
 pub returns-clause-touched : goal.returns-clause-touched
 returns-clause-touched c =
-    became_then c.args.self.now _ _ c.args.class (λ state. record state { order = without c.args.chunk state.order }) (λ state. record state { order = state.order ++ c.args.chunk ∷ [] }) (λ state. touched state c.args.chunk)
-    (became_out c.args.self.now _ c.args.class _ _ c.unlink.ensures.linked c.unlink.ensures.sizes c.unlink.ensures.lists (λ state. refl))
-    (became_out _ _ c.args.class _ _ c.put_last.ensures.linked c.put_last.ensures.sizes c.put_last.ensures.lists (λ state. refl))
-    (λ state. refl)
+    became_then c.args.self.now c.unlink.new.self _ c.args.class (λ state. record state { order = without c.args.chunk state.order }) (λ state. record state { order = state.order ++ c.args.chunk ∷ [] }) (λ state. touched state c.args.chunk)
+    (became_out c.args.self.now _ c.args.class _ _ c.unlink.ensures.sizes c.unlink.ensures.lists (λ state. refl))
+    (became_out _ _ c.args.class _ _ c.put_last.ensures.sizes c.put_last.ensures.lists (λ state. refl))
+    (λ state. refl) c.put_last.ensures.linked

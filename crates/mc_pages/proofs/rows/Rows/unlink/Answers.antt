@@ -1,7 +1,7 @@
 use Rattle.std.proofs.Common.{◌≡◌, Option, sym, ap, ap₂, ◌∙◌, subst}
 use Rattle.mc_pages.specs.declared.ids.ChunkId.{ChunkId}
 use Rattle.mc_pages.specs.Rows.{RowsState, IsField, shortened}
-use Rattle.mc_pages.specs.Linked.{AreLinked, chunks_of, forth, back, joined, unlinked}
+use Rattle.mc_pages.specs.Linked.{AreLinkedBut, chunks_of, forth, back, joined, unlinked}
 use Rattle.mc_pages.proofs.Linked.{chunks_are, are_linked, unlinked_linked, previous_forth, next_back}
 use Rattle.mc_pages.proofs.rows.Rows.unlink.Goals as goal
 
@@ -23,7 +23,7 @@ left c =
 
 pub returns-clause-linked : goal.returns-clause-linked
 returns-clause-linked c =
-    subst AreLinked (sym (left c)) (are_linked _ _ (unlinked_linked c.args.self.now (chunks_of c.args.self.now) c.args.list c.args.chunk c.requires.linked c.requires.list c.requires.there))
+    subst (λ (rows : RowsState). AreLinkedBut rows c.args.chunk) (sym (left c)) (are_linked _ _ (unlinked_linked c.args.self.now (chunks_of c.args.self.now) c.args.list c.args.chunk c.requires.linked c.requires.list c.requires.there))
 
 pub returns-clause-lists : goal.returns-clause-lists
 returns-clause-lists c =

@@ -18,12 +18,13 @@ use Rattle.mc_pages.proofs.Roomy.{if_ok}
 use Rattle.mc_pages.proofs.RoomySlabs.{length-classes, read_state}
 use Rattle.mc_pages.proofs.RoomyGrow.{on_err, truth_le, states_roomier, fits-roomier}
 use Rattle.mc_pages.proofs.RoomyMoves.{if_ok_at, begun_with, begun_is, not_awaited, fits-to_pool, fits-to_class}
+use Rattle.mc_pages.proofs.Roomy.{same_state}
 use Rattle.mc_pages.proofs.slabs.Slabs.begin_move.Goals as goal
 use Rattle.mc_pages.proofs.slabs.Slabs.begin_move.Goals.{After-reserve, After-page_count, then-dst-eq0+in_ok-reserve-2, else-dst-eq0+in_ok-make_room}
 
 -- the class that gives a page
 answer_is : (c : After-reserve) → answer_of (slabs_of c.self.inside) c.args.src c.args.dst ≡ Ok c.in_ok-source.source
-answer_is c = ap (λ (s : SlabState). answer_of s c.args.src c.args.dst) c.self.view_is ∙ sym c.in_ok-source.ensures
+answer_is c = ap (λ (s : SlabState). answer_of s c.args.src c.args.dst) (same_state c.self.view_is) ∙ sym c.in_ok-source.ensures
 
 -- a destination that isn't the pool is one of the classes
 is_class : (c : After-reserve) → c.args.dst ≢ 0 → IsClass (slabs_of c.self.inside) c.args.dst
@@ -72,14 +73,14 @@ invariant_of-self-in_err-make_room c =
     }
 
 pub returns-in_err-make_room-clause-refused : goal.returns-in_err-make_room-clause-refused
-returns-in_err-make_room-clause-refused c = on_err c.from_residual-in_err-make_room.result (refused_is c ∙ c.self.view_is)
+returns-in_err-make_room-clause-refused c = on_err c.from_residual-in_err-make_room.result (refused_is c ∙ (same_state c.self.view_is))
 
 pub returns-in_err-make_room-clause-accounted : goal.returns-in_err-make_room-clause-accounted
 returns-in_err-make_room-clause-accounted c = (invariant_of-self-in_err-make_room c).order.accounted
 
 -- the page that begins to move
 page_is : (c : After-reserve) → c.first_page-page.result ≡ first_page (slabs_of c.self.inside) c.in_ok-source.source
-page_is c = c.first_page-page.ensures ∙ ap (λ (s : SlabState). first_page s c.in_ok-source.source) (sym c.self.view_is)
+page_is c = c.first_page-page.ensures ∙ ap (λ (s : SlabState). first_page s c.in_ok-source.source) (sym (same_state c.self.view_is))
 
 pub index_mut-requires : goal.index_mut-requires
 index_mut-requires c =
@@ -115,7 +116,7 @@ ledger_fits c len capacity = omega (arith, len, capacity, c.push.ensures.upper_b
 -- the whole after the beginning
 began_is : (c : goal.After-self-4-1) (inside : Inside) → c.if-dst-eq0.self-inside ≡ inside → inside.ledger.items ≡ c.self.inside.ledger.items → (classes : List ClassState) (pool : List ℕ) → classes ≡ (slabs_of c.self.inside).classes → pool ≡ c.self.inside.pool.items → begun_with (slabs_of c.self.inside) c.first_page-page.result c.in_ok-source.source c.args.dst c.cursor_after-cursor.result classes pool c.push.new.self.items ≡ after_begin (slabs_of c.self.inside) c.args.src c.in_ok-source.source c.args.dst
 began_is c inside is before classes pool classes_is pool_is =
-    let cursor = c.cursor_after-cursor.ensures ∙ ap (λ (s : SlabState). cursor_after s c.args.src c.in_ok-source.source) (sym c.self.view_is) in
+    let cursor = c.cursor_after-cursor.ensures ∙ ap (λ (s : SlabState). cursor_after s c.args.src c.in_ok-source.source) (sym (same_state c.self.view_is)) in
     begun_is (slabs_of c.self.inside) c.args.src _ _ _ _ _ _ _ classes_is pool_is (pushed c inside is before) (page_is (goal.at.invariant_of-self-2 c).After-reserve) cursor
 
 pub invariant_of-self-2 : goal.invariant_of-self-2
@@ -156,7 +157,7 @@ returns-clause-began c =
     let here = (goal.at.invariant_of-self-2 c).After-reserve in
     let answer = sym c.in_ok-source.ensures in
     let seen : Inside → SlabState = λ i. slabs_of (begun c i) in
-    let began = ap (λ (s : SlabState). after_begin s c.args.src c.in_ok-source.source c.args.dst) c.self.view_is in
+    let began = ap (λ (s : SlabState). after_begin s c.args.src c.in_ok-source.source c.args.dst) (same_state c.self.view_is) in
     elim c.if-dst-eq0.branch [
       | then-dst-eq0+in_ok-reserve-2 w ↦
           if_ok_at _ (λ (source : ℕ). _) _ answer (ap seen w.self-inside-is ∙ (began_is c _ w.self-inside-is c.in_ok-reserve.ensures.items _ _ refl w.in_ok-reserve-2.ensures.items ∙ began))

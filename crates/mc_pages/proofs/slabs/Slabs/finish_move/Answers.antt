@@ -13,18 +13,19 @@ use Rattle.mc_pages.proofs.Roomy.{if_ok}
 use Rattle.mc_pages.proofs.RoomySlabs.{length-classes, IsClass-set}
 use Rattle.mc_pages.proofs.RoomyMoves.{Some-same}
 use Rattle.mc_pages.proofs.RoomyFinish.{moving_within, ended_with, joined_with, pooled_is, joined_is, fits-pooled, dst_has_room, fits-joined, within-both, rows-pooled, rows-joined}
+use Rattle.mc_pages.proofs.Roomy.{same_state}
 use Rattle.mc_pages.proofs.slabs.Slabs.finish_move.Goals as goal
 use Rattle.mc_pages.proofs.slabs.Slabs.finish_move.Goals.{After-index_mut, After-saturating_add-self-inside}
 
 -- each chunk of the moving page is cleared
 can_finish : (c : After-index_mut) → CanFinish (slabs_of c.self.inside) c.in-Some.moving
 can_finish c =
-    let can = subst (λ (s : SlabState). (move : Moving) × CanFinish s move) (sym c.self.view_is) c.requires.cleared in
+    let can = subst (λ (s : SlabState). (move : Moving) × CanFinish s move) (sym (same_state c.self.view_is)) c.requires.cleared in
     subst (λ (move : Moving). CanFinish (slabs_of c.self.inside) move) (Some-same can.0 c.in-Some.moving (sym can.1.runs ∙ c.in-Some.is)) can.1
 
 -- no chunk is to be cut
 whole : (c : After-index_mut) → (slabs_of c.self.inside).uncut ≡ None
-whole c = subst (λ (s : SlabState). s.uncut ≡ None) (sym c.self.view_is) c.requires.whole
+whole c = subst (λ (s : SlabState). s.uncut ≡ None) (sym (same_state c.self.view_is)) c.requires.whole
 
 -- the page moves from one class to another or to the pool
 is_move : (c : After-index_mut) → IsMove (slabs_of c.self.inside) c.in-Some.moving
@@ -57,8 +58,8 @@ in_order : (c : After-index_mut) → IsInOrder (finished (slabs_of c.self.inside
 in_order c = IsInOrder-finished (slabs_of c.self.inside) c.self.inside.granted c.in-Some.moving c.self.invariant.order (whole c) (can_finish c)
 
 -- what callers see of the move that ended
-seen : (c : After-index_mut) → finished (slabs_of c.self.inside) c.in-Some.moving ≡ after_finish c.args.self.now c.args.self.now.moving
-seen c = ap (after_finish (slabs_of c.self.inside)) (sym c.in-Some.is) ∙ ap (λ (s : SlabState). after_finish s s.moving) c.self.view_is
+seen : (c : After-index_mut) → finished (slabs_of c.self.inside) c.in-Some.moving ≡ after_finish c.args.self.now.state c.args.self.now.state.moving
+seen c = ap (after_finish (slabs_of c.self.inside)) (sym c.in-Some.is) ∙ ap (λ (s : SlabState). after_finish s s.moving) (same_state c.self.view_is)
 
 -- the whole where the page went into the pool
 pooled : (c : goal.After-self-then-dst-eq0-1) → ended_with (slabs_of c.self.inside) (states c.self.inside.rows (set c.self.inside.classes.items (c.in-Some.moving.src - 1) c.remove_page.new.self)) (set c.self.inside.owners.items c.in-Some.moving.page Pool) c.push-then-dst-eq0.new.self.items c.push.new.self.items c.saturating_add-self-inside.result ≡ finished (slabs_of c.self.inside) c.in-Some.moving

@@ -16,12 +16,13 @@ use Rattle.mc_pages.proofs.KeptPages.{IsInOrder-after_take, IsInOrder-after_gran
 use Rattle.mc_pages.proofs.Roomy.{if_ok}
 use Rattle.mc_pages.proofs.RoomySlabs.{Fits, length-classes, read_state, with_roomy, HasRows-with_class}
 use Rattle.mc_pages.proofs.RoomyGrow.{on_err, truth_le, truth_byte, grow_takes, grow_grants, take_is, grant_is, next_pooled, next_granted, fits-given, next_within, states_roomier, fits-roomier}
+use Rattle.mc_pages.proofs.Roomy.{same_state}
 use Rattle.mc_pages.proofs.slabs.Slabs.grow.Goals as goal
 use Rattle.mc_pages.proofs.slabs.Slabs.grow.Goals.{After-page_count, in-Some, in-None}
 
 -- the class that gets a page is one of the classes
 is_class : (c : After-page_count) → IsClass (slabs_of c.self.inside) c.args.class
-is_class c = subst (λ (s : SlabState). IsClass s c.args.class) (sym c.self.view_is) c.requires.class
+is_class c = subst (λ (s : SlabState). IsClass s c.args.class) (sym (same_state c.self.view_is)) c.requires.class
 
 -- 1 where a page is on the move to it
 awaited : (c : After-page_count) → c.from-awaited.result ≡ truth (is_awaited c.self.inside.moving c.args.class)
@@ -50,7 +51,7 @@ entries c = c.from.ensures ∙ (truth_byte c.is_some.result ∙ ap truth c.is_so
 
 -- the page is the next one
 is_next : (c : After-page_count) → next_page (slabs_of c.self.inside) ≡ Some c.in_ok-page.page
-is_next c = ap next_page c.self.view_is ∙ (sym c.next_page.ensures ∙ c.in_ok-page.ensures.ok_part)
+is_next c = ap next_page (same_state c.self.view_is) ∙ (sym c.next_page.ensures ∙ c.in_ok-page.ensures.ok_part)
 
 -- what was reserved changes nothing that callers see
 refused_is : (c : goal.After-from_residual-in_err-make_room) → record (slabs_of c.self.inside) { classes = states c.self.inside.rows (set c.self.inside.classes.items (c.args.class - 1) c.make_room.new.self); ledger = c.reserve.new.self.items } ≡ slabs_of c.self.inside
@@ -73,7 +74,7 @@ invariant_of-self-in_err-make_room c =
     }
 
 pub returns-in_err-make_room-clause-refused : goal.returns-in_err-make_room-clause-refused
-returns-in_err-make_room-clause-refused c = on_err c.from_residual-in_err-make_room.result (refused_is c ∙ c.self.view_is)
+returns-in_err-make_room-clause-refused c = on_err c.from_residual-in_err-make_room.result (refused_is c ∙ (same_state c.self.view_is))
 
 pub returns-in_err-make_room-clause-accounted : goal.returns-in_err-make_room-clause-accounted
 returns-in_err-make_room-clause-accounted c = (invariant_of-self-in_err-make_room c).order.accounted
@@ -140,7 +141,7 @@ taken_kept : (c : goal.After-self-4-1) → c.match-pop.self-inside ≡ taken_ins
 taken_kept c is entry some =
     let slabs = slabs_of c.self.inside in
     let here = (goal.at.invariant_of-self-3 c).After-page_count in
-    let whole = subst (λ (s : SlabState). s.uncut ≡ None) (sym c.self.view_is) c.requires.whole in
+    let whole = subst (λ (s : SlabState). s.uncut ≡ None) (sym (same_state c.self.view_is)) c.requires.whole in
     record {
       order = subst (λ (s : SlabState). IsInOrder s c.self.inside.granted) (sym (taken_is c is entry))
           (IsInOrder-after_take slabs c.self.inside.granted c.args.class c.in_ok-page.page c.self.invariant.order (is_class here) whole (next_pooled slabs c.in_ok-page.page some (is_next here)));
@@ -162,7 +163,7 @@ granted_kept : (c : goal.After-self-4-1) → c.match-pop.self-inside ≡ granted
 granted_kept c is entry none =
     let slabs = slabs_of c.self.inside in
     let here = (goal.at.invariant_of-self-3 c).After-page_count in
-    let whole = subst (λ (s : SlabState). s.uncut ≡ None) (sym c.self.view_is) c.requires.whole in
+    let whole = subst (λ (s : SlabState). s.uncut ≡ None) (sym (same_state c.self.view_is)) c.requires.whole in
     let next = next_granted slabs c.self.inside.granted c.in_ok-page.page c.self.invariant.order none (is_next here) in
     let granted = granted_is c is entry none ∙ ap (after_grant slabs c.args.class) next.0 in
     record {
@@ -186,9 +187,9 @@ invariant_of-self-3 c =
 pub returns-clause-given : goal.returns-clause-given
 returns-clause-given c =
     let slabs = slabs_of c.self.inside in
-    let next = sym (ap next_page c.self.view_is) ∙ is_next (goal.at.invariant_of-self-3 c).After-page_count in
+    let next = sym (ap next_page (same_state c.self.view_is)) ∙ is_next (goal.at.invariant_of-self-3 c).After-page_count in
     let seen : Inside → SlabState = λ i. slabs_of (given c i) in
-    let grown = ap (λ (s : SlabState). after_grow s c.args.class c.in_ok-page.page) c.self.view_is in
+    let grown = ap (λ (s : SlabState). after_grow s c.args.class c.in_ok-page.page) (same_state c.self.view_is) in
     elim c.match-pop.branch [
       | in-Some w ↦ (
         next,
@@ -207,5 +208,5 @@ returns-clause-accounted c = (invariant_of-self-3 c).order.accounted
 
 pub index_mut-slab-requires : goal.index_mut-slab-requires
 index_mut-slab-requires c =
-    let is = subst (λ (s : SlabState). IsClass s c.args.class) (sym c.self.view_is) c.requires.class in
+    let is = subst (λ (s : SlabState). IsClass s c.args.class) (sym (same_state c.self.view_is)) c.requires.class in
     omega (arith, is.0, length-classes c.self.inside c.args.class is)

@@ -7,6 +7,7 @@ use Rattle.mc_pages.specs.InOrder.{slabs_of}
 use Rattle.mc_pages.proofs.Chunks.{times_from_Contains}
 use Rattle.mc_pages.proofs.HandedOut.{IsClass-placed}
 use Rattle.mc_pages.proofs.RoomySlabs.{lists_at}
+use Rattle.mc_pages.proofs.Roomy.{same_state}
 use Rattle.mc_pages.proofs.slabs.Slabs.next_out.Goals as goal
 
 -- the chunk is in the list
@@ -23,23 +24,23 @@ is_class slabs chunk all there = IsClass-placed slabs chunk all (omega (arith, t
 
 pub class_place-requires : goal.class_place-requires
 class_place-requires c =
-    let there = subst (IsThere c.args.chunk) (sym c.self.view_is) c.requires in
-    subst (λ (slabs : SlabState). IsClass slabs (class_of_page slabs c.args.chunk.page)) c.self.view_is
+    let there = subst (IsThere c.args.chunk) (sym (same_state c.self.view_is)) c.requires in
+    subst (λ (slabs : SlabState). IsClass slabs (class_of_page slabs c.args.chunk.page)) (same_state c.self.view_is)
     (is_class (slabs_of c.self.inside) c.args.chunk c.self.invariant.order.accounted there)
 
 pub next-requires-clause-there : goal.next-requires-clause-there
 next-requires-clause-there c =
     let slabs = slabs_of c.self.inside in
-    let there = subst (IsThere c.args.chunk) (sym c.self.view_is) c.requires in
+    let there = subst (IsThere c.args.chunk) (sym (same_state c.self.view_is)) c.requires in
     let is = is_class slabs c.args.chunk c.self.invariant.order.accounted there in
-    let at = c.class_place.ensures ∙ ap (place_in c.args.chunk) (sym c.self.view_is) in
+    let at = c.class_place.ensures ∙ ap (place_in c.args.chunk) (sym (same_state c.self.view_is)) in
     subst (λ (chunks : List ChunkId). Contains chunks c.args.chunk) (sym (lists_at c.self.inside (class_of_page slabs c.args.chunk.page) _ is at).1) there
 
 pub returns : goal.returns
 returns c =
     let slabs = slabs_of c.self.inside in
-    let there = subst (IsThere c.args.chunk) (sym c.self.view_is) c.requires in
+    let there = subst (IsThere c.args.chunk) (sym (same_state c.self.view_is)) c.requires in
     let is = is_class slabs c.args.chunk c.self.invariant.order.accounted there in
-    let at = c.class_place.ensures ∙ ap (place_in c.args.chunk) (sym c.self.view_is) in
+    let at = c.class_place.ensures ∙ ap (place_in c.args.chunk) (sym (same_state c.self.view_is)) in
     c.next.ensures ∙ (ap (behind c.args.chunk) (lists_at c.self.inside (class_of_page slabs c.args.chunk.page) _ is at).1
-    ∙ ap (λ (s : SlabState). behind c.args.chunk (class_of_chunk s c.args.chunk).order) c.self.view_is)
+    ∙ ap (λ (s : SlabState). behind c.args.chunk (class_of_chunk s c.args.chunk).order) (same_state c.self.view_is))

@@ -6,12 +6,13 @@ use Rattle.mc_pages.specs.Moves.{is_held_up, after_passed, CanPass}
 use Rattle.mc_pages.specs.InOrder.{AreKept, slabs_of}
 use Rattle.mc_pages.proofs.KeptMoves.{IsInOrder-after_passed}
 use Rattle.mc_pages.proofs.RoomyMoves.{held_up_le, position_below, passed_is, AreKept-passed}
+use Rattle.mc_pages.proofs.Roomy.{same_state}
 use Rattle.mc_pages.proofs.slabs.Slabs.passed.Goals as goal
 use Rattle.mc_pages.proofs.slabs.Slabs.passed.Goals.{After-self, in-Some, in_default}
 
 -- the move goes on in what was opened
 can_pass : (c : After-self) → (move : Moving) × CanPass (slabs_of c.self.inside) c.args.found move
-can_pass c = subst (λ (s : SlabState). (move : Moving) × CanPass s c.args.found move) (sym c.self.view_is) c.requires
+can_pass c = subst (λ (s : SlabState). (move : Moving) × CanPass s c.args.found move) (sym (same_state c.self.view_is)) c.requires
 
 pub overflow_add-moving : goal.overflow_add-moving
 overflow_add-moving c =
@@ -45,7 +46,7 @@ returns-clause-passed c =
     elim c.match-self.branch [
       | in-Some w ↦
           ap slabs_of w.self-inside-is ∙ (passed_is c.self.inside c.args.found w.in-Some.moving w.held_up.result _ _ w.in-Some.is w.held_up.ensures rescues nomem
-          ∙ ap seen c.self.view_is)
+          ∙ ap seen (same_state c.self.view_is))
       | in_default w ↦ absurd (w.in_default.not-Some can.0 can.1.runs)
     ]
 

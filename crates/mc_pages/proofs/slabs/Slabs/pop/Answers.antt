@@ -6,36 +6,37 @@ use Rattle.mc_pages.specs.Changes.{after_pop}
 use Rattle.mc_pages.specs.InOrder.{slabs_of}
 use Rattle.mc_pages.proofs.Kept.{IsInOrder-after_pop}
 use Rattle.mc_pages.proofs.RoomySlabs.{IsPlace-class, lists_at, lengths_below, slabs_of-became, AreKept-became, size-popped}
+use Rattle.mc_pages.proofs.Roomy.{same_state}
 use Rattle.mc_pages.proofs.slabs.Slabs.pop.Goals as goal
 
 pub pop-requires-clause-class : goal.pop-requires-clause-class
 pop-requires-clause-class c =
-    let is = subst (λ (s : SlabState). IsClass s c.args.class) (sym c.self.view_is) c.requires in
+    let is = subst (λ (s : SlabState). IsClass s c.args.class) (sym (same_state c.self.view_is)) c.requires in
     IsPlace-class c.self.inside c.args.class _ c.self.invariant is refl
 
 pub pop-requires-clause-below : goal.pop-requires-clause-below
 pop-requires-clause-below c =
-    let is = subst (λ (s : SlabState). IsClass s c.args.class) (sym c.self.view_is) c.requires in
+    let is = subst (λ (s : SlabState). IsClass s c.args.class) (sym (same_state c.self.view_is)) c.requires in
     (lengths_below c.self.inside c.args.class _ c.self.invariant is refl).1
 
 pub invariant_of-self : goal.invariant_of-self
 invariant_of-self c =
     let slabs = slabs_of c.self.inside in
-    let is = subst (λ (s : SlabState). IsClass s c.args.class) (sym c.self.view_is) c.requires in
+    let is = subst (λ (s : SlabState). IsClass s c.args.class) (sym (same_state c.self.view_is)) c.requires in
     AreKept-became c.self.inside _ c.args.class _ popped c.self.invariant is refl c.pop.ensures.popped (size-popped (class_at slabs c.args.class))
     (IsInOrder-after_pop slabs c.self.inside.granted c.args.class c.self.invariant.order is)
 
 pub returns-clause-chunk : goal.returns-clause-chunk
 returns-clause-chunk c =
-    let is = subst (λ (s : SlabState). IsClass s c.args.class) (sym c.self.view_is) c.requires in
+    let is = subst (λ (s : SlabState). IsClass s c.args.class) (sym (same_state c.self.view_is)) c.requires in
     c.pop.ensures.chunk ∙ (ap (λ (free : List ChunkId). slice_get free 0) (lists_at c.self.inside c.args.class _ is refl).0
-    ∙ ap (λ (s : SlabState). first_free (class_at s c.args.class)) c.self.view_is)
+    ∙ ap (λ (s : SlabState). first_free (class_at s c.args.class)) (same_state c.self.view_is))
 
 pub returns-clause-popped : goal.returns-clause-popped
 returns-clause-popped c =
-    let is = subst (λ (s : SlabState). IsClass s c.args.class) (sym c.self.view_is) c.requires in
+    let is = subst (λ (s : SlabState). IsClass s c.args.class) (sym (same_state c.self.view_is)) c.requires in
     slabs_of-became c.self.inside _ c.args.class _ popped is refl c.pop.ensures.popped
-    ∙ ap (λ (s : SlabState). after_pop s c.args.class) c.self.view_is
+    ∙ ap (λ (s : SlabState). after_pop s c.args.class) (same_state c.self.view_is)
 
 pub returns-clause-accounted : goal.returns-clause-accounted
 returns-clause-accounted c = (invariant_of-self c).order.accounted

@@ -7,6 +7,7 @@ use Rattle.mc_pages.specs.InOrder.{slabs_of}
 use Rattle.mc_pages.proofs.HandedOut.{IsClass-handed_out}
 use Rattle.mc_pages.proofs.Kept.{IsInOrder-after_touch}
 use Rattle.mc_pages.proofs.RoomySlabs.{IsPlace-class, lists_at, lengths_below, slabs_of-became, AreKept-became}
+use Rattle.mc_pages.proofs.Roomy.{same_state}
 use Rattle.mc_pages.proofs.slabs.Slabs.touch.Goals as goal
 
 -- the chunk was handed out
@@ -19,51 +20,51 @@ place_in chunk slabs = class_of_page slabs chunk.page - 1
 
 pub class_place-place-requires : goal.class_place-place-requires
 class_place-place-requires c =
-    let handed = subst (IsHandedOut c.args.chunk) (sym c.self.view_is) c.requires in
-    subst (λ (slabs : SlabState). IsClass slabs (class_of_page slabs c.args.chunk.page)) c.self.view_is
+    let handed = subst (IsHandedOut c.args.chunk) (sym (same_state c.self.view_is)) c.requires in
+    subst (λ (slabs : SlabState). IsClass slabs (class_of_page slabs c.args.chunk.page)) (same_state c.self.view_is)
     (IsClass-handed_out (slabs_of c.self.inside) c.args.chunk c.self.invariant.order.accounted handed)
 
 pub touch-requires-clause-class : goal.touch-requires-clause-class
 touch-requires-clause-class c =
     let slabs = slabs_of c.self.inside in
-    let handed = subst (IsHandedOut c.args.chunk) (sym c.self.view_is) c.requires in
+    let handed = subst (IsHandedOut c.args.chunk) (sym (same_state c.self.view_is)) c.requires in
     let is = IsClass-handed_out slabs c.args.chunk c.self.invariant.order.accounted handed in
-    let at = c.class_place-place.ensures ∙ ap (place_in c.args.chunk) (sym c.self.view_is) in
+    let at = c.class_place-place.ensures ∙ ap (place_in c.args.chunk) (sym (same_state c.self.view_is)) in
     IsPlace-class c.self.inside (class_of_page slabs c.args.chunk.page) _ c.self.invariant is at
 
 pub touch-requires-clause-handed_out : goal.touch-requires-clause-handed_out
 touch-requires-clause-handed_out c =
     let slabs = slabs_of c.self.inside in
-    let handed = subst (IsHandedOut c.args.chunk) (sym c.self.view_is) c.requires in
+    let handed = subst (IsHandedOut c.args.chunk) (sym (same_state c.self.view_is)) c.requires in
     let is = IsClass-handed_out slabs c.args.chunk c.self.invariant.order.accounted handed in
-    let at = c.class_place-place.ensures ∙ ap (place_in c.args.chunk) (sym c.self.view_is) in
+    let at = c.class_place-place.ensures ∙ ap (place_in c.args.chunk) (sym (same_state c.self.view_is)) in
     subst (λ (chunks : List ChunkId). Contains chunks c.args.chunk) (sym (lists_at c.self.inside (class_of_page slabs c.args.chunk.page) _ is at).1) handed
 
 pub touch-requires-clause-below : goal.touch-requires-clause-below
 touch-requires-clause-below c =
     let slabs = slabs_of c.self.inside in
-    let handed = subst (IsHandedOut c.args.chunk) (sym c.self.view_is) c.requires in
+    let handed = subst (IsHandedOut c.args.chunk) (sym (same_state c.self.view_is)) c.requires in
     let is = IsClass-handed_out slabs c.args.chunk c.self.invariant.order.accounted handed in
-    let at = c.class_place-place.ensures ∙ ap (place_in c.args.chunk) (sym c.self.view_is) in
+    let at = c.class_place-place.ensures ∙ ap (place_in c.args.chunk) (sym (same_state c.self.view_is)) in
     (lengths_below c.self.inside (class_of_page slabs c.args.chunk.page) _ c.self.invariant is at).1
 
 pub invariant_of-self : goal.invariant_of-self
 invariant_of-self c =
     let slabs = slabs_of c.self.inside in
-    let handed = subst (IsHandedOut c.args.chunk) (sym c.self.view_is) c.requires in
+    let handed = subst (IsHandedOut c.args.chunk) (sym (same_state c.self.view_is)) c.requires in
     let is = IsClass-handed_out slabs c.args.chunk c.self.invariant.order.accounted handed in
-    let at = c.class_place-place.ensures ∙ ap (place_in c.args.chunk) (sym c.self.view_is) in
+    let at = c.class_place-place.ensures ∙ ap (place_in c.args.chunk) (sym (same_state c.self.view_is)) in
     AreKept-became c.self.inside _ (class_of_page slabs c.args.chunk.page) _ (λ class. touched class c.args.chunk) c.self.invariant is at c.touch.ensures.touched refl
     (IsInOrder-after_touch slabs c.self.inside.granted c.args.chunk c.self.invariant.order handed)
 
 pub returns-clause-touched : goal.returns-clause-touched
 returns-clause-touched c =
     let slabs = slabs_of c.self.inside in
-    let handed = subst (IsHandedOut c.args.chunk) (sym c.self.view_is) c.requires in
+    let handed = subst (IsHandedOut c.args.chunk) (sym (same_state c.self.view_is)) c.requires in
     let is = IsClass-handed_out slabs c.args.chunk c.self.invariant.order.accounted handed in
-    let at = c.class_place-place.ensures ∙ ap (place_in c.args.chunk) (sym c.self.view_is) in
+    let at = c.class_place-place.ensures ∙ ap (place_in c.args.chunk) (sym (same_state c.self.view_is)) in
     slabs_of-became c.self.inside _ (class_of_page slabs c.args.chunk.page) _ (λ class. touched class c.args.chunk) is at c.touch.ensures.touched
-    ∙ ap (λ (s : SlabState). after_touch s c.args.chunk) c.self.view_is
+    ∙ ap (λ (s : SlabState). after_touch s c.args.chunk) (same_state c.self.view_is)
 
 pub returns-clause-accounted : goal.returns-clause-accounted
 returns-clause-accounted c = (invariant_of-self c).order.accounted
