@@ -1,0 +1,194 @@
+//! Worked lists of events: what each answers, and the headers that stand then.
+ghost use Rattle.std.specs.Prelude.{◌≡◌, ◌<◌, ◌≤◌};
+
+use crate::{Change, Event, Series, State, Step, Stop, replay};
+use mc_classes::Config;
+use mc_pages::{ChunkId, Entry};
+use std::alloc::{AllocError, Global};
+use std::process::Abort;
+use std::test::Fail;
+
+/// Pages of 1024 bytes, four of them, and classes of 48, 96, 192 and 512 bytes.
+const FOUR_CLASSES: Config = Config {
+    page: 1024,
+    limit: 4096,
+    first: 48,
+    num: 2,
+    den: 1,
+    max: 512,
+    stripes: 4,
+    bulk: 64,
+};
+
+/// The last chunk of page 0 as class 1 cuts it, which is handed out first.
+const LAST: ChunkId = ChunkId { page: 0, index: 20 };
+
+/// A key of stripe 3.
+const KEY: u64 = 7;
+
+/// The first stamp of hand 0.
+const STAMP: u64 = 1;
+
+/// A step of a hand, with nothing changed before.
+fn does(alloc: Global, hand: u64, step: Step) -> Event {
+    Event {
+        hand,
+        before: Series::new(alloc),
+        step,
+    }
+}
+
+/// A step of hand 0 after one change.
+fn does_after(alloc: Global, change: Change, step: Step) -> Result<Event, AllocError> {
+    let mut event = does(alloc, 0, step);
+    event.before.push(change)?;
+    Ok(event)
+}
+
+/// Hand 0 takes the slabs lock, and class 1 gets page 0, of which so many chunks are cut.
+fn cut(alloc: Global, chunks: u64) -> Result<Vec<Event>, AllocError> {
+    let mut events = Vec::new(alloc);
+    events.push(does(alloc, 0, Step::TakeSlabs))?;
+    for index in 0..chunks {
+        let step = Step::Cut(0, index);
+        events.push(if index == 0 {
+            does_after(alloc, Change::Grow(1), step)?
+        } else {
+            does(alloc, 0, step)
+        })?;
+    }
+    Ok(events)
+}
+
+/// More steps of hand 0.
+fn go_on(alloc: Global, events: &mut Vec<Event>, steps: &[Step]) -> Result<(), AllocError> {
+    for step in steps {
+        events.push(does(alloc, 0, *step))?;
+    }
+    Ok(())
+}
+
+/// Plays the events with two hands.
+fn play(alloc: Global, events: &[Event]) -> Result<State, Stop> {
+    replay(alloc, &FOUR_CLASSES, 2, events)
+}
+
+/// Why the events aren't played to their end, if they aren't.
+fn stop_of(played: Result<State, Stop>) -> Option<Stop> {
+    match played {
+        Ok(_) => None,
+        Err(stop) => Some(stop),
+    }
+}
+
+/// The header's word of the chunk that is handed out first.
+fn word_of(state: &State) -> u64 {
+    state.head(LAST).word()
+}
+
+#[test]
+fn a_page_is_cut_whole_before_its_lock_is_given(rt: HostRuntime) -> Result<(), Fail> {
+    let mut whole = cut(rt.alloc(), 21)?;
+    whole.push(does(rt.alloc(), 0, Step::GiveSlabs))?;
+    let state = play(rt.alloc(), &whole)?;
+    match state.slabs() {
+        Some(slabs) => { assert_eq!(rt; slabs.ledger(), [Entry::Granted(0, 1)].as_slice()) }
+        None => assert_eq!(rt; true, false, "the slabs lock is free"),
+    }
+    let mut short = cut(rt.alloc(), 20)?;
+    short.push(does(rt.alloc(), 0, Step::GiveSlabs))?;
+    assert_eq!(rt;
+        stop_of(play(rt.alloc(), &short)),
+        Some(Stop::NotAllowed(21))
+    );
+    Ok(())
+}
+
+#[test]
+fn a_class_without_a_page_hands_out_nothing(rt: HostRuntime) -> Result<(), Fail> {
+    let mut events = Vec::new(rt.alloc());
+    go_on(rt.alloc(), &mut events, &[Step::TakeSlabs, Step::Pop(1)])?;
+    assert_eq!(rt;
+        stop_of(play(rt.alloc(), &events)),
+        Some(Stop::NotAllowed(1))
+    );
+    Ok(())
+}
+
+#[test]
+fn a_header_tells_issue_tag_and_count(rt: HostRuntime) -> Result<(), Fail> {
+    let mut events = cut(rt.alloc(), 21)?;
+    for (step, word) in [
+        (Step::Pop(1), 393_217),
+        (Step::Discard(LAST), 393_216),
+        (Step::PutBack(LAST), 327_680),
+        (Step::Pop(1), 655_361),
+    ] {
+        events.push(does(rt.alloc(), 0, step))?;
+        assert_eq!(rt; word_of(&play(rt.alloc(), &events)?), word, "{step:?}");
+    }
+    Ok(())
+}
+
+/// An item of one word is stored in the chunk that is handed out first.
+fn store(alloc: Global) -> Result<Vec<Event>, AllocError> {
+    let mut events = cut(alloc, 21)?;
+    let steps = [
+        Step::Pop(1),
+        Step::GiveSlabs,
+        Step::Fill(LAST, 0, KEY),
+        Step::Fill(LAST, 1, STAMP),
+        Step::Fill(LAST, 2, 1),
+        Step::Fill(LAST, 3, 100),
+        Step::TakeStripe(3),
+    ];
+    go_on(alloc, &mut events, &steps)?;
+    events.push(does_after(alloc, Change::Reserve(3), Step::Link(LAST))?)?;
+    Ok(events)
+}
+
+#[test]
+fn the_link_and_each_holding_count(rt: HostRuntime) -> Result<(), Fail> {
+    let mut events = store(rt.alloc())?;
+    assert_eq!(rt;
+        word_of(&play(rt.alloc(), &events)?),
+        458_754,
+        "linked, and held by its hand"
+    );
+    go_on(
+        rt.alloc(),
+        &mut events,
+        &[Step::GiveStripe(3), Step::Release(LAST)],
+    )?;
+    assert_eq!(rt; word_of(&play(rt.alloc(), &events)?), 458_753, "linked");
+    for hand in 0..2 {
+        for _ in 0..255 {
+            events.push(does(rt.alloc(), hand, Step::Again(LAST, 1)))?;
+        }
+    }
+    assert_eq!(rt;
+        word_of(&play(rt.alloc(), &events)?),
+        459_263,
+        "and 255 holdings of each hand"
+    );
+    let again = events.len() as u64;
+    events.push(does(rt.alloc(), 1, Step::Again(LAST, 1)))?;
+    assert_eq!(rt;
+        stop_of(play(rt.alloc(), &events)),
+        Some(Stop::NotAllowed(again))
+    );
+    Ok(())
+}
+
+#[test]
+fn a_hint_of_another_issue_is_refused(rt: HostRuntime) -> Result<(), Fail> {
+    let mut events = store(rt.alloc())?;
+    go_on(rt.alloc(), &mut events, &[Step::GiveStripe(3)])?;
+    let again = events.len() as u64;
+    events.push(does(rt.alloc(), 0, Step::Again(LAST, 2)))?;
+    assert_eq!(rt;
+        stop_of(play(rt.alloc(), &events)),
+        Some(Stop::NotAllowed(again))
+    );
+    Ok(())
+}
