@@ -23,6 +23,7 @@ IsSized room holding = (is_fresh holding ≡ true → length holding.words ≡ r
 
 -- holdings: each has its header's issue and its chunk's words, and a fresh one is the only one of its chunk
 pub record AreHeld (table : Classes) (slabs : SlabState) (heads : List Head) (words : List ℕ) (holdings : List (List Holding)) : Type 0 where
+  pub inside : Each (λ holding. has_chunk table holding.chunk ≡ true) holdings
   pub issues : Each (λ holding. holding.issue ≡ (head_in table heads holding.chunk).issue) holdings
   pub shows : Each (λ holding. Shows table slabs words holding.chunk holding.words) holdings
   pub sized : Each (λ holding. IsSized (room_in table (class_of_page slabs holding.chunk.page)) holding) holdings

@@ -1,10 +1,13 @@
 -- The calls of each hand, and what it saw of the histories.
-use Rattle.std.specs.Prelude.{◌≡◌, ℕ, ◌==◌, List, ◌++◌, map, filter}
+use Rattle.std.specs.Prelude.{◌≡◌, ℕ, ◌+◌, ◌/◌, ◌%◌, ◌^◌, ◌==◌, Bool, false, List, [], ◌∷◌, ◌++◌, length, map, filter, count_by, slice_get, Some, All, Contains}
 use Rattle.mc_stripe.specs.declared.history.Call.{Call}
 use Rattle.mc_stripe.specs.declared.history.Call.TheVariants.{Set, Get, Delete, Evict}
 use Rattle.mc_stripe.specs.declared.history.Call.TheVariants as call
 use Rattle.mc_stripe.specs.StripeState.{ReadyStripe}
-use Rattle.mc_core.specs.Past.{Own}
+use Rattle.mc_core.specs.Holdings.{key_in}
+use Rattle.mc_core.specs.Past.{Own, Saying}
+use Rattle.mc_core.specs.Identities.{owners, said_count}
+use Rattle.mc_core.specs.Indexed.{stripe_for}
 use Rattle.mc_core.specs.Columns.{Each}
 
 -- the hand of a call
@@ -19,6 +22,27 @@ hand_of (call.Rescue hand key) = hand
 abbrev pub IsBeginning : List Call → List Call → Type 0
 IsBeginning a b = (more : List Call) × (b ≡ a ++ more)
 
--- histories: each hand's own calls are those of its numbers, and what it saw begins the present history
-pub record AreTold (stripes : List ReadyStripe) (mine : List (List Own)) (seen : List (List (List Call))) : Type 0 where
+-- how often the stamp was stored, in one history and in all
+abbrev pub is_set_of : ℕ → Call → Bool
+is_set_of stamp (Set hand key own) = own == stamp
+is_set_of stamp other = false
+
+abbrev pub set_count : ℕ → List ReadyStripe → ℕ
+set_count stamp [] = 0
+set_count stamp (stripe ∷ stripes) = count_by (is_set_of stamp) stripe.state.history + set_count stamp stripes
+
+-- what is said was stored under its key, by the hand of the stamp
+abbrev pub IsStored : List ReadyStripe → Saying → Type 0
+IsStored stripes s = Contains (stripe_for stripes (key_in s.words)).state.history (Set (s.stamp / 2 ^ 48) (key_in s.words) s.stamp)
+
+-- histories: each hand's own calls are those of its numbers, and what it saw begins the present history; each call is of one hand's
+-- number; a stamp is stored where it is said
+pub record AreTold (stripes : List ReadyStripe) (mine : List (List Own)) (seen : List (List (List Call))) (said : List (List Saying)) : Type 0 where
   pub own_calls : Each (λ own. own.calls ≡ map (λ (value : ReadyStripe). filter (λ call. hand_of call == own.number) value.state.history) stripes) mine
+  pub begun : All (λ row. (stripe : ℕ) (calls : List Call) (value : ReadyStripe) → slice_get row stripe ≡ Some calls → slice_get stripes stripe ≡ Some value →
+      IsBeginning calls value.state.history) seen
+  pub writers : All (λ (value : ReadyStripe). All (λ call. owners (hand_of call) mine ≡ 1) value.state.history) stripes
+  pub sets : (stripe hand key stamp : ℕ) (value : ReadyStripe) → slice_get stripes stripe ≡ Some value → Contains value.state.history (Set hand key stamp) →
+      (key % length stripes ≡ stripe) × (stamp / 2 ^ 48 ≡ hand)
+  pub stored_once : (stamp : ℕ) → set_count stamp stripes ≡ said_count stamp said
+  pub stored : Each (IsStored stripes) said

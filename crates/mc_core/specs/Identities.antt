@@ -1,8 +1,10 @@
--- Hands, their numbers and their locks.
-use Rattle.std.specs.Prelude.{◌≡◌, ◌⊎◌, ℕ, ◌^◌, ◌<◌, ◌≤◌, true, List, [], length, slice_get, slice_index_or, Some, None, All}
+-- Hands, their numbers, their locks and their stamps.
+use Rattle.std.specs.Prelude.{◌≡◌, ◌⊎◌, ℕ, ◌+◌, ◌*◌, ◌/◌, ◌^◌, ◌<◌, ◌≤◌, ◌==◌, true, ◌&&◌, nat_le, List, [], ◌∷◌, length, count_by, slice_get, slice_index_or, Some, None, All}
+use Rattle.mc_pages.specs.Accounted.{truth}
 use Rattle.mc_core.specs.declared.holding.Holding.{Holding}
 use Rattle.mc_core.specs.declared.ids.Ids.{Ids}
 use Rattle.mc_core.specs.declared.look.Look.{Look}
+use Rattle.mc_core.specs.Past.{Own, Saying, Known, Past}
 use Rattle.mc_core.specs.State.{is_held_by}
 
 -- hands: numbers below 64, apart; each lock free or of one of them; a hand that is gone has nothing
@@ -16,3 +18,43 @@ pub record AreHands (ids : List Ids) (slabs_lock : ℕ) (locks : List ℕ) (hold
   pub slabs : (slabs_lock ≡ 0) ⊎ ((hand : ℕ) × (i : Ids) × (slice_get ids hand ≡ Some i) × (is_held_by slabs_lock i.number ≡ true))
   pub stripes : All (λ word. (word ≡ 0) ⊎ ((hand : ℕ) × (i : Ids) × (slice_get ids hand ≡ Some i) × (is_held_by word i.number ≡ true))) locks
   pub gone : (hand : ℕ) (i : Ids) → slice_get ids hand ≡ Some i → i.number ≡ None → slice_index_or holdings hand [] ≡ []
+
+-- rows: there is a row for each hand
+pub record HaveRows (ids : List Ids) (past : Past) : Type 0 where
+  pub saw : length past.saw ≡ length ids
+  pub holds : length past.holds ≡ length ids
+  pub mine : length past.mine ≡ length ids
+  pub seen : length past.seen ≡ length ids
+  pub said : length past.said ≡ length ids
+  pub known : length past.known ≡ length ids
+
+-- how often one hand, and all hands, have the number
+abbrev pub owns : ℕ → List Own → ℕ
+owns number row = count_by (λ (own : Own). own.number == number) row
+
+abbrev pub owners : ℕ → List (List Own) → ℕ
+owners number [] = 0
+owners number (row ∷ rows) = owns number row + owners number rows
+
+-- how often one hand, and all hands, said the stamp
+abbrev pub said_times : ℕ → List Saying → ℕ
+said_times stamp row = count_by (λ (s : Saying). s.stamp == stamp) row
+
+abbrev pub said_count : ℕ → List (List Saying) → ℕ
+said_count stamp [] = 0
+said_count stamp (row ∷ rows) = said_times stamp row + said_count stamp rows
+
+-- of the stamps of a number those with a count from 1 to this were said, each once
+abbrev pub AreCountedTo : ℕ → ℕ → List Saying → Type 0
+AreCountedTo most number row = (count : ℕ) → count < 2 ^ 48 → said_times (number * 2 ^ 48 + count) row ≡ truth (nat_le 1 count && nat_le count most)
+
+-- numbers: each is one hand's, and of those that it took over; the stamps that a hand said are of its numbers, counted without a gap
+pub record AreNumbered (ids : List Ids) (mine : List (List Own)) (said : List (List Saying)) (known : List (List Known)) : Type 0 where
+  pub apart : (number : ℕ) → owners number mine ≤ 1
+  pub own : (hand : ℕ) (i : Ids) (number : ℕ) → slice_get ids hand ≡ Some i → i.number ≡ Some number → owns number (slice_index_or mine hand []) ≡ 1
+  pub stamps : (hand : ℕ) (i : Ids) (number : ℕ) → slice_get ids hand ≡ Some i → i.number ≡ Some number → AreCountedTo i.stamps number (slice_index_or said hand [])
+  pub gapless : (hand : ℕ) → All (λ (own : Own). (most : ℕ) × AreCountedTo most own.number (slice_index_or said hand [])) (slice_index_or mine hand [])
+  pub of_own : (hand : ℕ) → All (λ (s : Saying). owns (s.stamp / 2 ^ 48) (slice_index_or mine hand []) ≡ 1) (slice_index_or said hand [])
+  -- a hand that is gone has no number, and neither said nor knows anything
+  pub gone : (hand : ℕ) (i : Ids) → slice_get ids hand ≡ Some i → i.number ≡ None →
+      (slice_index_or mine hand [] ≡ []) × (slice_index_or said hand [] ≡ []) × (slice_index_or known hand [] ≡ [])

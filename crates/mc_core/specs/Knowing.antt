@@ -1,5 +1,5 @@
 -- What hands said and know.
-use Rattle.std.specs.Prelude.{◌≡◌, ⊤, ℕ, ◌+◌, ◌≤◌, ◌==◌, true, false, List, [], ◌∷◌, count_by, slice_index_or, All, Contains}
+use Rattle.std.specs.Prelude.{◌≡◌, ⊤, ℕ, ◌≤◌, true, false, List, [], length, slice_index_or, All, Contains}
 use Rattle.mc_classes.specs.Classes.{Classes}
 use Rattle.mc_pages.specs.declared.ids.ChunkId.{ChunkId}
 use Rattle.mc_pages.specs.SlabState.{SlabState}
@@ -9,26 +9,21 @@ use Rattle.mc_core.specs.declared.holding.Holding.{Holding}
 use Rattle.mc_core.specs.declared.holding.Kind.{Kind}
 use Rattle.mc_core.specs.declared.holding.Kind.TheVariants.{Fresh}
 use Rattle.mc_core.specs.declared.holding.Purpose.TheVariants.{Rescue}
-use Rattle.mc_core.specs.Holdings.{Words, stamp_in, is_complete, is_fresh}
+use Rattle.mc_core.specs.Holdings.{Words, stamp_in, item_length, is_complete, is_fresh}
 use Rattle.mc_core.specs.Past.{Known, Saying, known_by}
+use Rattle.mc_core.specs.Identities.{said_count}
 use Rattle.mc_core.specs.State.{has_chunk}
-use Rattle.mc_core.specs.Columns.{head_in, Shows, Each, IsHandedOut}
-
--- somebody knows this
-abbrev pub IsKnownToSome : List (List Known) → (Known → Type 0) → Type 0
-IsKnownToSome known P = (hand : ℕ) × (k : Known) × Contains (slice_index_or known hand []) k × P k
+use Rattle.mc_core.specs.Columns.{head_in, Shows, Each, IsHandedOut, IsKnownToSome}
 
 -- somebody said this
 abbrev pub IsSaid : List (List Saying) → ℕ → Words → Type 0
 IsSaid said stamp words = (hand : ℕ) × (s : Saying) × Contains (slice_index_or said hand []) s × (s.stamp ≡ stamp) × (s.words ≡ words)
 
--- how often a stamp was said
-abbrev pub said_count : ℕ → List (List Saying) → ℕ
-said_count stamp [] = 0
-said_count stamp (row ∷ rows) = count_by (λ (s : Saying). s.stamp == stamp) row + said_count stamp rows
-
--- a known item: its chunk was handed out with this issue at the latest, no fresh chunk has it, and while it lasts its words are the chunk's
+-- a known item: it is whole; its chunk was handed out with this issue at the latest, no fresh chunk has it, and while it lasts its
+-- words are the chunk's
 pub record IsTrueStill (table : Classes) (slabs : SlabState) (heads : List Head) (words : List ℕ) (holdings : List (List Holding)) (k : Known) : Type 0 where
+  pub inside : has_chunk table k.chunk ≡ true
+  pub whole : (is_complete k.words ≡ true) × (length k.words ≡ item_length k.words)
   pub older : k.issue ≤ (head_in table heads k.chunk).issue
   pub shows : IsHandedOut (head_in table heads k.chunk) k.issue → Shows table slabs words k.chunk k.words
   pub apart : Each (λ holding. is_fresh holding ≡ true → holding.chunk ≡ k.chunk → holding.issue ≡ k.issue → ⊥) holdings
@@ -48,5 +43,5 @@ pub record AreKnown (table : Classes) (slabs : SlabState) (heads : List Head) (w
 
 -- an item that is being rescued: its words were said with its stamp
 abbrev pub IsRescue : List (List Saying) → Kind → Type 0
-IsRescue said (Fresh (Rescue old item)) = (is_complete item ≡ true) × IsSaid said (stamp_in item) item
+IsRescue said (Fresh (Rescue old item)) = (is_complete item ≡ true) × (length item ≡ item_length item) × IsSaid said (stamp_in item) item
 IsRescue said kind = ⊤

@@ -6,6 +6,7 @@ use Rattle.mc_pages.specs.declared.ids.ChunkId.{ChunkId}
 use Rattle.mc_pages.specs.SlabState.{SlabState, fresh_slabs}
 use Rattle.mc_stripe.specs.declared.history.Call.{Call}
 use Rattle.mc_core.specs.declared.head.Head.{Head}
+use Rattle.mc_core.specs.declared.event.Change.{Change}
 use Rattle.mc_core.specs.declared.event.Event.{Event}
 use Rattle.mc_core.specs.declared.event.Step.{Step}
 use Rattle.mc_core.specs.declared.event.Step.TheVariants.{TakeSlabs, TakeStripe, MissSlabs, MissStripe, GiveSlabs, GiveStripe, Link, Refer, Again, Join}
@@ -15,8 +16,8 @@ use Rattle.mc_core.specs.declared.holding.Kind.{Kind}
 use Rattle.mc_core.specs.declared.holding.Kind.TheVariants.{Fresh}
 use Rattle.mc_core.specs.declared.holding.Purpose.TheVariants.{Rescue}
 use Rattle.mc_core.specs.Holdings.{Words, stamp_in, item_in, holding_of}
-use Rattle.mc_core.specs.State.{State, head_at, number_at, stripe_at, holdings_at}
-use Rattle.mc_core.specs.Silent.{after_changes}
+use Rattle.mc_core.specs.State.{State, head_at, number_at, stripe_at, holdings_at, new_state}
+use Rattle.mc_core.specs.Silent.{after_change}
 use Rattle.mc_core.specs.Items.{chunk_of, new_reference}
 use Rattle.mc_core.specs.Run.{after_step}
 
@@ -159,24 +160,39 @@ joined table past kept spent = record {
   known = slice_set (with_more past.known kept (slice_index_or past.known spent [])) spent [];
 }
 
--- what the hands know after a step: the state before the event, the one after its silent changes, and the one after the step
-abbrev pub learned : State → State → State → Past → ℕ → Step → Past
-learned before ready now past hand (Join kept spent) = joined before.table past kept spent
-learned before ready now past hand step = record {
-  saw = with_more past.saw hand (sights_of ready step);
-  holds = slice_set past.holds hand (hold_after ready.slabs step (slice_index_or past.holds hand (no_hold before.table)));
-  mine = slice_set past.mine hand (map (own_after before now (number_at before hand)) (slice_index_or past.mine hand []));
-  seen = slice_set past.seen hand (seen_after ready step (slice_index_or past.seen hand []));
-  said = with_more past.said hand (sayings_of ready hand step);
-  known = with_more past.known hand (known_of ready hand step);
+-- the calls that came into histories are the hand's own
+abbrev pub with_calls : State → State → Past → ℕ → Past
+with_calls before now past hand =
+    record past { mine = slice_set past.mine hand (map (own_after before now (number_at before hand)) (slice_index_or past.mine hand [])) }
+
+-- what the hands know after a step, from the state before it to the one after it
+abbrev pub learned : State → State → Past → ℕ → Step → Past
+learned before now past hand (Join kept spent) = joined before.table past kept spent
+learned before now past hand step = record (with_calls before now past hand) {
+  saw = with_more past.saw hand (sights_of before step);
+  holds = slice_set past.holds hand (hold_after before.slabs step (slice_index_or past.holds hand (no_hold before.table)));
+  seen = slice_set past.seen hand (seen_after before step (slice_index_or past.seen hand []));
+  said = with_more past.said hand (sayings_of before hand step);
+  known = with_more past.known hand (known_of before hand step);
 }
 
--- the moment after an event
+-- the moment after a change of a value behind a lock
+abbrev pub moment_changed : Moment → ℕ → Change → Moment
+moment_changed moment hand change =
+    record { state = after_change moment.state hand change; past = with_calls moment.state (after_change moment.state hand change) moment.past hand }
+
+abbrev pub moment_changes : Moment → ℕ → List Change → Moment
+moment_changes moment hand [] = moment
+moment_changes moment hand (change ∷ changes) = moment_changes (moment_changed moment hand change) hand changes
+
+-- the moment after a step
+abbrev pub moment_stepped : Moment → ℕ → Step → Moment
+moment_stepped moment hand step =
+    record { state = after_step moment.state hand step; past = learned moment.state (after_step moment.state hand step) moment.past hand step }
+
+-- the moment after an event: the changes before it, and then its step
 abbrev pub moment_after : Moment → Event → Moment
-moment_after moment event =
-    let ready = after_changes moment.state event.hand event.before in
-    let now = after_step ready event.hand event.step in
-    record { state = now; past = learned moment.state ready now moment.past event.hand event.step }
+moment_after moment event = moment_stepped (moment_changes moment event.hand event.before) event.hand event.step
 
 -- nobody saw or said anything; each hand has its number
 abbrev pub no_past : Classes → ℕ → ℕ → Past
@@ -188,3 +204,7 @@ no_past table stripes hands = record {
   said = replicate hands [];
   known = replicate hands [];
 }
+
+-- nothing was done yet
+abbrev pub first_moment : Classes → ℕ → ℕ → Moment
+first_moment table stripes hands = record { state = new_state table stripes hands; past = no_past table stripes hands }

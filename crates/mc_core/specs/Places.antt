@@ -1,26 +1,34 @@
 -- Pages and lists: what is owned, and where each chunk is.
-use Rattle.std.specs.Prelude.{◌≡◌, ℕ, ◌≤◌, true, false, not, ◌&&◌, List, Some, None}
-use Rattle.mc_classes.specs.Classes.{Classes}
+use Rattle.std.specs.Prelude.{◌≡◌, ℕ, ◌*◌, ◌≤◌, true, false, not, ◌&&◌, List, length, Some, None}
+use Rattle.mc_classes.specs.Classes.{Classes, IsSound, pages_of}
 use Rattle.mc_pages.specs.declared.ids.ChunkId.{ChunkId}
+use Rattle.mc_pages.specs.declared.ids.Moving.{Moving}
 use Rattle.mc_pages.specs.ClassState.{times}
-use Rattle.mc_pages.specs.SlabState.{SlabState, IsClass, class_at}
+use Rattle.mc_pages.specs.SlabState.{SlabState, IsClass, class_at, class_of_page}
 use Rattle.mc_pages.specs.Accounted.{truth, is_cut, is_moving}
 use Rattle.mc_pages.specs.Ledger.{owner_at}
-use Rattle.mc_pages.specs.InOrder.{IsBeingCut}
+use Rattle.mc_pages.specs.InOrder.{IsInOrder}
 use Rattle.mc_core.specs.declared.head.Head.{Head}
 use Rattle.mc_core.specs.declared.head.Tag.TheVariants.{Out}
 use Rattle.mc_core.specs.Head.{is_free, is_out}
 use Rattle.mc_core.specs.InOrder.{IsOfTable}
-use Rattle.mc_core.specs.State.{has_chunk}
+use Rattle.mc_core.specs.State.{has_chunk, most_of, page_words}
 use Rattle.mc_core.specs.Columns.{head_in}
+
+-- sizes: there is a header for each index of each page, and all data words of each page
+pub record AreSized (table : Classes) (heads : List Head) (words : List ℕ) : Type 0 where
+  pub sound : IsSound table
+  pub headers : length heads ≡ pages_of table * most_of table
+  pub places : length words ≡ pages_of table * page_words table
 
 -- pages: owners, limit, lists, pool and move are accounted for, and a page is half cut under the slabs lock alone
 pub record ArePaged (table : Classes) (slabs : SlabState) (slabs_lock : ℕ) : Type 0 where
   pub of_table : IsOfTable table slabs
-  pub uncut : (chunk : ChunkId) → slabs.uncut ≡ Some chunk → IsBeingCut slabs chunk
+  pub order : (granted : ℕ) × IsInOrder slabs granted
   pub whole : slabs_lock ≡ 0 → slabs.uncut ≡ None
-  pub cursor : IsClass slabs slabs.cursor
   pub automove : slabs.automove ≤ 2
+  -- the class that gives a page keeps one
+  pub source : (move : Moving) → slabs.moving ≡ Some move → 2 ≤ length (class_at slabs move.src).pages
 
 -- places: a free list has the free chunks, a hand-out order those that are handed out, and all others are out
 pub record ArePlaced (table : Classes) (slabs : SlabState) (heads : List Head) : Type 0 where
@@ -32,5 +40,5 @@ pub record ArePlaced (table : Classes) (slabs : SlabState) (heads : List Head) :
   -- a cut chunk is out where its page moves alone
   pub cleared : (class : ℕ) (chunk : ChunkId) → IsClass slabs class → is_cut slabs class chunk ≡ true → (head_in table heads chunk).tag ≡ Out →
       is_moving (owner_at slabs.owners chunk.page) ≡ true
-  -- elsewhere out
-  pub elsewhere : (chunk : ChunkId) → has_chunk table chunk ≡ true → ((class : ℕ) → IsClass slabs class → is_cut slabs class chunk ≡ false) → (head_in table heads chunk).tag ≡ Out
+  -- what isn't cut is out
+  pub elsewhere : (chunk : ChunkId) → has_chunk table chunk ≡ true → is_cut slabs (class_of_page slabs chunk.page) chunk ≡ false → (head_in table heads chunk).tag ≡ Out
