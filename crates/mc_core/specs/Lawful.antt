@@ -13,28 +13,70 @@ use Rattle.mc_core.specs.Identities.{AreHands, HaveRows, AreNumbered}
 use Rattle.mc_core.specs.Knowing.{AreKnown, IsRescue}
 use Rattle.mc_core.specs.Histories.{AreTold}
 
--- the looks of the hand that has the slabs lock
+abbrev pub SizedIn : Moment → Type 0
+SizedIn m = AreSized m.state.table m.state.heads m.state.words
+
+abbrev pub PagedIn : Moment → Type 0
+PagedIn m = ArePaged m.state.table m.state.slabs m.state.slabs_lock
+
+abbrev pub PlacedIn : Moment → Type 0
+PlacedIn m = ArePlaced m.state.table m.state.slabs m.state.heads
+
+abbrev pub CountedIn : Moment → Type 0
+CountedIn m = AreCounted m.state.table m.state.heads m.state.holdings
+
+abbrev pub HeldIn : Moment → Type 0
+HeldIn m = AreHeld m.state.table m.state.slabs m.state.heads m.state.words m.state.holdings
+
+abbrev pub IndexedIn : Moment → Type 0
+IndexedIn m = AreIndexed m.state.table m.state.slabs m.state.heads m.state.words m.state.stripes
+
+abbrev pub LegalIn : Moment → Type 0
+LegalIn m = AreLegal m.state.stripes m.state.stripe_locks
+
+abbrev pub HandsIn : Moment → Type 0
+HandsIn m = AreHands m.state.ids m.state.slabs_lock m.state.stripe_locks m.state.holdings m.state.looks
+
+abbrev pub RowsIn : Moment → Type 0
+RowsIn m = HaveRows m.state.ids m.past
+
+abbrev pub NumberedIn : Moment → Type 0
+NumberedIn m = AreNumbered m.state.ids m.past.mine m.past.said m.past.known
+
+-- the looks of a hand that has the slabs lock
 abbrev pub IsSeenBy : State → Past → ℕ → Type 0
 IsSeenBy state past hand =
     AreSeen state.table state.slabs state.heads state.words past.known (slice_index_or past.holds hand (no_hold state.table)).found
     (slice_index_or state.looks hand [])
 
+abbrev pub SeenIn : Moment → Type 0
+SeenIn m = (hand : ℕ) → has_slabs m.state hand ≡ true → IsSeenBy m.state m.past hand
+
+abbrev pub KnownIn : Moment → Type 0
+KnownIn m = AreKnown m.state.table m.state.slabs m.state.heads m.state.words m.state.holdings m.past.said m.past.known
+
+abbrev pub RescuedIn : Moment → Type 0
+RescuedIn m = Each (λ holding. IsRescue m.past.said holding.kind) m.state.holdings
+
+abbrev pub ToldIn : Moment → Type 0
+ToldIn m = AreTold m.state.stripes m.past.mine m.past.seen m.past.said
+
 -- *lawful*, by subject
 pub record IsLawful (moment : Moment) : Type 0 where
-  pub sized : AreSized moment.state.table moment.state.heads moment.state.words
-  pub paged : ArePaged moment.state.table moment.state.slabs moment.state.slabs_lock
-  pub placed : ArePlaced moment.state.table moment.state.slabs moment.state.heads
-  pub counted : AreCounted moment.state.table moment.state.heads moment.state.holdings
-  pub held : AreHeld moment.state.table moment.state.slabs moment.state.heads moment.state.words moment.state.holdings
-  pub indexed : AreIndexed moment.state.table moment.state.slabs moment.state.heads moment.state.words moment.state.stripes
-  pub legal : AreLegal moment.state.stripes moment.state.stripe_locks
-  pub hands : AreHands moment.state.ids moment.state.slabs_lock moment.state.stripe_locks moment.state.holdings moment.state.looks
-  pub rows : HaveRows moment.state.ids moment.past
-  pub numbered : AreNumbered moment.state.ids moment.past.mine moment.past.said moment.past.known
-  pub seen : (hand : ℕ) → has_slabs moment.state hand ≡ true → IsSeenBy moment.state moment.past hand
-  pub known : AreKnown moment.state.table moment.state.slabs moment.state.heads moment.state.words moment.state.holdings moment.past.said moment.past.known
-  pub rescues : Each (λ holding. IsRescue moment.past.said holding.kind) moment.state.holdings
-  pub told : AreTold moment.state.stripes moment.past.mine moment.past.seen moment.past.said
+  pub sized : SizedIn moment
+  pub paged : PagedIn moment
+  pub placed : PlacedIn moment
+  pub counted : CountedIn moment
+  pub held : HeldIn moment
+  pub indexed : IndexedIn moment
+  pub legal : LegalIn moment
+  pub hands : HandsIn moment
+  pub rows : RowsIn moment
+  pub numbered : NumberedIn moment
+  pub seen : SeenIn moment
+  pub known : KnownIn moment
+  pub rescued : RescuedIn moment
+  pub told : ToldIn moment
 
 -- *kept*: the chunk of a holding is handed out with its issue, has its words, and its page belongs to a class or moves away from one
 pub record IsKept (state : State) (holding : Holding) : Type 0 where

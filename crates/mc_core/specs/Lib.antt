@@ -22,3 +22,4 @@ pub mod Histories
 pub mod Lawful
 pub mod Rows
 pub mod InOrder
+pub mod Laws

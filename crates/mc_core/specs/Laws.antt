@@ -1,0 +1,37 @@
+-- What the laws say: each change and each step that is allowed in a lawful moment keeps each clause.
+use Rattle.std.specs.Prelude.{◌≡◌, ℕ, true}
+use Rattle.mc_pages.specs.declared.ids.ChunkId.{ChunkId}
+use Rattle.mc_pages.specs.SlabState.{class_of_page}
+use Rattle.mc_core.specs.declared.event.Change.{Change}
+use Rattle.mc_core.specs.declared.event.Step.{Step}
+use Rattle.mc_core.specs.State.{State, is_hand, has_chunk}
+use Rattle.mc_core.specs.Silent.{allows_change}
+use Rattle.mc_core.specs.Run.{allows_step}
+use Rattle.mc_core.specs.Columns.{head_in, IsHandedOut}
+use Rattle.mc_core.specs.Past.{Moment, moment_changed, moment_stepped}
+use Rattle.mc_core.specs.Lawful.{IsLawful}
+
+-- the hand may make this change, in a lawful moment
+pub record MayChange (moment : Moment) (hand : ℕ) (change : Change) : Type 0 where
+  pub lawful : IsLawful moment
+  pub there : is_hand moment.state hand ≡ true
+  pub allowed : allows_change moment.state hand change ≡ true
+
+-- the hand may do this, in a lawful moment
+pub record MayStep (moment : Moment) (hand : ℕ) (step : Step) : Type 0 where
+  pub lawful : IsLawful moment
+  pub there : is_hand moment.state hand ≡ true
+  pub allowed : allows_step moment.state hand step ≡ true
+
+-- every change of a value behind a lock keeps the clause
+abbrev pub ChangesKeep : (Moment → Type 0) → Type 0
+ChangesKeep Clause = (moment : Moment) (hand : ℕ) (change : Change) → MayChange moment hand change → Clause (moment_changed moment hand change)
+
+-- every step keeps the clause
+abbrev pub StepsKeep : (Moment → Type 0) → Type 0
+StepsKeep Clause = (moment : Moment) (hand : ℕ) (step : Step) → MayStep moment hand step → Clause (moment_stepped moment hand step)
+
+-- a chunk that is handed out stays the chunk of its class
+abbrev pub StaysOfClass : State → State → Type 0
+StaysOfClass before now = (chunk : ChunkId) (issue : ℕ) → has_chunk before.table chunk ≡ true → IsHandedOut (head_in before.table before.heads chunk) issue →
+    class_of_page now.slabs chunk.page ≡ class_of_page before.slabs chunk.page
