@@ -1,7 +1,8 @@
 -- Facts that the proofs of all clauses start from: one header written, a chunk's place in its class, and data words apart.
-use Rattle.std.proofs.Common.{◌≡◌, ◌⊎◌, ℕ, ◌+◌, ◌-◌, ◌*◌, ◌/◌, ◌<◌, ◌≤◌, ◌==◌, ◌&&◌, Bool, true, false, not, List, [], ◌∷◌, ◌++◌, find, length, get_or, set, Some, None, refl, sym, ap, subst, ◌∙◌, inl, inr, arith, ltb-true, leb-true, lt-ltb, eq-eqb, ne_eqb, eqb-true, nat_lt, nat_le, Option, cond, le_trans, mul-le-mul_left, mul-le-mul_right, mul_assoc, mul_comm, add-mul, one-mul, zero-lt-suc, add_assoc, get_or-set_same, get_or-set_other, slice_set, slice_index_or, Contains, All}
+use Rattle.std.proofs.Common.{◌≡◌, ◌⊎◌, ℕ, zero, suc, ◌+◌, ◌-◌, ◌*◌, ◌/◌, ◌<◌, ◌≤◌, ◌==◌, ◌&&◌, Bool, true, false, not, List, [], ◌∷◌, ◌++◌, find, length, get_or, set, Some, None, refl, sym, ap, subst, ◌∙◌, inl, inr, arith, ltb-true, leb-true, lt-ltb, eq-eqb, ne_eqb, eqb-true, nat_lt, nat_le, Option, cond, le_trans, mul-le-mul_left, mul-le-mul_right, mul_assoc, mul_comm, add-mul, one-mul, zero-lt-suc, add_assoc, get_or-set_same, get_or-set_other, slice_set, slice_index_or, Contains, All}
 use Rattle.std.proofs.lemmas.List.{get_or_past}
-use Rattle.std.proofs.lemmas.List.Elements.{All-nil, All-cons, All-head, All-tail, All-get_or, All-set, All-push, All-weaker}
+use Rattle.std.proofs.lemmas.List.Elements.{All-nil, All-cons, All-head, All-tail, All-get_or, All-set, All-push, All-weaker, All-contains, All-contains_itself}
+use Rattle.std.proofs.lemmas.List.Sums.{get_or-le-sum_by}
 use Rattle.std.proofs.lemmas.Bool.{cases_lt, and_parts, and_from, cases_Bool, cases_eq, false≢true}
 use Rattle.std.proofs.lemmas.Nat.{same_from_place, mul-add-lt, row_fits}
 use Rattle.std.proofs.Common.{div-mul-le_self, le-div_iff_mul-le}
@@ -16,12 +17,12 @@ use Rattle.mc_core.specs.declared.head.Head.{Head}
 use Rattle.mc_core.specs.declared.head.Tag.{Tag}
 use Rattle.mc_core.specs.declared.head.Tag.TheVariants.{Out, Free, Unlinked, Linked}
 use Rattle.mc_core.specs.declared.holding.Holding.{Holding}
-use Rattle.mc_core.specs.Holdings.{lose}
+use Rattle.mc_core.specs.Holdings.{lose, is_of}
 use Rattle.mc_core.specs.Head.{never_cut, is_free, is_out}
 use Rattle.mc_core.specs.InOrder.{IsOfTable}
 use Rattle.mc_core.specs.State.{has_chunk, head_place, most_of, page_words, room_in, is_class}
 use Rattle.mc_core.specs.Past.{Moment}
-use Rattle.mc_core.specs.Columns.{head_in, place_in, Each, IsHandedOut}
+use Rattle.mc_core.specs.Columns.{head_in, place_in, Each, holds, holders, link_of, IsHandedOut}
 use Rattle.mc_core.specs.Places.{is_cut_there}
 use Rattle.mc_core.specs.Lawful.{IsLawful}
 use Rattle.mc_core.proofs.Listed.{per_page_is}
@@ -194,3 +195,49 @@ all_lose P test (x ∷ row) all =
       | true ↦ All-tail P x row all
       | false ↦ All-cons P x (lose test row) (All-head P x row all) (all_lose P test row (All-tail P x row all))
     ]
+
+-- a row's holds are among all
+pub holds_row : (chunk : ChunkId) (rows : List (List Holding)) (hand : ℕ) → holds chunk (slice_index_or rows hand []) ≤ holders chunk rows
+holds_row chunk [] hand = omega arith
+holds_row chunk (row ∷ rows) zero = omega arith
+holds_row chunk (row ∷ rows) (suc hand) = let rest = holds_row chunk rows hand in omega arith
+
+is_of-same : (chunk : ChunkId) (holding : Holding) → holding.chunk ≡ chunk → is_of chunk holding ≡ true
+is_of-same chunk holding e = subst (λ (c : ChunkId). is_chunk c chunk ≡ true) (sym e) (is_chunk-same chunk)
+
+-- a holding is one of its chunk's
+pub holds_own : (row : List Holding) (holding : Holding) → Contains row holding → 1 ≤ holds holding.chunk row
+holds_own row holding (k, within, at) =
+    let here : truth (is_of holding.chunk (slice_index_or row k holding)) ≡ 1 = ap (λ (h : Holding). truth (is_of holding.chunk h)) at ∙ ap truth (is_of-same holding.chunk holding refl) in
+    omega (arith, get_or-le-sum_by (λ (h : Holding). truth (is_of holding.chunk h)) row k holding within, here)
+
+-- a header with a count is of a chunk that is handed out
+pub handed_out_from : (head : Head) → 1 ≤ head.count → ((is_free head.tag ≡ true) ⊎ (is_out head.tag ≡ true) → head.count ≡ 0) → IsHandedOut head head.issue
+handed_out_from head some shut =
+    elim head.tag as (λ tag. head.tag ≡ tag → IsHandedOut head head.issue) [
+      | Out ↦ λ e. absurd (omega (arith, some, shut (inr (ap is_out e))))
+      | Free ↦ λ e. absurd (omega (arith, some, shut (inl (ap is_free e))))
+      | Unlinked ↦ λ e. (inl e, refl)
+      | Linked ↦ λ e. (inr e, refl)
+    ] refl
+
+module _ (m : Moment) (l : IsLawful m) where
+  -- the chunk of a holding is handed out with the holding's issue
+  abbrev pub IsOut : Holding → Type 0
+  IsOut holding = (has_chunk m.state.table holding.chunk ≡ true) × IsHandedOut (head_in m.state.table m.state.heads holding.chunk) holding.issue
+
+  -- a chunk that somebody holds is handed out
+  pub out_from_holders : (chunk : ChunkId) → has_chunk m.state.table chunk ≡ true → 1 ≤ holders chunk m.state.holdings → IsHandedOut (head_in m.state.table m.state.heads chunk) (head_in m.state.table m.state.heads chunk).issue
+  out_from_holders chunk h some =
+      let counted = l.counted.counted chunk h in
+      handed_out_from (head_in m.state.table m.state.heads chunk) (omega (arith, counted, some)) (l.counted.shut chunk h)
+
+  pub held_out : (hand : ℕ) → All IsOut (slice_index_or m.state.holdings hand [])
+  held_out hand =
+      let row = slice_index_or m.state.holdings hand [] in
+      All-weaker (Contains row) IsOut (λ holding among.
+      let inside = All-contains (λ (h : Holding). has_chunk m.state.table h.chunk ≡ true) row holding (each_row (λ (h : Holding). has_chunk m.state.table h.chunk ≡ true) m.state.holdings hand l.held.inside) among in
+      let issue = All-contains (λ (h : Holding). h.issue ≡ (head_in m.state.table m.state.heads h.chunk).issue) row holding
+      (each_row (λ (h : Holding). h.issue ≡ (head_in m.state.table m.state.heads h.chunk).issue) m.state.holdings hand l.held.issues) among in
+      let out = out_from_holders holding.chunk inside (omega (arith, holds_own row holding among, holds_row holding.chunk m.state.holdings hand)) in
+      (inside, (out.0, sym issue))) row (All-contains_itself row)
