@@ -7,3 +7,5 @@ pub mod Asked
 pub mod Changes
 pub mod Plays
 pub mod Base
+pub mod StripesKept
+pub mod Tellings
