@@ -9,3 +9,4 @@ pub mod Plays
 pub mod Base
 pub mod StripesKept
 pub mod Tellings
+pub mod ToldBy
