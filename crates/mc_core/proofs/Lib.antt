@@ -10,3 +10,4 @@ pub mod Base
 pub mod StripesKept
 pub mod Tellings
 pub mod ToldBy
+pub mod Own
