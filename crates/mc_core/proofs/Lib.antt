@@ -11,3 +11,4 @@ pub mod StripesKept
 pub mod Tellings
 pub mod ToldBy
 pub mod Own
+pub mod LegalKept
