@@ -12,3 +12,4 @@ pub mod Tellings
 pub mod ToldBy
 pub mod Own
 pub mod LegalKept
+pub mod HandsKept
