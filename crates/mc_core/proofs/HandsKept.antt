@@ -42,7 +42,7 @@ still_held before now word same (inl free) = inl free
 still_held before now word same (inr (hand, held)) = inr (hand, ap (is_held_by word) (same hand) ∙ held)
 
 -- a step that changes nothing of hands but what is the stepping hand's own
-hands_own : (before now : State) (hand : ℕ) → AreHands before.ids before.slabs_lock before.stripe_locks before.holdings before.looks → is_hand before hand ≡ true → IsOwn before now hand
+pub hands_own : (before now : State) (hand : ℕ) → AreHands before.ids before.slabs_lock before.stripe_locks before.holdings before.looks → is_hand before hand ≡ true → IsOwn before now hand
     → ((other : ℕ) → stamps_in now.ids other < 2 ^ 48) → AreHands now.ids now.slabs_lock now.stripe_locks now.holdings now.looks
 hands_own before now hand l there own stamps = record {
   count = (omega (arith, l.count.0, own.long), omega (arith, l.count.1, own.long));

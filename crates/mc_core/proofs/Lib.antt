@@ -13,3 +13,4 @@ pub mod ToldBy
 pub mod Own
 pub mod LegalKept
 pub mod HandsKept
+pub mod HandsSteps
