@@ -6,3 +6,5 @@ pub mod Made
 pub mod Asked
 pub mod Changes
 pub mod Plays
+pub mod SamePages
+pub mod SameSlabs
