@@ -6,5 +6,6 @@ pub mod Made
 pub mod Asked
 pub mod Changes
 pub mod Plays
+pub mod Base
 pub mod SamePages
 pub mod SameSlabs
