@@ -9,3 +9,6 @@ pub mod Plays
 pub mod Base
 pub mod SamePages
 pub mod SameSlabs
+pub mod Sized
+pub mod Spare
+pub mod PagedChanges
