@@ -12,3 +12,4 @@ pub mod SameSlabs
 pub mod Sized
 pub mod Spare
 pub mod PagedChanges
+pub mod PagedSteps
