@@ -13,3 +13,8 @@ pub mod Sized
 pub mod Spare
 pub mod PagedChanges
 pub mod PagedSteps
+pub mod StripesKept
+pub mod Tellings
+pub mod ToldBy
+pub mod Own
+pub mod LegalKept
