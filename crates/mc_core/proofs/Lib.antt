@@ -7,3 +7,5 @@ pub mod Made
 pub mod Asked
 pub mod Changes
 pub mod Plays
+pub mod Rows
+pub mod Turns
