@@ -1,4 +1,3 @@
-pub mod Holders
 pub mod OfTable
 pub mod Lists
 pub mod Listed
@@ -7,5 +6,7 @@ pub mod Made
 pub mod Asked
 pub mod Changes
 pub mod Plays
+pub mod Base
+pub mod Holders
 pub mod Rows
 pub mod Turns
