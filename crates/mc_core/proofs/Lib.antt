@@ -10,3 +10,4 @@ pub mod Base
 pub mod Holders
 pub mod Rows
 pub mod Turns
+pub mod FreeChunks

@@ -1,7 +1,7 @@
 -- Rows of holdings after one is lost and one comes.
 use Rattle.std.proofs.Common.{◌≡◌, ℕ, ◌+◌, ◌<◌, ◌≤◌, Bool, true, false, List, [], ◌∷◌, ◌++◌, length, Some, refl, sym, ap, ◌∙◌, arith, subst, slice_index_or, slice_set, All, inl, inr, length-set, length-append, get_or-set_same}
 use Rattle.std.specs.List.{find}
-use Rattle.std.proofs.lemmas.Bool.{cases_Bool, both_ways}
+use Rattle.std.proofs.lemmas.Bool.{cases_Bool}
 use Rattle.std.proofs.lemmas.List.Elements.{All-set}
 use Rattle.mc_pages.specs.declared.ids.ChunkId.{ChunkId}
 use Rattle.mc_pages.specs.ClassState.{is_chunk}
@@ -9,9 +9,9 @@ use Rattle.mc_pages.specs.Accounted.{truth}
 use Rattle.mc_pages.proofs.Chunks.{is_chunk-same}
 use Rattle.mc_core.specs.declared.holding.Holding.{Holding}
 use Rattle.mc_core.specs.Holdings.{is_of, is_fresh, lose}
-use Rattle.mc_core.specs.Columns.{Each, holds, holders}
+use Rattle.mc_core.specs.Columns.{Each, holders}
 use Rattle.mc_core.proofs.Base.{each_row, each_set, all_lose, all_more}
-use Rattle.mc_core.proofs.Holders.{holds-push, holds-lose, length-lose, length-lose-le, holders_set, none_held, nobodys}
+use Rattle.mc_core.proofs.Holders.{holds-push, holds-lose, length-lose, length-lose-le, holders_set, nobodys}
 
 -- the hand has one holding more
 abbrev pub rows_more : List (List Holding) → ℕ → Holding → List (List Holding)

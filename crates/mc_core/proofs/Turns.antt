@@ -1,11 +1,11 @@
 -- One header and rows of holdings change: counts and holdings stay as the law says.
-use Rattle.std.proofs.Common.{◌≡◌, ◌⊎◌, ℕ, ◌+◌, ◌*◌, ◌^◌, ◌<◌, ◌≤◌, true, false, List, [], ◌∷◌, ◌++◌, length, refl, sym, ap, ◌∙◌, arith, subst, slice_index, slice_index_or, slice_set, All, inl, inr}
+use Rattle.std.proofs.Common.{◌≡◌, ◌⊎◌, ℕ, ◌+◌, ◌*◌, ◌^◌, ◌<◌, ◌≤◌, true, false, List, length, sym, ap, ◌∙◌, arith, subst, slice_index, slice_index_or, slice_set, All, inl, inr}
 use Rattle.std.proofs.lemmas.Bool.{cases_Bool, both_ways}
 use Rattle.mc_classes.specs.Classes.{Classes, pages_of}
 use Rattle.mc_pages.specs.declared.ids.ChunkId.{ChunkId}
 use Rattle.mc_pages.specs.ClassState.{is_chunk}
 use Rattle.mc_pages.specs.SlabState.{SlabState, class_of_page}
-use Rattle.mc_pages.proofs.Chunks.{same_from_is_chunk, is_chunk-same}
+use Rattle.mc_pages.proofs.Chunks.{same_from_is_chunk}
 use Rattle.mc_core.specs.declared.head.Head.{Head}
 use Rattle.mc_core.specs.declared.head.Tag.TheVariants.{Unlinked}
 use Rattle.mc_core.specs.declared.holding.Holding.{Holding}
