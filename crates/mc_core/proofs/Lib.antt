@@ -11,3 +11,5 @@ pub mod Holders
 pub mod Rows
 pub mod Turns
 pub mod FreeChunks
+pub mod Tallied
+pub mod HandingOut
