@@ -18,3 +18,9 @@ pub mod Tellings
 pub mod ToldBy
 pub mod Own
 pub mod LegalKept
+pub mod Holders
+pub mod Rows
+pub mod Turns
+pub mod FreeChunks
+pub mod Tallied
+pub mod HandingOut
