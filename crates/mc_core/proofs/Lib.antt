@@ -7,6 +7,12 @@ pub mod Asked
 pub mod Changes
 pub mod Plays
 pub mod Base
+pub mod SamePages
+pub mod SameSlabs
+pub mod Sized
+pub mod Spare
+pub mod PagedChanges
+pub mod PagedSteps
 pub mod StripesKept
 pub mod Tellings
 pub mod ToldBy
@@ -14,3 +20,9 @@ pub mod Own
 pub mod LegalKept
 pub mod HandsKept
 pub mod HandsSteps
+pub mod Holders
+pub mod Rows
+pub mod Turns
+pub mod FreeChunks
+pub mod Tallied
+pub mod HandingOut
