@@ -13,3 +13,6 @@ pub mod Turns
 pub mod FreeChunks
 pub mod Tallied
 pub mod HandingOut
+pub mod WholeItems
+pub mod Entered
+pub mod Referring
