@@ -16,3 +16,4 @@ pub mod HandingOut
 pub mod WholeItems
 pub mod Entered
 pub mod Referring
+pub mod Linking
