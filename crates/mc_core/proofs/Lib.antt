@@ -26,3 +26,7 @@ pub mod Turns
 pub mod FreeChunks
 pub mod Tallied
 pub mod HandingOut
+pub mod WholeItems
+pub mod Entered
+pub mod Referring
+pub mod Linking
