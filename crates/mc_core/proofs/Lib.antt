@@ -6,3 +6,4 @@ pub mod Made
 pub mod Asked
 pub mod Changes
 pub mod Plays
+pub mod MoreRows
