@@ -6,4 +6,5 @@ pub mod Made
 pub mod Asked
 pub mod Changes
 pub mod Plays
+pub mod Base
 pub mod MoreRows

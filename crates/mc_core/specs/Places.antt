@@ -1,5 +1,5 @@
 -- Pages and lists: what is owned, and where each chunk is.
-use Rattle.std.specs.Prelude.{◌≡◌, ℕ, ◌*◌, ◌≤◌, true, false, not, ◌&&◌, List, length, Some, None}
+use Rattle.std.specs.Prelude.{◌≡◌, ℕ, ◌*◌, ◌≤◌, Bool, true, false, not, ◌&&◌, nat_le, List, length, Some, None}
 use Rattle.mc_classes.specs.Classes.{Classes, IsSound, pages_of}
 use Rattle.mc_pages.specs.declared.ids.ChunkId.{ChunkId}
 use Rattle.mc_pages.specs.declared.ids.Moving.{Moving}
@@ -30,6 +30,11 @@ pub record ArePaged (table : Classes) (slabs : SlabState) (slabs_lock : ℕ) : T
   -- the class that gives a page keeps one
   pub source : (move : Moving) → slabs.moving ≡ Some move → 2 ≤ length (class_at slabs move.src).pages
 
+-- the chunk was cut for the class of its page
+abbrev pub is_cut_there : SlabState → ChunkId → Bool
+is_cut_there slabs chunk =
+    nat_le 1 (class_of_page slabs chunk.page) && nat_le (class_of_page slabs chunk.page) (length slabs.classes) && is_cut slabs (class_of_page slabs chunk.page) chunk
+
 -- places: a free list has the free chunks, a hand-out order those that are handed out, and all others are out
 pub record ArePlaced (table : Classes) (slabs : SlabState) (heads : List Head) : Type 0 where
   pub free : (class : ℕ) (chunk : ChunkId) → IsClass slabs class →
@@ -41,4 +46,4 @@ pub record ArePlaced (table : Classes) (slabs : SlabState) (heads : List Head) :
   pub cleared : (class : ℕ) (chunk : ChunkId) → IsClass slabs class → is_cut slabs class chunk ≡ true → (head_in table heads chunk).tag ≡ Out →
       is_moving (owner_at slabs.owners chunk.page) ≡ true
   -- what isn't cut is out
-  pub elsewhere : (chunk : ChunkId) → has_chunk table chunk ≡ true → is_cut slabs (class_of_page slabs chunk.page) chunk ≡ false → (head_in table heads chunk).tag ≡ Out
+  pub elsewhere : (chunk : ChunkId) → has_chunk table chunk ≡ true → is_cut_there slabs chunk ≡ false → (head_in table heads chunk).tag ≡ Out
