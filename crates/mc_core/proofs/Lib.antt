@@ -1,3 +1,4 @@
+pub mod Holders
 pub mod OfTable
 pub mod Lists
 pub mod Listed
