@@ -9,3 +9,4 @@ pub mod Changes
 pub mod Plays
 pub mod Base
 pub mod MoreRows
+pub mod Totals

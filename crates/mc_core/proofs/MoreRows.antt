@@ -1,10 +1,11 @@
 -- Rows of hands, of which one gets more.
-use Rattle.std.proofs.Common.{◌≡◌, ◌≢◌, ℕ, zero, suc, ◌+◌, ◌<◌, ◌≤◌, List, [], ◌∷◌, ◌++◌, length, set, get_or, refl, sym, ap, subst, ◌∙◌, inl, inr, arith, append-nil, length-set, get_or-set_same, get_or-set_other, slice_set, slice_index_or, Contains, All}
+use Rattle.std.proofs.Common.{◌≡◌, ◌≢◌, ℕ, ◌<◌, List, [], ◌∷◌, ◌++◌, length, set, get_or, refl, sym, ap, subst, ◌∙◌, inl, inr, arith, append-nil, get_or-set_same, get_or-set_other, slice_set, slice_index_or, Contains, All}
 use Rattle.std.proofs.lemmas.Bool.{cases_lt, cases_eq}
-use Rattle.std.proofs.lemmas.List.{get_or_past, set-get_or, set_past, length_push}
-use Rattle.std.proofs.lemmas.List.Elements.{All-nil, All-cons, All-set, All-append, All-weaker, All-get_or, All-contains, Contains-append_left, Contains-append_right}
+use Rattle.std.proofs.lemmas.List.{get_or_default, set-get_or, set_past}
+use Rattle.std.proofs.lemmas.List.Elements.{All-nil, All-cons, All-append, All-contains, Contains-append_left, Contains-append_right}
 use Rattle.mc_core.specs.Columns.{Each}
 use Rattle.mc_core.specs.Past.{with_more}
+use Rattle.mc_core.proofs.Base.{each_row, each_set}
 
 -- the row of a hand
 abbrev pub row_of : {X : Type 0} → List (List X) → ℕ → List X
@@ -45,25 +46,11 @@ one_contained x = (0, omega arith, refl)
 pub all_one : {X : Type 0} (P : X → Type 0) (x : X) → P x → All P (x ∷ [])
 all_one P x p = All-cons P x [] p (All-nil P)
 
--- what holds of each entry of each row
-pub each_of_row : {X : Type 0} (P : X → Type 0) (rows : List (List X)) (hand : ℕ) → Each P rows → All P (row_of rows hand)
-each_of_row {X} P rows hand each =
-    elim (cases_lt hand (length rows)) [
-      | inl within ↦ each hand [] within
-      | inr past ↦ subst (λ (r : List X). All P r) (sym (get_or_past rows hand [] past)) (All-nil P)
-    ]
-
 pub each_contained : {X : Type 0} (P : X → Type 0) (rows : List (List X)) (hand : ℕ) (x : X) → Each P rows → Contains (row_of rows hand) x → P x
-each_contained P rows hand x each has = All-contains P (row_of rows hand) x (each_of_row P rows hand each) has
-
-pub each_with_row : {X : Type 0} (P : X → Type 0) (rows : List (List X)) (hand : ℕ) (row : List X) → Each P rows → All P row → Each P (slice_set rows hand row)
-each_with_row P rows hand row each all = All-set (All P) rows hand row all each
+each_contained P rows hand x each has = All-contains P (row_of rows hand) x (each_row P rows hand each) has
 
 pub each_more : {X : Type 0} (P : X → Type 0) (rows : List (List X)) (hand : ℕ) (more : List X) → Each P rows → All P more → Each P (with_more rows hand more)
-each_more P rows hand more each all = each_with_row P rows hand (row_of rows hand ++ more) each (All-append P (row_of rows hand) more (each_of_row P rows hand each) all)
-
-pub each_weaker : {X : Type 0} (P Q : X → Type 0) (rows : List (List X)) → ((x : X) → P x → Q x) → Each P rows → Each Q rows
-each_weaker P Q rows f each = All-weaker (All P) (All Q) (λ row all. All-weaker P Q f row all) rows each
+each_more P rows hand more each all = each_set P rows hand (row_of rows hand ++ more) each (All-append P (row_of rows hand) more (each_row P rows hand each) all)
 
 -- what two facts of each entry give
 pub each_both : {X : Type 0} (P Q R : X → Type 0) (rows : List (List X)) → ((x : X) → P x → Q x → R x) → Each P rows → Each Q rows → Each R rows
@@ -71,12 +58,10 @@ each_both P Q R rows f p q = λ k row within i x inside. f (get_or (get_or rows 
 
 -- each entry of each row is contained
 pub each_from_contained : {X : Type 0} (P : X → Type 0) (rows : List (List X)) → ((hand : ℕ) (x : X) → Contains (row_of rows hand) x → P x) → Each P rows
-each_from_contained P rows f = λ k row within i x inside.
-    let same : get_or rows k row ≡ row_of rows k = get_default rows k row [] within in
-    f k (get_or (get_or rows k row) i x) (subst (λ r. Contains r (get_or (get_or rows k row) i x)) same (i, inside, get_default (get_or rows k row) i (get_or (get_or rows k row) i x) x inside))
-  where
-    get_default : {Y : Type 0} (ys : List Y) (n : ℕ) (d e : Y) → n < length ys → get_or ys n d ≡ get_or ys n e
-    get_default ys n d e h = Rattle.std.proofs.lemmas.List.get_or_default ys n d e h
+each_from_contained {X} P rows f = λ k row within i x inside.
+    let there = get_or (get_or rows k row) i x in
+    let same : get_or rows k row ≡ row_of rows k = get_or_default rows k row [] within in
+    f k there (subst (λ (r : List X). Contains r there) same (i, inside, get_or_default (get_or rows k row) i there x inside))
 
 -- the rows of two hands put together, of which the second is then empty
 abbrev pub joined_rows : {X : Type 0} → List (List X) → ℕ → ℕ → List (List X)
@@ -84,7 +69,7 @@ joined_rows rows kept spent = slice_set (with_more rows kept (row_of rows spent)
 
 pub each_joined : {X : Type 0} (P : X → Type 0) (rows : List (List X)) (kept spent : ℕ) → Each P rows → Each P (joined_rows rows kept spent)
 each_joined P rows kept spent each =
-    each_with_row P (with_more rows kept (row_of rows spent)) spent [] (each_more P rows kept (row_of rows spent) each (each_of_row P rows spent each)) (All-nil P)
+    each_set P (with_more rows kept (row_of rows spent)) spent [] (each_more P rows kept (row_of rows spent) each (each_row P rows spent each)) (All-nil P)
 
 -- nothing is lost
 pub joined_contains : {X : Type 0} (rows : List (List X)) (kept spent other : ℕ) (x : X) → kept ≢ spent → kept < length rows → Contains (row_of rows other) x → (hand : ℕ) × Contains (row_of (joined_rows rows kept spent) hand) x
