@@ -10,3 +10,4 @@ pub mod Plays
 pub mod Base
 pub mod MoreRows
 pub mod Totals
+pub mod SaidOnce
