@@ -11,3 +11,4 @@ pub mod Base
 pub mod MoreRows
 pub mod Totals
 pub mod SaidOnce
+pub mod ShownItems
