@@ -8,6 +8,9 @@ pub mod Asked
 pub mod Changes
 pub mod Plays
 pub mod Base
+pub mod StripesKept
+pub mod Tellings
+pub mod ToldBy
 pub mod MoreRows
 pub mod Totals
 pub mod SaidOnce
