@@ -8,6 +8,8 @@ pub mod Asked
 pub mod Changes
 pub mod Plays
 pub mod Base
+pub mod SamePages
+pub mod SameSlabs
 pub mod StripesKept
 pub mod Tellings
 pub mod ToldBy
