@@ -1,4 +1,3 @@
-pub mod Holders
 pub mod OfTable
 pub mod Lists
 pub mod Listed
@@ -8,6 +7,10 @@ pub mod Asked
 pub mod Changes
 pub mod Plays
 pub mod Base
+pub mod Holders
+pub mod Rows
+pub mod Turns
+pub mod FreeChunks
 pub mod SamePages
 pub mod SameSlabs
 pub mod StripesKept
