@@ -20,3 +20,5 @@ pub mod MoreRows
 pub mod Totals
 pub mod SaidOnce
 pub mod ShownItems
+pub mod KnownStill
+pub mod KnownQuiet

@@ -83,3 +83,15 @@ joined_contains {X} rows kept spent other x apart within has =
           let stays : Contains (row_of more other) x = more_contains rows kept other (row_of rows spent) x has in
           (other, subst (λ (r : List X). Contains r x) (sym (row_other more spent other [] differs)) stays)
     ]
+
+-- what holds of each row, and depends on its hand
+pub rows_set : {X : Type 0} (P : ℕ → X → Type 0) (rows : List (List X)) (hand : ℕ) (row : List X) → ((other : ℕ) → All (P other) (row_of rows other)) → All (P hand) row → (other : ℕ) → All (P other) (row_of (slice_set rows hand row) other)
+rows_set {X} P rows hand row were is other =
+    elim (cases_eq other hand) [
+      | inl same ↦
+          elim (cases_lt hand (length rows)) [
+            | inl within ↦ subst (λ n. All (P n) (row_of (slice_set rows hand row) n)) (sym same) (subst (λ (r : List X). All (P hand) r) (sym (row_same rows hand row within)) is)
+            | inr past ↦ subst (λ (rs : List (List X)). All (P other) (row_of rs other)) (sym (set_past rows hand row past)) (were other)
+          ]
+      | inr differs ↦ subst (λ (r : List X). All (P other) r) (sym (row_other rows hand other row differs)) (were other)
+    ]
