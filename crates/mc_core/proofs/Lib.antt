@@ -16,6 +16,7 @@ pub mod SameSlabs
 pub mod StripesKept
 pub mod Tellings
 pub mod ToldBy
+pub mod Own
 pub mod MoreRows
 pub mod Totals
 pub mod SaidOnce
