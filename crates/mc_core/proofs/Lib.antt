@@ -13,6 +13,9 @@ pub mod Turns
 pub mod FreeChunks
 pub mod SamePages
 pub mod SameSlabs
+pub mod Sized
+pub mod Spare
+pub mod PagedChanges
 pub mod StripesKept
 pub mod Tellings
 pub mod ToldBy
