@@ -1,28 +1,27 @@
 -- Facts that the proofs of all clauses start from: one header written, a chunk's place in its class, and data words apart.
-use Rattle.std.proofs.Common.{◌≡◌, ◌⊎◌, ℕ, zero, suc, ◌+◌, ◌-◌, ◌*◌, ◌/◌, ◌<◌, ◌≤◌, ◌==◌, ◌&&◌, Bool, true, false, not, List, [], ◌∷◌, ◌++◌, find, length, get_or, set, Some, None, refl, sym, ap, subst, ◌∙◌, inl, inr, arith, ltb-true, leb-true, lt-ltb, eq-eqb, ne_eqb, eqb-true, nat_lt, nat_le, Option, cond, le_trans, mul-le-mul_left, mul-le-mul_right, mul_assoc, mul_comm, add-mul, one-mul, zero-lt-suc, add_assoc, get_or-set_same, get_or-set_other, slice_set, slice_index_or, Contains, All}
+use Rattle.std.proofs.Common.{◌≡◌, ◌⊎◌, ℕ, zero, suc, ◌+◌, ◌*◌, ◌/◌, ◌<◌, ◌≤◌, ◌&&◌, Bool, true, false, not, List, [], ◌∷◌, ◌++◌, find, length, Some, None, refl, sym, ap, subst, ◌∙◌, inl, inr, arith, ltb-true, leb-true, eq-eqb, ne_eqb, nat_lt, nat_le, Option, cond, le_trans, mul-le-mul_left, mul-le-mul_right, mul_assoc, mul_comm, add-mul, one-mul, zero-lt-suc, add_assoc, get_or-set_same, get_or-set_other, slice_set, slice_index_or, Contains, All}
 use Rattle.std.proofs.lemmas.List.{get_or_past}
 use Rattle.std.proofs.lemmas.List.Elements.{All-nil, All-cons, All-head, All-tail, All-get_or, All-set, All-push, All-weaker, All-contains, All-contains_itself}
 use Rattle.std.proofs.lemmas.List.Sums.{get_or-le-sum_by}
 use Rattle.std.proofs.lemmas.Bool.{cases_lt, and_parts, and_from, cases_Bool, cases_eq, false≢true}
-use Rattle.std.proofs.lemmas.Nat.{same_from_place, mul-add-lt, row_fits}
+use Rattle.std.proofs.lemmas.Nat.{same_from_place, mul-add-lt}
 use Rattle.std.proofs.Common.{div-mul-le_self, le-div_iff_mul-le}
-use Rattle.mc_classes.specs.Classes.{Classes, pages_of, size_of, per_page_of}
+use Rattle.mc_classes.specs.Classes.{Classes, pages_of, size_of}
 use Rattle.mc_pages.specs.declared.ids.ChunkId.{ChunkId}
 use Rattle.mc_pages.specs.Ledger.{owner_at}
 use Rattle.mc_pages.specs.ClassState.{is_chunk, times}
 use Rattle.mc_pages.specs.SlabState.{SlabState, IsClass, class_at, class_of_page, class_of_chunk}
 use Rattle.mc_pages.specs.Accounted.{truth, is_cut, cut_count, is_of_class}
-use Rattle.mc_pages.proofs.Chunks.{same_from_is_chunk, is_chunk-same}
+use Rattle.mc_pages.proofs.Chunks.{is_chunk-same}
 use Rattle.mc_core.specs.declared.head.Head.{Head}
 use Rattle.mc_core.specs.declared.head.Tag.{Tag}
 use Rattle.mc_core.specs.declared.head.Tag.TheVariants.{Out, Free, Unlinked, Linked}
 use Rattle.mc_core.specs.declared.holding.Holding.{Holding}
 use Rattle.mc_core.specs.Holdings.{lose, is_of}
 use Rattle.mc_core.specs.Head.{never_cut, is_free, is_out}
-use Rattle.mc_core.specs.InOrder.{IsOfTable}
 use Rattle.mc_core.specs.State.{has_chunk, head_place, most_of, page_words, room_in, is_class}
 use Rattle.mc_core.specs.Past.{Moment}
-use Rattle.mc_core.specs.Columns.{head_in, place_in, Each, holds, holders, link_of, IsHandedOut}
+use Rattle.mc_core.specs.Columns.{head_in, place_in, Each, holds, holders, IsHandedOut}
 use Rattle.mc_core.specs.Places.{is_cut_there}
 use Rattle.mc_core.specs.Lawful.{IsLawful}
 use Rattle.mc_core.proofs.Listed.{per_page_is}

@@ -1,21 +1,18 @@
 -- The chunks of a free list are chunks of the arena, cut for their class.
-use Rattle.std.proofs.Common.{◌≡◌, ℕ, ◌-◌, ◌*◌, ◌/◌, ◌<◌, ◌≤◌, ◌&&◌, Bool, true, false, List, [], Some, refl, sym, ap, ◌∙◌, arith, subst, inl, inr, nat_le, nat_lt, length, slice_index, find, lt-ltb, le-leb, le_trans, mul-le-mul_left, div-mul-le_self}
-use Rattle.std.specs.List.{slice_get}
+use Rattle.std.proofs.Common.{◌≡◌, ℕ, ◌/◌, ◌<◌, ◌≤◌, ◌&&◌, Bool, true, Some, sym, ap, ◌∙◌, arith, subst, inl, inr, nat_le, nat_lt, length, find, lt-ltb, le-leb, le_trans, mul-le-mul_left, div-mul-le_self}
 use Rattle.std.proofs.lemmas.Bool.{cases_Bool, cases_lt, and_parts, and_from}
 use Rattle.std.proofs.lemmas.List.{get_or_past}
 use Rattle.std.proofs.lemmas.Nat.{le-div}
 use Rattle.mc_classes.specs.Classes.{Classes, IsSound, pages_of, size_of, per_page_of}
 use Rattle.mc_pages.specs.declared.ids.ChunkId.{ChunkId}
-use Rattle.mc_pages.specs.declared.ledger.Owner.{Owner}
 use Rattle.mc_pages.specs.declared.ledger.Owner.TheVariants.{Untouched}
 use Rattle.mc_pages.specs.Ledger.{owner_at}
 use Rattle.mc_pages.specs.ClassState.{times, first_free}
-use Rattle.mc_pages.specs.SlabState.{SlabState, IsClass, class_at, class_of_owner, class_of_page, class_of_chunk}
+use Rattle.mc_pages.specs.SlabState.{SlabState, IsClass, class_at, class_of_owner, class_of_page}
 use Rattle.mc_pages.specs.Accounted.{truth, is_of_class, is_cut, cut_count}
 use Rattle.mc_pages.proofs.Chunks.{Contains_from_slice_get, times_from_Contains}
 use Rattle.mc_pages.proofs.Owners.{class_of_owner-is_of_class}
 use Rattle.mc_core.specs.Head.{is_free}
-use Rattle.mc_core.specs.InOrder.{IsOfTable}
 use Rattle.mc_core.specs.State.{has_chunk, most_of}
 use Rattle.mc_core.specs.Columns.{head_in}
 use Rattle.mc_core.specs.Past.{Moment}

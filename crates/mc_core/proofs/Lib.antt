@@ -11,6 +11,8 @@ pub mod Holders
 pub mod Rows
 pub mod Turns
 pub mod FreeChunks
+pub mod Tallied
+pub mod HandingOut
 pub mod SamePages
 pub mod SameSlabs
 pub mod Sized

@@ -130,13 +130,13 @@ module _ (table : Classes) (heads : List Head) (rows now : List (List Holding)) 
         turn_so (slice_index_or (slice_index_or kept hand row) place holding) (quiet hand row within place holding inside) (each hand row within place holding inside)
 
     -- one more holding, of this chunk
-    pub turn_more : (holding : Holding) → holding.chunk ≡ chunk → holding.issue ≡ head.issue → Shows table slabs words chunk holding.words → IsSized (room_in table (class_of_page slabs chunk.page)) holding →
+    pub turn_more : (holding : Holding) → holding.chunk ≡ chunk → holding.issue ≡ head.issue → Shows table next words chunk holding.words → IsSized (room_in table (class_of_page next chunk.page)) holding →
         (is_fresh holding ≡ true → (head.tag ≡ Unlinked) × (holders chunk now ≡ 1)) → IsSo table next heads' words now holding
     turn_more holding is issue shows sized alone = record {
       inside = ap (has_chunk table) is ∙ turn.near;
       issue = issue ∙ (ap (λ (h : Head). h.issue) (sym written) ∙ ap (λ c. (head_in table heads' c).issue) (sym is));
-      shows = shows_moved table slabs next words holding.chunk holding.words (same holding.chunk.page) (subst (λ c. Shows table slabs words c holding.words) (sym is) shows);
-      sized = subst (λ class. IsSized (room_in table class) holding) (sym (same holding.chunk.page)) (subst (λ (c : ChunkId). IsSized (room_in table (class_of_page slabs c.page)) holding) (sym is) sized);
+      shows = subst (λ c. Shows table next words c holding.words) (sym is) shows;
+      sized = subst (λ (c : ChunkId). IsSized (room_in table (class_of_page next c.page)) holding) (sym is) sized;
       alone = λ fresh. let both = alone fresh in
           (ap (λ c. (head_in table heads' c).tag) is ∙ (ap (λ (h : Head). h.tag) written ∙ both.0), ap (λ c. holders c now) is ∙ both.1);
     }
