@@ -1,11 +1,10 @@
 -- A stamp is said once.
-use Rattle.std.proofs.Common.{◌≡◌, ◌≢◌, ℕ, zero, suc, ◌+◌, ◌*◌, ◌/◌, ◌%◌, ◌^◌, ◌<◌, ◌≤◌, ◌==◌, ◌&&◌, Bool, true, false, List, [], ◌∷◌, ◌++◌, length, get_or, refl, sym, ap, subst, ◌∙◌, inl, inr, arith, eqb-true, eq-eqb, ne_eqb, nat_le, nat_lt, ltb-true, slice_get, slice_index_or, Some, None, Option, Contains, All, count_by, add-zero}
+use Rattle.std.proofs.Common.{◌≡◌, ◌≢◌, ℕ, zero, suc, ◌+◌, ◌*◌, ◌/◌, ◌%◌, ◌^◌, ◌<◌, ◌≤◌, ◌==◌, ◌&&◌, Bool, true, false, List, [], ◌∷◌, ◌++◌, length, get_or, refl, sym, ap, subst, ◌∙◌, inl, inr, arith, eqb-true, eq-eqb, ne_eqb, nat_le, nat_lt, ltb-true, slice_index_or, Some, None, Option, Contains, All, count_by, add-zero}
 use Rattle.std.specs.Bool.{nat_eq}
 use Rattle.std.specs.Option.{option_eq}
 use Rattle.std.proofs.lemmas.Bool.{cases_eq, and_parts, and_right, lt-leb}
 use Rattle.std.proofs.lemmas.List.Elements.{All-head, All-tail, All-weaker}
 use Rattle.std.proofs.lemmas.List.Sums.{sum_by-cons, get_or-le-sum_by}
-use Rattle.std.proofs.lemmas.Option.{slice_get-get_or}
 use Rattle.mc_pages.specs.Accounted.{truth}
 use Rattle.mc_core.specs.declared.ids.Ids.{Ids}
 use Rattle.mc_core.specs.Holdings.{Words}
@@ -90,16 +89,15 @@ number_is None n h = absurd (cc)
 number_is (Some x) n h = ap Some (eqb-true x n h)
 
 -- nobody said the next stamp of a hand
-pub next_unsaid : (ids : List Ids) (mine : List (List Own)) (said : List (List Saying)) (known : List (List Known)) (hand stamp : ℕ) → AreNumbered ids mine said known → hand < length ids → is_next_stamp (slice_index_or ids hand gone) stamp ≡ true → said_count stamp said ≡ 0
-next_unsaid ids mine said known hand stamp are within next =
+pub next_unsaid : (ids : List Ids) (mine : List (List Own)) (said : List (List Saying)) (known : List (List Known)) (hand stamp : ℕ) → AreNumbered ids mine said known → is_next_stamp (slice_index_or ids hand gone) stamp ≡ true → said_count stamp said ≡ 0
+next_unsaid ids mine said known hand stamp are next =
     let i = slice_index_or ids hand gone in
-    let at : slice_get ids hand ≡ Some i = slice_get-get_or ids hand gone within in
     let first = and_parts (nat_lt i.stamps most_stamps && option_eq nat_eq i.number (Some (stamp / 2 ^ 48))) (stamp % 2 ^ 48 == i.stamps + 1) next in
     let front = and_parts (nat_lt i.stamps most_stamps) (option_eq nat_eq i.number (Some (stamp / 2 ^ 48))) first.0 in
     let number = number_is i.number (stamp / 2 ^ 48) front.1 in
     let count = eqb-true (stamp % 2 ^ 48) (i.stamps + 1) first.1 in
-    let owned = are.own hand i (stamp / 2 ^ 48) at number in
-    let own_row : said_times stamp (row_of said hand) ≡ 0 = own_none i.stamps (row_of said hand) stamp (are.stamps hand i (stamp / 2 ^ 48) at number) count in
+    let owned = are.own hand (stamp / 2 ^ 48) number in
+    let own_row : said_times stamp (row_of said hand) ≡ 0 = own_none i.stamps (row_of said hand) stamp (are.stamps hand (stamp / 2 ^ 48) number) count in
     let rows = λ (other : ℕ).
     elim (cases_eq other hand) as (λ _. said_times stamp (row_of said other) ≡ 0) [
       | inl same ↦ subst (λ n. said_times stamp (row_of said n) ≡ 0) (sym same) own_row
