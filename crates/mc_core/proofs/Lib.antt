@@ -30,3 +30,9 @@ pub mod WholeItems
 pub mod Entered
 pub mod Referring
 pub mod Linking
+pub mod MoreRows
+pub mod Totals
+pub mod SaidOnce
+pub mod ShownItems
+pub mod KnownStill
+pub mod KnownQuiet
