@@ -37,3 +37,4 @@ pub mod ShownItems
 pub mod KnownStill
 pub mod KnownQuiet
 pub mod Learned
+pub mod RowsKept
