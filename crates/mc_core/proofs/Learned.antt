@@ -80,7 +80,7 @@ pub same_numbers : (before now : State) (past : Past) (hand : ℕ) → SameNumbe
 same_numbers before now past hand =
     write_stays past.mine hand (map (own_after before now (number_at before hand)) (slice_index_or past.mine hand [])) (row_stays before now (number_at before hand) (slice_index_or past.mine hand []))
 
-same_row : (before now : List (List Own)) (hand : ℕ) → SameNumbers before now → numbers_of (row_of now hand) ≡ numbers_of (row_of before hand)
+pub same_row : (before now : List (List Own)) (hand : ℕ) → SameNumbers before now → numbers_of (row_of now hand) ≡ numbers_of (row_of before hand)
 same_row [] [] hand e = refl
 same_row [] (y ∷ now) hand e = absurd (cc)
 same_row (x ∷ before) [] hand e = absurd (cc)

@@ -38,3 +38,6 @@ pub mod KnownStill
 pub mod KnownQuiet
 pub mod Learned
 pub mod RowsKept
+pub mod NumberedKept
+pub mod LinkKinds
+pub mod NumberedLink
