@@ -83,7 +83,7 @@ lock_is_held state hand (Some number) is there =
     ap (is_held_by (lock_word state hand)) is ∙ eq-eqb (lock_word state hand) (number + 1) word
 
 -- numbers after one hand is gone
-gone_set : (ids : List Ids) (spent other number : ℕ) → number_in (slice_set ids spent gone) other ≡ Some number → (other ≢ spent) × (number_in ids other ≡ Some number)
+pub gone_set : (ids : List Ids) (spent other number : ℕ) → number_in (slice_set ids spent gone) other ≡ Some number → (other ≢ spent) × (number_in ids other ≡ Some number)
 gone_set [] spent other number h = absurd (cc)
 gone_set (x ∷ ids) zero zero number h = absurd (cc)
 gone_set (x ∷ ids) zero (suc other) number h = ((λ e. absurd (omega (arith, e))), h)

@@ -41,3 +41,5 @@ pub mod RowsKept
 pub mod NumberedKept
 pub mod LinkKinds
 pub mod NumberedLink
+pub mod NumberedJoin
+pub mod NumberedSteps
