@@ -24,3 +24,5 @@ pub mod Turns
 pub mod FreeChunks
 pub mod Tallied
 pub mod HandingOut
+pub mod PlacedAlike
+pub mod PlacedChanges
