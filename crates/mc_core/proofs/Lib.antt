@@ -26,3 +26,4 @@ pub mod Tallied
 pub mod HandingOut
 pub mod PlacedAlike
 pub mod PlacedChanges
+pub mod PlacedWritten
