@@ -27,3 +27,4 @@ pub mod HandingOut
 pub mod PlacedAlike
 pub mod PlacedChanges
 pub mod PlacedWritten
+pub mod PlacedLists
