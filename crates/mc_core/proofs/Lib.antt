@@ -43,3 +43,7 @@ pub mod LinkKinds
 pub mod NumberedLink
 pub mod NumberedJoin
 pub mod NumberedSteps
+pub mod PlacedAlike
+pub mod PlacedChanges
+pub mod PlacedWritten
+pub mod PlacedLists
