@@ -17,3 +17,4 @@ pub mod WholeItems
 pub mod Entered
 pub mod Referring
 pub mod Linking
+pub mod Dropping
