@@ -18,3 +18,4 @@ pub mod Entered
 pub mod Referring
 pub mod Linking
 pub mod Dropping
+pub mod Closing
