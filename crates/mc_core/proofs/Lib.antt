@@ -19,3 +19,4 @@ pub mod Referring
 pub mod Linking
 pub mod Dropping
 pub mod Closing
+pub mod Filling
