@@ -1,23 +1,34 @@
 -- Hands, their numbers, their locks and their stamps.
-use Rattle.std.specs.Prelude.{◌≡◌, ◌⊎◌, ℕ, ◌+◌, ◌*◌, ◌/◌, ◌^◌, ◌<◌, ◌≤◌, ◌==◌, true, ◌&&◌, nat_le, List, [], ◌∷◌, length, count_by, slice_get, slice_index_or, Some, None, All}
+use Rattle.std.specs.Prelude.{◌≡◌, ◌⊎◌, ℕ, ◌+◌, ◌*◌, ◌/◌, ◌^◌, ◌<◌, ◌≤◌, ◌==◌, true, ◌&&◌, nat_le, List, [], ◌∷◌, length, count_by, slice_get, slice_index_or, Option, Some, None, All}
 use Rattle.mc_pages.specs.Accounted.{truth}
 use Rattle.mc_core.specs.declared.holding.Holding.{Holding}
 use Rattle.mc_core.specs.declared.ids.Ids.{Ids}
 use Rattle.mc_core.specs.declared.look.Look.{Look}
 use Rattle.mc_core.specs.Past.{Own, Saying, Known, Past}
-use Rattle.mc_core.specs.State.{is_held_by}
+use Rattle.mc_core.specs.State.{gone, is_held_by}
+
+-- the number of a hand, and how many stamps it gave out
+abbrev pub number_in : List Ids → ℕ → Option ℕ
+number_in ids hand = (slice_index_or ids hand gone).number
+
+abbrev pub stamps_in : List Ids → ℕ → ℕ
+stamps_in ids hand = (slice_index_or ids hand gone).stamps
+
+-- the lock is free, or one of the hands has it
+abbrev pub IsFreeOrHeld : List Ids → ℕ → Type 0
+IsFreeOrHeld ids word = (word ≡ 0) ⊎ ((hand : ℕ) × (is_held_by word (number_in ids hand) ≡ true))
 
 -- hands: numbers below 64, apart; each lock free or of one of them; a hand that is gone has nothing
 pub record AreHands (ids : List Ids) (slabs_lock : ℕ) (locks : List ℕ) (holdings : List (List Holding)) (looks : List (List Look)) : Type 0 where
   pub count : (1 ≤ length ids) × (length ids ≤ 64)
   pub holding_rows : length holdings ≡ length ids
   pub look_rows : length looks ≡ length ids
-  pub numbers : All (λ (i : Ids). (number : ℕ) → i.number ≡ Some number → number < 64) ids
-  pub apart : (a b number : ℕ) (i j : Ids) → slice_get ids a ≡ Some i → slice_get ids b ≡ Some j → i.number ≡ Some number → j.number ≡ Some number → a ≡ b
-  pub stamps : All (λ (i : Ids). i.stamps < 2 ^ 48) ids
-  pub slabs : (slabs_lock ≡ 0) ⊎ ((hand : ℕ) × (i : Ids) × (slice_get ids hand ≡ Some i) × (is_held_by slabs_lock i.number ≡ true))
-  pub stripes : All (λ word. (word ≡ 0) ⊎ ((hand : ℕ) × (i : Ids) × (slice_get ids hand ≡ Some i) × (is_held_by word i.number ≡ true))) locks
-  pub gone : (hand : ℕ) (i : Ids) → slice_get ids hand ≡ Some i → i.number ≡ None → slice_index_or holdings hand [] ≡ []
+  pub numbers : (hand number : ℕ) → number_in ids hand ≡ Some number → number < 64
+  pub apart : (a b number : ℕ) → number_in ids a ≡ Some number → number_in ids b ≡ Some number → a ≡ b
+  pub stamps : (hand : ℕ) → stamps_in ids hand < 2 ^ 48
+  pub slabs : IsFreeOrHeld ids slabs_lock
+  pub stripes : All (IsFreeOrHeld ids) locks
+  pub nothing : (hand : ℕ) → number_in ids hand ≡ None → slice_index_or holdings hand [] ≡ []
 
 -- rows: there is a row for each hand
 pub record HaveRows (ids : List Ids) (past : Past) : Type 0 where
@@ -51,10 +62,9 @@ AreCountedTo most number row = (count : ℕ) → count < 2 ^ 48 → said_times (
 -- numbers: each is one hand's, and of those that it took over; the stamps that a hand said are of its numbers, counted without a gap
 pub record AreNumbered (ids : List Ids) (mine : List (List Own)) (said : List (List Saying)) (known : List (List Known)) : Type 0 where
   pub apart : (number : ℕ) → owners number mine ≤ 1
-  pub own : (hand : ℕ) (i : Ids) (number : ℕ) → slice_get ids hand ≡ Some i → i.number ≡ Some number → owns number (slice_index_or mine hand []) ≡ 1
-  pub stamps : (hand : ℕ) (i : Ids) (number : ℕ) → slice_get ids hand ≡ Some i → i.number ≡ Some number → AreCountedTo i.stamps number (slice_index_or said hand [])
+  pub own : (hand number : ℕ) → number_in ids hand ≡ Some number → owns number (slice_index_or mine hand []) ≡ 1
+  pub stamps : (hand number : ℕ) → number_in ids hand ≡ Some number → AreCountedTo (stamps_in ids hand) number (slice_index_or said hand [])
   pub gapless : (hand : ℕ) → All (λ (own : Own). (most : ℕ) × AreCountedTo most own.number (slice_index_or said hand [])) (slice_index_or mine hand [])
   pub of_own : (hand : ℕ) → All (λ (s : Saying). owns (s.stamp / 2 ^ 48) (slice_index_or mine hand []) ≡ 1) (slice_index_or said hand [])
   -- a hand that is gone has no number, and neither said nor knows anything
-  pub gone : (hand : ℕ) (i : Ids) → slice_get ids hand ≡ Some i → i.number ≡ None →
-      (slice_index_or mine hand [] ≡ []) × (slice_index_or said hand [] ≡ []) × (slice_index_or known hand [] ≡ [])
+  pub nothing : (hand : ℕ) → number_in ids hand ≡ None → (slice_index_or mine hand [] ≡ []) × (slice_index_or said hand [] ≡ []) × (slice_index_or known hand [] ≡ [])

@@ -1,0 +1,198 @@
+-- Pages and lists stay in order under each silent change.
+use Rattle.std.proofs.Common.{◌≡◌, ℕ, ◌+◌, ◌≤◌, ◌==◌, ◌&&◌, Bool, true, false, length, Option, Some, None, Result, Ok, Err, refl, sym, ap, subst, ◌∙◌, inl, inr, arith, is_none, is_some, is_ok, eqb-true, leb-true, nat_le, nat_lt, if◌then◌else◌}
+use Rattle.std.specs.Option.{option_map}
+use Rattle.std.proofs.lemmas.Bool.{and_parts, cases_lt}
+use Rattle.mc_classes.specs.Classes.{Classes}
+use Rattle.mc_pages.specs.declared.ids.ChunkId.{ChunkId}
+use Rattle.mc_pages.specs.declared.ids.Moving.{Moving}
+use Rattle.mc_pages.specs.declared.moves.Found.{Found}
+use Rattle.mc_pages.specs.declared.moves.Reassign.{Reassign}
+use Rattle.mc_pages.specs.ClassState.{touched, evicted}
+use Rattle.mc_pages.specs.SlabState.{SlabState, IsClass, class_at, class_of_page, class_of_chunk}
+use Rattle.mc_pages.specs.Answer.{answer_of}
+use Rattle.mc_pages.specs.Changes.{next_page, after_take, after_grant, after_grow, after_touch, after_evicted}
+use Rattle.mc_pages.specs.Moves.{after_begin, after_finish, after_passed, after_wrap, moved_on, begun_anew, finished}
+use Rattle.mc_pages.specs.InOrder.{IsInOrder}
+use Rattle.mc_pages.proofs.HandedOut.{IsClass-handed_out}
+use Rattle.mc_pages.proofs.Kept.{IsInOrder-after_grant, IsInOrder-after_take, IsInOrder-after_begin, IsInOrder-after_touch, IsInOrder-after_evicted, IsInOrder-after_passed, IsInOrder-after_wrap, IsInOrder-automove, IsInOrder-finished}
+use Rattle.mc_pages.proofs.RoomyGrow.{next_pooled, next_granted, grow_takes, grow_grants}
+use Rattle.mc_core.specs.declared.event.Change.{Change}
+use Rattle.mc_core.specs.declared.event.Change.TheVariants.{Grow, BeginMove, FinishMove, Touch, SetAutomove, Passed, Wrap, Evicted, Reserve, GotNone, DeletedNone}
+use Rattle.mc_core.specs.State.{State, is_class, number_at, has_slabs, is_held_by}
+use Rattle.mc_core.specs.Silent.{is_out_of_class, is_whole, can_grow, can_finish, can_pass, can_wrap, run_of, grown, begun, can_change_slabs, slabs_after}
+use Rattle.mc_core.specs.Places.{ArePaged}
+use Rattle.mc_core.specs.Past.{Moment}
+use Rattle.mc_core.specs.Lawful.{PagedIn}
+use Rattle.mc_core.specs.Laws.{MayChange, ChangesKeep}
+use Rattle.mc_core.proofs.OfTable.{HasShape, of_table, grow_shape, begin_shape, finish_shape, touch_shape, evicted_shape, passed_shape, wrap_shape}
+use Rattle.mc_core.proofs.Listed.{Contains_from_among, IsClass_from}
+use Rattle.mc_core.proofs.Asked.{finish_asked, pass_asked, wrap_asked}
+use Rattle.mc_core.proofs.SamePages.{arrived_if}
+use Rattle.mc_core.proofs.Spare.{HasSpare, spare_with_class, spare_grown, spare_begun, spare_finished, spare_moved}
+
+-- a lock that somebody has isn't free
+pub lock_not_free : (word : ℕ) (number : Option ℕ) → is_held_by word number ≡ true → word ≡ 0 → ⊥
+lock_not_free word None held free = cc
+lock_not_free word (Some number) held free = let is : word ≡ number + 1 = eqb-true word (number + 1) held in omega arith
+
+pub whole_is : (uncut : Option ChunkId) → is_none uncut ≡ true → uncut ≡ None
+whole_is None h = refl
+whole_is (Some chunk) h = absurd (cc)
+
+-- pages and lists after a change
+pub record StayPaged (old new : SlabState) : Type 0 where
+  pub shape : HasShape old new
+  pub order : (granted : ℕ) × IsInOrder new granted
+  pub automove : new.automove ≤ 2
+  pub source : HasSpare new new.moving
+
+-- under the lock a page may be half cut
+pub paged_from : (table : Classes) (old new : SlabState) (lock : ℕ) → ArePaged table old lock → StayPaged old new → (lock ≡ 0 → ⊥) → ArePaged table new lock
+paged_from table old new lock was now held = record {
+  of_table = of_table table old new was.of_table now.shape now.order.1.accounted;
+  order = now.order;
+  whole = λ free. absurd (held free);
+  automove = now.automove;
+  source = now.source;
+}
+
+module _ (table : Classes) (slabs : SlabState) (lock : ℕ) (paged : ArePaged table slabs lock) where
+  stays : StayPaged slabs slabs
+  stays = record { shape = record { counts = refl; owners = refl }; order = paged.order; automove = paged.automove; source = paged.source }
+
+  grow_order : (class page : ℕ) → IsClass slabs class → slabs.uncut ≡ None → next_page slabs ≡ Some page → (granted : ℕ) × IsInOrder (after_grow slabs class page) granted
+  grow_order class page is whole next =
+      let granted = paged.order.0 in let kept = paged.order.1 in
+      elim (cases_lt 0 (length slabs.pool)) [
+        | inl some ↦ (granted, subst (λ (s : SlabState). IsInOrder s granted) (sym (grow_takes slabs class page some)) (IsInOrder-after_take slabs granted class page kept is whole (next_pooled slabs page some next)))
+        | inr none ↦
+            let empty : length slabs.pool ≡ 0 = omega arith in
+            let first = next_granted slabs granted page kept empty next in
+            let grants = IsInOrder-after_grant slabs granted class kept is whole first.1 in
+            (granted + 1, subst (λ (s : SlabState). IsInOrder s (granted + 1)) (sym (grow_grants slabs class page empty)) (subst (λ p. IsInOrder (after_grant slabs class p) (granted + 1)) (sym first.0) grants))
+      ]
+
+  grow_automove : (class page : ℕ) → (after_grow slabs class page).automove ≡ slabs.automove
+  grow_automove class page = elim (nat_lt 0 (length slabs.pool)) as (λ (b : Bool). (if b then after_take slabs class page else after_grant slabs class page).automove ≡ slabs.automove) [ true ↦ refl | false ↦ refl ]
+
+  grown_paged : (class : ℕ) (next : Option ℕ) → next_page slabs ≡ next → is_class table class ≡ true → is_whole slabs ≡ true → StayPaged slabs (grown slabs class next)
+  grown_paged class None is named whole = stays
+  grown_paged class (Some page) is named whole =
+      let class_is = IsClass_from table slabs class paged.of_table named in
+      record {
+        shape = grow_shape slabs class page;
+        order = grow_order class page class_is (whole_is slabs.uncut whole) is;
+        automove = subst (λ n. n ≤ 2) (sym (grow_automove class page)) paged.automove;
+        source = spare_grown slabs class page paged.order.1.accounted class_is paged.source;
+      }
+
+  begun_paged : (src : Option ℕ) (dst : ℕ) (answer : Result ℕ Reassign) → answer_of slabs src dst ≡ answer → StayPaged slabs (begun slabs src dst answer)
+  begun_paged src dst (Err refusal) is = stays
+  begun_paged src dst (Ok source) is = record {
+    shape = begin_shape slabs src dst source;
+    order = (paged.order.0, IsInOrder-after_begin slabs paged.order.0 src source dst paged.order.1 is);
+    automove = paged.automove;
+    source = spare_begun slabs src dst (Ok source) is paged.source;
+  }
+
+  finish_automove : (move : Moving) → (finished slabs move).automove ≡ slabs.automove
+  finish_automove move = elim (move.dst == 0) as (λ (b : Bool). (arrived_if slabs move b).automove ≡ slabs.automove) [ true ↦ refl | false ↦ refl ]
+
+  finished_paged : can_finish slabs slabs.moving ≡ true → StayPaged slabs (after_finish slabs slabs.moving)
+  finished_paged can =
+      let asked = finish_asked table slabs slabs.moving paged.of_table refl can in
+      let move : Moving = asked.1.0 in let may = asked.1.1 in
+      subst (λ o. StayPaged slabs (after_finish slabs o)) (sym may.runs)
+      (record {
+        shape = finish_shape slabs (Some move);
+        order = (paged.order.0, IsInOrder-finished slabs paged.order.0 move paged.order.1 asked.0 may);
+        automove = subst (λ n. n ≤ 2) (sym (finish_automove move)) paged.automove;
+        source = spare_finished slabs move;
+      })
+
+  touched_paged : (chunk : ChunkId) → is_out_of_class slabs chunk ≡ true → StayPaged slabs (after_touch slabs chunk)
+  touched_paged chunk out =
+      let handed = Contains_from_among (class_of_chunk slabs chunk).order chunk out in
+      let all = paged.order.1.accounted in
+      record {
+        shape = touch_shape slabs chunk;
+        order = (paged.order.0, IsInOrder-after_touch slabs paged.order.0 chunk paged.order.1 handed);
+        automove = paged.automove;
+        source = spare_with_class slabs (class_of_page slabs chunk.page) (touched (class_of_chunk slabs chunk) chunk) all (IsClass-handed_out slabs chunk all handed) refl paged.source;
+      }
+
+  evicted_paged : (class : ℕ) → is_class table class ≡ true → StayPaged slabs (after_evicted slabs class)
+  evicted_paged class named =
+      let is = IsClass_from table slabs class paged.of_table named in
+      record {
+        shape = evicted_shape slabs class;
+        order = (paged.order.0, IsInOrder-after_evicted slabs paged.order.0 class paged.order.1 is);
+        automove = paged.automove;
+        source = spare_with_class slabs class (evicted (class_at slabs class)) paged.order.1.accounted is refl paged.source;
+      }
+
+  passed_paged : (found : Found) → can_pass slabs found (run_of table slabs.moving) ≡ true → StayPaged slabs (after_passed slabs found)
+  passed_paged found can =
+      let asked = pass_asked table slabs found slabs.moving paged.of_table refl can in
+      record {
+        shape = passed_shape slabs found;
+        order = (paged.order.0, IsInOrder-after_passed slabs paged.order.0 found asked.0 paged.order.1 asked.1);
+        automove = paged.automove;
+        source = spare_moved slabs slabs.moving (λ (m : Moving). moved_on m found) (λ m. refl) paged.source;
+      }
+
+  wrapped_paged : can_wrap (run_of table slabs.moving) ≡ true → StayPaged slabs (after_wrap slabs)
+  wrapped_paged can =
+      let asked = wrap_asked table slabs slabs.moving paged.of_table refl can in
+      record {
+        shape = wrap_shape slabs;
+        order = (paged.order.0, IsInOrder-after_wrap slabs paged.order.0 asked.0 paged.order.1 asked.1);
+        automove = paged.automove;
+        source = spare_moved slabs slabs.moving begun_anew (λ m. refl) paged.source;
+      }
+
+  automove_paged : (mode : ℕ) → nat_le mode 2 ≡ true → StayPaged slabs (record slabs { automove = mode })
+  automove_paged mode few = record {
+    shape = record { counts = refl; owners = refl };
+    order = (paged.order.0, IsInOrder-automove slabs paged.order.0 mode paged.order.1);
+    automove = leb-true mode 2 few;
+    source = paged.source;
+  }
+
+-- each change of pages and lists that is allowed
+paged_slabs : (table : Classes) (slabs : SlabState) (lock : ℕ) → ArePaged table slabs lock → (change : Change) → can_change_slabs table slabs change ≡ true → StayPaged slabs (slabs_after slabs change)
+paged_slabs table slabs lock paged (Grow class) can =
+    let parts = and_parts (is_class table class && is_whole slabs) (is_some (next_page slabs)) can in
+    let tests = and_parts (is_class table class) (is_whole slabs) parts.0 in
+    grown_paged table slabs lock paged class (next_page slabs) refl tests.0 tests.1
+paged_slabs table slabs lock paged (BeginMove src dst) can = begun_paged table slabs lock paged src dst (answer_of slabs src dst) refl
+paged_slabs table slabs lock paged FinishMove can = finished_paged table slabs lock paged can
+paged_slabs table slabs lock paged (Touch chunk) can = touched_paged table slabs lock paged chunk can
+paged_slabs table slabs lock paged (SetAutomove mode) can = automove_paged table slabs lock paged mode can
+paged_slabs table slabs lock paged (Passed found) can = passed_paged table slabs lock paged found can
+paged_slabs table slabs lock paged Wrap can = wrapped_paged table slabs lock paged can
+paged_slabs table slabs lock paged (Evicted class) can = evicted_paged table slabs lock paged class can
+paged_slabs table slabs lock paged (Reserve stripe) can = absurd (cc)
+paged_slabs table slabs lock paged (GotNone key) can = absurd (cc)
+paged_slabs table slabs lock paged (DeletedNone key) can = absurd (cc)
+
+under_lock : (moment : Moment) (hand : ℕ) (change : Change) → PagedIn moment → (has_slabs moment.state hand && can_change_slabs moment.state.table moment.state.slabs change) ≡ true →
+    ArePaged moment.state.table (slabs_after moment.state.slabs change) moment.state.slabs_lock
+under_lock moment hand change paged allowed =
+    let state = moment.state in
+    let parts = and_parts (has_slabs state hand) (can_change_slabs state.table state.slabs change) allowed in
+    paged_from state.table state.slabs (slabs_after state.slabs change) state.slabs_lock paged (paged_slabs state.table state.slabs state.slabs_lock paged change parts.1)
+    (lock_not_free state.slabs_lock (number_at state hand) parts.0)
+
+pub paged_changes : ChangesKeep PagedIn
+paged_changes moment hand (Grow class) may = under_lock moment hand (Grow class) may.lawful.paged may.allowed
+paged_changes moment hand (BeginMove src dst) may = under_lock moment hand (BeginMove src dst) may.lawful.paged may.allowed
+paged_changes moment hand FinishMove may = under_lock moment hand FinishMove may.lawful.paged may.allowed
+paged_changes moment hand (Touch chunk) may = under_lock moment hand (Touch chunk) may.lawful.paged may.allowed
+paged_changes moment hand (SetAutomove mode) may = under_lock moment hand (SetAutomove mode) may.lawful.paged may.allowed
+paged_changes moment hand (Passed found) may = under_lock moment hand (Passed found) may.lawful.paged may.allowed
+paged_changes moment hand Wrap may = under_lock moment hand Wrap may.lawful.paged may.allowed
+paged_changes moment hand (Evicted class) may = under_lock moment hand (Evicted class) may.lawful.paged may.allowed
+paged_changes moment hand (Reserve stripe) may = may.lawful.paged
+paged_changes moment hand (GotNone key) may = may.lawful.paged
+paged_changes moment hand (DeletedNone key) may = may.lawful.paged
