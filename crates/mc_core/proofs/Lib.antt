@@ -41,3 +41,4 @@ pub mod KnownStill
 pub mod KnownQuiet
 pub mod Learned
 pub mod RowsKept
+pub mod TalliedKept
