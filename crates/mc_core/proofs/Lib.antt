@@ -30,6 +30,9 @@ pub mod WholeItems
 pub mod Entered
 pub mod Referring
 pub mod Linking
+pub mod Dropping
+pub mod Closing
+pub mod Filling
 pub mod MoreRows
 pub mod Totals
 pub mod SaidOnce
@@ -47,3 +50,4 @@ pub mod PlacedAlike
 pub mod PlacedChanges
 pub mod PlacedWritten
 pub mod PlacedLists
+pub mod TalliedKept
