@@ -28,3 +28,4 @@ pub mod SaidOnce
 pub mod ShownItems
 pub mod KnownStill
 pub mod KnownQuiet
+pub mod KnownChunks
