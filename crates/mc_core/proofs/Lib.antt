@@ -29,3 +29,4 @@ pub mod ShownItems
 pub mod KnownStill
 pub mod KnownQuiet
 pub mod KnownChunks
+pub mod KnownFills
