@@ -30,3 +30,4 @@ pub mod KnownStill
 pub mod KnownQuiet
 pub mod KnownChunks
 pub mod KnownFills
+pub mod KnownLearned
