@@ -31,3 +31,4 @@ pub mod KnownQuiet
 pub mod KnownChunks
 pub mod KnownFills
 pub mod KnownLearned
+pub mod KnownLinks
