@@ -32,3 +32,4 @@ pub mod KnownChunks
 pub mod KnownFills
 pub mod KnownLearned
 pub mod KnownLinks
+pub mod KnownReferences
