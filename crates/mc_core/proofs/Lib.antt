@@ -33,3 +33,4 @@ pub mod KnownFills
 pub mod KnownLearned
 pub mod KnownLinks
 pub mod KnownReferences
+pub mod KnownCondemned
