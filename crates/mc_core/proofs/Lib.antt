@@ -34,3 +34,4 @@ pub mod KnownLearned
 pub mod KnownLinks
 pub mod KnownReferences
 pub mod KnownCondemned
+pub mod KnownSteps
