@@ -94,10 +94,13 @@ module _ (m : Moment) (l : IsLawful m) where
   pub own_less : (hand : ℕ) (test : Holding → Bool) (other : ℕ) → All (IsOwn known other) (row_of (rows_less rows hand test) other)
   own_less hand test = rows_set (IsOwn known) rows hand (lose test (row_of rows hand)) l.known.own (all_lose (IsOwn known hand) test (row_of rows hand) (l.known.own hand))
 
+  pub own_added : (rows' : List (List Holding)) (hand : ℕ) (holding : Holding) → ((other : ℕ) → All (IsOwn known other) (row_of rows' other)) → is_fresh holding ≡ true → (other : ℕ) → All (IsOwn known other) (row_of (rows_more rows' hand holding) other)
+  own_added rows' hand holding own fresh =
+      rows_set (IsOwn known) rows' hand (row_of rows' hand ++ holding ∷ []) own
+      (all_more (IsOwn known hand) (row_of rows' hand) holding (own hand) (λ stale. absurd (both_ways (is_fresh holding) stale fresh)))
+
   pub own_fresh : (hand : ℕ) (holding : Holding) → is_fresh holding ≡ true → (other : ℕ) → All (IsOwn known other) (row_of (rows_more rows hand holding) other)
-  own_fresh hand holding fresh =
-      rows_set (IsOwn known) rows hand (row_of rows hand ++ holding ∷ []) l.known.own
-      (all_more (IsOwn known hand) (row_of rows hand) holding (l.known.own hand) (λ stale. absurd (both_ways (is_fresh holding) stale fresh)))
+  own_fresh hand holding fresh = own_added rows hand holding l.known.own fresh
 
 -- headers that show nothing new
 pub younger_handed_out : (old : Head) → IsNoOlder old (handed_out old)

@@ -51,3 +51,10 @@ pub mod PlacedChanges
 pub mod PlacedWritten
 pub mod PlacedLists
 pub mod TalliedKept
+pub mod KnownChunks
+pub mod KnownFills
+pub mod KnownLearned
+pub mod KnownLinks
+pub mod KnownReferences
+pub mod KnownCondemned
+pub mod KnownSteps
