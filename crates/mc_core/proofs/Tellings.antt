@@ -1,5 +1,5 @@
 -- What an event tells a stripe: one stripe whose lock is held is written, and its history grows by calls of the hand.
-use Rattle.std.proofs.Common.{◌≡◌, ◌≢◌, ℕ, ◌+◌, ◌%◌, ◌<◌, ◌≤◌, ◌==◌, ◌&&◌, ◌||◌, Bool, true, false, cond, not, List, [], ◌∷◌, ◌++◌, length, Option, Some, None, refl, sym, ap, subst, ◌∙◌, inl, inr, arith, eqb-true, eq-eqb, slice_set, slice_index, slice_index_or, is_some, is_none, All, mod-lt, IfSome, IsSome}
+use Rattle.std.proofs.Common.{◌≡◌, ◌≢◌, ℕ, ◌+◌, ◌/◌, ◌%◌, ◌^◌, ◌<◌, ◌≤◌, ◌==◌, ◌&&◌, ◌||◌, Bool, true, false, cond, not, List, [], ◌∷◌, ◌++◌, length, Option, Some, None, refl, sym, ap, subst, ◌∙◌, inl, inr, arith, eqb-true, eq-eqb, slice_set, slice_index, slice_index_or, is_some, is_none, All, mod-lt, IfSome, IsSome}
 use Rattle.std.specs.Option.{option_map, option_map_or}
 use Rattle.std.proofs.lemmas.List.{append-nil}
 use Rattle.std.proofs.lemmas.List.Elements.{All-nil, All-cons, All-get_or}
@@ -18,7 +18,7 @@ use Rattle.mc_core.specs.Silent.{is_aside, can_tell_none, writer_of}
 use Rattle.mc_core.specs.Items.{stripe_unlinked}
 use Rattle.mc_core.specs.Evictions.{stripe_condemned, can_take_away}
 use Rattle.mc_core.specs.Indexed.{AreLegal}
-use Rattle.mc_core.specs.Histories.{hand_of}
+use Rattle.mc_core.specs.Histories.{hand_of, IsSetIn}
 use Rattle.mc_core.proofs.StripesKept.{held_word, stripe_within, legal_written}
 
 pub record Tells (state : State) (now : List ReadyStripe) (hand : ℕ) : Type 0 where
@@ -32,6 +32,7 @@ pub record Tells (state : State) (now : List ReadyStripe) (hand : ℕ) : Type 0 
   pub more : List Call
   pub grown : value.state.history ≡ (stripe_at state at).state.history ++ more
   pub own : All (λ call. hand_of call ≡ writer_of state hand) more
+  pub sets : All (IsSetIn (length state.stripes) at) more
 
 -- what is told keeps the stripes legal
 pub tells_legal : (state : State) (now : List ReadyStripe) (hand : ℕ) → AreLegal state.stripes state.stripe_locks → Tells state now hand → AreLegal now state.stripe_locks
@@ -68,7 +69,7 @@ module _ (state : State) (hand : ℕ) (l : AreLegal state.stripes state.stripe_l
   pub tells_reserve : Tells state (slice_set state.stripes at (record (stripe_at state at) { ready = true })) hand
   tells_reserve = record {
     at = at; value = record (stripe_at state at) { ready = true }; stripes = refl; within = within; held = held; legal = legal; aside = was_aside;
-    more = []; grown = sym (append-nil old.history); own = All-nil (λ call. hand_of call ≡ writer_of state hand);
+    more = []; grown = sym (append-nil old.history); own = All-nil (λ call. hand_of call ≡ writer_of state hand); sets = All-nil (IsSetIn (length state.stripes) at);
   }
 
   -- the key was looked up
@@ -78,6 +79,7 @@ module _ (state : State) (hand : ℕ) (l : AreLegal state.stripes state.stripe_l
     legal = IsLegal-after_got old (writer_of state hand) key legal (other_aside (key_aside old) key apart);
     aside = was_aside; more = Get (writer_of state hand) key (stamp_of old key) ∷ []; grown = refl;
     own = All-cons (λ call. hand_of call ≡ writer_of state hand) _ [] refl (All-nil (λ call. hand_of call ≡ writer_of state hand));
+    sets = All-cons (IsSetIn (length state.stripes) at) _ [] tt (All-nil (IsSetIn (length state.stripes) at));
   }
 
   -- the key was deleted
@@ -87,6 +89,7 @@ module _ (state : State) (hand : ℕ) (l : AreLegal state.stripes state.stripe_l
     legal = IsLegal-after_unlink old (writer_of state hand) key legal (other_aside (key_aside old) key apart);
     aside = was_aside; more = Delete (writer_of state hand) key (is_some (place_of old key)) ∷ []; grown = refl;
     own = All-cons (λ call. hand_of call ≡ writer_of state hand) _ [] refl (All-nil (λ call. hand_of call ≡ writer_of state hand));
+    sets = All-cons (IsSetIn (length state.stripes) at) _ [] tt (All-nil (IsSetIn (length state.stripes) at));
   }
 
   -- its item was evicted
@@ -96,6 +99,7 @@ module _ (state : State) (hand : ℕ) (l : AreLegal state.stripes state.stripe_l
     legal = IsLegal-after_evict old (writer_of state hand) key legal there;
     aside = was_aside; more = Evict (writer_of state hand) key ∷ []; grown = refl;
     own = All-cons (λ call. hand_of call ≡ writer_of state hand) _ [] refl (All-nil (λ call. hand_of call ≡ writer_of state hand));
+    sets = All-cons (IsSetIn (length state.stripes) at) _ [] tt (All-nil (IsSetIn (length state.stripes) at));
   }
 
   lifted_of : (key : ℕ) (place : Option (ChunkId × ℕ)) (entry : ℕ × (ChunkId × ℕ)) → option_map (λ (p : ChunkId × ℕ). (key, p)) place ≡ Some entry → entry.0 ≡ key
@@ -108,19 +112,20 @@ module _ (state : State) (hand : ℕ) (l : AreLegal state.stripes state.stripe_l
     at = at; value = record { state = after_lift old key; ready = room }; stripes = refl; within = within; held = held;
     legal = IsLegal-after_lift old key legal there none;
     aside = λ entry is. ap (λ (k : ℕ). k % length state.stripes) (lifted_of key (place_of old key) entry is) ∙ here;
-    more = []; grown = sym (append-nil old.history); own = All-nil (λ call. hand_of call ≡ writer_of state hand);
+    more = []; grown = sym (append-nil old.history); own = All-nil (λ call. hand_of call ≡ writer_of state hand); sets = All-nil (IsSetIn (length state.stripes) at);
   }
 
   no_entry : (entry : ℕ × (ChunkId × ℕ)) → None ≡ Some entry → entry.0 % length state.stripes ≡ at
   no_entry entry is = absurd (cc)
 
   -- an item was stored under it
-  pub tells_set : (key : ℕ) (chunk : ChunkId) (stamp : ℕ) → IfSome (key_aside old) (λ other. other ≡ key) → Tells state (slice_set state.stripes at (used_up (stripe_changes.after_link old (writer_of state hand) key chunk stamp))) hand
-  tells_set key chunk stamp same = record {
+  pub tells_set : (key : ℕ) (chunk : ChunkId) (stamp : ℕ) → stripe_of state key ≡ at → stamp / 2 ^ 48 ≡ writer_of state hand → IfSome (key_aside old) (λ other. other ≡ key) → Tells state (slice_set state.stripes at (used_up (stripe_changes.after_link old (writer_of state hand) key chunk stamp))) hand
+  tells_set key chunk stamp here own_stamp same = record {
     at = at; value = used_up (stripe_changes.after_link old (writer_of state hand) key chunk stamp); stripes = refl; within = within; held = held;
     legal = IsLegal-after_link old (writer_of state hand) key chunk stamp legal same;
     aside = no_entry; more = Set (writer_of state hand) key stamp ∷ []; grown = refl;
     own = All-cons (λ call. hand_of call ≡ writer_of state hand) _ [] refl (All-nil (λ call. hand_of call ≡ writer_of state hand));
+    sets = All-cons (IsSetIn (length state.stripes) at) _ [] (here, own_stamp) (All-nil (IsSetIn (length state.stripes) at));
   }
 
   -- its entry came back with another chunk
@@ -130,4 +135,5 @@ module _ (state : State) (hand : ℕ) (l : AreLegal state.stripes state.stripe_l
     legal = IsLegal-after_rescue old (writer_of state hand) key chunk legal is;
     aside = no_entry; more = Rescue (writer_of state hand) key ∷ []; grown = refl;
     own = All-cons (λ call. hand_of call ≡ writer_of state hand) _ [] refl (All-nil (λ call. hand_of call ≡ writer_of state hand));
+    sets = All-cons (IsSetIn (length state.stripes) at) _ [] tt (All-nil (IsSetIn (length state.stripes) at));
   }

@@ -1,6 +1,6 @@
 -- Which events tell a stripe of a call, and that all others leave the stripes alone.
-use Rattle.std.proofs.Common.{◌≡◌, ◌⊎◌, ℕ, ◌+◌, ◌%◌, ◌==◌, ◌&&◌, ◌||◌, Bool, true, false, cond, not, List, [], ◌∷◌, Option, Some, None, refl, sym, ap, subst, ◌∙◌, inl, inr, eqb-true, slice_set, is_some, is_none, IfSome}
-use Rattle.std.specs.Option.{option_map, option_map_or}
+use Rattle.std.proofs.Common.{◌≡◌, ◌⊎◌, ℕ, ◌+◌, ◌/◌, ◌%◌, ◌^◌, ◌==◌, ◌&&◌, ◌||◌, Bool, true, false, cond, not, List, [], ◌∷◌, Option, Some, None, refl, sym, ap, subst, ◌∙◌, inl, inr, eqb-true, nat_lt, nat_eq, unwrap_or, slice_set, is_some, is_none, IfSome}
+use Rattle.std.specs.Option.{option_map, option_map_or, option_eq}
 use Rattle.std.proofs.lemmas.Bool.{and_parts, cases_Bool, false≢true}
 use Rattle.mc_pages.specs.declared.ids.ChunkId.{ChunkId}
 use Rattle.mc_pages.specs.ClassState.{is_chunk}
@@ -14,6 +14,7 @@ use Rattle.mc_core.specs.declared.holding.Holding.{Holding}
 use Rattle.mc_core.specs.declared.holding.Kind.{Kind}
 use Rattle.mc_core.specs.declared.holding.Kind.TheVariants.{Reference, Fresh}
 use Rattle.mc_core.specs.declared.holding.Purpose.TheVariants.{Item, Copy, Rescue}
+use Rattle.mc_core.specs.declared.ids.Ids.{Ids}
 use Rattle.mc_core.specs.declared.look.Look.{Look}
 use Rattle.mc_core.specs.Head.{is_unlinked, is_linked}
 use Rattle.mc_core.specs.Holdings.{Words, key_in, stamp_in, item_in, is_complete, is_of, has_fresh, holding_of}
@@ -22,7 +23,7 @@ use Rattle.mc_core.specs.Silent.{is_aside, can_tell_none, writer_of, allows_chan
 use Rattle.mc_core.specs.Locks.{looked, after_look, after_miss_stripe}
 use Rattle.mc_core.specs.Chunks.{popped, popped_off, refilled, target_of, next_free, after_pop, after_pop_off, after_fill, has_place}
 use Rattle.mc_core.specs.Chunks as chunks
-use Rattle.mc_core.specs.Items.{suits, can_link_key, can_tell_link, can_link_holding, is_entry_aside, is_none_else_aside, is_next_stamp, are_same, can_count, told_link, after_link_of, referred_to, with_got, with_unlinked, is_ready_for, can_refer_to, can_lift, is_linked_at, chunk_of, stripe_unlinked}
+use Rattle.mc_core.specs.Items.{most_stamps, suits, can_link_key, can_tell_link, can_link_holding, is_entry_aside, is_none_else_aside, is_next_stamp, are_same, can_count, told_link, after_link_of, referred_to, with_got, with_unlinked, is_ready_for, can_refer_to, can_lift, is_linked_at, chunk_of, stripe_unlinked}
 use Rattle.mc_core.specs.Items as items
 use Rattle.mc_core.specs.Evictions.{is_idle, can_take_away, has_copy, has_reason, key_at, with_rescue, with_bound, with_told, copy_of, stripe_condemned}
 use Rattle.mc_core.specs.Evictions as evictions
@@ -54,6 +55,17 @@ key_is None key chunk stamp h = absurd (cc)
 key_is (Some entry) key chunk stamp h =
     let all = and_parts (entry.0 == key && is_chunk entry.1.0 chunk) (entry.1.1 == stamp) h in
     ap Some (eqb-true entry.0 key (and_parts (entry.0 == key) (is_chunk entry.1.0 chunk) all.0).0)
+
+-- the number in a next stamp is the hand's
+own_stamp : (ids : Ids) (stamp : ℕ) → is_next_stamp ids stamp ≡ true → stamp / 2 ^ 48 ≡ unwrap_or ids.number 0
+own_stamp ids stamp h =
+    let both = and_parts (nat_lt ids.stamps most_stamps && option_eq nat_eq ids.number (Some (stamp / 2 ^ 48))) (stamp % 2 ^ 48 == ids.stamps + 1) h in
+    let front = and_parts (nat_lt ids.stamps most_stamps) (option_eq nat_eq ids.number (Some (stamp / 2 ^ 48))) both.0 in
+    number_is ids.number front.1
+  where
+    number_is : (number : Option ℕ) → option_eq nat_eq number (Some (stamp / 2 ^ 48)) ≡ true → stamp / 2 ^ 48 ≡ unwrap_or number 0
+    number_is None is = absurd (cc)
+    number_is (Some n) is = sym (eqb-true n (stamp / 2 ^ 48) is)
 
 module _ (state : State) (hand : ℕ) (l : AreLegal state.stripes state.stripe_locks) where
   none_told : (key : ℕ) → (has_stripe state hand (stripe_of state key) && can_tell_none (stripe_at state (stripe_of state key)) key) ≡ true →
@@ -153,11 +165,11 @@ module _ (state : State) (hand : ℕ) (l : AreLegal state.stripes state.stripe_l
     told_by_kind holding (Fresh Item) has h =
         let key = key_in holding.words in
         let parts = and_parts (is_next_stamp (ids_at state hand) (stamp_in holding.words)) (is_none_else_aside (stripe_at state (stripe_of state key)).state key) h in
-        inr (tells_set state hand l (stripe_of state key) has key holding.chunk (stamp_in holding.words) (of_key (stripe_at state (stripe_of state key)).state.aside key parts.1))
+        inr (tells_set state hand l (stripe_of state key) has key holding.chunk (stamp_in holding.words) refl (own_stamp (ids_at state hand) (stamp_in holding.words) parts.0) (of_key (stripe_at state (stripe_of state key)).state.aside key parts.1))
     told_by_kind holding (Fresh (Copy old)) has h =
         let key = key_in holding.words in
         let parts = and_parts (is_next_stamp (ids_at state hand) (stamp_in holding.words)) (is_none_else_aside (stripe_at state (stripe_of state key)).state key) h in
-        inr (tells_set state hand l (stripe_of state key) has key holding.chunk (stamp_in holding.words) (of_key (stripe_at state (stripe_of state key)).state.aside key parts.1))
+        inr (tells_set state hand l (stripe_of state key) has key holding.chunk (stamp_in holding.words) refl (own_stamp (ids_at state hand) (stamp_in holding.words) parts.0) (of_key (stripe_at state (stripe_of state key)).state.aside key parts.1))
     told_by_kind holding (Fresh (Rescue old item)) has h =
         let key = key_in holding.words in
         let stripe = stripe_at state (stripe_of state key) in
