@@ -58,3 +58,4 @@ pub mod KnownLinks
 pub mod KnownReferences
 pub mod KnownCondemned
 pub mod KnownSteps
+pub mod Grown
