@@ -14,7 +14,7 @@ use Rattle.mc_core.specs.State.{State, is_hand, number_at, has_stripe, stripe_at
 use Rattle.mc_core.specs.Locks.{lock_word, can_give_stripe}
 use Rattle.mc_core.specs.Run.{allows_step, after_step}
 use Rattle.mc_core.specs.Indexed.{AreLegal}
-use Rattle.mc_core.specs.Past.{Moment, first_moment}
+use Rattle.mc_core.specs.Past.{Moment, Saying, first_moment}
 use Rattle.mc_core.specs.Lawful.{LegalIn}
 use Rattle.mc_core.specs.Laws.{MayChange, MayStep, ChangesKeep, StepsKeep}
 use Rattle.mc_core.proofs.StripesKept.{legal_locked}
@@ -22,12 +22,12 @@ use Rattle.mc_core.proofs.Tellings.{Tells, tells_legal}
 use Rattle.mc_core.proofs.ToldBy.{MayTell, told_by_change, told_by_step}
 use Rattle.mc_core.proofs.Own.{IsOwn, is_plain, own_step, own_change}
 
-legal_told : (state : State) (now : List ReadyStripe) (locks : List ℕ) (hand : ℕ) → AreLegal state.stripes state.stripe_locks → locks ≡ state.stripe_locks → MayTell state now hand → AreLegal now locks
-legal_told state now locks hand l same (inl quiet) = subst (λ (ls : List ℕ). AreLegal now ls) (sym same) (subst (λ (xs : List ReadyStripe). AreLegal xs state.stripe_locks) (sym quiet) l)
-legal_told state now locks hand l same (inr told) = subst (λ (ls : List ℕ). AreLegal now ls) (sym same) (tells_legal state now hand l told)
+legal_told : (state : State) (now : List ReadyStripe) (locks : List ℕ) (hand : ℕ) (said : List Saying) → AreLegal state.stripes state.stripe_locks → locks ≡ state.stripe_locks → MayTell state now hand said → AreLegal now locks
+legal_told state now locks hand said l same (inl quiet) = subst (λ (ls : List ℕ). AreLegal now ls) (sym same) (subst (λ (xs : List ReadyStripe). AreLegal xs state.stripe_locks) (sym quiet.0) l)
+legal_told state now locks hand said l same (inr told) = subst (λ (ls : List ℕ). AreLegal now ls) (sym same) (tells_legal state now hand said l told)
 
 pub legal_changes : ChangesKeep LegalIn
-legal_changes m hand change may = legal_told m.state _ _ hand may.lawful.legal (own_change m.state hand change).stripe_locks (told_by_change m.state hand may.lawful.legal change may.allowed)
+legal_changes m hand change may = legal_told m.state _ _ hand _ may.lawful.legal (own_change m.state hand change).stripe_locks (told_by_change m.state hand may.lawful.legal change may.allowed)
 
 -- a hand that is there writes no 0
 lock_word-some : (state : State) (hand : ℕ) (number : Option ℕ) → number_at state hand ≡ number → is_some number ≡ true → lock_word state hand ≢ 0
@@ -39,7 +39,7 @@ none_is None h = refl
 none_is (Some x) h = absurd (cc)
 
 plain : (m : Moment) (hand : ℕ) (step : Step) → is_plain step ≡ true → MayStep m hand step → AreLegal (after_step m.state hand step).stripes (after_step m.state hand step).stripe_locks
-plain m hand step h may = legal_told m.state _ _ hand may.lawful.legal (own_step m.state hand step h).stripe_locks (told_by_step m.state hand may.lawful.legal step may.allowed)
+plain m hand step h may = legal_told m.state _ _ hand _ may.lawful.legal (own_step m.state hand step h).stripe_locks (told_by_step m.state hand may.lawful.legal step may.allowed)
 
 pub legal_steps : StepsKeep LegalIn
 legal_steps m hand step.TakeSlabs may = may.lawful.legal
