@@ -59,3 +59,4 @@ pub mod KnownReferences
 pub mod KnownCondemned
 pub mod KnownSteps
 pub mod Grown
+pub mod ToldKept

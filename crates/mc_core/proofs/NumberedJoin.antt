@@ -26,7 +26,7 @@ module _ {X : Type 0} (rows : List (List X)) (kept spent : ℕ) (apart : kept �
       row_other (with_more rows kept (row_of rows spent)) spent other [] not_spent ∙ row_other rows kept other (row_of rows kept ++ row_of rows spent) not_kept
 
 -- a number of the row counts
-own_counts : (row : List Own) (own : Own) → Contains row own → 1 ≤ owns own.number row
+pub own_counts : (row : List Own) (own : Own) → Contains row own → 1 ≤ owns own.number row
 own_counts row own (k, within, at) =
     let here : truth ((slice_index_or row k own).number == own.number) ≡ 1 = ap (λ (o : Own). truth (o.number == own.number)) at ∙ ap truth (eq-eqb own.number own.number refl) in
     omega (arith, get_or-le-sum_by (λ (o : Own). truth (o.number == own.number)) row k own within, here)
