@@ -28,3 +28,4 @@ pub mod PlacedAlike
 pub mod PlacedChanges
 pub mod PlacedWritten
 pub mod PlacedLists
+pub mod PlacedSteps

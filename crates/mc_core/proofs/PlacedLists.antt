@@ -63,7 +63,7 @@ more_it : (chunk : ChunkId) (chunks : List ChunkId) → times chunk (chunk ∷ c
 more_it chunk chunks = let one : truth (is_chunk chunk chunk) ≡ 1 = ap truth (is_chunk-same chunk) in omega (arith, times-cons chunk chunk chunks, one)
 
 -- what the next free chunk says of the list
-first_is : (chunks : List ChunkId) (chunk : ChunkId) → slice_get chunks 0 ≡ Some chunk → (rest : List ChunkId) × (chunks ≡ chunk ∷ rest)
+pub first_is : (chunks : List ChunkId) (chunk : ChunkId) → slice_get chunks 0 ≡ Some chunk → (rest : List ChunkId) × (chunks ≡ chunk ∷ rest)
 first_is [] chunk h = absurd (cc)
 first_is (c ∷ rest) chunk h = let same : c ≡ chunk = (cc) in (rest, ap (λ (x : ChunkId). x ∷ rest) same)
 
