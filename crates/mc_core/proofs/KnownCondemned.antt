@@ -1,0 +1,181 @@
+-- Known items as the item of a chunk is taken away, and as two hands become one.
+use Rattle.std.proofs.Common.{◌≡◌, ◌≢◌, ℕ, ◌+◌, ◌<◌, ◌≤◌, ◌&&◌, ◌==◌, not, Bool, true, false, List, [], ◌∷◌, ◌++◌, length, refl, sym, ap, subst, ◌∙◌, inl, inr, arith, slice_set, Option, Some, None, Contains, All, eqb-true, eq-eqb}
+use Rattle.std.proofs.lemmas.Bool.{and_parts, both_ways, cases_eq}
+use Rattle.std.proofs.lemmas.List.{nil_from_length}
+use Rattle.std.proofs.lemmas.List.Elements.{All-nil, All-weaker}
+use Rattle.mc_pages.specs.declared.ids.ChunkId.{ChunkId}
+use Rattle.mc_core.specs.declared.event.Step.TheVariants.{Condemn, Join}
+use Rattle.mc_core.specs.declared.head.Head.{Head}
+use Rattle.mc_core.specs.declared.head.Tag.TheVariants.{Linked}
+use Rattle.mc_core.specs.declared.holding.Holding.{Holding}
+use Rattle.mc_core.specs.declared.holding.Kind.{Kind}
+use Rattle.mc_core.specs.declared.holding.Kind.TheVariants.{Reference, Fresh}
+use Rattle.mc_core.specs.declared.holding.Purpose.TheVariants.{Item, Copy, Rescue}
+use Rattle.mc_core.specs.Head.{is_linked}
+use Rattle.mc_core.specs.Holdings.{Words, stamp_in, is_fresh, is_fresh_kind, is_copy_of, is_copy_kind}
+use Rattle.mc_core.specs.State.{State, is_hand, has_chunk, head_at, item_at, has_slabs, has_stripe, stripe_of, stripe_at, holdings_at, with_head, without_holding}
+use Rattle.mc_core.specs.Evictions.{is_idle, condemned, key_at, has_copy, has_reason, can_take_away, with_told, with_rescue, with_bound, as_rescue, copy_of}
+use Rattle.mc_core.specs.Hands as hands
+use Rattle.mc_core.specs.Past.{Moment, Known, Saying, with_more, known_by, moment_stepped}
+use Rattle.mc_core.specs.Columns.{head_in, Each, IsKnownToSome}
+use Rattle.mc_core.specs.Knowing.{IsSaid}
+use Rattle.mc_core.specs.Laws.{MayStep}
+use Rattle.mc_core.specs.Lawful.{IsLawful, KnownIn}
+use Rattle.mc_core.proofs.Base.{each_map}
+use Rattle.mc_core.proofs.Plays.{hand_there}
+use Rattle.mc_core.proofs.Rows.{rows_less, rows_more, each_more}
+use Rattle.mc_core.proofs.Holders.{found_passes, found_each}
+use Rattle.mc_core.proofs.MoreRows.{row_of, row_other, joined_rows, each_joined, joined_contains}
+use Rattle.mc_core.proofs.SaidOnce.{said_joined, once_joined}
+use Rattle.mc_core.proofs.KnownStill.{IsApartFrom}
+use Rattle.mc_core.proofs.KnownQuiet.{known_turned, apart_less, own_less, own_added, all_agree, IsOwn, IsStill, younger_condemned}
+use Rattle.mc_core.proofs.KnownLearned.{AreOne}
+use Rattle.mc_core.proofs.KnownChunks.{KnownAt, known_end}
+use Rattle.mc_core.proofs.KnownReferences.{linked_tag}
+
+-- a copy is fresh
+pub copy_fresh : (old : ChunkId) (kind : Kind) → is_copy_kind old kind ≡ true → is_fresh_kind kind ≡ true
+copy_fresh old Reference h = absurd (cc)
+copy_fresh old (Fresh purpose) h = refl
+
+-- what may be condemned
+pub record IsCondemnable (s : State) (hand : ℕ) (chunk : ChunkId) : Type 0 where
+  pub slabs : has_slabs s hand ≡ true
+  pub near : has_chunk s.table chunk ≡ true
+  pub linked : (head_at s chunk).tag ≡ Linked
+  pub alone : (head_at s chunk).count ≡ 1
+
+pub condemnable : (m : Moment) (hand : ℕ) (chunk : ChunkId) → MayStep m hand (Condemn chunk) → IsCondemnable m.state hand chunk
+condemnable m hand chunk may =
+    let reason = and_parts _ (has_reason m.state hand chunk) may.allowed in
+    let take = and_parts _ (can_take_away (stripe_at m.state (stripe_of m.state (key_at m.state chunk))) (key_at m.state chunk) (has_copy m.state hand chunk)) reason.0 in
+    let stripe = and_parts _ (has_stripe m.state hand (stripe_of m.state (key_at m.state chunk))) take.0 in
+    let idle = and_parts _ (is_idle (head_at m.state chunk)) stripe.0 in
+    let both = and_parts (has_slabs m.state hand) (has_chunk m.state.table chunk) idle.0 in
+    let head = and_parts (is_linked (head_at m.state chunk).tag) ((head_at m.state chunk).count == 1) idle.1 in
+    record { slabs = both.0; near = both.1; linked = linked_tag (head_at m.state chunk).tag head.0; alone = eqb-true (head_at m.state chunk).count 1 head.1 }
+
+module _ (m : Moment) (hand : ℕ) (chunk : ChunkId) (may : MayStep m hand (Condemn chunk)) where
+  abbrev l : IsLawful m
+  l = may.lawful
+
+  abbrev is : IsCondemnable m.state hand chunk
+  is = condemnable m hand chunk may
+
+  abbrev head : Head
+  head = condemned (head_at m.state chunk)
+
+  abbrev told : State
+  told = with_told m.state hand chunk (key_at m.state chunk)
+
+  abbrev less : List (List Holding)
+  less = rows_less m.state.holdings hand (is_copy_of chunk)
+
+  -- what is left where the hand's copy is this
+  abbrev end : Option Holding → State
+  end copy = with_head (with_rescue (without_holding told hand (is_copy_of chunk)) hand chunk (item_at m.state chunk) copy) chunk head
+
+  condemned_with : (rows' : List (List Holding)) → ((k : Known) → IsStill m l k → Each (IsApartFrom k) rows') → ((other : ℕ) → Rattle.std.specs.List.All (IsOwn m.past.known other) (row_of rows' other)) →
+      KnownAt (record (with_head told chunk head) { holdings = rows' }) m.past.said m.past.known
+  condemned_with rows' apart own =
+      known_turned m l m.state.slabs chunk head rows' (λ page. refl) is.near (younger_condemned (head_at m.state chunk) is.linked) (λ never. absurd (cc)) apart own
+
+  condemned_of : (copy : Option Holding) → copy_of m.state hand chunk ≡ copy → KnownAt (end copy) m.past.said m.past.known
+  condemned_of None found = condemned_with less (apart_less m l hand (is_copy_of chunk)) (own_less m l hand (is_copy_of chunk))
+  condemned_of (Some holding) found =
+      let fresh = copy_fresh chunk holding.kind (found_passes (is_copy_of chunk) (holdings_at m.state hand) holding found) in
+      let rescue : Holding = as_rescue chunk (item_at m.state chunk) holding in
+      condemned_with (rows_more less hand rescue)
+      (λ k still. each_more less hand (IsApartFrom k) rescue (apart_less m l hand (is_copy_of chunk) k still)
+      (λ _. found_each (IsApartFrom k) m.state.holdings hand (is_copy_of chunk) holding found still.apart fresh))
+      (own_added m l less hand rescue (own_less m l hand (is_copy_of chunk)) refl)
+
+  pub known_condemn : KnownIn (moment_stepped m hand (Condemn chunk))
+  known_condemn = known_end m hand (end (copy_of m.state hand chunk)) (condemned_of (copy_of m.state hand chunk) refl)
+
+-- what two hands are that may become one
+pub record AreJoined (m : Moment) (hand kept spent : ℕ) : Type 0 where
+  pub same : hand ≡ kept
+  pub apart : kept ≢ spent
+  pub there : is_hand m.state kept ≡ true
+  pub there_too : is_hand m.state spent ≡ true
+  pub nothing : row_of m.state.holdings kept ≡ []
+  pub nothing_too : row_of m.state.holdings spent ≡ []
+
+differ : (a b : ℕ) → not (a == b) ≡ true → a ≢ b
+differ a b h same = both_ways (not (a == b)) (ap not (eq-eqb a b same)) h
+
+pub are_joined : (m : Moment) (hand kept spent : ℕ) → MayStep m hand (Join kept spent) → AreJoined m hand kept spent
+are_joined m hand kept spent may =
+    let idle = and_parts _ (hands.is_idle m.state spent) may.allowed in
+    let idle' = and_parts _ (hands.is_idle m.state kept) idle.0 in
+    let there = and_parts _ (is_hand m.state spent) idle'.0 in
+    let apart = and_parts (hand == kept) (not (kept == spent)) there.0 in
+    let same = eqb-true hand kept apart.0 in
+    record {
+      same = same;
+      apart = differ kept spent apart.1;
+      there = subst (λ n. is_hand m.state n ≡ true) same may.there;
+      there_too = there.1;
+      nothing = nil_from_length (row_of m.state.holdings kept) (eqb-true (length (row_of m.state.holdings kept)) 0 (and_parts _ (length (row_of m.state.holdings kept) == 0) idle'.1).1);
+      nothing_too = nil_from_length (row_of m.state.holdings spent) (eqb-true (length (row_of m.state.holdings spent)) 0 (and_parts _ (length (row_of m.state.holdings spent) == 0) idle.1).1);
+    }
+
+module _ (m : Moment) (hand kept spent : ℕ) (may : MayStep m hand (Join kept spent)) where
+  abbrev lawful : IsLawful m
+  lawful = may.lawful
+
+  abbrev join : AreJoined m hand kept spent
+  join = are_joined m hand kept spent may
+
+  abbrev said' : List (List Saying)
+  said' = joined_rows m.past.said kept spent
+
+  abbrev known' : List (List Known)
+  known' = joined_rows m.past.known kept spent
+
+  within : (n : ℕ) → is_hand m.state n ≡ true → n < length m.state.ids
+  within n there = hand_there m.state n there
+
+  said_still : (stamp : ℕ) (words : Words) → IsSaid m.past.said stamp words → IsSaid said' stamp words
+  said_still stamp words said =
+      let rows = lawful.rows.said in let is = within kept join.there in said_joined m.past.said kept spent stamp words join.apart (omega arith) said
+
+  known_still : (P : Known → Type 0) → IsKnownToSome m.past.known P → IsKnownToSome known' P
+  known_still P (other, k, has, p) =
+      let rows = lawful.rows.known in let is = within kept join.there in
+      let there = joined_contains m.past.known kept spent other k join.apart (omega arith) has in (there.0, k, there.1, p)
+
+  none_own : (other : ℕ) → row_of m.state.holdings other ≡ [] → All (IsOwn known' other) (row_of m.state.holdings other)
+  none_own other none = subst (λ (row : List Holding). All (IsOwn known' other) row) (sym none) (All-nil (IsOwn known' other))
+
+  own_still : (other : ℕ) → All (IsOwn known' other) (row_of m.state.holdings other)
+  own_still other =
+      elim (cases_eq other spent) [
+        | inl same ↦ subst (λ n. All (IsOwn known' n) (row_of m.state.holdings n)) (sym same) (none_own spent join.nothing_too)
+        | inr apart ↦
+            elim (cases_eq other kept) [
+              | inl same ↦ subst (λ n. All (IsOwn known' n) (row_of m.state.holdings n)) (sym same) (none_own kept join.nothing)
+              | inr apart_too ↦
+                  let row : row_of known' other ≡ row_of m.past.known other =
+                  row_other (with_more m.past.known kept (row_of m.past.known spent)) spent other [] apart ∙ row_other m.past.known kept other (row_of m.past.known kept ++ row_of m.past.known spent) apart_too in
+                  All-weaker (IsOwn m.past.known other) (IsOwn known' other) (λ holding own stale. subst (λ (r : List Known). Contains r (known_by holding)) (sym row) (own stale)) (row_of m.state.holdings other) (lawful.known.own other)
+            ]
+      ]
+
+  pub known_join : KnownIn (moment_stepped m hand (Join kept spent))
+  known_join =
+      let rows = lawful.rows.said in let in_kept = within kept join.there in let in_spent = within spent join.there_too in
+      let once = λ (stamp : ℕ). once_joined m.past.said kept spent stamp join.apart (omega arith) (omega arith) (lawful.known.once stamp) in
+      let by_some = each_joined (λ k. IsSaid said' (stamp_in k.words) k.words) m.past.known kept spent
+      (each_map (λ k. IsSaid m.past.said (stamp_in k.words) k.words) (λ k. IsSaid said' (stamp_in k.words) k.words) m.past.known (λ k. said_still (stamp_in k.words) k.words) lawful.known.said_by_some) in
+      record {
+        once = once;
+        agree = all_agree said' known' once by_some;
+        said_by_some = by_some;
+        still = each_joined (IsStill m lawful) m.past.known kept spent lawful.known.still;
+        one = each_joined (λ k. Each (AreOne k) known') m.past.known kept spent
+            (each_map (λ k. Each (AreOne k) m.past.known) (λ k. Each (AreOne k) known') m.past.known (λ k all. each_joined (AreOne k) m.past.known kept spent all) lawful.known.one);
+        own = own_still;
+        linked = λ chunk near linked. known_still (λ k. (k.chunk ≡ chunk) × (k.issue ≡ (head_in m.state.table m.state.heads chunk).issue)) (lawful.known.linked chunk near linked);
+      }

@@ -1,0 +1,83 @@
+-- Known items as a word of a fresh chunk is written.
+use Rattle.std.proofs.Common.{◌≡◌, ℕ, ◌+◌, ◌<◌, ◌≤◌, ◌&&◌, Bool, true, false, List, [], ◌∷◌, ◌++◌, length, refl, sym, ap, subst, ◌∙◌, arith, slice_set, slice_get, slice_index, Option, Some, None, nat_lt, ltb-true, get_or-set_other}
+use Rattle.std.proofs.lemmas.Bool.{and_parts}
+use Rattle.std.proofs.lemmas.Option.{slice_get_within}
+use Rattle.mc_pages.specs.declared.ids.ChunkId.{ChunkId}
+use Rattle.mc_pages.specs.SlabState.{class_of_page}
+use Rattle.mc_pages.proofs.Chunks.{same_from_is_chunk}
+use Rattle.mc_core.specs.declared.event.Step.TheVariants.{Fill}
+use Rattle.mc_core.specs.declared.holding.Holding.{Holding}
+use Rattle.mc_core.specs.Holdings.{Words, is_of, holding_of, is_fresh}
+use Rattle.mc_core.specs.State.{State, has_chunk, room_in, holdings_at, with_word, without_holding}
+use Rattle.mc_core.specs.Chunks.{can_fill_in, refilled, after_fill}
+use Rattle.mc_core.specs.Past.{Moment, Known, with_more, moment_stepped}
+use Rattle.mc_core.specs.Columns.{head_in, place_in, Shows, IsHandedOut}
+use Rattle.mc_core.specs.Counts.{IsSized}
+use Rattle.mc_core.specs.Knowing.{IsTrueStill}
+use Rattle.mc_core.specs.Laws.{MayStep}
+use Rattle.mc_core.specs.Lawful.{IsLawful, KnownIn}
+use Rattle.mc_core.proofs.Base.{IsPlaced, placed_at, same_word, held_out, IsOut}
+use Rattle.mc_core.proofs.Rows.{rows_less, rows_more, each_more}
+use Rattle.mc_core.proofs.Holders.{found_passes, found_all, found_each}
+use Rattle.mc_core.proofs.KnownStill.{IsApartFrom}
+use Rattle.mc_core.proofs.KnownQuiet.{known_quiet, apart_less, own_less, own_added, IsStill}
+use Rattle.mc_core.proofs.KnownChunks.{KnownAt, known_end}
+
+module _ (m : Moment) (l : IsLawful m) (chunk : ChunkId) (place word : ℕ) (placed : IsPlaced m.state.slabs chunk) (on : place < room_in m.state.table (class_of_page m.state.slabs chunk.page)) where
+  -- a word of one chunk is no word of another
+  pub shows_filled : (other : ChunkId) (known : Words) → IsPlaced m.state.slabs other → (other ≡ chunk → ⊥) → Shows m.state.table m.state.slabs m.state.words other known →
+      Shows m.state.table m.state.slabs (slice_set m.state.words (place_in m.state.table m.state.slabs chunk place) word) other known
+  shows_filled other known is apart shows = record {
+    fits = shows.fits;
+    known_words = λ at w e.
+        let fit = shows.fits in
+        let within = slice_get_within known at (Some w) e in
+        get_or-set_other m.state.words (place_in m.state.table m.state.slabs chunk place) (place_in m.state.table m.state.slabs other at) word 0
+        (λ same. apart (same_word m l other chunk at place is placed (omega arith) on same).0)
+        ∙ shows.known_words at w e;
+  }
+
+  -- what is known of other chunks stays true
+  pub still_filled : (rows' : List (List Holding)) (k : Known) → (IsHandedOut (head_in m.state.table m.state.heads k.chunk) k.issue → k.chunk ≡ chunk → ⊥) →
+      Rattle.mc_core.specs.Columns.Each (IsApartFrom k) rows' → IsStill m l k →
+      IsTrueStill m.state.table m.state.slabs m.state.heads (slice_set m.state.words (place_in m.state.table m.state.slabs chunk place) word) rows' k
+  still_filled rows' k other apart is = record {
+    inside = is.inside;
+    whole = is.whole;
+    older = is.older;
+    shows = λ out. shows_filled k.chunk k.words (placed_at m l k.chunk k.issue is.inside out).0 (other out) (is.shows out);
+    apart = apart;
+  }
+
+module _ (m : Moment) (hand : ℕ) (chunk : ChunkId) (place word : ℕ) where
+  known_filled : (l : IsLawful m) (holding : Holding) → holding_of chunk (holdings_at m.state hand) ≡ Some holding → can_fill_in place (Some holding) ≡ true →
+      KnownAt (with_word (refilled (without_holding m.state hand (is_of chunk)) hand place word (Some holding)) chunk place word) (with_more m.past.said hand []) (with_more m.past.known hand [])
+  known_filled l holding found can =
+      let row = holdings_at m.state hand in
+      let parts = and_parts (is_fresh holding) (nat_lt place (length holding.words)) can in
+      let at : holding.chunk ≡ chunk = same_from_is_chunk holding.chunk chunk (found_passes (is_of chunk) row holding found) in
+      let out = found_all (IsOut m l) (is_of chunk) row holding found (held_out m l hand) in
+      let sized = found_each (λ h. IsSized (room_in m.state.table (class_of_page m.state.slabs h.chunk.page)) h) m.state.holdings hand (is_of chunk) holding found l.held.sized in
+      let long = sized.0 parts.0 in
+      let within = ltb-true place (length holding.words) parts.1 in
+      let on : place < room_in m.state.table (class_of_page m.state.slabs chunk.page) =
+      subst (λ (c : ChunkId). place < room_in m.state.table (class_of_page m.state.slabs c.page)) at (omega arith) in
+      let placed : IsPlaced m.state.slabs chunk = subst (λ (c : ChunkId). IsPlaced m.state.slabs c) at (placed_at m l holding.chunk holding.issue out.0 out.1).0 in
+      let filled : Holding = record holding { words = slice_set holding.words place (Some word) } in
+      let apart = λ (k : Known) (is : IsStill m l k). found_each (IsApartFrom k) m.state.holdings hand (is_of chunk) holding found is.apart in
+      let less = rows_less m.state.holdings hand (is_of chunk) in
+      let end : State = with_word (refilled (without_holding m.state hand (is_of chunk)) hand place word (Some holding)) chunk place word in
+      known_end m hand end
+      (known_quiet m l m.state.slabs m.state.heads (slice_set m.state.words (place_in m.state.table m.state.slabs chunk place) word) (rows_more less hand filled)
+      (λ k is. still_filled m l chunk place word placed on (rows_more less hand filled) k
+      (λ shown same. apart k is parts.0 (at ∙ sym same) (sym out.1.1 ∙ (ap (λ (c : ChunkId). (head_in m.state.table m.state.heads c).issue) (at ∙ sym same) ∙ shown.1)))
+      (each_more less hand (IsApartFrom k) filled (apart_less m l hand (is_of chunk) k is) (apart k is)) is)
+      (own_added m l less hand filled (own_less m l hand (is_of chunk)) parts.0) l.known.linked)
+
+  pub known_fill : MayStep m hand (Fill chunk place word) → KnownIn (moment_stepped m hand (Fill chunk place word))
+  known_fill may =
+      elim (holding_of chunk (holdings_at m.state hand)) as (λ o. holding_of chunk (holdings_at m.state hand) ≡ o → can_fill_in place o ≡ true →
+      KnownAt (with_word (refilled (without_holding m.state hand (is_of chunk)) hand place word o) chunk place word) (with_more m.past.said hand []) (with_more m.past.known hand [])) [
+        | None ↦ λ _ never. absurd (cc)
+        | Some holding ↦ λ found can. known_filled may.lawful holding found can
+      ] refl may.allowed

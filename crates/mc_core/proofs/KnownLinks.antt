@@ -1,0 +1,186 @@
+-- Known items as a fresh chunk is linked.
+use Rattle.std.proofs.Common.{◌≡◌, ℕ, ◌+◌, ◌<◌, ◌≤◌, ◌&&◌, Bool, true, false, List, [], ◌∷◌, ◌++◌, length, refl, sym, ap, subst, ◌∙◌, arith, slice_set, Option, Some, None, eqb-true}
+use Rattle.std.specs.Bool.{nat_eq}
+use Rattle.std.specs.Option.{option_eq}
+use Rattle.std.proofs.lemmas.Bool.{and_parts, both_ways}
+use Rattle.mc_pages.specs.declared.ids.ChunkId.{ChunkId}
+use Rattle.mc_pages.proofs.Chunks.{same_from_is_chunk}
+use Rattle.mc_core.specs.declared.event.Step.TheVariants.{Link}
+use Rattle.mc_core.specs.declared.head.Head.{Head}
+use Rattle.mc_core.specs.declared.head.Tag.{Tag}
+use Rattle.mc_core.specs.declared.head.Tag.TheVariants.{Out, Free, Unlinked, Linked}
+use Rattle.mc_core.specs.declared.holding.Holding.{Holding}
+use Rattle.mc_core.specs.declared.holding.Kind.{Kind}
+use Rattle.mc_core.specs.declared.holding.Kind.TheVariants.{Reference, Fresh}
+use Rattle.mc_core.specs.declared.holding.Purpose.TheVariants.{Item, Copy, Rescue}
+use Rattle.mc_core.specs.Head.{is_unlinked}
+use Rattle.mc_core.specs.Holdings.{Words, stamp_in, item_in, is_complete, is_of, holding_of, is_fresh, is_fresh_kind}
+use Rattle.mc_core.specs.State.{State, is_hand, has_chunk, head_place, head_at, ids_at, with_head, holdings_at, with_holding, without_holding}
+use Rattle.mc_core.specs.Items.{linked, as_reference, told_link, after_link_of, are_same, suits, can_link_key, can_tell_link, can_link_holding, can_count, is_next_stamp}
+use Rattle.mc_core.specs.Past.{Moment, Known, Saying, with_more, saying_of, said_by, known_by, known_of_holding, moment_stepped}
+use Rattle.mc_core.specs.Columns.{head_in, Each, Shows}
+use Rattle.mc_core.specs.Identities.{said_count}
+use Rattle.mc_core.specs.Knowing.{IsSaid, IsRescue, IsTrueStill}
+use Rattle.mc_core.specs.Laws.{MayStep}
+use Rattle.mc_core.specs.Lawful.{IsLawful, KnownIn}
+use Rattle.mc_core.proofs.Base.{each_map, held_out, IsOut}
+use Rattle.mc_core.proofs.Plays.{hand_there}
+use Rattle.mc_core.proofs.Rows.{rows_less, rows_more, each_more}
+use Rattle.mc_core.proofs.Holders.{found_passes, found_all, found_each, fresh_lost, nobodys}
+use Rattle.mc_core.proofs.MoreRows.{row_of, with_none, more_added, one_contained}
+use Rattle.mc_core.proofs.SaidOnce.{said_more, next_unsaid, once_more}
+use Rattle.mc_core.proofs.ShownItems.{item_whole, item_stamp, shows_item}
+use Rattle.mc_core.proofs.KnownStill.{IsApartFrom, head_now, still_turned}
+use Rattle.mc_core.proofs.KnownQuiet.{IsStill, apart_less, own_less, younger_linked}
+use Rattle.mc_core.proofs.KnownLearned.{AreOne, known_learned}
+use Rattle.mc_core.proofs.KnownChunks.{KnownAt}
+
+-- two items that are the same
+pub same_words : (a b : Words) → are_same a b ≡ true → a ≡ b
+same_words [] [] h = refl
+same_words [] (y ∷ ys) h = absurd (cc)
+same_words (x ∷ xs) [] h = absurd (cc)
+same_words (x ∷ xs) (y ∷ ys) h =
+    let parts = and_parts (option_eq nat_eq x y) (are_same xs ys) h in
+    let first = same_word_of x y parts.0 in let rest = same_words xs ys parts.1 in cc
+  where
+    same_word_of : (x y : Option ℕ) → option_eq nat_eq x y ≡ true → x ≡ y
+    same_word_of None None h = refl
+    same_word_of None (Some y) h = absurd (cc)
+    same_word_of (Some x) None h = absurd (cc)
+    same_word_of (Some x) (Some y) h = ap Some (eqb-true x y h)
+
+unlinked_tag : (tag : Tag) → is_unlinked tag ≡ true → tag ≡ Unlinked
+unlinked_tag Out h = absurd (cc)
+unlinked_tag Free h = absurd (cc)
+unlinked_tag Unlinked h = refl
+unlinked_tag Linked h = absurd (cc)
+
+module _ (m : Moment) (l : IsLawful m) (hand : ℕ) (there : is_hand m.state hand ≡ true) (chunk : ChunkId) (holding : Holding) (found : holding_of chunk (holdings_at m.state hand) ≡ Some holding)
+    (fresh : is_fresh holding ≡ true) (complete : is_complete holding.words ≡ true) (unlinked : is_unlinked (head_at m.state chunk).tag ≡ true) where
+  abbrev row : List Holding
+  row = holdings_at m.state hand
+
+  abbrev head : Head
+  head = linked (head_at m.state chunk)
+
+  abbrev less : List (List Holding)
+  less = rows_less m.state.holdings hand (is_of chunk)
+
+  abbrev reference : Holding
+  reference = as_reference holding
+
+  abbrev knew : Known
+  knew = known_by reference
+
+  at : holding.chunk ≡ chunk
+  at = same_from_is_chunk holding.chunk chunk (found_passes (is_of chunk) row holding found)
+
+  out : IsOut m l holding
+  out = found_all (IsOut m l) (is_of chunk) row holding found (held_out m l hand)
+
+  near : has_chunk m.state.table chunk ≡ true
+  near = subst (λ (c : ChunkId). has_chunk m.state.table c ≡ true) at out.0
+
+  issue_is : holding.issue ≡ (head_at m.state chunk).issue
+  issue_is = sym out.1.1 ∙ ap (λ (c : ChunkId). (head_in m.state.table m.state.heads c).issue) at
+
+  abbrev IsStillNow : Known → Type 0
+  IsStillNow k = IsTrueStill m.state.table m.state.slabs (slice_set m.state.heads (head_place m.state.table chunk) head) m.state.words (rows_more less hand reference) k
+
+  still : (k : Known) → IsStill m l k → IsStillNow k
+  still k is =
+      still_turned m.state.table m.state.heads chunk head l.sized.headers near m.state.slabs m.state.slabs m.state.words m.state.holdings (rows_more less hand reference) k
+      (younger_linked (head_at m.state chunk) (unlinked_tag (head_at m.state chunk).tag unlinked)) refl
+      (each_more less hand (IsApartFrom k) reference (apart_less m l hand (is_of chunk) k is) (λ never _ _. absurd (cc))) is
+
+  -- no fresh holding of the chunk is left
+  knew_apart : Each (IsApartFrom knew) (rows_more less hand reference)
+  knew_apart =
+      each_more less hand (IsApartFrom knew) reference
+      (each_map (λ h. h.chunk ≡ holding.chunk → ⊥) (IsApartFrom knew) less (λ h other _ same _. other same) (nobodys holding.chunk less (fresh_lost m l hand there (is_of chunk) holding found fresh)))
+      (λ never _ _. absurd (cc))
+
+  knew_still : IsStillNow knew
+  knew_still =
+      let whole = item_whole holding.words complete in
+      record {
+        inside = out.0;
+        whole = (whole.complete, whole.long);
+        older = head_now m.state.table m.state.heads chunk head l.sized.headers near (λ h. holding.issue ≤ h.issue) holding.chunk out.0 (λ _. let same = issue_is in omega arith) (λ _. let same = out.1.1 in omega arith);
+        shows = λ _. shows_item m.state.table m.state.slabs m.state.words holding.chunk holding.words complete
+            (found_each (λ h. Shows m.state.table m.state.slabs m.state.words h.chunk h.words) m.state.holdings hand (is_of chunk) holding found l.held.shows);
+        apart = knew_apart;
+      }
+
+  -- nobody knew an item of the fresh chunk
+  none_knew : Each (AreOne knew) m.past.known
+  none_knew =
+      each_map (IsStill m l) (AreOne knew) m.past.known
+      (λ k is same issue. absurd (found_each (IsApartFrom k) m.state.holdings hand (is_of chunk) holding found is.apart fresh (sym same) (sym issue)))
+      l.known.still
+
+  pub link_learned : (said' : List (List Saying)) → ((stamp : ℕ) → said_count stamp said' ≤ 1) → ((stamp : ℕ) (words : Words) → IsSaid m.past.said stamp words → IsSaid said' stamp words) →
+      IsSaid said' (stamp_in holding.words) (item_in holding.words) → KnownAt (with_holding (with_head (without_holding m.state hand (is_of chunk)) chunk head) hand reference) said' (with_more m.past.known hand (knew ∷ []))
+  link_learned said' once more said =
+      known_learned m l hand there knew chunk head near reference less said' once more
+      (subst (λ n. IsSaid said' n (item_in holding.words)) (sym (item_stamp holding.words complete)) said)
+      still knew_still none_knew (own_less m l hand (is_of chunk)) refl at issue_is
+
+module _ (m : Moment) (hand : ℕ) (chunk : ChunkId) where
+  abbrev left : State
+  left = without_holding m.state hand (is_of chunk)
+
+  -- what is left when the stripe was told of a holding of this kind
+  abbrev ends : Holding → Kind → State
+  ends holding kind = with_holding (with_head (told_link left hand holding kind) chunk (linked (head_at left chunk))) hand (as_reference holding)
+
+  abbrev Goal : Holding → Kind → Type 0
+  Goal holding kind = KnownAt (ends holding kind) (with_more m.past.said hand (saying_of kind holding.words)) (with_more m.past.known hand (known_by (as_reference holding) ∷ []))
+
+  module _ (may : MayStep m hand (Link chunk)) (holding : Holding) (found : holding_of chunk (holdings_at m.state hand) ≡ Some holding) (complete : is_complete holding.words ≡ true)
+      (unlinked : is_unlinked (head_at m.state chunk).tag ≡ true) where
+    within : hand < length m.past.said
+    within = let rows = may.lawful.rows.said in let is = hand_there m.state hand may.there in omega arith
+
+    -- an item of the hand's own is said
+    linked_own : is_fresh holding ≡ true → is_next_stamp (ids_at m.state hand) (stamp_in holding.words) ≡ true →
+        KnownAt (with_holding (with_head left chunk (linked (head_at m.state chunk))) hand (as_reference holding)) (with_more m.past.said hand (record { stamp = stamp_in holding.words; words = item_in holding.words } ∷ []))
+        (with_more m.past.known hand (known_by (as_reference holding) ∷ []))
+    linked_own fresh next =
+        let l = may.lawful in
+        let s : Saying = record { stamp = stamp_in holding.words; words = item_in holding.words } in
+        let unsaid = next_unsaid m.state.ids m.past.mine m.past.said m.past.known hand s.stamp l.numbered next in
+        link_learned m l hand may.there chunk holding found fresh complete unlinked (with_more m.past.said hand (s ∷ []))
+        (λ stamp. once_more m.past.said hand s stamp within unsaid (l.known.once stamp)) (λ stamp words. said_more m.past.said hand (s ∷ []) stamp words)
+        (hand, s, more_added m.past.said hand (s ∷ []) s within (one_contained s), refl, refl)
+
+    -- what was rescued was said
+    linked_rescued : (old : ChunkId) (item : Words) → holding.kind ≡ Fresh (Rescue old item) → are_same (item_in holding.words) item ≡ true → Goal holding (Fresh (Rescue old item))
+    linked_rescued old item kind same =
+        let l = may.lawful in
+        let fresh : is_fresh holding ≡ true = ap is_fresh_kind kind in
+        let is = same_words (item_in holding.words) item same in
+        let rescue : IsRescue m.past.said (Fresh (Rescue old item)) = subst (IsRescue m.past.said) kind (found_each (λ h. IsRescue m.past.said h.kind) m.state.holdings hand (is_of chunk) holding found l.rescued) in
+        let said : IsSaid m.past.said (stamp_in holding.words) (item_in holding.words) =
+        subst (λ n. IsSaid m.past.said n (item_in holding.words)) (item_stamp holding.words complete) (subst (λ (ws : Words). IsSaid m.past.said (stamp_in ws) ws) (sym is) rescue.2) in
+        subst (λ (s : List (List Saying)). KnownAt (ends holding (Fresh (Rescue old item))) s (with_more m.past.known hand (known_by (as_reference holding) ∷ []))) (sym (with_none m.past.said hand))
+        (link_learned m l hand may.there chunk holding found fresh complete unlinked m.past.said l.known.once (λ stamp words is. is) said)
+
+    linked_kind : (kind : Kind) → holding.kind ≡ kind → suits m.state hand holding.words kind ≡ true → Goal holding kind
+    linked_kind Reference kind can = absurd (cc)
+    linked_kind (Fresh Item) kind can = linked_own (ap is_fresh_kind kind) (and_parts _ _ can).0
+    linked_kind (Fresh (Copy old)) kind can = linked_own (ap is_fresh_kind kind) (and_parts _ _ can).0
+    linked_kind (Fresh (Rescue old item)) kind can = linked_rescued old item kind (and_parts _ _ can).0
+
+  pub known_link : MayStep m hand (Link chunk) → KnownIn (moment_stepped m hand (Link chunk))
+  known_link may =
+      elim (holding_of chunk (holdings_at m.state hand)) as (λ o. holding_of chunk (holdings_at m.state hand) ≡ o → can_link_holding m.state hand chunk o ≡ true →
+      KnownAt (after_link_of left hand chunk o) (with_more m.past.said hand (said_by o)) (with_more m.past.known hand (known_of_holding o))) [
+        | None ↦ λ _ never. absurd (cc)
+        | Some holding ↦ λ found can.
+            let parts = and_parts _ (can_count (head_at m.state chunk)) can in
+            let tag = and_parts _ (is_unlinked (head_at m.state chunk).tag) parts.0 in
+            let tells = and_parts (is_complete holding.words) (can_tell_link m.state hand holding) tag.0 in
+            linked_kind may holding found tells.0 tag.1 holding.kind refl (and_parts _ (suits m.state hand holding.words holding.kind) tells.1).1
+      ] refl may.allowed

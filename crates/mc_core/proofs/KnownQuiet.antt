@@ -1,0 +1,128 @@
+-- Known items where nobody learns one.
+use Rattle.std.proofs.Common.{◌≡◌, ℕ, ◌+◌, ◌*◌, ◌<◌, ◌≤◌, Bool, true, false, List, [], ◌∷◌, ◌++◌, length, refl, sym, ap, subst, ◌∙◌, inl, inr, arith, slice_set, slice_index_or, Contains, All}
+use Rattle.std.proofs.lemmas.Bool.{both_ways}
+use Rattle.mc_classes.specs.Classes.{Classes, pages_of}
+use Rattle.mc_pages.specs.declared.ids.ChunkId.{ChunkId}
+use Rattle.mc_pages.specs.SlabState.{SlabState, class_of_page}
+use Rattle.mc_core.specs.declared.head.Head.{Head}
+use Rattle.mc_core.specs.declared.head.Tag.{Tag}
+use Rattle.mc_core.specs.declared.head.Tag.TheVariants.{Out, Free, Unlinked, Linked}
+use Rattle.mc_core.specs.declared.holding.Holding.{Holding}
+use Rattle.mc_core.specs.Holdings.{Words, stamp_in, is_fresh, lose}
+use Rattle.mc_core.specs.Past.{Moment, Known, Saying, known_by, with_more}
+use Rattle.mc_core.specs.State.{has_chunk, head_place, most_of}
+use Rattle.mc_core.specs.Chunks.{handed_out, let_go, with_tag_free, with_tag_out}
+use Rattle.mc_core.specs.Items.{linked, unlinked, referred}
+use Rattle.mc_core.specs.Evictions.{condemned}
+use Rattle.mc_core.specs.Columns.{head_in, Shows, Each, IsHandedOut, IsKnownToSome}
+use Rattle.mc_core.specs.Identities.{said_count}
+use Rattle.mc_core.specs.Knowing.{IsSaid, IsTrueStill, AreKnown}
+use Rattle.mc_core.specs.Lawful.{IsLawful}
+use Rattle.mc_core.proofs.Base.{each_map, each_row, all_lose, all_more}
+use Rattle.mc_core.proofs.Rows.{rows_less, rows_more, each_less, each_more}
+use Rattle.mc_core.proofs.MoreRows.{row_of, rows_set, with_none}
+use Rattle.mc_core.proofs.SaidOnce.{said_one}
+use Rattle.mc_core.proofs.KnownStill.{IsApartFrom, IsNoOlder, not_shown, still_turned, linked_turned}
+
+-- the hand knows the item, if the holding is a reference
+abbrev pub IsOwn : List (List Known) → ℕ → Holding → Type 0
+IsOwn known hand holding = is_fresh holding ≡ false → Contains (row_of known hand) (known_by holding)
+
+-- each linked chunk is known to some hand
+abbrev pub AreLinkedKnown : Classes → List Head → List (List Known) → Type 0
+AreLinkedKnown table heads known =
+    (chunk : ChunkId) → has_chunk table chunk ≡ true → (head_in table heads chunk).tag ≡ Linked → IsKnownToSome known (λ k. (k.chunk ≡ chunk) × (k.issue ≡ (head_in table heads chunk).issue))
+
+-- no step that says and learns nothing changes what was said and is known
+pub nothing_learned : (P : List (List Saying) → List (List Known) → Type 0) (said : List (List Saying)) (known : List (List Known)) (hand : ℕ) → P said known → P (with_more said hand []) (with_more known hand [])
+nothing_learned P said known hand p =
+    subst (λ (s : List (List Saying)). P s (with_more known hand [])) (sym (with_none said hand)) (subst (λ (k : List (List Known)). P said k) (sym (with_none known hand)) p)
+
+-- what is known agrees with what is said
+pub all_agree : (said : List (List Saying)) (known : List (List Known)) → ((stamp : ℕ) → said_count stamp said ≤ 1) → Each (λ k. IsSaid said (stamp_in k.words) k.words) known →
+    Each (λ k. (words : Words) → IsSaid said (stamp_in k.words) words → words ≡ k.words) known
+all_agree said known once each =
+    each_map (λ k. IsSaid said (stamp_in k.words) k.words) (λ k. (words : Words) → IsSaid said (stamp_in k.words) words → words ≡ k.words) known
+    (λ k is words too. said_one said (stamp_in k.words) words k.words (once (stamp_in k.words)) too is) each
+
+module _ (m : Moment) (l : IsLawful m) where
+  abbrev pub table : Classes
+  table = m.state.table
+
+  abbrev pub known : List (List Known)
+  known = m.past.known
+
+  abbrev pub rows : List (List Holding)
+  rows = m.state.holdings
+
+  -- what is known is as true as before
+  abbrev pub IsStill : Known → Type 0
+  IsStill k = IsTrueStill table m.state.slabs m.state.heads m.state.words rows k
+
+  pub known_quiet : (next : SlabState) (heads : List Head) (words : List ℕ) (rows' : List (List Holding)) → ((k : Known) → IsStill k → IsTrueStill table next heads words rows' k) →
+      ((hand : ℕ) → All (IsOwn known hand) (row_of rows' hand)) → AreLinkedKnown table heads known → AreKnown table next heads words rows' m.past.said known
+  known_quiet next heads words rows' still own linked = record {
+    once = l.known.once;
+    agree = l.known.agree;
+    said_by_some = l.known.said_by_some;
+    still = each_map IsStill (IsTrueStill table next heads words rows') known still l.known.still;
+    one = l.known.one;
+    own = own;
+    linked = linked;
+  }
+
+  -- one header, the order of lists, and rows of holdings
+  pub known_turned : (next : SlabState) (chunk : ChunkId) (head : Head) (rows' : List (List Holding)) → ((page : ℕ) → class_of_page next page ≡ class_of_page m.state.slabs page) → has_chunk table chunk ≡ true →
+      IsNoOlder (head_in table m.state.heads chunk) head → (head.tag ≡ Linked → ((head_in table m.state.heads chunk).tag ≡ Linked) × (head.issue ≡ (head_in table m.state.heads chunk).issue)) →
+      ((k : Known) → IsStill k → Each (IsApartFrom k) rows') → ((hand : ℕ) → All (IsOwn known hand) (row_of rows' hand)) →
+      AreKnown table next (slice_set m.state.heads (head_place table chunk) head) m.state.words rows' m.past.said known
+  known_turned next chunk head rows' same near younger tag apart own =
+      known_quiet next (slice_set m.state.heads (head_place table chunk) head) m.state.words rows'
+      (λ k is. still_turned table m.state.heads chunk head l.sized.headers near m.state.slabs next m.state.words rows rows' k younger (same k.chunk.page) (apart k is) is)
+      own
+      (linked_turned table m.state.heads chunk head l.sized.headers near known known (λ P some. some) l.known.linked
+      (λ is. let was = tag is in
+      subst (λ n. IsKnownToSome known (λ k. (k.chunk ≡ chunk) × (k.issue ≡ n))) (sym was.1) (l.known.linked chunk near was.0)))
+
+  -- the holdings may stay, or one go, or one come that is fresh
+  pub apart_same : (k : Known) → IsStill k → Each (IsApartFrom k) rows
+  apart_same k is = is.apart
+
+  pub apart_less : (hand : ℕ) (test : Holding → Bool) (k : Known) → IsStill k → Each (IsApartFrom k) (rows_less rows hand test)
+  apart_less hand test k is = each_less rows hand (IsApartFrom k) test is.apart
+
+  pub own_less : (hand : ℕ) (test : Holding → Bool) (other : ℕ) → All (IsOwn known other) (row_of (rows_less rows hand test) other)
+  own_less hand test = rows_set (IsOwn known) rows hand (lose test (row_of rows hand)) l.known.own (all_lose (IsOwn known hand) test (row_of rows hand) (l.known.own hand))
+
+  pub own_added : (rows' : List (List Holding)) (hand : ℕ) (holding : Holding) → ((other : ℕ) → All (IsOwn known other) (row_of rows' other)) → is_fresh holding ≡ true → (other : ℕ) → All (IsOwn known other) (row_of (rows_more rows' hand holding) other)
+  own_added rows' hand holding own fresh =
+      rows_set (IsOwn known) rows' hand (row_of rows' hand ++ holding ∷ []) own
+      (all_more (IsOwn known hand) (row_of rows' hand) holding (own hand) (λ stale. absurd (both_ways (is_fresh holding) stale fresh)))
+
+  pub own_fresh : (hand : ℕ) (holding : Holding) → is_fresh holding ≡ true → (other : ℕ) → All (IsOwn known other) (row_of (rows_more rows hand holding) other)
+  own_fresh hand holding fresh = own_added rows hand holding l.known.own fresh
+
+-- headers that show nothing new
+pub younger_handed_out : (old : Head) → IsNoOlder old (handed_out old)
+younger_handed_out old = record { issue = omega arith; shows = λ issue most out. absurd (let same = out.1 in omega arith) }
+
+pub younger_let_go : (old : Head) → IsNoOlder old (let_go old)
+younger_let_go old = record { issue = omega arith; shows = λ issue most out. out }
+
+pub younger_referred : (old : Head) → IsNoOlder old (referred old)
+younger_referred old = record { issue = omega arith; shows = λ issue most out. out }
+
+pub younger_unlinked : (old : Head) → old.tag ≡ Linked → IsNoOlder old (unlinked old)
+younger_unlinked old was = record { issue = omega arith; shows = λ issue most out. (inr was, out.1) }
+
+pub younger_condemned : (old : Head) → old.tag ≡ Linked → IsNoOlder old (condemned old)
+younger_condemned old was = record { issue = omega arith; shows = λ issue most out. (inr was, out.1) }
+
+pub younger_linked : (old : Head) → old.tag ≡ Unlinked → IsNoOlder old (linked old)
+younger_linked old was = record { issue = omega arith; shows = λ issue most out. (inl was, out.1) }
+
+pub younger_free : (old : Head) → IsNoOlder old (with_tag_free old)
+younger_free old = record { issue = omega arith; shows = λ issue most out. not_shown (with_tag_free old) issue (IsHandedOut old issue) (inl refl) out }
+
+pub younger_out : (old : Head) → IsNoOlder old (with_tag_out old)
+younger_out old = record { issue = omega arith; shows = λ issue most out. not_shown (with_tag_out old) issue (IsHandedOut old issue) (inr refl) out }

@@ -1,0 +1,95 @@
+-- Known items as a hand gets a reference to a linked chunk.
+use Rattle.std.proofs.Common.{◌≡◌, ℕ, ◌+◌, ◌<◌, ◌≤◌, ◌&&◌, ◌==◌, Bool, true, false, List, [], ◌∷◌, ◌++◌, length, refl, sym, ap, subst, ◌∙◌, inr, arith, slice_set, Option, Some, None, Contains}
+use Rattle.std.proofs.lemmas.Bool.{and_parts}
+use Rattle.mc_pages.specs.declared.ids.ChunkId.{ChunkId}
+use Rattle.mc_core.specs.declared.event.Step.TheVariants.{Refer, Again}
+use Rattle.mc_core.specs.declared.head.Head.{Head}
+use Rattle.mc_core.specs.declared.head.Tag.{Tag}
+use Rattle.mc_core.specs.declared.head.Tag.TheVariants.{Out, Free, Unlinked, Linked}
+use Rattle.mc_core.specs.declared.holding.Holding.{Holding}
+use Rattle.mc_core.specs.Head.{is_linked}
+use Rattle.mc_core.specs.Holdings.{Words, stamp_in}
+use Rattle.mc_core.specs.State.{State, is_hand, has_chunk, head_place, head_at, item_at}
+use Rattle.mc_core.specs.Chunks.{has_place}
+use Rattle.mc_core.specs.Items.{referred, new_reference, with_reference, with_got, referred_to, chunk_of, can_refer_to, can_count, is_ready_for, has_place_again}
+use Rattle.mc_core.specs.Past.{Moment, Known, with_more, known_by, known_of_place, moment_stepped}
+use Rattle.mc_core.specs.Columns.{head_in, Each, Shows}
+use Rattle.mc_core.specs.Knowing.{IsSaid, IsTrueStill}
+use Rattle.mc_core.specs.Laws.{MayStep}
+use Rattle.mc_core.specs.Lawful.{IsLawful, KnownIn}
+use Rattle.mc_core.proofs.Rows.{rows_more, each_more}
+use Rattle.mc_core.proofs.MoreRows.{row_of, with_none, each_contained}
+use Rattle.mc_core.proofs.ShownItems.{IsWhole, shown_item}
+use Rattle.mc_core.proofs.KnownStill.{IsApartFrom, still_turned}
+use Rattle.mc_core.proofs.KnownQuiet.{IsStill, younger_referred}
+use Rattle.mc_core.proofs.KnownLearned.{AreOne, known_learned}
+use Rattle.mc_core.proofs.KnownChunks.{KnownAt, entry_of}
+
+pub linked_tag : (tag : Tag) → is_linked tag ≡ true → tag ≡ Linked
+linked_tag Out h = absurd (cc)
+linked_tag Free h = absurd (cc)
+linked_tag Unlinked h = absurd (cc)
+linked_tag Linked h = refl
+
+module _ (m : Moment) (l : IsLawful m) (chunk : ChunkId) (near : has_chunk m.state.table chunk ≡ true) (linked : (head_at m.state chunk).tag ≡ Linked) where
+  -- the item in the chunk
+  abbrev pub item_known : Known
+  item_known = known_by (new_reference m.state chunk)
+
+  -- is known to some hand
+  pub linked_known : (hand : ℕ) × (k : Known) × Contains (row_of m.past.known hand) k × (k ≡ item_known)
+  linked_known =
+      let (hand, k, has, same) = l.known.linked chunk near linked in
+      let still = each_contained (IsStill m l) m.past.known hand k l.known.still has in
+      let whole : IsWhole k.words = record { complete = still.whole.0; long = still.whole.1 } in
+      let shown = still.shows (subst (λ (c : ChunkId). Rattle.mc_core.specs.Columns.IsHandedOut (head_in m.state.table m.state.heads c) k.issue) (sym same.0) (inr linked, sym same.1)) in
+      let here : Shows m.state.table m.state.slabs m.state.words chunk k.words = subst (λ (c : ChunkId). Shows m.state.table m.state.slabs m.state.words c k.words) same.0 shown in
+      let words : k.words ≡ item_at m.state chunk = sym (shown_item m.state chunk k.words here whole) in
+      (hand, k, has, λ i. record { chunk = same.0 i; issue = same.1 i; words = words i })
+
+  -- so what holds of each known item holds of it
+  pub item_has : (P : Known → Type 0) → Each P m.past.known → P item_known
+  item_has P each = let (hand, k, has, same) = linked_known in subst P same (each_contained P m.past.known hand k each has)
+
+module _ (m : Moment) (l : IsLawful m) (hand : ℕ) (there : is_hand m.state hand ≡ true) (chunk : ChunkId) (near : has_chunk m.state.table chunk ≡ true) (linked : (head_at m.state chunk).tag ≡ Linked) where
+  abbrev reference : Holding
+  reference = new_reference m.state chunk
+
+  abbrev head : Head
+  head = referred (head_at m.state chunk)
+
+  abbrev IsStillNow : Known → Type 0
+  IsStillNow k = IsTrueStill m.state.table m.state.slabs (slice_set m.state.heads (head_place m.state.table chunk) head) m.state.words (rows_more m.state.holdings hand reference) k
+
+  still : (k : Known) → IsStill m l k → IsStillNow k
+  still k is =
+      still_turned m.state.table m.state.heads chunk head l.sized.headers near m.state.slabs m.state.slabs m.state.words m.state.holdings (rows_more m.state.holdings hand reference) k
+      (younger_referred (head_at m.state chunk)) refl (each_more m.state.holdings hand (IsApartFrom k) reference is.apart (λ never _ _. absurd (cc))) is
+
+  pub known_referred : KnownAt (with_reference m.state hand chunk) (with_more m.past.said hand []) (with_more m.past.known hand (known_by reference ∷ []))
+  known_referred =
+      let said = item_has m l chunk near linked (λ k. IsSaid m.past.said (stamp_in k.words) k.words) l.known.said_by_some in
+      subst (λ s. KnownAt (with_reference m.state hand chunk) s (with_more m.past.known hand (known_by reference ∷ []))) (sym (with_none m.past.said hand))
+      (known_learned m l hand there (known_by reference) chunk head near reference m.state.holdings m.past.said l.known.once (λ stamp words is. is) said still
+      (still (known_by reference) (item_has m l chunk near linked (IsStill m l) l.known.still))
+      (item_has m l chunk near linked (λ k. Each (AreOne k) m.past.known) l.known.one) l.known.own refl refl refl)
+
+module _ (m : Moment) (hand : ℕ) where
+  pub known_refer : (key : ℕ) → MayStep m hand (Refer key) → KnownIn (moment_stepped m hand (Refer key))
+  known_refer key may =
+      let l = may.lawful in
+      elim (chunk_of m.state key) as (λ o. chunk_of m.state key ≡ o → can_refer_to m.state o ≡ true →
+      KnownAt (referred_to (with_got m.state hand key) hand o) (with_more m.past.said hand []) (with_more m.past.known hand (known_of_place m.state o))) [
+        | None ↦ λ _ never. absurd (cc)
+        | Some place ↦ λ found _.
+            let entry = entry_of m l key place found in
+            known_referred m l hand may.there place.0 entry.inside entry.linked
+      ] refl (and_parts _ (can_refer_to m.state (chunk_of m.state key)) may.allowed).1
+
+  pub known_again : (chunk : ChunkId) (issue : ℕ) → MayStep m hand (Again chunk issue) → KnownIn (moment_stepped m hand (Again chunk issue))
+  known_again chunk issue may =
+      let parts = and_parts _ (can_count (head_at m.state chunk)) may.allowed in
+      let right = and_parts _ ((head_at m.state chunk).issue == issue) parts.0 in
+      let tag = and_parts _ (is_linked (head_at m.state chunk).tag) right.0 in
+      let near = (and_parts (has_chunk m.state.table chunk) (has_place_again m.state hand) tag.0).0 in
+      known_referred m may.lawful hand may.there chunk near (linked_tag (head_at m.state chunk).tag tag.1)
