@@ -9,6 +9,7 @@ pub mod Plays
 pub mod Base
 pub mod SamePages
 pub mod SameSlabs
+pub mod StepTests
 pub mod Sized
 pub mod Spare
 pub mod PagedChanges

@@ -37,6 +37,7 @@ use Rattle.mc_core.proofs.Base.{IsPlaced, placed_from}
 use Rattle.mc_core.proofs.Listed.{Contains_from_among, IsClass_from, times_from_among, next_uncut_is, places_from_listed}
 use Rattle.mc_core.proofs.FreeChunks.{near_placed, placed_in, first_placed, found_placed}
 use Rattle.mc_core.proofs.SamePages.{is_in_hand}
+use Rattle.mc_core.proofs.StepTests.{pop_tests, pop_off_tests, put_back_tests, clear_tests, cut_tests, condemn_tests}
 use Rattle.mc_core.proofs.SameSlabs.{looked_keeps, refilled_keeps, told_link_keeps, linked_keeps, referred_keeps, unlinked_keeps, bound_keeps}
 use Rattle.mc_core.proofs.PlacedAlike.{AreAlike, kind_of, same_at, placed_alike}
 use Rattle.mc_core.proofs.PlacedWritten.{Changes, placed_written}
@@ -208,47 +209,23 @@ module _ (m : Moment) (l : IsLawful m) (hand : ℕ) where
 
   pop_placed : (class : ℕ) (next : Option ChunkId) → next_free state class ≡ next → (has_slabs state hand && is_class state.table class && has_place state hand && can_hand_out state next) ≡ true →
       Placed (frame (popped (with_slabs state (slabs_changes.after_pop state.slabs class)) hand next)) (popped (with_slabs state (slabs_changes.after_pop state.slabs class)) hand next).heads
-  pop_placed class None is can = absurd (false≢true (and_parts (has_slabs state hand && is_class state.table class && has_place state hand) false can).1)
+  pop_placed class None is can = absurd (false≢true (pop_tests state hand class None can).2)
   pop_placed class (Some chunk) is can =
-      let first = and_parts (has_slabs state hand && is_class state.table class && has_place state hand) (can_hand_out state (Some chunk)) can in
-      let second = and_parts (has_slabs state hand && is_class state.table class) (has_place state hand) first.0 in
-      let third = and_parts (has_slabs state hand) (is_class state.table class) second.0 in
-      popped_placed m l class chunk (handed_out (head_at state chunk)) refl (IsClass_from state.table state.slabs class l.paged.of_table third.1) is
+      popped_placed m l class chunk (handed_out (head_at state chunk)) refl (IsClass_from state.table state.slabs class l.paged.of_table (pop_tests state hand class (Some chunk) can).1) is
 
   pop_off_placed : (old : ChunkId) (next : Option ChunkId) → target_of state old.page ≡ next →
       (has_slabs state hand && is_moving_page state.slabs old.page && is_out_of_class state.slabs old && has_place state hand && can_hand_out state next) ≡ true → Placed (frame (popped_off state hand old next)) (popped_off state hand old next).heads
   pop_off_placed old None is can = l.placed
-  pop_off_placed old (Some chunk) is can =
-      let moves = is_moving_page state.slabs old.page in
-      let out = is_out_of_class state.slabs old in
-      let first = and_parts (has_slabs state hand && moves && out && has_place state hand) (can_hand_out state (Some chunk)) can in
-      let second = and_parts (has_slabs state hand && moves && out) (has_place state hand) first.0 in
-      let third = and_parts (has_slabs state hand && moves) out second.0 in
-      replaced_placed m l old chunk (handed_out (head_at state chunk)) refl third.1 is
+  pop_off_placed old (Some chunk) is can = replaced_placed m l old chunk (handed_out (head_at state chunk)) refl (pop_off_tests state hand old (Some chunk) can).2 is
 
   put_back_placed : (chunk : ChunkId) → can_put_back state hand chunk ≡ true → Placed (frame (after_put_back state hand chunk)) (after_put_back state hand chunk).heads
-  put_back_placed chunk can =
-      let first = and_parts (has_slabs state hand && has_chunk state.table chunk && is_dead (head_at state chunk)) (is_out_of_class state.slabs chunk) can in
-      let second = and_parts (has_slabs state hand && has_chunk state.table chunk) (is_dead (head_at state chunk)) first.0 in
-      let third = and_parts (has_slabs state hand) (has_chunk state.table chunk) second.0 in
-      back_placed m l chunk (with_tag_free (head_at state chunk)) refl third.1 second.1 first.1
+  put_back_placed chunk can = let tests = put_back_tests state hand chunk can in back_placed m l chunk (with_tag_free (head_at state chunk)) refl tests.1 tests.2 tests.3
 
   clear_step_placed : (chunk : ChunkId) → can_clear state hand chunk ≡ true → Placed (frame (after_clear state hand chunk)) (after_clear state hand chunk).heads
-  clear_step_placed chunk can =
-      let moves = is_moving_page state.slabs chunk.page in
-      let idle = is_free (head_at state chunk).tag || is_dead (head_at state chunk) in
-      let first = and_parts (has_slabs state hand && has_chunk state.table chunk && moves && idle) (is_listed state.slabs (class_of_page state.slabs chunk.page) chunk) can in
-      let second = and_parts (has_slabs state hand && has_chunk state.table chunk && moves) idle first.0 in
-      let third = and_parts (has_slabs state hand && has_chunk state.table chunk) moves second.0 in
-      let fourth = and_parts (has_slabs state hand) (has_chunk state.table chunk) third.0 in
-      clear_placed m l chunk (with_tag_out (head_at state chunk)) refl fourth.1 third.1 first.1
+  clear_step_placed chunk can = let tests = clear_tests state hand chunk can in clear_placed m l chunk (with_tag_out (head_at state chunk)) refl tests.1 tests.2 tests.3
 
   cut_step_placed : (chunk : ChunkId) → can_cut state hand chunk ≡ true → Placed (frame (after_cut state hand chunk)) (after_cut state hand chunk).heads
-  cut_step_placed chunk can =
-      let first = and_parts (has_slabs state hand && has_chunk state.table chunk && is_next_uncut state.slabs chunk) (is_out (head_at state chunk).tag) can in
-      let second = and_parts (has_slabs state hand && has_chunk state.table chunk) (is_next_uncut state.slabs chunk) first.0 in
-      let third = and_parts (has_slabs state hand) (has_chunk state.table chunk) second.0 in
-      cut_placed m l chunk (with_tag_free (head_at state chunk)) refl third.1 second.1
+  cut_step_placed chunk can = let tests = cut_tests state hand chunk can in cut_placed m l chunk (with_tag_free (head_at state chunk)) refl tests.1 tests.2
 
   fill_frame : (chunk : ChunkId) (place word : ℕ) → (frame (after_step state hand (Fill chunk place word)) ≡ frame state) × ((after_step state hand (Fill chunk place word)).heads ≡ state.heads)
   fill_frame chunk place word =
@@ -292,16 +269,10 @@ placed_steps moment hand (Release chunk) may = let state = moment.state in passe
 placed_steps moment hand (Discard chunk) may = let state = moment.state in passes state hand (Discard chunk) may.lawful.placed refl (written_alike state state chunk (let_go (head_at state chunk)) refl refl)
 placed_steps moment hand (Condemn chunk) may =
     let state = moment.state in
-    let key = key_at state chunk in
-    let told : State = with_told state hand chunk key in
+    let told : State = with_told state hand chunk (key_at state chunk) in
     let before : State = with_bound told hand chunk (item_at state chunk) in
-    let stripe = stripe_at state (stripe_of state key) in
-    let first = and_parts (has_slabs state hand && has_chunk state.table chunk && is_idle (head_at state chunk) && has_stripe state hand (stripe_of state key) && can_take_away stripe key (has_copy state hand chunk)) (has_reason state hand chunk) may.allowed in
-    let second = and_parts (has_slabs state hand && has_chunk state.table chunk && is_idle (head_at state chunk) && has_stripe state hand (stripe_of state key)) (can_take_away stripe key (has_copy state hand chunk)) first.0 in
-    let third = and_parts (has_slabs state hand && has_chunk state.table chunk && is_idle (head_at state chunk)) (has_stripe state hand (stripe_of state key)) second.0 in
-    let fourth = and_parts (has_slabs state hand && has_chunk state.table chunk) (is_idle (head_at state chunk)) third.0 in
     passes state hand (Condemn chunk) may.lawful.placed (bound_keeps frame told hand chunk (item_at state chunk) refl (λ h. refl))
-    (condemn_alike state before chunk (bound_keeps headers_part told hand chunk (item_at state chunk) refl (λ h. refl)) fourth.1)
+    (condemn_alike state before chunk (bound_keeps headers_part told hand chunk (item_at state chunk) refl (λ h. refl)) (condemn_tests state hand chunk may.allowed).2)
 placed_steps moment hand (PutBack chunk) may = put_back_placed moment may.lawful hand chunk may.allowed
 placed_steps moment hand (Clear chunk) may = clear_step_placed moment may.lawful hand chunk may.allowed
 placed_steps moment hand (Cut page index) may = cut_step_placed moment may.lawful hand (record { page = page; index = index }) may.allowed
