@@ -1,6 +1,5 @@
 -- Pages and lists stay in order under each step.
-use Rattle.std.proofs.Common.{◌≡◌, ℕ, ◌+◌, ◌*◌, ◌/◌, ◌≤◌, ◌==◌, ◌&&◌, ◌||◌, Bool, true, false, not, List, [], ◌∷◌, length, map, Option, Some, None, refl, sym, ap, subst, ◌∙◌, arith, eqb-true, is_none, nat_lt, Contains}
-use Rattle.std.specs.List.{find}
+use Rattle.std.proofs.Common.{◌≡◌, ℕ, ◌/◌, ◌≤◌, true, List, [], ◌∷◌, map, Option, Some, None, refl, sym, ap, subst, arith, eqb-true, Contains}
 use Rattle.std.proofs.lemmas.Bool.{and_parts}
 use Rattle.std.proofs.lemmas.List.{length-replicate}
 use Rattle.mc_classes.specs.Classes.{Classes, IsSound, pages_of}
@@ -9,10 +8,8 @@ use Rattle.mc_pages.specs.declared.ids.Moving.{Moving}
 use Rattle.mc_pages.specs.declared.ledger.Owner.{Owner}
 use Rattle.mc_pages.specs.declared.ledger.Owner.TheVariants.{Untouched}
 use Rattle.mc_pages.specs.ClassState.{ClassState, new_class, popped as class_popped, put_back, replaced, cleared, with_cut}
-use Rattle.mc_pages.specs.SlabState.{SlabState, IsClass, class_at, class_of_page, class_of_chunk, fresh_slabs}
-use Rattle.mc_pages.specs.Accounted.{places_in}
+use Rattle.mc_pages.specs.SlabState.{SlabState, class_at, class_of_page, class_of_chunk}
 use Rattle.mc_pages.specs.Changes as slabs_changes
-use Rattle.mc_pages.specs.InOrder.{IsInOrder}
 use Rattle.mc_pages.proofs.HandedOut.{IsClass-handed_out, IsClass-placed}
 use Rattle.mc_pages.proofs.Redistributed.{Redistributes-popped}
 use Rattle.mc_pages.proofs.Fresh.{IsInOrder-fresh}
@@ -21,22 +18,21 @@ use Rattle.mc_core.specs.declared.event.Step.{Step}
 use Rattle.mc_core.specs.declared.event.Step.TheVariants.{TakeSlabs, TakeStripe, MissSlabs, MissStripe, GiveSlabs, GiveStripe, Pop, PopOff, Fill, Word, WordHeld, Link, Refer, Unlink, Release, Discard, Condemn, PutBack, Clear, Cut, Again, Join}
 use Rattle.mc_core.specs.declared.event.Step.TheVariants as step
 use Rattle.mc_core.specs.Holdings.{is_of, holding_of}
-use Rattle.mc_core.specs.Head.{is_free, is_dead, is_out}
-use Rattle.mc_core.specs.State.{State, is_class, has_chunk, head_at, number_at, has_slabs, with_slabs, item_at, holdings_at, without_holding}
+use Rattle.mc_core.specs.State.{State, is_class, number_at, has_slabs, with_slabs, item_at, holdings_at, without_holding}
 use Rattle.mc_core.specs.Silent.{is_out_of_class, is_listed, is_whole}
-use Rattle.mc_core.specs.Chunks.{has_place, can_hand_out, next_free, is_moving_page, is_target, target_of, is_next_uncut, popped_off, can_pop, after_pop, can_pop_off, after_pop_off, can_put_back, after_put_back, can_clear, after_clear, can_cut, after_cut}
+use Rattle.mc_core.specs.Chunks.{next_free, is_moving_page, is_target, target_of, is_next_uncut, popped_off, can_pop, after_pop, can_pop_off, after_pop_off, can_put_back, after_put_back, can_clear, after_clear, can_cut, after_cut}
 use Rattle.mc_core.specs.Items.{with_got, chunk_of}
 use Rattle.mc_core.specs.Evictions.{with_told, key_at}
 use Rattle.mc_core.specs.Run.{after_step}
 use Rattle.mc_core.specs.Places.{ArePaged}
-use Rattle.mc_core.specs.Past.{Moment, first_moment}
+use Rattle.mc_core.specs.Past.{first_moment}
 use Rattle.mc_core.specs.Lawful.{PagedIn}
-use Rattle.mc_core.specs.Laws.{MayStep, StepsKeep}
-use Rattle.mc_core.proofs.OfTable.{HasShape, pop_shape, back_shape, replace_shape, clear_shape, cut_shape}
+use Rattle.mc_core.specs.Laws.{StepsKeep}
+use Rattle.mc_core.proofs.OfTable.{pop_shape, back_shape, replace_shape, clear_shape, cut_shape}
 use Rattle.mc_core.proofs.Listed.{Contains_from_among, IsClass_from, found_among, page_of_move, next_uncut_is, places_from_listed}
-use Rattle.mc_core.proofs.SameSlabs.{looked_keeps, popped_keeps, popped_off_keeps, refilled_keeps, told_link_keeps, linked_keeps, referred_keeps, unlinked_keeps, bound_keeps, table_stays}
+use Rattle.mc_core.proofs.SameSlabs.{looked_keeps, popped_keeps, refilled_keeps, told_link_keeps, linked_keeps, referred_keeps, unlinked_keeps, bound_keeps}
 use Rattle.mc_core.proofs.StepTests.{pop_tests, pop_off_tests, put_back_tests, clear_tests, cut_tests}
-use Rattle.mc_core.proofs.Spare.{HasSpare, spare_with_class}
+use Rattle.mc_core.proofs.Spare.{spare_with_class}
 use Rattle.mc_core.proofs.PagedChanges.{StayPaged, paged_from, lock_not_free, whole_is}
 
 module _ (table : Classes) (slabs : SlabState) (lock : ℕ) (paged : ArePaged table slabs lock) where

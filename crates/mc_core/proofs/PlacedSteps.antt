@@ -1,39 +1,37 @@
 -- Chunks keep their places under each step.
-use Rattle.std.proofs.Common.{◌≡◌, ◌⊎◌, ℕ, zero, suc, ◌+◌, ◌-◌, ◌/◌, map, replicate, ◌*◌, ◌≤◌, ◌==◌, ◌&&◌, ◌||◌, Bool, true, false, List, [], ◌∷◌, ◌++◌, length, slice_set, slice_get, get_or, set, find, Option, Some, None, refl, sym, ap, ap₂, subst, ◌∙◌, inl, inr, arith, eqb-true, Contains}
+use Rattle.std.proofs.Common.{◌≡◌, ℕ, zero, suc, ◌-◌, ◌/◌, map, replicate, ◌*◌, ◌≤◌, ◌==◌, ◌&&◌, ◌||◌, Bool, true, false, List, [], ◌∷◌, ◌++◌, slice_set, get_or, Option, Some, None, refl, sym, ap, subst, ◌∙◌, inl, inr, arith, eqb-true}
 use Rattle.std.specs.Option.{option_map_or}
-use Rattle.std.proofs.lemmas.Bool.{and_parts, and_from, and_left, cases_Bool, or_left, or_right, false≢true, both_ways}
+use Rattle.std.proofs.lemmas.Bool.{and_parts, and_left, cases_Bool, or_left, or_right, false≢true, both_ways}
 use Rattle.mc_classes.specs.Classes.{Classes, IsSound, pages_of}
 use Rattle.mc_pages.specs.declared.ids.ChunkId.{ChunkId}
 use Rattle.mc_pages.specs.declared.ids.Moving.{Moving}
 use Rattle.mc_pages.specs.declared.ledger.Owner.TheVariants.{Untouched}
 use Rattle.mc_pages.specs.Ledger.{owner_at}
 use Rattle.mc_pages.specs.ClassState.{ClassState, new_class, times, first_free, handed_out as class_handed_out, popped as class_popped, put_back, replaced, cleared, with_cut}
-use Rattle.mc_pages.specs.SlabState.{SlabState, IsClass, class_at, class_of_page, class_of_chunk, fresh_slabs}
+use Rattle.mc_pages.specs.SlabState.{SlabState, IsClass, class_at, class_of_page, fresh_slabs}
 use Rattle.mc_pages.specs.Changes as slabs_changes
 use Rattle.mc_pages.specs.Accounted.{truth, is_of_class, is_moving, is_cut, places_in, IsAccounted}
 use Rattle.mc_pages.proofs.HandedOut.{IsClass-handed_out, IsClass-placed}
-use Rattle.mc_pages.proofs.Cleared.{truth-le_one}
 use Rattle.mc_core.specs.declared.head.Head.{Head}
 use Rattle.mc_core.specs.declared.head.Tag.{Tag}
 use Rattle.mc_core.specs.declared.head.Tag.TheVariants.{Out, Free, Unlinked, Linked}
 use Rattle.mc_core.specs.Head.{never_cut, is_free, is_out, is_unlinked, is_linked, is_dead}
-use Rattle.mc_core.specs.State.{State, is_class, has_chunk, head_place, most_of, head_at, number_at, has_slabs, has_stripe, stripe_of, stripe_at, with_slabs, item_at, holdings_at, without_holding}
+use Rattle.mc_core.specs.State.{State, is_class, has_chunk, head_place, most_of, head_at, has_slabs, with_slabs, item_at, holdings_at, without_holding}
 use Rattle.mc_core.specs.Silent.{is_out_of_class, is_listed}
-use Rattle.mc_core.specs.Chunks.{has_place, can_hand_out, next_free, is_moving_page, is_target, target_of, is_next_uncut, handed_out, let_go, with_tag_free, with_tag_out, popped, popped_off, can_pop, after_pop, can_pop_off, after_pop_off, can_put_back, after_put_back, can_clear, after_clear, can_cut, after_cut}
+use Rattle.mc_core.specs.Chunks.{has_place, can_hand_out, next_free, is_moving_page, is_target, target_of, is_next_uncut, handed_out, let_go, with_tag_free, with_tag_out, popped, popped_off, can_put_back, after_put_back, can_clear, after_clear, can_cut, after_cut}
 use Rattle.mc_core.specs.declared.event.Step.{Step}
 use Rattle.mc_core.specs.declared.event.Step.TheVariants.{TakeSlabs, TakeStripe, MissSlabs, MissStripe, GiveSlabs, GiveStripe, Pop, PopOff, Fill, Word, WordHeld, Link, Refer, Unlink, Release, Discard, Condemn, PutBack, Clear, Cut, Again, Join}
 use Rattle.mc_core.specs.declared.event.Step.TheVariants as step
 use Rattle.mc_core.specs.declared.holding.Holding.{Holding}
 use Rattle.mc_core.specs.Holdings.{is_of, holding_of, is_complete}
 use Rattle.mc_core.specs.Items.{linked, with_told_link, can_tell_link, can_count, can_link_holding, after_link_of, with_got, referred, referred_to, chunk_of, unlinked, with_unlinked, is_linked_at, is_ready_for, can_lift}
-use Rattle.mc_core.specs.Evictions.{is_idle, condemned, with_told, with_bound, key_at, has_copy, can_take_away, has_reason}
+use Rattle.mc_core.specs.Evictions.{is_idle, condemned, with_told, with_bound, key_at}
 use Rattle.mc_core.specs.Run.{after_step}
 use Rattle.mc_core.specs.Columns.{head_in}
 use Rattle.mc_core.specs.Places.{ArePlaced}
 use Rattle.mc_core.specs.Past.{Moment, first_moment}
 use Rattle.mc_core.specs.Lawful.{IsLawful, PlacedIn}
-use Rattle.mc_core.specs.Laws.{MayStep, StepsKeep}
-use Rattle.mc_core.proofs.Base.{IsPlaced, placed_from}
+use Rattle.mc_core.specs.Laws.{StepsKeep}
 use Rattle.mc_core.proofs.Listed.{Contains_from_among, IsClass_from, times_from_among, next_uncut_is, places_from_listed}
 use Rattle.mc_core.proofs.FreeChunks.{near_placed, placed_in, first_placed, found_placed}
 use Rattle.mc_core.proofs.SamePages.{is_in_hand}
