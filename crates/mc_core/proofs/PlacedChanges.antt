@@ -239,7 +239,7 @@ finish_listed slabs granted None kept is can = same_listed slabs
 finish_listed slabs granted (Some move) kept is can = ended_listed slabs move (kept.accounted.move move is) can
 
 -- each change of pages and lists that is allowed
-slabs_listed : (table : Classes) (slabs : SlabState) (lock : ℕ) → ArePaged table slabs lock → (change : Change) → can_change_slabs table slabs change ≡ true → AreListed slabs (slabs_after slabs change)
+pub slabs_listed : (table : Classes) (slabs : SlabState) (lock : ℕ) → ArePaged table slabs lock → (change : Change) → can_change_slabs table slabs change ≡ true → AreListed slabs (slabs_after slabs change)
 slabs_listed table slabs lock paged (Grow class) can =
     let parts = and_parts (is_class table class && is_whole slabs) (is_some (next_page slabs)) can in
     let tests = and_parts (is_class table class) (is_whole slabs) parts.0 in
