@@ -9,6 +9,7 @@ pub mod Plays
 pub mod Base
 pub mod SamePages
 pub mod SameSlabs
+pub mod StepTests
 pub mod Sized
 pub mod Spare
 pub mod PagedChanges
@@ -50,6 +51,7 @@ pub mod PlacedAlike
 pub mod PlacedChanges
 pub mod PlacedWritten
 pub mod PlacedLists
+pub mod PlacedSteps
 pub mod TalliedKept
 pub mod KnownChunks
 pub mod KnownFills

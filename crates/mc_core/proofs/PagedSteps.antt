@@ -1,6 +1,5 @@
 -- Pages and lists stay in order under each step.
-use Rattle.std.proofs.Common.{◌≡◌, ℕ, ◌+◌, ◌*◌, ◌/◌, ◌≤◌, ◌==◌, ◌&&◌, ◌||◌, Bool, true, false, not, List, [], ◌∷◌, length, map, Option, Some, None, refl, sym, ap, subst, ◌∙◌, arith, eqb-true, is_none, nat_lt, Contains}
-use Rattle.std.specs.List.{find}
+use Rattle.std.proofs.Common.{◌≡◌, ℕ, ◌/◌, ◌≤◌, true, List, [], ◌∷◌, map, Option, Some, None, refl, sym, ap, subst, arith, eqb-true, Contains}
 use Rattle.std.proofs.lemmas.Bool.{and_parts}
 use Rattle.std.proofs.lemmas.List.{length-replicate}
 use Rattle.mc_classes.specs.Classes.{Classes, IsSound, pages_of}
@@ -9,10 +8,8 @@ use Rattle.mc_pages.specs.declared.ids.Moving.{Moving}
 use Rattle.mc_pages.specs.declared.ledger.Owner.{Owner}
 use Rattle.mc_pages.specs.declared.ledger.Owner.TheVariants.{Untouched}
 use Rattle.mc_pages.specs.ClassState.{ClassState, new_class, popped as class_popped, put_back, replaced, cleared, with_cut}
-use Rattle.mc_pages.specs.SlabState.{SlabState, IsClass, class_at, class_of_page, class_of_chunk, fresh_slabs}
-use Rattle.mc_pages.specs.Accounted.{places_in}
+use Rattle.mc_pages.specs.SlabState.{SlabState, class_at, class_of_page, class_of_chunk}
 use Rattle.mc_pages.specs.Changes as slabs_changes
-use Rattle.mc_pages.specs.InOrder.{IsInOrder}
 use Rattle.mc_pages.proofs.HandedOut.{IsClass-handed_out, IsClass-placed}
 use Rattle.mc_pages.proofs.Redistributed.{Redistributes-popped}
 use Rattle.mc_pages.proofs.Fresh.{IsInOrder-fresh}
@@ -21,21 +18,21 @@ use Rattle.mc_core.specs.declared.event.Step.{Step}
 use Rattle.mc_core.specs.declared.event.Step.TheVariants.{TakeSlabs, TakeStripe, MissSlabs, MissStripe, GiveSlabs, GiveStripe, Pop, PopOff, Fill, Word, WordHeld, Link, Refer, Unlink, Release, Discard, Condemn, PutBack, Clear, Cut, Again, Join}
 use Rattle.mc_core.specs.declared.event.Step.TheVariants as step
 use Rattle.mc_core.specs.Holdings.{is_of, holding_of}
-use Rattle.mc_core.specs.Head.{is_free, is_dead, is_out}
-use Rattle.mc_core.specs.State.{State, is_class, has_chunk, head_at, number_at, has_slabs, with_slabs, item_at, holdings_at, without_holding}
+use Rattle.mc_core.specs.State.{State, is_class, number_at, has_slabs, with_slabs, item_at, holdings_at, without_holding}
 use Rattle.mc_core.specs.Silent.{is_out_of_class, is_listed, is_whole}
-use Rattle.mc_core.specs.Chunks.{has_place, can_hand_out, next_free, is_moving_page, is_target, target_of, is_next_uncut, popped_off, can_pop, after_pop, can_pop_off, after_pop_off, can_put_back, after_put_back, can_clear, after_clear, can_cut, after_cut}
+use Rattle.mc_core.specs.Chunks.{next_free, is_moving_page, is_target, target_of, is_next_uncut, popped_off, can_pop, after_pop, can_pop_off, after_pop_off, can_put_back, after_put_back, can_clear, after_clear, can_cut, after_cut}
 use Rattle.mc_core.specs.Items.{with_got, chunk_of}
 use Rattle.mc_core.specs.Evictions.{with_told, key_at}
 use Rattle.mc_core.specs.Run.{after_step}
 use Rattle.mc_core.specs.Places.{ArePaged}
-use Rattle.mc_core.specs.Past.{Moment, first_moment}
+use Rattle.mc_core.specs.Past.{first_moment}
 use Rattle.mc_core.specs.Lawful.{PagedIn}
-use Rattle.mc_core.specs.Laws.{MayStep, StepsKeep}
-use Rattle.mc_core.proofs.OfTable.{HasShape, pop_shape, back_shape, replace_shape, clear_shape, cut_shape}
+use Rattle.mc_core.specs.Laws.{StepsKeep}
+use Rattle.mc_core.proofs.OfTable.{pop_shape, back_shape, replace_shape, clear_shape, cut_shape}
 use Rattle.mc_core.proofs.Listed.{Contains_from_among, IsClass_from, found_among, page_of_move, next_uncut_is, places_from_listed}
-use Rattle.mc_core.proofs.SameSlabs.{looked_keeps, popped_keeps, popped_off_keeps, refilled_keeps, told_link_keeps, linked_keeps, referred_keeps, unlinked_keeps, bound_keeps, table_stays}
-use Rattle.mc_core.proofs.Spare.{HasSpare, spare_with_class}
+use Rattle.mc_core.proofs.SameSlabs.{looked_keeps, popped_keeps, refilled_keeps, told_link_keeps, linked_keeps, referred_keeps, unlinked_keeps, bound_keeps}
+use Rattle.mc_core.proofs.StepTests.{pop_tests, pop_off_tests, put_back_tests, clear_tests, cut_tests}
+use Rattle.mc_core.proofs.Spare.{spare_with_class}
 use Rattle.mc_core.proofs.PagedChanges.{StayPaged, paged_from, lock_not_free, whole_is}
 
 module _ (table : Classes) (slabs : SlabState) (lock : ℕ) (paged : ArePaged table slabs lock) where
@@ -125,45 +122,27 @@ module _ (state : State) (hand : ℕ) (was : Paged (pages_part state)) where
   pop_paged : (class : ℕ) → can_pop state hand class ≡ true → Paged (pages_part (after_pop state hand class))
   pop_paged class can =
       let slabs = slabs_changes.after_pop state.slabs class in
-      let first = and_parts (has_slabs state hand && is_class state.table class && has_place state hand) (can_hand_out state (next_free state class)) can in
-      let second = and_parts (has_slabs state hand && is_class state.table class) (has_place state hand) first.0 in
-      let third = and_parts (has_slabs state hand) (is_class state.table class) second.0 in
-      paged_with state hand slabs (after_pop state hand class) was third.0 (popped_paged state.table state.slabs state.slabs_lock was class third.1)
+      let tests = pop_tests state hand class (next_free state class) can in
+      paged_with state hand slabs (after_pop state hand class) was tests.0 (popped_paged state.table state.slabs state.slabs_lock was class tests.1)
       (popped_keeps pages_part (with_slabs state slabs) hand (next_free state class) (λ chunk. refl))
 
   pop_off_paged : (old : ChunkId) → can_pop_off state hand old ≡ true → Paged (pages_part (after_pop_off state hand old))
-  pop_off_paged old can =
-      let moves = is_moving_page state.slabs old.page in
-      let out = is_out_of_class state.slabs old in
-      let first = and_parts (has_slabs state hand && moves && out && has_place state hand) (can_hand_out state (target_of state old.page)) can in
-      let second = and_parts (has_slabs state hand && moves && out) (has_place state hand) first.0 in
-      let third = and_parts (has_slabs state hand && moves) out second.0 in
-      let fourth = and_parts (has_slabs state hand) moves third.0 in
-      popped_off_paged state hand old (target_of state old.page) refl was fourth.0 third.1
+  pop_off_paged old can = let tests = pop_off_tests state hand old (target_of state old.page) can in popped_off_paged state hand old (target_of state old.page) refl was tests.0 tests.2
 
   put_back_paged : (chunk : ChunkId) → can_put_back state hand chunk ≡ true → Paged (pages_part (after_put_back state hand chunk))
   put_back_paged chunk can =
-      let first = and_parts (has_slabs state hand && has_chunk state.table chunk && is_dead (head_at state chunk)) (is_out_of_class state.slabs chunk) can in
-      let second = and_parts (has_slabs state hand && has_chunk state.table chunk) (is_dead (head_at state chunk)) first.0 in
-      let third = and_parts (has_slabs state hand) (has_chunk state.table chunk) second.0 in
-      paged_with state hand (slabs_changes.after_back state.slabs chunk) (after_put_back state hand chunk) was third.0 (back_paged state.table state.slabs state.slabs_lock was chunk first.1) refl
+      let tests = put_back_tests state hand chunk can in
+      paged_with state hand (slabs_changes.after_back state.slabs chunk) (after_put_back state hand chunk) was tests.0 (back_paged state.table state.slabs state.slabs_lock was chunk tests.3) refl
 
   clear_paged : (chunk : ChunkId) → can_clear state hand chunk ≡ true → Paged (pages_part (after_clear state hand chunk))
   clear_paged chunk can =
-      let moves = is_moving_page state.slabs chunk.page in
-      let idle = is_free (head_at state chunk).tag || is_dead (head_at state chunk) in
-      let first = and_parts (has_slabs state hand && has_chunk state.table chunk && moves && idle) (is_listed state.slabs (class_of_page state.slabs chunk.page) chunk) can in
-      let second = and_parts (has_slabs state hand && has_chunk state.table chunk && moves) idle first.0 in
-      let third = and_parts (has_slabs state hand && has_chunk state.table chunk) moves second.0 in
-      let fourth = and_parts (has_slabs state hand) (has_chunk state.table chunk) third.0 in
-      paged_with state hand (slabs_changes.after_clear state.slabs chunk) (after_clear state hand chunk) was fourth.0 (cleared_paged state.table state.slabs state.slabs_lock was chunk third.1 first.1) refl
+      let tests = clear_tests state hand chunk can in
+      paged_with state hand (slabs_changes.after_clear state.slabs chunk) (after_clear state hand chunk) was tests.0 (cleared_paged state.table state.slabs state.slabs_lock was chunk tests.2 tests.3) refl
 
   cut_step_paged : (chunk : ChunkId) → can_cut state hand chunk ≡ true → Paged (pages_part (after_cut state hand chunk))
   cut_step_paged chunk can =
-      let first = and_parts (has_slabs state hand && has_chunk state.table chunk && is_next_uncut state.slabs chunk) (is_out (head_at state chunk).tag) can in
-      let second = and_parts (has_slabs state hand && has_chunk state.table chunk) (is_next_uncut state.slabs chunk) first.0 in
-      let third = and_parts (has_slabs state hand) (has_chunk state.table chunk) second.0 in
-      paged_with state hand (slabs_changes.after_cut state.slabs chunk) (after_cut state hand chunk) was third.0 (cut_paged state.table state.slabs state.slabs_lock was chunk second.1) refl
+      let tests = cut_tests state hand chunk can in
+      paged_with state hand (slabs_changes.after_cut state.slabs chunk) (after_cut state hand chunk) was tests.0 (cut_paged state.table state.slabs state.slabs_lock was chunk tests.2) refl
 
   -- the lock's word changes, and no page is half cut
   relocked : (lock : ℕ) → state.slabs.uncut ≡ None → ArePaged state.table state.slabs lock

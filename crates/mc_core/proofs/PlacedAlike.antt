@@ -1,6 +1,6 @@
 -- Chunks keep their places where headers change no more than between handed-out tags, and where pages change but no list.
-use Rattle.std.proofs.Common.{◌≡◌, ◌⊎◌, ℕ, zero, suc, ◌+◌, ◌≤◌, ◌&&◌, Bool, true, false, not, List, [], ◌∷◌, length, get_or, set, refl, sym, ap, subst, ◌∙◌, inl, inr, arith}
-use Rattle.std.proofs.lemmas.Bool.{and_parts, cases_Bool, both_ways, false_from_ne_true}
+use Rattle.std.proofs.Common.{◌≡◌, ◌⊎◌, ℕ, zero, suc, ◌&&◌, Bool, true, false, not, List, [], ◌∷◌, length, get_or, set, refl, sym, ap, ◌∙◌, inl, inr, arith}
+use Rattle.std.proofs.lemmas.Bool.{cases_Bool, both_ways}
 use Rattle.mc_classes.specs.Classes.{Classes}
 use Rattle.mc_pages.specs.declared.ids.ChunkId.{ChunkId}
 use Rattle.mc_pages.specs.Ledger.{owner_at}
@@ -11,7 +11,7 @@ use Rattle.mc_core.specs.declared.head.Head.{Head}
 use Rattle.mc_core.specs.declared.head.Tag.{Tag}
 use Rattle.mc_core.specs.declared.head.Tag.TheVariants.{Out, Free, Unlinked, Linked}
 use Rattle.mc_core.specs.Head.{never_cut, is_free, is_out}
-use Rattle.mc_core.specs.State.{State, has_chunk, head_place}
+use Rattle.mc_core.specs.State.{has_chunk, head_place}
 use Rattle.mc_core.specs.Columns.{head_in}
 use Rattle.mc_core.specs.Places.{ArePlaced, is_cut_there}
 use Rattle.mc_core.proofs.SamePages.{is_in_hand, cut_there, cut_there_from}

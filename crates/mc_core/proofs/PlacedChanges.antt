@@ -1,5 +1,5 @@
 -- Chunks keep their places under each silent change.
-use Rattle.std.proofs.Common.{◌≡◌, ◌≢◌, ◌⊎◌, ℕ, ◌+◌, ◌<◌, ◌≤◌, ◌==◌, ◌&&◌, Bool, true, false, List, [], ◌∷◌, ◌++◌, length, set, Option, Some, None, Result, Ok, Err, if◌then◌else◌, refl, sym, ap, ap₂, subst, ◌∙◌, inl, inr, arith, eq-eqb, ne_eqb, le-ltb, nat_lt, is_some, length-set}
+use Rattle.std.proofs.Common.{◌≡◌, ◌≢◌, ◌⊎◌, ℕ, ◌<◌, ◌≤◌, ◌==◌, ◌&&◌, Bool, true, false, List, [], ◌∷◌, ◌++◌, length, set, Option, Some, None, Result, Ok, Err, if◌then◌else◌, refl, sym, ap, ap₂, subst, ◌∙◌, inl, inr, arith, eq-eqb, ne_eqb, le-ltb, nat_lt, is_some, length-set}
 use Rattle.std.proofs.lemmas.Bool.{and_parts, and_left, and_right, cases_Bool, cases_eq, both_ways, eqb-false}
 use Rattle.mc_classes.specs.Classes.{Classes}
 use Rattle.mc_pages.specs.declared.ids.ChunkId.{ChunkId}
@@ -13,9 +13,9 @@ use Rattle.mc_pages.specs.Ledger.{owner_at}
 use Rattle.mc_pages.specs.ClassState.{ClassState, times, without, touched, evicted, with_page, without_page}
 use Rattle.mc_pages.specs.SlabState.{SlabState, IsClass, class_at, class_of_owner, class_of_page, class_of_chunk}
 use Rattle.mc_pages.specs.Answer.{answer_of}
-use Rattle.mc_pages.specs.Changes.{with_class, with_given, next_page, after_take, after_grant, after_grow, after_touch, after_evicted}
+use Rattle.mc_pages.specs.Changes.{with_class, with_given, next_page, after_take, after_grant, after_grow, after_touch}
 use Rattle.mc_pages.specs.Moves.{first_page, released, finished, after_finish}
-use Rattle.mc_pages.specs.Accounted.{truth, is_of_class, is_moving, is_cut, cut_count, IsMove}
+use Rattle.mc_pages.specs.Accounted.{is_of_class, is_moving, is_cut, cut_count, IsMove}
 use Rattle.mc_pages.specs.InOrder.{IsInOrder}
 use Rattle.mc_pages.proofs.Chunks.{times-push, times-without, times_from_Contains}
 use Rattle.mc_pages.proofs.HandedOut.{IsClass-handed_out}
@@ -25,15 +25,14 @@ use Rattle.mc_pages.proofs.GivenPage.{owner-set_alike}
 use Rattle.mc_pages.proofs.Redistributed.{is_cut-kept}
 use Rattle.mc_pages.proofs.ReleasedPage.{within_from_IsMove}
 use Rattle.mc_pages.proofs.RoomyGrow.{next_within}
-use Rattle.mc_core.specs.declared.head.Head.{Head}
 use Rattle.mc_core.specs.declared.event.Change.{Change}
 use Rattle.mc_core.specs.declared.event.Change.TheVariants.{Grow, BeginMove, FinishMove, Touch, SetAutomove, Passed, Wrap, Evicted, Reserve, GotNone, DeletedNone}
-use Rattle.mc_core.specs.State.{State, is_class, has_slabs}
+use Rattle.mc_core.specs.State.{is_class, has_slabs}
 use Rattle.mc_core.specs.Silent.{is_out_of_class, is_whole, has_page, can_finish, grown, begun, can_change_slabs, slabs_after}
 use Rattle.mc_core.specs.Places.{ArePaged, ArePlaced}
 use Rattle.mc_core.specs.Past.{Moment}
 use Rattle.mc_core.specs.Lawful.{IsLawful, PlacedIn}
-use Rattle.mc_core.specs.Laws.{MayChange, ChangesKeep}
+use Rattle.mc_core.specs.Laws.{ChangesKeep}
 use Rattle.mc_core.proofs.Listed.{Contains_from_among, IsClass_from, none_of_page}
 use Rattle.mc_core.proofs.SamePages.{first_page_owner, first_page_there, next_page_owner, finish_tests, arrived_if}
 use Rattle.mc_core.proofs.PagedChanges.{whole_is}
@@ -104,7 +103,7 @@ module _ (slabs : SlabState) (granted : ℕ) (kept : IsInOrder slabs granted) wh
         free = λ class chunk here. refl;
         order = λ class chunk here. refl;
         cut = λ class chunk here. inl (ap (λ b. b && nat_lt chunk.index (cut_count slabs.uncut chunk.page (class_at slabs class).per_page))
-        (owner-set_alike (is_of_class class) slabs.owners page chunk.page (owner.Moving source dst) within (sym (ap (is_of_class class) owned))));
+            (owner-set_alike (is_of_class class) slabs.owners page chunk.page (owner.Moving source dst) within (sym (ap (is_of_class class) owned))));
         moving = λ class chunk here cut moves. elim (cases_eq chunk.page page) [
           | inl same ↦ ap (λ p. is_moving (owner_at (set slabs.owners page (owner.Moving source dst)) p)) same ∙ ap is_moving (owner_at-set_same slabs.owners page (owner.Moving source dst) within)
           | inr apart ↦ ap is_moving (owner_at-set_other slabs.owners page chunk.page (owner.Moving source dst) apart) ∙ moves
@@ -240,7 +239,7 @@ finish_listed slabs granted None kept is can = same_listed slabs
 finish_listed slabs granted (Some move) kept is can = ended_listed slabs move (kept.accounted.move move is) can
 
 -- each change of pages and lists that is allowed
-slabs_listed : (table : Classes) (slabs : SlabState) (lock : ℕ) → ArePaged table slabs lock → (change : Change) → can_change_slabs table slabs change ≡ true → AreListed slabs (slabs_after slabs change)
+pub slabs_listed : (table : Classes) (slabs : SlabState) (lock : ℕ) → ArePaged table slabs lock → (change : Change) → can_change_slabs table slabs change ≡ true → AreListed slabs (slabs_after slabs change)
 slabs_listed table slabs lock paged (Grow class) can =
     let parts = and_parts (is_class table class && is_whole slabs) (is_some (next_page slabs)) can in
     let tests = and_parts (is_class table class) (is_whole slabs) parts.0 in

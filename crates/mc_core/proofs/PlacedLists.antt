@@ -1,17 +1,14 @@
 -- How lists and tag change together at each step that moves a chunk from one list to another.
-use Rattle.std.proofs.Common.{◌≡◌, ◌≢◌, ◌⊎◌, ℕ, ◌+◌, ◌<◌, ◌≤◌, ◌==◌, ◌&&◌, Bool, true, false, List, [], ◌∷◌, ◌++◌, length, Option, Some, None, if◌then◌else◌, refl, sym, ap, ap₂, subst, ◌∙◌, inl, inr, arith, eqb-true, eq-eqb, ne_eqb, lt-ltb, le-ltb, nat_lt, slice_get, Contains}
-use Rattle.std.specs.Option.{option_map_or}
-use Rattle.std.proofs.lemmas.Bool.{and_parts, and_from, and_left, and_right, cases_Bool, cases_eq, cases_lt, both_ways, false_from_ne_true}
+use Rattle.std.proofs.Common.{◌≡◌, ◌≢◌, ℕ, ◌+◌, ◌<◌, ◌≤◌, ◌&&◌, Bool, true, false, List, [], ◌∷◌, ◌++◌, Option, Some, if◌then◌else◌, refl, sym, ap, ap₂, ◌∙◌, inl, inr, arith, eq-eqb, ne_eqb, lt-ltb, le-ltb, nat_lt, slice_get}
+use Rattle.std.proofs.lemmas.Bool.{and_parts, and_from, and_left, and_right, cases_eq, cases_lt, both_ways, false_from_ne_true}
 use Rattle.mc_pages.specs.declared.ids.ChunkId.{ChunkId}
-use Rattle.mc_pages.specs.declared.ids.Moving.{Moving}
-use Rattle.mc_pages.specs.declared.ledger.Owner.{Owner}
 use Rattle.mc_pages.specs.Ledger.{owner_at}
-use Rattle.mc_pages.specs.ClassState.{ClassState, is_chunk, times, without, with_before, first_free, handed_out, popped, put_back, replaced, cleared, with_cut}
-use Rattle.mc_pages.specs.SlabState.{SlabState, IsClass, class_at, class_of_page, class_of_chunk}
+use Rattle.mc_pages.specs.ClassState.{ClassState, is_chunk, times, without, put_back, replaced, cleared, with_cut}
+use Rattle.mc_pages.specs.SlabState.{SlabState, IsClass, class_at, class_of_page}
 use Rattle.mc_pages.specs.Changes.{with_class, next_uncut}
-use Rattle.mc_pages.specs.Accounted.{truth, is_of_class, is_moving, is_cut, cut_count, places_in}
-use Rattle.mc_pages.specs.InOrder.{IsInOrder, IsBeingCut}
-use Rattle.mc_pages.proofs.Chunks.{is_chunk-same, times-cons, times-push, times-without, times_from_Contains}
+use Rattle.mc_pages.specs.Accounted.{truth, is_of_class, is_moving, is_cut, cut_count}
+use Rattle.mc_pages.specs.InOrder.{IsBeingCut}
+use Rattle.mc_pages.proofs.Chunks.{is_chunk-same, times-cons, times-push, times-without}
 use Rattle.mc_pages.proofs.Lists.{times-with_before, without-absent}
 use Rattle.mc_pages.proofs.Cleared.{truth-le_one}
 use Rattle.mc_pages.proofs.CutNext.{next_uncut-last, next_uncut-more}
@@ -20,7 +17,7 @@ use Rattle.mc_pages.proofs.Owners.{is_of_class-class_of_owner, class_of_owner-is
 use Rattle.mc_pages.proofs.Redistributed.{is_cut-kept}
 use Rattle.mc_core.specs.declared.head.Tag.{Tag}
 use Rattle.mc_core.specs.declared.head.Tag.TheVariants.{Out, Free, Unlinked, Linked}
-use Rattle.mc_core.specs.Head.{is_free, is_out, is_unlinked}
+use Rattle.mc_core.specs.Head.{is_free}
 use Rattle.mc_core.specs.State.{has_chunk}
 use Rattle.mc_core.specs.Columns.{head_in}
 use Rattle.mc_core.specs.Places.{ArePlaced}
@@ -63,7 +60,7 @@ more_it : (chunk : ChunkId) (chunks : List ChunkId) → times chunk (chunk ∷ c
 more_it chunk chunks = let one : truth (is_chunk chunk chunk) ≡ 1 = ap truth (is_chunk-same chunk) in omega (arith, times-cons chunk chunk chunks, one)
 
 -- what the next free chunk says of the list
-first_is : (chunks : List ChunkId) (chunk : ChunkId) → slice_get chunks 0 ≡ Some chunk → (rest : List ChunkId) × (chunks ≡ chunk ∷ rest)
+pub first_is : (chunks : List ChunkId) (chunk : ChunkId) → slice_get chunks 0 ≡ Some chunk → (rest : List ChunkId) × (chunks ≡ chunk ∷ rest)
 first_is [] chunk h = absurd (cc)
 first_is (c ∷ rest) chunk h = let same : c ≡ chunk = (cc) in (rest, ap (λ (x : ChunkId). x ∷ rest) same)
 

@@ -1,13 +1,13 @@
 -- Chunks keep their places where one header is written and its chunk changes its list.
-use Rattle.std.proofs.Common.{◌≡◌, ◌≢◌, ◌⊎◌, ℕ, ◌+◌, ◌*◌, ◌≤◌, ◌&&◌, Bool, true, false, List, length, slice_set, Option, refl, sym, ap, ap₂, subst, ◌∙◌, inl, inr, arith, nat_lt}
-use Rattle.std.proofs.lemmas.Bool.{and_parts, and_left, cases_Bool, cases_eq, both_ways, false_from_ne_true}
+use Rattle.std.proofs.Common.{◌≡◌, ◌≢◌, ℕ, ◌*◌, ◌&&◌, Bool, true, false, List, length, slice_set, Option, refl, sym, ap, ap₂, subst, ◌∙◌, inl, inr, arith}
+use Rattle.std.proofs.lemmas.Bool.{and_left, cases_Bool, cases_eq, both_ways, false_from_ne_true}
 use Rattle.mc_classes.specs.Classes.{Classes, pages_of}
 use Rattle.mc_pages.specs.declared.ids.ChunkId.{ChunkId}
 use Rattle.mc_pages.specs.Ledger.{owner_at}
 use Rattle.mc_pages.specs.ClassState.{ClassState, is_chunk, times}
-use Rattle.mc_pages.specs.SlabState.{SlabState, IsClass, class_at, class_of_owner, class_of_page}
+use Rattle.mc_pages.specs.SlabState.{SlabState, IsClass, class_at, class_of_page}
 use Rattle.mc_pages.specs.Changes.{with_class}
-use Rattle.mc_pages.specs.Accounted.{truth, is_of_class, is_moving, is_cut, cut_count}
+use Rattle.mc_pages.specs.Accounted.{truth, is_of_class, is_moving, is_cut}
 use Rattle.mc_pages.proofs.Chunks.{same_from_is_chunk}
 use Rattle.mc_pages.proofs.OneClass.{length-with_class, class_at-with_class_same, class_at-with_class_other, class_at-with_class_kept}
 use Rattle.mc_pages.proofs.Owners.{class_of_owner-is_of_class}
