@@ -62,3 +62,4 @@ pub mod KnownCondemned
 pub mod KnownSteps
 pub mod Grown
 pub mod ToldKept
+pub mod ToldSteps
