@@ -57,19 +57,22 @@ linked m hand chunk may =
       | inr is ↦ numbered_unsaid m hand (step.Link chunk) refl is.ids is.says may.there may.lawful.numbered
     ]
 
-join : (m : Moment) (hand kept spent : ℕ) → MayStep m hand (step.Join kept spent) → NumberedIn (moment_stepped m hand (step.Join kept spent))
-join m hand kept spent may =
+-- two hands that may be joined are apart, and are there
+pub join_facts : (m : Moment) (hand kept spent : ℕ) → MayStep m hand (step.Join kept spent) → (kept ≢ spent) × (kept < length m.state.ids) × (spent < length m.state.ids) × (is_some (number_in m.state.ids kept) ≡ true)
+join_facts m hand kept spent may =
     let parts = and_parts (hand == kept && not (kept == spent) && is_hand m.state spent && hands.is_idle m.state kept) (hands.is_idle m.state spent) may.allowed in
     let first = and_parts (hand == kept && not (kept == spent) && is_hand m.state spent) (hands.is_idle m.state kept) parts.0 in
     let second = and_parts (hand == kept && not (kept == spent)) (is_hand m.state spent) first.0 in
     let third = and_parts (hand == kept) (not (kept == spent)) second.0 in
     let there : is_some (number_in m.state.ids kept) ≡ true = subst (λ h. is_some (number_in m.state.ids h) ≡ true) (eqb-true hand kept third.0) may.there in
-    let apart : kept ≢ spent = λ e. false≢true (ap not (sym (eq-eqb kept spent e)) ∙ third.1) in
-    let in_kept = hand_within m.state.ids kept there in
-    let in_spent = hand_within m.state.ids spent second.1 in
+    ((λ e. false≢true (ap not (sym (eq-eqb kept spent e)) ∙ third.1)), hand_within m.state.ids kept there, hand_within m.state.ids spent second.1, there)
+
+join : (m : Moment) (hand kept spent : ℕ) → MayStep m hand (step.Join kept spent) → NumberedIn (moment_stepped m hand (step.Join kept spent))
+join m hand kept spent may =
+    let facts = join_facts m hand kept spent may in
     let rows = may.lawful.rows in
-    numbered_joined m.state.ids m.past.mine m.past.said m.past.known kept spent may.lawful.numbered apart there
-    (omega (arith, in_kept, rows.mine), omega (arith, in_spent, rows.mine)) (omega (arith, in_kept, rows.said), omega (arith, in_spent, rows.said)) (omega (arith, in_spent, rows.known))
+    numbered_joined m.state.ids m.past.mine m.past.said m.past.known kept spent may.lawful.numbered facts.0 facts.3
+    (omega (arith, facts.1, rows.mine), omega (arith, facts.2, rows.mine)) (omega (arith, facts.1, rows.said), omega (arith, facts.2, rows.said)) (omega (arith, facts.2, rows.known))
 
 pub numbered_steps : StepsKeep NumberedIn
 numbered_steps m hand step.TakeSlabs may = quiet m hand step.TakeSlabs refl refl refl may

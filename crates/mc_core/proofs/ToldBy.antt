@@ -58,7 +58,7 @@ key_is (Some entry) key chunk stamp h =
     ap Some (eqb-true entry.0 key (and_parts (entry.0 == key) (is_chunk entry.1.0 chunk) all.0).0)
 
 -- the number in a next stamp is the hand's
-own_stamp : (ids : Ids) (stamp : ℕ) → is_next_stamp ids stamp ≡ true → stamp / 2 ^ 48 ≡ unwrap_or ids.number 0
+pub own_stamp : (ids : Ids) (stamp : ℕ) → is_next_stamp ids stamp ≡ true → stamp / 2 ^ 48 ≡ unwrap_or ids.number 0
 own_stamp ids stamp h =
     let both = and_parts (nat_lt ids.stamps most_stamps && option_eq nat_eq ids.number (Some (stamp / 2 ^ 48))) (stamp % 2 ^ 48 == ids.stamps + 1) h in
     let front = and_parts (nat_lt ids.stamps most_stamps) (option_eq nat_eq ids.number (Some (stamp / 2 ^ 48))) both.0 in
