@@ -63,3 +63,4 @@ pub mod KnownSteps
 pub mod Grown
 pub mod ToldKept
 pub mod ToldSteps
+pub mod FirstHands
