@@ -42,3 +42,4 @@ pub mod KnownQuiet
 pub mod Learned
 pub mod RowsKept
 pub mod TalliedKept
+pub mod Index
