@@ -43,3 +43,4 @@ pub mod Learned
 pub mod RowsKept
 pub mod TalliedKept
 pub mod Index
+pub mod IndexStays
