@@ -44,3 +44,4 @@ pub mod RowsKept
 pub mod TalliedKept
 pub mod Index
 pub mod IndexStays
+pub mod IndexMoves
