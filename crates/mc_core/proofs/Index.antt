@@ -1,15 +1,15 @@
 -- The index as one function from keys: what the law asks of it, and what a write to one stripe makes of it.
-use Rattle.std.proofs.Common.{◌≡◌, ℕ, ◌+◌, ◌%◌, ◌<◌, ◌≤◌, Bool, true, false, cond, nat_eq, List, length, Option, Some, None, refl, sym, ap, ◌∙◌, arith, subst, slice_get, slice_set, slice_index, slice_index_or, inl, inr, length-set, get_or-set_same, get_or-set_other}
+use Rattle.std.proofs.Common.{◌≡◌, ℕ, ◌%◌, ◌<◌, ◌≤◌, true, cond, nat_eq, List, length, Option, Some, refl, sym, ap, ◌∙◌, arith, slice_get, slice_set, slice_index, slice_index_or, inl, inr, length-set, get_or-set_same, get_or-set_other}
 use Rattle.std.proofs.lemmas.Bool.{cases_eq}
 use Rattle.std.proofs.lemmas.Option.{slice_get-get_or, slice_get_within, get_or_from_slice_get}
 use Rattle.mc_classes.specs.Classes.{Classes}
 use Rattle.mc_pages.specs.declared.ids.ChunkId.{ChunkId}
-use Rattle.mc_pages.specs.SlabState.{SlabState, class_of_page}
+use Rattle.mc_pages.specs.SlabState.{SlabState}
 use Rattle.mc_stripe.specs.StripeState.{ReadyStripe, new_stripe, place_of}
 use Rattle.mc_stripe.proofs.Entries.{by_equal}
 use Rattle.mc_core.specs.declared.head.Head.{Head}
 use Rattle.mc_core.specs.declared.head.Tag.TheVariants.{Linked}
-use Rattle.mc_core.specs.State.{has_chunk, room_in}
+use Rattle.mc_core.specs.State.{has_chunk}
 use Rattle.mc_core.specs.Columns.{head_in, place_in}
 use Rattle.mc_core.specs.Indexed.{IsEntry, stripe_for, AreIndexed}
 

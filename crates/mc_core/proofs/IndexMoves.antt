@@ -1,7 +1,7 @@
 -- A chunk is linked, unlinked or filled: the entries are the linked chunks still.
-use Rattle.std.proofs.Common.{◌≡◌, ◌≢◌, ℕ, ◌+◌, ◌*◌, ◌%◌, ◌<◌, ◌≤◌, Bool, true, false, cond, nat_eq, List, length, Option, Some, None, refl, sym, ap, ◌∙◌, arith, subst, slice_get, slice_set, slice_index, slice_index_or, inl, inr, is_some, unwrap_or, leb-true, find}
+use Rattle.std.proofs.Common.{◌≡◌, ℕ, ◌+◌, ◌%◌, ◌<◌, ◌≤◌, true, false, cond, nat_eq, List, length, Option, Some, None, refl, sym, ap, ◌∙◌, arith, subst, slice_get, slice_set, slice_index_or, inr, is_some, unwrap_or, leb-true}
 use Rattle.std.specs.List.{list_all}
-use Rattle.std.proofs.lemmas.Bool.{cases_Bool, and_parts, both_ways}
+use Rattle.std.proofs.lemmas.Bool.{and_parts, both_ways}
 use Rattle.std.proofs.lemmas.List.{get_or-take, length-take-le}
 use Rattle.std.proofs.lemmas.List.Sums.{AllPass-from_list_all}
 use Rattle.std.proofs.lemmas.Option.{slice_get-get_or}
@@ -13,7 +13,6 @@ use Rattle.mc_pages.proofs.Chunks.{is_chunk-same}
 use Rattle.mc_stripe.specs.StripeState.{ReadyStripe, place_of}
 use Rattle.mc_stripe.proofs.Entries.{by_equal}
 use Rattle.mc_core.specs.declared.head.Head.{Head}
-use Rattle.mc_core.specs.declared.head.Tag.{Tag}
 use Rattle.mc_core.specs.declared.head.Tag.TheVariants.{Linked}
 use Rattle.mc_core.specs.Holdings.{Words, word_in, item_length, item_in, fits, is_complete}
 use Rattle.mc_core.specs.State.{has_chunk, head_place, room_in}
@@ -25,7 +24,7 @@ use Rattle.mc_core.proofs.Base.{IsPlaced, placed_at}
 use Rattle.mc_core.proofs.Entered.{entry_linked}
 use Rattle.mc_core.proofs.Filling.{word_kept}
 use Rattle.mc_core.proofs.Index.{leads, AreOwn, word_of, own_from, indexed_from, entry_from, one_leads, one_own}
-use Rattle.mc_core.proofs.IndexStays.{IsIndexed, StaysEntry, entry_stays, link_stays, indexed_stays, tag_after}
+use Rattle.mc_core.proofs.IndexStays.{StaysEntry, entry_stays, indexed_stays, tag_after}
 
 -- what a key leads to is one chunk
 one_chunk : (a b : ChunkId) (s t : ℕ) (o : Option (ChunkId × ℕ)) → o ≡ Some (a, s) → o ≡ Some (b, t) → a ≡ b

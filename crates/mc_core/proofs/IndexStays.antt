@@ -1,23 +1,22 @@
 -- Entries whose chunks stay linked, with their first words, stay entries.
-use Rattle.std.proofs.Common.{◌≡◌, ℕ, ◌+◌, ◌*◌, ◌%◌, ◌<◌, ◌≤◌, Bool, true, false, cond, nat_eq, List, length, Option, Some, None, refl, sym, ap, ◌∙◌, arith, subst, slice_set, slice_index, inl, inr}
+use Rattle.std.proofs.Common.{◌≡◌, ℕ, ◌+◌, ◌*◌, ◌<◌, ◌≤◌, true, false, List, length, Some, sym, ap, ◌∙◌, arith, subst, slice_set, slice_index, inl, inr}
 use Rattle.std.proofs.lemmas.Bool.{cases_Bool}
-use Rattle.mc_classes.specs.Classes.{Classes, pages_of}
+use Rattle.mc_classes.specs.Classes.{Classes}
 use Rattle.mc_pages.specs.declared.ids.ChunkId.{ChunkId}
 use Rattle.mc_pages.specs.ClassState.{is_chunk}
 use Rattle.mc_pages.specs.SlabState.{SlabState, class_of_page}
 use Rattle.mc_pages.proofs.Chunks.{same_from_is_chunk}
-use Rattle.mc_stripe.specs.StripeState.{ReadyStripe, place_of}
-use Rattle.mc_stripe.proofs.Entries.{by_equal}
+use Rattle.mc_stripe.specs.StripeState.{ReadyStripe}
 use Rattle.mc_core.specs.declared.head.Head.{Head}
 use Rattle.mc_core.specs.declared.head.Tag.{Tag}
 use Rattle.mc_core.specs.declared.head.Tag.TheVariants.{Linked}
 use Rattle.mc_core.specs.State.{State, has_chunk, head_place, page_words, room_in}
-use Rattle.mc_core.specs.Columns.{head_in, place_in}
-use Rattle.mc_core.specs.Indexed.{IsEntry, stripe_for, AreIndexed}
+use Rattle.mc_core.specs.Columns.{head_in}
+use Rattle.mc_core.specs.Indexed.{IsEntry, AreIndexed}
 use Rattle.mc_core.specs.Past.{Moment}
 use Rattle.mc_core.specs.Lawful.{IsLawful}
 use Rattle.mc_core.proofs.Base.{head_written, head_other}
-use Rattle.mc_core.proofs.Index.{leads, AreOwn, word_of, own_from, indexed_from, entry_from, one_leads, one_own}
+use Rattle.mc_core.proofs.Index.{leads, AreOwn, word_of, indexed_from, entry_from}
 
 -- the clause on the index, of a state
 abbrev pub IsIndexed : State → Type 0

@@ -45,3 +45,4 @@ pub mod TalliedKept
 pub mod Index
 pub mod IndexStays
 pub mod IndexMoves
+pub mod IndexHeaders
