@@ -46,3 +46,5 @@ pub mod Index
 pub mod IndexStays
 pub mod IndexMoves
 pub mod IndexHeaders
+pub mod IndexSteps
+pub mod IndexLinks
