@@ -1,42 +1,32 @@
 -- Steps that write a stripe or a word: the entries are the linked chunks still.
-use Rattle.std.proofs.Common.{◌≡◌, ℕ, ◌+◌, ◌*◌, ◌%◌, ◌<◌, ◌≤◌, ◌&&◌, ◌==◌, Bool, true, false, cond, nat_eq, List, [], length, Option, Some, None, refl, sym, ap, ◌∙◌, arith, subst, slice_set, slice_index_or, inl, inr, is_none, nat_lt, nat_le, ltb-true, leb-true, eqb-true, find}
-use Rattle.std.specs.Option.{option_map_or}
-use Rattle.std.specs.List.{list_all}
+use Rattle.std.proofs.Common.{◌≡◌, ℕ, ◌<◌, ◌==◌, Bool, true, false, cond, nat_eq, length, Option, Some, None, refl, sym, ◌∙◌, arith, subst, slice_set, is_none, nat_lt, ltb-true}
 use Rattle.std.proofs.lemmas.Bool.{and_parts}
 use Rattle.mc_pages.specs.declared.ids.ChunkId.{ChunkId}
-use Rattle.mc_pages.specs.ClassState.{is_chunk}
-use Rattle.mc_pages.specs.SlabState.{class_of_page}
 use Rattle.mc_pages.proofs.Chunks.{same_from_is_chunk}
 use Rattle.mc_stripe.specs.Entries.{AreRising}
-use Rattle.mc_stripe.specs.StripeState.{StripeState, ReadyStripe, new_stripe, place_of}
-use Rattle.mc_stripe.specs.Changes as stripe_changes
-use Rattle.mc_stripe.specs.Changes.{after_got, after_lift, after_evict, after_rescue, used_up, stamp_aside}
-use Rattle.mc_stripe.proofs.Entries.{at_with_entry, at_without_entry}
-use Rattle.mc_core.specs.declared.head.Head.{Head}
+use Rattle.mc_stripe.specs.StripeState.{ReadyStripe, new_stripe, place_of}
+use Rattle.mc_stripe.specs.Changes.{after_got, used_up}
+use Rattle.mc_stripe.proofs.Entries.{at_without_entry}
 use Rattle.mc_core.specs.declared.head.Tag.TheVariants.{Unlinked, Linked}
 use Rattle.mc_core.specs.declared.holding.Holding.{Holding}
-use Rattle.mc_core.specs.declared.holding.Kind.{Kind}
-use Rattle.mc_core.specs.declared.holding.Kind.TheVariants.{Reference, Fresh}
-use Rattle.mc_core.specs.declared.holding.Purpose.TheVariants.{Item, Copy, Rescue}
 use Rattle.mc_core.specs.Head.{is_linked}
-use Rattle.mc_core.specs.Holdings.{Words, key_in, stamp_in, word_in, item_length, item_in, fits, is_of, is_fresh, is_copy_of, has_fresh, holding_of}
-use Rattle.mc_core.specs.State.{State, has_chunk, head_place, head_at, with_head, room_in, word_at, item_at, has_slabs, has_stripe, stripe_of, stripe_at, holdings_at, with_holding, without_holding, with_word}
+use Rattle.mc_core.specs.Holdings.{is_of, is_fresh, is_copy_of, has_fresh, holding_of}
+use Rattle.mc_core.specs.State.{has_chunk, head_place, head_at, with_head, word_at, item_at, has_slabs, has_stripe, stripe_of, stripe_at, holdings_at, without_holding, with_word}
 use Rattle.mc_core.specs.Silent.{writer_of}
-use Rattle.mc_core.specs.Chunks.{can_fill_in, can_fill, refilled, after_fill, has_place}
-use Rattle.mc_core.specs.Items.{are_same, is_entry_aside, suits, can_link_key, can_tell_link, can_link_holding, can_link, linked, as_reference, told_link, after_link_of, after_link, referred, chunk_of, can_refer_to, is_ready_for, can_refer, referred_to, with_got, after_refer, is_linked_at, can_unlink, stripe_unlinked, unlinked, with_unlinked, after_unlink}
+use Rattle.mc_core.specs.Chunks.{can_fill_in, can_fill, refilled, after_fill}
+use Rattle.mc_core.specs.Items.{referred, chunk_of, can_refer_to, can_refer, referred_to, with_got, after_refer, is_linked_at, can_unlink, stripe_unlinked, unlinked, with_unlinked, after_unlink}
 use Rattle.mc_core.specs.Evictions.{condemned, is_idle, key_at, can_take_away, has_copy, has_reason, can_condemn, with_rescue, stripe_condemned, copy_of, with_told, after_condemn}
 use Rattle.mc_core.specs.Columns.{head_in, place_in, Shows, holders}
-use Rattle.mc_core.specs.Indexed.{stripe_for, AreIndexed}
+use Rattle.mc_core.specs.Indexed.{AreIndexed}
 use Rattle.mc_core.specs.Past.{Moment}
 use Rattle.mc_core.specs.Lawful.{IsLawful}
 use Rattle.mc_core.proofs.Base.{IsOut}
 use Rattle.mc_core.proofs.Holders.{found_each, found_passes}
 use Rattle.mc_core.proofs.Entered.{tag_linked, entry_of}
-use Rattle.mc_core.proofs.Linking.{MayLink, may_link}
 use Rattle.mc_core.proofs.Filling.{out_each, placed_of}
-use Rattle.mc_core.proofs.Index.{leads, AreOwn, word_of, own_from, same_leads, same_own}
+use Rattle.mc_core.proofs.Index.{AreOwn, own_from, same_leads, same_own}
 use Rattle.mc_core.proofs.IndexStays.{IsIndexed, header_indexed}
-use Rattle.mc_core.proofs.IndexMoves.{fewer_indexed, more_indexed, filled_indexed, first_shown}
+use Rattle.mc_core.proofs.IndexMoves.{fewer_indexed, filled_indexed}
 
 -- a stripe after a key left it
 unlinked_gives : (stripe : ReadyStripe) (lifts : Bool) (writer key other : ℕ) → AreRising stripe.state.index → place_of (stripe_unlinked stripe lifts writer key).state other ≡ cond (nat_eq other key) None (place_of stripe.state other)
@@ -46,6 +36,10 @@ unlinked_gives stripe false writer key other rising = at_without_entry stripe.st
 condemned_gives : (stripe : ReadyStripe) (rescues : Bool) (writer key other : ℕ) → AreRising stripe.state.index → place_of (stripe_condemned stripe rescues writer key).state other ≡ cond (nat_eq other key) None (place_of stripe.state other)
 condemned_gives stripe true writer key other rising = at_without_entry stripe.state.index key other rising
 condemned_gives stripe false writer key other rising = at_without_entry stripe.state.index key other rising
+
+pub nowhere_from : (o : Option (ChunkId × ℕ)) → is_none o ≡ true → o ≡ None
+nowhere_from None none = refl
+nowhere_from (Some place) none = absurd (cc)
 
 module _ (m : Moment) (l : IsLawful m) (hand : ℕ) where
   own : AreOwn m.state.stripes

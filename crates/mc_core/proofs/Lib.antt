@@ -48,3 +48,4 @@ pub mod IndexMoves
 pub mod IndexHeaders
 pub mod IndexSteps
 pub mod IndexLinks
+pub mod IndexedKept
