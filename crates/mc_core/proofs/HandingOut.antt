@@ -82,15 +82,16 @@ module _ (m : Moment) (l : IsLawful m) (hand : ℕ) (there : is_hand m.state han
       let empty = nobody in
       let none = nobodys chunk rows nobody in
       let kept = turn_each m.state.table m.state.heads rows now chunk (handed_out old) turn m.state.slabs next m.state.words same rows
-          (λ i row in' j other on is. absurd (none i row in' j other on is))
-          (each_so m.state.table m.state.slabs m.state.heads m.state.words rows l.held) in
+      (λ i row in' j other on is. absurd (none i row in' j other on is))
+      (each_so m.state.table m.state.slabs m.state.heads m.state.words rows l.held) in
       let one = more_here rows hand (hand_within m l hand there) chunk holding refl in
       let new = turn_more m.state.table m.state.heads rows now chunk (handed_out old) turn m.state.slabs next m.state.words same holding refl refl unknown
-          ((λ fresh. length-replicate (room_in m.state.table (class_of_page next chunk.page)) None), λ stale. absurd (cc)) (λ fresh. (refl, omega arith)) in
-      (turn_counted m.state.table m.state.heads rows now chunk (handed_out old) turn l.counted,
-       held_from_so m.state.table next (slice_set m.state.heads (head_place m.state.table chunk) (handed_out old)) m.state.words now
-         (each_more rows hand (IsSo m.state.table next (slice_set m.state.heads (head_place m.state.table chunk) (handed_out old)) m.state.words now) holding kept new)
-         (most_more rows hand holding room l.held.most))
+      ((λ fresh. length-replicate (room_in m.state.table (class_of_page next chunk.page)) None), λ stale. absurd (cc)) (λ fresh. (refl, omega arith)) in (
+        turn_counted m.state.table m.state.heads rows now chunk (handed_out old) turn l.counted,
+        held_from_so m.state.table next (slice_set m.state.heads (head_place m.state.table chunk) (handed_out old)) m.state.words now
+            (each_more rows hand (IsSo m.state.table next (slice_set m.state.heads (head_place m.state.table chunk) (handed_out old)) m.state.words now) holding kept new)
+            (most_more rows hand holding room l.held.most),
+      )
 
 -- a chunk that the hand may get
 pub record MayHandOut (m : Moment) (hand : ℕ) (chunk : ChunkId) : Type 0 where

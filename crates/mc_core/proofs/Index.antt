@@ -104,4 +104,4 @@ module _ (stripes : List ReadyStripe) (some : 1 ≤ length stripes) (changed : �
   one_own own = own_after stripes (changed % length stripes) value within own
       (λ key place there. by_equal key changed (λ _ is. ap (λ n. n % length stripes) is)
       (λ other _. own (changed % length stripes) key (stripe_for stripes changed) place (slice_get-get_or stripes (changed % length stripes) new_stripe within)
-        (sym (gives key ∙ rw other refl) ∙ there)))
+      (sym (gives key ∙ rw other refl) ∙ there)))

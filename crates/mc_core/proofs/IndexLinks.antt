@@ -100,7 +100,7 @@ module _ (m : Moment) (l : IsLawful m) (hand : ℕ) (chunk : ChunkId) (holding :
 pub link_indexed : (m : Moment) → IsLawful m → (hand : ℕ) (chunk : ChunkId) → can_link m.state hand chunk ≡ true → IsIndexed (after_link m.state hand chunk)
 link_indexed m l hand chunk can =
     elim (holding_of chunk (holdings_at m.state hand)) as (λ o. holding_of chunk (holdings_at m.state hand) ≡ o → can_link_holding m.state hand chunk o ≡ true →
-      IsIndexed (after_link_of (without_holding m.state hand (is_of chunk)) hand chunk o)) [
+    IsIndexed (after_link_of (without_holding m.state hand (is_of chunk)) hand chunk o)) [
       | None ↦ λ _ never. absurd (cc)
       | Some holding ↦ λ found may. link_of_indexed m l hand chunk holding (may_link m hand chunk holding found may)
     ] refl can

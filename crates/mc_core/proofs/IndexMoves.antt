@@ -78,15 +78,15 @@ module _ (m : Moment) (l : IsLawful m) where
       fewer_entry other own_stamp c found = by_equal other key
           (λ here _. let never : None ≡ Some (c, own_stamp) = sym (fewer_leads other ∙ rw here refl) ∙ found in absurd (cc))
           (λ isnt apart.
-            let before : leads stripes other ≡ Some (c, own_stamp) = sym (fewer_leads other ∙ rw isnt refl) ∙ found in
-            let of = entry other own_stamp c before in
-            let not_it : c ≡ chunk → ⊥ = λ same. apart (sym of.same_key ∙ (ap (λ c. word_of table slabs words c 0) same ∙ (entry key stamp chunk there).same_key)) in
-            entry_stays table slabs slabs m.state.heads heads' words words other own_stamp c (others_stay heads' c (tag_other c of.inside not_it of.linked)) of)
+          let before : leads stripes other ≡ Some (c, own_stamp) = sym (fewer_leads other ∙ rw isnt refl) ∙ found in
+          let of = entry other own_stamp c before in
+          let not_it : c ≡ chunk → ⊥ = λ same. apart (sym of.same_key ∙ (ap (λ c. word_of table slabs words c 0) same ∙ (entry key stamp chunk there).same_key)) in
+          entry_stays table slabs slabs m.state.heads heads' words words other own_stamp c (others_stay heads' c (tag_other c of.inside not_it of.linked)) of)
 
       fewer_linked : (c : ChunkId) → has_chunk table c ≡ true → (head_in table heads' c).tag ≡ Linked → leads stripes' (word_of table slabs words c 0) ≡ Some (c, word_of table slabs words c 1)
       fewer_linked c near_c linked =
           let before = tag_after m l chunk near head (λ c tag. tag ≡ Linked → ((head_in table m.state.heads c).tag ≡ Linked) × (c ≡ chunk → ⊥)) (λ is. absurd (gone is))
-              (λ other _ isnt is. (is, apart_from other isnt)) c near_c linked in
+          (λ other _ isnt is. (is, apart_from other isnt)) c near_c linked in
           let found = l.indexed.linked c near_c before.0 in
           by_equal (word_of table slabs words c 0) key
           (λ _ here. absurd (before.1 (one_chunk c chunk (word_of table slabs words c 1) stamp (leads stripes key) (ap (leads stripes) (sym here) ∙ found) there)))
@@ -111,24 +111,24 @@ module _ (m : Moment) (l : IsLawful m) where
       more_entry : (other own_stamp : ℕ) (c : ChunkId) → leads stripes' other ≡ Some (c, own_stamp) → IsEntry table slabs heads' words other own_stamp c
       more_entry other own_stamp c found = by_equal other key
           (λ here is.
-            let both : Some (chunk, stamp) ≡ Some (c, own_stamp) = sym (more_leads other ∙ rw here refl) ∙ found in
-            let same : (chunk, stamp) ≡ (c, own_stamp) = cc in
-            subst (λ k. IsEntry table slabs heads' words k own_stamp c) (sym is) (subst (λ (p : ChunkId × ℕ). IsEntry table slabs heads' words key p.1 p.0) same new_entry))
+          let both : Some (chunk, stamp) ≡ Some (c, own_stamp) = sym (more_leads other ∙ rw here refl) ∙ found in
+          let same : (chunk, stamp) ≡ (c, own_stamp) = cc in
+          subst (λ k. IsEntry table slabs heads' words k own_stamp c) (sym is) (subst (λ (p : ChunkId × ℕ). IsEntry table slabs heads' words key p.1 p.0) same new_entry))
           (λ isnt apart.
-            let before : leads stripes other ≡ Some (c, own_stamp) = sym (more_leads other ∙ rw isnt refl) ∙ found in
-            let of = entry other own_stamp c before in
-            let not_it : c ≡ chunk → ⊥ = λ same. new (ap (λ c. (head_in table m.state.heads c).tag) (sym same) ∙ of.linked) in
-            entry_stays table slabs slabs m.state.heads heads' words words other own_stamp c (others_stay heads' c (tag_other c of.inside not_it of.linked)) of)
+          let before : leads stripes other ≡ Some (c, own_stamp) = sym (more_leads other ∙ rw isnt refl) ∙ found in
+          let of = entry other own_stamp c before in
+          let not_it : c ≡ chunk → ⊥ = λ same. new (ap (λ c. (head_in table m.state.heads c).tag) (sym same) ∙ of.linked) in
+          entry_stays table slabs slabs m.state.heads heads' words words other own_stamp c (others_stay heads' c (tag_other c of.inside not_it of.linked)) of)
 
       more_linked : (c : ChunkId) → has_chunk table c ≡ true → (head_in table heads' c).tag ≡ Linked → leads stripes' (word_of table slabs words c 0) ≡ Some (c, word_of table slabs words c 1)
       more_linked = tag_after m l chunk near head (λ c tag. tag ≡ Linked → leads stripes' (word_of table slabs words c 0) ≡ Some (c, word_of table slabs words c 1))
           (λ _. more_leads (word_of table slabs words chunk 0) ∙ by_equal (word_of table slabs words chunk 0) key
-            (λ here _. rw here (ap (λ (n : ℕ). Some (chunk, n)) (sym second))) (λ _ apart. absurd (apart first)))
+          (λ here _. rw here (ap (λ (n : ℕ). Some (chunk, n)) (sym second))) (λ _ apart. absurd (apart first)))
           (λ c near_c isnt is.
-            let found = l.indexed.linked c near_c is in
-            by_equal (word_of table slabs words c 0) key
-            (λ _ here. let never : None ≡ Some (c, word_of table slabs words c 1) = sym nowhere ∙ (ap (leads stripes) (sym here) ∙ found) in absurd (cc))
-            (λ other _. more_leads (word_of table slabs words c 0) ∙ rw other found))
+          let found = l.indexed.linked c near_c is in
+          by_equal (word_of table slabs words c 0) key
+          (λ _ here. let never : None ≡ Some (c, word_of table slabs words c 1) = sym nowhere ∙ (ap (leads stripes) (sym here) ∙ found) in absurd (cc))
+          (λ other _. more_leads (word_of table slabs words c 0) ∙ rw other found))
 
       pub more_indexed : AreIndexed table slabs heads' words stripes'
       more_indexed = indexed_from table slabs heads' words stripes' (one_own stripes l.legal.some key value (Some (chunk, stamp)) gives own) more_entry more_linked

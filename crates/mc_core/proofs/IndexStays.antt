@@ -60,11 +60,11 @@ module _ (table : Classes) (slabs next : SlabState) (heads heads' : List Head) (
       AreOwn other → ((key : ℕ) → leads other key ≡ leads stripes key) → AreIndexed table next heads' words' other
   indexed_stays stripes other some indexed stays back own same = indexed_from table next heads' words' other own
       (λ key stamp chunk there.
-        let entry = entry_from table slabs heads words stripes some indexed key stamp chunk (sym (same key) ∙ there) in
-        entry_stays key stamp chunk (stays chunk entry.inside entry.linked) entry)
+      let entry = entry_from table slabs heads words stripes some indexed key stamp chunk (sym (same key) ∙ there) in
+      entry_stays key stamp chunk (stays chunk entry.inside entry.linked) entry)
       (λ chunk near linked.
-        let before = back chunk near linked in
-        link_stays other chunk (stays chunk near before) (same (word_of table slabs words chunk 0) ∙ indexed.linked chunk near before))
+      let before = back chunk near linked in
+      link_stays other chunk (stays chunk near before) (same (word_of table slabs words chunk 0) ∙ indexed.linked chunk near before))
 
 -- one header is written
 module _ (m : Moment) (l : IsLawful m) (chunk : ChunkId) (near : has_chunk m.state.table chunk ≡ true) (head : Head) where

@@ -91,8 +91,8 @@ module _ (m : Moment) (l : IsLawful m) (hand : ℕ) where
       let both = and_parts (is_linked (head_at m.state chunk).tag) ((head_at m.state chunk).count == 1) idle.1 in
       let is = tag_linked (head_at m.state chunk).tag both.0 in
       let fewer = fewer_indexed m l chunk near.1 (condemned (head_at m.state chunk)) key (word_at m.state chunk 1)
-          (stripe_condemned stripe (has_copy m.state hand chunk) (writer_of m.state hand) key) (λ never. cc) (l.indexed.linked chunk near.1 is)
-          (λ other. condemned_gives stripe (has_copy m.state hand chunk) (writer_of m.state hand) key other (rising key)) in
+      (stripe_condemned stripe (has_copy m.state hand chunk) (writer_of m.state hand) key) (λ never. cc) (l.indexed.linked chunk near.1 is)
+      (λ other. condemned_gives stripe (has_copy m.state hand chunk) (writer_of m.state hand) key other (rising key)) in
       bound (copy_of m.state hand chunk) fewer
     where
       bound : (o : Option Holding) →
@@ -105,7 +105,7 @@ module _ (m : Moment) (l : IsLawful m) (hand : ℕ) where
   pub fill_indexed : (chunk : ChunkId) (place word : ℕ) → can_fill m.state hand chunk place ≡ true → IsIndexed (after_fill m.state hand chunk place word)
   fill_indexed chunk place word can =
       elim (holding_of chunk (holdings_at m.state hand)) as (λ o. holding_of chunk (holdings_at m.state hand) ≡ o → can_fill_in place o ≡ true →
-        IsIndexed (with_word (refilled (without_holding m.state hand (is_of chunk)) hand place word o) chunk place word)) [
+      IsIndexed (with_word (refilled (without_holding m.state hand (is_of chunk)) hand place word o) chunk place word)) [
         | None ↦ λ _ never. absurd (cc)
         | Some holding ↦ λ found may.
             let both = and_parts (is_fresh holding) (nat_lt place (length holding.words)) may in

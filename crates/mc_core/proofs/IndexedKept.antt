@@ -41,8 +41,8 @@ indexed_slabs m hand change may =
     let next = (after_change m.state hand change).slabs in
     indexed_stays m.state.table m.state.slabs next m.state.heads m.state.heads m.state.words m.state.words m.state.stripes m.state.stripes may.lawful.legal.some may.lawful.indexed
     (λ chunk near linked.
-      let same = stays_changes m hand change may chunk (head_in m.state.table m.state.heads chunk).issue near (inr linked, refl) in
-      record { tag = linked; class = same; first_words = λ place _. word_moved m.state.table m.state.slabs next m.state.words chunk place same })
+    let same = stays_changes m hand change may chunk (head_in m.state.table m.state.heads chunk).issue near (inr linked, refl) in
+    record { tag = linked; class = same; first_words = λ place _. word_moved m.state.table m.state.slabs next m.state.words chunk place same })
     (λ chunk near linked. linked) (own m may.lawful) (λ key. refl)
 
 -- a stripe is written, and all its keys lead where they led
@@ -71,7 +71,7 @@ module _ (m : Moment) (l : IsLawful m) where
       let stripe = stripe_at m.state (stripe_of m.state key) in
       indexed_stripe (stripe_of m.state key) (used_up (stripe_changes.after_unlink stripe.state (writer_of m.state hand) key)) (within key)
       (λ other. at_without_entry stripe.state.index key other (l.legal.legal (stripe_of m.state key) new_stripe (within key)).rising
-        ∙ by_equal other key (λ here is. rw here (sym nowhere ∙ ap (place_of stripe.state) (sym is))) (λ isnt _. rw isnt refl))
+      ∙ by_equal other key (λ here is. rw here (sym nowhere ∙ ap (place_of stripe.state) (sym is))) (λ isnt _. rw isnt refl))
 
 nothing_there : (m : Moment) (hand key : ℕ) → (has_stripe m.state hand (stripe_of m.state key) && can_tell_none (stripe_at m.state (stripe_of m.state key)) key) ≡ true → place_of (stripe_at m.state (stripe_of m.state key)).state key ≡ None
 nothing_there m hand key can =
@@ -137,4 +137,4 @@ indexed_first table stripes hands sound some_stripe some_hand few =
     indexed_from table (fresh_slabs table) state.heads state.words (replicate stripes new_stripe) (new_own stripes)
     (λ key stamp chunk there. let never : None ≡ Some (chunk, stamp) = sym (new_leads stripes key) ∙ there in absurd (cc))
     (λ chunk near linked.
-      let out : Out ≡ Linked = ap (λ (head : Head). head.tag) (sym (all_same never_cut (pages_of table * most_of table) (head_place table chunk))) ∙ linked in absurd (cc))
+    let out : Out ≡ Linked = ap (λ (head : Head). head.tag) (sym (all_same never_cut (pages_of table * most_of table) (head_place table chunk))) ∙ linked in absurd (cc))
