@@ -43,10 +43,11 @@ module _ (m : Moment) (l : IsLawful m) (hand : ℕ) where
     closed_tallied : IsTallied (with_head (with_slabs m.state next) chunk head)
     closed_tallied =
         let kept = turn_each m.state.table m.state.heads rows rows chunk head turn m.state.slabs next m.state.words same rows
-            (λ i row inside j other on is. absurd (nobodys chunk rows nobody i row inside j other on is))
-            (each_so m.state.table m.state.slabs m.state.heads m.state.words rows l.held) in
-        (turn_counted m.state.table m.state.heads rows rows chunk head turn l.counted,
-         held_from_so m.state.table next (slice_set m.state.heads (head_place m.state.table chunk) head) m.state.words rows kept l.held.most)
+        (λ i row inside j other on is. absurd (nobodys chunk rows nobody i row inside j other on is))
+        (each_so m.state.table m.state.slabs m.state.heads m.state.words rows l.held) in (
+          turn_counted m.state.table m.state.heads rows rows chunk head turn l.counted,
+          held_from_so m.state.table next (slice_set m.state.heads (head_place m.state.table chunk) head) m.state.words rows kept l.held.most,
+        )
 
   -- a dead chunk has no count
   dead_none : (chunk : ChunkId) → is_dead (head_at m.state chunk) ≡ true → (head_at m.state chunk).count ≡ 0

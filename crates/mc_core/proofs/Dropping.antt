@@ -71,10 +71,11 @@ module _ (m : Moment) (l : IsLawful m) (hand : ℕ) (there : is_hand m.state han
     less_tallied =
         let stale = stale_less rows hand within (is_of chunk) holding found (λ i row inside j other on fresh. (l.held.alone i row inside j other on fresh).1) in
         let kept = turn_each m.state.table m.state.heads rows left chunk (let_go old) turn m.state.slabs m.state.slabs m.state.words (λ page. refl) left
-            (λ i row inside j other on same. (refl, stale i row inside j other on (same ∙ sym is)))
-            (each_less rows hand (IsSo m.state.table m.state.slabs m.state.heads m.state.words rows) (is_of chunk) each) in
-        (turn_counted m.state.table m.state.heads rows left chunk (let_go old) turn l.counted,
-         held_from_so m.state.table m.state.slabs heads' m.state.words left kept (most_less rows hand (is_of chunk) within l.held.most))
+        (λ i row inside j other on same. (refl, stale i row inside j other on (same ∙ sym is)))
+        (each_less rows hand (IsSo m.state.table m.state.slabs m.state.heads m.state.words rows) (is_of chunk) each) in (
+          turn_counted m.state.table m.state.heads rows left chunk (let_go old) turn l.counted,
+          held_from_so m.state.table m.state.slabs heads' m.state.words left kept (most_less rows hand (is_of chunk) within l.held.most),
+        )
 
   pub drop_tallied : (chunk : ChunkId) (fresh : Bool) → holds_as fresh (holding_of chunk (holdings_at m.state hand)) ≡ true → IsTallied (after_drop m.state hand chunk)
   drop_tallied chunk fresh can =
@@ -105,9 +106,10 @@ module _ (m : Moment) (l : IsLawful m) (hand : ℕ) (there : is_hand m.state han
     unlinked_tallied : IsTallied (with_head m.state chunk (unlinked (head_at m.state chunk)))
     unlinked_tallied =
         let kept = turn_each m.state.table m.state.heads rows rows chunk (unlinked (head_at m.state chunk)) unlinked_turn m.state.slabs m.state.slabs m.state.words (λ page. refl) rows
-            (λ i row inside j other on is. (refl, linked_stale m l hand there chunk linked i row inside j other on is)) each in
-        (turn_counted m.state.table m.state.heads rows rows chunk (unlinked (head_at m.state chunk)) unlinked_turn l.counted,
-         held_from_so m.state.table m.state.slabs (slice_set m.state.heads (head_place m.state.table chunk) (unlinked (head_at m.state chunk))) m.state.words rows kept l.held.most)
+        (λ i row inside j other on is. (refl, linked_stale m l hand there chunk linked i row inside j other on is)) each in (
+          turn_counted m.state.table m.state.heads rows rows chunk (unlinked (head_at m.state chunk)) unlinked_turn l.counted,
+          held_from_so m.state.table m.state.slabs (slice_set m.state.heads (head_place m.state.table chunk) (unlinked (head_at m.state chunk))) m.state.words rows kept l.held.most,
+        )
 
   pub unlink_tallied : (key : ℕ) → can_unlink m.state hand key ≡ true → IsTallied (after_unlink m.state hand key)
   unlink_tallied key can =
@@ -146,9 +148,10 @@ module _ (m : Moment) (l : IsLawful m) (hand : ℕ) (there : is_hand m.state han
     heads_condemned = slice_set m.state.heads (head_place m.state.table chunk) (condemned (head_at m.state chunk))
 
     none_tallied : AreCounted m.state.table heads_condemned rows × AreHeld m.state.table m.state.slabs heads_condemned m.state.words rows
-    none_tallied =
-        (turn_counted m.state.table m.state.heads rows rows chunk (condemned (head_at m.state chunk)) (condemned_turn rows (λ other. refl)) l.counted,
-         held_from_so m.state.table m.state.slabs heads_condemned m.state.words rows (condemned_each rows rows (λ other. refl) nobody each) l.held.most)
+    none_tallied = (
+      turn_counted m.state.table m.state.heads rows rows chunk (condemned (head_at m.state chunk)) (condemned_turn rows (λ other. refl)) l.counted,
+      held_from_so m.state.table m.state.slabs heads_condemned m.state.words rows (condemned_each rows rows (λ other. refl) nobody each) l.held.most,
+    )
 
     -- the copy is bound to the item
     module _ (item : Words) (copy : Holding) (found : find (is_copy_of chunk) (holdings_at m.state hand) ≡ Some copy) where
@@ -185,12 +188,13 @@ module _ (m : Moment) (l : IsLawful m) (hand : ℕ) (there : is_hand m.state han
           }
 
       some_tallied : AreCounted m.state.table heads_condemned now × AreHeld m.state.table m.state.slabs heads_condemned m.state.words now
-      some_tallied =
-          (turn_counted m.state.table m.state.heads rows now chunk (condemned (head_at m.state chunk)) (condemned_turn now same) l.counted,
-           held_from_so m.state.table m.state.slabs heads_condemned m.state.words now
-             (each_more kept hand (IsSo m.state.table m.state.slabs heads_condemned m.state.words now) (as_rescue chunk item copy)
-             (condemned_each now kept same kept_none (each_less rows hand (IsSo m.state.table m.state.slabs m.state.heads m.state.words rows) (is_copy_of chunk) each)) copy_so)
-             (most_swapped rows hand within (is_copy_of chunk) copy (as_rescue chunk item copy) found l.held.most))
+      some_tallied = (
+        turn_counted m.state.table m.state.heads rows now chunk (condemned (head_at m.state chunk)) (condemned_turn now same) l.counted,
+        held_from_so m.state.table m.state.slabs heads_condemned m.state.words now
+            (each_more kept hand (IsSo m.state.table m.state.slabs heads_condemned m.state.words now) (as_rescue chunk item copy)
+            (condemned_each now kept same kept_none (each_less rows hand (IsSo m.state.table m.state.slabs m.state.heads m.state.words rows) (is_copy_of chunk) each)) copy_so)
+            (most_swapped rows hand within (is_copy_of chunk) copy (as_rescue chunk item copy) found l.held.most),
+      )
 
     bound_tallied : (stripes : List ReadyStripe) (item : Words) (o : Option Holding) → find (is_copy_of chunk) (holdings_at m.state hand) ≡ o →
         IsTallied (with_head (with_rescue (without_holding (record m.state { stripes = stripes }) hand (is_copy_of chunk)) hand chunk item o) chunk (condemned (head_at m.state chunk)))

@@ -150,13 +150,14 @@ module _ (m : Moment) (l : IsLawful m) where
     filled_tallied =
         let others = each_less rows hand (IsSo m.state.table m.state.slabs m.state.heads m.state.words rows) (is_of chunk) (each_so m.state.table m.state.slabs m.state.heads m.state.words rows l.held) in
         let outs = each_less rows hand (IsOut m l) (is_of chunk) out_each in
-        let apart = nobodys holding.chunk left left_none in
-        (counted,
-         held_from_so m.state.table m.state.slabs m.state.heads words' now
-           (each_more left hand (IsSo m.state.table m.state.slabs m.state.heads words' now) filled
-           (λ i row inside j other on.
-             other_so (slice_index_or (slice_index_or left i row) j other) (apart i row inside j other on) (outs i row inside j other on) (others i row inside j other on)) filled_so)
-           (most_swapped rows hand within (is_of chunk) holding filled found l.held.most))
+        let apart = nobodys holding.chunk left left_none in (
+          counted,
+          held_from_so m.state.table m.state.slabs m.state.heads words' now
+              (each_more left hand (IsSo m.state.table m.state.slabs m.state.heads words' now) filled
+              (λ i row inside j other on.
+              other_so (slice_index_or (slice_index_or left i row) j other) (apart i row inside j other on) (outs i row inside j other on) (others i row inside j other on)) filled_so)
+              (most_swapped rows hand within (is_of chunk) holding filled found l.held.most),
+        )
 
     pub refilled_tallied : IsTallied (with_word (refilled (without_holding m.state hand (is_of chunk)) hand place word (Some holding)) chunk place word)
     refilled_tallied =
@@ -165,7 +166,7 @@ module _ (m : Moment) (l : IsLawful m) where
   pub fill_tallied : (hand : ℕ) → is_hand m.state hand ≡ true → (chunk : ChunkId) (place word : ℕ) → can_fill m.state hand chunk place ≡ true → IsTallied (after_fill m.state hand chunk place word)
   fill_tallied hand there chunk place word can =
       elim (holding_of chunk (holdings_at m.state hand)) as (λ o. holding_of chunk (holdings_at m.state hand) ≡ o → can_fill_in place o ≡ true →
-        IsTallied (with_word (refilled (without_holding m.state hand (is_of chunk)) hand place word o) chunk place word)) [
+      IsTallied (with_word (refilled (without_holding m.state hand (is_of chunk)) hand place word o) chunk place word)) [
         | None ↦ λ _ never. absurd (cc)
         | Some holding ↦ λ found may.
             let both = and_parts (is_fresh holding) (nat_lt place (length holding.words)) may in

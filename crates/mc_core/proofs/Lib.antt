@@ -64,3 +64,10 @@ pub mod Grown
 pub mod ToldKept
 pub mod ToldSteps
 pub mod FirstHands
+pub mod Index
+pub mod IndexStays
+pub mod IndexMoves
+pub mod IndexHeaders
+pub mod IndexSteps
+pub mod IndexLinks
+pub mod IndexedKept

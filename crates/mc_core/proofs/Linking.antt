@@ -105,15 +105,16 @@ module _ (m : Moment) (l : IsLawful m) (hand : ℕ) (there : is_hand m.state han
   linked_tallied : AreCounted m.state.table heads' now × AreHeld m.state.table m.state.slabs heads' m.state.words now
   linked_tallied =
       let kept = turn_each m.state.table m.state.heads rows now chunk (linked old) turn m.state.slabs m.state.slabs m.state.words (λ page. refl) left
-          (λ i row inside j other on same. absurd (nobodys chunk left left_none i row inside j other on same))
-          (each_less rows hand (IsSo m.state.table m.state.slabs m.state.heads m.state.words rows) (is_of chunk) (each_so m.state.table m.state.slabs m.state.heads m.state.words rows l.held)) in
+      (λ i row inside j other on same. absurd (nobodys chunk left left_none i row inside j other on same))
+      (each_less rows hand (IsSo m.state.table m.state.slabs m.state.heads m.state.words rows) (is_of chunk) (each_so m.state.table m.state.slabs m.state.heads m.state.words rows l.held)) in
       let new = turn_more m.state.table m.state.heads rows now chunk (linked old) turn m.state.slabs m.state.slabs m.state.words (λ page. refl) (as_reference holding) is
-          (so.issue ∙ ap (λ c. (head_in m.state.table m.state.heads c).issue) is) shows
-          ((λ fresh. absurd (cc)), λ stale. (filled_whole holding.words may.complete).0) (λ fresh. absurd (cc)) in
-      (turn_counted m.state.table m.state.heads rows now chunk (linked old) turn l.counted,
-       held_from_so m.state.table m.state.slabs heads' m.state.words now
-         (each_more left hand (IsSo m.state.table m.state.slabs heads' m.state.words now) (as_reference holding) kept new)
-         (most_swapped rows hand within (is_of chunk) holding (as_reference holding) may.found l.held.most))
+      (so.issue ∙ ap (λ c. (head_in m.state.table m.state.heads c).issue) is) shows
+      ((λ fresh. absurd (cc)), λ stale. (filled_whole holding.words may.complete).0) (λ fresh. absurd (cc)) in (
+        turn_counted m.state.table m.state.heads rows now chunk (linked old) turn l.counted,
+        held_from_so m.state.table m.state.slabs heads' m.state.words now
+            (each_more left hand (IsSo m.state.table m.state.slabs heads' m.state.words now) (as_reference holding) kept new)
+            (most_swapped rows hand within (is_of chunk) holding (as_reference holding) may.found l.held.most),
+      )
 
   -- whichever way the stripe is told
   told_tallied : (kind : Kind) → IsTallied (with_holding (with_head (told_link (without_holding m.state hand (is_of chunk)) hand holding kind) chunk (linked old)) hand (as_reference holding))
@@ -128,7 +129,7 @@ module _ (m : Moment) (l : IsLawful m) (hand : ℕ) (there : is_hand m.state han
 pub link_tallied : (m : Moment) → IsLawful m → (hand : ℕ) → is_hand m.state hand ≡ true → (chunk : ChunkId) → can_link m.state hand chunk ≡ true → IsTallied (after_link m.state hand chunk)
 link_tallied m l hand there chunk can =
     elim (holding_of chunk (holdings_at m.state hand)) as (λ o. holding_of chunk (holdings_at m.state hand) ≡ o → can_link_holding m.state hand chunk o ≡ true →
-      IsTallied (after_link_of (without_holding m.state hand (is_of chunk)) hand chunk o)) [
+    IsTallied (after_link_of (without_holding m.state hand (is_of chunk)) hand chunk o)) [
       | None ↦ λ _ never. absurd (cc)
       | Some holding ↦ λ found may. link_of_tallied m l hand there chunk holding (may_link m hand chunk holding found may)
     ] refl can

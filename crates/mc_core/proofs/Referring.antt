@@ -70,14 +70,15 @@ module _ (m : Moment) (l : IsLawful m) (hand : ℕ) (there : is_hand m.state han
     pub referred_tallied : IsTallied (with_reference m.state hand chunk)
     referred_tallied =
         let kept = turn_each m.state.table m.state.heads rows now chunk (referred old) turn m.state.slabs m.state.slabs m.state.words (λ page. refl) rows
-            (λ i row inside j other on is. (refl, linked_stale chunk linked i row inside j other on is))
-            (each_so m.state.table m.state.slabs m.state.heads m.state.words rows l.held) in
+        (λ i row inside j other on is. (refl, linked_stale chunk linked i row inside j other on is))
+        (each_so m.state.table m.state.slabs m.state.heads m.state.words rows l.held) in
         let new = turn_more m.state.table m.state.heads rows now chunk (referred old) turn m.state.slabs m.state.slabs m.state.words (λ page. refl) holding refl refl
-            (item_shows m.state chunk fit) ((λ fresh. absurd (cc)), λ stale. item_whole m.state chunk fit) (λ fresh. absurd (cc)) in
-        (turn_counted m.state.table m.state.heads rows now chunk (referred old) turn l.counted,
-         held_from_so m.state.table m.state.slabs heads' m.state.words now
-           (each_more rows hand (IsSo m.state.table m.state.slabs heads' m.state.words now) holding kept new)
-           (most_more rows hand holding room l.held.most))
+        (item_shows m.state chunk fit) ((λ fresh. absurd (cc)), λ stale. item_whole m.state chunk fit) (λ fresh. absurd (cc)) in (
+          turn_counted m.state.table m.state.heads rows now chunk (referred old) turn l.counted,
+          held_from_so m.state.table m.state.slabs heads' m.state.words now
+              (each_more rows hand (IsSo m.state.table m.state.slabs heads' m.state.words now) holding kept new)
+              (most_more rows hand holding room l.held.most),
+        )
 
   pub refer_tallied : (key : ℕ) → can_refer m.state hand key ≡ true → IsTallied (after_refer m.state hand key)
   refer_tallied key can =

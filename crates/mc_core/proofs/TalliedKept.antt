@@ -92,8 +92,8 @@ tallied_steps m hand (MissStripe stripe) may = looked_tallied m.state hand _ (ha
 tallied_steps m hand GiveSlabs may = (may.lawful.counted, may.lawful.held)
 tallied_steps m hand (GiveStripe stripe) may = (may.lawful.counted, may.lawful.held)
 tallied_steps m hand (step.Head chunk) may = looked_tallied m.state hand _ (has_slabs m.state hand) (may.lawful.counted, may.lawful.held)
-tallied_steps m hand (Pop class) may = pop_tallied m may.lawful hand may.there class may.allowed
-tallied_steps m hand (PopOff old) may = pop_off_tallied m may.lawful hand may.there old may.allowed
+tallied_steps m hand (Pop class) may = pop_tallied m may.lawful hand class may.there may.allowed
+tallied_steps m hand (PopOff old) may = pop_off_tallied m may.lawful hand old may.there may.allowed
 tallied_steps m hand (Fill chunk place word) may = fill_tallied m may.lawful hand may.there chunk place word may.allowed
 tallied_steps m hand (Word chunk place) may = (may.lawful.counted, may.lawful.held)
 tallied_steps m hand (WordHeld chunk place) may = (may.lawful.counted, may.lawful.held)
@@ -115,11 +115,11 @@ counted_steps m hand step may = (tallied_steps m hand step may).0
 pub held_steps : StepsKeep HeldIn
 held_steps m hand step may = (tallied_steps m hand step may).1
 
--- at first no chunk was ever cut, and nothing is held
-uncut : (n place : ℕ) → slice_index_or (replicate n never_cut) place never_cut ≡ never_cut
-uncut zero place = refl
-uncut (suc n) zero = refl
-uncut (suc n) (suc place) = uncut n place
+-- at first all headers are alike, and nothing is held
+pub all_same : {X : Type 0} (x : X) (n place : ℕ) → slice_index_or (replicate n x) place x ≡ x
+all_same x zero place = refl
+all_same x (suc n) zero = refl
+all_same x (suc n) (suc place) = all_same x n place
 
 none_held : (chunk : ChunkId) (hands : ℕ) → holders chunk (replicate hands []) ≡ 0
 none_held chunk zero = refl
@@ -130,7 +130,7 @@ none_each P hands = All-replicate (All P) hands [] (All-nil P)
 
 pub counted_first : (table : Classes) (stripes hands : ℕ) → IsSound table → 1 ≤ stripes → 1 ≤ hands → hands ≤ 64 → CountedIn (first_moment table stripes hands)
 counted_first table stripes hands sound some_stripe some_hand few =
-    let at = λ (chunk : ChunkId). uncut (pages_of table * most_of table) (head_place table chunk) in
+    let at = λ (chunk : ChunkId). all_same never_cut (pages_of table * most_of table) (head_place table chunk) in
     record {
       counted = λ chunk near. rw (at chunk) (let none = none_held chunk hands in omega arith);
       shut = λ chunk near shut. ap (λ (head : Head). head.count) (at chunk);
