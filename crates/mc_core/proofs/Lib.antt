@@ -35,3 +35,4 @@ pub mod KnownLinks
 pub mod KnownReferences
 pub mod KnownCondemned
 pub mod KnownSteps
+pub mod RescuedSteps
