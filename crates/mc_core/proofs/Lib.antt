@@ -36,3 +36,4 @@ pub mod KnownReferences
 pub mod KnownCondemned
 pub mod KnownSteps
 pub mod RescuedSteps
+pub mod SeenLooks
