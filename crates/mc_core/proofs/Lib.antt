@@ -37,3 +37,4 @@ pub mod KnownCondemned
 pub mod KnownSteps
 pub mod RescuedSteps
 pub mod SeenLooks
+pub mod SeenAdds
