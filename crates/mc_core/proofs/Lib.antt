@@ -38,3 +38,4 @@ pub mod KnownSteps
 pub mod RescuedSteps
 pub mod SeenLooks
 pub mod SeenAdds
+pub mod SeenHolder
