@@ -39,3 +39,4 @@ pub mod RescuedSteps
 pub mod SeenLooks
 pub mod SeenAdds
 pub mod SeenHolder
+pub mod SeenQuiet
