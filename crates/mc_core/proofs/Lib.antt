@@ -40,3 +40,4 @@ pub mod SeenLooks
 pub mod SeenAdds
 pub mod SeenHolder
 pub mod SeenQuiet
+pub mod SeenTurns
