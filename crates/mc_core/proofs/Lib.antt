@@ -41,3 +41,4 @@ pub mod SeenAdds
 pub mod SeenHolder
 pub mod SeenQuiet
 pub mod SeenTurns
+pub mod SeenSteps
