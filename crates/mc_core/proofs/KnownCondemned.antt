@@ -141,7 +141,7 @@ module _ (m : Moment) (hand kept spent : ℕ) (may : MayStep m hand (Join kept s
   said_still stamp words said =
       let rows = lawful.rows.said in let is = within kept join.there in said_joined m.past.said kept spent stamp words join.apart (omega arith) said
 
-  known_still : (P : Known → Type 0) → IsKnownToSome m.past.known P → IsKnownToSome known' P
+  pub known_still : (P : Known → Type 0) → IsKnownToSome m.past.known P → IsKnownToSome known' P
   known_still P (other, k, has, p) =
       let rows = lawful.rows.known in let is = within kept join.there in
       let there = joined_contains m.past.known kept spent other k join.apart (omega arith) has in (there.0, k, there.1, p)

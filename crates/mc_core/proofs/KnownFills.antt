@@ -49,30 +49,46 @@ module _ (m : Moment) (l : IsLawful m) (chunk : ChunkId) (place word : ℕ) (pla
     apart = apart;
   }
 
+-- the fresh holding whose chunk is filled
+module _ (m : Moment) (l : IsLawful m) (hand : ℕ) (chunk : ChunkId) (place : ℕ) (holding : Holding) (found : holding_of chunk (holdings_at m.state hand) ≡ Some holding) (can : can_fill_in place (Some holding) ≡ true) where
+  pub fill_at : holding.chunk ≡ chunk
+  fill_at = same_from_is_chunk holding.chunk chunk (found_passes (is_of chunk) (holdings_at m.state hand) holding found)
+
+  pub fill_fresh : is_fresh holding ≡ true
+  fill_fresh = (and_parts (is_fresh holding) (nat_lt place (length holding.words)) can).0
+
+  pub fill_out : IsOut m l holding
+  fill_out = found_all (IsOut m l) (is_of chunk) (holdings_at m.state hand) holding found (held_out m l hand)
+
+  pub fill_placed : IsPlaced m.state.slabs chunk
+  fill_placed = subst (λ (c : ChunkId). IsPlaced m.state.slabs c) fill_at (placed_at m l holding.chunk holding.issue fill_out.0 fill_out.1).0
+
+  pub fill_on : place < room_in m.state.table (class_of_page m.state.slabs chunk.page)
+  fill_on =
+      let sized = found_each (λ h. IsSized (room_in m.state.table (class_of_page m.state.slabs h.chunk.page)) h) m.state.holdings hand (is_of chunk) holding found l.held.sized in
+      let long = sized.0 fill_fresh in
+      let within = ltb-true place (length holding.words) (and_parts (is_fresh holding) (nat_lt place (length holding.words)) can).1 in
+      subst (λ (c : ChunkId). place < room_in m.state.table (class_of_page m.state.slabs c.page)) fill_at (omega arith)
+
+  -- no item that is shown is known of its chunk
+  pub fill_apart : (k : Known) → IsStill m l k → IsHandedOut (head_in m.state.table m.state.heads k.chunk) k.issue → k.chunk ≡ chunk → ⊥
+  fill_apart k is shown same =
+      found_each (IsApartFrom k) m.state.holdings hand (is_of chunk) holding found is.apart fill_fresh (fill_at ∙ sym same)
+      (sym fill_out.1.1 ∙ (ap (λ (c : ChunkId). (head_in m.state.table m.state.heads c).issue) (fill_at ∙ sym same) ∙ shown.1))
+
 module _ (m : Moment) (hand : ℕ) (chunk : ChunkId) (place word : ℕ) where
   known_filled : (l : IsLawful m) (holding : Holding) → holding_of chunk (holdings_at m.state hand) ≡ Some holding → can_fill_in place (Some holding) ≡ true →
       KnownAt (with_word (refilled (without_holding m.state hand (is_of chunk)) hand place word (Some holding)) chunk place word) (with_more m.past.said hand []) (with_more m.past.known hand [])
   known_filled l holding found can =
-      let row = holdings_at m.state hand in
-      let parts = and_parts (is_fresh holding) (nat_lt place (length holding.words)) can in
-      let at : holding.chunk ≡ chunk = same_from_is_chunk holding.chunk chunk (found_passes (is_of chunk) row holding found) in
-      let out = found_all (IsOut m l) (is_of chunk) row holding found (held_out m l hand) in
-      let sized = found_each (λ h. IsSized (room_in m.state.table (class_of_page m.state.slabs h.chunk.page)) h) m.state.holdings hand (is_of chunk) holding found l.held.sized in
-      let long = sized.0 parts.0 in
-      let within = ltb-true place (length holding.words) parts.1 in
-      let on : place < room_in m.state.table (class_of_page m.state.slabs chunk.page) =
-      subst (λ (c : ChunkId). place < room_in m.state.table (class_of_page m.state.slabs c.page)) at (omega arith) in
-      let placed : IsPlaced m.state.slabs chunk = subst (λ (c : ChunkId). IsPlaced m.state.slabs c) at (placed_at m l holding.chunk holding.issue out.0 out.1).0 in
       let filled : Holding = record holding { words = slice_set holding.words place (Some word) } in
-      let apart = λ (k : Known) (is : IsStill m l k). found_each (IsApartFrom k) m.state.holdings hand (is_of chunk) holding found is.apart in
       let less = rows_less m.state.holdings hand (is_of chunk) in
       let end : State = with_word (refilled (without_holding m.state hand (is_of chunk)) hand place word (Some holding)) chunk place word in
       known_end m hand end
       (known_quiet m l m.state.slabs m.state.heads (slice_set m.state.words (place_in m.state.table m.state.slabs chunk place) word) (rows_more less hand filled)
-      (λ k is. still_filled m l chunk place word placed on (rows_more less hand filled) k
-      (λ shown same. apart k is parts.0 (at ∙ sym same) (sym out.1.1 ∙ (ap (λ (c : ChunkId). (head_in m.state.table m.state.heads c).issue) (at ∙ sym same) ∙ shown.1)))
-      (each_more less hand (IsApartFrom k) filled (apart_less m l hand (is_of chunk) k is) (apart k is)) is)
-      (own_added m l less hand filled (own_less m l hand (is_of chunk)) parts.0) l.known.linked)
+      (λ k is. still_filled m l chunk place word (fill_placed m l hand chunk place holding found can) (fill_on m l hand chunk place holding found can) (rows_more less hand filled) k
+      (fill_apart m l hand chunk place holding found can k is)
+      (each_more less hand (IsApartFrom k) filled (apart_less m l hand (is_of chunk) k is) (found_each (IsApartFrom k) m.state.holdings hand (is_of chunk) holding found is.apart)) is)
+      (own_added m l less hand filled (own_less m l hand (is_of chunk)) (fill_fresh m l hand chunk place holding found can)) l.known.linked)
 
   pub known_fill : MayStep m hand (Fill chunk place word) → KnownIn (moment_stepped m hand (Fill chunk place word))
   known_fill may =

@@ -50,7 +50,7 @@ same_words (x ∷ xs) (y ∷ ys) h =
     same_word_of (Some x) None h = absurd (cc)
     same_word_of (Some x) (Some y) h = ap Some (eqb-true x y h)
 
-unlinked_tag : (tag : Tag) → is_unlinked tag ≡ true → tag ≡ Unlinked
+pub unlinked_tag : (tag : Tag) → is_unlinked tag ≡ true → tag ≡ Unlinked
 unlinked_tag Out h = absurd (cc)
 unlinked_tag Free h = absurd (cc)
 unlinked_tag Unlinked h = refl

@@ -71,3 +71,10 @@ pub mod IndexHeaders
 pub mod IndexSteps
 pub mod IndexLinks
 pub mod IndexedKept
+pub mod RescuedSteps
+pub mod SeenLooks
+pub mod SeenAdds
+pub mod SeenHolder
+pub mod SeenQuiet
+pub mod SeenTurns
+pub mod SeenSteps

@@ -1,0 +1,180 @@
+-- Every change and every step keeps what holdings say of items that are being rescued.
+use Rattle.std.proofs.Common.{◌≡◌, ℕ, ◌+◌, ◌<◌, ◌≤◌, ◌&&◌, Bool, true, false, List, [], ◌∷◌, ◌++◌, length, refl, sym, ap, subst, ◌∙◌, arith, slice_set, slice_index, Option, Some, None, if◌then◌else◌}
+use Rattle.std.proofs.lemmas.Bool.{and_parts}
+use Rattle.mc_classes.specs.Classes.{Classes, IsSound}
+use Rattle.mc_pages.specs.declared.ids.ChunkId.{ChunkId}
+use Rattle.mc_pages.specs.Changes as slabs_changes
+use Rattle.mc_core.specs.declared.event.Change.{Change}
+use Rattle.mc_core.specs.declared.event.Change.TheVariants.{Grow, BeginMove, FinishMove, Touch, SetAutomove, Passed, Wrap, Evicted, Reserve, GotNone, DeletedNone}
+use Rattle.mc_core.specs.declared.event.Step.{Step}
+use Rattle.mc_core.specs.declared.event.Step.TheVariants.{TakeSlabs, TakeStripe, MissSlabs, MissStripe, GiveSlabs, GiveStripe, Pop, PopOff, Fill, Word, WordHeld, Link, Refer, Unlink, Release, Discard, Condemn, PutBack, Clear, Cut, Again, Join}
+use Rattle.mc_core.specs.declared.event.Step.TheVariants as step
+use Rattle.mc_core.specs.declared.holding.Holding.{Holding}
+use Rattle.mc_core.specs.declared.holding.Kind.{Kind}
+use Rattle.mc_core.specs.declared.holding.Kind.TheVariants.{Reference, Fresh}
+use Rattle.mc_core.specs.declared.holding.Purpose.{Purpose}
+use Rattle.mc_core.specs.declared.holding.Purpose.TheVariants.{Item, Copy, Rescue}
+use Rattle.mc_core.specs.declared.look.Look.{Look}
+use Rattle.mc_core.specs.declared.look.Look.TheVariants.{Saw, SawStripe}
+use Rattle.mc_core.specs.Holdings.{Words, stamp_in, item_length, is_complete, is_of, is_copy_of, holding_of}
+use Rattle.mc_core.specs.State.{State, has_slabs, head_at, item_at, holdings_at, with_slabs, with_look, with_word, with_head, with_holding, without_holding, with_stripe, stripe_at, stripe_of}
+use Rattle.mc_core.specs.Locks.{looked}
+use Rattle.mc_core.specs.Chunks.{next_free, popped, target_of, popped_off, refilled}
+use Rattle.mc_core.specs.Items.{chunk_of, after_link_of, told_link, with_got, referred_to, with_unlinked, linked, as_reference, stripe_unlinked}
+use Rattle.mc_core.specs.Holdings.{has_fresh}
+use Rattle.mc_core.specs.Silent.{writer_of}
+use Rattle.mc_core.specs.Evictions.{condemned, key_at, with_told, with_rescue, copy_of}
+use Rattle.mc_core.specs.Run.{after_step}
+use Rattle.mc_core.specs.Past.{Moment, Saying, with_more, said_by, moment_stepped, first_moment}
+use Rattle.mc_core.specs.Columns.{Each}
+use Rattle.mc_core.specs.Knowing.{IsSaid, IsRescue}
+use Rattle.mc_core.specs.Laws.{MayStep, ChangesKeep, StepsKeep}
+use Rattle.mc_core.specs.Lawful.{IsLawful, RescuedIn}
+use Rattle.mc_core.proofs.Base.{each_map}
+use Rattle.mc_core.proofs.Rows.{rows_less, rows_more, each_less, each_more}
+use Rattle.mc_core.proofs.Holders.{found_each}
+use Rattle.mc_core.proofs.Plays.{hand_there}
+use Rattle.mc_core.proofs.MoreRows.{with_none, joined_rows}
+use Rattle.mc_core.proofs.SaidOnce.{said_more, said_joined}
+use Rattle.mc_core.proofs.KnownQuiet.{IsStill}
+use Rattle.mc_core.proofs.KnownReferences.{item_has}
+use Rattle.mc_core.proofs.KnownCondemned.{IsCondemnable, condemnable, AreJoined, are_joined}
+use Rattle.mc_core.proofs.KnownSteps.{each_none}
+
+-- what was said is said still
+rescue_still : (said said' : List (List Saying)) → ((stamp : ℕ) (words : Words) → IsSaid said stamp words → IsSaid said' stamp words) → (kind : Kind) → IsRescue said kind → IsRescue said' kind
+rescue_still said said' more Reference is = tt
+rescue_still said said' more (Fresh Item) is = tt
+rescue_still said said' more (Fresh (Copy old)) is = tt
+rescue_still said said' more (Fresh (Rescue old item)) is = (is.0, is.1, more (stamp_in item) item is.2)
+
+abbrev IsSaidRescue : List (List Saying) → Holding → Type 0
+IsSaidRescue said holding = IsRescue said holding.kind
+
+abbrev AreRescued : List (List Holding) → List (List Saying) → Type 0
+AreRescued rows said = Each (IsSaidRescue said) rows
+
+rescued_more : (rows : List (List Holding)) (said : List (List Saying)) (hand : ℕ) (more : List Saying) → AreRescued rows said → AreRescued rows (with_more said hand more)
+rescued_more rows said hand more =
+    each_map (IsSaidRescue said) (IsSaidRescue (with_more said hand more)) rows (λ holding. rescue_still said (with_more said hand more) (λ stamp words. said_more said hand more stamp words) holding.kind)
+
+module _ (m : Moment) (hand : ℕ) where
+  -- what is left of rows and sayings
+  abbrev Ends : State → List Saying → Type 0
+  Ends s more = AreRescued s.holdings (with_more m.past.said hand more)
+
+  ends : (s : State) (more : List Saying) → AreRescued s.holdings m.past.said → Ends s more
+  ends s more is = rescued_more s.holdings m.past.said hand more is
+
+  looked_rescued : (look : Look) → AreRescued m.state.holdings m.past.said → AreRescued (looked m.state hand look).holdings m.past.said
+  looked_rescued look is = elim (has_slabs m.state hand) as (λ (b : Bool). AreRescued (if b then with_look m.state hand look else m.state).holdings m.past.said) [ true ↦ is | false ↦ is ]
+
+  module _ (is : AreRescued m.state.holdings m.past.said) where
+    one_less : (test : Holding → Bool) → AreRescued (rows_less m.state.holdings hand test) m.past.said
+    one_less test = each_less m.state.holdings hand (IsSaidRescue m.past.said) test is
+
+    -- a holding goes and one comes
+    one_other : (test : Holding → Bool) (holding : Holding) → IsRescue m.past.said holding.kind → AreRescued (rows_more (rows_less m.state.holdings hand test) hand holding) m.past.said
+    one_other test holding new = each_more (rows_less m.state.holdings hand test) hand (IsSaidRescue m.past.said) holding (one_less test) new
+
+    one_more : (holding : Holding) → IsRescue m.past.said holding.kind → AreRescued (rows_more m.state.holdings hand holding) m.past.said
+    one_more holding new = each_more m.state.holdings hand (IsSaidRescue m.past.said) holding is new
+
+    popped_rescued : (class : ℕ) (next : Option ChunkId) → AreRescued (popped (with_slabs m.state (slabs_changes.after_pop m.state.slabs class)) hand next).holdings m.past.said
+    popped_rescued class None = is
+    popped_rescued class (Some chunk) = one_more _ tt
+
+    popped_off_rescued : (old : ChunkId) (next : Option ChunkId) → AreRescued (popped_off m.state hand old next).holdings m.past.said
+    popped_off_rescued old None = is
+    popped_off_rescued old (Some chunk) = one_more _ tt
+
+    filled_rescued : (chunk : ChunkId) (place word : ℕ) (found : Option Holding) → holding_of chunk (holdings_at m.state hand) ≡ found → AreRescued (refilled (without_holding m.state hand (is_of chunk)) hand place word found).holdings m.past.said
+    filled_rescued chunk place word None found = one_less (is_of chunk)
+    filled_rescued chunk place word (Some holding) found =
+        one_other (is_of chunk) (record holding { words = slice_set holding.words place (Some word) }) (found_each (IsSaidRescue m.past.said) m.state.holdings hand (is_of chunk) holding found is)
+
+    linked_kind : (chunk : ChunkId) (holding : Holding) (kind : Kind) → AreRescued (with_holding (with_head (told_link (without_holding m.state hand (is_of chunk)) hand holding kind) chunk (linked (head_at m.state chunk))) hand (as_reference holding)).holdings m.past.said
+    linked_kind chunk holding Reference = one_other (is_of chunk) (as_reference holding) tt
+    linked_kind chunk holding (Fresh Item) = one_other (is_of chunk) (as_reference holding) tt
+    linked_kind chunk holding (Fresh (Copy old)) = one_other (is_of chunk) (as_reference holding) tt
+    linked_kind chunk holding (Fresh (Rescue old item)) = one_other (is_of chunk) (as_reference holding) tt
+
+    linked_rescued : (chunk : ChunkId) (found : Option Holding) → AreRescued (after_link_of (without_holding m.state hand (is_of chunk)) hand chunk found).holdings m.past.said
+    linked_rescued chunk None = one_less (is_of chunk)
+    linked_rescued chunk (Some holding) = linked_kind chunk holding holding.kind
+
+    referred_rescued : (key : ℕ) (place : Option (ChunkId × ℕ)) → AreRescued (referred_to (with_got m.state hand key) hand place).holdings m.past.said
+    referred_rescued key None = is
+    referred_rescued key (Some place) = one_more _ tt
+
+    unlinked_rescued : (s : State) (place : Option (ChunkId × ℕ)) → AreRescued s.holdings m.past.said → AreRescued (with_unlinked s place).holdings m.past.said
+    unlinked_rescued s None is = is
+    unlinked_rescued s (Some place) is = is
+
+  -- the item of a chunk that is condemned was said
+  condemned_rescued : (chunk : ChunkId) → MayStep m hand (Condemn chunk) → (copy : Option Holding) → AreRescued (with_rescue (without_holding m.state hand (is_copy_of chunk)) hand chunk (item_at m.state chunk) copy).holdings m.past.said
+  condemned_rescued chunk may None = one_less may.lawful.rescued (is_copy_of chunk)
+  condemned_rescued chunk may (Some holding) =
+      let l = may.lawful in
+      let is = condemnable m hand chunk may in
+      let whole = item_has m l chunk is.near is.linked (λ k. (is_complete k.words ≡ true) × (length k.words ≡ item_length k.words))
+      (each_map (IsStill m l) (λ k. (is_complete k.words ≡ true) × (length k.words ≡ item_length k.words)) m.past.known (λ k still. still.whole) l.known.still) in
+      let said = item_has m l chunk is.near is.linked (λ k. IsSaid m.past.said (stamp_in k.words) k.words) l.known.said_by_some in
+      one_other l.rescued (is_copy_of chunk) (record holding { kind = Fresh (Rescue chunk (item_at m.state chunk)) }) (whole.0, whole.1, said)
+
+joined_rescued : (m : Moment) (hand kept spent : ℕ) → MayStep m hand (Join kept spent) → AreRescued m.state.holdings (joined_rows m.past.said kept spent)
+joined_rescued m hand kept spent may =
+    let join = are_joined m hand kept spent may in
+    let rows = may.lawful.rows.said in let within = hand_there m.state kept join.there in
+    each_map (IsSaidRescue m.past.said) (IsSaidRescue (joined_rows m.past.said kept spent)) m.state.holdings
+    (λ holding. rescue_still m.past.said (joined_rows m.past.said kept spent) (λ stamp words. said_joined m.past.said kept spent stamp words join.apart (omega arith)) holding.kind) may.lawful.rescued
+
+pub rescued_changes : ChangesKeep RescuedIn
+rescued_changes m hand (Grow class) may = may.lawful.rescued
+rescued_changes m hand (BeginMove src dst) may = may.lawful.rescued
+rescued_changes m hand FinishMove may = may.lawful.rescued
+rescued_changes m hand (Touch chunk) may = may.lawful.rescued
+rescued_changes m hand (SetAutomove mode) may = may.lawful.rescued
+rescued_changes m hand (Passed found) may = may.lawful.rescued
+rescued_changes m hand Wrap may = may.lawful.rescued
+rescued_changes m hand (Evicted class) may = may.lawful.rescued
+rescued_changes m hand (Reserve stripe) may = may.lawful.rescued
+rescued_changes m hand (GotNone key) may = may.lawful.rescued
+rescued_changes m hand (DeletedNone key) may = may.lawful.rescued
+
+pub rescued_steps : StepsKeep RescuedIn
+rescued_steps m hand TakeSlabs may = ends m hand m.state [] may.lawful.rescued
+rescued_steps m hand (TakeStripe stripe) may = ends m hand m.state [] may.lawful.rescued
+rescued_steps m hand MissSlabs may = ends m hand m.state [] may.lawful.rescued
+rescued_steps m hand (MissStripe stripe) may = ends m hand (after_step m.state hand (MissStripe stripe)) [] (looked_rescued m hand (SawStripe stripe (slice_index m.state.stripe_locks stripe)) may.lawful.rescued)
+rescued_steps m hand GiveSlabs may = ends m hand m.state [] may.lawful.rescued
+rescued_steps m hand (GiveStripe stripe) may = ends m hand m.state [] may.lawful.rescued
+rescued_steps m hand (step.Head chunk) may = ends m hand (after_step m.state hand (step.Head chunk)) [] (looked_rescued m hand (Saw chunk (head_at m.state chunk)) may.lawful.rescued)
+rescued_steps m hand (Pop class) may = ends m hand (after_step m.state hand (Pop class)) [] (popped_rescued m hand may.lawful.rescued class (next_free m.state class))
+rescued_steps m hand (PopOff old) may = ends m hand (after_step m.state hand (PopOff old)) [] (popped_off_rescued m hand may.lawful.rescued old (target_of m.state old.page))
+rescued_steps m hand (Fill chunk place word) may =
+    ends m hand (after_step m.state hand (Fill chunk place word)) [] (filled_rescued m hand may.lawful.rescued chunk place word (holding_of chunk (holdings_at m.state hand)) refl)
+rescued_steps m hand (Word chunk place) may = ends m hand m.state [] may.lawful.rescued
+rescued_steps m hand (WordHeld chunk place) may = ends m hand m.state [] may.lawful.rescued
+rescued_steps m hand (Link chunk) may =
+    ends m hand (after_step m.state hand (Link chunk)) (said_by (holding_of chunk (holdings_at m.state hand))) (linked_rescued m hand may.lawful.rescued chunk (holding_of chunk (holdings_at m.state hand)))
+rescued_steps m hand (Refer key) may = ends m hand (after_step m.state hand (Refer key)) [] (referred_rescued m hand may.lawful.rescued key (chunk_of m.state key))
+rescued_steps m hand (Unlink key) may = ends m hand (after_step m.state hand (Unlink key)) [] (unlinked_rescued m hand may.lawful.rescued _ (chunk_of m.state key) may.lawful.rescued)
+rescued_steps m hand (Release chunk) may = ends m hand (after_step m.state hand (Release chunk)) [] (one_less m hand may.lawful.rescued (is_of chunk))
+rescued_steps m hand (Discard chunk) may = ends m hand (after_step m.state hand (Discard chunk)) [] (one_less m hand may.lawful.rescued (is_of chunk))
+rescued_steps m hand (Condemn chunk) may = ends m hand (after_step m.state hand (Condemn chunk)) [] (condemned_with m hand chunk may)
+  where
+    condemned_with : (m : Moment) (hand : ℕ) (chunk : ChunkId) (may : MayStep m hand (Condemn chunk)) → AreRescued (after_step m.state hand (Condemn chunk)).holdings m.past.said
+    condemned_with m hand chunk may =
+        elim (copy_of m.state hand chunk) as (λ o. AreRescued (with_rescue (without_holding (with_told m.state hand chunk (key_at m.state chunk)) hand (is_copy_of chunk)) hand chunk (item_at m.state chunk) o).holdings m.past.said) [
+          | None ↦ condemned_rescued m hand chunk may None
+          | Some holding ↦ condemned_rescued m hand chunk may (Some holding)
+        ]
+rescued_steps m hand (PutBack chunk) may = ends m hand m.state [] may.lawful.rescued
+rescued_steps m hand (Clear chunk) may = ends m hand m.state [] may.lawful.rescued
+rescued_steps m hand (Cut page index) may = ends m hand m.state [] may.lawful.rescued
+rescued_steps m hand (Again chunk issue) may = ends m hand (after_step m.state hand (Again chunk issue)) [] (one_more m hand may.lawful.rescued _ tt)
+rescued_steps m hand (Join kept spent) may = joined_rescued m hand kept spent may
+
+pub rescued_first : (table : Classes) (stripes hands : ℕ) → IsSound table → 1 ≤ stripes → 1 ≤ hands → hands ≤ 64 → RescuedIn (first_moment table stripes hands)
+rescued_first table stripes hands sound some one most = each_none (IsSaidRescue (first_moment table stripes hands).past.said) hands
