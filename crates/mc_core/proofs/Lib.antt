@@ -78,3 +78,4 @@ pub mod SeenHolder
 pub mod SeenQuiet
 pub mod SeenTurns
 pub mod SeenSteps
+pub mod LawKept

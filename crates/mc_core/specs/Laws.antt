@@ -1,14 +1,16 @@
 -- What the laws say: each change and each step that is allowed in a lawful moment keeps each clause.
-use Rattle.std.specs.Prelude.{◌≡◌, ℕ, true}
+use Rattle.std.specs.Prelude.{◌≡◌, ⊤, ℕ, ◌≤◌, true, List, [], ◌∷◌, Ok}
+use Rattle.mc_classes.specs.Classes.{Classes, IsSound}
 use Rattle.mc_pages.specs.declared.ids.ChunkId.{ChunkId}
 use Rattle.mc_pages.specs.SlabState.{class_of_page}
 use Rattle.mc_core.specs.declared.event.Change.{Change}
+use Rattle.mc_core.specs.declared.event.Event.{Event}
 use Rattle.mc_core.specs.declared.event.Step.{Step}
 use Rattle.mc_core.specs.State.{State, is_hand, has_chunk}
 use Rattle.mc_core.specs.Silent.{allows_change}
-use Rattle.mc_core.specs.Run.{allows_step}
+use Rattle.mc_core.specs.Run.{allows_step, is_allowed, play}
 use Rattle.mc_core.specs.Columns.{head_in, IsHandedOut}
-use Rattle.mc_core.specs.Past.{Moment, moment_changed, moment_stepped}
+use Rattle.mc_core.specs.Past.{Moment, moment_changed, moment_stepped, moment_after, first_moment}
 use Rattle.mc_core.specs.Lawful.{IsLawful}
 
 -- the hand may make this change, in a lawful moment
@@ -35,3 +37,32 @@ StepsKeep Clause = (moment : Moment) (hand : ℕ) (step : Step) → MayStep mome
 abbrev pub StaysOfClass : State → State → Type 0
 StaysOfClass before now = (chunk : ChunkId) (issue : ℕ) → has_chunk before.table chunk ≡ true → IsHandedOut (head_in before.table before.heads chunk) issue →
     class_of_page now.slabs chunk.page ≡ class_of_page before.slabs chunk.page
+
+-- every event keeps the clause
+abbrev pub EventsKeep : (Moment → Type 0) → Type 0
+EventsKeep Clause = (moment : Moment) (event : Event) → IsLawful moment → is_allowed moment.state event ≡ true → Clause (moment_after moment event)
+
+-- the clause holds before anything was done, of each arena that can be made
+abbrev pub HoldsAtFirst : (Moment → Type 0) → Type 0
+HoldsAtFirst Clause = (table : Classes) (stripes hands : ℕ) → IsSound table → 1 ≤ stripes → 1 ≤ hands → hands ≤ 64 → Clause (first_moment table stripes hands)
+
+-- the clause holds at first, and is kept by each change, each step and each event
+pub record IsKeptByAll (Clause : Moment → Type 0) : Type 0 where
+  pub first : HoldsAtFirst Clause
+  pub changes : ChangesKeep Clause
+  pub steps : StepsKeep Clause
+  pub events : EventsKeep Clause
+
+-- the moment after these events
+abbrev pub moment_at_end : Moment → List Event → Moment
+moment_at_end moment [] = moment
+moment_at_end moment (event ∷ events) = moment_at_end (moment_after moment event) events
+
+-- each event is allowed after those before it
+abbrev pub IsRun : Moment → List Event → Type 0
+IsRun moment [] = ⊤
+IsRun moment (event ∷ events) = (is_allowed moment.state event ≡ true) × IsRun (moment_after moment event) events
+
+-- where events are played to the end they are a run, and their state is that of its last moment
+abbrev pub ArePlayed : List Event → Type 0
+ArePlayed events = (moment : Moment) (state : State) → play moment.state events ≡ Ok state → IsRun moment events × ((moment_at_end moment events).state ≡ state)

@@ -1,0 +1,98 @@
+-- Every change, step and event keeps the law, so every moment of a run is lawful.
+use Rattle.std.proofs.Common.{◌≡◌, ℕ, ◌+◌, ◌≤◌, ◌&&◌, Bool, true, false, cond, List, [], ◌∷◌, Result, Ok, Err, refl, sym, ap, ◌∙◌, subst, is_some, slice_index_or}
+use Rattle.std.proofs.lemmas.Bool.{and_parts, and_from, cases_Bool}
+use Rattle.mc_classes.specs.Classes.{Classes, IsSound}
+use Rattle.mc_core.specs.declared.event.Change.{Change}
+use Rattle.mc_core.specs.declared.event.Event.{Event}
+use Rattle.mc_core.specs.declared.event.Step.{Step}
+use Rattle.mc_core.specs.declared.ids.Ids.{Ids}
+use Rattle.mc_core.specs.State.{State, gone, is_hand, number_at}
+use Rattle.mc_core.specs.Silent.{allows_change, after_change, allows_changes, after_changes}
+use Rattle.mc_core.specs.Past.{Moment, moment_changed, moment_changes, moment_stepped, moment_after, first_moment}
+use Rattle.mc_core.specs.Run.{allows_step, after_step, is_allowed, after, play_from, play}
+use Rattle.mc_core.specs.Lawful.{IsLawful, IndexedIn, SeenIn}
+use Rattle.mc_core.specs.Laws.{MayChange, MayStep, ChangesKeep, StepsKeep, EventsKeep, HoldsAtFirst, IsKeptByAll, moment_at_end, IsRun, ArePlayed}
+use Rattle.mc_core.proofs.FirstHands.{hands_first, numbered_first, told_first}
+use Rattle.mc_core.proofs.HandsKept.{hands_changes, ids_change}
+use Rattle.mc_core.proofs.HandsSteps.{hands_steps}
+use Rattle.mc_core.proofs.KnownSteps.{known_steps, known_first}
+use Rattle.mc_core.proofs.KnownQuiet.{known_changes}
+use Rattle.mc_core.proofs.Learned.{rows_changes}
+use Rattle.mc_core.proofs.LegalKept.{legal_changes, legal_steps, legal_first}
+use Rattle.mc_core.proofs.NumberedKept.{numbered_changes}
+use Rattle.mc_core.proofs.NumberedSteps.{numbered_steps}
+use Rattle.mc_core.proofs.PagedChanges.{paged_changes}
+use Rattle.mc_core.proofs.PagedSteps.{paged_steps, paged_first}
+use Rattle.mc_core.proofs.PlacedChanges.{placed_changes}
+use Rattle.mc_core.proofs.PlacedSteps.{placed_steps, placed_first}
+use Rattle.mc_core.proofs.RescuedSteps.{rescued_changes, rescued_steps, rescued_first}
+use Rattle.mc_core.proofs.RowsKept.{rows_steps, rows_first}
+use Rattle.mc_core.proofs.Sized.{sized_changes, sized_steps, sized_first}
+use Rattle.mc_core.proofs.TalliedKept.{counted_changes, counted_steps, counted_first, held_changes, held_steps, held_first}
+use Rattle.mc_core.proofs.ToldSteps.{told_changes, told_steps}
+
+module _ (indexed_changes : ChangesKeep IndexedIn) (indexed_steps : StepsKeep IndexedIn) (indexed_first : HoldsAtFirst IndexedIn) (seen_changes : ChangesKeep SeenIn) (seen_steps : StepsKeep SeenIn) (seen_first : HoldsAtFirst SeenIn) where
+  pub lawful_changes : ChangesKeep IsLawful
+  lawful_changes m hand change may = record {
+    sized = sized_changes m hand change may; paged = paged_changes m hand change may; placed = placed_changes m hand change may;
+    counted = counted_changes m hand change may; held = held_changes m hand change may; indexed = indexed_changes m hand change may;
+    legal = legal_changes m hand change may; hands = hands_changes m hand change may; rows = rows_changes m hand change may;
+    numbered = numbered_changes m hand change may; seen = seen_changes m hand change may; known = known_changes m hand change may;
+    rescued = rescued_changes m hand change may; told = told_changes m hand change may;
+  }
+
+  pub lawful_steps : StepsKeep IsLawful
+  lawful_steps m hand step may = record {
+    sized = sized_steps m hand step may; paged = paged_steps m hand step may; placed = placed_steps m hand step may;
+    counted = counted_steps m hand step may; held = held_steps m hand step may; indexed = indexed_steps m hand step may;
+    legal = legal_steps m hand step may; hands = hands_steps m hand step may; rows = rows_steps m hand step may;
+    numbered = numbered_steps m hand step may; seen = seen_steps m hand step may; known = known_steps m hand step may;
+    rescued = rescued_steps m hand step may; told = told_steps m hand step may;
+  }
+
+  pub lawful_first : HoldsAtFirst IsLawful
+  lawful_first table stripes hands sound some someone few = record {
+    sized = sized_first table stripes hands sound some someone few; paged = paged_first table stripes hands sound some someone few;
+    placed = placed_first table stripes hands sound some someone few; counted = counted_first table stripes hands sound some someone few;
+    held = held_first table stripes hands sound some someone few; indexed = indexed_first table stripes hands sound some someone few;
+    legal = legal_first table stripes hands sound some someone few; hands = hands_first table stripes hands sound some someone few;
+    rows = rows_first table stripes hands sound some someone few; numbered = numbered_first table stripes hands sound some someone few;
+    seen = seen_first table stripes hands sound some someone few; known = known_first table stripes hands sound some someone few;
+    rescued = rescued_first table stripes hands sound some someone few; told = told_first table stripes hands sound some someone few;
+  }
+
+  -- the changes before a step keep the law, and lead to the state before the step
+  lawful_all : (m : Moment) (hand : ℕ) (changes : List Change) → IsLawful m → is_hand m.state hand ≡ true → allows_changes m.state hand changes ≡ true
+      → IsLawful (moment_changes m hand changes) × ((moment_changes m hand changes).state ≡ after_changes m.state hand changes) × (is_hand (moment_changes m hand changes).state hand ≡ true)
+  lawful_all m hand [] l there h = (l, refl, there)
+  lawful_all m hand (change ∷ changes) l there h =
+      let parts = and_parts (allows_change m.state hand change) (allows_changes (after_change m.state hand change) hand changes) h in
+      let may : MayChange m hand change = record { lawful = l; there = there; allowed = parts.0 } in
+      let still : is_hand (after_change m.state hand change) hand ≡ true = ap (λ (ids : List Ids). is_some (slice_index_or ids hand gone).number) (ids_change m.state hand change) ∙ there in
+      lawful_all (moment_changed m hand change) hand changes (lawful_changes m hand change may) still parts.1
+
+  -- an event is allowed as its changes and then its step are
+  may_step : (m : Moment) (event : Event) → IsLawful m → is_allowed m.state event ≡ true → MayStep (moment_changes m event.hand event.before) event.hand event.step
+  may_step m event l h =
+      let parts = and_parts (is_hand m.state event.hand) (allows_changes m.state event.hand event.before && allows_step (after_changes m.state event.hand event.before) event.hand event.step) h in
+      let both = and_parts (allows_changes m.state event.hand event.before) (allows_step (after_changes m.state event.hand event.before) event.hand event.step) parts.1 in
+      let ready = lawful_all m event.hand event.before l parts.0 both.0 in
+      record { lawful = ready.0; there = ready.2; allowed = subst (λ (s : State). allows_step s event.hand event.step ≡ true) (sym ready.1) both.1 }
+
+  state_after : (m : Moment) (event : Event) → IsLawful m → is_allowed m.state event ≡ true → (moment_after m event).state ≡ after m.state event
+  state_after m event l h =
+      let parts = and_parts (is_hand m.state event.hand) (allows_changes m.state event.hand event.before && allows_step (after_changes m.state event.hand event.before) event.hand event.step) h in
+      let both = and_parts (allows_changes m.state event.hand event.before) (allows_step (after_changes m.state event.hand event.before) event.hand event.step) parts.1 in
+      ap (λ (s : State). after_step s event.hand event.step) (lawful_all m event.hand event.before l parts.0 both.0).1
+
+  -- what steps keep, events keep
+  pub events_from_steps : (Clause : Moment → Type 0) → StepsKeep Clause → EventsKeep Clause
+  events_from_steps Clause steps m event l h = steps (moment_changes m event.hand event.before) event.hand event.step (may_step m event l h)
+
+  pub lawful_events : EventsKeep IsLawful
+  lawful_events = events_from_steps IsLawful lawful_steps
+
+  -- every moment of a run is lawful
+  pub lawful_run : (m : Moment) (events : List Event) → IsLawful m → IsRun m events → IsLawful (moment_at_end m events)
+  lawful_run m [] l run = l
+  lawful_run m (event ∷ events) l run = lawful_run (moment_after m event) events (lawful_events m event l run.0) run.1
