@@ -15,8 +15,8 @@ use Rattle.mc_core.specs.Laws.{MayChange, MayStep, ChangesKeep, StepsKeep, Event
 use Rattle.mc_core.proofs.FirstHands.{hands_first, numbered_first, told_first}
 use Rattle.mc_core.proofs.HandsKept.{hands_changes, ids_change}
 use Rattle.mc_core.proofs.HandsSteps.{hands_steps}
-use Rattle.mc_core.proofs.KnownSteps.{known_steps, known_first}
-use Rattle.mc_core.proofs.KnownQuiet.{known_changes}
+use Rattle.mc_core.proofs.IndexedKept.{indexed_changes, indexed_steps, indexed_first}
+use Rattle.mc_core.proofs.KnownSteps.{known_changes, known_steps, known_first}
 use Rattle.mc_core.proofs.Learned.{rows_changes}
 use Rattle.mc_core.proofs.LegalKept.{legal_changes, legal_steps, legal_first}
 use Rattle.mc_core.proofs.NumberedKept.{numbered_changes}
@@ -31,7 +31,7 @@ use Rattle.mc_core.proofs.Sized.{sized_changes, sized_steps, sized_first}
 use Rattle.mc_core.proofs.TalliedKept.{counted_changes, counted_steps, counted_first, held_changes, held_steps, held_first}
 use Rattle.mc_core.proofs.ToldSteps.{told_changes, told_steps}
 
-module _ (indexed_changes : ChangesKeep IndexedIn) (indexed_steps : StepsKeep IndexedIn) (indexed_first : HoldsAtFirst IndexedIn) (seen_changes : ChangesKeep SeenIn) (seen_steps : StepsKeep SeenIn) (seen_first : HoldsAtFirst SeenIn) where
+module _ (seen_changes : ChangesKeep SeenIn) (seen_steps : StepsKeep SeenIn) (seen_first : HoldsAtFirst SeenIn) where
   pub lawful_changes : ChangesKeep IsLawful
   lawful_changes m hand change may = record {
     sized = sized_changes m hand change may; paged = paged_changes m hand change may; placed = placed_changes m hand change may;
