@@ -1,5 +1,5 @@
 -- What follows from one more look, by its kind.
-use Rattle.std.proofs.Common.{◌≡◌, ℕ, ◌+◌, ◌*◌, ◌<◌, ◌≤◌, ◌==◌, ◌&&◌, ◌||◌, not, Bool, true, false, cond, if◌then◌else◌, List, [], ◌∷◌, length, refl, sym, ap, subst, ◌∙◌, inl, inr, arith, slice_set, slice_index, is_some, Option, Some, None, eqb-true}
+use Rattle.std.proofs.Common.{◌≡◌, ℕ, ◌+◌, ◌*◌, ◌<◌, ◌==◌, ◌&&◌, ◌||◌, not, Bool, true, false, cond, if◌then◌else◌, List, length, refl, sym, ap, subst, ◌∙◌, inl, inr, slice_set, slice_index, is_some, Option, Some, None, eqb-true}
 use Rattle.std.specs.List.{fold}
 use Rattle.std.proofs.lemmas.Bool.{cases_Bool, and_parts}
 use Rattle.std.proofs.lemmas.List.Folds.{fold_along}
@@ -23,7 +23,7 @@ use Rattle.mc_core.specs.Seen.{newer, last_head, linked_issue, last_read, told_b
 use Rattle.mc_core.proofs.KnownStill.{head_now}
 use Rattle.mc_core.proofs.KnownReferences.{linked_tag}
 use Rattle.mc_core.proofs.KnownQuiet.{AreLinkedKnown}
-use Rattle.mc_core.proofs.SeenLooks.{AddsLook, IsLinkedStill, still_now, some_is}
+use Rattle.mc_core.proofs.SeenLooks.{AddsLook, still_now, some_is}
 
 newer_here : (chunk seen : ChunkId) (head now : Head) (before : Option Head) → is_chunk seen chunk ≡ true → newer chunk seen head before ≡ Some now → head ≡ now
 newer_here chunk seen head now before same e =
