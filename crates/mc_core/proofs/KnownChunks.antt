@@ -115,8 +115,8 @@ module _ (m : Moment) (hand : ℕ) where
 
     new_apart : (k : Known) → IsStill m l k → IsApartFrom k holding
     new_apart k is fresh at issue = absurd (
-      let was : k.issue ≤ (head_in m.state.table m.state.heads chunk).issue = subst (λ (c : ChunkId). k.issue ≤ (head_in m.state.table m.state.heads c).issue) (sym at) is.older in
-      omega arith)
+        let was : k.issue ≤ (head_in m.state.table m.state.heads chunk).issue = subst (λ (c : ChunkId). k.issue ≤ (head_in m.state.table m.state.heads c).issue) (sym at) is.older in
+        omega arith)
 
     known_fresh : KnownAt (with_fresh (with_slabs m.state next) hand chunk purpose) (with_more m.past.said hand []) (with_more m.past.known hand [])
     known_fresh =

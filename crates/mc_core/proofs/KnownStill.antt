@@ -64,6 +64,7 @@ module _ (table : Classes) (heads : List Head) (chunk : ChunkId) (head : Head) (
     where
       older_here : chunk ≡ k.chunk → k.issue ≤ old.issue
       older_here is = subst (λ (c : ChunkId). k.issue ≤ (head_in table heads c).issue) (sym is) true_so_far.older
+
       still_shows : IsHandedOut (head_in table heads k.chunk) k.issue → Shows table next words k.chunk k.words
       still_shows out = shows_class table slabs next words k.chunk k.words same (true_so_far.shows out)
 
