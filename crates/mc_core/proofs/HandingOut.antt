@@ -13,7 +13,7 @@ use Rattle.mc_core.specs.declared.holding.Holding.{Holding}
 use Rattle.mc_core.specs.declared.holding.Purpose.{Purpose}
 use Rattle.mc_core.specs.declared.holding.Purpose.TheVariants.{Item, Copy}
 use Rattle.mc_core.specs.Head.{is_free}
-use Rattle.mc_core.specs.State.{is_class, has_chunk, head_place, head_at, room_in, is_hand, has_slabs, with_slabs, holdings_at}
+use Rattle.mc_core.specs.State.{State, is_class, has_chunk, head_place, head_at, room_in, is_hand, has_slabs, with_slabs, holdings_at}
 use Rattle.mc_core.specs.Silent.{is_out_of_class}
 use Rattle.mc_core.specs.Chunks.{most_issue, has_place, can_hand_out, handed_out, with_fresh, new_holding, next_free, can_pop, popped, after_pop, target_of, is_target, popped_off, can_pop_off, after_pop_off}
 use Rattle.mc_core.specs.Columns.{Shows, holders, link_of}
@@ -82,49 +82,63 @@ module _ (m : Moment) (l : IsLawful m) (hand : ℕ) (there : is_hand m.state han
       let empty = nobody in
       let none = nobodys chunk rows nobody in
       let kept = turn_each m.state.table m.state.heads rows now chunk (handed_out old) turn m.state.slabs next m.state.words same rows
-          (λ i row in' j other on is. absurd (none i row in' j other on is))
-          (each_so m.state.table m.state.slabs m.state.heads m.state.words rows l.held) in
+      (λ i row in' j other on is. absurd (none i row in' j other on is))
+      (each_so m.state.table m.state.slabs m.state.heads m.state.words rows l.held) in
       let one = more_here rows hand (hand_within m l hand there) chunk holding refl in
       let new = turn_more m.state.table m.state.heads rows now chunk (handed_out old) turn m.state.slabs next m.state.words same holding refl refl unknown
-          ((λ fresh. length-replicate (room_in m.state.table (class_of_page next chunk.page)) None), λ stale. absurd (cc)) (λ fresh. (refl, omega arith)) in
-      (turn_counted m.state.table m.state.heads rows now chunk (handed_out old) turn l.counted,
-       held_from_so m.state.table next (slice_set m.state.heads (head_place m.state.table chunk) (handed_out old)) m.state.words now
-         (each_more rows hand (IsSo m.state.table next (slice_set m.state.heads (head_place m.state.table chunk) (handed_out old)) m.state.words now) holding kept new)
-         (most_more rows hand holding room l.held.most))
+      ((λ fresh. length-replicate (room_in m.state.table (class_of_page next chunk.page)) None), λ stale. absurd (cc)) (λ fresh. (refl, omega arith)) in (
+        turn_counted m.state.table m.state.heads rows now chunk (handed_out old) turn l.counted,
+        held_from_so m.state.table next (slice_set m.state.heads (head_place m.state.table chunk) (handed_out old)) m.state.words now
+            (each_more rows hand (IsSo m.state.table next (slice_set m.state.heads (head_place m.state.table chunk) (handed_out old)) m.state.words now) holding kept new)
+            (most_more rows hand holding room l.held.most),
+      )
 
-module _ (m : Moment) (l : IsLawful m) (hand : ℕ) (there : is_hand m.state hand ≡ true) where
+-- a chunk that the hand may get
+pub record MayHandOut (m : Moment) (hand : ℕ) (chunk : ChunkId) : Type 0 where
+  pub near : has_chunk m.state.table chunk ≡ true
+  pub free : is_free (head_at m.state chunk).tag ≡ true
+  pub unused : (head_at m.state chunk).issue < most_issue
+  pub room : length (holdings_at m.state hand) < 256
+
+module _ (m : Moment) (l : IsLawful m) (hand : ℕ) where
   can_hand_out_parts : (chunk : ChunkId) → can_hand_out m.state (Some chunk) ≡ true → (is_free (head_at m.state chunk).tag ≡ true) × ((head_at m.state chunk).issue < most_issue)
   can_hand_out_parts chunk can =
       let parts = and_parts (is_free (head_at m.state chunk).tag) (nat_lt (head_at m.state chunk).issue most_issue) can in
       (parts.0, ltb-true (head_at m.state chunk).issue most_issue parts.1)
 
-  pub pop_tallied : (class : ℕ) → can_pop m.state hand class ≡ true → IsTallied (after_pop m.state hand class)
-  pop_tallied class can =
+  -- what holds after a free chunk of the class is handed out holds after the step
+  pub pop_by : (P : State → Type 0) (class : ℕ) → can_pop m.state hand class ≡ true → ((chunk : ChunkId) → MayHandOut m hand chunk → P (popped (with_slabs m.state (slabs_changes.after_pop m.state.slabs class)) hand (Some chunk))) → P (after_pop m.state hand class)
+  pop_by P class can each =
       let parts = and_parts _ (can_hand_out m.state (next_free m.state class)) can in
       let more = and_parts _ (has_place m.state hand) parts.0 in
       let of_table = and_parts (has_slabs m.state hand) (is_class m.state.table class) more.0 in
-      let room = ltb-true (length (holdings_at m.state hand)) 256 more.1 in
       let is = IsClass_from m.state.table m.state.slabs class l.paged.of_table of_table.1 in
-      elim (next_free m.state class) as (λ o. next_free m.state class ≡ o → can_hand_out m.state o ≡ true → IsTallied (popped (with_slabs m.state (slabs_changes.after_pop m.state.slabs class)) hand o)) [
+      elim (next_free m.state class) as (λ o. next_free m.state class ≡ o → can_hand_out m.state o ≡ true → P (popped (with_slabs m.state (slabs_changes.after_pop m.state.slabs class)) hand o)) [
         | None ↦ λ _ never. absurd (cc)
         | Some chunk ↦ λ first may.
             let at = first_placed m l class chunk is first in
             let free = can_hand_out_parts chunk may in
-            handed_out_tallied m l hand there (slabs_changes.after_pop m.state.slabs class) (λ page. refl) chunk (near_placed m l chunk at.1) free.0 free.1 room Item
+            each chunk (record { near = near_placed m l chunk at.1; free = free.0; unused = free.1; room = ltb-true (length (holdings_at m.state hand)) 256 more.1 })
       ] refl parts.1
 
-  pub pop_off_tallied : (old : ChunkId) → can_pop_off m.state hand old ≡ true → IsTallied (after_pop_off m.state hand old)
-  pop_off_tallied old can =
+  -- and after one takes the place of another
+  pub pop_off_by : (P : State → Type 0) (old : ChunkId) → can_pop_off m.state hand old ≡ true → ((chunk : ChunkId) → MayHandOut m hand chunk → P (popped_off m.state hand old (Some chunk))) → P (after_pop_off m.state hand old)
+  pop_off_by P old can each =
       let parts = and_parts _ (can_hand_out m.state (target_of m.state old.page)) can in
       let more = and_parts _ (has_place m.state hand) parts.0 in
       let out = and_parts _ (is_out_of_class m.state.slabs old) more.0 in
-      let room = ltb-true (length (holdings_at m.state hand)) 256 more.1 in
       let class = class_of_page m.state.slabs old.page in
       let is = IsClass-handed_out m.state.slabs old l.paged.of_table.accounted (Contains_from_among (class_at m.state.slabs class).order old out.1) in
-      elim (target_of m.state old.page) as (λ o. target_of m.state old.page ≡ o → can_hand_out m.state o ≡ true → IsTallied (popped_off m.state hand old o)) [
+      elim (target_of m.state old.page) as (λ o. target_of m.state old.page ≡ o → can_hand_out m.state o ≡ true → P (popped_off m.state hand old o)) [
         | None ↦ λ _ never. absurd (cc)
         | Some chunk ↦ λ found may.
             let at = found_placed m l class chunk (is_target m.state old.page) is found in
             let free = can_hand_out_parts chunk may in
-            handed_out_tallied m l hand there (slabs_changes.after_replace m.state.slabs chunk old) (λ page. refl) chunk (near_placed m l chunk at.1) free.0 free.1 room (Copy old)
+            each chunk (record { near = near_placed m l chunk at.1; free = free.0; unused = free.1; room = ltb-true (length (holdings_at m.state hand)) 256 more.1 })
       ] refl parts.1
+
+  pub pop_tallied : (class : ℕ) → is_hand m.state hand ≡ true → can_pop m.state hand class ≡ true → IsTallied (after_pop m.state hand class)
+  pop_tallied class there can = pop_by IsTallied class can (λ chunk may. handed_out_tallied m l hand there (slabs_changes.after_pop m.state.slabs class) (λ page. refl) chunk may.near may.free may.unused may.room Item)
+
+  pub pop_off_tallied : (old : ChunkId) → is_hand m.state hand ≡ true → can_pop_off m.state hand old ≡ true → IsTallied (after_pop_off m.state hand old)
+  pop_off_tallied old there can = pop_off_by IsTallied old can (λ chunk may. handed_out_tallied m l hand there (slabs_changes.after_replace m.state.slabs chunk old) (λ page. refl) chunk may.near may.free may.unused may.room (Copy old))

@@ -31,8 +31,7 @@ pub holds-lose : (chunk : ChunkId) (test : Holding → Bool) (row : List Holding
     holds chunk (lose test row) + truth (is_of chunk holding) ≡ holds chunk row
 holds-lose chunk test [] holding found = absurd (cc)
 holds-lose chunk test (first ∷ row) holding found =
-    elim (test first) as (λ b. cond b (Some first) (find test row) ≡ Some holding → holds chunk (cond b row (first ∷ lose test row)) + truth (is_of chunk holding) ≡ holds chunk (first ∷ row))
-    [
+    elim (test first) as (λ b. cond b (Some first) (find test row) ≡ Some holding → holds chunk (cond b row (first ∷ lose test row)) + truth (is_of chunk holding) ≡ holds chunk (first ∷ row)) [
       | true ↦ λ here. let same : first ≡ holding = cc in let is : truth (is_of chunk first) ≡ truth (is_of chunk holding) = ap (λ h. truth (is_of chunk h)) same in
           omega (arith, holds-cons chunk first row)
       | false ↦ λ later. let rest = holds-lose chunk test row holding later in omega (arith, holds-cons chunk first row, holds-cons chunk first (lose test row))
@@ -42,8 +41,7 @@ holds-lose chunk test (first ∷ row) holding found =
 pub length-lose : (test : Holding → Bool) (row : List Holding) (holding : Holding) → find test row ≡ Some holding → length (lose test row) + 1 ≡ length row
 length-lose test [] holding found = absurd (cc)
 length-lose test (first ∷ row) holding found =
-    elim (test first) as (λ b. cond b (Some first) (find test row) ≡ Some holding → length (cond b row (first ∷ lose test row)) + 1 ≡ length (first ∷ row))
-    [
+    elim (test first) as (λ b. cond b (Some first) (find test row) ≡ Some holding → length (cond b row (first ∷ lose test row)) + 1 ≡ length (first ∷ row)) [
       | true ↦ λ here. omega arith
       | false ↦ λ later. let rest = length-lose test row holding later in omega arith
     ] found

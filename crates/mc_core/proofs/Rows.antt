@@ -1,7 +1,8 @@
 -- Rows of holdings after one is lost and one comes.
-use Rattle.std.proofs.Common.{◌≡◌, ℕ, ◌+◌, ◌<◌, ◌≤◌, Bool, true, false, List, [], ◌∷◌, ◌++◌, length, Some, refl, sym, ap, ◌∙◌, arith, subst, slice_index_or, slice_set, All, inl, inr, length-set, length-append, get_or-set_same}
+use Rattle.std.proofs.Common.{◌≡◌, ℕ, ◌+◌, ◌<◌, ◌≤◌, Bool, true, false, List, [], ◌∷◌, ◌++◌, length, cond, Some, None, refl, sym, ap, ◌∙◌, arith, subst, slice_index_or, slice_set, All, inl, inr, length-set, length-append, get_or-set_same}
 use Rattle.std.specs.List.{find}
 use Rattle.std.proofs.lemmas.Bool.{cases_Bool}
+use Rattle.std.proofs.lemmas.List.{set-get_or}
 use Rattle.std.proofs.lemmas.List.Elements.{All-set}
 use Rattle.mc_pages.specs.declared.ids.ChunkId.{ChunkId}
 use Rattle.mc_pages.specs.ClassState.{is_chunk}
@@ -72,6 +73,9 @@ module _ (rows : List (List Holding)) (hand : ℕ) where
         holders other (rows_less rows hand test) ≡ holders other rows
     less_other chunk other test holding found is isnt = let none = is_of_other chunk other holding is isnt in let less = holders_less other test holding found in omega arith
 
+    pub less_le : (chunk : ChunkId) (test : Holding → Bool) (holding : Holding) → find test row ≡ Some holding → holders chunk (rows_less rows hand test) ≤ holders chunk rows
+    less_le chunk test holding found = let less = holders_less chunk test holding found in omega arith
+
     -- after one holding of a chunk is lost, none that is left of it is fresh
     pub stale_less : (test : Holding → Bool) (holding : Holding) → find test row ≡ Some holding → Each (λ other. is_fresh other ≡ true → holders other.chunk rows ≡ 1) rows →
         Each (λ other. other.chunk ≡ holding.chunk → is_fresh other ≡ false) (rows_less rows hand test)
@@ -86,9 +90,20 @@ module _ (rows : List (List Holding)) (hand : ℕ) where
           | inr stale ↦ stale
         ]
 
-    -- lost, and another comes back
     pub length_less : (test : Holding → Bool) → hand < length (rows_less rows hand test)
     length_less test = subst (λ n. hand < n) (sym (length-set rows hand (lose test row))) within
+
+    -- lost, and another of its chunk comes back
+    pub swapped : (chunk : ChunkId) (test : Holding → Bool) (lost holding : Holding) → find test row ≡ Some lost → holding.chunk ≡ lost.chunk → holders chunk (rows_more (rows_less rows hand test) hand holding) ≡ holders chunk rows
+    swapped chunk test lost holding found is =
+        let less = holders_less chunk test lost found in
+        let more = again (rows_less rows hand test) (length_less test) in
+        let same : truth (is_of chunk holding) ≡ truth (is_of chunk lost) = ap (λ c. truth (is_chunk c chunk)) is in
+        omega arith
+      where
+        again : (others : List (List Holding)) → hand < length others → holders chunk (rows_more others hand holding) ≡ holders chunk others + truth (is_of chunk holding)
+        again others there =
+            let set = holders_set chunk others hand (slice_index_or others hand [] ++ holding ∷ []) there in let push = holds-push chunk (slice_index_or others hand []) holding in omega arith
 
     pub most_swapped : (test : Holding → Bool) (lost holding : Holding) → find test row ≡ Some lost → All (λ row. length row ≤ 256) rows → All (λ row. length row ≤ 256) (rows_more (rows_less rows hand test) hand holding)
     most_swapped test lost holding found most =
@@ -99,3 +114,13 @@ module _ (rows : List (List Holding)) (hand : ℕ) where
       where
         most_more_of : (others : List (List Holding)) → length (slice_index_or others hand []) < 256 → All (λ row. length row ≤ 256) others → All (λ row. length row ≤ 256) (rows_more others hand holding)
         most_more_of others room most = All-set (λ (row : List Holding). length row ≤ 256) others hand (slice_index_or others hand [] ++ holding ∷ []) (rw (length-append (slice_index_or others hand []) (holding ∷ [])) (omega arith)) most
+
+-- where none passes, none is lost
+lose_none : (test : Holding → Bool) (row : List Holding) → find test row ≡ None → lose test row ≡ row
+lose_none test [] none = refl
+lose_none test (first ∷ row) none =
+    elim (test first) as (λ b. cond b (Some first) (find test row) ≡ None → cond b row (first ∷ lose test row) ≡ first ∷ row)
+    [ true ↦ λ never. absurd (cc) | false ↦ λ later. ap (λ rest. first ∷ rest) (lose_none test row later) ] none
+
+pub less_none : (rows : List (List Holding)) (hand : ℕ) (test : Holding → Bool) → find test (slice_index_or rows hand []) ≡ None → rows_less rows hand test ≡ rows
+less_none rows hand test none = ap (slice_set rows hand) (lose_none test (slice_index_or rows hand []) none) ∙ set-get_or rows hand []

@@ -77,7 +77,7 @@ once_joined said kept spent stamp apart in_kept in_spent once =
     omega arith
 
 -- a stamp that no saying of the row has isn't counted
-times_none : (stamp : ℕ) (row : List Saying) → All (λ (s : Saying). s.stamp ≡ stamp → ⊥) row → said_times stamp row ≡ 0
+pub times_none : (stamp : ℕ) (row : List Saying) → All (λ (s : Saying). s.stamp ≡ stamp → ⊥) row → said_times stamp row ≡ 0
 times_none stamp [] none = refl
 times_none stamp (s ∷ row) none =
     let first : truth (s.stamp == stamp) ≡ 0 = ap truth (ne_eqb s.stamp stamp (All-head (λ (x : Saying). x.stamp ≡ stamp → ⊥) s row none)) in

@@ -1,6 +1,6 @@
 -- Which events tell a stripe of a call, and that all others leave the stripes alone.
-use Rattle.std.proofs.Common.{◌≡◌, ◌⊎◌, ℕ, ◌+◌, ◌%◌, ◌==◌, ◌&&◌, ◌||◌, Bool, true, false, cond, not, List, [], ◌∷◌, Option, Some, None, refl, sym, ap, subst, ◌∙◌, inl, inr, eqb-true, slice_set, is_some, is_none, IfSome}
-use Rattle.std.specs.Option.{option_map, option_map_or}
+use Rattle.std.proofs.Common.{◌≡◌, ◌⊎◌, ℕ, ◌+◌, ◌/◌, ◌%◌, ◌^◌, ◌==◌, ◌&&◌, ◌||◌, Bool, true, false, cond, not, List, [], ◌∷◌, Option, Some, None, refl, sym, ap, subst, ◌∙◌, inl, inr, eqb-true, nat_lt, nat_eq, unwrap_or, slice_set, is_some, is_none, IfSome}
+use Rattle.std.specs.Option.{option_map, option_map_or, option_eq}
 use Rattle.std.proofs.lemmas.Bool.{and_parts, cases_Bool, false≢true}
 use Rattle.mc_pages.specs.declared.ids.ChunkId.{ChunkId}
 use Rattle.mc_pages.specs.ClassState.{is_chunk}
@@ -14,6 +14,7 @@ use Rattle.mc_core.specs.declared.holding.Holding.{Holding}
 use Rattle.mc_core.specs.declared.holding.Kind.{Kind}
 use Rattle.mc_core.specs.declared.holding.Kind.TheVariants.{Reference, Fresh}
 use Rattle.mc_core.specs.declared.holding.Purpose.TheVariants.{Item, Copy, Rescue}
+use Rattle.mc_core.specs.declared.ids.Ids.{Ids}
 use Rattle.mc_core.specs.declared.look.Look.{Look}
 use Rattle.mc_core.specs.Head.{is_unlinked, is_linked}
 use Rattle.mc_core.specs.Holdings.{Words, key_in, stamp_in, item_in, is_complete, is_of, has_fresh, holding_of}
@@ -22,16 +23,17 @@ use Rattle.mc_core.specs.Silent.{is_aside, can_tell_none, writer_of, allows_chan
 use Rattle.mc_core.specs.Locks.{looked, after_look, after_miss_stripe}
 use Rattle.mc_core.specs.Chunks.{popped, popped_off, refilled, target_of, next_free, after_pop, after_pop_off, after_fill, has_place}
 use Rattle.mc_core.specs.Chunks as chunks
-use Rattle.mc_core.specs.Items.{suits, can_link_key, can_tell_link, can_link_holding, is_entry_aside, is_none_else_aside, is_next_stamp, are_same, can_count, told_link, after_link_of, referred_to, with_got, with_unlinked, is_ready_for, can_refer_to, can_lift, is_linked_at, chunk_of, stripe_unlinked}
+use Rattle.mc_core.specs.Items.{most_stamps, suits, can_link_key, can_tell_link, can_link_holding, is_entry_aside, is_none_else_aside, is_next_stamp, are_same, can_count, told_link, after_link_of, referred_to, with_got, with_unlinked, is_ready_for, can_refer_to, can_lift, is_linked_at, chunk_of, stripe_unlinked}
 use Rattle.mc_core.specs.Items as items
 use Rattle.mc_core.specs.Evictions.{is_idle, can_take_away, has_copy, has_reason, key_at, with_rescue, with_bound, with_told, copy_of, stripe_condemned}
 use Rattle.mc_core.specs.Evictions as evictions
 use Rattle.mc_core.specs.Run.{allows_step, after_step}
+use Rattle.mc_core.specs.Past.{Saying, saying_of, said_by, sayings_of}
 use Rattle.mc_core.specs.Indexed.{AreLegal}
 use Rattle.mc_core.proofs.Tellings.{Tells, is_there, tells_reserve, tells_got, tells_deleted, tells_evicted, tells_lifted, tells_set, tells_rescued}
 
-abbrev pub MayTell : State → List ReadyStripe → ℕ → Type 0
-MayTell state now hand = (now ≡ state.stripes) ⊎ Tells state now hand
+abbrev pub MayTell : State → List ReadyStripe → ℕ → List Saying → Type 0
+MayTell state now hand said = ((now ≡ state.stripes) × (said ≡ [])) ⊎ Tells state now hand said
 
 not_true : (b : Bool) → not b ≡ true → b ≡ false
 not_true true h = absurd (cc)
@@ -55,6 +57,17 @@ key_is (Some entry) key chunk stamp h =
     let all = and_parts (entry.0 == key && is_chunk entry.1.0 chunk) (entry.1.1 == stamp) h in
     ap Some (eqb-true entry.0 key (and_parts (entry.0 == key) (is_chunk entry.1.0 chunk) all.0).0)
 
+-- the number in a next stamp is the hand's
+pub own_stamp : (ids : Ids) (stamp : ℕ) → is_next_stamp ids stamp ≡ true → stamp / 2 ^ 48 ≡ unwrap_or ids.number 0
+own_stamp ids stamp h =
+    let both = and_parts (nat_lt ids.stamps most_stamps && option_eq nat_eq ids.number (Some (stamp / 2 ^ 48))) (stamp % 2 ^ 48 == ids.stamps + 1) h in
+    let front = and_parts (nat_lt ids.stamps most_stamps) (option_eq nat_eq ids.number (Some (stamp / 2 ^ 48))) both.0 in
+    number_is ids.number front.1
+  where
+    number_is : (number : Option ℕ) → option_eq nat_eq number (Some (stamp / 2 ^ 48)) ≡ true → stamp / 2 ^ 48 ≡ unwrap_or number 0
+    number_is None is = absurd (cc)
+    number_is (Some n) is = sym (eqb-true n (stamp / 2 ^ 48) is)
+
 module _ (state : State) (hand : ℕ) (l : AreLegal state.stripes state.stripe_locks) where
   none_told : (key : ℕ) → (has_stripe state hand (stripe_of state key) && can_tell_none (stripe_at state (stripe_of state key)) key) ≡ true →
       (has_stripe state hand (stripe_of state key) ≡ true) × (is_aside (stripe_at state (stripe_of state key)).state key ≡ false)
@@ -64,15 +77,15 @@ module _ (state : State) (hand : ℕ) (l : AreLegal state.stripes state.stripe_l
       let told = and_parts (stripe.ready && not (is_aside stripe.state key)) (is_none (place_of stripe.state key)) parts.1 in
       (parts.0, not_true _ (and_parts stripe.ready (not (is_aside stripe.state key)) told.0).1)
 
-  pub told_by_change : (change : Change) → allows_change state hand change ≡ true → MayTell state (after_change state hand change).stripes hand
-  told_by_change (Grow class) h = inl refl
-  told_by_change (BeginMove src dst) h = inl refl
-  told_by_change FinishMove h = inl refl
-  told_by_change (Touch chunk) h = inl refl
-  told_by_change (SetAutomove mode) h = inl refl
-  told_by_change (Passed found) h = inl refl
-  told_by_change Wrap h = inl refl
-  told_by_change (Evicted class) h = inl refl
+  pub told_by_change : (change : Change) → allows_change state hand change ≡ true → MayTell state (after_change state hand change).stripes hand []
+  told_by_change (Grow class) h = inl (refl, refl)
+  told_by_change (BeginMove src dst) h = inl (refl, refl)
+  told_by_change FinishMove h = inl (refl, refl)
+  told_by_change (Touch chunk) h = inl (refl, refl)
+  told_by_change (SetAutomove mode) h = inl (refl, refl)
+  told_by_change (Passed found) h = inl (refl, refl)
+  told_by_change Wrap h = inl (refl, refl)
+  told_by_change (Evicted class) h = inl (refl, refl)
   told_by_change (Reserve stripe) h = inr (tells_reserve state hand l stripe h)
   told_by_change (GotNone key) h = let parts = none_told key h in inr (tells_got state hand l (stripe_of state key) parts.0 key parts.1)
   told_by_change (DeletedNone key) h = let parts = none_told key h in inr (tells_deleted state hand l (stripe_of state key) parts.0 key parts.1)
@@ -96,10 +109,10 @@ module _ (state : State) (hand : ℕ) (l : AreLegal state.stripes state.stripe_l
   rescue_stripes s chunk item (Some holding) = refl
 
   -- the same list under another name
-  renamed : (now other : List ReadyStripe) → now ≡ other → MayTell state other hand → MayTell state now hand
-  renamed now other e may = subst (λ (xs : List ReadyStripe). MayTell state xs hand) (sym e) may
+  renamed : (now other : List ReadyStripe) → now ≡ other → MayTell state other hand [] → MayTell state now hand []
+  renamed now other e may = subst (λ (xs : List ReadyStripe). MayTell state xs hand []) (sym e) may
 
-  told_by_refer : (key : ℕ) → items.can_refer state hand key ≡ true → MayTell state (items.after_refer state hand key).stripes hand
+  told_by_refer : (key : ℕ) → items.can_refer state hand key ≡ true → MayTell state (items.after_refer state hand key).stripes hand []
   told_by_refer key h =
       let parts = and_parts (is_ready_for state hand key && has_place state hand) (can_refer_to state (chunk_of state key)) h in
       let ready = ready_for key (and_parts (is_ready_for state hand key) (has_place state hand) parts.0).0 in
@@ -109,7 +122,7 @@ module _ (state : State) (hand : ℕ) (l : AreLegal state.stripes state.stripe_l
   linked_there None h = absurd (cc)
   linked_there (Some place) h = refl
 
-  told_by_unlink : (key : ℕ) → items.can_unlink state hand key ≡ true → MayTell state (items.after_unlink state hand key).stripes hand
+  told_by_unlink : (key : ℕ) → items.can_unlink state hand key ≡ true → MayTell state (items.after_unlink state hand key).stripes hand []
   told_by_unlink key h =
       let at = stripe_of state key in
       let stripe = stripe_at state at in
@@ -119,12 +132,12 @@ module _ (state : State) (hand : ℕ) (l : AreLegal state.stripes state.stripe_l
       let ready = ready_for key both.0 in
       let now = λ (b : Bool). slice_set state.stripes at (stripe_unlinked stripe b (writer_of state hand) key) in
       renamed _ (now lifts) (unlinked_stripes (with_stripe state at (stripe_unlinked stripe lifts (writer_of state hand) key)) (chunk_of state key))
-      (elim lifts as (λ b. (not b || is_none stripe.state.aside) ≡ true → MayTell state (now b) hand) [
+      (elim lifts as (λ b. (not b || is_none stripe.state.aside) ≡ true → MayTell state (now b) hand []) [
         | true ↦ λ none. inr (tells_lifted state hand l at ready.0 key stripe.ready refl (linked_there (chunk_of state key) parts.1) (none_is stripe.state.aside none))
         | false ↦ λ _. inr (tells_deleted state hand l at ready.0 key ready.1)
       ] both.1)
 
-  told_by_condemn : (chunk : ChunkId) → evictions.can_condemn state hand chunk ≡ true → MayTell state (evictions.after_condemn state hand chunk).stripes hand
+  told_by_condemn : (chunk : ChunkId) → evictions.can_condemn state hand chunk ≡ true → MayTell state (evictions.after_condemn state hand chunk).stripes hand []
   told_by_condemn chunk h =
       let key = key_at state chunk in
       let at = stripe_of state key in
@@ -138,7 +151,7 @@ module _ (state : State) (hand : ℕ) (l : AreLegal state.stripes state.stripe_l
       let there = (and_parts stripe.ready (is_some (place_of stripe.state key)) away.0).1 in
       let now = λ (b : Bool). slice_set state.stripes at (stripe_condemned stripe b (writer_of state hand) key) in
       renamed _ (now rescues) (rescue_stripes (without_holding (with_told state hand chunk key) hand _) chunk _ (copy_of (with_told state hand chunk key) hand chunk))
-      (elim rescues as (λ b. (not b || is_none stripe.state.aside) ≡ true → MayTell state (now b) hand) [
+      (elim rescues as (λ b. (not b || is_none stripe.state.aside) ≡ true → MayTell state (now b) hand []) [
         | true ↦ λ none. inr (tells_lifted state hand l at has key stripe.ready refl there (none_is stripe.state.aside none))
         | false ↦ λ _. inr (tells_evicted state hand l at has key there)
       ] away.1)
@@ -148,23 +161,23 @@ module _ (state : State) (hand : ℕ) (l : AreLegal state.stripes state.stripe_l
     without = without_holding state hand (is_of chunk)
 
     told_by_kind : (holding : Holding) (kind : Kind) → has_stripe state hand (stripe_of state (key_in holding.words)) ≡ true → suits state hand holding.words kind ≡ true →
-        MayTell state (told_link without hand holding kind).stripes hand
+        MayTell state (told_link without hand holding kind).stripes hand (saying_of kind holding.words)
     told_by_kind holding Reference has h = absurd (cc)
     told_by_kind holding (Fresh Item) has h =
         let key = key_in holding.words in
         let parts = and_parts (is_next_stamp (ids_at state hand) (stamp_in holding.words)) (is_none_else_aside (stripe_at state (stripe_of state key)).state key) h in
-        inr (tells_set state hand l (stripe_of state key) has key holding.chunk (stamp_in holding.words) (of_key (stripe_at state (stripe_of state key)).state.aside key parts.1))
+        inr (tells_set state hand l (stripe_of state key) has key holding.chunk (stamp_in holding.words) (item_in holding.words) refl (own_stamp (ids_at state hand) (stamp_in holding.words) parts.0) (of_key (stripe_at state (stripe_of state key)).state.aside key parts.1))
     told_by_kind holding (Fresh (Copy old)) has h =
         let key = key_in holding.words in
         let parts = and_parts (is_next_stamp (ids_at state hand) (stamp_in holding.words)) (is_none_else_aside (stripe_at state (stripe_of state key)).state key) h in
-        inr (tells_set state hand l (stripe_of state key) has key holding.chunk (stamp_in holding.words) (of_key (stripe_at state (stripe_of state key)).state.aside key parts.1))
+        inr (tells_set state hand l (stripe_of state key) has key holding.chunk (stamp_in holding.words) (item_in holding.words) refl (own_stamp (ids_at state hand) (stamp_in holding.words) parts.0) (of_key (stripe_at state (stripe_of state key)).state.aside key parts.1))
     told_by_kind holding (Fresh (Rescue old item)) has h =
         let key = key_in holding.words in
         let stripe = stripe_at state (stripe_of state key) in
         let parts = and_parts (are_same (item_in holding.words) item) (is_entry_aside stripe.state key old (stamp_in holding.words)) h in
         inr (tells_rescued state hand l (stripe_of state key) has key holding.chunk (key_is stripe.state.aside key old (stamp_in holding.words) parts.1))
 
-    told_by_link : (holding : Option Holding) → can_link_holding state hand chunk holding ≡ true → MayTell state (after_link_of without hand chunk holding).stripes hand
+    told_by_link : (holding : Option Holding) → can_link_holding state hand chunk holding ≡ true → MayTell state (after_link_of without hand chunk holding).stripes hand (said_by holding)
     told_by_link None h = absurd (cc)
     told_by_link (Some holding) h =
         let key = key_in holding.words in
@@ -191,27 +204,27 @@ module _ (state : State) (hand : ℕ) (l : AreLegal state.stripes state.stripe_l
   looked_stripes : (s : State) (look : Look) → (looked s hand look).stripes ≡ s.stripes
   looked_stripes s look = elim (has_slabs s hand) as (λ b. (cond b (with_look s hand look) s).stripes ≡ s.stripes) [ true ↦ refl | false ↦ refl ]
 
-  pub told_by_step : (step : Step) → allows_step state hand step ≡ true → MayTell state (after_step state hand step).stripes hand
-  told_by_step TakeSlabs h = inl refl
-  told_by_step (TakeStripe stripe) h = inl refl
-  told_by_step MissSlabs h = inl refl
-  told_by_step (MissStripe stripe) h = inl (looked_stripes state _)
-  told_by_step GiveSlabs h = inl refl
-  told_by_step (GiveStripe stripe) h = inl refl
-  told_by_step (step.Head chunk) h = inl (looked_stripes state _)
-  told_by_step (Pop class) h = inl (popped_stripes _ (next_free state class))
-  told_by_step (PopOff old) h = inl (popped_off_stripes state old (target_of state old.page))
-  told_by_step (Fill chunk place word) h = inl (refilled_stripes (without_holding state hand (is_of chunk)) place word (holding_of chunk (holdings_at state hand)))
-  told_by_step (Word chunk place) h = inl refl
-  told_by_step (WordHeld chunk place) h = inl refl
+  pub told_by_step : (step : Step) → allows_step state hand step ≡ true → MayTell state (after_step state hand step).stripes hand (sayings_of state hand step)
+  told_by_step TakeSlabs h = inl (refl, refl)
+  told_by_step (TakeStripe stripe) h = inl (refl, refl)
+  told_by_step MissSlabs h = inl (refl, refl)
+  told_by_step (MissStripe stripe) h = inl (looked_stripes state _, refl)
+  told_by_step GiveSlabs h = inl (refl, refl)
+  told_by_step (GiveStripe stripe) h = inl (refl, refl)
+  told_by_step (step.Head chunk) h = inl (looked_stripes state _, refl)
+  told_by_step (Pop class) h = inl (popped_stripes _ (next_free state class), refl)
+  told_by_step (PopOff old) h = inl (popped_off_stripes state old (target_of state old.page), refl)
+  told_by_step (Fill chunk place word) h = inl (refilled_stripes (without_holding state hand (is_of chunk)) place word (holding_of chunk (holdings_at state hand)), refl)
+  told_by_step (Word chunk place) h = inl (refl, refl)
+  told_by_step (WordHeld chunk place) h = inl (refl, refl)
   told_by_step (Link chunk) h = told_by_link chunk (holding_of chunk (holdings_at state hand)) h
   told_by_step (Refer key) h = told_by_refer key h
   told_by_step (Unlink key) h = told_by_unlink key h
-  told_by_step (Release chunk) h = inl refl
-  told_by_step (Discard chunk) h = inl refl
+  told_by_step (Release chunk) h = inl (refl, refl)
+  told_by_step (Discard chunk) h = inl (refl, refl)
   told_by_step (Condemn chunk) h = told_by_condemn chunk h
-  told_by_step (PutBack chunk) h = inl refl
-  told_by_step (Clear chunk) h = inl refl
-  told_by_step (Cut page index) h = inl refl
-  told_by_step (Again chunk issue) h = inl refl
-  told_by_step (Join kept spent) h = inl refl
+  told_by_step (PutBack chunk) h = inl (refl, refl)
+  told_by_step (Clear chunk) h = inl (refl, refl)
+  told_by_step (Cut page index) h = inl (refl, refl)
+  told_by_step (Again chunk issue) h = inl (refl, refl)
+  told_by_step (Join kept spent) h = inl (refl, refl)

@@ -1,5 +1,5 @@
 -- The calls of each hand, and what it saw of the histories.
-use Rattle.std.specs.Prelude.{◌≡◌, ℕ, ◌+◌, ◌/◌, ◌%◌, ◌^◌, ◌==◌, Bool, false, List, [], ◌∷◌, ◌++◌, length, map, filter, count_by, slice_get, Some, All, Contains}
+use Rattle.std.specs.Prelude.{◌≡◌, ⊤, ℕ, ◌+◌, ◌/◌, ◌%◌, ◌^◌, ◌==◌, Bool, false, List, [], ◌∷◌, ◌++◌, length, map, filter, count_by, slice_get, Some, All, Contains}
 use Rattle.mc_stripe.specs.declared.history.Call.{Call}
 use Rattle.mc_stripe.specs.declared.history.Call.TheVariants.{Set, Get, Delete, Evict}
 use Rattle.mc_stripe.specs.declared.history.Call.TheVariants as call
@@ -22,6 +22,11 @@ hand_of (call.Rescue hand key) = hand
 abbrev pub IsBeginning : List Call → List Call → Type 0
 IsBeginning a b = (more : List Call) × (b ≡ a ++ more)
 
+-- what is stored in this stripe has a key of it, and is stored by the hand of its stamp
+abbrev pub IsSetIn : ℕ → ℕ → Call → Type 0
+IsSetIn stripes stripe (Set hand key stamp) = (key % stripes ≡ stripe) × (stamp / 2 ^ 48 ≡ hand)
+IsSetIn stripes stripe other = ⊤
+
 -- how often the stamp was stored, in one history and in all
 abbrev pub is_set_of : ℕ → Call → Bool
 is_set_of stamp (Set hand key own) = own == stamp
@@ -42,7 +47,6 @@ pub record AreTold (stripes : List ReadyStripe) (mine : List (List Own)) (seen :
   pub begun : All (λ row. (stripe : ℕ) (calls : List Call) (value : ReadyStripe) → slice_get row stripe ≡ Some calls → slice_get stripes stripe ≡ Some value →
       IsBeginning calls value.state.history) seen
   pub writers : All (λ (value : ReadyStripe). All (λ call. owners (hand_of call) mine ≡ 1) value.state.history) stripes
-  pub sets : (stripe hand key stamp : ℕ) (value : ReadyStripe) → slice_get stripes stripe ≡ Some value → Contains value.state.history (Set hand key stamp) →
-      (key % length stripes ≡ stripe) × (stamp / 2 ^ 48 ≡ hand)
+  pub sets : (stripe : ℕ) (value : ReadyStripe) → slice_get stripes stripe ≡ Some value → All (IsSetIn (length stripes) stripe) value.state.history
   pub stored_once : (stamp : ℕ) → set_count stamp stripes ≡ said_count stamp said
   pub stored : Each (IsStored stripes) said

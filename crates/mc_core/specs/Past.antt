@@ -165,16 +165,20 @@ abbrev pub with_calls : State → State → Past → ℕ → Past
 with_calls before now past hand =
     record past { mine = slice_set past.mine hand (map (own_after before now (number_at before hand)) (slice_index_or past.mine hand [])) }
 
--- what the hands know after a step, from the state before it to the one after it
-abbrev pub learned : State → State → Past → ℕ → Step → Past
-learned before now past hand (Join kept spent) = joined before.table past kept spent
-learned before now past hand step = record (with_calls before now past hand) {
+-- what the stepping hand learns, from the state before the step to the one after it
+abbrev pub learned_alone : State → State → Past → ℕ → Step → Past
+learned_alone before now past hand step = record (with_calls before now past hand) {
   saw = with_more past.saw hand (sights_of before step);
   holds = slice_set past.holds hand (hold_after before.slabs step (slice_index_or past.holds hand (no_hold before.table)));
   seen = slice_set past.seen hand (seen_after before step (slice_index_or past.seen hand []));
   said = with_more past.said hand (sayings_of before hand step);
   known = with_more past.known hand (known_of before hand step);
 }
+
+-- what the hands know after a step
+abbrev pub learned : State → State → Past → ℕ → Step → Past
+learned before now past hand (Join kept spent) = joined before.table past kept spent
+learned before now past hand step = learned_alone before now past hand step
 
 -- the moment after a change of a value behind a lock
 abbrev pub moment_changed : Moment → ℕ → Change → Moment

@@ -1,0 +1,135 @@
+-- A fresh chunk is linked: counts and holdings stay as the law says.
+use Rattle.std.proofs.Common.{◌≡◌, ℕ, ◌<◌, true, List, length, Some, None, refl, ap, ◌∙◌, arith, subst, slice_set}
+use Rattle.std.proofs.lemmas.Bool.{and_parts}
+use Rattle.mc_pages.specs.declared.ids.ChunkId.{ChunkId}
+use Rattle.mc_pages.proofs.Chunks.{same_from_is_chunk}
+use Rattle.mc_core.specs.declared.head.Head.{Head}
+use Rattle.mc_core.specs.declared.head.Tag.TheVariants.{Unlinked, Linked}
+use Rattle.mc_core.specs.declared.holding.Holding.{Holding}
+use Rattle.mc_core.specs.declared.holding.Kind.{Kind}
+use Rattle.mc_core.specs.declared.holding.Kind.TheVariants.{Reference, Fresh}
+use Rattle.mc_core.specs.declared.holding.Purpose.TheVariants.{Item, Copy, Rescue}
+use Rattle.mc_core.specs.Head.{is_unlinked}
+use Rattle.mc_core.specs.Holdings.{Words, item_in, is_complete, is_of, is_fresh, is_fresh_kind, holding_of}
+use Rattle.mc_core.specs.State.{State, has_chunk, head_place, head_at, with_head, is_hand, holdings_at, with_holding, without_holding}
+use Rattle.mc_core.specs.Items.{can_count, suits, can_tell_link, can_link_holding, can_link, linked, as_reference, told_link, after_link_of, after_link}
+use Rattle.mc_core.specs.Columns.{head_in, Shows, holders, link_of}
+use Rattle.mc_core.specs.Counts.{AreCounted, AreHeld}
+use Rattle.mc_core.specs.Past.{Moment}
+use Rattle.mc_core.specs.Lawful.{IsLawful}
+use Rattle.mc_core.proofs.Holders.{found_each, found_passes, hand_within, fresh_lost, nobodys}
+use Rattle.mc_core.proofs.Rows.{rows_more, rows_less, each_less, each_more, length_less, most_swapped, more_here, more_other, less_here, less_other}
+use Rattle.mc_core.proofs.Turns.{Turn, IsSo, each_so, held_from_so, turn_counted, turn_each, turn_more}
+use Rattle.mc_core.proofs.WholeItems.{filled_whole, in_front}
+use Rattle.mc_core.proofs.Entered.{tag_unlinked}
+use Rattle.mc_core.proofs.Referring.{linked_open}
+use Rattle.mc_core.proofs.Tallied.{IsTallied}
+
+-- what suits is fresh
+pub suits_fresh : (state : State) (hand : ℕ) (words : Words) (kind : Kind) → suits state hand words kind ≡ true → is_fresh_kind kind ≡ true
+suits_fresh state hand words Reference suit = absurd (cc)
+suits_fresh state hand words (Fresh purpose) suit = refl
+
+-- what a link asks
+pub record MayLink (m : Moment) (hand : ℕ) (chunk : ChunkId) (holding : Holding) : Type 0 where
+  pub found : holding_of chunk (holdings_at m.state hand) ≡ Some holding
+  pub fresh : is_fresh holding ≡ true
+  pub complete : is_complete holding.words ≡ true
+  pub told : can_tell_link m.state hand holding ≡ true
+  pub unlinked : (head_at m.state chunk).tag ≡ Unlinked
+
+pub may_link : (m : Moment) (hand : ℕ) (chunk : ChunkId) (holding : Holding) → holding_of chunk (holdings_at m.state hand) ≡ Some holding → can_link_holding m.state hand chunk (Some holding) ≡ true → MayLink m hand chunk holding
+may_link m hand chunk holding found can =
+    let counts = and_parts _ (can_count (head_at m.state chunk)) can in
+    let unlinked = and_parts _ (is_unlinked (head_at m.state chunk).tag) counts.0 in
+    let tells = and_parts (is_complete holding.words) (can_tell_link m.state hand holding) unlinked.0 in
+    let suit = and_parts _ (suits m.state hand holding.words holding.kind) tells.1 in
+    record {
+      found = found;
+      fresh = suits_fresh m.state hand holding.words holding.kind suit.1;
+      complete = tells.0;
+      told = tells.1;
+      unlinked = tag_unlinked (head_at m.state chunk).tag unlinked.1;
+    }
+
+module _ (m : Moment) (l : IsLawful m) (hand : ℕ) (there : is_hand m.state hand ≡ true) (chunk : ChunkId) (holding : Holding) (may : MayLink m hand chunk holding) where
+  abbrev old : Head
+  old = head_at m.state chunk
+
+  abbrev rows : List (List Holding)
+  rows = m.state.holdings
+
+  abbrev left : List (List Holding)
+  left = rows_less rows hand (is_of chunk)
+
+  abbrev now : List (List Holding)
+  now = rows_more left hand (as_reference holding)
+
+  abbrev heads' : List Head
+  heads' = slice_set m.state.heads (head_place m.state.table chunk) (linked old)
+
+  pub is : holding.chunk ≡ chunk
+  is = same_from_is_chunk holding.chunk chunk (found_passes (is_of chunk) (holdings_at m.state hand) holding may.found)
+
+  so : IsSo m.state.table m.state.slabs m.state.heads m.state.words rows holding
+  so = found_each (IsSo m.state.table m.state.slabs m.state.heads m.state.words rows) rows hand (is_of chunk) holding may.found (each_so m.state.table m.state.slabs m.state.heads m.state.words rows l.held)
+
+  within : hand < length rows
+  within = hand_within m l hand there
+
+  -- nobody else holds the chunk
+  pub left_none : holders chunk left ≡ 0
+  left_none = subst (λ c. holders c left ≡ 0) is (fresh_lost m l hand there (is_of chunk) holding may.found may.fresh)
+
+  turn : Turn m.state.table m.state.heads rows now chunk (linked old)
+  turn = record {
+    long = l.sized.headers;
+    near = subst (λ c. has_chunk m.state.table c ≡ true) is so.inside;
+    others = λ other isnt. more_other left hand (length_less rows hand within (is_of chunk)) chunk other (as_reference holding) is isnt
+        ∙ less_other rows hand within chunk other (is_of chunk) holding may.found is isnt;
+    sum =
+        let less = less_here rows hand within chunk (is_of chunk) holding may.found is in
+        let more = more_here left hand (length_less rows hand within (is_of chunk)) chunk (as_reference holding) is in
+        let no_link : link_of old.tag ≡ 0 = ap link_of may.unlinked in
+        let link : link_of Linked ≡ 1 = refl in omega arith;
+    shut = λ shut. absurd (linked_open Linked refl shut);
+    issued = l.counted.issued chunk (subst (λ c. has_chunk m.state.table c ≡ true) is so.inside);
+  }
+
+  shows : Shows m.state.table m.state.slabs m.state.words chunk (item_in holding.words)
+  shows = let before = so.shows in let fits = (filled_whole holding.words may.complete).1 in subst (λ c. Shows m.state.table m.state.slabs m.state.words c (item_in holding.words)) is (record {
+    fits = let room = before.fits in omega arith;
+    known_words = λ place word at. before.known_words place word (in_front _ holding.words place word at);
+  })
+
+  linked_tallied : AreCounted m.state.table heads' now × AreHeld m.state.table m.state.slabs heads' m.state.words now
+  linked_tallied =
+      let kept = turn_each m.state.table m.state.heads rows now chunk (linked old) turn m.state.slabs m.state.slabs m.state.words (λ page. refl) left
+      (λ i row inside j other on same. absurd (nobodys chunk left left_none i row inside j other on same))
+      (each_less rows hand (IsSo m.state.table m.state.slabs m.state.heads m.state.words rows) (is_of chunk) (each_so m.state.table m.state.slabs m.state.heads m.state.words rows l.held)) in
+      let new = turn_more m.state.table m.state.heads rows now chunk (linked old) turn m.state.slabs m.state.slabs m.state.words (λ page. refl) (as_reference holding) is
+      (so.issue ∙ ap (λ c. (head_in m.state.table m.state.heads c).issue) is) shows
+      ((λ fresh. absurd (cc)), λ stale. (filled_whole holding.words may.complete).0) (λ fresh. absurd (cc)) in (
+        turn_counted m.state.table m.state.heads rows now chunk (linked old) turn l.counted,
+        held_from_so m.state.table m.state.slabs heads' m.state.words now
+            (each_more left hand (IsSo m.state.table m.state.slabs heads' m.state.words now) (as_reference holding) kept new)
+            (most_swapped rows hand within (is_of chunk) holding (as_reference holding) may.found l.held.most),
+      )
+
+  -- whichever way the stripe is told
+  told_tallied : (kind : Kind) → IsTallied (with_holding (with_head (told_link (without_holding m.state hand (is_of chunk)) hand holding kind) chunk (linked old)) hand (as_reference holding))
+  told_tallied Reference = linked_tallied
+  told_tallied (Fresh Item) = linked_tallied
+  told_tallied (Fresh (Copy other)) = linked_tallied
+  told_tallied (Fresh (Rescue other item)) = linked_tallied
+
+  pub link_of_tallied : IsTallied (after_link_of (without_holding m.state hand (is_of chunk)) hand chunk (Some holding))
+  link_of_tallied = told_tallied holding.kind
+
+pub link_tallied : (m : Moment) → IsLawful m → (hand : ℕ) → is_hand m.state hand ≡ true → (chunk : ChunkId) → can_link m.state hand chunk ≡ true → IsTallied (after_link m.state hand chunk)
+link_tallied m l hand there chunk can =
+    elim (holding_of chunk (holdings_at m.state hand)) as (λ o. holding_of chunk (holdings_at m.state hand) ≡ o → can_link_holding m.state hand chunk o ≡ true →
+    IsTallied (after_link_of (without_holding m.state hand (is_of chunk)) hand chunk o)) [
+      | None ↦ λ _ never. absurd (cc)
+      | Some holding ↦ λ found may. link_of_tallied m l hand there chunk holding (may_link m hand chunk holding found may)
+    ] refl can

@@ -1,0 +1,145 @@
+-- Counts and holdings: kept by every change and every step, and true at first.
+use Rattle.std.proofs.Common.{◌≡◌, ℕ, zero, suc, ◌*◌, ◌≤◌, Bool, true, false, cond, List, [], length, replicate, refl, sym, ap, arith, subst, All, slice_index_or}
+use Rattle.std.proofs.lemmas.List.Elements.{All-nil, All-replicate}
+use Rattle.mc_classes.specs.Classes.{Classes, IsSound, pages_of}
+use Rattle.mc_pages.specs.declared.ids.ChunkId.{ChunkId}
+use Rattle.mc_pages.specs.SlabState.{SlabState, class_of_page, fresh_slabs}
+use Rattle.mc_core.specs.declared.head.Head.{Head}
+use Rattle.mc_core.specs.declared.holding.Holding.{Holding}
+use Rattle.mc_core.specs.declared.look.Look.{Look}
+use Rattle.mc_core.specs.declared.event.Change.{Change}
+use Rattle.mc_core.specs.declared.event.Change.TheVariants.{Grow, BeginMove, FinishMove, Touch, SetAutomove, Passed, Wrap, Evicted, Reserve, GotNone, DeletedNone}
+use Rattle.mc_core.specs.declared.event.Step.{Step}
+use Rattle.mc_core.specs.declared.event.Step.TheVariants.{TakeSlabs, TakeStripe, MissSlabs, MissStripe, GiveSlabs, GiveStripe, Pop, PopOff, Fill, Word, WordHeld, Link, Refer, Unlink, Release, Discard, Condemn, PutBack, Clear, Cut, Again, Join}
+use Rattle.mc_core.specs.declared.event.Step.TheVariants as step
+use Rattle.mc_core.specs.Head.{never_cut}
+use Rattle.mc_core.specs.State.{State, most_of, head_place, room_in, has_slabs, with_look, new_state}
+use Rattle.mc_core.specs.Silent.{after_change}
+use Rattle.mc_core.specs.Run.{after_step}
+use Rattle.mc_core.specs.Columns.{Each, holders}
+use Rattle.mc_core.specs.Counts.{AreHeld, IsSized}
+use Rattle.mc_core.specs.Past.{Moment, first_moment}
+use Rattle.mc_core.specs.Lawful.{IsLawful, CountedIn, HeldIn}
+use Rattle.mc_core.specs.Laws.{MayChange, MayStep, ChangesKeep, StepsKeep}
+use Rattle.mc_core.proofs.Base.{IsOut}
+use Rattle.mc_core.proofs.SamePages.{stays_changes}
+use Rattle.mc_core.proofs.Turns.{IsSo, each_so, held_from_so, shows_moved}
+use Rattle.mc_core.proofs.Tallied.{IsTallied}
+use Rattle.mc_core.proofs.HandingOut.{pop_tallied, pop_off_tallied}
+use Rattle.mc_core.proofs.Filling.{out_each, fill_tallied}
+use Rattle.mc_core.proofs.Linking.{link_tallied}
+use Rattle.mc_core.proofs.Referring.{refer_tallied, again_tallied}
+use Rattle.mc_core.proofs.Dropping.{drop_tallied, unlink_tallied, condemn_tallied}
+use Rattle.mc_core.proofs.Closing.{put_back_tallied, clear_tallied, cut_tallied}
+
+pub counted_changes : ChangesKeep CountedIn
+counted_changes m hand (Grow class) may = may.lawful.counted
+counted_changes m hand (BeginMove src dst) may = may.lawful.counted
+counted_changes m hand FinishMove may = may.lawful.counted
+counted_changes m hand (Touch chunk) may = may.lawful.counted
+counted_changes m hand (SetAutomove mode) may = may.lawful.counted
+counted_changes m hand (Passed found) may = may.lawful.counted
+counted_changes m hand Wrap may = may.lawful.counted
+counted_changes m hand (Evicted class) may = may.lawful.counted
+counted_changes m hand (Reserve stripe) may = may.lawful.counted
+counted_changes m hand (GotNone key) may = may.lawful.counted
+counted_changes m hand (DeletedNone key) may = may.lawful.counted
+
+-- pages may change hands, while those of held chunks stay of their classes
+held_moved : (m : Moment) (l : IsLawful m) (next : SlabState) → ((holding : Holding) → IsOut m l holding → class_of_page next holding.chunk.page ≡ class_of_page m.state.slabs holding.chunk.page) →
+    AreHeld m.state.table next m.state.heads m.state.words m.state.holdings
+held_moved m l next same =
+    let so = each_so m.state.table m.state.slabs m.state.heads m.state.words m.state.holdings l.held in
+    held_from_so m.state.table next m.state.heads m.state.words m.state.holdings
+    (λ hand row inside place holding on. moved (slice_index_or (slice_index_or m.state.holdings hand row) place holding) (out_each m l hand row inside place holding on) (so hand row inside place holding on)) l.held.most
+  where
+    moved : (holding : Holding) → IsOut m l holding → IsSo m.state.table m.state.slabs m.state.heads m.state.words m.state.holdings holding → IsSo m.state.table next m.state.heads m.state.words m.state.holdings holding
+    moved holding out so = record {
+      inside = so.inside;
+      issue = so.issue;
+      shows = shows_moved m.state.table m.state.slabs next m.state.words holding.chunk holding.words (same holding out) so.shows;
+      sized = subst (λ class. IsSized (room_in m.state.table class) holding) (sym (same holding out)) so.sized;
+      alone = so.alone;
+    }
+
+held_slabs : (m : Moment) (hand : ℕ) (change : Change) → MayChange m hand change → AreHeld m.state.table (after_change m.state hand change).slabs m.state.heads m.state.words m.state.holdings
+held_slabs m hand change may = held_moved m may.lawful (after_change m.state hand change).slabs (λ holding out. stays_changes m hand change may holding.chunk holding.issue out.0 out.1)
+
+pub held_changes : ChangesKeep HeldIn
+held_changes m hand (Grow class) may = held_slabs m hand (Grow class) may
+held_changes m hand (BeginMove src dst) may = held_slabs m hand (BeginMove src dst) may
+held_changes m hand FinishMove may = held_slabs m hand FinishMove may
+held_changes m hand (Touch chunk) may = held_slabs m hand (Touch chunk) may
+held_changes m hand (SetAutomove mode) may = held_slabs m hand (SetAutomove mode) may
+held_changes m hand (Passed found) may = held_slabs m hand (Passed found) may
+held_changes m hand Wrap may = held_slabs m hand Wrap may
+held_changes m hand (Evicted class) may = held_slabs m hand (Evicted class) may
+held_changes m hand (Reserve stripe) may = may.lawful.held
+held_changes m hand (GotNone key) may = may.lawful.held
+held_changes m hand (DeletedNone key) may = may.lawful.held
+
+-- a look counts or doesn't
+looked_tallied : (state : State) (hand : ℕ) (look : Look) (holds : Bool) → IsTallied state → IsTallied (cond holds (with_look state hand look) state)
+looked_tallied state hand look true are = are
+looked_tallied state hand look false are = are
+
+-- each step keeps both
+pub tallied_steps : (m : Moment) (hand : ℕ) (step : Step) → MayStep m hand step → IsTallied (after_step m.state hand step)
+tallied_steps m hand TakeSlabs may = (may.lawful.counted, may.lawful.held)
+tallied_steps m hand (TakeStripe stripe) may = (may.lawful.counted, may.lawful.held)
+tallied_steps m hand MissSlabs may = (may.lawful.counted, may.lawful.held)
+tallied_steps m hand (MissStripe stripe) may = looked_tallied m.state hand _ (has_slabs m.state hand) (may.lawful.counted, may.lawful.held)
+tallied_steps m hand GiveSlabs may = (may.lawful.counted, may.lawful.held)
+tallied_steps m hand (GiveStripe stripe) may = (may.lawful.counted, may.lawful.held)
+tallied_steps m hand (step.Head chunk) may = looked_tallied m.state hand _ (has_slabs m.state hand) (may.lawful.counted, may.lawful.held)
+tallied_steps m hand (Pop class) may = pop_tallied m may.lawful hand class may.there may.allowed
+tallied_steps m hand (PopOff old) may = pop_off_tallied m may.lawful hand old may.there may.allowed
+tallied_steps m hand (Fill chunk place word) may = fill_tallied m may.lawful hand may.there chunk place word may.allowed
+tallied_steps m hand (Word chunk place) may = (may.lawful.counted, may.lawful.held)
+tallied_steps m hand (WordHeld chunk place) may = (may.lawful.counted, may.lawful.held)
+tallied_steps m hand (Link chunk) may = link_tallied m may.lawful hand may.there chunk may.allowed
+tallied_steps m hand (Refer key) may = refer_tallied m may.lawful hand may.there key may.allowed
+tallied_steps m hand (Unlink key) may = unlink_tallied m may.lawful hand may.there key may.allowed
+tallied_steps m hand (Release chunk) may = drop_tallied m may.lawful hand may.there chunk false may.allowed
+tallied_steps m hand (Discard chunk) may = drop_tallied m may.lawful hand may.there chunk true may.allowed
+tallied_steps m hand (Condemn chunk) may = condemn_tallied m may.lawful hand may.there chunk may.allowed
+tallied_steps m hand (PutBack chunk) may = put_back_tallied m may.lawful hand chunk may.allowed
+tallied_steps m hand (Clear chunk) may = clear_tallied m may.lawful hand chunk may.allowed
+tallied_steps m hand (Cut page index) may = cut_tallied m may.lawful hand (record { page = page; index = index }) may.allowed
+tallied_steps m hand (Again chunk issue) may = again_tallied m may.lawful hand may.there chunk issue may.allowed
+tallied_steps m hand (Join kept spent) may = (may.lawful.counted, may.lawful.held)
+
+pub counted_steps : StepsKeep CountedIn
+counted_steps m hand step may = (tallied_steps m hand step may).0
+
+pub held_steps : StepsKeep HeldIn
+held_steps m hand step may = (tallied_steps m hand step may).1
+
+-- at first all headers are alike, and nothing is held
+pub all_same : {X : Type 0} (x : X) (n place : ℕ) → slice_index_or (replicate n x) place x ≡ x
+all_same x zero place = refl
+all_same x (suc n) zero = refl
+all_same x (suc n) (suc place) = all_same x n place
+
+none_held : (chunk : ChunkId) (hands : ℕ) → holders chunk (replicate hands []) ≡ 0
+none_held chunk zero = refl
+none_held chunk (suc hands) = let rest = none_held chunk hands in omega arith
+
+none_each : (P : Holding → Type 0) (hands : ℕ) → Each P (replicate hands [])
+none_each P hands = All-replicate (All P) hands [] (All-nil P)
+
+pub counted_first : (table : Classes) (stripes hands : ℕ) → IsSound table → 1 ≤ stripes → 1 ≤ hands → hands ≤ 64 → CountedIn (first_moment table stripes hands)
+counted_first table stripes hands sound some_stripe some_hand few =
+    let at = λ (chunk : ChunkId). all_same never_cut (pages_of table * most_of table) (head_place table chunk) in
+    record {
+      counted = λ chunk near. rw (at chunk) (let none = none_held chunk hands in omega arith);
+      shut = λ chunk near shut. ap (λ (head : Head). head.count) (at chunk);
+      issued = λ chunk near. rw (at chunk) (omega arith);
+    }
+
+pub held_first : (table : Classes) (stripes hands : ℕ) → IsSound table → 1 ≤ stripes → 1 ≤ hands → hands ≤ 64 → HeldIn (first_moment table stripes hands)
+held_first table stripes hands sound some_stripe some_hand few =
+    let heads = replicate (pages_of table * most_of table) never_cut in
+    let words = (new_state table stripes hands).words in
+    held_from_so table (fresh_slabs table) heads words (replicate hands []) (none_each (IsSo table (fresh_slabs table) heads words (replicate hands [])) hands)
+    (All-replicate (λ (row : List Holding). length row ≤ 256) hands [] (omega arith))
