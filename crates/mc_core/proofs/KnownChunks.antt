@@ -1,5 +1,5 @@
 -- Known items as chunks are handed out, given up, unlinked, put back, cleared and cut.
-use Rattle.std.proofs.Common.{◌≡◌, ℕ, ◌+◌, ◌<◌, ◌≤◌, ◌&&◌, ◌||◌, Bool, true, false, List, [], ◌∷◌, ◌++◌, length, refl, sym, ap, subst, ◌∙◌, arith, mod-lt, slice_set, Option, Some, None, if◌then◌else◌, All}
+use Rattle.std.proofs.Common.{◌≡◌, ℕ, ◌≤◌, ◌||◌, Bool, true, false, List, [], refl, sym, ap, subst, arith, mod-lt, Some, None, if◌then◌else◌}
 use Rattle.std.proofs.lemmas.Bool.{and_parts, both_ways}
 use Rattle.std.proofs.lemmas.Option.{slice_get-get_or}
 use Rattle.mc_stripe.specs.StripeState.{new_stripe}
@@ -8,24 +8,22 @@ use Rattle.mc_pages.specs.SlabState.{SlabState, class_at, class_of_page}
 use Rattle.mc_pages.specs.Changes as slabs_changes
 use Rattle.mc_pages.proofs.Chunks.{same_from_is_chunk}
 use Rattle.mc_pages.proofs.HandedOut.{IsClass-handed_out}
-use Rattle.mc_core.specs.declared.event.Step.{Step}
 use Rattle.mc_core.specs.declared.event.Step.TheVariants.{Pop, PopOff, Unlink, Release, Discard, PutBack, Clear, Cut}
 use Rattle.mc_core.specs.declared.head.Head.{Head}
-use Rattle.mc_core.specs.declared.head.Tag.{Tag}
-use Rattle.mc_core.specs.declared.head.Tag.TheVariants.{Out, Free, Unlinked, Linked}
+use Rattle.mc_core.specs.declared.head.Tag.TheVariants.{Unlinked}
 use Rattle.mc_core.specs.declared.holding.Holding.{Holding}
 use Rattle.mc_core.specs.declared.holding.Purpose.{Purpose}
 use Rattle.mc_core.specs.declared.holding.Purpose.TheVariants.{Item, Copy}
 use Rattle.mc_core.specs.declared.look.Look.{Look}
 use Rattle.mc_core.specs.Head.{is_linked, is_dead, is_out, is_free}
-use Rattle.mc_core.specs.Holdings.{is_of, holding_of, is_fresh, has_fresh}
+use Rattle.mc_core.specs.Holdings.{is_of, holding_of, has_fresh}
 use Rattle.mc_core.specs.State.{State, has_chunk, head_at, has_slabs, with_head, with_slabs, with_look, with_stripe, stripe_at, stripe_of, is_class, holdings_at}
 use Rattle.mc_core.specs.Silent.{writer_of, is_out_of_class, is_listed}
 use Rattle.mc_core.specs.Locks.{looked}
 use Rattle.mc_core.specs.Chunks.{handed_out, let_go, with_tag_free, with_tag_out, new_holding, with_fresh, next_free, popped, popped_off, target_of, is_target, has_place, can_hand_out, after_drop, holds_as, is_next_uncut, is_moving_page}
-use Rattle.mc_core.specs.Items.{unlinked, stripe_unlinked, chunk_of, is_ready_for, can_lift, is_linked_at, with_unlinked}
+use Rattle.mc_core.specs.Items.{unlinked, stripe_unlinked, chunk_of, is_linked_at, with_unlinked}
 use Rattle.mc_core.specs.Past.{Moment, Known, Saying, with_more, moment_stepped}
-use Rattle.mc_core.specs.Columns.{head_in, Each, holds}
+use Rattle.mc_core.specs.Columns.{head_in}
 use Rattle.mc_core.specs.Knowing.{AreKnown}
 use Rattle.mc_core.specs.Indexed.{IsEntry}
 use Rattle.mc_core.specs.Laws.{MayStep}
@@ -117,8 +115,8 @@ module _ (m : Moment) (hand : ℕ) where
 
     new_apart : (k : Known) → IsStill m l k → IsApartFrom k holding
     new_apart k is fresh at issue = absurd (
-      let was : k.issue ≤ (head_in m.state.table m.state.heads chunk).issue = subst (λ (c : ChunkId). k.issue ≤ (head_in m.state.table m.state.heads c).issue) (sym at) is.older in
-      omega arith)
+        let was : k.issue ≤ (head_in m.state.table m.state.heads chunk).issue = subst (λ (c : ChunkId). k.issue ≤ (head_in m.state.table m.state.heads c).issue) (sym at) is.older in
+        omega arith)
 
     known_fresh : KnownAt (with_fresh (with_slabs m.state next) hand chunk purpose) (with_more m.past.said hand []) (with_more m.past.known hand [])
     known_fresh =

@@ -1,5 +1,5 @@
 -- Known items as the item of a chunk is taken away, and as two hands become one.
-use Rattle.std.proofs.Common.{◌≡◌, ◌≢◌, ℕ, ◌+◌, ◌<◌, ◌≤◌, ◌&&◌, ◌==◌, not, Bool, true, false, List, [], ◌∷◌, ◌++◌, length, refl, sym, ap, subst, ◌∙◌, inl, inr, arith, slice_set, Option, Some, None, Contains, All, eqb-true, eq-eqb}
+use Rattle.std.proofs.Common.{◌≡◌, ◌≢◌, ℕ, ◌<◌, ◌==◌, not, true, List, [], ◌++◌, length, refl, sym, ap, subst, ◌∙◌, inl, inr, arith, Option, Some, None, Contains, All, eqb-true, eq-eqb}
 use Rattle.std.proofs.lemmas.Bool.{and_parts, both_ways, cases_eq}
 use Rattle.std.proofs.lemmas.List.{nil_from_length}
 use Rattle.std.proofs.lemmas.List.Elements.{All-nil, All-weaker}
@@ -10,11 +10,10 @@ use Rattle.mc_core.specs.declared.head.Tag.TheVariants.{Linked}
 use Rattle.mc_core.specs.declared.holding.Holding.{Holding}
 use Rattle.mc_core.specs.declared.holding.Kind.{Kind}
 use Rattle.mc_core.specs.declared.holding.Kind.TheVariants.{Reference, Fresh}
-use Rattle.mc_core.specs.declared.holding.Purpose.TheVariants.{Item, Copy, Rescue}
 use Rattle.mc_core.specs.Head.{is_linked}
-use Rattle.mc_core.specs.Holdings.{Words, stamp_in, is_fresh, is_fresh_kind, is_copy_of, is_copy_kind}
+use Rattle.mc_core.specs.Holdings.{Words, stamp_in, is_fresh_kind, is_copy_of, is_copy_kind}
 use Rattle.mc_core.specs.State.{State, is_hand, has_chunk, head_at, item_at, has_slabs, has_stripe, stripe_of, stripe_at, holdings_at, with_head, without_holding}
-use Rattle.mc_core.specs.Evictions.{is_idle, condemned, key_at, has_copy, has_reason, can_take_away, with_told, with_rescue, with_bound, as_rescue, copy_of}
+use Rattle.mc_core.specs.Evictions.{is_idle, condemned, key_at, has_copy, has_reason, can_take_away, with_told, with_rescue, as_rescue, copy_of}
 use Rattle.mc_core.specs.Hands as hands
 use Rattle.mc_core.specs.Past.{Moment, Known, Saying, with_more, known_by, moment_stepped}
 use Rattle.mc_core.specs.Columns.{head_in, Each, IsKnownToSome}
@@ -75,7 +74,7 @@ module _ (m : Moment) (hand : ℕ) (chunk : ChunkId) (may : MayStep m hand (Cond
   abbrev end : Option Holding → State
   end copy = with_head (with_rescue (without_holding told hand (is_copy_of chunk)) hand chunk (item_at m.state chunk) copy) chunk head
 
-  condemned_with : (rows' : List (List Holding)) → ((k : Known) → IsStill m l k → Each (IsApartFrom k) rows') → ((other : ℕ) → Rattle.std.specs.List.All (IsOwn m.past.known other) (row_of rows' other)) →
+  condemned_with : (rows' : List (List Holding)) → ((k : Known) → IsStill m l k → Each (IsApartFrom k) rows') → ((other : ℕ) → All (IsOwn m.past.known other) (row_of rows' other)) →
       KnownAt (record (with_head told chunk head) { holdings = rows' }) m.past.said m.past.known
   condemned_with rows' apart own =
       known_turned m l m.state.slabs chunk head rows' (λ page. refl) is.near (younger_condemned (head_at m.state chunk) is.linked) (λ never. absurd (cc)) apart own

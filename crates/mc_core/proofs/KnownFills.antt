@@ -1,5 +1,5 @@
 -- Known items as a word of a fresh chunk is written.
-use Rattle.std.proofs.Common.{◌≡◌, ℕ, ◌+◌, ◌<◌, ◌≤◌, ◌&&◌, Bool, true, false, List, [], ◌∷◌, ◌++◌, length, refl, sym, ap, subst, ◌∙◌, arith, slice_set, slice_get, slice_index, Option, Some, None, nat_lt, ltb-true, get_or-set_other}
+use Rattle.std.proofs.Common.{◌≡◌, ℕ, ◌<◌, true, List, [], length, refl, sym, ap, subst, ◌∙◌, arith, slice_set, Some, None, nat_lt, ltb-true, get_or-set_other}
 use Rattle.std.proofs.lemmas.Bool.{and_parts}
 use Rattle.std.proofs.lemmas.Option.{slice_get_within}
 use Rattle.mc_pages.specs.declared.ids.ChunkId.{ChunkId}
@@ -8,10 +8,10 @@ use Rattle.mc_pages.proofs.Chunks.{same_from_is_chunk}
 use Rattle.mc_core.specs.declared.event.Step.TheVariants.{Fill}
 use Rattle.mc_core.specs.declared.holding.Holding.{Holding}
 use Rattle.mc_core.specs.Holdings.{Words, is_of, holding_of, is_fresh}
-use Rattle.mc_core.specs.State.{State, has_chunk, room_in, holdings_at, with_word, without_holding}
-use Rattle.mc_core.specs.Chunks.{can_fill_in, refilled, after_fill}
+use Rattle.mc_core.specs.State.{State, room_in, holdings_at, with_word, without_holding}
+use Rattle.mc_core.specs.Chunks.{can_fill_in, refilled}
 use Rattle.mc_core.specs.Past.{Moment, Known, with_more, moment_stepped}
-use Rattle.mc_core.specs.Columns.{head_in, place_in, Shows, IsHandedOut}
+use Rattle.mc_core.specs.Columns.{Each, head_in, place_in, Shows, IsHandedOut}
 use Rattle.mc_core.specs.Counts.{IsSized}
 use Rattle.mc_core.specs.Knowing.{IsTrueStill}
 use Rattle.mc_core.specs.Laws.{MayStep}
@@ -39,7 +39,7 @@ module _ (m : Moment) (l : IsLawful m) (chunk : ChunkId) (place word : ℕ) (pla
 
   -- what is known of other chunks stays true
   pub still_filled : (rows' : List (List Holding)) (k : Known) → (IsHandedOut (head_in m.state.table m.state.heads k.chunk) k.issue → k.chunk ≡ chunk → ⊥) →
-      Rattle.mc_core.specs.Columns.Each (IsApartFrom k) rows' → IsStill m l k →
+      Each (IsApartFrom k) rows' → IsStill m l k →
       IsTrueStill m.state.table m.state.slabs m.state.heads (slice_set m.state.words (place_in m.state.table m.state.slabs chunk place) word) rows' k
   still_filled rows' k other apart is = record {
     inside = is.inside;

@@ -1,14 +1,13 @@
 -- Known items where a hand learns one.
-use Rattle.std.proofs.Common.{◌≡◌, ℕ, ◌+◌, ◌<◌, ◌≤◌, Bool, true, false, List, [], ◌∷◌, ◌++◌, length, refl, sym, ap, subst, ◌∙◌, arith, slice_set, Contains, All}
-use Rattle.mc_classes.specs.Classes.{Classes}
+use Rattle.std.proofs.Common.{◌≡◌, ℕ, ◌<◌, ◌≤◌, true, List, [], ◌∷◌, ◌++◌, length, refl, sym, subst, arith, slice_set, Contains, All}
 use Rattle.mc_pages.specs.declared.ids.ChunkId.{ChunkId}
+use Rattle.std.proofs.lemmas.List.Elements.{All-weaker}
 use Rattle.mc_core.specs.declared.head.Head.{Head}
-use Rattle.mc_core.specs.declared.head.Tag.TheVariants.{Linked}
 use Rattle.mc_core.specs.declared.holding.Holding.{Holding}
-use Rattle.mc_core.specs.Holdings.{Words, stamp_in, is_fresh}
+use Rattle.mc_core.specs.Holdings.{Words, stamp_in}
 use Rattle.mc_core.specs.Past.{Moment, Known, Saying, known_by, with_more}
 use Rattle.mc_core.specs.State.{has_chunk, head_place, is_hand}
-use Rattle.mc_core.specs.Columns.{head_in, Each, IsKnownToSome}
+use Rattle.mc_core.specs.Columns.{Each, IsKnownToSome}
 use Rattle.mc_core.specs.Identities.{said_count}
 use Rattle.mc_core.specs.Knowing.{IsSaid, IsTrueStill, AreKnown}
 use Rattle.mc_core.specs.Lawful.{IsLawful}
@@ -16,7 +15,7 @@ use Rattle.mc_core.proofs.Base.{each_map, all_more}
 use Rattle.mc_core.proofs.Rows.{rows_more}
 use Rattle.mc_core.proofs.Plays.{hand_there}
 use Rattle.mc_core.proofs.MoreRows.{row_of, rows_set, more_contains, more_added, one_contained, all_one, each_more, each_both}
-use Rattle.mc_core.proofs.KnownStill.{IsNoOlder, linked_turned}
+use Rattle.mc_core.proofs.KnownStill.{linked_turned}
 use Rattle.mc_core.proofs.KnownQuiet.{IsOwn, IsStill, all_agree}
 
 -- two items of one chunk and issue are the same
@@ -28,7 +27,7 @@ pub known_more : (known : List (List Known)) (hand : ℕ) (more : List Known) (P
 known_more known hand more P (other, k, has, p) = (other, k, more_contains known hand other more k has, p)
 
 pub own_more : (known : List (List Known)) (hand : ℕ) (more : List Known) (other : ℕ) (row : List Holding) → All (IsOwn known other) row → All (IsOwn (with_more known hand more) other) row
-own_more known hand more other row all = Rattle.std.proofs.lemmas.List.Elements.All-weaker (IsOwn known other) (IsOwn (with_more known hand more) other)
+own_more known hand more other row all = All-weaker (IsOwn known other) (IsOwn (with_more known hand more) other)
     (λ holding own stale. more_contains known hand other more (known_by holding) (own stale)) row all
 
 module _ (m : Moment) (l : IsLawful m) (hand : ℕ) (there : is_hand m.state hand ≡ true) (knew : Known) where

@@ -1,8 +1,8 @@
 -- Known items as a fresh chunk is linked.
-use Rattle.std.proofs.Common.{◌≡◌, ℕ, ◌+◌, ◌<◌, ◌≤◌, ◌&&◌, Bool, true, false, List, [], ◌∷◌, ◌++◌, length, refl, sym, ap, subst, ◌∙◌, arith, slice_set, Option, Some, None, eqb-true}
+use Rattle.std.proofs.Common.{◌≡◌, ℕ, ◌<◌, ◌≤◌, true, List, [], ◌∷◌, length, refl, sym, ap, subst, ◌∙◌, arith, slice_set, Option, Some, None, eqb-true}
 use Rattle.std.specs.Bool.{nat_eq}
 use Rattle.std.specs.Option.{option_eq}
-use Rattle.std.proofs.lemmas.Bool.{and_parts, both_ways}
+use Rattle.std.proofs.lemmas.Bool.{and_parts}
 use Rattle.mc_pages.specs.declared.ids.ChunkId.{ChunkId}
 use Rattle.mc_pages.proofs.Chunks.{same_from_is_chunk}
 use Rattle.mc_core.specs.declared.event.Step.TheVariants.{Link}
@@ -16,7 +16,7 @@ use Rattle.mc_core.specs.declared.holding.Purpose.TheVariants.{Item, Copy, Rescu
 use Rattle.mc_core.specs.Head.{is_unlinked}
 use Rattle.mc_core.specs.Holdings.{Words, stamp_in, item_in, is_complete, is_of, holding_of, is_fresh, is_fresh_kind}
 use Rattle.mc_core.specs.State.{State, is_hand, has_chunk, head_place, head_at, ids_at, with_head, holdings_at, with_holding, without_holding}
-use Rattle.mc_core.specs.Items.{linked, as_reference, told_link, after_link_of, are_same, suits, can_link_key, can_tell_link, can_link_holding, can_count, is_next_stamp}
+use Rattle.mc_core.specs.Items.{linked, as_reference, told_link, after_link_of, are_same, suits, can_tell_link, can_link_holding, can_count, is_next_stamp}
 use Rattle.mc_core.specs.Past.{Moment, Known, Saying, with_more, saying_of, said_by, known_by, known_of_holding, moment_stepped}
 use Rattle.mc_core.specs.Columns.{head_in, Each, Shows}
 use Rattle.mc_core.specs.Identities.{said_count}
@@ -27,7 +27,7 @@ use Rattle.mc_core.proofs.Base.{each_map, held_out, IsOut}
 use Rattle.mc_core.proofs.Plays.{hand_there}
 use Rattle.mc_core.proofs.Rows.{rows_less, rows_more, each_more}
 use Rattle.mc_core.proofs.Holders.{found_passes, found_all, found_each, fresh_lost, nobodys}
-use Rattle.mc_core.proofs.MoreRows.{row_of, with_none, more_added, one_contained}
+use Rattle.mc_core.proofs.MoreRows.{with_none, more_added, one_contained}
 use Rattle.mc_core.proofs.SaidOnce.{said_more, next_unsaid, once_more}
 use Rattle.mc_core.proofs.ShownItems.{item_whole, item_stamp, shows_item}
 use Rattle.mc_core.proofs.KnownStill.{IsApartFrom, head_now, still_turned}

@@ -1,25 +1,24 @@
 -- Known items where nobody learns one.
-use Rattle.std.proofs.Common.{◌≡◌, ℕ, ◌+◌, ◌*◌, ◌<◌, ◌≤◌, Bool, true, false, List, [], ◌∷◌, ◌++◌, length, refl, sym, ap, subst, ◌∙◌, inl, inr, arith, slice_set, slice_index_or, Contains, All}
+use Rattle.std.proofs.Common.{◌≡◌, ℕ, ◌≤◌, Bool, true, false, List, [], ◌∷◌, ◌++◌, refl, sym, subst, inl, inr, arith, slice_set, Contains, All}
 use Rattle.std.proofs.lemmas.Bool.{both_ways}
-use Rattle.mc_classes.specs.Classes.{Classes, pages_of}
+use Rattle.mc_classes.specs.Classes.{Classes}
 use Rattle.mc_pages.specs.declared.ids.ChunkId.{ChunkId}
 use Rattle.mc_pages.specs.SlabState.{SlabState, class_of_page}
 use Rattle.mc_core.specs.declared.head.Head.{Head}
-use Rattle.mc_core.specs.declared.head.Tag.{Tag}
-use Rattle.mc_core.specs.declared.head.Tag.TheVariants.{Out, Free, Unlinked, Linked}
+use Rattle.mc_core.specs.declared.head.Tag.TheVariants.{Unlinked, Linked}
 use Rattle.mc_core.specs.declared.holding.Holding.{Holding}
 use Rattle.mc_core.specs.Holdings.{Words, stamp_in, is_fresh, lose}
 use Rattle.mc_core.specs.Past.{Moment, Known, Saying, known_by, with_more}
-use Rattle.mc_core.specs.State.{has_chunk, head_place, most_of}
+use Rattle.mc_core.specs.State.{has_chunk, head_place}
 use Rattle.mc_core.specs.Chunks.{handed_out, let_go, with_tag_free, with_tag_out}
 use Rattle.mc_core.specs.Items.{linked, unlinked, referred}
 use Rattle.mc_core.specs.Evictions.{condemned}
-use Rattle.mc_core.specs.Columns.{head_in, Shows, Each, IsHandedOut, IsKnownToSome}
+use Rattle.mc_core.specs.Columns.{head_in, Each, IsHandedOut, IsKnownToSome}
 use Rattle.mc_core.specs.Identities.{said_count}
 use Rattle.mc_core.specs.Knowing.{IsSaid, IsTrueStill, AreKnown}
 use Rattle.mc_core.specs.Lawful.{IsLawful}
-use Rattle.mc_core.proofs.Base.{each_map, each_row, all_lose, all_more}
-use Rattle.mc_core.proofs.Rows.{rows_less, rows_more, each_less, each_more}
+use Rattle.mc_core.proofs.Base.{each_map, all_lose, all_more}
+use Rattle.mc_core.proofs.Rows.{rows_less, rows_more, each_less}
 use Rattle.mc_core.proofs.MoreRows.{row_of, rows_set, with_none}
 use Rattle.mc_core.proofs.SaidOnce.{said_one}
 use Rattle.mc_core.proofs.KnownStill.{IsApartFrom, IsNoOlder, not_shown, still_turned, linked_turned}

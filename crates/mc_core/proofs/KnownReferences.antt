@@ -1,5 +1,5 @@
 -- Known items as a hand gets a reference to a linked chunk.
-use Rattle.std.proofs.Common.{◌≡◌, ℕ, ◌+◌, ◌<◌, ◌≤◌, ◌&&◌, ◌==◌, Bool, true, false, List, [], ◌∷◌, ◌++◌, length, refl, sym, ap, subst, ◌∙◌, inr, arith, slice_set, Option, Some, None, Contains}
+use Rattle.std.proofs.Common.{◌≡◌, ℕ, ◌==◌, true, [], ◌∷◌, refl, sym, subst, inr, slice_set, Some, None, Contains}
 use Rattle.std.proofs.lemmas.Bool.{and_parts}
 use Rattle.mc_pages.specs.declared.ids.ChunkId.{ChunkId}
 use Rattle.mc_core.specs.declared.event.Step.TheVariants.{Refer, Again}
@@ -8,12 +8,11 @@ use Rattle.mc_core.specs.declared.head.Tag.{Tag}
 use Rattle.mc_core.specs.declared.head.Tag.TheVariants.{Out, Free, Unlinked, Linked}
 use Rattle.mc_core.specs.declared.holding.Holding.{Holding}
 use Rattle.mc_core.specs.Head.{is_linked}
-use Rattle.mc_core.specs.Holdings.{Words, stamp_in}
-use Rattle.mc_core.specs.State.{State, is_hand, has_chunk, head_place, head_at, item_at}
-use Rattle.mc_core.specs.Chunks.{has_place}
-use Rattle.mc_core.specs.Items.{referred, new_reference, with_reference, with_got, referred_to, chunk_of, can_refer_to, can_count, is_ready_for, has_place_again}
+use Rattle.mc_core.specs.Holdings.{stamp_in}
+use Rattle.mc_core.specs.State.{is_hand, has_chunk, head_place, head_at, item_at}
+use Rattle.mc_core.specs.Items.{referred, new_reference, with_reference, with_got, referred_to, chunk_of, can_refer_to, can_count, has_place_again}
 use Rattle.mc_core.specs.Past.{Moment, Known, with_more, known_by, known_of_place, moment_stepped}
-use Rattle.mc_core.specs.Columns.{head_in, Each, Shows}
+use Rattle.mc_core.specs.Columns.{IsHandedOut, head_in, Each, Shows}
 use Rattle.mc_core.specs.Knowing.{IsSaid, IsTrueStill}
 use Rattle.mc_core.specs.Laws.{MayStep}
 use Rattle.mc_core.specs.Lawful.{IsLawful, KnownIn}
@@ -42,7 +41,7 @@ module _ (m : Moment) (l : IsLawful m) (chunk : ChunkId) (near : has_chunk m.sta
       let (hand, k, has, same) = l.known.linked chunk near linked in
       let still = each_contained (IsStill m l) m.past.known hand k l.known.still has in
       let whole : IsWhole k.words = record { complete = still.whole.0; long = still.whole.1 } in
-      let shown = still.shows (subst (λ (c : ChunkId). Rattle.mc_core.specs.Columns.IsHandedOut (head_in m.state.table m.state.heads c) k.issue) (sym same.0) (inr linked, sym same.1)) in
+      let shown = still.shows (subst (λ (c : ChunkId). IsHandedOut (head_in m.state.table m.state.heads c) k.issue) (sym same.0) (inr linked, sym same.1)) in
       let here : Shows m.state.table m.state.slabs m.state.words chunk k.words = subst (λ (c : ChunkId). Shows m.state.table m.state.slabs m.state.words c k.words) same.0 shown in
       let words : k.words ≡ item_at m.state chunk = sym (shown_item m.state chunk k.words here whole) in
       (hand, k, has, λ i. record { chunk = same.0 i; issue = same.1 i; words = words i })

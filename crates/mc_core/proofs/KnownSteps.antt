@@ -1,28 +1,26 @@
 -- Every change and every step keeps what hands said and know.
-use Rattle.std.proofs.Common.{◌≡◌, ℕ, zero, suc, ◌+◌, ◌*◌, ◌<◌, ◌≤◌, List, [], ◌∷◌, length, replicate, get_or, refl, sym, ap, subst, ◌∙◌, arith, slice_index, slice_index_or, All}
+use Rattle.std.proofs.Common.{◌≡◌, ℕ, zero, suc, ◌*◌, ◌≤◌, List, [], replicate, get_or, refl, sym, ap, subst, ◌∙◌, arith, slice_index, All}
 use Rattle.std.proofs.lemmas.List.Elements.{All-nil, All-replicate}
 use Rattle.mc_classes.specs.Classes.{Classes, IsSound, pages_of}
-use Rattle.mc_pages.specs.SlabState.{SlabState, class_of_page}
+use Rattle.mc_pages.specs.SlabState.{SlabState}
 use Rattle.mc_core.specs.declared.head.Head.{Head}
 use Rattle.mc_core.specs.declared.head.Tag.{Tag}
 use Rattle.mc_core.specs.declared.head.Tag.TheVariants.{Out, Linked}
-use Rattle.mc_core.specs.declared.event.Change.{Change}
 use Rattle.mc_core.specs.declared.event.Change.TheVariants.{Grow, BeginMove, FinishMove, Touch, SetAutomove, Passed, Wrap, Evicted, Reserve, GotNone, DeletedNone}
-use Rattle.mc_core.specs.declared.event.Step.{Step}
 use Rattle.mc_core.specs.declared.event.Step.TheVariants.{TakeSlabs, TakeStripe, MissSlabs, MissStripe, GiveSlabs, GiveStripe, Pop, PopOff, Fill, Word, WordHeld, Link, Refer, Unlink, Release, Discard, Condemn, PutBack, Clear, Cut, Again, Join}
 use Rattle.mc_core.specs.declared.event.Step.TheVariants as step
 use Rattle.mc_core.specs.declared.look.Look.TheVariants.{Saw, SawStripe}
 use Rattle.mc_core.specs.Head.{never_cut}
-use Rattle.mc_core.specs.State.{State, new_state, has_chunk, head_place, head_at, most_of, with_slabs}
-use Rattle.mc_core.specs.Silent.{slabs_after, after_change}
+use Rattle.mc_core.specs.State.{head_place, head_at, most_of, with_slabs}
+use Rattle.mc_core.specs.Silent.{slabs_after}
 use Rattle.mc_core.specs.Run.{after_step}
-use Rattle.mc_core.specs.Past.{Moment, Known, Saying, first_moment}
-use Rattle.mc_core.specs.Columns.{head_in, Each}
+use Rattle.mc_core.specs.Past.{Moment, first_moment}
+use Rattle.mc_core.specs.Columns.{Each}
 use Rattle.mc_core.specs.Identities.{said_count}
-use Rattle.mc_core.specs.Knowing.{IsSaid, IsTrueStill, AreKnown}
+use Rattle.mc_core.specs.Knowing.{IsSaid, IsTrueStill}
 use Rattle.mc_core.specs.Holdings.{Words, stamp_in}
 use Rattle.mc_core.specs.declared.holding.Holding.{Holding}
-use Rattle.mc_core.specs.Laws.{MayChange, ChangesKeep, StepsKeep, StaysOfClass}
+use Rattle.mc_core.specs.Laws.{ChangesKeep, StepsKeep, StaysOfClass}
 use Rattle.mc_core.specs.Lawful.{IsLawful, KnownIn}
 use Rattle.mc_core.proofs.SamePages.{stays_changes}
 use Rattle.mc_core.proofs.KnownStill.{still_listed}

@@ -1,6 +1,6 @@
 -- A known item stays true as a header, rows of holdings or lists of chunks change.
-use Rattle.std.proofs.Common.{◌≡◌, ◌⊎◌, ℕ, ◌+◌, ◌*◌, ◌<◌, ◌≤◌, Bool, true, false, List, [], ◌∷◌, ◌++◌, length, refl, sym, ap, subst, ◌∙◌, inl, inr, arith, slice_set, slice_index_or, Contains, All}
-use Rattle.std.proofs.lemmas.Bool.{cases_Bool, both_ways}
+use Rattle.std.proofs.Common.{◌≡◌, ◌⊎◌, ℕ, ◌*◌, ◌≤◌, true, false, List, length, sym, subst, ◌∙◌, inl, inr, arith, slice_set}
+use Rattle.std.proofs.lemmas.Bool.{cases_Bool}
 use Rattle.mc_classes.specs.Classes.{Classes, pages_of}
 use Rattle.mc_pages.specs.declared.ids.ChunkId.{ChunkId}
 use Rattle.mc_pages.specs.ClassState.{is_chunk}
@@ -64,6 +64,7 @@ module _ (table : Classes) (heads : List Head) (chunk : ChunkId) (head : Head) (
     where
       older_here : chunk ≡ k.chunk → k.issue ≤ old.issue
       older_here is = subst (λ (c : ChunkId). k.issue ≤ (head_in table heads c).issue) (sym is) true_so_far.older
+
       still_shows : IsHandedOut (head_in table heads k.chunk) k.issue → Shows table next words k.chunk k.words
       still_shows out = shows_class table slabs next words k.chunk k.words same (true_so_far.shows out)
 

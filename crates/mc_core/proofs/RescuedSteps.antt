@@ -1,44 +1,38 @@
 -- Every change and every step keeps what holdings say of items that are being rescued.
-use Rattle.std.proofs.Common.{◌≡◌, ℕ, ◌+◌, ◌<◌, ◌≤◌, ◌&&◌, Bool, true, false, List, [], ◌∷◌, ◌++◌, length, refl, sym, ap, subst, ◌∙◌, arith, slice_set, slice_index, Option, Some, None, if◌then◌else◌}
-use Rattle.std.proofs.lemmas.Bool.{and_parts}
+use Rattle.std.proofs.Common.{◌≡◌, ℕ, ◌≤◌, Bool, true, false, List, [], length, refl, arith, slice_set, slice_index, Option, Some, None, if◌then◌else◌}
 use Rattle.mc_classes.specs.Classes.{Classes, IsSound}
 use Rattle.mc_pages.specs.declared.ids.ChunkId.{ChunkId}
 use Rattle.mc_pages.specs.Changes as slabs_changes
-use Rattle.mc_core.specs.declared.event.Change.{Change}
 use Rattle.mc_core.specs.declared.event.Change.TheVariants.{Grow, BeginMove, FinishMove, Touch, SetAutomove, Passed, Wrap, Evicted, Reserve, GotNone, DeletedNone}
-use Rattle.mc_core.specs.declared.event.Step.{Step}
 use Rattle.mc_core.specs.declared.event.Step.TheVariants.{TakeSlabs, TakeStripe, MissSlabs, MissStripe, GiveSlabs, GiveStripe, Pop, PopOff, Fill, Word, WordHeld, Link, Refer, Unlink, Release, Discard, Condemn, PutBack, Clear, Cut, Again, Join}
 use Rattle.mc_core.specs.declared.event.Step.TheVariants as step
 use Rattle.mc_core.specs.declared.holding.Holding.{Holding}
 use Rattle.mc_core.specs.declared.holding.Kind.{Kind}
 use Rattle.mc_core.specs.declared.holding.Kind.TheVariants.{Reference, Fresh}
-use Rattle.mc_core.specs.declared.holding.Purpose.{Purpose}
 use Rattle.mc_core.specs.declared.holding.Purpose.TheVariants.{Item, Copy, Rescue}
 use Rattle.mc_core.specs.declared.look.Look.{Look}
 use Rattle.mc_core.specs.declared.look.Look.TheVariants.{Saw, SawStripe}
 use Rattle.mc_core.specs.Holdings.{Words, stamp_in, item_length, is_complete, is_of, is_copy_of, holding_of}
-use Rattle.mc_core.specs.State.{State, has_slabs, head_at, item_at, holdings_at, with_slabs, with_look, with_word, with_head, with_holding, without_holding, with_stripe, stripe_at, stripe_of}
+use Rattle.mc_core.specs.State.{State, has_slabs, head_at, item_at, holdings_at, with_slabs, with_look, with_head, with_holding, without_holding}
 use Rattle.mc_core.specs.Locks.{looked}
 use Rattle.mc_core.specs.Chunks.{next_free, popped, target_of, popped_off, refilled}
-use Rattle.mc_core.specs.Items.{chunk_of, after_link_of, told_link, with_got, referred_to, with_unlinked, linked, as_reference, stripe_unlinked}
-use Rattle.mc_core.specs.Holdings.{has_fresh}
-use Rattle.mc_core.specs.Silent.{writer_of}
-use Rattle.mc_core.specs.Evictions.{condemned, key_at, with_told, with_rescue, copy_of}
+use Rattle.mc_core.specs.Items.{chunk_of, after_link_of, told_link, with_got, referred_to, with_unlinked, linked, as_reference}
+use Rattle.mc_core.specs.Evictions.{key_at, with_told, with_rescue, copy_of}
 use Rattle.mc_core.specs.Run.{after_step}
-use Rattle.mc_core.specs.Past.{Moment, Saying, with_more, said_by, moment_stepped, first_moment}
+use Rattle.mc_core.specs.Past.{Moment, Saying, with_more, said_by, first_moment}
 use Rattle.mc_core.specs.Columns.{Each}
 use Rattle.mc_core.specs.Knowing.{IsSaid, IsRescue}
 use Rattle.mc_core.specs.Laws.{MayStep, ChangesKeep, StepsKeep}
-use Rattle.mc_core.specs.Lawful.{IsLawful, RescuedIn}
+use Rattle.mc_core.specs.Lawful.{RescuedIn}
 use Rattle.mc_core.proofs.Base.{each_map}
 use Rattle.mc_core.proofs.Rows.{rows_less, rows_more, each_less, each_more}
 use Rattle.mc_core.proofs.Holders.{found_each}
 use Rattle.mc_core.proofs.Plays.{hand_there}
-use Rattle.mc_core.proofs.MoreRows.{with_none, joined_rows}
+use Rattle.mc_core.proofs.MoreRows.{joined_rows}
 use Rattle.mc_core.proofs.SaidOnce.{said_more, said_joined}
 use Rattle.mc_core.proofs.KnownQuiet.{IsStill}
 use Rattle.mc_core.proofs.KnownReferences.{item_has}
-use Rattle.mc_core.proofs.KnownCondemned.{IsCondemnable, condemnable, AreJoined, are_joined}
+use Rattle.mc_core.proofs.KnownCondemned.{condemnable, are_joined}
 use Rattle.mc_core.proofs.KnownSteps.{each_none}
 
 -- what was said is said still

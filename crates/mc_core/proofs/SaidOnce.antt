@@ -1,5 +1,5 @@
 -- A stamp is said once.
-use Rattle.std.proofs.Common.{◌≡◌, ◌≢◌, ℕ, zero, suc, ◌+◌, ◌*◌, ◌/◌, ◌%◌, ◌^◌, ◌<◌, ◌≤◌, ◌==◌, ◌&&◌, Bool, true, false, List, [], ◌∷◌, ◌++◌, length, get_or, refl, sym, ap, subst, ◌∙◌, inl, inr, arith, eqb-true, eq-eqb, ne_eqb, nat_le, nat_lt, ltb-true, slice_index_or, Some, None, Option, Contains, All, count_by, add-zero}
+use Rattle.std.proofs.Common.{◌≡◌, ◌≢◌, ℕ, zero, suc, ◌+◌, ◌*◌, ◌/◌, ◌%◌, ◌^◌, ◌<◌, ◌≤◌, ◌==◌, ◌&&◌, true, List, [], ◌∷◌, length, refl, sym, ap, subst, ◌∙◌, inl, inr, arith, eqb-true, eq-eqb, ne_eqb, nat_le, nat_lt, slice_index_or, Some, None, Option, Contains, All}
 use Rattle.std.specs.Bool.{nat_eq}
 use Rattle.std.specs.Option.{option_eq}
 use Rattle.std.proofs.lemmas.Bool.{cases_eq, and_parts, and_right, lt-leb}
@@ -10,11 +10,11 @@ use Rattle.mc_core.specs.declared.ids.Ids.{Ids}
 use Rattle.mc_core.specs.Holdings.{Words}
 use Rattle.mc_core.specs.Items.{is_next_stamp, most_stamps}
 use Rattle.mc_core.specs.Past.{with_more, Own, Saying, Known}
-use Rattle.mc_core.specs.Identities.{owns, owners, said_times, said_count, AreCountedTo, AreNumbered}
+use Rattle.mc_core.specs.Identities.{owns, said_times, said_count, AreCountedTo, AreNumbered}
 use Rattle.mc_core.specs.Knowing.{IsSaid}
 use Rattle.mc_core.specs.State.{gone}
 use Rattle.mc_core.proofs.MoreRows.{row_of, more_contains, joined_rows, joined_contains}
-use Rattle.mc_core.proofs.Totals.{total, total_at, total_none, total_two, total_more, total_joined, said_total, owned_total}
+use Rattle.mc_core.proofs.Totals.{total_at, total_none, total_two, total_more, total_joined, said_total, owned_total}
 
 -- what was said with a stamp counts
 times_said : (row : List Saying) (s : Saying) → Contains row s → 1 ≤ said_times s.stamp row

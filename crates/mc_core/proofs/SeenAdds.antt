@@ -1,5 +1,5 @@
 -- What follows from one more look, by its kind.
-use Rattle.std.proofs.Common.{◌≡◌, ℕ, ◌+◌, ◌*◌, ◌<◌, ◌≤◌, ◌==◌, ◌&&◌, ◌||◌, not, Bool, true, false, cond, if◌then◌else◌, List, [], ◌∷◌, length, refl, sym, ap, subst, ◌∙◌, inl, inr, arith, slice_set, slice_index, is_some, Option, Some, None, eqb-true}
+use Rattle.std.proofs.Common.{◌≡◌, ℕ, ◌+◌, ◌*◌, ◌<◌, ◌==◌, ◌&&◌, ◌||◌, not, Bool, true, false, cond, if◌then◌else◌, List, length, refl, sym, ap, subst, ◌∙◌, inl, inr, slice_set, slice_index, is_some, Option, Some, None, eqb-true}
 use Rattle.std.specs.List.{fold}
 use Rattle.std.proofs.lemmas.Bool.{cases_Bool, and_parts}
 use Rattle.std.proofs.lemmas.List.Folds.{fold_along}
@@ -23,7 +23,7 @@ use Rattle.mc_core.specs.Seen.{newer, last_head, linked_issue, last_read, told_b
 use Rattle.mc_core.proofs.KnownStill.{head_now}
 use Rattle.mc_core.proofs.KnownReferences.{linked_tag}
 use Rattle.mc_core.proofs.KnownQuiet.{AreLinkedKnown}
-use Rattle.mc_core.proofs.SeenLooks.{AddsLook, IsLinkedStill, still_now, some_is}
+use Rattle.mc_core.proofs.SeenLooks.{AddsLook, still_now, some_is}
 
 newer_here : (chunk seen : ChunkId) (head now : Head) (before : Option Head) → is_chunk seen chunk ≡ true → newer chunk seen head before ≡ Some now → head ≡ now
 newer_here chunk seen head now before same e =
@@ -35,7 +35,14 @@ newer_there chunk seen head now before apart e = subst (λ b. cond b (Some head)
 none_some : (n : ℕ) (P : Type 0) → None ≡ Some n → P
 none_some n P e = absurd (cc)
 
--- the linked chunks of the law's definitions are those of the core's
+-- a chunk that is given back is linked no more
+ended_is : (before : Bool) (issue : Option ℕ) (b : Bool) → before ≡ is_some issue → (before && not b) ≡ is_some (cond b None issue)
+ended_is true issue true same = refl
+ended_is true issue false same = same
+ended_is false issue true same = refl
+ended_is false issue false same = same
+
+-- whether a chunk was found linked, and with which issue, agree
 stays_is : (chunk : ChunkId) (before : Bool) (issue : Option ℕ) (look : Look) → before ≡ is_some issue → stays_linked chunk before look ≡ is_some (linked_issue chunk issue look)
 stays_is chunk before issue (Saw seen head) same = saw before issue (is_chunk seen chunk && is_linked head.tag) head.issue same
   where
@@ -49,20 +56,8 @@ stays_is chunk before issue (Read seen at word) same = same
 stays_is chunk before issue (Popped seen head) same = same
 stays_is chunk before issue (PoppedOff seen old head) same = same
 stays_is chunk before issue (Condemned seen head) same = same
-stays_is chunk before issue (PutBack seen head) same = ended before issue (is_chunk seen chunk) same
-  where
-    ended : (before : Bool) (issue : Option ℕ) (b : Bool) → before ≡ is_some issue → (before && not b) ≡ is_some (cond b None issue)
-    ended true issue true same = refl
-    ended true issue false same = same
-    ended false issue true same = refl
-    ended false issue false same = same
-stays_is chunk before issue (Cleared seen head) same = ended before issue (is_chunk seen chunk) same
-  where
-    ended : (before : Bool) (issue : Option ℕ) (b : Bool) → before ≡ is_some issue → (before && not b) ≡ is_some (cond b None issue)
-    ended true issue true same = refl
-    ended true issue false same = same
-    ended false issue true same = refl
-    ended false issue false same = same
+stays_is chunk before issue (PutBack seen head) same = ended_is before issue (is_chunk seen chunk) same
+stays_is chunk before issue (Cleared seen head) same = ended_is before issue (is_chunk seen chunk) same
 stays_is chunk before issue (Cut seen head) same = same
 stays_is chunk before issue (Changed change) same = same
 
@@ -101,10 +96,11 @@ module _ (table : Classes) (slabs : SlabState) (heads : List Head) (words : List
               let other_is = same_from_is_chunk chunk other parts.0 in
               let place_is = eqb-true at place parts.1 in
               let now : Some (slice_index words (place_in table slabs chunk at)) ≡ Some w = subst (λ b. cond b (Some (slice_index words (place_in table slabs chunk at))) before ≡ Some w) here last in
-              let word : slice_index words (place_in table slabs chunk at) ≡ w = (cc) in
-              (subst (λ (c : ChunkId). slice_index words (place_in table slabs c place) ≡ w) other_is (subst (λ p. slice_index words (place_in table slabs chunk p) ≡ w) place_is word),
-               subst (λ (c : ChunkId). place < room_in table (class_of_page slabs c.page)) other_is (subst (λ p. p < room_in table (class_of_page slabs chunk.page)) place_is within),
-               ap is_some same ∙ (sym (was_linked_is looks other) ∙ subst (λ c. was_linked looks c ≡ true) other_is linked))
+              let word : slice_index words (place_in table slabs chunk at) ≡ w = (cc) in (
+                subst (λ (c : ChunkId). slice_index words (place_in table slabs c place) ≡ w) other_is (subst (λ p. slice_index words (place_in table slabs chunk p) ≡ w) place_is word),
+                subst (λ (c : ChunkId). place < room_in table (class_of_page slabs c.page)) other_is (subst (λ p. p < room_in table (class_of_page slabs chunk.page)) place_is within),
+                ap is_some same ∙ (sym (was_linked_is looks other) ∙ subst (λ c. was_linked looks c ≡ true) other_is linked),
+              )
           | inr there ↦
               let read = was w (subst (λ b. cond b (Some (slice_index words (place_in table slabs chunk at))) before ≡ Some w) there last) in
               (read.same, read.within, issue_stays other place w issue same read)
@@ -194,14 +190,15 @@ module _ (table : Classes) (slabs : SlabState) (heads : List Head) (words : List
       told = told;
       headers = header_still;
       linked = λ other before issue near' was last.
-          let last' = sym (ended_link other before) ∙ last in
-          (head_now table heads chunk head sized near (λ h. IsHandedOut h issue) other near'
-             (λ same. none_some issue (IsHandedOut head issue) (subst (λ b. cond b None before ≡ Some issue) (subst (λ c. is_chunk chunk c ≡ true) same (is_chunk-same chunk)) last'))
-             (λ apart. (was issue (subst (λ b. cond b None before ≡ Some issue) apart last')).0),
-           elim (cases_Bool (is_chunk chunk other)) [
-             | inl same ↦ none_some issue (IsKnownToSome known (λ k. (k.chunk ≡ other) × (k.issue ≡ issue))) (subst (λ b. cond b None before ≡ Some issue) same last')
-             | inr apart ↦ (was issue (subst (λ b. cond b None before ≡ Some issue) apart last')).1
-           ]);
+          let last' = sym (ended_link other before) ∙ last in (
+            head_now table heads chunk head sized near (λ h. IsHandedOut h issue) other near'
+                (λ same. none_some issue (IsHandedOut head issue) (subst (λ b. cond b None before ≡ Some issue) (subst (λ c. is_chunk chunk c ≡ true) same (is_chunk-same chunk)) last'))
+                (λ apart. (was issue (subst (λ b. cond b None before ≡ Some issue) apart last')).0),
+            elim (cases_Bool (is_chunk chunk other)) [
+              | inl same ↦ none_some issue (IsKnownToSome known (λ k. (k.chunk ≡ other) × (k.issue ≡ issue))) (subst (λ b. cond b None before ≡ Some issue) same last')
+              | inr apart ↦ (was issue (subst (λ b. cond b None before ≡ Some issue) apart last')).1
+            ],
+          );
       reads = λ other place before issue w near' same was last.
           let last' = sym (ended_read other place before) ∙ last in
           elim (cases_Bool (is_chunk chunk other)) [

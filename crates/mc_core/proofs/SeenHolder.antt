@@ -1,6 +1,5 @@
 -- The hand that has the slabs lock, and what it saw: the shapes of steps.
-use Rattle.std.proofs.Common.{◌≡◌, ◌⊎◌, ℕ, ◌+◌, ◌*◌, ◌<◌, ◌≤◌, ◌==◌, ◌&&◌, ◌||◌, Bool, true, false, if◌then◌else◌, List, [], ◌∷◌, ◌++◌, length, refl, sym, ap, ap₂, subst, ◌∙◌, inl, inr, arith, slice_set, slice_index, slice_index_or, Option, Some, None, eqb-true}
-use Rattle.std.proofs.lemmas.Bool.{and_parts}
+use Rattle.std.proofs.Common.{◌≡◌, ◌⊎◌, ℕ, ◌+◌, ◌≤◌, ◌==◌, ◌&&◌, ◌||◌, true, List, [], ◌∷◌, ◌++◌, refl, sym, ap, ap₂, subst, ◌∙◌, inl, inr, arith, slice_set, slice_index_or, Option, Some, None, eqb-true}
 use Rattle.std.proofs.lemmas.List.{set-get_or}
 use Rattle.mc_classes.specs.Classes.{Classes}
 use Rattle.mc_pages.specs.declared.ids.ChunkId.{ChunkId}
@@ -22,7 +21,7 @@ use Rattle.mc_core.proofs.Plays.{hand_there}
 use Rattle.mc_core.proofs.MoreRows.{row_of, row_same, with_none}
 use Rattle.mc_core.proofs.KnownStill.{head_now}
 use Rattle.mc_core.proofs.KnownLearned.{known_more}
-use Rattle.mc_core.proofs.SeenLooks.{is_shut, StaysPut, put_same, LeavesSeen, seen_left, AddsLook, seen_added}
+use Rattle.mc_core.proofs.SeenLooks.{StaysPut, put_same, LeavesSeen, seen_left, AddsLook, seen_added}
 
 -- what a lock's word says of who has it
 pub held_is : (word : ℕ) (number : Option ℕ) → is_held_by word number ≡ true → (n : ℕ) × (number ≡ Some n) × (word ≡ n + 1)

@@ -1,22 +1,19 @@
 -- What the hand with the slabs lock saw holds still, as others do steps and as it looks once more.
-use Rattle.std.proofs.Common.{◌≡◌, ◌⊎◌, ℕ, ◌+◌, ◌*◌, ◌<◌, ◌≤◌, ◌==◌, ◌&&◌, ◌||◌, Bool, true, false, cond, if◌then◌else◌, List, [], ◌∷◌, ◌++◌, length, refl, sym, ap, subst, ◌∙◌, inl, inr, arith, slice_index, is_some, Option, Some, None}
+use Rattle.std.proofs.Common.{◌≡◌, ◌⊎◌, ℕ, ◌<◌, ◌==◌, ◌&&◌, ◌||◌, Bool, true, false, List, [], ◌∷◌, ◌++◌, refl, sym, ap, subst, ◌∙◌, inl, inr, slice_index, is_some, Option, Some, None}
 use Rattle.std.specs.List.{fold}
-use Rattle.std.proofs.lemmas.Bool.{cases_Bool, both_ways}
 use Rattle.std.proofs.lemmas.List.Sums.{fold_push}
 use Rattle.mc_classes.specs.Classes.{Classes}
 use Rattle.mc_pages.specs.declared.ids.ChunkId.{ChunkId}
-use Rattle.mc_pages.specs.ClassState.{is_chunk}
 use Rattle.mc_pages.specs.SlabState.{SlabState, class_of_page}
-use Rattle.mc_pages.proofs.Chunks.{same_from_is_chunk}
 use Rattle.mc_core.specs.declared.head.Head.{Head}
 use Rattle.mc_core.specs.declared.head.Tag.{Tag}
 use Rattle.mc_core.specs.declared.head.Tag.TheVariants.{Out, Free, Unlinked, Linked}
 use Rattle.mc_core.specs.declared.look.Look.{Look}
-use Rattle.mc_core.specs.Head.{is_free, is_out, is_dead, is_linked, is_unlinked}
+use Rattle.mc_core.specs.Head.{is_free, is_out, is_dead, is_unlinked}
 use Rattle.mc_core.specs.Past.{Known}
-use Rattle.mc_core.specs.State.{room_in, has_chunk, page_words}
+use Rattle.mc_core.specs.State.{room_in, has_chunk}
 use Rattle.mc_core.specs.Columns.{head_in, place_in, IsHandedOut, IsKnownToSome}
-use Rattle.mc_core.specs.Seen.{newer, last_head, linked_issue, last_read, told_by_look, IsStill, IsReadStill, AreSeen}
+use Rattle.mc_core.specs.Seen.{last_head, linked_issue, last_read, told_by_look, IsStill, IsReadStill, AreSeen}
 
 -- nobody holds it, and no key leads to it
 abbrev pub is_shut : Head → Bool

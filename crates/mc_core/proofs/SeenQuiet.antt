@@ -1,32 +1,28 @@
 -- Steps that append no look keep what the holder of the slabs lock saw.
-use Rattle.std.proofs.Common.{◌≡◌, ◌⊎◌, ℕ, ◌+◌, ◌*◌, ◌<◌, ◌≤◌, ◌==◌, ◌&&◌, Bool, true, false, List, [], ◌∷◌, ◌++◌, length, refl, sym, ap, subst, ◌∙◌, inl, inr, arith, slice_set, slice_index_or, Option, Some, None, get_or-set_other}
+use Rattle.std.proofs.Common.{◌≡◌, ℕ, ◌≤◌, ◌==◌, Bool, true, false, List, [], refl, sym, subst, ◌∙◌, arith, slice_set, slice_index_or, Some, None, get_or-set_other}
 use Rattle.std.proofs.lemmas.Bool.{and_parts}
-use Rattle.mc_classes.specs.Classes.{Classes}
 use Rattle.mc_pages.specs.declared.ids.ChunkId.{ChunkId}
-use Rattle.mc_pages.specs.SlabState.{SlabState, class_of_page}
 use Rattle.mc_pages.proofs.Chunks.{same_from_is_chunk}
-use Rattle.mc_core.specs.declared.event.Step.{Step}
-use Rattle.mc_core.specs.declared.event.Step.TheVariants.{TakeStripe, MissSlabs, GiveStripe, Fill, Word, Link, Refer, Unlink, Release, Discard, Again}
+use Rattle.mc_core.specs.declared.event.Step.TheVariants.{Fill, Link, Refer, Unlink, Release, Discard, Again}
 use Rattle.mc_core.specs.declared.head.Head.{Head}
-use Rattle.mc_core.specs.declared.head.Tag.TheVariants.{Unlinked, Linked}
+use Rattle.mc_core.specs.declared.head.Tag.TheVariants.{Linked}
 use Rattle.mc_core.specs.declared.holding.Holding.{Holding}
 use Rattle.mc_core.specs.declared.holding.Kind.{Kind}
 use Rattle.mc_core.specs.declared.holding.Kind.TheVariants.{Reference, Fresh}
 use Rattle.mc_core.specs.declared.holding.Purpose.TheVariants.{Item, Copy, Rescue}
-use Rattle.mc_core.specs.declared.look.Look.{Look}
 use Rattle.mc_core.specs.Head.{is_linked, is_unlinked}
-use Rattle.mc_core.specs.Holdings.{is_of, is_complete, is_fresh, has_fresh, holding_of}
+use Rattle.mc_core.specs.Holdings.{is_of, has_fresh, holding_of}
 use Rattle.mc_core.specs.Chunks.{can_fill_in, refilled, holds_as, let_go, after_drop}
-use Rattle.mc_core.specs.Items.{linked, unlinked, referred, stripe_unlinked, chunk_of, is_linked_at, with_unlinked, with_got, can_refer_to, referred_to, with_reference, has_place_again, can_count, told_link, as_reference, after_link_of, can_link_holding, can_tell_link}
+use Rattle.mc_core.specs.Items.{linked, unlinked, referred, stripe_unlinked, chunk_of, is_linked_at, with_unlinked, with_got, can_refer_to, referred_to, with_reference, has_place_again, can_count, told_link, as_reference, after_link_of, can_link_holding}
 use Rattle.mc_core.specs.Silent.{writer_of}
-use Rattle.mc_core.specs.State.{State, has_slabs, has_chunk, head_at, head_place, room_in, looks_at, holdings_at, with_word, with_head, with_holding, with_stripe, without_holding, stripe_of, stripe_at}
+use Rattle.mc_core.specs.State.{State, has_slabs, has_chunk, head_at, head_place, looks_at, holdings_at, with_word, with_head, with_holding, with_stripe, without_holding, stripe_of, stripe_at}
 use Rattle.mc_core.specs.Run.{after_step}
-use Rattle.mc_core.specs.Past.{Moment, Known, no_hold, with_more, known_by, known_of_holding, known_of_place, moment_stepped}
-use Rattle.mc_core.specs.Columns.{head_in, place_in, IsHandedOut, IsKnownToSome}
+use Rattle.mc_core.specs.Past.{Moment, Known, no_hold, with_more, known_of_holding, known_of_place, moment_stepped}
+use Rattle.mc_core.specs.Columns.{head_in, place_in, IsHandedOut}
 use Rattle.mc_core.specs.Seen.{AreSeen}
 use Rattle.mc_core.specs.Laws.{MayStep}
 use Rattle.mc_core.specs.Lawful.{IsLawful, SeenIn}
-use Rattle.mc_core.proofs.Base.{IsPlaced, placed_at, same_word, held_out, IsOut}
+use Rattle.mc_core.proofs.Base.{placed_at, same_word, held_out, IsOut}
 use Rattle.mc_core.proofs.Holders.{found_passes, found_all, holds_from_found, holds-le-holders}
 use Rattle.mc_core.proofs.Own.{own_step}
 use Rattle.mc_core.proofs.MoreRows.{each_contained}

@@ -1,33 +1,29 @@
 -- Every change and every step keeps what the holder of the slabs lock saw.
-use Rattle.std.proofs.Common.{◌≡◌, ◌≢◌, ℕ, zero, suc, ◌+◌, ◌*◌, ◌<◌, ◌≤◌, ◌==◌, ◌&&◌, not, Bool, true, false, List, [], ◌∷◌, ◌++◌, length, refl, sym, ap, ap₂, subst, ◌∙◌, inl, inr, arith, slice_set, slice_index_or, Option, Some, None, is_some, eqb-true, get_or-set_same, get_or-set_other}
+use Rattle.std.proofs.Common.{◌≡◌, ◌≢◌, ℕ, ◌+◌, ◌≤◌, true, List, [], refl, sym, ap, subst, inl, inr, arith, slice_set, slice_index_or, Option, Some, None, is_some, get_or-set_same, get_or-set_other}
 use Rattle.std.specs.Option.{option_map_or}
-use Rattle.std.proofs.lemmas.Bool.{and_parts, both_ways, cases_eq, not-true}
+use Rattle.std.proofs.lemmas.Bool.{and_parts, both_ways, cases_eq}
 use Rattle.mc_classes.specs.Classes.{Classes, IsSound}
-use Rattle.mc_pages.specs.declared.ids.ChunkId.{ChunkId}
-use Rattle.mc_pages.specs.SlabState.{SlabState}
 use Rattle.mc_core.specs.declared.event.Change.{Change}
 use Rattle.mc_core.specs.declared.event.Change.TheVariants.{Grow, BeginMove, FinishMove, Touch, SetAutomove, Passed, Wrap, Evicted, Reserve, GotNone, DeletedNone}
-use Rattle.mc_core.specs.declared.event.Step.{Step}
 use Rattle.mc_core.specs.declared.event.Step.TheVariants.{TakeSlabs, TakeStripe, MissSlabs, MissStripe, GiveSlabs, GiveStripe, Pop, PopOff, Fill, Word, WordHeld, Link, Refer, Unlink, Release, Discard, Condemn, PutBack, Clear, Cut, Again, Join}
 use Rattle.mc_core.specs.declared.event.Step.TheVariants as step
 use Rattle.mc_core.specs.declared.ids.Ids.{Ids}
-use Rattle.mc_core.specs.declared.look.Look.{Look}
 use Rattle.mc_core.specs.declared.look.Look.TheVariants.{Changed}
-use Rattle.mc_core.specs.Hands as hands
 use Rattle.mc_core.specs.Locks.{lock_word}
-use Rattle.mc_core.specs.Silent.{slabs_after, can_change_slabs}
-use Rattle.mc_core.specs.State.{State, gone, is_held_by, has_slabs, is_hand, number_at, looks_at, with_slabs, with_look}
-use Rattle.mc_core.specs.Past.{Moment, Known, Hold, no_hold, with_more, moment_changed, moment_stepped, first_moment}
+use Rattle.mc_core.specs.Silent.{slabs_after}
+use Rattle.mc_core.specs.State.{gone, is_held_by, has_slabs, is_hand, number_at, looks_at, with_slabs, with_look}
+use Rattle.mc_core.specs.Past.{Moment, Hold, no_hold, with_more, moment_stepped, first_moment}
 use Rattle.mc_core.specs.Seen.{AreSeen}
-use Rattle.mc_core.specs.Laws.{MayChange, MayStep, ChangesKeep, StepsKeep, StaysOfClass}
+use Rattle.mc_core.specs.Laws.{MayStep, ChangesKeep, StepsKeep, StaysOfClass}
 use Rattle.mc_core.specs.Lawful.{IsLawful, IsSeenBy, SeenIn}
 use Rattle.mc_core.proofs.SamePages.{stays_changes}
 use Rattle.mc_core.proofs.Plays.{hand_there}
 use Rattle.mc_core.proofs.MoreRows.{row_of, row_same, row_other, joined_rows}
-use Rattle.mc_core.proofs.KnownCondemned.{AreJoined, are_joined, known_still}
+use Rattle.mc_core.proofs.KnownQuiet.{nothing_learned}
+use Rattle.mc_core.proofs.KnownCondemned.{are_joined, known_still}
 use Rattle.mc_core.proofs.SeenLooks.{put_same, seen_left}
 use Rattle.mc_core.proofs.SeenAdds.{adds_changed}
-use Rattle.mc_core.proofs.SeenHolder.{held_is, one_holder, found_by, seen_change}
+use Rattle.mc_core.proofs.SeenHolder.{held_is, found_by, seen_change}
 use Rattle.mc_core.proofs.SeenQuiet.{seen_same, seen_fill, seen_link, seen_refer, seen_again, seen_unlink, seen_release, seen_discard}
 use Rattle.mc_core.proofs.SeenTurns.{seen_miss_stripe, seen_head, seen_pop, seen_pop_off, seen_word_held, seen_condemn, seen_put_back, seen_clear, seen_cut}
 
@@ -81,7 +77,7 @@ module _ (m : Moment) (hand : ℕ) where
       let found : (slice_index_or holds' hand (no_hold m.state.table)).found ≡ m.state.slabs =
       ap (λ (x : Hold). x.found) (get_or-set_same m.past.holds hand begun (no_hold m.state.table) (omega arith)) in
       let looks : row_of (slice_set m.state.looks hand []) hand ≡ [] = row_same m.state.looks hand [] (omega arith) in
-      let seen = Rattle.mc_core.proofs.KnownQuiet.nothing_learned (λ _ known. AreSeen m.state.table m.state.slabs m.state.heads m.state.words known m.state.slabs []) m.past.said m.past.known hand (nothing_seen m) in
+      let seen = nothing_learned (λ _ known. AreSeen m.state.table m.state.slabs m.state.heads m.state.words known m.state.slabs []) m.past.said m.past.known hand (nothing_seen m) in
       subst (λ n. AreSeen m.state.table m.state.slabs m.state.heads m.state.words (with_more m.past.known hand []) (slice_index_or holds' n (no_hold m.state.table)).found (row_of (slice_set m.state.looks hand []) n)) same
       (subst (λ f. AreSeen m.state.table m.state.slabs m.state.heads m.state.words (with_more m.past.known hand []) f (row_of (slice_set m.state.looks hand []) hand)) (sym found)
       (subst (λ looks. AreSeen m.state.table m.state.slabs m.state.heads m.state.words (with_more m.past.known hand []) m.state.slabs looks) (sym looks) seen))

@@ -1,21 +1,18 @@
 -- Steps that append a look keep what the holder of the slabs lock saw.
-use Rattle.std.proofs.Common.{◌≡◌, ◌⊎◌, ℕ, ◌+◌, ◌*◌, ◌<◌, ◌≤◌, ◌==◌, ◌&&◌, ◌||◌, nat_lt, Bool, true, false, if◌then◌else◌, List, [], ◌∷◌, ◌++◌, length, refl, sym, ap, subst, ◌∙◌, inl, inr, arith, slice_set, slice_index, Option, Some, None, ltb-true}
+use Rattle.std.proofs.Common.{◌≡◌, ℕ, ◌||◌, nat_lt, true, false, if◌then◌else◌, List, [], refl, ap, inl, inr, slice_set, slice_index, Option, Some, None, ltb-true}
 use Rattle.std.proofs.lemmas.Bool.{and_parts}
 use Rattle.mc_classes.specs.Classes.{Classes}
 use Rattle.mc_pages.specs.declared.ids.ChunkId.{ChunkId}
 use Rattle.mc_pages.specs.SlabState.{SlabState, class_at, class_of_page}
 use Rattle.mc_pages.specs.Changes as slabs_changes
 use Rattle.mc_pages.proofs.HandedOut.{IsClass-handed_out}
-use Rattle.mc_core.specs.declared.event.Step.{Step}
 use Rattle.mc_core.specs.declared.event.Step.TheVariants.{MissStripe, Pop, PopOff, WordHeld, Condemn, PutBack, Clear, Cut}
 use Rattle.mc_core.specs.declared.event.Step.TheVariants as step
 use Rattle.mc_core.specs.declared.head.Head.{Head}
 use Rattle.mc_core.specs.declared.head.Tag.{Tag}
 use Rattle.mc_core.specs.declared.head.Tag.TheVariants.{Out, Free, Unlinked, Linked}
-use Rattle.mc_core.specs.declared.holding.Holding.{Holding}
 use Rattle.mc_core.specs.declared.look.Look.{Look}
 use Rattle.mc_core.specs.declared.look.Look.TheVariants as look
-use Rattle.mc_core.specs.declared.holding.Purpose.{Purpose}
 use Rattle.mc_core.specs.Head.{is_out, is_free, is_dead}
 use Rattle.mc_core.specs.Holdings.{is_copy_of}
 use Rattle.mc_core.specs.Looks.{was_linked}
@@ -23,17 +20,18 @@ use Rattle.mc_core.specs.Silent.{is_out_of_class, is_listed}
 use Rattle.mc_core.specs.Locks.{looked}
 use Rattle.mc_core.specs.Chunks.{handed_out, with_tag_free, with_tag_out, next_free, popped, target_of, is_target, popped_off, has_place, can_hand_out, is_moving_page, is_next_uncut}
 use Rattle.mc_core.specs.Evictions.{condemned, key_at, with_told, with_rescue, copy_of}
-use Rattle.mc_core.specs.State.{State, has_slabs, is_hand, has_chunk, is_class, head_at, head_place, room_at, item_at, looks_at, holdings_at, with_slabs, with_head, with_look, without_holding}
+use Rattle.mc_core.specs.State.{State, has_slabs, is_hand, has_chunk, is_class, head_at, head_place, room_at, item_at, looks_at, with_slabs, with_head, with_look, without_holding}
 use Rattle.mc_core.specs.Run.{after_step}
-use Rattle.mc_core.specs.Past.{Moment, Known, moment_stepped}
-use Rattle.mc_core.specs.Columns.{head_in, IsHandedOut}
+use Rattle.mc_core.specs.Past.{Moment, moment_stepped}
+use Rattle.mc_core.specs.Columns.{IsHandedOut}
+use Rattle.mc_core.specs.Seen.{newer, last_head, linked_issue, last_read, told_by_look}
 use Rattle.mc_core.specs.Laws.{MayStep}
 use Rattle.mc_core.specs.Lawful.{IsLawful, SeenIn}
 use Rattle.mc_core.proofs.Listed.{IsClass_from, Contains_from_among}
 use Rattle.mc_core.proofs.FreeChunks.{near_placed, first_placed, found_placed}
 use Rattle.mc_core.proofs.Own.{own_step}
 use Rattle.mc_core.proofs.KnownStill.{not_shown}
-use Rattle.mc_core.proofs.KnownCondemned.{IsCondemnable, condemnable}
+use Rattle.mc_core.proofs.KnownCondemned.{condemnable}
 use Rattle.mc_core.proofs.SeenLooks.{AddsLook}
 use Rattle.mc_core.proofs.SeenAdds.{adds_stripe, adds_saw, adds_read, adds_turned, adds_ended}
 use Rattle.mc_core.proofs.SeenHolder.{has_before, seen_look}
@@ -137,9 +135,9 @@ module _ (m : Moment) (hand : ℕ) where
 
   -- a free chunk is handed out
   adds_handed_out : (l : IsLawful m) (next : SlabState) (chunk : ChunkId) (seen : Look) → has_chunk m.state.table chunk ≡ true → is_free (head_at m.state chunk).tag ≡ true →
-      ((page : ℕ) → class_of_page next page ≡ class_of_page m.state.slabs page) → Rattle.mc_core.specs.Seen.told_by_look m.state.slabs seen ≡ next →
-      ((other : ChunkId) (before : Option Head) → Rattle.mc_core.specs.Seen.last_head other before seen ≡ Rattle.mc_core.specs.Seen.newer other chunk (handed_out (head_at m.state chunk)) before) →
-      ((other : ChunkId) (before : Option ℕ) → Rattle.mc_core.specs.Seen.linked_issue other before seen ≡ before) → ((other : ChunkId) (place : ℕ) (before : Option ℕ) → Rattle.mc_core.specs.Seen.last_read other place before seen ≡ before) →
+      ((page : ℕ) → class_of_page next page ≡ class_of_page m.state.slabs page) → told_by_look m.state.slabs seen ≡ next →
+      ((other : ChunkId) (before : Option Head) → last_head other before seen ≡ newer other chunk (handed_out (head_at m.state chunk)) before) →
+      ((other : ChunkId) (before : Option ℕ) → linked_issue other before seen ≡ before) → ((other : ChunkId) (place : ℕ) (before : Option ℕ) → last_read other place before seen ≡ before) →
       AddsLook m.state.table m.state.slabs next m.state.heads (slice_set m.state.heads (head_place m.state.table chunk) (handed_out (head_at m.state chunk))) m.state.words m.past.known (looks_at m.state hand) seen
   adds_handed_out l next chunk seen near free same told headed link read =
       adds_turned m.state.table m.state.slabs m.state.heads m.state.words m.past.known (looks_at m.state hand) next chunk (handed_out (head_at m.state chunk)) seen l.sized.headers near same told headed link read

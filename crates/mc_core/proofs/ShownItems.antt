@@ -1,15 +1,15 @@
 -- Whole items, and the chunks that show them.
-use Rattle.std.proofs.Common.{◌≡◌, ℕ, zero, suc, ◌+◌, ◌*◌, ◌<◌, ◌≤◌, ◌&&◌, min, Bool, true, false, List, [], ◌∷◌, length, get_or, take, map, refl, sym, ap, subst, ◌∙◌, arith, leb-true, le-leb, nat_le, slice_get, slice_index, Some, None, Option, is_some, length-take-le, get_or-take, take_all, unwrap_or}
-use Rattle.std.specs.List.{list_all, range_with_len}
+use Rattle.std.proofs.Common.{◌≡◌, ℕ, zero, suc, ◌+◌, ◌*◌, ◌<◌, ◌≤◌, min, true, List, [], ◌∷◌, length, take, refl, sym, ap, subst, ◌∙◌, arith, leb-true, le-leb, slice_get, slice_index, Some, None, Option, is_some, length-take-le, get_or-take, take_all, unwrap_or}
+use Rattle.std.specs.List.{list_all}
 use Rattle.std.proofs.lemmas.Bool.{and_parts, and_from}
 use Rattle.std.proofs.lemmas.List.FromFn.{fill_by_all}
 use Rattle.std.proofs.lemmas.Option.{get_or_from_slice_get}
 use Rattle.mc_classes.specs.Classes.{Classes}
 use Rattle.mc_pages.specs.declared.ids.ChunkId.{ChunkId}
 use Rattle.mc_pages.specs.SlabState.{SlabState, class_of_page}
-use Rattle.mc_core.specs.Holdings.{Words, word_in, key_in, stamp_in, item_length, item_in, fits, is_complete}
+use Rattle.mc_core.specs.Holdings.{Words, word_in, stamp_in, item_length, item_in, fits, is_complete}
 use Rattle.mc_core.specs.State.{State, room_in, room_at, word_at, item_at, page_words}
-use Rattle.mc_core.specs.Columns.{place_in, Shows}
+use Rattle.mc_core.specs.Columns.{Shows}
 
 -- all words are known, and there are as many as the item takes
 pub record IsWhole (words : Words) : Type 0 where
