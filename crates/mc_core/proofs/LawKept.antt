@@ -27,72 +27,94 @@ use Rattle.mc_core.proofs.PlacedChanges.{placed_changes}
 use Rattle.mc_core.proofs.PlacedSteps.{placed_steps, placed_first}
 use Rattle.mc_core.proofs.RescuedSteps.{rescued_changes, rescued_steps, rescued_first}
 use Rattle.mc_core.proofs.RowsKept.{rows_steps, rows_first}
+use Rattle.mc_core.proofs.SeenSteps.{seen_changes, seen_steps, seen_first}
 use Rattle.mc_core.proofs.Sized.{sized_changes, sized_steps, sized_first}
 use Rattle.mc_core.proofs.TalliedKept.{counted_changes, counted_steps, counted_first, held_changes, held_steps, held_first}
 use Rattle.mc_core.proofs.ToldSteps.{told_changes, told_steps}
 
-module _ (seen_changes : ChangesKeep SeenIn) (seen_steps : StepsKeep SeenIn) (seen_first : HoldsAtFirst SeenIn) where
-  pub lawful_changes : ChangesKeep IsLawful
-  lawful_changes m hand change may = record {
-    sized = sized_changes m hand change may; paged = paged_changes m hand change may; placed = placed_changes m hand change may;
-    counted = counted_changes m hand change may; held = held_changes m hand change may; indexed = indexed_changes m hand change may;
-    legal = legal_changes m hand change may; hands = hands_changes m hand change may; rows = rows_changes m hand change may;
-    numbered = numbered_changes m hand change may; seen = seen_changes m hand change may; known = known_changes m hand change may;
-    rescued = rescued_changes m hand change may; told = told_changes m hand change may;
-  }
+pub lawful_changes : ChangesKeep IsLawful
+lawful_changes m hand change may = record {
+  sized = sized_changes m hand change may; paged = paged_changes m hand change may; placed = placed_changes m hand change may;
+  counted = counted_changes m hand change may; held = held_changes m hand change may; indexed = indexed_changes m hand change may;
+  legal = legal_changes m hand change may; hands = hands_changes m hand change may; rows = rows_changes m hand change may;
+  numbered = numbered_changes m hand change may; seen = seen_changes m hand change may; known = known_changes m hand change may;
+  rescued = rescued_changes m hand change may; told = told_changes m hand change may;
+}
 
-  pub lawful_steps : StepsKeep IsLawful
-  lawful_steps m hand step may = record {
-    sized = sized_steps m hand step may; paged = paged_steps m hand step may; placed = placed_steps m hand step may;
-    counted = counted_steps m hand step may; held = held_steps m hand step may; indexed = indexed_steps m hand step may;
-    legal = legal_steps m hand step may; hands = hands_steps m hand step may; rows = rows_steps m hand step may;
-    numbered = numbered_steps m hand step may; seen = seen_steps m hand step may; known = known_steps m hand step may;
-    rescued = rescued_steps m hand step may; told = told_steps m hand step may;
-  }
+pub lawful_steps : StepsKeep IsLawful
+lawful_steps m hand step may = record {
+  sized = sized_steps m hand step may; paged = paged_steps m hand step may; placed = placed_steps m hand step may;
+  counted = counted_steps m hand step may; held = held_steps m hand step may; indexed = indexed_steps m hand step may;
+  legal = legal_steps m hand step may; hands = hands_steps m hand step may; rows = rows_steps m hand step may;
+  numbered = numbered_steps m hand step may; seen = seen_steps m hand step may; known = known_steps m hand step may;
+  rescued = rescued_steps m hand step may; told = told_steps m hand step may;
+}
 
-  pub lawful_first : HoldsAtFirst IsLawful
-  lawful_first table stripes hands sound some someone few = record {
-    sized = sized_first table stripes hands sound some someone few; paged = paged_first table stripes hands sound some someone few;
-    placed = placed_first table stripes hands sound some someone few; counted = counted_first table stripes hands sound some someone few;
-    held = held_first table stripes hands sound some someone few; indexed = indexed_first table stripes hands sound some someone few;
-    legal = legal_first table stripes hands sound some someone few; hands = hands_first table stripes hands sound some someone few;
-    rows = rows_first table stripes hands sound some someone few; numbered = numbered_first table stripes hands sound some someone few;
-    seen = seen_first table stripes hands sound some someone few; known = known_first table stripes hands sound some someone few;
-    rescued = rescued_first table stripes hands sound some someone few; told = told_first table stripes hands sound some someone few;
-  }
+pub lawful_first : HoldsAtFirst IsLawful
+lawful_first table stripes hands sound some someone few = record {
+  sized = sized_first table stripes hands sound some someone few; paged = paged_first table stripes hands sound some someone few;
+  placed = placed_first table stripes hands sound some someone few; counted = counted_first table stripes hands sound some someone few;
+  held = held_first table stripes hands sound some someone few; indexed = indexed_first table stripes hands sound some someone few;
+  legal = legal_first table stripes hands sound some someone few; hands = hands_first table stripes hands sound some someone few;
+  rows = rows_first table stripes hands sound some someone few; numbered = numbered_first table stripes hands sound some someone few;
+  seen = seen_first table stripes hands sound some someone few; known = known_first table stripes hands sound some someone few;
+  rescued = rescued_first table stripes hands sound some someone few; told = told_first table stripes hands sound some someone few;
+}
 
-  -- the changes before a step keep the law, and lead to the state before the step
-  lawful_all : (m : Moment) (hand : ℕ) (changes : List Change) → IsLawful m → is_hand m.state hand ≡ true → allows_changes m.state hand changes ≡ true
-      → IsLawful (moment_changes m hand changes) × ((moment_changes m hand changes).state ≡ after_changes m.state hand changes) × (is_hand (moment_changes m hand changes).state hand ≡ true)
-  lawful_all m hand [] l there h = (l, refl, there)
-  lawful_all m hand (change ∷ changes) l there h =
-      let parts = and_parts (allows_change m.state hand change) (allows_changes (after_change m.state hand change) hand changes) h in
-      let may : MayChange m hand change = record { lawful = l; there = there; allowed = parts.0 } in
-      let still : is_hand (after_change m.state hand change) hand ≡ true = ap (λ (ids : List Ids). is_some (slice_index_or ids hand gone).number) (ids_change m.state hand change) ∙ there in
-      lawful_all (moment_changed m hand change) hand changes (lawful_changes m hand change may) still parts.1
+-- the state of a moment is that of the model
+changes_state : (m : Moment) (hand : ℕ) (changes : List Change) → (moment_changes m hand changes).state ≡ after_changes m.state hand changes
+changes_state m hand [] = refl
+changes_state m hand (change ∷ changes) = changes_state (moment_changed m hand change) hand changes
 
-  -- an event is allowed as its changes and then its step are
-  may_step : (m : Moment) (event : Event) → IsLawful m → is_allowed m.state event ≡ true → MayStep (moment_changes m event.hand event.before) event.hand event.step
-  may_step m event l h =
-      let parts = and_parts (is_hand m.state event.hand) (allows_changes m.state event.hand event.before && allows_step (after_changes m.state event.hand event.before) event.hand event.step) h in
-      let both = and_parts (allows_changes m.state event.hand event.before) (allows_step (after_changes m.state event.hand event.before) event.hand event.step) parts.1 in
-      let ready = lawful_all m event.hand event.before l parts.0 both.0 in
-      record { lawful = ready.0; there = ready.2; allowed = subst (λ (s : State). allows_step s event.hand event.step ≡ true) (sym ready.1) both.1 }
+state_after : (m : Moment) (event : Event) → (moment_after m event).state ≡ after m.state event
+state_after m event = ap (λ (s : State). after_step s event.hand event.step) (changes_state m event.hand event.before)
 
-  state_after : (m : Moment) (event : Event) → IsLawful m → is_allowed m.state event ≡ true → (moment_after m event).state ≡ after m.state event
-  state_after m event l h =
-      let parts = and_parts (is_hand m.state event.hand) (allows_changes m.state event.hand event.before && allows_step (after_changes m.state event.hand event.before) event.hand event.step) h in
-      let both = and_parts (allows_changes m.state event.hand event.before) (allows_step (after_changes m.state event.hand event.before) event.hand event.step) parts.1 in
-      ap (λ (s : State). after_step s event.hand event.step) (lawful_all m event.hand event.before l parts.0 both.0).1
+-- the changes before a step keep the law
+pub lawful_all : (m : Moment) (hand : ℕ) (changes : List Change) → IsLawful m → is_hand m.state hand ≡ true → allows_changes m.state hand changes ≡ true
+    → IsLawful (moment_changes m hand changes) × (is_hand (moment_changes m hand changes).state hand ≡ true)
+lawful_all m hand [] l there h = (l, there)
+lawful_all m hand (change ∷ changes) l there h =
+    let parts = and_parts (allows_change m.state hand change) (allows_changes (after_change m.state hand change) hand changes) h in
+    let may : MayChange m hand change = record { lawful = l; there = there; allowed = parts.0 } in
+    let still : is_hand (after_change m.state hand change) hand ≡ true = ap (λ (ids : List Ids). is_some (slice_index_or ids hand gone).number) (ids_change m.state hand change) ∙ there in
+    lawful_all (moment_changed m hand change) hand changes (lawful_changes m hand change may) still parts.1
 
-  -- what steps keep, events keep
-  pub events_from_steps : (Clause : Moment → Type 0) → StepsKeep Clause → EventsKeep Clause
-  events_from_steps Clause steps m event l h = steps (moment_changes m event.hand event.before) event.hand event.step (may_step m event l h)
+-- an event is allowed as its changes and then its step are
+pub may_step : (m : Moment) (event : Event) → IsLawful m → is_allowed m.state event ≡ true → MayStep (moment_changes m event.hand event.before) event.hand event.step
+may_step m event l h =
+    let parts = and_parts (is_hand m.state event.hand) (allows_changes m.state event.hand event.before && allows_step (after_changes m.state event.hand event.before) event.hand event.step) h in
+    let both = and_parts (allows_changes m.state event.hand event.before) (allows_step (after_changes m.state event.hand event.before) event.hand event.step) parts.1 in
+    let ready = lawful_all m event.hand event.before l parts.0 both.0 in
+    record {
+      lawful = ready.0; there = ready.1;
+      allowed = subst (λ (s : State). allows_step s event.hand event.step ≡ true) (sym (changes_state m event.hand event.before)) both.1;
+    }
 
-  pub lawful_events : EventsKeep IsLawful
-  lawful_events = events_from_steps IsLawful lawful_steps
+-- what steps keep, events keep
+pub events_from_steps : (Clause : Moment → Type 0) → StepsKeep Clause → EventsKeep Clause
+events_from_steps Clause steps m event l h = steps (moment_changes m event.hand event.before) event.hand event.step (may_step m event l h)
 
-  -- every moment of a run is lawful
-  pub lawful_run : (m : Moment) (events : List Event) → IsLawful m → IsRun m events → IsLawful (moment_at_end m events)
-  lawful_run m [] l run = l
-  lawful_run m (event ∷ events) l run = lawful_run (moment_after m event) events (lawful_events m event l run.0) run.1
+pub lawful_events : EventsKeep IsLawful
+lawful_events = events_from_steps IsLawful lawful_steps
+
+-- every moment of a run is lawful
+pub lawful_run : (m : Moment) (events : List Event) → IsLawful m → IsRun m events → IsLawful (moment_at_end m events)
+lawful_run m [] l run = l
+lawful_run m (event ∷ events) l run = lawful_run (moment_after m event) events (lawful_events m event l run.0) run.1
+
+-- events that are played to the end are a run
+played_from : (place : ℕ) (m : Moment) (events : List Event) (state : State) → play_from place m.state events ≡ Ok state → IsRun m events × ((moment_at_end m events).state ≡ state)
+played_from place m [] state e = (tt, same_state m.state state e)
+  where
+    same_state : (a b : State) → ◌≡◌ {A = Result State ℕ} (Ok a) (Ok b) → a ≡ b
+    same_state a b e = cc
+played_from place m (event ∷ events) state e =
+    elim (is_allowed m.state event) as (λ b. is_allowed m.state event ≡ b → cond b (play_from (place + 1) (after m.state event) events) (Err place) ≡ Ok state → ((is_allowed m.state event ≡ true) × IsRun (moment_after m event) events) × ((moment_at_end (moment_after m event) events).state ≡ state)) [
+      | true ↦ λ is played.
+          let rest = played_from (place + 1) (moment_after m event) events state (ap (λ (s : State). play_from (place + 1) s events) (state_after m event) ∙ played) in
+          ((is, rest.0), rest.1)
+      | false ↦ λ is played. absurd (cc)
+    ] refl e
+
+pub are_played : (events : List Event) → ArePlayed events
+are_played events m state e = played_from 0 m events state e

@@ -23,3 +23,4 @@ pub mod Lawful
 pub mod Rows
 pub mod InOrder
 pub mod Laws
+pub mod Stretch
