@@ -79,3 +79,4 @@ pub mod SeenQuiet
 pub mod SeenTurns
 pub mod SeenSteps
 pub mod LawKept
+pub mod WordsStay
