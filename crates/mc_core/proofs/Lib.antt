@@ -80,3 +80,4 @@ pub mod SeenTurns
 pub mod SeenSteps
 pub mod LawKept
 pub mod WordsStay
+pub mod Stretches
