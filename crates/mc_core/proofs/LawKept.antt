@@ -11,7 +11,7 @@ use Rattle.mc_core.specs.Silent.{allows_change, after_change, allows_changes, af
 use Rattle.mc_core.specs.Past.{Moment, moment_changed, moment_changes, moment_stepped, moment_after, first_moment}
 use Rattle.mc_core.specs.Run.{allows_step, after_step, is_allowed, after, play_from, play}
 use Rattle.mc_core.specs.Lawful.{IsLawful, IndexedIn, SeenIn}
-use Rattle.mc_core.specs.Laws.{MayChange, MayStep, ChangesKeep, StepsKeep, EventsKeep, HoldsAtFirst, IsKeptByAll, moment_at_end, IsRun, ArePlayed}
+use Rattle.mc_core.specs.Laws.{MayChange, MayStep, ChangesKeep, StepsKeep, EventsKeep, HoldsAtFirst, IsKeptByAll, moment_at_end, IsRun, ArePlayed, AreLawful}
 use Rattle.mc_core.proofs.FirstHands.{hands_first, numbered_first, told_first}
 use Rattle.mc_core.proofs.HandsKept.{hands_changes, ids_change}
 use Rattle.mc_core.proofs.HandsSteps.{hands_steps}
@@ -118,3 +118,12 @@ played_from place m (event ∷ events) state e =
 
 pub are_played : (events : List Event) → ArePlayed events
 are_played events m state e = played_from 0 m events state e
+
+pub are_lawful : AreLawful
+are_lawful = record {
+  runs = lawful_run;
+  from_first = λ table stripes hands events state sound some someone few e.
+      let first = first_moment table stripes hands in
+      let played = are_played events first state e in
+      (played.1, lawful_run first events (lawful_first table stripes hands sound some someone few) played.0);
+}

@@ -6,7 +6,7 @@ use Rattle.mc_pages.specs.SlabState.{class_of_page}
 use Rattle.mc_core.specs.declared.event.Change.{Change}
 use Rattle.mc_core.specs.declared.event.Event.{Event}
 use Rattle.mc_core.specs.declared.event.Step.{Step}
-use Rattle.mc_core.specs.State.{State, is_hand, has_chunk}
+use Rattle.mc_core.specs.State.{State, is_hand, has_chunk, new_state}
 use Rattle.mc_core.specs.Silent.{allows_change}
 use Rattle.mc_core.specs.Run.{allows_step, is_allowed, play}
 use Rattle.mc_core.specs.Columns.{head_in, IsHandedOut}
@@ -66,3 +66,9 @@ IsRun moment (event ∷ events) = (is_allowed moment.state event ≡ true) × Is
 -- where events are played to the end they are a run, and their state is that of its last moment
 abbrev pub ArePlayed : List Event → Type 0
 ArePlayed events = (moment : Moment) (state : State) → play moment.state events ≡ Ok state → IsRun moment events × ((moment_at_end moment events).state ≡ state)
+
+-- every moment of a run is lawful; and what is played to the end from the beginning ends in a lawful moment
+pub record AreLawful : Type 0 where
+  pub runs : (moment : Moment) (events : List Event) → IsLawful moment → IsRun moment events → IsLawful (moment_at_end moment events)
+  pub from_first : (table : Classes) (stripes hands : ℕ) (events : List Event) (state : State) → IsSound table → 1 ≤ stripes → 1 ≤ hands → hands ≤ 64 →
+      play (new_state table stripes hands) events ≡ Ok state → ((moment_at_end (first_moment table stripes hands) events).state ≡ state) × IsLawful (moment_at_end (first_moment table stripes hands) events)

@@ -1,0 +1,7 @@
+use Rattle.mc_core.specs.Lawful.{RescuedIn}
+use Rattle.mc_core.proofs.LawKept.{events_from_steps}
+use Rattle.mc_core.proofs.RescuedSteps.{rescued_first, rescued_changes, rescued_steps}
+use Rattle.mc_core.proofs.laws.rescues_are_kept.Goals as goal
+
+pub returns : goal.returns
+returns c = record { first = rescued_first; changes = rescued_changes; steps = rescued_steps; events = events_from_steps RescuedIn rescued_steps }

@@ -1,0 +1,5 @@
+use Rattle.mc_core.proofs.Stretches.{stretches_keep}
+use Rattle.mc_core.proofs.laws.stretches_are_kept.Goals as goal
+
+pub returns : goal.returns
+returns c = stretches_keep
