@@ -1,21 +1,19 @@
 -- In the first moment each hand has its number, and nothing was said or done.
-use Rattle.std.proofs.Common.{◌≡◌, ◌≢◌, ◌⊎◌, ℕ, zero, suc, ◌+◌, ◌*◌, ◌/◌, ◌^◌, ◌<◌, ◌≤◌, ◌==◌, ◌&&◌, Bool, true, false, List, [], ◌∷◌, length, map, replicate, get_or, Option, Some, None, refl, sym, ap, ◌∙◌, subst, slice_get, slice_index_or, nat_le, count_by, ◌++◌, Contains, All, inl, inr, arith, zero-add, eq-eqb, ne_eqb}
+use Rattle.std.proofs.Common.{◌≡◌, ℕ, zero, suc, ◌+◌, ◌/◌, ◌^◌, ◌<◌, ◌≤◌, ◌==◌, ◌&&◌, List, [], ◌∷◌, length, map, replicate, get_or, Option, Some, None, refl, sym, ap, ◌∙◌, subst, slice_get, nat_le, ◌++◌, Contains, All, inl, inr, arith, zero-add, eq-eqb, ne_eqb}
 use Rattle.std.specs.List.{range_with_len}
 use Rattle.std.proofs.lemmas.Bool.{cases_lt, cases_eq, and_right, lt-leb}
 use Rattle.std.proofs.lemmas.List.{get_or_past, get_or-replicate, length-replicate}
 use Rattle.std.proofs.lemmas.List.FromFn.{get_or-map-range_with_len, length-map-range_with_len}
 use Rattle.std.proofs.lemmas.List.Elements.{All-nil, All-cons, All-replicate, All-weaker, All-contains_itself}
-use Rattle.std.proofs.lemmas.List.Sums.{sum_by-cons}
 use Rattle.mc_classes.specs.Classes.{Classes, IsSound}
 use Rattle.mc_pages.specs.Accounted.{truth}
 use Rattle.mc_stripe.specs.declared.history.Call.{Call}
 use Rattle.mc_stripe.specs.StripeState.{ReadyStripe, new_stripe}
 use Rattle.mc_core.specs.declared.ids.Ids.{Ids}
-use Rattle.mc_core.specs.declared.holding.Holding.{Holding}
-use Rattle.mc_core.specs.State.{State, gone}
-use Rattle.mc_core.specs.Past.{Own, Saying, Known, first_moment}
+use Rattle.mc_core.specs.State.{gone}
+use Rattle.mc_core.specs.Past.{Own, Saying, first_moment}
 use Rattle.mc_core.specs.Columns.{Each}
-use Rattle.mc_core.specs.Identities.{IsFreeOrHeld, owns, owners, number_in, stamps_in, said_times, said_count, AreCountedTo}
+use Rattle.mc_core.specs.Identities.{IsFreeOrHeld, owns, owners, number_in, stamps_in, said_count, AreCountedTo}
 use Rattle.mc_core.specs.Histories.{hand_of, set_count, IsSetIn, IsStored}
 use Rattle.mc_core.specs.Lawful.{HandsIn, NumberedIn, ToldIn}
 use Rattle.mc_core.proofs.Grown.{calls_in}
@@ -130,7 +128,7 @@ numbered_first table stripes hands sound _ _ _ =
       own = λ hand number is. let at = hand_is hands hand number is in rw (own_row hands stripes hand at.0) (zero-add _ ∙ ap truth (eq-eqb hand number (sym at.1)));
       stamps = λ hand number is. subst (λ n. AreCountedTo n number (row_of (replicate hands []) hand)) (sym (no_stamps hands hand)) (none_counted hands number (row_of (replicate hands []) hand) (said_row hand));
       gapless = λ hand. All-weaker (Contains (row_of (mine hands stripes) hand)) (λ (own : Own). (most : ℕ) × AreCountedTo most own.number (row_of (replicate hands []) hand))
-      (λ own among. (0, none_counted hands own.number (row_of (replicate hands []) hand) (said_row hand))) (row_of (mine hands stripes) hand) (All-contains_itself (row_of (mine hands stripes) hand));
+          (λ own among. (0, none_counted hands own.number (row_of (replicate hands []) hand) (said_row hand))) (row_of (mine hands stripes) hand) (All-contains_itself (row_of (mine hands stripes) hand));
       of_own = λ hand. subst (All (λ (s : Saying). owns (s.stamp / 2 ^ 48) (row_of (mine hands stripes) hand) ≡ 1)) (sym (said_row hand)) (All-nil (λ (s : Saying). owns (s.stamp / 2 ^ 48) (row_of (mine hands stripes) hand) ≡ 1));
       nothing = λ hand none. (past_row hands stripes hand (no_hand hands hand none), said_row hand, same_entry hands hand []);
     }
@@ -165,7 +163,7 @@ pub told_first : (table : Classes) (stripes hands : ℕ) → IsSound table → 1
 told_first table stripes hands sound _ _ _ = record {
   own_calls = own_first stripes 0 hands;
   begun = All-replicate (IsBegun (replicate stripes new_stripe)) hands (replicate stripes [])
-  (λ stripe calls value at is. (value.state.history, ap (λ (cs : List Call). cs ++ value.state.history) (entry_is stripes stripe [] calls at)));
+      (λ stripe calls value at is. (value.state.history, ap (λ (cs : List Call). cs ++ value.state.history) (entry_is stripes stripe [] calls at)));
   writers = All-replicate (λ (value : ReadyStripe). All (λ call. owners (hand_of call) (mine hands stripes) ≡ 1) value.state.history) stripes new_stripe (All-nil (λ call. owners (hand_of call) (mine hands stripes) ≡ 1));
   sets = λ stripe value is. subst (λ (v : ReadyStripe). All (IsSetIn (length (replicate stripes new_stripe)) stripe) v.state.history) (entry_is stripes stripe new_stripe value is) (All-nil (IsSetIn (length (replicate stripes new_stripe)) stripe));
   stored_once = λ stamp. none_set stamp stripes ∙ sym (none_said stamp hands);

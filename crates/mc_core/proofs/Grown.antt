@@ -1,8 +1,8 @@
 -- Histories that grew by calls of one hand: its own calls are still those of its number, and so are everybody else's.
-use Rattle.std.proofs.Common.{◌≡◌, ◌≢◌, ◌⊎◌, ℕ, zero, suc, ◌+◌, ◌<◌, ◌≤◌, ◌==◌, Bool, true, false, cond, List, [], ◌∷◌, ◌++◌, length, map, drop, filter, get_or, Option, Some, None, refl, sym, ap, ap₂, ◌∙◌, subst, slice_set, slice_index_or, All, inl, inr, arith, add-zero, zero-add, eq-eqb, ne_eqb, length-set, get_or-set_same, get_or-set_other}
-use Rattle.std.proofs.lemmas.Bool.{cases_eq, cases_lt}
-use Rattle.std.proofs.lemmas.List.{append-nil, set_past}
-use Rattle.std.proofs.lemmas.List.Elements.{All-nil, All-cons, All-head, All-tail, filter-append}
+use Rattle.std.proofs.Common.{◌≡◌, ◌≢◌, ℕ, suc, ◌+◌, ◌<◌, ◌==◌, true, false, List, [], ◌∷◌, ◌++◌, length, map, drop, filter, refl, sym, ap, ap₂, ◌∙◌, subst, slice_set, slice_index_or, All, inl, inr, arith, add-zero, zero-add, eq-eqb, ne_eqb, length-set, get_or-set_same, get_or-set_other}
+use Rattle.std.proofs.lemmas.Bool.{cases_eq}
+use Rattle.std.proofs.lemmas.List.{append-nil}
+use Rattle.std.proofs.lemmas.List.Elements.{All-nil, All-head, All-tail, filter-append}
 use Rattle.mc_stripe.specs.declared.history.Call.{Call}
 use Rattle.mc_stripe.specs.StripeState.{ReadyStripe, new_stripe}
 use Rattle.mc_core.specs.State.{State}

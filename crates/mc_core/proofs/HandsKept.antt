@@ -1,10 +1,6 @@
 -- Each event keeps what hands are: numbers apart, locks free or held by one of them.
-use Rattle.std.proofs.Common.{◌≡◌, ◌≢◌, ◌⊎◌, ℕ, zero, suc, ◌+◌, ◌-◌, ◌^◌, ◌<◌, ◌≤◌, ◌==◌, ◌&&◌, Bool, true, false, not, cond, List, [], ◌∷◌, length, map, replicate, Option, Some, None, refl, sym, ap, subst, ◌∙◌, inl, inr, arith, slice_set, slice_get, slice_index, slice_index_or, is_some, nat_lt, All, eqb-true, eq-eqb, ltb-true, length-set, get_or-set_same, get_or-set_other}
-use Rattle.std.specs.List.{range_with_len}
-use Rattle.std.specs.Option.{option_map_or}
-use Rattle.std.proofs.lemmas.Bool.{and_parts, cases_eq, cases_lt}
-use Rattle.std.proofs.lemmas.List.{get_or_past}
-use Rattle.std.proofs.lemmas.List.Elements.{All-set, All-weaker}
+use Rattle.std.proofs.Common.{◌≡◌, ℕ, ◌^◌, ◌<◌, Bool, true, false, cond, List, Option, Some, None, refl, sym, ap, subst, ◌∙◌, inl, inr, arith, is_some, All}
+use Rattle.std.proofs.lemmas.List.Elements.{All-weaker}
 use Rattle.mc_pages.specs.declared.ids.ChunkId.{ChunkId}
 use Rattle.mc_core.specs.declared.event.Change.{Change}
 use Rattle.mc_core.specs.declared.event.Change.TheVariants.{Grow, BeginMove, FinishMove, Touch, SetAutomove, Passed, Wrap, Evicted, Reserve, GotNone, DeletedNone}
@@ -12,24 +8,19 @@ use Rattle.mc_core.specs.declared.event.Step.{Step}
 use Rattle.mc_core.specs.declared.event.Step.TheVariants as step
 use Rattle.mc_core.specs.declared.ids.Ids.{Ids}
 use Rattle.mc_core.specs.declared.holding.Holding.{Holding}
-use Rattle.mc_core.specs.declared.holding.Kind.{Kind}
-use Rattle.mc_core.specs.declared.holding.Kind.TheVariants.{Reference, Fresh}
-use Rattle.mc_core.specs.declared.holding.Purpose.TheVariants.{Item, Copy, Rescue}
 use Rattle.mc_core.specs.declared.look.Look.{Look}
 use Rattle.mc_core.specs.Holdings.{Words, holding_of, is_of}
-use Rattle.mc_core.specs.State.{State, gone, is_held_by, is_hand, number_at, ids_at, holdings_at, has_slabs, without_holding, with_look}
-use Rattle.mc_core.specs.Locks.{lock_word, looked}
-use Rattle.mc_core.specs.Hands.{can_join, is_idle}
+use Rattle.mc_core.specs.State.{State, is_held_by, is_hand, number_at, holdings_at, has_slabs, without_holding, with_look}
+use Rattle.mc_core.specs.Locks.{looked}
 use Rattle.mc_core.specs.Chunks.{popped, popped_off, refilled, next_free, target_of}
-use Rattle.mc_core.specs.Items.{told_link, after_link_of, can_link_holding, stamped, referred_to, with_unlinked, chunk_of, with_got}
+use Rattle.mc_core.specs.Items.{referred_to, with_unlinked, chunk_of, with_got}
 use Rattle.mc_core.specs.Evictions.{with_rescue, copy_of}
 use Rattle.mc_core.specs.Silent.{after_change}
-use Rattle.mc_core.specs.Run.{allows_step, after_step}
+use Rattle.mc_core.specs.Run.{after_step}
 use Rattle.mc_core.specs.Identities.{AreHands, IsFreeOrHeld, number_in, stamps_in}
-use Rattle.mc_core.specs.Past.{Moment}
 use Rattle.mc_core.specs.Lawful.{HandsIn}
-use Rattle.mc_core.specs.Laws.{MayChange, MayStep, ChangesKeep, StepsKeep}
-use Rattle.mc_core.proofs.Own.{IsOwn, is_plain, own_step, own_change}
+use Rattle.mc_core.specs.Laws.{ChangesKeep}
+use Rattle.mc_core.proofs.Own.{IsOwn, own_change}
 
 -- a hand that is there isn't one that is gone
 there_not_gone : (a b : Option ℕ) → a ≡ b → is_some a ≡ true → b ≡ None → ⊥
@@ -53,9 +44,9 @@ hands_own before now hand l there own stamps = record {
   stamps = stamps;
   slabs = subst (IsFreeOrHeld now.ids) (sym own.slabs_lock) (still_held before.ids now.ids before.slabs_lock own.numbers l.slabs);
   stripes = subst (All (IsFreeOrHeld now.ids)) (sym own.stripe_locks)
-  (All-weaker (IsFreeOrHeld before.ids) (IsFreeOrHeld now.ids) (λ word. still_held before.ids now.ids word own.numbers) before.stripe_locks l.stripes);
+      (All-weaker (IsFreeOrHeld before.ids) (IsFreeOrHeld now.ids) (λ word. still_held before.ids now.ids word own.numbers) before.stripe_locks l.stripes);
   nothing = λ other none. own.holdings other (λ same. there_not_gone (number_at before hand) (number_in before.ids other) (ap (number_in before.ids) (sym same)) there (sym (own.numbers other) ∙ none))
-  ∙ l.nothing other (sym (own.numbers other) ∙ none);
+      ∙ l.nothing other (sym (own.numbers other) ∙ none);
 }
 
 -- of whose stamps none is added

@@ -1,9 +1,9 @@
 -- Each step keeps what hands are.
-use Rattle.std.proofs.Common.{◌≡◌, ◌≢◌, ◌⊎◌, ℕ, zero, suc, ◌+◌, ◌-◌, ◌/◌, ◌%◌, ◌^◌, ◌<◌, ◌≤◌, ◌==◌, ◌&&◌, ◌||◌, Bool, true, false, not, cond, List, [], ◌∷◌, length, map, replicate, get_or, Option, Some, None, refl, sym, ap, subst, ◌∙◌, inl, inr, arith, slice_set, slice_get, slice_index, slice_index_or, is_some, is_none, nat_lt, nat_eq, All, eqb-true, eq-eqb, ltb-true, length-set, get_or-set_same, get_or-set_other}
-use Rattle.std.specs.List.{range_with_len, list_all}
+use Rattle.std.proofs.Common.{◌≡◌, ◌≢◌, ℕ, zero, suc, ◌+◌, ◌/◌, ◌%◌, ◌^◌, ◌<◌, ◌==◌, ◌&&◌, Bool, true, false, not, List, [], ◌∷◌, length, get_or, Option, Some, None, refl, sym, ap, subst, ◌∙◌, inl, inr, arith, slice_set, slice_index_or, is_some, nat_lt, nat_eq, All, eqb-true, eq-eqb, ltb-true, length-set, get_or-set_other}
+use Rattle.std.specs.List.{list_all}
 use Rattle.std.specs.Option.{option_map_or, option_eq}
-use Rattle.std.proofs.lemmas.Bool.{and_parts, cases_eq, cases_lt, false≢true}
-use Rattle.std.proofs.lemmas.List.Elements.{All-set, All-weaker, All-nil, All-cons, All-head, All-tail}
+use Rattle.std.proofs.lemmas.Bool.{and_parts, cases_eq, false≢true}
+use Rattle.std.proofs.lemmas.List.Elements.{All-set, All-nil, All-cons, All-head, All-tail}
 use Rattle.mc_pages.specs.declared.ids.ChunkId.{ChunkId}
 use Rattle.mc_core.specs.declared.event.Step.{Step}
 use Rattle.mc_core.specs.declared.event.Step.TheVariants as step
@@ -12,20 +12,19 @@ use Rattle.mc_core.specs.declared.holding.Holding.{Holding}
 use Rattle.mc_core.specs.declared.holding.Kind.{Kind}
 use Rattle.mc_core.specs.declared.holding.Kind.TheVariants.{Reference, Fresh}
 use Rattle.mc_core.specs.declared.holding.Purpose.TheVariants.{Item, Copy, Rescue}
-use Rattle.mc_core.specs.declared.look.Look.{Look}
 use Rattle.mc_core.specs.Head.{is_unlinked}
 use Rattle.mc_core.specs.Holdings.{key_in, stamp_in, is_complete, holding_of, is_of}
-use Rattle.mc_core.specs.State.{State, gone, is_held_by, is_hand, number_at, ids_at, head_at, holdings_at, has_slabs, stripe_of, stripe_at, without_holding}
+use Rattle.mc_core.specs.State.{State, gone, is_held_by, is_hand, number_at, ids_at, head_at, holdings_at, has_slabs, without_holding}
 use Rattle.mc_core.specs.Locks.{lock_word}
 use Rattle.mc_core.specs.Hands.{has_no_stripe}
 use Rattle.mc_core.specs.Hands as hands
-use Rattle.mc_core.specs.Items.{most_stamps, told_link, after_link_of, can_link_holding, can_tell_link, can_link_key, can_count, suits, is_next_stamp, is_none_else_aside, stamped}
-use Rattle.mc_core.specs.Run.{allows_step, after_step}
+use Rattle.mc_core.specs.Items.{most_stamps, told_link, after_link_of, can_link_holding, can_tell_link, can_link_key, can_count, suits, is_next_stamp, stamped}
+use Rattle.mc_core.specs.Run.{after_step}
 use Rattle.mc_core.specs.Identities.{AreHands, IsFreeOrHeld, number_in, stamps_in}
 use Rattle.mc_core.specs.Past.{Moment}
 use Rattle.mc_core.specs.Lawful.{HandsIn}
 use Rattle.mc_core.specs.Laws.{MayStep, StepsKeep}
-use Rattle.mc_core.proofs.Own.{IsOwn, is_plain, own_step}
+use Rattle.mc_core.proofs.Own.{is_plain, own_step}
 use Rattle.mc_core.proofs.HandsKept.{hands_own, ids_step, leaves_ids}
 
 -- what is so of a written entry and of the old ones is so of all
@@ -132,7 +131,7 @@ join_hands state hand kept spent l h =
       stamps = λ other. set_or (λ (i : Ids). i.stamps < 2 ^ 48) state.ids spent other gone gone (omega arith) (l.stamps other);
       slabs = held_without state.ids spent state.slabs_lock (not_true (has_slabs state spent) locks.0) l.slabs;
       stripes = All-both (λ word. is_held_by word (number_in state.ids spent) ≡ false) (IsFreeOrHeld state.ids) (IsFreeOrHeld (slice_set state.ids spent gone))
-      (λ word. held_without state.ids spent word) state.stripe_locks (none_held (number_at state spent) state.stripe_locks locks.1) l.stripes;
+          (λ word. held_without state.ids spent word) state.stripe_locks (none_held (number_at state spent) state.stripe_locks locks.1) l.stripes;
       nothing = λ other none. elim (cases_eq other spent) [
         | inl same ↦ subst (λ (i : ℕ). slice_index_or state.holdings i [] ≡ []) (sym same) (empty_row (holdings_at state spent) (eqb-true (length (holdings_at state spent)) 0 parts.1))
         | inr apart ↦ l.nothing other (sym (ap (λ (i : Ids). i.number) (get_or-set_other state.ids spent other gone gone apart)) ∙ none)
@@ -147,23 +146,48 @@ plain m hand step h same may =
 
 pub hands_steps : StepsKeep HandsIn
 hands_steps m hand step.TakeSlabs may = let l = may.lawful.hands in record {
-  count = l.count; holding_rows = l.holding_rows; look_rows = length-set m.state.looks hand [] ∙ l.look_rows; numbers = l.numbers; apart = l.apart; stamps = l.stamps;
+  count = l.count;
+  holding_rows = l.holding_rows;
+  look_rows = length-set m.state.looks hand [] ∙ l.look_rows;
+  numbers = l.numbers;
+  apart = l.apart;
+  stamps = l.stamps;
   slabs = inr (hand, lock_is_held m.state hand (number_at m.state hand) refl may.there);
-  stripes = l.stripes; nothing = l.nothing;
+  stripes = l.stripes;
+  nothing = l.nothing;
 }
 hands_steps m hand (step.TakeStripe stripe) may = let l = may.lawful.hands in record {
-  count = l.count; holding_rows = l.holding_rows; look_rows = l.look_rows; numbers = l.numbers; apart = l.apart; stamps = l.stamps; slabs = l.slabs;
+  count = l.count;
+  holding_rows = l.holding_rows;
+  look_rows = l.look_rows;
+  numbers = l.numbers;
+  apart = l.apart;
+  stamps = l.stamps;
+  slabs = l.slabs;
   stripes = All-set (IsFreeOrHeld m.state.ids) m.state.stripe_locks stripe (lock_word m.state hand) (inr (hand, lock_is_held m.state hand (number_at m.state hand) refl may.there)) l.stripes;
   nothing = l.nothing;
 }
 hands_steps m hand step.MissSlabs may = plain m hand step.MissSlabs refl refl may
 hands_steps m hand (step.MissStripe stripe) may = plain m hand (step.MissStripe stripe) refl refl may
 hands_steps m hand step.GiveSlabs may = let l = may.lawful.hands in record {
-  count = l.count; holding_rows = l.holding_rows; look_rows = l.look_rows; numbers = l.numbers; apart = l.apart; stamps = l.stamps;
-  slabs = inl refl; stripes = l.stripes; nothing = l.nothing;
+  count = l.count;
+  holding_rows = l.holding_rows;
+  look_rows = l.look_rows;
+  numbers = l.numbers;
+  apart = l.apart;
+  stamps = l.stamps;
+  slabs = inl refl;
+  stripes = l.stripes;
+  nothing = l.nothing;
 }
 hands_steps m hand (step.GiveStripe stripe) may = let l = may.lawful.hands in record {
-  count = l.count; holding_rows = l.holding_rows; look_rows = l.look_rows; numbers = l.numbers; apart = l.apart; stamps = l.stamps; slabs = l.slabs;
+  count = l.count;
+  holding_rows = l.holding_rows;
+  look_rows = l.look_rows;
+  numbers = l.numbers;
+  apart = l.apart;
+  stamps = l.stamps;
+  slabs = l.slabs;
   stripes = All-set (IsFreeOrHeld m.state.ids) m.state.stripe_locks stripe 0 (inl refl) l.stripes;
   nothing = l.nothing;
 }

@@ -1,17 +1,15 @@
 -- Every change, step and event keeps the law, so every moment of a run is lawful.
-use Rattle.std.proofs.Common.{◌≡◌, ℕ, ◌+◌, ◌≤◌, ◌&&◌, Bool, true, false, cond, List, [], ◌∷◌, Result, Ok, Err, refl, sym, ap, ◌∙◌, subst, is_some, slice_index_or}
-use Rattle.std.proofs.lemmas.Bool.{and_parts, and_from, cases_Bool}
-use Rattle.mc_classes.specs.Classes.{Classes, IsSound}
+use Rattle.std.proofs.Common.{◌≡◌, ℕ, ◌+◌, ◌&&◌, true, false, cond, List, [], ◌∷◌, Result, Ok, Err, refl, sym, ap, ◌∙◌, subst, is_some, slice_index_or}
+use Rattle.std.proofs.lemmas.Bool.{and_parts}
 use Rattle.mc_core.specs.declared.event.Change.{Change}
 use Rattle.mc_core.specs.declared.event.Event.{Event}
-use Rattle.mc_core.specs.declared.event.Step.{Step}
 use Rattle.mc_core.specs.declared.ids.Ids.{Ids}
-use Rattle.mc_core.specs.State.{State, gone, is_hand, number_at}
+use Rattle.mc_core.specs.State.{State, gone, is_hand}
 use Rattle.mc_core.specs.Silent.{allows_change, after_change, allows_changes, after_changes}
-use Rattle.mc_core.specs.Past.{Moment, moment_changed, moment_changes, moment_stepped, moment_after, first_moment}
-use Rattle.mc_core.specs.Run.{allows_step, after_step, is_allowed, after, play_from, play}
-use Rattle.mc_core.specs.Lawful.{IsLawful, IndexedIn, SeenIn}
-use Rattle.mc_core.specs.Laws.{MayChange, MayStep, ChangesKeep, StepsKeep, EventsKeep, HoldsAtFirst, IsKeptByAll, moment_at_end, IsRun, ArePlayed, AreLawful}
+use Rattle.mc_core.specs.Past.{Moment, moment_changed, moment_changes, moment_after, first_moment}
+use Rattle.mc_core.specs.Run.{allows_step, after_step, is_allowed, after, play_from}
+use Rattle.mc_core.specs.Lawful.{IsLawful}
+use Rattle.mc_core.specs.Laws.{MayChange, MayStep, ChangesKeep, StepsKeep, EventsKeep, HoldsAtFirst, moment_at_end, IsRun, ArePlayed, AreLawful}
 use Rattle.mc_core.proofs.FirstHands.{hands_first, numbered_first, told_first}
 use Rattle.mc_core.proofs.HandsKept.{hands_changes, ids_change}
 use Rattle.mc_core.proofs.HandsSteps.{hands_steps}
@@ -34,31 +32,56 @@ use Rattle.mc_core.proofs.ToldSteps.{told_changes, told_steps}
 
 pub lawful_changes : ChangesKeep IsLawful
 lawful_changes m hand change may = record {
-  sized = sized_changes m hand change may; paged = paged_changes m hand change may; placed = placed_changes m hand change may;
-  counted = counted_changes m hand change may; held = held_changes m hand change may; indexed = indexed_changes m hand change may;
-  legal = legal_changes m hand change may; hands = hands_changes m hand change may; rows = rows_changes m hand change may;
-  numbered = numbered_changes m hand change may; seen = seen_changes m hand change may; known = known_changes m hand change may;
-  rescued = rescued_changes m hand change may; told = told_changes m hand change may;
+  sized = sized_changes m hand change may;
+  paged = paged_changes m hand change may;
+  placed = placed_changes m hand change may;
+  counted = counted_changes m hand change may;
+  held = held_changes m hand change may;
+  indexed = indexed_changes m hand change may;
+  legal = legal_changes m hand change may;
+  hands = hands_changes m hand change may;
+  rows = rows_changes m hand change may;
+  numbered = numbered_changes m hand change may;
+  seen = seen_changes m hand change may;
+  known = known_changes m hand change may;
+  rescued = rescued_changes m hand change may;
+  told = told_changes m hand change may;
 }
 
 pub lawful_steps : StepsKeep IsLawful
 lawful_steps m hand step may = record {
-  sized = sized_steps m hand step may; paged = paged_steps m hand step may; placed = placed_steps m hand step may;
-  counted = counted_steps m hand step may; held = held_steps m hand step may; indexed = indexed_steps m hand step may;
-  legal = legal_steps m hand step may; hands = hands_steps m hand step may; rows = rows_steps m hand step may;
-  numbered = numbered_steps m hand step may; seen = seen_steps m hand step may; known = known_steps m hand step may;
-  rescued = rescued_steps m hand step may; told = told_steps m hand step may;
+  sized = sized_steps m hand step may;
+  paged = paged_steps m hand step may;
+  placed = placed_steps m hand step may;
+  counted = counted_steps m hand step may;
+  held = held_steps m hand step may;
+  indexed = indexed_steps m hand step may;
+  legal = legal_steps m hand step may;
+  hands = hands_steps m hand step may;
+  rows = rows_steps m hand step may;
+  numbered = numbered_steps m hand step may;
+  seen = seen_steps m hand step may;
+  known = known_steps m hand step may;
+  rescued = rescued_steps m hand step may;
+  told = told_steps m hand step may;
 }
 
 pub lawful_first : HoldsAtFirst IsLawful
 lawful_first table stripes hands sound some someone few = record {
-  sized = sized_first table stripes hands sound some someone few; paged = paged_first table stripes hands sound some someone few;
-  placed = placed_first table stripes hands sound some someone few; counted = counted_first table stripes hands sound some someone few;
-  held = held_first table stripes hands sound some someone few; indexed = indexed_first table stripes hands sound some someone few;
-  legal = legal_first table stripes hands sound some someone few; hands = hands_first table stripes hands sound some someone few;
-  rows = rows_first table stripes hands sound some someone few; numbered = numbered_first table stripes hands sound some someone few;
-  seen = seen_first table stripes hands sound some someone few; known = known_first table stripes hands sound some someone few;
-  rescued = rescued_first table stripes hands sound some someone few; told = told_first table stripes hands sound some someone few;
+  sized = sized_first table stripes hands sound some someone few;
+  paged = paged_first table stripes hands sound some someone few;
+  placed = placed_first table stripes hands sound some someone few;
+  counted = counted_first table stripes hands sound some someone few;
+  held = held_first table stripes hands sound some someone few;
+  indexed = indexed_first table stripes hands sound some someone few;
+  legal = legal_first table stripes hands sound some someone few;
+  hands = hands_first table stripes hands sound some someone few;
+  rows = rows_first table stripes hands sound some someone few;
+  numbered = numbered_first table stripes hands sound some someone few;
+  seen = seen_first table stripes hands sound some someone few;
+  known = known_first table stripes hands sound some someone few;
+  rescued = rescued_first table stripes hands sound some someone few;
+  told = told_first table stripes hands sound some someone few;
 }
 
 -- the state of a moment is that of the model
@@ -86,7 +109,8 @@ may_step m event l h =
     let both = and_parts (allows_changes m.state event.hand event.before) (allows_step (after_changes m.state event.hand event.before) event.hand event.step) parts.1 in
     let ready = lawful_all m event.hand event.before l parts.0 both.0 in
     record {
-      lawful = ready.0; there = ready.1;
+      lawful = ready.0;
+      there = ready.1;
       allowed = subst (λ (s : State). allows_step s event.hand event.step ≡ true) (sym (changes_state m event.hand event.before)) both.1;
     }
 

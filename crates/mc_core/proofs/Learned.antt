@@ -1,21 +1,16 @@
 -- What hands know after a change or a step: as many rows, and whose numbers they are.
-use Rattle.std.proofs.Common.{◌≡◌, ◌≢◌, ℕ, zero, suc, ◌+◌, ◌==◌, Bool, true, false, cond, List, [], ◌∷◌, ◌++◌, length, map, Option, Some, None, refl, sym, ap, ap₂, drop, ◌∙◌, subst, slice_set, slice_index_or, count_by, length-set, inl, inr}
+use Rattle.std.proofs.Common.{◌≡◌, ℕ, zero, suc, ◌+◌, ◌==◌, Bool, true, false, cond, List, [], ◌∷◌, map, Option, Some, None, refl, sym, ap, ap₂, drop, ◌∙◌, slice_set, slice_index_or, count_by, length-set}
 use Rattle.std.proofs.lemmas.List.Sums.{sum_by-cons}
-use Rattle.std.proofs.lemmas.Bool.{cases_eq}
 use Rattle.mc_pages.specs.Accounted.{truth}
-use Rattle.mc_core.specs.declared.event.Change.{Change}
 use Rattle.mc_core.specs.declared.event.Step.{Step}
 use Rattle.mc_core.specs.declared.event.Step.TheVariants as step
 use Rattle.mc_core.specs.State.{State, number_at}
-use Rattle.mc_core.specs.Past.{Past, Moment, Own, learned, learned_alone, joined, own_after, told, with_calls, with_more, moment_changed, moment_stepped}
-use Rattle.mc_core.specs.Identities.{HaveRows, owns, owners}
+use Rattle.mc_core.specs.Past.{Past, Own, learned, learned_alone, own_after, told, with_calls}
+use Rattle.mc_core.specs.Identities.{owns, owners}
 use Rattle.mc_core.specs.Lawful.{RowsIn}
-use Rattle.mc_core.specs.Laws.{MayChange, MayStep, ChangesKeep, StepsKeep}
-use Rattle.mc_core.specs.Run.{after_step}
-use Rattle.mc_core.proofs.Own.{IsOwn, is_plain, own_step, own_change}
-use Rattle.mc_core.proofs.HandsKept.{ids_change}
-use Rattle.mc_core.proofs.MoreRows.{row_of, row_same, row_other}
-use Rattle.mc_core.proofs.Totals.{owned_total}
+use Rattle.mc_core.specs.Laws.{ChangesKeep}
+use Rattle.mc_core.proofs.Own.{own_change}
+use Rattle.mc_core.proofs.MoreRows.{row_of}
 
 abbrev pub is_join : Step → Bool
 is_join (step.Join kept spent) = true

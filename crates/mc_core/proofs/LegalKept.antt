@@ -1,5 +1,5 @@
 -- Each event keeps the histories of the stripes legal.
-use Rattle.std.proofs.Common.{◌≡◌, ◌≢◌, ◌⊎◌, ℕ, zero, suc, ◌+◌, ◌≤◌, ◌==◌, ◌&&◌, Bool, true, List, length, replicate, Option, Some, None, refl, sym, ap, subst, ◌∙◌, inl, inr, arith, slice_set, slice_get, slice_index, slice_index_or, is_some, is_none}
+use Rattle.std.proofs.Common.{◌≡◌, ◌≢◌, ℕ, zero, suc, ◌+◌, ◌≤◌, true, List, replicate, Option, Some, None, refl, sym, ap, subst, ◌∙◌, inl, inr, arith, slice_get, is_some, is_none}
 use Rattle.std.specs.Option.{option_map_or}
 use Rattle.std.proofs.lemmas.Bool.{and_parts}
 use Rattle.std.proofs.lemmas.List.{length-replicate}
@@ -10,17 +10,17 @@ use Rattle.mc_stripe.specs.Legal.{IsLegal}
 use Rattle.mc_stripe.proofs.Kept.{IsLegal-new}
 use Rattle.mc_core.specs.declared.event.Step.{Step}
 use Rattle.mc_core.specs.declared.event.Step.TheVariants as step
-use Rattle.mc_core.specs.State.{State, is_hand, number_at, has_stripe, stripe_at}
-use Rattle.mc_core.specs.Locks.{lock_word, can_give_stripe}
-use Rattle.mc_core.specs.Run.{allows_step, after_step}
+use Rattle.mc_core.specs.State.{State, number_at, has_stripe, stripe_at}
+use Rattle.mc_core.specs.Locks.{lock_word}
+use Rattle.mc_core.specs.Run.{after_step}
 use Rattle.mc_core.specs.Indexed.{AreLegal}
 use Rattle.mc_core.specs.Past.{Moment, Saying, first_moment}
 use Rattle.mc_core.specs.Lawful.{LegalIn}
-use Rattle.mc_core.specs.Laws.{MayChange, MayStep, ChangesKeep, StepsKeep}
+use Rattle.mc_core.specs.Laws.{MayStep, ChangesKeep, StepsKeep}
 use Rattle.mc_core.proofs.StripesKept.{legal_locked}
-use Rattle.mc_core.proofs.Tellings.{Tells, tells_legal}
+use Rattle.mc_core.proofs.Tellings.{tells_legal}
 use Rattle.mc_core.proofs.ToldBy.{MayTell, told_by_change, told_by_step}
-use Rattle.mc_core.proofs.Own.{IsOwn, is_plain, own_step, own_change}
+use Rattle.mc_core.proofs.Own.{is_plain, own_step, own_change}
 
 legal_told : (state : State) (now : List ReadyStripe) (locks : List ℕ) (hand : ℕ) (said : List Saying) → AreLegal state.stripes state.stripe_locks → locks ≡ state.stripe_locks → MayTell state now hand said → AreLegal now locks
 legal_told state now locks hand said l same (inl quiet) = subst (λ (ls : List ℕ). AreLegal now ls) (sym same) (subst (λ (xs : List ReadyStripe). AreLegal xs state.stripe_locks) (sym quiet.0) l)

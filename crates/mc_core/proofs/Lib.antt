@@ -81,3 +81,4 @@ pub mod SeenSteps
 pub mod LawKept
 pub mod WordsStay
 pub mod Stretches
+pub mod Follows

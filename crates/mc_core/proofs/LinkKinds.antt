@@ -1,5 +1,5 @@
 -- A link stores an item under a new stamp, or brings a rescued one back.
-use Rattle.std.proofs.Common.{◌≡◌, ◌⊎◌, ℕ, ◌+◌, ◌/◌, ◌%◌, ◌^◌, ◌==◌, ◌&&◌, Bool, true, false, List, [], ◌∷◌, Option, Some, None, refl, ap, inl, inr, slice_set, nat_lt, nat_eq, eqb-true, ltb-true, ◌<◌}
+use Rattle.std.proofs.Common.{◌≡◌, ◌⊎◌, ℕ, ◌+◌, ◌/◌, ◌%◌, ◌^◌, ◌==◌, ◌&&◌, true, List, [], ◌∷◌, Option, Some, None, refl, ap, inl, inr, slice_set, nat_lt, nat_eq, eqb-true, ltb-true, ◌<◌}
 use Rattle.std.specs.Option.{option_eq}
 use Rattle.std.proofs.lemmas.Bool.{and_parts}
 use Rattle.mc_pages.specs.declared.ids.ChunkId.{ChunkId}
@@ -13,7 +13,7 @@ use Rattle.mc_core.specs.declared.holding.Purpose.TheVariants.{Item, Copy, Rescu
 use Rattle.mc_core.specs.Holdings.{key_in, stamp_in, item_in, is_of}
 use Rattle.mc_core.specs.State.{State, ids_at, stripe_of, stripe_at, without_holding}
 use Rattle.mc_core.specs.Silent.{writer_of}
-use Rattle.mc_core.specs.Items.{most_stamps, suits, is_next_stamp, is_none_else_aside, stamped, told_link, can_link_holding, after_link_of}
+use Rattle.mc_core.specs.Items.{most_stamps, suits, is_next_stamp, stamped, told_link, can_link_holding, after_link_of}
 use Rattle.mc_core.specs.Past.{Saying, saying_of, said_by}
 use Rattle.mc_core.proofs.HandsSteps.{link_parts}
 

@@ -1,16 +1,16 @@
 -- Two hands become one: the first has the numbers and stamps of both.
-use Rattle.std.proofs.Common.{◌≡◌, ◌≢◌, ◌⊎◌, ℕ, ◌+◌, ◌*◌, ◌/◌, ◌^◌, ◌<◌, ◌≤◌, ◌==◌, Bool, true, false, List, [], ◌∷◌, ◌++◌, length, Option, Some, None, refl, sym, ap, ◌∙◌, subst, slice_set, slice_index_or, is_some, nat_le, All, inl, inr, arith, add-zero, zero-add, eq-eqb, Contains, get_or-set_other, length-set}
-use Rattle.std.proofs.lemmas.Bool.{cases_eq, cases_lt}
+use Rattle.std.proofs.Common.{◌≡◌, ◌≢◌, ℕ, ◌+◌, ◌*◌, ◌/◌, ◌^◌, ◌<◌, ◌≤◌, ◌==◌, true, List, [], ◌++◌, length, Option, Some, None, refl, sym, ap, ◌∙◌, subst, slice_set, slice_index_or, is_some, All, inl, inr, arith, add-zero, zero-add, eq-eqb, Contains, get_or-set_other, length-set}
+use Rattle.std.proofs.lemmas.Bool.{cases_eq}
 use Rattle.std.proofs.lemmas.List.Elements.{All-nil, All-append, All-weaker, All-contains_itself, All-contains}
 use Rattle.std.proofs.lemmas.List.Sums.{sum_by-append, get_or-le-sum_by}
 use Rattle.mc_pages.specs.Accounted.{truth}
 use Rattle.mc_core.specs.declared.ids.Ids.{Ids}
-use Rattle.mc_core.specs.State.{State, gone}
+use Rattle.mc_core.specs.State.{gone}
 use Rattle.mc_core.specs.Past.{Own, Saying, Known, with_more}
 use Rattle.mc_core.specs.Identities.{owns, owners, number_in, stamps_in, said_times, AreCountedTo, AreNumbered}
 use Rattle.mc_core.proofs.HandsSteps.{gone_set}
 use Rattle.mc_core.proofs.MoreRows.{row_of, row_same, row_other, joined_rows}
-use Rattle.mc_core.proofs.Totals.{total, total_two, total_joined, owned_total}
+use Rattle.mc_core.proofs.Totals.{total_two, total_joined, owned_total}
 use Rattle.mc_core.proofs.SaidOnce.{times_none}
 
 module _ {X : Type 0} (rows : List (List X)) (kept spent : ℕ) (apart : kept ≢ spent) where
@@ -119,26 +119,26 @@ module _ (ids : List Ids) (mine : List (List Own)) (said : List (List Saying)) (
   numbered_joined = record {
     apart = λ number. rw (owners_joined number) (l.apart number);
     own = λ hand number is. let old = old_number hand number is in
-    elim (cases_eq hand kept) [
-      | inl same ↦ subst (λ h. owns number (row_of mine' h) ≡ 1) (sym same) (kept_owns number (subst (λ h. owns number (row_of mine h) ≡ 1) same (l.own hand number old.1)))
-      | inr differs ↦ rw (row_else mine kept spent apart hand differs old.0) (l.own hand number old.1)
-    ];
+        elim (cases_eq hand kept) [
+          | inl same ↦ subst (λ h. owns number (row_of mine' h) ≡ 1) (sym same) (kept_owns number (subst (λ h. owns number (row_of mine h) ≡ 1) same (l.own hand number old.1)))
+          | inr differs ↦ rw (row_else mine kept spent apart hand differs old.0) (l.own hand number old.1)
+        ];
     stamps = λ hand number is. let old = old_number hand number is in
-    let stamps : stamps_in (slice_set ids spent gone) hand ≡ stamps_in ids hand = ap (λ (i : Ids). i.stamps) (get_or-set_other ids spent hand gone gone old.0) in
-    subst (λ n. AreCountedTo n number (row_of said' hand)) (sym stamps) (elim (cases_eq hand kept) [
-      | inl same ↦
-          let one : owns number (row_of mine kept) ≡ 1 = subst (λ h. owns number (row_of mine h) ≡ 1) same (l.own hand number old.1) in
-          let both = one_of number in
-          let counted : AreCountedTo (stamps_in ids hand) number (row_of said kept) = subst (λ h. AreCountedTo (stamps_in ids hand) number (row_of said h)) same (l.stamps hand number old.1) in
-          subst (λ h. AreCountedTo (stamps_in ids hand) number (row_of said' h)) (sym same) (kept_counts number (stamps_in ids hand) (omega arith) counted)
-      | inr differs ↦ subst (AreCountedTo (stamps_in ids hand) number) (sym (row_else said kept spent apart hand differs old.0)) (l.stamps hand number old.1)
-    ]);
+        let stamps : stamps_in (slice_set ids spent gone) hand ≡ stamps_in ids hand = ap (λ (i : Ids). i.stamps) (get_or-set_other ids spent hand gone gone old.0) in
+        subst (λ n. AreCountedTo n number (row_of said' hand)) (sym stamps) (elim (cases_eq hand kept) [
+          | inl same ↦
+              let one : owns number (row_of mine kept) ≡ 1 = subst (λ h. owns number (row_of mine h) ≡ 1) same (l.own hand number old.1) in
+              let both = one_of number in
+              let counted : AreCountedTo (stamps_in ids hand) number (row_of said kept) = subst (λ h. AreCountedTo (stamps_in ids hand) number (row_of said h)) same (l.stamps hand number old.1) in
+              subst (λ h. AreCountedTo (stamps_in ids hand) number (row_of said' h)) (sym same) (kept_counts number (stamps_in ids hand) (omega arith) counted)
+          | inr differs ↦ subst (AreCountedTo (stamps_in ids hand) number) (sym (row_else said kept spent apart hand differs old.0)) (l.stamps hand number old.1)
+        ]);
     gapless = by_hand (λ hand. All (Gapless (row_of said' hand)) (row_of mine' hand)) gapless_kept
-    (subst (All (Gapless (row_of said' spent))) (sym (row_spent mine kept spent apart own_rows.1)) (All-nil (Gapless (row_of said' spent))))
-    (λ other not_kept not_spent. rw (row_else mine kept spent apart other not_kept not_spent, row_else said kept spent apart other not_kept not_spent) (l.gapless other));
+        (subst (All (Gapless (row_of said' spent))) (sym (row_spent mine kept spent apart own_rows.1)) (All-nil (Gapless (row_of said' spent))))
+        (λ other not_kept not_spent. rw (row_else mine kept spent apart other not_kept not_spent, row_else said kept spent apart other not_kept not_spent) (l.gapless other));
     of_own = by_hand (λ hand. All (Owned (row_of mine' hand)) (row_of said' hand)) of_own_kept
-    (subst (All (Owned (row_of mine' spent))) (sym (row_spent said kept spent apart said_rows.1)) (All-nil (Owned (row_of mine' spent))))
-    (λ other not_kept not_spent. rw (row_else mine kept spent apart other not_kept not_spent, row_else said kept spent apart other not_kept not_spent) (l.of_own other));
+        (subst (All (Owned (row_of mine' spent))) (sym (row_spent said kept spent apart said_rows.1)) (All-nil (Owned (row_of mine' spent))))
+        (λ other not_kept not_spent. rw (row_else mine kept spent apart other not_kept not_spent, row_else said kept spent apart other not_kept not_spent) (l.of_own other));
     nothing = λ hand none. elim (cases_eq hand spent) [
       | inl same ↦ subst (λ h. (row_of mine' h ≡ []) × (row_of said' h ≡ []) × (row_of (joined_rows known kept spent) h ≡ [])) (sym same)
           (row_spent mine kept spent apart own_rows.1, row_spent said kept spent apart said_rows.1, row_spent known kept spent apart known_rows)

@@ -1,19 +1,16 @@
 -- Numbers and stamps where nothing is said: each event but a link and a join keeps whose they are.
-use Rattle.std.proofs.Common.{◌≡◌, ◌≢◌, ◌⊎◌, ℕ, ◌+◌, ◌*◌, ◌/◌, ◌^◌, ◌<◌, ◌≤◌, ◌==◌, Bool, true, false, List, [], ◌∷◌, ◌++◌, length, map, Option, Some, None, refl, sym, ap, ◌∙◌, subst, slice_set, slice_index_or, is_some, All, length-set, inl, inr, arith}
+use Rattle.std.proofs.Common.{◌≡◌, ◌≢◌, ℕ, ◌/◌, ◌^◌, ◌≤◌, true, false, List, [], ◌∷◌, Option, Some, None, refl, sym, ap, ◌∙◌, subst, is_some, All}
 use Rattle.std.proofs.lemmas.List.Elements.{All-nil, All-cons, All-head, All-tail, All-map, All-weaker}
-use Rattle.std.proofs.lemmas.Bool.{cases_eq}
-use Rattle.mc_core.specs.declared.event.Change.{Change}
 use Rattle.mc_core.specs.declared.event.Step.{Step}
-use Rattle.mc_core.specs.declared.event.Step.TheVariants as step
 use Rattle.mc_core.specs.declared.ids.Ids.{Ids}
-use Rattle.mc_core.specs.State.{State, is_hand, number_at}
-use Rattle.mc_core.specs.Past.{Past, Moment, Own, Saying, Known, learned, learned_alone, sayings_of, known_of, with_more, with_calls, moment_stepped}
-use Rattle.mc_core.specs.Identities.{owns, owners, number_in, stamps_in, AreCountedTo, AreNumbered}
+use Rattle.mc_core.specs.State.{is_hand}
+use Rattle.mc_core.specs.Past.{Past, Moment, Own, Saying, Known, learned_alone, sayings_of, with_more, with_calls, moment_stepped}
+use Rattle.mc_core.specs.Identities.{owns, number_in, AreCountedTo, AreNumbered}
 use Rattle.mc_core.specs.Lawful.{NumberedIn}
-use Rattle.mc_core.specs.Laws.{MayChange, MayStep, ChangesKeep, StepsKeep}
+use Rattle.mc_core.specs.Laws.{ChangesKeep}
 use Rattle.mc_core.specs.Silent.{after_change}
 use Rattle.mc_core.specs.Run.{after_step}
-use Rattle.mc_core.proofs.HandsKept.{ids_change, ids_step, leaves_ids}
+use Rattle.mc_core.proofs.HandsKept.{ids_change}
 use Rattle.mc_core.proofs.Learned.{is_join, learned_is, numbers_of, SameNumbers, same_numbers, same_row, owns_same, owners_same}
 use Rattle.mc_core.proofs.MoreRows.{row_of, row_other, with_none}
 
@@ -48,9 +45,9 @@ numbered_quiet ids mine mine' said known known' same l knows = record {
   stamps = l.stamps;
   gapless = λ hand. all_numbers (λ number. (most : ℕ) × AreCountedTo most number (row_of said hand)) (row_of mine hand) (row_of mine' hand) (same_row mine mine' hand same) (l.gapless hand);
   of_own = λ hand. All-weaker (λ (s : Saying). owns (s.stamp / 2 ^ 48) (row_of mine hand) ≡ 1) (λ (s : Saying). owns (s.stamp / 2 ^ 48) (row_of mine' hand) ≡ 1)
-  (λ s one. owns_same mine mine' hand (s.stamp / 2 ^ 48) same ∙ one) (row_of said hand) (l.of_own hand);
+      (λ s one. owns_same mine mine' hand (s.stamp / 2 ^ 48) same ∙ one) (row_of said hand) (l.of_own hand);
   nothing = λ hand none. let old = l.nothing hand none in
-  (no_numbers (row_of mine' hand) (same_row mine mine' hand same ∙ ap numbers_of old.0), old.1, knows hand none ∙ old.2);
+      (no_numbers (row_of mine' hand) (same_row mine mine' hand same ∙ ap numbers_of old.0), old.1, knows hand none ∙ old.2);
 }
 
 pub numbered_changes : ChangesKeep NumberedIn

@@ -1,15 +1,14 @@
 -- A new stamp of a hand: the stamps of its number are counted one further.
-use Rattle.std.proofs.Common.{◌≡◌, ◌≢◌, ◌⊎◌, ℕ, ◌+◌, ◌*◌, ◌/◌, ◌%◌, ◌^◌, ◌<◌, ◌≤◌, ◌==◌, ◌&&◌, Bool, true, false, List, [], ◌∷◌, ◌++◌, length, Option, Some, None, refl, sym, ap, ◌∙◌, subst, slice_set, slice_index_or, is_some, nat_le, All, inl, inr, arith, add-zero, zero-add, eq-eqb, ne_eqb, le-leb, leb-true, get_or-set_same, get_or-set_other, Contains}
+use Rattle.std.proofs.Common.{◌≡◌, ◌≢◌, ℕ, ◌+◌, ◌*◌, ◌/◌, ◌%◌, ◌^◌, ◌<◌, ◌==◌, ◌&&◌, Bool, true, false, List, [], ◌∷◌, ◌++◌, length, Option, Some, None, refl, sym, ap, ◌∙◌, subst, slice_set, slice_index_or, nat_le, All, inl, inr, arith, add-zero, zero-add, eq-eqb, ne_eqb, le-leb, leb-true, get_or-set_same, get_or-set_other}
 use Rattle.std.proofs.lemmas.Bool.{cases_eq, cases_lt, cases_Bool}
-use Rattle.std.proofs.lemmas.List.{get_or_past}
-use Rattle.std.proofs.lemmas.List.Elements.{All-push, All-weaker, All-contains_itself, All-contains}
+use Rattle.std.proofs.lemmas.List.Elements.{All-push, All-weaker}
 use Rattle.std.proofs.lemmas.List.Sums.{sum_by-append}
 use Rattle.mc_pages.specs.Accounted.{truth}
 use Rattle.mc_core.specs.declared.ids.Ids.{Ids}
-use Rattle.mc_core.specs.State.{State, gone}
+use Rattle.mc_core.specs.State.{gone}
 use Rattle.mc_core.specs.Items.{most_stamps, is_next_stamp, stamped}
 use Rattle.mc_core.specs.Past.{Own, Saying, Known, with_more}
-use Rattle.mc_core.specs.Identities.{owns, owners, number_in, stamps_in, said_times, AreCountedTo, AreNumbered}
+use Rattle.mc_core.specs.Identities.{owns, number_in, stamps_in, said_times, AreCountedTo, AreNumbered}
 use Rattle.mc_core.proofs.LinkKinds.{next_parts}
 use Rattle.mc_core.proofs.MoreRows.{row_of, row_same, row_other}
 
@@ -133,7 +132,7 @@ module _ (ids : List Ids) (mine : List (List Own)) (said : List (List Saying)) (
       | inr apart ↦ subst (All (λ (x : Saying). owns (x.stamp / 2 ^ 48) (row_of mine other) ≡ 1)) (sym (else other apart)) (l.of_own other)
     ];
     nothing = λ other none.
-    let old = l.nothing other (sym (numbers other) ∙ none) in
-    let apart : other ≢ hand = λ same. some_none (number_in ids hand) (s.stamp / 2 ^ 48) parts.1 (ap (number_in ids) (sym same) ∙ (sym (numbers other) ∙ none)) in
-    (old.0, else other apart ∙ old.1, knows other apart ∙ old.2);
+        let old = l.nothing other (sym (numbers other) ∙ none) in
+        let apart : other ≢ hand = λ same. some_none (number_in ids hand) (s.stamp / 2 ^ 48) parts.1 (ap (number_in ids) (sym same) ∙ (sym (numbers other) ∙ none)) in
+        (old.0, else other apart ∙ old.1, knows other apart ∙ old.2);
   }

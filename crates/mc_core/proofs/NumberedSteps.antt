@@ -1,26 +1,26 @@
 -- Each step keeps whose numbers and stamps are.
-use Rattle.std.proofs.Common.{◌≡◌, ◌≢◌, ◌⊎◌, ℕ, ◌+◌, ◌*◌, ◌/◌, ◌^◌, ◌<◌, ◌≤◌, ◌==◌, ◌&&◌, Bool, true, false, not, List, [], ◌∷◌, ◌++◌, length, map, replicate, Option, Some, None, refl, sym, ap, ◌∙◌, subst, slice_set, slice_index_or, is_some, All, inl, inr, arith, eqb-true, eq-eqb}
-use Rattle.std.proofs.lemmas.Bool.{and_parts, cases_eq, cases_lt, false≢true}
+use Rattle.std.proofs.Common.{◌≡◌, ◌≢◌, ℕ, ◌<◌, ◌==◌, ◌&&◌, true, false, not, List, [], length, refl, sym, ap, ◌∙◌, subst, slice_set, is_some, inl, inr, arith, eqb-true, eq-eqb}
+use Rattle.std.proofs.lemmas.Bool.{and_parts, cases_lt, false≢true}
 use Rattle.std.proofs.lemmas.List.{get_or_past}
 use Rattle.mc_pages.specs.declared.ids.ChunkId.{ChunkId}
 use Rattle.mc_core.specs.declared.event.Step.{Step}
 use Rattle.mc_core.specs.declared.event.Step.TheVariants as step
 use Rattle.mc_core.specs.declared.ids.Ids.{Ids}
 use Rattle.mc_core.specs.declared.holding.Holding.{Holding}
-use Rattle.mc_core.specs.Holdings.{stamp_in, item_in, holding_of, is_of}
-use Rattle.mc_core.specs.State.{State, gone, is_hand, number_at, ids_at, holdings_at, without_holding}
+use Rattle.mc_core.specs.Holdings.{stamp_in, item_in, holding_of}
+use Rattle.mc_core.specs.State.{gone, is_hand, ids_at, holdings_at}
 use Rattle.mc_core.specs.Hands as hands
-use Rattle.mc_core.specs.Items.{after_link_of, stamped}
-use Rattle.mc_core.specs.Past.{Past, Moment, Own, Saying, Known, Sight, learned, learned_alone, joined, sayings_of, said_by, known_of, with_more, with_calls, moment_stepped}
-use Rattle.mc_core.specs.Identities.{owns, owners, number_in, stamps_in, AreNumbered}
+use Rattle.mc_core.specs.Items.{stamped}
+use Rattle.mc_core.specs.Past.{Moment, Saying, learned_alone, sayings_of, with_more, moment_stepped}
+use Rattle.mc_core.specs.Identities.{number_in, AreNumbered}
 use Rattle.mc_core.specs.Lawful.{NumberedIn}
 use Rattle.mc_core.specs.Laws.{MayStep, StepsKeep}
 use Rattle.mc_core.specs.Run.{after_step}
 use Rattle.mc_core.proofs.HandsKept.{ids_step, leaves_ids}
-use Rattle.mc_core.proofs.Learned.{is_join, SameNumbers, same_numbers}
-use Rattle.mc_core.proofs.LinkKinds.{IsStored, IsBack, link_kind}
-use Rattle.mc_core.proofs.MoreRows.{row_of, row_other}
-use Rattle.mc_core.proofs.NumberedKept.{numbered_quiet, numbered_unsaid, there_apart}
+use Rattle.mc_core.proofs.Learned.{is_join, same_numbers}
+use Rattle.mc_core.proofs.LinkKinds.{IsStored, link_kind}
+use Rattle.mc_core.proofs.MoreRows.{row_other}
+use Rattle.mc_core.proofs.NumberedKept.{numbered_quiet, numbered_unsaid}
 use Rattle.mc_core.proofs.NumberedLink.{numbered_said}
 use Rattle.mc_core.proofs.NumberedJoin.{numbered_joined}
 

@@ -1,5 +1,5 @@
 -- What a step changes of hands: but for takes, gives and joins no lock, and no holdings and looks but those of the stepping hand.
-use Rattle.std.proofs.Common.{◌≡◌, ◌≢◌, ◌⊎◌, ℕ, zero, suc, ◌==◌, Bool, true, false, cond, List, [], ◌∷◌, ◌++◌, length, set, Option, Some, None, refl, sym, ap, ◌∙◌, slice_set, slice_index_or, length-set, get_or-set_other}
+use Rattle.std.proofs.Common.{◌≡◌, ◌≢◌, ℕ, zero, suc, Bool, true, false, cond, List, [], ◌∷◌, ◌++◌, length, Option, Some, None, refl, ◌∙◌, slice_set, slice_index_or, length-set, get_or-set_other}
 use Rattle.mc_pages.specs.declared.ids.ChunkId.{ChunkId}
 use Rattle.mc_pages.specs.SlabState.{SlabState}
 use Rattle.mc_stripe.specs.StripeState.{ReadyStripe}
@@ -16,15 +16,13 @@ use Rattle.mc_core.specs.declared.holding.Kind.{Kind}
 use Rattle.mc_core.specs.declared.holding.Kind.TheVariants.{Reference, Fresh}
 use Rattle.mc_core.specs.declared.holding.Purpose.TheVariants.{Item, Copy, Rescue}
 use Rattle.mc_core.specs.Holdings.{Words, lose, is_of, is_copy_of, holding_of}
-use Rattle.mc_core.specs.State.{State, gone, number_at, head_place, word_place, has_slabs, holdings_at, looks_at, with_head, with_word, with_slabs, with_stripe, with_ids, with_holding, without_holding, with_looks, with_look, head_at, word_at}
+use Rattle.mc_core.specs.State.{State, gone, number_at, has_slabs, holdings_at, looks_at, with_head, with_word, with_slabs, with_stripe, with_ids, with_holding, without_holding, with_looks, with_look}
 use Rattle.mc_core.specs.Silent.{after_change}
 use Rattle.mc_core.specs.Locks.{looked}
 use Rattle.mc_core.specs.Chunks.{popped, popped_off, refilled, target_of, next_free, new_holding, handed_out, after_fill, let_go, with_tag_free, with_tag_out}
 use Rattle.mc_core.specs.Chunks as chunks
-use Rattle.mc_core.specs.Items.{told_link, after_link_of, referred_to, with_got, with_unlinked, chunk_of, new_reference, referred, linked, unlinked, as_reference, with_reference}
-use Rattle.mc_core.specs.Items as items
-use Rattle.mc_core.specs.Evictions.{with_rescue, with_bound, with_told, copy_of, key_at, condemned, as_rescue}
-use Rattle.mc_core.specs.Evictions as evictions
+use Rattle.mc_core.specs.Items.{told_link, after_link_of, referred_to, with_got, with_unlinked, chunk_of}
+use Rattle.mc_core.specs.Evictions.{with_rescue, copy_of}
 use Rattle.mc_core.specs.Run.{after_step}
 
 pub record IsOwn (before now : State) (hand : ℕ) : Type 0 where
@@ -40,46 +38,98 @@ pub record IsOwn (before now : State) (hand : ℕ) : Type 0 where
 -- nothing of that is changed
 pub own_same : (s : State) (hand : ℕ) → IsOwn s s hand
 own_same s hand = record {
-  slabs_lock = refl; stripe_locks = refl; long = refl; numbers = λ other. refl; holding_rows = refl; look_rows = refl; holdings = λ other apart. refl; looks = λ other apart. refl;
+  slabs_lock = refl;
+  stripe_locks = refl;
+  long = refl;
+  numbers = λ other. refl;
+  holding_rows = refl;
+  look_rows = refl;
+  holdings = λ other apart. refl;
+  looks = λ other apart. refl;
 }
 
 pub own_then : {a b c : State} {hand : ℕ} → IsOwn a b hand → IsOwn b c hand → IsOwn a c hand
 own_then p q = record {
-  slabs_lock = q.slabs_lock ∙ p.slabs_lock; stripe_locks = q.stripe_locks ∙ p.stripe_locks; long = q.long ∙ p.long; numbers = λ other. q.numbers other ∙ p.numbers other;
-  holding_rows = q.holding_rows ∙ p.holding_rows; look_rows = q.look_rows ∙ p.look_rows;
-  holdings = λ other apart. q.holdings other apart ∙ p.holdings other apart; looks = λ other apart. q.looks other apart ∙ p.looks other apart;
+  slabs_lock = q.slabs_lock ∙ p.slabs_lock;
+  stripe_locks = q.stripe_locks ∙ p.stripe_locks;
+  long = q.long ∙ p.long;
+  numbers = λ other. q.numbers other ∙ p.numbers other;
+  holding_rows = q.holding_rows ∙ p.holding_rows;
+  look_rows = q.look_rows ∙ p.look_rows;
+  holdings = λ other apart. q.holdings other apart ∙ p.holdings other apart;
+  looks = λ other apart. q.looks other apart ∙ p.looks other apart;
 }
 
 own_head : (s : State) (hand : ℕ) (chunk : ChunkId) (head : Head) → IsOwn s (with_head s chunk head) hand
 own_head s hand chunk head = record {
-  slabs_lock = refl; stripe_locks = refl; long = refl; numbers = λ other. refl; holding_rows = refl; look_rows = refl; holdings = λ other apart. refl; looks = λ other apart. refl;
+  slabs_lock = refl;
+  stripe_locks = refl;
+  long = refl;
+  numbers = λ other. refl;
+  holding_rows = refl;
+  look_rows = refl;
+  holdings = λ other apart. refl;
+  looks = λ other apart. refl;
 }
 
 own_word : (s : State) (hand : ℕ) (chunk : ChunkId) (place word : ℕ) → IsOwn s (with_word s chunk place word) hand
 own_word s hand chunk place word = record {
-  slabs_lock = refl; stripe_locks = refl; long = refl; numbers = λ other. refl; holding_rows = refl; look_rows = refl; holdings = λ other apart. refl; looks = λ other apart. refl;
+  slabs_lock = refl;
+  stripe_locks = refl;
+  long = refl;
+  numbers = λ other. refl;
+  holding_rows = refl;
+  look_rows = refl;
+  holdings = λ other apart. refl;
+  looks = λ other apart. refl;
 }
 
 own_slabs : (s : State) (hand : ℕ) (slabs : SlabState) → IsOwn s (with_slabs s slabs) hand
 own_slabs s hand slabs = record {
-  slabs_lock = refl; stripe_locks = refl; long = refl; numbers = λ other. refl; holding_rows = refl; look_rows = refl; holdings = λ other apart. refl; looks = λ other apart. refl;
+  slabs_lock = refl;
+  stripe_locks = refl;
+  long = refl;
+  numbers = λ other. refl;
+  holding_rows = refl;
+  look_rows = refl;
+  holdings = λ other apart. refl;
+  looks = λ other apart. refl;
 }
 
 own_stripe : (s : State) (hand stripe : ℕ) (value : ReadyStripe) → IsOwn s (with_stripe s stripe value) hand
 own_stripe s hand stripe value = record {
-  slabs_lock = refl; stripe_locks = refl; long = refl; numbers = λ other. refl; holding_rows = refl; look_rows = refl; holdings = λ other apart. refl; looks = λ other apart. refl;
+  slabs_lock = refl;
+  stripe_locks = refl;
+  long = refl;
+  numbers = λ other. refl;
+  holding_rows = refl;
+  look_rows = refl;
+  holdings = λ other apart. refl;
+  looks = λ other apart. refl;
 }
 
 own_row : (s : State) (hand : ℕ) (row : List Holding) → IsOwn s (record s { holdings = slice_set s.holdings hand row }) hand
 own_row s hand row = record {
-  slabs_lock = refl; stripe_locks = refl; long = refl; numbers = λ other. refl; holding_rows = length-set s.holdings hand row; look_rows = refl;
-  holdings = λ other apart. get_or-set_other s.holdings hand other row [] apart; looks = λ other apart. refl;
+  slabs_lock = refl;
+  stripe_locks = refl;
+  long = refl;
+  numbers = λ other. refl;
+  holding_rows = length-set s.holdings hand row;
+  look_rows = refl;
+  holdings = λ other apart. get_or-set_other s.holdings hand other row [] apart;
+  looks = λ other apart. refl;
 }
 
 own_looks : (s : State) (hand : ℕ) (row : List Look) → IsOwn s (with_looks s hand row) hand
 own_looks s hand row = record {
-  slabs_lock = refl; stripe_locks = refl; long = refl; numbers = λ other. refl; holding_rows = refl; look_rows = length-set s.looks hand row;
-  holdings = λ other apart. refl; looks = λ other apart. get_or-set_other s.looks hand other row [] apart;
+  slabs_lock = refl;
+  stripe_locks = refl;
+  long = refl;
+  numbers = λ other. refl;
+  holding_rows = refl;
+  look_rows = length-set s.looks hand row;
+  holdings = λ other apart. refl;
+  looks = λ other apart. get_or-set_other s.looks hand other row [] apart;
 }
 
 own_more : (s : State) (hand : ℕ) (holding : Holding) → IsOwn s (with_holding s hand holding) hand
@@ -105,8 +155,14 @@ number_set (x ∷ ids) (suc hand) (suc other) i same = number_set ids hand other
 -- numbers stay where one hand's stamps are counted
 own_ids : (s : State) (hand : ℕ) (ids : Ids) → ids.number ≡ number_at s hand → IsOwn s (with_ids s hand ids) hand
 own_ids s hand ids same = record {
-  slabs_lock = refl; stripe_locks = refl; long = length-set s.ids hand ids; numbers = numbers; holding_rows = refl; look_rows = refl;
-  holdings = λ other apart. refl; looks = λ other apart. refl;
+  slabs_lock = refl;
+  stripe_locks = refl;
+  long = length-set s.ids hand ids;
+  numbers = numbers;
+  holding_rows = refl;
+  look_rows = refl;
+  holdings = λ other apart. refl;
+  looks = λ other apart. refl;
 } where
   numbers : (other : ℕ) → number_at (with_ids s hand ids) other ≡ number_at s other
   numbers other = number_set s.ids hand other ids same

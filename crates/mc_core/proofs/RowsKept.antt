@@ -1,5 +1,5 @@
 -- Each step keeps a row for each hand, and but for a join it keeps the hands' numbers.
-use Rattle.std.proofs.Common.{◌≡◌, ◌⊎◌, ℕ, ◌*◌, ◌≤◌, ◌==◌, ◌&&◌, Bool, true, false, not, List, [], ◌∷◌, length, map, replicate, refl, sym, ap, ◌∙◌, subst, slice_set, slice_index_or, length-set, inl, inr}
+use Rattle.std.proofs.Common.{◌≡◌, ◌⊎◌, ℕ, ◌≤◌, false, length, refl, sym, ◌∙◌, subst, slice_set, length-set, inl, inr}
 use Rattle.std.specs.List.{range_with_len}
 use Rattle.std.proofs.lemmas.List.{length-replicate, length-map}
 use Rattle.std.proofs.lemmas.List.FromFn.{length-range_with_len}
@@ -7,10 +7,10 @@ use Rattle.mc_classes.specs.Classes.{Classes, IsSound}
 use Rattle.mc_core.specs.declared.event.Step.{Step}
 use Rattle.mc_core.specs.declared.event.Step.TheVariants as step
 use Rattle.mc_core.specs.State.{State, gone, number_at}
-use Rattle.mc_core.specs.Past.{Past, Moment, learned, learned_alone, joined, moment_stepped, first_moment}
+use Rattle.mc_core.specs.Past.{Moment, learned_alone, joined, moment_stepped, first_moment}
 use Rattle.mc_core.specs.Identities.{HaveRows}
 use Rattle.mc_core.specs.Lawful.{RowsIn}
-use Rattle.mc_core.specs.Laws.{MayStep, StepsKeep}
+use Rattle.mc_core.specs.Laws.{StepsKeep}
 use Rattle.mc_core.specs.Run.{after_step}
 use Rattle.mc_core.proofs.Own.{IsOwn, own_step}
 use Rattle.mc_core.proofs.Learned.{is_join, learned_is}

@@ -27,7 +27,7 @@ word_there (word ∷ words) (suc place) all within = word_there words place (and
 pub whole_item : (words : Words) → IsWhole words → item_in words ≡ words
 whole_item words is = take_all (item_length words) words (let long = is.long in omega arith)
 
-whole_word : (words : Words) (place : ℕ) → IsWhole words → place < length words → slice_get words place ≡ Some (Some (word_in words place))
+pub whole_word : (words : Words) (place : ℕ) → IsWhole words → place < length words → slice_get words place ≡ Some (Some (word_in words place))
 whole_word words place is within =
     let parts = and_parts (fits words) (list_all is_some (item_in words)) is.complete in
     word_there words place (subst (λ (ws : Words). list_all is_some ws ≡ true) (whole_item words is) parts.1) within

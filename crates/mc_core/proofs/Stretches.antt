@@ -1,14 +1,14 @@
 -- While a hand keeps one holding, its chunk stays handed out, its page stays with the class, and its words stay.
-use Rattle.std.proofs.Common.{◌≡◌, ◌≢◌, ◌⊎◌, ℕ, ◌+◌, ◌*◌, ◌<◌, ◌==◌, ◌&&◌, Bool, true, false, not, cond, List, [], ◌∷◌, Option, Some, None, refl, sym, ap, ap₂, ◌∙◌, subst, slice_index, slice_index_or, slice_set, is_some, eq-eqb, Contains, All, arith, inl, inr}
+use Rattle.std.proofs.Common.{◌≡◌, ◌⊎◌, ℕ, ◌+◌, ◌*◌, ◌<◌, ◌==◌, ◌&&◌, Bool, true, false, not, List, [], ◌∷◌, Some, None, refl, sym, ap, ap₂, ◌∙◌, subst, slice_index, slice_index_or, slice_set, is_some, eq-eqb, Contains, arith, inl, inr}
 use Rattle.std.specs.List.{list_all}
-use Rattle.std.proofs.lemmas.Bool.{and_parts, and_from, cases_Bool, false≢true}
+use Rattle.std.proofs.lemmas.Bool.{and_parts, and_from, false≢true}
 use Rattle.std.proofs.lemmas.List.Elements.{All-contains}
 use Rattle.mc_classes.specs.Classes.{Classes}
 use Rattle.mc_pages.specs.declared.ids.ChunkId.{ChunkId}
 use Rattle.mc_pages.specs.declared.ledger.Owner.{Owner}
 use Rattle.mc_pages.specs.Ledger.{owner_at}
 use Rattle.mc_pages.specs.ClassState.{is_chunk}
-use Rattle.mc_pages.specs.SlabState.{SlabState, IsClass, class_of_page, class_of_owner}
+use Rattle.mc_pages.specs.SlabState.{class_of_page, class_of_owner}
 use Rattle.mc_pages.proofs.Chunks.{same_from_is_chunk}
 use Rattle.mc_core.specs.declared.event.Change.{Change}
 use Rattle.mc_core.specs.declared.event.Event.{Event}
@@ -16,10 +16,10 @@ use Rattle.mc_core.specs.declared.event.Step.{Step}
 use Rattle.mc_core.specs.declared.event.Step.TheVariants as step
 use Rattle.mc_core.specs.declared.ids.Ids.{Ids}
 use Rattle.mc_core.specs.declared.holding.Holding.{Holding}
-use Rattle.mc_core.specs.Holdings.{is_fresh, is_of, holding_of}
-use Rattle.mc_core.specs.State.{State, gone, is_hand, has_chunk, room_in, room_at, page_words, word_at, word_place, holdings_at}
+use Rattle.mc_core.specs.Holdings.{is_fresh, holding_of}
+use Rattle.mc_core.specs.State.{State, gone, is_hand, has_chunk, room_in, room_at, page_words, word_place, holdings_at}
 use Rattle.mc_core.specs.Silent.{allows_change, after_change, allows_changes, after_changes}
-use Rattle.mc_core.specs.Chunks.{can_fill_in, can_fill}
+use Rattle.mc_core.specs.Chunks.{can_fill_in}
 use Rattle.mc_core.specs.Columns.{head_in, IsHandedOut}
 use Rattle.mc_core.specs.Past.{Past, Moment, Known, known_by, moment_changed, moment_changes, moment_stepped, moment_after, known_of}
 use Rattle.mc_core.specs.Run.{is_allowed, after_step, allows_step}
@@ -29,14 +29,14 @@ use Rattle.mc_core.specs.Stretch.{Holds, KeepsHolding, fills, fills_chunk, HasSa
 use Rattle.mc_core.specs.Knowing.{IsTrueStill}
 use Rattle.mc_core.proofs.Base.{IsPlaced, placed_at, IsOut, held_out, each_row}
 use Rattle.mc_core.proofs.HandsKept.{ids_change}
-use Rattle.mc_core.proofs.LawKept.{lawful_changes, lawful_all, lawful_events, may_step}
-use Rattle.mc_core.proofs.Learned.{is_join, learned_is}
+use Rattle.mc_core.proofs.LawKept.{lawful_changes, lawful_events, may_step}
+use Rattle.mc_core.proofs.Learned.{learned_is}
 use Rattle.mc_core.proofs.MoreRows.{row_of, more_contains, joined_contains, each_contained}
 use Rattle.mc_core.proofs.NumberedSteps.{join_facts}
 use Rattle.mc_core.proofs.RowsKept.{by_join}
 use Rattle.mc_core.proofs.SamePages.{stays_changes}
 use Rattle.mc_core.proofs.SameSlabs.{table_stays, owners_stay}
-use Rattle.mc_core.proofs.WordsStay.{is_fill, step_words, filled_words, LeavesChunks, change_leaves, filler_alone, filler_fresh, else_words}
+use Rattle.mc_core.proofs.WordsStay.{is_fill, step_words, filled_words, change_leaves, filler_alone, filler_fresh, else_words}
 
 -- a step is a fill, or none
 fill_or : (next : Step) → (is_fill next ≡ false) ⊎ ((chunk : ChunkId) × (place : ℕ) × (word : ℕ) × (next ≡ step.Fill chunk place word))
@@ -136,7 +136,8 @@ module _ (hand : ℕ) (chunk : ChunkId) (issue : ℕ) where
   held_changed m who change held = record {
     holding = held.holding;
     among = subst (λ (rows : List (List Holding)). Contains (slice_index_or rows hand []) held.holding) (sym (change_leaves m.state who change).holdings) held.among;
-    same_chunk = held.same_chunk; same_issue = held.same_issue;
+    same_chunk = held.same_chunk;
+    same_issue = held.same_issue;
   }
 
   change_steady : (m : Moment) (who : ℕ) (change : Change) → MayChange m who change → Holds m hand chunk issue → IsSteady m.state (after_change m.state who change) chunk × HasSameWords m.state (after_change m.state who change) chunk
@@ -207,17 +208,20 @@ module _ (hand : ℕ) (chunk : ChunkId) (issue : ℕ) where
       let held' : Holds ready hand chunk issue = record {
         holding = held.holding;
         among = subst (λ (rows : List (List Holding)). Contains (slice_index_or rows hand []) held.holding) (sym before.2) held.among;
-        same_chunk = held.same_chunk; same_issue = held.same_issue;
+        same_chunk = held.same_chunk;
+        same_issue = held.same_issue;
       } in
-      let step_is = step_steady ready event.hand event.step in
-      (steady_then before.0 step_is, λ why.
-      words_then m.state ready.state (moment_after m event).state chunk before.0 before.1
-      (step_same ready event.hand event.step may held' (λ fill.
-      let by = filled_by ready event.hand event.step may held' fill in
-      elim why [
-        | inl none ↦ absurd (false≢true (sym none ∙ and_from (event.hand == hand) (fills_chunk chunk event.step) (eq-eqb event.hand hand (sym by.0)) fill))
-        | inr stale ↦ by.1 stale
-      ])))
+      let step_is = step_steady ready event.hand event.step in (
+        steady_then before.0 step_is,
+        λ why.
+            words_then m.state ready.state (moment_after m event).state chunk before.0 before.1
+            (step_same ready event.hand event.step may held' (λ fill.
+            let by = filled_by ready event.hand event.step may held' fill in
+            elim why [
+              | inl none ↦ absurd (false≢true (sym none ∙ and_from (event.hand == hand) (fills_chunk chunk event.step) (eq-eqb event.hand hand (sym by.0)) fill))
+              | inr stale ↦ by.1 stale
+            ])),
+      )
 
   -- what was known to a hand is known to some hand
   known_persists : (m : Moment) (event : Event) → IsLawful m → is_allowed m.state event ≡ true → Holds m hand chunk issue → (k : Known) → Contains (row_of m.past.known hand) k → (other : ℕ) × Contains (row_of (moment_after m event).past.known other) k
@@ -228,8 +232,11 @@ module _ (hand : ℕ) (chunk : ChunkId) (issue : ℕ) where
       let may = may_step m event l allowed in
       let among' : Contains (row_of ready.past.known hand) k = subst (λ (rows : List (List Known)). Contains (row_of rows hand) k) (sym before.3) among in
       elim (by_join ready.state event.hand event.step) [
-        | inl (alone, _) ↦ (hand, subst (λ (p : Past). Contains (row_of p.known hand) k) (sym (learned_is ready.state (after_step ready.state event.hand event.step) ready.past event.hand event.step alone))
-            (more_contains ready.past.known event.hand hand (known_of ready.state event.hand event.step) k among'))
+        | inl (alone, _) ↦ (
+          hand,
+          subst (λ (p : Past). Contains (row_of p.known hand) k) (sym (learned_is ready.state (after_step ready.state event.hand event.step) ready.past event.hand event.step alone))
+              (more_contains ready.past.known event.hand hand (known_of ready.state event.hand event.step) k among'),
+        )
         | inr (kept, spent, is) ↦
             let facts = join_facts ready event.hand kept spent (subst (MayStep ready event.hand) is may) in
             let there = joined_contains ready.past.known kept spent hand k facts.0 (omega (arith, facts.1, may.lawful.rows.known)) among' in
@@ -255,7 +262,11 @@ module _ (hand : ℕ) (chunk : ChunkId) (issue : ℕ) where
 
   stretch_kept : (m : Moment) (events : List Event) → IsLawful m → KeepsHolding m hand chunk issue events → StaysKept m (moment_at_end m events) hand chunk issue events
   stretch_kept m [] l held = record {
-    handed_out = (out_of m l held).1; owned = (placed_of m l held).class; same_class = refl; unfilled = λ _ at on. refl; referred = λ _ _ at on. refl;
+    handed_out = (out_of m l held).1;
+    owned = (placed_of m l held).class;
+    same_class = refl;
+    unfilled = λ _ at on. refl;
+    referred = λ _ _ at on. refl;
   }
   stretch_kept m (event ∷ events) l keeps =
       let after = moment_after m event in

@@ -1,10 +1,10 @@
 -- What an event tells a stripe: one stripe whose lock is held is written, and its history grows by calls of the hand.
-use Rattle.std.proofs.Common.{◌≡◌, ◌≢◌, ℕ, ◌+◌, ◌/◌, ◌%◌, ◌^◌, ◌<◌, ◌≤◌, ◌==◌, ◌&&◌, ◌||◌, Bool, true, false, cond, not, List, [], ◌∷◌, ◌++◌, length, Option, Some, None, refl, sym, ap, subst, ◌∙◌, inl, inr, arith, eqb-true, eq-eqb, slice_set, slice_index, slice_index_or, is_some, is_none, All, count_by, mod-lt, IfSome, IsSome}
+use Rattle.std.proofs.Common.{◌≡◌, ◌≢◌, ℕ, ◌/◌, ◌%◌, ◌^◌, ◌<◌, ◌==◌, Bool, true, false, List, [], ◌∷◌, ◌++◌, length, Option, Some, None, refl, sym, ap, subst, ◌∙◌, arith, eq-eqb, slice_set, slice_index, is_some, is_none, All, count_by, IfSome}
 use Rattle.std.specs.Option.{option_map, option_map_or}
 use Rattle.std.proofs.lemmas.List.{append-nil}
 use Rattle.std.proofs.lemmas.List.Elements.{All-nil, All-cons, All-get_or}
 use Rattle.std.proofs.lemmas.Option.{slice_get-get_or}
-use Rattle.std.proofs.lemmas.Bool.{and_parts, cases_Bool, false≢true}
+use Rattle.std.proofs.lemmas.Bool.{false≢true}
 use Rattle.mc_pages.specs.declared.ids.ChunkId.{ChunkId}
 use Rattle.mc_stripe.specs.declared.history.Call.{Call}
 use Rattle.mc_stripe.specs.declared.history.Call.TheVariants.{Set, Get, Delete, Evict, Rescue}
@@ -14,9 +14,7 @@ use Rattle.mc_stripe.specs.Changes as stripe_changes
 use Rattle.mc_stripe.specs.Legal.{IsLegal}
 use Rattle.mc_stripe.proofs.Kept.{IsLegal-after_got, IsLegal-after_unlink, IsLegal-after_lift, IsLegal-after_evict, IsLegal-after_link, IsLegal-after_rescue}
 use Rattle.mc_core.specs.State.{State, has_stripe, stripe_of, stripe_at, number_at}
-use Rattle.mc_core.specs.Silent.{is_aside, can_tell_none, writer_of}
-use Rattle.mc_core.specs.Items.{stripe_unlinked}
-use Rattle.mc_core.specs.Evictions.{stripe_condemned, can_take_away}
+use Rattle.mc_core.specs.Silent.{is_aside, writer_of}
 use Rattle.mc_core.specs.Indexed.{AreLegal}
 use Rattle.mc_core.specs.Holdings.{Words}
 use Rattle.mc_core.specs.Past.{Saying}
@@ -76,38 +74,69 @@ module _ (state : State) (hand : ℕ) (l : AreLegal state.stripes state.stripe_l
   -- room was made
   pub tells_reserve : Tells state (slice_set state.stripes at (record (stripe_at state at) { ready = true })) hand []
   tells_reserve = record {
-    at = at; value = record (stripe_at state at) { ready = true }; stripes = refl; within = within; held = held; legal = legal; aside = was_aside;
-    more = []; grown = sym (append-nil old.history); own = All-nil (λ call. hand_of call ≡ writer_of state hand); sets = All-nil (IsSetIn (length state.stripes) at); stores = λ stamp. refl;
+    at = at;
+    value = record (stripe_at state at) { ready = true };
+    stripes = refl;
+    within = within;
+    held = held;
+    legal = legal;
+    aside = was_aside;
+    more = [];
+    grown = sym (append-nil old.history);
+    own = All-nil (λ call. hand_of call ≡ writer_of state hand);
+    sets = All-nil (IsSetIn (length state.stripes) at);
+    stores = λ stamp. refl;
   }
 
   -- the key was looked up
   pub tells_got : (key : ℕ) → is_aside old key ≡ false → Tells state (slice_set state.stripes at (used_up (after_got old (writer_of state hand) key))) hand []
   tells_got key apart = record {
-    at = at; value = used_up (after_got old (writer_of state hand) key); stripes = refl; within = within; held = held;
+    at = at;
+    value = used_up (after_got old (writer_of state hand) key);
+    stripes = refl;
+    within = within;
+    held = held;
     legal = IsLegal-after_got old (writer_of state hand) key legal (other_aside (key_aside old) key apart);
-    aside = was_aside; more = Get (writer_of state hand) key (stamp_of old key) ∷ []; grown = refl;
+    aside = was_aside;
+    more = Get (writer_of state hand) key (stamp_of old key) ∷ [];
+    grown = refl;
     own = All-cons (λ call. hand_of call ≡ writer_of state hand) _ [] refl (All-nil (λ call. hand_of call ≡ writer_of state hand));
-    sets = All-cons (IsSetIn (length state.stripes) at) _ [] tt (All-nil (IsSetIn (length state.stripes) at)); stores = λ stamp. refl;
+    sets = All-cons (IsSetIn (length state.stripes) at) _ [] tt (All-nil (IsSetIn (length state.stripes) at));
+    stores = λ stamp. refl;
   }
 
   -- the key was deleted
   pub tells_deleted : (key : ℕ) → is_aside old key ≡ false → Tells state (slice_set state.stripes at (used_up (stripe_changes.after_unlink old (writer_of state hand) key))) hand []
   tells_deleted key apart = record {
-    at = at; value = used_up (stripe_changes.after_unlink old (writer_of state hand) key); stripes = refl; within = within; held = held;
+    at = at;
+    value = used_up (stripe_changes.after_unlink old (writer_of state hand) key);
+    stripes = refl;
+    within = within;
+    held = held;
     legal = IsLegal-after_unlink old (writer_of state hand) key legal (other_aside (key_aside old) key apart);
-    aside = was_aside; more = Delete (writer_of state hand) key (is_some (place_of old key)) ∷ []; grown = refl;
+    aside = was_aside;
+    more = Delete (writer_of state hand) key (is_some (place_of old key)) ∷ [];
+    grown = refl;
     own = All-cons (λ call. hand_of call ≡ writer_of state hand) _ [] refl (All-nil (λ call. hand_of call ≡ writer_of state hand));
-    sets = All-cons (IsSetIn (length state.stripes) at) _ [] tt (All-nil (IsSetIn (length state.stripes) at)); stores = λ stamp. refl;
+    sets = All-cons (IsSetIn (length state.stripes) at) _ [] tt (All-nil (IsSetIn (length state.stripes) at));
+    stores = λ stamp. refl;
   }
 
   -- its item was evicted
   pub tells_evicted : (key : ℕ) → is_some (place_of old key) ≡ true → Tells state (slice_set state.stripes at (used_up (after_evict old (writer_of state hand) key))) hand []
   tells_evicted key there = record {
-    at = at; value = used_up (after_evict old (writer_of state hand) key); stripes = refl; within = within; held = held;
+    at = at;
+    value = used_up (after_evict old (writer_of state hand) key);
+    stripes = refl;
+    within = within;
+    held = held;
     legal = IsLegal-after_evict old (writer_of state hand) key legal there;
-    aside = was_aside; more = Evict (writer_of state hand) key ∷ []; grown = refl;
+    aside = was_aside;
+    more = Evict (writer_of state hand) key ∷ [];
+    grown = refl;
     own = All-cons (λ call. hand_of call ≡ writer_of state hand) _ [] refl (All-nil (λ call. hand_of call ≡ writer_of state hand));
-    sets = All-cons (IsSetIn (length state.stripes) at) _ [] tt (All-nil (IsSetIn (length state.stripes) at)); stores = λ stamp. refl;
+    sets = All-cons (IsSetIn (length state.stripes) at) _ [] tt (All-nil (IsSetIn (length state.stripes) at));
+    stores = λ stamp. refl;
   }
 
   lifted_of : (key : ℕ) (place : Option (ChunkId × ℕ)) (entry : ℕ × (ChunkId × ℕ)) → option_map (λ (p : ChunkId × ℕ). (key, p)) place ≡ Some entry → entry.0 ≡ key
@@ -117,10 +146,18 @@ module _ (state : State) (hand : ℕ) (l : AreLegal state.stripes state.stripe_l
   -- its entry was put aside
   pub tells_lifted : (key : ℕ) (room : Bool) → stripe_of state key ≡ at → is_some (place_of old key) ≡ true → old.aside ≡ None → Tells state (slice_set state.stripes at (record { state = after_lift old key; ready = room })) hand []
   tells_lifted key room here there none = record {
-    at = at; value = record { state = after_lift old key; ready = room }; stripes = refl; within = within; held = held;
+    at = at;
+    value = record { state = after_lift old key; ready = room };
+    stripes = refl;
+    within = within;
+    held = held;
     legal = IsLegal-after_lift old key legal there none;
     aside = λ entry is. ap (λ (k : ℕ). k % length state.stripes) (lifted_of key (place_of old key) entry is) ∙ here;
-    more = []; grown = sym (append-nil old.history); own = All-nil (λ call. hand_of call ≡ writer_of state hand); sets = All-nil (IsSetIn (length state.stripes) at); stores = λ stamp. refl;
+    more = [];
+    grown = sym (append-nil old.history);
+    own = All-nil (λ call. hand_of call ≡ writer_of state hand);
+    sets = All-nil (IsSetIn (length state.stripes) at);
+    stores = λ stamp. refl;
   }
 
   no_entry : (entry : ℕ × (ChunkId × ℕ)) → None ≡ Some entry → entry.0 % length state.stripes ≡ at
@@ -129,19 +166,33 @@ module _ (state : State) (hand : ℕ) (l : AreLegal state.stripes state.stripe_l
   -- an item was stored under it
   pub tells_set : (key : ℕ) (chunk : ChunkId) (stamp : ℕ) (words : Words) → stripe_of state key ≡ at → stamp / 2 ^ 48 ≡ writer_of state hand → IfSome (key_aside old) (λ other. other ≡ key) → Tells state (slice_set state.stripes at (used_up (stripe_changes.after_link old (writer_of state hand) key chunk stamp))) hand (record { stamp = stamp; words = words } ∷ [])
   tells_set key chunk stamp words here own_stamp same = record {
-    at = at; value = used_up (stripe_changes.after_link old (writer_of state hand) key chunk stamp); stripes = refl; within = within; held = held;
+    at = at;
+    value = used_up (stripe_changes.after_link old (writer_of state hand) key chunk stamp);
+    stripes = refl;
+    within = within;
+    held = held;
     legal = IsLegal-after_link old (writer_of state hand) key chunk stamp legal same;
-    aside = no_entry; more = Set (writer_of state hand) key stamp ∷ []; grown = refl;
+    aside = no_entry;
+    more = Set (writer_of state hand) key stamp ∷ [];
+    grown = refl;
     own = All-cons (λ call. hand_of call ≡ writer_of state hand) _ [] refl (All-nil (λ call. hand_of call ≡ writer_of state hand));
-    sets = All-cons (IsSetIn (length state.stripes) at) _ [] (here, own_stamp) (All-nil (IsSetIn (length state.stripes) at)); stores = λ other. stored_one (writer_of state hand) key stamp other words;
+    sets = All-cons (IsSetIn (length state.stripes) at) _ [] (here, own_stamp) (All-nil (IsSetIn (length state.stripes) at));
+    stores = λ other. stored_one (writer_of state hand) key stamp other words;
   }
 
   -- its entry came back with another chunk
   pub tells_rescued : (key : ℕ) (chunk : ChunkId) → key_aside old ≡ Some key → Tells state (slice_set state.stripes at (used_up (after_rescue old (writer_of state hand) key chunk))) hand []
   tells_rescued key chunk is = record {
-    at = at; value = used_up (after_rescue old (writer_of state hand) key chunk); stripes = refl; within = within; held = held;
+    at = at;
+    value = used_up (after_rescue old (writer_of state hand) key chunk);
+    stripes = refl;
+    within = within;
+    held = held;
     legal = IsLegal-after_rescue old (writer_of state hand) key chunk legal is;
-    aside = no_entry; more = Rescue (writer_of state hand) key ∷ []; grown = refl;
+    aside = no_entry;
+    more = Rescue (writer_of state hand) key ∷ [];
+    grown = refl;
     own = All-cons (λ call. hand_of call ≡ writer_of state hand) _ [] refl (All-nil (λ call. hand_of call ≡ writer_of state hand));
-    sets = All-cons (IsSetIn (length state.stripes) at) _ [] tt (All-nil (IsSetIn (length state.stripes) at)); stores = λ stamp. refl;
+    sets = All-cons (IsSetIn (length state.stripes) at) _ [] tt (All-nil (IsSetIn (length state.stripes) at));
+    stores = λ stamp. refl;
   }

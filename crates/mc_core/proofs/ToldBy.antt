@@ -1,10 +1,10 @@
 -- Which events tell a stripe of a call, and that all others leave the stripes alone.
-use Rattle.std.proofs.Common.{◌≡◌, ◌⊎◌, ℕ, ◌+◌, ◌/◌, ◌%◌, ◌^◌, ◌==◌, ◌&&◌, ◌||◌, Bool, true, false, cond, not, List, [], ◌∷◌, Option, Some, None, refl, sym, ap, subst, ◌∙◌, inl, inr, eqb-true, nat_lt, nat_eq, unwrap_or, slice_set, is_some, is_none, IfSome}
+use Rattle.std.proofs.Common.{◌≡◌, ◌⊎◌, ℕ, ◌+◌, ◌/◌, ◌%◌, ◌^◌, ◌==◌, ◌&&◌, ◌||◌, Bool, true, false, cond, not, List, [], Option, Some, None, refl, sym, ap, subst, inl, inr, eqb-true, nat_lt, nat_eq, unwrap_or, slice_set, is_some, is_none, IfSome}
 use Rattle.std.specs.Option.{option_map, option_map_or, option_eq}
-use Rattle.std.proofs.lemmas.Bool.{and_parts, cases_Bool, false≢true}
+use Rattle.std.proofs.lemmas.Bool.{and_parts}
 use Rattle.mc_pages.specs.declared.ids.ChunkId.{ChunkId}
 use Rattle.mc_pages.specs.ClassState.{is_chunk}
-use Rattle.mc_stripe.specs.StripeState.{StripeState, ReadyStripe, key_aside, place_of}
+use Rattle.mc_stripe.specs.StripeState.{ReadyStripe, place_of}
 use Rattle.mc_core.specs.declared.event.Change.{Change}
 use Rattle.mc_core.specs.declared.event.Change.TheVariants.{Grow, BeginMove, FinishMove, Touch, SetAutomove, Passed, Wrap, Evicted, Reserve, GotNone, DeletedNone}
 use Rattle.mc_core.specs.declared.event.Step.{Step}
@@ -16,13 +16,12 @@ use Rattle.mc_core.specs.declared.holding.Kind.TheVariants.{Reference, Fresh}
 use Rattle.mc_core.specs.declared.holding.Purpose.TheVariants.{Item, Copy, Rescue}
 use Rattle.mc_core.specs.declared.ids.Ids.{Ids}
 use Rattle.mc_core.specs.declared.look.Look.{Look}
-use Rattle.mc_core.specs.Head.{is_unlinked, is_linked}
+use Rattle.mc_core.specs.Head.{is_unlinked}
 use Rattle.mc_core.specs.Holdings.{Words, key_in, stamp_in, item_in, is_complete, is_of, has_fresh, holding_of}
-use Rattle.mc_core.specs.State.{State, has_chunk, head_at, ids_at, has_slabs, has_stripe, stripe_of, stripe_at, with_stripe, without_holding, holdings_at, looks_at, with_look}
+use Rattle.mc_core.specs.State.{State, has_chunk, head_at, ids_at, has_slabs, has_stripe, stripe_of, stripe_at, with_stripe, without_holding, holdings_at, with_look}
 use Rattle.mc_core.specs.Silent.{is_aside, can_tell_none, writer_of, allows_change, after_change}
-use Rattle.mc_core.specs.Locks.{looked, after_look, after_miss_stripe}
-use Rattle.mc_core.specs.Chunks.{popped, popped_off, refilled, target_of, next_free, after_pop, after_pop_off, after_fill, has_place}
-use Rattle.mc_core.specs.Chunks as chunks
+use Rattle.mc_core.specs.Locks.{looked}
+use Rattle.mc_core.specs.Chunks.{popped, popped_off, refilled, target_of, next_free, has_place}
 use Rattle.mc_core.specs.Items.{most_stamps, suits, can_link_key, can_tell_link, can_link_holding, is_entry_aside, is_none_else_aside, is_next_stamp, are_same, can_count, told_link, after_link_of, referred_to, with_got, with_unlinked, is_ready_for, can_refer_to, can_lift, is_linked_at, chunk_of, stripe_unlinked}
 use Rattle.mc_core.specs.Items as items
 use Rattle.mc_core.specs.Evictions.{is_idle, can_take_away, has_copy, has_reason, key_at, with_rescue, with_bound, with_told, copy_of, stripe_condemned}
@@ -30,7 +29,7 @@ use Rattle.mc_core.specs.Evictions as evictions
 use Rattle.mc_core.specs.Run.{allows_step, after_step}
 use Rattle.mc_core.specs.Past.{Saying, saying_of, said_by, sayings_of}
 use Rattle.mc_core.specs.Indexed.{AreLegal}
-use Rattle.mc_core.proofs.Tellings.{Tells, is_there, tells_reserve, tells_got, tells_deleted, tells_evicted, tells_lifted, tells_set, tells_rescued}
+use Rattle.mc_core.proofs.Tellings.{Tells, tells_reserve, tells_got, tells_deleted, tells_evicted, tells_lifted, tells_set, tells_rescued}
 
 abbrev pub MayTell : State → List ReadyStripe → ℕ → List Saying → Type 0
 MayTell state now hand said = ((now ≡ state.stripes) × (said ≡ [])) ⊎ Tells state now hand said

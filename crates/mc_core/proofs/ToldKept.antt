@@ -1,30 +1,29 @@
 -- Histories that grow stay those of their hands: own calls, what was seen, writers, and what was stored.
-use Rattle.std.proofs.Common.{◌≡◌, ◌≢◌, ◌⊎◌, ℕ, zero, suc, ◌+◌, ◌/◌, ◌%◌, ◌^◌, ◌<◌, ◌≤◌, ◌==◌, Bool, true, false, cond, List, [], ◌∷◌, ◌++◌, length, map, filter, get_or, Option, Some, None, refl, sym, ap, ◌∙◌, subst, slice_set, slice_get, slice_index_or, count_by, unwrap_or, All, Contains, inl, inr, arith, add-zero, eq-eqb, ne_eqb, length-set}
-use Rattle.std.proofs.lemmas.Bool.{cases_eq, cases_lt, cases_Bool}
+use Rattle.std.proofs.Common.{◌≡◌, ◌≢◌, ℕ, zero, suc, ◌+◌, ◌/◌, ◌%◌, ◌^◌, ◌<◌, ◌≤◌, ◌==◌, true, false, List, [], ◌∷◌, ◌++◌, length, map, Some, refl, sym, ap, ◌∙◌, subst, slice_set, slice_get, slice_index_or, count_by, All, Contains, inl, inr, arith, add-zero, eq-eqb, ne_eqb}
+use Rattle.std.proofs.lemmas.Bool.{cases_eq}
 use Rattle.std.proofs.lemmas.Option.{get_or_from_slice_get, slice_get-get_or}
-use Rattle.std.proofs.lemmas.List.{append_assoc, get_or_past}
-use Rattle.std.proofs.lemmas.List.Elements.{All-nil, All-cons, All-append, All-map, All-set, All-weaker, All-get_or, All-from_get_or, All-contains, All-contains_itself, Contains-append_left}
+use Rattle.std.proofs.lemmas.List.{append_assoc}
+use Rattle.std.proofs.lemmas.List.Elements.{All-append, All-map, All-weaker, All-get_or, All-from_get_or, All-contains, Contains-append_left}
 use Rattle.std.proofs.lemmas.List.Sums.{sum_by-append}
 use Rattle.mc_pages.specs.Accounted.{truth}
 use Rattle.mc_stripe.specs.declared.history.Call.{Call}
 use Rattle.mc_stripe.specs.declared.history.Call.TheVariants.{Set}
 use Rattle.mc_stripe.specs.StripeState.{ReadyStripe, new_stripe}
 use Rattle.mc_core.specs.declared.ids.Ids.{Ids}
-use Rattle.mc_core.specs.State.{State, number_at, stripe_at}
+use Rattle.mc_core.specs.State.{State}
 use Rattle.mc_core.specs.Silent.{writer_of}
 use Rattle.mc_core.specs.Past.{Own, Saying, Known, own_after, told}
 use Rattle.mc_core.specs.Holdings.{key_in}
 use Rattle.mc_core.specs.Columns.{Each}
-use Rattle.mc_core.specs.Identities.{owns, owners, number_in, said_times, said_count, AreNumbered}
+use Rattle.mc_core.specs.Identities.{owns, owners, number_in, said_times, AreNumbered}
 use Rattle.mc_core.specs.Indexed.{stripe_for}
-use Rattle.mc_core.specs.Histories.{hand_of, is_set_of, set_count, IsBeginning, IsSetIn, IsStored, AreTold}
-use Rattle.mc_core.proofs.Grown.{IsGrown, AreGrown, grown_quiet, grown_at, history_in, calls_of, calls_in, else_calls, own_calls}
+use Rattle.mc_core.specs.Histories.{hand_of, is_set_of, set_count, IsBeginning, IsSetIn, IsStored}
+use Rattle.mc_core.proofs.Grown.{AreGrown, grown_quiet, grown_at, history_in, calls_in, else_calls, own_calls}
 use Rattle.mc_core.proofs.Learned.{SameNumbers, owners_same}
-use Rattle.mc_core.proofs.Base.{each_row, each_set}
+use Rattle.mc_core.proofs.Base.{each_row}
 use Rattle.mc_core.proofs.Lists.{there}
 use Rattle.mc_core.proofs.MoreRows.{row_of, row_same, row_other, each_from_contained, each_contained}
 use Rattle.mc_core.proofs.NumberedJoin.{own_counts}
-use Rattle.mc_core.proofs.Tellings.{Tells}
 use Rattle.mc_core.proofs.ToldBy.{MayTell}
 use Rattle.mc_core.proofs.Totals.{total_two, total_at, owned_total}
 

@@ -1,7 +1,6 @@
 -- Each event keeps the histories those of the hands.
-use Rattle.std.proofs.Common.{◌≡◌, ◌≢◌, ◌⊎◌, ℕ, zero, suc, ◌+◌, ◌/◌, ◌%◌, ◌^◌, ◌<◌, ◌≤◌, ◌==◌, ◌&&◌, Bool, true, false, not, cond, List, [], ◌∷◌, ◌++◌, length, map, filter, get_or, take, replicate, Option, Some, None, refl, sym, ap, ◌∙◌, subst, slice_set, slice_get, slice_index_or, is_some, unwrap_or, count_by, nat_le, All, Contains, inl, inr, arith, add-zero, mod-lt, length-set, get_or-set_same, get_or-take}
-use Rattle.std.specs.List.{range_with_len}
-use Rattle.std.proofs.lemmas.Bool.{and_parts, cases_eq, cases_lt, cases_Bool}
+use Rattle.std.proofs.Common.{◌≡◌, ◌⊎◌, ℕ, zero, suc, ◌+◌, ◌/◌, ◌%◌, ◌^◌, ◌<◌, ◌==◌, true, false, cond, List, [], ◌∷◌, length, map, Option, Some, None, refl, sym, ap, ◌∙◌, subst, slice_set, slice_get, slice_index_or, is_some, unwrap_or, nat_le, All, Contains, inl, inr, arith, add-zero, mod-lt, length-set, get_or-set_same, get_or-take}
+use Rattle.std.proofs.lemmas.Bool.{cases_lt}
 use Rattle.std.proofs.lemmas.Option.{get_or_from_slice_get}
 use Rattle.std.proofs.lemmas.List.{append-nil, get_or_past}
 use Rattle.std.proofs.lemmas.List.Elements.{All-nil, All-cons, All-set, All-weaker, All-get_or, Contains-push}
@@ -11,32 +10,30 @@ use Rattle.mc_stripe.specs.declared.history.Call.TheVariants.{Set}
 use Rattle.mc_pages.specs.Accounted.{truth}
 use Rattle.mc_stripe.specs.StripeState.{ReadyStripe, new_stripe}
 use Rattle.mc_stripe.specs.Changes.{after_link, used_up}
-use Rattle.mc_core.specs.declared.event.Change.{Change}
 use Rattle.mc_core.specs.declared.event.Step.{Step}
 use Rattle.mc_core.specs.declared.event.Step.TheVariants as step
 use Rattle.mc_core.specs.declared.holding.Holding.{Holding}
-use Rattle.mc_core.specs.Holdings.{Words, key_in, stamp_in, word_in, item_in, item_length, holding_of, is_of}
+use Rattle.mc_core.specs.Holdings.{Words, key_in, stamp_in, item_in, item_length, holding_of}
 use Rattle.mc_core.specs.State.{State, number_at, is_hand, stripe_at, stripe_of, ids_at, holdings_at}
 use Rattle.mc_core.specs.Silent.{writer_of, after_change}
-use Rattle.mc_core.specs.Hands as hands
-use Rattle.mc_core.specs.Past.{Past, Moment, Own, Saying, own_after, with_calls, with_more, sayings_of, seen_after, history_at, learned_alone, joined, longer, longer_each, moment_stepped}
+use Rattle.mc_core.specs.Past.{Past, Moment, Own, Saying, own_after, with_calls, with_more, sayings_of, seen_after, history_at, longer_each, moment_stepped}
 use Rattle.mc_core.specs.Columns.{Each}
-use Rattle.mc_core.specs.Identities.{owns, owners, number_in, said_times, said_count, AreNumbered}
+use Rattle.mc_core.specs.Identities.{owners, said_times, said_count, AreNumbered}
 use Rattle.mc_core.specs.Indexed.{stripe_for}
-use Rattle.mc_core.specs.Histories.{hand_of, set_count, IsBeginning, IsSetIn, IsStored, AreTold}
+use Rattle.mc_core.specs.Histories.{hand_of, IsStored, AreTold}
 use Rattle.mc_core.specs.Lawful.{ToldIn}
-use Rattle.mc_core.specs.Laws.{MayChange, MayStep, ChangesKeep, StepsKeep}
+use Rattle.mc_core.specs.Laws.{MayStep, ChangesKeep, StepsKeep}
 use Rattle.mc_core.specs.Run.{after_step}
 use Rattle.mc_core.proofs.Base.{each_map}
-use Rattle.mc_core.proofs.Grown.{AreGrown, history_in, calls_in}
-use Rattle.mc_core.proofs.Learned.{is_join, learned_is, SameNumbers, same_numbers, owners_same}
+use Rattle.mc_core.proofs.Grown.{history_in}
+use Rattle.mc_core.proofs.Learned.{is_join, learned_is, same_numbers}
 use Rattle.mc_core.proofs.LinkKinds as link
-use Rattle.mc_core.proofs.MoreRows.{row_of, each_more, each_joined, joined_rows, with_none}
+use Rattle.mc_core.proofs.MoreRows.{row_of, each_more, each_joined, joined_rows}
 use Rattle.mc_core.proofs.NumberedSteps.{hand_within, join_facts}
 use Rattle.mc_core.proofs.StripesKept.{get_set}
 use Rattle.mc_core.proofs.ToldBy.{MayTell, own_stamp, told_by_change, told_by_step}
 use Rattle.mc_core.proofs.ToldKept.{grown_told, set_count_told, IsBegun, begun_grown, stored_grown, sets_grown, writers_grown, IsOwnIn, one_owner, own_calls_grown}
-use Rattle.mc_core.proofs.Totals.{total, total_more, total_joined, said_total, owned_total}
+use Rattle.mc_core.proofs.Totals.{total_more, total_joined, said_total, owned_total}
 
 -- the number of a hand that is there is what it writes
 number_is : (state : State) (hand : ℕ) (number : Option ℕ) → number_at state hand ≡ number → is_some number ≡ true → number_at state hand ≡ Some (writer_of state hand)
@@ -56,7 +53,7 @@ told_next m hand after more seen' said' l numbered rows there told begun counts 
     let within = hand_within m.state.ids hand there in
     record {
       own_calls = subst (λ (n : Option ℕ). Each (IsOwnIn after.stripes) (slice_set m.past.mine hand (map (own_after m.state after n) (row_of m.past.mine hand)))) (sym number)
-      (own_calls_grown m.state after hand writer m.state.ids m.past.mine m.past.said m.past.known numbered number g (omega (arith, within, rows)) l.own_calls);
+          (own_calls_grown m.state after hand writer m.state.ids m.past.mine m.past.said m.past.known numbered number g (omega (arith, within, rows)) l.own_calls);
       begun = begun;
       writers = writers_grown writer m.state.stripes after.stripes g m.past.mine mine' same (one_owner m.state after hand writer m.state.ids m.past.mine m.past.said m.past.known numbered number g) l.writers;
       sets = sets_grown writer m.state.stripes after.stripes g l.sets;
@@ -193,7 +190,7 @@ join m hand kept spent may =
       own_calls = each_joined (IsOwnIn stripes) m.past.mine kept spent l.own_calls;
       begun = All-set (IsBegun stripes) _ spent [] (begun_nothing stripes) (All-set (IsBegun stripes) m.past.seen kept _ (begun_longer stripes _ _ (seen_of kept) (seen_of spent)) l.begun);
       writers = All-weaker (λ (value : ReadyStripe). All (λ call. owners (hand_of call) m.past.mine ≡ 1) value.state.history) (λ (value : ReadyStripe). All (λ call. owners (hand_of call) (joined_rows m.past.mine kept spent) ≡ 1) value.state.history)
-      (λ value all. All-weaker (λ call. owners (hand_of call) m.past.mine ≡ 1) (λ call. owners (hand_of call) (joined_rows m.past.mine kept spent) ≡ 1) (λ call is. owned (hand_of call) ∙ is) value.state.history all) stripes l.writers;
+          (λ value all. All-weaker (λ call. owners (hand_of call) m.past.mine ≡ 1) (λ call. owners (hand_of call) (joined_rows m.past.mine kept spent) ≡ 1) (λ call is. owned (hand_of call) ∙ is) value.state.history all) stripes l.writers;
       sets = l.sets;
       stored_once = λ stamp. l.stored_once stamp ∙ sym (counted stamp);
       stored = each_joined (IsStored stripes) m.past.said kept spent l.stored;

@@ -1,6 +1,6 @@
 -- But for a fill no change and no step writes a data word, and a fill writes its own chunk's alone.
-use Rattle.std.proofs.Common.{◌≡◌, ◌≢◌, ℕ, zero, suc, ◌+◌, ◌<◌, ◌≤◌, ◌==◌, ◌&&◌, Bool, true, false, not, List, [], ◌∷◌, Option, Some, None, refl, sym, ap, ◌∙◌, subst, slice_set, slice_index, slice_index_or, get_or-set_other, Contains, find, cond, arith, inl, inr}
-use Rattle.std.proofs.lemmas.Bool.{cases_eq, cases_Bool, false≢true}
+use Rattle.std.proofs.Common.{◌≡◌, ◌≢◌, ℕ, zero, suc, ◌+◌, ◌<◌, ◌≤◌, Bool, true, false, List, [], ◌∷◌, Some, refl, sym, ap, ◌∙◌, subst, slice_set, slice_index, slice_index_or, get_or-set_other, Contains, find, cond, arith, inl, inr}
+use Rattle.std.proofs.lemmas.Bool.{cases_eq, false≢true}
 use Rattle.mc_pages.specs.declared.ids.ChunkId.{ChunkId}
 use Rattle.mc_pages.specs.ClassState.{is_chunk}
 use Rattle.mc_pages.specs.SlabState.{class_of_page}
@@ -13,14 +13,14 @@ use Rattle.mc_core.specs.declared.event.Step.{Step}
 use Rattle.mc_core.specs.declared.event.Step.TheVariants as step
 use Rattle.mc_core.specs.declared.holding.Holding.{Holding}
 use Rattle.mc_core.specs.Holdings.{is_of, is_fresh, holding_of}
-use Rattle.mc_core.specs.State.{State, has_chunk, room_in, word_place, holdings_at, without_holding, with_slabs}
+use Rattle.mc_core.specs.State.{State, room_in, word_place, holdings_at, without_holding, with_slabs}
 use Rattle.mc_core.specs.Silent.{after_change}
-use Rattle.mc_core.specs.Chunks.{can_fill_in, refilled, after_fill, next_free, target_of}
+use Rattle.mc_core.specs.Chunks.{can_fill_in, after_fill, next_free, target_of}
 use Rattle.mc_core.specs.Items.{with_got, chunk_of}
 use Rattle.mc_core.specs.Evictions.{with_told, key_at}
 use Rattle.mc_core.specs.State.{item_at}
 use Rattle.mc_core.specs.Run.{after_step}
-use Rattle.mc_core.specs.Columns.{head_in, place_in, holds, holders}
+use Rattle.mc_core.specs.Columns.{holds, holders}
 use Rattle.mc_core.specs.Past.{Moment}
 use Rattle.mc_core.specs.Lawful.{IsLawful}
 use Rattle.mc_core.proofs.Base.{IsPlaced, same_word, holds_own}

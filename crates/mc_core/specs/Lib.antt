@@ -24,3 +24,4 @@ pub mod Rows
 pub mod InOrder
 pub mod Laws
 pub mod Stretch
+pub mod Follows

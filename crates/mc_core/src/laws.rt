@@ -12,6 +12,7 @@ ghost use Rattle.mc_core.specs.Rows.{played, grows, does};
 ghost use Rattle.mc_core.specs.Lawful.{IsLawful, SizedIn, PagedIn, PlacedIn, CountedIn, HeldIn, IndexedIn, LegalIn, HandsIn, RowsIn, NumberedIn, SeenIn, KnownIn, RescuedIn, ToldIn};
 ghost use Rattle.mc_core.specs.Laws.{IsKeptByAll, ArePlayed, AreLawful};
 ghost use Rattle.mc_core.specs.Stretch.{StretchesKeep};
+ghost use Rattle.mc_core.specs.Follows.{AreKept, AreSaidItems};
 
 /// Three runs of one hand: a page that is cut whole, one cut short, and a chunk from a class without a page.
 pub fn worked_runs()
@@ -110,6 +111,17 @@ pub fn runs_are_lawful()
 /// of it changes but by the hand's own fill of a fresh chunk.
 pub fn stretches_are_kept()
     ensures { StretchesKeep }
+{}
+
+/// Each holding of a lawful moment is of a chunk that is handed out with the holding's issue number, shows the holding's
+/// words, and is on a page of a class, or on one that moves away from it.
+pub fn held_chunks_are_handed_out()
+    ensures { AreKept }
+{}
+
+/// The words of a linked chunk are a whole item, which was said with the stamp of its key's entry.
+pub fn linked_items_were_said()
+    ensures { AreSaidItems }
 {}
 
 /// A legal history leaves one map from keys to stamps.

@@ -192,3 +192,12 @@ fn a_hint_of_another_issue_is_refused(rt: HostRuntime) -> Result<(), Fail> {
     );
     Ok(())
 }
+
+#[test]
+fn a_stop_is_told(rt: HostRuntime) -> Result<(), Fail> {
+    let text = Stop::NotAllowed(21).to_string(rt.alloc())?;
+    assert_eq!(rt; text.as_str(), "event 21 is not allowed");
+    let text = Stop::NoMemory.to_string(rt.alloc())?;
+    assert_eq!(rt; text.as_str(), "out of memory");
+    Ok(())
+}

@@ -1,0 +1,5 @@
+use Rattle.mc_core.proofs.Follows.{are_kept}
+use Rattle.mc_core.proofs.laws.held_chunks_are_handed_out.Goals as goal
+
+pub returns : goal.returns
+returns c = are_kept

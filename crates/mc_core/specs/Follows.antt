@@ -1,0 +1,29 @@
+-- What follows of the law in a lawful moment.
+use Rattle.std.specs.Prelude.{◌≡◌, ℕ, true, Some, All}
+use Rattle.mc_pages.specs.declared.ids.ChunkId.{ChunkId}
+use Rattle.mc_stripe.specs.StripeState.{place_of}
+use Rattle.mc_core.specs.declared.head.Tag.TheVariants.{Linked}
+use Rattle.mc_core.specs.Holdings.{Words, key_in, stamp_in, is_complete}
+use Rattle.mc_core.specs.State.{has_chunk, holdings_at}
+use Rattle.mc_core.specs.Columns.{head_in, Shows}
+use Rattle.mc_core.specs.Past.{Moment}
+use Rattle.mc_core.specs.Indexed.{stripe_for}
+use Rattle.mc_core.specs.Knowing.{IsSaid}
+use Rattle.mc_core.specs.Lawful.{IsLawful, IsKept}
+
+-- each holding is kept
+abbrev pub AreKept : Type 0
+AreKept = (moment : Moment) → IsLawful moment → (hand : ℕ) → All (IsKept moment.state) (holdings_at moment.state hand)
+
+-- the words of a linked chunk are a whole item, said with the stamp of the key's entry
+pub record IsSaidItem (moment : Moment) (chunk : ChunkId) : Type 0 where
+  pub words : Words
+  pub whole : is_complete words ≡ true
+  pub shows : Shows moment.state.table moment.state.slabs moment.state.words chunk words
+  pub said : IsSaid moment.past.said (stamp_in words) words
+  pub entry : place_of (stripe_for moment.state.stripes (key_in words)).state (key_in words) ≡ Some (chunk, stamp_in words)
+
+-- so it is of each
+abbrev pub AreSaidItems : Type 0
+AreSaidItems = (moment : Moment) → IsLawful moment → (chunk : ChunkId) → has_chunk moment.state.table chunk ≡ true → (head_in moment.state.table moment.state.heads chunk).tag ≡ Linked →
+    IsSaidItem moment chunk
