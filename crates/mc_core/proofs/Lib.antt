@@ -82,3 +82,4 @@ pub mod LawKept
 pub mod WordsStay
 pub mod Stretches
 pub mod Follows
+pub mod SeenGrows

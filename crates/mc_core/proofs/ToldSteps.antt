@@ -98,7 +98,7 @@ begun_nothing : (stripes : List ReadyStripe) → IsBegun stripes []
 begun_nothing stripes stripe calls value at is = absurd (cc)
 
 -- what a hand saw
-begun_row : (stripes : List ReadyStripe) (seen : List (List (List Call))) (hand : ℕ) → All (IsBegun stripes) seen → IsBegun stripes (slice_index_or seen hand [])
+pub begun_row : (stripes : List ReadyStripe) (seen : List (List (List Call))) (hand : ℕ) → All (IsBegun stripes) seen → IsBegun stripes (slice_index_or seen hand [])
 begun_row stripes seen hand all = elim (cases_lt hand (length seen)) [
   | inl within ↦ All-get_or (IsBegun stripes) seen hand [] within all
   | inr past ↦ subst (IsBegun stripes) (sym (get_or_past seen hand [] past)) (begun_nothing stripes)

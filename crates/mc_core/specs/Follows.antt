@@ -1,12 +1,17 @@
 -- What follows of the law in a lawful moment.
-use Rattle.std.specs.Prelude.{◌≡◌, ℕ, true, Some, All}
+use Rattle.std.specs.Prelude.{◌≡◌, ◌⊎◌, ℕ, ◌<◌, true, List, [], length, slice_get, slice_index_or, Some, All}
 use Rattle.mc_pages.specs.declared.ids.ChunkId.{ChunkId}
+use Rattle.mc_stripe.specs.declared.history.Call.{Call}
 use Rattle.mc_stripe.specs.StripeState.{place_of}
+use Rattle.mc_core.specs.declared.event.Event.{Event}
+use Rattle.mc_core.specs.declared.event.Step.TheVariants.{Join}
 use Rattle.mc_core.specs.declared.head.Tag.TheVariants.{Linked}
 use Rattle.mc_core.specs.Holdings.{Words, key_in, stamp_in, is_complete}
 use Rattle.mc_core.specs.State.{has_chunk, holdings_at}
 use Rattle.mc_core.specs.Columns.{head_in, Shows}
-use Rattle.mc_core.specs.Past.{Moment}
+use Rattle.mc_core.specs.Past.{Moment, moment_after}
+use Rattle.mc_core.specs.Run.{is_allowed}
+use Rattle.mc_core.specs.Histories.{IsBeginning}
 use Rattle.mc_core.specs.Indexed.{stripe_for}
 use Rattle.mc_core.specs.Knowing.{IsSaid}
 use Rattle.mc_core.specs.Lawful.{IsLawful, IsKept}
@@ -27,3 +32,10 @@ pub record IsSaidItem (moment : Moment) (chunk : ChunkId) : Type 0 where
 abbrev pub AreSaidItems : Type 0
 AreSaidItems = (moment : Moment) → IsLawful moment → (chunk : ChunkId) → has_chunk moment.state.table chunk ≡ true → (head_in moment.state.table moment.state.heads chunk).tag ≡ Linked →
     IsSaidItem moment chunk
+
+-- what a hand saw of a history begins what it sees after an event; or what the hand sees that took it over
+abbrev pub SeenGrows : Type 0
+SeenGrows = (moment : Moment) (event : Event) → IsLawful moment → is_allowed moment.state event ≡ true → (hand stripe : ℕ) (calls : List Call) → stripe < length moment.state.stripes →
+    slice_get (slice_index_or moment.past.seen hand []) stripe ≡ Some calls →
+    (other : ℕ) × (now : List Call) × ((other ≡ hand) ⊎ (event.step ≡ Join other hand))
+    × (slice_get (slice_index_or (moment_after moment event).past.seen other []) stripe ≡ Some now) × IsBeginning calls now

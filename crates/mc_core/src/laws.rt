@@ -12,7 +12,7 @@ ghost use Rattle.mc_core.specs.Rows.{played, grows, does};
 ghost use Rattle.mc_core.specs.Lawful.{IsLawful, SizedIn, PagedIn, PlacedIn, CountedIn, HeldIn, IndexedIn, LegalIn, HandsIn, RowsIn, NumberedIn, SeenIn, KnownIn, RescuedIn, ToldIn};
 ghost use Rattle.mc_core.specs.Laws.{IsKeptByAll, ArePlayed, AreLawful};
 ghost use Rattle.mc_core.specs.Stretch.{StretchesKeep};
-ghost use Rattle.mc_core.specs.Follows.{AreKept, AreSaidItems};
+ghost use Rattle.mc_core.specs.Follows.{AreKept, AreSaidItems, SeenGrows};
 
 /// Three runs of one hand: a page that is cut whole, one cut short, and a chunk from a class without a page.
 pub fn worked_runs()
@@ -122,6 +122,12 @@ pub fn held_chunks_are_handed_out()
 /// The words of a linked chunk are a whole item, which was said with the stamp of its key's entry.
 pub fn linked_items_were_said()
     ensures { AreSaidItems }
+{}
+
+/// What a hand saw of a history is never shortened: it begins what the hand sees after an event, or what the hand sees that
+/// took it over.
+pub fn what_is_seen_grows()
+    ensures { SeenGrows }
 {}
 
 /// A legal history leaves one map from keys to stamps.
