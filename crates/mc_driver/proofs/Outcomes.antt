@@ -12,7 +12,7 @@ use Rattle.mc_options.specs.declared.settings.Run.{Run}
 use Rattle.mc_script.specs.declared.command.Command.{Command}
 use Rattle.mc_driver.specs.declared.fault.RunFault.{RunFault}
 use Rattle.mc_driver.specs.declared.fault.RunFault.TheVariants.{Config as Refused, Script, TooLong, Read, Write, Memory, Turns}
-use Rattle.mc_keeper.specs.Machine.{fresh_machine}
+use Rattle.mc_machine.specs.Machine.{fresh_machine}
 use Rattle.mc_driver.specs.Run.{IsOutcome, IsScript, IsScriptOutcome, config_fault, refusal_number}
 
 -- the front of the bytes is all of them where it is short

@@ -5,8 +5,8 @@ ghost use Rattle.mc_classes.specs.Refusals.{refusal_of};
 ghost use Rattle.mc_classes.specs.Classes.{IsSound};
 ghost use Rattle.mc_script.specs.Command.{IsValid};
 ghost use Rattle.mc_script.specs.Script.{script_of};
-ghost use Rattle.mc_keeper.specs.Lines.{is_done, replies_to};
-ghost use Rattle.mc_keeper.specs.Machine.{fresh_machine};
+ghost use Rattle.mc_machine.specs.Lines.{is_done, replies_to};
+ghost use Rattle.mc_machine.specs.Machine.{fresh_machine};
 ghost use Rattle.mc_driver.specs.Reading.{TakesAtMost};
 ghost use Rattle.mc_driver.specs.Run.{IsOutcome, IsScript, IsReplyFault, WroteReply, IsScriptFault, IsScriptOutcome, IsServeFault, config_fault, refusal_number};
 

@@ -11,7 +11,7 @@ use Rattle.std.proofs.lemmas.List.Sums.{sum_by-cons}
 use Rattle.mc_pages.specs.declared.ids.ChunkId.{ChunkId}
 use Rattle.mc_pages.specs.ClassState.{is_chunk, times}
 use Rattle.mc_pages.proofs.Chunks.{times-append, times-cons}
-use Rattle.mc_keeper.specs.Holds.{held_by}
+use Rattle.mc_machine.specs.Holds.{held_by}
 
 -- the order of a list doesn't change how often a chunk stands there
 times-reverse : (chunk : ChunkId) (chunks : List ChunkId) → times chunk (reverse chunks) ≡ times chunk chunks

@@ -1,6 +1,6 @@
 -- What the workers' holds in memory mean.
 use Rattle.std.specs.Prelude.{◌≡◌, length, map, reverse}
-use Rattle.mc_keeper.specs.Holds.{Holds}
+use Rattle.mc_machine.specs.Holds.{Holds}
 use Rattle.mc_keeper.specs.declared.keeper.holds.Holds.TheInside.{Inside}
 
 -- the hold that was taken last stands last in the vector

@@ -1,7 +1,7 @@
 //! The plain keeper: what a serial run stores, and how it serves one command after another.
 ghost use Rattle.std.specs.Prelude.{◌≡◌, ◌≤◌, IfOk};
 ghost use Rattle.mc_classes.specs.Classes.{IsSound};
-ghost use Rattle.mc_keeper.specs.Machine.{fresh_machine};
+ghost use Rattle.mc_machine.specs.Machine.{fresh_machine};
 
 mod automove;
 mod dead;
@@ -15,7 +15,6 @@ mod serve;
 mod statistics;
 mod store;
 mod sweep;
-mod turn;
 
 use dead::DeadCounts;
 use holds::Holds;
@@ -27,7 +26,6 @@ pub use serve::Stop;
 use std::alloc::{AllocError, Global};
 use std::collections::BTreeMap;
 use std::marker::Model;
-pub use turn::{Counts, Ending};
 
 /// What a serial run stores: pages and chunks, the items in them, where each key leads, and who holds which chunk.
 #[derive(Drop)]
@@ -49,11 +47,11 @@ pub struct Keeper {
 }
 
 impl Model for Keeper {
-    ghost use Rattle.mc_keeper.specs.Machine.{Machine};
+    ghost use Rattle.mc_machine.specs.Machine.{Machine};
 
     ghost Value = { Machine };
 
-    ghost use Rattle.mc_keeper.specs.Kept.{AreKept};
+    ghost use Rattle.mc_keeper.specs.KeeperKept.{AreKept};
 
     ghost view = { λ k. record { table = k.table; bulk = k.bulk; slabs = k.slabs.state; items = k.items.entries; holds = k.holds; turns = k.turns; decider = k.decider } };
 

@@ -1,7 +1,7 @@
 //! What a serial run stores, and how it serves one command after another.
 //!
 //! [`Keeper`] holds pages, chunks and items as one thread needs them: no lock, no count, no header. What it answers
-//! to a command, and what it is afterwards, is what a plain machine over lists says; that machine is this crate's
+//! to a command, and what it is afterwards, is what a plain machine over lists says; that machine is `mc_machine`'s
 //! definition.
 #![tactic(auto)]
 
@@ -9,4 +9,5 @@ mod keeper;
 mod reply;
 mod text;
 
-pub use keeper::{Counts, Ending, Keeper, Stop};
+pub use keeper::{Keeper, Stop};
+pub use mc_machine::{Counts, Ending};

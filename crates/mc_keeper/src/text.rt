@@ -1,10 +1,10 @@
 //! The lines that a run writes, put together in memory before any of them is written.
 ghost use Rattle.std.specs.Prelude.{◌≡◌, ◌++◌, [], ◌∷◌, codes, decimal, OnOk};
 ghost use Rattle.mc_watch.specs.Texts.{line};
-ghost use Rattle.mc_keeper.specs.Texts.{key_line, spaced, turn_line, word_of, words_line};
+ghost use Rattle.mc_machine.specs.Texts.{key_line, spaced, turn_line, word_of, words_line};
 
-use crate::keeper::{Counts, Ending};
 use itoa::Buffer;
+use mc_machine::{Counts, Ending};
 use std::alloc::AllocError;
 
 /// Adds a number in decimal digits.

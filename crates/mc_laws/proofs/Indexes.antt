@@ -6,7 +6,7 @@ use Rattle.std.specs.BTreeMap.{is_at}
 use Rattle.std.specs.Map.{lookup}
 use Rattle.std.proofs.lemmas.Bool.Decides.{nat_tests}
 use Rattle.mc_pages.specs.declared.ids.ChunkId.{ChunkId}
-use Rattle.mc_keeper.specs.Items.{Items, linked_chunk}
+use Rattle.mc_machine.specs.Items.{Items, linked_chunk}
 
 -- key and chunk of each linked item
 abbrev pub index_of : Items → List (ℕ × ChunkId)

@@ -12,16 +12,16 @@ use Rattle.mc_pages.specs.ClassState.{is_chunk, times}
 use Rattle.mc_pages.specs.SlabState.{SlabState}
 use Rattle.mc_pages.specs.InOrder.{IsInOrder}
 use Rattle.mc_pages.proofs.Chunks.{same_from_is_chunk}
-use Rattle.mc_keeper.specs.Item.{Item}
-use Rattle.mc_keeper.specs.Items.{Items, item_at, without_item}
-use Rattle.mc_keeper.specs.Holds.{Holds, held_by, hold_count, is_held}
-use Rattle.mc_keeper.specs.Kept.{places, IsKept}
-use Rattle.mc_keeper.specs.Machine.{Machine}
+use Rattle.mc_machine.specs.Item.{Item}
+use Rattle.mc_machine.specs.Items.{Items, item_at, without_item}
+use Rattle.mc_machine.specs.Holds.{Holds, held_by, hold_count, is_held}
+use Rattle.mc_machine.specs.Kept.{places, IsKept}
+use Rattle.mc_machine.specs.Machine.{Machine}
 use Rattle.mc_laws.specs.Answered.{HeldWords}
-use Rattle.mc_keeper.proofs.Chunks.{places_none}
-use Rattle.mc_keeper.proofs.Links.{some_places}
-use Rattle.mc_keeper.proofs.KeptChanges.{place_once}
-use Rattle.mc_keeper.proofs.Sweeps.{item_at-without_item}
+use Rattle.mc_machine.proofs.Chunks.{places_none}
+use Rattle.mc_machine.proofs.Links.{some_places}
+use Rattle.mc_machine.proofs.KeptChanges.{place_once}
+use Rattle.mc_machine.proofs.Sweeps.{item_at-without_item}
 use Rattle.mc_laws.proofs.FoundItems.{found_before}
 
 pub record IsLawful (m : Machine) : Type 0 where

@@ -13,21 +13,21 @@ use Rattle.mc_pages.specs.Accounted.{places_in, is_cleared}
 use Rattle.mc_pages.specs.Changes.{after_clear, after_replace}
 use Rattle.mc_pages.specs.InOrder.{IsInOrder}
 use Rattle.mc_pages.proofs.Kept.{IsInOrder-after_clear, IsInOrder-after_replace}
-use Rattle.mc_keeper.specs.Item.{Item}
-use Rattle.mc_keeper.specs.Items.{Items, chunk_cmp, item_at, linked_chunk, is_linked, is_unlinked, with_item, without_item, with_found_item, with_moved_item}
-use Rattle.mc_keeper.specs.Holds.{is_held, held_by}
-use Rattle.mc_keeper.specs.Kept.{places}
-use Rattle.mc_keeper.specs.Machine.{Machine, is_dead, is_idle}
-use Rattle.mc_keeper.specs.Mover.{with_cleared}
-use Rattle.mc_keeper.proofs.Chunks.{none-places, places_none}
+use Rattle.mc_machine.specs.Item.{Item}
+use Rattle.mc_machine.specs.Items.{Items, chunk_cmp, item_at, linked_chunk, is_linked, is_unlinked, with_item, without_item, with_found_item, with_moved_item}
+use Rattle.mc_machine.specs.Holds.{is_held, held_by}
+use Rattle.mc_machine.specs.Kept.{places}
+use Rattle.mc_machine.specs.Machine.{Machine, is_dead, is_idle}
+use Rattle.mc_machine.specs.Mover.{with_cleared}
+use Rattle.mc_machine.proofs.Chunks.{none-places, places_none}
 use Rattle.mc_laws.proofs.FoundItems.{found_before, item_at-with_item}
 use Rattle.mc_laws.proofs.Indexes.{index_of, leads_index}
-use Rattle.mc_keeper.proofs.KeptChanges.{place_once}
-use Rattle.mc_keeper.proofs.KeptMoverClear.{cleared_after, contains_counted, dead_here, handed_item, idle_here, kept_cleared, kept_freed, leads_dead}
-use Rattle.mc_keeper.proofs.KeptMoverRescue.{kept_rescued, listed_still, vacant}
-use Rattle.mc_keeper.proofs.KeptStore.{is_at-tells}
-use Rattle.mc_keeper.proofs.Orders.{in_lists_once}
-use Rattle.mc_keeper.proofs.Sweeps.{item_at-without_item}
+use Rattle.mc_machine.proofs.KeptChanges.{place_once}
+use Rattle.mc_machine.proofs.KeptMoverClear.{cleared_after, contains_counted, dead_here, handed_item, idle_here, kept_cleared, kept_freed, leads_dead}
+use Rattle.mc_machine.proofs.KeptMoverRescue.{kept_rescued, listed_still, vacant}
+use Rattle.mc_machine.proofs.KeptStore.{is_at-tells}
+use Rattle.mc_machine.proofs.Orders.{in_lists_once}
+use Rattle.mc_machine.proofs.Sweeps.{item_at-without_item}
 use Rattle.mc_laws.proofs.Lawful.{IsLawful, Proceeds, as_held, not_held, proceeds_from, proceeds_slabs, proceeds_without}
 
 -- the machine went on, and the chunk is cleared

@@ -17,19 +17,19 @@ use Rattle.mc_pages.specs.Moves.{after_begin}
 use Rattle.mc_pages.specs.declared.moves.Reassign.{Reassign}
 use Rattle.mc_pages.proofs.Kept.{IsInOrder-after_begin, IsInOrder-after_touch, IsInOrder-automove}
 use Rattle.mc_watch.specs.declared.decider.Decision.{Decision}
-use Rattle.mc_keeper.specs.Item.{Item, is_linked_to, unlinked}
-use Rattle.mc_keeper.specs.Items.{Items, item_at, linked_chunk, unlinked_items}
-use Rattle.mc_keeper.specs.Machine.{Machine, all_swept, with_mode}
-use Rattle.mc_keeper.specs.Automove.{begun, with_window}
-use Rattle.mc_keeper.specs.Lines.{acted}
+use Rattle.mc_machine.specs.Item.{Item, is_linked_to, unlinked}
+use Rattle.mc_machine.specs.Items.{Items, item_at, linked_chunk, unlinked_items}
+use Rattle.mc_machine.specs.Machine.{Machine, all_swept, with_mode}
+use Rattle.mc_machine.specs.Automove.{begun, with_window}
+use Rattle.mc_machine.specs.Lines.{acted}
 use Rattle.mc_laws.proofs.ProceedSweeps.{proceeds_all_swept}
 use Rattle.mc_laws.specs.Answered.{HeldWords}
 use Rattle.mc_laws.proofs.FoundItems.{item_at-unlinked_items, unlinked_from}
 use Rattle.mc_laws.proofs.Indexes.{index_of, leads_index}
-use Rattle.mc_keeper.proofs.KeptBegin.{kept_begin}
-use Rattle.mc_keeper.proofs.KeptChanges.{kept_unlink}
-use Rattle.mc_keeper.proofs.KeptTouch.{kept_touch, leads_to_handed_out}
-use Rattle.mc_keeper.proofs.Links.{linked_chunk-unlinked_items}
+use Rattle.mc_machine.proofs.KeptBegin.{kept_begin}
+use Rattle.mc_machine.proofs.KeptChanges.{kept_unlink}
+use Rattle.mc_machine.proofs.KeptTouch.{kept_touch, leads_to_handed_out}
+use Rattle.mc_machine.proofs.Links.{linked_chunk-unlinked_items}
 use Rattle.mc_laws.proofs.Lawful.{IsLawful, Proceeds, as_held, proceeds_from, proceeds_same, proceeds_slabs, proceeds_then, stored_as}
 
 pub proceeds_touched : (m : Machine) (key : ℕ) (chunk : ChunkId) → IsLawful m → linked_chunk m.items key ≡ Some chunk

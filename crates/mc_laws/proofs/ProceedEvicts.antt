@@ -8,14 +8,14 @@ use Rattle.mc_pages.specs.SlabState.{SlabState, IsClass, class_at}
 use Rattle.mc_pages.specs.Changes.{after_back, after_evicted}
 use Rattle.mc_pages.specs.InOrder.{IsInOrder}
 use Rattle.mc_pages.proofs.Kept.{IsInOrder-after_evicted}
-use Rattle.mc_keeper.specs.Items.{is_linked, without_item}
-use Rattle.mc_keeper.specs.Holds.{is_held}
-use Rattle.mc_keeper.specs.Machine.{Machine, has_free, is_idle}
-use Rattle.mc_keeper.specs.Supply.{eviction_tries, relieved, victim, with_eviction}
+use Rattle.mc_machine.specs.Items.{is_linked, without_item}
+use Rattle.mc_machine.specs.Holds.{is_held}
+use Rattle.mc_machine.specs.Machine.{Machine, has_free, is_idle}
+use Rattle.mc_machine.specs.Supply.{eviction_tries, relieved, victim, with_eviction}
 use Rattle.mc_laws.proofs.Indexes.{index_of, leads_index}
-use Rattle.mc_keeper.proofs.KeptEvict.{kept_counted}
-use Rattle.mc_keeper.proofs.KeptMoverClear.{idle_here, kept_back}
-use Rattle.mc_keeper.proofs.Victims.{found_holds}
+use Rattle.mc_machine.proofs.KeptEvict.{kept_counted}
+use Rattle.mc_machine.proofs.KeptMoverClear.{idle_here, kept_back}
+use Rattle.mc_machine.proofs.Victims.{found_holds}
 use Rattle.mc_laws.proofs.Lawful.{IsLawful, Proceeds, proceeds_same, proceeds_without}
 use Rattle.mc_laws.proofs.ProceedSweeps.{order_back}
 

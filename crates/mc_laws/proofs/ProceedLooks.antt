@@ -15,14 +15,14 @@ use Rattle.mc_pages.specs.Changes.{after_clear}
 use Rattle.mc_pages.specs.InOrder.{IsInOrder}
 use Rattle.mc_pages.specs.Moves.{CanPass, after_passed, chunk_at_position, is_held_up}
 use Rattle.mc_pages.proofs.Kept.{IsInOrder-after_passed}
-use Rattle.mc_keeper.specs.Items.{is_linked}
-use Rattle.mc_keeper.specs.Holds.{is_held}
-use Rattle.mc_keeper.specs.Machine.{Machine, is_dead, is_idle, swept}
-use Rattle.mc_keeper.specs.Mover.{Counted, Looked, is_at_end, looked_at, saved, target, with_chunk, with_chunks, with_cleared, with_looked, with_saved}
+use Rattle.mc_machine.specs.Items.{is_linked}
+use Rattle.mc_machine.specs.Holds.{is_held}
+use Rattle.mc_machine.specs.Machine.{Machine, is_dead, is_idle, swept}
+use Rattle.mc_machine.specs.Mover.{Counted, Looked, is_at_end, looked_at, saved, target, with_chunk, with_chunks, with_cleared, with_looked, with_saved}
 use Rattle.std.proofs.lemmas.Bool.{and_parts, not-true}
-use Rattle.mc_keeper.proofs.KeptMoverClear.{idle_here, own_from_cut}
-use Rattle.mc_keeper.proofs.KeptMoverPass.{can_pass, kept_moved, position_cut}
-use Rattle.mc_keeper.proofs.MoverSaves.{class_swept, idle_swept, moving-swept, own_swept, target_free}
+use Rattle.mc_machine.proofs.KeptMoverClear.{idle_here, own_from_cut}
+use Rattle.mc_machine.proofs.KeptMoverPass.{can_pass, kept_moved, position_cut}
+use Rattle.mc_machine.proofs.MoverSaves.{class_swept, idle_swept, moving-swept, own_swept, target_free}
 use Rattle.mc_laws.proofs.Lawful.{IsLawful, Proceeds, proceeds_same, proceeds_slabs, proceeds_then}
 use Rattle.mc_laws.proofs.ProceedClears.{Clears, clears_dead, clears_free, clears_idle, clears_rescued}
 use Rattle.mc_laws.proofs.ProceedSweeps.{proceeds_swept}

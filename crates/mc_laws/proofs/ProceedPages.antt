@@ -8,12 +8,12 @@ use Rattle.mc_pages.specs.Changes.{after_cut, after_grant, after_grow, after_tak
 use Rattle.mc_pages.specs.InOrder.{IsInOrder}
 use Rattle.mc_pages.proofs.Kept.{IsInOrder-after_cut, IsInOrder-after_grant, IsInOrder-after_take}
 use Rattle.mc_pages.proofs.RoomyGrow.{grow_grants, grow_takes, next_granted, next_pooled}
-use Rattle.mc_keeper.specs.Machine.{Machine, extended, has_free, stocked, swept, with_cut_page, with_new_page}
-use Rattle.mc_keeper.specs.Supply.{supplied}
-use Rattle.mc_keeper.proofs.Cuts.{chunk_at, cuts_more, next_after_cut, next_cut}
-use Rattle.mc_keeper.proofs.Grown.{per_page_given, per_page_grown}
-use Rattle.mc_keeper.proofs.KeptChanges.{kept_grow}
-use Rattle.mc_keeper.proofs.Stocks.{IsClass-stocked, IsClass-swept}
+use Rattle.mc_machine.specs.Machine.{Machine, extended, has_free, stocked, swept, with_cut_page, with_new_page}
+use Rattle.mc_machine.specs.Supply.{supplied}
+use Rattle.mc_machine.proofs.Cuts.{chunk_at, cuts_more, next_after_cut, next_cut}
+use Rattle.mc_machine.proofs.Grown.{per_page_given, per_page_grown}
+use Rattle.mc_machine.proofs.KeptChanges.{kept_grow}
+use Rattle.mc_machine.proofs.Stocks.{IsClass-stocked, IsClass-swept}
 use Rattle.mc_laws.proofs.Lawful.{IsLawful, Proceeds, proceeds_same, proceeds_slabs, proceeds_then}
 use Rattle.mc_laws.proofs.ProceedEvicts.{proceeds_relieved}
 use Rattle.mc_laws.proofs.ProceedSweeps.{proceeds_swept}

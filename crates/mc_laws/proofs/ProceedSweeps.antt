@@ -11,15 +11,15 @@ use Rattle.mc_pages.specs.Changes.{after_back}
 use Rattle.mc_pages.specs.InOrder.{IsInOrder}
 use Rattle.mc_pages.proofs.Chunks.{times-cons, is_chunk-same, same_from_is_chunk}
 use Rattle.mc_pages.proofs.Kept.{IsInOrder-after_back}
-use Rattle.mc_keeper.specs.Item.{Item}
-use Rattle.mc_keeper.specs.Items.{item_at, is_unlinked}
-use Rattle.mc_keeper.specs.Holds.{is_held}
-use Rattle.mc_keeper.specs.Machine.{Machine, is_dead, dead_chunks, after_reclaim, swept, all_swept}
-use Rattle.mc_keeper.proofs.Bounds.{listed_once}
-use Rattle.mc_keeper.proofs.KeptChanges.{kept_reclaim}
-use Rattle.mc_keeper.proofs.KeptMoverClear.{contains_counted, dead_here, handed_item}
-use Rattle.mc_keeper.proofs.Stocks.{classes-sweeps, sweeps_more}
-use Rattle.mc_keeper.proofs.Sweeps.{is_dead-reclaimed}
+use Rattle.mc_machine.specs.Item.{Item}
+use Rattle.mc_machine.specs.Items.{item_at, is_unlinked}
+use Rattle.mc_machine.specs.Holds.{is_held}
+use Rattle.mc_machine.specs.Machine.{Machine, is_dead, dead_chunks, after_reclaim, swept, all_swept}
+use Rattle.mc_machine.proofs.Bounds.{listed_once}
+use Rattle.mc_machine.proofs.KeptChanges.{kept_reclaim}
+use Rattle.mc_machine.proofs.KeptMoverClear.{contains_counted, dead_here, handed_item}
+use Rattle.mc_machine.proofs.Stocks.{classes-sweeps, sweeps_more}
+use Rattle.mc_machine.proofs.Sweeps.{is_dead-reclaimed}
 use Rattle.mc_laws.proofs.Lawful.{IsLawful, Proceeds, proceeds_same, proceeds_then, proceeds_without}
 
 -- the chunk of an item goes back to its class

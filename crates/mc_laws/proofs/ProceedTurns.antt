@@ -10,12 +10,12 @@ use Rattle.mc_pages.specs.Accounted.{IsMove, first_chunks}
 use Rattle.mc_pages.specs.InOrder.{IsInOrder}
 use Rattle.mc_pages.specs.Moves.{CanFinish, CanWrap, after_wrap, finished}
 use Rattle.mc_pages.proofs.Kept.{IsInOrder-after_wrap, IsInOrder-finished, all_cleared_at_end}
-use Rattle.mc_keeper.specs.declared.keeper.turn.Counts.{Counts}
-use Rattle.mc_keeper.specs.declared.keeper.turn.Ending.TheVariants.{Went, Finished}
-use Rattle.mc_keeper.specs.Machine.{Machine, with_cut_page}
-use Rattle.mc_keeper.specs.Mover.{Counted, Turned, is_at_end, is_went, most_turns, turned, turns_from, with_chunks, with_end, with_finish}
-use Rattle.mc_keeper.proofs.KeptMoverFinish.{kept_pooled, kept_recut, per_page_finished, per_page_there, uncut_finished}
-use Rattle.mc_keeper.proofs.KeptMoverPass.{kept_moved}
+use Rattle.mc_machine.specs.declared.turn.Counts.{Counts}
+use Rattle.mc_machine.specs.declared.turn.Ending.TheVariants.{Went, Finished}
+use Rattle.mc_machine.specs.Machine.{Machine, with_cut_page}
+use Rattle.mc_machine.specs.Mover.{Counted, Turned, is_at_end, is_went, most_turns, turned, turns_from, with_chunks, with_end, with_finish}
+use Rattle.mc_machine.proofs.KeptMoverFinish.{kept_pooled, kept_recut, per_page_finished, per_page_there, uncut_finished}
+use Rattle.mc_machine.proofs.KeptMoverPass.{kept_moved}
 use Rattle.mc_laws.proofs.Lawful.{IsLawful, Proceeds, proceeds_same, proceeds_from, proceeds_slabs, proceeds_then}
 use Rattle.mc_laws.proofs.ProceedLooks.{proceeds_chunks}
 use Rattle.mc_laws.proofs.ProceedPages.{all_cut}

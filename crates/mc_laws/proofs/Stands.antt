@@ -8,8 +8,8 @@ use Rattle.mc_pages.specs.declared.ids.ChunkId.{ChunkId}
 use Rattle.mc_pages.specs.Accounted.{truth}
 use Rattle.mc_pages.specs.ClassState.{is_chunk, times, without}
 use Rattle.mc_pages.proofs.Chunks.{is_chunk-same, same_from_is_chunk, times-cons}
-use Rattle.mc_keeper.specs.Item.{Item}
-use Rattle.mc_keeper.specs.Items.{Items, has_key, item_at}
+use Rattle.mc_machine.specs.Item.{Item}
+use Rattle.mc_machine.specs.Items.{Items, has_key, item_at}
 use Rattle.mc_laws.specs.Answered.{HeldWords, without_held}
 use Rattle.mc_laws.proofs.Lawful.{stored_as}
 

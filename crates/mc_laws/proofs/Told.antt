@@ -14,16 +14,16 @@ use Rattle.mc_pages.specs.SlabState.{IsClass, class_at}
 use Rattle.mc_pages.specs.Changes.{after_pop}
 use Rattle.mc_pages.specs.InOrder.{IsInOrder}
 use Rattle.mc_pages.proofs.Kept.{IsInOrder-after_pop}
-use Rattle.mc_keeper.specs.Item.{Item, is_linked_to, new_item}
-use Rattle.mc_keeper.specs.Items.{chunk_cmp, item_at, linked_chunk, with_item}
-use Rattle.mc_keeper.specs.Holds.{held_by}
-use Rattle.mc_keeper.specs.Machine.{Machine}
+use Rattle.mc_machine.specs.Item.{Item, is_linked_to, new_item}
+use Rattle.mc_machine.specs.Items.{chunk_cmp, item_at, linked_chunk, with_item}
+use Rattle.mc_machine.specs.Holds.{held_by}
+use Rattle.mc_machine.specs.Machine.{Machine}
 use Rattle.mc_laws.specs.Answered.{Answered, HeldWords, last_words, held_words}
-use Rattle.mc_keeper.proofs.Chunks.{places-with_item, places_none}
+use Rattle.mc_machine.proofs.Chunks.{places-with_item, places_none}
 use Rattle.mc_laws.proofs.FoundItems.{item_at-with_item}
 use Rattle.mc_laws.proofs.Indexes.{index_of, leads_index}
-use Rattle.mc_keeper.proofs.KeptStore.{IsNext, is_at-tells, is_next, kept_store}
-use Rattle.mc_keeper.proofs.Links.{linked_chunk-with_item}
+use Rattle.mc_machine.proofs.KeptStore.{IsNext, is_at-tells, is_next, kept_store}
+use Rattle.mc_machine.proofs.Links.{linked_chunk-with_item}
 use Rattle.mc_laws.proofs.Lawful.{IsLawful, Proceeds, as_held, stored_as}
 use Rattle.mc_laws.proofs.Stands.{Stand, stand_on}
 

@@ -10,16 +10,16 @@ use Rattle.mc_pages.specs.Accounted.{truth}
 use Rattle.mc_pages.specs.ClassState.{is_chunk, times, without}
 use Rattle.mc_pages.proofs.Chunks.{same_from_is_chunk, times-cons}
 use Rattle.mc_script.specs.declared.command.Command.TheVariants.{Hold, Drop}
-use Rattle.mc_keeper.specs.Item.{Item}
-use Rattle.mc_keeper.specs.Items.{has_key, item_at, linked_chunk}
-use Rattle.mc_keeper.specs.Holds.{held_by}
-use Rattle.mc_keeper.specs.Kept.{places}
-use Rattle.mc_keeper.specs.Lines.{Served, dropped, held, last_hold, let_go, told as told_line}
-use Rattle.mc_keeper.specs.Machine.{Machine}
-use Rattle.mc_keeper.specs.Texts.{key_line}
+use Rattle.mc_machine.specs.Item.{Item}
+use Rattle.mc_machine.specs.Items.{has_key, item_at, linked_chunk}
+use Rattle.mc_machine.specs.Holds.{held_by}
+use Rattle.mc_machine.specs.Kept.{places}
+use Rattle.mc_machine.specs.Lines.{Served, dropped, held, last_hold, let_go, told as told_line}
+use Rattle.mc_machine.specs.Machine.{Machine}
+use Rattle.mc_machine.specs.Texts.{key_line}
 use Rattle.mc_laws.specs.Answered.{Answered, held_words, last_words, with_held, without_held}
-use Rattle.mc_keeper.proofs.Links.{LinkedIn, linked_in, some_places}
-use Rattle.mc_keeper.proofs.KeptChanges.{place_once}
+use Rattle.mc_machine.proofs.Links.{LinkedIn, linked_in, some_places}
+use Rattle.mc_machine.proofs.KeptChanges.{place_once}
 use Rattle.mc_laws.proofs.Lawful.{IsLawful, as_held, proceeds_same, stored_as}
 use Rattle.mc_laws.proofs.Stands.{Stand, finds_passing, stand_without, times-without-le}
 use Rattle.mc_laws.proofs.Told.{AreTold, told_on}

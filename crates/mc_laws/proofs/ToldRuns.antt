@@ -14,18 +14,18 @@ use Rattle.mc_pages.proofs.Kept.{IsInOrder-automove, IsInOrder-fresh}
 use Rattle.mc_script.specs.Command.{IsValid}
 use Rattle.mc_script.specs.declared.command.Command.{Command}
 use Rattle.mc_script.specs.declared.command.Command.TheVariants.{Set, Delete, Get, Hold, Drop, Touch, Reassign as ReassignPage, Automove, Window, Turn, Stats, StatsSlabs}
-use Rattle.mc_keeper.specs.Item.{Item}
-use Rattle.mc_keeper.specs.Items.{item_at, linked_chunk}
-use Rattle.mc_keeper.specs.Holds.{held_by, is_full}
+use Rattle.mc_machine.specs.Item.{Item}
+use Rattle.mc_machine.specs.Items.{item_at, linked_chunk}
+use Rattle.mc_machine.specs.Holds.{held_by, is_full}
 use Rattle.mc_watch.specs.declared.decider.Decision.{Decision}
-use Rattle.mc_keeper.specs.Automove.{begun, decision, with_window}
-use Rattle.mc_keeper.specs.Lines.{Served, acted, after_all, after_turn, last_hold, looked_up, made_youngest, read, reassigned, serve, told}
-use Rattle.mc_keeper.specs.Machine.{Machine, all_swept, fresh_machine, with_mode}
-use Rattle.mc_keeper.specs.Mover.{Turned, after_turns, no_counts}
-use Rattle.mc_keeper.specs.declared.keeper.turn.Ending.TheVariants.{Idle}
-use Rattle.mc_keeper.specs.Texts.{key_line}
+use Rattle.mc_machine.specs.Automove.{begun, decision, with_window}
+use Rattle.mc_machine.specs.Lines.{Served, acted, after_all, after_turn, last_hold, looked_up, made_youngest, read, reassigned, serve, told}
+use Rattle.mc_machine.specs.Machine.{Machine, all_swept, fresh_machine, with_mode}
+use Rattle.mc_machine.specs.Mover.{Turned, after_turns, no_counts}
+use Rattle.mc_machine.specs.declared.turn.Ending.TheVariants.{Idle}
+use Rattle.mc_machine.specs.Texts.{key_line}
 use Rattle.mc_laws.specs.Answered.{Answered, answers}
-use Rattle.mc_keeper.proofs.KeptChanges.{kept_fresh}
+use Rattle.mc_machine.proofs.KeptChanges.{kept_fresh}
 use Rattle.mc_laws.proofs.Lawful.{proceeds_same, proceeds_then}
 use Rattle.mc_laws.proofs.ProceedCommands.{proceeds_acted, proceeds_asked, proceeds_automove, proceeds_fed, proceeds_touched}
 use Rattle.mc_laws.proofs.ProceedSweeps.{proceeds_all_swept}

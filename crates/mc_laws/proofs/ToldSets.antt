@@ -10,16 +10,16 @@ use Rattle.mc_pages.specs.declared.ids.ChunkId.{ChunkId}
 use Rattle.mc_pages.specs.SlabState.{IsClass}
 use Rattle.mc_script.specs.declared.command.Command.{Command}
 use Rattle.mc_script.specs.declared.command.Command.TheVariants.{Set, Delete}
-use Rattle.mc_keeper.specs.Item.{item_bytes, words_from}
-use Rattle.mc_keeper.specs.Items.{linked_chunk, unlinked_items}
+use Rattle.mc_machine.specs.Item.{item_bytes, words_from}
+use Rattle.mc_machine.specs.Items.{linked_chunk, unlinked_items}
 use Rattle.mc_pages.specs.Answer.{answer_of}
-use Rattle.mc_keeper.specs.Automove.{with_asked_page}
-use Rattle.mc_keeper.specs.Lines.{Served, deleted, set_in, stored, with_stored}
-use Rattle.mc_keeper.specs.Machine.{Machine}
-use Rattle.mc_keeper.specs.Supply.{asks_for_page, supplied, supply}
-use Rattle.mc_keeper.specs.Texts.{key_line}
+use Rattle.mc_machine.specs.Automove.{with_asked_page}
+use Rattle.mc_machine.specs.Lines.{Served, deleted, set_in, stored, with_stored}
+use Rattle.mc_machine.specs.Machine.{Machine}
+use Rattle.mc_machine.specs.Supply.{asks_for_page, supplied, supply}
+use Rattle.mc_machine.specs.Texts.{key_line}
 use Rattle.mc_laws.specs.Answered.{Answered, last_words}
-use Rattle.mc_keeper.proofs.Stocks.{IsClass-supplied, nowhere-unlinked}
+use Rattle.mc_machine.proofs.Stocks.{IsClass-supplied, nowhere-unlinked}
 use Rattle.mc_laws.proofs.Lawful.{Proceeds, proceeds_same, proceeds_then}
 use Rattle.mc_laws.proofs.ProceedCommands.{linked_still, proceeds_asked, proceeds_unlinked}
 use Rattle.mc_laws.proofs.ProceedPages.{proceeds_supplied}

@@ -4,17 +4,17 @@ use Rattle.std.specs.Prelude.{if◌then◌else◌, ◌==◌, codes, find}
 use Rattle.std.specs.Option.{option_and_then, option_map}
 use Rattle.std.proofs.lemmas.Option.{none-some, same_Some}
 use Rattle.mc_pages.specs.declared.ids.ChunkId.{ChunkId}
-use Rattle.mc_keeper.specs.Item.{Item}
-use Rattle.mc_keeper.specs.Items.{item_at, linked_chunk}
-use Rattle.mc_keeper.specs.Holds.{held_by, is_full}
-use Rattle.mc_keeper.specs.Lines.{dropped, last_hold, let_go, looked_up, read, told}
-use Rattle.mc_keeper.specs.Machine.{Machine}
-use Rattle.mc_keeper.specs.Texts.{key_line, words_line}
+use Rattle.mc_machine.specs.Item.{Item}
+use Rattle.mc_machine.specs.Items.{item_at, linked_chunk}
+use Rattle.mc_machine.specs.Holds.{held_by, is_full}
+use Rattle.mc_machine.specs.Lines.{dropped, last_hold, let_go, looked_up, read, told}
+use Rattle.mc_machine.specs.Machine.{Machine}
+use Rattle.mc_machine.specs.Texts.{key_line, words_line}
 use Rattle.mc_laws.specs.Answered.{Answered, HeldWords, held_words, last_words}
 use Rattle.mc_laws.specs.Words.{IsReplyToGet, absent, found, full, reply_to_drop}
-use Rattle.mc_keeper.proofs.KeptChanges.{place_once}
+use Rattle.mc_machine.proofs.KeptChanges.{place_once}
 use Rattle.mc_laws.proofs.Lawful.{as_held}
-use Rattle.mc_keeper.proofs.Links.{LinkedIn, linked_in}
+use Rattle.mc_machine.proofs.Links.{LinkedIn, linked_in}
 use Rattle.mc_laws.proofs.Stands.{FindsSame, finds_same}
 use Rattle.mc_laws.proofs.Told.{AreTold}
 

@@ -4,10 +4,10 @@ use Rattle.std.specs.Option.{option_map_or}
 use Rattle.std.specs.Str.{bytes_eq}
 use Rattle.mc_script.specs.declared.command.Command.{Command}
 use Rattle.mc_script.specs.declared.command.Command.TheVariants.{Set, Delete, Hold, Drop}
-use Rattle.mc_keeper.specs.Item.{words_from}
-use Rattle.mc_keeper.specs.Machine.{Machine}
-use Rattle.mc_keeper.specs.Lines.{serve}
-use Rattle.mc_keeper.specs.Texts.{key_line}
+use Rattle.mc_machine.specs.Item.{words_from}
+use Rattle.mc_machine.specs.Machine.{Machine}
+use Rattle.mc_machine.specs.Lines.{serve}
+use Rattle.mc_machine.specs.Texts.{key_line}
 
 -- a command, and the reply to it
 pub record Answered : Type 0 where

@@ -4,8 +4,8 @@ use Rattle.std.specs.List.{range_with_len}
 use Rattle.mc_classes.specs.Classes.{Classes}
 use Rattle.mc_script.specs.declared.command.Command.{Command}
 use Rattle.mc_script.specs.declared.command.Command.TheVariants.{Set, Get, Hold, Drop, Delete, Touch, Reassign, Automove, Window, Turn, Stats, StatsSlabs}
-use Rattle.mc_keeper.specs.Machine.{fresh_machine}
-use Rattle.mc_keeper.specs.Lines.{replies_to}
+use Rattle.mc_machine.specs.Machine.{fresh_machine}
+use Rattle.mc_machine.specs.Lines.{replies_to}
 use Rattle.mc_laws.specs.Answered.{answers, last_words, held_words}
 
 -- pages of 1024 bytes, four of them, and four classes

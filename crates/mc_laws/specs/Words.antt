@@ -3,9 +3,9 @@ use Rattle.std.specs.Prelude.{◌≡◌, ℕ, ◌==◌, List, [], find, codes, O
 use Rattle.mc_classes.specs.Classes.{Classes}
 use Rattle.mc_script.specs.declared.command.Command.{Command}
 use Rattle.mc_script.specs.declared.command.Command.TheVariants.{Get, Drop}
-use Rattle.mc_keeper.specs.Machine.{Machine, fresh_machine}
-use Rattle.mc_keeper.specs.Lines.{Served, serve, after_all}
-use Rattle.mc_keeper.specs.Texts.{key_line, words_line}
+use Rattle.mc_machine.specs.Machine.{Machine, fresh_machine}
+use Rattle.mc_machine.specs.Lines.{Served, serve, after_all}
+use Rattle.mc_machine.specs.Texts.{key_line, words_line}
 use Rattle.mc_laws.specs.Answered.{HeldWords, answers, last_words, held_words}
 
 -- the reply to a get of a key whose last words are these: the worker holds too much, or the key has no item, or it has

@@ -3,9 +3,9 @@ ghost use Rattle.std.specs.Prelude.{◌≡◌, ◌≤◌, ◌++◌, codes, IfOk,
 ghost use Rattle.mc_pages.specs.Answer.{answer_of};
 ghost use Rattle.mc_watch.specs.Decider.{decision_of};
 ghost use Rattle.mc_watch.specs.Texts.{line};
-ghost use Rattle.mc_keeper.specs.Automove.{begun, decision, with_asked_page, with_window};
-ghost use Rattle.mc_keeper.specs.Lines.{acted, answer_name, moved, reassigned};
-ghost use Rattle.mc_keeper.specs.Machine.{all_swept, with_mode};
+ghost use Rattle.mc_machine.specs.Automove.{begun, decision, with_asked_page, with_window};
+ghost use Rattle.mc_machine.specs.Lines.{acted, answer_name, moved, reassigned};
+ghost use Rattle.mc_machine.specs.Machine.{all_swept, with_mode};
 
 use super::Keeper;
 use crate::text::{push_answer, push_window_line};

@@ -1,7 +1,7 @@
 //! How many handed-out chunks of each class are dead: neither a key leads to them nor anybody holds them.
 ghost use Rattle.std.specs.Prelude.{◌≡◌, ◌+◌, ◌-◌, ◌<◌, ◌≤◌, length, IfOk, if◌then◌else◌, replicate, slice_index_or, slice_set};
 ghost use Rattle.mc_pages.specs.SlabState.{IsClass, class_of_page};
-ghost use Rattle.mc_keeper.specs.Holds.{is_held};
+ghost use Rattle.mc_machine.specs.Holds.{is_held};
 
 use super::holds::Holds;
 use mc_classes::ClassId;

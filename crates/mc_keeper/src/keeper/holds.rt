@@ -2,7 +2,7 @@
 ghost use Rattle.std.specs.Prelude.{◌≡◌, ◌<◌, IfOk, OnOk, OnErr, Contains, position, reverse};
 ghost use Rattle.std.specs.List.{list_any};
 ghost use Rattle.mc_pages.specs.ClassState.{is_chunk, without};
-ghost use Rattle.mc_keeper.specs.Holds.{no_holds, held_by, is_full, is_held, with_hold, without_hold};
+ghost use Rattle.mc_machine.specs.Holds.{no_holds, held_by, is_full, is_held, with_hold, without_hold};
 
 use mc_pages::ChunkId;
 use std::alloc::{AllocError, Global};
@@ -21,7 +21,7 @@ pub(super) struct Holds {
 }
 
 impl Model for Holds {
-    ghost use Rattle.mc_keeper.specs.Holds.{Holds};
+    ghost use Rattle.mc_machine.specs.Holds.{Holds};
 
     ghost Value = { Holds };
 

@@ -1,6 +1,6 @@
 //! What is stored under a key.
 ghost use Rattle.std.specs.Prelude.{◌≡◌, IfOk};
-ghost use Rattle.mc_keeper.specs.Item.{new_item, unlinked, words_from};
+ghost use Rattle.mc_machine.specs.Item.{new_item, unlinked, words_from};
 
 use std::alloc::{AllocError, Global};
 use std::marker::Model;
@@ -14,7 +14,7 @@ pub(super) struct Item {
 }
 
 impl Model for Item {
-    ghost use Rattle.mc_keeper.specs.Item.{Item};
+    ghost use Rattle.mc_machine.specs.Item.{Item};
 
     ghost Value = { Item };
 

@@ -8,17 +8,17 @@ ghost use Rattle.mc_pages.specs.SlabState.{IsClass, class_at, class_of_page, cla
 ghost use Rattle.mc_pages.specs.ClassState.{times};
 ghost use Rattle.mc_pages.specs.Accounted.{is_cleared, is_cut};
 ghost use Rattle.mc_pages.specs.Moves.{CanFinish, is_held_up};
-ghost use Rattle.mc_keeper.specs.declared.keeper.turn.Counts.{Counts};
-ghost use Rattle.mc_keeper.specs.Items.{item_at};
-ghost use Rattle.mc_keeper.specs.Machine.{is_dead, is_idle};
-ghost use Rattle.mc_keeper.specs.Mover.{AreAtMost, after_turns, is_at_end, looked_at, saved, target, turned, with_chunk, with_cleared, with_end, with_finish, with_saved};
+ghost use Rattle.mc_machine.specs.declared.turn.Counts.{Counts};
+ghost use Rattle.mc_machine.specs.Items.{item_at};
+ghost use Rattle.mc_machine.specs.Machine.{is_dead, is_idle};
+ghost use Rattle.mc_machine.specs.Mover.{AreAtMost, after_turns, is_at_end, looked_at, saved, target, turned, with_chunk, with_cleared, with_end, with_finish, with_saved};
 
 use super::Keeper;
 use super::dead::class_of;
 use super::pages::cut_page;
 use super::serve::Stop;
-use super::turn::{Counts, Ending};
 use mc_classes::{ClassId, PageId};
+use mc_machine::{Counts, Ending};
 use mc_pages::{ChunkId, Found, Moving};
 use std::alloc::AllocError;
 use std::collections::BTreeMap;

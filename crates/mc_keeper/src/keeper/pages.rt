@@ -3,7 +3,7 @@ ghost use Rattle.std.specs.Prelude.{◌≡◌, ◌≤◌, ◌<◌, None, Some, t
 ghost use Rattle.mc_pages.specs.SlabState.{IsClass, class_at, class_of_chunk};
 ghost use Rattle.mc_pages.specs.Changes.{after_cut, next_page};
 ghost use Rattle.mc_pages.specs.Accounted.{IsAccounted, first_chunks};
-ghost use Rattle.mc_keeper.specs.Machine.{has_free, extended, stocked, with_new_page};
+ghost use Rattle.mc_machine.specs.Machine.{has_free, extended, stocked, with_new_page};
 
 use super::Keeper;
 use mc_classes::{ClassId, PageId};
@@ -13,7 +13,7 @@ use std::alloc::AllocError;
 impl Keeper {
     /// Sees to it that the class has a free chunk, where there is a way: its dead are put back, and else it
     /// gets a page.
-    #[tactic(auto, using(crate::proofs::Stocks::class_stays))]
+    #[tactic(auto, using(mc_machine::proofs::Stocks::class_stays))]
     pub(super) fn stock(&mut self, class: ClassId) -> Result<(), AllocError>
         requires { IsClass self.old.slabs class }
         ensures { OnOk result (self.new ≡ stocked self.old class) }

@@ -1,7 +1,7 @@
 //! What workers do with items that are there: they read, hold, give back and touch them.
 ghost use Rattle.std.specs.Prelude.{◌≡◌, ◌<◌, ◌++◌, OnOk, Some};
-ghost use Rattle.mc_keeper.specs.Items.{has_key, linked_chunk};
-ghost use Rattle.mc_keeper.specs.Lines.{looked_up, kept, dropped, last_hold, made_youngest};
+ghost use Rattle.mc_machine.specs.Items.{has_key, linked_chunk};
+ghost use Rattle.mc_machine.specs.Lines.{looked_up, kept, dropped, last_hold, made_youngest};
 
 use super::Keeper;
 use super::dead::count_unheld;

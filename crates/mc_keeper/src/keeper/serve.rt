@@ -2,9 +2,9 @@
 ghost use Rattle.std.specs.Prelude.{◌≡◌, ◌≤◌, ◌++◌, None, Err, OnOk};
 ghost use Rattle.mc_classes.specs.Classes.{class_of};
 ghost use Rattle.mc_script.specs.Command.{IsValid};
-ghost use Rattle.mc_keeper.specs.Item.{item_bytes, words_from};
-ghost use Rattle.mc_keeper.specs.Items.{linked_chunk};
-ghost use Rattle.mc_keeper.specs.Lines.{IsServed, serve, set_in, deleted};
+ghost use Rattle.mc_machine.specs.Item.{item_bytes, words_from};
+ghost use Rattle.mc_machine.specs.Items.{linked_chunk};
+ghost use Rattle.mc_machine.specs.Lines.{IsServed, serve, set_in, deleted};
 
 use super::Keeper;
 use super::item::words_from;

@@ -1,8 +1,8 @@
 //! The numbers of the classes, and the statistics that are told of them.
 ghost use Rattle.std.specs.Prelude.{◌≡◌, ◌<◌, ◌++◌, IfOk, OnOk};
-ghost use Rattle.mc_keeper.specs.Automove.{eviction_counts, free_counts, page_counts};
-ghost use Rattle.mc_keeper.specs.Lines.{general_text_of, slabs_text_of};
-ghost use Rattle.mc_keeper.specs.Machine.{all_swept};
+ghost use Rattle.mc_machine.specs.Automove.{eviction_counts, free_counts, page_counts};
+ghost use Rattle.mc_machine.specs.Lines.{general_text_of, slabs_text_of};
+ghost use Rattle.mc_machine.specs.Machine.{all_swept};
 
 use super::Keeper;
 use crate::reply::Reply;

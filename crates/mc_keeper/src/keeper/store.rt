@@ -4,10 +4,10 @@ ghost use Rattle.std.specs.Option.{is_some};
 ghost use Rattle.mc_pages.specs.ClassState.{first_free};
 ghost use Rattle.mc_pages.specs.SlabState.{IsClass, class_at};
 ghost use Rattle.mc_pages.specs.Changes.{after_pop};
-ghost use Rattle.mc_keeper.specs.Items.{item_at, linked_chunk, unlinked_in, unlinked_items, with_item};
-ghost use Rattle.mc_keeper.specs.Item.{new_item};
-ghost use Rattle.mc_keeper.specs.Lines.{stored};
-ghost use Rattle.mc_keeper.specs.Supply.{asks_for_page, supplied, supply};
+ghost use Rattle.mc_machine.specs.Items.{item_at, linked_chunk, unlinked_in, unlinked_items, with_item};
+ghost use Rattle.mc_machine.specs.Item.{new_item};
+ghost use Rattle.mc_machine.specs.Lines.{stored};
+ghost use Rattle.mc_machine.specs.Supply.{asks_for_page, supplied, supply};
 
 use super::Keeper;
 use super::dead::count_unheld;
@@ -21,7 +21,7 @@ impl Keeper {
     /// Stores an item in a chunk of the class, in the place of the key's old one, and says whether there was a
     /// chunk for it. Where there is none, the old item stays, unless it was the one evicted. In mode 2 of the automover
     /// an eviction asks for a page (after memcached's `slabs automove 2`).
-    #[tactic(auto, using(crate::proofs::Stocks::store_steps))]
+    #[tactic(auto, using(mc_machine::proofs::Stocks::store_steps))]
     pub(super) fn store(
         &mut self,
         class: ClassId,

@@ -1,7 +1,7 @@
 //! Dead chunks are put back: those that neither a key leads to nor anybody holds.
 ghost use Rattle.std.specs.Prelude.{◌≡◌, ◌≤◌, nat_lt, true, Contains, length};
 ghost use Rattle.mc_pages.specs.SlabState.{IsClass, class_of_page, class_of_chunk};
-ghost use Rattle.mc_keeper.specs.Machine.{dead_chunks, is_dead, is_idle, swept, all_swept, after_reclaim};
+ghost use Rattle.mc_machine.specs.Machine.{dead_chunks, is_dead, is_idle, swept, all_swept, after_reclaim};
 
 use super::Keeper;
 use super::dead::class_of;

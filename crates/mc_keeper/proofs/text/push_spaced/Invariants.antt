@@ -1,5 +1,5 @@
 use Rattle.std.proofs.Common.{◌≡◌, ◌++◌, drop}
-use Rattle.mc_keeper.specs.Texts.{spaced}
+use Rattle.mc_machine.specs.Texts.{spaced}
 use Rattle.mc_keeper.proofs.text.push_spaced.Given as goal
 
 -- the numbers so far, and those that are left

@@ -1,8 +1,8 @@
 use Rattle.std.proofs.Common.{[], ap, sym, ◌∙◌}
 use Rattle.std.proofs.lemmas.Option.{same_Some}
 use Rattle.mc_laws.specs.Answered.{answers}
-use Rattle.mc_keeper.specs.Lines.{Served, dropped, last_hold}
-use Rattle.mc_keeper.specs.Machine.{fresh_machine}
+use Rattle.mc_machine.specs.Lines.{Served, dropped, last_hold}
+use Rattle.mc_machine.specs.Machine.{fresh_machine}
 use Rattle.mc_laws.proofs.ToldRuns.{told_run}
 use Rattle.mc_laws.proofs.ToldWords.{drop_tells}
 use Rattle.mc_laws.proofs.laws.dropped_were_held.Goals as goal

@@ -1,8 +1,8 @@
 use Rattle.std.proofs.Common.{[], subst}
 use Rattle.std.proofs.lemmas.Option.{same_Some}
 use Rattle.mc_laws.specs.Answered.{answers, last_words}
-use Rattle.mc_keeper.specs.Lines.{Served, looked_up}
-use Rattle.mc_keeper.specs.Machine.{fresh_machine}
+use Rattle.mc_machine.specs.Lines.{Served, looked_up}
+use Rattle.mc_machine.specs.Machine.{fresh_machine}
 use Rattle.mc_laws.specs.Words.{IsReplyToGet}
 use Rattle.mc_laws.proofs.ToldRuns.{told_run}
 use Rattle.mc_laws.proofs.ToldWords.{get_tells}

@@ -1,8 +1,8 @@
 use Rattle.std.proofs.Common.{arith}
-use Rattle.mc_keeper.proofs.KeptMoverClear.{class_of_item, cleared_after, dead_here, handed_item, kept_cleared, leads_dead}
+use Rattle.mc_machine.proofs.KeptMoverClear.{class_of_item, cleared_after, dead_here, handed_item, kept_cleared, leads_dead}
 use Rattle.std.proofs.lemmas.List.{length-set}
-use Rattle.mc_keeper.proofs.Counted.{counted_reclaimed, dead_unheld, some_dead}
-use Rattle.mc_keeper.proofs.Watched.{watched-clear}
+use Rattle.mc_machine.proofs.Counted.{counted_reclaimed, dead_unheld, some_dead}
+use Rattle.mc_machine.proofs.Watched.{watched-clear}
 use Rattle.mc_keeper.proofs.keeper.Keeper.clear.Goals as goal
 
 pub clear-requires-clause-listed : goal.clear-requires-clause-listed

@@ -1,6 +1,6 @@
 use Rattle.std.proofs.Common.{ap, sym, ◌∙◌}
-use Rattle.mc_keeper.specs.Machine.{Machine}
-use Rattle.mc_keeper.proofs.Watched.{watched_fed}
+use Rattle.mc_machine.specs.Machine.{Machine}
+use Rattle.mc_machine.proofs.Watched.{watched_fed}
 use Rattle.mc_keeper.proofs.keeper.Keeper.decide.Goals as goal
 
 pub invariant_of-self : goal.invariant_of-self

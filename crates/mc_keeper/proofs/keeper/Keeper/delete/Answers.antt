@@ -1,10 +1,10 @@
 use Rattle.std.proofs.Common.{◌≡◌, ℕ, Option, Some, None, Result, Ok, Err, refl, ap, ◌∙◌}
 use Rattle.std.specs.Prelude.{OnOk}
 use Rattle.mc_pages.specs.declared.ids.ChunkId.{ChunkId}
-use Rattle.mc_keeper.specs.Items.{Items, linked_chunk, unlinked_items}
-use Rattle.mc_keeper.specs.Lines.{deleted}
-use Rattle.mc_keeper.specs.Machine.{Machine}
-use Rattle.mc_keeper.proofs.Links.{unlinked_items_none}
+use Rattle.mc_machine.specs.Items.{Items, linked_chunk, unlinked_items}
+use Rattle.mc_machine.specs.Lines.{deleted}
+use Rattle.mc_machine.specs.Machine.{Machine}
+use Rattle.mc_machine.proofs.Links.{unlinked_items_none}
 use Rattle.mc_keeper.proofs.keeper.Keeper.delete.Goals as goal
 
 -- where the key leads nowhere, nothing was unlinked

@@ -1,13 +1,14 @@
 use Rattle.std.proofs.Common.{◌≡◌, Contains, Some, true, false, sym, ◌∙◌, ap, arith}
 use Rattle.std.proofs.lemmas.Bool.Decides.{nat_tests}
-use Rattle.mc_keeper.specs.Items.{has_key, item_at}
-use Rattle.mc_keeper.specs.Holds.{held_by}
-use Rattle.mc_keeper.specs.Lines.{last_hold}
-use Rattle.mc_keeper.specs.Machine.{Machine}
-use Rattle.mc_keeper.proofs.Counted.{counted_given_back, counted_let_go, few_counted, machine_of}
+use Rattle.mc_machine.specs.Items.{has_key, item_at}
+use Rattle.mc_machine.specs.Holds.{held_by}
+use Rattle.mc_machine.specs.Lines.{last_hold}
+use Rattle.mc_machine.specs.Machine.{Machine}
+use Rattle.mc_machine.proofs.Counted.{counted_given_back, counted_let_go, few_counted}
+use Rattle.mc_keeper.proofs.KeeperMachine.{machine_of}
 use Rattle.mc_keeper.proofs.HoldLists.{found_there}
-use Rattle.mc_keeper.proofs.KeptChanges.{place_once}
-use Rattle.mc_keeper.proofs.KeptMoverClear.{class_of_item}
+use Rattle.mc_machine.proofs.KeptChanges.{place_once}
+use Rattle.mc_machine.proofs.KeptMoverClear.{class_of_item}
 use Rattle.mc_keeper.proofs.keeper.Keeper.drop.Goals as goal
 
 -- what was found is held

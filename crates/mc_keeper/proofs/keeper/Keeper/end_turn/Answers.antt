@@ -3,7 +3,7 @@ use Rattle.std.proofs.lemmas.Bool.Decides.{nat_tests}
 use Rattle.mc_pages.specs.SlabState.{class_at}
 use Rattle.mc_pages.specs.Accounted.{IsMove, IsAccounted}
 use Rattle.mc_pages.proofs.Kept.{all_cleared_at_end}
-use Rattle.mc_keeper.proofs.KeptMoverPass.{move_here}
+use Rattle.mc_machine.proofs.KeptMoverPass.{move_here}
 use Rattle.mc_keeper.proofs.keeper.Keeper.end_turn.Goals as goal
 
 pub is_at_end-requires : goal.is_at_end-requires

@@ -4,11 +4,11 @@ use Rattle.std.proofs.lemmas.List.{length-set}
 use Rattle.mc_pages.specs.SlabState.{IsClass, class_at}
 use Rattle.mc_pages.specs.Changes.{after_back}
 use Rattle.mc_pages.proofs.HandedOut.{class_of_handed_out}
-use Rattle.mc_keeper.specs.Items.{item_at, is_linked}
-use Rattle.mc_keeper.specs.Machine.{Machine}
-use Rattle.mc_keeper.proofs.KeptEvict.{kept_evict, linked_item}
-use Rattle.mc_keeper.proofs.Watched.{watched-back, watched-evicted}
-use Rattle.mc_keeper.proofs.Counted.{counted_gone}
+use Rattle.mc_machine.specs.Items.{item_at, is_linked}
+use Rattle.mc_machine.specs.Machine.{Machine}
+use Rattle.mc_machine.proofs.KeptEvict.{kept_evict, linked_item}
+use Rattle.mc_machine.proofs.Watched.{watched-back, watched-evicted}
+use Rattle.mc_machine.proofs.Counted.{counted_gone}
 use Rattle.mc_keeper.proofs.keeper.Keeper.evict.Goals as goal
 
 pub back-requires : goal.back-requires

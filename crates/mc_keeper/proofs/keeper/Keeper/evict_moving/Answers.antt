@@ -1,10 +1,10 @@
 use Rattle.std.proofs.Common.{◌≡◌, ap, sym, ◌∙◌, arith}
 use Rattle.std.proofs.lemmas.Option.{none-some, same_Some}
-use Rattle.mc_keeper.specs.Item.{Item}
-use Rattle.mc_keeper.proofs.KeptMoverClear.{cleared_after, idle_here, handed_item, kept_cleared, leads_gone}
-use Rattle.mc_keeper.proofs.Watched.{watched-clear}
+use Rattle.mc_machine.specs.Item.{Item}
+use Rattle.mc_machine.proofs.KeptMoverClear.{cleared_after, idle_here, handed_item, kept_cleared, leads_gone}
+use Rattle.mc_machine.proofs.Watched.{watched-clear}
 use Rattle.std.proofs.lemmas.List.{length-set}
-use Rattle.mc_keeper.proofs.Counted.{counted_gone}
+use Rattle.mc_machine.proofs.Counted.{counted_gone}
 use Rattle.mc_keeper.proofs.keeper.Keeper.evict_moving.Goals.{in-Some, in_default}
 use Rattle.mc_keeper.proofs.keeper.Keeper.evict_moving.Goals as goal
 

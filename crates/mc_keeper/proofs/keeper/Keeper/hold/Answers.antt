@@ -3,8 +3,8 @@ use Rattle.std.proofs.lemmas.Bool.Decides.{nat_tests}
 use Rattle.std.specs.Ordering.{nat_cmp}
 use Rattle.std.specs.BTreeMap.{is_at}
 use Rattle.std.specs.Map.{lookup}
-use Rattle.mc_keeper.proofs.Counted.{counted_taken, leads_linked}
-use Rattle.mc_keeper.proofs.KeptChanges.{place_once}
+use Rattle.mc_machine.proofs.Counted.{counted_taken, leads_linked}
+use Rattle.mc_machine.proofs.KeptChanges.{place_once}
 use Rattle.mc_keeper.proofs.keeper.Keeper.hold.Goals as goal
 
 pub invariant_of-self-in-Some : goal.invariant_of-self-in-Some

@@ -1,8 +1,8 @@
 use Rattle.std.proofs.Common.{ap, sym, ◌∙◌}
 use Rattle.std.specs.Prelude.{leb}
 use Rattle.mc_pages.specs.SlabState.{IsClass}
-use Rattle.mc_keeper.specs.Machine.{Machine}
-use Rattle.mc_keeper.proofs.Grown.{per_page_kept}
+use Rattle.mc_machine.specs.Machine.{Machine}
+use Rattle.mc_machine.proofs.Grown.{per_page_kept}
 use Rattle.mc_keeper.proofs.keeper.Keeper.is_at_end.Goals as goal
 
 pub returns : goal.returns

@@ -4,9 +4,9 @@ use Rattle.std.proofs.lemmas.Iterator.Search.{find_from_yields_List}
 use Rattle.std.proofs.lemmas.Iterator.Adapters.{YieldsList-from_rev_slice}
 use Rattle.std.proofs.lemmas.Iterator.Consumers.{YieldsList-from_copied}
 use Rattle.mc_pages.specs.declared.ids.ChunkId.{ChunkId}
-use Rattle.mc_keeper.specs.Items.{has_key}
-use Rattle.mc_keeper.specs.Holds.{held_by}
-use Rattle.mc_keeper.specs.Machine.{Machine}
+use Rattle.mc_machine.specs.Items.{has_key}
+use Rattle.mc_machine.specs.Holds.{held_by}
+use Rattle.mc_machine.specs.Machine.{Machine}
 use Rattle.mc_keeper.proofs.HoldLists.{option_same}
 use Rattle.mc_keeper.proofs.keeper.Keeper.last_hold.Goals as goal
 

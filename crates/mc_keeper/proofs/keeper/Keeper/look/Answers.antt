@@ -1,8 +1,8 @@
 use Rattle.std.proofs.Common.{◌≡◌, true, false, ap, sym, ◌∙◌, refl}
 use Rattle.mc_pages.specs.Accounted.{is_cleared}
-use Rattle.mc_keeper.specs.Machine.{is_dead, is_idle}
-use Rattle.mc_keeper.proofs.KeptMoverClear.{dead_here, idle_here, own_from_cut}
-use Rattle.mc_keeper.proofs.MoverSaves.{looked_with_item, there_is}
+use Rattle.mc_machine.specs.Machine.{is_dead, is_idle}
+use Rattle.mc_machine.proofs.KeptMoverClear.{dead_here, idle_here, own_from_cut}
+use Rattle.mc_machine.proofs.MoverSaves.{looked_with_item, there_is}
 use Rattle.mc_keeper.proofs.keeper.Keeper.look.Goals as goal
 
 pub returns-then-is_dead-clause-looked : goal.returns-then-is_dead-clause-looked

@@ -1,10 +1,10 @@
 use Rattle.std.proofs.Common.{◌≡◌, ℕ, length, replicate, ap, ◌∙◌}
 use Rattle.std.proofs.lemmas.List.{length-map}
 use Rattle.mc_pages.specs.SlabState.{SlabState, fresh_slabs}
-use Rattle.mc_keeper.specs.Machine.{with_mode}
-use Rattle.mc_keeper.proofs.Counted.{counted_fresh, counted_owned}
-use Rattle.mc_keeper.proofs.KeptChanges.{kept_fresh}
-use Rattle.mc_keeper.proofs.Watched.{watched_fresh}
+use Rattle.mc_machine.specs.Machine.{with_mode}
+use Rattle.mc_machine.proofs.Counted.{counted_fresh, counted_owned}
+use Rattle.mc_machine.proofs.KeptChanges.{kept_fresh}
+use Rattle.mc_machine.proofs.Watched.{watched_fresh}
 use Rattle.mc_keeper.proofs.keeper.Keeper.new.Goals as goal
 
 pub invariant_of-result : goal.invariant_of-result

@@ -1,14 +1,14 @@
 use Rattle.std.proofs.Common.{◌≡◌, Some, None, ap, refl}
 use Rattle.mc_pages.specs.ClassState.{first_free}
 use Rattle.mc_pages.specs.SlabState.{IsClass, class_at}
-use Rattle.mc_keeper.specs.Items.{item_at, linked_chunk}
-use Rattle.mc_keeper.specs.Machine.{Machine}
-use Rattle.mc_keeper.proofs.KeptStore.{is_next, kept_store}
-use Rattle.mc_keeper.proofs.Links.{without_item-with_item}
-use Rattle.mc_keeper.proofs.Watched.{watched-pop}
+use Rattle.mc_machine.specs.Items.{item_at, linked_chunk}
+use Rattle.mc_machine.specs.Machine.{Machine}
+use Rattle.mc_machine.proofs.KeptStore.{is_next, kept_store}
+use Rattle.mc_machine.proofs.Links.{without_item-with_item}
+use Rattle.mc_machine.proofs.Watched.{watched-pop}
 use Rattle.std.proofs.lemmas.List.{length-set}
-use Rattle.mc_keeper.specs.Item.{new_item}
-use Rattle.mc_keeper.proofs.Counted.{counted_come}
+use Rattle.mc_machine.specs.Item.{new_item}
+use Rattle.mc_machine.proofs.Counted.{counted_come}
 use Rattle.mc_keeper.proofs.keeper.Keeper.put.Goals as goal
 
 pub pop-requires : goal.pop-requires

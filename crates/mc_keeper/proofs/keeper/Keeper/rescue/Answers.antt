@@ -1,14 +1,14 @@
 use Rattle.std.proofs.Common.{◌≡◌, ap, sym, ◌∙◌, Contains, true, refl}
 use Rattle.std.proofs.lemmas.Option.{none-some, same_Some}
-use Rattle.mc_keeper.specs.Item.{Item}
-use Rattle.mc_keeper.specs.Machine.{Machine}
+use Rattle.mc_machine.specs.Item.{Item}
+use Rattle.mc_machine.specs.Machine.{Machine}
 use Rattle.mc_pages.specs.SlabState.{SlabState, class_of_chunk}
 use Rattle.mc_pages.specs.Changes.{after_clear, after_replace}
-use Rattle.mc_keeper.proofs.KeptMoverClear.{cleared_after, idle_here, handed_item, contains_counted, kept_back, leads_gone}
-use Rattle.mc_keeper.proofs.KeptMoverRescue.{kept_rescued, listed_still, vacant}
-use Rattle.mc_keeper.proofs.Watched.{watched-back, watched-clear, watched-replace}
+use Rattle.mc_machine.proofs.KeptMoverClear.{cleared_after, idle_here, handed_item, contains_counted, kept_back, leads_gone}
+use Rattle.mc_machine.proofs.KeptMoverRescue.{kept_rescued, listed_still, vacant}
+use Rattle.mc_machine.proofs.Watched.{watched-back, watched-clear, watched-replace}
 use Rattle.std.proofs.lemmas.List.{length-set}
-use Rattle.mc_keeper.proofs.Counted.{counted_come, counted_gone}
+use Rattle.mc_machine.proofs.Counted.{counted_come, counted_gone}
 use Rattle.mc_keeper.proofs.keeper.Keeper.rescue.Goals as goal
 
 pub back-requires : goal.back-requires

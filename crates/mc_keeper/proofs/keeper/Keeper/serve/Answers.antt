@@ -1,10 +1,10 @@
 use Rattle.std.proofs.Common.{◌≡◌, Some, refl, codes}
-use Rattle.mc_keeper.specs.Texts.{turn_line}
-use Rattle.mc_keeper.specs.Mover.{Turned, after_turns}
+use Rattle.mc_machine.specs.Texts.{turn_line}
+use Rattle.mc_machine.specs.Mover.{Turned, after_turns}
 use Rattle.mc_pages.specs.Answer.{answer_of}
 use Rattle.mc_watch.specs.Texts.{line}
-use Rattle.mc_keeper.specs.Machine.{all_swept, with_mode}
-use Rattle.mc_keeper.specs.Lines.{slabs_text_of, general_text_of, reassigned}
+use Rattle.mc_machine.specs.Machine.{all_swept, with_mode}
+use Rattle.mc_machine.specs.Lines.{slabs_text_of, general_text_of, reassigned}
 use Rattle.mc_keeper.proofs.keeper.Keeper.serve.Goals as goal
 
 pub returns-in_ok-push_turn_line-in-Turn-clause-served :

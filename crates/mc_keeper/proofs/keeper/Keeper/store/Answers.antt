@@ -1,9 +1,9 @@
 use Rattle.std.proofs.Common.{◌≡◌, Some, ap, sym, ◌∙◌}
-use Rattle.mc_keeper.specs.Machine.{Machine}
-use Rattle.mc_keeper.specs.Supply.{supply}
+use Rattle.mc_machine.specs.Machine.{Machine}
+use Rattle.mc_machine.specs.Supply.{supply}
 use Rattle.mc_pages.specs.ClassState.{first_free}
 use Rattle.mc_pages.specs.SlabState.{class_at}
-use Rattle.mc_keeper.proofs.StoredItems.{stored_asking, stored_in_mode, stored_quietly}
+use Rattle.mc_machine.proofs.StoredItems.{stored_asking, stored_in_mode, stored_quietly}
 use Rattle.mc_keeper.proofs.keeper.Keeper.store.Goals.{else-evicted-via-then-evicted+else-automove-eq2, else-evicted-via-else-evicted}
 use Rattle.mc_keeper.proofs.keeper.Keeper.store.Goals as goal
 

@@ -1,7 +1,7 @@
 use Rattle.std.proofs.Common.{◌≡◌, ap, sym, ◌∙◌, arith, length}
 use Rattle.std.specs.List.{range_with_len}
-use Rattle.mc_keeper.specs.Machine.{Machine}
-use Rattle.mc_keeper.proofs.Stocks.{classes-sweeps, sweeps_more}
+use Rattle.mc_machine.specs.Machine.{Machine}
+use Rattle.mc_machine.proofs.Stocks.{classes-sweeps, sweeps_more}
 use Rattle.mc_keeper.proofs.keeper.Keeper.sweep_all.Goals as goal
 
 pub sweep-requires : goal.sweep-requires

@@ -2,10 +2,10 @@ use Rattle.std.proofs.Common.{◌≡◌, Some, sym, ◌∙◌}
 use Rattle.std.specs.Ordering.{nat_cmp}
 use Rattle.std.specs.BTreeMap.{is_at}
 use Rattle.std.specs.Map.{lookup}
-use Rattle.mc_keeper.proofs.KeptTouch.{leads_to_handed_out, kept_touch}
-use Rattle.mc_keeper.proofs.Watched.{watched-touch}
+use Rattle.mc_machine.proofs.KeptTouch.{leads_to_handed_out, kept_touch}
+use Rattle.mc_machine.proofs.Watched.{watched-touch}
 use Rattle.std.proofs.lemmas.List.{length-set}
-use Rattle.mc_keeper.proofs.Counted.{counted_owned}
+use Rattle.mc_machine.proofs.Counted.{counted_owned}
 use Rattle.mc_keeper.proofs.keeper.Keeper.touch.Goals as goal
 
 pub touch-requires : goal.touch-requires

@@ -1,5 +1,5 @@
 use Rattle.std.proofs.Common.{◌*◌, arith}
-use Rattle.mc_keeper.proofs.MoverTurns.{at_most_more, chunks_more, counts_now}
+use Rattle.mc_machine.proofs.MoverTurns.{at_most_more, chunks_more, counts_now}
 use Rattle.mc_keeper.proofs.keeper.Keeper.turn.Goals as goal
 
 pub step-requires : goal.step-requires

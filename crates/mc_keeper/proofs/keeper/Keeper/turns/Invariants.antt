@@ -1,5 +1,5 @@
 use Rattle.std.proofs.Common.{◌≡◌, ◌-◌, ◌*◌}
-use Rattle.mc_keeper.specs.Mover.{AreAtMost, after_turns, turns_from}
+use Rattle.mc_machine.specs.Mover.{AreAtMost, after_turns, turns_from}
 use Rattle.mc_keeper.proofs.keeper.Keeper.turns.Given as goal
 
 -- the turns that are left make what all of them would

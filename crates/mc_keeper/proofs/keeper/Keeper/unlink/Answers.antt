@@ -2,9 +2,10 @@ use Rattle.std.proofs.Common.{◌≡◌, Some, sym, refl}
 use Rattle.std.specs.Ordering.{nat_cmp}
 use Rattle.std.specs.BTreeMap.{is_at}
 use Rattle.std.specs.Map.{lookup}
-use Rattle.mc_keeper.specs.Items.{unlinked_items}
-use Rattle.mc_keeper.proofs.Counted.{counted_unlinked, few_counted, leads_linked, machine_of}
-use Rattle.mc_keeper.proofs.KeptChanges.{kept_unlink, unlinks_found, unlinks_none}
+use Rattle.mc_machine.specs.Items.{unlinked_items}
+use Rattle.mc_machine.proofs.Counted.{counted_unlinked, few_counted, leads_linked}
+use Rattle.mc_keeper.proofs.KeeperMachine.{machine_of}
+use Rattle.mc_machine.proofs.KeptChanges.{kept_unlink, unlinks_found, unlinks_none}
 use Rattle.mc_keeper.proofs.keeper.Keeper.unlink.Goals as goal
 
 pub count_unheld-requires-clause-class : goal.count_unheld-requires-clause-class

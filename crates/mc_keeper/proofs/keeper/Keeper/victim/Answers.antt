@@ -1,9 +1,9 @@
 use Rattle.std.proofs.Common.{◌≡◌, ℕ, Some, sym, ap, ◌∙◌, arith, take}
 use Rattle.std.specs.Prelude.{slice_get, find}
 use Rattle.mc_pages.specs.SlabState.{class_at}
-use Rattle.mc_keeper.specs.Machine.{Machine, is_idle}
-use Rattle.mc_keeper.specs.Supply.{eviction_tries}
-use Rattle.mc_keeper.proofs.Victims.{find_here}
+use Rattle.mc_machine.specs.Machine.{Machine, is_idle}
+use Rattle.mc_machine.specs.Supply.{eviction_tries}
+use Rattle.mc_machine.proofs.Victims.{find_here}
 use Rattle.mc_keeper.proofs.keeper.Keeper.victim.Goals as goal
 
 pub returns-then-is_idle : goal.returns-then-is_idle

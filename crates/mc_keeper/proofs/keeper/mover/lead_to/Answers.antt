@@ -1,5 +1,5 @@
 use Rattle.std.proofs.Common.{◌≡◌, sym, rules}
-use Rattle.mc_keeper.proofs.KeptMoverRescue.{set_none}
+use Rattle.mc_machine.proofs.KeptMoverRescue.{set_none}
 use Rattle.mc_keeper.proofs.keeper.mover.lead_to.Goals as goal
 
 pub returns-in_default : goal.returns-in_default

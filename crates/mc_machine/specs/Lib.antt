@@ -1,0 +1,10 @@
+pub mod Item
+pub mod Items
+pub mod Holds
+pub mod Machine
+pub mod Supply
+pub mod Automove
+pub mod Mover
+pub mod Lines
+pub mod Texts
+pub mod Kept
