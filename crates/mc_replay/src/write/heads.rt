@@ -1,0 +1,23 @@
+//! The headers that aren't 0.
+use mc_core::State;
+use mc_pages::ChunkId;
+use std::alloc::AllocError;
+
+/// The headers of all pages.
+pub(super) fn heads(text: &mut String, state: &State) -> Result<(), AllocError> {
+    for page in 0..state.table().pages() {
+        page_heads(text, state, page)?;
+    }
+    Ok(())
+}
+
+/// The headers of a page.
+fn page_heads(text: &mut String, state: &State, page: u64) -> Result<(), AllocError> {
+    for index in 0..state.table().per_page(1) {
+        let word = state.head(ChunkId { page, index }).word();
+        if word != 0 {
+            writeln!(text, "head {page} {index} {word}")?;
+        }
+    }
+    Ok(())
+}
