@@ -15,6 +15,8 @@ mod places;
 mod silent;
 mod steps;
 
+pub use lists::{free_of, order_of};
+
 use crate::head::Head;
 use crate::holding::Holding;
 use crate::ids::Ids;

@@ -47,7 +47,7 @@ fn standing(
 ) -> Result<(), AllocError> {
     heads::heads(text, state)?;
     match state.slabs() {
-        Some(value) => slabs::slabs(text, state.table(), value)?,
+        Some(value) => slabs::slabs(alloc, text, state.table(), value)?,
         None => text.push_str("slabs none\n")?,
     }
     for number in 0..stripes {

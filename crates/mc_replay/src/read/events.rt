@@ -19,11 +19,7 @@ pub(super) fn event(alloc: Global, line: &[u8]) -> Result<Event, Refusal> {
     };
     let words = words(alloc, front)?;
     match deed(&words) {
-        Some((hand, step)) => Ok(Event {
-            hand,
-            before,
-            step,
-        }),
+        Some((hand, step)) => Ok(Event { hand, before, step }),
         None => Err(Refusal::Form),
     }
 }

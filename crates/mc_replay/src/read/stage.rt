@@ -1,6 +1,6 @@
 //! How far a list was read, line by line.
 ghost use Rattle.std.specs.Prelude.{◌≡◌, None, map};
-ghost use Rattle.mc_replay.specs.Heads.{config_of, hands_of};
+ghost use Rattle.mc_replay.specs.Heads.{config_of, four_of, hands_of, last_four_of};
 
 use super::events::event;
 use super::word::is;
@@ -75,20 +75,41 @@ fn config(words: &[&[u8]]) -> Option<Config>
     ensures { result ≡ config_of (map (λ word. word.now) words.now) }
 {
     match words {
-        [verb, page, limit, first, num, den, max, stripes, bulk] if is(verb, b"config") => {
+        [verb, page, limit, first, num, others @ ..] if is(verb, b"config") => {
+            let (page, limit, first, num) = four(page, limit, first, num)?;
+            let (den, max, stripes, bulk) = last_four(others)?;
             Some(Config {
-                page: number(page)?,
-                limit: number(limit)?,
-                first: number(first)?,
-                num: number(num)?,
-                den: number(den)?,
-                max: number(max)?,
-                stripes: number(stripes)?,
-                bulk: number(bulk)?,
+                page,
+                limit,
+                first,
+                num,
+                den,
+                max,
+                stripes,
+                bulk,
             })
         }
         _ => None,
     }
+}
+
+/// The four numbers that these words write, if they are four and write numbers.
+#[tactic(auto, unfolding(crate::specs::Heads::last_four_of))]
+fn last_four(words: &[&[u8]]) -> Option<(u64, u64, u64, u64)>
+    ensures { result ≡ last_four_of (map (λ word. word.now) words.now) }
+{
+    match words {
+        [a, b, c, d] => four(a, b, c, d),
+        _ => None,
+    }
+}
+
+/// The four numbers that these words write.
+#[tactic(auto, unfolding(crate::specs::Heads::four_of))]
+fn four(a: &[u8], b: &[u8], c: &[u8], d: &[u8]) -> Option<(u64, u64, u64, u64)>
+    ensures { result ≡ four_of a.now b.now c.now d.now }
+{
+    Some((number(a)?, number(b)?, number(c)?, number(d)?))
 }
 
 /// The list with its hands, and no event yet.

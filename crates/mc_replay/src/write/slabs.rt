@@ -4,18 +4,24 @@ ghost use Rattle.mc_pages.specs.SlabState.{IsClass};
 ghost use Rattle.mc_core.specs.InOrder.{IsOfTable};
 
 use mc_classes::{ClassId, ClassTable, PageId};
+use mc_core::{free_of, order_of};
 use mc_pages::{ChunkId, Entry, Moving, Owner, Slabs};
-use std::alloc::AllocError;
+use std::alloc::{AllocError, Global};
 
 /// Owners, ledger, classes, the page that moves, and the numbers of the whole.
-pub(super) fn slabs(text: &mut String, table: &ClassTable, slabs: &Slabs) -> Result<(), AllocError>
+pub(super) fn slabs(
+    alloc: Global,
+    text: &mut String,
+    table: &ClassTable,
+    slabs: &Slabs,
+) -> Result<(), AllocError>
     requires { IsOfTable table.now slabs.now.state }
 {
     for page in 0..table.pages() {
         owner(text, page, slabs.owner(page))?;
     }
     ledger(text, slabs.ledger())?;
-    classes(text, table, slabs)?;
+    classes(alloc, text, table, slabs)?;
     if let Some(moving) = slabs.moving() {
         moving_page(text, moving)?;
     }
@@ -46,50 +52,42 @@ fn ledger(text: &mut String, entries: &[Entry]) -> Result<(), AllocError> {
 }
 
 /// The lists of all classes.
-fn classes(text: &mut String, table: &ClassTable, slabs: &Slabs) -> Result<(), AllocError>
+fn classes(
+    alloc: Global,
+    text: &mut String,
+    table: &ClassTable,
+    slabs: &Slabs,
+) -> Result<(), AllocError>
     requires { IsOfTable table.now slabs.now.state }
 {
     for place in 0..table.count() {
-        class(text, slabs, place + 1)?;
+        class(alloc, text, slabs, place + 1)?;
     }
     Ok(())
 }
 
 /// The lists of a class, and how often it evicted.
-fn class(text: &mut String, slabs: &Slabs, class: ClassId) -> Result<(), AllocError>
+fn class(alloc: Global, text: &mut String, slabs: &Slabs, class: ClassId) -> Result<(), AllocError>
     requires { IsClass slabs.now.state class }
 {
-    let numbers = slabs.numbers(class);
+    let free = free_of(alloc, slabs, class)?;
+    let order = order_of(alloc, slabs, class)?;
     write!(text, "class {class} free [")?;
-    for place in 0..numbers.free {
-        if let Some(chunk) = slabs.free_at(class, place) {
-            listed(text, place, chunk)?;
-        }
-    }
+    chunks(text, &free)?;
     text.push_str("] order [")?;
-    order(text, slabs, class)?;
-    writeln!(text, "] evictions {}", numbers.evictions)
+    chunks(text, &order)?;
+    writeln!(text, "] evictions {}", slabs.numbers(class).evictions)
 }
 
-/// The hand-out order of a class.
-fn order(text: &mut String, slabs: &Slabs, class: ClassId) -> Result<(), AllocError>
-    requires { IsClass slabs.now.state class }
-{
-    let mut place = 0;
-    while let Some(chunk) = slabs.order_at(class, place) {
-        listed(text, place, chunk)?;
-        place += 1;
+/// The chunks of a list.
+fn chunks(text: &mut String, chunks: &[ChunkId]) -> Result<(), AllocError> {
+    for (place, chunk) in chunks.iter().enumerate() {
+        if place > 0 {
+            text.push_str(" ")?;
+        }
+        write!(text, "{}.{}", chunk.page, chunk.index)?;
     }
     Ok(())
-}
-
-/// A chunk at this place of a list.
-fn listed(text: &mut String, place: u64, chunk: ChunkId) -> Result<(), AllocError> {
-    let ChunkId { page, index } = chunk;
-    if place > 0 {
-        text.push_str(" ")?;
-    }
-    write!(text, "{page}.{index}")
 }
 
 /// The page that moves.
@@ -109,6 +107,10 @@ fn totals(text: &mut String, slabs: &Slabs) -> Result<(), AllocError> {
     let totals = slabs.totals();
     let automove = slabs.automove();
     write!(text, "totals pool {} moved {}", totals.pool, totals.moved)?;
-    write!(text, " rescues {} nomem {}", totals.rescues, totals.evictions_nomem)?;
+    write!(
+        text,
+        " rescues {} nomem {}",
+        totals.rescues, totals.evictions_nomem
+    )?;
     writeln!(text, " busy {} automove {automove}", totals.busy)
 }

@@ -14,7 +14,11 @@ pub(super) fn stripe(
     let keys = stored_keys(alloc, stripe.history())?;
     for key in &keys {
         if let Some((chunk, stamp)) = stripe.find(*key) {
-            writeln!(text, "index {number} {key} {} {} {stamp}", chunk.page, chunk.index)?;
+            writeln!(
+                text,
+                "index {number} {key} {} {} {stamp}",
+                chunk.page, chunk.index
+            )?;
         }
     }
     history(text, number, stripe.history())
