@@ -3,3 +3,4 @@ pub mod Steps
 pub mod Changes
 pub mod Events
 pub mod Heads
+pub mod Written
