@@ -25,5 +25,5 @@ pub use ids::Ids;
 pub use look::Look;
 pub use run::replay;
 pub use series::Series;
-pub use state::State;
+pub use state::{State, free_of, order_of};
 pub use stop::Stop;

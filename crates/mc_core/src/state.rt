@@ -1,5 +1,5 @@
 //! The arena between two events.
-ghost use Rattle.std.specs.Prelude.{◌≡◌, ◌≢◌, ◌^◌, ◌<◌, slice_get, MatchOption, Some};
+ghost use Rattle.std.specs.Prelude.{◌≡◌, ◌≢◌, ◌^◌, ◌<◌, slice_get, IfSome, MatchOption, Some};
 ghost use Rattle.mc_core.specs.State.{head_at, stripe_at};
 
 mod chunks;
@@ -14,6 +14,8 @@ mod pages;
 mod places;
 mod silent;
 mod steps;
+
+pub use lists::{free_of, order_of};
 
 use crate::head::Head;
 use crate::holding::Holding;
@@ -60,6 +62,8 @@ impl Model for State {
 }
 
 impl State {
+    ghost use Rattle.mc_core.specs.InOrder.{IsOfTable};
+
     /// The header of a chunk.
     pub fn head(&self, chunk: ChunkId) -> Head
         ensures head { result ≡ head_at self.now chunk }
@@ -71,9 +75,17 @@ impl State {
         }
     }
 
+    /// The size classes, which never change.
+    pub fn table(&self) -> &ClassTable
+        ensures { result.now ≡ self.now.table }
+    {
+        &self.table
+    }
+
     /// Pages and free lists, where nobody has the slabs lock.
     pub fn slabs(&self) -> Option<&Slabs>
-        ensures { MatchOption result (self.now.slabs_lock ≢ 0) (λ slabs. (slabs.now.state ≡ self.now.slabs) × (self.now.slabs_lock ≡ 0)) }
+        ensures free { MatchOption result (self.now.slabs_lock ≢ 0) (λ slabs. (slabs.now.state ≡ self.now.slabs) × (self.now.slabs_lock ≡ 0)) }
+        ensures of_table { IfSome result (λ slabs. IsOfTable self.now.table slabs.now.state) }
     {
         if self.slabs_lock == 0 {
             Some(&self.slabs)

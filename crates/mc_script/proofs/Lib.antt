@@ -1,5 +1,5 @@
 mod Digits
-mod FirstLine
+pub mod FirstLine
 mod FirstWord
 mod Plain
 mod Told

@@ -11,9 +11,9 @@
 mod command;
 mod forms;
 mod laws;
-mod line;
-mod lines;
-mod number;
+pub mod line;
+pub mod lines;
+pub mod number;
 mod script;
 
 pub use command::Command;

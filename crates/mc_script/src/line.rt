@@ -6,7 +6,7 @@ ghost use Rattle.mc_script.specs.Words.{words_of};
 use std::alloc::{AllocError, Global};
 
 /// Whether a line has no words, or is a comment: its first word begins with `#`.
-pub(crate) fn is_skipped(line: &[u8]) -> bool
+pub fn is_skipped(line: &[u8]) -> bool
     ensures { result ≡ is_skipped (words_of line.now) }
 {
     first_byte(line).is_none_or(|byte| byte == b'#')
@@ -20,7 +20,7 @@ fn first_byte(line: &[u8]) -> Option<u8>
 }
 
 /// What stands between the spaces of a line.
-pub(crate) fn words(alloc: Global, line: &[u8]) -> Result<Vec<&[u8]>, AllocError>
+pub fn words(alloc: Global, line: &[u8]) -> Result<Vec<&[u8]>, AllocError>
     ensures { IfOk result (λ words. map (λ word. word.now) words.items ≡ words_of line.now) }
 {
     line.split(|byte| *byte == b' ')

@@ -5,14 +5,14 @@ ghost use Rattle.std.specs.Str.Lines.{strip_carriage_return};
 
 /// The lines that are left. A line ends with LF or CR LF, and the last one perhaps with the script.
 #[derive(Drop)]
-pub(crate) struct Lines<'a> {
+pub struct Lines<'a> {
     rest: &'a [u8],
 }
 
 impl<'a> Lines<'a> {
     ghost use Rattle.std.specs.Prelude.{◌≡◌};
 
-    pub(crate) fn new(bytes: &'a [u8]) -> Self
+    pub fn new(bytes: &'a [u8]) -> Self
         ensures { result.rest.now ≡ bytes.now }
     {
         Lines { rest: bytes }

@@ -16,7 +16,7 @@ fn is_decimal(word: &[u8]) -> bool
 }
 
 /// The number that a word writes in decimal digits alone, if it writes one below 2^64.
-pub(crate) fn number(word: &[u8]) -> Option<u64>
+pub fn number(word: &[u8]) -> Option<u64>
     ensures { result ≡ number_of word.now }
 {
     if word.len() > MAX_DIGITS || !is_decimal(word) {

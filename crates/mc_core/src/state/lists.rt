@@ -9,7 +9,7 @@ use mc_pages::{ChunkId, Slabs};
 use std::alloc::{AllocError, Global};
 
 /// The class's free list, from its head.
-pub(super) fn free_of(
+pub fn free_of(
     alloc: Global,
     slabs: &Slabs,
     class: ClassId,
@@ -25,7 +25,7 @@ pub(super) fn free_of(
 }
 
 /// The class's hand-out order, the oldest first.
-pub(super) fn order_of(
+pub fn order_of(
     alloc: Global,
     slabs: &Slabs,
     class: ClassId,

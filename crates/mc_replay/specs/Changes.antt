@@ -1,0 +1,61 @@
+-- The changes before an event, by their names and arguments.
+use Rattle.std.specs.Prelude.{ℕ, codes, if◌then◌else◌, List, [], ◌∷◌, Option, Some, None}
+use Rattle.std.specs.Str.{bytes_eq}
+use Rattle.mc_pages.specs.declared.moves.Found.{Found}
+use Rattle.mc_pages.specs.declared.moves.Found.TheVariants as found
+use Rattle.mc_core.specs.declared.event.Change.{Change}
+use Rattle.mc_core.specs.declared.event.Change.TheVariants as change
+use Rattle.mc_script.specs.Words.{◌>>=◌, number_of}
+use Rattle.mc_script.specs.Forms.{source_of}
+use Rattle.mc_replay.specs.Steps.{chunk}
+
+-- the changes without arguments
+unfoldable pub bare_change : List ℕ → Option Change
+bare_change name =
+    if bytes_eq name (codes "FinishMove") then Some change.FinishMove
+    else if bytes_eq name (codes "Wrap") then Some change.Wrap
+    else None
+
+-- what the mover found
+unfoldable pub found_of : List ℕ → Option Found
+found_of name =
+    if bytes_eq name (codes "Cleared") then Some found.Cleared
+    else if bytes_eq name (codes "Rescued") then Some found.Rescued
+    else if bytes_eq name (codes "Evicted") then Some found.Evicted
+    else if bytes_eq name (codes "Busy") then Some found.Busy
+    else if bytes_eq name (codes "Locked") then Some found.Locked
+    else if bytes_eq name (codes "Already") then Some found.Already
+    else None
+
+-- those with a class, a mode, a stripe or a key
+unfoldable pub number_change : List ℕ → ℕ → Option Change
+number_change name number =
+    if bytes_eq name (codes "Grow") then Some (change.Grow number)
+    else if bytes_eq name (codes "SetAutomove") then Some (change.SetAutomove number)
+    else if bytes_eq name (codes "Evicted") then Some (change.Evicted number)
+    else if bytes_eq name (codes "Reserve") then Some (change.Reserve number)
+    else if bytes_eq name (codes "GotNone") then Some (change.GotNone number)
+    else if bytes_eq name (codes "DelNone") then Some (change.DeletedNone number)
+    else None
+
+-- the change that these words write
+unfoldable pub change_of : List (List ℕ) → Option Change
+change_of (name ∷ []) = bare_change name
+change_of (name ∷ one ∷ []) =
+    if bytes_eq name (codes "Passed") then (do
+      found ← found_of one
+      Some (change.Passed found))
+    else (do
+      number ← number_of one
+      number_change name number)
+change_of (name ∷ one ∷ two ∷ []) =
+    if bytes_eq name (codes "BeginMove") then (do
+      src ← source_of one
+      dst ← number_of two
+      Some (change.BeginMove src dst))
+    else if bytes_eq name (codes "Touch") then (do
+      page ← number_of one
+      index ← number_of two
+      Some (change.Touch (chunk page index)))
+    else None
+change_of words = None

@@ -1,0 +1,102 @@
+//! How a run ends when it isn't done.
+ghost use Rattle.std.specs.Prelude.{◌≡◌};
+ghost use Rattle.mc_replay.specs.Status.{fault_at, status_of};
+
+use mc_classes::ConfigError;
+use std::alloc::AllocError;
+use std::error::Error;
+use std::fmt;
+
+/// Why a line can't be taken.
+#[derive(Clone, Copy, Debug, PartialEq, Eq)]
+pub enum Refusal {
+    /// It is none of those that may stand there.
+    Form,
+    /// Its configuration is refused.
+    Config(ConfigError),
+    /// Its hands aren't from 1 to 64.
+    Hands,
+    /// Memory ran out.
+    Memory,
+}
+
+/// Why a run was not done.
+#[derive(Clone, Copy, Debug, PartialEq, Eq)]
+pub enum RunFault {
+    /// The line of this number, from 1, is none of those that may stand there.
+    Line(u64),
+    /// The line of this number has a configuration that is refused.
+    Config(u64, ConfigError),
+    /// The line of this number has hands that aren't from 1 to 64.
+    Hands(u64),
+    /// A read failed.
+    Read,
+    /// A write failed.
+    Write,
+    /// Memory ran out.
+    Memory,
+}
+
+impl Refusal {
+    /// What a run ends with where the line of this number is refused.
+    pub fn at(self, number: u64) -> RunFault
+        ensures { result ≡ fault_at number self }
+    {
+        match self {
+            Refusal::Form => RunFault::Line(number),
+            Refusal::Config(error) => RunFault::Config(number, error),
+            Refusal::Hands => RunFault::Hands(number),
+            Refusal::Memory => RunFault::Memory,
+        }
+    }
+}
+
+impl From<AllocError> for Refusal {
+    ghost use Rattle.std.specs.Prelude.{◌≡◌};
+    ghost use Rattle.mc_replay.specs.declared.fault.Refusal.TheVariants.{Memory};
+
+    ghost from_gives = { λ _ refusal. refusal ≡ Memory };
+
+    fn from(_error: AllocError) -> Refusal {
+        Refusal::Memory
+    }
+}
+
+impl RunFault {
+    /// The status that the program ends with.
+    pub fn status(self) -> u8
+        ensures { result ≡ status_of self }
+    {
+        match self {
+            RunFault::Line(_) | RunFault::Config(_, _) | RunFault::Hands(_) => 2,
+            RunFault::Read | RunFault::Write => 3,
+            RunFault::Memory => 4,
+        }
+    }
+}
+
+impl fmt::Display for RunFault {
+    fn fmt<W: fmt::Write>(&self, f: &mut fmt::Formatter<W>) -> fmt::Result {
+        match self {
+            RunFault::Line(number) => write!(f, "line {number}"),
+            RunFault::Config(number, error) => write!(f, "line {number}: {error}"),
+            RunFault::Hands(number) => write!(f, "line {number}: the hands must be from 1 to 64"),
+            RunFault::Read => f.write_str("read"),
+            RunFault::Write => f.write_str("write"),
+            RunFault::Memory => f.write_str("memory"),
+        }
+    }
+}
+
+impl Error for RunFault {}
+
+impl From<AllocError> for RunFault {
+    ghost use Rattle.std.specs.Prelude.{◌≡◌};
+    ghost use Rattle.mc_replay.specs.declared.fault.RunFault.TheVariants.{Memory};
+
+    ghost from_gives = { λ _ fault. fault ≡ Memory };
+
+    fn from(_error: AllocError) -> RunFault {
+        RunFault::Memory
+    }
+}

@@ -1,0 +1,26 @@
+//! A list of events, as it is played.
+ghost use Rattle.std.specs.Prelude.{◌≡◌, ◌≤◌, None};
+ghost use Rattle.mc_classes.specs.Refusals.{refusal_of};
+
+use mc_classes::Config;
+use mc_core::Event;
+
+/// A configuration that is not refused.
+#[derive(Drop)]
+pub struct Accepted {
+    pub config: Config,
+    ghost accepted: { refusal_of config ≡ None },
+}
+
+/// A list of events, with the configuration and the number of hands that play it.
+#[derive(Drop)]
+pub struct List<'a> {
+    /// Its first line.
+    pub name: &'a [u8],
+    pub config: Config,
+    pub hands: u64,
+    pub events: Vec<Event>,
+    ghost accepted: { refusal_of config ≡ None },
+    ghost some: { 1 ≤ hands },
+    ghost most: { hands ≤ 64 },
+}

@@ -1,0 +1,100 @@
+//! The changes before an event, by their names and arguments.
+ghost use Rattle.std.specs.Prelude.{◌≡◌, map};
+ghost use Rattle.mc_replay.specs.Changes.{bare_change, change_of, found_of, number_change};
+ghost use Rattle.mc_script.specs.Forms.{source_of};
+
+use super::word::is;
+use crate::fault::Refusal;
+use mc_core::{Change, Series};
+use mc_pages::{ChunkId, Found};
+use mc_script::line::words;
+use mc_script::number::number;
+use std::alloc::Global;
+
+/// All changes of a text, in which they stand between commas.
+pub(super) fn changes(alloc: Global, text: &[u8]) -> Result<Series<Change>, Refusal> {
+    let mut changes = Series::new(alloc);
+    for part in text.split(|byte| *byte == b',') {
+        let words = words(alloc, part)?;
+        match change(&words) {
+            Some(change) => changes.push(change)?,
+            None => return Err(Refusal::Form),
+        }
+    }
+    Ok(changes)
+}
+
+/// The change that these words write, if they write one.
+#[tactic(auto, unfolding(crate::specs::Changes::change_of))]
+fn change(words: &[&[u8]]) -> Option<Change>
+    ensures { result ≡ change_of (map (λ word. word.now) words.now) }
+{
+    match words {
+        [name] => bare_change(name),
+        [name, found] if is(name, b"Passed") => Some(Change::Passed(found_of(found)?)),
+        [name, one] => number_change(name, number(one)?),
+        [name, src, dst] if is(name, b"BeginMove") => {
+            Some(Change::BeginMove(source(src)?, number(dst)?))
+        }
+        [name, page, index] if is(name, b"Touch") => Some(Change::Touch(ChunkId {
+            page: number(page)?,
+            index: number(index)?,
+        })),
+        _ => None,
+    }
+}
+
+/// The change of this name without arguments.
+#[tactic(auto, unfolding(crate::specs::Changes::bare_change))]
+fn bare_change(name: &[u8]) -> Option<Change>
+    ensures { result ≡ bare_change name.now }
+{
+    match name {
+        _ if is(name, b"FinishMove") => Some(Change::FinishMove),
+        _ if is(name, b"Wrap") => Some(Change::Wrap),
+        _ => None,
+    }
+}
+
+/// The change of this name with a class, a mode, a stripe or a key.
+#[tactic(auto, unfolding(crate::specs::Changes::number_change))]
+fn number_change(name: &[u8], number: u64) -> Option<Change>
+    ensures { result ≡ number_change name.now number }
+{
+    match name {
+        _ if is(name, b"Grow") => Some(Change::Grow(number)),
+        _ if is(name, b"SetAutomove") => Some(Change::SetAutomove(number)),
+        _ if is(name, b"Evicted") => Some(Change::Evicted(number)),
+        _ if is(name, b"Reserve") => Some(Change::Reserve(number)),
+        _ if is(name, b"GotNone") => Some(Change::GotNone(number)),
+        _ if is(name, b"DelNone") => Some(Change::DeletedNone(number)),
+        _ => None,
+    }
+}
+
+/// What the mover found, by its name.
+#[tactic(auto, unfolding(crate::specs::Changes::found_of))]
+fn found_of(name: &[u8]) -> Option<Found>
+    ensures { result ≡ found_of name.now }
+{
+    match name {
+        _ if is(name, b"Cleared") => Some(Found::Cleared),
+        _ if is(name, b"Rescued") => Some(Found::Rescued),
+        _ if is(name, b"Evicted") => Some(Found::Evicted),
+        _ if is(name, b"Busy") => Some(Found::Busy),
+        _ if is(name, b"Locked") => Some(Found::Locked),
+        _ if is(name, b"Already") => Some(Found::Already),
+        _ => None,
+    }
+}
+
+/// The source that a word names: none, where one is to be picked, if it is `-1`, and else its number.
+fn source(word: &[u8]) -> Option<Option<u64>>
+    ensures { result ≡ source_of word.now }
+{
+    if is(word, b"-1") {
+        Some(None)
+    } else {
+        number(word).map(Some)
+    }
+}
