@@ -15,13 +15,12 @@ mod places;
 mod silent;
 mod steps;
 
-pub use lists::{free_of, order_of};
-
 use crate::head::Head;
 use crate::holding::Holding;
 use crate::ids::Ids;
 use crate::look::Look;
 use crate::series::Series;
+pub use lists::{free_of, order_of};
 use mc_classes::ClassTable;
 use mc_pages::{ChunkId, Slabs};
 use mc_stripe::Stripe;

@@ -9,11 +9,7 @@ use mc_pages::{ChunkId, Slabs};
 use std::alloc::{AllocError, Global};
 
 /// The class's free list, from its head.
-pub fn free_of(
-    alloc: Global,
-    slabs: &Slabs,
-    class: ClassId,
-) -> Result<Vec<ChunkId>, AllocError>
+pub fn free_of(alloc: Global, slabs: &Slabs, class: ClassId) -> Result<Vec<ChunkId>, AllocError>
     requires { IsClass slabs.now.state class }
     ensures { IfOk result (λ chunks. chunks.items ≡ (class_at slabs.now.state class).free) }
 {
@@ -25,11 +21,7 @@ pub fn free_of(
 }
 
 /// The class's hand-out order, the oldest first.
-pub fn order_of(
-    alloc: Global,
-    slabs: &Slabs,
-    class: ClassId,
-) -> Result<Vec<ChunkId>, AllocError>
+pub fn order_of(alloc: Global, slabs: &Slabs, class: ClassId) -> Result<Vec<ChunkId>, AllocError>
     requires { IsClass slabs.now.state class }
     ensures { IfOk result (λ chunks. chunks.items ≡ (class_at slabs.now.state class).order) }
 {
