@@ -1,1 +1,2 @@
+mod Played
 mod Ranges
