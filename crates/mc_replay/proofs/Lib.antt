@@ -1,2 +1,3 @@
+mod Fronts
 mod Played
 mod Ranges
