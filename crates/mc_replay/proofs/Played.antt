@@ -1,12 +1,13 @@
 -- What is written of a list that was played.
-use Rattle.std.proofs.Common.{◌≡◌, ℕ, List, ◌++◌, codes, decimal, Result, Ok, Err, IfOk, inl, inr, refl, sym, ap, ◌∙◌, subst}
+use Rattle.std.proofs.Common.{◌≡◌, ℕ, List, ◌++◌, codes, decimal, Option, Result, Ok, Err, IfOk, OnOk, inl, inr, refl, sym, ap, ◌∙◌, subst}
+use Rattle.std.specs.Io.KnownBytes.{Appends}
 use Rattle.mc_classes.specs.declared.config.Config.{Config}
 use Rattle.mc_core.specs.declared.event.Event.{Event}
 use Rattle.mc_core.specs.declared.stop.Stop.{Stop}
 use Rattle.mc_core.specs.declared.stop.Stop.TheVariants.{NotAllowed, NoMemory}
 use Rattle.mc_core.specs.State.{State, new_state}
 use Rattle.mc_core.specs.Run.{TellsEnd, IsPlayed, play}
-use Rattle.mc_replay.specs.Written.{IsAnswer, told_text}
+use Rattle.mc_replay.specs.Written.{IsAnswer, IsWritten, WritesList, told_text}
 
 from_end : (stripes : ℕ) (end : Result State ℕ) (told : Result State Stop) (state : State) → TellsEnd end told → told ≡ Ok state → told_text stripes (Ok state) ≡ told_text stripes end
 from_end stripes (Ok s) told state (inl e) is = let same : state ≡ s = (cc) in ap (λ x. told_text stripes (Ok x)) same
@@ -35,3 +36,17 @@ not_all_played bytes config hands slice events told place (Ok text) played same 
     subst (λ (es : List Event). IsAnswer config hands es (bytes text)) same
     (record { exact = λ table of_config. made ∙ from_stop config.stripes (play (new_state table config.stripes hands) slice) told place (played.exact table of_config) is })
 not_all_played bytes config hands slice events told place (Err e) played same is made = made
+
+-- behind the list's first line
+pub written : {T E : Type 0} (items : T → List ℕ) (name text : List ℕ) (config : Config) (hands : ℕ) (events : List Event) (made : Result T E) →
+    IsAnswer config hands events text → IfOk made (λ bytes. items bytes ≡ (name ++ codes "\n") ++ text) → IfOk made (λ bytes. IsWritten name config hands events (items bytes))
+written items name text config hands events (Ok bytes) answer made =
+    record { exact = λ table of_config. made ∙ ap (λ (t : List ℕ). (name ++ codes "\n") ++ t) (answer.exact table of_config) }
+written items name text config hands events (Err e) answer made = made
+
+-- behind what a writer held
+pub writes_list : {X E : Type 0} (told : Result X E) (name : List ℕ) (config : Config) (hands : ℕ) (events : List Event) (bytes slice : List ℕ) (old new : Option (List ℕ)) →
+    IsWritten name config hands events bytes → slice ≡ bytes → OnOk told (Appends old new slice) → OnOk told (WritesList name config hands events old new)
+writes_list (Ok v) name config hands events bytes slice old new is same appended =
+    record { bytes = bytes; is = is; appended = subst (λ (b : List ℕ). Appends old new b) same appended }
+writes_list (Err e) name config hands events bytes slice old new is same appended = appended

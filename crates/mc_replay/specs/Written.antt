@@ -4,6 +4,7 @@ use Rattle.std.specs.BTreeSet.{insert_key}
 use Rattle.std.specs.Ordering.{nat_cmp}
 use Rattle.mc_classes.specs.Classes.{Classes, IsTableOf, pages_of}
 use Rattle.mc_classes.specs.declared.config.Config.{Config}
+use Rattle.std.specs.Io.KnownBytes.{Appends}
 use Rattle.std.specs.List.{range_with_len}
 use Rattle.mc_pages.specs.declared.ids.ChunkId.{ChunkId}
 use Rattle.mc_pages.specs.declared.ids.Moving.{Moving}
@@ -190,3 +191,13 @@ told_text stripes (Err place) = codes "answer NotAllowed " ++ decimal place ++ c
 -- the text is what is to be written of these events, played from the beginning with the table of this configuration
 pub record IsAnswer (config : Config) (hands : ℕ) (events : List Event) (text : List ℕ) : Type 0 where
   pub exact : (table : Classes) → IsTableOf config table → text ≡ told_text config.stripes (play (new_state table config.stripes hands) events)
+
+-- the same, behind the list's first line
+pub record IsWritten (name : List ℕ) (config : Config) (hands : ℕ) (events : List Event) (bytes : List ℕ) : Type 0 where
+  pub exact : (table : Classes) → IsTableOf config table → bytes ≡ (name ++ codes "\n") ++ told_text config.stripes (play (new_state table config.stripes hands) events)
+
+-- that was written behind what a writer held
+pub record WritesList (name : List ℕ) (config : Config) (hands : ℕ) (events : List Event) (old new : Option (List ℕ)) : Type 0 where
+  pub bytes : List ℕ
+  pub is : IsWritten name config hands events bytes
+  pub appended : Appends old new bytes
