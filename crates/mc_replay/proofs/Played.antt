@@ -1,10 +1,10 @@
 -- What is written of a list that was played.
-use Rattle.std.proofs.Common.{◌≡◌, ℕ, List, ◌++◌, codes, decimal, Option, Result, Ok, Err, IfOk, OnOk, inl, inr, refl, sym, ap, ◌∙◌, subst}
+use Rattle.std.proofs.Common.{◌≡◌, ℕ, List, ◌++◌, codes, Option, Result, Ok, Err, IfOk, OnOk, inl, inr, ap, ◌∙◌, subst}
 use Rattle.std.specs.Io.KnownBytes.{Appends}
 use Rattle.mc_classes.specs.declared.config.Config.{Config}
 use Rattle.mc_core.specs.declared.event.Event.{Event}
 use Rattle.mc_core.specs.declared.stop.Stop.{Stop}
-use Rattle.mc_core.specs.declared.stop.Stop.TheVariants.{NotAllowed, NoMemory}
+use Rattle.mc_core.specs.declared.stop.Stop.TheVariants.{NotAllowed}
 use Rattle.mc_core.specs.State.{State, new_state}
 use Rattle.mc_core.specs.Run.{TellsEnd, IsPlayed, play}
 use Rattle.mc_replay.specs.Written.{IsAnswer, IsWritten, WritesList, told_text}

@@ -1,4 +1,4 @@
-use Rattle.std.proofs.Common.{◌∙◌, ap, rules}
+use Rattle.std.proofs.Common.{rules}
 use Rattle.mc_replay.proofs.Played.{written}
 use Rattle.mc_replay.proofs.run.played.Goals as goal
 

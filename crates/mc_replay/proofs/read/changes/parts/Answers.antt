@@ -1,5 +1,5 @@
 use Rattle.std.proofs.Common.{rules, tests, ◌==◌}
-use Rattle.std.proofs.lemmas.Iterator.Consumers.{YieldsList-at, map_from_collect}
+use Rattle.std.proofs.lemmas.Iterator.Consumers.{map_from_collect}
 use Rattle.std.proofs.lemmas.Iterator.Splits.{YieldsList-from_slice_split}
 use Rattle.mc_replay.proofs.read.changes.parts.Goals as goal
 
