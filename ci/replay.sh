@@ -131,20 +131,18 @@ check_replay() {
     done
 }
 
-# The Nth allocation, read or write fails. The program ends with 4 or 3 and says so, or with 0; what it wrote is the
-# beginning of the answers. The first two lists that are played to their end are enough.
+# The Nth allocation fails. The program ends with 4 and says so, or with 0; what it wrote is the beginning of the answers.
+# The first five lists are enough. `rt try` of this kit has no --fail-io, so a failed read or write is tried above alone.
 check_replay_faults() {
     awk '/^list 5 /{exit} {print}' crates/mc_replay/stdin >"$room/few"
     awk '/^list 5 /{exit} {print}' crates/mc_replay/stdout >"$room/few-stdout"
-    for fault in "alloc 1" "alloc 2" "alloc 3" "alloc 5" "alloc 20" "alloc 100" "alloc 200" "alloc 300" "alloc 400" "io 1" "io 2" "io 3"; do
-        kind=${fault% *}
+    for place in 1 2 3 5 20 100 200 300 400; do
+        fault="allocation $place"
         input=$room/few
-        # shellcheck disable=SC2086
-        try_one replay mc_replay "--fail-$kind" "${fault#* }"
-        case "$kind $(cat "$room/replay.status")" in
-        "alloc 4") grep -q '^mc_replay: memory$' "$room/replay.log" && is_told=yes || is_told=no ;;
-        "io 3") grep -q '^mc_replay: \(read\|write\)$' "$room/replay.log" && is_told=yes || is_told=no ;;
-        *" 0") cmp -s "$room/replay" "$room/few-stdout" && is_told=yes || is_told=no ;;
+        try_one replay mc_replay --fail-alloc "$place"
+        case $(cat "$room/replay.status") in
+        4) grep -q '^mc_replay: memory$' "$room/replay.log" && is_told=yes || is_told=no ;;
+        0) cmp -s "$room/replay" "$room/few-stdout" && is_told=yes || is_told=no ;;
         *) is_told=no ;;
         esac
         length=$(wc -c <"$room/replay")

@@ -1,1 +1,3 @@
+mod Fronts
+mod Played
 mod Ranges

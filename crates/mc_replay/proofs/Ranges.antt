@@ -1,5 +1,5 @@
 -- What is written for each number of a range.
-use Rattle.std.proofs.Common.{◌≡◌, ℕ, ◌+◌, ◌∙◌, List, [], ◌∷◌, ◌++◌, flat_map, zero, suc, refl, ap, arith, append_assoc, add-one}
+use Rattle.std.proofs.Common.{◌≡◌, ℕ, ◌+◌, ◌∙◌, List, [], ◌∷◌, ◌++◌, flat_map, zero, suc, refl, ap, arith, append_assoc, add-one, Result, Ok, Err, OnOk}
 use Rattle.std.specs.List.{range_with_len}
 
 append_nil : {A : Type 0} (xs : List A) → xs ++ [] ≡ xs
@@ -23,3 +23,8 @@ written_next f n old text new piece so more is = rw (more, so, is, flat_range_mo
 -- three texts, one after another
 pub appends_three : (old first second new x y z : List ℕ) → first ≡ old ++ x → second ≡ first ++ y → new ≡ second ++ z → new ≡ old ++ ((x ++ y) ++ z)
 appends_three old first second new x y z e f g = rw (g, f, e) (simp append_assoc)
+
+-- one text more, where it is written
+pub ends_with : {X E : Type 0} (told : Result X E) (old first new x y a b : List ℕ) → first ≡ old ++ x → x ≡ a → OnOk told (new ≡ first ++ y) → y ≡ b → OnOk told (new ≡ old ++ (a ++ b))
+ends_with (Ok v) old first new x y a b e f g h = rw (g, e, f, h) (simp append_assoc)
+ends_with (Err error) old first new x y a b e f g h = g

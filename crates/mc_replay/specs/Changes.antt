@@ -1,11 +1,12 @@
 -- The changes before an event, by their names and arguments.
-use Rattle.std.specs.Prelude.{ℕ, codes, if◌then◌else◌, List, [], ◌∷◌, Option, Some, None}
+use Rattle.std.specs.Prelude.{ℕ, ◌==◌, codes, if◌then◌else◌, List, [], ◌∷◌, Option, Some, None}
+use Rattle.std.specs.List.{slice_split}
 use Rattle.std.specs.Str.{bytes_eq}
 use Rattle.mc_pages.specs.declared.moves.Found.{Found}
 use Rattle.mc_pages.specs.declared.moves.Found.TheVariants as found
 use Rattle.mc_core.specs.declared.event.Change.{Change}
 use Rattle.mc_core.specs.declared.event.Change.TheVariants as change
-use Rattle.mc_script.specs.Words.{◌>>=◌, number_of}
+use Rattle.mc_script.specs.Words.{◌>>=◌, number_of, words_of}
 use Rattle.mc_script.specs.Forms.{source_of}
 use Rattle.mc_replay.specs.Steps.{chunk}
 
@@ -59,3 +60,18 @@ change_of (name ∷ one ∷ two ∷ []) =
       Some (change.Touch (chunk page index)))
     else None
 change_of words = None
+
+-- one change and those that follow
+abbrev pub followed_by : Option Change → Option (List Change) → Option (List Change)
+followed_by None rest = None
+followed_by (Some change) None = None
+followed_by (Some change) (Some rest) = Some (change ∷ rest)
+
+-- the changes that these texts write, if each writes one
+abbrev pub changes_in : List (List ℕ) → Option (List Change)
+changes_in [] = Some []
+changes_in (part ∷ parts) = followed_by (change_of (words_of part)) (changes_in parts)
+
+-- the changes of a text, which stand between commas
+unfoldable pub changes_of : List ℕ → Option (List Change)
+changes_of text = changes_in (slice_split (λ byte. byte == 44) text)

@@ -1,12 +1,24 @@
 -- The lines that are written.
-use Rattle.std.specs.Prelude.{ℕ, ◌+◌, ◌++◌, List, [], ◌∷◌, codes, decimal, flat_map}
+use Rattle.std.specs.Prelude.{◌≡◌, ℕ, ◌+◌, ◌++◌, ◌==◌, true, false, if◌then◌else◌, List, [], ◌∷◌, length, codes, decimal, flat_map, slice_get, Bool, Option, Some, None, Result, Ok, Err}
+use Rattle.std.specs.BTreeSet.{insert_key}
+use Rattle.std.specs.Ordering.{nat_cmp}
+use Rattle.mc_classes.specs.Classes.{Classes, IsTableOf, pages_of}
+use Rattle.mc_classes.specs.declared.config.Config.{Config}
+use Rattle.std.specs.Io.KnownBytes.{Appends}
 use Rattle.std.specs.List.{range_with_len}
 use Rattle.mc_pages.specs.declared.ids.ChunkId.{ChunkId}
 use Rattle.mc_pages.specs.declared.ids.Moving.{Moving}
 use Rattle.mc_pages.specs.declared.numbers.Totals.{Totals}
 use Rattle.mc_pages.specs.ClassState.{ClassState}
 use Rattle.mc_pages.specs.Ledger.{owner_at}
-use Rattle.mc_pages.specs.SlabState.{SlabState, class_at}
+use Rattle.mc_pages.specs.SlabState.{SlabState, class_at, totals_of}
+use Rattle.mc_stripe.specs.declared.history.Call.{Call}
+use Rattle.mc_stripe.specs.declared.history.Call.TheVariants as call
+use Rattle.mc_stripe.specs.StripeState.{StripeState, place_of}
+use Rattle.mc_core.specs.Head.{code}
+use Rattle.mc_core.specs.declared.event.Event.{Event}
+use Rattle.mc_core.specs.Run.{play}
+use Rattle.mc_core.specs.State.{State, head_at, most_of, new_state, stripe_at}
 use Rattle.mc_pages.specs.declared.ledger.Entry.{Entry}
 use Rattle.mc_pages.specs.declared.ledger.Entry.TheVariants as entry
 use Rattle.mc_pages.specs.declared.ledger.Owner.{Owner}
@@ -83,3 +95,109 @@ class_line class state = (free_text class state.free ++ order_text state.order) 
 -- the lines of so many classes
 abbrev pub classes_text : ℕ → SlabState → List ℕ
 classes_text count slabs = flat_map (λ place. class_line (place + 1) (class_at slabs (place + 1))) (range_with_len 0 count)
+
+-- the line of a page that moves, none where none does
+abbrev pub moving_text : Option Moving → List ℕ
+moving_text None = []
+moving_text (Some move) = moving_line move
+
+-- what stands behind the slabs lock
+abbrev pub slabs_text : Classes → SlabState → List ℕ
+slabs_text table slabs =
+    ((owners_text (pages_of table) slabs ++ flat_map entry_line slabs.ledger) ++ classes_text (length table.sizes) slabs)
+    ++ (moving_text slabs.moving ++ totals_line (totals_of slabs) slabs.automove)
+
+-- the line of a header that isn't 0
+abbrev pub word_text : ChunkId → ℕ → List ℕ
+word_text chunk word = if word == 0 then [] else codes "head " ++ decimal chunk.page ++ codes " " ++ decimal chunk.index ++ codes " " ++ decimal word ++ codes "\n"
+
+abbrev pub head_text : State → ℕ → ℕ → List ℕ
+head_text state page index = word_text (record { page = page; index = index }) (code (head_at state (record { page = page; index = index })))
+
+-- the lines of a page's first headers
+abbrev pub page_text : State → ℕ → ℕ → List ℕ
+page_text state count page = flat_map (head_text state page) (range_with_len 0 count)
+
+-- the lines of all headers
+abbrev pub heads_text : State → List ℕ
+heads_text state = flat_map (page_text state (most_of state.table)) (range_with_len 0 (pages_of state.table))
+
+-- a call of a history, to the end of its line
+abbrev pub call_text : Call → List ℕ
+call_text (call.Set hand key stamp) = codes "Set " ++ decimal hand ++ codes " " ++ decimal key ++ codes " " ++ decimal stamp ++ codes "\n"
+call_text (call.Get hand key (Some stamp)) = codes "Get " ++ decimal hand ++ codes " " ++ decimal key ++ codes " " ++ decimal stamp ++ codes "\n"
+call_text (call.Get hand key None) = codes "Get " ++ decimal hand ++ codes " " ++ decimal key ++ codes " none\n"
+call_text (call.Delete hand key true) = codes "Delete " ++ decimal hand ++ codes " " ++ decimal key ++ codes " true\n"
+call_text (call.Delete hand key false) = codes "Delete " ++ decimal hand ++ codes " " ++ decimal key ++ codes " false\n"
+call_text (call.Evict hand key) = codes "Evict " ++ decimal hand ++ codes " " ++ decimal key ++ codes "\n"
+call_text (call.Rescue hand key) = codes "Rescue " ++ decimal hand ++ codes " " ++ decimal key ++ codes "\n"
+
+-- the line of a call in the history of the stripe of this number
+abbrev pub call_line : ℕ → Call → List ℕ
+call_line number call = (codes "history " ++ decimal number ++ codes " ") ++ call_text call
+
+-- the line of a key, none where it leads nowhere
+abbrev pub key_line : ℕ → ℕ → Option (ChunkId × ℕ) → List ℕ
+key_line number key None = []
+key_line number key (Some place) =
+    (codes "index " ++ decimal number ++ codes " " ++ decimal key)
+    ++ (codes " " ++ decimal place.0.page ++ codes " " ++ decimal place.0.index ++ codes " " ++ decimal place.1 ++ codes "\n")
+
+-- the keys of these calls under which something was stored, by rising key, with those that are given
+abbrev pub with_stored : List ℕ → List Call → List ℕ
+with_stored keys [] = keys
+with_stored keys (call.Set hand key stamp ∷ calls) = with_stored (insert_key nat_cmp keys key) calls
+with_stored keys (call.Get hand key stamp ∷ calls) = with_stored keys calls
+with_stored keys (call.Delete hand key there ∷ calls) = with_stored keys calls
+with_stored keys (call.Evict hand key ∷ calls) = with_stored keys calls
+with_stored keys (call.Rescue hand key ∷ calls) = with_stored keys calls
+
+-- the lines of those of these keys that lead somewhere
+abbrev pub keys_text : ℕ → StripeState → List ℕ → List ℕ
+keys_text number stripe keys = flat_map (λ key. key_line number key (place_of stripe key)) keys
+
+-- what stands behind the lock of the stripe of this number
+abbrev pub stripe_text : ℕ → StripeState → List ℕ
+stripe_text number stripe = keys_text number stripe (with_stored [] stripe.history) ++ flat_map (call_line number) stripe.history
+
+-- what stands behind the slabs lock, if nobody has it
+abbrev pub free_slabs_text : State → List ℕ
+free_slabs_text state = if state.slabs_lock == 0 then slabs_text state.table state.slabs else codes "slabs none\n"
+
+-- a lock is there and nobody has it
+abbrev pub is_free : Option ℕ → Bool
+is_free None = false
+is_free (Some word) = word == 0
+
+-- what stands behind the lock of the stripe of this number, if nobody has it
+abbrev pub free_stripe_text : State → ℕ → List ℕ
+free_stripe_text state number =
+    if is_free (slice_get state.stripe_locks number) then stripe_text number (stripe_at state number).state
+    else codes "stripe " ++ decimal number ++ codes " none\n"
+
+-- what stands behind so many stripes' locks
+abbrev pub stripes_text : ℕ → State → List ℕ
+stripes_text stripes state = flat_map (free_stripe_text state) (range_with_len 0 stripes)
+
+-- what stands in a state with so many stripes
+abbrev pub standing_text : ℕ → State → List ℕ
+standing_text stripes state = (heads_text state ++ free_slabs_text state) ++ stripes_text stripes state
+
+-- what is written of the state after all events, or of the place of the first that isn't allowed
+abbrev pub told_text : ℕ → Result State ℕ → List ℕ
+told_text stripes (Ok state) = (codes "answer Ok\n" ++ standing_text stripes state) ++ codes "end\n"
+told_text stripes (Err place) = codes "answer NotAllowed " ++ decimal place ++ codes "\nend\n"
+
+-- the text is what is to be written of these events, played from the beginning with the table of this configuration
+pub record IsAnswer (config : Config) (hands : ℕ) (events : List Event) (text : List ℕ) : Type 0 where
+  pub exact : (table : Classes) → IsTableOf config table → text ≡ told_text config.stripes (play (new_state table config.stripes hands) events)
+
+-- the same, behind the list's first line
+pub record IsWritten (name : List ℕ) (config : Config) (hands : ℕ) (events : List Event) (bytes : List ℕ) : Type 0 where
+  pub exact : (table : Classes) → IsTableOf config table → bytes ≡ (name ++ codes "\n") ++ told_text config.stripes (play (new_state table config.stripes hands) events)
+
+-- that was written behind what a writer held
+pub record WritesList (name : List ℕ) (config : Config) (hands : ℕ) (events : List Event) (old new : Option (List ℕ)) : Type 0 where
+  pub bytes : List ℕ
+  pub is : IsWritten name config hands events bytes
+  pub appended : Appends old new bytes

@@ -1,5 +1,7 @@
 //! A run: lists of events in, their answers out.
-ghost use Rattle.std.specs.Prelude.{◌≡◌};
+ghost use Rattle.std.specs.Prelude.{◌≡◌, ◌++◌, IfErr, IfOk, OnOk, codes};
+ghost use Rattle.std.specs.Io.KnownBytes.{Appends};
+ghost use Rattle.mc_replay.specs.Written.{IsWritten, WritesList};
 
 use crate::fault::RunFault;
 use crate::list::List;
@@ -8,7 +10,7 @@ use crate::write::answer;
 use mc_classes::{Sink, Source};
 use mc_script::line::is_skipped;
 use mc_script::lines::Lines;
-use std::alloc::Global;
+use std::alloc::{AllocError, Global};
 
 /// Reads all lists and plays them, one after another. What a list answers is written before the next is played.
 pub fn run<R: Source, W: Sink>(
@@ -55,15 +57,36 @@ fn after_line<'a, W: Sink>(
 }
 
 /// Plays a list and writes its first line and what it answers.
-fn play_list<W: Sink>(alloc: Global, list: &List, writer: &mut W) -> Result<(), RunFault> {
+fn play_list<W: Sink>(alloc: Global, list: &List, writer: &mut W) -> Result<(), RunFault>
+    ensures { OnOk result (WritesList list.now.name.now list.now.config list.now.hands list.now.events.items (W.contents writer.old) (W.contents writer.new)) }
+{
+    let bytes = played(alloc, list)?;
+    write(writer, &bytes)
+}
+
+/// The first line of a list and what it answers.
+fn played(alloc: Global, list: &List) -> Result<Vec<u8>, AllocError>
+    ensures { IfOk result (λ bytes. IsWritten list.now.name.now list.now.config list.now.hands list.now.events.items bytes.items) }
+{
     let text = answer(alloc, list)?;
-    write(writer, list.name)?;
-    write(writer, b"\n")?;
-    write(writer, text.as_bytes())
+    in_lines(alloc, list.name, text.as_bytes())
+}
+
+/// A line, and the lines behind it.
+fn in_lines(alloc: Global, first: &[u8], others: &[u8]) -> Result<Vec<u8>, AllocError>
+    ensures { IfOk result (λ bytes. bytes.items ≡ (first.now ++ codes "\n") ++ others.now) }
+{
+    let mut bytes = Vec::from_slice(alloc, first)?;
+    bytes.extend_from_slice(b"\n")?;
+    bytes.extend_from_slice(others)?;
+    Ok(bytes)
 }
 
 /// Writes these bytes.
-fn write<W: Sink>(writer: &mut W, bytes: &[u8]) -> Result<(), RunFault> {
+fn write<W: Sink>(writer: &mut W, bytes: &[u8]) -> Result<(), RunFault>
+    ensures bytes { OnOk result (Appends (W.contents writer.old) (W.contents writer.new) bytes.now) }
+    ensures fault { IfErr result (λ fault. fault ≡ RunFault.Write) }
+{
     match writer.write_all(bytes) {
         Ok(()) => Ok(()),
         Err(_) => Err(RunFault::Write),

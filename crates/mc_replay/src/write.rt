@@ -15,6 +15,9 @@
 //!
 //! The lines from `head` to `history` stand after Ok alone. Those from `owner` to `totals` are `slabs none` where somebody
 //! has the slabs lock, and those of a stripe are `stripe STRIPE none` where somebody has its lock.
+ghost use Rattle.std.specs.Prelude.{◌≡◌, ◌++◌, IfOk, OnOk, codes, string_bytes};
+ghost use Rattle.mc_replay.specs.Written.{IsAnswer, free_slabs_text, free_stripe_text, standing_text, stripes_text};
+
 mod heads;
 mod slabs;
 mod stripes;
@@ -24,37 +27,72 @@ use mc_core::{State, Stop, replay};
 use std::alloc::{AllocError, Global};
 
 /// The answer of the list, what stands after it, and the line `end`.
-pub fn answer(alloc: Global, list: &List) -> Result<String, AllocError> {
-    let mut text = String::new(alloc);
+pub fn answer(alloc: Global, list: &List) -> Result<String, AllocError>
+    ensures { IfOk result (λ text. IsAnswer list.now.config list.now.hands list.now.events.items (string_bytes text)) }
+{
     match replay(alloc, &list.config, list.hands, list.events.as_slice()) {
-        Ok(state) => {
-            text.push_str("answer Ok\n")?;
-            standing(alloc, &mut text, &state, list.config.stripes)?;
-        }
-        Err(Stop::NotAllowed(place)) => writeln!(text, "answer NotAllowed {place}")?,
-        Err(Stop::NoMemory) => return Err(AllocError),
+        Ok(state) => played(alloc, &state, list.config.stripes),
+        Err(Stop::NotAllowed(place)) => format!(in alloc; "answer NotAllowed {place}\nend\n"),
+        Err(Stop::NoMemory) => Err(AllocError),
     }
+}
+
+/// The answer where all events were played.
+fn played(alloc: Global, state: &State, stripes: u64) -> Result<String, AllocError>
+    ensures { IfOk result (λ text. string_bytes text ≡ (codes "answer Ok\n" ++ standing_text stripes state.now) ++ codes "end\n") }
+{
+    let mut text = String::from_str(alloc, "answer Ok\n")?;
+    standing(alloc, &mut text, state, stripes)?;
     text.push_str("end\n")?;
     Ok(text)
 }
 
 /// What stands in a state with so many stripes.
-fn standing(
+#[tactic(auto, using(crate::proofs::Ranges::appends_three))]
+fn standing(alloc: Global, text: &mut String, state: &State, stripes: u64) -> Result<(), AllocError>
+    ensures { OnOk result (string_bytes text.new ≡ string_bytes text.old ++ standing_text stripes state.now) }
+{
+    heads::heads(text, state)?;
+    free_slabs(alloc, text, state)?;
+    free_stripes(alloc, text, state, stripes)
+}
+
+/// What stands behind the slabs lock, if nobody has it.
+fn free_slabs(alloc: Global, text: &mut String, state: &State) -> Result<(), AllocError>
+    ensures { OnOk result (string_bytes text.new ≡ string_bytes text.old ++ free_slabs_text state.now) }
+{
+    match state.slabs() {
+        Some(value) => slabs::slabs(alloc, text, state.table(), value),
+        None => text.push_str("slabs none\n"),
+    }
+}
+
+/// What stands behind the locks of so many stripes.
+fn free_stripes(
     alloc: Global,
     text: &mut String,
     state: &State,
     stripes: u64,
-) -> Result<(), AllocError> {
-    heads::heads(text, state)?;
-    match state.slabs() {
-        Some(value) => slabs::slabs(alloc, text, state.table(), value)?,
-        None => text.push_str("slabs none\n")?,
-    }
+) -> Result<(), AllocError>
+    ensures { OnOk result (string_bytes text.new ≡ string_bytes text.old ++ stripes_text stripes state.now) }
+{
     for number in 0..stripes {
-        match state.stripe(number) {
-            Some(value) => stripes::stripe(alloc, text, number, value)?,
-            None => writeln!(text, "stripe {number} none")?,
-        }
+        free_stripe(alloc, text, state, number)?;
     }
     Ok(())
+}
+
+/// What stands behind the lock of a stripe, if nobody has it.
+fn free_stripe(
+    alloc: Global,
+    text: &mut String,
+    state: &State,
+    number: u64,
+) -> Result<(), AllocError>
+    ensures { OnOk result (string_bytes text.new ≡ string_bytes text.old ++ free_stripe_text state.now number) }
+{
+    match state.stripe(number) {
+        Some(value) => stripes::stripe(alloc, text, number, value),
+        None => writeln!(text, "stripe {number} none"),
+    }
 }

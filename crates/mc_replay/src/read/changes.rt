@@ -1,6 +1,8 @@
 //! The changes before an event, by their names and arguments.
-ghost use Rattle.std.specs.Prelude.{◌≡◌, map};
-ghost use Rattle.mc_replay.specs.Changes.{bare_change, change_of, found_of, number_change};
+ghost use Rattle.std.specs.Prelude.{◌≡◌, ◌==◌, map, Some, None, Err, IfOk};
+ghost use Rattle.std.specs.List.{slice_split};
+ghost use Rattle.mc_script.specs.Words.{words_of};
+ghost use Rattle.mc_replay.specs.Changes.{bare_change, change_of, changes_in, changes_of, found_of, number_change};
 ghost use Rattle.mc_script.specs.Forms.{source_of};
 
 use super::word::is;
@@ -9,19 +11,46 @@ use mc_core::{Change, Series};
 use mc_pages::{ChunkId, Found};
 use mc_script::line::words;
 use mc_script::number::number;
-use std::alloc::Global;
+use std::alloc::{AllocError, Global};
 
 /// All changes of a text, in which they stand between commas.
-pub(super) fn changes(alloc: Global, text: &[u8]) -> Result<Series<Change>, Refusal> {
+#[tactic(auto, unfolding(crate::specs::Changes::changes_of))]
+pub(super) fn changes(alloc: Global, text: &[u8]) -> Result<Series<Change>, Refusal>
+    ensures ok { IfOk result (λ changes. changes_of text.now ≡ Some changes) }
+    ensures refused { result ≡ Err Refusal.Form → changes_of text.now ≡ None }
+{
+    let parts = parts(alloc, text)?;
+    changes_in(alloc, &parts)
+}
+
+/// The changes that these texts write, if each writes one.
+fn changes_in(alloc: Global, parts: &[&[u8]]) -> Result<Series<Change>, Refusal>
+    ensures ok { IfOk result (λ changes. changes_in (map (λ part. part.now) parts.now) ≡ Some changes) }
+    ensures refused { result ≡ Err Refusal.Form → changes_in (map (λ part. part.now) parts.now) ≡ None }
+{
     let mut changes = Series::new(alloc);
-    for part in text.split(|byte| *byte == b',') {
-        let words = words(alloc, part)?;
-        match change(&words) {
+    for part in parts {
+        match change_in(alloc, part)? {
             Some(change) => changes.push(change)?,
             None => return Err(Refusal::Form),
         }
     }
     Ok(changes)
+}
+
+/// What stands between the commas of a text.
+fn parts(alloc: Global, text: &[u8]) -> Result<Vec<&[u8]>, AllocError>
+    ensures { IfOk result (λ parts. map (λ part. part.now) parts.items ≡ slice_split (λ byte. byte == 44) text.now) }
+{
+    text.split(|byte| *byte == b',').collect(alloc)
+}
+
+/// The change that a text writes, if it writes one.
+fn change_in(alloc: Global, text: &[u8]) -> Result<Option<Change>, AllocError>
+    ensures { IfOk result (λ found. found ≡ change_of (words_of text.now)) }
+{
+    let words = words(alloc, text)?;
+    Ok(change(&words))
 }
 
 /// The change that these words write, if they write one.

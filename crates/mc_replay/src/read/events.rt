@@ -1,23 +1,46 @@
 //! The line of an event.
-ghost use Rattle.std.specs.Prelude.{◌≡◌, map};
-ghost use Rattle.mc_replay.specs.Events.{deed_of};
+ghost use Rattle.std.specs.Prelude.{◌≡◌, ◌==◌, map, position, Some, None, Err, IfOk};
+ghost use Rattle.mc_script.specs.Words.{words_of};
+ghost use Rattle.mc_replay.specs.Events.{deed_of, event_after, event_of};
 
 use super::changes::changes;
 use super::steps::step;
 use super::word::is;
 use crate::fault::Refusal;
-use mc_core::{Event, Series, Step};
+use mc_core::{Change, Event, Series, Step};
 use mc_script::line::words;
 use mc_script::number::number;
 use std::alloc::Global;
 
 /// The event that a line writes.
-pub(super) fn event(alloc: Global, line: &[u8]) -> Result<Event, Refusal> {
-    let (front, before) = match line.iter().position(|byte| *byte == b':') {
-        Some(colon) => (&line[..colon], changes(alloc, &line[colon + 1..])?),
-        None => (line, Series::new(alloc)),
-    };
-    let words = words(alloc, front)?;
+#[tactic(auto, unfolding(crate::specs::Events::event_of))]
+pub(super) fn event(alloc: Global, line: &[u8]) -> Result<Event, Refusal>
+    ensures ok { IfOk result (λ event. event_of line.now ≡ Some event) }
+    ensures refused { result ≡ Err Refusal.Form → event_of line.now ≡ None }
+{
+    match colon_in(line) {
+        Some(colon) => {
+            let before = changes(alloc, &line[colon + 1..])?;
+            event_after(alloc, &line[..colon], before)
+        }
+        None => event_after(alloc, line, Series::new(alloc)),
+    }
+}
+
+/// Where the first colon stands.
+fn colon_in(line: &[u8]) -> Option<usize>
+    ensures { result ≡ position (λ byte. byte == 58) line.now }
+{
+    line.iter().position(|byte| *byte == b':')
+}
+
+/// The event that a text writes, with the changes before it.
+#[tactic(auto, unfolding(crate::specs::Events::event_after))]
+fn event_after(alloc: Global, text: &[u8], before: Series<Change>) -> Result<Event, Refusal>
+    ensures ok { IfOk result (λ event. event_after before (deed_of (words_of text.now)) ≡ Some event) }
+    ensures refused { result ≡ Err Refusal.Form → event_after before (deed_of (words_of text.now)) ≡ None }
+{
+    let words = words(alloc, text)?;
     match deed(&words) {
         Some((hand, step)) => Ok(Event { hand, before, step }),
         None => Err(Refusal::Form),

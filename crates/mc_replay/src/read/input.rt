@@ -1,5 +1,5 @@
 //! The bytes of the input.
-ghost use Rattle.std.specs.Prelude.{◌≡◌, ◌≤◌, ◌<◌, length, IfOk, vec_len};
+ghost use Rattle.std.specs.Prelude.{◌≡◌, IfOk, vec_len};
 
 use crate::fault::RunFault;
 use mc_classes::Source;

@@ -1,9 +1,9 @@
 //! What stands behind the slabs lock.
 ghost use Rattle.std.specs.Prelude.{◌≡◌, ◌++◌, OnOk, flat_map, length, string_bytes};
 ghost use Rattle.mc_classes.specs.Classes.{pages_of};
-ghost use Rattle.mc_pages.specs.SlabState.{IsClass, class_at};
+ghost use Rattle.mc_pages.specs.SlabState.{IsClass, class_at, totals_of};
 ghost use Rattle.mc_core.specs.InOrder.{IsOfTable};
-ghost use Rattle.mc_replay.specs.Written.{chunk_text, chunks_text, class_line, classes_text, entry_line, entry_text, evictions_text, free_text, item_counts, mode_text, moving_line, order_text, owner_line, owners_text, page_counts, totals_line};
+ghost use Rattle.mc_replay.specs.Written.{chunk_text, chunks_text, class_line, classes_text, entry_line, entry_text, evictions_text, free_text, item_counts, mode_text, moving_line, moving_text, order_text, owner_line, owners_text, page_counts, slabs_text, totals_line};
 
 use mc_classes::{ClassId, ClassTable, PageId};
 use mc_core::{free_of, order_of};
@@ -11,6 +11,7 @@ use mc_pages::{ChunkId, Entry, Moving, Owner, Slabs, Totals};
 use std::alloc::{AllocError, Global};
 
 /// Owners, ledger, classes, the page that moves, and the numbers of the whole.
+#[tactic(auto, using(crate::proofs::Ranges::appends_three))]
 pub(super) fn slabs(
     alloc: Global,
     text: &mut String,
@@ -18,13 +19,27 @@ pub(super) fn slabs(
     slabs: &Slabs,
 ) -> Result<(), AllocError>
     requires { IsOfTable table.now slabs.now.state }
+    ensures { OnOk result (string_bytes text.new ≡ string_bytes text.old ++ slabs_text table.now slabs.now.state) }
+{
+    pages(text, table, slabs)?;
+    classes(alloc, text, table, slabs)?;
+    moves(text, slabs)
+}
+
+/// Owners and ledger.
+fn pages(text: &mut String, table: &ClassTable, slabs: &Slabs) -> Result<(), AllocError>
+    requires { IsOfTable table.now slabs.now.state }
+    ensures { OnOk result (string_bytes text.new ≡ string_bytes text.old ++ (owners_text (pages_of table.now) slabs.now.state ++ flat_map entry_line slabs.now.state.ledger)) }
 {
     owners(text, table, slabs)?;
-    ledger(text, slabs.ledger())?;
-    classes(alloc, text, table, slabs)?;
-    if let Some(moving) = slabs.moving() {
-        moving_page(text, moving)?;
-    }
+    ledger(text, slabs.ledger())
+}
+
+/// The page that moves, and the numbers of the whole.
+fn moves(text: &mut String, slabs: &Slabs) -> Result<(), AllocError>
+    ensures { OnOk result (string_bytes text.new ≡ string_bytes text.old ++ (moving_text slabs.now.state.moving ++ totals_line (totals_of slabs.now.state) slabs.now.state.automove)) }
+{
+    moving(text, slabs.moving())?;
     totals(text, slabs.totals(), slabs.automove())
 }
 
@@ -147,6 +162,16 @@ fn chunk(text: &mut String, chunk: ChunkId) -> Result<(), AllocError>
 {
     let ChunkId { page, index } = chunk;
     write!(text, "{page}.{index}")
+}
+
+/// The page that moves, if one does.
+fn moving(text: &mut String, moving: Option<Moving>) -> Result<(), AllocError>
+    ensures { OnOk result (string_bytes text.new ≡ string_bytes text.old ++ moving_text moving) }
+{
+    match moving {
+        Some(moving) => moving_page(text, moving),
+        None => Ok(()),
+    }
 }
 
 /// The page that moves.
