@@ -1,3 +1,1 @@
-pub mod HoldLists
-pub mod FoundHolds
 pub mod KeeperMachine

@@ -1,2 +1,1 @@
-pub mod HoldsKept
 pub mod KeeperKept

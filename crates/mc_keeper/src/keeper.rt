@@ -4,10 +4,7 @@ ghost use Rattle.mc_classes.specs.Classes.{IsSound};
 ghost use Rattle.mc_machine.specs.Machine.{fresh_machine};
 
 mod automove;
-mod dead;
 mod evict;
-mod holds;
-mod item;
 mod mover;
 mod pages;
 mod refs;
@@ -16,11 +13,9 @@ mod statistics;
 mod store;
 mod sweep;
 
-use dead::DeadCounts;
-use holds::Holds;
-use item::Item;
 use mc_classes::ClassTable;
 use mc_pages::{ChunkId, Slabs};
+use mc_parts::{DeadCounts, Holds, Item};
 use mc_watch::Decider;
 pub use serve::Stop;
 use std::alloc::{AllocError, Global};

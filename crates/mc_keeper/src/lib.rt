@@ -7,7 +7,6 @@
 
 mod keeper;
 mod reply;
-mod text;
 
 pub use keeper::{Keeper, Stop};
 pub use mc_machine::{Counts, Ending};

@@ -8,9 +8,9 @@ ghost use Rattle.mc_machine.specs.Lines.{acted, answer_name, moved, reassigned};
 ghost use Rattle.mc_machine.specs.Machine.{all_swept, with_mode};
 
 use super::Keeper;
-use crate::text::{push_answer, push_window_line};
 use mc_classes::ClassId;
 use mc_pages::Reassign;
+use mc_parts::{push_answer, push_window_line};
 use mc_watch::Decision;
 use std::alloc::AllocError;
 

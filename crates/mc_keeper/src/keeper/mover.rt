@@ -14,12 +14,12 @@ ghost use Rattle.mc_machine.specs.Machine.{is_dead, is_idle};
 ghost use Rattle.mc_machine.specs.Mover.{AreAtMost, after_turns, is_at_end, looked_at, saved, target, turned, with_chunk, with_cleared, with_end, with_finish, with_saved};
 
 use super::Keeper;
-use super::dead::class_of;
 use super::pages::cut_page;
 use super::serve::Stop;
 use mc_classes::{ClassId, PageId};
 use mc_machine::{Counts, Ending};
 use mc_pages::{ChunkId, Found, Moving};
+use mc_parts::class_of;
 use std::alloc::AllocError;
 use std::collections::BTreeMap;
 

@@ -4,9 +4,8 @@ ghost use Rattle.mc_machine.specs.Items.{has_key, linked_chunk};
 ghost use Rattle.mc_machine.specs.Lines.{looked_up, kept, dropped, last_hold, made_youngest};
 
 use super::Keeper;
-use super::dead::count_unheld;
-use crate::text::{push_key_line, push_words_line};
 use mc_pages::ChunkId;
+use mc_parts::{count_unheld, push_key_line, push_words_line};
 use std::alloc::AllocError;
 
 impl Keeper {

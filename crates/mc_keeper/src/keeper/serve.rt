@@ -7,8 +7,7 @@ ghost use Rattle.mc_machine.specs.Items.{linked_chunk};
 ghost use Rattle.mc_machine.specs.Lines.{IsServed, serve, set_in, deleted};
 
 use super::Keeper;
-use super::item::words_from;
-use crate::text::{push_key_line, push_turn_line};
+use mc_parts::{push_key_line, push_turn_line, words_from};
 use mc_script::Command;
 use std::alloc::AllocError;
 use std::marker::Brand;

@@ -10,10 +10,9 @@ ghost use Rattle.mc_machine.specs.Lines.{stored};
 ghost use Rattle.mc_machine.specs.Supply.{asks_for_page, supplied, supply};
 
 use super::Keeper;
-use super::dead::count_unheld;
-use super::item::Item;
 use mc_classes::ClassId;
 use mc_pages::ChunkId;
+use mc_parts::{Item, count_unheld};
 use std::alloc::AllocError;
 use std::collections::BTreeMap;
 

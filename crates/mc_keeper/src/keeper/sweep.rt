@@ -4,9 +4,9 @@ ghost use Rattle.mc_pages.specs.SlabState.{IsClass, class_of_page, class_of_chun
 ghost use Rattle.mc_machine.specs.Machine.{dead_chunks, is_dead, is_idle, swept, all_swept, after_reclaim};
 
 use super::Keeper;
-use super::dead::class_of;
 use mc_classes::ClassId;
 use mc_pages::ChunkId;
+use mc_parts::class_of;
 
 impl Keeper {
     /// Puts back the dead chunks of a class, the one that was handed out first of all first. It walks along the hand-out

@@ -6,7 +6,7 @@ use Rattle.mc_machine.specs.Lines.{last_hold}
 use Rattle.mc_machine.specs.Machine.{Machine}
 use Rattle.mc_machine.proofs.Counted.{counted_given_back, counted_let_go, few_counted}
 use Rattle.mc_keeper.proofs.KeeperMachine.{machine_of}
-use Rattle.mc_keeper.proofs.HoldLists.{found_there}
+use Rattle.mc_parts.proofs.HoldLists.{found_there}
 use Rattle.mc_machine.proofs.KeptChanges.{place_once}
 use Rattle.mc_machine.proofs.KeptMoverClear.{class_of_item}
 use Rattle.mc_keeper.proofs.keeper.Keeper.drop.Goals as goal

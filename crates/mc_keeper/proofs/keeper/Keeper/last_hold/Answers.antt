@@ -7,7 +7,7 @@ use Rattle.mc_pages.specs.declared.ids.ChunkId.{ChunkId}
 use Rattle.mc_machine.specs.Items.{has_key}
 use Rattle.mc_machine.specs.Holds.{held_by}
 use Rattle.mc_machine.specs.Machine.{Machine}
-use Rattle.mc_keeper.proofs.HoldLists.{option_same}
+use Rattle.mc_parts.proofs.HoldLists.{option_same}
 use Rattle.mc_keeper.proofs.keeper.Keeper.last_hold.Goals as goal
 
 pub returns : goal.returns

@@ -1,0 +1,2 @@
+pub mod HoldLists
+pub mod FoundHolds

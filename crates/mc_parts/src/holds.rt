@@ -1,0 +1,118 @@
+//! Which chunks the workers hold.
+ghost use Rattle.std.specs.Prelude.{◌≡◌, ◌<◌, IfOk, OnOk, OnErr, Contains, position, reverse};
+ghost use Rattle.std.specs.List.{list_any};
+ghost use Rattle.mc_pages.specs.ClassState.{is_chunk, without};
+ghost use Rattle.mc_machine.specs.Holds.{no_holds, held_by, is_full, is_held, with_hold, without_hold};
+
+use mc_pages::ChunkId;
+use std::alloc::{AllocError, Global};
+use std::marker::Model;
+
+/// How many workers there can be, the thread that moves pages counted as worker 0.
+const WORKERS: usize = 64;
+
+/// The most chunks that a worker may hold (own).
+const MAX_HOLDS: usize = 255;
+
+/// For each worker the chunks that it holds, the one that was taken last standing last.
+#[derive(Drop)]
+pub struct Holds {
+    by_worker: Vec<Vec<ChunkId>>,
+}
+
+impl Model for Holds {
+    ghost use Rattle.mc_machine.specs.Holds.{Holds};
+
+    ghost Value = { Holds };
+
+    ghost use Rattle.mc_parts.specs.HoldsKept.{holds_of, AreHolds};
+
+    ghost view = { holds_of };
+
+    ghost invariant = { AreHolds };
+}
+
+impl Holds {
+    /// Nobody holds a chunk.
+    pub fn new(alloc: Global) -> Result<Holds, AllocError>
+        ensures { IfOk result (λ holds. holds ≡ no_holds) }
+    {
+        let mut by_worker = Vec::with_capacity(alloc, WORKERS)?;
+        for _ in 0..WORKERS {
+            by_worker.push(Vec::new(alloc)).unwrap();
+        }
+        Ok(Holds { by_worker })
+    }
+
+    /// Whether the worker can hold no more.
+    pub fn is_full(&self, worker: u64) -> bool
+        requires { worker < 64 }
+        ensures { result ≡ is_full self.now worker }
+    {
+        self.by_worker[worker as usize].len() >= MAX_HOLDS
+    }
+
+    /// Whether somebody holds the chunk.
+    pub fn is_held(&self, chunk: ChunkId) -> bool
+        ensures { result ≡ is_held self.now chunk }
+    {
+        any_has(&self.by_worker, chunk)
+    }
+
+    /// The chunks that the worker holds, the one that it took last standing last.
+    pub fn of(&self, worker: u64) -> &[ChunkId]
+        requires { worker < 64 }
+        ensures { reverse result.now ≡ held_by self.now worker }
+    {
+        self.by_worker[worker as usize].as_slice()
+    }
+
+    /// The worker takes a hold of the chunk.
+    pub fn take(&mut self, worker: u64, chunk: ChunkId) -> Result<(), AllocError>
+        requires { worker < 64 }
+        ensures ok { OnOk result (self.new ≡ with_hold self.old worker chunk) }
+        ensures err { OnErr result (self.new ≡ self.old) }
+    {
+        self.by_worker[worker as usize].push(chunk)?;
+        Ok(())
+    }
+
+    /// The worker gives back the hold of the chunk that it took last.
+    pub fn give_back(&mut self, worker: u64, chunk: ChunkId)
+        requires worker { worker < 64 }
+        requires held { Contains (held_by self.old worker) chunk }
+        ensures { self.new ≡ without_hold self.old worker chunk }
+    {
+        take_out_last(&mut self.by_worker[worker as usize], chunk);
+    }
+}
+
+/// Whether one of the lists has the chunk.
+fn any_has(lists: &[Vec<ChunkId>], chunk: ChunkId) -> bool
+    ensures { result ≡ list_any (λ chunks. list_any (λ c. is_chunk c chunk) chunks.items) lists.now }
+{
+    lists.iter().any(|chunks| has(chunks, chunk))
+}
+
+/// Whether the list has the chunk.
+fn has(chunks: &[ChunkId], chunk: ChunkId) -> bool
+    ensures { result ≡ list_any (λ c. is_chunk c chunk) chunks.now }
+{
+    chunks.iter().any(|c| *c == chunk)
+}
+
+/// Removes the last place of the chunk, if it has one.
+fn take_out_last(chunks: &mut Vec<ChunkId>, chunk: ChunkId)
+    ensures { reverse chunks.new.items ≡ without chunk (reverse chunks.old.items) }
+{
+    if let Some(back) = place_from_back(chunks, chunk) {
+        chunks.remove(chunks.len() - 1 - back);
+    }
+}
+
+/// How many chunks stand behind the chunk's last place.
+fn place_from_back(chunks: &[ChunkId], chunk: ChunkId) -> Option<usize>
+    ensures { result ≡ position (λ c. is_chunk c chunk) (reverse chunks.now) }
+{
+    chunks.iter().rev().position(|c| *c == chunk)
+}

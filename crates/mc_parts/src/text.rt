@@ -1,0 +1,118 @@
+//! The lines that a run writes, put together in memory before any of them is written.
+ghost use Rattle.std.specs.Prelude.{◌≡◌, ◌++◌, [], ◌∷◌, codes, decimal, OnOk};
+ghost use Rattle.mc_watch.specs.Texts.{line};
+ghost use Rattle.mc_machine.specs.Texts.{key_line, spaced, turn_line, word_of, words_line};
+
+use itoa::Buffer;
+use mc_machine::{Counts, Ending};
+use std::alloc::AllocError;
+
+/// Adds a number in decimal digits.
+fn push_number(text: &mut Vec<u8>, number: u64) -> Result<(), AllocError>
+    ensures { OnOk result (text.new.items ≡ text.old.items ++ decimal number) }
+{
+    let mut digits = Buffer::new();
+    text.extend_from_slice(digits.format(number).as_bytes())?;
+    Ok(())
+}
+
+/// Adds a line of these words.
+fn push_line(text: &mut Vec<u8>, words: &[u8]) -> Result<(), AllocError>
+    ensures { OnOk result (text.new.items ≡ text.old.items ++ line words.now) }
+{
+    text.extend_from_slice(words)?;
+    text.extend_from_slice(b"\r\n")?;
+    Ok(())
+}
+
+/// Adds an answer of one word.
+pub fn push_answer(text: &mut Vec<u8>, answer: &[u8]) -> Result<(), AllocError>
+    ensures { OnOk result (text.new.items ≡ text.old.items ++ line answer.now) }
+{
+    push_line(text, answer)
+}
+
+/// Adds numbers, a space before each.
+fn push_spaced(text: &mut Vec<u8>, numbers: &[u64]) -> Result<(), AllocError>
+    ensures { OnOk result (text.new.items ≡ text.old.items ++ spaced numbers.now) }
+{
+    for number in numbers {
+        text.extend_from_slice(b" ")?;
+        push_number(text, *number)?;
+    }
+    Ok(())
+}
+
+/// Adds the answer about a key, with the item's words.
+pub fn push_words_line(
+    text: &mut Vec<u8>,
+    answer: &[u8],
+    key: u64,
+    words: &[u64],
+) -> Result<(), AllocError>
+    ensures { OnOk result (text.new.items ≡ text.old.items ++ words_line answer.now key words.now) }
+{
+    text.extend_from_slice(answer)?;
+    text.extend_from_slice(b" ")?;
+    push_number(text, key)?;
+    text.extend_from_slice(b" ")?;
+    push_number(text, words.len() as u64)?;
+    push_spaced(text, words)?;
+    text.extend_from_slice(b"\r\n")?;
+    Ok(())
+}
+
+/// The word for how the last turn ended.
+fn word_of(ending: Ending) -> &'static [u8]
+    ensures { result.now ≡ word_of ending }
+{
+    match ending {
+        Ending::Idle => b"IDLE",
+        Ending::Went => b"WENT",
+        Ending::Finished => b"FINISHED",
+    }
+}
+
+/// Adds what some turns did.
+pub fn push_turn_line(text: &mut Vec<u8>, ending: Ending, counts: Counts) -> Result<(), AllocError>
+    ensures { OnOk result (text.new.items ≡ text.old.items ++ turn_line ending counts) }
+{
+    let Counts {
+        cleared,
+        rescued,
+        evicted,
+        busy,
+        locked,
+    } = counts;
+    text.extend_from_slice(b"TURN ")?;
+    text.extend_from_slice(word_of(ending))?;
+    push_spaced(text, &[cleared, rescued, evicted, busy, locked])?;
+    text.extend_from_slice(b"\r\n")?;
+    Ok(())
+}
+
+/// Adds what became of the automover's decision.
+pub fn push_window_line(
+    text: &mut Vec<u8>,
+    src: u64,
+    dst: u64,
+    answer: &[u8],
+) -> Result<(), AllocError>
+    ensures { OnOk result (text.new.items ≡ text.old.items ++ line (codes "WINDOW" ++ spaced (src ∷ dst ∷ []) ++ codes " " ++ answer.now)) }
+{
+    text.extend_from_slice(b"WINDOW")?;
+    push_spaced(text, &[src, dst])?;
+    text.extend_from_slice(b" ")?;
+    push_line(text, answer)
+}
+
+/// Adds the answer about a key.
+pub fn push_key_line(text: &mut Vec<u8>, answer: &[u8], key: u64) -> Result<(), AllocError>
+    ensures { OnOk result (text.new.items ≡ text.old.items ++ key_line answer.now key) }
+{
+    text.extend_from_slice(answer)?;
+    text.extend_from_slice(b" ")?;
+    push_number(text, key)?;
+    text.extend_from_slice(b"\r\n")?;
+    Ok(())
+}
