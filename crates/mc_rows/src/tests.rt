@@ -1,5 +1,6 @@
 //! Worked examples, by name: a script, the replies and how the run ends.
 mod automove;
+mod events;
 mod holds;
 mod hostile;
 mod moves;
@@ -12,6 +13,7 @@ use crate::devices::{MemorySink, MemorySource};
 use mc_classes::{Config, Failures};
 use mc_driver::{Run, RunFault, run_serial};
 use std::alloc::{AllocError, Global};
+use std::fmt::Debug;
 use std::marker::Brand;
 use std::process::Abort;
 use std::sync::ledger::{Blank, Ledger};
@@ -52,6 +54,11 @@ struct Played {
     text: Vec<u8>,
     end: Result<(), RunFault>,
     wrote_again: bool,
+}
+
+/// What was found is what was wanted.
+fn assert_same<T: PartialEq + Debug>(rt: &impl Abort, found: &T, wanted: &T, what: &str) {
+    assert_eq!(rt; *found, *wanted, "{what}");
 }
 
 /// Runs a script in mode 0 of the automover.
