@@ -57,8 +57,20 @@ struct Played {
 }
 
 /// What was found is what was wanted.
-fn assert_same<T: PartialEq + Debug>(rt: &impl Abort, found: &T, wanted: &T, what: &str) {
-    assert_eq!(rt; *found, *wanted, "{what}");
+fn assert_same<T: Copy + PartialEq + Debug>(rt: &impl Abort, found: T, wanted: T, what: &str) {
+    assert_eq!(rt; found, wanted, "{what}");
+}
+
+/// The run ended so, and this is all that it wrote.
+fn assert_played(
+    rt: &impl Abort,
+    played: &Played,
+    end: Result<(), RunFault>,
+    text: &[u8],
+    name: &str,
+) {
+    assert_same(rt, played.end, end, name);
+    assert_same(rt, played.text.as_slice(), text, name);
 }
 
 /// Runs a script in mode 0 of the automover.
@@ -136,8 +148,7 @@ fn play_counting<I: Ledger, O: Ledger>(
 fn plays_rows(rt: &impl Abort, alloc: Global, rows: &[Row]) -> Result<(), AllocError> {
     for (name, script, replies, end) in rows {
         let played = play(alloc, FOUR_CLASSES, script.as_bytes(), WHOLE)?;
-        assert_eq!(rt; played.end, *end, "{name}");
-        assert_eq!(rt; played.text.as_slice(), replies.as_bytes(), "{name}");
+        assert_played(rt, &played, *end, replies.as_bytes(), name);
     }
     Ok(())
 }

@@ -67,7 +67,7 @@ fn assert_stops(rt: &impl Abort, alloc: Global, events: &[Event], wanted: Stop) 
         Ok(_) => None,
         Err(stop) => Some(stop),
     };
-    assert_same(rt, &found, &Some(wanted), "how the events end");
+    assert_same(rt, found, Some(wanted), "how the events end");
 }
 
 /// After the events, the chunk that is handed out first has this header.
@@ -79,7 +79,7 @@ fn assert_word(
     what: &str,
 ) -> Result<(), Stop> {
     let state = play(alloc, events)?;
-    assert_same(rt, &state.head(LAST).word(), &wanted, what);
+    assert_same(rt, state.head(LAST).word(), wanted, what);
     Ok(())
 }
 
@@ -91,8 +91,8 @@ fn a_page_is_cut_whole_before_its_lock_is_given(rt: HostRuntime) -> Result<(), F
     let slabs = state.slabs().ok_or("the slabs lock is not free")?;
     assert_same(
         &rt,
-        &slabs.ledger(),
-        &[Entry::Granted(0, 1)].as_slice(),
+        slabs.ledger(),
+        [Entry::Granted(0, 1)].as_slice(),
         "the ledger",
     );
     let mut short = cut(rt.alloc(), 20)?;
@@ -188,8 +188,8 @@ fn a_hint_of_another_issue_is_refused(rt: HostRuntime) -> Result<(), Fail> {
 #[test]
 fn a_stop_is_told(rt: HostRuntime) -> Result<(), Fail> {
     let text = Stop::NotAllowed(21).to_string(rt.alloc())?;
-    assert_same(&rt, &text.as_str(), &"event 21 is not allowed", "the first");
+    assert_same(&rt, text.as_str(), "event 21 is not allowed", "the first");
     let text = Stop::NoMemory.to_string(rt.alloc())?;
-    assert_same(&rt, &text.as_str(), &"out of memory", "the second");
+    assert_same(&rt, text.as_str(), "out of memory", "the second");
     Ok(())
 }
