@@ -14,8 +14,6 @@ mod run;
 mod series;
 mod state;
 mod stop;
-#[cfg(test)]
-mod tests;
 mod words;
 
 pub use event::{Change, Event, Step};

@@ -1,5 +1,6 @@
 //! Worked examples, by name: a script, the replies and how the run ends.
 mod automove;
+mod events;
 mod holds;
 mod hostile;
 mod moves;
@@ -12,6 +13,7 @@ use crate::devices::{MemorySink, MemorySource};
 use mc_classes::{Config, Failures};
 use mc_driver::{Run, RunFault, run_serial};
 use std::alloc::{AllocError, Global};
+use std::fmt::Debug;
 use std::marker::Brand;
 use std::process::Abort;
 use std::sync::ledger::{Blank, Ledger};
@@ -52,6 +54,23 @@ struct Played {
     text: Vec<u8>,
     end: Result<(), RunFault>,
     wrote_again: bool,
+}
+
+/// What was found is what was wanted.
+fn assert_same<T: Copy + PartialEq + Debug>(rt: &impl Abort, found: T, wanted: T, what: &str) {
+    assert_eq!(rt; found, wanted, "{what}");
+}
+
+/// The run ended so, and this is all that it wrote.
+fn assert_played(
+    rt: &impl Abort,
+    played: &Played,
+    end: Result<(), RunFault>,
+    text: &[u8],
+    name: &str,
+) {
+    assert_same(rt, played.end, end, name);
+    assert_same(rt, played.text.as_slice(), text, name);
 }
 
 /// Runs a script in mode 0 of the automover.
@@ -129,8 +148,7 @@ fn play_counting<I: Ledger, O: Ledger>(
 fn plays_rows(rt: &impl Abort, alloc: Global, rows: &[Row]) -> Result<(), AllocError> {
     for (name, script, replies, end) in rows {
         let played = play(alloc, FOUR_CLASSES, script.as_bytes(), WHOLE)?;
-        assert_eq!(rt; played.end, *end, "{name}");
-        assert_eq!(rt; played.text.as_slice(), replies.as_bytes(), "{name}");
+        assert_played(rt, &played, *end, replies.as_bytes(), name);
     }
     Ok(())
 }

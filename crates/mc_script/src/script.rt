@@ -81,4 +81,4 @@ pub fn read(alloc: Global, bytes: &[u8]) -> Result<Vec<Command>, ScriptError>
 }
 
 #[cfg(test)]
-mod tests;
+pub(crate) mod tests;

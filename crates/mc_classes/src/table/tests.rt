@@ -1,6 +1,8 @@
 use crate::config::{Config, ConfigError};
 use crate::table::vectors::PRINTED;
 use crate::table::{ClassId, ClassTable};
+use std::alloc::Global;
+use std::fmt::Debug;
 use std::process::Abort;
 use std::test::Fail;
 
@@ -23,17 +25,19 @@ const SIXTY_THREE: Config = Config {
     ..A
 };
 
+/// What was found is what was wanted.
+fn assert_same<T: Copy + PartialEq + Debug>(rt: &impl Abort, found: T, wanted: T, what: &str) {
+    assert_eq!(rt; found, wanted, "{what}");
+}
+
 /// The classes are these, with as many chunks as fit in a page.
 fn assert_classes(rt: &impl Abort, table: &ClassTable, sizes: &[u64], name: &str) {
-    assert_eq!(rt; table.count(), sizes.len() as u64, "{name}");
+    assert!(rt; table.count() == sizes.len() as u64, "{name}");
     for (place, size) in sizes.iter().enumerate() {
         let class = place as u64 + 1;
-        assert_eq!(rt; table.size(class), *size, "class {class} of {name}");
-        assert_eq!(rt;
-            Some(table.per_page(class)),
-            table.page().checked_div(*size),
-            "class {class} of {name}"
-        );
+        assert_same(rt, table.size(class), *size, name);
+        let chunks = table.page().checked_div(*size);
+        assert_same(rt, Some(table.per_page(class)), chunks, name);
     }
 }
 
@@ -67,12 +71,12 @@ fn sizes_and_chunks(rt: HostRuntime) -> Result<(), Fail> {
     for (name, config, sizes, chunks) in rows {
         let table = ClassTable::build(rt.alloc(), &config)?;
         assert_classes(&rt, &table, sizes, name);
-        assert_eq!(rt; table.page(), config.page, "{name}");
-        assert_eq!(rt; table.limit(), config.limit, "{name}");
-        assert_eq!(rt; table.pages(), 4, "{name}");
+        assert_same(&rt, table.page(), config.page, name);
+        assert_same(&rt, table.limit(), config.limit, name);
+        assert_same(&rt, table.pages(), 4, name);
         for (place, chunk) in chunks.iter().enumerate() {
             assert!(rt; (place as u64) < table.count());
-            assert_eq!(rt; table.per_page(place as u64 + 1), *chunk, "{name}");
+            assert_same(&rt, table.per_page(place as u64 + 1), *chunk, name);
         }
     }
     Ok(())
@@ -81,11 +85,16 @@ fn sizes_and_chunks(rt: HostRuntime) -> Result<(), Fail> {
 #[test]
 fn sixty_three_classes(rt: HostRuntime) -> Result<(), Fail> {
     let table = ClassTable::build(rt.alloc(), &SIXTY_THREE)?;
-    assert_eq!(rt; table.count(), 63);
+    assert!(rt; table.count() == 63);
     for class in 1..63 {
-        assert_eq!(rt; table.size(class), 504, "class {class}");
+        assert_same(
+            &rt,
+            table.size(class),
+            504,
+            "the size of a class before the last",
+        );
     }
-    assert_eq!(rt; table.size(63), 512);
+    assert_same(&rt, table.size(63), 512, "the last size");
     Ok(())
 }
 
@@ -137,8 +146,15 @@ fn sizes_that_memcached_printed(rt: HostRuntime) -> Result<(), Fail> {
     Ok(())
 }
 
+/// The configuration is refused, and so.
+fn assert_refused(rt: &impl Abort, alloc: Global, config: Config, wanted: ConfigError) {
+    let found = ClassTable::build(alloc, &config).err();
+    assert_eq!(rt; found, Some(wanted), "{config:?}");
+}
+
 #[test]
 fn refusals(rt: HostRuntime) {
+    let alloc = rt.alloc();
     let largest_pages = Config {
         page: 16384,
         limit: 65536,
@@ -154,160 +170,208 @@ fn refusals(rt: HostRuntime) {
         stripes: 0,
         bulk: 0,
     };
-    let rows = [
-        // each configuration fails one test
-        (Config { page: 1028, ..A }, ConfigError::PageSize),
-        (
-            Config {
-                page: 56,
-                limit: 56,
-                max: 56,
-                ..A
-            },
-            ConfigError::PageSize,
-        ),
-        (
-            Config {
-                page: 16392,
-                limit: 16392,
-                first: 72,
-                ..A
-            },
-            ConfigError::PageSize,
-        ),
-        (Config { first: 23, ..A }, ConfigError::FirstSize),
-        (Config { den: 0, ..A }, ConfigError::Factor),
-        (Config { num: 1, ..A }, ConfigError::Factor),
-        (Config { num: 65536, ..A }, ConfigError::Factor),
-        (Config { max: 508, ..A }, ConfigError::ChunkMax),
-        (Config { max: 40, ..A }, ConfigError::ChunkMax),
-        (Config { max: 1032, ..A }, ConfigError::ChunkMax),
-        (Config { limit: 1023, ..A }, ConfigError::Limit),
-        (Config { limit: 66560, ..A }, ConfigError::Limit),
-        (Config { stripes: 0, ..A }, ConfigError::Stripes),
-        (Config { stripes: 65, ..A }, ConfigError::Stripes),
-        (largest_pages, ConfigError::TooManyChunks),
-        (Config { bulk: 0, ..A }, ConfigError::Bulk),
-        (Config { bulk: 257, ..A }, ConfigError::Bulk),
-        // of several tests that fail, the first is told
-        (all_zero, ConfigError::PageSize),
-        (
-            Config {
-                page: 1024,
-                ..all_zero
-            },
-            ConfigError::FirstSize,
-        ),
-        (
-            Config {
-                page: 1024,
-                first: 48,
-                ..all_zero
-            },
-            ConfigError::Factor,
-        ),
-        (
-            Config {
-                max: 0,
-                limit: 0,
-                stripes: 0,
-                bulk: 0,
-                ..largest_pages
-            },
-            ConfigError::ChunkMax,
-        ),
-        (
-            Config {
-                limit: 0,
-                stripes: 0,
-                bulk: 0,
-                ..largest_pages
-            },
-            ConfigError::Limit,
-        ),
-        (
-            Config {
-                stripes: 0,
-                bulk: 0,
-                ..largest_pages
-            },
-            ConfigError::Stripes,
-        ),
-        (
-            Config {
-                bulk: 0,
-                ..largest_pages
-            },
-            ConfigError::TooManyChunks,
-        ),
-        // no number is too large for the tests
-        (
-            Config {
-                page: u64::MAX,
-                ..A
-            },
-            ConfigError::PageSize,
-        ),
-        (
-            Config {
-                page: u64::MAX - 7,
-                ..A
-            },
-            ConfigError::PageSize,
-        ),
-        (
-            Config {
-                limit: u64::MAX,
-                ..A
-            },
-            ConfigError::Limit,
-        ),
-        (
-            Config {
-                first: u64::MAX,
-                ..A
-            },
-            ConfigError::FirstSize,
-        ),
-        (Config { num: u64::MAX, ..A }, ConfigError::Factor),
-        (
-            Config {
-                num: u64::MAX,
-                den: u64::MAX - 1,
-                ..A
-            },
-            ConfigError::Factor,
-        ),
-        (Config { den: u64::MAX, ..A }, ConfigError::Factor),
-        (
-            Config {
-                max: u64::MAX - 7,
-                ..A
-            },
-            ConfigError::ChunkMax,
-        ),
-        (
-            Config {
-                stripes: u64::MAX,
-                ..A
-            },
-            ConfigError::Stripes,
-        ),
-        (
-            Config {
-                bulk: u64::MAX,
-                ..A
-            },
-            ConfigError::Bulk,
-        ),
-    ];
-    for (config, error) in rows {
-        assert_eq!(rt;
-            ClassTable::build(rt.alloc(), &config).err(),
-            Some(error),
-            "{config:?}"
-        );
-    }
+    // each configuration fails one test
+    assert_refused(
+        &rt,
+        alloc,
+        Config { page: 1028, ..A },
+        ConfigError::PageSize,
+    );
+    assert_refused(
+        &rt,
+        alloc,
+        Config {
+            page: 56,
+            limit: 56,
+            max: 56,
+            ..A
+        },
+        ConfigError::PageSize,
+    );
+    assert_refused(
+        &rt,
+        alloc,
+        Config {
+            page: 16392,
+            limit: 16392,
+            first: 72,
+            ..A
+        },
+        ConfigError::PageSize,
+    );
+    assert_refused(
+        &rt,
+        alloc,
+        Config { first: 23, ..A },
+        ConfigError::FirstSize,
+    );
+    assert_refused(&rt, alloc, Config { den: 0, ..A }, ConfigError::Factor);
+    assert_refused(&rt, alloc, Config { num: 1, ..A }, ConfigError::Factor);
+    assert_refused(&rt, alloc, Config { num: 65536, ..A }, ConfigError::Factor);
+    assert_refused(&rt, alloc, Config { max: 508, ..A }, ConfigError::ChunkMax);
+    assert_refused(&rt, alloc, Config { max: 40, ..A }, ConfigError::ChunkMax);
+    assert_refused(&rt, alloc, Config { max: 1032, ..A }, ConfigError::ChunkMax);
+    assert_refused(&rt, alloc, Config { limit: 1023, ..A }, ConfigError::Limit);
+    assert_refused(&rt, alloc, Config { limit: 66560, ..A }, ConfigError::Limit);
+    assert_refused(&rt, alloc, Config { stripes: 0, ..A }, ConfigError::Stripes);
+    assert_refused(
+        &rt,
+        alloc,
+        Config { stripes: 65, ..A },
+        ConfigError::Stripes,
+    );
+    assert_refused(&rt, alloc, largest_pages, ConfigError::TooManyChunks);
+    assert_refused(&rt, alloc, Config { bulk: 0, ..A }, ConfigError::Bulk);
+    assert_refused(&rt, alloc, Config { bulk: 257, ..A }, ConfigError::Bulk);
+    // of several tests that fail, the first is told
+    assert_refused(&rt, alloc, all_zero, ConfigError::PageSize);
+    assert_refused(
+        &rt,
+        alloc,
+        Config {
+            page: 1024,
+            ..all_zero
+        },
+        ConfigError::FirstSize,
+    );
+    assert_refused(
+        &rt,
+        alloc,
+        Config {
+            page: 1024,
+            first: 48,
+            ..all_zero
+        },
+        ConfigError::Factor,
+    );
+    assert_refused(
+        &rt,
+        alloc,
+        Config {
+            max: 0,
+            limit: 0,
+            stripes: 0,
+            bulk: 0,
+            ..largest_pages
+        },
+        ConfigError::ChunkMax,
+    );
+    assert_refused(
+        &rt,
+        alloc,
+        Config {
+            limit: 0,
+            stripes: 0,
+            bulk: 0,
+            ..largest_pages
+        },
+        ConfigError::Limit,
+    );
+    assert_refused(
+        &rt,
+        alloc,
+        Config {
+            stripes: 0,
+            bulk: 0,
+            ..largest_pages
+        },
+        ConfigError::Stripes,
+    );
+    assert_refused(
+        &rt,
+        alloc,
+        Config {
+            bulk: 0,
+            ..largest_pages
+        },
+        ConfigError::TooManyChunks,
+    );
+    // no number is too large for the tests
+    assert_refused(
+        &rt,
+        alloc,
+        Config {
+            page: u64::MAX,
+            ..A
+        },
+        ConfigError::PageSize,
+    );
+    assert_refused(
+        &rt,
+        alloc,
+        Config {
+            page: u64::MAX - 7,
+            ..A
+        },
+        ConfigError::PageSize,
+    );
+    assert_refused(
+        &rt,
+        alloc,
+        Config {
+            limit: u64::MAX,
+            ..A
+        },
+        ConfigError::Limit,
+    );
+    assert_refused(
+        &rt,
+        alloc,
+        Config {
+            first: u64::MAX,
+            ..A
+        },
+        ConfigError::FirstSize,
+    );
+    assert_refused(
+        &rt,
+        alloc,
+        Config { num: u64::MAX, ..A },
+        ConfigError::Factor,
+    );
+    assert_refused(
+        &rt,
+        alloc,
+        Config {
+            num: u64::MAX,
+            den: u64::MAX - 1,
+            ..A
+        },
+        ConfigError::Factor,
+    );
+    assert_refused(
+        &rt,
+        alloc,
+        Config { den: u64::MAX, ..A },
+        ConfigError::Factor,
+    );
+    assert_refused(
+        &rt,
+        alloc,
+        Config {
+            max: u64::MAX - 7,
+            ..A
+        },
+        ConfigError::ChunkMax,
+    );
+    assert_refused(
+        &rt,
+        alloc,
+        Config {
+            stripes: u64::MAX,
+            ..A
+        },
+        ConfigError::Stripes,
+    );
+    assert_refused(
+        &rt,
+        alloc,
+        Config {
+            bulk: u64::MAX,
+            ..A
+        },
+        ConfigError::Bulk,
+    );
 }
 
 #[test]
@@ -333,11 +397,11 @@ fn bounds_are_accepted(rt: HostRuntime) -> Result<(), Fail> {
         bulk: 256,
     };
     let table = ClassTable::build(rt.alloc(), &least)?;
-    assert_eq!(rt; table.pages(), 1);
-    assert_eq!(rt; table.class_for(24), Some(1));
-    assert_eq!(rt; table.class_for(64), Some(table.count()));
+    assert_same(&rt, table.pages(), 1, "the least limit");
+    assert_same(&rt, table.class_for(24), Some(1), "the least size");
+    assert_same(&rt, table.class_for(64), Some(table.count()), "the page");
     let table = ClassTable::build(rt.alloc(), &greatest)?;
-    assert_eq!(rt; table.pages(), 64);
+    assert_same(&rt, table.pages(), 64, "the greatest limit");
     assert_classes(&rt, &table, &[16384], "one chunk a page");
     Ok(())
 }

@@ -4,6 +4,7 @@ use crate::command_line::{factor, options};
 use crate::settings::{Options, Run};
 use clap::error::ErrorKind;
 use mc_classes::Config;
+use std::fmt::Debug;
 use std::process::Abort;
 use std::test::Fail;
 
@@ -18,11 +19,17 @@ const DEFAULTS: Config = Config {
     bulk: 64,
 };
 
+/// What was found is what was wanted.
+fn assert_same<T: Copy + PartialEq + Debug>(rt: &impl Abort, found: T, wanted: T, what: &str) {
+    assert_eq!(rt; found, wanted, "{what}");
+}
+
 /// What words are read as, without the program's name.
 fn config_of(rt: &(impl Abort + AllocGlobal), words: &[&str]) -> Result<Config, Fail> {
     let options = options(rt.alloc(), words)?;
     let config = options.run.config;
-    assert_eq!(rt;
+    assert_same(
+        rt,
         options,
         Options {
             run: Run {
@@ -30,7 +37,8 @@ fn config_of(rt: &(impl Abort + AllocGlobal), words: &[&str]) -> Result<Config, 
                 automove: 0,
             },
             threads: false,
-        }
+        },
+        "the options",
     );
     Ok(config)
 }
@@ -96,15 +104,21 @@ fn reads_each_option(rt: HostRuntime) -> Result<(), Fail> {
             },
         ),
     ];
-    assert_eq!(rt; config_of(&rt, &["mcslab"])?, DEFAULTS);
-    assert_eq!(rt; config_of(&rt, &["mcslab", "--"])?, DEFAULTS);
+    assert_same(&rt, config_of(&rt, &["mcslab"])?, DEFAULTS, "the options");
+    assert_same(
+        &rt,
+        config_of(&rt, &["mcslab", "--"])?,
+        DEFAULTS,
+        "the options",
+    );
     for ([name, value], joined, config) in rows {
-        assert_eq!(rt;
+        assert_same(
+            &rt,
             config_of(&rt, &["mcslab", name, value])?,
             config,
-            "{joined}"
+            joined,
         );
-        assert_eq!(rt; config_of(&rt, &["mcslab", joined])?, config, "{joined}");
+        assert_same(&rt, config_of(&rt, &["mcslab", joined])?, config, joined);
     }
     Ok(())
 }
@@ -141,12 +155,14 @@ fn reads_all_options(rt: HostRuntime) -> Result<(), Fail> {
         config,
         automove: 2,
     };
-    assert_eq!(rt;
+    assert_same(
+        &rt,
         options(rt.alloc(), &words)?,
         Options {
             run,
             threads: false,
-        }
+        },
+        "the options",
     );
     Ok(())
 }
@@ -169,9 +185,9 @@ fn reads_any_factor(rt: HostRuntime) -> Result<(), Fail> {
         ("+5/4", (0, 0)),
     ];
     for (text, (num, den)) in rows {
-        assert_eq!(rt; factor(text), (num, den), "{text}");
+        assert_same(&rt, factor(text), (num, den), text);
         let config = config_of(&rt, &["mcslab", "--factor", text])?;
-        assert_eq!(rt; (config.num, config.den), (num, den), "{text}");
+        assert_same(&rt, (config.num, config.den), (num, den), text);
     }
     Ok(())
 }
@@ -193,7 +209,8 @@ fn reads_the_mode_of_the_automover(rt: HostRuntime) -> Result<(), Fail> {
         (&["mcslab", "--stripes=4", "--automove", "+002"], 2),
     ];
     for (words, automove) in rows {
-        assert_eq!(rt;
+        assert_same(
+            &rt,
             options(rt.alloc(), words)?,
             Options {
                 run: Run {
@@ -202,7 +219,7 @@ fn reads_the_mode_of_the_automover(rt: HostRuntime) -> Result<(), Fail> {
                 },
                 threads: false,
             },
-            "{words:?}"
+            "the options",
         );
     }
     Ok(())
@@ -253,7 +270,12 @@ fn refuses_other_words(rt: HostRuntime) -> Result<(), Fail> {
         (&["mcslab", "--page", "8", "--help"], ErrorKind::DisplayHelp),
     ];
     for (words, kind) in rows {
-        assert_eq!(rt; refusal_of(&rt, words)?, Some(kind), "{words:?}");
+        assert_same(
+            &rt,
+            refusal_of(&rt, words)?,
+            Some(kind),
+            "the kind of the refusal",
+        );
     }
     Ok(())
 }

@@ -5,6 +5,7 @@ use crate::{ChunkId, Entry, Found, Grow, Numbers, Owner, Reassign, Totals};
 use driven::Driven;
 use mc_classes::{ClassId, ClassTable, Config, PageId};
 use plain::{Plain, PlainClass};
+use std::fmt::Debug;
 use std::process::Abort;
 use std::test::Fail;
 
@@ -72,44 +73,56 @@ fn granted(granted: u64) -> Totals {
     }
 }
 
+/// What a call gave is what was wanted.
+fn assert_same<T: Copy + PartialEq + Debug>(rt: &impl Abort, found: T, wanted: T, call: &str) {
+    assert_eq!(rt; found, wanted, "{call}");
+}
+
 /// The page is half cut until all its chunks are cut.
 fn assert_cuts(rt: &impl Abort, all: &mut Driven, page: PageId, count: u64) {
     for index in 0..count {
-        assert_eq!(rt; all.half_cut(), Some(page), "before chunk {index}");
-        assert_eq!(rt; all.cut(), chunk(page, index));
+        assert_same(rt, all.half_cut(), Some(page), "half_cut");
+        assert_same(rt, all.cut(), chunk(page, index), "cut");
     }
-    assert_eq!(rt; all.half_cut(), None);
-    assert_eq!(rt; all.cut(), None);
+    assert_same(rt, all.half_cut(), None, "half_cut");
+    assert_same(rt, all.cut(), None, "cut");
 }
 
 /// The call gives what it is to give.
 fn assert_step(rt: &impl Abort, all: &mut Driven, step: Step) {
     match step {
-        Step::Grows(class, page) => assert_eq!(rt; all.grow(class), Some(Ok(page)), "{step:?}"),
-        Step::IsFull(class) => assert_eq!(rt; all.grow(class), Some(Err(Grow::NoRoom)), "{step:?}"),
+        Step::Grows(class, page) => assert_same(rt, all.grow(class), Some(Ok(page)), "grow"),
+        Step::IsFull(class) => assert_same(rt, all.grow(class), Some(Err(Grow::NoRoom)), "grow"),
         Step::Cuts(page, count) => assert_cuts(rt, all, page, count),
-        Step::Pops(class, page, index) => assert_eq!(rt;
+        Step::Pops(class, page, index) => assert_same(
+            rt,
             all.pop(class),
             chunk(page, index),
-            "{step:?}"
+            "pop",
         ),
-        Step::IsEmpty(class) => assert_eq!(rt; all.pop(class), None, "{step:?}"),
+        Step::IsEmpty(class) => assert_same(rt, all.pop(class), None, "pop"),
         Step::Backs(class, place, page, index) => {
-            assert_eq!(rt; all.back(class, place), chunk(page, index), "{step:?}");
+            assert_same(rt, all.back(class, place), chunk(page, index), "back");
         }
         Step::HasFree(class, place, want) => {
-            assert_eq!(rt; all.free_at(class, place), want.and_then(named), "{step:?}");
-        }
-        Step::HasOrder(class, place, want) => {
-            assert_eq!(rt;
-                all.order_at(class, place),
+            assert_same(
+                rt,
+                all.free_at(class, place),
                 want.and_then(named),
-                "{step:?}"
+                "free_at",
             );
         }
-        Step::Owns(page, owner) => assert_eq!(rt; all.owner(page), Some(owner), "{step:?}"),
+        Step::HasOrder(class, place, want) => {
+            assert_same(
+                rt,
+                all.order_at(class, place),
+                want.and_then(named),
+                "order_at",
+            );
+        }
+        Step::Owns(page, owner) => assert_same(rt, all.owner(page), Some(owner), "owner"),
         Step::Counts(class, pages, free) => {
-            assert_eq!(rt; all.numbers(class), numbers(pages, free), "{step:?}");
+            assert_same(rt, all.numbers(class), numbers(pages, free), "numbers");
         }
     }
 }
@@ -143,8 +156,13 @@ fn one_page_is_cut_and_handed_out(rt: HostRuntime) -> Result<(), Fail> {
     ] {
         assert_step(&rt, &mut all, step);
     }
-    assert_eq!(rt; all.totals(), granted(1));
-    assert_eq!(rt; all.ledger(), [Entry::Granted(0, 1)].as_slice());
+    assert_same(&rt, all.totals(), granted(1), "totals");
+    assert_same(
+        &rt,
+        all.ledger(),
+        [Entry::Granted(0, 1)].as_slice(),
+        "ledger",
+    );
     Ok(())
 }
 
@@ -170,14 +188,14 @@ fn the_limit_refuses_a_fifth_page(rt: HostRuntime) -> Result<(), Fail> {
     ] {
         assert_step(&rt, &mut all, step);
     }
-    assert_eq!(rt; all.totals(), granted(4));
+    assert_same(&rt, all.totals(), granted(4), "totals");
     let ledger = [
         Entry::Granted(0, 1),
         Entry::Granted(1, 2),
         Entry::Granted(2, 3),
         Entry::Granted(3, 4),
     ];
-    assert_eq!(rt; all.ledger(), ledger.as_slice());
+    assert_same(&rt, all.ledger(), ledger.as_slice(), "ledger");
     Ok(())
 }
 
@@ -202,41 +220,55 @@ fn assert_same_class(rt: &impl Abort, all: &Driven, own: &PlainClass, class: Cla
         free: own.free.len() as u64,
         evictions: own.evictions,
     };
-    assert_eq!(rt; all.numbers(class), Some(want));
+    assert_same(rt, all.numbers(class), Some(want), "numbers");
     for (at, want) in own.free.iter().enumerate() {
-        assert_eq!(rt;
-            all.free_at(class, at as u64),
-            Some(*want),
-            "class {class} at {at}"
-        );
+        assert_same(rt, all.free_at(class, at as u64), Some(*want), "free_at");
     }
-    assert_eq!(rt; all.free_at(class, own.free.len() as u64), None);
+    assert_same(
+        rt,
+        all.free_at(class, own.free.len() as u64),
+        None,
+        "free_at",
+    );
     for (at, want) in own.order.iter().enumerate() {
-        assert_eq!(rt;
-            all.order_at(class, at as u64),
-            Some(*want),
-            "class {class} at {at}"
-        );
+        assert_same(rt, all.order_at(class, at as u64), Some(*want), "order_at");
     }
-    assert_eq!(rt; all.order_at(class, own.order.len() as u64), None);
+    assert_same(
+        rt,
+        all.order_at(class, own.order.len() as u64),
+        None,
+        "order_at",
+    );
 }
 
 /// A walk along both lists by their first and next chunks finds the same.
 fn assert_same_walks(rt: &impl Abort, all: &Driven, own: &PlainClass, class: ClassId) {
-    assert_eq!(rt; all.first_free(class), own.free.first().copied());
+    assert_same(
+        rt,
+        all.first_free(class),
+        own.free.first().copied(),
+        "first_free",
+    );
     for at in 0..own.free.len() {
-        assert_eq!(rt;
+        assert_same(
+            rt,
             all.next_free(class, at as u64),
             own.free.get(at.wrapping_add(1)).copied(),
-            "class {class} behind {at}"
+            "next_free",
         );
     }
-    assert_eq!(rt; all.first_out(class), own.order.first().copied());
+    assert_same(
+        rt,
+        all.first_out(class),
+        own.order.first().copied(),
+        "first_out",
+    );
     for at in 0..own.order.len() {
-        assert_eq!(rt;
+        assert_same(
+            rt,
             all.next_out(class, at as u64),
             own.order.get(at.wrapping_add(1)).copied(),
-            "class {class} behind {at}"
+            "next_out",
         );
     }
 }
@@ -252,24 +284,24 @@ fn assert_same_marks(rt: &impl Abort, all: &Driven, plain: &Plain) {
                     index,
                 };
                 let want = own.free.iter().any(|c| *c == chunk);
-                assert_eq!(rt; all.is_free(chunk), Some(want), "{chunk:?}");
+                assert_same(rt, all.is_free(chunk), Some(want), "is_free");
             }
         }
     }
 }
 
 /// Both have the same lists, owners, entries and numbers.
-fn assert_same(rt: &impl Abort, all: &Driven, plain: &Plain) {
+fn assert_same_slabs(rt: &impl Abort, all: &Driven, plain: &Plain) {
     for (place, own) in plain.classes.iter().enumerate() {
         assert_same_class(rt, all, own, place as u64 + 1);
     }
     assert_same_marks(rt, all, plain);
     for (page, owner) in plain.owners.iter().enumerate() {
-        assert_eq!(rt; all.owner(page as u64), Some(*owner));
+        assert_same(rt, all.owner(page as u64), Some(*owner), "owner");
     }
-    assert_eq!(rt; all.moving(), plain.moving);
-    assert_eq!(rt; all.totals(), plain.totals());
-    assert_eq!(rt; all.ledger(), plain.ledger.as_slice());
+    assert_same(rt, all.moving(), plain.moving, "moving");
+    assert_same(rt, all.totals(), plain.totals(), "totals");
+    assert_same(rt, all.ledger(), plain.ledger.as_slice(), "ledger");
 }
 
 /// All chunks of a page just given are cut.
@@ -304,17 +336,26 @@ fn assert_chunk_call(
     let place = random.next() % 32;
     let free = random.next() % 8;
     match random.next() % 16 {
-        0..=6 => assert_eq!(rt; all.pop(class), plain.pop(class)?),
-        7..=10 => assert_eq!(rt; all.back(class, place), plain.back(class, place as usize)?),
-        11 | 12 => assert_eq!(rt;
+        0..=6 => assert_same(rt, all.pop(class), plain.pop(class)?, "pop"),
+        7..=10 => assert_same(
+            rt,
+            all.back(class, place),
+            plain.back(class, place as usize)?,
+            "back",
+        ),
+        11 | 12 => assert_same(
+            rt,
             all.touch(class, place),
-            plain.touch(class, place as usize)?
+            plain.touch(class, place as usize)?,
+            "touch",
         ),
-        13 | 14 => assert_eq!(rt;
+        13 | 14 => assert_same(
+            rt,
             all.replace(class, free, place),
-            plain.replace(class, free as usize, place as usize)?
+            plain.replace(class, free as usize, place as usize)?,
+            "replace",
         ),
-        _ => assert_eq!(rt; all.evicted(class), plain.evicted(class)),
+        _ => assert_same(rt, all.evicted(class), plain.evicted(class), "evicted"),
     }
     Ok(())
 }
@@ -330,7 +371,7 @@ fn assert_page_call(
     match random.next() % 16 {
         0..=2 => {
             let want = plain.grow(class)?.ok_or(Grow::NoRoom);
-            assert_eq!(rt; all.grow(class), Some(want));
+            assert_same(rt, all.grow(class), Some(want), "grow");
             cut_all(all);
         }
         3 | 4 => {
@@ -339,21 +380,17 @@ fn assert_page_call(
                 _ => Some(random.next() % 6),
             };
             let dst = random.next() % 6;
-            assert_eq!(rt;
-                all.begin(src, dst),
-                plain.begin(src, dst)?,
-                "{src:?} to {dst}"
-            );
+            assert_same(rt, all.begin(src, dst), plain.begin(src, dst)?, "begin");
         }
-        5 => assert_eq!(rt; all.wrap(), plain.wrap()),
+        5 => assert_same(rt, all.wrap(), plain.wrap(), "wrap"),
         6 | 7 => {
-            assert_eq!(rt; all.finish(), plain.finish()?);
+            assert_same(rt, all.finish(), plain.finish()?, "finish");
             cut_all(all);
         }
         _ => {
             for _ in 0..8 {
                 let wanted = found(random);
-                assert_eq!(rt; all.pass(wanted), plain.pass(wanted), "{wanted:?}");
+                assert_same(rt, all.pass(wanted), plain.pass(wanted), "pass");
             }
         }
     }
@@ -370,13 +407,13 @@ fn random_calls_leave_what_plain_lists_hold(rt: HostRuntime) -> Result<(), Fail>
         let mut plain = Plain::new(rt.alloc(), &table)?;
         for _ in 0..200 {
             assert_chunk_call(&rt, &mut all, &mut plain, &mut random)?;
-            assert_same(&rt, &all, &plain);
+            assert_same_slabs(&rt, &all, &plain);
             assert_page_call(&rt, &mut all, &mut plain, &mut random)?;
-            assert_same(&rt, &all, &plain);
+            assert_same_slabs(&rt, &all, &plain);
         }
         moved = moved.wrapping_add(all.totals().moved);
     }
-    assert_eq!(rt; moved > 16, true, "{moved} moves ended");
+    assert_same(&rt, moved > 16, true, "moves ended");
     Ok(())
 }
 
@@ -399,14 +436,14 @@ fn rows_are_the_plain_lists(rt: HostRuntime) -> Result<(), Fail> {
                 assert_same_walks(&rt, &all, own, class);
             }
         }
-        assert_eq!(rt; all.totals().granted > 1, true);
+        assert_same(&rt, all.totals().granted > 1, true, "totals");
     }
     Ok(())
 }
 
 /// The class gets this page, and all of its chunks are cut.
 fn assert_grows(rt: &impl Abort, all: &mut Driven, class: ClassId, page: PageId) {
-    assert_eq!(rt; all.grow(class), Some(Ok(page)));
+    assert_same(rt, all.grow(class), Some(Ok(page)), "grow");
     cut_all(all);
 }
 
@@ -417,7 +454,7 @@ fn assert_finishes(rt: &impl Abort, all: &mut Driven) {
             break;
         }
     }
-    assert_eq!(rt; all.finish(), true);
+    assert_same(rt, all.finish(), true, "finish");
     cut_all(all);
 }
 
@@ -437,22 +474,18 @@ fn the_first_test_that_applies_refuses(rt: HostRuntime) -> Result<(), Fail> {
         (Some(4), 1, Reassign::NoSpare),
         (Some(1), 0, Reassign::NoSpare),
     ] {
-        assert_eq!(rt; all.begin(src, dst), Err(why), "{src:?} to {dst}");
+        assert_same(&rt, all.begin(src, dst), Err(why), "begin");
     }
     assert_grows(&rt, &mut all, 1, 0);
-    assert_eq!(rt; all.begin(Some(1), 2), Err(Reassign::NoSpare));
-    assert_eq!(rt; all.begin(None, 2), Err(Reassign::BadClass));
+    assert_same(&rt, all.begin(Some(1), 2), Err(Reassign::NoSpare), "begin");
+    assert_same(&rt, all.begin(None, 2), Err(Reassign::BadClass), "begin");
     assert_grows(&rt, &mut all, 1, 1);
-    assert_eq!(rt; all.begin(Some(1), 5), Err(Reassign::BadClass));
-    assert_eq!(rt; all.begin(None, 1), Err(Reassign::BadClass));
-    assert_eq!(rt; all.moving(), None);
-    assert_eq!(rt; all.begin(None, 2), Ok(()));
+    assert_same(&rt, all.begin(Some(1), 5), Err(Reassign::BadClass), "begin");
+    assert_same(&rt, all.begin(None, 1), Err(Reassign::BadClass), "begin");
+    assert_same(&rt, all.moving(), None, "moving");
+    assert_same(&rt, all.begin(None, 2), Ok(()), "begin");
     for (src, dst) in [(Some(1), 1), (Some(9), 1), (None, 3), (Some(1), 0)] {
-        assert_eq!(rt;
-            all.begin(src, dst),
-            Err(Reassign::Busy),
-            "{src:?} to {dst}"
-        );
+        assert_same(&rt, all.begin(src, dst), Err(Reassign::Busy), "begin");
     }
     Ok(())
 }
@@ -464,25 +497,32 @@ fn a_page_goes_through_the_pool(rt: HostRuntime) -> Result<(), Fail> {
         assert_grows(&rt, &mut all, 4, page);
     }
     for page in 0..2 {
-        assert_eq!(rt; all.begin(Some(4), 0), Ok(()));
-        assert_eq!(rt; all.owner(page), Some(Owner::Moving { src: 4, dst: 0 }));
+        assert_same(&rt, all.begin(Some(4), 0), Ok(()), "begin");
+        assert_same(
+            &rt,
+            all.owner(page),
+            Some(Owner::Moving { src: 4, dst: 0 }),
+            "owner",
+        );
         assert_finishes(&rt, &mut all);
-        assert_eq!(rt; all.owner(page), Some(Owner::Pool));
-        assert_eq!(rt; all.half_cut(), None);
+        assert_same(&rt, all.owner(page), Some(Owner::Pool), "owner");
+        assert_same(&rt, all.half_cut(), None, "half_cut");
     }
-    assert_eq!(rt; all.totals().pool, 2);
+    assert_same(&rt, all.totals().pool, 2, "pool");
     // The page that came last is the first to leave.
-    assert_eq!(rt; all.grow(3), Some(Ok(1)));
+    assert_same(&rt, all.grow(3), Some(Ok(1)), "grow");
     assert_cuts(&rt, &mut all, 1, 5);
     assert_grows(&rt, &mut all, 2, 0);
-    assert_eq!(rt; all.grow(1), Some(Err(Grow::NoRoom)));
-    assert_eq!(rt; all.pop(3), chunk(1, 4));
-    assert_eq!(rt;
+    assert_same(&rt, all.grow(1), Some(Err(Grow::NoRoom)), "grow");
+    assert_same(&rt, all.pop(3), chunk(1, 4), "pop");
+    assert_same(
+        &rt,
         all.totals(),
         Totals {
             moved: 2,
             ..granted(4)
-        }
+        },
+        "totals",
     );
     let ledger = [
         Entry::Granted(0, 4),
@@ -496,7 +536,7 @@ fn a_page_goes_through_the_pool(rt: HostRuntime) -> Result<(), Fail> {
         Entry::Taken(1, 3),
         Entry::Taken(0, 2),
     ];
-    assert_eq!(rt; all.ledger(), ledger.as_slice());
+    assert_same(&rt, all.ledger(), ledger.as_slice(), "ledger");
     Ok(())
 }
 
@@ -505,7 +545,7 @@ fn what_a_move_finds_is_counted(rt: HostRuntime) -> Result<(), Fail> {
     let mut all = Driven::new(rt.alloc(), &ClassTable::build(rt.alloc(), &A)?)?;
     assert_grows(&rt, &mut all, 3, 0);
     assert_grows(&rt, &mut all, 3, 1);
-    assert_eq!(rt; all.begin(None, 4), Ok(()));
+    assert_same(&rt, all.begin(None, 4), Ok(()), "begin");
     for wanted in [
         Found::Rescued,
         Found::Busy,
@@ -513,11 +553,11 @@ fn what_a_move_finds_is_counted(rt: HostRuntime) -> Result<(), Fail> {
         Found::Locked,
         Found::Rescued,
     ] {
-        assert_eq!(rt; all.pass(wanted), Some(wanted));
+        assert_same(&rt, all.pass(wanted), Some(wanted), "pass");
     }
-    assert_eq!(rt; all.pass(Found::Cleared), None, "at the page's end");
-    assert_eq!(rt; all.finish(), false, "two chunks are left");
-    assert_eq!(rt; all.wrap(), true);
+    assert_same(&rt, all.pass(Found::Cleared), None, "at the page's end");
+    assert_same(&rt, all.finish(), false, "two chunks are left");
+    assert_same(&rt, all.wrap(), true, "wrap");
     for want in [
         Found::Already,
         Found::Cleared,
@@ -525,10 +565,10 @@ fn what_a_move_finds_is_counted(rt: HostRuntime) -> Result<(), Fail> {
         Found::Cleared,
         Found::Already,
     ] {
-        assert_eq!(rt; all.pass(Found::Cleared), Some(want));
+        assert_same(&rt, all.pass(Found::Cleared), Some(want), "pass");
     }
-    assert_eq!(rt; all.wrap(), false, "nothing held it up");
-    assert_eq!(rt; all.finish(), true);
+    assert_same(&rt, all.wrap(), false, "nothing held it up");
+    assert_same(&rt, all.finish(), true, "finish");
     assert_cuts(&rt, &mut all, 0, 2);
     let totals = Totals {
         granted: 2,
@@ -538,19 +578,19 @@ fn what_a_move_finds_is_counted(rt: HostRuntime) -> Result<(), Fail> {
         evictions_nomem: 1,
         busy: 2,
     };
-    assert_eq!(rt; all.totals(), totals);
-    assert_eq!(rt; all.numbers(3), numbers(1, 5));
-    assert_eq!(rt; all.numbers(4), numbers(1, 2));
+    assert_same(&rt, all.totals(), totals, "totals");
+    assert_same(&rt, all.numbers(3), numbers(1, 5), "numbers");
+    assert_same(&rt, all.numbers(4), numbers(1, 2), "numbers");
     Ok(())
 }
 
 #[test]
 fn the_automover_has_three_modes(rt: HostRuntime) -> Result<(), Fail> {
     let mut all = Driven::new(rt.alloc(), &ClassTable::build(rt.alloc(), &A)?)?;
-    assert_eq!(rt; all.automove(), 0);
+    assert_same(&rt, all.automove(), 0, "automove");
     for (mode, is, now) in [(2, true, 2), (3, false, 2), (1, true, 1)] {
-        assert_eq!(rt; all.set_automove(mode), is);
-        assert_eq!(rt; all.automove(), now);
+        assert_same(&rt, all.set_automove(mode), is, "set_automove");
+        assert_same(&rt, all.automove(), now, "automove");
     }
     Ok(())
 }

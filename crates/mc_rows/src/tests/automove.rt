@@ -1,5 +1,5 @@
 //! Runs in which pages move by themselves.
-use super::{FOUR_CLASSES, Row, WHOLE, play, play_run, plays_rows};
+use super::{FOUR_CLASSES, Row, WHOLE, assert_played, play, play_run, plays_rows};
 use mc_driver::Run;
 use std::alloc::{AllocError, Global};
 use std::test::Fail;
@@ -116,12 +116,7 @@ fn a_page_to_spare_goes_to_the_pool(rt: HostRuntime) -> Result<(), Fail> {
         script.extend_from_slice(more.as_bytes())?;
         replies.extend_from_slice(more_replies.as_bytes())?;
         let played = play_run(rt.alloc(), run, &script, WHOLE)?;
-        assert_eq!(rt; played.end, Ok(()), "{deleted} deleted");
-        assert_eq!(rt;
-            played.text.as_slice(),
-            replies.as_slice(),
-            "{deleted} deleted"
-        );
+        assert_played(&rt, &played, Ok(()), &replies, more);
     }
     Ok(())
 }
@@ -140,13 +135,9 @@ fn a_run_is_started_in_a_mode(rt: HostRuntime) -> Result<(), Fail> {
         &script.as_bytes()["automove 2\n".len()..],
         WHOLE,
     )?;
-    assert_eq!(rt; started.end, Ok(()), "{name}");
-    assert_eq!(rt;
-        started.text.as_slice(),
-        &replies.as_bytes()["OK\r\n".len()..],
-        "{name}"
-    );
+    let rest = &replies.as_bytes()["OK\r\n".len()..];
+    assert_played(&rt, &started, Ok(()), rest, name);
     let told = play(rt.alloc(), FOUR_CLASSES, script.as_bytes(), WHOLE)?;
-    assert_eq!(rt; told.text.as_slice(), replies.as_bytes(), "{name}");
+    assert_played(&rt, &told, Ok(()), replies.as_bytes(), name);
     Ok(())
 }

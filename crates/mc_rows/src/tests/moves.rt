@@ -1,5 +1,5 @@
 //! Runs whose pages move.
-use super::{FOUR_CLASSES, Row, WHOLE, play, plays_rows};
+use super::{FOUR_CLASSES, Row, WHOLE, assert_played, play, plays_rows};
 use mc_classes::Config;
 use mc_driver::RunFault;
 use std::test::Fail;
@@ -66,7 +66,6 @@ fn one_chunk_a_turn(rt: HostRuntime) -> Result<(), Fail> {
     let replies =
         b"STORED 1\r\nSTORED 2\r\nSTORED 3\r\nSTORED 4\r\nSTORED 5\r\nSTORED 6\r\nSTORED 7\r\nSTORED 8\r\nOK\r\nTURN WENT 1 0 1 0 0\r\nTURN FINISHED 1 0 1 0 0\r\n";
     let played = play(rt.alloc(), config, script, WHOLE)?;
-    assert_eq!(rt; played.end, Ok(()));
-    assert_eq!(rt; played.text.as_slice(), replies.as_slice());
+    assert_played(&rt, &played, Ok(()), replies, "one chunk a turn");
     Ok(())
 }

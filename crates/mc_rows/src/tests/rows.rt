@@ -1,5 +1,5 @@
 //! Runs whose streams hold.
-use super::{FOUR_CLASSES, Row, WHOLE, play, plays_rows};
+use super::{FOUR_CLASSES, Row, WHOLE, assert_played, assert_same, play, plays_rows};
 use mc_classes::Config;
 use mc_driver::RunFault;
 use std::test::Fail;
@@ -162,8 +162,8 @@ fn a_refused_configuration_comes_first(rt: HostRuntime) -> Result<(), Fail> {
     ];
     for (number, config) in refused {
         let played = play(rt.alloc(), config, b"frob\n", WHOLE)?;
-        assert_eq!(rt; played.end, Err(RunFault::Config(number)));
-        assert_eq!(rt; played.text.len(), 0);
+        let end = Err(RunFault::Config(number));
+        assert_played(&rt, &played, end, b"", "a refused configuration");
     }
     Ok(())
 }
@@ -173,8 +173,7 @@ fn scripts_of_the_greatest_length(rt: HostRuntime) -> Result<(), Fail> {
     for (length, end) in [(1_048_576, Ok(())), (1_048_577, Err(RunFault::TooLong))] {
         let comment = vec![in rt.alloc(); b'#'; length]?;
         let played = play(rt.alloc(), FOUR_CLASSES, &comment, WHOLE)?;
-        assert_eq!(rt; played.end, end, "{length} bytes");
-        assert_eq!(rt; played.text.len(), 0);
+        assert_played(&rt, &played, end, b"", "a long script");
     }
     Ok(())
 }
@@ -191,6 +190,6 @@ fn statuses(rt: HostRuntime) {
         (RunFault::Turns, 5),
     ];
     for (fault, status) in rows {
-        assert_eq!(rt; fault.status(), status, "{fault}");
+        assert_same(&rt, fault.status(), status, "the status");
     }
 }

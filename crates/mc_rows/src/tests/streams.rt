@@ -1,5 +1,5 @@
 //! Runs whose streams come in pieces or fail.
-use super::{FOUR_CLASSES, StreamLimits, WHOLE, moves, play};
+use super::{FOUR_CLASSES, StreamLimits, WHOLE, assert_played, assert_same, moves, play};
 use mc_driver::RunFault;
 use std::test::Fail;
 
@@ -16,16 +16,11 @@ const REPLIES: [&[u8]; 4] = [
 #[test]
 fn a_reader_in_pieces_gives_the_same_run(rt: HostRuntime) -> Result<(), Fail> {
     let whole = play(rt.alloc(), FOUR_CLASSES, SCRIPT, WHOLE)?;
-    assert_eq!(rt; whole.end, Ok(()));
+    assert!(rt; whole.end.is_ok());
     for piece in [1, 2, 7] {
         let limits = StreamLimits { piece, ..WHOLE };
         let played = play(rt.alloc(), FOUR_CLASSES, SCRIPT, limits)?;
-        assert_eq!(rt; played.end, Ok(()), "pieces of {piece}");
-        assert_eq!(rt;
-            played.text.as_slice(),
-            whole.text.as_slice(),
-            "pieces of {piece}"
-        );
+        assert_played(&rt, &played, Ok(()), &whole.text, "read in pieces");
     }
     Ok(())
 }
@@ -38,8 +33,7 @@ fn a_reader_that_fails_ends_the_run(rt: HostRuntime) -> Result<(), Fail> {
             ..WHOLE
         };
         let played = play(rt.alloc(), FOUR_CLASSES, SCRIPT, limits)?;
-        assert_eq!(rt; played.end, Err(RunFault::Read), "after {good_bytes} bytes");
-        assert_eq!(rt; played.text.len(), 0, "after {good_bytes} bytes");
+        assert_played(&rt, &played, Err(RunFault::Read), b"", "a failed read");
     }
     Ok(())
 }
@@ -53,11 +47,12 @@ fn a_writer_that_fails_ends_the_run(rt: HostRuntime) -> Result<(), Fail> {
             ..WHOLE
         };
         let played = play(rt.alloc(), FOUR_CLASSES, SCRIPT, limits)?;
-        assert_eq!(rt; played.end, Err(RunFault::Write), "at write {count}");
-        assert_eq!(rt;
-            played.text.as_slice(),
-            so_far.as_slice(),
-            "at write {count}"
+        assert_played(
+            &rt,
+            &played,
+            Err(RunFault::Write),
+            &so_far,
+            "a failed write",
         );
         so_far.extend_from_slice(reply)?;
     }
@@ -74,8 +69,7 @@ fn a_reader_that_fails_in_a_long_script(rt: HostRuntime) -> Result<(), Fail> {
             ..WHOLE
         };
         let played = play(rt.alloc(), FOUR_CLASSES, script.as_bytes(), limits)?;
-        assert_eq!(rt; played.end, Err(RunFault::Read), "after {good_bytes} bytes");
-        assert_eq!(rt; played.text.len(), 0, "after {good_bytes} bytes");
+        assert_played(&rt, &played, Err(RunFault::Read), b"", "a failed read");
     }
     Ok(())
 }
@@ -93,20 +87,16 @@ fn a_writer_that_fails_in_a_long_script(rt: HostRuntime) -> Result<(), Fail> {
         let played = play(rt.alloc(), FOUR_CLASSES, script.as_bytes(), limits)?;
         assert!(rt; !played.wrote_again, "after {good_writes} writes");
         if played.end == Ok(()) {
-            assert_eq!(rt; played.text.as_slice(), replies.as_bytes());
+            assert_played(&rt, &played, Ok(()), replies.as_bytes(), "no failed write");
             whole = Some(good_writes);
             break;
         }
-        assert_eq!(rt;
-            played.end,
-            Err(RunFault::Write),
-            "after {good_writes} writes"
-        );
+        assert_same(&rt, played.end, Err(RunFault::Write), "a failed write");
         assert!(rt;
             replies.as_bytes().starts_with(&played.text),
             "after {good_writes} writes"
         );
     }
-    assert_eq!(rt; whole, Some(16));
+    assert_same(&rt, whole, Some(16), "the writes of the whole run");
     Ok(())
 }

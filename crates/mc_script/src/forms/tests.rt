@@ -1,4 +1,5 @@
 use super::*;
+use crate::script::tests::assert_same;
 use crate::script::{ScriptError, read};
 use std::test::Fail;
 
@@ -38,7 +39,7 @@ fn refuses_other_lines_of_workers(rt: HostRuntime) -> Result<(), Fail> {
         "1 get 1\r",
     ] {
         let error = read(rt.alloc(), script.as_bytes()).err();
-        assert_eq!(rt; error, Some(ScriptError::Line(1)), "{script:?}");
+        assert_same(&rt, error, Some(ScriptError::Line(1)), script);
     }
     Ok(())
 }
@@ -97,7 +98,7 @@ fn refuses_other_lines_without_a_worker(rt: HostRuntime) -> Result<(), Fail> {
         "stats\r",
     ] {
         let error = read(rt.alloc(), script.as_bytes()).err();
-        assert_eq!(rt; error, Some(ScriptError::Line(1)), "{script:?}");
+        assert_same(&rt, error, Some(ScriptError::Line(1)), script);
     }
     Ok(())
 }
@@ -116,7 +117,7 @@ fn gives_the_commands_of_workers(rt: HostRuntime) -> Result<(), Fail> {
         (" 07  touch  008 ", Command::Touch { worker: 7, key: 8 }),
     ] {
         let commands = read(rt.alloc(), script.as_bytes())?;
-        assert_eq!(rt; commands.as_slice(), [command].as_slice(), "{script:?}");
+        assert_same(&rt, commands.as_slice(), [command].as_slice(), script);
     }
     Ok(())
 }
@@ -160,7 +161,7 @@ fn gives_the_commands_without_a_worker(rt: HostRuntime) -> Result<(), Fail> {
         (" stats \r\n", Command::Stats),
     ] {
         let commands = read(rt.alloc(), script.as_bytes())?;
-        assert_eq!(rt; commands.as_slice(), [command].as_slice(), "{script:?}");
+        assert_same(&rt, commands.as_slice(), [command].as_slice(), script);
     }
     Ok(())
 }

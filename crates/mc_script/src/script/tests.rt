@@ -1,5 +1,17 @@
 use super::*;
+use std::fmt::Debug;
+use std::process::Abort;
 use std::test::Fail;
+
+/// What was found is what was wanted.
+pub(crate) fn assert_same<T: Copy + PartialEq + Debug>(
+    rt: &impl Abort,
+    found: T,
+    wanted: T,
+    what: &str,
+) {
+    assert_eq!(rt; found, wanted, "{what}");
+}
 
 /// The line at which a script is refused.
 fn refused_line(alloc: Global, script: &[u8]) -> Result<Option<u64>, ScriptError> {
@@ -40,10 +52,11 @@ fn refuses_the_lowest_line(rt: HostRuntime) -> Result<(), Fail> {
         ("\n\r\n# x\n1 frob 3\n", 4),
         ("1 del 1\n\nfirst\n1 del 2\nsecond\n", 3),
     ] {
-        assert_eq!(rt;
+        assert_same(
+            &rt,
             refused_line(rt.alloc(), script.as_bytes())?,
             Some(line),
-            "{script:?}"
+            script,
         );
     }
     Ok(())
@@ -74,7 +87,7 @@ fn gives_the_commands(rt: HostRuntime) -> Result<(), Fail> {
         ),
     ] {
         let commands = read(rt.alloc(), script.as_bytes())?;
-        assert_eq!(rt; commands.as_slice(), [command].as_slice(), "{script:?}");
+        assert_same(&rt, commands.as_slice(), [command].as_slice(), script);
     }
     assert!(rt; read(rt.alloc(), b"")?.is_empty());
     Ok(())
@@ -87,13 +100,18 @@ fn keeps_the_order(rt: HostRuntime) -> Result<(), Fail> {
         Command::Delete { worker: 63, key: 2 },
         Command::Delete { worker: 1, key: 1 },
     ];
-    assert_eq!(rt; commands.as_slice(), wanted.as_slice());
+    assert_same(&rt, commands.as_slice(), wanted.as_slice(), "two commands");
     Ok(())
 }
 
 #[test]
 fn skips_any_comment(rt: HostRuntime) -> Result<(), Fail> {
-    assert_eq!(rt; refused_line(rt.alloc(), b"#\0\xff\t\r x\nno")?, Some(2));
+    assert_same(
+        &rt,
+        refused_line(rt.alloc(), b"#\0\xff\t\r x\nno")?,
+        Some(2),
+        "after a comment",
+    );
     let comment = vec![in rt.alloc(); b'#'; MAX_SCRIPT]?;
     assert!(rt; read(rt.alloc(), &comment)?.is_empty());
     Ok(())
@@ -105,15 +123,20 @@ fn reads_a_largest_script(rt: HostRuntime) -> Result<(), Fail> {
     for _ in 0..MAX_SCRIPT / 8 {
         script.extend_from_slice(b"1 del 1\n")?;
     }
-    assert_eq!(rt; read(rt.alloc(), &script)?.len(), MAX_SCRIPT / 8);
+    assert_same(
+        &rt,
+        read(rt.alloc(), &script)?.len(),
+        MAX_SCRIPT / 8,
+        "commands",
+    );
     Ok(())
 }
 
 #[test]
 fn tells_the_error(rt: HostRuntime) -> Result<(), Fail> {
     let line = ScriptError::Line(12).to_string(rt.alloc())?;
-    assert_eq!(rt; line.as_str(), "line 12 is no command");
+    assert_same(&rt, line.as_str(), "line 12 is no command", "the text");
     let memory = ScriptError::NoMemory.to_string(rt.alloc())?;
-    assert_eq!(rt; memory.as_str(), "out of memory");
+    assert_same(&rt, memory.as_str(), "out of memory", "the text");
     Ok(())
 }

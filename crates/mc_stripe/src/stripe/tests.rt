@@ -5,8 +5,14 @@ mod plain;
 use crate::{Call, HandId, Key, NoMemory, Stamp, Stripe};
 use mc_pages::ChunkId;
 use plain::Plain;
+use std::fmt::Debug;
 use std::process::Abort;
 use std::test::Fail;
+
+/// What was found is what was wanted.
+fn assert_same<T: Copy + PartialEq + Debug>(rt: &impl Abort, found: T, wanted: T, what: &str) {
+    assert_eq!(rt; found, wanted, "{what}");
+}
 
 /// A call that is tried: on a stripe it is made where its conditions hold.
 #[derive(Clone, Copy, Debug)]
@@ -98,13 +104,13 @@ struct Row {
 /// Room is made, the call is made, and the stripe has what it is to have.
 fn assert_row(rt: &impl Abort, stripe: &mut Stripe, row: Row) -> Result<(), Fail> {
     stripe.reserve()?;
-    assert_eq!(rt; stripe.is_ready(), true, "{row:?}");
-    assert_eq!(rt; made(stripe, row.call), true, "{row:?}");
+    assert_same(rt, stripe.is_ready(), true, "is_ready");
+    assert_same(rt, made(stripe, row.call), true, "made");
     let is_lift = matches!(row.call, Lift(_));
-    assert_eq!(rt; stripe.is_ready(), is_lift, "{row:?}");
-    assert_eq!(rt; stripe.find(1), row.first.map(place), "{row:?}");
-    assert_eq!(rt; stripe.aside(), row.aside, "{row:?}");
-    assert_eq!(rt; stripe.history().last().copied(), row.last, "{row:?}");
+    assert_same(rt, stripe.is_ready(), is_lift, "is_ready");
+    assert_same(rt, stripe.find(1), row.first.map(place), "find");
+    assert_same(rt, stripe.aside(), row.aside, "aside");
+    assert_same(rt, stripe.history().last().copied(), row.last, "history");
     Ok(())
 }
 
@@ -178,7 +184,7 @@ fn each_call_leaves_its_entry(rt: HostRuntime) -> Result<(), Fail> {
         };
         assert_row(&rt, &mut stripe, row)?;
     }
-    assert_eq!(rt; stripe.history().len(), 15);
+    assert_same(&rt, stripe.history().len(), 15, "history");
     Ok(())
 }
 
@@ -215,15 +221,15 @@ fn any_call(random: &mut Random, number: u64) -> Try {
 }
 
 /// Both have the same items, the same item aside, the same room, and histories that end alike.
-fn assert_same(rt: &impl Abort, stripe: &Stripe, plain: &Plain) {
+fn assert_same_lists(rt: &impl Abort, stripe: &Stripe, plain: &Plain) {
     for key in 0..24 {
         let key = key * 64 + 3;
-        assert_eq!(rt; stripe.find(key), plain.find(key), "key {key}");
+        assert_same(rt, stripe.find(key), plain.find(key), "find");
     }
-    assert_eq!(rt; stripe.aside(), plain.aside());
-    assert_eq!(rt; stripe.is_ready(), plain.ready);
-    assert_eq!(rt; stripe.history().len(), plain.history.len());
-    assert_eq!(rt; stripe.history().last(), plain.history.last());
+    assert_same(rt, stripe.aside(), plain.aside(), "aside");
+    assert_same(rt, stripe.is_ready(), plain.ready, "is_ready");
+    assert_same(rt, stripe.history().len(), plain.history.len(), "history");
+    assert_same(rt, stripe.history().last(), plain.history.last(), "history");
 }
 
 /// Makes room, at the second try where memory was refused at the first. A refusal leaves all as before.
@@ -233,7 +239,7 @@ fn reserve_at_last(
     plain: &mut Plain,
 ) -> Result<(), NoMemory> {
     if stripe.reserve().is_err() {
-        assert_same(rt, stripe, plain);
+        assert_same_lists(rt, stripe, plain);
         stripe.reserve()?;
     }
     plain.ready = true;
@@ -256,15 +262,15 @@ fn random_calls_leave_what_a_plain_list_holds(rt: HostRuntime) -> Result<(), Fai
                 call = Rescue(hand, key, chunk);
             }
             let is_made = made(&mut stripe, call);
-            assert_eq!(rt; is_made, plain.made(call)?, "{call:?}");
+            assert_same(&rt, is_made, plain.made(call)?, "made");
             if is_made && matches!(call, Rescue(_, _, _)) {
                 rescued = rescued.saturating_add(1);
             }
-            assert_same(&rt, &stripe, &plain);
+            assert_same_lists(&rt, &stripe, &plain);
         }
-        assert_eq!(rt; stripe.history(), plain.history.as_slice());
+        assert_same(&rt, stripe.history(), plain.history.as_slice(), "history");
     }
-    assert_eq!(rt; rescued > 200, true, "{rescued} items were rescued");
+    assert_same(&rt, rescued > 200, true, "many items were rescued");
     Ok(())
 }
 
@@ -278,9 +284,11 @@ fn a_full_stripe_finds_each_key(rt: HostRuntime) -> Result<(), Fail> {
             page: number / 256,
             index: number % 256,
         };
-        assert_eq!(rt;
+        assert_same(
+            &rt,
             made(&mut stripe, Link(1, number * 64, chunk, number)),
-            true
+            true,
+            "made",
         );
     }
     for number in 0..16_384 {
@@ -288,13 +296,13 @@ fn a_full_stripe_finds_each_key(rt: HostRuntime) -> Result<(), Fail> {
             page: number / 256,
             index: number % 256,
         };
-        assert_eq!(rt; stripe.find(number * 64), Some((chunk, number)));
-        assert_eq!(rt; stripe.find(number * 64 + 1), None);
+        assert_same(&rt, stripe.find(number * 64), Some((chunk, number)), "find");
+        assert_same(&rt, stripe.find(number * 64 + 1), None, "find");
         stripe.reserve()?;
-        assert_eq!(rt; made(&mut stripe, Evict(1, number * 64)), true);
-        assert_eq!(rt; stripe.find(number * 64), None);
+        assert_same(&rt, made(&mut stripe, Evict(1, number * 64)), true, "made");
+        assert_same(&rt, stripe.find(number * 64), None, "find");
     }
-    assert_eq!(rt; stripe.history().len(), 32_768);
+    assert_same(&rt, stripe.history().len(), 32_768, "history");
     Ok(())
 }
 
@@ -302,18 +310,23 @@ fn a_full_stripe_finds_each_key(rt: HostRuntime) -> Result<(), Fail> {
 #[test]
 fn room_is_made_once(rt: HostRuntime) -> Result<(), Fail> {
     let mut stripe = Stripe::new(rt.alloc());
-    assert_eq!(rt; made(&mut stripe, Got(0, 1)), false);
+    assert_same(&rt, made(&mut stripe, Got(0, 1)), false, "made");
     stripe.reserve()?;
-    assert_eq!(rt; stripe.reserve(), Ok(()));
-    assert_eq!(rt; made(&mut stripe, Got(0, 1)), true);
-    assert_eq!(rt; made(&mut stripe, Got(0, 1)), false);
-    assert_eq!(rt; stripe.history(), [Call::Get(0, 1, None)].as_slice());
+    assert!(rt; stripe.reserve().is_ok());
+    assert_same(&rt, made(&mut stripe, Got(0, 1)), true, "made");
+    assert_same(&rt, made(&mut stripe, Got(0, 1)), false, "made");
+    assert_same(
+        &rt,
+        stripe.history(),
+        [Call::Get(0, 1, None)].as_slice(),
+        "history",
+    );
     Ok(())
 }
 
 #[test]
 fn a_refusal_is_told(rt: HostRuntime) -> Result<(), Fail> {
     let text = NoMemory.to_string(rt.alloc())?;
-    assert_eq!(rt; text.as_str(), "out of memory");
+    assert_same(&rt, text.as_str(), "out of memory", "the text");
     Ok(())
 }

@@ -2,6 +2,7 @@ use crate::decider::{Decider, Decision};
 use crate::refusal::{Feed, NoMemory};
 use mc_classes::{ClassTable, Config, ConfigError};
 use std::alloc::Global;
+use std::fmt::Debug;
 use std::process::Abort;
 use std::test::Fail;
 
@@ -28,6 +29,11 @@ const PAGES: [u64; 4] = [3, 1, 1, 2];
 
 const NONE: [u64; 4] = [0; 4];
 
+/// What was found is what was wanted.
+fn assert_same<T: Copy + PartialEq + Debug>(rt: &impl Abort, found: T, wanted: T, what: &str) {
+    assert_eq!(rt; found, wanted, "{what}");
+}
+
 /// A new decider decides so, window by window.
 fn assert_decisions(
     rt: &impl Abort,
@@ -39,7 +45,7 @@ fn assert_decisions(
     let mut decider = Decider::new(alloc, &table)?;
     for (evictions, pages, free, decision) in windows {
         let fed = decider.feed(evictions, pages, free);
-        assert_eq!(rt; fed, Ok(*decision), "{name}, at {evictions:?}");
+        assert_same(rt, fed, Ok(*decision), name);
     }
     Ok(())
 }
@@ -140,8 +146,18 @@ fn decisions(rt: HostRuntime) -> Result<(), Fail> {
 fn refusals_leave_the_decider_alone(rt: HostRuntime) -> Result<(), Fail> {
     let table = ClassTable::build(rt.alloc(), &A)?;
     let mut decider = Decider::new(rt.alloc(), &table)?;
-    assert_eq!(rt; decider.feed(&[0, 0, 0, 5], &PAGES, &NONE), Ok(None));
-    assert_eq!(rt; decider.feed(&[0, 0, 0, 6], &PAGES, &NONE), Ok(None));
+    assert_same(
+        &rt,
+        decider.feed(&[0, 0, 0, 5], &PAGES, &NONE),
+        Ok(None),
+        "the decision",
+    );
+    assert_same(
+        &rt,
+        decider.feed(&[0, 0, 0, 6], &PAGES, &NONE),
+        Ok(None),
+        "the decision",
+    );
     let short = [0; 3];
     let long = [0; 5];
     let rows: [(&[u64], &[u64], &[u64], Feed); 8] = [
@@ -157,9 +173,14 @@ fn refusals_leave_the_decider_alone(rt: HostRuntime) -> Result<(), Fail> {
     ];
     for (evictions, pages, free, refusal) in rows {
         let fed = decider.feed(evictions, pages, free);
-        assert_eq!(rt; fed, Err(refusal), "{evictions:?}");
+        assert_same(&rt, fed, Err(refusal), "the refusal");
     }
-    assert_eq!(rt; decider.feed(&[0, 0, 0, 9], &PAGES, &NONE), Ok(moves(1, 4)));
+    assert_same(
+        &rt,
+        decider.feed(&[0, 0, 0, 9], &PAGES, &NONE),
+        Ok(moves(1, 4)),
+        "the decision",
+    );
     Ok(())
 }
 
@@ -169,7 +190,7 @@ fn made_at_the_second_try(rt: HostRuntime) -> Result<(), Fail> {
     let table = match ClassTable::build(rt.alloc(), &A) {
         Ok(table) => table,
         Err(error) => {
-            assert_eq!(rt; error, ConfigError::NoMemory);
+            assert_same(&rt, error, ConfigError::NoMemory, "the refusal");
             ClassTable::build(rt.alloc(), &A)?
         }
     };
@@ -177,9 +198,11 @@ fn made_at_the_second_try(rt: HostRuntime) -> Result<(), Fail> {
         Ok(decider) => decider,
         Err(NoMemory) => Decider::new(rt.alloc(), &table)?,
     };
-    assert_eq!(rt;
+    assert_same(
+        &rt,
         decider.feed(&NONE, &PAGES, &[53, 0, 0, 0]),
-        Ok(moves(1, 0))
+        Ok(moves(1, 0)),
+        "the decision",
     );
     Ok(())
 }
@@ -198,7 +221,7 @@ fn refusals_in_words(rt: HostRuntime) -> Result<(), Fail> {
         (NoMemory.to_string(rt.alloc())?, "out of memory"),
     ];
     for (text, words) in &rows {
-        assert_eq!(rt; text.as_str(), *words);
+        assert_same(&rt, text.as_str(), *words, "the text");
     }
     Ok(())
 }

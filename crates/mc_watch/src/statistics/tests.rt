@@ -96,8 +96,8 @@ fn attempt_of<L: Ledger>(outcome: Result<(), Fault>, sink: FailingSink<L>) -> At
 fn assert_counts(rt: &impl Abort, table: &ClassTable, pages: &[u64], free: &[u64])
     ensures { AreCounts table.now pages.now free.now }
 {
-    assert_eq!(rt; pages.len() as u64, table.count());
-    assert_eq!(rt; free.len() as u64, table.count());
+    assert!(rt; pages.len() as u64 == table.count());
+    assert!(rt; free.len() as u64 == table.count());
     for place in 0..pages.len() {
         let per_page = table.per_page(place as u64 + 1);
         assert!(rt; pages[place] <= 127);
@@ -181,11 +181,11 @@ const GENERAL: [(([u64; 5], bool), &str); 3] = [
 /// At each of its writes the text may fail: none follows, and what was written begins the text.
 fn assert_stops(rt: &impl Abort, attempt: &Attempt, fails_at: u64, text: &str) {
     if attempt.went_well {
-        assert_eq!(rt; attempt.bytes.as_slice(), text.as_bytes());
-        assert_eq!(rt; attempt.writes.saturating_add(1), fails_at);
+        assert!(rt; attempt.bytes.as_slice() == text.as_bytes(), "{text}");
+        assert!(rt; attempt.writes.saturating_add(1) == fails_at);
     } else {
         assert!(rt; text.as_bytes().starts_with(&attempt.bytes));
-        assert_eq!(rt; attempt.writes, fails_at);
+        assert!(rt; attempt.writes == fails_at);
     }
 }
 

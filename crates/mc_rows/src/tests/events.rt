@@ -1,24 +1,12 @@
 //! Worked lists of events: what each answers, and the headers that stand then.
 ghost use Rattle.std.specs.Prelude.{◌≡◌, ◌<◌, ◌≤◌};
 
-use crate::{Change, Event, Series, State, Step, Stop, replay};
-use mc_classes::Config;
+use super::{FOUR_CLASSES, assert_same};
+use mc_core::{Change, Event, Series, State, Step, Stop, replay};
 use mc_pages::{ChunkId, Entry};
 use std::alloc::{AllocError, Global};
 use std::process::Abort;
 use std::test::Fail;
-
-/// Pages of 1024 bytes, four of them, and classes of 48, 96, 192 and 512 bytes.
-const FOUR_CLASSES: Config = Config {
-    page: 1024,
-    limit: 4096,
-    first: 48,
-    num: 2,
-    den: 1,
-    max: 512,
-    stripes: 4,
-    bulk: 64,
-};
 
 /// The last chunk of page 0 as class 1 cuts it, which is handed out first.
 const LAST: ChunkId = ChunkId { page: 0, index: 20 };
@@ -73,17 +61,26 @@ fn play(alloc: Global, events: &[Event]) -> Result<State, Stop> {
     replay(alloc, &FOUR_CLASSES, 2, events)
 }
 
-/// Why the events aren't played to their end, if they aren't.
-fn stop_of(played: Result<State, Stop>) -> Option<Stop> {
-    match played {
+/// The events aren't played to their end, and this is why.
+fn assert_stops(rt: &impl Abort, alloc: Global, events: &[Event], wanted: Stop) {
+    let found = match play(alloc, events) {
         Ok(_) => None,
         Err(stop) => Some(stop),
-    }
+    };
+    assert_same(rt, found, Some(wanted), "how the events end");
 }
 
-/// The header's word of the chunk that is handed out first.
-fn word_of(state: &State) -> u64 {
-    state.head(LAST).word()
+/// After the events, the chunk that is handed out first has this header.
+fn assert_word(
+    rt: &impl Abort,
+    alloc: Global,
+    events: &[Event],
+    wanted: u64,
+    what: &str,
+) -> Result<(), Stop> {
+    let state = play(alloc, events)?;
+    assert_same(rt, state.head(LAST).word(), wanted, what);
+    Ok(())
 }
 
 #[test]
@@ -91,16 +88,16 @@ fn a_page_is_cut_whole_before_its_lock_is_given(rt: HostRuntime) -> Result<(), F
     let mut whole = cut(rt.alloc(), 21)?;
     whole.push(does(rt.alloc(), 0, Step::GiveSlabs))?;
     let state = play(rt.alloc(), &whole)?;
-    match state.slabs() {
-        Some(slabs) => { assert_eq!(rt; slabs.ledger(), [Entry::Granted(0, 1)].as_slice()) }
-        None => assert_eq!(rt; true, false, "the slabs lock is free"),
-    }
+    let slabs = state.slabs().ok_or("the slabs lock is not free")?;
+    assert_same(
+        &rt,
+        slabs.ledger(),
+        [Entry::Granted(0, 1)].as_slice(),
+        "the ledger",
+    );
     let mut short = cut(rt.alloc(), 20)?;
     short.push(does(rt.alloc(), 0, Step::GiveSlabs))?;
-    assert_eq!(rt;
-        stop_of(play(rt.alloc(), &short)),
-        Some(Stop::NotAllowed(21))
-    );
+    assert_stops(&rt, rt.alloc(), &short, Stop::NotAllowed(21));
     Ok(())
 }
 
@@ -108,24 +105,21 @@ fn a_page_is_cut_whole_before_its_lock_is_given(rt: HostRuntime) -> Result<(), F
 fn a_class_without_a_page_hands_out_nothing(rt: HostRuntime) -> Result<(), Fail> {
     let mut events = Vec::new(rt.alloc());
     go_on(rt.alloc(), &mut events, &[Step::TakeSlabs, Step::Pop(1)])?;
-    assert_eq!(rt;
-        stop_of(play(rt.alloc(), &events)),
-        Some(Stop::NotAllowed(1))
-    );
+    assert_stops(&rt, rt.alloc(), &events, Stop::NotAllowed(1));
     Ok(())
 }
 
 #[test]
 fn a_header_tells_issue_tag_and_count(rt: HostRuntime) -> Result<(), Fail> {
     let mut events = cut(rt.alloc(), 21)?;
-    for (step, word) in [
-        (Step::Pop(1), 393_217),
-        (Step::Discard(LAST), 393_216),
-        (Step::PutBack(LAST), 327_680),
-        (Step::Pop(1), 655_361),
+    for (step, word, what) in [
+        (Step::Pop(1), 393_217, "handed out"),
+        (Step::Discard(LAST), 393_216, "dead"),
+        (Step::PutBack(LAST), 327_680, "free again"),
+        (Step::Pop(1), 655_361, "handed out again"),
     ] {
         events.push(does(rt.alloc(), 0, step))?;
-        assert_eq!(rt; word_of(&play(rt.alloc(), &events)?), word, "{step:?}");
+        assert_word(&rt, rt.alloc(), &events, word, what)?;
     }
     Ok(())
 }
@@ -150,33 +144,34 @@ fn store(alloc: Global) -> Result<Vec<Event>, AllocError> {
 #[test]
 fn the_link_and_each_holding_count(rt: HostRuntime) -> Result<(), Fail> {
     let mut events = store(rt.alloc())?;
-    assert_eq!(rt;
-        word_of(&play(rt.alloc(), &events)?),
+    assert_word(
+        &rt,
+        rt.alloc(),
+        &events,
         458_754,
-        "linked, and held by its hand"
-    );
+        "linked, and held by its hand",
+    )?;
     go_on(
         rt.alloc(),
         &mut events,
         &[Step::GiveStripe(3), Step::Release(LAST)],
     )?;
-    assert_eq!(rt; word_of(&play(rt.alloc(), &events)?), 458_753, "linked");
+    assert_word(&rt, rt.alloc(), &events, 458_753, "linked")?;
     for hand in 0..2 {
         for _ in 0..255 {
             events.push(does(rt.alloc(), hand, Step::Again(LAST, 1)))?;
         }
     }
-    assert_eq!(rt;
-        word_of(&play(rt.alloc(), &events)?),
+    assert_word(
+        &rt,
+        rt.alloc(),
+        &events,
         459_263,
-        "and 255 holdings of each hand"
-    );
+        "and 255 holdings of each hand",
+    )?;
     let again = events.len() as u64;
     events.push(does(rt.alloc(), 1, Step::Again(LAST, 1)))?;
-    assert_eq!(rt;
-        stop_of(play(rt.alloc(), &events)),
-        Some(Stop::NotAllowed(again))
-    );
+    assert_stops(&rt, rt.alloc(), &events, Stop::NotAllowed(again));
     Ok(())
 }
 
@@ -186,18 +181,15 @@ fn a_hint_of_another_issue_is_refused(rt: HostRuntime) -> Result<(), Fail> {
     go_on(rt.alloc(), &mut events, &[Step::GiveStripe(3)])?;
     let again = events.len() as u64;
     events.push(does(rt.alloc(), 0, Step::Again(LAST, 2)))?;
-    assert_eq!(rt;
-        stop_of(play(rt.alloc(), &events)),
-        Some(Stop::NotAllowed(again))
-    );
+    assert_stops(&rt, rt.alloc(), &events, Stop::NotAllowed(again));
     Ok(())
 }
 
 #[test]
 fn a_stop_is_told(rt: HostRuntime) -> Result<(), Fail> {
     let text = Stop::NotAllowed(21).to_string(rt.alloc())?;
-    assert_eq!(rt; text.as_str(), "event 21 is not allowed");
+    assert_same(&rt, text.as_str(), "event 21 is not allowed", "the first");
     let text = Stop::NoMemory.to_string(rt.alloc())?;
-    assert_eq!(rt; text.as_str(), "out of memory");
+    assert_same(&rt, text.as_str(), "out of memory", "the second");
     Ok(())
 }
