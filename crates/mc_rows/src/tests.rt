@@ -1,4 +1,4 @@
-//! Worked examples, by name: a script, the replies and how the run ends.
+//! Worked examples, by name: a script, the replies and how the run ends; and lists of events for the model.
 mod automove;
 mod events;
 mod holds;

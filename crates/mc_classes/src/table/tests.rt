@@ -146,7 +146,7 @@ fn sizes_that_memcached_printed(rt: HostRuntime) -> Result<(), Fail> {
     Ok(())
 }
 
-/// The configuration is refused, and so.
+/// The configuration is refused with this error.
 fn assert_refused(rt: &impl Abort, alloc: Global, config: Config, wanted: ConfigError) {
     let found = ClassTable::build(alloc, &config).err();
     assert_eq!(rt; found, Some(wanted), "{config:?}");
