@@ -1,21 +1,11 @@
 # The checks of the built program: statuses and streams, which no contract says. ci/test reads this file.
 # `rt ci` leaves the program in crates/mcslab/out, as LLVM builds it and as Rattle's own compiler does.
 
-# Where the gate wasn't run before, the program is proved and built here, if anything changed. MCSLAB names another one.
-
-# Sets programs to those that are looked at.
-find_programs() {
-    out=$top/crates/mcslab/out
-    if [ -n "${MCSLAB:-}" ]; then
-        programs=$MCSLAB
-    elif [ "$gate_was_run" = yes ]; then
-        programs=$out/mcslab
-        # not there where Rattle's own compiler can't build it, which rt ci says
-        [ ! -e "$out/mcslab.by-rattle" ] || programs="$programs $out/mcslab.by-rattle"
-    else
-        (cd crates/mcslab && rt run) </dev/null >"$room/build" 2>&1 || return 1
-        programs=$out/mcslab
-    fi
+# find_builds NAME: sets builds to those of the program that the gate left
+find_builds() {
+    builds=$gate/crates/$1/out/$1
+    # not there where Rattle's own compiler can't build it, which rt ci says
+    [ ! -e "$builds.by-rattle" ] || builds="$builds $builds.by-rattle"
 }
 
 # run_on INPUT ARGS..: runs the program, and leaves its status and what it wrote.
@@ -250,11 +240,8 @@ check_streams() {
 }
 
 check_program() {
-    if ! find_programs; then
-        bad "the program" "it isn't built: $(tail -n 5 "$room/build")"
-        return
-    fi
-    for program in $programs; do
+    find_builds mcslab
+    for program in $builds; do
         build=$(basename "$program")
         if [ ! -x "$program" ]; then
             bad "$build" "it isn't built"

@@ -1,18 +1,5 @@
-# The checks of mc_replay beside its stored run: lines that are refused, lists that are cut short, and streams and memory
-# that fail. ci/test reads this file.
-
-# Sets replays to the builds that are looked at.
-find_replays() {
-    out=$top/crates/mc_replay/out
-    if [ "$gate_was_run" = yes ]; then
-        replays=$out/mc_replay
-        # not there where Rattle's own compiler can't build it, which rt ci says
-        [ ! -e "$out/mc_replay.by-rattle" ] || replays="$replays $out/mc_replay.by-rattle"
-    else
-        (cd crates/mc_replay && rt run) <crates/mc_replay/stdin >"$room/build" 2>&1 || return 1
-        replays=$out/mc_replay
-    fi
-}
+# The checks of mc_replay beside its stored run: lines that are refused, lists that are cut short, and streams that
+# fail. ci/test reads this file.
 
 # A list without events, with a wrong answer that is passed over: the list, and what is written of it.
 write_short_list() {
@@ -114,12 +101,9 @@ check_replay_streams() {
 }
 
 check_replay() {
-    if ! find_replays; then
-        bad "mc_replay" "it isn't built: $(tail -n 5 "$room/build")"
-        return
-    fi
+    find_builds mc_replay
     write_short_list
-    for program in $replays; do
+    for program in $builds; do
         build=$(basename "$program")
         if [ ! -x "$program" ]; then
             bad "$build" "it isn't built"
@@ -128,31 +112,5 @@ check_replay() {
         check_refused_lines
         check_cut_lists
         check_replay_streams
-    done
-}
-
-# The Nth allocation fails. The program ends with 4 and says so, or with 0; what it wrote is the beginning of the answers.
-# The first five lists are enough. `rt try` of this kit has no --fail-io, so a failed read or write is tried above alone.
-check_replay_faults() {
-    awk '/^list 5 /{exit} {print}' crates/mc_replay/stdin >"$room/few"
-    awk '/^list 5 /{exit} {print}' crates/mc_replay/stdout >"$room/few-stdout"
-    for place in 1 2 3 5 20 100 200 300 400; do
-        fault="allocation $place"
-        input=$room/few
-        try_one replay mc_replay --fail-alloc "$place"
-        case $(cat "$room/replay.status") in
-        4) grep -q '^mc_replay: memory$' "$room/replay.log" && is_told=yes || is_told=no ;;
-        0) cmp -s "$room/replay" "$room/few-stdout" && is_told=yes || is_told=no ;;
-        *) is_told=no ;;
-        esac
-        length=$(wc -c <"$room/replay")
-        head -c "$length" "$room/few-stdout" >"$room/begun"
-        if ! ended replay || [ "$is_told" = no ]; then
-            bad "mc_replay without $fault" "status $(cat "$room/replay.status"): $(tail -n 5 "$room/replay.log")"
-        elif ! cmp -s "$room/begun" "$room/replay"; then
-            bad "mc_replay without $fault" "its answers aren't the first ones: $(head -c 300 "$room/replay")"
-        else
-            ok "mc_replay without $fault"
-        fi
     done
 }
