@@ -5,8 +5,8 @@ options also gets, touches, holds and drops, pages that move, and windows of the
     bench/generate.py NAME
     bench/generate.py [options]
 
-A name is one of `bench/run`: evictions, holds-and-drops, moves-with-rescues, mode-2-churn. The same options give the
-same bytes, with any version of Python 3. The live items are kept near `--fill` of the memory of the largest
+A name is one of `bench/run`: evictions, holds-and-drops, moves-with-rescues, mode-2-churn, overwrites, one-class,
+turns-over-held. The same options give the same bytes, with any version of Python 3. The live items are kept near `--fill` of the memory of the largest
 configuration (CONFIGURATION below); above 100 the program evicts.
 """
 import argparse
@@ -180,40 +180,158 @@ SCRIPTS = {
 }
 
 
+def lines_up_to(lines, most_bytes):
+    """As many first lines as have so many bytes."""
+    made, size = [], 0
+    for line in lines:
+        size += len(line)
+        if size > most_bytes:
+            break
+        made.append(line)
+    return "".join(made)
+
+
+def overwrites_script():
+    """Sets over 16,384 keys of one size, for which the memory has just room."""
+    numbers = Numbers(1)
+    yield from (set_line(key) for key in range(PAGES * CHUNKS))
+    while True:
+        yield set_line(numbers.below(PAGES * CHUNKS))
+
+
+def one_class_script():
+    """Sets of 17,000 new keys of one size, then sets (60 of 100) and gets over 40,000 keys."""
+    numbers = Numbers(1)
+    yield from (set_line(key) for key in range(17_000))
+    while True:
+        key = numbers.below(40_000)
+        yield set_line(key) if numbers.below(100) < 60 else f"1 get {key}\n"
+
+
+def turns_over_held_script():
+    """Turns over pages with held items: workers hold up to 250 items each, and a page tries to move away under them."""
+    numbers = Numbers(1)
+    yield from (set_line(key) for key in range(8 * CHUNKS))
+    held = []
+    while True:
+        for _ in range(100):
+            if len(held) < 9 * 250:
+                held.append((1 + len(held) % 9, numbers.below(8 * CHUNKS)))
+                yield "{} hold {}\n".format(*held[-1])
+        yield "reassign 1 0\n"
+        yield from ("turn 1\n" for _ in range(20))
+        for _ in range(100):
+            worker, key = held.pop(numbers.below(len(held)))
+            yield f"{worker} drop {key}\n"
+            yield set_line(key)
+
+
+# Scripts of items of 64 bytes.
+ONE_SIZE = {"overwrites": overwrites_script, "one-class": one_class_script, "turns-over-held": turns_over_held_script}
+
+
 def named(name, most_bytes=MOST_BYTES):
     """The script of this name, of at most so many bytes."""
+    if name in ONE_SIZE:
+        return lines_up_to(ONE_SIZE[name](), most_bytes)
     return script(parser().parse_args([*SCRIPTS[name].split(), "--bytes", str(most_bytes)]))
 
 
-# Items of 64 bytes, one class, as many chunks as a page may have: what a line of each kind costs by the live items.
-LINE_KINDS = {
-    "get": lambda key, live: f"1 get {key % live}",
-    "touch": lambda key, live: f"1 touch {key % live}",
-    "set that evicts": lambda key, live: f"1 set {live + key} 5 {key % 1000}",
-    "del and set": lambda key, live: f"1 del {key % live}\n1 set {key % live} 5 {key % 1000}",
-}
+def options_of(name):
+    """The configuration of the script of this name."""
+    return one_class(PAGES * CHUNKS) if name in ONE_SIZE else CONFIGURATION
+
+
+NAMES = [*SCRIPTS, *ONE_SIZE]
+
+
+# Items of 64 bytes, one class, as many chunks as a page may have.
+CHUNKS = 256
 
 
 def one_class(live):
     """A configuration with room for so many items of 64 bytes, a multiple of 256, and no more."""
     sizes = ["--page", str(PAGE), "--first", "64", "--factor", "2/1", "--max", "64"]
-    return [*sizes, "--limit", str(PAGE * live // 256)]
+    return [*sizes, "--limit", str(PAGE * live // CHUNKS), "--bulk", str(CHUNKS)]
 
 
 def fill(live):
     """So many items, which take all memory."""
-    return "".join(f"1 set {key} 5 {key % 1000}\n" for key in range(live))
+    return "".join(set_line(key) for key in range(live))
 
 
-def lines_of(kind, live, count):
-    """So many lines of a kind, or pairs of lines, over drawn keys; the sets that evict have new keys."""
+def set_line(key):
+    return f"1 set {key} 5 {key % 1000}\n"
+
+
+def keys_below(live, count):
     numbers = Numbers(1)
-    keys = (number if kind == "set that evicts" else numbers.below(live) for number in range(count))
-    return "".join(LINE_KINDS[kind](key, live) + "\n" for key in keys)
+    return [numbers.below(live) for _ in range(count)]
+
+
+class LineKind:
+    """Lines whose cost is measured, behind others that a run without them has too, and how many units they are."""
+
+    def __init__(self, lines, units, before="", without=""):
+        self.lines, self.units, self.before, self.without = lines, units, before, without
+
+
+def single_lines(line):
+    """A kind of lines of the worker 1, over drawn keys."""
+    return lambda live, count: LineKind("".join(f"1 {line(key)}\n" for key in keys_below(live, count)), count)
+
+
+def sets_that_evict(live, count):
+    return LineKind("".join(set_line(live + number) for number in range(count)), count)
+
+
+def overwrites(live, count):
+    return LineKind("".join(set_line(key) for key in keys_below(live, count)), count)
+
+
+def deletes_and_sets(live, count):
+    return LineKind("".join(f"1 del {key}\n{set_line(key)}" for key in keys_below(live, count)), 2 * count)
+
+
+def holds_and_drops(held):
+    """Pairs by a worker that has so many holds."""
+    before = "".join(f"1 hold {key}\n" for key in range(held - 1))
+    pairs = lambda keys: "".join(f"1 hold {key}\n1 drop {key}\n" for key in keys)
+    return lambda live, count: LineKind(pairs(keys_below(live, count)), 2 * count, before)
+
+
+def chunks_of_moves(live, count):
+    """Pages that go to the pool, their items rescued into chunks that were given up before, and come back: a chunk's part."""
+    moves = count // CHUNKS
+    given_up = lambda move: "".join(f"1 del {(move * CHUNKS + place) * 7 % live}\n" for place in range(CHUNKS))
+    stored = lambda move: "".join(set_line((move * CHUNKS + place) * 7 % live) for place in range(CHUNKS))
+    cycles = lambda between: "".join(given_up(move) + between + stored(move) for move in range(moves))
+    return LineKind(cycles("reassign 1 0\nturn 1\n"), moves * CHUNKS, without=cycles(""))
+
+
+def turns_over_held(live, count):
+    """Turns over a page of which each chunk is held."""
+    holds = "".join(f"{1 + key % 2} hold {key}\n" for key in range(CHUNKS))
+    return LineKind("turn 1\n" * (count // 10), count // 10, holds + "reassign 1 0\n")
+
+
+LINE_KINDS = {
+    "get": single_lines(lambda key: f"get {key}"),
+    "touch": single_lines(lambda key: f"touch {key}"),
+    "set that evicts": sets_that_evict,
+    "overwrite": overwrites,
+    "del and set": deletes_and_sets,
+    "hold, drop at 1": holds_and_drops(1),
+    "hold, drop at 64": holds_and_drops(64),
+    "hold, drop at 255": holds_and_drops(255),
+    "chunk of a move": chunks_of_moves,
+    "idle turn": lambda live, count: LineKind("turn 1\n" * count, count),
+    "turn over 256 held": turns_over_held,
+}
 
 
 if __name__ == "__main__":
-    if sys.argv[1:] and sys.argv[1] in SCRIPTS:
+    if sys.argv[1:] and sys.argv[1] in NAMES:
         sys.stdout.write(named(sys.argv[1]))
     else:
         sys.stdout.write(script(parser().parse_args()))

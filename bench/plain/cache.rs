@@ -26,8 +26,8 @@ pub enum GetRefusal {
 pub struct Cache {
     pub slabs: Slabs,
     index: HashMap<u64, Chunk>,
-    /// The chunks that a worker holds, the last taken last.
-    holds: Vec<Vec<Chunk>>,
+    /// The keys that a worker holds and their chunks, the last taken last.
+    holds: Vec<Vec<(u64, Chunk)>>,
     /// Mode of the automover.
     pub automove: u64,
     stamps: u64,
@@ -98,14 +98,9 @@ impl Cache {
 
     /// Of the oldest few items the first that nobody holds gives up its chunk.
     fn evict(&mut self, class: usize) -> Option<()> {
-        let order = &self.slabs.class(class).order;
-        let place = order
-            .iter()
-            .take(EVICTION_TRIES)
-            .position(|&chunk| self.slabs.header(chunk).is_idle())?;
-        let key = self.key(order[place]);
-        self.index.remove(&key);
-        self.slabs.back_at(class, place);
+        let chunk = self.slabs.oldest_idle(class, EVICTION_TRIES)?;
+        self.index.remove(&self.key(chunk));
+        self.slabs.back(chunk);
         self.slabs.class_mut(class).evictions += 1;
         Some(())
     }
@@ -120,7 +115,7 @@ impl Cache {
     pub fn hold(&mut self, worker: usize, key: u64) -> Result<(), GetRefusal> {
         let chunk = self.get(worker, key)?;
         self.slabs.header_mut(chunk).holds += 1;
-        self.holds[worker].push(chunk);
+        self.holds[worker].push((key, chunk));
         Ok(())
     }
 
@@ -128,13 +123,13 @@ impl Cache {
     pub fn take_hold(&mut self, worker: usize, key: u64) -> Option<Chunk> {
         let place = self.holds[worker]
             .iter()
-            .rposition(|&chunk| self.key(chunk) == key)?;
-        Some(self.holds[worker].remove(place))
+            .rposition(|&(held, _)| held == key)?;
+        Some(self.holds[worker].remove(place).1)
     }
 
     pub fn let_go(&mut self, chunk: Chunk) {
         self.slabs.header_mut(chunk).holds -= 1;
-        self.count_dead(chunk);
+        self.slabs.note_dead(chunk);
     }
 
     pub fn delete(&mut self, key: u64) -> bool {
@@ -142,15 +137,8 @@ impl Cache {
             return false;
         };
         self.slabs.header_mut(chunk).state = State::Unlinked;
-        self.count_dead(chunk);
+        self.slabs.note_dead(chunk);
         true
-    }
-
-    fn count_dead(&mut self, chunk: Chunk) {
-        if self.slabs.header(chunk).is_dead() {
-            let class = self.slabs.class_of(chunk);
-            self.slabs.class_mut(class).dead += 1;
-        }
     }
 
     pub fn touch(&mut self, key: u64) -> bool {

@@ -29,10 +29,7 @@ pub fn turn(cache: &mut Cache, counts: &mut Counts) -> Ended {
     let per_page = cache.slabs.class(moving.source).per_page;
     let stop = per_page.min(moving.position + cache.slabs.table.bulk);
     while moving.position < stop {
-        let chunk = Chunk {
-            page: moving.page as u32,
-            index: moving.position as u32,
-        };
+        let chunk = Chunk::new(moving.page, moving.position);
         if !pass(cache, chunk, counts) {
             moving.busy += 1;
         }
@@ -56,7 +53,7 @@ pub fn turn(cache: &mut Cache, counts: &mut Counts) -> Ended {
 
 /// Clears a chunk of the moving page. False where somebody holds it.
 fn pass(cache: &mut Cache, chunk: Chunk, counts: &mut Counts) -> bool {
-    let header = cache.slabs.header(chunk);
+    let header = *cache.slabs.header(chunk);
     if header.holds > 0 {
         counts.busy += 1;
         return false;
@@ -64,11 +61,7 @@ fn pass(cache: &mut Cache, chunk: Chunk, counts: &mut Counts) -> bool {
     let class = cache.slabs.class_of(chunk);
     match header.state {
         State::Cleared => return true,
-        State::Free => cache.slabs.clear(chunk),
-        State::Unlinked => {
-            cache.slabs.class_mut(class).dead -= 1;
-            cache.slabs.clear(chunk);
-        }
+        State::Free | State::Unlinked => cache.slabs.clear(chunk),
         State::Linked => {
             cache.slabs.sweep(class);
             if cache.rescue_or_evict(chunk) {

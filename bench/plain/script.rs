@@ -44,17 +44,26 @@ pub const MOST_WORKER: u64 = 63;
 const MOST_WORDS: u64 = 4_096;
 const MOST_TURNS: u64 = 1_000_000;
 
+/// The most words of a line that is a command.
+const MOST_PARTS: usize = 5;
+
 /// The commands of a script, or the number of the lowest line that is neither skipped nor a command.
 pub fn read(bytes: &[u8]) -> Result<Vec<Command>, usize> {
-    let mut commands = Vec::new();
+    let mut commands = Vec::with_capacity(bytes.iter().filter(|&&byte| byte == b'\n').count() + 1);
     for (place, line) in lines(bytes).enumerate() {
-        let words: Vec<&[u8]> = line
+        let mut words = line
             .split(|&byte| byte == b' ')
-            .filter(|word| !word.is_empty())
-            .collect();
-        if words.first().is_some_and(|word| !word.starts_with(b"#")) {
-            commands.push(command(&words).ok_or(place + 1)?);
+            .filter(|word| !word.is_empty());
+        let Some(first) = words.next().filter(|word| !word.starts_with(b"#")) else {
+            continue;
+        };
+        let mut parts = [first; MOST_PARTS];
+        let mut count = 1;
+        for word in words {
+            *parts.get_mut(count).ok_or(place + 1)? = word;
+            count += 1;
         }
+        commands.push(command(&parts[..count]).ok_or(place + 1)?);
     }
     Ok(commands)
 }

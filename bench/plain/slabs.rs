@@ -1,8 +1,8 @@
 //! Pages and size classes: free lists, hand-out orders and the page pool.
 
-use std::collections::VecDeque;
+use std::mem;
 
-use crate::chunk::{Chunk, Header, Page, State};
+use crate::chunk::{Chunk, Header, List, Pages, State};
 use crate::classes::ClassTable;
 use crate::moves::Move;
 
@@ -12,12 +12,12 @@ pub struct Class {
     pub per_page: usize,
     /// Oldest first. A moving page stays until its move ends.
     pub pages: Vec<usize>,
-    /// The next to be handed out is last.
-    pub free: Vec<Chunk>,
+    /// The next to be handed out is first.
+    pub free: List,
     /// Chunks that are handed out, oldest first.
-    pub order: VecDeque<Chunk>,
-    /// Dead chunks of the hand-out order.
-    pub dead: usize,
+    pub order: List,
+    /// Chunks that died, with their ranks then. One that was cleared since, or handed out anew, is dead no more.
+    dead: Vec<(u64, Chunk)>,
     pub evictions: u64,
 }
 
@@ -32,13 +32,15 @@ pub struct Totals {
 pub struct Slabs {
     pub table: ClassTable,
     classes: Vec<Class>,
-    pages: Vec<Page>,
+    pages: Pages,
     /// Pages that came back; the last one is granted next.
     pub pool: Vec<usize>,
     pub moving: Option<Move>,
     /// The class that the last pick stopped at.
     pub cursor: usize,
     pub totals: Totals,
+    /// The rank of the chunk that was handed out or touched last.
+    last_rank: u64,
 }
 
 impl Slabs {
@@ -47,22 +49,22 @@ impl Slabs {
             size,
             per_page: table.page / size,
             pages: Vec::new(),
-            free: Vec::new(),
-            order: VecDeque::new(),
-            dead: 0,
+            free: List::default(),
+            order: List::default(),
+            dead: Vec::new(),
             evictions: 0,
         };
         let classes: Vec<Class> = table.sizes.iter().map(class).collect();
         let cursor = classes.len();
-        let (pages, pool) = (Vec::new(), Vec::new());
         Slabs {
             table,
             classes,
-            pages,
-            pool,
+            pages: Pages::default(),
+            pool: Vec::new(),
             moving: None,
             cursor,
             totals: Totals::default(),
+            last_rank: 0,
         }
     }
 
@@ -80,32 +82,32 @@ impl Slabs {
 
     /// Pages that were ever granted.
     pub fn granted(&self) -> usize {
-        self.pages.len()
+        self.pages.all.len()
     }
 
     pub fn class_of(&self, chunk: Chunk) -> usize {
-        self.pages[chunk.page as usize].class
+        self.pages.all[chunk.page()].class
     }
 
-    pub fn header(&self, chunk: Chunk) -> Header {
-        self.pages[chunk.page as usize].headers[chunk.index as usize]
+    pub fn header(&self, chunk: Chunk) -> &Header {
+        self.pages.header(chunk)
     }
 
     pub fn header_mut(&mut self, chunk: Chunk) -> &mut Header {
-        &mut self.pages[chunk.page as usize].headers[chunk.index as usize]
+        self.pages.header_mut(chunk)
     }
 
     /// The words of a chunk: key, stamp, length, and the item's own.
     pub fn words(&self, chunk: Chunk) -> &[u64] {
-        let page = &self.pages[chunk.page as usize];
+        let page = &self.pages.all[chunk.page()];
         let room = self.class(page.class).size / 8;
-        &page.words[chunk.index as usize * room..][..room]
+        &page.words[chunk.index() * room..][..room]
     }
 
     pub fn words_mut(&mut self, chunk: Chunk) -> &mut [u64] {
-        let page = &mut self.pages[chunk.page as usize];
+        let page = &mut self.pages.all[chunk.page()];
         let room = self.classes[page.class - 1].size / 8;
-        &mut page.words[chunk.index as usize * room..][..room]
+        &mut page.words[chunk.index() * room..][..room]
     }
 
     /// Copies an item from one chunk to another of the class.
@@ -114,37 +116,59 @@ impl Slabs {
         self.words_mut(to).copy_from_slice(&item);
     }
 
+    fn next_rank(&mut self) -> u64 {
+        self.last_rank += 1;
+        self.last_rank
+    }
+
     /// Hands out the class's next free chunk.
     pub fn pop(&mut self, class: usize) -> Option<Chunk> {
-        let own = self.class_mut(class);
-        let chunk = own.free.pop()?;
-        own.order.push_back(chunk);
-        *self.header_mut(chunk) = Header {
-            state: State::Unlinked,
-            holds: 0,
-        };
+        let rank = self.next_rank();
+        let own = &mut self.classes[class - 1];
+        let chunk = own.free.head?;
+        own.free.remove(&mut self.pages, chunk);
+        own.order.push_back(&mut self.pages, chunk);
+        let header = self.header_mut(chunk);
+        (header.state, header.holds, header.rank) = (State::Unlinked, 0, rank);
         Some(chunk)
+    }
+
+    /// Of the oldest few chunks the first that is handed out to a key and that nobody holds.
+    pub fn oldest_idle(&self, class: usize, tries: usize) -> Option<Chunk> {
+        let mut next = self.class(class).order.head;
+        for _ in 0..tries {
+            let chunk = next?;
+            if self.header(chunk).is_idle() {
+                return Some(chunk);
+            }
+            next = self.pages.next(chunk);
+        }
+        None
+    }
+
+    /// Notes a chunk that may be dead, for the next sweep.
+    pub fn note_dead(&mut self, chunk: Chunk) {
+        let header = self.header(chunk);
+        if header.is_dead() {
+            let row = (header.rank, chunk);
+            self.class_mut(self.class_of(chunk)).dead.push(row);
+        }
     }
 
     /// Puts back the dead chunks of a class, oldest first.
     pub fn sweep(&mut self, class: usize) {
-        let Class {
-            free, order, dead, ..
-        } = &mut self.classes[class - 1];
-        if *dead == 0 {
+        if self.class(class).dead.is_empty() {
             return;
         }
-        *dead = 0;
-        let pages = &mut self.pages;
-        order.retain(|&chunk| {
-            let header = &mut pages[chunk.page as usize].headers[chunk.index as usize];
-            if !header.is_dead() {
-                return true;
+        let mut dead = mem::take(&mut self.class_mut(class).dead);
+        dead.sort_unstable_by_key(|&(rank, _)| rank);
+        for (rank, chunk) in dead.drain(..) {
+            let header = self.header(chunk);
+            if header.is_dead() && header.rank == rank {
+                self.back(chunk);
             }
-            header.state = State::Free;
-            free.push(chunk);
-            false
-        });
+        }
+        self.class_mut(class).dead = dead;
     }
 
     pub fn sweep_all(&mut self) {
@@ -157,13 +181,7 @@ impl Slabs {
     pub fn grow(&mut self, class: usize) -> bool {
         let page = match self.pool.pop() {
             Some(page) => page,
-            None if self.pages.len() < self.table.pages => {
-                self.pages.push(Page {
-                    words: vec![0; self.table.page / 8],
-                    ..Page::default()
-                });
-                self.pages.len() - 1
-            }
+            None if self.granted() < self.table.pages => self.pages.grant(self.table.page / 8),
             None => return false,
         };
         self.cut(page, class);
@@ -174,71 +192,56 @@ impl Slabs {
     pub fn cut(&mut self, page: usize, class: usize) {
         let own = &mut self.classes[class - 1];
         own.pages.push(page);
-        own.free.extend((0..own.per_page).map(|index| Chunk {
-            page: page as u32,
-            index: index as u32,
-        }));
-        self.pages[page].class = class;
-        self.pages[page].headers.clear();
-        self.pages[page].headers.resize(
-            own.per_page,
-            Header {
-                state: State::Free,
-                holds: 0,
-            },
-        );
-    }
-
-    /// Puts back the handed-out chunk at this place of the hand-out order.
-    pub fn back_at(&mut self, class: usize, place: usize) {
-        let own = self.class_mut(class);
-        if let Some(chunk) = own.order.remove(place) {
-            own.free.push(chunk);
-            self.header_mut(chunk).state = State::Free;
+        self.pages.all[page].class = class;
+        for index in 0..own.per_page {
+            let chunk = Chunk::new(page, index);
+            own.free.push_front(&mut self.pages, chunk);
+            let header = self.pages.header_mut(chunk);
+            (header.state, header.holds) = (State::Free, 0);
         }
     }
 
-    /// Where a handed-out chunk stands in the hand-out order.
-    fn place(&self, chunk: Chunk) -> Option<usize> {
-        self.class(self.class_of(chunk))
-            .order
-            .iter()
-            .position(|&other| other == chunk)
+    /// Puts back a handed-out chunk.
+    pub fn back(&mut self, chunk: Chunk) {
+        let own = &mut self.classes[self.pages.all[chunk.page()].class - 1];
+        own.order.remove(&mut self.pages, chunk);
+        own.free.push_front(&mut self.pages, chunk);
+        self.header_mut(chunk).state = State::Free;
     }
 
     /// The chunk becomes the youngest of the hand-out order.
     pub fn touch(&mut self, chunk: Chunk) {
-        if let Some(place) = self.place(chunk) {
-            let order = &mut self.class_mut(self.class_of(chunk)).order;
-            order.remove(place);
-            order.push_back(chunk);
-        }
+        let own = &mut self.classes[self.pages.all[chunk.page()].class - 1];
+        own.order.remove(&mut self.pages, chunk);
+        own.order.push_back(&mut self.pages, chunk);
+        self.header_mut(chunk).rank = self.next_rank();
     }
 
     /// Takes a chunk out of the free list or hand-out order that it is in.
     pub fn clear(&mut self, chunk: Chunk) {
-        let class = self.class_of(chunk);
-        if self.header(chunk).state == State::Free {
-            self.class_mut(class).free.retain(|&other| other != chunk);
-        } else if let Some(place) = self.place(chunk) {
-            self.class_mut(class).order.remove(place);
-        }
+        let own = &mut self.classes[self.pages.all[chunk.page()].class - 1];
+        let list = match self.pages.header(chunk).state {
+            State::Free => &mut own.free,
+            _ => &mut own.order,
+        };
+        list.remove(&mut self.pages, chunk);
         self.header_mut(chunk).state = State::Cleared;
     }
 
     /// The first free chunk of the class that isn't on the page, taken off the free list. It takes the place of
     /// `old` in the hand-out order.
     pub fn pop_off(&mut self, old: Chunk) -> Option<Chunk> {
-        let class = self.class_of(old);
-        let place = self.place(old)?;
-        let own = self.class_mut(class);
-        let found = own.free.iter().rposition(|other| other.page != old.page)?;
-        let new = own.free.remove(found);
-        own.order[place] = new;
-        *self.header_mut(new) = Header {
-            state: State::Linked,
-            holds: 0,
-        };
+        let own = &mut self.classes[self.pages.all[old.page()].class - 1];
+        let mut new = own.free.head?;
+        while new.page() == old.page() {
+            new = self.pages.next(new)?;
+        }
+        own.free.remove(&mut self.pages, new);
+        own.order.insert_before(&mut self.pages, new, old);
+        own.order.remove(&mut self.pages, old);
+        let rank = self.header(old).rank;
+        let header = self.header_mut(new);
+        (header.state, header.holds, header.rank) = (State::Linked, 0, rank);
         self.header_mut(old).state = State::Cleared;
         Some(new)
     }
