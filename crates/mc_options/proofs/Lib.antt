@@ -1,3 +1,4 @@
+mod OptionAdded
 mod OptionCut
 mod OptionDigits
 mod OptionParse

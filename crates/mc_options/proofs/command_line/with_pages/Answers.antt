@@ -1,0 +1,11 @@
+use Rattle.std.proofs.Common.{◌∙◌, ap₂, refl}
+use Rattle.clap.specs.Words.{with_rule}
+use Rattle.mc_options.proofs.OptionAdded.{added}
+use Rattle.mc_options.proofs.command_line.with_pages.Goals as goal
+
+-- each option is added to those before it
+pub returns : goal.returns
+returns c =
+    added _ _ _ _ _ c.arg-2.ensures c.number_option-2.ensures.local
+        (c.in_ok-arg.ensures.shape c.number_option.ensures.local ∙ ap₂ with_rule refl c.number_option.ensures.rule)
+        c.number_option-2.ensures.rule
