@@ -7,5 +7,5 @@ use Rattle.mc_options.proofs.command_line.with_pages.Goals as goal
 pub returns : goal.returns
 returns c =
     added _ _ _ _ _ c.arg-2.ensures c.number_option-2.ensures.local
-        (c.in_ok-arg.ensures.shape c.number_option.ensures.local ∙ ap₂ with_rule refl c.number_option.ensures.rule)
-        c.number_option-2.ensures.rule
+    (c.in_ok-arg.ensures.shape c.number_option.ensures.local ∙ ap₂ with_rule refl c.number_option.ensures.rule)
+    c.number_option-2.ensures.rule
