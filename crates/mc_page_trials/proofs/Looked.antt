@@ -17,6 +17,19 @@ use Rattle.mc_pages.proofs.Chunks.{None≢Some, same_from_is_chunk, times_from_C
 use Rattle.mc_pages.proofs.HandedOut.{class_of_placed, class_of_handed_out}
 use Rattle.mc_pages.proofs.Owners.{is_of_class-class_of_owner}
 
+-- a chunk of a class's free list is free in its class
+pub free_there_at : (slabs : SlabState) (class place : ℕ) (chunk : ChunkId) → IsAccounted slabs → IsClass slabs class → slice_get (class_at slabs class).free place ≡ Some chunk → Contains (class_of_chunk slabs chunk).free chunk
+free_there_at slabs class place chunk all is h =
+    let there = Contains_from_slice_get chunk (class_at slabs class).free place h in
+    let own = class_of_placed slabs class chunk all is (omega (arith, times_from_Contains chunk (class_at slabs class).free there)) in
+    subst (λ (n : ℕ). Contains (class_at slabs n).free chunk) (sym own) there
+
+-- a chunk of a class's hand-out order may come back
+pub handed_out_at : (slabs : SlabState) (class place : ℕ) (chunk : ChunkId) → IsAccounted slabs → IsClass slabs class → slice_get (class_at slabs class).order place ≡ Some chunk → Contains (class_of_chunk slabs chunk).order chunk
+handed_out_at slabs class place chunk all is h =
+    let handed = Contains_from_slice_get chunk (class_at slabs class).order place h in
+    subst (λ (n : ℕ). Contains (class_at slabs n).order chunk) (sym (class_of_handed_out slabs class chunk all is handed)) handed
+
 -- a free chunk of the class of a handed-out one
 pub free_beside : (slabs : SlabState) (class free place : ℕ) (new old : ChunkId) → IsAccounted slabs → IsClass slabs class → slice_get (class_at slabs class).free free ≡ Some new → slice_get (class_at slabs class).order place ≡ Some old → Contains (class_of_chunk slabs old).free new
 free_beside slabs class free place new old all is there handed =

@@ -40,12 +40,6 @@ pub class_of_handed_out : (slabs : SlabState) (class : ℕ) (chunk : ChunkId) �
 class_of_handed_out slabs class chunk all is handed =
     class_of_placed slabs class chunk all is (omega (arith, times_from_Contains chunk (class_at slabs class).order handed))
 
--- a chunk of a class's hand-out order may come back
-pub handed_out_at : (slabs : SlabState) (class place : ℕ) (chunk : ChunkId) → IsAccounted slabs → IsClass slabs class → slice_get (class_at slabs class).order place ≡ Some chunk → Contains (class_of_chunk slabs chunk).order chunk
-handed_out_at slabs class place chunk all is h =
-    let handed = Contains_from_slice_get chunk (class_at slabs class).order place h in
-    subst (λ (n : ℕ). Contains (class_at slabs n).order chunk) (sym (class_of_handed_out slabs class chunk all is handed)) handed
-
 -- the class that has a handed-out chunk is one of the classes
 pub IsClass-handed_out : (slabs : SlabState) (chunk : ChunkId) → IsAccounted slabs → Contains (class_of_chunk slabs chunk).order chunk → IsClass slabs (class_of_page slabs chunk.page)
 IsClass-handed_out slabs chunk all handed =

@@ -64,7 +64,7 @@ impl Driven<'_> {
     }
 
     /// Gives back the chunk at this place of the class's hand-out order.
-    #[tactic(auto, using(crate::proofs::Sized::changes, mc_pages::proofs::HandedOut::handed_out_at))]
+    #[tactic(auto, using(crate::proofs::Sized::changes, crate::proofs::Looked::handed_out_at))]
     pub(super) fn back(&mut self, class: ClassId, place: u64) -> Option<ChunkId> {
         if !self.is_class(class) {
             return None;
@@ -75,7 +75,7 @@ impl Driven<'_> {
     }
 
     /// Takes the chunk at this place of the class's hand-out order to its back.
-    #[tactic(auto, using(crate::proofs::Sized::changes, mc_pages::proofs::HandedOut::handed_out_at))]
+    #[tactic(auto, using(crate::proofs::Sized::changes, crate::proofs::Looked::handed_out_at))]
     pub(super) fn touch(&mut self, class: ClassId, place: u64) -> Option<ChunkId> {
         if !self.is_class(class) {
             return None;
@@ -86,7 +86,7 @@ impl Driven<'_> {
     }
 
     /// Puts the chunk at one place of the class's free list before the one at the other place of its hand-out order.
-    #[tactic(auto, using(crate::proofs::Sized::changes, mc_pages::proofs::HandedOut::handed_out_at, crate::proofs::Looked::free_beside))]
+    #[tactic(auto, using(crate::proofs::Sized::changes, crate::proofs::Looked::handed_out_at, crate::proofs::Looked::free_beside))]
     pub(super) fn replace(
         &mut self,
         class: ClassId,
@@ -267,7 +267,7 @@ impl Driven<'_> {
     }
 
     /// The chunk behind the one at this place of the class's free list.
-    #[tactic(auto, using(mc_pages::proofs::Walks::free_there_at))]
+    #[tactic(auto, using(crate::proofs::Looked::free_there_at))]
     pub(super) fn next_free(&self, class: ClassId, place: u64) -> Option<ChunkId> {
         if !self.is_class(class) {
             return None;
@@ -285,7 +285,7 @@ impl Driven<'_> {
     }
 
     /// The chunk behind the one at this place of the class's hand-out order.
-    #[tactic(auto, using(mc_pages::proofs::HandedOut::handed_out_at))]
+    #[tactic(auto, using(crate::proofs::Looked::handed_out_at))]
     pub(super) fn next_out(&self, class: ClassId, place: u64) -> Option<ChunkId> {
         if !self.is_class(class) {
             return None;
