@@ -1,5 +1,5 @@
 -- The class of a chunk that stands in a class's lists, and how often it stands there.
-use Rattle.std.proofs.Common.{◌≡◌, ◌+◌, ◌-◌, ◌≤◌, ℕ, length, Some, sym, ap, subst, inl, inr, arith, Contains, slice_get, slice_index_or}
+use Rattle.std.proofs.Common.{◌≡◌, ◌+◌, ◌-◌, ◌≤◌, ℕ, length, sym, ap, subst, inl, inr, arith, Contains, slice_index_or}
 use Rattle.std.proofs.lemmas.Bool.{cases_lt, cases_Bool, and_parts}
 use Rattle.std.proofs.lemmas.List.{get_or_past}
 use Rattle.mc_pages.specs.declared.ids.ChunkId.{ChunkId}
@@ -8,7 +8,7 @@ use Rattle.mc_pages.specs.ClassState.{ClassState, times, new_class}
 use Rattle.mc_pages.specs.SlabState.{SlabState, IsClass, class_at, class_of_page, class_of_chunk}
 use Rattle.mc_pages.specs.Accounted.{truth, is_cut, places_in, IsAccounted}
 use Rattle.mc_pages.specs.InOrder.{IsInOrder}
-use Rattle.mc_pages.proofs.Chunks.{Contains_from_slice_get, times_from_Contains}
+use Rattle.mc_pages.proofs.Chunks.{times_from_Contains}
 use Rattle.mc_pages.proofs.Cleared.{truth-le_one}
 use Rattle.mc_pages.proofs.Owners.{class_of_owner-is_of_class}
 

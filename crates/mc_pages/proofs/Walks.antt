@@ -1,5 +1,5 @@
 -- A walk along a free list or a hand-out order, from its first chunk on: what each next chunk is.
-use Rattle.std.proofs.Common.{◌≡◌, ℕ, ◌+◌, slice_get, Some, sym, ap, ◌∙◌, subst, arith, Contains}
+use Rattle.std.proofs.Common.{◌≡◌, ℕ, ◌+◌, slice_get, Some, ap, ◌∙◌, arith}
 use Rattle.mc_pages.specs.declared.ids.ChunkId.{ChunkId}
 use Rattle.mc_pages.specs.ClassState.{behind}
 use Rattle.mc_pages.specs.SlabState.{SlabState, IsClass, class_at, class_of_chunk}
