@@ -7,7 +7,7 @@ use std::error::Error;
 use std::fmt;
 
 /// Eight numbers that decide the size classes and the limits. Sizes are in bytes.
-#[derive(Clone, Copy, Debug, PartialEq, Eq)]
+#[derive(Clone, Copy, PartialEq, Eq)]
 pub struct Config {
     /// The size of a page.
     pub page: u64,
@@ -167,39 +167,6 @@ impl Config {
         }
         if self.bulk < 1 || self.bulk > 256 {
             return Err(ConfigError::Bulk);
-        }
-        Ok(())
-    }
-}
-
-#[cfg(test)]
-mod tests {
-    use super::*;
-    use std::test::Fail;
-
-    #[test]
-    fn numbers_and_texts(rt: HostRuntime) -> Result<(), Fail> {
-        let rows = [
-            (ConfigError::PageSize, 1, "the page size must"),
-            (ConfigError::FirstSize, 2, "the first size must"),
-            (ConfigError::Factor, 3, "the growth factor must"),
-            (ConfigError::ChunkMax, 4, "the greatest size must"),
-            (ConfigError::Limit, 5, "the limit must"),
-            (ConfigError::Stripes, 6, "the number of stripes must"),
-            (
-                ConfigError::TooManyChunks,
-                7,
-                "a page of the first class would",
-            ),
-            (ConfigError::Bulk, 8, "the number of chunks a turn must"),
-            (ConfigError::NoMemory, 9, "out of memory"),
-        ];
-        for (error, number, text) in rows {
-            assert_eq!(rt; error.number(), number, "{error:?}");
-            assert!(rt;
-                format!(in rt.alloc(); "{error}")?.starts_with(text),
-                "{error}"
-            );
         }
         Ok(())
     }

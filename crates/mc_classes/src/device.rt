@@ -41,6 +41,3 @@ pub trait Sink {
         ensures err { OnErr result (failures self.old < failures self.new) }
         ensures kept { OnErr result (Extends (contents self.old) (contents self.new)) };
 }
-
-#[cfg(test)]
-mod tests;

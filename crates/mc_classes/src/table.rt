@@ -136,8 +136,3 @@ fn sizes_of(alloc: Global, config: &Config) -> Result<Vec<u64>, AllocError>
     sizes.push(config.max).unwrap();
     Ok(sizes)
 }
-
-#[cfg(test)]
-mod tests;
-#[cfg(test)]
-mod vectors;

@@ -3,7 +3,7 @@ use crate::series::Series;
 use mc_pages::{ChunkId, Found};
 
 /// One operation on one word, by one hand.
-#[derive(Debug, Drop)]
+#[derive(Drop)]
 pub struct Event {
     /// Who does it.
     pub hand: u64,
@@ -13,7 +13,7 @@ pub struct Event {
 }
 
 /// What is done.
-#[derive(Clone, Copy, Debug, PartialEq, Eq)]
+#[derive(Clone, Copy, PartialEq, Eq)]
 pub enum Step {
     /// The slabs lock is taken.
     TakeSlabs,
@@ -64,7 +64,7 @@ pub enum Step {
 }
 
 /// A change of a value behind a lock that touches no word.
-#[derive(Clone, Copy, Debug, PartialEq, Eq)]
+#[derive(Clone, Copy, PartialEq, Eq)]
 pub enum Change {
     /// The class gets a page.
     Grow(u64),

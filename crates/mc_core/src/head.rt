@@ -3,7 +3,7 @@ ghost use Rattle.std.specs.Prelude.{◌≡◌, ◌^◌, ◌<◌};
 ghost use Rattle.mc_core.specs.Head.{code, is_dead};
 
 /// The state of a chunk.
-#[derive(Clone, Copy, Debug, PartialEq, Eq)]
+#[derive(Clone, Copy, PartialEq, Eq)]
 pub enum Tag {
     /// It is on no list, and its page isn't cut for it, or moves away.
     Out,
@@ -16,7 +16,7 @@ pub enum Tag {
 }
 
 /// A header, taken apart. As a word it is `issue * 2^18 + tag * 2^16 + count`, the tags being 0 to 3.
-#[derive(Clone, Copy, Debug, PartialEq, Eq)]
+#[derive(Clone, Copy, PartialEq, Eq)]
 pub struct Head {
     /// How often the chunk was handed out.
     pub issue: u64,

@@ -7,7 +7,7 @@ use mc_pages::ChunkId;
 use std::alloc::Global;
 
 /// One holding of a chunk, by one hand.
-#[derive(Debug, Drop)]
+#[derive(Drop)]
 pub struct Holding {
     pub chunk: ChunkId,
     /// The chunk's issue number as it was handed out.
@@ -19,7 +19,7 @@ pub struct Holding {
 }
 
 /// Whether the chunk was linked yet.
-#[derive(Debug, Drop)]
+#[derive(Drop)]
 pub enum Kind {
     /// A reference to an item.
     Reference,
@@ -28,7 +28,7 @@ pub enum Kind {
 }
 
 /// What a fresh chunk is for.
-#[derive(Debug, Drop)]
+#[derive(Drop)]
 pub enum Purpose {
     /// An item of the hand's own.
     Item,

@@ -1,7 +1,7 @@
 //! Who a hand is.
 
 /// A hand's number, and how many stamps it gave out.
-#[derive(Clone, Copy, Debug, PartialEq, Eq)]
+#[derive(Clone, Copy, PartialEq, Eq)]
 pub struct Ids {
     /// None once another hand took over.
     pub number: Option<u8>,

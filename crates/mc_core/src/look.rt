@@ -7,7 +7,7 @@ use crate::head::{Head, Tag};
 use mc_pages::ChunkId;
 
 /// Something that a hand saw, or changed, under its hold of the slabs lock.
-#[derive(Clone, Copy, Debug, PartialEq, Eq)]
+#[derive(Clone, Copy, PartialEq, Eq)]
 pub enum Look {
     /// It saw this header.
     Saw(ChunkId, Head),

@@ -6,7 +6,7 @@ use std::alloc::{AllocError, Global};
 use std::marker::Model;
 
 /// Values, one after another. Two series of the same values are equal, whatever room they have.
-#[derive(Debug, Drop)]
+#[derive(Drop)]
 pub struct Series<T> {
     items: Vec<T>,
 }

@@ -198,6 +198,3 @@ pub fn options<S: AsStr>(alloc: Global, words: &[S]) -> Result<Options, Error>
         threads: false,
     })
 }
-
-#[cfg(test)]
-mod tests;

@@ -2,7 +2,7 @@
 use mc_classes::Config;
 
 /// What a run is started with.
-#[derive(Clone, Copy, Debug, PartialEq, Eq)]
+#[derive(Clone, Copy, PartialEq, Eq)]
 pub struct Run {
     /// Sizes and limits.
     pub config: Config,
@@ -11,7 +11,7 @@ pub struct Run {
 }
 
 /// What the words of a command line ask for.
-#[derive(Clone, Copy, Debug, PartialEq, Eq)]
+#[derive(Clone, Copy, PartialEq, Eq)]
 pub struct Options {
     /// What the run is started with.
     pub run: Run,

@@ -1,5 +1,5 @@
 -- The class of a chunk that stands in a class's lists, and how often it stands there.
-use Rattle.std.proofs.Common.{◌≡◌, ◌+◌, ◌-◌, ◌≤◌, ℕ, length, Some, sym, ap, subst, inl, inr, arith, Contains, slice_get, slice_index_or}
+use Rattle.std.proofs.Common.{◌≡◌, ◌+◌, ◌-◌, ◌≤◌, ℕ, length, sym, ap, subst, inl, inr, arith, Contains, slice_index_or}
 use Rattle.std.proofs.lemmas.Bool.{cases_lt, cases_Bool, and_parts}
 use Rattle.std.proofs.lemmas.List.{get_or_past}
 use Rattle.mc_pages.specs.declared.ids.ChunkId.{ChunkId}
@@ -8,7 +8,7 @@ use Rattle.mc_pages.specs.ClassState.{ClassState, times, new_class}
 use Rattle.mc_pages.specs.SlabState.{SlabState, IsClass, class_at, class_of_page, class_of_chunk}
 use Rattle.mc_pages.specs.Accounted.{truth, is_cut, places_in, IsAccounted}
 use Rattle.mc_pages.specs.InOrder.{IsInOrder}
-use Rattle.mc_pages.proofs.Chunks.{Contains_from_slice_get, times_from_Contains}
+use Rattle.mc_pages.proofs.Chunks.{times_from_Contains}
 use Rattle.mc_pages.proofs.Cleared.{truth-le_one}
 use Rattle.mc_pages.proofs.Owners.{class_of_owner-is_of_class}
 
@@ -39,12 +39,6 @@ IsClass-placed slabs chunk all placed =
 pub class_of_handed_out : (slabs : SlabState) (class : ℕ) (chunk : ChunkId) → IsAccounted slabs → IsClass slabs class → Contains (class_at slabs class).order chunk → class_of_page slabs chunk.page ≡ class
 class_of_handed_out slabs class chunk all is handed =
     class_of_placed slabs class chunk all is (omega (arith, times_from_Contains chunk (class_at slabs class).order handed))
-
--- a chunk of a class's hand-out order may come back
-pub handed_out_at : (slabs : SlabState) (class place : ℕ) (chunk : ChunkId) → IsAccounted slabs → IsClass slabs class → slice_get (class_at slabs class).order place ≡ Some chunk → Contains (class_of_chunk slabs chunk).order chunk
-handed_out_at slabs class place chunk all is h =
-    let handed = Contains_from_slice_get chunk (class_at slabs class).order place h in
-    subst (λ (n : ℕ). Contains (class_at slabs n).order chunk) (sym (class_of_handed_out slabs class chunk all is handed)) handed
 
 -- the class that has a handed-out chunk is one of the classes
 pub IsClass-handed_out : (slabs : SlabState) (chunk : ChunkId) → IsAccounted slabs → Contains (class_of_chunk slabs chunk).order chunk → IsClass slabs (class_of_page slabs chunk.page)

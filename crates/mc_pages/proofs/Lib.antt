@@ -37,4 +37,3 @@ pub mod RoomyFresh
 pub mod RoomyGrow
 pub mod RoomyMoves
 pub mod RoomyFinish
-pub mod RoomyTests

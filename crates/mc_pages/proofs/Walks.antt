@@ -1,5 +1,5 @@
 -- A walk along a free list or a hand-out order, from its first chunk on: what each next chunk is.
-use Rattle.std.proofs.Common.{◌≡◌, ℕ, ◌+◌, slice_get, Some, sym, ap, ◌∙◌, subst, arith, Contains}
+use Rattle.std.proofs.Common.{◌≡◌, ℕ, ◌+◌, slice_get, Some, ap, ◌∙◌, arith}
 use Rattle.mc_pages.specs.declared.ids.ChunkId.{ChunkId}
 use Rattle.mc_pages.specs.ClassState.{behind}
 use Rattle.mc_pages.specs.SlabState.{SlabState, IsClass, class_at, class_of_chunk}
@@ -16,13 +16,6 @@ free_once slabs class all is chunk = omega (arith, all.chunks class chunk is, tr
 
 order_once : (slabs : SlabState) (class : ℕ) → IsAccounted slabs → IsClass slabs class → IsOnce (class_at slabs class).order
 order_once slabs class all is chunk = omega (arith, all.chunks class chunk is, truth-le_one (is_cut slabs class chunk))
-
--- a chunk of a class's free list is free in its class
-pub free_there_at : (slabs : SlabState) (class place : ℕ) (chunk : ChunkId) → IsAccounted slabs → IsClass slabs class → slice_get (class_at slabs class).free place ≡ Some chunk → Contains (class_of_chunk slabs chunk).free chunk
-free_there_at slabs class place chunk all is h =
-    let there = Contains_from_slice_get chunk (class_at slabs class).free place h in
-    let own = class_of_placed slabs class chunk all is (omega (arith, times_from_Contains chunk (class_at slabs class).free there)) in
-    subst (λ (n : ℕ). Contains (class_at slabs n).free chunk) (sym own) there
 
 -- behind the chunk at a place of the free list stands the chunk at the next place
 pub behind_free_at : (slabs : SlabState) (class place : ℕ) (chunk : ChunkId) → IsAccounted slabs → IsClass slabs class → slice_get (class_at slabs class).free place ≡ Some chunk → behind chunk (class_of_chunk slabs chunk).free ≡ slice_get (class_at slabs class).free (place + 1)

@@ -2,7 +2,7 @@
 use mc_classes::{ClassId, PageId};
 
 /// A chunk: a place on a page, whatever class the page is cut for.
-#[derive(Clone, Copy, Debug, PartialEq, Eq, PartialOrd, Ord, Hash)]
+#[derive(Clone, Copy, PartialEq, Eq, PartialOrd, Ord, Hash)]
 pub struct ChunkId {
     /// The page, from 0.
     pub page: PageId,
@@ -11,7 +11,7 @@ pub struct ChunkId {
 }
 
 /// A page on its way from one class to another, or to the pool.
-#[derive(Clone, Copy, Debug, PartialEq, Eq)]
+#[derive(Clone, Copy, PartialEq, Eq)]
 pub struct Moving {
     /// The page, which stays in its source's page list until the move ends.
     pub page: PageId,

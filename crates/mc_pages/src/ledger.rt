@@ -2,7 +2,7 @@
 use mc_classes::{ClassId, PageId};
 
 /// Who owns a page.
-#[derive(Clone, Copy, Debug, PartialEq, Eq)]
+#[derive(Clone, Copy, PartialEq, Eq)]
 pub enum Owner {
     /// Nobody yet: it was never granted.
     Untouched,
@@ -31,7 +31,7 @@ impl Owner {
 }
 
 /// One change of a page's owner.
-#[derive(Clone, Copy, Debug, PartialEq, Eq)]
+#[derive(Clone, Copy, PartialEq, Eq)]
 pub enum Entry {
     /// An untouched page was given to a class.
     Granted(PageId, ClassId),

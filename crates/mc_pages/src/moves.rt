@@ -2,7 +2,7 @@
 use std::alloc::AllocError;
 
 /// What the mover found at a chunk of the moving page, and did.
-#[derive(Clone, Copy, Debug, PartialEq, Eq)]
+#[derive(Clone, Copy, PartialEq, Eq)]
 pub enum Found {
     /// It was free or dead, and is cleared now.
     Cleared,
@@ -54,7 +54,7 @@ impl Found {
 }
 
 /// Why no page begins to move.
-#[derive(Clone, Copy, Debug, PartialEq, Eq)]
+#[derive(Clone, Copy, PartialEq, Eq)]
 pub enum Reassign {
     /// A page is moving already.
     Busy,

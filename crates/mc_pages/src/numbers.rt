@@ -1,7 +1,7 @@
 //! The numbers of a class and of the whole, for statistics and for the automover.
 
 /// What a class has.
-#[derive(Clone, Copy, Debug, PartialEq, Eq)]
+#[derive(Clone, Copy, PartialEq, Eq)]
 pub struct Numbers {
     /// Its pages, a moving one included.
     pub pages: u64,
@@ -12,7 +12,7 @@ pub struct Numbers {
 }
 
 /// What all have together. The counters stay at 2^64 - 1 once there (own).
-#[derive(Clone, Copy, Debug, PartialEq, Eq)]
+#[derive(Clone, Copy, PartialEq, Eq)]
 pub struct Totals {
     /// Pages that were ever granted.
     pub granted: u64,

@@ -14,7 +14,7 @@ use std::alloc::{AllocError, Global};
 use std::marker::Model;
 
 /// In which kind of list a chunk is. (after the flag `ITEM_SLABBED` of memcached's items, which a free chunk has)
-#[derive(Clone, Copy, Debug, PartialEq, Eq)]
+#[derive(Clone, Copy, PartialEq, Eq)]
 pub(crate) enum Mark {
     /// In none: it isn't cut yet, or was cleared.
     Unlisted,
@@ -34,7 +34,7 @@ pub(crate) struct Row {
 }
 
 /// One of the two lists of a class, by the class's place: class 1 stands at 0.
-#[derive(Clone, Copy, Debug, PartialEq, Eq)]
+#[derive(Clone, Copy, PartialEq, Eq)]
 pub enum ListName {
     /// The chunks that are free, with the next to hand out first.
     Free(usize),
@@ -43,7 +43,7 @@ pub enum ListName {
 }
 
 /// A field of the rows that leads to a chunk.
-#[derive(Clone, Copy, Debug, PartialEq, Eq)]
+#[derive(Clone, Copy, PartialEq, Eq)]
 pub(crate) enum Field {
     /// The chunk behind this one in its list.
     Next(ChunkId),
@@ -56,7 +56,7 @@ pub(crate) enum Field {
 }
 
 /// What is written into a field.
-#[derive(Clone, Copy, Debug, PartialEq, Eq)]
+#[derive(Clone, Copy, PartialEq, Eq)]
 pub(crate) enum Change {
     /// The chunk to which a field leads.
     Link(Field, Option<ChunkId>),
@@ -212,6 +212,3 @@ impl Rows {
         (chunk.page * self.most + chunk.index) as usize
     }
 }
-
-#[cfg(test)]
-pub(crate) mod tests;

@@ -204,6 +204,3 @@ fn rows_of(alloc: Global, table: &ClassTable) -> Result<Rows, AllocError>
     let pages = table.pages() as usize;
     Rows::new(alloc, table.per_page(1), pages, classes)
 }
-
-#[cfg(test)]
-mod tests;

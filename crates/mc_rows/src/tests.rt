@@ -34,7 +34,7 @@ const FOUR_CLASSES: Config = Config {
 };
 
 /// How a run is disturbed: the bytes of a read, the bytes before a read fails, the writes before one fails.
-#[derive(Clone, Copy, Debug)]
+#[derive(Clone, Copy)]
 struct StreamLimits {
     piece: usize,
     good_bytes: usize,

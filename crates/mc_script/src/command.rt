@@ -1,7 +1,7 @@
 //! The commands of a script.
 
 /// What a line asks for. Workers are numbered from 1 to 63, and keys, bases and classes are any numbers.
-#[derive(Clone, Copy, Debug, PartialEq, Eq)]
+#[derive(Clone, Copy, PartialEq, Eq)]
 pub enum Command {
     /// `<worker> set <key> <n> <base>`: an item of n words, at most 4096: base, base + 1 and so on modulo 2^64.
     Set {

@@ -206,6 +206,3 @@ fn is(word: &[u8], text: &[u8]) -> bool
 {
     word == text
 }
-
-#[cfg(test)]
-mod tests;

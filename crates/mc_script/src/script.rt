@@ -79,6 +79,3 @@ pub fn read(alloc: Global, bytes: &[u8]) -> Result<Vec<Command>, ScriptError>
     }
     Ok(commands)
 }
-
-#[cfg(test)]
-pub(crate) mod tests;

@@ -212,6 +212,3 @@ fn append(bytes: &mut Vec<u8>, more: &[u8])
         unreachable!()
     };
 }
-
-#[cfg(test)]
-mod tests;

@@ -11,7 +11,7 @@ pub type Stamp = u64;
 pub type HandId = u64;
 
 /// A call on one key, by one hand, and its reply.
-#[derive(Clone, Copy, Debug, PartialEq, Eq)]
+#[derive(Clone, Copy, PartialEq, Eq)]
 pub enum Call {
     /// An item was stored under the key, with this stamp.
     Set(HandId, Key, Stamp),

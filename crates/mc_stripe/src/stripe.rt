@@ -142,6 +142,3 @@ impl Stripe {
         }
     }
 }
-
-#[cfg(test)]
-mod tests;

@@ -9,7 +9,7 @@ use std::alloc::{AllocError, Global};
 use std::marker::Model;
 
 /// A page is to go from one class to another.
-#[derive(Clone, Copy, Debug, PartialEq, Eq)]
+#[derive(Clone, Copy, PartialEq, Eq)]
 pub struct Decision {
     /// The class that gives a page.
     pub src: ClassId,
@@ -126,6 +126,3 @@ fn steady_leader(leaders: &[Option<ClassId>; 3]) -> Option<ClassId>
         _ => None,
     }
 }
-
-#[cfg(test)]
-mod tests;

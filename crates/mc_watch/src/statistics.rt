@@ -199,6 +199,3 @@ fn write_pieces<W: Sink>(pieces: &[&[u8]], writer: &mut W) -> Result<(), Fault>
     }
     Ok(())
 }
-
-#[cfg(test)]
-mod tests;

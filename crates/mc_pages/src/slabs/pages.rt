@@ -12,7 +12,7 @@ use mc_classes::{ClassId, PageId};
 use std::alloc::AllocError;
 
 /// Why a class gets no page.
-#[derive(Clone, Copy, Debug, PartialEq, Eq)]
+#[derive(Clone, Copy, PartialEq, Eq)]
 pub enum Grow {
     /// The pool is empty, and no page is left within the limit.
     NoRoom,

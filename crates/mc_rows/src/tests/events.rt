@@ -89,11 +89,9 @@ fn a_page_is_cut_whole_before_its_lock_is_given(rt: HostRuntime) -> Result<(), F
     whole.push(does(rt.alloc(), 0, Step::GiveSlabs))?;
     let state = play(rt.alloc(), &whole)?;
     let slabs = state.slabs().ok_or("the slabs lock is not free")?;
-    assert_same(
-        &rt,
-        slabs.ledger(),
-        [Entry::Granted(0, 1)].as_slice(),
-        "the ledger",
+    assert!(rt;
+        slabs.ledger() == [Entry::Granted(0, 1)].as_slice(),
+        "the ledger"
     );
     let mut short = cut(rt.alloc(), 20)?;
     short.push(does(rt.alloc(), 0, Step::GiveSlabs))?;

@@ -1,0 +1,598 @@
+//! Pages and chunks: worked calls, and many at random beside plain lists.
+mod driven;
+mod plain;
+
+use super::{FOUR_CLASSES, assert_equal, assert_same};
+use driven::Driven;
+use mc_classes::{ClassId, ClassTable, Config, PageId};
+use mc_pages::{ChunkId, Entry, Found, Grow, Numbers, Owner, Reassign, Totals};
+use plain::{Plain, PlainClass};
+use std::process::Abort;
+use std::test::Fail;
+
+/// A call, and what it is to give.
+#[derive(Clone, Copy)]
+enum Step {
+    /// The class gets the page.
+    Grows(ClassId, PageId),
+    /// No page is left for the class.
+    IsFull(ClassId),
+    /// So many chunks of the page are cut, and no more.
+    Cuts(PageId, u64),
+    /// The class hands out this chunk: its page and its place there.
+    Pops(ClassId, PageId, u64),
+    /// The class has no free chunk.
+    IsEmpty(ClassId),
+    /// The chunk at this place of the hand-out order, which is this one, comes back.
+    Backs(ClassId, u64, PageId, u64),
+    /// At this place of the free list stands this chunk.
+    HasFree(ClassId, u64, Option<(PageId, u64)>),
+    /// At this place of the hand-out order stands this chunk.
+    HasOrder(ClassId, u64, Option<(PageId, u64)>),
+    /// The page has this owner.
+    Owns(PageId, Owner),
+    /// The class has so many pages and so many free chunks.
+    Counts(ClassId, u64, u64),
+}
+
+fn chunk(page: PageId, index: u64) -> Option<ChunkId> {
+    Some(ChunkId { page, index })
+}
+
+fn named((page, index): (PageId, u64)) -> Option<ChunkId> {
+    chunk(page, index)
+}
+
+fn numbers(pages: u64, free: u64) -> Option<Numbers> {
+    Some(Numbers {
+        pages,
+        free,
+        evictions: 0,
+    })
+}
+
+fn granted(granted: u64) -> Totals {
+    Totals {
+        granted,
+        pool: 0,
+        moved: 0,
+        rescues: 0,
+        evictions_nomem: 0,
+        busy: 0,
+    }
+}
+
+/// The page is half cut until all its chunks are cut.
+fn assert_cuts(rt: &impl Abort, all: &mut Driven, page: PageId, count: u64) {
+    for index in 0..count {
+        assert_same(rt, all.half_cut(), Some(page), "half_cut");
+        assert_equal(rt, all.cut(), chunk(page, index), "cut");
+    }
+    assert_same(rt, all.half_cut(), None, "half_cut");
+    assert_equal(rt, all.cut(), None, "cut");
+}
+
+/// The call gives what it is to give.
+fn assert_step(rt: &impl Abort, all: &mut Driven, step: Step) {
+    match step {
+        Step::Grows(class, page) => assert_equal(rt, all.grow(class), Some(Ok(page)), "grow"),
+        Step::IsFull(class) => assert_equal(rt, all.grow(class), Some(Err(Grow::NoRoom)), "grow"),
+        Step::Cuts(page, count) => assert_cuts(rt, all, page, count),
+        Step::Pops(class, page, index) => assert_equal(
+            rt,
+            all.pop(class),
+            chunk(page, index),
+            "pop",
+        ),
+        Step::IsEmpty(class) => assert_equal(rt, all.pop(class), None, "pop"),
+        Step::Backs(class, place, page, index) => {
+            assert_equal(rt, all.back(class, place), chunk(page, index), "back");
+        }
+        Step::HasFree(class, place, want) => {
+            assert_equal(
+                rt,
+                all.free_at(class, place),
+                want.and_then(named),
+                "free_at",
+            );
+        }
+        Step::HasOrder(class, place, want) => {
+            assert_equal(
+                rt,
+                all.order_at(class, place),
+                want.and_then(named),
+                "order_at",
+            );
+        }
+        Step::Owns(page, owner) => assert_equal(rt, all.owner(page), Some(owner), "owner"),
+        Step::Counts(class, pages, free) => {
+            assert_equal(rt, all.numbers(class), numbers(pages, free), "numbers");
+        }
+    }
+}
+
+#[test]
+fn one_page_is_cut_and_handed_out(rt: HostRuntime) -> Result<(), Fail> {
+    let table = ClassTable::build(rt.alloc(), &FOUR_CLASSES)?;
+    let mut all = Driven::new(rt.alloc(), &table)?;
+    for step in [
+        Step::IsEmpty(1),
+        Step::Owns(0, Owner::Untouched),
+        Step::Grows(1, 0),
+        Step::Owns(0, Owner::Class(1)),
+        Step::Owns(1, Owner::Untouched),
+        Step::Counts(1, 1, 0),
+        Step::Cuts(0, 21),
+        Step::Counts(1, 1, 21),
+        Step::HasFree(1, 0, Some((0, 20))),
+        Step::HasFree(1, 20, Some((0, 0))),
+        Step::HasFree(1, 21, None),
+        Step::IsEmpty(2),
+        Step::Pops(1, 0, 20),
+        Step::Pops(1, 0, 19),
+        Step::HasOrder(1, 0, Some((0, 20))),
+        Step::HasOrder(1, 1, Some((0, 19))),
+        Step::HasOrder(1, 2, None),
+        Step::Counts(1, 1, 19),
+        Step::Backs(1, 0, 0, 20),
+        Step::HasFree(1, 0, Some((0, 20))),
+        Step::HasOrder(1, 0, Some((0, 19))),
+        Step::Counts(1, 1, 20),
+    ] {
+        assert_step(&rt, &mut all, step);
+    }
+    assert_equal(&rt, all.totals(), granted(1), "totals");
+    assert_equal(
+        &rt,
+        all.ledger(),
+        [Entry::Granted(0, 1)].as_slice(),
+        "ledger",
+    );
+    Ok(())
+}
+
+#[test]
+fn the_limit_refuses_a_fifth_page(rt: HostRuntime) -> Result<(), Fail> {
+    let table = ClassTable::build(rt.alloc(), &FOUR_CLASSES)?;
+    let mut all = Driven::new(rt.alloc(), &table)?;
+    for step in [
+        Step::Grows(1, 0),
+        Step::Cuts(0, 21),
+        Step::Grows(2, 1),
+        Step::Cuts(1, 10),
+        Step::Grows(3, 2),
+        Step::Cuts(2, 5),
+        Step::Grows(4, 3),
+        Step::Cuts(3, 2),
+        Step::IsFull(2),
+        Step::Counts(1, 1, 21),
+        Step::Counts(2, 1, 10),
+        Step::Counts(3, 1, 5),
+        Step::Counts(4, 1, 2),
+        Step::Owns(0, Owner::Class(1)),
+        Step::Owns(3, Owner::Class(4)),
+    ] {
+        assert_step(&rt, &mut all, step);
+    }
+    assert_equal(&rt, all.totals(), granted(4), "totals");
+    let ledger = [
+        Entry::Granted(0, 1),
+        Entry::Granted(1, 2),
+        Entry::Granted(2, 3),
+        Entry::Granted(3, 4),
+    ];
+    assert_equal(&rt, all.ledger(), ledger.as_slice(), "ledger");
+    Ok(())
+}
+
+/// A small linear congruential generator.
+#[derive(Drop)]
+struct Random(u64);
+
+impl Random {
+    fn next(&mut self) -> u64 {
+        self.0 = self
+            .0
+            .wrapping_mul(6_364_136_223_846_793_005)
+            .wrapping_add(1_442_695_040_888_963_407);
+        self.0 >> 33
+    }
+}
+
+/// Both have the same lists.
+fn assert_same_class(rt: &impl Abort, all: &Driven, own: &PlainClass, class: ClassId) {
+    let want = Numbers {
+        pages: own.pages.len() as u64,
+        free: own.free.len() as u64,
+        evictions: own.evictions,
+    };
+    assert_equal(rt, all.numbers(class), Some(want), "numbers");
+    for (at, want) in own.free.iter().enumerate() {
+        assert_equal(rt, all.free_at(class, at as u64), Some(*want), "free_at");
+    }
+    assert_equal(
+        rt,
+        all.free_at(class, own.free.len() as u64),
+        None,
+        "free_at",
+    );
+    for (at, want) in own.order.iter().enumerate() {
+        assert_equal(rt, all.order_at(class, at as u64), Some(*want), "order_at");
+    }
+    assert_equal(
+        rt,
+        all.order_at(class, own.order.len() as u64),
+        None,
+        "order_at",
+    );
+}
+
+/// A walk along both lists by their first and next chunks finds the same.
+fn assert_same_walks(rt: &impl Abort, all: &Driven, own: &PlainClass, class: ClassId) {
+    assert_equal(
+        rt,
+        all.first_free(class),
+        own.free.first().copied(),
+        "first_free",
+    );
+    for at in 0..own.free.len() {
+        assert_equal(
+            rt,
+            all.next_free(class, at as u64),
+            own.free.get(at.wrapping_add(1)).copied(),
+            "next_free",
+        );
+    }
+    assert_equal(
+        rt,
+        all.first_out(class),
+        own.order.first().copied(),
+        "first_out",
+    );
+    for at in 0..own.order.len() {
+        assert_equal(
+            rt,
+            all.next_out(class, at as u64),
+            own.order.get(at.wrapping_add(1)).copied(),
+            "next_out",
+        );
+    }
+}
+
+/// Each chunk of a page that a class has is told to be free where it stands in the class's free list.
+fn assert_same_marks(rt: &impl Abort, all: &Driven, plain: &Plain) {
+    for (page, owner) in plain.owners.iter().enumerate() {
+        let place = (owner.class() as usize).wrapping_sub(1);
+        if let Some(own) = plain.classes.get(place) {
+            for index in 0..own.per_page {
+                let chunk = ChunkId {
+                    page: page as u64,
+                    index,
+                };
+                let want = own.free.iter().any(|c| *c == chunk);
+                assert_same(rt, all.is_free(chunk), Some(want), "is_free");
+            }
+        }
+    }
+}
+
+/// Both have the same lists, owners, entries and numbers.
+fn assert_same_slabs(rt: &impl Abort, all: &Driven, plain: &Plain) {
+    for (place, own) in plain.classes.iter().enumerate() {
+        assert_same_class(rt, all, own, place as u64 + 1);
+    }
+    assert_same_marks(rt, all, plain);
+    for (page, owner) in plain.owners.iter().enumerate() {
+        assert_equal(rt, all.owner(page as u64), Some(*owner), "owner");
+    }
+    assert_equal(rt, all.moving(), plain.moving, "moving");
+    assert_equal(rt, all.totals(), plain.totals(), "totals");
+    assert_equal(rt, all.ledger(), plain.ledger.as_slice(), "ledger");
+}
+
+/// All chunks of a page just given are cut.
+fn cut_all(all: &mut Driven) {
+    for _ in 0..256 {
+        if all.cut().is_none() {
+            return;
+        }
+    }
+}
+
+/// What the mover may find.
+fn found(random: &mut Random) -> Found {
+    match random.next() % 16 {
+        0 => Found::Busy,
+        1 => Found::Locked,
+        2..=5 => Found::Rescued,
+        6 | 7 => Found::Evicted,
+        8 => Found::Already,
+        _ => Found::Cleared,
+    }
+}
+
+/// One random call of both on the chunks of a class.
+fn assert_chunk_call(
+    rt: &impl Abort,
+    all: &mut Driven,
+    plain: &mut Plain,
+    random: &mut Random,
+) -> Result<(), Fail> {
+    let class = random.next() % 4 + 1;
+    let place = random.next() % 32;
+    let free = random.next() % 8;
+    match random.next() % 16 {
+        0..=6 => assert_equal(rt, all.pop(class), plain.pop(class)?, "pop"),
+        7..=10 => assert_equal(
+            rt,
+            all.back(class, place),
+            plain.back(class, place as usize)?,
+            "back",
+        ),
+        11 | 12 => assert_equal(
+            rt,
+            all.touch(class, place),
+            plain.touch(class, place as usize)?,
+            "touch",
+        ),
+        13 | 14 => assert_equal(
+            rt,
+            all.replace(class, free, place),
+            plain.replace(class, free as usize, place as usize)?,
+            "replace",
+        ),
+        _ => assert_same(rt, all.evicted(class), plain.evicted(class), "evicted"),
+    }
+    Ok(())
+}
+
+/// One random call of both on the pages of a class.
+fn assert_page_call(
+    rt: &impl Abort,
+    all: &mut Driven,
+    plain: &mut Plain,
+    random: &mut Random,
+) -> Result<(), Fail> {
+    let class = random.next() % 4 + 1;
+    match random.next() % 16 {
+        0..=2 => {
+            let want = plain.grow(class)?.ok_or(Grow::NoRoom);
+            assert_equal(rt, all.grow(class), Some(want), "grow");
+            cut_all(all);
+        }
+        3 | 4 => {
+            let src = match random.next() % 3 {
+                0 => None,
+                _ => Some(random.next() % 6),
+            };
+            let dst = random.next() % 6;
+            assert_equal(rt, all.begin(src, dst), plain.begin(src, dst)?, "begin");
+        }
+        5 => assert_same(rt, all.wrap(), plain.wrap(), "wrap"),
+        6 | 7 => {
+            assert_same(rt, all.finish(), plain.finish()?, "finish");
+            cut_all(all);
+        }
+        _ => {
+            for _ in 0..8 {
+                let wanted = found(random);
+                assert_equal(rt, all.pass(wanted), plain.pass(wanted), "pass");
+            }
+        }
+    }
+    Ok(())
+}
+
+#[test]
+fn random_calls_leave_what_plain_lists_hold(rt: HostRuntime) -> Result<(), Fail> {
+    let table = ClassTable::build(
+        rt.alloc(),
+        &Config {
+            limit: 8192,
+            ..FOUR_CLASSES
+        },
+    )?;
+    let mut moved: u64 = 0;
+    for seed in 0..16 {
+        let mut random = Random(seed);
+        let mut all = Driven::new(rt.alloc(), &table)?;
+        let mut plain = Plain::new(rt.alloc(), &table)?;
+        for _ in 0..200 {
+            assert_chunk_call(&rt, &mut all, &mut plain, &mut random)?;
+            assert_same_slabs(&rt, &all, &plain);
+            assert_page_call(&rt, &mut all, &mut plain, &mut random)?;
+            assert_same_slabs(&rt, &all, &plain);
+        }
+        moved = moved.wrapping_add(all.totals().moved);
+    }
+    assert_same(&rt, moved > 16, true, "moves ended");
+    Ok(())
+}
+
+#[test]
+fn rows_are_the_plain_lists(rt: HostRuntime) -> Result<(), Fail> {
+    let table = ClassTable::build(
+        rt.alloc(),
+        &Config {
+            limit: 6144,
+            ..FOUR_CLASSES
+        },
+    )?;
+    for seed in 100..108 {
+        let mut random = Random(seed);
+        let mut all = Driven::new(rt.alloc(), &table)?;
+        let mut plain = Plain::new(rt.alloc(), &table)?;
+        for call in 0..400 {
+            if call % 4 == 0 {
+                assert_page_call(&rt, &mut all, &mut plain, &mut random)?;
+            } else {
+                assert_chunk_call(&rt, &mut all, &mut plain, &mut random)?;
+            }
+            for (place, own) in plain.classes.iter().enumerate() {
+                let class = place as u64 + 1;
+                assert_same_class(&rt, &all, own, class);
+                assert_same_walks(&rt, &all, own, class);
+            }
+        }
+        assert_same(&rt, all.totals().granted > 1, true, "totals");
+    }
+    Ok(())
+}
+
+/// The class gets this page, and all of its chunks are cut.
+fn assert_grows(rt: &impl Abort, all: &mut Driven, class: ClassId, page: PageId) {
+    assert_equal(rt, all.grow(class), Some(Ok(page)), "grow");
+    cut_all(all);
+}
+
+/// The page that moves is cleared, and its move ends.
+fn assert_finishes(rt: &impl Abort, all: &mut Driven) {
+    for _ in 0..256 {
+        if all.pass(Found::Cleared).is_none() {
+            break;
+        }
+    }
+    assert_same(rt, all.finish(), true, "finish");
+    cut_all(all);
+}
+
+#[test]
+fn the_first_test_that_applies_refuses(rt: HostRuntime) -> Result<(), Fail> {
+    let table = ClassTable::build(rt.alloc(), &FOUR_CLASSES)?;
+    let mut all = Driven::new(rt.alloc(), &table)?;
+    for (src, dst, why) in [
+        (Some(1), 1, Reassign::Same),
+        (Some(0), 0, Reassign::Same),
+        (Some(9), 9, Reassign::Same),
+        (Some(9), 1, Reassign::BadClass),
+        (Some(0), 1, Reassign::BadClass),
+        (Some(4), 9, Reassign::BadClass),
+        (Some(4), 5, Reassign::BadClass),
+        (None, 1, Reassign::BadClass),
+        (None, 0, Reassign::BadClass),
+        (Some(4), 1, Reassign::NoSpare),
+        (Some(1), 0, Reassign::NoSpare),
+    ] {
+        assert_equal(&rt, all.begin(src, dst), Err(why), "begin");
+    }
+    assert_grows(&rt, &mut all, 1, 0);
+    assert_equal(&rt, all.begin(Some(1), 2), Err(Reassign::NoSpare), "begin");
+    assert_equal(&rt, all.begin(None, 2), Err(Reassign::BadClass), "begin");
+    assert_grows(&rt, &mut all, 1, 1);
+    assert_equal(&rt, all.begin(Some(1), 5), Err(Reassign::BadClass), "begin");
+    assert_equal(&rt, all.begin(None, 1), Err(Reassign::BadClass), "begin");
+    assert_equal(&rt, all.moving(), None, "moving");
+    assert_equal(&rt, all.begin(None, 2), Ok(()), "begin");
+    for (src, dst) in [(Some(1), 1), (Some(9), 1), (None, 3), (Some(1), 0)] {
+        assert_equal(&rt, all.begin(src, dst), Err(Reassign::Busy), "begin");
+    }
+    Ok(())
+}
+
+#[test]
+fn a_page_goes_through_the_pool(rt: HostRuntime) -> Result<(), Fail> {
+    let table = ClassTable::build(rt.alloc(), &FOUR_CLASSES)?;
+    let mut all = Driven::new(rt.alloc(), &table)?;
+    for page in 0..4 {
+        assert_grows(&rt, &mut all, 4, page);
+    }
+    for page in 0..2 {
+        assert_equal(&rt, all.begin(Some(4), 0), Ok(()), "begin");
+        assert_equal(
+            &rt,
+            all.owner(page),
+            Some(Owner::Moving { src: 4, dst: 0 }),
+            "owner",
+        );
+        assert_finishes(&rt, &mut all);
+        assert_equal(&rt, all.owner(page), Some(Owner::Pool), "owner");
+        assert_same(&rt, all.half_cut(), None, "half_cut");
+    }
+    assert_same(&rt, all.totals().pool, 2, "pool");
+    // The page that came last is the first to leave.
+    assert_equal(&rt, all.grow(3), Some(Ok(1)), "grow");
+    assert_cuts(&rt, &mut all, 1, 5);
+    assert_grows(&rt, &mut all, 2, 0);
+    assert_equal(&rt, all.grow(1), Some(Err(Grow::NoRoom)), "grow");
+    assert_equal(&rt, all.pop(3), chunk(1, 4), "pop");
+    assert_equal(
+        &rt,
+        all.totals(),
+        Totals {
+            moved: 2,
+            ..granted(4)
+        },
+        "totals",
+    );
+    let ledger = [
+        Entry::Granted(0, 4),
+        Entry::Granted(1, 4),
+        Entry::Granted(2, 4),
+        Entry::Granted(3, 4),
+        Entry::Began(0, 4, 0),
+        Entry::Ended(0, 0),
+        Entry::Began(1, 4, 0),
+        Entry::Ended(1, 0),
+        Entry::Taken(1, 3),
+        Entry::Taken(0, 2),
+    ];
+    assert_equal(&rt, all.ledger(), ledger.as_slice(), "ledger");
+    Ok(())
+}
+
+#[test]
+fn what_a_move_finds_is_counted(rt: HostRuntime) -> Result<(), Fail> {
+    let table = ClassTable::build(rt.alloc(), &FOUR_CLASSES)?;
+    let mut all = Driven::new(rt.alloc(), &table)?;
+    assert_grows(&rt, &mut all, 3, 0);
+    assert_grows(&rt, &mut all, 3, 1);
+    assert_equal(&rt, all.begin(None, 4), Ok(()), "begin");
+    for wanted in [
+        Found::Rescued,
+        Found::Busy,
+        Found::Evicted,
+        Found::Locked,
+        Found::Rescued,
+    ] {
+        assert_equal(&rt, all.pass(wanted), Some(wanted), "pass");
+    }
+    assert_equal(&rt, all.pass(Found::Cleared), None, "at the page's end");
+    assert_same(&rt, all.finish(), false, "two chunks are left");
+    assert_same(&rt, all.wrap(), true, "wrap");
+    for want in [
+        Found::Already,
+        Found::Cleared,
+        Found::Already,
+        Found::Cleared,
+        Found::Already,
+    ] {
+        assert_equal(&rt, all.pass(Found::Cleared), Some(want), "pass");
+    }
+    assert_same(&rt, all.wrap(), false, "nothing held it up");
+    assert_same(&rt, all.finish(), true, "finish");
+    assert_cuts(&rt, &mut all, 0, 2);
+    let totals = Totals {
+        granted: 2,
+        pool: 0,
+        moved: 1,
+        rescues: 2,
+        evictions_nomem: 1,
+        busy: 2,
+    };
+    assert_equal(&rt, all.totals(), totals, "totals");
+    assert_equal(&rt, all.numbers(3), numbers(1, 5), "numbers");
+    assert_equal(&rt, all.numbers(4), numbers(1, 2), "numbers");
+    Ok(())
+}
+
+#[test]
+fn the_automover_has_three_modes(rt: HostRuntime) -> Result<(), Fail> {
+    let table = ClassTable::build(rt.alloc(), &FOUR_CLASSES)?;
+    let mut all = Driven::new(rt.alloc(), &table)?;
+    assert_same(&rt, all.automove(), 0, "automove");
+    for (mode, is, now) in [(2, true, 2), (3, false, 2), (1, true, 1)] {
+        assert_same(&rt, all.set_automove(mode), is, "set_automove");
+        assert_same(&rt, all.automove(), now, "automove");
+    }
+    Ok(())
+}

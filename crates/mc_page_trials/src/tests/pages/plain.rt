@@ -1,0 +1,346 @@
+//! The same by plain lists, the head of each free list first. A page is cut as soon as a class gets it.
+use mc_classes::{ClassId, ClassTable, PageId};
+use mc_pages::{ChunkId, Entry, Found, Moving, Owner, Reassign, Totals};
+use std::alloc::{AllocError, Global};
+
+/// One class's pages and chunks.
+#[derive(Drop)]
+pub(super) struct PlainClass {
+    pub(super) per_page: u64,
+    pub(super) evictions: u64,
+    pub(super) pages: Vec<PageId>,
+    pub(super) free: Vec<ChunkId>,
+    pub(super) order: Vec<ChunkId>,
+}
+
+/// All classes, who owns each page, and the page that moves.
+#[derive(Drop)]
+pub(super) struct Plain {
+    pub(super) classes: Vec<PlainClass>,
+    pub(super) owners: Vec<Owner>,
+    pub(super) ledger: Vec<Entry>,
+    pub(super) moving: Option<Moving>,
+    pool: Vec<PageId>,
+    counts: Totals,
+    cursor: ClassId,
+}
+
+impl PlainClass {
+    /// Whether the chunk was in a list, which it leaves.
+    fn leave(&mut self, chunk: ChunkId) -> bool {
+        leave(&mut self.free, chunk) || leave(&mut self.order, chunk)
+    }
+}
+
+fn leave(chunks: &mut Vec<ChunkId>, chunk: ChunkId) -> bool {
+    let Some(place) = chunks.iter().position(|c| *c == chunk) else {
+        return false;
+    };
+    if place < chunks.len() {
+        chunks.remove(place);
+    }
+    true
+}
+
+impl Plain {
+    pub(super) fn new(alloc: Global, table: &ClassTable) -> Result<Plain, AllocError> {
+        let mut classes = Vec::new(alloc);
+        for place in 0..table.count() {
+            classes.push(PlainClass {
+                per_page: table.per_page(place + 1),
+                evictions: 0,
+                pages: Vec::new(alloc),
+                free: Vec::new(alloc),
+                order: Vec::new(alloc),
+            })?;
+        }
+        Ok(Plain {
+            classes,
+            owners: vec![in alloc; Owner::Untouched; table.pages() as usize]?,
+            ledger: Vec::new(alloc),
+            moving: None,
+            pool: Vec::new(alloc),
+            counts: Totals {
+                granted: 0,
+                pool: 0,
+                moved: 0,
+                rescues: 0,
+                evictions_nomem: 0,
+                busy: 0,
+            },
+            cursor: table.count(),
+        })
+    }
+
+    pub(super) fn totals(&self) -> Totals {
+        Totals {
+            pool: self.pool.len() as u64,
+            ..self.counts
+        }
+    }
+
+    fn class(&mut self, class: ClassId) -> Option<&mut PlainClass> {
+        self.classes.get_mut((class as usize).checked_sub(1)?)
+    }
+
+    fn own(&mut self, page: PageId, owner: Owner) {
+        if let Some(place) = self.owners.get_mut(page as usize) {
+            *place = owner;
+        }
+    }
+
+    /// The class gets the page with all its chunks, the last of them first.
+    fn give(&mut self, class: ClassId, page: PageId) -> Result<(), AllocError> {
+        self.own(page, Owner::Class(class));
+        if let Some(own) = self.class(class) {
+            own.pages.push(page)?;
+            for index in 0..own.per_page {
+                own.free.insert(0, ChunkId { page, index })?;
+            }
+        }
+        Ok(())
+    }
+
+    pub(super) fn grow(&mut self, class: ClassId) -> Result<Option<PageId>, AllocError> {
+        if let Some(page) = self.pool.pop() {
+            self.ledger.push(Entry::Taken(page, class))?;
+            self.give(class, page)?;
+            return Ok(Some(page));
+        }
+        let Some(place) = self.owners.iter().position(|o| *o == Owner::Untouched) else {
+            return Ok(None);
+        };
+        let page = place as PageId;
+        self.counts.granted = self.counts.granted.wrapping_add(1);
+        self.ledger.push(Entry::Granted(page, class))?;
+        self.give(class, page)?;
+        Ok(Some(page))
+    }
+
+    pub(super) fn pop(&mut self, class: ClassId) -> Result<Option<ChunkId>, AllocError> {
+        let Some(own) = self.class(class) else {
+            return Ok(None);
+        };
+        if own.free.is_empty() {
+            return Ok(None);
+        }
+        let chunk = own.free.remove(0);
+        own.order.push(chunk)?;
+        Ok(Some(chunk))
+    }
+
+    pub(super) fn back(
+        &mut self,
+        class: ClassId,
+        place: usize,
+    ) -> Result<Option<ChunkId>, AllocError> {
+        let Some(own) = self.class(class) else {
+            return Ok(None);
+        };
+        if place >= own.order.len() {
+            return Ok(None);
+        }
+        let chunk = own.order.remove(place);
+        own.free.insert(0, chunk)?;
+        Ok(Some(chunk))
+    }
+
+    pub(super) fn touch(
+        &mut self,
+        class: ClassId,
+        place: usize,
+    ) -> Result<Option<ChunkId>, AllocError> {
+        let Some(own) = self.class(class) else {
+            return Ok(None);
+        };
+        if place >= own.order.len() {
+            return Ok(None);
+        }
+        let chunk = own.order.remove(place);
+        own.order.push(chunk)?;
+        Ok(Some(chunk))
+    }
+
+    pub(super) fn replace(
+        &mut self,
+        class: ClassId,
+        free: usize,
+        place: usize,
+    ) -> Result<Option<(ChunkId, ChunkId)>, AllocError> {
+        let Some(own) = self.class(class) else {
+            return Ok(None);
+        };
+        if free >= own.free.len() || place >= own.order.len() {
+            return Ok(None);
+        }
+        let old = own.order[place];
+        let new = own.free.remove(free);
+        own.order.insert(place, new)?;
+        Ok(Some((new, old)))
+    }
+
+    pub(super) fn evicted(&mut self, class: ClassId) -> bool {
+        let Some(own) = self.class(class) else {
+            return false;
+        };
+        own.evictions = own.evictions.wrapping_add(1);
+        true
+    }
+
+    fn pages_of(&mut self, class: ClassId) -> usize {
+        match self.class(class) {
+            Some(own) => own.pages.len(),
+            None => 0,
+        }
+    }
+
+    /// Once round all classes, from behind the cursor.
+    fn pick(&mut self, dst: u64) -> Option<ClassId> {
+        let count = self.classes.len() as u64;
+        for step in 0..count {
+            let class = self.cursor.wrapping_add(step).checked_rem(count)?;
+            let class = class.wrapping_add(1);
+            if class != dst && self.pages_of(class) > 1 {
+                return Some(class);
+            }
+        }
+        None
+    }
+
+    fn source(&mut self, src: Option<u64>, dst: u64) -> Result<ClassId, Reassign> {
+        if self.moving.is_some() {
+            return Err(Reassign::Busy);
+        }
+        if src == Some(dst) {
+            return Err(Reassign::Same);
+        }
+        let source = match src {
+            Some(src) => src,
+            None => self.pick(dst).ok_or(Reassign::BadClass)?,
+        };
+        let classes = 1..self.classes.len() as u64 + 1;
+        if !classes.contains(&source) || dst >= classes.end {
+            return Err(Reassign::BadClass);
+        }
+        match self.pages_of(source) {
+            0 | 1 => Err(Reassign::NoSpare),
+            _ => Ok(source),
+        }
+    }
+
+    pub(super) fn begin(
+        &mut self,
+        src: Option<u64>,
+        dst: u64,
+    ) -> Result<Result<(), Reassign>, AllocError> {
+        let source = match self.source(src, dst) {
+            Ok(source) => source,
+            Err(why) => return Ok(Err(why)),
+        };
+        let Some(own) = self.class(source) else {
+            return Ok(Err(Reassign::BadClass));
+        };
+        let Some(page) = own.pages.first().copied() else {
+            return Ok(Err(Reassign::NoSpare));
+        };
+        self.own(page, Owner::Moving { src: source, dst });
+        self.ledger.push(Entry::Began(page, source, dst))?;
+        self.moving = Some(Moving {
+            page,
+            src: source,
+            dst,
+            at: 0,
+            busy: 0,
+        });
+        if src.is_none() {
+            self.cursor = source;
+        }
+        Ok(Ok(()))
+    }
+
+    pub(super) fn pass(&mut self, wanted: Found) -> Option<Found> {
+        let moving = self.moving?;
+        let own = self.class(moving.src)?;
+        if moving.at >= own.per_page {
+            return None;
+        }
+        let chunk = ChunkId {
+            page: moving.page,
+            index: moving.at,
+        };
+        let is_held = matches!(wanted, Found::Busy | Found::Locked);
+        let found = if is_held || own.leave(chunk) {
+            wanted
+        } else {
+            Found::Already
+        };
+        self.moving = Some(Moving {
+            at: moving.at.wrapping_add(1),
+            busy: moving.busy.wrapping_add(u64::from(is_held)),
+            ..moving
+        });
+        match found {
+            Found::Rescued => self.counts.rescues = self.counts.rescues.wrapping_add(1),
+            Found::Evicted => {
+                self.counts.evictions_nomem = self.counts.evictions_nomem.wrapping_add(1);
+            }
+            _ => {}
+        }
+        Some(found)
+    }
+
+    /// The move that runs, where its pass is at the page's end.
+    fn passed(&mut self) -> Option<Moving> {
+        let moving = self.moving?;
+        let own = self.class(moving.src)?;
+        if moving.at == own.per_page {
+            Some(moving)
+        } else {
+            None
+        }
+    }
+
+    pub(super) fn wrap(&mut self) -> bool {
+        let Some(moving) = self.passed() else {
+            return false;
+        };
+        if moving.busy == 0 {
+            return false;
+        }
+        self.counts.busy = self.counts.busy.wrapping_add(moving.busy);
+        self.moving = Some(Moving {
+            at: 0,
+            busy: 0,
+            ..moving
+        });
+        true
+    }
+
+    pub(super) fn finish(&mut self) -> Result<bool, AllocError> {
+        let Some(
+            Moving {
+                page,
+                src,
+                dst,
+                busy: 0,
+                ..
+            },
+        ) = self.passed()
+        else {
+            return Ok(false);
+        };
+        if let Some(own) = self.class(src) {
+            own.pages.retain(|p| *p != page);
+        }
+        self.moving = None;
+        self.counts.moved = self.counts.moved.wrapping_add(1);
+        self.ledger.push(Entry::Ended(page, dst))?;
+        if dst == 0 {
+            self.own(page, Owner::Pool);
+            self.pool.push(page)?;
+        } else {
+            self.give(dst, page)?;
+        }
+        Ok(true)
+    }
+}

@@ -1,0 +1,328 @@
+//! Calls of a stripe, worked ones and many at random.
+ghost use Rattle.std.specs.Prelude.{◌≡◌, false, IfSome};
+
+mod plain;
+
+use super::{assert_equal, assert_same};
+use mc_pages::ChunkId;
+use mc_stripe::{Call, HandId, Key, NoMemory, Stamp, Stripe};
+use plain::Plain;
+use std::process::Abort;
+use std::test::Fail;
+
+/// A call that is tried: on a stripe it is made where its conditions hold.
+#[derive(Clone, Copy)]
+enum Try {
+    Link(HandId, Key, ChunkId, Stamp),
+    Unlink(HandId, Key),
+    Got(HandId, Key),
+    Evict(HandId, Key),
+    Lift(Key),
+    Rescue(HandId, Key, ChunkId),
+}
+
+use Try::{Evict, Got, Lift, Link, Rescue, Unlink};
+
+/// Whether another key than this one is aside.
+fn another_is_aside(aside: Option<Key>, key: Key) -> bool
+    ensures { result ≡ false → IfSome aside (λ other. other ≡ key) }
+{
+    match aside {
+        Some(other) => other != key,
+        None => false,
+    }
+}
+
+/// Makes the call where its conditions hold, and says whether they did.
+fn made(stripe: &mut Stripe, call: Try) -> bool {
+    let aside = stripe.aside();
+    match call {
+        Link(hand, key, chunk, stamp) => {
+            if !stripe.is_ready() || stripe.find(key).is_some() || another_is_aside(aside, key) {
+                return false;
+            }
+            stripe.link(hand, key, chunk, stamp);
+        }
+        Unlink(hand, key) => {
+            if !stripe.is_ready() || aside == Some(key) {
+                return false;
+            }
+            stripe.unlink(hand, key);
+        }
+        Got(hand, key) => {
+            if !stripe.is_ready() || aside == Some(key) {
+                return false;
+            }
+            stripe.got(hand, key);
+        }
+        Evict(hand, key) => {
+            if !stripe.is_ready() || stripe.find(key).is_none() {
+                return false;
+            }
+            stripe.evict(hand, key);
+        }
+        Lift(key) => {
+            if aside.is_some() || stripe.find(key).is_none() {
+                return false;
+            }
+            stripe.lift(key);
+        }
+        Rescue(hand, key, chunk) => {
+            if !stripe.is_ready() || aside != Some(key) {
+                return false;
+            }
+            stripe.rescue(hand, key, chunk);
+        }
+    }
+    true
+}
+
+/// A chunk of page 0.
+fn chunk(index: u64) -> ChunkId {
+    ChunkId { page: 0, index }
+}
+
+/// Where an item is that a test expects.
+fn place((index, stamp): (u64, Stamp)) -> (ChunkId, Stamp) {
+    (chunk(index), stamp)
+}
+
+/// A call, and what the stripe then has: the place of key 1 in the index, the key aside, and the last entry of the
+/// history.
+#[derive(Clone, Copy)]
+struct Row {
+    call: Try,
+    first: Option<(u64, Stamp)>,
+    aside: Option<Key>,
+    last: Option<Call>,
+}
+
+/// Room is made, the call is made, and the stripe has what it is to have.
+fn assert_row(rt: &impl Abort, stripe: &mut Stripe, row: Row) -> Result<(), Fail> {
+    stripe.reserve()?;
+    assert_same(rt, stripe.is_ready(), true, "is_ready");
+    assert_same(rt, made(stripe, row.call), true, "made");
+    let is_lift = matches!(row.call, Lift(_));
+    assert_same(rt, stripe.is_ready(), is_lift, "is_ready");
+    assert_equal(rt, stripe.find(1), row.first.map(place), "find");
+    assert_same(rt, stripe.aside(), row.aside, "aside");
+    assert_equal(rt, stripe.history().last().copied(), row.last, "history");
+    Ok(())
+}
+
+#[test]
+fn each_call_leaves_its_entry(rt: HostRuntime) -> Result<(), Fail> {
+    let mut stripe = Stripe::new(rt.alloc());
+    let rows = [
+        (Got(0, 1), None, None, Some(Call::Get(0, 1, None))),
+        (Unlink(0, 1), None, None, Some(Call::Delete(0, 1, false))),
+        (
+            Link(1, 1, chunk(4), 7),
+            Some((4, 7)),
+            None,
+            Some(Call::Set(1, 1, 7)),
+        ),
+        (
+            Got(2, 1),
+            Some((4, 7)),
+            None,
+            Some(Call::Get(2, 1, Some(7))),
+        ),
+        // Another item under the key: the old entry is lifted, and the new one's Set stands for both.
+        (Lift(1), None, Some(1), Some(Call::Get(2, 1, Some(7)))),
+        (
+            Link(1, 1, chunk(5), 8),
+            Some((5, 8)),
+            None,
+            Some(Call::Set(1, 1, 8)),
+        ),
+        // The item goes into another chunk, and keeps its stamp.
+        (Lift(1), None, Some(1), Some(Call::Set(1, 1, 8))),
+        (
+            Rescue(3, 1, chunk(6)),
+            Some((6, 8)),
+            None,
+            Some(Call::Rescue(3, 1)),
+        ),
+        (
+            Link(1, 9, chunk(0), 9),
+            Some((6, 8)),
+            None,
+            Some(Call::Set(1, 9, 9)),
+        ),
+        // While a key is aside, others are looked up, deleted and evicted.
+        (Lift(1), None, Some(1), Some(Call::Set(1, 9, 9))),
+        (Got(0, 9), None, Some(1), Some(Call::Get(0, 9, Some(9)))),
+        (Unlink(0, 5), None, Some(1), Some(Call::Delete(0, 5, false))),
+        (Evict(0, 9), None, Some(1), Some(Call::Evict(0, 9))),
+        (
+            Rescue(0, 1, chunk(7)),
+            Some((7, 8)),
+            None,
+            Some(Call::Rescue(0, 1)),
+        ),
+        (Unlink(2, 1), None, None, Some(Call::Delete(2, 1, true))),
+        (Got(2, 1), None, None, Some(Call::Get(2, 1, None))),
+        (
+            Link(2, 1, chunk(1), 10),
+            Some((1, 10)),
+            None,
+            Some(Call::Set(2, 1, 10)),
+        ),
+        (Evict(0, 1), None, None, Some(Call::Evict(0, 1))),
+    ];
+    for (call, first, aside, last) in rows {
+        let row = Row {
+            call,
+            first,
+            aside,
+            last,
+        };
+        assert_row(&rt, &mut stripe, row)?;
+    }
+    assert_same(&rt, stripe.history().len(), 15, "history");
+    Ok(())
+}
+
+/// A small linear congruential generator.
+#[derive(Drop)]
+struct Random(u64);
+
+impl Random {
+    fn next(&mut self) -> u64 {
+        self.0 = self
+            .0
+            .wrapping_mul(6_364_136_223_846_793_005)
+            .wrapping_add(1_442_695_040_888_963_407);
+        self.0 >> 33
+    }
+}
+
+/// A call on one of 24 keys of a stripe. The stamp of an item that is stored is the number of the try.
+fn any_call(random: &mut Random, number: u64) -> Try {
+    let hand = random.next() % 4;
+    let key = random.next() % 24 * 64 + 3;
+    let chunk = ChunkId {
+        page: random.next() % 4,
+        index: random.next() % 256,
+    };
+    match random.next() % 16 {
+        0..=5 => Link(hand, key, chunk, number),
+        6 | 7 => Unlink(hand, key),
+        8 | 9 => Got(hand, key),
+        10 => Evict(hand, key),
+        11 | 12 => Lift(key),
+        _ => Rescue(hand, key, chunk),
+    }
+}
+
+/// Both have the same items, the same item aside, the same room, and histories that end alike.
+fn assert_same_lists(rt: &impl Abort, stripe: &Stripe, plain: &Plain) {
+    for key in 0..24 {
+        let key = key * 64 + 3;
+        assert_equal(rt, stripe.find(key), plain.find(key), "find");
+    }
+    assert_same(rt, stripe.aside(), plain.aside(), "aside");
+    assert_same(rt, stripe.is_ready(), plain.ready, "is_ready");
+    assert_same(rt, stripe.history().len(), plain.history.len(), "history");
+    assert_equal(rt, stripe.history().last(), plain.history.last(), "history");
+}
+
+/// Makes room, at the second try where memory was refused at the first. A refusal leaves all as before.
+fn reserve_at_last(
+    rt: &impl Abort,
+    stripe: &mut Stripe,
+    plain: &mut Plain,
+) -> Result<(), NoMemory> {
+    if stripe.reserve().is_err() {
+        assert_same_lists(rt, stripe, plain);
+        stripe.reserve()?;
+    }
+    plain.ready = true;
+    Ok(())
+}
+
+#[test]
+fn random_calls_leave_what_a_plain_list_holds(rt: HostRuntime) -> Result<(), Fail> {
+    let mut rescued: u64 = 0;
+    for seed in 0..8 {
+        let mut random = Random(seed);
+        let mut stripe = Stripe::new(rt.alloc());
+        let mut plain = Plain::new(rt.alloc());
+        for number in 0..1000 {
+            if random.next() % 8 != 0 {
+                reserve_at_last(&rt, &mut stripe, &mut plain)?;
+            }
+            let mut call = any_call(&mut random, number);
+            if let (Rescue(hand, _, chunk), Some(key)) = (call, stripe.aside()) {
+                call = Rescue(hand, key, chunk);
+            }
+            let is_made = made(&mut stripe, call);
+            assert_same(&rt, is_made, plain.made(call)?, "made");
+            if is_made && matches!(call, Rescue(_, _, _)) {
+                rescued = rescued.saturating_add(1);
+            }
+            assert_same_lists(&rt, &stripe, &plain);
+        }
+        assert_equal(&rt, stripe.history(), plain.history.as_slice(), "history");
+    }
+    assert_same(&rt, rescued > 200, true, "many items were rescued");
+    Ok(())
+}
+
+/// As many keys as a memory has chunks, all of one stripe of 64.
+#[test]
+fn a_full_stripe_finds_each_key(rt: HostRuntime) -> Result<(), Fail> {
+    let mut stripe = Stripe::new(rt.alloc());
+    for number in 0..16_384 {
+        stripe.reserve()?;
+        let chunk = ChunkId {
+            page: number / 256,
+            index: number % 256,
+        };
+        assert_same(
+            &rt,
+            made(&mut stripe, Link(1, number * 64, chunk, number)),
+            true,
+            "made",
+        );
+    }
+    for number in 0..16_384 {
+        let chunk = ChunkId {
+            page: number / 256,
+            index: number % 256,
+        };
+        assert_equal(&rt, stripe.find(number * 64), Some((chunk, number)), "find");
+        assert_equal(&rt, stripe.find(number * 64 + 1), None, "find");
+        stripe.reserve()?;
+        assert_same(&rt, made(&mut stripe, Evict(1, number * 64)), true, "made");
+        assert_equal(&rt, stripe.find(number * 64), None, "find");
+    }
+    assert_same(&rt, stripe.history().len(), 32_768, "history");
+    Ok(())
+}
+
+/// Where there is room, no memory is asked for.
+#[test]
+fn room_is_made_once(rt: HostRuntime) -> Result<(), Fail> {
+    let mut stripe = Stripe::new(rt.alloc());
+    assert_same(&rt, made(&mut stripe, Got(0, 1)), false, "made");
+    stripe.reserve()?;
+    assert!(rt; stripe.reserve().is_ok());
+    assert_same(&rt, made(&mut stripe, Got(0, 1)), true, "made");
+    assert_same(&rt, made(&mut stripe, Got(0, 1)), false, "made");
+    assert_equal(
+        &rt,
+        stripe.history(),
+        [Call::Get(0, 1, None)].as_slice(),
+        "history",
+    );
+    Ok(())
+}
+
+#[test]
+fn a_refusal_is_told(rt: HostRuntime) -> Result<(), Fail> {
+    let text = NoMemory.to_string(rt.alloc())?;
+    assert_same(&rt, text.as_str(), "out of memory", "the text");
+    Ok(())
+}

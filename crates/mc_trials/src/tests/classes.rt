@@ -1,0 +1,598 @@
+//! Class tables: their sizes, the class of an item, and which configurations are refused.
+mod vectors;
+
+use super::{FOUR_CLASSES, assert_same};
+use mc_classes::{ClassId, ClassTable, Config, ConfigError};
+use std::alloc::Global;
+use std::process::Abort;
+use std::test::Fail;
+use vectors::PRINTED;
+
+/// Sixty-two classes of 504 bytes and one of 512.
+const SIXTY_THREE: Config = Config {
+    first: 500,
+    num: 1001,
+    den: 1000,
+    ..FOUR_CLASSES
+};
+
+/// The classes are these, with as many chunks as fit in a page.
+fn assert_classes(rt: &impl Abort, table: &ClassTable, sizes: &[u64], name: &str) {
+    assert!(rt; table.count() == sizes.len() as u64, "{name}");
+    for (place, size) in sizes.iter().enumerate() {
+        let class = place as u64 + 1;
+        assert_same(rt, table.size(class), *size, name);
+        let chunks = table.page().checked_div(*size);
+        assert_same(rt, Some(table.per_page(class)), chunks, name);
+    }
+}
+
+#[test]
+fn sizes_and_chunks(rt: HostRuntime) -> Result<(), Fail> {
+    let rows: [(&str, Config, &[u64], &[u64]); 4] = [
+        (
+            "four classes",
+            FOUR_CLASSES,
+            &[48, 96, 192, 512],
+            &[21, 10, 5, 2],
+        ),
+        (
+            "fine factor",
+            Config {
+                num: 5,
+                den: 4,
+                ..FOUR_CLASSES
+            },
+            &[48, 64, 80, 104, 136, 176, 224, 280, 352, 512],
+            &[21, 16, 12, 9, 7, 5, 4, 3, 2, 2],
+        ),
+        (
+            "one class",
+            Config {
+                first: 400,
+                ..FOUR_CLASSES
+            },
+            &[512],
+            &[2],
+        ),
+        (
+            "256 chunks",
+            Config {
+                page: 16384,
+                limit: 65536,
+                first: 64,
+                ..FOUR_CLASSES
+            },
+            &[64, 128, 512],
+            &[256, 128, 32],
+        ),
+    ];
+    for (name, config, sizes, chunks) in rows {
+        let table = ClassTable::build(rt.alloc(), &config)?;
+        assert_classes(&rt, &table, sizes, name);
+        assert_same(&rt, table.page(), config.page, name);
+        assert_same(&rt, table.limit(), config.limit, name);
+        assert_same(&rt, table.pages(), 4, name);
+        for (place, chunk) in chunks.iter().enumerate() {
+            assert!(rt; (place as u64) < table.count());
+            assert_same(&rt, table.per_page(place as u64 + 1), *chunk, name);
+        }
+    }
+    Ok(())
+}
+
+#[test]
+fn sixty_three_classes(rt: HostRuntime) -> Result<(), Fail> {
+    let table = ClassTable::build(rt.alloc(), &SIXTY_THREE)?;
+    assert!(rt; table.count() == 63);
+    for class in 1..63 {
+        assert_same(
+            &rt,
+            table.size(class),
+            504,
+            "the size of a class before the last",
+        );
+    }
+    assert_same(&rt, table.size(63), 512, "the last size");
+    Ok(())
+}
+
+/// An item of so many bytes goes to this class.
+fn assert_class_for(
+    rt: &impl Abort,
+    table: &ClassTable,
+    rows: &[(u64, Option<ClassId>)],
+    name: &str,
+) {
+    for (bytes, class) in rows {
+        assert_same(
+            rt,
+            (*bytes, table.class_for(*bytes)),
+            (*bytes, *class),
+            name,
+        );
+    }
+}
+
+#[test]
+fn class_of_an_item(rt: HostRuntime) -> Result<(), Fail> {
+    let rows = [
+        (0, Some(1)),
+        (48, Some(1)),
+        (49, Some(2)),
+        (96, Some(2)),
+        (97, Some(3)),
+        (192, Some(3)),
+        (193, Some(4)),
+        // 61 words
+        (512, Some(4)),
+        (520, None),
+        (u64::MAX, None),
+    ];
+    let table = ClassTable::build(rt.alloc(), &FOUR_CLASSES)?;
+    assert_class_for(&rt, &table, &rows, "the class of an item");
+    let rows = [
+        (504, Some(1)),
+        (505, Some(63)),
+        (512, Some(63)),
+        (513, None),
+    ];
+    let table = ClassTable::build(rt.alloc(), &SIXTY_THREE)?;
+    assert_class_for(&rt, &table, &rows, "the class of an item, of sixty-three");
+    Ok(())
+}
+
+#[test]
+fn sizes_that_memcached_printed(rt: HostRuntime) -> Result<(), Fail> {
+    for row in &PRINTED {
+        let config = Config {
+            page: row.page,
+            limit: row.page,
+            first: row.first,
+            num: row.num,
+            den: row.den,
+            max: row.max,
+            ..FOUR_CLASSES
+        };
+        let table = ClassTable::build(rt.alloc(), &config)?;
+        assert_classes(&rt, &table, row.sizes, row.options);
+    }
+    Ok(())
+}
+
+/// The configuration is refused with this error.
+fn assert_refused(rt: &impl Abort, alloc: Global, name: &str, config: Config, wanted: ConfigError) {
+    let found = ClassTable::build(alloc, &config).err();
+    assert_same(rt, found, Some(wanted), name);
+}
+
+#[test]
+fn refusals(rt: HostRuntime) {
+    let alloc = rt.alloc();
+    let largest_pages = Config {
+        page: 16384,
+        limit: 65536,
+        ..FOUR_CLASSES
+    };
+    let all_zero = Config {
+        page: 0,
+        limit: 0,
+        first: 0,
+        num: 0,
+        den: 0,
+        max: 0,
+        stripes: 0,
+        bulk: 0,
+    };
+    // each configuration fails one test
+    assert_refused(
+        &rt,
+        alloc,
+        "page 1028",
+        Config {
+            page: 1028,
+            ..FOUR_CLASSES
+        },
+        ConfigError::PageSize,
+    );
+    assert_refused(
+        &rt,
+        alloc,
+        "page 56, limit 56, max 56",
+        Config {
+            page: 56,
+            limit: 56,
+            max: 56,
+            ..FOUR_CLASSES
+        },
+        ConfigError::PageSize,
+    );
+    assert_refused(
+        &rt,
+        alloc,
+        "page 16392, limit 16392, first 72",
+        Config {
+            page: 16392,
+            limit: 16392,
+            first: 72,
+            ..FOUR_CLASSES
+        },
+        ConfigError::PageSize,
+    );
+    assert_refused(
+        &rt,
+        alloc,
+        "first 23",
+        Config {
+            first: 23,
+            ..FOUR_CLASSES
+        },
+        ConfigError::FirstSize,
+    );
+    assert_refused(
+        &rt,
+        alloc,
+        "den 0",
+        Config {
+            den: 0,
+            ..FOUR_CLASSES
+        },
+        ConfigError::Factor,
+    );
+    assert_refused(
+        &rt,
+        alloc,
+        "num 1",
+        Config {
+            num: 1,
+            ..FOUR_CLASSES
+        },
+        ConfigError::Factor,
+    );
+    assert_refused(
+        &rt,
+        alloc,
+        "num 65536",
+        Config {
+            num: 65536,
+            ..FOUR_CLASSES
+        },
+        ConfigError::Factor,
+    );
+    assert_refused(
+        &rt,
+        alloc,
+        "max 508",
+        Config {
+            max: 508,
+            ..FOUR_CLASSES
+        },
+        ConfigError::ChunkMax,
+    );
+    assert_refused(
+        &rt,
+        alloc,
+        "max 40",
+        Config {
+            max: 40,
+            ..FOUR_CLASSES
+        },
+        ConfigError::ChunkMax,
+    );
+    assert_refused(
+        &rt,
+        alloc,
+        "max 1032",
+        Config {
+            max: 1032,
+            ..FOUR_CLASSES
+        },
+        ConfigError::ChunkMax,
+    );
+    assert_refused(
+        &rt,
+        alloc,
+        "limit 1023",
+        Config {
+            limit: 1023,
+            ..FOUR_CLASSES
+        },
+        ConfigError::Limit,
+    );
+    assert_refused(
+        &rt,
+        alloc,
+        "limit 66560",
+        Config {
+            limit: 66560,
+            ..FOUR_CLASSES
+        },
+        ConfigError::Limit,
+    );
+    assert_refused(
+        &rt,
+        alloc,
+        "stripes 0",
+        Config {
+            stripes: 0,
+            ..FOUR_CLASSES
+        },
+        ConfigError::Stripes,
+    );
+    assert_refused(
+        &rt,
+        alloc,
+        "stripes 65",
+        Config {
+            stripes: 65,
+            ..FOUR_CLASSES
+        },
+        ConfigError::Stripes,
+    );
+    assert_refused(
+        &rt,
+        alloc,
+        "the largest pages",
+        largest_pages,
+        ConfigError::TooManyChunks,
+    );
+    assert_refused(
+        &rt,
+        alloc,
+        "bulk 0",
+        Config {
+            bulk: 0,
+            ..FOUR_CLASSES
+        },
+        ConfigError::Bulk,
+    );
+    assert_refused(
+        &rt,
+        alloc,
+        "bulk 257",
+        Config {
+            bulk: 257,
+            ..FOUR_CLASSES
+        },
+        ConfigError::Bulk,
+    );
+    // of several tests that fail, the first is told
+    assert_refused(&rt, alloc, "all zero", all_zero, ConfigError::PageSize);
+    assert_refused(
+        &rt,
+        alloc,
+        "all zero but page 1024",
+        Config {
+            page: 1024,
+            ..all_zero
+        },
+        ConfigError::FirstSize,
+    );
+    assert_refused(
+        &rt,
+        alloc,
+        "all zero but page 1024, first 48",
+        Config {
+            page: 1024,
+            first: 48,
+            ..all_zero
+        },
+        ConfigError::Factor,
+    );
+    assert_refused(
+        &rt,
+        alloc,
+        "the largest pages, max 0, limit 0, stripes 0, bulk 0",
+        Config {
+            max: 0,
+            limit: 0,
+            stripes: 0,
+            bulk: 0,
+            ..largest_pages
+        },
+        ConfigError::ChunkMax,
+    );
+    assert_refused(
+        &rt,
+        alloc,
+        "the largest pages, limit 0, stripes 0, bulk 0",
+        Config {
+            limit: 0,
+            stripes: 0,
+            bulk: 0,
+            ..largest_pages
+        },
+        ConfigError::Limit,
+    );
+    assert_refused(
+        &rt,
+        alloc,
+        "the largest pages, stripes 0, bulk 0",
+        Config {
+            stripes: 0,
+            bulk: 0,
+            ..largest_pages
+        },
+        ConfigError::Stripes,
+    );
+    assert_refused(
+        &rt,
+        alloc,
+        "the largest pages, bulk 0",
+        Config {
+            bulk: 0,
+            ..largest_pages
+        },
+        ConfigError::TooManyChunks,
+    );
+    // no number is too large for the tests
+    assert_refused(
+        &rt,
+        alloc,
+        "page u64MAX",
+        Config {
+            page: u64::MAX,
+            ..FOUR_CLASSES
+        },
+        ConfigError::PageSize,
+    );
+    assert_refused(
+        &rt,
+        alloc,
+        "page u64MAX - 7",
+        Config {
+            page: u64::MAX - 7,
+            ..FOUR_CLASSES
+        },
+        ConfigError::PageSize,
+    );
+    assert_refused(
+        &rt,
+        alloc,
+        "limit u64MAX",
+        Config {
+            limit: u64::MAX,
+            ..FOUR_CLASSES
+        },
+        ConfigError::Limit,
+    );
+    assert_refused(
+        &rt,
+        alloc,
+        "first u64MAX",
+        Config {
+            first: u64::MAX,
+            ..FOUR_CLASSES
+        },
+        ConfigError::FirstSize,
+    );
+    assert_refused(
+        &rt,
+        alloc,
+        "num u64MAX",
+        Config {
+            num: u64::MAX,
+            ..FOUR_CLASSES
+        },
+        ConfigError::Factor,
+    );
+    assert_refused(
+        &rt,
+        alloc,
+        "num u64MAX, den u64MAX - 1",
+        Config {
+            num: u64::MAX,
+            den: u64::MAX - 1,
+            ..FOUR_CLASSES
+        },
+        ConfigError::Factor,
+    );
+    assert_refused(
+        &rt,
+        alloc,
+        "den u64MAX",
+        Config {
+            den: u64::MAX,
+            ..FOUR_CLASSES
+        },
+        ConfigError::Factor,
+    );
+    assert_refused(
+        &rt,
+        alloc,
+        "max u64MAX - 7",
+        Config {
+            max: u64::MAX - 7,
+            ..FOUR_CLASSES
+        },
+        ConfigError::ChunkMax,
+    );
+    assert_refused(
+        &rt,
+        alloc,
+        "stripes u64MAX",
+        Config {
+            stripes: u64::MAX,
+            ..FOUR_CLASSES
+        },
+        ConfigError::Stripes,
+    );
+    assert_refused(
+        &rt,
+        alloc,
+        "bulk u64MAX",
+        Config {
+            bulk: u64::MAX,
+            ..FOUR_CLASSES
+        },
+        ConfigError::Bulk,
+    );
+}
+
+#[test]
+fn bounds_are_accepted(rt: HostRuntime) -> Result<(), Fail> {
+    let least = Config {
+        page: 64,
+        limit: 64,
+        first: 24,
+        num: 65535,
+        den: 65534,
+        max: 64,
+        stripes: 1,
+        bulk: 1,
+    };
+    let greatest = Config {
+        page: 16384,
+        limit: 1_064_959,
+        first: 16384,
+        num: 65535,
+        den: 1,
+        max: 16384,
+        stripes: 64,
+        bulk: 256,
+    };
+    let table = ClassTable::build(rt.alloc(), &least)?;
+    assert_same(&rt, table.pages(), 1, "the least limit");
+    assert_same(&rt, table.class_for(24), Some(1), "the least size");
+    assert_same(&rt, table.class_for(64), Some(table.count()), "the page");
+    let table = ClassTable::build(rt.alloc(), &greatest)?;
+    assert_same(&rt, table.pages(), 64, "the greatest limit");
+    assert_classes(&rt, &table, &[16384], "one chunk a page");
+    Ok(())
+}
+
+/// The error has this number, and its text begins so.
+fn assert_told(
+    rt: &impl Abort,
+    alloc: Global,
+    error: ConfigError,
+    number: u64,
+    text: &str,
+) -> Result<(), Fail> {
+    let told = error.to_string(alloc)?;
+    assert_same(rt, error.number(), number, text);
+    assert_same(rt, told.starts_with(text), true, text);
+    Ok(())
+}
+
+#[test]
+fn numbers_and_texts(rt: HostRuntime) -> Result<(), Fail> {
+    for (error, number, text) in [
+        (ConfigError::PageSize, 1, "the page size must"),
+        (ConfigError::FirstSize, 2, "the first size must"),
+        (ConfigError::Factor, 3, "the growth factor must"),
+        (ConfigError::ChunkMax, 4, "the greatest size must"),
+        (ConfigError::Limit, 5, "the limit must"),
+        (ConfigError::Stripes, 6, "the number of stripes must"),
+        (
+            ConfigError::TooManyChunks,
+            7,
+            "a page of the first class would",
+        ),
+        (ConfigError::Bulk, 8, "the number of chunks a turn must"),
+        (ConfigError::NoMemory, 9, "out of memory"),
+    ] {
+        assert_told(&rt, rt.alloc(), error, number, text)?;
+    }
+    Ok(())
+}

@@ -1,0 +1,210 @@
+//! What the decider decides, window by window.
+use super::{FOUR_CLASSES, assert_equal, assert_same};
+use mc_classes::{ClassTable, ConfigError};
+use mc_watch::{Decider, Decision, Feed, NoMemory};
+use std::alloc::Global;
+use std::process::Abort;
+use std::test::Fail;
+
+const fn moves(src: u64, dst: u64) -> Option<Decision> {
+    Some(Decision { src, dst })
+}
+
+/// Windows that are fed one after another, each with its evictions so far, its pages, its free chunks and what is decided.
+type Windows<'a> = &'a [([u64; 4], [u64; 4], [u64; 4], Option<Decision>)];
+
+const PAGES: [u64; 4] = [3, 1, 1, 2];
+
+const NONE: [u64; 4] = [0; 4];
+
+/// A new decider decides so, window by window.
+fn assert_decisions(
+    rt: &impl Abort,
+    alloc: Global,
+    name: &str,
+    windows: Windows<'_>,
+) -> Result<(), Fail> {
+    let table = ClassTable::build(alloc, &FOUR_CLASSES)?;
+    let mut decider = Decider::new(alloc, &table)?;
+    for (evictions, pages, free, decision) in windows {
+        let fed = decider.feed(evictions, pages, free);
+        assert_equal(rt, fed, Ok(*decision), name);
+    }
+    Ok(())
+}
+
+#[test]
+fn decisions(rt: HostRuntime) -> Result<(), Fail> {
+    let rows: [(&str, Windows<'_>); 9] = [
+        (
+            "three windows, and a decision resets nothing",
+            &[
+                ([0, 0, 0, 5], PAGES, NONE, None),
+                ([0, 0, 0, 6], PAGES, NONE, None),
+                ([0, 0, 0, 9], PAGES, NONE, moves(1, 4)),
+                ([0, 0, 0, 10], PAGES, NONE, moves(1, 4)),
+                ([0, 0, 0, 10], PAGES, NONE, None),
+            ],
+        ),
+        (
+            "three windows running",
+            &[
+                ([0, 0, 0, 5], PAGES, NONE, None),
+                ([0, 7, 0, 6], PAGES, NONE, None),
+                ([0, 7, 0, 9], PAGES, NONE, None),
+                ([0, 7, 0, 10], PAGES, NONE, None),
+                ([0, 7, 0, 11], PAGES, NONE, moves(1, 4)),
+            ],
+        ),
+        (
+            "the source is quiet in each window",
+            &[
+                ([0, 0, 0, 5], PAGES, NONE, None),
+                ([1, 0, 0, 9], PAGES, NONE, None),
+                ([1, 0, 0, 13], PAGES, NONE, None),
+                ([1, 0, 0, 17], PAGES, NONE, None),
+                ([1, 0, 0, 21], PAGES, NONE, moves(1, 4)),
+            ],
+        ),
+        (
+            "a class with 2 pages isn't quiet",
+            &[
+                ([0, 0, 0, 5], [2, 2, 1, 2], NONE, None),
+                ([0, 0, 0, 6], [2, 2, 1, 2], NONE, None),
+                ([0, 0, 0, 9], [2, 2, 1, 2], NONE, None),
+            ],
+        ),
+        (
+            "the lowest of two sources and of two that rose alike",
+            &[
+                ([0, 0, 4, 4], [1, 4, 4, 4], NONE, None),
+                ([0, 0, 8, 8], [1, 4, 4, 4], NONE, None),
+                ([0, 0, 12, 12], [1, 4, 4, 4], NONE, moves(2, 3)),
+            ],
+        ),
+        (
+            "the greatest numbers",
+            &[
+                ([u64::MAX - 2, 0, 0, 0], [0, 0, 0, u64::MAX], NONE, None),
+                ([u64::MAX - 1, 0, 0, 0], [0, 0, 0, u64::MAX], NONE, None),
+                ([u64::MAX, 0, 0, 0], [0, 0, 0, u64::MAX], NONE, moves(4, 1)),
+                ([u64::MAX, 0, 0, 0], PAGES, [u64::MAX; 4], moves(1, 0)),
+            ],
+        ),
+        (
+            "free pages go to the pool",
+            &[
+                (NONE, [3, 0, 0, 0], [53, 0, 0, 0], moves(1, 0)),
+                (NONE, [3, 0, 0, 0], [52, 0, 0, 0], None),
+                // 25 chunks are two and a half pages, and no more
+                (NONE, [0, 2, 0, 0], [0, 25, 0, 0], None),
+                (NONE, [0, 2, 0, 0], [0, 26, 0, 0], moves(2, 0)),
+                (NONE, [0, 1, 0, 3], [0, 26, 0, 6], moves(4, 0)),
+            ],
+        ),
+        (
+            "evictions go before free pages",
+            &[
+                ([0, 0, 0, 5], PAGES, [63, 0, 0, 0], moves(1, 0)),
+                ([0, 0, 0, 6], PAGES, [63, 0, 0, 0], moves(1, 0)),
+                ([0, 0, 0, 9], PAGES, [63, 0, 0, 0], moves(1, 4)),
+            ],
+        ),
+        (
+            "without a leader",
+            &[
+                (NONE, PAGES, NONE, None),
+                (NONE, PAGES, NONE, None),
+                (NONE, PAGES, NONE, None),
+            ],
+        ),
+    ];
+    for (name, windows) in rows {
+        assert_decisions(&rt, rt.alloc(), name, windows)?;
+    }
+    Ok(())
+}
+
+#[test]
+fn refusals_leave_the_decider_alone(rt: HostRuntime) -> Result<(), Fail> {
+    let table = ClassTable::build(rt.alloc(), &FOUR_CLASSES)?;
+    let mut decider = Decider::new(rt.alloc(), &table)?;
+    assert_equal(
+        &rt,
+        decider.feed(&[0, 0, 0, 5], &PAGES, &NONE),
+        Ok(None),
+        "the decision",
+    );
+    assert_equal(
+        &rt,
+        decider.feed(&[0, 0, 0, 6], &PAGES, &NONE),
+        Ok(None),
+        "the decision",
+    );
+    let short = [0; 3];
+    let long = [0; 5];
+    let rows: [(&[u64], &[u64], &[u64], Feed); 8] = [
+        (&[0, 0, 0, 5], &PAGES, &NONE, Feed::Backwards),
+        (&[9, 9, 9, 5], &PAGES, &NONE, Feed::Backwards),
+        (&short, &PAGES, &NONE, Feed::Length),
+        (&long, &PAGES, &NONE, Feed::Length),
+        (&[0, 0, 0, 9], &short, &NONE, Feed::Length),
+        (&[0, 0, 0, 9], &PAGES, &short, Feed::Length),
+        (&[0, 0, 0, 9], &long, &long, Feed::Length),
+        // the length is told first
+        (&[0, 0, 0, 5], &PAGES, &long, Feed::Length),
+    ];
+    for (evictions, pages, free, refusal) in rows {
+        let fed = decider.feed(evictions, pages, free);
+        assert_equal(&rt, fed, Err(refusal), "the refusal");
+    }
+    assert_equal(
+        &rt,
+        decider.feed(&[0, 0, 0, 9], &PAGES, &NONE),
+        Ok(moves(1, 4)),
+        "the decision",
+    );
+    Ok(())
+}
+
+/// Where one allocation is refused (`rt try --test --fail-alloc N`), the call answers that, and its repeat goes well.
+#[test]
+fn made_at_the_second_try(rt: HostRuntime) -> Result<(), Fail> {
+    let table = match ClassTable::build(rt.alloc(), &FOUR_CLASSES) {
+        Ok(table) => table,
+        Err(error) => {
+            assert_same(&rt, error, ConfigError::NoMemory, "the refusal");
+            ClassTable::build(rt.alloc(), &FOUR_CLASSES)?
+        }
+    };
+    let mut decider = match Decider::new(rt.alloc(), &table) {
+        Ok(decider) => decider,
+        Err(NoMemory) => Decider::new(rt.alloc(), &table)?,
+    };
+    assert_equal(
+        &rt,
+        decider.feed(&NONE, &PAGES, &[53, 0, 0, 0]),
+        Ok(moves(1, 0)),
+        "the decision",
+    );
+    Ok(())
+}
+
+#[test]
+fn refusals_in_words(rt: HostRuntime) -> Result<(), Fail> {
+    let rows = [
+        (
+            Feed::Length.to_string(rt.alloc())?,
+            "each list must have one number for each class",
+        ),
+        (
+            Feed::Backwards.to_string(rt.alloc())?,
+            "the evictions of a class can't become fewer",
+        ),
+        (NoMemory.to_string(rt.alloc())?, "out of memory"),
+    ];
+    for (text, words) in &rows {
+        assert_same(&rt, text.as_str(), *words, "the text");
+    }
+    Ok(())
+}

@@ -1,0 +1,267 @@
+//! Command lines and what they ask for.
+use super::{FOUR_CLASSES, assert_equal, assert_same};
+use clap::error::ErrorKind;
+use mc_classes::Config;
+use mc_options::{Options, Run, options};
+use std::process::Abort;
+use std::test::Fail;
+
+/// What words are read as, without the program's name.
+fn config_of(rt: &(impl Abort + AllocGlobal), words: &[&str]) -> Result<Config, Fail> {
+    let options = options(rt.alloc(), words)?;
+    let config = options.run.config;
+    assert_equal(
+        rt,
+        options,
+        Options {
+            run: Run {
+                config,
+                automove: 0,
+            },
+            threads: false,
+        },
+        "the options",
+    );
+    Ok(config)
+}
+
+#[test]
+fn reads_each_option(rt: HostRuntime) -> Result<(), Fail> {
+    let rows = [
+        (
+            ["--page", "2048"],
+            "--page=2048",
+            Config {
+                page: 2048,
+                ..FOUR_CLASSES
+            },
+        ),
+        (
+            ["--limit", "65536"],
+            "--limit=65536",
+            Config {
+                limit: 65_536,
+                ..FOUR_CLASSES
+            },
+        ),
+        (
+            ["--first", "0100"],
+            "--first=0100",
+            Config {
+                first: 100,
+                ..FOUR_CLASSES
+            },
+        ),
+        (
+            ["--factor", "5/4"],
+            "--factor=5/4",
+            Config {
+                num: 5,
+                den: 4,
+                ..FOUR_CLASSES
+            },
+        ),
+        (
+            ["--max", "+1024"],
+            "--max=+1024",
+            Config {
+                max: 1024,
+                ..FOUR_CLASSES
+            },
+        ),
+        (
+            ["--stripes", "0"],
+            "--stripes=0",
+            Config {
+                stripes: 0,
+                ..FOUR_CLASSES
+            },
+        ),
+        (
+            ["--bulk", "18446744073709551615"],
+            "--bulk=18446744073709551615",
+            Config {
+                bulk: u64::MAX,
+                ..FOUR_CLASSES
+            },
+        ),
+    ];
+    assert_equal(
+        &rt,
+        config_of(&rt, &["mcslab"])?,
+        FOUR_CLASSES,
+        "the options",
+    );
+    assert_equal(
+        &rt,
+        config_of(&rt, &["mcslab", "--"])?,
+        FOUR_CLASSES,
+        "the options",
+    );
+    for ([name, value], joined, config) in rows {
+        assert_equal(
+            &rt,
+            config_of(&rt, &["mcslab", name, value])?,
+            config,
+            joined,
+        );
+        assert_equal(&rt, config_of(&rt, &["mcslab", joined])?, config, joined);
+    }
+    Ok(())
+}
+
+#[test]
+fn reads_all_options(rt: HostRuntime) -> Result<(), Fail> {
+    let words = [
+        "mcslab",
+        "--bulk=8",
+        "--stripes",
+        "7",
+        "--automove",
+        "2",
+        "--max",
+        "6",
+        "--factor",
+        "5/4",
+        "--first=3",
+        "--limit",
+        "2",
+        "--page=1",
+    ];
+    let config = Config {
+        page: 1,
+        limit: 2,
+        first: 3,
+        num: 5,
+        den: 4,
+        max: 6,
+        stripes: 7,
+        bulk: 8,
+    };
+    let run = Run {
+        config,
+        automove: 2,
+    };
+    assert_equal(
+        &rt,
+        options(rt.alloc(), &words)?,
+        Options {
+            run,
+            threads: false,
+        },
+        "the options",
+    );
+    Ok(())
+}
+
+#[test]
+fn reads_any_factor(rt: HostRuntime) -> Result<(), Fail> {
+    let rows = [
+        ("5/4", (5, 4)),
+        ("05/04", (5, 4)),
+        ("99999/00000", (99_999, 0)),
+        ("", (0, 0)),
+        ("5", (0, 0)),
+        ("5/", (0, 0)),
+        ("/4", (0, 0)),
+        ("5/4/3", (0, 0)),
+        ("123456/1", (0, 0)),
+        ("1/123456", (0, 0)),
+        ("a/b", (0, 0)),
+        ("5 /4", (0, 0)),
+        ("+5/4", (0, 0)),
+    ];
+    for (text, (num, den)) in rows {
+        let config = config_of(&rt, &["mcslab", "--factor", text])?;
+        assert_same(&rt, (config.num, config.den), (num, den), text);
+    }
+    Ok(())
+}
+
+#[test]
+fn reads_the_mode_of_the_automover(rt: HostRuntime) -> Result<(), Fail> {
+    let rows: [(&[&str], u64); 12] = [
+        (&["mcslab"], 0),
+        (&["mcslab", "--bulk", "64"], 0),
+        (&["mcslab", "--automove", "0"], 0),
+        (&["mcslab", "--automove=0"], 0),
+        (&["mcslab", "--automove", "1"], 1),
+        (&["mcslab", "--automove=1"], 1),
+        (&["mcslab", "--automove", "2"], 2),
+        (&["mcslab", "--automove=2"], 2),
+        (&["mcslab", "--automove", "01"], 1),
+        (&["mcslab", "--automove=+1"], 1),
+        (&["mcslab", "--automove=2", "--stripes", "4"], 2),
+        (&["mcslab", "--stripes=4", "--automove", "+002"], 2),
+    ];
+    for (words, automove) in rows {
+        assert_equal(
+            &rt,
+            options(rt.alloc(), words)?,
+            Options {
+                run: Run {
+                    config: FOUR_CLASSES,
+                    automove,
+                },
+                threads: false,
+            },
+            "the options",
+        );
+    }
+    Ok(())
+}
+
+/// The kind of the error that words are refused with.
+fn refusal_of(rt: &impl AllocGlobal, words: &[&str]) -> Result<Option<ErrorKind>, Fail> {
+    match options(rt.alloc(), words) {
+        Ok(_) => Ok(None),
+        Err(error) if error.kind() == ErrorKind::OutOfMemory => Err(Fail::from(error)),
+        Err(error) => Ok(Some(error.kind())),
+    }
+}
+
+#[test]
+fn refuses_other_words(rt: HostRuntime) -> Result<(), Fail> {
+    let rows: [(&[&str], ErrorKind); 19] = [
+        (&["mcslab", "--page"], ErrorKind::InvalidValue),
+        (&["mcslab", "--page", "--max", "8"], ErrorKind::InvalidValue),
+        (&["mcslab", "--page", "x"], ErrorKind::ValueValidation),
+        (&["mcslab", "--page="], ErrorKind::ValueValidation),
+        (
+            &["mcslab", "--page", "18446744073709551616"],
+            ErrorKind::ValueValidation,
+        ),
+        (&["mcslab", "--page", "-1"], ErrorKind::UnknownArgument),
+        (
+            &["mcslab", "--page", "1", "--page=2"],
+            ErrorKind::ArgumentConflict,
+        ),
+        (&["mcslab", "--automove"], ErrorKind::InvalidValue),
+        (&["mcslab", "--automove", "3"], ErrorKind::ValueValidation),
+        (&["mcslab", "--automove=3"], ErrorKind::ValueValidation),
+        (
+            &["mcslab", "--automove", "18446744073709551615"],
+            ErrorKind::ValueValidation,
+        ),
+        (&["mcslab", "--automove", "x"], ErrorKind::ValueValidation),
+        (&["mcslab", "--automove", ""], ErrorKind::ValueValidation),
+        (&["mcslab", "--automove="], ErrorKind::ValueValidation),
+        (
+            &["mcslab", "--automove", "1", "--automove=1"],
+            ErrorKind::ArgumentConflict,
+        ),
+        (&["mcslab", "--bogus"], ErrorKind::UnknownArgument),
+        (&["mcslab", "stray"], ErrorKind::UnknownArgument),
+        (&["mcslab", "--", "stray"], ErrorKind::UnknownArgument),
+        (&["mcslab", "--page", "8", "--help"], ErrorKind::DisplayHelp),
+    ];
+    for (words, kind) in rows {
+        assert_same(
+            &rt,
+            refusal_of(&rt, words)?,
+            Some(kind),
+            "the kind of the refusal",
+        );
+    }
+    Ok(())
+}

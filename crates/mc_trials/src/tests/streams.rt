@@ -1,0 +1,149 @@
+//! Streams that fail in the middle.
+ghost use Rattle.std.specs.Prelude.{◌≡◌, ◌<◌};
+
+use super::{assert_equal, assert_same};
+use mc_classes::{Failures, Fault, Sink, Source};
+use mc_streams::{Input, Output};
+use std::alloc::Global;
+use std::cell::Cell;
+use std::cmp;
+use std::io::{self, ErrorKind, Read, Write};
+use std::marker::Brand;
+use std::process::Abort;
+use std::sync::ledger::{Blank, Ledger};
+use std::test::Fail;
+
+/// A signal, two bytes, a failure, the end.
+#[derive(Drop)]
+struct Uneven {
+    reads: u8,
+}
+
+impl Read for Uneven {
+    fn read(&mut self, buf: &mut [u8]) -> io::Result<usize> {
+        let read = self.reads;
+        self.reads = read.saturating_add(1);
+        match read {
+            0 => Err(io::Error::from(ErrorKind::Interrupted)),
+            1 => {
+                let count = cmp::min(buf.len(), 2);
+                buf[..count].copy_from_slice(&b"ab"[..count]);
+                Ok(count)
+            }
+            2 => Err(io::Error::from(ErrorKind::PermissionDenied)),
+            _ => Ok(0),
+        }
+    }
+}
+
+fn reads<L: Ledger>(rt: &impl Abort, blank: Blank)
+    requires name { blank.name ≡ L.name }
+    requires parts { blank.parts ≡ L.parts }
+    requires some { 0 < blank.parts }
+{
+    let mut input = Input::<Uneven, L>::new(Uneven { reads: 0 }, Failures::new(blank));
+    let mut buf = [0; 4];
+    assert_equal(rt, input.read(&mut buf), Ok(2), "behind the signal");
+    assert_same(rt, &buf[..2], b"ab".as_slice(), "what was read");
+    assert_equal(rt, input.read(&mut buf), Err(Fault), "the failure");
+    assert_equal(rt, input.read(&mut buf), Ok(0), "the end");
+}
+
+#[test]
+fn reads_through_a_signal(rt: HostRuntime) {
+    reads::<Brand>(&rt, Blank::new(1));
+}
+
+/// Takes 1,000 bytes at most a write, and as many as there is `room` for. Tells its calls.
+#[derive(Drop)]
+struct Narrow<'a> {
+    room: usize,
+    is_flushed: bool,
+    taken: &'a Cell<usize>,
+    calls: &'a Cell<usize>,
+}
+
+impl Narrow<'_> {
+    fn called(&self) {
+        self.calls.set(self.calls.get().saturating_add(1));
+    }
+}
+
+impl Write for Narrow<'_> {
+    fn write(&mut self, buf: &[u8]) -> io::Result<usize> {
+        self.called();
+        let count = cmp::min(cmp::min(buf.len(), 1000), self.room);
+        if count == 0 {
+            return Err(io::Error::from(ErrorKind::BrokenPipe));
+        }
+        self.room -= count;
+        self.taken.set(self.taken.get().saturating_add(count));
+        Ok(count)
+    }
+
+    fn flush(&mut self) -> io::Result<()> {
+        self.called();
+        if self.is_flushed {
+            Ok(())
+        } else {
+            Err(io::Error::from(ErrorKind::BrokenPipe))
+        }
+    }
+}
+
+/// Writes pieces of these lengths and finishes. Says whether each went well, how many bytes were taken and after how
+/// many calls.
+fn written<L: Ledger>(
+    alloc: Global,
+    blank: Blank,
+    room: usize,
+    is_flushed: bool,
+    pieces: [usize; 3],
+) -> Result<([bool; 3], bool, usize, usize), Fail>
+    requires name { blank.name ≡ L.name }
+    requires parts { blank.parts ≡ L.parts }
+    requires some { 0 < blank.parts }
+{
+    let (taken, calls) = (Cell::new(0), Cell::new(0));
+    let bytes = [b'x'; 20_000];
+    let writer = Narrow {
+        room,
+        is_flushed,
+        taken: &taken,
+        calls: &calls,
+    };
+    let mut output = Output::<Narrow<'_>, L>::new(alloc, writer, Failures::new(blank))?;
+    let went = pieces.map(|piece| output.write_all(&bytes[..cmp::min(piece, 20_000)]).is_ok());
+    let finished = output.finish().is_ok();
+    Ok((went, finished, taken.get(), calls.get()))
+}
+
+#[test]
+fn writes_until_a_failure(rt: HostRuntime) -> Result<(), Fail> {
+    let rows = [
+        // held back, written in one, and flushed
+        (20_000, true, [100, 200, 300], ([true; 3], true, 600, 2)),
+        (20_000, true, [0, 0, 0], ([true; 3], true, 0, 1)),
+        // more than is held back
+        (
+            20_000,
+            true,
+            [8192, 1, 10_000],
+            ([true; 3], true, 18_193, 21),
+        ),
+        // nothing is written or flushed after the failure
+        (
+            9000,
+            true,
+            [8192, 10_000, 1],
+            ([true, false, false], false, 9000, 11),
+        ),
+        (0, true, [100, 200, 300], ([true; 3], false, 0, 1)),
+        (20_000, false, [100, 200, 300], ([true; 3], false, 600, 2)),
+    ];
+    for (room, is_flushed, pieces, outcome) in rows {
+        let got = written::<Brand>(rt.alloc(), Blank::new(1), room, is_flushed, pieces)?;
+        assert_eq!(rt; got, outcome, "{pieces:?}");
+    }
+    Ok(())
+}
