@@ -1,5 +1,7 @@
 mod Digits
 pub mod FirstLine
+mod FirstParts
+mod FewWords
 mod FirstWord
 mod Plain
 mod Told

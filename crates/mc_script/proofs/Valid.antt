@@ -6,7 +6,7 @@ use Rattle.std.specs.List.{AllByRecursion}
 use Rattle.std.specs.Str.{bytes_eq}
 use Rattle.std.specs.Str.Lines.{lines}
 use Rattle.mc_script.specs.declared.command.Command.{Command}
-use Rattle.mc_script.specs.declared.command.Command.TheVariants.{Set, Reassign, Automove, Window, Stats, StatsSlabs}
+use Rattle.mc_script.specs.declared.command.Command.TheVariants.{Set, Reassign, Window, Stats, StatsSlabs}
 use Rattle.mc_script.specs.Command.{IsWorker, IsSource, IsValid}
 use Rattle.mc_script.specs.Forms.{◌or◌, worker_and_key_of, source_of, set_of, delete_of, get_of, hold_of, drop_of, touch_of, reassign_of, automove_of, window_of, turn_of, stats_of, stats_slabs_of, command_of}
 use Rattle.mc_script.specs.Script.{is_skipped, followed_by, commands_of, script_of}

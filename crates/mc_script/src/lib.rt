@@ -14,6 +14,7 @@ mod laws;
 pub mod line;
 pub mod lines;
 pub mod number;
+mod parts;
 mod script;
 
 pub use command::Command;

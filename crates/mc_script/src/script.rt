@@ -1,12 +1,15 @@
 //! A whole script.
 ghost use Rattle.std.specs.Prelude.{◌≡◌, ℕ, IfOk, All};
 ghost use Rattle.mc_script.specs.Command.{IsValid};
+ghost use Rattle.mc_script.specs.Forms.{command_of};
 ghost use Rattle.mc_script.specs.Script.{script_of};
+ghost use Rattle.mc_script.specs.Words.{words_of};
 
 use crate::command::Command;
 use crate::forms::command;
-use crate::line::{is_skipped, words};
+use crate::line::is_skipped;
 use crate::lines::Lines;
+use crate::parts::first_words;
 use std::alloc::{AllocError, AllocFailed, Global};
 use std::error::Error;
 use std::fmt;
@@ -57,7 +60,7 @@ impl<T: Drop> From<AllocFailed<T>> for ScriptError {
 }
 
 /// The commands of a script, in the order of their lines, or the number of the lowest line that is neither skipped nor a
-/// command. It takes memory for the commands and for the words of a line at a time, and time linear in the bytes.
+/// command. It takes memory for the commands alone, and time linear in the bytes.
 #[tactic(auto, unfolding(crate::specs::Script::script_of))]
 pub fn read(alloc: Global, bytes: &[u8]) -> Result<Vec<Command>, ScriptError>
     ensures ok { IfOk result (λ commands. script_of bytes.now ≡ Ok commands.items) }
@@ -71,11 +74,18 @@ pub fn read(alloc: Global, bytes: &[u8]) -> Result<Vec<Command>, ScriptError>
         if is_skipped(line) {
             continue;
         }
-        let words = words(alloc, line)?;
-        match command(&words) {
+        match command_on(line) {
             Some(command) => commands.push(command)?,
             None => return Err(ScriptError::Line(number)),
         }
     }
     Ok(commands)
+}
+
+/// The command that a line writes, if it writes one.
+fn command_on(line: &[u8]) -> Option<Command>
+    ensures { result ≡ command_of (words_of line.now) }
+{
+    let (words, count) = first_words(line);
+    command(&words[..count])
 }
