@@ -21,7 +21,7 @@ pub(crate) enum Mark {
     /// In a free list.
     Free,
     /// In a hand-out order.
-    Out,
+    HandedOut,
 }
 
 /// The chunks beside a chunk in its list. A list has a row of its own, where `next` is its head, `previous` its tail, and
@@ -39,7 +39,7 @@ pub enum ListName {
     /// The chunks that are free, with the next to hand out first.
     Free(usize),
     /// The chunks that are handed out, with the oldest first.
-    Out(usize),
+    HandedOut(usize),
 }
 
 /// A field of the rows that leads to a chunk.
@@ -72,9 +72,9 @@ pub struct Rows {
     most: u64,
     rows: Vec<Row>,
     free: Vec<Row>,
-    out: Vec<Row>,
+    handed_out: Vec<Row>,
     free_lengths: Vec<u64>,
-    out_lengths: Vec<u64>,
+    handed_out_lengths: Vec<u64>,
     writes: Writes,
 }
 
@@ -111,9 +111,9 @@ impl Rows {
             most,
             rows: vec![in alloc; none; pages * most as usize]?,
             free: vec![in alloc; none; classes]?,
-            out: vec![in alloc; none; classes]?,
+            handed_out: vec![in alloc; none; classes]?,
             free_lengths: vec![in alloc; 0; classes]?,
-            out_lengths: vec![in alloc; 0; classes]?,
+            handed_out_lengths: vec![in alloc; 0; classes]?,
             writes: Writes::new(),
         })
     }
@@ -127,9 +127,9 @@ impl Rows {
             Field::Next(chunk) => self.rows[self.place(chunk)].next,
             Field::Previous(chunk) => self.rows[self.place(chunk)].previous,
             Field::Head(ListName::Free(class)) => self.free[class].next,
-            Field::Head(ListName::Out(class)) => self.out[class].next,
+            Field::Head(ListName::HandedOut(class)) => self.handed_out[class].next,
             Field::Tail(ListName::Free(class)) => self.free[class].previous,
-            Field::Tail(ListName::Out(class)) => self.out[class].previous,
+            Field::Tail(ListName::HandedOut(class)) => self.handed_out[class].previous,
         }
     }
 
@@ -157,11 +157,12 @@ impl Rows {
                 self.rows[place].previous = link;
             }
             Change::Link(Field::Head(ListName::Free(class)), link) => self.free[class].next = link,
-            Change::Link(Field::Head(ListName::Out(class)), link) => self.out[class].next = link,
+            Change::Link(Field::Head(ListName::HandedOut(class)), link) =>
+                self.handed_out[class].next = link,
             Change::Link(Field::Tail(ListName::Free(class)), link) => self.free[class].previous =
                 link,
-            Change::Link(Field::Tail(ListName::Out(class)), link) => self.out[class].previous =
-                link,
+            Change::Link(Field::Tail(ListName::HandedOut(class)), link) =>
+                self.handed_out[class].previous = link,
             Change::Mark(chunk, mark) => {
                 let place = self.place(chunk);
                 self.rows[place].mark = mark;
@@ -176,7 +177,7 @@ impl Rows {
     {
         match list {
             ListName::Free(class) => self.free_lengths[class],
-            ListName::Out(class) => self.out_lengths[class],
+            ListName::HandedOut(class) => self.handed_out_lengths[class],
         }
     }
 
@@ -188,7 +189,7 @@ impl Rows {
     {
         match list {
             ListName::Free(class) => self.free_lengths[class] += 1,
-            ListName::Out(class) => self.out_lengths[class] += 1,
+            ListName::HandedOut(class) => self.handed_out_lengths[class] += 1,
         }
     }
 
@@ -200,7 +201,7 @@ impl Rows {
     {
         match list {
             ListName::Free(class) => self.free_lengths[class] -= 1,
-            ListName::Out(class) => self.out_lengths[class] -= 1,
+            ListName::HandedOut(class) => self.handed_out_lengths[class] -= 1,
         }
     }
 

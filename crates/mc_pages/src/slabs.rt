@@ -4,7 +4,7 @@ ghost use Rattle.std.specs.Option.{option_map};
 ghost use Rattle.mc_pages.specs.ClassState.{new_class, numbers_of};
 ghost use Rattle.mc_classes.specs.Classes.{pages_of, per_page_of};
 ghost use Rattle.mc_pages.specs.Ledger.{owner_at};
-ghost use Rattle.mc_pages.specs.declared.rows.ListName.TheVariants.{Free, Out};
+ghost use Rattle.mc_pages.specs.declared.rows.ListName.TheVariants.{Free, HandedOut};
 ghost use Rattle.mc_pages.specs.Rows.{fresh_rows};
 ghost use Rattle.mc_pages.specs.Linked.{AreLinked, chunks_of};
 ghost use Rattle.mc_pages.specs.SlabState.{fresh_slabs, IsClass, class_at, class_of_page, totals_of};
@@ -151,7 +151,7 @@ impl Slabs {
     pub fn rows(&self) -> &Rows
         ensures linked { AreLinked result.now }
         ensures free { (class : ℕ) → IsClass self.now.state class → chunks_of result.now (Free (class - 1)) ≡ (class_at self.now.state class).free }
-        ensures order { (class : ℕ) → IsClass self.now.state class → chunks_of result.now (Out (class - 1)) ≡ (class_at self.now.state class).order }
+        ensures order { (class : ℕ) → IsClass self.now.state class → chunks_of result.now (HandedOut (class - 1)) ≡ (class_at self.now.state class).order }
         ensures writes { result.now.writes ≡ self.now.writes }
     {
         &self.rows

@@ -140,7 +140,7 @@ impl Slabs {
         requires { IsClass self.now.state class }
         ensures { result ≡ slice_get (class_at self.now.state class).order 0 }
     {
-        self.rows.first(ListName::Out(class as usize - 1))
+        self.rows.first(ListName::HandedOut(class as usize - 1))
     }
 
     /// The chunk behind a handed-out one in the hand-out order of its class. None behind the youngest.
@@ -149,7 +149,7 @@ impl Slabs {
         ensures { result ≡ behind chunk (class_of_chunk self.now.state chunk).order }
     {
         let rows = &self.rows;
-        rows.next(ListName::Out(self.class_place(chunk.page)), chunk)
+        rows.next(ListName::HandedOut(self.class_place(chunk.page)), chunk)
     }
 
     /// The chunk at this place of the class's free list: 0 is handed out next. None past its end. It walks to it.
@@ -165,7 +165,7 @@ impl Slabs {
         requires { IsClass self.now.state class }
         ensures { result ≡ slice_get (class_at self.now.state class).order place }
     {
-        self.rows.at(ListName::Out(class as usize - 1), place)
+        self.rows.at(ListName::HandedOut(class as usize - 1), place)
     }
 }
 

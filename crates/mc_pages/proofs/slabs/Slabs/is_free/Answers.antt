@@ -2,7 +2,7 @@ use Rattle.std.proofs.Common.{◌≡◌, ◌≢◌, nat_lt, Bool, true, false, r
 use denote.Enum.Bare.{sameb}
 use Rattle.mc_pages.specs.contracts.rows.Mark.{the_type}
 use Rattle.mc_pages.specs.declared.rows.Mark.{Mark}
-use Rattle.mc_pages.specs.declared.rows.Mark.TheVariants.{Unlisted, Free, Out}
+use Rattle.mc_pages.specs.declared.rows.Mark.TheVariants.{Unlisted, Free, HandedOut}
 use Rattle.mc_pages.specs.ClassState.{times}
 use Rattle.mc_pages.specs.SlabState.{SlabState, IsClass, class_of_page, class_of_chunk}
 use Rattle.mc_pages.specs.Accounted.{is_cut}
@@ -15,7 +15,7 @@ use Rattle.mc_pages.proofs.slabs.Slabs.is_free.Goals as goal
 tested : (mark : Mark) (b : Bool) → (mark ≡ Free → b ≡ true) → (mark ≢ Free → b ≡ false) → sameb the_type mark Free ≡ b
 tested Free b is differs = sym (is refl)
 tested Unlisted b is differs = sym (differs (λ h. cc h))
-tested Out b is differs = sym (differs (λ h. cc h))
+tested HandedOut b is differs = sym (differs (λ h. cc h))
 
 pub mark-requires : goal.mark-requires
 mark-requires c =
