@@ -352,7 +352,7 @@ fn has(slabs: &Slabs, class: ClassId, chunk: ChunkId) -> bool
 {
     let place = class as usize - 1;
     crate::rows::tests::has(&slabs.rows, ListName::Free(place), chunk)
-        || crate::rows::tests::has(&slabs.rows, ListName::Out(place), chunk)
+        || crate::rows::tests::has(&slabs.rows, ListName::HandedOut(place), chunk)
 }
 
 /// How many chunks a page of the class has.
