@@ -1,7 +1,7 @@
 -- The lists of all classes as rows, heads and tails, and what they mean.
 use Rattle.std.specs.Prelude.{ℕ, ◌+◌, ◌-◌, ◌*◌, ◌<◌, nat_lt, if◌then◌else◌, List, length, replicate, slice_index_or, slice_set, Option, None}
 use Rattle.mc_pages.specs.declared.ids.ChunkId.{ChunkId}
-use Rattle.mc_pages.specs.declared.rows.Row.{Row}
+use Rattle.mc_pages.specs.declared.rows.fields.Row.{Row}
 use Rattle.mc_pages.specs.declared.rows.ListName.{ListName}
 use Rattle.mc_pages.specs.declared.rows.ListName.TheVariants.{Free, HandedOut}
 use Rattle.mc_pages.specs.declared.rows.Mark.{Mark}

@@ -1,6 +1,6 @@
 -- The rows as their callers see them.
 use Rattle.std.specs.Prelude.{◌≤◌, vec_len}
-use Rattle.mc_pages.specs.declared.rows.Rows.TheInside.{Inside}
+use Rattle.mc_pages.specs.declared.rows.fields.Rows.TheInside.{Inside}
 use Rattle.mc_pages.specs.Rows.{RowsState}
 
 abbrev pub rows_of : Inside → RowsState

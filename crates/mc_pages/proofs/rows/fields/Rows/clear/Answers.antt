@@ -5,7 +5,7 @@ use Rattle.mc_pages.specs.ClassState.{without, cleared}
 use Rattle.mc_pages.specs.Linked.{chunks_of}
 use Rattle.mc_pages.proofs.Lists.{without-absent}
 use Rattle.mc_pages.proofs.ClassRows.{free≢handed_out, handed_out≢free, has_become, became_free, became_handed_out, listed_row, listed_handed_out, listed_free}
-use Rattle.mc_pages.proofs.rows.Rows.clear.Goals as goal
+use Rattle.mc_pages.proofs.rows.fields.Rows.clear.Goals as goal
 
 pub mark-requires : goal.mark-requires
 mark-requires c = listed_row c.args.self.now c.args.class c.args.chunk c.requires.linked c.requires.listed

@@ -4,7 +4,7 @@ use Rattle.mc_pages.specs.declared.rows.Field.TheVariants.{Head}
 use Rattle.mc_pages.specs.Rows.{RowsState, IsField, field_of}
 use Rattle.mc_pages.specs.Linked.{AreLinked, chunks_of, back, linked}
 use Rattle.mc_pages.proofs.Linked.{chunks_are, are_linked, first_linked, head_back}
-use Rattle.mc_pages.proofs.rows.Rows.put_first.Goals as goal
+use Rattle.mc_pages.proofs.rows.fields.Rows.put_first.Goals as goal
 
 pub link-requires-clause-behind : goal.link-requires-clause-behind
 link-requires-clause-behind c =

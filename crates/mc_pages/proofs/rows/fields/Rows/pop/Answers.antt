@@ -5,7 +5,7 @@ use Rattle.mc_pages.specs.Linked.{chunks_of}
 use Rattle.mc_pages.specs.ClassRows.{with_lists}
 use Rattle.mc_pages.proofs.RowFields.{IsRow-sizes}
 use Rattle.mc_pages.proofs.ClassRows.{handed_out≢free, unlisted, length-kept, first_is, first_there, became_free, became_handed_out, became_then, popped_some}
-use Rattle.mc_pages.proofs.rows.Rows.pop.Goals as goal
+use Rattle.mc_pages.proofs.rows.fields.Rows.pop.Goals as goal
 
 pub unlink-requires-clause-there : goal.unlink-requires-clause-there
 unlink-requires-clause-there c = first_there c.in-Some.head (chunks_of c.args.self.now (Free c.args.class)) (sym (first_is c.args.self.now (Free c.args.class) c.requires.linked) ∙ (sym c.get.ensures ∙ c.in-Some.is))

@@ -3,7 +3,7 @@ use Rattle.mc_pages.specs.declared.ids.ChunkId.{ChunkId}
 use Rattle.mc_pages.specs.Rows.{RowsState, IsField, shortened}
 use Rattle.mc_pages.specs.Linked.{AreLinkedBut, chunks_of, forth, back, joined, unlinked}
 use Rattle.mc_pages.proofs.Linked.{chunks_are, are_linked, unlinked_linked, previous_forth, next_back}
-use Rattle.mc_pages.proofs.rows.Rows.unlink.Goals as goal
+use Rattle.mc_pages.proofs.rows.fields.Rows.unlink.Goals as goal
 
 pub join-requires-clause-before : goal.join-requires-clause-before
 join-requires-clause-before c =

@@ -5,8 +5,8 @@ use Rattle.mc_pages.specs.Linked.{chunks_of}
 use Rattle.mc_pages.proofs.Chunks.{times_from_Contains}
 use Rattle.mc_pages.proofs.RowFields.{IsRow-sizes}
 use Rattle.mc_pages.proofs.ClassRows.{handed_out≢free, unlisted, changed-other, length-kept, became_free, became_handed_out, became_then}
-use Rattle.mc_pages.proofs.rows.Rows.replace.Goals as goal
-use Rattle.mc_pages.proofs.rows.Rows.replace.Goals.{Start}
+use Rattle.mc_pages.proofs.rows.fields.Rows.replace.Goals as goal
+use Rattle.mc_pages.proofs.rows.fields.Rows.replace.Goals.{Start}
 
 -- the new chunk is free
 is_free : (c : Start) → 1 ≤ times c.args.new (chunks_of c.args.self.now (Free c.args.class))

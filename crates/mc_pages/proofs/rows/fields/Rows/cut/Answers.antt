@@ -2,7 +2,7 @@ use Rattle.std.proofs.Common.{refl}
 use Rattle.mc_pages.specs.ClassState.{with_cut}
 use Rattle.mc_pages.proofs.ClassRows.{has_become, became_free}
 use Rattle.mc_pages.proofs.Linked.{loosened}
-use Rattle.mc_pages.proofs.rows.Rows.cut.Goals as goal
+use Rattle.mc_pages.proofs.rows.fields.Rows.cut.Goals as goal
 
 pub returns-clause-cut : goal.returns-clause-cut
 returns-clause-cut c =

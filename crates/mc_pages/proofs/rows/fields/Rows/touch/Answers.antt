@@ -5,8 +5,8 @@ use Rattle.mc_pages.specs.Linked.{chunks_of}
 use Rattle.mc_pages.proofs.Chunks.{times_from_Contains, length-without}
 use Rattle.mc_pages.proofs.RowFields.{IsRow-sizes}
 use Rattle.mc_pages.proofs.ClassRows.{unlisted, length-changed, became_handed_out, became_then}
-use Rattle.mc_pages.proofs.rows.Rows.touch.Goals as goal
-use Rattle.mc_pages.proofs.rows.Rows.touch.Goals.{Start}
+use Rattle.mc_pages.proofs.rows.fields.Rows.touch.Goals as goal
+use Rattle.mc_pages.proofs.rows.fields.Rows.touch.Goals.{Start}
 
 -- the chunk is handed out
 handed : (c : Start) → 1 ≤ times c.args.chunk (chunks_of c.args.self.now (HandedOut c.args.class))

@@ -2,7 +2,7 @@ use Rattle.std.proofs.Common.{slice_get, arith, sym, ap, ◌∙◌}
 use Rattle.mc_pages.specs.Linked.{chunks_of}
 use Rattle.mc_pages.proofs.Chunks.{Contains_from_slice_get}
 use Rattle.mc_pages.proofs.ClassRows.{behind_at, none_past}
-use Rattle.mc_pages.proofs.rows.Rows.at.Goals as goal
+use Rattle.mc_pages.proofs.rows.fields.Rows.at.Goals as goal
 
 pub next-link-requires-clause-there : goal.next-link-requires-clause-there
 next-link-requires-clause-there c =

@@ -4,8 +4,8 @@ use Rattle.mc_pages.specs.Linked.{AreLinked, IsUnlisted, chunks_of}
 use Rattle.mc_pages.proofs.RowFields.{IsRow-sizes}
 use Rattle.mc_pages.proofs.Linked.{chunks_are, are_linked, marked_linked}
 use Rattle.mc_pages.proofs.ClassRows.{unlisted}
-use Rattle.mc_pages.proofs.rows.Rows.take_out.Goals as goal
-use Rattle.mc_pages.proofs.rows.Rows.take_out.Goals.{After-unlink}
+use Rattle.mc_pages.proofs.rows.fields.Rows.take_out.Goals as goal
+use Rattle.mc_pages.proofs.rows.fields.Rows.take_out.Goals.{After-unlink}
 
 -- the chunk is in no list any more
 absent : (c : After-unlink) → IsUnlisted c.unlink.new.self c.args.chunk

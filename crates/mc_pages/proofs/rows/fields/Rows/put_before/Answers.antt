@@ -4,7 +4,7 @@ use Rattle.mc_pages.specs.declared.rows.Field.TheVariants.{Previous}
 use Rattle.mc_pages.specs.Rows.{RowsState, IsField, field_of}
 use Rattle.mc_pages.specs.Linked.{AreLinked, chunks_of, forth, linked}
 use Rattle.mc_pages.proofs.Linked.{chunks_are, are_linked, before_linked, previous_forth}
-use Rattle.mc_pages.proofs.rows.Rows.put_before.Goals as goal
+use Rattle.mc_pages.proofs.rows.fields.Rows.put_before.Goals as goal
 
 pub link-requires-clause-before : goal.link-requires-clause-before
 link-requires-clause-before c =

@@ -5,8 +5,8 @@ use Rattle.mc_pages.specs.Linked.{chunks_of}
 use Rattle.mc_pages.proofs.Chunks.{times_from_Contains}
 use Rattle.mc_pages.proofs.RowFields.{IsRow-sizes}
 use Rattle.mc_pages.proofs.ClassRows.{free≢handed_out, unlisted, length-kept, became_free, became_handed_out, became_then}
-use Rattle.mc_pages.proofs.rows.Rows.back.Goals as goal
-use Rattle.mc_pages.proofs.rows.Rows.back.Goals.{Start}
+use Rattle.mc_pages.proofs.rows.fields.Rows.back.Goals as goal
+use Rattle.mc_pages.proofs.rows.fields.Rows.back.Goals.{Start}
 
 -- the chunk is handed out
 handed : (c : Start) → 1 ≤ times c.args.chunk (chunks_of c.args.self.now (HandedOut c.args.class))
