@@ -60,7 +60,6 @@ pub record IsInOrder (slabs : SlabState) (granted : ℕ) : Type 0 where
   pub per_page : (class : ℕ) → IsClass slabs class → 1 ≤ (class_at slabs class).per_page
   pub at_most : (class : ℕ) → IsClass slabs class → (class_at slabs class).per_page ≤ 256
   pub uncut : (chunk : ChunkId) → slabs.uncut ≡ Some chunk → IsBeingCut slabs chunk
-  pub cursor : IsClass slabs slabs.cursor
 
 -- a page is on the move to the class, or to the pool for 0
 abbrev pub is_awaited : Option Moving → ℕ → Bool
