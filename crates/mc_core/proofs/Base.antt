@@ -74,14 +74,12 @@ pub placed_from : (m : Moment) → IsLawful m → (chunk : ChunkId) → is_cut_t
 placed_from m l chunk h =
     let slabs = m.state.slabs in
     let class = class_of_page slabs chunk.page in
-    let parts = and_parts (nat_le 1 class && nat_le class (length slabs.classes)) (is_cut slabs class chunk) h in
-    let bounds = and_parts (nat_le 1 class) (nat_le class (length slabs.classes)) parts.0 in
-    let cut = and_parts (is_of_class class (owner_at slabs.owners chunk.page)) (nat_lt chunk.index (cut_count slabs.uncut chunk.page (class_at slabs class).per_page)) parts.1 in
+    let cut = and_parts (is_of_class class (owner_at slabs.owners chunk.page)) (nat_lt chunk.index (cut_count slabs.uncut chunk.page (class_at slabs class).per_page)) h in
     let below = ltb-true chunk.index (cut_count slabs.uncut chunk.page (class_at slabs class).per_page) cut.1 in
     let most = cut_within slabs.uncut chunk.page (class_at slabs class).per_page
     (λ next is same. let at = (l.paged.order.1.uncut next is).within in
     let here : (class_of_chunk slabs next).per_page ≡ (class_at slabs class).per_page = ap (λ (p : ℕ). (class_at slabs (class_of_page slabs p)).per_page) same in omega arith) in
-    record { class = (leb-true 1 class bounds.0, leb-true class (length slabs.classes) bounds.1); cut = parts.1; within = omega (arith, below, most) }
+    record { class = l.paged.order.1.accounted.owned class chunk.page cut.0; cut = h; within = omega (arith, below, most) }
 
 not_out : (tag : Tag) → (tag ≡ Unlinked) ⊎ (tag ≡ Linked) → tag ≡ Out → ⊥
 not_out tag (inl is) out = let no : ◌≡◌ {A = Tag} Unlinked Out = sym is ∙ out in absurd (cc)
