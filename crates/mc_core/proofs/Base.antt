@@ -1,5 +1,5 @@
 -- Facts that the proofs of all clauses start from: one header written, a chunk's place in its class, and data words apart.
-use Rattle.std.proofs.Common.{◌≡◌, ◌⊎◌, ℕ, zero, suc, ◌+◌, ◌*◌, ◌/◌, ◌<◌, ◌≤◌, ◌&&◌, Bool, true, false, not, List, [], ◌∷◌, ◌++◌, find, length, Some, None, refl, sym, ap, subst, ◌∙◌, inl, inr, arith, ltb-true, leb-true, eq-eqb, ne_eqb, nat_lt, nat_le, Option, cond, le_trans, mul-le-mul_left, mul-le-mul_right, mul_assoc, mul_comm, add-mul, one-mul, zero-lt-suc, add_assoc, get_or-set_same, get_or-set_other, slice_set, slice_index_or, Contains, All}
+use Rattle.std.proofs.Common.{◌≡◌, ◌⊎◌, ℕ, zero, suc, ◌+◌, ◌*◌, ◌/◌, ◌<◌, ◌≤◌, ◌&&◌, Bool, true, false, not, List, [], ◌∷◌, ◌++◌, find, length, Some, None, refl, sym, ap, subst, ◌∙◌, inl, inr, arith, ltb-true, eq-eqb, ne_eqb, nat_lt, Option, cond, le_trans, mul-le-mul_left, mul-le-mul_right, mul_assoc, mul_comm, add-mul, one-mul, zero-lt-suc, add_assoc, get_or-set_same, get_or-set_other, slice_set, slice_index_or, Contains, All}
 use Rattle.std.proofs.lemmas.List.{get_or_past}
 use Rattle.std.proofs.lemmas.List.Elements.{All-nil, All-cons, All-head, All-tail, All-get_or, All-set, All-push, All-weaker, All-contains, All-contains_itself}
 use Rattle.std.proofs.lemmas.List.Sums.{get_or-le-sum_by}

@@ -1,5 +1,5 @@
 -- The chunks of a free list are chunks of the arena, cut for their class.
-use Rattle.std.proofs.Common.{◌≡◌, ℕ, ◌/◌, ◌<◌, ◌≤◌, ◌&&◌, Bool, true, Some, sym, ap, ◌∙◌, arith, subst, inl, inr, nat_le, nat_lt, length, find, lt-ltb, le-leb, le_trans, mul-le-mul_left, div-mul-le_self}
+use Rattle.std.proofs.Common.{◌≡◌, ℕ, ◌/◌, ◌<◌, ◌≤◌, ◌&&◌, Bool, true, Some, sym, ap, ◌∙◌, arith, subst, inl, inr, nat_lt, length, find, lt-ltb, le_trans, mul-le-mul_left, div-mul-le_self}
 use Rattle.std.proofs.lemmas.Bool.{cases_Bool, cases_lt, and_parts, and_from}
 use Rattle.std.proofs.lemmas.List.{get_or_past}
 use Rattle.std.proofs.lemmas.Nat.{le-div}

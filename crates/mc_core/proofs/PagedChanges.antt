@@ -1,18 +1,16 @@
 -- Pages and lists stay in order under each silent change.
-use Rattle.std.proofs.Common.{◌≡◌, ℕ, ◌+◌, ◌≤◌, ◌==◌, ◌&&◌, Bool, true, false, length, Option, Some, None, Result, Ok, Err, refl, sym, subst, inl, inr, arith, is_none, is_some, eqb-true, leb-true, nat_le, nat_lt, if◌then◌else◌}
+use Rattle.std.proofs.Common.{◌≡◌, ℕ, ◌+◌, ◌&&◌, true, length, Option, Some, None, Result, Ok, Err, refl, sym, subst, inl, inr, arith, is_none, is_some, eqb-true, leb-true, nat_le}
 use Rattle.std.proofs.lemmas.Bool.{and_parts, cases_lt}
 use Rattle.mc_classes.specs.Classes.{Classes}
 use Rattle.mc_pages.specs.declared.ids.ChunkId.{ChunkId}
 use Rattle.mc_pages.specs.declared.ids.Moving.{Moving}
 use Rattle.mc_pages.specs.declared.moves.Found.{Found}
 use Rattle.mc_pages.specs.declared.moves.Reassign.{Reassign}
-use Rattle.mc_pages.specs.ClassState.{touched, evicted}
-use Rattle.mc_pages.specs.SlabState.{SlabState, IsClass, class_at, class_of_page, class_of_chunk}
+use Rattle.mc_pages.specs.SlabState.{SlabState, IsClass, class_of_chunk}
 use Rattle.mc_pages.specs.Answer.{answer_of}
-use Rattle.mc_pages.specs.Changes.{next_page, after_take, after_grant, after_grow, after_touch, after_evicted}
-use Rattle.mc_pages.specs.Moves.{after_finish, after_passed, after_wrap, moved_on, begun_anew, finished}
+use Rattle.mc_pages.specs.Changes.{next_page, after_grant, after_grow, after_touch, after_evicted}
+use Rattle.mc_pages.specs.Moves.{after_finish, after_passed, after_wrap}
 use Rattle.mc_pages.specs.InOrder.{IsInOrder}
-use Rattle.mc_pages.proofs.HandedOut.{IsClass-handed_out}
 use Rattle.mc_pages.proofs.Kept.{IsInOrder-after_grant, IsInOrder-after_take, IsInOrder-after_begin, IsInOrder-after_touch, IsInOrder-after_evicted, IsInOrder-after_passed, IsInOrder-after_wrap, IsInOrder-automove, IsInOrder-finished}
 use Rattle.mc_pages.proofs.RoomyGrow.{next_pooled, next_granted, grow_takes, grow_grants}
 use Rattle.mc_core.specs.declared.event.Change.{Change}
@@ -26,7 +24,6 @@ use Rattle.mc_core.specs.Laws.{ChangesKeep}
 use Rattle.mc_core.proofs.OfTable.{HasShape, of_table, grow_shape, begin_shape, finish_shape, touch_shape, evicted_shape, passed_shape, wrap_shape}
 use Rattle.mc_core.proofs.Listed.{Contains_from_among, IsClass_from}
 use Rattle.mc_core.proofs.Asked.{finish_asked, pass_asked, wrap_asked}
-use Rattle.mc_core.proofs.SamePages.{arrived_if}
 
 -- a lock that somebody has isn't free
 pub lock_not_free : (word : ℕ) (number : Option ℕ) → is_held_by word number ≡ true → word ≡ 0 → ⊥

@@ -1,5 +1,5 @@
 -- Pages and lists stay in order under each step.
-use Rattle.std.proofs.Common.{◌≡◌, ℕ, ◌/◌, ◌≤◌, true, List, [], ◌∷◌, map, Option, Some, None, refl, sym, ap, subst, arith, eqb-true, Contains}
+use Rattle.std.proofs.Common.{◌≡◌, ℕ, ◌/◌, ◌≤◌, true, List, [], ◌∷◌, map, Option, Some, None, refl, sym, ap, subst, eqb-true, Contains}
 use Rattle.std.proofs.lemmas.Bool.{and_parts}
 use Rattle.std.proofs.lemmas.List.{length-replicate}
 use Rattle.mc_classes.specs.Classes.{Classes, IsSound, pages_of}
@@ -7,11 +7,9 @@ use Rattle.mc_pages.specs.declared.ids.ChunkId.{ChunkId}
 use Rattle.mc_pages.specs.declared.ids.Moving.{Moving}
 use Rattle.mc_pages.specs.declared.ledger.Owner.{Owner}
 use Rattle.mc_pages.specs.declared.ledger.Owner.TheVariants.{Untouched}
-use Rattle.mc_pages.specs.ClassState.{ClassState, new_class, popped as class_popped, put_back, replaced, cleared, with_cut}
+use Rattle.mc_pages.specs.ClassState.{ClassState, new_class}
 use Rattle.mc_pages.specs.SlabState.{SlabState, class_at, class_of_page, class_of_chunk}
 use Rattle.mc_pages.specs.Changes as slabs_changes
-use Rattle.mc_pages.proofs.HandedOut.{IsClass-handed_out, IsClass-placed}
-use Rattle.mc_pages.proofs.Redistributed.{Redistributes-popped}
 use Rattle.mc_pages.proofs.Fresh.{IsInOrder-fresh}
 use Rattle.mc_pages.proofs.Kept.{IsInOrder-after_pop, IsInOrder-after_back, IsInOrder-after_replace, IsInOrder-after_clear, IsInOrder-after_cut}
 use Rattle.mc_core.specs.declared.event.Step.{Step}
