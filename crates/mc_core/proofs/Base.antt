@@ -1,5 +1,5 @@
 -- Facts that the proofs of all clauses start from: one header written, a chunk's place in its class, and data words apart.
-use Rattle.std.proofs.Common.{◌≡◌, ◌⊎◌, ℕ, zero, suc, ◌+◌, ◌*◌, ◌/◌, ◌<◌, ◌≤◌, ◌&&◌, Bool, true, false, not, List, [], ◌∷◌, ◌++◌, find, length, Some, None, refl, sym, ap, subst, ◌∙◌, inl, inr, arith, ltb-true, leb-true, eq-eqb, ne_eqb, nat_lt, nat_le, Option, cond, le_trans, mul-le-mul_left, mul-le-mul_right, mul_assoc, mul_comm, add-mul, one-mul, zero-lt-suc, add_assoc, get_or-set_same, get_or-set_other, slice_set, slice_index_or, Contains, All}
+use Rattle.std.proofs.Common.{◌≡◌, ◌⊎◌, ℕ, zero, suc, ◌+◌, ◌*◌, ◌/◌, ◌<◌, ◌≤◌, ◌&&◌, Bool, true, false, not, List, [], ◌∷◌, ◌++◌, find, length, Some, None, refl, sym, ap, subst, ◌∙◌, inl, inr, arith, ltb-true, eq-eqb, ne_eqb, nat_lt, Option, cond, le_trans, mul-le-mul_left, mul-le-mul_right, mul_assoc, mul_comm, add-mul, one-mul, zero-lt-suc, add_assoc, get_or-set_same, get_or-set_other, slice_set, slice_index_or, Contains, All}
 use Rattle.std.proofs.lemmas.List.{get_or_past}
 use Rattle.std.proofs.lemmas.List.Elements.{All-nil, All-cons, All-head, All-tail, All-get_or, All-set, All-push, All-weaker, All-contains, All-contains_itself}
 use Rattle.std.proofs.lemmas.List.Sums.{get_or-le-sum_by}
@@ -74,14 +74,12 @@ pub placed_from : (m : Moment) → IsLawful m → (chunk : ChunkId) → is_cut_t
 placed_from m l chunk h =
     let slabs = m.state.slabs in
     let class = class_of_page slabs chunk.page in
-    let parts = and_parts (nat_le 1 class && nat_le class (length slabs.classes)) (is_cut slabs class chunk) h in
-    let bounds = and_parts (nat_le 1 class) (nat_le class (length slabs.classes)) parts.0 in
-    let cut = and_parts (is_of_class class (owner_at slabs.owners chunk.page)) (nat_lt chunk.index (cut_count slabs.uncut chunk.page (class_at slabs class).per_page)) parts.1 in
+    let cut = and_parts (is_of_class class (owner_at slabs.owners chunk.page)) (nat_lt chunk.index (cut_count slabs.uncut chunk.page (class_at slabs class).per_page)) h in
     let below = ltb-true chunk.index (cut_count slabs.uncut chunk.page (class_at slabs class).per_page) cut.1 in
     let most = cut_within slabs.uncut chunk.page (class_at slabs class).per_page
     (λ next is same. let at = (l.paged.order.1.uncut next is).within in
     let here : (class_of_chunk slabs next).per_page ≡ (class_at slabs class).per_page = ap (λ (p : ℕ). (class_at slabs (class_of_page slabs p)).per_page) same in omega arith) in
-    record { class = (leb-true 1 class bounds.0, leb-true class (length slabs.classes) bounds.1); cut = parts.1; within = omega (arith, below, most) }
+    record { class = l.paged.order.1.accounted.owned class chunk.page cut.0; cut = h; within = omega (arith, below, most) }
 
 not_out : (tag : Tag) → (tag ≡ Unlinked) ⊎ (tag ≡ Linked) → tag ≡ Out → ⊥
 not_out tag (inl is) out = let no : ◌≡◌ {A = Tag} Unlinked Out = sym is ∙ out in absurd (cc)

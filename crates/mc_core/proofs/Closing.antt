@@ -8,7 +8,7 @@ use Rattle.mc_core.specs.declared.head.Head.{Head}
 use Rattle.mc_core.specs.declared.holding.Holding.{Holding}
 use Rattle.mc_core.specs.Head.{is_free, is_out, is_unlinked, is_dead}
 use Rattle.mc_core.specs.State.{has_chunk, head_place, head_at, with_head, has_slabs, with_slabs}
-use Rattle.mc_core.specs.Silent.{is_out_of_class, is_listed}
+use Rattle.mc_core.specs.Silent.{is_handed_out, is_listed}
 use Rattle.mc_core.specs.Chunks.{is_moving_page, with_tag_free, with_tag_out, can_put_back, after_put_back, can_clear, after_clear, is_next_uncut, can_cut, after_cut}
 use Rattle.mc_core.specs.Columns.{holders, link_of}
 use Rattle.mc_core.specs.Past.{Moment}
@@ -56,7 +56,7 @@ module _ (m : Moment) (l : IsLawful m) (hand : ℕ) where
 
   pub put_back_tallied : (chunk : ChunkId) → can_put_back m.state hand chunk ≡ true → IsTallied (after_put_back m.state hand chunk)
   put_back_tallied chunk can =
-      let out = and_parts _ (is_out_of_class m.state.slabs chunk) can in
+      let out = and_parts _ (is_handed_out m.state.slabs chunk) can in
       let dead = and_parts _ (is_dead (head_at m.state chunk)) out.0 in
       let near = and_parts (has_slabs m.state hand) (has_chunk m.state.table chunk) dead.0 in
       closed_tallied (slabs_changes.after_back m.state.slabs chunk) (λ page. refl) chunk (with_tag_free (head_at m.state chunk)) near.1 (dead_none chunk dead.1) refl refl refl

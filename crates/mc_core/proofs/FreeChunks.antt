@@ -1,5 +1,5 @@
 -- The chunks of a free list are chunks of the arena, cut for their class.
-use Rattle.std.proofs.Common.{◌≡◌, ℕ, ◌/◌, ◌<◌, ◌≤◌, ◌&&◌, Bool, true, Some, sym, ap, ◌∙◌, arith, subst, inl, inr, nat_le, nat_lt, length, find, lt-ltb, le-leb, le_trans, mul-le-mul_left, div-mul-le_self}
+use Rattle.std.proofs.Common.{◌≡◌, ℕ, ◌/◌, ◌<◌, ◌≤◌, ◌&&◌, Bool, true, Some, sym, ap, ◌∙◌, arith, subst, inl, inr, nat_lt, length, find, lt-ltb, le_trans, mul-le-mul_left, div-mul-le_self}
 use Rattle.std.proofs.lemmas.Bool.{cases_Bool, cases_lt, and_parts, and_from}
 use Rattle.std.proofs.lemmas.List.{get_or_past}
 use Rattle.std.proofs.lemmas.Nat.{le-div}
@@ -61,8 +61,7 @@ module _ (m : Moment) (l : IsLawful m) where
   placed_in class chunk is cut =
       let own = class_of_owner-is_of_class class (owner_at slabs.owners chunk.page) (and_parts (is_of_class class (owner_at slabs.owners chunk.page)) (nat_lt chunk.index (cut_count slabs.uncut chunk.page (class_at slabs class).per_page)) cut).0 in (
         own,
-        placed_from m l chunk (subst (λ (c : ℕ). (nat_le 1 c && nat_le c (length slabs.classes) && is_cut slabs c chunk) ≡ true) (sym own)
-            (and_from _ _ (and_from _ _ (le-leb 1 class is.0) (le-leb class (length slabs.classes) is.1)) cut)),
+        placed_from m l chunk (subst (λ (c : ℕ). is_cut slabs c chunk ≡ true) (sym own) cut),
       )
 
   -- a chunk of a free list

@@ -14,7 +14,7 @@ use Rattle.mc_core.specs.declared.holding.Purpose.{Purpose}
 use Rattle.mc_core.specs.declared.holding.Purpose.TheVariants.{Item, Copy}
 use Rattle.mc_core.specs.Head.{is_free}
 use Rattle.mc_core.specs.State.{State, is_class, has_chunk, head_place, head_at, room_in, is_hand, has_slabs, with_slabs, holdings_at}
-use Rattle.mc_core.specs.Silent.{is_out_of_class}
+use Rattle.mc_core.specs.Silent.{is_handed_out}
 use Rattle.mc_core.specs.Chunks.{most_issue, has_place, can_hand_out, handed_out, with_fresh, new_holding, next_free, can_pop, popped, after_pop, target_of, is_target, popped_off, can_pop_off, after_pop_off}
 use Rattle.mc_core.specs.Columns.{Shows, holders, link_of}
 use Rattle.mc_core.specs.Past.{Moment}
@@ -126,7 +126,7 @@ module _ (m : Moment) (l : IsLawful m) (hand : ℕ) where
   pop_off_by P old can each =
       let parts = and_parts _ (can_hand_out m.state (target_of m.state old.page)) can in
       let more = and_parts _ (has_place m.state hand) parts.0 in
-      let out = and_parts _ (is_out_of_class m.state.slabs old) more.0 in
+      let out = and_parts _ (is_handed_out m.state.slabs old) more.0 in
       let class = class_of_page m.state.slabs old.page in
       let is = IsClass-handed_out m.state.slabs old l.paged.of_table.accounted (Contains_from_among (class_at m.state.slabs class).order old out.1) in
       elim (target_of m.state old.page) as (λ o. target_of m.state old.page ≡ o → can_hand_out m.state o ≡ true → P (popped_off m.state hand old o)) [

@@ -11,7 +11,7 @@ use Rattle.mc_core.specs.declared.head.Tag.TheVariants.{Unlinked, Linked}
 use Rattle.mc_core.specs.Holdings.{is_of, holding_of}
 use Rattle.mc_core.specs.Head.{is_free, is_out, is_unlinked, is_dead, is_linked}
 use Rattle.mc_core.specs.State.{has_chunk, head_place, head_at, has_slabs, holdings_at}
-use Rattle.mc_core.specs.Silent.{is_out_of_class, is_listed}
+use Rattle.mc_core.specs.Silent.{is_handed_out, is_listed}
 use Rattle.mc_core.specs.Chunks.{handed_out, holds_as, after_drop, let_go, can_pop, after_pop, can_pop_off, after_pop_off, with_tag_free, with_tag_out, can_put_back, after_put_back, can_clear, after_clear, is_next_uncut, can_cut, after_cut, is_moving_page}
 use Rattle.mc_core.specs.Items.{can_count, referred, with_reference, can_again, has_place_again}
 use Rattle.mc_core.specs.Indexed.{AreIndexed}
@@ -78,7 +78,7 @@ module _ (m : Moment) (l : IsLawful m) where
 
   pub put_back_indexed : (hand : ℕ) (chunk : ChunkId) → can_put_back m.state hand chunk ≡ true → IsIndexed (after_put_back m.state hand chunk)
   put_back_indexed hand chunk can =
-      let out = and_parts _ (is_out_of_class m.state.slabs chunk) can in
+      let out = and_parts _ (is_handed_out m.state.slabs chunk) can in
       let dead = and_parts _ (is_dead (head_at m.state chunk)) out.0 in
       let near = and_parts (has_slabs m.state hand) (has_chunk m.state.table chunk) dead.0 in
       closed_indexed (slabs_changes.after_back m.state.slabs chunk) (λ page. refl) chunk (with_tag_free (head_at m.state chunk)) near.1 (dead_not_linked chunk dead.1) (λ never. cc)

@@ -18,7 +18,7 @@ use Rattle.mc_core.specs.declared.look.Look.{Look}
 use Rattle.mc_core.specs.Head.{is_linked, is_dead, is_out, is_free}
 use Rattle.mc_core.specs.Holdings.{is_of, holding_of, has_fresh}
 use Rattle.mc_core.specs.State.{State, has_chunk, head_at, has_slabs, with_head, with_slabs, with_look, with_stripe, stripe_at, stripe_of, is_class, holdings_at}
-use Rattle.mc_core.specs.Silent.{writer_of, is_out_of_class, is_listed}
+use Rattle.mc_core.specs.Silent.{writer_of, is_handed_out, is_listed}
 use Rattle.mc_core.specs.Locks.{looked}
 use Rattle.mc_core.specs.Chunks.{handed_out, let_go, with_tag_free, with_tag_out, new_holding, with_fresh, next_free, popped, popped_off, target_of, is_target, has_place, can_hand_out, after_drop, holds_as, is_next_uncut, is_moving_page}
 use Rattle.mc_core.specs.Items.{unlinked, stripe_unlinked, chunk_of, is_linked_at, with_unlinked}
@@ -64,7 +64,7 @@ module _ (m : Moment) (hand : ℕ) where
 
   pub known_put_back : (chunk : ChunkId) → MayStep m hand (PutBack chunk) → KnownIn (moment_stepped m hand (PutBack chunk))
   known_put_back chunk may =
-      let parts = and_parts _ (is_out_of_class m.state.slabs chunk) may.allowed in
+      let parts = and_parts _ (is_handed_out m.state.slabs chunk) may.allowed in
       let more = and_parts _ (is_dead (head_at m.state chunk)) parts.0 in
       let near = (and_parts (has_slabs m.state hand) (has_chunk m.state.table chunk) more.0).1 in
       known_header may.lawful (slabs_changes.after_back m.state.slabs chunk) chunk (with_tag_free (head_at m.state chunk)) (λ page. refl) near (younger_free (head_at m.state chunk)) refl
@@ -145,7 +145,7 @@ module _ (m : Moment) (hand : ℕ) where
       let l = may.lawful in
       let parts = and_parts _ (can_hand_out m.state (target_of m.state old.page)) may.allowed in
       let more = and_parts _ (has_place m.state hand) parts.0 in
-      let out = and_parts _ (is_out_of_class m.state.slabs old) more.0 in
+      let out = and_parts _ (is_handed_out m.state.slabs old) more.0 in
       let class = class_of_page m.state.slabs old.page in
       let is = IsClass-handed_out m.state.slabs old l.paged.of_table.accounted (Contains_from_among (class_at m.state.slabs class).order old out.1) in
       elim (target_of m.state old.page) as (λ o. target_of m.state old.page ≡ o → can_hand_out m.state o ≡ true → KnownAt (popped_off m.state hand old o) (with_more m.past.said hand []) (with_more m.past.known hand [])) [

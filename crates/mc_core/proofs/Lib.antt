@@ -11,7 +11,6 @@ pub mod SamePages
 pub mod SameSlabs
 pub mod StepTests
 pub mod Sized
-pub mod Spare
 pub mod PagedChanges
 pub mod PagedSteps
 pub mod StripesKept

@@ -1,24 +1,22 @@
 -- Pages and lists stay in order under each silent change.
-use Rattle.std.proofs.Common.{◌≡◌, ℕ, ◌+◌, ◌≤◌, ◌==◌, ◌&&◌, Bool, true, false, length, Option, Some, None, Result, Ok, Err, refl, sym, subst, inl, inr, arith, is_none, is_some, eqb-true, leb-true, nat_le, nat_lt, if◌then◌else◌}
+use Rattle.std.proofs.Common.{◌≡◌, ℕ, ◌+◌, ◌&&◌, true, length, Option, Some, None, Result, Ok, Err, refl, sym, subst, inl, inr, arith, is_none, is_some, eqb-true, leb-true, nat_le}
 use Rattle.std.proofs.lemmas.Bool.{and_parts, cases_lt}
 use Rattle.mc_classes.specs.Classes.{Classes}
 use Rattle.mc_pages.specs.declared.ids.ChunkId.{ChunkId}
 use Rattle.mc_pages.specs.declared.ids.Moving.{Moving}
 use Rattle.mc_pages.specs.declared.moves.Found.{Found}
 use Rattle.mc_pages.specs.declared.moves.Reassign.{Reassign}
-use Rattle.mc_pages.specs.ClassState.{touched, evicted}
-use Rattle.mc_pages.specs.SlabState.{SlabState, IsClass, class_at, class_of_page, class_of_chunk}
+use Rattle.mc_pages.specs.SlabState.{SlabState, IsClass, class_of_chunk}
 use Rattle.mc_pages.specs.Answer.{answer_of}
-use Rattle.mc_pages.specs.Changes.{next_page, after_take, after_grant, after_grow, after_touch, after_evicted}
-use Rattle.mc_pages.specs.Moves.{after_finish, after_passed, after_wrap, moved_on, begun_anew, finished}
+use Rattle.mc_pages.specs.Changes.{next_page, after_grant, after_grow, after_touch, after_evicted}
+use Rattle.mc_pages.specs.Moves.{after_finish, after_passed, after_wrap}
 use Rattle.mc_pages.specs.InOrder.{IsInOrder}
-use Rattle.mc_pages.proofs.HandedOut.{IsClass-handed_out}
 use Rattle.mc_pages.proofs.Kept.{IsInOrder-after_grant, IsInOrder-after_take, IsInOrder-after_begin, IsInOrder-after_touch, IsInOrder-after_evicted, IsInOrder-after_passed, IsInOrder-after_wrap, IsInOrder-automove, IsInOrder-finished}
 use Rattle.mc_pages.proofs.RoomyGrow.{next_pooled, next_granted, grow_takes, grow_grants}
 use Rattle.mc_core.specs.declared.event.Change.{Change}
 use Rattle.mc_core.specs.declared.event.Change.TheVariants.{Grow, BeginMove, FinishMove, Touch, SetAutomove, Passed, Wrap, Evicted, Reserve, GotNone, DeletedNone}
 use Rattle.mc_core.specs.State.{is_class, number_at, has_slabs, is_held_by}
-use Rattle.mc_core.specs.Silent.{is_out_of_class, is_whole, can_finish, can_pass, can_wrap, run_of, grown, begun, can_change_slabs, slabs_after}
+use Rattle.mc_core.specs.Silent.{is_handed_out, is_whole, can_finish, can_pass, can_wrap, run_of, grown, begun, can_change_slabs, slabs_after}
 use Rattle.mc_core.specs.Places.{ArePaged}
 use Rattle.mc_core.specs.Past.{Moment}
 use Rattle.mc_core.specs.Lawful.{PagedIn}
@@ -26,8 +24,6 @@ use Rattle.mc_core.specs.Laws.{ChangesKeep}
 use Rattle.mc_core.proofs.OfTable.{HasShape, of_table, grow_shape, begin_shape, finish_shape, touch_shape, evicted_shape, passed_shape, wrap_shape}
 use Rattle.mc_core.proofs.Listed.{Contains_from_among, IsClass_from}
 use Rattle.mc_core.proofs.Asked.{finish_asked, pass_asked, wrap_asked}
-use Rattle.mc_core.proofs.SamePages.{arrived_if}
-use Rattle.mc_core.proofs.Spare.{HasSpare, spare_with_class, spare_grown, spare_begun, spare_finished, spare_moved}
 
 -- a lock that somebody has isn't free
 pub lock_not_free : (word : ℕ) (number : Option ℕ) → is_held_by word number ≡ true → word ≡ 0 → ⊥
@@ -42,8 +38,6 @@ whole_is (Some chunk) h = absurd (cc)
 pub record StayPaged (old new : SlabState) : Type 0 where
   pub shape : HasShape old new
   pub order : (granted : ℕ) × IsInOrder new granted
-  pub automove : new.automove ≤ 2
-  pub source : HasSpare new new.moving
 
 -- under the lock a page may be half cut
 pub paged_from : (table : Classes) (old new : SlabState) (lock : ℕ) → ArePaged table old lock → StayPaged old new → (lock ≡ 0 → ⊥) → ArePaged table new lock
@@ -51,13 +45,11 @@ paged_from table old new lock was now held = record {
   of_table = of_table table old new was.of_table now.shape now.order.1.accounted;
   order = now.order;
   whole = λ free. absurd (held free);
-  automove = now.automove;
-  source = now.source;
 }
 
 module _ (table : Classes) (slabs : SlabState) (lock : ℕ) (paged : ArePaged table slabs lock) where
   stays : StayPaged slabs slabs
-  stays = record { shape = record { counts = refl; owners = refl }; order = paged.order; automove = paged.automove; source = paged.source }
+  stays = record { shape = record { counts = refl; owners = refl }; order = paged.order }
 
   grow_order : (class page : ℕ) → IsClass slabs class → slabs.uncut ≡ None → next_page slabs ≡ Some page → (granted : ℕ) × IsInOrder (after_grow slabs class page) granted
   grow_order class page is whole next =
@@ -71,9 +63,6 @@ module _ (table : Classes) (slabs : SlabState) (lock : ℕ) (paged : ArePaged ta
             (granted + 1, subst (λ (s : SlabState). IsInOrder s (granted + 1)) (sym (grow_grants slabs class page empty)) (subst (λ p. IsInOrder (after_grant slabs class p) (granted + 1)) (sym first.0) grants))
       ]
 
-  grow_automove : (class page : ℕ) → (after_grow slabs class page).automove ≡ slabs.automove
-  grow_automove class page = elim (nat_lt 0 (length slabs.pool)) as (λ (b : Bool). (if b then after_take slabs class page else after_grant slabs class page).automove ≡ slabs.automove) [ true ↦ refl | false ↦ refl ]
-
   grown_paged : (class : ℕ) (next : Option ℕ) → next_page slabs ≡ next → is_class table class ≡ true → is_whole slabs ≡ true → StayPaged slabs (grown slabs class next)
   grown_paged class None is named whole = stays
   grown_paged class (Some page) is named whole =
@@ -81,8 +70,6 @@ module _ (table : Classes) (slabs : SlabState) (lock : ℕ) (paged : ArePaged ta
       record {
         shape = grow_shape slabs class page;
         order = grow_order class page class_is (whole_is slabs.uncut whole) is;
-        automove = subst (λ n. n ≤ 2) (sym (grow_automove class page)) paged.automove;
-        source = spare_grown slabs class page paged.order.1.accounted class_is paged.source;
       }
 
   begun_paged : (src : Option ℕ) (dst : ℕ) (answer : Result ℕ Reassign) → answer_of slabs src dst ≡ answer → StayPaged slabs (begun slabs src dst answer)
@@ -90,12 +77,7 @@ module _ (table : Classes) (slabs : SlabState) (lock : ℕ) (paged : ArePaged ta
   begun_paged src dst (Ok source) is = record {
     shape = begin_shape slabs src dst source;
     order = (paged.order.0, IsInOrder-after_begin slabs paged.order.0 src source dst paged.order.1 is);
-    automove = paged.automove;
-    source = spare_begun slabs src dst (Ok source) is paged.source;
   }
-
-  finish_automove : (move : Moving) → (finished slabs move).automove ≡ slabs.automove
-  finish_automove move = elim (move.dst == 0) as (λ (b : Bool). (arrived_if slabs move b).automove ≡ slabs.automove) [ true ↦ refl | false ↦ refl ]
 
   finished_paged : can_finish slabs slabs.moving ≡ true → StayPaged slabs (after_finish slabs slabs.moving)
   finished_paged can =
@@ -105,19 +87,15 @@ module _ (table : Classes) (slabs : SlabState) (lock : ℕ) (paged : ArePaged ta
       (record {
         shape = finish_shape slabs (Some move);
         order = (paged.order.0, IsInOrder-finished slabs paged.order.0 move paged.order.1 asked.0 may);
-        automove = subst (λ n. n ≤ 2) (sym (finish_automove move)) paged.automove;
-        source = spare_finished slabs move;
       })
 
-  touched_paged : (chunk : ChunkId) → is_out_of_class slabs chunk ≡ true → StayPaged slabs (after_touch slabs chunk)
+  touched_paged : (chunk : ChunkId) → is_handed_out slabs chunk ≡ true → StayPaged slabs (after_touch slabs chunk)
   touched_paged chunk out =
       let handed = Contains_from_among (class_of_chunk slabs chunk).order chunk out in
       let all = paged.order.1.accounted in
       record {
         shape = touch_shape slabs chunk;
         order = (paged.order.0, IsInOrder-after_touch slabs paged.order.0 chunk paged.order.1 handed);
-        automove = paged.automove;
-        source = spare_with_class slabs (class_of_page slabs chunk.page) (touched (class_of_chunk slabs chunk) chunk) all (IsClass-handed_out slabs chunk all handed) refl paged.source;
       }
 
   evicted_paged : (class : ℕ) → is_class table class ≡ true → StayPaged slabs (after_evicted slabs class)
@@ -126,8 +104,6 @@ module _ (table : Classes) (slabs : SlabState) (lock : ℕ) (paged : ArePaged ta
       record {
         shape = evicted_shape slabs class;
         order = (paged.order.0, IsInOrder-after_evicted slabs paged.order.0 class paged.order.1 is);
-        automove = paged.automove;
-        source = spare_with_class slabs class (evicted (class_at slabs class)) paged.order.1.accounted is refl paged.source;
       }
 
   passed_paged : (found : Found) → can_pass slabs found (run_of table slabs.moving) ≡ true → StayPaged slabs (after_passed slabs found)
@@ -136,8 +112,6 @@ module _ (table : Classes) (slabs : SlabState) (lock : ℕ) (paged : ArePaged ta
       record {
         shape = passed_shape slabs found;
         order = (paged.order.0, IsInOrder-after_passed slabs paged.order.0 found asked.0 paged.order.1 asked.1);
-        automove = paged.automove;
-        source = spare_moved slabs slabs.moving (λ (m : Moving). moved_on m found) (λ m. refl) paged.source;
       }
 
   wrapped_paged : can_wrap (run_of table slabs.moving) ≡ true → StayPaged slabs (after_wrap slabs)
@@ -146,16 +120,12 @@ module _ (table : Classes) (slabs : SlabState) (lock : ℕ) (paged : ArePaged ta
       record {
         shape = wrap_shape slabs;
         order = (paged.order.0, IsInOrder-after_wrap slabs paged.order.0 asked.0 paged.order.1 asked.1);
-        automove = paged.automove;
-        source = spare_moved slabs slabs.moving begun_anew (λ m. refl) paged.source;
       }
 
   automove_paged : (mode : ℕ) → nat_le mode 2 ≡ true → StayPaged slabs (record slabs { automove = mode })
   automove_paged mode few = record {
     shape = record { counts = refl; owners = refl };
-    order = (paged.order.0, IsInOrder-automove slabs paged.order.0 mode paged.order.1);
-    automove = leb-true mode 2 few;
-    source = paged.source;
+    order = (paged.order.0, IsInOrder-automove slabs paged.order.0 mode (leb-true mode 2 few) paged.order.1);
   }
 
 -- each change of pages and lists that is allowed

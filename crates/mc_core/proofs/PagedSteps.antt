@@ -1,5 +1,5 @@
 -- Pages and lists stay in order under each step.
-use Rattle.std.proofs.Common.{◌≡◌, ℕ, ◌/◌, ◌≤◌, true, List, [], ◌∷◌, map, Option, Some, None, refl, sym, ap, subst, arith, eqb-true, Contains}
+use Rattle.std.proofs.Common.{◌≡◌, ℕ, ◌/◌, ◌≤◌, true, List, [], ◌∷◌, map, Option, Some, None, refl, sym, ap, subst, eqb-true, Contains}
 use Rattle.std.proofs.lemmas.Bool.{and_parts}
 use Rattle.std.proofs.lemmas.List.{length-replicate}
 use Rattle.mc_classes.specs.Classes.{Classes, IsSound, pages_of}
@@ -7,11 +7,9 @@ use Rattle.mc_pages.specs.declared.ids.ChunkId.{ChunkId}
 use Rattle.mc_pages.specs.declared.ids.Moving.{Moving}
 use Rattle.mc_pages.specs.declared.ledger.Owner.{Owner}
 use Rattle.mc_pages.specs.declared.ledger.Owner.TheVariants.{Untouched}
-use Rattle.mc_pages.specs.ClassState.{ClassState, new_class, popped as class_popped, put_back, replaced, cleared, with_cut}
+use Rattle.mc_pages.specs.ClassState.{ClassState, new_class}
 use Rattle.mc_pages.specs.SlabState.{SlabState, class_at, class_of_page, class_of_chunk}
 use Rattle.mc_pages.specs.Changes as slabs_changes
-use Rattle.mc_pages.proofs.HandedOut.{IsClass-handed_out, IsClass-placed}
-use Rattle.mc_pages.proofs.Redistributed.{Redistributes-popped}
 use Rattle.mc_pages.proofs.Fresh.{IsInOrder-fresh}
 use Rattle.mc_pages.proofs.Kept.{IsInOrder-after_pop, IsInOrder-after_back, IsInOrder-after_replace, IsInOrder-after_clear, IsInOrder-after_cut}
 use Rattle.mc_core.specs.declared.event.Step.{Step}
@@ -19,7 +17,7 @@ use Rattle.mc_core.specs.declared.event.Step.TheVariants.{TakeSlabs, TakeStripe,
 use Rattle.mc_core.specs.declared.event.Step.TheVariants as step
 use Rattle.mc_core.specs.Holdings.{is_of, holding_of}
 use Rattle.mc_core.specs.State.{State, is_class, number_at, has_slabs, with_slabs, item_at, holdings_at, without_holding}
-use Rattle.mc_core.specs.Silent.{is_out_of_class, is_listed, is_whole}
+use Rattle.mc_core.specs.Silent.{is_handed_out, is_listed, is_whole}
 use Rattle.mc_core.specs.Chunks.{next_free, is_moving_page, is_target, target_of, is_next_uncut, popped_off, can_pop, after_pop, can_pop_off, after_pop_off, can_put_back, after_put_back, can_clear, after_clear, can_cut, after_cut}
 use Rattle.mc_core.specs.Items.{with_got, chunk_of}
 use Rattle.mc_core.specs.Evictions.{with_told, key_at}
@@ -32,7 +30,6 @@ use Rattle.mc_core.proofs.OfTable.{pop_shape, back_shape, replace_shape, clear_s
 use Rattle.mc_core.proofs.Listed.{Contains_from_among, IsClass_from, found_among, page_of_move, next_uncut_is, places_from_listed}
 use Rattle.mc_core.proofs.SameSlabs.{looked_keeps, popped_keeps, refilled_keeps, told_link_keeps, linked_keeps, referred_keeps, unlinked_keeps, bound_keeps}
 use Rattle.mc_core.proofs.StepTests.{pop_tests, pop_off_tests, put_back_tests, clear_tests, cut_tests}
-use Rattle.mc_core.proofs.Spare.{spare_with_class}
 use Rattle.mc_core.proofs.PagedChanges.{StayPaged, paged_from, lock_not_free, whole_is}
 
 module _ (table : Classes) (slabs : SlabState) (lock : ℕ) (paged : ArePaged table slabs lock) where
@@ -42,30 +39,24 @@ module _ (table : Classes) (slabs : SlabState) (lock : ℕ) (paged : ArePaged ta
       record {
         shape = pop_shape slabs class;
         order = (paged.order.0, IsInOrder-after_pop slabs paged.order.0 class paged.order.1 is);
-        automove = paged.automove;
-        source = spare_with_class slabs class (class_popped (class_at slabs class)) paged.order.1.accounted is (Redistributes-popped (class_at slabs class)).pages paged.source;
       }
 
-  replaced_paged : (new old : ChunkId) → Contains (class_of_chunk slabs old).free new → is_out_of_class slabs old ≡ true → StayPaged slabs (slabs_changes.after_replace slabs new old)
+  replaced_paged : (new old : ChunkId) → Contains (class_of_chunk slabs old).free new → is_handed_out slabs old ≡ true → StayPaged slabs (slabs_changes.after_replace slabs new old)
   replaced_paged new old free out =
       let handed = Contains_from_among (class_of_chunk slabs old).order old out in
       let all = paged.order.1.accounted in
       record {
         shape = replace_shape slabs new old;
         order = (paged.order.0, IsInOrder-after_replace slabs paged.order.0 new old paged.order.1 free handed);
-        automove = paged.automove;
-        source = spare_with_class slabs (class_of_page slabs old.page) (replaced (class_of_chunk slabs old) new old) all (IsClass-handed_out slabs old all handed) refl paged.source;
       }
 
-  back_paged : (chunk : ChunkId) → is_out_of_class slabs chunk ≡ true → StayPaged slabs (slabs_changes.after_back slabs chunk)
+  back_paged : (chunk : ChunkId) → is_handed_out slabs chunk ≡ true → StayPaged slabs (slabs_changes.after_back slabs chunk)
   back_paged chunk out =
       let handed = Contains_from_among (class_of_chunk slabs chunk).order chunk out in
       let all = paged.order.1.accounted in
       record {
         shape = back_shape slabs chunk;
         order = (paged.order.0, IsInOrder-after_back slabs paged.order.0 chunk paged.order.1 handed);
-        automove = paged.automove;
-        source = spare_with_class slabs (class_of_page slabs chunk.page) (put_back (class_of_chunk slabs chunk) chunk) all (IsClass-handed_out slabs chunk all handed) refl paged.source;
       }
 
   cleared_paged : (chunk : ChunkId) → is_moving_page slabs chunk.page ≡ true → is_listed slabs (class_of_page slabs chunk.page) chunk ≡ true → StayPaged slabs (slabs_changes.after_clear slabs chunk)
@@ -75,8 +66,6 @@ module _ (table : Classes) (slabs : SlabState) (lock : ℕ) (paged : ArePaged ta
       record {
         shape = clear_shape slabs chunk;
         order = (paged.order.0, IsInOrder-after_clear slabs paged.order.0 chunk paged.order.1 (page_of_move slabs.moving chunk.page moves) placed);
-        automove = paged.automove;
-        source = spare_with_class slabs (class_of_page slabs chunk.page) (cleared (class_of_chunk slabs chunk) chunk) all (IsClass-placed slabs chunk all placed) refl paged.source;
       }
 
   cut_paged : (chunk : ChunkId) → is_next_uncut slabs chunk ≡ true → StayPaged slabs (slabs_changes.after_cut slabs chunk)
@@ -86,8 +75,6 @@ module _ (table : Classes) (slabs : SlabState) (lock : ℕ) (paged : ArePaged ta
       record {
         shape = cut_shape slabs chunk;
         order = (paged.order.0, IsInOrder-after_cut slabs paged.order.0 chunk kept is);
-        automove = paged.automove;
-        source = spare_with_class slabs (class_of_page slabs chunk.page) (with_cut (class_of_chunk slabs chunk) chunk) kept.accounted (kept.uncut chunk is).owned refl paged.source;
       }
 
 -- what the clause reads
@@ -111,7 +98,7 @@ target_free state page chunk is =
     let free = (class_at state.slabs (class_of_page state.slabs page)).free in
     Contains_from_among free chunk (found_among (is_target state page) free chunk is)
 
-popped_off_paged : (state : State) (hand : ℕ) (old : ChunkId) (next : Option ChunkId) → target_of state old.page ≡ next → Paged (pages_part state) → has_slabs state hand ≡ true → is_out_of_class state.slabs old ≡ true →
+popped_off_paged : (state : State) (hand : ℕ) (old : ChunkId) (next : Option ChunkId) → target_of state old.page ≡ next → Paged (pages_part state) → has_slabs state hand ≡ true → is_handed_out state.slabs old ≡ true →
     Paged (pages_part (popped_off state hand old next))
 popped_off_paged state hand old None is was held out = was
 popped_off_paged state hand old (Some chunk) is was held out =
@@ -146,7 +133,7 @@ module _ (state : State) (hand : ℕ) (was : Paged (pages_part state)) where
 
   -- the lock's word changes, and no page is half cut
   relocked : (lock : ℕ) → state.slabs.uncut ≡ None → ArePaged state.table state.slabs lock
-  relocked lock whole = record { of_table = was.of_table; order = was.order; whole = λ free. whole; automove = was.automove; source = was.source }
+  relocked lock whole = record { of_table = was.of_table; order = was.order; whole = λ free. whole }
 
 -- a step that changes nothing of this
 passes : (state : State) (hand : ℕ) (step : Step) → Paged (pages_part state) → pages_part (after_step state hand step) ≡ pages_part state → Paged (pages_part (after_step state hand step))
@@ -203,6 +190,4 @@ paged_first table stripes hands sound some someone few =
       of_table = record { per_page = per_pages table.page table.sizes; owners = length-replicate {A = Owner} (pages_of table) Untouched; accounted = kept.accounted };
       order = (0, kept);
       whole = λ free. refl;
-      automove = omega arith;
-      source = λ move h. absurd (no_move move h);
     }

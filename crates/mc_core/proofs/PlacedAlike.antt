@@ -6,7 +6,7 @@ use Rattle.mc_pages.specs.declared.ids.ChunkId.{ChunkId}
 use Rattle.mc_pages.specs.Ledger.{owner_at}
 use Rattle.mc_pages.specs.ClassState.{times}
 use Rattle.mc_pages.specs.SlabState.{SlabState, IsClass, class_at, class_of_page}
-use Rattle.mc_pages.specs.Accounted.{truth, is_cut, is_moving}
+use Rattle.mc_pages.specs.Accounted.{truth, is_cut, is_moving, IsAccounted}
 use Rattle.mc_core.specs.declared.head.Head.{Head}
 use Rattle.mc_core.specs.declared.head.Tag.{Tag}
 use Rattle.mc_core.specs.declared.head.Tag.TheVariants.{Out, Free, Unlinked, Linked}
@@ -80,7 +80,7 @@ truth_none false h = refl
 and_none : (a b : Bool) → a ≡ true → truth (a && b) ≡ 0 → b ≡ false
 and_none a b h none = truth_none b (sym (ap (λ (x : Bool). truth (x && b)) h) ∙ none)
 
-module _ (table : Classes) (slabs now : SlabState) (heads : List Head) (placed : ArePlaced table slabs heads) (listed : AreListed slabs now) where
+module _ (table : Classes) (slabs now : SlabState) (heads : List Head) (all : IsAccounted slabs) (placed : ArePlaced table slabs heads) (listed : AreListed slabs now) where
   was_class : (class : ℕ) → IsClass now class → IsClass slabs class
   was_class class is = let same = listed.classes in (is.0, omega (arith, is.1, same))
 
@@ -112,15 +112,13 @@ module _ (table : Classes) (slabs now : SlabState) (heads : List Head) (placed :
     | inl before ↦
         let class = class_of_page slabs chunk.page in
         let tag = (head_in table heads chunk).tag in
-        let was = cut_there slabs chunk before in
-        let same = listed.classes in
-        let is : IsClass now class = (was.0.0, omega (arith, was.0.1, same)) in
-        elim (listed.cut class chunk was.0) [
-          | inl kept ↦ absurd (both_ways _ uncut (cut_there_from now class chunk is (kept ∙ was.1)))
+        let is = cut_there slabs chunk all before in
+        elim (listed.cut class chunk is) [
+          | inl kept ↦ absurd (both_ways _ uncut (cut_there_from now class chunk (kept ∙ before)))
           | inr gone ↦
-              let free : truth (is_cut slabs class chunk && is_free tag) ≡ 0 = sym (placed.free class chunk was.0) ∙ gone.1.0 in
-              let hand : truth (is_cut slabs class chunk && is_in_hand tag) ≡ 0 = sym (placed.order class chunk was.0) ∙ gone.1.1 in
-              out_else tag (and_none (is_cut slabs class chunk) (is_free tag) was.1 free) (and_none (is_cut slabs class chunk) (is_in_hand tag) was.1 hand)
+              let free : truth (is_cut slabs class chunk && is_free tag) ≡ 0 = sym (placed.free class chunk is) ∙ gone.1.0 in
+              let hand : truth (is_cut slabs class chunk && is_in_hand tag) ≡ 0 = sym (placed.order class chunk is) ∙ gone.1.1 in
+              out_else tag (and_none (is_cut slabs class chunk) (is_free tag) before free) (and_none (is_cut slabs class chunk) (is_in_hand tag) before hand)
         ]
   ]
 

@@ -28,7 +28,7 @@ use Rattle.mc_pages.proofs.RoomyGrow.{next_within}
 use Rattle.mc_core.specs.declared.event.Change.{Change}
 use Rattle.mc_core.specs.declared.event.Change.TheVariants.{Grow, BeginMove, FinishMove, Touch, SetAutomove, Passed, Wrap, Evicted, Reserve, GotNone, DeletedNone}
 use Rattle.mc_core.specs.State.{is_class, has_slabs}
-use Rattle.mc_core.specs.Silent.{is_out_of_class, is_whole, has_page, can_finish, grown, begun, can_change_slabs, slabs_after}
+use Rattle.mc_core.specs.Silent.{is_handed_out, is_whole, has_page, can_finish, grown, begun, can_change_slabs, slabs_after}
 use Rattle.mc_core.specs.Places.{ArePaged, ArePlaced}
 use Rattle.mc_core.specs.Past.{Moment}
 use Rattle.mc_core.specs.Lawful.{IsLawful, PlacedIn}
@@ -85,7 +85,7 @@ touched_times : (chunk other : ChunkId) (order : List ChunkId) → 1 ≤ times c
 touched_times chunk other order some = omega (arith, times-push other chunk (without chunk order), times-without other chunk order some)
 
 module _ (slabs : SlabState) (granted : ℕ) (kept : IsInOrder slabs granted) where
-  touch_listed : (chunk : ChunkId) → is_out_of_class slabs chunk ≡ true → AreListed slabs (after_touch slabs chunk)
+  touch_listed : (chunk : ChunkId) → is_handed_out slabs chunk ≡ true → AreListed slabs (after_touch slabs chunk)
   touch_listed chunk out =
       let own = class_of_chunk slabs chunk in
       let handed = Contains_from_among own.order chunk out in
@@ -261,7 +261,7 @@ under_lock : (moment : Moment) (hand : ℕ) (change : Change) → IsLawful momen
 under_lock moment hand change lawful allowed =
     let state = moment.state in
     let parts = and_parts (has_slabs state hand) (can_change_slabs state.table state.slabs change) allowed in
-    placed_listed state.table state.slabs (slabs_after state.slabs change) state.heads lawful.placed (slabs_listed state.table state.slabs state.slabs_lock lawful.paged change parts.1)
+    placed_listed state.table state.slabs (slabs_after state.slabs change) state.heads lawful.paged.order.1.accounted lawful.placed (slabs_listed state.table state.slabs state.slabs_lock lawful.paged change parts.1)
 
 pub placed_changes : ChangesKeep PlacedIn
 placed_changes moment hand (Grow class) may = under_lock moment hand (Grow class) may.lawful may.allowed

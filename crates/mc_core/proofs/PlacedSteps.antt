@@ -17,7 +17,7 @@ use Rattle.mc_core.specs.declared.head.Tag.{Tag}
 use Rattle.mc_core.specs.declared.head.Tag.TheVariants.{Out, Free, Unlinked, Linked}
 use Rattle.mc_core.specs.Head.{never_cut, is_free, is_out, is_unlinked, is_linked, is_dead}
 use Rattle.mc_core.specs.State.{State, is_class, has_chunk, head_place, most_of, head_at, has_slabs, with_slabs, item_at, holdings_at, without_holding}
-use Rattle.mc_core.specs.Silent.{is_out_of_class, is_listed}
+use Rattle.mc_core.specs.Silent.{is_handed_out, is_listed}
 use Rattle.mc_core.specs.Chunks.{has_place, can_hand_out, next_free, is_moving_page, is_target, target_of, is_next_uncut, handed_out, let_go, with_tag_free, with_tag_out, popped, popped_off, can_put_back, after_put_back, can_clear, after_clear, can_cut, after_cut}
 use Rattle.mc_core.specs.declared.event.Step.{Step}
 use Rattle.mc_core.specs.declared.event.Step.TheVariants.{TakeSlabs, TakeStripe, MissSlabs, MissStripe, GiveSlabs, GiveStripe, Pop, PopOff, Fill, Word, WordHeld, Link, Refer, Unlink, Release, Discard, Condemn, PutBack, Clear, Cut, Again, Join}
@@ -76,7 +76,7 @@ module _ (m : Moment) (l : IsLawful m) where
   -- a header is written, and its chunk changes its list
   written : (class : ℕ) (state : ClassState) (uncut : Option ChunkId) (chunk : ChunkId) (head : Head) → Changes table slabs class state uncut chunk head.tag →
       ArePlaced table (record (slabs_changes.with_class slabs class state) { uncut = uncut }) (slice_set heads (head_place table chunk) head)
-  written class state uncut chunk head change = placed_written table slabs heads class state uncut chunk head l.placed l.sized.headers near change
+  written class state uncut chunk head change = placed_written table slabs heads class state uncut chunk head l.paged.order.1.accounted l.placed l.sized.headers near change
 
   popped_placed : (class : ℕ) (chunk : ChunkId) (head : Head) → head.tag ≡ Unlinked → IsClass slabs class → first_free (class_at slabs class) ≡ Some chunk →
       ArePlaced table (slabs_changes.after_pop slabs class) (slice_set heads (head_place table chunk) head)
@@ -89,7 +89,7 @@ module _ (m : Moment) (l : IsLawful m) where
       subst (λ s. ArePlaced table (slabs_changes.with_class slabs class s) (slice_set heads (head_place table chunk) head)) (sym (popped_as (class_at slabs class) chunk split.0 split.1))
       (written class state slabs.uncut chunk head (subst (λ t. Changes table slabs class state slabs.uncut chunk t) (sym tag) lists))
 
-  replaced_placed : (old chunk : ChunkId) (head : Head) → head.tag ≡ Unlinked → is_out_of_class slabs old ≡ true → target_of m.state old.page ≡ Some chunk →
+  replaced_placed : (old chunk : ChunkId) (head : Head) → head.tag ≡ Unlinked → is_handed_out slabs old ≡ true → target_of m.state old.page ≡ Some chunk →
       ArePlaced table (slabs_changes.after_replace slabs chunk old) (slice_set heads (head_place table chunk) head)
   replaced_placed old chunk head tag out found =
       let class = class_of_page slabs old.page in
@@ -107,7 +107,7 @@ module _ (m : Moment) (l : IsLawful m) where
     | inr uncut ↦ absurd (omega (arith, l.placed.free class chunk is ∙ ap truth (and_left _ _ uncut), l.placed.order class chunk is ∙ ap truth (and_left _ _ uncut), some))
   ]
 
-  back_placed : (chunk : ChunkId) (head : Head) → head.tag ≡ Free → has_chunk table chunk ≡ true → is_dead (head_in table heads chunk) ≡ true → is_out_of_class slabs chunk ≡ true →
+  back_placed : (chunk : ChunkId) (head : Head) → head.tag ≡ Free → has_chunk table chunk ≡ true → is_dead (head_in table heads chunk) ≡ true → is_handed_out slabs chunk ≡ true →
       ArePlaced table (slabs_changes.after_back slabs chunk) (slice_set heads (head_place table chunk) head)
   back_placed chunk head tag here dead out =
       let class = class_of_page slabs chunk.page in
@@ -212,7 +212,7 @@ module _ (m : Moment) (l : IsLawful m) (hand : ℕ) where
       popped_placed m l class chunk (handed_out (head_at state chunk)) refl (IsClass_from state.table state.slabs class l.paged.of_table (pop_tests state hand class (Some chunk) can).1) is
 
   pop_off_placed : (old : ChunkId) (next : Option ChunkId) → target_of state old.page ≡ next →
-      (has_slabs state hand && is_moving_page state.slabs old.page && is_out_of_class state.slabs old && has_place state hand && can_hand_out state next) ≡ true → Placed (frame (popped_off state hand old next)) (popped_off state hand old next).heads
+      (has_slabs state hand && is_moving_page state.slabs old.page && is_handed_out state.slabs old && has_place state hand && can_hand_out state next) ≡ true → Placed (frame (popped_off state hand old next)) (popped_off state hand old next).heads
   pop_off_placed old None is can = l.placed
   pop_off_placed old (Some chunk) is can = replaced_placed m l old chunk (handed_out (head_at state chunk)) refl (pop_off_tests state hand old (Some chunk) can).2 is
 

@@ -7,7 +7,7 @@ use Rattle.mc_pages.specs.Ledger.{owner_at}
 use Rattle.mc_pages.specs.ClassState.{ClassState, is_chunk, times}
 use Rattle.mc_pages.specs.SlabState.{SlabState, IsClass, class_at, class_of_page}
 use Rattle.mc_pages.specs.Changes.{with_class}
-use Rattle.mc_pages.specs.Accounted.{truth, is_of_class, is_moving, is_cut}
+use Rattle.mc_pages.specs.Accounted.{truth, is_of_class, is_moving, is_cut, IsAccounted}
 use Rattle.mc_pages.proofs.Chunks.{same_from_is_chunk}
 use Rattle.mc_pages.proofs.OneClass.{length-with_class, class_at-with_class_same, class_at-with_class_other, class_at-with_class_kept}
 use Rattle.mc_pages.proofs.Owners.{class_of_owner-is_of_class}
@@ -44,6 +44,7 @@ same_truth true a b same = ap truth (same refl)
 same_truth false a b same = refl
 
 module _ (table : Classes) (slabs : SlabState) (heads : List Head) (class : ℕ) (state : ClassState) (uncut : Option ChunkId) (chunk : ChunkId) (head : Head)
+    (all : IsAccounted slabs)
     (placed : ArePlaced table slabs heads)
     (long : length heads ≡ pages_of table * most_of table)
     (near : (c : ℕ) (other : ChunkId) → IsClass slabs c → is_cut slabs c other ≡ true → has_chunk table other ≡ true)
@@ -114,17 +115,15 @@ module _ (table : Classes) (slabs : SlabState) (heads : List Head) (class : ℕ)
 
   elsewhere_now : (other : ChunkId) → has_chunk table other ≡ true → is_cut_there now other ≡ false → (head_in table written other).tag ≡ Out
   elsewhere_now other there uncut_now =
-      let kept = length-with_class slabs class state in
-      let still : (c : ℕ) → IsClass slabs c → IsClass now c = λ c is. (is.0, omega (arith, is.1, kept)) in
       elim (cases_Bool (is_chunk chunk other)) [
         | inl same ↦
-            let cut = cut_there_from now class chunk (still class change.is) change.now_cut in
+            let cut = cut_there_from now class chunk change.now_cut in
             absurd (both_ways _ uncut_now (subst (λ (x : ChunkId). is_cut_there now x ≡ true) (same_from_is_chunk chunk other same) cut))
         | inr apart ↦
             let before : is_cut_there slabs other ≡ false = false_from_ne_true _ (λ cut.
-            let parts = cut_there slabs other cut in
+            let is = cut_there slabs other all cut in
             let own = class_of_page slabs other.page in
-            both_ways _ uncut_now (cut_there_from now own other (still own parts.0) (change.cut own other parts.0 apart ∙ parts.1))) in
+            both_ways _ uncut_now (cut_there_from now own other (change.cut own other is apart ∙ cut))) in
             tag_else other there apart ∙ placed.elsewhere other there before
       ]
 

@@ -1,6 +1,6 @@
 -- What changes of pages and lists leave: a chunk that is handed out stays the chunk of its class.
-use Rattle.std.proofs.Common.{◌≡◌, ◌≢◌, ◌⊎◌, ℕ, ◌<◌, ◌≤◌, ◌==◌, ◌&&◌, Bool, true, false, not, List, length, set, Option, Some, None, Result, Ok, Err, if◌then◌else◌, refl, sym, ap, subst, ◌∙◌, inl, inr, arith, eq-eqb, nat_lt, nat_le}
-use Rattle.std.proofs.lemmas.Bool.{and_parts, and_from, cases_Bool, cases_eq, cases_lt, leb-true, le-leb, and_left, both_ways, not-true}
+use Rattle.std.proofs.Common.{◌≡◌, ◌≢◌, ◌⊎◌, ℕ, ◌<◌, ◌≤◌, ◌==◌, ◌&&◌, Bool, true, false, not, List, length, set, Option, Some, None, Result, Ok, Err, if◌then◌else◌, refl, sym, ap, subst, ◌∙◌, inl, inr, arith, eq-eqb, nat_lt}
+use Rattle.std.proofs.lemmas.Bool.{and_parts, and_from, cases_Bool, cases_eq, cases_lt, and_left, both_ways, not-true}
 use Rattle.std.proofs.lemmas.List.Sums.{get_or-le-sum_by}
 use Rattle.mc_classes.specs.Classes.{Classes}
 use Rattle.mc_pages.specs.declared.ids.ChunkId.{ChunkId}
@@ -55,20 +55,15 @@ in_hand head issue is = in_hand_from head.tag is.0
 pub not_in_hand : (tag : Tag) → tag ≡ Out → is_in_hand tag ≡ true → ⊥
 not_in_hand tag is h = both_ways (is_in_hand tag) (ap is_in_hand is) h
 
--- what a chunk that was cut there tells
-pub cut_there : (slabs : SlabState) (chunk : ChunkId) → is_cut_there slabs chunk ≡ true → IsClass slabs (class_of_page slabs chunk.page) × (is_cut slabs (class_of_page slabs chunk.page) chunk ≡ true)
-cut_there slabs chunk h =
-    let class = class_of_page slabs chunk.page in
-    let parts = and_parts (nat_le 1 class && nat_le class (length slabs.classes)) (is_cut slabs class chunk) h in
-    let bounds = and_parts (nat_le 1 class) (nat_le class (length slabs.classes)) parts.0 in
-    ((leb-true 1 class bounds.0, leb-true class (length slabs.classes) bounds.1), parts.1)
+-- what was cut for the class of its page was cut for one of the classes
+pub cut_there : (slabs : SlabState) (chunk : ChunkId) → IsAccounted slabs → is_cut_there slabs chunk ≡ true → IsClass slabs (class_of_page slabs chunk.page)
+cut_there slabs chunk all h = all.owned (class_of_page slabs chunk.page) chunk.page (and_parts _ _ h).0
 
--- and what makes it one
-pub cut_there_from : (slabs : SlabState) (class : ℕ) (chunk : ChunkId) → IsClass slabs class → is_cut slabs class chunk ≡ true → is_cut_there slabs chunk ≡ true
-cut_there_from slabs class chunk is cut =
+-- what was cut for a class was cut for that of its page
+pub cut_there_from : (slabs : SlabState) (class : ℕ) (chunk : ChunkId) → is_cut slabs class chunk ≡ true → is_cut_there slabs chunk ≡ true
+cut_there_from slabs class chunk cut =
     let own : class_of_page slabs chunk.page ≡ class = class_of_owner-is_of_class class (owner_at slabs.owners chunk.page) (and_parts _ _ cut).0 in
-    subst (λ n. (nat_le 1 n && nat_le n (length slabs.classes) && is_cut slabs n chunk) ≡ true) (sym own)
-    (and_from _ _ (and_from _ _ (le-leb 1 class is.0) (le-leb class (length slabs.classes) is.1)) cut)
+    subst (λ n. is_cut slabs n chunk ≡ true) (sym own) cut
 
 module _ (table : Classes) (slabs : SlabState) (heads : List Head) (placed : ArePlaced table slabs heads) where
   -- a chunk that is handed out was cut for its page's class
@@ -126,8 +121,8 @@ next_page_owner slabs granted page kept next = elim (cases_lt 0 (length slabs.po
 
 -- nothing is cut of a page without a class
 pub no_class_cut : (slabs : SlabState) (chunk : ChunkId) → (owner_at slabs.owners chunk.page ≡ Untouched) ⊎ (owner_at slabs.owners chunk.page ≡ Pool) → is_cut_there slabs chunk ≡ false
-no_class_cut slabs chunk (inl is) = and_left _ _ (and_left _ _ (ap (λ (o : Owner). nat_le 1 (class_of_owner o)) is))
-no_class_cut slabs chunk (inr is) = and_left _ _ (and_left _ _ (ap (λ (o : Owner). nat_le 1 (class_of_owner o)) is))
+no_class_cut slabs chunk (inl is) = and_left _ _ (ap (λ (o : Owner). is_of_class (class_of_owner o) o) is)
+no_class_cut slabs chunk (inr is) = and_left _ _ (ap (λ (o : Owner). is_of_class (class_of_owner o) o) is)
 
 -- the pages of the other classes after a class got a page
 grown_pages : (slabs : SlabState) (class page other : ℕ) → other ≢ page → class_of_page (after_grow slabs class page) other ≡ class_of_page slabs other
@@ -150,7 +145,7 @@ pub none_handed_out : (table : Classes) (slabs : SlabState) (heads : List Head) 
     chunk.page ≡ move.page → has_chunk table chunk ≡ true → is_in_hand (head_in table heads chunk).tag ≡ true → ⊥
 none_handed_out table slabs heads move chunk placed is none on here out =
     let own : class_of_page slabs chunk.page ≡ move.src = ap (λ p. class_of_page slabs p) on ∙ ap class_of_owner is.owner in
-    let cut : is_cut slabs move.src chunk ≡ true = subst (λ n. is_cut slabs n chunk ≡ true) own (cut_there slabs chunk (cut_of_handed_out table slabs heads placed chunk here out)).1 in
+    let cut : is_cut slabs move.src chunk ≡ true = subst (λ n. is_cut slabs n chunk ≡ true) own (cut_of_handed_out table slabs heads placed chunk here out) in
     let some : times chunk (class_at slabs move.src).order ≡ 1 = placed.order move.src chunk is.src ∙ ap truth (and_from _ _ cut out) in
     let absent : times chunk (class_at slabs move.src).order ≡ 0 = none_of_page (class_at slabs move.src).order chunk (subst (λ p. has_page (class_at slabs move.src).order p ≡ false) (sym on) none) in
     omega arith

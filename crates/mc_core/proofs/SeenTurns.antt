@@ -16,7 +16,7 @@ use Rattle.mc_core.specs.declared.look.Look.TheVariants as look
 use Rattle.mc_core.specs.Head.{is_out, is_free, is_dead}
 use Rattle.mc_core.specs.Holdings.{is_copy_of}
 use Rattle.mc_core.specs.Looks.{was_linked}
-use Rattle.mc_core.specs.Silent.{is_out_of_class, is_listed}
+use Rattle.mc_core.specs.Silent.{is_handed_out, is_listed}
 use Rattle.mc_core.specs.Locks.{looked}
 use Rattle.mc_core.specs.Chunks.{handed_out, with_tag_free, with_tag_out, next_free, popped, target_of, is_target, popped_off, has_place, can_hand_out, is_moving_page, is_next_uncut}
 use Rattle.mc_core.specs.Evictions.{condemned, key_at, with_told, with_rescue, copy_of}
@@ -70,7 +70,7 @@ module _ (m : Moment) (hand : ℕ) where
   pub seen_put_back : (chunk : ChunkId) → MayStep m hand (PutBack chunk) → SeenIn (moment_stepped m hand (PutBack chunk))
   seen_put_back chunk may h has =
       let l = may.lawful in
-      let parts = and_parts _ (is_out_of_class m.state.slabs chunk) may.allowed in
+      let parts = and_parts _ (is_handed_out m.state.slabs chunk) may.allowed in
       let more = and_parts _ (is_dead (head_at m.state chunk)) parts.0 in
       let both = and_parts (has_slabs m.state hand) (has_chunk m.state.table chunk) more.0 in
       let head = with_tag_free (head_at m.state chunk) in
@@ -168,7 +168,7 @@ module _ (m : Moment) (hand : ℕ) where
       let before = has_before m.state (after_step m.state hand (PopOff old)) hand h (own_step m.state hand (PopOff old) refl) has in
       let parts = and_parts _ (can_hand_out m.state (target_of m.state old.page)) may.allowed in
       let more = and_parts _ (has_place m.state hand) parts.0 in
-      let out = and_parts _ (is_out_of_class m.state.slabs old) more.0 in
+      let out = and_parts _ (is_handed_out m.state.slabs old) more.0 in
       let mine = (and_parts (has_slabs m.state hand) (is_moving_page m.state.slabs old.page) out.0).0 in
       let class = class_of_page m.state.slabs old.page in
       let is = IsClass-handed_out m.state.slabs old l.paged.of_table.accounted (Contains_from_among (class_at m.state.slabs class).order old out.1) in

@@ -5,7 +5,7 @@ use Rattle.mc_pages.specs.declared.ids.ChunkId.{ChunkId}
 use Rattle.mc_pages.specs.SlabState.{class_of_page}
 use Rattle.mc_core.specs.Head.{is_free, is_out, is_dead}
 use Rattle.mc_core.specs.State.{State, is_class, has_chunk, head_at, has_slabs, has_stripe, stripe_of, stripe_at}
-use Rattle.mc_core.specs.Silent.{is_out_of_class, is_listed}
+use Rattle.mc_core.specs.Silent.{is_handed_out, is_listed}
 use Rattle.mc_core.specs.Chunks.{has_place, can_hand_out, is_moving_page, is_next_uncut, can_put_back, can_clear, can_cut}
 use Rattle.mc_core.specs.Evictions.{is_idle, key_at, can_take_away, has_copy, has_reason, can_condemn}
 
@@ -20,11 +20,11 @@ module _ (state : State) (hand : ℕ) where
       (third.0, third.1, first.1)
 
   -- in the place of this one
-  pub pop_off_tests : (old : ChunkId) (next : Option ChunkId) → (has_slabs state hand && is_moving_page state.slabs old.page && is_out_of_class state.slabs old && has_place state hand && can_hand_out state next) ≡ true →
-      (has_slabs state hand ≡ true) × (is_moving_page state.slabs old.page ≡ true) × (is_out_of_class state.slabs old ≡ true)
+  pub pop_off_tests : (old : ChunkId) (next : Option ChunkId) → (has_slabs state hand && is_moving_page state.slabs old.page && is_handed_out state.slabs old && has_place state hand && can_hand_out state next) ≡ true →
+      (has_slabs state hand ≡ true) × (is_moving_page state.slabs old.page ≡ true) × (is_handed_out state.slabs old ≡ true)
   pop_off_tests old next can =
       let moves = is_moving_page state.slabs old.page in
-      let out = is_out_of_class state.slabs old in
+      let out = is_handed_out state.slabs old in
       let first = and_parts (has_slabs state hand && moves && out && has_place state hand) (can_hand_out state next) can in
       let second = and_parts (has_slabs state hand && moves && out) (has_place state hand) first.0 in
       let third = and_parts (has_slabs state hand && moves) out second.0 in
@@ -32,9 +32,9 @@ module _ (state : State) (hand : ℕ) where
       (fourth.0, fourth.1, third.1)
 
   pub put_back_tests : (chunk : ChunkId) → can_put_back state hand chunk ≡ true →
-      (has_slabs state hand ≡ true) × (has_chunk state.table chunk ≡ true) × (is_dead (head_at state chunk) ≡ true) × (is_out_of_class state.slabs chunk ≡ true)
+      (has_slabs state hand ≡ true) × (has_chunk state.table chunk ≡ true) × (is_dead (head_at state chunk) ≡ true) × (is_handed_out state.slabs chunk ≡ true)
   put_back_tests chunk can =
-      let first = and_parts (has_slabs state hand && has_chunk state.table chunk && is_dead (head_at state chunk)) (is_out_of_class state.slabs chunk) can in
+      let first = and_parts (has_slabs state hand && has_chunk state.table chunk && is_dead (head_at state chunk)) (is_handed_out state.slabs chunk) can in
       let second = and_parts (has_slabs state hand && has_chunk state.table chunk) (is_dead (head_at state chunk)) first.0 in
       let third = and_parts (has_slabs state hand) (has_chunk state.table chunk) second.0 in
       (third.0, third.1, second.1, first.1)

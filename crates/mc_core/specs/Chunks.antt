@@ -15,7 +15,7 @@ use Rattle.mc_core.specs.declared.look.Look.TheVariants.{Popped, PoppedOff, PutB
 use Rattle.mc_core.specs.Head.{is_free, is_out, is_dead}
 use Rattle.mc_core.specs.Holdings.{is_of, is_fresh, holding_of}
 use Rattle.mc_core.specs.State.{State, is_class, has_chunk, head_at, with_head, room_at, with_word, has_slabs, with_slabs, holdings_at, with_holding, without_holding, with_look}
-use Rattle.mc_core.specs.Silent.{is_out_of_class, is_listed}
+use Rattle.mc_core.specs.Silent.{is_handed_out, is_listed}
 
 -- the greatest issue number, with which a chunk is used up
 abbrev pub most_issue : ℕ
@@ -78,7 +78,7 @@ target_of state page = find (is_target state page) (class_at state.slabs (class_
 
 abbrev pub can_pop_off : State → ℕ → ChunkId → Bool
 can_pop_off state hand old =
-    has_slabs state hand && is_moving_page state.slabs old.page && is_out_of_class state.slabs old && has_place state hand && can_hand_out state (target_of state old.page)
+    has_slabs state hand && is_moving_page state.slabs old.page && is_handed_out state.slabs old && has_place state hand && can_hand_out state (target_of state old.page)
 
 abbrev pub popped_off : State → ℕ → ChunkId → Option ChunkId → State
 popped_off state hand old None = state
@@ -132,7 +132,7 @@ abbrev pub with_tag_out : Head → Head
 with_tag_out head = record head { tag = Out }
 
 abbrev pub can_put_back : State → ℕ → ChunkId → Bool
-can_put_back state hand chunk = has_slabs state hand && has_chunk state.table chunk && is_dead (head_at state chunk) && is_out_of_class state.slabs chunk
+can_put_back state hand chunk = has_slabs state hand && has_chunk state.table chunk && is_dead (head_at state chunk) && is_handed_out state.slabs chunk
 
 abbrev pub after_put_back : State → ℕ → ChunkId → State
 after_put_back state hand chunk =

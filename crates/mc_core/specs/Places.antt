@@ -1,8 +1,7 @@
 -- Pages and lists: what is owned, and where each chunk is.
-use Rattle.std.specs.Prelude.{◌≡◌, ℕ, ◌*◌, ◌≤◌, Bool, true, false, not, ◌&&◌, nat_le, List, length, Some, None}
+use Rattle.std.specs.Prelude.{◌≡◌, ℕ, ◌*◌, Bool, true, false, not, ◌&&◌, List, length, None}
 use Rattle.mc_classes.specs.Classes.{Classes, IsSound, pages_of}
 use Rattle.mc_pages.specs.declared.ids.ChunkId.{ChunkId}
-use Rattle.mc_pages.specs.declared.ids.Moving.{Moving}
 use Rattle.mc_pages.specs.ClassState.{times}
 use Rattle.mc_pages.specs.SlabState.{SlabState, IsClass, class_at, class_of_page}
 use Rattle.mc_pages.specs.Accounted.{truth, is_cut, is_moving}
@@ -26,14 +25,10 @@ pub record ArePaged (table : Classes) (slabs : SlabState) (slabs_lock : ℕ) : T
   pub of_table : IsOfTable table slabs
   pub order : (granted : ℕ) × IsInOrder slabs granted
   pub whole : slabs_lock ≡ 0 → slabs.uncut ≡ None
-  pub automove : slabs.automove ≤ 2
-  -- the class that gives a page keeps one
-  pub source : (move : Moving) → slabs.moving ≡ Some move → 2 ≤ length (class_at slabs move.src).pages
 
 -- the chunk was cut for the class of its page
 abbrev pub is_cut_there : SlabState → ChunkId → Bool
-is_cut_there slabs chunk =
-    nat_le 1 (class_of_page slabs chunk.page) && nat_le (class_of_page slabs chunk.page) (length slabs.classes) && is_cut slabs (class_of_page slabs chunk.page) chunk
+is_cut_there slabs chunk = is_cut slabs (class_of_page slabs chunk.page) chunk
 
 -- places: a free list has the free chunks, a hand-out order those that are handed out, and all others are out
 pub record ArePlaced (table : Classes) (slabs : SlabState) (heads : List Head) : Type 0 where

@@ -25,8 +25,8 @@ abbrev pub is_among : List ChunkId → ChunkId → Bool
 is_among chunks chunk = list_any (λ c. is_chunk c chunk) chunks
 
 -- the chunk is handed out
-abbrev pub is_out_of_class : SlabState → ChunkId → Bool
-is_out_of_class slabs chunk = is_among (class_of_chunk slabs chunk).order chunk
+abbrev pub is_handed_out : SlabState → ChunkId → Bool
+is_handed_out slabs chunk = is_among (class_of_chunk slabs chunk).order chunk
 
 -- the chunk is in a list of the class
 abbrev pub is_listed : SlabState → ℕ → ChunkId → Bool
@@ -77,7 +77,7 @@ abbrev pub can_change_slabs : Classes → SlabState → Change → Bool
 can_change_slabs table slabs (Grow class) = can_grow table slabs class
 can_change_slabs table slabs (BeginMove src dst) = is_ok (answer_of slabs src dst)
 can_change_slabs table slabs FinishMove = can_finish slabs slabs.moving
-can_change_slabs table slabs (Touch chunk) = is_out_of_class slabs chunk
+can_change_slabs table slabs (Touch chunk) = is_handed_out slabs chunk
 can_change_slabs table slabs (SetAutomove mode) = nat_le mode 2
 can_change_slabs table slabs (Passed found) = can_pass slabs found (run_of table slabs.moving)
 can_change_slabs table slabs Wrap = can_wrap (run_of table slabs.moving)

@@ -16,7 +16,7 @@ use Rattle.mc_machine.specs.Item.{Item}
 use Rattle.mc_machine.specs.Items.{Items, item_at, without_item}
 use Rattle.mc_machine.specs.Holds.{Holds, held_by, hold_count, is_held}
 use Rattle.mc_machine.specs.Kept.{places, IsKept}
-use Rattle.mc_machine.specs.Machine.{Machine}
+use Rattle.mc_machine.specs.Machine.{Machine, with_mode}
 use Rattle.mc_laws.specs.Answered.{HeldWords}
 use Rattle.mc_machine.proofs.Chunks.{places_none}
 use Rattle.mc_machine.proofs.Links.{some_places}
@@ -24,12 +24,16 @@ use Rattle.mc_machine.proofs.KeptChanges.{place_once}
 use Rattle.mc_machine.proofs.Sweeps.{item_at-without_item}
 use Rattle.mc_laws.proofs.FoundItems.{found_before}
 
+-- pages and chunks with the automover off: a run keeps them in order whatever its mode is, also one that there is none of
+abbrev pub off : SlabState → SlabState
+off slabs = with_mode slabs 0
+
 pub record IsLawful (m : Machine) : Type 0 where
   -- some index leads where the items' keys lead
   pub index : List (ℕ × ChunkId)
-  pub kept : IsKept m.table m.slabs index m.items
+  pub kept : IsKept m.table (off m.slabs) index m.items
   pub granted : ℕ
-  pub order : IsInOrder m.slabs granted
+  pub order : IsInOrder (off m.slabs) granted
   pub workers : length m.holds ≡ 64
   -- a chunk that a worker holds has an item
   pub stored : (worker : ℕ) (chunk : ChunkId) → 1 ≤ times chunk (held_by m.holds worker) → 1 ≤ places chunk m.items
@@ -81,7 +85,7 @@ stored_still old new chunk same there = found_new (item_at new chunk) (item_at o
 
 -- a step of the machine, from its parts
 pub proceeds_from : (old new : Machine) (index : List (ℕ × ChunkId)) (granted : ℕ) → IsLawful old
-    → IsKept new.table new.slabs index new.items → IsInOrder new.slabs granted → new.holds ≡ old.holds
+    → IsKept new.table (off new.slabs) index new.items → IsInOrder (off new.slabs) granted → new.holds ≡ old.holds
     → ((worker : ℕ) (chunk : ChunkId) → 1 ≤ times chunk (held_by old.holds worker) → stored_as new.items chunk ≡ stored_as old.items chunk)
     → ((chunk : ChunkId) (item : Item) → item_at new.items chunk ≡ Some item → item.linked ≡ true → (before : ChunkId) × (item_at old.items before ≡ Some item))
     → Proceeds old new
@@ -103,7 +107,7 @@ proceeds_from old new index granted lawful kept order holds stands linked = reco
 
 -- pages and chunks change, and no item does
 pub proceeds_slabs : (m : Machine) (slabs : SlabState) (granted : ℕ) (lawful : IsLawful m)
-    → IsKept m.table slabs lawful.index m.items → IsInOrder slabs granted → Proceeds m (record m { slabs = slabs })
+    → IsKept m.table (off slabs) lawful.index m.items → IsInOrder (off slabs) granted → Proceeds m (record m { slabs = slabs })
 proceeds_slabs m slabs granted lawful kept order =
     proceeds_from m (record m { slabs = slabs }) lawful.index granted lawful kept order refl (λ worker chunk held. refl) (λ chunk item at is. (chunk, at))
 
@@ -123,9 +127,9 @@ not_held holds chunk c worker free held = elim (cases_Bool (is_chunk chunk c)) [
 
 -- the item of a chunk that nobody holds is gone
 pub proceeds_without : (m : Machine) (slabs : SlabState) (index : List (ℕ × ChunkId)) (granted : ℕ) (chunk : ChunkId) (item : Item) → IsLawful m
-    → item_at m.items chunk ≡ Some item → is_held m.holds chunk ≡ false → IsKept m.table slabs index (without_item m.items chunk) → IsInOrder slabs granted
+    → item_at m.items chunk ≡ Some item → is_held m.holds chunk ≡ false → IsKept m.table (off slabs) index (without_item m.items chunk) → IsInOrder (off slabs) granted
     → Proceeds m (record m { slabs = slabs; items = without_item m.items chunk })
 proceeds_without m slabs index granted chunk item lawful there free kept order =
     proceeds_from m (record m { slabs = slabs; items = without_item m.items chunk }) index granted lawful kept order refl
     (λ worker c held. ap (option_map as_held) (item_at-without_item m.items chunk c (not_held m.holds chunk c worker free held)))
-    (λ c found at is. (c, found_before m.items chunk item c found there (place_once m.table m.slabs lawful.index m.items chunk lawful.kept) at))
+    (λ c found at is. (c, found_before m.items chunk item c found there (place_once m.table (off m.slabs) lawful.index m.items chunk lawful.kept) at))

@@ -28,7 +28,7 @@ use Rattle.mc_machine.proofs.KeptMoverRescue.{kept_rescued, listed_still, vacant
 use Rattle.mc_machine.proofs.KeptStore.{is_at-tells}
 use Rattle.mc_machine.proofs.Orders.{in_lists_once}
 use Rattle.mc_machine.proofs.Sweeps.{item_at-without_item}
-use Rattle.mc_laws.proofs.Lawful.{IsLawful, Proceeds, as_held, not_held, proceeds_from, proceeds_slabs, proceeds_without}
+use Rattle.mc_laws.proofs.Lawful.{IsLawful, off, Proceeds, as_held, not_held, proceeds_from, proceeds_slabs, proceeds_without}
 
 -- the machine went on, and the chunk is cleared
 pub record Clears (m new : Machine) (class : ℕ) (chunk : ChunkId) : Type 0 where
@@ -42,18 +42,18 @@ module _ (m : Machine) (class : ℕ) (chunk : ChunkId) (lawful : IsLawful m) (va
   empty_free : 1 ≤ times chunk (class_at m.slabs class).free → item_at m.items chunk ≡ None
   empty_free free =
       let held : places chunk m.items ≤ times chunk (class_at m.slabs class).order = rw own at (lawful.kept.handed_out chunk) in
-      none-places chunk m.items (omega (arith, held, free, in_lists_once m.slabs class chunk lawful.kept.accounted valid))
+      none-places chunk m.items (omega (arith, held, free, in_lists_once (off m.slabs) class chunk lawful.kept.accounted valid))
 
   pub clears_free : 1 ≤ times chunk (class_at m.slabs class).free → Clears m (record m { slabs = after_clear m.slabs chunk }) class chunk
   clears_free free =
       let placed : 1 ≤ places_in m.slabs (class_of_page m.slabs chunk.page) chunk = rw own (omega (arith, free)) in
       let valid_own : IsClass m.slabs (class_of_page m.slabs chunk.page) = rw own valid in
-      let order : IsInOrder (after_clear m.slabs chunk) lawful.granted = IsInOrder-after_clear m.slabs lawful.granted chunk lawful.order moving placed in
+      let order : IsInOrder (off (after_clear m.slabs chunk)) lawful.granted = IsInOrder-after_clear (off m.slabs) lawful.granted chunk lawful.order moving placed in
       record {
         proceeds = proceeds_slabs m (after_clear m.slabs chunk) lawful.granted lawful
-            (kept_freed m.table m.slabs lawful.index m.items chunk lawful.kept (empty_free free) valid_own order.accounted) order;
+            (kept_freed m.table (off m.slabs) lawful.index m.items chunk lawful.kept (empty_free free) valid_own order.accounted) order;
         cleared = ap (λ n. is_cleared (after_clear m.slabs chunk) n chunk) (sym own)
-            ∙ cleared_after m.slabs chunk lawful.kept.accounted order.accounted placed;
+            ∙ cleared_after (off m.slabs) chunk lawful.kept.accounted order.accounted placed;
       }
 
   -- a chunk whose item nobody holds
@@ -62,20 +62,20 @@ module _ (m : Machine) (class : ℕ) (chunk : ChunkId) (lawful : IsLawful m) (va
       → Clears m (with_cleared m chunk) class chunk
   clears_item item index there free leads =
       let placed : 1 ≤ places_in m.slabs (class_of_page m.slabs chunk.page) chunk
-      = omega (arith, handed_item m.table m.slabs lawful.index m.items chunk item lawful.kept there) in
-      let order : IsInOrder (after_clear m.slabs chunk) lawful.granted = IsInOrder-after_clear m.slabs lawful.granted chunk lawful.order moving placed in
+      = omega (arith, handed_item m.table (off m.slabs) lawful.index m.items chunk item lawful.kept there) in
+      let order : IsInOrder (off (after_clear m.slabs chunk)) lawful.granted = IsInOrder-after_clear (off m.slabs) lawful.granted chunk lawful.order moving placed in
       record {
         proceeds = proceeds_without m (after_clear m.slabs chunk) index lawful.granted chunk item lawful there free
-            (kept_cleared m.table m.slabs lawful.index index m.items chunk item lawful.kept there order.accounted leads) order;
+            (kept_cleared m.table (off m.slabs) lawful.index index m.items chunk item lawful.kept there order.accounted leads) order;
         cleared = ap (λ n. is_cleared (after_clear m.slabs chunk) n chunk) (sym own)
-            ∙ cleared_after m.slabs chunk lawful.kept.accounted order.accounted placed;
+            ∙ cleared_after (off m.slabs) chunk lawful.kept.accounted order.accounted placed;
       }
 
   pub clears_dead : is_dead m chunk ≡ true → Clears m (with_cleared m chunk) class chunk
   clears_dead dead =
       let found = dead_here m m chunk refl dead in
       clears_item found.0 lawful.index found.1 (not-true (is_held m.holds chunk) (and_parts (is_unlinked m.items chunk) _ dead).1)
-      (leads_dead m.table m.slabs lawful.index m.items chunk found.0 lawful.kept found.1 found.2)
+      (leads_dead m.table (off m.slabs) lawful.index m.items chunk found.0 lawful.kept found.1 found.2)
 
   pub clears_idle : is_idle m chunk ≡ true → Clears m (with_cleared m chunk) class chunk
   clears_idle idle =
@@ -92,7 +92,7 @@ module _ (m : Machine) (class : ℕ) (old new : ChunkId) (item : Item) (lawful :
   items_rescued = with_item (without_item m.items old) new item
 
   none_new : item_at (without_item m.items old) new ≡ None
-  none_new = vacant m.table m.slabs lawful.index m.items old new item lawful.kept there linked free
+  none_new = vacant m.table (off m.slabs) lawful.index m.items old new item lawful.kept there linked free
 
   found_rescued : (c : ChunkId) → item_at items_rescued c ≡ cond (is_at (chunk_cmp c) new) (Some item) (item_at (without_item m.items old) c)
   unfolding items_rescued
@@ -120,26 +120,26 @@ module _ (m : Machine) (class : ℕ) (old new : ChunkId) (item : Item) (lawful :
     | inr other ↦
         let below : item_at (without_item m.items old) c ≡ Some found
         = sym (found_rescued c ∙ ap (λ b. cond b (Some item) (item_at (without_item m.items old) c)) other.0) ∙ at in
-        (c, found_before m.items old item c found there (place_once m.table m.slabs lawful.index m.items old lawful.kept) below)
+        (c, found_before m.items old item c found there (place_once m.table (off m.slabs) lawful.index m.items old lawful.kept) below)
   ]
 
   listed_old : 1 ≤ places_in (after_replace m.slabs new old) (class_of_page m.slabs old.page) old
-  listed_old = listed_still m.table m.slabs lawful.index m.items old new item lawful.kept there linked free
+  listed_old = listed_still m.table (off m.slabs) lawful.index m.items old new item lawful.kept there linked free
 
-  order_replaced : IsInOrder (after_replace m.slabs new old) lawful.granted
+  order_replaced : IsInOrder (off (after_replace m.slabs new old)) lawful.granted
   order_replaced =
-      IsInOrder-after_replace m.slabs lawful.granted new old lawful.order free
-      (contains_counted old (class_of_chunk m.slabs old).order (handed_item m.table m.slabs lawful.index m.items old item lawful.kept there))
+      IsInOrder-after_replace (off m.slabs) lawful.granted new old lawful.order free
+      (contains_counted old (class_of_chunk m.slabs old).order (handed_item m.table (off m.slabs) lawful.index m.items old item lawful.kept there))
 
-  order_rescued : IsInOrder (after_clear (after_replace m.slabs new old) old) lawful.granted
-  order_rescued = IsInOrder-after_clear (after_replace m.slabs new old) lawful.granted old order_replaced moving listed_old
+  order_rescued : IsInOrder (off (after_clear (after_replace m.slabs new old) old)) lawful.granted
+  order_rescued = IsInOrder-after_clear (off (after_replace m.slabs new old)) lawful.granted old order_replaced moving listed_old
 
   rescued_to : Proceeds m (record m { slabs = after_clear (after_replace m.slabs new old) old; items = with_item (without_item m.items old) new item })
   unfolding items_rescued
   rescued_to =
       proceeds_from m (record m { slabs = after_clear (after_replace m.slabs new old) old; items = with_item (without_item m.items old) new item })
       (set_value (is_at (nat_cmp item.key)) lawful.index new) lawful.granted lawful
-      (kept_rescued m.table m.slabs lawful.index m.items old new item lawful.kept there linked free order_rescued.accounted) order_rescued refl
+      (kept_rescued m.table (off m.slabs) lawful.index m.items old new item lawful.kept there linked free order_rescued.accounted) order_rescued refl
       (λ worker c held. ap (option_map as_held) (stands_rescued worker c held))
       (λ c found at is. linked_rescued c found at)
 
@@ -148,5 +148,5 @@ module _ (m : Machine) (class : ℕ) (old new : ChunkId) (item : Item) (lawful :
     proceeds = subst (λ (items : Items). Proceeds m (record m { slabs = after_clear (after_replace m.slabs new old) old; items = items }))
         (sym (ap (with_found_item m.items old new) there)) rescued_to;
     cleared = ap (λ n. is_cleared (after_clear (after_replace m.slabs new old) old) n old) (sym own)
-        ∙ cleared_after (after_replace m.slabs new old) old order_replaced.accounted order_rescued.accounted listed_old;
+        ∙ cleared_after (off (after_replace m.slabs new old)) old order_replaced.accounted order_rescued.accounted listed_old;
   }

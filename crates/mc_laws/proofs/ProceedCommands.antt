@@ -15,7 +15,7 @@ use Rattle.mc_pages.specs.Changes.{after_touch}
 use Rattle.mc_pages.specs.InOrder.{IsInOrder}
 use Rattle.mc_pages.specs.Moves.{after_begin}
 use Rattle.mc_pages.specs.declared.moves.Reassign.{Reassign}
-use Rattle.mc_pages.proofs.Kept.{IsInOrder-after_begin, IsInOrder-after_touch, IsInOrder-automove}
+use Rattle.mc_pages.proofs.Kept.{IsInOrder-after_begin, IsInOrder-after_touch}
 use Rattle.mc_watch.specs.declared.decider.Decision.{Decision}
 use Rattle.mc_machine.specs.Item.{Item, is_linked_to, unlinked}
 use Rattle.mc_machine.specs.Items.{Items, item_at, linked_chunk, unlinked_items}
@@ -30,23 +30,23 @@ use Rattle.mc_machine.proofs.KeptBegin.{kept_begin}
 use Rattle.mc_machine.proofs.KeptChanges.{kept_unlink}
 use Rattle.mc_machine.proofs.KeptTouch.{kept_touch, leads_to_handed_out}
 use Rattle.mc_machine.proofs.Links.{linked_chunk-unlinked_items}
-use Rattle.mc_laws.proofs.Lawful.{IsLawful, Proceeds, as_held, proceeds_from, proceeds_same, proceeds_slabs, proceeds_then, stored_as}
+use Rattle.mc_laws.proofs.Lawful.{IsLawful, off, Proceeds, as_held, proceeds_from, proceeds_same, proceeds_slabs, proceeds_then, stored_as}
 
 pub proceeds_touched : (m : Machine) (key : ℕ) (chunk : ChunkId) → IsLawful m → linked_chunk m.items key ≡ Some chunk
     → Proceeds m (record m { slabs = after_touch m.slabs chunk })
 proceeds_touched m key chunk lawful leads =
     let handed : Contains (class_of_chunk m.slabs chunk).order chunk
-    = leads_to_handed_out m.table m.slabs lawful.index m.items key chunk lawful.kept (lawful.kept.leads key ∙ leads) in
-    let order : IsInOrder (after_touch m.slabs chunk) lawful.granted = IsInOrder-after_touch m.slabs lawful.granted chunk lawful.order handed in
+    = leads_to_handed_out m.table (off m.slabs) lawful.index m.items key chunk lawful.kept (lawful.kept.leads key ∙ leads) in
+    let order : IsInOrder (off (after_touch m.slabs chunk)) lawful.granted = IsInOrder-after_touch (off m.slabs) lawful.granted chunk lawful.order handed in
     proceeds_slabs m (after_touch m.slabs chunk) lawful.granted lawful
-    (kept_touch m.table m.slabs lawful.index m.items chunk lawful.kept handed order.accounted) order
+    (kept_touch m.table (off m.slabs) lawful.index m.items chunk lawful.kept handed order.accounted) order
 
 pub proceeds_begun : (m : Machine) (src : Option ℕ) (source dst : ℕ) → IsLawful m → answer_of m.slabs src dst ≡ Ok source
     → Proceeds m (record m { slabs = after_begin m.slabs src source dst })
 proceeds_begun m src source dst lawful answer =
-    let order : IsInOrder (after_begin m.slabs src source dst) lawful.granted = IsInOrder-after_begin m.slabs lawful.granted src source dst lawful.order answer in
+    let order : IsInOrder (off (after_begin m.slabs src source dst)) lawful.granted = IsInOrder-after_begin (off m.slabs) lawful.granted src source dst lawful.order answer in
     proceeds_slabs m (after_begin m.slabs src source dst) lawful.granted lawful
-    (kept_begin m.table m.slabs lawful.index m.items src source dst lawful.kept answer order.accounted) order
+    (kept_begin m.table (off m.slabs) lawful.index m.items src source dst lawful.kept answer order.accounted) order
 
 -- a page is asked for
 pub proceeds_asked : (m : Machine) (src : Option ℕ) (dst : ℕ) (answer : Result ℕ Reassign) → IsLawful m → answer_of m.slabs src dst ≡ answer
@@ -56,21 +56,7 @@ proceeds_asked m src dst (Ok source) lawful is = proceeds_begun m src source dst
 
 -- the automover's mode changes
 pub proceeds_automove : (m : Machine) (mode : ℕ) → IsLawful m → Proceeds m (record m { slabs = with_mode m.slabs mode })
-proceeds_automove m mode lawful =
-    let order : IsInOrder (with_mode m.slabs mode) lawful.granted = IsInOrder-automove m.slabs lawful.granted mode lawful.order in
-    proceeds_slabs m (with_mode m.slabs mode) lawful.granted lawful (record {
-      sound = lawful.kept.sound;
-      classes = lawful.kept.classes;
-      per_page = lawful.kept.per_page;
-      page = lawful.kept.page;
-      limit = lawful.kept.limit;
-      whole = lawful.kept.whole;
-      accounted = order.accounted;
-      leads = lawful.kept.leads;
-      one_link = lawful.kept.one_link;
-      handed_out = lawful.kept.handed_out;
-      stored = lawful.kept.stored;
-    }) order
+proceeds_automove m mode lawful = proceeds_slabs m (with_mode m.slabs mode) lawful.granted lawful lawful.kept lawful.order
 
 -- a window ends
 pub proceeds_fed : (m : Machine) → IsLawful m → Proceeds m (with_window (all_swept m))
@@ -122,6 +108,6 @@ proceeds_unlinked m key lawful =
     let leads : (q : ℕ) → lookup (is_at (nat_cmp q)) index ≡ cond (is_at (nat_cmp key) q) None (lookup (is_at (nat_cmp q)) lawful.index)
     = λ q. grind (arith, nat_tests, leads_index (unlinked_items m.items key) q, linked_chunk-unlinked_items q key m.items, lawful.kept.leads q) in
     proceeds_from m (record m { items = unlinked_items m.items key }) index lawful.granted lawful
-    (kept_unlink m.table m.slabs lawful.index index m.items key lawful.kept leads) lawful.order refl
+    (kept_unlink m.table (off m.slabs) lawful.index index m.items key lawful.kept leads) lawful.order refl
     (λ worker chunk held. stands_unlinked key m.items chunk)
     (λ chunk item at is. (chunk, (linked_still key m.items chunk item at is).0))

@@ -16,7 +16,7 @@ use Rattle.mc_laws.proofs.Indexes.{index_of, leads_index}
 use Rattle.mc_machine.proofs.KeptEvict.{kept_counted}
 use Rattle.mc_machine.proofs.KeptMoverClear.{idle_here, kept_back}
 use Rattle.mc_machine.proofs.Victims.{found_holds}
-use Rattle.mc_laws.proofs.Lawful.{IsLawful, Proceeds, proceeds_same, proceeds_without}
+use Rattle.mc_laws.proofs.Lawful.{IsLawful, off, Proceeds, proceeds_same, proceeds_without}
 use Rattle.mc_laws.proofs.ProceedSweeps.{order_back}
 
 proceeds_evicted : (m : Machine) (class : ℕ) (chunk : ChunkId) → IsLawful m → IsClass m.slabs class → is_idle m chunk ≡ true
@@ -24,14 +24,14 @@ proceeds_evicted : (m : Machine) (class : ℕ) (chunk : ChunkId) → IsLawful m 
 proceeds_evicted m class chunk lawful valid idle =
     let found = idle_here m m chunk refl idle in
     let parts = and_parts (is_linked m.items chunk) _ idle in
-    let back : SlabState = after_back m.slabs chunk in
+    let back : SlabState = off (after_back m.slabs chunk) in
     let order : IsInOrder back lawful.granted = order_back m chunk found.0 lawful found.1 in
     let valid_back : IsClass back class = (valid.0, rw (length-set m.slabs.classes _ _) valid.1) in
     let counted : IsInOrder (after_evicted back class) lawful.granted = IsInOrder-after_evicted back lawful.granted class order valid_back in
-    proceeds_without m (after_evicted back class) (index_of (without_item m.items chunk)) lawful.granted chunk found.0 lawful found.1
+    proceeds_without m (after_evicted (after_back m.slabs chunk) class) (index_of (without_item m.items chunk)) lawful.granted chunk found.0 lawful found.1
     (not-true (is_held m.holds chunk) parts.1)
     (kept_counted m.table back (index_of (without_item m.items chunk)) (without_item m.items chunk) class
-    (kept_back m.table m.slabs lawful.index (index_of (without_item m.items chunk)) m.items chunk found.0 lawful.kept found.1 order.accounted
+    (kept_back m.table (off m.slabs) lawful.index (index_of (without_item m.items chunk)) m.items chunk found.0 lawful.kept found.1 order.accounted
     (leads_index (without_item m.items chunk))) counted.accounted)
     counted
 

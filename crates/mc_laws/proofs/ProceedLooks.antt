@@ -23,7 +23,7 @@ use Rattle.std.proofs.lemmas.Bool.{and_parts, not-true}
 use Rattle.mc_machine.proofs.KeptMoverClear.{idle_here, own_from_cut}
 use Rattle.mc_machine.proofs.KeptMoverPass.{can_pass, kept_moved, position_cut}
 use Rattle.mc_machine.proofs.MoverSaves.{class_swept, idle_swept, moving-swept, own_swept, target_free}
-use Rattle.mc_laws.proofs.Lawful.{IsLawful, Proceeds, proceeds_same, proceeds_slabs, proceeds_then}
+use Rattle.mc_laws.proofs.Lawful.{IsLawful, off, Proceeds, proceeds_same, proceeds_slabs, proceeds_then}
 use Rattle.mc_laws.proofs.ProceedClears.{Clears, clears_dead, clears_free, clears_idle, clears_rescued}
 use Rattle.mc_laws.proofs.ProceedSweeps.{proceeds_swept}
 
@@ -88,16 +88,17 @@ proceeds_looked c move lawful runs inside =
     let m : Machine = c.machine in
     let chunk : ChunkId = chunk_at_position move in
     let looked : Looked = looked_at m move.src chunk in
-    let is : IsMove m.slabs move = lawful.kept.accounted.move move runs in
+    let is : IsMove (off m.slabs) move = lawful.kept.accounted.move move runs in
     let within : move.at < (class_at m.slabs move.src).per_page = grind (arith, nat_tests) in
-    let own : class_of_page m.slabs chunk.page ≡ move.src = own_from_cut m.slabs move.src chunk (position_cut m.slabs move is lawful.kept.whole within) in
+    let own : class_of_page m.slabs chunk.page ≡ move.src = own_from_cut m.slabs move.src chunk (position_cut (off m.slabs) move is lawful.kept.whole within) in
     let on : LooksOn m move.src chunk looked = looks_on m move.src chunk lawful is.src (ap (option_map (λ (move : Moving). move.page)) runs) own in
     let can : CanPass looked.machine.slabs looked.found move = can_pass m looked.machine looked.found move refl runs within on.clears in
-    let order : IsInOrder (after_passed looked.machine.slabs looked.found) on.proceeds.lawful.granted
-    = IsInOrder-after_passed looked.machine.slabs on.proceeds.lawful.granted looked.found move on.proceeds.lawful.order can in
+    let can_off : CanPass (off looked.machine.slabs) looked.found move = record { runs = can.runs; within = can.within; done = can.done } in
+    let order : IsInOrder (off (after_passed looked.machine.slabs looked.found)) on.proceeds.lawful.granted
+    = IsInOrder-after_passed (off looked.machine.slabs) on.proceeds.lawful.granted looked.found move on.proceeds.lawful.order can_off in
     proceeds_then m looked.machine (record looked.machine { slabs = after_passed looked.machine.slabs looked.found }) on.proceeds
     (proceeds_slabs looked.machine (after_passed looked.machine.slabs looked.found) on.proceeds.lawful.granted on.proceeds.lawful
-    (kept_moved looked.machine.table looked.machine.slabs on.proceeds.lawful.index looked.machine.items _ _ _ _ on.proceeds.lawful.kept order.accounted) order)
+    (kept_moved looked.machine.table (off looked.machine.slabs) on.proceeds.lawful.index looked.machine.items _ _ _ _ on.proceeds.lawful.kept order.accounted) order)
 
 -- one chunk, and more of them
 proceeds_chunk : (c : Counted) (moving : Option Moving) → IsLawful c.machine → c.machine.slabs.moving ≡ moving → Proceeds c.machine (with_chunk c moving).machine

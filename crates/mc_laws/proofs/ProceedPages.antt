@@ -1,20 +1,22 @@
 -- The machine goes on by itself: a class gets a page, whose chunks are cut.
-use Rattle.std.proofs.Common.{◌≡◌, ℕ, ◌+◌, ◌≤◌, length, suc, zero, Bool, true, false, Option, Some, None, refl, ap, sym, ◌∙◌, subst, arith, add-one, inl, inr, lt-ltb, le-ltb}
+use Rattle.std.proofs.Common.{◌≡◌, ℕ, ◌+◌, ◌≤◌, List, [], ◌∷◌, length, suc, zero, Bool, true, false, Option, Some, None, refl, ap, sym, ◌∙◌, subst, arith, add-one, inl, inr, lt-ltb, le-ltb}
 use Rattle.std.specs.Prelude.{fold, nat_lt, if◌then◌else◌}
 use Rattle.std.proofs.lemmas.Bool.{cases_lt}
+use Rattle.mc_pages.specs.declared.ids.ChunkId.{ChunkId}
 use Rattle.mc_pages.specs.Accounted.{first_chunks}
 use Rattle.mc_pages.specs.SlabState.{SlabState, IsClass, class_at, class_of_chunk}
 use Rattle.mc_pages.specs.Changes.{after_cut, after_grant, after_grow, after_take, next_page}
 use Rattle.mc_pages.specs.InOrder.{IsInOrder}
 use Rattle.mc_pages.proofs.Kept.{IsInOrder-after_cut, IsInOrder-after_grant, IsInOrder-after_take}
 use Rattle.mc_pages.proofs.RoomyGrow.{grow_grants, grow_takes, next_granted, next_pooled}
+use Rattle.mc_machine.specs.Kept.{IsKept}
 use Rattle.mc_machine.specs.Machine.{Machine, extended, has_free, stocked, swept, with_cut_page, with_new_page}
 use Rattle.mc_machine.specs.Supply.{supplied}
 use Rattle.mc_machine.proofs.Cuts.{chunk_at, cuts_more, next_after_cut, next_cut}
 use Rattle.mc_machine.proofs.Grown.{per_page_given, per_page_grown}
 use Rattle.mc_machine.proofs.KeptChanges.{kept_grow}
 use Rattle.mc_machine.proofs.Stocks.{IsClass-stocked, IsClass-swept}
-use Rattle.mc_laws.proofs.Lawful.{IsLawful, Proceeds, proceeds_same, proceeds_slabs, proceeds_then}
+use Rattle.mc_laws.proofs.Lawful.{IsLawful, off, Proceeds, proceeds_same, proceeds_slabs, proceeds_then}
 use Rattle.mc_laws.proofs.ProceedEvicts.{proceeds_relieved}
 use Rattle.mc_laws.proofs.ProceedSweeps.{proceeds_swept}
 
@@ -62,19 +64,37 @@ uncut_grown : (b : Bool) (slabs : SlabState) (class page : ℕ)
 uncut_grown true slabs class page = refl
 uncut_grown false slabs class page = refl
 
+-- whether the automover is on has no part in what comes of a page
+off-grow : (slabs : SlabState) (class page : ℕ) → after_grow (off slabs) class page ≡ off (after_grow slabs class page)
+off-grow slabs class page =
+    elim (nat_lt 0 (length slabs.pool)) as
+    (λ (b : Bool). (if b then after_take (off slabs) class page else after_grant (off slabs) class page) ≡ off (if b then after_take slabs class page else after_grant slabs class page))
+    [ true ↦ refl | false ↦ refl ]
+
+off-cuts : (slabs : SlabState) (chunks : List ChunkId) → fold after_cut (off slabs) chunks ≡ off (fold after_cut slabs chunks)
+off-cuts slabs [] = refl
+off-cuts slabs (chunk ∷ chunks) = off-cuts (after_cut slabs chunk) chunks
+
+pub off-cut_page : (slabs : SlabState) (class page : ℕ) → with_cut_page (off slabs) class page ≡ off (with_cut_page slabs class page)
+off-cut_page slabs class page = off-cuts slabs (first_chunks page (class_at slabs class).per_page)
+
 proceeds_page : (m : Machine) (class : ℕ) (page : Option ℕ) → IsLawful m → IsClass m.slabs class → next_page m.slabs ≡ page
     → Proceeds m (with_new_page m class page)
 proceeds_page m class None lawful valid next = proceeds_same m lawful
 proceeds_page m class (Some page) lawful valid next =
-    let grown : SlabState = after_grow m.slabs class page in
+    let was : SlabState = off m.slabs in
+    let grown : SlabState = after_grow was class page in
     let per_page : ℕ = (class_at grown class).per_page in
-    let order = order_grown m.slabs lawful.granted class page lawful.order valid lawful.kept.whole next in
+    let order = order_grown was lawful.granted class page lawful.order valid lawful.kept.whole next in
     let same : (class_of_chunk grown (chunk_at page 0)).per_page ≡ per_page
-    = per_page_given m.slabs class page lawful.kept.accounted valid next ∙ sym (per_page_grown m.slabs class page valid) in
-    let some : 1 ≤ per_page = rw (per_page_grown m.slabs class page valid) (lawful.order.per_page class valid) in
-    let cut = all_cut grown order.0 page per_page order.1 (uncut_grown (nat_lt 0 (length m.slabs.pool)) m.slabs class page) same some in
-    proceeds_slabs m (with_cut_page grown class page) order.0 lawful
-    (kept_grow m.table m.slabs lawful.index m.items class page (first_chunks page per_page) lawful.kept valid next cut.0.accounted cut.1) cut.0
+    = per_page_given was class page lawful.kept.accounted valid next ∙ sym (per_page_grown was class page valid) in
+    let some : 1 ≤ per_page = rw (per_page_grown was class page valid) (lawful.order.per_page class valid) in
+    let cut = all_cut grown order.0 page per_page order.1 (uncut_grown (nat_lt 0 (length m.slabs.pool)) was class page) same some in
+    let kept = kept_grow m.table was lawful.index m.items class page (first_chunks page per_page) lawful.kept valid next cut.0.accounted cut.1 in
+    let now : with_cut_page grown class page ≡ off (with_cut_page (after_grow m.slabs class page) class page)
+    = ap (λ (s : SlabState). with_cut_page s class page) (off-grow m.slabs class page) ∙ off-cut_page (after_grow m.slabs class page) class page in
+    proceeds_slabs m (with_cut_page (after_grow m.slabs class page) class page) order.0 lawful
+    (subst (λ (s : SlabState). IsKept m.table s lawful.index m.items) now kept) (subst (λ (s : SlabState). IsInOrder s order.0) now cut.0)
 
 proceeds_extended : (m : Machine) (class : ℕ) → IsLawful m → IsClass m.slabs class → Proceeds m (extended m class)
 proceeds_extended m class lawful valid = extended_way (has_free m class)

@@ -20,23 +20,23 @@ use Rattle.mc_machine.proofs.KeptChanges.{kept_reclaim}
 use Rattle.mc_machine.proofs.KeptMoverClear.{contains_counted, dead_here, handed_item}
 use Rattle.mc_machine.proofs.Stocks.{classes-sweeps, sweeps_more}
 use Rattle.mc_machine.proofs.Sweeps.{is_dead-reclaimed}
-use Rattle.mc_laws.proofs.Lawful.{IsLawful, Proceeds, proceeds_same, proceeds_then, proceeds_without}
+use Rattle.mc_laws.proofs.Lawful.{IsLawful, off, Proceeds, proceeds_same, proceeds_then, proceeds_without}
 
 -- the chunk of an item goes back to its class
 pub order_back : (m : Machine) (chunk : ChunkId) (item : Item) (lawful : IsLawful m) → item_at m.items chunk ≡ Some item
-    → IsInOrder (after_back m.slabs chunk) lawful.granted
+    → IsInOrder (off (after_back m.slabs chunk)) lawful.granted
 order_back m chunk item lawful there =
-    IsInOrder-after_back m.slabs lawful.granted chunk lawful.order
-    (contains_counted chunk (class_of_chunk m.slabs chunk).order (handed_item m.table m.slabs lawful.index m.items chunk item lawful.kept there))
+    IsInOrder-after_back (off m.slabs) lawful.granted chunk lawful.order
+    (contains_counted chunk (class_of_chunk m.slabs chunk).order (handed_item m.table (off m.slabs) lawful.index m.items chunk item lawful.kept there))
 
 pub proceeds_reclaim : (m : Machine) (chunk : ChunkId) → IsLawful m → is_dead m chunk ≡ true → Proceeds m (after_reclaim m chunk)
 proceeds_reclaim m chunk lawful dead =
     let found = dead_here m m chunk refl dead in
     let parts = and_parts (is_unlinked m.items chunk) _ dead in
-    let order : IsInOrder (after_back m.slabs chunk) lawful.granted = order_back m chunk found.0 lawful found.1 in
+    let order : IsInOrder (off (after_back m.slabs chunk)) lawful.granted = order_back m chunk found.0 lawful found.1 in
     proceeds_without m (after_back m.slabs chunk) lawful.index lawful.granted chunk found.0 lawful found.1
     (not-true (is_held m.holds chunk) parts.1)
-    (kept_reclaim m.table m.slabs lawful.index m.items chunk lawful.kept order.accounted parts.0) order
+    (kept_reclaim m.table (off m.slabs) lawful.index m.items chunk lawful.kept order.accounted parts.0) order
 
 -- some chunks are dead, each of them once in the list
 record AreDead (m : Machine) (chunks : List ChunkId) : Type 0 where
@@ -91,7 +91,7 @@ proceeds_swept m class lawful valid =
     proceeds_reclaims m (dead_chunks m class) lawful (record {
       dead = λ chunk there. passes_filter (is_dead m) chunk order there;
       once = λ chunk.
-          omega (arith, times-filter-le (is_dead m) chunk order, listed_once m.table m.slabs lawful.index m.items class lawful.kept valid chunk);
+          omega (arith, times-filter-le (is_dead m) chunk order, listed_once m.table (off m.slabs) lawful.index m.items class lawful.kept valid chunk);
     })
 
 -- one class after another

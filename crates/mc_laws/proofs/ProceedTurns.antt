@@ -1,65 +1,89 @@
 -- The machine goes on by itself: turns of the mover, and the end of a move.
-use Rattle.std.proofs.Common.{◌≡◌, ◌≢◌, ℕ, ◌+◌, ◌≤◌, suc, zero, Bool, true, false, not, Option, Some, None, refl, sym, ◌∙◌, subst, arith, eqb-true}
+use Rattle.std.proofs.Common.{◌≡◌, ◌≢◌, ℕ, ◌+◌, ◌≤◌, suc, zero, Bool, true, false, not, [], ◌∷◌, ◌++◌, Option, Some, None, refl, sym, ap, ◌∙◌, subst, arith, eqb-true}
 use Rattle.std.specs.Prelude.{nat_lt, if◌then◌else◌, ◌==◌}
 use Rattle.std.proofs.lemmas.Bool.{ltb-true}
 use Rattle.std.proofs.lemmas.Bool.Decides.{nat_tests}
 use Rattle.std.proofs.lemmas.Option.{none-some, same_Some}
 use Rattle.mc_pages.specs.declared.ids.Moving.{Moving}
+use Rattle.mc_pages.specs.declared.ledger.Entry.TheVariants.{Ended}
+use Rattle.mc_pages.specs.ClassState.{counted}
 use Rattle.mc_pages.specs.SlabState.{SlabState, IsClass, class_at}
+use Rattle.mc_pages.specs.Changes.{with_given}
 use Rattle.mc_pages.specs.Accounted.{IsMove, first_chunks}
 use Rattle.mc_pages.specs.InOrder.{IsInOrder}
-use Rattle.mc_pages.specs.Moves.{CanFinish, CanWrap, after_wrap, finished}
+use Rattle.mc_pages.specs.Moves.{CanFinish, CanWrap, after_wrap, finished, released}
 use Rattle.mc_pages.proofs.Kept.{IsInOrder-after_wrap, IsInOrder-finished, all_cleared_at_end}
 use Rattle.mc_machine.specs.declared.turn.Counts.{Counts}
 use Rattle.mc_machine.specs.declared.turn.Ending.TheVariants.{Went, Finished}
+use Rattle.mc_machine.specs.Kept.{IsKept}
 use Rattle.mc_machine.specs.Machine.{Machine, with_cut_page}
 use Rattle.mc_machine.specs.Mover.{Counted, Turned, is_at_end, is_went, most_turns, turned, turns_from, with_chunks, with_end, with_finish}
 use Rattle.mc_machine.proofs.KeptMoverFinish.{kept_pooled, kept_recut, per_page_finished, per_page_there, uncut_finished}
 use Rattle.mc_machine.proofs.KeptMoverPass.{kept_moved}
-use Rattle.mc_laws.proofs.Lawful.{IsLawful, Proceeds, proceeds_same, proceeds_from, proceeds_slabs, proceeds_then}
+use Rattle.mc_laws.proofs.Lawful.{IsLawful, off, Proceeds, proceeds_same, proceeds_from, proceeds_slabs, proceeds_then}
 use Rattle.mc_laws.proofs.ProceedLooks.{proceeds_chunks}
-use Rattle.mc_laws.proofs.ProceedPages.{all_cut}
+use Rattle.mc_laws.proofs.ProceedPages.{all_cut, off-cut_page}
 
 -- a pass begins anew
 proceeds_wrapped : (m : Machine) (move : Moving) → IsLawful m → m.slabs.moving ≡ Some move → is_at_end m move ≡ true → nat_lt 0 move.busy ≡ true
     → Proceeds m (record m { slabs = after_wrap m.slabs })
 proceeds_wrapped m move lawful runs at_end busy =
-    let is : IsMove m.slabs move = lawful.kept.accounted.move move runs in
-    let can : CanWrap m.slabs move = record {
+    let is : IsMove (off m.slabs) move = lawful.kept.accounted.move move runs in
+    let can : CanWrap (off m.slabs) move = record {
       runs = runs;
       at_end = grind (arith, nat_tests, is.within);
       held_up = ltb-true 0 move.busy busy;
     } in
-    let order : IsInOrder (after_wrap m.slabs) lawful.granted = IsInOrder-after_wrap m.slabs lawful.granted move lawful.order can in
-    proceeds_slabs m (after_wrap m.slabs) lawful.granted lawful (kept_moved m.table m.slabs lawful.index m.items _ _ _ _ lawful.kept order.accounted) order
+    let order : IsInOrder (off (after_wrap m.slabs)) lawful.granted = IsInOrder-after_wrap (off m.slabs) lawful.granted move lawful.order can in
+    proceeds_slabs m (after_wrap m.slabs) lawful.granted lawful (kept_moved m.table (off m.slabs) lawful.index m.items _ _ _ _ lawful.kept order.accounted) order
+
+-- where the page has come to
+abbrev arrived_by : SlabState → Moving → Bool → SlabState
+arrived_by slabs move b = if b then released slabs move.page move.src else record (with_given (released slabs move.page move.src) move.dst move.page) { pool = slabs.pool }
+
+-- and the end's entry and count
+abbrev ended_from : SlabState → Moving → SlabState → SlabState
+ended_from slabs move there = record there { ledger = slabs.ledger ++ Ended move.page move.dst ∷ []; moved = counted slabs.moved 1 }
+
+-- whether the automover is on has no part in how a move ends
+off-finished : (slabs : SlabState) (move : Moving) → finished (off slabs) move ≡ off (finished slabs move)
+off-finished slabs move =
+    elim (move.dst == 0) as (λ (b : Bool). ended_from (off slabs) move (arrived_by (off slabs) move b) ≡ off (ended_from slabs move (arrived_by slabs move b))) [ true ↦ refl | false ↦ refl ]
 
 -- a move ends: its page goes into the pool, or a class cuts it
-finish_way : (b : Bool) (m : Machine) (move : Moving) → IsLawful m → CanFinish m.slabs move → (move.dst == 0) ≡ b
+finish_way : (b : Bool) (m : Machine) (move : Moving) → IsLawful m → CanFinish (off m.slabs) move → (move.dst == 0) ≡ b
     → Proceeds m (record m { slabs = if b then finished m.slabs move else with_cut_page (finished m.slabs move) move.dst move.page })
 finish_way true m move lawful can pool =
-    let order : IsInOrder (finished m.slabs move) lawful.granted = IsInOrder-finished m.slabs lawful.granted move lawful.order lawful.kept.whole can in
+    let was : SlabState = off m.slabs in
+    let order = IsInOrder-finished was lawful.granted move lawful.order lawful.kept.whole can in
+    let kept = kept_pooled m.table was lawful.index m.items move lawful.kept can (eqb-true move.dst 0 pool) order.accounted in
+    let now = off-finished m.slabs move in
     proceeds_slabs m (finished m.slabs move) lawful.granted lawful
-    (kept_pooled m.table m.slabs lawful.index m.items move lawful.kept can (eqb-true move.dst 0 pool) order.accounted) order
+    (subst (λ (s : SlabState). IsKept m.table s lawful.index m.items) now kept) (subst (λ (s : SlabState). IsInOrder s lawful.granted) now order)
 finish_way false m move lawful can class =
-    let is : IsMove m.slabs move = lawful.kept.accounted.move move can.runs in
-    let new : SlabState = finished m.slabs move in
+    let was : SlabState = off m.slabs in
+    let is : IsMove was move = lawful.kept.accounted.move move can.runs in
+    let new : SlabState = finished was move in
     let per_page : ℕ = (class_at new move.dst).per_page in
     let to : move.dst ≢ 0 = grind (arith, nat_tests) in
-    let valid : IsClass m.slabs move.dst = (omega (arith, to), is.dst) in
-    let same = per_page_finished m.slabs move move.dst in
-    let order : IsInOrder new lawful.granted = IsInOrder-finished m.slabs lawful.granted move lawful.order lawful.kept.whole can in
+    let valid : IsClass was move.dst = (omega (arith, to), is.dst) in
+    let same = per_page_finished was move move.dst in
+    let order : IsInOrder new lawful.granted = IsInOrder-finished was lawful.granted move lawful.order lawful.kept.whole can in
     let some : 1 ≤ per_page = rw same (lawful.order.per_page move.dst valid) in
-    let cut = all_cut new lawful.granted move.page per_page order (uncut_finished m.slabs move to) (per_page_there m.slabs move is to ∙ sym same) some in
-    proceeds_slabs m (with_cut_page new move.dst move.page) lawful.granted lawful
-    (kept_recut m.table m.slabs lawful.index m.items move (first_chunks move.page per_page) lawful.kept can cut.1 cut.0.accounted) cut.0
+    let cut = all_cut new lawful.granted move.page per_page order (uncut_finished was move to) (per_page_there was move is to ∙ sym same) some in
+    let kept = kept_recut m.table was lawful.index m.items move (first_chunks move.page per_page) lawful.kept can cut.1 cut.0.accounted in
+    let now : with_cut_page new move.dst move.page ≡ off (with_cut_page (finished m.slabs move) move.dst move.page)
+    = ap (λ (s : SlabState). with_cut_page s move.dst move.page) (off-finished m.slabs move) ∙ off-cut_page (finished m.slabs move) move.dst move.page in
+    proceeds_slabs m (with_cut_page (finished m.slabs move) move.dst move.page) lawful.granted lawful
+    (subst (λ (s : SlabState). IsKept m.table s lawful.index m.items) now kept) (subst (λ (s : SlabState). IsInOrder s lawful.granted) now cut.0)
 
 proceeds_finished : (m : Machine) (move : Moving) → IsLawful m → m.slabs.moving ≡ Some move → is_at_end m move ≡ true → nat_lt 0 move.busy ≡ false
     → Proceeds m (with_finish m move)
 proceeds_finished m move lawful runs at_end free =
-    let is : IsMove m.slabs move = lawful.kept.accounted.move move runs in
+    let is : IsMove (off m.slabs) move = lawful.kept.accounted.move move runs in
     let last : move.at ≡ (class_at m.slabs move.src).per_page = grind (arith, nat_tests, is.within) in
     let none : move.busy ≡ 0 = grind (arith, nat_tests) in
-    finish_way (move.dst == 0) m move lawful (all_cleared_at_end m.slabs move lawful.kept.accounted runs last none) refl
+    finish_way (move.dst == 0) m move lawful (all_cleared_at_end (off m.slabs) move lawful.kept.accounted runs last none) refl
 
 -- the end of a turn
 proceeds_end : (c : Counted) (moving : Option Moving) → IsLawful c.machine → c.machine.slabs.moving ≡ moving → Proceeds c.machine (with_end c moving).machine

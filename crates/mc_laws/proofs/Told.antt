@@ -24,7 +24,7 @@ use Rattle.mc_laws.proofs.FoundItems.{item_at-with_item}
 use Rattle.mc_laws.proofs.Indexes.{index_of, leads_index}
 use Rattle.mc_machine.proofs.KeptStore.{IsNext, is_at-tells, is_next, kept_store}
 use Rattle.mc_machine.proofs.Links.{linked_chunk-with_item}
-use Rattle.mc_laws.proofs.Lawful.{IsLawful, Proceeds, as_held, stored_as}
+use Rattle.mc_laws.proofs.Lawful.{off, IsLawful, Proceeds, as_held, stored_as}
 use Rattle.mc_laws.proofs.Stands.{Stand, stand_on}
 
 pub record AreTold (m : Machine) (answers : List Answered) : Type 0 where
@@ -88,7 +88,7 @@ module _ (m : Machine) (class key : ℕ) (words : List ℕ) (chunk : ChunkId) (l
 
   none_there : item_at m.items chunk ≡ None
   none_there =
-      let is : IsNext m.slabs m.items class chunk = is_next m.table m.slabs lawful.index m.items class chunk lawful.kept valid next in
+      let is : IsNext (off m.slabs) m.items class chunk = is_next m.table (off m.slabs) lawful.index m.items class chunk lawful.kept valid next in
       is.empty
 
   found_stored : (c : ChunkId) → item_at after_store.items c ≡ cond (is_at (chunk_cmp c) chunk) (Some (new_item key words)) (item_at m.items c)
@@ -97,7 +97,7 @@ module _ (m : Machine) (class key : ℕ) (words : List ℕ) (chunk : ChunkId) (l
   lawful_stored : IsLawful after_store
   lawful_stored =
       let index : List (ℕ × ChunkId) = index_of after_store.items in
-      let order : IsInOrder (after_pop m.slabs class) lawful.granted = IsInOrder-after_pop m.slabs lawful.granted class lawful.order valid in
+      let order : IsInOrder (off (after_pop m.slabs class)) lawful.granted = IsInOrder-after_pop (off m.slabs) lawful.granted class lawful.order valid in
       let leads : (q : ℕ) → lookup (is_at (nat_cmp q)) index ≡ cond (is_at (nat_cmp key) q) (Some chunk) (lookup (is_at (nat_cmp q)) lawful.index)
       = λ q. grind (
         arith,
@@ -108,7 +108,7 @@ module _ (m : Machine) (class key : ℕ) (words : List ℕ) (chunk : ChunkId) (l
       ) in
       record {
         index = index;
-        kept = kept_store m.table m.slabs lawful.index index m.items class key words chunk lawful.kept valid next order.accounted nowhere leads;
+        kept = kept_store m.table (off m.slabs) lawful.index index m.items class key words chunk lawful.kept valid next order.accounted nowhere leads;
         granted = lawful.granted;
         order = order;
         workers = lawful.workers;

@@ -20,7 +20,7 @@ use Rattle.mc_machine.specs.Texts.{key_line}
 use Rattle.mc_laws.specs.Answered.{Answered, held_words, last_words, with_held, without_held}
 use Rattle.mc_machine.proofs.Links.{LinkedIn, linked_in, some_places}
 use Rattle.mc_machine.proofs.KeptChanges.{place_once}
-use Rattle.mc_laws.proofs.Lawful.{IsLawful, as_held, proceeds_same, stored_as}
+use Rattle.mc_laws.proofs.Lawful.{off, IsLawful, as_held, proceeds_same, stored_as}
 use Rattle.mc_laws.proofs.Stands.{Stand, finds_passing, stand_without, times-without-le}
 use Rattle.mc_laws.proofs.Told.{AreTold, told_on}
 use Rattle.mc_laws.proofs.ToldSets.{answered_by, both_pass, first_fails, same_text, second_fails}
@@ -72,7 +72,7 @@ told_found m answers worker key None told few leads =
 told_found m answers worker key (Some chunk) told few leads =
     let answered : Answered = answered_by (Hold worker key) (held m worker key (Some chunk)) in
     let in_chunk : LinkedIn key chunk m.items
-    = linked_in key chunk m.items leads (place_once m.table m.slabs told.lawful.index m.items chunk told.lawful.kept) (told.lawful.kept.one_link key) in
+    = linked_in key chunk m.items leads (place_once m.table (off m.slabs) told.lawful.index m.items chunk told.lawful.kept) (told.lawful.kept.one_link key) in
     let item : Item = in_chunk.item in
     let tests = and_parts item.linked (item.key == key) in_chunk.linked in
     let its : item.key ≡ key = grind (arith, nat_tests) in

@@ -1,5 +1,5 @@
 -- What is told after each command of a run.
-use Rattle.std.proofs.Common.{◌≡◌, ℕ, List, [], ◌∷◌, zero, suc, Bool, true, false, Option, Some, None, Result, Ok, Err, refl, ap, sym, ◌∙◌, subst, arith, All}
+use Rattle.std.proofs.Common.{◌≡◌, ℕ, List, [], ◌∷◌, zero, suc, Bool, true, false, Option, Some, None, Result, refl, ap, sym, ◌∙◌, subst, arith, All}
 use Rattle.std.specs.Prelude.{if◌then◌else◌, replicate, codes}
 use Rattle.std.specs.Option.{option_and_then, option_map, option_map_or}
 use Rattle.std.proofs.lemmas.Option.{none-some, same_Some}
@@ -10,7 +10,7 @@ use Rattle.mc_pages.specs.ClassState.{times}
 use Rattle.mc_pages.specs.SlabState.{fresh_slabs}
 use Rattle.mc_pages.specs.Answer.{answer_of}
 use Rattle.mc_pages.specs.InOrder.{IsInOrder}
-use Rattle.mc_pages.proofs.Kept.{IsInOrder-automove, IsInOrder-fresh}
+use Rattle.mc_pages.proofs.Kept.{IsInOrder-fresh}
 use Rattle.mc_script.specs.Command.{IsValid}
 use Rattle.mc_script.specs.declared.command.Command.{Command}
 use Rattle.mc_script.specs.declared.command.Command.TheVariants.{Set, Delete, Get, Hold, Drop, Touch, Reassign as ReassignPage, Automove, Window, Turn, Stats, StatsSlabs}
@@ -26,7 +26,7 @@ use Rattle.mc_machine.specs.declared.turn.Ending.TheVariants.{Idle}
 use Rattle.mc_machine.specs.Texts.{key_line}
 use Rattle.mc_laws.specs.Answered.{Answered, answers}
 use Rattle.mc_machine.proofs.KeptChanges.{kept_fresh}
-use Rattle.mc_laws.proofs.Lawful.{proceeds_same, proceeds_then}
+use Rattle.mc_laws.proofs.Lawful.{off, proceeds_same, proceeds_then}
 use Rattle.mc_laws.proofs.ProceedCommands.{proceeds_acted, proceeds_asked, proceeds_automove, proceeds_fed, proceeds_touched}
 use Rattle.mc_laws.proofs.ProceedSweeps.{proceeds_all_swept}
 use Rattle.mc_laws.proofs.ProceedTurns.{proceeds_turns}
@@ -42,11 +42,11 @@ none_held (suc count) (suc worker) = none_held count worker
 
 told_fresh : (table : Classes) (bulk mode : ℕ) → IsSound table → AreTold (fresh_machine table bulk mode) []
 told_fresh table bulk mode sound =
-    let order : IsInOrder (with_mode (fresh_slabs table) mode) 0 = IsInOrder-automove (fresh_slabs table) 0 mode (IsInOrder-fresh table sound) in
+    let order : IsInOrder (off (fresh_slabs table)) 0 = IsInOrder-fresh table sound in
     record {
       lawful = record {
         index = [];
-        kept = kept_fresh table mode (with_mode (fresh_slabs table) mode) [] [] sound refl order.accounted refl refl;
+        kept = kept_fresh table 0 (off (fresh_slabs table)) [] [] sound refl order.accounted refl refl;
         granted = 0;
         order = order;
         workers = refl;

@@ -13,7 +13,7 @@ use Rattle.mc_machine.specs.Texts.{key_line, words_line}
 use Rattle.mc_laws.specs.Answered.{Answered, HeldWords, held_words, last_words}
 use Rattle.mc_laws.specs.Words.{IsReplyToGet, absent, found, full, reply_to_drop}
 use Rattle.mc_machine.proofs.KeptChanges.{place_once}
-use Rattle.mc_laws.proofs.Lawful.{as_held}
+use Rattle.mc_laws.proofs.Lawful.{off, as_held}
 use Rattle.mc_machine.proofs.Links.{LinkedIn, linked_in}
 use Rattle.mc_laws.proofs.Stands.{FindsSame, finds_same}
 use Rattle.mc_laws.proofs.Told.{AreTold}
@@ -25,7 +25,7 @@ module _ (m : Machine) (answers : List Answered) (all : AreTold m answers) where
   read_words key None leads = absent refl
   read_words key (Some chunk) leads =
       let there : LinkedIn key chunk m.items
-      = linked_in key chunk m.items leads (place_once m.table m.slabs all.lawful.index m.items chunk all.lawful.kept) (all.lawful.kept.one_link key) in
+      = linked_in key chunk m.items leads (place_once m.table (off m.slabs) all.lawful.index m.items chunk all.lawful.kept) (all.lawful.kept.one_link key) in
       let words : last_words key answers ≡ Some there.item.words = all.words key chunk there.item there.there there.linked in
       subst (λ (o : Option Item). IsReplyToGet key (last_words key answers) (read m key o).reply) (sym there.there)
       (found there.item.words words refl)

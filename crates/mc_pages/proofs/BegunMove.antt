@@ -56,11 +56,12 @@ is_cleared-begun slabs page src dst all rest owned within class chunk here =
     omega (arith, none, ap truth before, ap truth was, all.chunks class chunk here))
 
 -- the move is at its beginning
-IsMove-begun : (slabs : SlabState) (page src dst : ℕ) → IsClass slabs src → dst ≤ length slabs.classes → src ≢ dst → page < length slabs.owners → IsMove (with_move slabs page src dst) (record { page = page; src = src; dst = dst; at = 0; busy = 0 })
-IsMove-begun slabs page src dst is to apart within =
+IsMove-begun : (slabs : SlabState) (page src dst : ℕ) → IsClass slabs src → 2 ≤ length (class_at slabs src).pages → dst ≤ length slabs.classes → src ≢ dst → page < length slabs.owners → IsMove (with_move slabs page src dst) (record { page = page; src = src; dst = dst; at = 0; busy = 0 })
+IsMove-begun slabs page src dst is two to apart within =
     record {
       owner = owner_at-set_same slabs.owners page (owner.Moving src dst) within;
       src = is;
+      spare = two;
       dst = to;
       apart = apart;
       within = omega arith;
@@ -69,19 +70,20 @@ IsMove-begun slabs page src dst is to apart within =
     }
 
 -- a page of a class begins to move
-pub ArePlaced-begun : (slabs : SlabState) (page src dst : ℕ) → ArePlaced slabs → slabs.moving ≡ None → IsClass slabs src → dst ≤ length slabs.classes → src ≢ dst → owner_at slabs.owners page ≡ Class src → page < length slabs.owners → ArePlaced (with_move slabs page src dst)
-ArePlaced-begun slabs page src dst all rest is to apart owned within =
+pub ArePlaced-begun : (slabs : SlabState) (page src dst : ℕ) → ArePlaced slabs → slabs.moving ≡ None → IsClass slabs src → 2 ≤ length (class_at slabs src).pages → dst ≤ length slabs.classes → src ≢ dst → owner_at slabs.owners page ≡ Class src → page < length slabs.owners → ArePlaced (with_move slabs page src dst)
+ArePlaced-begun slabs page src dst all rest is two to apart owned within =
     let new : SlabState = with_move slabs page src dst in
     let first : Moving = record { page = page; src = src; dst = dst; at = 0; busy = 0 } in
     record {
       pages = λ class other here. all.pages class other here ∙ ap truth (sym (is_of_class-begun slabs page src dst owned within class other));
+      owned = λ class other h. all.owned class other (sym (is_of_class-begun slabs page src dst owned within class other) ∙ h);
       pool = λ other. all.pool other ∙ ap truth (sym (owner-set_alike is_pool slabs.owners page other (owner.Moving src dst) within (ap is_pool (sym owned))));
       one_move = λ other h.
           elim (cases_eq other page) [
             | inl same ↦ ap (λ (p : ℕ). Some p) (sym same)
             | inr differs ↦ absurd (both_ways _ (still_at_rest slabs all rest other) (sym (ap is_moving (owner_at-set_other slabs.owners page other (owner.Moving src dst) differs)) ∙ h))
           ];
-      move = λ move h. subst (λ (m : Moving). IsMove new m) (same_Some first move h) (IsMove-begun slabs page src dst is to apart within);
+      move = λ move h. subst (λ (m : Moving). IsMove new m) (same_Some first move h) (IsMove-begun slabs page src dst is two to apart within);
       chunks = λ class chunk here.
           let cleared = is_cleared-begun slabs page src dst all rest owned within class chunk here in
           let before = is_cleared-still slabs class chunk (still_at_rest slabs all rest chunk.page) in

@@ -4,7 +4,7 @@ use Rattle.std.proofs.lemmas.Bool.{cases_Bool, cases_lt}
 use Rattle.std.proofs.lemmas.Option.{slice_get_cases, slice_get_past}
 use Rattle.mc_pages.specs.declared.ids.ChunkId.{ChunkId}
 use Rattle.mc_pages.specs.declared.rows.ListName.{ListName}
-use Rattle.mc_pages.specs.declared.rows.ListName.TheVariants.{Free, Out}
+use Rattle.mc_pages.specs.declared.rows.ListName.TheVariants.{Free, HandedOut}
 use Rattle.mc_pages.specs.declared.rows.Mark.TheVariants as marks
 use Rattle.mc_pages.specs.declared.rows.Field.TheVariants.{Next, Head}
 use Rattle.mc_pages.specs.ClassState.{ClassState, is_chunk, times, without, first_free, popped, behind}
@@ -20,17 +20,17 @@ use Rattle.mc_pages.proofs.Joined.{forth_in, back_in}
 use Rattle.mc_pages.proofs.Linked.{with_list-same, with_list-other}
 
 -- free lists and hand-out orders are apart
-pub free≢out : (a b : ℕ) → Free a ≢ Out b
-free≢out a b h = cc h
+pub free≢handed_out : (a b : ℕ) → Free a ≢ HandedOut b
+free≢handed_out a b h = cc h
 
-pub out≢free : (a b : ℕ) → Out a ≢ Free b
-out≢free a b h = cc h
+pub handed_out≢free : (a b : ℕ) → HandedOut a ≢ Free b
+handed_out≢free a b h = cc h
 
 pub free≢free : (a b : ℕ) → a ≢ b → Free a ≢ Free b
 free≢free a b differs h = differs (cc h)
 
-pub out≢out : (a b : ℕ) → a ≢ b → Out a ≢ Out b
-out≢out a b differs h = differs (cc h)
+pub handed_out≢handed_out : (a b : ℕ) → a ≢ b → HandedOut a ≢ HandedOut b
+handed_out≢handed_out a b differs h = differs (cc h)
 
 -- one list has changed
 abbrev pub Changes : (ListName → List ChunkId) → (ListName → List ChunkId) → ListName → List ChunkId → Type 0
@@ -53,22 +53,22 @@ pub has_become : (before after : RowsState) (place : ℕ) (change : ClassState �
 has_become before after place change is becomes = record { linked = is; sizes = becomes.sizes; here = becomes.here; others = becomes.others }
 
 -- the lists of a class where one of them has changed, and where both have
-pub became_free : (before after : RowsState) (place : ℕ) (change : ClassState → ClassState) (free : List ChunkId) → sizes_of after ≡ sizes_of before → Changes (chunks_of before) (chunks_of after) (Free place) free → ((class : ClassState) → record class { free = free; order = chunks_of before (Out place) } ≡ change (with_lists class before place)) → Becomes before after place change
+pub became_free : (before after : RowsState) (place : ℕ) (change : ClassState → ClassState) (free : List ChunkId) → sizes_of after ≡ sizes_of before → Changes (chunks_of before) (chunks_of after) (Free place) free → ((class : ClassState) → record class { free = free; order = chunks_of before (HandedOut place) } ≡ change (with_lists class before place)) → Becomes before after place change
 became_free before after place change free sizes changes so =
     let kept = λ (other : ListName) (differs : other ≢ Free place). changed-other (chunks_of before) (chunks_of after) (Free place) other free differs changes in
     record {
       sizes = sizes;
-      here = λ class. ap₂ (λ (f o : List ChunkId). record class { free = f; order = o }) (changed-same (chunks_of before) (chunks_of after) (Free place) free changes) (kept (Out place) (out≢free place place)) ∙ so class;
-      others = λ class other differs. ap₂ (λ (f o : List ChunkId). record class { free = f; order = o }) (kept (Free other) (free≢free other place differs)) (kept (Out other) (out≢free other place));
+      here = λ class. ap₂ (λ (f o : List ChunkId). record class { free = f; order = o }) (changed-same (chunks_of before) (chunks_of after) (Free place) free changes) (kept (HandedOut place) (handed_out≢free place place)) ∙ so class;
+      others = λ class other differs. ap₂ (λ (f o : List ChunkId). record class { free = f; order = o }) (kept (Free other) (free≢free other place differs)) (kept (HandedOut other) (handed_out≢free other place));
     }
 
-pub became_out : (before after : RowsState) (place : ℕ) (change : ClassState → ClassState) (order : List ChunkId) → sizes_of after ≡ sizes_of before → Changes (chunks_of before) (chunks_of after) (Out place) order → ((class : ClassState) → record class { free = chunks_of before (Free place); order = order } ≡ change (with_lists class before place)) → Becomes before after place change
-became_out before after place change order sizes changes so =
-    let kept = λ (other : ListName) (differs : other ≢ Out place). changed-other (chunks_of before) (chunks_of after) (Out place) other order differs changes in
+pub became_handed_out : (before after : RowsState) (place : ℕ) (change : ClassState → ClassState) (order : List ChunkId) → sizes_of after ≡ sizes_of before → Changes (chunks_of before) (chunks_of after) (HandedOut place) order → ((class : ClassState) → record class { free = chunks_of before (Free place); order = order } ≡ change (with_lists class before place)) → Becomes before after place change
+became_handed_out before after place change order sizes changes so =
+    let kept = λ (other : ListName) (differs : other ≢ HandedOut place). changed-other (chunks_of before) (chunks_of after) (HandedOut place) other order differs changes in
     record {
       sizes = sizes;
-      here = λ class. ap₂ (λ (f o : List ChunkId). record class { free = f; order = o }) (kept (Free place) (free≢out place place)) (changed-same (chunks_of before) (chunks_of after) (Out place) order changes) ∙ so class;
-      others = λ class other differs. ap₂ (λ (f o : List ChunkId). record class { free = f; order = o }) (kept (Free other) (free≢out other place)) (kept (Out other) (out≢out other place differs));
+      here = λ class. ap₂ (λ (f o : List ChunkId). record class { free = f; order = o }) (kept (Free place) (free≢handed_out place place)) (changed-same (chunks_of before) (chunks_of after) (HandedOut place) order changes) ∙ so class;
+      others = λ class other differs. ap₂ (λ (f o : List ChunkId). record class { free = f; order = o }) (kept (Free other) (free≢handed_out other place)) (kept (HandedOut other) (handed_out≢handed_out other place differs));
     }
 
 -- one change after another
@@ -151,28 +151,28 @@ pub first_there : (chunk : ChunkId) (chunks : List ChunkId) → slice_get chunks
 first_there chunk chunks h = times_from_Contains chunk chunks (Contains_from_slice_get chunk chunks 0 h)
 
 -- a chunk of a class that is handed out stands in the order, and one that isn't in the free list
-pub listed_row : (rows : RowsState) (class : ℕ) (chunk : ChunkId) → AreLinked rows → 1 ≤ times chunk (chunks_of rows (Free class)) + times chunk (chunks_of rows (Out class)) → IsRow rows chunk
+pub listed_row : (rows : RowsState) (class : ℕ) (chunk : ChunkId) → AreLinked rows → 1 ≤ times chunk (chunks_of rows (Free class)) + times chunk (chunks_of rows (HandedOut class)) → IsRow rows chunk
 listed_row rows class chunk is listed =
     elim (cases_lt 0 (times chunk (chunks_of rows (Free class)))) [
       | inl there ↦ is.placed (Free class) chunk there
-      | inr none ↦ is.placed (Out class) chunk (omega (arith, none, listed))
+      | inr none ↦ is.placed (HandedOut class) chunk (omega (arith, none, listed))
     ]
 
 -- marks are apart
-free≢handed_out : marks.Free ≢ marks.Out
-free≢handed_out h = cc h
+free_mark≢handed_out : marks.Free ≢ marks.HandedOut
+free_mark≢handed_out h = cc h
 
-pub listed_out : (rows : RowsState) (class : ℕ) (chunk : ChunkId) → AreLinked rows → 1 ≤ times chunk (chunks_of rows (Free class)) + times chunk (chunks_of rows (Out class)) → (row_at rows chunk).mark ≡ marks.Out → 1 ≤ times chunk (chunks_of rows (Out class))
-listed_out rows class chunk is listed side =
+pub listed_handed_out : (rows : RowsState) (class : ℕ) (chunk : ChunkId) → AreLinked rows → 1 ≤ times chunk (chunks_of rows (Free class)) + times chunk (chunks_of rows (HandedOut class)) → (row_at rows chunk).mark ≡ marks.HandedOut → 1 ≤ times chunk (chunks_of rows (HandedOut class))
+listed_handed_out rows class chunk is listed side =
     elim (cases_lt 0 (times chunk (chunks_of rows (Free class)))) [
-      | inl there ↦ absurd (free≢handed_out (sym (is.sides (Free class) chunk there) ∙ side))
+      | inl there ↦ absurd (free_mark≢handed_out (sym (is.sides (Free class) chunk there) ∙ side))
       | inr none ↦ omega (arith, none, listed)
     ]
 
-pub listed_free : (rows : RowsState) (class : ℕ) (chunk : ChunkId) → AreLinked rows → 1 ≤ times chunk (chunks_of rows (Free class)) + times chunk (chunks_of rows (Out class)) → (row_at rows chunk).mark ≢ marks.Out → 1 ≤ times chunk (chunks_of rows (Free class))
+pub listed_free : (rows : RowsState) (class : ℕ) (chunk : ChunkId) → AreLinked rows → 1 ≤ times chunk (chunks_of rows (Free class)) + times chunk (chunks_of rows (HandedOut class)) → (row_at rows chunk).mark ≢ marks.HandedOut → 1 ≤ times chunk (chunks_of rows (Free class))
 listed_free rows class chunk is listed side =
-    elim (cases_lt 0 (times chunk (chunks_of rows (Out class)))) [
-      | inl there ↦ absurd (side (is.sides (Out class) chunk there))
+    elim (cases_lt 0 (times chunk (chunks_of rows (HandedOut class)))) [
+      | inl there ↦ absurd (side (is.sides (HandedOut class) chunk there))
       | inr none ↦ omega (arith, none, listed)
     ]
 

@@ -56,13 +56,14 @@ cleared_count-alike slabs new class (Some move) alike is =
     count_by-same (is_cleared new class) (is_cleared slabs class) (first_chunks move.page (class_at new class).per_page) (λ chunk. alike.cleared class chunk is)
     ∙ ap (λ (n : ℕ). count_by (is_cleared slabs class) (first_chunks move.page n)) (alike.per_page class is)
 
--- a move stays one
-pub IsMove-alike : (slabs new : SlabState) (move : Moving) → ClearsAlike slabs new → owner_at new.owners move.page ≡ owner_at slabs.owners move.page → IsMove slabs move → IsMove new move
-IsMove-alike slabs new move alike owner is =
+-- a move stays one where no class lost a page
+pub IsMove-alike : (slabs new : SlabState) (move : Moving) → ClearsAlike slabs new → owner_at new.owners move.page ≡ owner_at slabs.owners move.page → length (class_at slabs move.src).pages ≤ length (class_at new move.src).pages → IsMove slabs move → IsMove new move
+IsMove-alike slabs new move alike owner pages is =
     let behind = count_by-same (λ chunk. not (is_cleared new move.src chunk)) (λ chunk. not (is_cleared slabs move.src chunk)) (first_chunks move.page move.at) (λ chunk. ap not (alike.cleared move.src chunk is.src)) in
     record {
       owner = owner ∙ is.owner;
       src = (is.src.0, omega (arith, is.src.1, alike.classes));
+      spare = omega (arith, is.spare, pages);
       dst = omega (arith, is.dst, alike.classes);
       apart = is.apart;
       within = omega (arith, is.within, alike.per_page move.src is.src);

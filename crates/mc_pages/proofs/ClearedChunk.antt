@@ -14,7 +14,7 @@ use Rattle.mc_pages.proofs.Chunks.{same_from_is_chunk}
 use Rattle.mc_pages.proofs.Lists.{times-without_one, length-without_one}
 use Rattle.mc_pages.proofs.Cleared.{truth-le_one, count_by-same, count_by-both, is_cleared-alike}
 use Rattle.mc_pages.proofs.FirstChunks.{count-first_one}
-use Rattle.mc_pages.proofs.OneClass.{length-with_class, class_at-with_class_same, class_at-with_class_other, class_at-with_class_kept}
+use Rattle.mc_pages.proofs.OneClass.{length-with_class, IsClass-with_class, class_at-with_class_same, class_at-with_class_other, class_at-with_class_kept}
 use Rattle.mc_pages.proofs.Redistributed.{IsClass-before, is_cut-kept, uncut_count-kept}
 
 -- a chunk of the page that moves, which stands in a list of its class
@@ -173,6 +173,7 @@ IsMove-cleared slabs move chunk all can =
     record {
       owner = of.owner;
       src = (of.src.0, omega (arith, of.src.1, classes));
+      spare = omega (arith, of.spare, class_at-with_class_kept (λ c. length c.pages) slabs own own (cleared (class_at slabs own) chunk) of.src of.src.0 refl);
       dst = omega (arith, of.dst, classes);
       apart = of.apart;
       within = omega (arith, of.within, size_kept slabs own own chunk of.src of.src.0);
@@ -192,6 +193,7 @@ IsAccounted-cleared slabs move chunk all can =
       pages = λ class page here.
           let kept = class_at-with_class_kept (λ c. c.pages) slabs own class state can.of.src here.0 refl in
           ap (λ (ps : List ℕ). count_by (λ p. p == page) ps) kept ∙ all.pages class page (before class here);
+      owned = λ class page h. IsClass-with_class slabs own class state (all.owned class page h);
       pool = all.pool;
       one_move = all.one_move;
       move = λ other h.
@@ -200,4 +202,6 @@ IsAccounted-cleared slabs move chunk all can =
       limit = all.limit;
       chunks = λ class other here. chunks-cleared slabs move chunk all can class other (before class here);
       total = λ class here. total-cleared slabs move chunk all can class (before class here);
+      cursor = IsClass-with_class slabs own slabs.cursor state all.cursor;
+      mode = all.mode;
     }

@@ -1,5 +1,5 @@
 -- Before any page is granted all is accounted for, in order.
-use Rattle.std.proofs.Common.{◌≡◌, ℕ, ◌+◌, ◌-◌, ◌*◌, ◌/◌, ◌==◌, false, length, count_by, refl, sym, ap, ◌∙◌, inl, inr, arith}
+use Rattle.std.proofs.Common.{◌≡◌, ℕ, ◌+◌, ◌-◌, ◌*◌, ◌/◌, ◌≤◌, ◌==◌, false, length, count_by, refl, sym, ap, ◌∙◌, inl, inr, arith}
 use Rattle.std.proofs.lemmas.Bool.{cases_lt, and_left, both_ways}
 use Rattle.std.proofs.lemmas.Option.{none-some}
 use Rattle.std.proofs.lemmas.List.{length-map, length-replicate, get_or-replicate, get_or_past, get_or-map}
@@ -33,8 +33,8 @@ class_at-fresh table class is =
     get_or-map made table.sizes (class - 1) 0 (new_class 0 0) (omega (arith, is.0, is.1, length-map table.sizes made))
 
 -- nothing is to be accounted for
-IsAccounted-fresh : (table : Classes) → IsAccounted (fresh_slabs table)
-IsAccounted-fresh table =
+pub IsAccounted-fresh : (table : Classes) → 1 ≤ length table.sizes → IsAccounted (fresh_slabs table)
+IsAccounted-fresh table some =
     let fresh : SlabState = fresh_slabs table in
     let pages = pages_of table in
     let owner = untouched_at pages in
@@ -42,6 +42,7 @@ IsAccounted-fresh table =
     record {
       replays = refl;
       pages = λ class page is. ap (λ (c : ClassState). count_by (λ p. p == page) c.pages) (class_at-fresh table class is) ∙ sym (ap (λ (o : Owner). truth (is_of_class class o)) (owner page));
+      owned = λ class page h. absurd (both_ways _ (ap (λ (o : Owner). is_of_class class o) (owner page)) h);
       pool = λ page. sym (ap (λ (o : Owner). truth (is_pool o)) (owner page));
       one_move = λ page h. absurd (both_ways _ (still page) h);
       move = λ move h. absurd (none-some move h);
@@ -57,6 +58,8 @@ IsAccounted-fresh table =
           let lists = ap (λ (c : ClassState). length c.free + length c.order) (class_at-fresh table class is) in
           let product = ap (λ (c : ClassState). length c.pages * c.per_page) (class_at-fresh table class is) in
           omega (arith, lists, product);
+      cursor = (some, omega (arith, length-map table.sizes (λ (size : ℕ). new_class size (table.page / size))));
+      mode = omega arith;
     }
 
 -- nothing is granted yet
@@ -64,11 +67,10 @@ pub IsInOrder-fresh : (table : Classes) → IsSound table → IsInOrder (fresh_s
 IsInOrder-fresh table sound =
     let made : ℕ → ClassState = λ size. new_class size (table.page / size) in
     record {
-      accounted = IsAccounted-fresh table;
+      accounted = IsAccounted-fresh table sound.count.0;
       lowest = AreGranted-none (pages_of table);
       pages = omega (arith, length-replicate (pages_of table) Untouched, sound.pages.1);
       per_page = λ class is. omega (arith, ap (λ (c : ClassState). c.per_page) (class_at-fresh table class is), (sound.chunks class (is.0, omega (arith, is.1, length-map table.sizes made))).0);
       at_most = λ class is. omega (arith, ap (λ (c : ClassState). c.per_page) (class_at-fresh table class is), (sound.chunks class (is.0, omega (arith, is.1, length-map table.sizes made))).1);
       uncut = λ chunk h. absurd (none-some chunk h);
-      cursor = (sound.count.0, omega (arith, length-map table.sizes made));
     }

@@ -1,5 +1,5 @@
 -- A page that no class has is given to a class: all keep their places.
-use Rattle.std.proofs.Common.{◌≡◌, ◌≢◌, ℕ, ◌+◌, ◌-◌, ◌*◌, ◌<◌, ◌==◌, Bool, true, false, ◌&&◌, nat_lt, List, [], ◌∷◌, length, set, count_by, Option, Some, None, if◌then◌else◌, refl, sym, ap, ap₂, ◌∙◌, inl, inr, arith, eq-eqb, ne_eqb, le-ltb, length-append}
+use Rattle.std.proofs.Common.{◌≡◌, ◌≢◌, ℕ, ◌+◌, ◌-◌, ◌*◌, ◌<◌, ◌≤◌, ◌==◌, Bool, true, false, ◌&&◌, nat_lt, List, [], ◌∷◌, length, set, count_by, Option, Some, None, if◌then◌else◌, refl, sym, ap, ap₂, ◌∙◌, inl, inr, arith, eq-eqb, eqb-true, ne_eqb, le-ltb, length-append, subst}
 use Rattle.std.proofs.lemmas.Bool.{cases_eq, and_left, and_right, both_ways}
 use Rattle.std.proofs.lemmas.List.Sums.{sum_by_push}
 use Rattle.mc_pages.specs.declared.ids.ChunkId.{ChunkId}
@@ -12,7 +12,7 @@ use Rattle.mc_pages.specs.SlabState.{SlabState, IsClass, class_at}
 use Rattle.mc_pages.specs.Changes.{with_given}
 use Rattle.mc_pages.specs.Accounted.{truth, is_of_class, is_pool, is_moving, cut_count, uncut_count, is_cut, cleared_count, IsMove}
 use Rattle.mc_pages.proofs.Owners.{owner_at-set_same, owner_at-set_other}
-use Rattle.mc_pages.proofs.OneClass.{length-with_class, class_at-with_class_same, class_at-with_class_other, class_at-with_class_kept}
+use Rattle.mc_pages.proofs.OneClass.{length-with_class, IsClass-with_class, class_at-with_class_same, class_at-with_class_other, class_at-with_class_kept}
 use Rattle.mc_pages.proofs.Cleared.{ClearsAlike, is_cleared-alike, cleared_count-alike, IsMove-alike}
 use Rattle.mc_pages.proofs.Redistributed.{IsClass-before}
 use Rattle.mc_pages.proofs.Placed.{ArePlaced}
@@ -134,11 +134,36 @@ total-given slabs given page all is whole within free class here =
           omega (arith, kept, before, uncut, cleared, product)
     ]
 
+-- no class has fewer pages
+pages-given_more : (slabs : SlabState) (given page class : ℕ) → IsClass slabs given → IsClass slabs class → length (class_at slabs class).pages ≤ length (class_at (with_given slabs given page) class).pages
+pages-given_more slabs given page class is here =
+    let new : SlabState = with_given slabs given page in
+    let state = with_page (class_at slabs given) page in
+    elim (cases_eq class given) [
+      | inl same ↦
+          let now = ap (λ (n : ℕ). length (class_at new n).pages) same ∙ ap (λ (c : ClassState). length c.pages) (class_at-with_class_same slabs given state is) in
+          let was = ap (λ (n : ℕ). length (class_at slabs n).pages) same in
+          omega (arith, now, was, length-append (class_at slabs given).pages (page ∷ []))
+      | inr differs ↦
+          let other = class_at-with_class_other slabs given class state is.0 here.0 differs in
+          omega (arith, ap (λ (c : ClassState). length c.pages) other)
+    ]
+
+-- the page is of the class that it was given to, and every other page is of one of the classes as before
+owned-given : (slabs : SlabState) (given page : ℕ) → ArePlaced slabs → IsClass slabs given → page < length slabs.owners → (class other : ℕ) → is_of_class class (owner_at (set slabs.owners page (Class given)) other) ≡ true → IsClass slabs class
+owned-given slabs given page all is within class other h =
+    elim (cases_eq other page) [
+      | inl same ↦
+          let owner = ap (λ (p : ℕ). is_of_class class (owner_at (set slabs.owners page (Class given)) p)) same ∙ ap (λ (o : Owner). is_of_class class o) (owner_at-set_same slabs.owners page (Class given) within) in
+          subst (λ (n : ℕ). IsClass slabs n) (eqb-true given class (sym owner ∙ h)) is
+      | inr differs ↦ all.owned class other (sym (ap (λ (o : Owner). is_of_class class o) (owner_at-set_other slabs.owners page other (Class given) differs)) ∙ h)
+    ]
+
 -- a move is one of another page
 IsMove-given : (slabs : SlabState) (given page : ℕ) (move : Moving) → IsClass slabs given → slabs.uncut ≡ None → page < length slabs.owners → IsNoClass (owner_at slabs.owners page) → IsMove slabs move → IsMove (with_given slabs given page) move
 IsMove-given slabs given page move is whole within free of =
     let apart : move.page ≢ page = λ same. both_ways (is_moving (owner_at slabs.owners page)) free.still (ap (λ (p : ℕ). is_moving (owner_at slabs.owners p)) (sym same) ∙ ap is_moving of.owner) in
-    IsMove-alike slabs (with_given slabs given page) move (ClearsAlike-given slabs given page is whole within free) (owner_at-set_other slabs.owners page move.page (Class given) apart) of
+    IsMove-alike slabs (with_given slabs given page) move (ClearsAlike-given slabs given page is whole within free) (owner_at-set_other slabs.owners page move.page (Class given) apart) (pages-given_more slabs given page move.src is of.src) of
 
 -- a page that no class has is given to one, with the pool then
 pub ArePlaced-given : (slabs : SlabState) (given page : ℕ) (pool : List ℕ) → ArePlaced slabs → IsClass slabs given → slabs.uncut ≡ None → page < length slabs.owners → IsNoClass (owner_at slabs.owners page) → ((other : ℕ) → count_by (λ p. p == other) pool ≡ truth (is_pool (owner_at (set slabs.owners page (Class given)) other))) → ArePlaced (record (with_given slabs given page) { pool = pool })
@@ -147,11 +172,12 @@ ArePlaced-given slabs given page pool all is whole within free pooled =
     let new : SlabState = with_given slabs given page in
     record {
       pages = λ class other here. pages-given slabs given page all is within free class other (IsClass-before slabs given class state here);
+      owned = λ class other h. IsClass-with_class slabs given class state (owned-given slabs given page all is within class other h);
       pool = pooled;
       one_move = λ other h. all.one_move other (sym (owner-set_alike is_moving slabs.owners page other (Class given) within (sym free.still)) ∙ h);
       move = λ move h.
           let of = IsMove-given slabs given page move is whole within free (all.move move h) in
-          record { owner = of.owner; src = of.src; dst = of.dst; apart = of.apart; within = of.within; busy = of.busy; passed = of.passed };
+          record { owner = of.owner; src = of.src; spare = of.spare; dst = of.dst; apart = of.apart; within = of.within; busy = of.busy; passed = of.passed };
       chunks = λ class chunk here.
           let before = IsClass-before slabs given class state here in
           let places = class_at-with_class_kept (λ c. times chunk c.free + times chunk c.order) slabs given class state is before.0 refl in

@@ -114,7 +114,6 @@ IsInOrder-after_cut slabs granted chunk kept h =
       uncut = λ next e.
           let there = IsBeingCut-with_class slabs own state next on.owned refl refl (IsBeingCut-next slabs chunk next on e) in
           record { owned = there.owned; still = there.still; within = there.within; newest = there.newest };
-      cursor = steady.cursor;
     }
 
 -- there is room for the lowest uncut chunk

@@ -10,14 +10,14 @@ use Rattle.mc_pages.specs.declared.ledger.Owner.TheVariants.{Pool, Class}
 use Rattle.mc_pages.specs.declared.ledger.Entry.{Entry}
 use Rattle.mc_pages.specs.declared.ledger.Entry.TheVariants.{Ended}
 use Rattle.mc_pages.specs.Ledger.{owner_at, fits}
-use Rattle.mc_pages.specs.ClassState.{counted, without_page}
+use Rattle.mc_pages.specs.ClassState.{counted, with_page, without_page}
 use Rattle.mc_pages.specs.SlabState.{SlabState, IsClass, class_at, is_untouched}
 use Rattle.mc_pages.specs.Changes.{with_given}
 use Rattle.mc_pages.specs.Moves.{released, finished, CanFinish}
 use Rattle.mc_pages.specs.Accounted.{truth, is_of_class, is_pool, is_moving, uncut_count, IsMove, IsAccounted}
 use Rattle.mc_pages.specs.InOrder.{AreGranted, IsInOrder}
 use Rattle.mc_pages.proofs.Owners.{owner_at-set_same, AreGranted-set}
-use Rattle.mc_pages.proofs.OneClass.{length-with_class}
+use Rattle.mc_pages.proofs.OneClass.{length-with_class, IsClass-with_class}
 use Rattle.mc_pages.proofs.Placed.{ArePlaced, ArePlaced_from, IsAccounted-entry, IsAccounted-numbers}
 use Rattle.mc_pages.proofs.GivenPage.{IsNoClass, owner-set_alike, ArePlaced-given}
 use Rattle.mc_pages.proofs.ReleasedPage.{within_from_IsMove, length-filter_page, cleared_at_end, ArePlaced-released}
@@ -47,7 +47,11 @@ AreGranted-in_pool slabs granted move is are = AreGranted-set slabs.owners grant
 IsSteady-in_pool : (slabs : SlabState) (granted : ℕ) (move : Moving) → IsInOrder slabs granted → IsMove slabs move → IsSteady (in_pool slabs move)
 IsSteady-in_pool slabs granted move kept is =
     let steady = IsSteady-changed slabs move.src (without_page (class_at slabs move.src) move.page) (set slabs.owners move.page Pool) (IsSteady_from slabs granted kept) is.src refl (length-set slabs.owners move.page Pool) in
-    record { pages = steady.pages; per_page = steady.per_page; at_most = steady.at_most; cursor = steady.cursor }
+    record { pages = steady.pages; per_page = steady.per_page; at_most = steady.at_most }
+
+-- the cursor is still at a class
+cursor-in_pool : (slabs : SlabState) (move : Moving) → IsAccounted slabs → IsClass (in_pool slabs move) slabs.cursor
+cursor-in_pool slabs move all = IsClass-with_class slabs move.src slabs.cursor (without_page (class_at slabs move.src) move.page) all.cursor
 
 -- the move to the pool ends
 IsInOrder-in_pool : (slabs : SlabState) (granted moved : ℕ) (move : Moving) → IsInOrder slabs granted → slabs.uncut ≡ None → CanFinish slabs move → move.dst ≡ 0 → IsInOrder (record (in_pool slabs move) { ledger = ledger_ended slabs move; moved = moved }) granted
@@ -58,15 +62,15 @@ IsInOrder-in_pool slabs granted moved move kept whole can to =
     let steady = IsSteady-in_pool slabs granted move kept is in
     let leaves : (if move.dst == 0 then Pool else Class move.dst) ≡ Pool = ap (λ b. if b then Pool else Class move.dst) (eq-eqb move.dst 0 to) in
     let placed = ArePlaced-released slabs move (ArePlaced_from slabs all) whole can in
-    let after = IsAccounted-entry slabs new (Ended move.page move.dst) Pool all (within_from_IsMove slabs move is) (fits-ended slabs move is) leaves placed in
+    let at = cursor-in_pool slabs move all in
+    let after = IsAccounted-entry slabs new (Ended move.page move.dst) Pool all (within_from_IsMove slabs move is) (fits-ended slabs move is) leaves placed at all.mode in
     record {
-      accounted = IsAccounted-numbers (record new { ledger = ledger_ended slabs move }) slabs.cursor moved slabs.rescues slabs.evictions_nomem slabs.busy slabs.automove after;
+      accounted = IsAccounted-numbers (record new { ledger = ledger_ended slabs move }) slabs.cursor moved slabs.rescues slabs.evictions_nomem slabs.busy slabs.automove after at all.mode;
       lowest = AreGranted-in_pool slabs granted move is kept.lowest;
       pages = steady.pages;
       per_page = steady.per_page;
       at_most = steady.at_most;
       uncut = λ chunk h. absurd (none-some chunk (sym whole ∙ h));
-      cursor = steady.cursor;
     }
 
 -- the page has its places in the class that it went to
@@ -96,10 +100,11 @@ IsInOrder-in_class slabs granted moved move kept whole can to =
     let class : IsClass pool move.dst = (omega arith, omega (arith, is.dst, length-with_class slabs move.src (without_page (class_at slabs move.src) move.page))) in
     let leaves : (if move.dst == 0 then Pool else Class move.dst) ≡ Class move.dst = ap (λ b. if b then Pool else Class move.dst) (ne_eqb move.dst 0 to) in
     let once = set-set slabs.owners move.page Pool (Class move.dst) in
+    let at = IsClass-with_class pool move.dst slabs.cursor (with_page (class_at pool move.dst) move.page) (cursor-in_pool slabs move all) in
     let placed = subst (λ (os : List Owner). ArePlaced (record new { owners = os })) once (ArePlaced-in_class slabs move (ArePlaced_from slabs all) whole can class) in
-    let entry = IsAccounted-entry slabs new (Ended move.page move.dst) (Class move.dst) all within (fits-ended slabs move is) leaves placed in
+    let entry = IsAccounted-entry slabs new (Ended move.page move.dst) (Class move.dst) all within (fits-ended slabs move is) leaves placed at all.mode in
     let after = subst (λ (os : List Owner). IsAccounted (record new { owners = os; ledger = ledger_ended slabs move })) (sym once) entry in
-    let numbered = IsAccounted-numbers (record new { ledger = ledger_ended slabs move }) slabs.cursor moved slabs.rescues slabs.evictions_nomem slabs.busy slabs.automove after in
+    let numbered = IsAccounted-numbers (record new { ledger = ledger_ended slabs move }) slabs.cursor moved slabs.rescues slabs.evictions_nomem slabs.busy slabs.automove after at all.mode in
     let inside : move.page < length pool.owners = omega (arith, within, length-set slabs.owners move.page Pool) in
     let owner = owner_at-set_same slabs.owners move.page Pool within in
     let are = AreGranted-set pool.owners granted move.page (Class move.dst) (AreGranted-in_pool slabs granted move is kept.lowest) (ap is_untouched owner) refl in

@@ -94,11 +94,11 @@ IsInOrder-after_begin slabs granted src source dst kept answer =
     let places = ArePlaced_from slabs all in
     let owned = Class-from_still source (owner_at slabs.owners page) (is_of_class-first slabs source all told.0 some) (still_at_rest slabs places told.4 page) in
     let new : SlabState = with_move slabs page source dst in
-    let placed = ArePlaced-begun slabs page source dst places told.4 told.0 told.2 told.3 owned within in
+    let placed = ArePlaced-begun slabs page source dst places told.4 told.0 told.1 told.2 told.3 owned within in
     let fit = ap (λ (o : Owner). fits (Began page source dst) o) owned ∙ eq-eqb source source refl in
-    let after = IsAccounted-entry slabs new (Began page source dst) (owner.Moving source dst) all within fit refl placed in
+    let after = IsAccounted-entry slabs new (Began page source dst) (owner.Moving source dst) all within fit refl placed all.cursor all.mode in
     record {
-      accounted = IsAccounted-numbers new cursor slabs.moved slabs.rescues slabs.evictions_nomem slabs.busy slabs.automove after;
+      accounted = IsAccounted-numbers new cursor slabs.moved slabs.rescues slabs.evictions_nomem slabs.busy slabs.automove after (cursor-begun slabs src source told.0 all.cursor) all.mode;
       lowest = AreGranted-set slabs.owners granted page (owner.Moving source dst) kept.lowest (ap is_untouched owned) refl;
       pages = omega (arith, kept.pages, length-set slabs.owners page (owner.Moving source dst));
       per_page = kept.per_page;
@@ -106,14 +106,13 @@ IsInOrder-after_begin slabs granted src source dst kept answer =
       uncut = λ chunk h.
           let on = kept.uncut chunk h in
           IsBeingCut-begun slabs chunk page source dst cursor owned within (not_first slabs chunk source all told.0 told.1 on (ap class_of_owner owned)) on;
-      cursor = cursor-begun slabs src source told.0 kept.cursor;
     }
 
 -- another move of the same page, and other counters, leave the rest in order
 IsInOrder-moved : (slabs : SlabState) (granted rescues evictions_nomem busy : ℕ) (moving : Option Moving) → IsInOrder slabs granted → IsAccounted (record slabs { moving = moving }) → IsInOrder (record slabs { moving = moving; rescues = rescues; evictions_nomem = evictions_nomem; busy = busy }) granted
 IsInOrder-moved slabs granted rescues evictions_nomem busy moving kept all =
     record {
-      accounted = IsAccounted-numbers (record slabs { moving = moving }) slabs.cursor slabs.moved rescues evictions_nomem busy slabs.automove all;
+      accounted = IsAccounted-numbers (record slabs { moving = moving }) slabs.cursor slabs.moved rescues evictions_nomem busy slabs.automove all all.cursor all.mode;
       lowest = kept.lowest;
       pages = kept.pages;
       per_page = kept.per_page;
@@ -121,7 +120,6 @@ IsInOrder-moved slabs granted rescues evictions_nomem busy moving kept all =
       uncut = λ chunk h.
           let on = kept.uncut chunk h in
           record { owned = on.owned; still = on.still; within = on.within; newest = on.newest };
-      cursor = kept.cursor;
     }
 
 -- the chunk at the position is passed
@@ -142,10 +140,10 @@ IsInOrder-after_wrap slabs granted move kept can =
     IsInOrder-moved slabs granted new.rescues new.evictions_nomem new.busy new.moving kept (IsAccounted-moved slabs move (begun_anew move) new.moving kept.accounted can.runs now refl is)
 
 -- the automover's mode changes
-pub IsInOrder-automove : (slabs : SlabState) (granted mode : ℕ) → IsInOrder slabs granted → IsInOrder (record slabs { automove = mode }) granted
-IsInOrder-automove slabs granted mode kept =
+pub IsInOrder-automove : (slabs : SlabState) (granted mode : ℕ) → mode ≤ 2 → IsInOrder slabs granted → IsInOrder (record slabs { automove = mode }) granted
+IsInOrder-automove slabs granted mode is kept =
     record {
-      accounted = IsAccounted-numbers slabs slabs.cursor slabs.moved slabs.rescues slabs.evictions_nomem slabs.busy mode kept.accounted;
+      accounted = IsAccounted-numbers slabs slabs.cursor slabs.moved slabs.rescues slabs.evictions_nomem slabs.busy mode kept.accounted kept.accounted.cursor is;
       lowest = kept.lowest;
       pages = kept.pages;
       per_page = kept.per_page;
@@ -153,5 +151,4 @@ IsInOrder-automove slabs granted mode kept =
       uncut = λ chunk h.
           let on = kept.uncut chunk h in
           record { owned = on.owned; still = on.still; within = on.within; newest = on.newest };
-      cursor = kept.cursor;
     }

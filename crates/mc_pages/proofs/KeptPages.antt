@@ -8,11 +8,13 @@ use Rattle.mc_pages.specs.declared.ledger.Owner.TheVariants.{Untouched, Pool, Cl
 use Rattle.mc_pages.specs.declared.ledger.Owner.TheVariants as owner
 use Rattle.mc_pages.specs.declared.ledger.Entry.TheVariants.{Granted, Taken}
 use Rattle.mc_pages.specs.Ledger.{owner_at, fits}
-use Rattle.mc_pages.specs.SlabState.{SlabState, IsClass, is_untouched}
+use Rattle.mc_pages.specs.ClassState.{with_page}
+use Rattle.mc_pages.specs.SlabState.{SlabState, IsClass, class_at, is_untouched}
 use Rattle.mc_pages.specs.Changes.{with_given, pooled_page, after_grant, after_take}
 use Rattle.mc_pages.specs.Accounted.{truth, is_of_class, is_pool, is_moving, IsAccounted}
 use Rattle.mc_pages.specs.InOrder.{IsInOrder}
 use Rattle.mc_pages.proofs.Owners.{owner_at-set_same, owner_at-set_other, within_from_owned, AreGranted-more, AreGranted-set}
+use Rattle.mc_pages.proofs.OneClass.{IsClass-with_class}
 use Rattle.mc_pages.proofs.Placed.{ArePlaced_from, IsAccounted-entry}
 use Rattle.mc_pages.proofs.GivenPage.{IsNoClass, owner-set_alike, ArePlaced-given}
 use Rattle.mc_pages.proofs.Steady.{IsSteady_from, IsInOrder-given}
@@ -24,7 +26,7 @@ IsInOrder-after_grant slabs granted given kept is whole within =
     let free : IsNoClass (owner_at slabs.owners granted) = record { of_class = λ class. ap (λ (o : Owner). is_of_class class o) untouched; still = ap is_moving untouched } in
     let pooled = λ (other : ℕ). kept.accounted.pool other ∙ ap truth (sym (owner-set_alike is_pool slabs.owners granted other (Class given) within (sym (ap is_pool untouched)))) in
     let placed = ArePlaced-given slabs given granted slabs.pool (ArePlaced_from slabs kept.accounted) is whole within free pooled in
-    let all = IsAccounted-entry slabs (with_given slabs given granted) (Granted granted given) (Class given) kept.accounted within (ap (λ (o : Owner). fits (Granted granted given) o) untouched) refl placed in
+    let all = IsAccounted-entry slabs (with_given slabs given granted) (Granted granted given) (Class given) kept.accounted within (ap (λ (o : Owner). fits (Granted granted given) o) untouched) refl placed (IsClass-with_class slabs given slabs.cursor (with_page (class_at slabs given) granted) kept.accounted.cursor) kept.accounted.mode in
     IsInOrder-given slabs (granted + 1) given granted slabs.moved slabs.pool (slabs.ledger ++ Granted granted given ∷ []) (IsSteady_from slabs granted kept) is within all (AreGranted-more slabs.owners granted (Class given) kept.lowest within refl)
 
 -- the owner of a page in the pool
@@ -79,5 +81,5 @@ IsInOrder-after_take slabs granted given page kept is whole h =
     let pool = take (length slabs.pool - 1) slabs.pool in
     let placed = ArePlaced-given slabs given page pool (ArePlaced_from slabs all) is whole within free (pool-taken slabs given page all h within owned) in
     let new : SlabState = record (with_given slabs given page) { pool = pool } in
-    let after = IsAccounted-entry slabs new (Taken page given) (Class given) all within (ap (λ (o : Owner). fits (Taken page given) o) owned) refl placed in
+    let after = IsAccounted-entry slabs new (Taken page given) (Class given) all within (ap (λ (o : Owner). fits (Taken page given) o) owned) refl placed (IsClass-with_class slabs given slabs.cursor (with_page (class_at slabs given) page) all.cursor) all.mode in
     IsInOrder-given slabs granted given page slabs.moved pool (slabs.ledger ++ Taken page given ∷ []) (IsSteady_from slabs granted kept) is within after (AreGranted-set slabs.owners granted page (Class given) kept.lowest touched refl)

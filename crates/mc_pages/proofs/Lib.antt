@@ -29,6 +29,8 @@ pub mod KeptFinish
 pub mod HandedOut
 pub mod Walks
 pub mod Kept
+pub mod Pages
+pub mod Unaccounted
 pub mod Roomy
 pub mod States
 pub mod RoomySlabs

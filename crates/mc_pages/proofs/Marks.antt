@@ -4,7 +4,7 @@ use Rattle.std.proofs.lemmas.Bool.{and_parts, cases_eq, cases_lt, ltb-true}
 use Rattle.std.proofs.lemmas.List.{get_or_past}
 use Rattle.mc_pages.specs.declared.ids.ChunkId.{ChunkId}
 use Rattle.mc_pages.specs.declared.rows.ListName.{ListName}
-use Rattle.mc_pages.specs.declared.rows.ListName.TheVariants.{Free, Out}
+use Rattle.mc_pages.specs.declared.rows.ListName.TheVariants.{Free, HandedOut}
 use Rattle.mc_pages.specs.declared.rows.Field.TheVariants.{Next, Head}
 use Rattle.mc_pages.specs.declared.rows.Mark.TheVariants as marks
 use Rattle.mc_pages.specs.declared.slabs.Slabs.TheInside.{Inside}
@@ -50,8 +50,8 @@ IsRow-cut slabs chunk kept is cut = IsRow-page slabs chunk kept is (cut_within (
 free≢unlisted : marks.Free ≢ marks.Unlisted
 free≢unlisted h = cc h
 
-out≢free : marks.Out ≢ marks.Free
-out≢free h = cc h
+handed_out≢free : marks.HandedOut ≢ marks.Free
+handed_out≢free h = cc h
 
 -- a chunk of a free list stands in that of its class
 in_free_list : (slabs : Inside) (chunk : ChunkId) (place : ℕ) → AreKept slabs → 1 ≤ times chunk (chunks_of slabs.rows (Free place)) → 1 ≤ times chunk (class_of_chunk (slabs_of slabs) chunk).free
@@ -70,7 +70,7 @@ in_free_list slabs chunk place kept there =
 -- a chunk of this list whose mark is that of the free ones stands in the free list of its class
 in_list : (slabs : Inside) (chunk : ChunkId) (list : ListName) → AreKept slabs → (row_at slabs.rows chunk).mark ≡ marks.Free → 1 ≤ times chunk (chunks_of slabs.rows list) → 1 ≤ times chunk (class_of_chunk (slabs_of slabs) chunk).free
 in_list slabs chunk (Free place) kept mark there = in_free_list slabs chunk place kept there
-in_list slabs chunk (Out place) kept mark there = absurd (out≢free (sym (kept.linked.sides (Out place) chunk there) ∙ mark))
+in_list slabs chunk (HandedOut place) kept mark there = absurd (handed_out≢free (sym (kept.linked.sides (HandedOut place) chunk there) ∙ mark))
 
 -- a chunk that is marked as free stands in the free list of its class
 pub free_from_mark : (slabs : Inside) (chunk : ChunkId) → AreKept slabs → (row_at slabs.rows chunk).mark ≡ marks.Free → nat_lt 0 (times chunk (class_of_chunk (slabs_of slabs) chunk).free) ≡ true

@@ -10,6 +10,10 @@ use Rattle.mc_pages.specs.Changes.{with_class}
 pub length-with_class : (slabs : SlabState) (class : ℕ) (state : ClassState) → length (with_class slabs class state).classes ≡ length slabs.classes
 length-with_class slabs class state = length-set slabs.classes (class - 1) state
 
+-- a class is still one of the classes
+pub IsClass-with_class : (slabs : SlabState) (class other : ℕ) (state : ClassState) → IsClass slabs other → IsClass (with_class slabs class state) other
+IsClass-with_class slabs class other state is = (is.0, omega (arith, is.1, length-with_class slabs class state))
+
 -- the class that changed is what it was changed to
 pub class_at-with_class_same : (slabs : SlabState) (class : ℕ) (state : ClassState) → IsClass slabs class → class_at (with_class slabs class state) class ≡ state
 class_at-with_class_same slabs class state is = get_or-set_same slabs.classes (class - 1) state (new_class 0 0) (omega arith)

@@ -17,10 +17,11 @@ pub IsAccounted-moved : (slabs : SlabState) (move next : Moving) (moving : Optio
 IsAccounted-moved slabs move next moving all runs now same is =
     let new : SlabState = record slabs { moving = moving } in
     let page = λ (o : Option Moving). option_map (λ (m : Moving). m.page) o in
-    let is_new : IsMove new next = record { owner = is.owner; src = is.src; dst = is.dst; apart = is.apart; within = is.within; busy = is.busy; passed = is.passed } in
+    let is_new : IsMove new next = record { owner = is.owner; src = is.src; spare = is.spare; dst = is.dst; apart = is.apart; within = is.within; busy = is.busy; passed = is.passed } in
     record {
       replays = all.replays;
       pages = all.pages;
+      owned = all.owned;
       pool = all.pool;
       one_move = λ other h. ap page now ∙ (ap (λ (p : ℕ). Some p) same ∙ (sym (ap page runs) ∙ all.one_move other h));
       move = λ other h. subst (λ (m : Moving). IsMove new m) (same_Some next other (sym now ∙ h)) is_new;
@@ -31,6 +32,8 @@ IsAccounted-moved slabs move next moving all runs now same is =
           let before = ap (λ (o : Option Moving). cleared_count slabs class o) runs in
           let pages = ap (λ (p : ℕ). count_by (is_cleared slabs class) (first_chunks p (class_at slabs class).per_page)) same in
           omega (arith, after, before, pages, all.total class here);
+      cursor = all.cursor;
+      mode = all.mode;
     }
 
 -- how many more chunks hold up the move, and how many more are left behind
@@ -59,6 +62,7 @@ IsMove-passed slabs found move is can =
     record {
       owner = is.owner;
       src = is.src;
+      spare = is.spare;
       dst = is.dst;
       apart = is.apart;
       within = omega (arith, can.within);
@@ -69,7 +73,7 @@ IsMove-passed slabs found move is can =
 -- the pass begins anew
 pub IsMove-anew : (slabs : SlabState) (move : Moving) → IsMove slabs move → IsMove slabs (begun_anew move)
 IsMove-anew slabs move is =
-    record { owner = is.owner; src = is.src; dst = is.dst; apart = is.apart; within = omega arith; busy = le_refl 0; passed = le_refl 0 }
+    record { owner = is.owner; src = is.src; spare = is.spare; dst = is.dst; apart = is.apart; within = omega arith; busy = le_refl 0; passed = le_refl 0 }
 
 -- at the page's end each chunk is cleared where none held up the move
 pub all_cleared_at_end : (slabs : SlabState) (move : Moving) → IsAccounted slabs → slabs.moving ≡ Some move → move.at ≡ (class_at slabs move.src).per_page → move.busy ≡ 0 → CanFinish slabs move

@@ -1,5 +1,5 @@
 -- What is said of pages and chunks beside the ledger and the limit, and both with one more entry.
-use Rattle.std.proofs.Common.{◌≡◌, ℕ, ◌+◌, ◌*◌, ◌<◌, ◌==◌, true, IsTrue, [], ◌∷◌, ◌++◌, length, set, count_by, Some, ap, ◌∙◌, length-set}
+use Rattle.std.proofs.Common.{◌≡◌, ℕ, ◌+◌, ◌*◌, ◌<◌, ◌≤◌, ◌==◌, true, IsTrue, [], ◌∷◌, ◌++◌, length, set, count_by, Some, ap, ◌∙◌, length-set}
 use Rattle.std.specs.Option.{option_map}
 use Rattle.mc_pages.specs.declared.ids.ChunkId.{ChunkId}
 use Rattle.mc_pages.specs.declared.ids.Moving.{Moving}
@@ -11,9 +11,10 @@ use Rattle.mc_pages.specs.Accounted.{truth, is_of_class, is_pool, is_moving, unc
 use Rattle.mc_pages.proofs.GrantedPage.{limit-owners}
 use Rattle.mc_pages.proofs.Replays.{replay-push}
 
--- what `IsAccounted` says beside the ledger and the limit
+-- what `IsAccounted` says beside the ledger, the limit, the cursor and the mode
 pub record ArePlaced (slabs : SlabState) : Type 0 where
   pub pages : (class page : ℕ) → IsClass slabs class → count_by (λ p. p == page) (class_at slabs class).pages ≡ truth (is_of_class class (owner_at slabs.owners page))
+  pub owned : (class page : ℕ) → IsTrue (is_of_class class (owner_at slabs.owners page)) → IsClass slabs class
   pub pool : (page : ℕ) → count_by (λ p. p == page) slabs.pool ≡ truth (is_pool (owner_at slabs.owners page))
   pub one_move : (page : ℕ) → IsTrue (is_moving (owner_at slabs.owners page)) → option_map (λ move. move.page) slabs.moving ≡ Some page
   pub move : (move : Moving) → slabs.moving ≡ Some move → IsMove slabs move
@@ -22,37 +23,43 @@ pub record ArePlaced (slabs : SlabState) : Type 0 where
 
 -- pages and chunks that are accounted for have their places
 pub ArePlaced_from : (slabs : SlabState) → IsAccounted slabs → ArePlaced slabs
-ArePlaced_from slabs all = record { pages = all.pages; pool = all.pool; one_move = all.one_move; move = all.move; chunks = all.chunks; total = all.total }
+ArePlaced_from slabs all = record { pages = all.pages; owned = all.owned; pool = all.pool; one_move = all.one_move; move = all.move; chunks = all.chunks; total = all.total }
 
--- the counters, the cursor and the mode have no part in it
-pub IsAccounted-numbers : (slabs : SlabState) (cursor moved rescues evictions_nomem busy automove : ℕ) → IsAccounted slabs → IsAccounted (record slabs { cursor = cursor; moved = moved; rescues = rescues; evictions_nomem = evictions_nomem; busy = busy; automove = automove })
-IsAccounted-numbers slabs cursor moved rescues evictions_nomem busy automove all =
+-- the counters have no part in it, and cursor and mode none but their own
+pub IsAccounted-numbers : (slabs : SlabState) (cursor moved rescues evictions_nomem busy automove : ℕ) → IsAccounted slabs → IsClass slabs cursor → automove ≤ 2 → IsAccounted (record slabs { cursor = cursor; moved = moved; rescues = rescues; evictions_nomem = evictions_nomem; busy = busy; automove = automove })
+IsAccounted-numbers slabs cursor moved rescues evictions_nomem busy automove all at mode =
     record {
       replays = all.replays;
       pages = all.pages;
+      owned = all.owned;
       pool = all.pool;
       one_move = all.one_move;
       move = λ move h.
           let is = all.move move h in
-          record { owner = is.owner; src = is.src; dst = is.dst; apart = is.apart; within = is.within; busy = is.busy; passed = is.passed };
+          record { owner = is.owner; src = is.src; spare = is.spare; dst = is.dst; apart = is.apart; within = is.within; busy = is.busy; passed = is.passed };
       limit = all.limit;
       chunks = all.chunks;
       total = all.total;
+      cursor = at;
+      mode = mode;
     }
 
 -- one more entry, which fits the owner that it finds, accounts for the owner that it leaves
-pub IsAccounted-entry : (slabs new : SlabState) (entry : Entry) (owner : Owner) → IsAccounted slabs → page_of entry < length slabs.owners → fits entry (owner_at slabs.owners (page_of entry)) ≡ true → owner_after entry ≡ owner → ArePlaced (record new { owners = set slabs.owners (page_of entry) owner }) → IsAccounted (record new { page = slabs.page; limit = slabs.limit; owners = set slabs.owners (page_of entry) owner; ledger = slabs.ledger ++ entry ∷ [] })
-IsAccounted-entry slabs new entry owner all within fit leaves placed =
+pub IsAccounted-entry : (slabs new : SlabState) (entry : Entry) (owner : Owner) → IsAccounted slabs → page_of entry < length slabs.owners → fits entry (owner_at slabs.owners (page_of entry)) ≡ true → owner_after entry ≡ owner → ArePlaced (record new { owners = set slabs.owners (page_of entry) owner }) → IsClass new new.cursor → new.automove ≤ 2 → IsAccounted (record new { page = slabs.page; limit = slabs.limit; owners = set slabs.owners (page_of entry) owner; ledger = slabs.ledger ++ entry ∷ [] })
+IsAccounted-entry slabs new entry owner all within fit leaves placed at mode =
     let left = ap (λ (o : Owner). Some (set slabs.owners (page_of entry) o)) leaves in
     record {
       replays = replay-push _ slabs.owners slabs.ledger entry all.replays within fit ∙ left;
       pages = placed.pages;
+      owned = placed.owned;
       pool = placed.pool;
       one_move = placed.one_move;
       move = λ move h.
           let is = placed.move move h in
-          record { owner = is.owner; src = is.src; dst = is.dst; apart = is.apart; within = is.within; busy = is.busy; passed = is.passed };
+          record { owner = is.owner; src = is.src; spare = is.spare; dst = is.dst; apart = is.apart; within = is.within; busy = is.busy; passed = is.passed };
       limit = limit-owners slabs (set slabs.owners (page_of entry) owner) all (length-set slabs.owners (page_of entry) owner);
       chunks = placed.chunks;
       total = placed.total;
+      cursor = at;
+      mode = mode;
     }

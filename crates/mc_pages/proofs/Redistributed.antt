@@ -10,7 +10,7 @@ use Rattle.mc_pages.specs.Accounted.{truth, is_of_class, cut_count, uncut_count,
 use Rattle.mc_pages.proofs.Chunks.{times-cons, times-push, times-without, length-without}
 use Rattle.mc_pages.proofs.Lists.{times-with_before, length-with_before}
 use Rattle.mc_pages.proofs.Cleared.{ClearsAlike, is_cleared-alike, cleared_count-alike, IsMove-alike}
-use Rattle.mc_pages.proofs.OneClass.{length-with_class, class_at-with_class_kept}
+use Rattle.mc_pages.proofs.OneClass.{length-with_class, IsClass-with_class, class_at-with_class_kept}
 
 -- the class has the same pages and the same chunks, some of them in the other list
 pub record Redistributes (old new : ClassState) : Type 0 where
@@ -108,9 +108,13 @@ IsAccounted-redistributed slabs class state all is change =
           let before = IsClass-before slabs class other state here in
           let kept = class_at-with_class_kept (λ c. c.pages) slabs class other state is before.0 change.pages in
           ap (λ (ps : List ℕ). count_by (λ p. p == page) ps) kept ∙ all.pages other page before;
+      owned = λ other page h. IsClass-with_class slabs class other state (all.owned other page h);
       pool = all.pool;
       one_move = all.one_move;
-      move = λ move h. IsMove-alike slabs new move alike refl (all.move move h);
+      move = λ move h.
+          let of = all.move move h in
+          let pages = class_at-with_class_kept (λ c. c.pages) slabs class move.src state is of.src.0 change.pages in
+          IsMove-alike slabs new move alike refl (omega (arith, ap (λ (ps : List ℕ). length ps) pages)) of;
       limit = all.limit;
       chunks = λ other chunk here.
           let before = IsClass-before slabs class other state here in
@@ -125,4 +129,6 @@ IsAccounted-redistributed slabs class state all is change =
           let cleared = cleared_count-alike slabs new other slabs.moving alike before in
           let product = ap₂ (λ (ps : List ℕ) (n : ℕ). length ps * n) pages (alike.per_page other before) in
           omega (arith, lengths, uncut, cleared, product, all.total other before);
+      cursor = IsClass-with_class slabs class slabs.cursor state all.cursor;
+      mode = all.mode;
     }

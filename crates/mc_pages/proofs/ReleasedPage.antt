@@ -1,5 +1,5 @@
 -- A page whose chunks are all cleared leaves its class: all keep their places.
-use Rattle.std.proofs.Common.{◌≡◌, ◌≢◌, ℕ, ◌+◌, ◌*◌, ◌<◌, ◌==◌, Bool, false, cond, not, ◌&&◌, nat_lt, List, [], ◌∷◌, ◌++◌, length, set, filter, count_by, Option, Some, None, if◌then◌else◌, refl, sym, ap, ap₂, ◌∙◌, inl, inr, arith, eq-eqb, ne_eqb, eqb-true, ltb-true}
+use Rattle.std.proofs.Common.{true, ◌≡◌, ◌≢◌, ℕ, ◌+◌, ◌*◌, ◌<◌, ◌==◌, Bool, false, cond, not, ◌&&◌, nat_lt, List, [], ◌∷◌, ◌++◌, length, set, filter, count_by, Option, Some, None, if◌then◌else◌, refl, sym, ap, ap₂, ◌∙◌, inl, inr, arith, eq-eqb, ne_eqb, eqb-true, ltb-true}
 use Rattle.std.specs.Option.{option_map}
 use Rattle.std.proofs.lemmas.Bool.{cases_eq, cases_Bool, and_parts, and_left, and_right, both_ways, false_from_ne_true}
 use Rattle.std.proofs.lemmas.Option.{same_Some, none-some}
@@ -15,7 +15,7 @@ use Rattle.mc_pages.specs.SlabState.{SlabState, IsClass, class_at}
 use Rattle.mc_pages.specs.Moves.{released, CanFinish}
 use Rattle.mc_pages.specs.Accounted.{truth, is_of_class, is_pool, is_moving, cut_count, uncut_count, is_cut, places_in, is_cleared, first_chunks, cleared_count, IsMove}
 use Rattle.mc_pages.proofs.Owners.{within_from_is_of_class, owner_at-set_same, owner_at-set_other}
-use Rattle.mc_pages.proofs.OneClass.{class_at-with_class_same, class_at-with_class_other, class_at-with_class_kept}
+use Rattle.mc_pages.proofs.OneClass.{IsClass-with_class, class_at-with_class_same, class_at-with_class_other, class_at-with_class_kept}
 use Rattle.mc_pages.proofs.Cleared.{count_by-none, is_cleared-still}
 use Rattle.mc_pages.proofs.FirstChunks.{chunk_of, count_by-first_all}
 use Rattle.mc_pages.proofs.Redistributed.{IsClass-before}
@@ -206,6 +206,16 @@ pool-released slabs move all of other =
           omega (arith, more, now, all.pool other, ap truth (ne_eqb move.page other (λ e. differs (sym e))))
     ]
 
+-- the page is of no class any more, and every other page is of one of the classes as before
+owned-released : (slabs : SlabState) (move : Moving) → ArePlaced slabs → IsMove slabs move → (class other : ℕ) → is_of_class class (owner_at (set slabs.owners move.page Pool) other) ≡ true → IsClass slabs class
+owned-released slabs move all of class other h =
+    elim (cases_eq other move.page) [
+      | inl same ↦
+          let owner = ap (λ (p : ℕ). is_of_class class (owner_at (set slabs.owners move.page Pool) p)) same ∙ ap (λ (o : Owner). is_of_class class o) (owner_at-set_same slabs.owners move.page Pool (within_from_IsMove slabs move of)) in
+          absurd (both_ways _ owner h)
+      | inr differs ↦ all.owned class other (sym (ap (λ (o : Owner). is_of_class class o) (owner_at-set_other slabs.owners move.page other Pool differs)) ∙ h)
+    ]
+
 -- the page leaves its class
 pub ArePlaced-released : (slabs : SlabState) (move : Moving) → ArePlaced slabs → slabs.uncut ≡ None → CanFinish slabs move → ArePlaced (released slabs move.page move.src)
 ArePlaced-released slabs move all whole can =
@@ -214,6 +224,7 @@ ArePlaced-released slabs move all whole can =
     let before = λ (class : ℕ) (here : IsClass (released slabs move.page move.src) class). IsClass-before slabs move.src class state here in
     record {
       pages = λ class other here. pages-released slabs move all of class other (before class here);
+      owned = λ class other h. IsClass-with_class slabs move.src class state (owned-released slabs move all of class other h);
       pool = λ other. pool-released slabs move all of other;
       one_move = λ page h. absurd (both_ways _ (still-released slabs move all can.runs page) h);
       move = λ other h. absurd (none-some other h);

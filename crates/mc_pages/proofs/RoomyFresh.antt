@@ -7,9 +7,9 @@ use Rattle.std.proofs.lemmas.Nat.{le-div}
 use Rattle.std.proofs.lemmas.List.{ext_get_or, get_or-map, get_or_past, get_or-replicate, length-map, length-replicate}
 use Rattle.mc_classes.specs.Classes.{Classes, IsSound, per_page_of}
 use Rattle.mc_pages.specs.declared.ids.ChunkId.{ChunkId}
-use Rattle.mc_pages.specs.declared.rows.Row.{Row}
+use Rattle.mc_pages.specs.declared.rows.fields.Row.{Row}
 use Rattle.mc_pages.specs.declared.rows.ListName.{ListName}
-use Rattle.mc_pages.specs.declared.rows.ListName.TheVariants.{Free, Out}
+use Rattle.mc_pages.specs.declared.rows.ListName.TheVariants.{Free, HandedOut}
 use Rattle.mc_pages.specs.ClassState.{ClassState, new_class}
 use Rattle.mc_pages.specs.declared.rows.Mark.TheVariants.{Unlisted}
 use Rattle.mc_pages.specs.Rows.{no_row, row_place, row_at, ends_of, length_of, fresh_rows}
@@ -38,11 +38,11 @@ replicated n place x =
 
 ends-fresh : (most rows classes : ℕ) (list : ListName) → ends_of (fresh_rows most rows classes) list ≡ no_row
 ends-fresh most rows classes (Free class) = replicated classes class no_row
-ends-fresh most rows classes (Out class) = replicated classes class no_row
+ends-fresh most rows classes (HandedOut class) = replicated classes class no_row
 
 length-fresh : (most rows classes : ℕ) (list : ListName) → length_of (fresh_rows most rows classes) list ≡ 0
 length-fresh most rows classes (Free class) = replicated classes class 0
-length-fresh most rows classes (Out class) = replicated classes class 0
+length-fresh most rows classes (HandedOut class) = replicated classes class 0
 
 mark-fresh : (most rows classes : ℕ) (chunk : ChunkId) → (row_at (fresh_rows most rows classes) chunk).mark ≡ Unlisted
 mark-fresh most rows classes chunk =
@@ -85,7 +85,7 @@ states-fresh table most rows count =
     let own = λ (c : ClassState). with_lists c (fresh_rows most rows count) place in
     let state = ap (λ (c : RoomyClass). own c.state) (get_or-map_at bare all place d) in
     state_at (fresh_rows most rows count) (roomless all) place d (omega (arith, within, long-2)) ∙ (state ∙ (ap own is
-    ∙ (ap₂ (λ (f o : List ChunkId). record (made (slice_index_or table.sizes place 0)) { free = f; order = o }) (none (Free place)) (none (Out place)) ∙ sym is))))
+    ∙ (ap₂ (λ (f o : List ChunkId). record (made (slice_index_or table.sizes place 0)) { free = f; order = o }) (none (Free place)) (none (HandedOut place)) ∙ sym is))))
 
 -- larger chunks are no more on a page
 fewer_chunks : (page small large : ℕ) → 0 < small → small ≤ large → page / large ≤ page / small
@@ -120,7 +120,7 @@ HasRows-fresh table pages sound =
       rows = length-replicate (pages * per_page_of table 1) no_row;
       most = λ class first. most-fresh table class sound first;
       free = omega (arith, long, rows);
-      out = omega (arith, long, rows);
+      handed_out = omega (arith, long, rows);
       free_lengths = omega (arith, long, lengths);
-      out_lengths = omega (arith, long, lengths);
+      handed_out_lengths = omega (arith, long, lengths);
     }

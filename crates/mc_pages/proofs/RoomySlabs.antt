@@ -6,7 +6,7 @@ use Rattle.std.proofs.Math.Nat.{mul-le-mul, mul-le-mul_right}
 use Rattle.std.proofs.lemmas.Bool.{cases_eq, cases_lt}
 use Rattle.std.proofs.lemmas.List.{get_or_read, get_or_past}
 use Rattle.mc_pages.specs.declared.ids.ChunkId.{ChunkId}
-use Rattle.mc_pages.specs.declared.rows.ListName.TheVariants.{Free, Out}
+use Rattle.mc_pages.specs.declared.rows.ListName.TheVariants.{Free, HandedOut}
 use Rattle.mc_pages.specs.declared.rows.Field.TheVariants.{Next, Head}
 use Rattle.mc_pages.specs.declared.slabs.Slabs.TheInside.{Inside}
 use Rattle.mc_pages.specs.Ledger.{owner_at}
@@ -112,9 +112,9 @@ HasRows-with_class slabs class pages sizes state has is size =
       rows = has.rows;
       most = λ other first. omega (arith, has.most other first, class_at-with_class_kept (λ c. c.per_page) slabs class other state is first size);
       free = omega (arith, has.free, long);
-      out = omega (arith, has.out, long);
+      handed_out = omega (arith, has.handed_out, long);
       free_lengths = omega (arith, has.free_lengths, long);
-      out_lengths = omega (arith, has.out_lengths, long);
+      handed_out_lengths = omega (arith, has.handed_out_lengths, long);
     }
 
 -- and so they do after a change of one class that leaves its lists
@@ -186,24 +186,24 @@ AreKept-became slabs after class place change kept is at became size order =
 pub IsPlace-class : (slabs : Inside) (class place : ℕ) → AreKept slabs → IsClass (slabs_of slabs) class → place ≡ class - 1 → IsPlace slabs.rows place
 IsPlace-class slabs class place kept is at =
     let has = kept.rows in
-    ((omega (arith, is.0, is.1, at, has.free), omega (arith, is.0, is.1, at, has.free_lengths)), (omega (arith, is.0, is.1, at, has.out), omega (arith, is.0, is.1, at, has.out_lengths)))
+    ((omega (arith, is.0, is.1, at, has.free), omega (arith, is.0, is.1, at, has.free_lengths)), (omega (arith, is.0, is.1, at, has.handed_out), omega (arith, is.0, is.1, at, has.handed_out_lengths)))
 
 -- the lists of a class as the rows have them
-pub lists_at : (slabs : Inside) (class place : ℕ) → IsClass (slabs_of slabs) class → place ≡ class - 1 → (chunks_of slabs.rows (Free place) ≡ (class_at (slabs_of slabs) class).free) × (chunks_of slabs.rows (Out place) ≡ (class_at (slabs_of slabs) class).order)
+pub lists_at : (slabs : Inside) (class place : ℕ) → IsClass (slabs_of slabs) class → place ≡ class - 1 → (chunks_of slabs.rows (Free place) ≡ (class_at (slabs_of slabs) class).free) × (chunks_of slabs.rows (HandedOut place) ≡ (class_at (slabs_of slabs) class).order)
 lists_at slabs class place is at =
     let within = length-classes slabs class is in
     let state = sym (state_at slabs.rows slabs.classes.items (class - 1) (new_class 0 0) (omega (arith, is.0, within))) in
-    (ap (λ (n : ℕ). chunks_of slabs.rows (Free n)) at ∙ ap (λ (c : ClassState). c.free) state, ap (λ (n : ℕ). chunks_of slabs.rows (Out n)) at ∙ ap (λ (c : ClassState). c.order) state)
+    (ap (λ (n : ℕ). chunks_of slabs.rows (Free n)) at ∙ ap (λ (c : ClassState). c.free) state, ap (λ (n : ℕ). chunks_of slabs.rows (HandedOut n)) at ∙ ap (λ (c : ClassState). c.order) state)
 
 -- their lengths are below a bound
-pub lengths_below : (slabs : Inside) (class place : ℕ) → AreKept slabs → IsClass (slabs_of slabs) class → place ≡ class - 1 → (length_of slabs.rows (Free place) < 65536) × (length_of slabs.rows (Out place) < 65536)
+pub lengths_below : (slabs : Inside) (class place : ℕ) → AreKept slabs → IsClass (slabs_of slabs) class → place ≡ class - 1 → (length_of slabs.rows (Free place) < 65536) × (length_of slabs.rows (HandedOut place) < 65536)
 lengths_below slabs class place kept is at =
     let s = slabs_of slabs in
     let state = class_at s class in
     let lists = lists_at slabs class place is at in
     let most : length state.pages * state.per_page ≤ 64 * 256 = mul-le-mul (pages_below s slabs.granted class kept.order is) (kept.order.at_most class is) in
     let all = kept.order.accounted.total class is in
-    (omega (arith, all, most, kept.linked.long (Free place), ap length lists.0), omega (arith, all, most, kept.linked.long (Out place), ap length lists.1))
+    (omega (arith, all, most, kept.linked.long (Free place), ap length lists.0), omega (arith, all, most, kept.linked.long (HandedOut place), ap length lists.1))
 
 -- a chunk that is handed out leaves the size of the chunks
 size-handed_out : (class : ClassState) (free : List ChunkId) → (handed_out class free).per_page ≡ class.per_page
@@ -234,14 +234,14 @@ unlisted_uncut slabs chunk kept h (Free place) =
           omega (arith, none, ap truth (not_cut s (place + 1) chunk h), ap (times chunk) (lists_at slabs (place + 1) place is (omega arith)).0)
       | inr past ↦ ap (λ (n : ℕ). times chunk (walk (λ c. field_of slabs.rows (Next c)) n (field_of slabs.rows (Head (Free place))))) (get_or_past slabs.rows.free_lengths place 0 (omega (arith, past, kept.rows.free_lengths)))
     ]
-unlisted_uncut slabs chunk kept h (Out place) =
+unlisted_uncut slabs chunk kept h (HandedOut place) =
     let s = slabs_of slabs in
     elim (cases_lt place (length s.classes)) [
       | inl within ↦
           let is : IsClass s (place + 1) = (omega arith, omega (arith, within)) in
           let none = kept.order.accounted.chunks (place + 1) chunk is in
           omega (arith, none, ap truth (not_cut s (place + 1) chunk h), ap (times chunk) (lists_at slabs (place + 1) place is (omega arith)).1)
-      | inr past ↦ ap (λ (n : ℕ). times chunk (walk (λ c. field_of slabs.rows (Next c)) n (field_of slabs.rows (Head (Out place))))) (get_or_past slabs.rows.out_lengths place 0 (omega (arith, past, kept.rows.out_lengths)))
+      | inr past ↦ ap (λ (n : ℕ). times chunk (walk (λ c. field_of slabs.rows (Next c)) n (field_of slabs.rows (Head (HandedOut place))))) (get_or_past slabs.rows.handed_out_lengths place 0 (omega (arith, past, kept.rows.handed_out_lengths)))
     ]
 
 -- a chunk of a class's page has a row

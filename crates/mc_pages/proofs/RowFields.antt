@@ -3,10 +3,10 @@ use Rattle.std.proofs.Common.{◌≡◌, ◌≢◌, ℕ, ◌+◌, ◌*◌, ◌/�
 use Rattle.std.proofs.lemmas.Bool.{cases_Bool, cases_eq, both_ways, ltb-true}
 use Rattle.std.proofs.lemmas.Nat.{div-mul-add}
 use Rattle.mc_pages.specs.declared.ids.ChunkId.{ChunkId}
-use Rattle.mc_pages.specs.declared.rows.Row.{Row}
+use Rattle.mc_pages.specs.declared.rows.fields.Row.{Row}
 use Rattle.mc_pages.specs.declared.rows.ListName.{ListName}
 use Rattle.mc_pages.specs.declared.rows.Mark.{Mark}
-use Rattle.mc_pages.specs.declared.rows.ListName.TheVariants.{Free, Out}
+use Rattle.mc_pages.specs.declared.rows.ListName.TheVariants.{Free, HandedOut}
 use Rattle.mc_pages.specs.declared.rows.Field.{Field}
 use Rattle.mc_pages.specs.declared.rows.Field.TheVariants.{Next, Previous, Head, Tail}
 use Rattle.mc_pages.specs.ClassState.{is_chunk}
@@ -29,13 +29,13 @@ cases_list (Free a) (Free b) =
       | inl same ↦ inl (ap (λ (n : ℕ). Free n) same)
       | inr other ↦ inr (λ h. other (let same : a ≡ b = cc h in same))
     ]
-cases_list (Out a) (Out b) =
+cases_list (HandedOut a) (HandedOut b) =
     elim (cases_eq a b) [
-      | inl same ↦ inl (ap (λ (n : ℕ). Out n) same)
+      | inl same ↦ inl (ap (λ (n : ℕ). HandedOut n) same)
       | inr other ↦ inr (λ h. other (let same : a ≡ b = cc h in same))
     ]
-cases_list (Free a) (Out b) = inr (λ h. cc h)
-cases_list (Out a) (Free b) = inr (λ h. cc h)
+cases_list (Free a) (HandedOut b) = inr (λ h. cc h)
+cases_list (HandedOut a) (Free b) = inr (λ h. cc h)
 
 -- two chunks whose rows stand at one place are one
 place-same : (most : ℕ) (a b : ChunkId) → a.index < most → b.index < most → row_place most a ≡ row_place most b → a ≡ b
@@ -77,14 +77,14 @@ row_at-part part rows chunk other row is kept =
 -- the own row of a list that was written
 ends-same : (rows : RowsState) (list : ListName) (row : Row) → IsList rows list → ends_of (with_ends rows list row) list ≡ row
 ends-same rows (Free class) row is = get_or-set_same rows.free class row no_row is.0
-ends-same rows (Out class) row is = get_or-set_same rows.out class row no_row is.0
+ends-same rows (HandedOut class) row is = get_or-set_same rows.handed_out class row no_row is.0
 
 -- and that of every other list
 ends-other : (rows : RowsState) (list other : ListName) (row : Row) → other ≢ list → ends_of (with_ends rows list row) other ≡ ends_of rows other
 ends-other rows (Free class) (Free other) row differs = get_or-set_other rows.free class other row no_row (λ h. differs (ap (λ (n : ℕ). Free n) h))
-ends-other rows (Out class) (Out other) row differs = get_or-set_other rows.out class other row no_row (λ h. differs (ap (λ (n : ℕ). Out n) h))
-ends-other rows (Free class) (Out other) row differs = refl
-ends-other rows (Out class) (Free other) row differs = refl
+ends-other rows (HandedOut class) (HandedOut other) row differs = get_or-set_other rows.handed_out class other row no_row (λ h. differs (ap (λ (n : ℕ). HandedOut n) h))
+ends-other rows (Free class) (HandedOut other) row differs = refl
+ends-other rows (HandedOut class) (Free other) row differs = refl
 
 ends-part : {T : Type 0} (part : Row → T) (rows : RowsState) (list other : ListName) (row : Row) → IsList rows list → part row ≡ part (ends_of rows list) → part (ends_of (with_ends rows list row) other) ≡ part (ends_of rows other)
 ends-part part rows list other row is kept =
@@ -97,11 +97,11 @@ ends-part part rows list other row is kept =
 -- chunks' rows and lists' rows don't share fields
 row_at-with_ends : (rows : RowsState) (list : ListName) (row : Row) (chunk : ChunkId) → row_at (with_ends rows list row) chunk ≡ row_at rows chunk
 row_at-with_ends rows (Free class) row chunk = refl
-row_at-with_ends rows (Out class) row chunk = refl
+row_at-with_ends rows (HandedOut class) row chunk = refl
 
 ends_of-with_row : (rows : RowsState) (chunk : ChunkId) (row : Row) (list : ListName) → ends_of (with_row rows chunk row) list ≡ ends_of rows list
 ends_of-with_row rows chunk row (Free class) = refl
-ends_of-with_row rows chunk row (Out class) = refl
+ends_of-with_row rows chunk row (HandedOut class) = refl
 
 -- the field that was written
 pub field-same : (rows : RowsState) (field : Field) (link : Option ChunkId) → IsField rows field → field_of (with_field rows field link) field ≡ link
@@ -132,7 +132,7 @@ field-other rows (Tail list) (Tail other) link is differs = ap (λ (r : Row). r.
 -- a write leaves how many rows and lists there are
 sizes-with_ends : (rows : RowsState) (list : ListName) (row : Row) → sizes_of (with_ends rows list row) ≡ sizes_of rows
 sizes-with_ends rows (Free class) row = ap (λ (n : ℕ). record (sizes_of rows) { free = n }) (length-set rows.free class row)
-sizes-with_ends rows (Out class) row = ap (λ (n : ℕ). record (sizes_of rows) { out = n }) (length-set rows.out class row)
+sizes-with_ends rows (HandedOut class) row = ap (λ (n : ℕ). record (sizes_of rows) { handed_out = n }) (length-set rows.handed_out class row)
 
 pub sizes-with_field : (rows : RowsState) (field : Field) (link : Option ChunkId) → sizes_of (with_field rows field link) ≡ sizes_of rows
 sizes-with_field rows (Next chunk) link = ap (λ (n : ℕ). record (sizes_of rows) { rows = n }) (length-set rows.rows _ _)
@@ -142,12 +142,12 @@ sizes-with_field rows (Tail list) link = sizes-with_ends rows list _
 
 pub sizes-with_length : (rows : RowsState) (list : ListName) (count : ℕ) → sizes_of (with_length rows list count) ≡ sizes_of rows
 sizes-with_length rows (Free class) count = ap (λ (n : ℕ). record (sizes_of rows) { free_lengths = n }) (length-set rows.free_lengths class count)
-sizes-with_length rows (Out class) count = ap (λ (n : ℕ). record (sizes_of rows) { out_lengths = n }) (length-set rows.out_lengths class count)
+sizes-with_length rows (HandedOut class) count = ap (λ (n : ℕ). record (sizes_of rows) { handed_out_lengths = n }) (length-set rows.handed_out_lengths class count)
 
 -- and counts as one
 writes-with_ends : (rows : RowsState) (list : ListName) (row : Row) → (with_ends rows list row).writes ≡ rows.writes + 1
 writes-with_ends rows (Free class) row = refl
-writes-with_ends rows (Out class) row = refl
+writes-with_ends rows (HandedOut class) row = refl
 
 pub writes-with_field : (rows : RowsState) (field : Field) (link : Option ChunkId) → (with_field rows field link).writes ≡ rows.writes + 1
 writes-with_field rows (Next chunk) link = refl
@@ -158,18 +158,18 @@ writes-with_field rows (Tail list) link = writes-with_ends rows list _
 -- a new length is no write
 pub writes-with_length : (rows : RowsState) (list : ListName) (count : ℕ) → (with_length rows list count).writes ≡ rows.writes
 writes-with_length rows (Free class) count = refl
-writes-with_length rows (Out class) count = refl
+writes-with_length rows (HandedOut class) count = refl
 
 -- lengths and fields don't touch one another
 length-with_ends : (rows : RowsState) (list : ListName) (row : Row) (other : ListName) → length_of (with_ends rows list row) other ≡ length_of rows other
 length-with_ends rows (Free class) row (Free other) = refl
-length-with_ends rows (Free class) row (Out other) = refl
-length-with_ends rows (Out class) row (Free other) = refl
-length-with_ends rows (Out class) row (Out other) = refl
+length-with_ends rows (Free class) row (HandedOut other) = refl
+length-with_ends rows (HandedOut class) row (Free other) = refl
+length-with_ends rows (HandedOut class) row (HandedOut other) = refl
 
 length-with_row : (rows : RowsState) (chunk : ChunkId) (row : Row) (list : ListName) → length_of (with_row rows chunk row) list ≡ length_of rows list
 length-with_row rows chunk row (Free class) = refl
-length-with_row rows chunk row (Out class) = refl
+length-with_row rows chunk row (HandedOut class) = refl
 
 pub length-with_field : (rows : RowsState) (field : Field) (link : Option ChunkId) (list : ListName) → length_of (with_field rows field link) list ≡ length_of rows list
 length-with_field rows (Next chunk) link list = length-with_row rows chunk (record (row_at rows chunk) { next = link }) list
@@ -179,13 +179,13 @@ length-with_field rows (Tail other) link list = length-with_ends rows other _ li
 
 ends-with_length : (rows : RowsState) (list : ListName) (count : ℕ) (other : ListName) → ends_of (with_length rows list count) other ≡ ends_of rows other
 ends-with_length rows (Free class) count (Free other) = refl
-ends-with_length rows (Free class) count (Out other) = refl
-ends-with_length rows (Out class) count (Free other) = refl
-ends-with_length rows (Out class) count (Out other) = refl
+ends-with_length rows (Free class) count (HandedOut other) = refl
+ends-with_length rows (HandedOut class) count (Free other) = refl
+ends-with_length rows (HandedOut class) count (HandedOut other) = refl
 
 row_at-with_length : (rows : RowsState) (list : ListName) (count : ℕ) (chunk : ChunkId) → row_at (with_length rows list count) chunk ≡ row_at rows chunk
 row_at-with_length rows (Free class) count chunk = refl
-row_at-with_length rows (Out class) count chunk = refl
+row_at-with_length rows (HandedOut class) count chunk = refl
 
 pub field-with_length : (rows : RowsState) (list : ListName) (count : ℕ) (field : Field) → field_of (with_length rows list count) field ≡ field_of rows field
 field-with_length rows list count (Next chunk) = ap (λ (r : Row). r.next) (row_at-with_length rows list count chunk)
@@ -196,13 +196,13 @@ field-with_length rows list count (Tail other) = ap (λ (r : Row). r.previous) (
 -- the length that was set, and every other
 pub length-same : (rows : RowsState) (list : ListName) (count : ℕ) → IsList rows list → length_of (with_length rows list count) list ≡ count
 length-same rows (Free class) count is = get_or-set_same rows.free_lengths class count 0 is.1
-length-same rows (Out class) count is = get_or-set_same rows.out_lengths class count 0 is.1
+length-same rows (HandedOut class) count is = get_or-set_same rows.handed_out_lengths class count 0 is.1
 
 pub length-other : (rows : RowsState) (list other : ListName) (count : ℕ) → other ≢ list → length_of (with_length rows list count) other ≡ length_of rows other
 length-other rows (Free class) (Free other) count differs = get_or-set_other rows.free_lengths class other count 0 (λ h. differs (ap (λ (n : ℕ). Free n) h))
-length-other rows (Out class) (Out other) count differs = get_or-set_other rows.out_lengths class other count 0 (λ h. differs (ap (λ (n : ℕ). Out n) h))
-length-other rows (Free class) (Out other) count differs = refl
-length-other rows (Out class) (Free other) count differs = refl
+length-other rows (HandedOut class) (HandedOut other) count differs = get_or-set_other rows.handed_out_lengths class other count 0 (λ h. differs (ap (λ (n : ℕ). HandedOut n) h))
+length-other rows (Free class) (HandedOut other) count differs = refl
+length-other rows (HandedOut class) (Free other) count differs = refl
 
 -- rows, lists and fields are the same where there are as many
 pub IsRow-sizes : (before after : RowsState) (chunk : ChunkId) → sizes_of after ≡ sizes_of before → IsRow before chunk → IsRow after chunk
@@ -210,7 +210,7 @@ IsRow-sizes before after chunk h is = subst (λ (s : Sizes). (chunk.index < s.mo
 
 pub IsList-sizes : (before after : RowsState) (list : ListName) → sizes_of after ≡ sizes_of before → IsList before list → IsList after list
 IsList-sizes before after (Free class) h is = subst (λ (s : Sizes). (class < s.free) × (class < s.free_lengths)) (sym h) is
-IsList-sizes before after (Out class) h is = subst (λ (s : Sizes). (class < s.out) × (class < s.out_lengths)) (sym h) is
+IsList-sizes before after (HandedOut class) h is = subst (λ (s : Sizes). (class < s.handed_out) × (class < s.handed_out_lengths)) (sym h) is
 
 pub IsField-sizes : (before after : RowsState) (field : Field) → sizes_of after ≡ sizes_of before → IsField before field → IsField after field
 IsField-sizes before after (Next chunk) h is = IsRow-sizes before after chunk h is
@@ -221,13 +221,13 @@ IsField-sizes before after (Tail list) h is = IsList-sizes before after list h i
 -- names of lists as the definitions compare them
 pub is_list-same : (list : ListName) → is_list list list ≡ true
 is_list-same (Free class) = eq-eqb class class refl
-is_list-same (Out class) = eq-eqb class class refl
+is_list-same (HandedOut class) = eq-eqb class class refl
 
 pub same_from_is_list : (a b : ListName) → is_list a b ≡ true → a ≡ b
 same_from_is_list (Free a) (Free b) h = ap (λ (n : ℕ). Free n) (eqb-true a b h)
-same_from_is_list (Out a) (Out b) h = ap (λ (n : ℕ). Out n) (eqb-true a b h)
-same_from_is_list (Free a) (Out b) h = absurd (both_ways _ refl h)
-same_from_is_list (Out a) (Free b) h = absurd (both_ways _ refl h)
+same_from_is_list (HandedOut a) (HandedOut b) h = ap (λ (n : ℕ). HandedOut n) (eqb-true a b h)
+same_from_is_list (Free a) (HandedOut b) h = absurd (both_ways _ refl h)
+same_from_is_list (HandedOut a) (Free b) h = absurd (both_ways _ refl h)
 
 pub is_list-other : (a b : ListName) → a ≢ b → is_list a b ≡ false
 is_list-other a b differs =

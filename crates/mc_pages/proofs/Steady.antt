@@ -1,4 +1,4 @@
--- What is kept beside the accounts: pages, chunks a page, the cursor, and the chunk that is cut next.
+-- What is kept beside the accounts: pages, chunks a page, and the chunk that is cut next.
 use Rattle.std.proofs.Common.{◌≡◌, ℕ, ◌+◌, ◌-◌, ◌<◌, ◌≤◌, List, [], ◌∷◌, ◌++◌, length, slice_get, Some, refl, sym, ap, ◌∙◌, subst, inl, inr, arith, length-set}
 use Rattle.std.proofs.lemmas.Bool.{cases_lt}
 use Rattle.std.proofs.lemmas.Option.{same_Some, none-some, slice_get-get_or}
@@ -23,11 +23,10 @@ pub record IsSteady (slabs : SlabState) : Type 0 where
   pub pages : length slabs.owners ≤ 64
   pub per_page : (class : ℕ) → IsClass slabs class → 1 ≤ (class_at slabs class).per_page
   pub at_most : (class : ℕ) → IsClass slabs class → (class_at slabs class).per_page ≤ 256
-  pub cursor : IsClass slabs slabs.cursor
 
 -- a whole in order has it
 pub IsSteady_from : (slabs : SlabState) (granted : ℕ) → IsInOrder slabs granted → IsSteady slabs
-IsSteady_from slabs granted kept = record { pages = kept.pages; per_page = kept.per_page; at_most = kept.at_most; cursor = kept.cursor }
+IsSteady_from slabs granted kept = record { pages = kept.pages; per_page = kept.per_page; at_most = kept.at_most }
 
 -- so has one of which a class and owners have changed
 pub IsSteady-changed : (slabs : SlabState) (class : ℕ) (state : ClassState) (owners : List Owner) → IsSteady slabs → IsClass slabs class → state.per_page ≡ (class_at slabs class).per_page → length owners ≡ length slabs.owners → IsSteady (record (with_class slabs class state) { owners = owners })
@@ -42,7 +41,6 @@ IsSteady-changed slabs class state owners steady is size same =
           let before = IsClass-before slabs class other state here in
           let kept = class_at-with_class_kept (λ c. c.per_page) slabs class other state is before.0 size in
           omega (arith, kept, steady.at_most other before);
-      cursor = (steady.cursor.0, omega (arith, steady.cursor.1, length-with_class slabs class state));
     }
 
 -- a change in one class that leaves its pages leaves the chunk that is cut next
@@ -69,7 +67,6 @@ IsInOrder-with_class slabs granted class state kept is size pages all =
       per_page = steady.per_page;
       at_most = steady.at_most;
       uncut = λ chunk h. IsBeingCut-with_class slabs class state chunk is size pages (kept.uncut chunk h);
-      cursor = steady.cursor;
     }
 
 -- the chunk behind the one that is cut is cut next
@@ -124,5 +121,4 @@ IsInOrder-given slabs granted given page moved pool ledger steady is within all 
       per_page = after.per_page;
       at_most = after.at_most;
       uncut = λ chunk h. subst (λ (c : ChunkId). IsBeingCut new c) (same_Some (chunk_of page 0) chunk h) first;
-      cursor = after.cursor;
     }

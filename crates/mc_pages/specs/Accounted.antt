@@ -71,6 +71,8 @@ left_behind slabs move = count_by (λ chunk. not (is_cleared slabs move.src chun
 pub record IsMove (slabs : SlabState) (move : Moving) : Type 0 where
   pub owner : owner_at slabs.owners move.page ≡ owner.Moving move.src move.dst
   pub src : IsClass slabs move.src
+  -- the class that gives the page has another one
+  pub spare : 2 ≤ length (class_at slabs move.src).pages
   pub dst : move.dst ≤ length slabs.classes
   pub apart : move.src ≢ move.dst
   pub within : move.at ≤ (class_at slabs move.src).per_page
@@ -84,6 +86,8 @@ pub record IsAccounted (slabs : SlabState) : Type 0 where
   -- each page of a class stands once in its page list, and no other page does
   pub pages : (class page : ℕ) → IsClass slabs class →
       count_by (λ p. p == page) (class_at slabs class).pages ≡ truth (is_of_class class (owner_at slabs.owners page))
+  -- a page that is of a class is of one of the classes
+  pub owned : (class page : ℕ) → IsTrue (is_of_class class (owner_at slabs.owners page)) → IsClass slabs class
   -- each page of the pool stands once in its list, and no other page does
   pub pool : (page : ℕ) → count_by (λ p. p == page) slabs.pool ≡ truth (is_pool (owner_at slabs.owners page))
   -- no page is moving but that of the move that runs
@@ -99,3 +103,7 @@ pub record IsAccounted (slabs : SlabState) : Type 0 where
       length (class_at slabs class).free + length (class_at slabs class).order
       + uncut_count slabs class slabs.uncut + cleared_count slabs class slabs.moving
       ≡ length (class_at slabs class).pages * (class_at slabs class).per_page
+  -- the pick of a source goes on behind one of the classes
+  pub cursor : IsClass slabs slabs.cursor
+  -- the automover is off, or acts on each window, or on each eviction
+  pub mode : slabs.automove ≤ 2

@@ -60,7 +60,6 @@ pub record IsInOrder (slabs : SlabState) (granted : ℕ) : Type 0 where
   pub per_page : (class : ℕ) → IsClass slabs class → 1 ≤ (class_at slabs class).per_page
   pub at_most : (class : ℕ) → IsClass slabs class → (class_at slabs class).per_page ≤ 256
   pub uncut : (chunk : ChunkId) → slabs.uncut ≡ Some chunk → IsBeingCut slabs chunk
-  pub cursor : IsClass slabs slabs.cursor
 
 -- a page is on the move to the class, or to the pool for 0
 abbrev pub is_awaited : Option Moving → ℕ → Bool
@@ -75,9 +74,9 @@ pub record HasRows (classes : List ClassState) (pages : ℕ) (sizes : Sizes) : T
   pub rows : sizes.rows ≡ pages * sizes.most
   pub most : (class : ℕ) → 1 ≤ class → (slice_index_or classes (class - 1) (new_class 0 0)).per_page ≤ sizes.most
   pub free : sizes.free ≡ length classes
-  pub out : sizes.out ≡ length classes
+  pub handed_out : sizes.handed_out ≡ length classes
   pub free_lengths : sizes.free_lengths ≡ length classes
-  pub out_lengths : sizes.out_lengths ≡ length classes
+  pub handed_out_lengths : sizes.handed_out_lengths ≡ length classes
 
 pub record AreKept (slabs : Inside) : Type 0 where
   pub order : IsInOrder (slabs_of slabs) slabs.granted

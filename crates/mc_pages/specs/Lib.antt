@@ -11,3 +11,5 @@ pub mod Accounted
 pub mod Answer
 pub mod Moves
 pub mod InOrder
+pub mod Pages
+pub mod Unaccounted

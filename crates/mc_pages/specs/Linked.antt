@@ -2,7 +2,7 @@
 use Rattle.std.specs.Prelude.{◌≡◌, ◌≢◌, ℕ, ◌≤◌, ◌==◌, zero, suc, Bool, false, if◌then◌else◌, List, [], ◌∷◌, length, Option, Some, None}
 use Rattle.mc_pages.specs.declared.ids.ChunkId.{ChunkId}
 use Rattle.mc_pages.specs.declared.rows.ListName.{ListName}
-use Rattle.mc_pages.specs.declared.rows.ListName.TheVariants.{Free, Out}
+use Rattle.mc_pages.specs.declared.rows.ListName.TheVariants.{Free, HandedOut}
 use Rattle.mc_pages.specs.declared.rows.Mark.{Mark}
 use Rattle.mc_pages.specs.declared.rows.Mark.TheVariants.{Unlisted}
 use Rattle.mc_pages.specs.declared.rows.Mark.TheVariants as marks
@@ -39,7 +39,7 @@ IsRun next previous from (chunk ∷ chunks) = (next from ≡ Some chunk) × (pre
 -- how the chunks of the list are marked
 abbrev pub mark_of : ListName → Mark
 mark_of (Free class) = marks.Free
-mark_of (Out class) = marks.Out
+mark_of (HandedOut class) = marks.HandedOut
 
 -- the rows are these lists: each runs from its head to its tail, and a chunk is in one of them at most, and once
 pub record IsLinked (rows : RowsState) (lists : ListName → List ChunkId) (loose : Option ChunkId) : Type 0 where
@@ -63,7 +63,7 @@ AreLinkedBut rows chunk = IsLinked rows (chunks_of rows) (Some chunk)
 -- two names of one list
 abbrev pub is_list : ListName → ListName → Bool
 is_list (Free a) (Free b) = a == b
-is_list (Out a) (Out b) = a == b
+is_list (HandedOut a) (HandedOut b) = a == b
 is_list a b = false
 
 -- the lists, one of which is now this
@@ -75,18 +75,18 @@ pub record Sizes : Type 0 where
   pub most : ℕ
   pub rows : ℕ
   pub free : ℕ
-  pub out : ℕ
+  pub handed_out : ℕ
   pub free_lengths : ℕ
-  pub out_lengths : ℕ
+  pub handed_out_lengths : ℕ
 
 abbrev pub sizes_of : RowsState → Sizes
 sizes_of rows = record {
   most = rows.most;
   rows = length rows.rows;
   free = length rows.free;
-  out = length rows.out;
+  handed_out = length rows.handed_out;
   free_lengths = length rows.free_lengths;
-  out_lengths = length rows.out_lengths;
+  handed_out_lengths = length rows.handed_out_lengths;
 }
 
 -- two chunks become neighbours; None stands for the list's end

@@ -1,9 +1,9 @@
 -- The lists of all classes as rows, heads and tails, and what they mean.
 use Rattle.std.specs.Prelude.{ℕ, ◌+◌, ◌-◌, ◌*◌, ◌<◌, nat_lt, if◌then◌else◌, List, length, replicate, slice_index_or, slice_set, Option, None}
 use Rattle.mc_pages.specs.declared.ids.ChunkId.{ChunkId}
-use Rattle.mc_pages.specs.declared.rows.Row.{Row}
+use Rattle.mc_pages.specs.declared.rows.fields.Row.{Row}
 use Rattle.mc_pages.specs.declared.rows.ListName.{ListName}
-use Rattle.mc_pages.specs.declared.rows.ListName.TheVariants.{Free, Out}
+use Rattle.mc_pages.specs.declared.rows.ListName.TheVariants.{Free, HandedOut}
 use Rattle.mc_pages.specs.declared.rows.Mark.{Mark}
 use Rattle.mc_pages.specs.declared.rows.Mark.TheVariants.{Unlisted}
 use Rattle.mc_pages.specs.declared.rows.Field.{Field}
@@ -17,9 +17,9 @@ pub record RowsState : Type 0 where
   pub most : ℕ
   pub rows : List Row
   pub free : List Row
-  pub out : List Row
+  pub handed_out : List Row
   pub free_lengths : List ℕ
-  pub out_lengths : List ℕ
+  pub handed_out_lengths : List ℕ
   pub writes : ℕ
 
 -- a row without neighbours, of a chunk that is in no list
@@ -32,9 +32,9 @@ fresh_rows most rows classes = record {
   most = most;
   rows = replicate rows no_row;
   free = replicate classes no_row;
-  out = replicate classes no_row;
+  handed_out = replicate classes no_row;
   free_lengths = replicate classes 0;
-  out_lengths = replicate classes 0;
+  handed_out_lengths = replicate classes 0;
   writes = 0;
 }
 
@@ -49,12 +49,12 @@ row_at rows chunk = if nat_lt chunk.index rows.most then slice_index_or rows.row
 -- the own row of a list
 abbrev pub ends_of : RowsState → ListName → Row
 ends_of rows (Free class) = slice_index_or rows.free class no_row
-ends_of rows (Out class) = slice_index_or rows.out class no_row
+ends_of rows (HandedOut class) = slice_index_or rows.handed_out class no_row
 
 -- how many chunks a list has
 abbrev pub length_of : RowsState → ListName → ℕ
 length_of rows (Free class) = slice_index_or rows.free_lengths class 0
-length_of rows (Out class) = slice_index_or rows.out_lengths class 0
+length_of rows (HandedOut class) = slice_index_or rows.handed_out_lengths class 0
 
 -- what a field holds
 abbrev pub field_of : RowsState → Field → Option ChunkId
@@ -70,7 +70,7 @@ IsRow rows chunk = (chunk.index < rows.most) × (row_place rows.most chunk < len
 -- a list of one of the classes
 abbrev pub IsList : RowsState → ListName → Type 0
 IsList rows (Free class) = (class < length rows.free) × (class < length rows.free_lengths)
-IsList rows (Out class) = (class < length rows.out) × (class < length rows.out_lengths)
+IsList rows (HandedOut class) = (class < length rows.handed_out) × (class < length rows.handed_out_lengths)
 
 -- a field of one of the rows
 abbrev pub IsField : RowsState → Field → Type 0
@@ -86,7 +86,7 @@ with_row rows chunk row = record rows { rows = slice_set rows.rows (row_place ro
 -- the own row of a list is now this
 abbrev pub with_ends : RowsState → ListName → Row → RowsState
 with_ends rows (Free class) row = record rows { free = slice_set rows.free class row; writes = rows.writes + 1 }
-with_ends rows (Out class) row = record rows { out = slice_set rows.out class row; writes = rows.writes + 1 }
+with_ends rows (HandedOut class) row = record rows { handed_out = slice_set rows.handed_out class row; writes = rows.writes + 1 }
 
 -- a field is now this
 abbrev pub with_field : RowsState → Field → Option ChunkId → RowsState
@@ -112,7 +112,7 @@ IsChange rows (change.Mark chunk mark) = IsRow rows chunk
 -- the length of a list is now this
 abbrev pub with_length : RowsState → ListName → ℕ → RowsState
 with_length rows (Free class) count = record rows { free_lengths = slice_set rows.free_lengths class count }
-with_length rows (Out class) count = record rows { out_lengths = slice_set rows.out_lengths class count }
+with_length rows (HandedOut class) count = record rows { handed_out_lengths = slice_set rows.handed_out_lengths class count }
 
 -- the list is longer by one
 abbrev pub lengthened : RowsState → ListName → RowsState

@@ -1,6 +1,6 @@
 -- The rows as their callers see them.
 use Rattle.std.specs.Prelude.{◌≤◌, vec_len}
-use Rattle.mc_pages.specs.declared.rows.Rows.TheInside.{Inside}
+use Rattle.mc_pages.specs.declared.rows.fields.Rows.TheInside.{Inside}
 use Rattle.mc_pages.specs.Rows.{RowsState}
 
 abbrev pub rows_of : Inside → RowsState
@@ -8,9 +8,9 @@ rows_of rows = record {
   most = rows.most;
   rows = rows.rows.items;
   free = rows.free.items;
-  out = rows.out.items;
+  handed_out = rows.handed_out.items;
   free_lengths = rows.free_lengths.items;
-  out_lengths = rows.out_lengths.items;
+  handed_out_lengths = rows.handed_out_lengths.items;
   writes = rows.writes.total;
 }
 

@@ -7,6 +7,7 @@
 
 mod class;
 mod ids;
+mod laws;
 mod ledger;
 mod moves;
 mod numbers;
@@ -15,6 +16,7 @@ mod slabs;
 mod writes;
 
 pub use ids::{ChunkId, Moving};
+pub use laws::{no_page_is_lost, unaccounted_memories};
 pub use ledger::{Entry, Owner};
 pub use moves::{Found, Reassign};
 pub use numbers::{Numbers, Totals};

@@ -2,16 +2,13 @@
 //!
 //! Each chunk has a row, whatever class its page is cut for. No call walks but `at`, and none takes memory but `new`.
 //! The links and the prefix of a free chunk stand in the chunk itself in slabs.c; rows beside the pages are own.
-ghost use Rattle.std.specs.Prelude.{◌≡◌, ℕ, ◌+◌, ◌*◌, ◌<◌, ◌≤◌, IfOk, length};
-ghost use Rattle.mc_pages.specs.Rows.{RowsState, IsChange, IsField, IsRow, IsList, field_of, with_change, row_at, row_place, length_of, lengthened, shortened, fresh_rows};
 
 mod calls;
+mod fields;
 mod lists;
 
 use crate::ids::ChunkId;
-use crate::writes::Writes;
-use std::alloc::{AllocError, Global};
-use std::marker::Model;
+pub use fields::Rows;
 
 /// In which kind of list a chunk is. (after the flag `ITEM_SLABBED` of memcached's items, which a free chunk has)
 #[derive(Clone, Copy, PartialEq, Eq)]
@@ -21,16 +18,7 @@ pub(crate) enum Mark {
     /// In a free list.
     Free,
     /// In a hand-out order.
-    Out,
-}
-
-/// The chunks beside a chunk in its list. A list has a row of its own, where `next` is its head, `previous` its tail, and
-/// the mark says nothing.
-#[derive(Clone, Copy)]
-pub(crate) struct Row {
-    next: Option<ChunkId>,
-    previous: Option<ChunkId>,
-    mark: Mark,
+    HandedOut,
 }
 
 /// One of the two lists of a class, by the class's place: class 1 stands at 0.
@@ -39,7 +27,7 @@ pub enum ListName {
     /// The chunks that are free, with the next to hand out first.
     Free(usize),
     /// The chunks that are handed out, with the oldest first.
-    Out(usize),
+    HandedOut(usize),
 }
 
 /// A field of the rows that leads to a chunk.
@@ -62,153 +50,4 @@ pub(crate) enum Change {
     Link(Field, Option<ChunkId>),
     /// In which kind of list the chunk is.
     Mark(ChunkId, Mark),
-}
-
-/// A row for each chunk, and head, tail and length of each list. Fields are written one at a time, and contracts count
-/// how often, as `writes`. Lengths aren't counted.
-#[derive(Drop)]
-pub struct Rows {
-    /// The most chunks that a page has.
-    most: u64,
-    rows: Vec<Row>,
-    free: Vec<Row>,
-    out: Vec<Row>,
-    free_lengths: Vec<u64>,
-    out_lengths: Vec<u64>,
-    writes: Writes,
-}
-
-impl Model for Rows {
-    ghost use Rattle.mc_pages.specs.Rows.{RowsState};
-
-    ghost Value = { RowsState };
-
-    ghost use Rattle.mc_pages.specs.RowsInside.{rows_of, HasSpace};
-
-    ghost view = { rows_of };
-
-    ghost invariant = { HasSpace };
-}
-
-impl Rows {
-    /// Empty lists for so many classes, and rows for so many pages.
-    pub(crate) fn new(
-        alloc: Global,
-        most: u64,
-        pages: usize,
-        classes: usize,
-    ) -> Result<Rows, AllocError>
-        requires most { most ≤ 256 }
-        requires pages { pages ≤ 64 }
-        ensures { IfOk result (λ rows. rows ≡ fresh_rows most (pages * most) classes) }
-    {
-        let none = Row {
-            next: None,
-            previous: None,
-            mark: Mark::Unlisted,
-        };
-        Ok(Rows {
-            most,
-            rows: vec![in alloc; none; pages * most as usize]?,
-            free: vec![in alloc; none; classes]?,
-            out: vec![in alloc; none; classes]?,
-            free_lengths: vec![in alloc; 0; classes]?,
-            out_lengths: vec![in alloc; 0; classes]?,
-            writes: Writes::new(),
-        })
-    }
-
-    /// What the field holds.
-    fn get(&self, field: Field) -> Option<ChunkId>
-        requires { IsField self.now field }
-        ensures { result ≡ field_of self.now field }
-    {
-        match field {
-            Field::Next(chunk) => self.rows[self.place(chunk)].next,
-            Field::Previous(chunk) => self.rows[self.place(chunk)].previous,
-            Field::Head(ListName::Free(class)) => self.free[class].next,
-            Field::Head(ListName::Out(class)) => self.out[class].next,
-            Field::Tail(ListName::Free(class)) => self.free[class].previous,
-            Field::Tail(ListName::Out(class)) => self.out[class].previous,
-        }
-    }
-
-    /// In which kind of list the chunk is.
-    pub(crate) fn mark(&self, chunk: ChunkId) -> Mark
-        requires { IsRow self.now chunk }
-        ensures { result ≡ (row_at self.now chunk).mark }
-    {
-        self.rows[self.place(chunk)].mark
-    }
-
-    /// Writes a field. No other call does.
-    fn put(&mut self, change: Change)
-        requires { IsChange self.old change }
-        ensures { self.new ≡ with_change self.old change }
-    {
-        self.writes.add();
-        match change {
-            Change::Link(Field::Next(chunk), link) => {
-                let place = self.place(chunk);
-                self.rows[place].next = link;
-            }
-            Change::Link(Field::Previous(chunk), link) => {
-                let place = self.place(chunk);
-                self.rows[place].previous = link;
-            }
-            Change::Link(Field::Head(ListName::Free(class)), link) => self.free[class].next = link,
-            Change::Link(Field::Head(ListName::Out(class)), link) => self.out[class].next = link,
-            Change::Link(Field::Tail(ListName::Free(class)), link) => self.free[class].previous =
-                link,
-            Change::Link(Field::Tail(ListName::Out(class)), link) => self.out[class].previous =
-                link,
-            Change::Mark(chunk, mark) => {
-                let place = self.place(chunk);
-                self.rows[place].mark = mark;
-            }
-        }
-    }
-
-    /// How many chunks the list has.
-    pub(crate) fn length(&self, list: ListName) -> u64
-        requires { IsList self.now list }
-        ensures { result ≡ length_of self.now list }
-    {
-        match list {
-            ListName::Free(class) => self.free_lengths[class],
-            ListName::Out(class) => self.out_lengths[class],
-        }
-    }
-
-    /// The list has one chunk more.
-    fn lengthen(&mut self, list: ListName)
-        requires list { IsList self.old list }
-        requires below { length_of self.old list < 65536 }
-        ensures { self.new ≡ lengthened self.old list }
-    {
-        match list {
-            ListName::Free(class) => self.free_lengths[class] += 1,
-            ListName::Out(class) => self.out_lengths[class] += 1,
-        }
-    }
-
-    /// The list has one chunk less.
-    fn shorten(&mut self, list: ListName)
-        requires list { IsList self.old list }
-        requires some { 1 ≤ length_of self.old list }
-        ensures { self.new ≡ shortened self.old list }
-    {
-        match list {
-            ListName::Free(class) => self.free_lengths[class] -= 1,
-            ListName::Out(class) => self.out_lengths[class] -= 1,
-        }
-    }
-
-    /// Where the chunk's row stands.
-    fn place(&self, chunk: ChunkId) -> usize
-        requires { IsRow self.now chunk }
-        ensures { result ≡ row_place self.now.most chunk }
-    {
-        (chunk.page * self.most + chunk.index) as usize
-    }
 }

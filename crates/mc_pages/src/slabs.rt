@@ -4,7 +4,7 @@ ghost use Rattle.std.specs.Option.{option_map};
 ghost use Rattle.mc_pages.specs.ClassState.{new_class, numbers_of};
 ghost use Rattle.mc_classes.specs.Classes.{pages_of, per_page_of};
 ghost use Rattle.mc_pages.specs.Ledger.{owner_at};
-ghost use Rattle.mc_pages.specs.declared.rows.ListName.TheVariants.{Free, Out};
+ghost use Rattle.mc_pages.specs.declared.rows.ListName.TheVariants.{Free, HandedOut};
 ghost use Rattle.mc_pages.specs.Rows.{fresh_rows};
 ghost use Rattle.mc_pages.specs.Linked.{AreLinked, chunks_of};
 ghost use Rattle.mc_pages.specs.SlabState.{fresh_slabs, IsClass, class_at, class_of_page, totals_of};
@@ -106,7 +106,8 @@ impl Slabs {
     /// Who owns the page.
     pub fn owner(&self, page: PageId) -> Owner
         requires { page < length self.now.state.owners }
-        ensures { result ≡ owner_at self.now.state.owners page }
+        ensures owner { result ≡ owner_at self.now.state.owners page }
+        ensures accounted { IsAccounted self.now.state }
     {
         self.owners[page as usize]
     }
@@ -114,7 +115,8 @@ impl Slabs {
     /// What the class has.
     pub fn numbers(&self, class: ClassId) -> Numbers
         requires { IsClass self.now.state class }
-        ensures { result ≡ numbers_of (class_at self.now.state class) }
+        ensures numbers { result ≡ numbers_of (class_at self.now.state class) }
+        ensures accounted { IsAccounted self.now.state }
     {
         let place = class as usize - 1;
         let slab = &self.classes[place];
@@ -127,7 +129,8 @@ impl Slabs {
 
     /// What all classes have together.
     pub fn totals(&self) -> Totals
-        ensures { result ≡ totals_of self.now.state }
+        ensures totals { result ≡ totals_of self.now.state }
+        ensures accounted { IsAccounted self.now.state }
     {
         Totals {
             granted: self.granted as u64,
@@ -141,7 +144,8 @@ impl Slabs {
 
     /// Every change of a page's owner, in order.
     pub fn ledger(&self) -> &[Entry]
-        ensures { result.now ≡ self.now.state.ledger }
+        ensures ledger { result.now ≡ self.now.state.ledger }
+        ensures accounted { IsAccounted self.now.state }
     {
         self.ledger.as_slice()
     }
@@ -151,15 +155,18 @@ impl Slabs {
     pub fn rows(&self) -> &Rows
         ensures linked { AreLinked result.now }
         ensures free { (class : ℕ) → IsClass self.now.state class → chunks_of result.now (Free (class - 1)) ≡ (class_at self.now.state class).free }
-        ensures order { (class : ℕ) → IsClass self.now.state class → chunks_of result.now (Out (class - 1)) ≡ (class_at self.now.state class).order }
+        ensures order { (class : ℕ) → IsClass self.now.state class → chunks_of result.now (HandedOut (class - 1)) ≡ (class_at self.now.state class).order }
         ensures writes { result.now.writes ≡ self.now.writes }
+        ensures accounted { IsAccounted self.now.state }
     {
         &self.rows
     }
 
     /// The automover's mode.
     pub fn automove(&self) -> u64
-        ensures { result ≡ self.now.state.automove }
+        ensures mode { result ≡ self.now.state.automove }
+        ensures at_most { result ≤ 2 }
+        ensures accounted { IsAccounted self.now.state }
     {
         self.automove
     }
@@ -169,6 +176,7 @@ impl Slabs {
         requires { mode ≤ 2 }
         ensures mode { self.new.state ≡ record self.old.state { automove = mode } }
         ensures accounted { IsAccounted self.new.state }
+        ensures writes { self.new.writes ≡ self.old.writes }
     {
         self.automove = mode;
     }

@@ -1,7 +1,7 @@
 //! The free list and the hand-out order of a class, copied, and what stands in them.
 ghost use Rattle.std.specs.Prelude.{◌≡◌, IfOk};
 ghost use Rattle.mc_pages.specs.SlabState.{IsClass, class_at};
-ghost use Rattle.mc_core.specs.Silent.{is_among, has_page, is_out_of_class, is_listed, has_listed};
+ghost use Rattle.mc_core.specs.Silent.{is_among, has_page, is_handed_out, is_listed, has_listed};
 
 use super::State;
 use mc_classes::{ClassId, PageId};
@@ -73,7 +73,7 @@ impl State {
 
     /// Whether the chunk is handed out.
     pub(super) fn is_handed_out(&self, chunk: ChunkId) -> Result<bool, AllocError>
-        ensures { IfOk result (λ is. is ≡ is_out_of_class self.now.slabs chunk) }
+        ensures { IfOk result (λ is. is ≡ is_handed_out self.now.slabs chunk) }
     {
         let order = self.order(self.class_of_page(chunk.page))?;
         Ok(is_among(&order, chunk))

@@ -4,7 +4,7 @@ ghost use Rattle.mc_pages.specs.SlabState.{class_of_page, class_of_chunk};
 ghost use Rattle.mc_pages.specs.Changes.{after_pop, after_back, after_touch, after_replace, after_clear, after_cut};
 ghost use Rattle.mc_pages.specs.Moves.{after_finish, after_passed, after_wrap};
 ghost use Rattle.mc_core.specs.State.{is_class, with_slabs};
-ghost use Rattle.mc_core.specs.Silent.{is_among, is_out_of_class, is_listed, run_of, can_finish, can_pass, can_wrap};
+ghost use Rattle.mc_core.specs.Silent.{is_among, is_handed_out, is_listed, run_of, can_finish, can_pass, can_wrap};
 ghost use Rattle.mc_core.specs.Chunks.{next_free, is_moving_page, is_next_uncut};
 
 use super::State;
@@ -23,7 +23,7 @@ impl State {
 
     /// A handed-out chunk goes to its free list.
     pub(super) fn list_back(&mut self, chunk: ChunkId)
-        requires { is_out_of_class self.old.slabs chunk ≡ true }
+        requires { is_handed_out self.old.slabs chunk ≡ true }
         ensures { self.new ≡ with_slabs self.old (after_back self.old.slabs chunk) }
     {
         self.slabs.back(chunk);
@@ -31,7 +31,7 @@ impl State {
 
     /// A handed-out chunk goes to the back of its hand-out order.
     pub(super) fn list_touch(&mut self, chunk: ChunkId)
-        requires { is_out_of_class self.old.slabs chunk ≡ true }
+        requires { is_handed_out self.old.slabs chunk ≡ true }
         ensures { self.new ≡ with_slabs self.old (after_touch self.old.slabs chunk) }
     {
         self.slabs.touch(chunk);
@@ -40,7 +40,7 @@ impl State {
     /// A free chunk takes the place of a handed-out one.
     pub(super) fn list_replace(&mut self, chunk: ChunkId, old: ChunkId)
         requires free { is_among (class_of_chunk self.old.slabs old).free chunk ≡ true }
-        requires handed_out { is_out_of_class self.old.slabs old ≡ true }
+        requires handed_out { is_handed_out self.old.slabs old ≡ true }
         ensures { self.new ≡ with_slabs self.old (after_replace self.old.slabs chunk old) }
     {
         self.slabs.replace(chunk, old);

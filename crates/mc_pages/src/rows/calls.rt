@@ -1,7 +1,7 @@
 //! What the calls of a slab memory write: eight fields at most each.
 ghost use Rattle.std.specs.Prelude.{◌≡◌, ◌+◌, ◌<◌, ◌≤◌, slice_get, Contains};
 ghost use Rattle.mc_pages.specs.declared.rows.ListName.{ListName};
-ghost use Rattle.mc_pages.specs.declared.rows.ListName.TheVariants.{Free, Out};
+ghost use Rattle.mc_pages.specs.declared.rows.ListName.TheVariants.{Free, HandedOut};
 ghost use Rattle.mc_pages.specs.ClassState.{popped, put_back, touched, replaced, cleared, with_cut, times, behind};
 ghost use Rattle.mc_pages.specs.Rows.{IsRow, IsList, length_of};
 ghost use Rattle.mc_pages.specs.Linked.{AreLinked, IsUnlisted, chunks_of};
@@ -15,7 +15,7 @@ impl Rows {
     pub(crate) fn pop(&mut self, class: usize) -> Option<ChunkId>
         requires linked { AreLinked self.old }
         requires class { IsPlace self.old class }
-        requires below { length_of self.old (Out class) < 65536 }
+        requires below { length_of self.old (HandedOut class) < 65536 }
         ensures chunk { result ≡ slice_get (chunks_of self.old (Free class)) 0 }
         ensures popped { HasBecome self.old self.new class popped }
         ensures writes { self.new.writes ≤ self.old.writes + 8 }
@@ -24,7 +24,7 @@ impl Rows {
             return None;
         };
         self.unlink(ListName::Free(class), head);
-        self.put_last(ListName::Out(class), head);
+        self.put_last(ListName::HandedOut(class), head);
         Some(head)
     }
 
@@ -32,12 +32,12 @@ impl Rows {
     pub(crate) fn back(&mut self, class: usize, chunk: ChunkId)
         requires linked { AreLinked self.old }
         requires class { IsPlace self.old class }
-        requires handed_out { Contains (chunks_of self.old (Out class)) chunk }
+        requires handed_out { Contains (chunks_of self.old (HandedOut class)) chunk }
         requires below { length_of self.old (Free class) < 65536 }
         ensures back { HasBecome self.old self.new class (λ state. put_back state chunk) }
         ensures writes { self.new.writes ≤ self.old.writes + 8 }
     {
-        self.unlink(ListName::Out(class), chunk);
+        self.unlink(ListName::HandedOut(class), chunk);
         self.put_first(ListName::Free(class), chunk);
     }
 
@@ -45,13 +45,13 @@ impl Rows {
     pub(crate) fn touch(&mut self, class: usize, chunk: ChunkId)
         requires linked { AreLinked self.old }
         requires class { IsPlace self.old class }
-        requires handed_out { Contains (chunks_of self.old (Out class)) chunk }
-        requires below { length_of self.old (Out class) < 65536 }
+        requires handed_out { Contains (chunks_of self.old (HandedOut class)) chunk }
+        requires below { length_of self.old (HandedOut class) < 65536 }
         ensures touched { HasBecome self.old self.new class (λ state. touched state chunk) }
         ensures writes { self.new.writes ≤ self.old.writes + 8 }
     {
-        self.unlink(ListName::Out(class), chunk);
-        self.put_last(ListName::Out(class), chunk);
+        self.unlink(ListName::HandedOut(class), chunk);
+        self.put_last(ListName::HandedOut(class), chunk);
     }
 
     /// Gives a free chunk the place of a handed-out one, which stands directly behind it then.
@@ -59,25 +59,25 @@ impl Rows {
         requires linked { AreLinked self.old }
         requires class { IsPlace self.old class }
         requires free { Contains (chunks_of self.old (Free class)) new }
-        requires handed_out { Contains (chunks_of self.old (Out class)) old }
-        requires below { length_of self.old (Out class) < 65536 }
+        requires handed_out { Contains (chunks_of self.old (HandedOut class)) old }
+        requires below { length_of self.old (HandedOut class) < 65536 }
         ensures replaced { HasBecome self.old self.new class (λ state. replaced state new old) }
         ensures writes { self.new.writes ≤ self.old.writes + 8 }
     {
         self.unlink(ListName::Free(class), new);
-        self.put_before(ListName::Out(class), new, old);
+        self.put_before(ListName::HandedOut(class), new, old);
     }
 
     /// Takes a chunk out of the list that it is in.
     pub(crate) fn clear(&mut self, class: usize, chunk: ChunkId)
         requires linked { AreLinked self.old }
         requires class { IsPlace self.old class }
-        requires listed { 1 ≤ times chunk (chunks_of self.old (Free class)) + times chunk (chunks_of self.old (Out class)) }
+        requires listed { 1 ≤ times chunk (chunks_of self.old (Free class)) + times chunk (chunks_of self.old (HandedOut class)) }
         ensures cleared { HasBecome self.old self.new class (λ state. cleared state chunk) }
         ensures writes { self.new.writes ≤ self.old.writes + 8 }
     {
         match self.mark(chunk) {
-            Mark::Out => self.take_out(ListName::Out(class), chunk),
+            Mark::HandedOut => self.take_out(ListName::HandedOut(class), chunk),
             _ => self.take_out(ListName::Free(class), chunk),
         }
     }

@@ -146,6 +146,6 @@ fn mark_of(list: ListName) -> Mark
 {
     match list {
         ListName::Free(_) => Mark::Free,
-        ListName::Out(_) => Mark::Out,
+        ListName::HandedOut(_) => Mark::HandedOut,
     }
 }

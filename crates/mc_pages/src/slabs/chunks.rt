@@ -90,20 +90,23 @@ impl Slabs {
         requires { IsClass self.old.state class }
         ensures evicted { self.new.state ≡ after_evicted self.old.state class }
         ensures accounted { IsAccounted self.new.state }
+        ensures writes { self.new.writes ≡ self.old.writes }
     {
         self.classes[class as usize - 1].count_eviction();
     }
 
     /// The page whose chunks aren't all cut yet, if there is one.
     pub fn half_cut(&self) -> Option<PageId>
-        ensures { result ≡ option_map (λ chunk. chunk.page) self.now.state.uncut }
+        ensures page { result ≡ option_map (λ chunk. chunk.page) self.now.state.uncut }
+        ensures accounted { IsAccounted self.now.state }
     {
         self.uncut.map(|chunk| chunk.page)
     }
 
     /// The lowest uncut chunk of the page just given, if there is one.
     pub fn next_uncut(&self) -> Option<ChunkId>
-        ensures { result ≡ self.now.state.uncut }
+        ensures chunk { result ≡ self.now.state.uncut }
+        ensures accounted { IsAccounted self.now.state }
     {
         self.uncut
     }
@@ -113,7 +116,8 @@ impl Slabs {
     pub fn is_free(&self, chunk: ChunkId) -> bool
         requires class { IsClass self.now.state (class_of_page self.now.state chunk.page) }
         requires cut { is_cut self.now.state (class_of_page self.now.state chunk.page) chunk ≡ true }
-        ensures { result ≡ nat_lt 0 (times chunk (class_of_chunk self.now.state chunk).free) }
+        ensures free { result ≡ nat_lt 0 (times chunk (class_of_chunk self.now.state chunk).free) }
+        ensures accounted { IsAccounted self.now.state }
     {
         self.rows.mark(chunk) == Mark::Free
     }
@@ -121,7 +125,8 @@ impl Slabs {
     /// The head of the class's free list: the chunk that is handed out next. None where the list is empty.
     pub fn first_free(&self, class: ClassId) -> Option<ChunkId>
         requires { IsClass self.now.state class }
-        ensures { result ≡ slice_get (class_at self.now.state class).free 0 }
+        ensures chunk { result ≡ slice_get (class_at self.now.state class).free 0 }
+        ensures accounted { IsAccounted self.now.state }
     {
         self.rows.first(ListName::Free(class as usize - 1))
     }
@@ -129,7 +134,8 @@ impl Slabs {
     /// The chunk behind a free one in the free list of its class. None behind the last.
     pub fn next_free(&self, chunk: ChunkId) -> Option<ChunkId>
         requires { Contains (class_of_chunk self.now.state chunk).free chunk }
-        ensures { result ≡ behind chunk (class_of_chunk self.now.state chunk).free }
+        ensures chunk { result ≡ behind chunk (class_of_chunk self.now.state chunk).free }
+        ensures accounted { IsAccounted self.now.state }
     {
         let rows = &self.rows;
         rows.next(ListName::Free(self.class_place(chunk.page)), chunk)
@@ -138,24 +144,27 @@ impl Slabs {
     /// The oldest chunk of the class's hand-out order. None where nothing is handed out.
     pub fn first_out(&self, class: ClassId) -> Option<ChunkId>
         requires { IsClass self.now.state class }
-        ensures { result ≡ slice_get (class_at self.now.state class).order 0 }
+        ensures chunk { result ≡ slice_get (class_at self.now.state class).order 0 }
+        ensures accounted { IsAccounted self.now.state }
     {
-        self.rows.first(ListName::Out(class as usize - 1))
+        self.rows.first(ListName::HandedOut(class as usize - 1))
     }
 
     /// The chunk behind a handed-out one in the hand-out order of its class. None behind the youngest.
     pub fn next_out(&self, chunk: ChunkId) -> Option<ChunkId>
         requires { Contains (class_of_chunk self.now.state chunk).order chunk }
-        ensures { result ≡ behind chunk (class_of_chunk self.now.state chunk).order }
+        ensures chunk { result ≡ behind chunk (class_of_chunk self.now.state chunk).order }
+        ensures accounted { IsAccounted self.now.state }
     {
         let rows = &self.rows;
-        rows.next(ListName::Out(self.class_place(chunk.page)), chunk)
+        rows.next(ListName::HandedOut(self.class_place(chunk.page)), chunk)
     }
 
     /// The chunk at this place of the class's free list: 0 is handed out next. None past its end. It walks to it.
     pub fn free_at(&self, class: ClassId, place: u64) -> Option<ChunkId>
         requires { IsClass self.now.state class }
-        ensures { result ≡ slice_get (class_at self.now.state class).free place }
+        ensures chunk { result ≡ slice_get (class_at self.now.state class).free place }
+        ensures accounted { IsAccounted self.now.state }
     {
         self.rows.at(ListName::Free(class as usize - 1), place)
     }
@@ -163,9 +172,10 @@ impl Slabs {
     /// The chunk at this place of the class's hand-out order: 0 is the oldest. None past its end. It walks to it.
     pub fn order_at(&self, class: ClassId, place: u64) -> Option<ChunkId>
         requires { IsClass self.now.state class }
-        ensures { result ≡ slice_get (class_at self.now.state class).order place }
+        ensures chunk { result ≡ slice_get (class_at self.now.state class).order place }
+        ensures accounted { IsAccounted self.now.state }
     {
-        self.rows.at(ListName::Out(class as usize - 1), place)
+        self.rows.at(ListName::HandedOut(class as usize - 1), place)
     }
 }
 

@@ -1,10 +1,11 @@
 //! A page on its way from one class to another, or to the pool.
 ghost use Rattle.std.specs.Prelude.{◌≡◌, ◌^◌, ◌<◌, ◌≤◌, length, nat_lt, IfOk, OnOk, OnErr, None};
+ghost use Rattle.std.specs.Option.{ForSome};
 ghost use Rattle.mc_pages.specs.declared.ids.Moving.{Moving};
 ghost use Rattle.mc_pages.specs.SlabState.{IsClass, class_at};
 ghost use Rattle.mc_pages.specs.Answer.{answer_of, cursor_after, pick, MayAnswer};
 ghost use Rattle.mc_pages.specs.Moves.{first_page, after_begin, after_finish, after_passed, after_wrap, CanPass, CanWrap, CanFinish};
-ghost use Rattle.mc_pages.specs.Accounted.{IsAccounted};
+ghost use Rattle.mc_pages.specs.Accounted.{IsAccounted, IsMove};
 
 use super::Slabs;
 use crate::ids::{ChunkId, Moving};
@@ -15,7 +16,9 @@ use mc_classes::{ClassId, PageId};
 impl Slabs {
     /// The move that runs, if one does.
     pub fn moving(&self) -> Option<Moving>
-        ensures { result ≡ self.now.state.moving }
+        ensures moving { result ≡ self.now.state.moving }
+        ensures is_move { ForSome result (λ move. IsMove self.now.state move) }
+        ensures accounted { IsAccounted self.now.state }
     {
         self.moving
     }
@@ -29,6 +32,7 @@ impl Slabs {
         ensures began { OnOk result (IfOk (answer_of self.old.state src dst) (λ source. self.new.state ≡ after_begin self.old.state src source dst)) }
         ensures refused { OnErr result (self.new.state ≡ self.old.state) }
         ensures accounted { IsAccounted self.new.state }
+        ensures writes { self.new.writes ≡ self.old.writes }
     {
         let source = self.source(src, dst)?;
         let page = self.first_page(source);
@@ -61,6 +65,7 @@ impl Slabs {
         requires cleared { (move : Moving) × CanFinish self.old.state move }
         ensures finished { self.new.state ≡ after_finish self.old.state self.old.state.moving }
         ensures accounted { IsAccounted self.new.state }
+        ensures writes { self.new.writes ≡ self.old.writes }
     {
         let Some(moving) = self.moving else {
             return;
@@ -86,6 +91,7 @@ impl Slabs {
         requires { (move : Moving) × CanPass self.old.state found move }
         ensures passed { self.new.state ≡ after_passed self.old.state found }
         ensures accounted { IsAccounted self.new.state }
+        ensures writes { self.new.writes ≡ self.old.writes }
     {
         self.rescues = self.rescues.saturating_add(found.rescued());
         self.evictions_nomem = self.evictions_nomem.saturating_add(found.evicted());
@@ -101,6 +107,7 @@ impl Slabs {
         requires { (move : Moving) × CanWrap self.old.state move }
         ensures wrapped { self.new.state ≡ after_wrap self.old.state }
         ensures accounted { IsAccounted self.new.state }
+        ensures writes { self.new.writes ≡ self.old.writes }
     {
         if let Some(moving) = &mut self.moving {
             self.busy = self.busy.saturating_add(moving.busy);

@@ -43,6 +43,7 @@ impl Slabs {
         ensures no_room { (result ≡ Err Grow.NoRoom) ↔ (next_page self.old.state ≡ None) }
         ensures refused { OnErr result (self.new.state ≡ self.old.state) }
         ensures accounted { IsAccounted self.new.state }
+        ensures writes { self.new.writes ≡ self.old.writes }
     {
         let page = self.next_page().ok_or(Grow::NoRoom)?;
         self.ledger.reserve(1 + usize::from(self.moving.is_some()))?;

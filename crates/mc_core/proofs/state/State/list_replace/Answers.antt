@@ -2,7 +2,7 @@ use Rattle.std.proofs.Common.{◌≡◌, true, sym, subst}
 use Rattle.mc_pages.specs.SlabState.{class_of_chunk}
 use Rattle.mc_core.specs.InOrder.{state_of}
 use Rattle.mc_core.specs.State.{State}
-use Rattle.mc_core.specs.Silent.{is_among, is_out_of_class}
+use Rattle.mc_core.specs.Silent.{is_among, is_handed_out}
 use Rattle.mc_core.proofs.OfTable.{replace_shape}
 use Rattle.mc_core.proofs.Listed.{Contains_from_among}
 use Rattle.mc_core.proofs.Kept.{changed}
@@ -15,7 +15,7 @@ replace-requires-clause-free c =
 
 pub replace-requires-clause-handed_out : goal.replace-requires-clause-handed_out
 replace-requires-clause-handed_out c =
-    Contains_from_among _ c.args.old (subst (λ (state : State). is_out_of_class state.slabs c.args.old ≡ true) (sym c.self.view_is) c.requires.handed_out)
+    Contains_from_among _ c.args.old (subst (λ (state : State). is_handed_out state.slabs c.args.old ≡ true) (sym c.self.view_is) c.requires.handed_out)
 
 pub invariant_of-self : goal.invariant_of-self
 invariant_of-self c =

@@ -1,7 +1,7 @@
 use Rattle.std.proofs.Common.{◌≡◌, true, sym, subst}
 use Rattle.mc_core.specs.InOrder.{state_of}
 use Rattle.mc_core.specs.State.{State}
-use Rattle.mc_core.specs.Silent.{is_out_of_class}
+use Rattle.mc_core.specs.Silent.{is_handed_out}
 use Rattle.mc_core.proofs.OfTable.{touch_shape}
 use Rattle.mc_core.proofs.Listed.{Contains_from_among}
 use Rattle.mc_core.proofs.Kept.{changed}
@@ -9,7 +9,7 @@ use Rattle.mc_core.proofs.state.State.list_touch.Goals as goal
 
 pub touch-requires : goal.touch-requires
 touch-requires c =
-    Contains_from_among _ c.args.chunk (subst (λ (state : State). is_out_of_class state.slabs c.args.chunk ≡ true) (sym c.self.view_is) c.requires)
+    Contains_from_among _ c.args.chunk (subst (λ (state : State). is_handed_out state.slabs c.args.chunk ≡ true) (sym c.self.view_is) c.requires)
 
 pub invariant_of-self : goal.invariant_of-self
 invariant_of-self c = changed (state_of c.self.inside) c.touch.new.self.state _ c.self.invariant c.touch.ensures.touched (touch_shape c.self.inside.slabs.state c.args.chunk) c.touch.ensures.accounted

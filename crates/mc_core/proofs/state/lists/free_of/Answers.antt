@@ -7,10 +7,10 @@ pub loop-chunk-preserved : goal.loop-chunk-preserved
 loop-chunk-preserved c =
     let chunks = (class_at c.args.slabs.now.state c.args.class).free in
     copied_more chunks c.loop-chunk.chunks.items c.push.new.self.items (vec_len c.loop-chunk.chunks) (vec_len c.push.new.self) c.in-Some.chunk c.loop-chunk.invariant.0
-    (ap (slice_get chunks) (sym c.len.ensures) ∙ sym c.free_at.ensures ∙ c.in-Some.is) c.in_ok-push.ensures.items c.in_ok-push.ensures.len
+    (ap (slice_get chunks) (sym c.len.ensures) ∙ sym c.free_at.ensures.chunk ∙ c.in-Some.is) c.in_ok-push.ensures.items c.in_ok-push.ensures.len
 
 pub returns : goal.returns
 returns c =
     let chunks = (class_at c.args.slabs.now.state c.args.class).free in
     copied_all chunks c.loop-chunk.chunks.items (vec_len c.loop-chunk.chunks) c.loop-chunk.invariant.0
-    (ap (slice_get chunks) (sym c.len.ensures) ∙ sym c.free_at.ensures ∙ c.in_default.is)
+    (ap (slice_get chunks) (sym c.len.ensures) ∙ sym c.free_at.ensures.chunk ∙ c.in_default.is)

@@ -49,7 +49,7 @@ returns-else-is_free-clause-looked c =
     let valid : IsClass c.self.inside.slabs.state (class_of_page c.self.inside.slabs.state c.args.chunk.page) = rw own class in
     let empty : item_at c.self.inside.items.entries c.args.chunk ≡ None = rw (ap (λ (m : Machine). m.items) c.self.view_is) c.requires.empty in
     let order : times c.args.chunk (class_at c.self.inside.slabs.state c.args.class).order ≡ 0 = rw own at (not_handed _ _ _ _ c.args.chunk c.self.invariant.kept empty valid) in
-    let free : times c.args.chunk (class_at c.self.inside.slabs.state c.args.class).free ≡ 0 = let none = rw own at c.is_free.ensures in grind (arith, nat_tests, none, c.if-is_free.false) in
+    let free : times c.args.chunk (class_at c.self.inside.slabs.state c.args.class).free ≡ 0 = let none = rw own at c.is_free.ensures.free in grind (arith, nat_tests, none, c.if-is_free.false) in
     let cleared : is_cleared c.args.self.now.slabs c.args.class c.args.chunk ≡ true
     = rw (← slabs) (cleared_there _ _ _ c.self.invariant.kept.accounted class cut free order) in
     rw cleared refl
@@ -63,7 +63,7 @@ returns-else-is_free-clause-clears c =
     let valid : IsClass c.self.inside.slabs.state (class_of_page c.self.inside.slabs.state c.args.chunk.page) = rw own class in
     let empty : item_at c.self.inside.items.entries c.args.chunk ≡ None = rw (ap (λ (m : Machine). m.items) c.self.view_is) c.requires.empty in
     let order : times c.args.chunk (class_at c.self.inside.slabs.state c.args.class).order ≡ 0 = rw own at (not_handed _ _ _ _ c.args.chunk c.self.invariant.kept empty valid) in
-    let free : times c.args.chunk (class_at c.self.inside.slabs.state c.args.class).free ≡ 0 = let none = rw own at c.is_free.ensures in grind (arith, nat_tests, none, c.if-is_free.false) in
+    let free : times c.args.chunk (class_at c.self.inside.slabs.state c.args.class).free ≡ 0 = let none = rw own at c.is_free.ensures.free in grind (arith, nat_tests, none, c.if-is_free.false) in
     rw (← slabs) (cleared_there _ _ _ c.self.invariant.kept.accounted class cut free order)
 
 pub returns-then-is_free-clause-clears : goal.returns-then-is_free-clause-clears
@@ -71,7 +71,7 @@ returns-then-is_free-clause-clears c =
     let slabs = ap (λ (m : Machine). m.slabs) c.self.view_is in
     let cut : is_cut c.self.inside.slabs.state c.args.class c.args.chunk ≡ true = rw slabs c.requires.cut in
     let own : class_of_page c.self.inside.slabs.state c.args.chunk.page ≡ c.args.class = own_from_cut c.self.inside.slabs.state c.args.class c.args.chunk cut in
-    let free : 1 ≤ times c.args.chunk (class_at c.self.inside.slabs.state c.args.class).free = let some = rw own at c.is_free.ensures in grind (arith, nat_tests, some, c.if-is_free.true) in
+    let free : 1 ≤ times c.args.chunk (class_at c.self.inside.slabs.state c.args.class).free = let some = rw own at c.is_free.ensures.free in grind (arith, nat_tests, some, c.if-is_free.true) in
     let placed : 1 ≤ places_in c.self.inside.slabs.state (class_of_page c.self.inside.slabs.state c.args.chunk.page) c.args.chunk = rw own (omega (arith, free)) in
     let cleared = cleared_after c.self.inside.slabs.state c.args.chunk c.self.invariant.kept.accounted (rw c.clear.ensures.cleared at c.clear.ensures.accounted) placed in
     rw c.clear.ensures.cleared (ap (λ n. is_cleared (after_clear c.self.inside.slabs.state c.args.chunk) n c.args.chunk) (sym own) ∙ cleared)

@@ -5,4 +5,4 @@ pub returns-in-Ok : goal.returns-in-Ok
 returns-in-Ok g c =
     rw (← c.self.view_is)
     (ap (λ (v : Vec ℕ Global). v.items) c.into_text.ensures
-    ∙ (rw (c.totals-totals.ensures, c.is_some-running.ensures, c.moving.ensures, c.new-reply.ensures.text, c.replace.ensures.value) at c.in-Ok.ensures.bytes))
+    ∙ (rw (c.totals-totals.ensures.totals, c.is_some-running.ensures, c.moving.ensures.moving, c.new-reply.ensures.text, c.replace.ensures.value) at c.in-Ok.ensures.bytes))

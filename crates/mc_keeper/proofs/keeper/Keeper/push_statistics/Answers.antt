@@ -18,7 +18,7 @@ returns-in-Ok g c =
       c.in_ok-counts.ensures.pages,
       c.in_ok-counts.ensures.free,
       ← c.self.view_is,
-      c.totals.ensures,
+      c.totals.ensures.totals,
       c.page.ensures.page,
       c.new-reply.ensures.text,
       c.replace.ensures.value,

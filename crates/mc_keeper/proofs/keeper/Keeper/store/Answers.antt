@@ -11,23 +11,23 @@ pub returns-in_ok-ask_for_page-in-Some-clause-after :
     goal.returns-in_ok-ask_for_page-in-Some-clause-after
 returns-in_ok-ask_for_page-in-Some-clause-after c =
     let head : supply c.args.self.now c.args.class ≡ Some c.in-Some.chunk
-    = sym (ap (λ (m : Machine). first_free (class_at m.slabs c.args.class)) (c.self.view_is ∙ c.in_ok-evicted.ensures.after)) ∙ sym c.in-Some.ensures in
+    = sym (ap (λ (m : Machine). first_free (class_at m.slabs c.args.class)) (c.self.view_is ∙ c.in_ok-evicted.ensures.after)) ∙ sym c.in-Some.ensures.chunk in
     stored_asking c.args.self.now _ _ _ c.args.class c.args.key c.args.words.items c.in-Some.chunk
     c.in_ok-evicted.ensures.after c.unlink.ensures.unlinked c.in_ok-put-in-Some.ensures.put head
     c.ask_for_page.new.self (sym c.in_ok-evicted.ensures.evicted ∙ c.if-evicted.true)
-    (ap (λ (m : Machine). m.slabs.automove) (sym c.self-then-evicted.view_is) ∙ sym c.automove.ensures ∙ c.if-automove-eq2.true)
+    (ap (λ (m : Machine). m.slabs.automove) (sym c.self-then-evicted.view_is) ∙ sym c.automove.ensures.mode ∙ c.if-automove-eq2.true)
     c.in_ok-ask_for_page-in-Some.ensures
 
 pub returns-else-evicted-clause-after : goal.returns-else-evicted-clause-after
 returns-else-evicted-clause-after c =
     let head : supply c.args.self.now c.args.class ≡ Some c.in-Some.chunk
-    = sym (ap (λ (m : Machine). first_free (class_at m.slabs c.args.class)) (c.self.view_is ∙ c.in_ok-evicted.ensures.after)) ∙ sym c.in-Some.ensures in
+    = sym (ap (λ (m : Machine). first_free (class_at m.slabs c.args.class)) (c.self.view_is ∙ c.in_ok-evicted.ensures.after)) ∙ sym c.in-Some.ensures.chunk in
     elim c.else-evicted.branch [
       | else-evicted-via-then-evicted+else-automove-eq2 w ↦
           stored_in_mode c.args.self.now _ _ _ c.args.class c.args.key c.args.words.items c.in-Some.chunk
           c.in_ok-evicted.ensures.after c.unlink.ensures.unlinked c.in_ok-put-in-Some.ensures.put head
           (sym c.in_ok-evicted.ensures.evicted ∙ w.if-evicted.true)
-          (λ two. w.if-automove-eq2.false (w.automove.ensures ∙ ap (λ (m : Machine). m.slabs.automove) w.self-then-evicted.view_is ∙ two))
+          (λ two. w.if-automove-eq2.false (w.automove.ensures.mode ∙ ap (λ (m : Machine). m.slabs.automove) w.self-then-evicted.view_is ∙ two))
       | else-evicted-via-else-evicted w ↦
           stored_quietly c.args.self.now _ _ _ c.args.class c.args.key c.args.words.items c.in-Some.chunk
           c.in_ok-evicted.ensures.after c.unlink.ensures.unlinked c.in_ok-put-in-Some.ensures.put head

@@ -64,7 +64,7 @@ loop-next-smaller-then-is_dead c =
     = sweeps_on _ _ _ _ c.loop-next.invariant.class here.own (here.once c.in-Some.chunk) here.at c.loop-next.invariant.none
     (sym c.is_dead.ensures ∙ c.if-is_dead.true) in
     let next : c.next_out-next.result ≡ slice_get (class_at c.loop-next.self.slabs c.args.class).order (c.loop-next.invariant.place + 1)
-    = c.next_out-next.ensures ∙ ap (λ (m : Machine). behind c.in-Some.chunk (class_of_chunk m.slabs c.in-Some.chunk).order) c.self-in-Some.view_is ∙ here.next in
+    = c.next_out-next.ensures.chunk ∙ ap (λ (m : Machine). behind c.in-Some.chunk (class_of_chunk m.slabs c.in-Some.chunk).order) c.self-in-Some.view_is ∙ here.next in
     let long = ap (λ (n : Option ChunkId). length (rest_from n (class_at c.loop-next.self.slabs c.args.class).order)) c.in-Some.is
     ∙ rest_long (class_at c.loop-next.self.slabs c.args.class).order c.loop-next.invariant.place c.in-Some.chunk here.at (here.once c.in-Some.chunk) in
     let short = rest_short (class_at (after_reclaim c.loop-next.self c.in-Some.chunk).slabs c.args.class).order c.loop-next.invariant.place c.next_out-next.result
@@ -79,7 +79,7 @@ loop-next-preserved-then-is_dead c =
     = sweeps_on _ _ _ _ c.loop-next.invariant.class here.own (here.once c.in-Some.chunk) here.at c.loop-next.invariant.none
     (sym c.is_dead.ensures ∙ c.if-is_dead.true) in
     let next : c.next_out-next.result ≡ slice_get (class_at c.loop-next.self.slabs c.args.class).order (c.loop-next.invariant.place + 1)
-    = c.next_out-next.ensures ∙ ap (λ (m : Machine). behind c.in-Some.chunk (class_of_chunk m.slabs c.in-Some.chunk).order) c.self-in-Some.view_is ∙ here.next in
+    = c.next_out-next.ensures.chunk ∙ ap (λ (m : Machine). behind c.in-Some.chunk (class_of_chunk m.slabs c.in-Some.chunk).order) c.self-in-Some.view_is ∙ here.next in
     rw c.reclaim.ensures (record {
       place = c.loop-next.invariant.place;
       at = next ∙ sym on.behind;
@@ -94,7 +94,7 @@ loop-next-smaller c =
     let here : AtPlace c.loop-next.self c.args.class c.loop-next.invariant.place c.in-Some.chunk
     = at_place _ _ _ _ _ _ c.self-in-Some.invariant.kept c.self-in-Some.view_is c.loop-next.invariant.class (sym c.loop-next.invariant.at ∙ c.in-Some.is) in
     let next : c.next_out-next.result ≡ slice_get (class_at c.loop-next.self.slabs c.args.class).order (c.loop-next.invariant.place + 1)
-    = c.next_out-next.ensures ∙ ap (λ (m : Machine). behind c.in-Some.chunk (class_of_chunk m.slabs c.in-Some.chunk).order) c.self-in-Some.view_is ∙ here.next in
+    = c.next_out-next.ensures.chunk ∙ ap (λ (m : Machine). behind c.in-Some.chunk (class_of_chunk m.slabs c.in-Some.chunk).order) c.self-in-Some.view_is ∙ here.next in
     let long = ap (λ (n : Option ChunkId). length (rest_from n (class_at c.loop-next.self.slabs c.args.class).order)) c.in-Some.is
     ∙ rest_long (class_at c.loop-next.self.slabs c.args.class).order c.loop-next.invariant.place c.in-Some.chunk here.at (here.once c.in-Some.chunk) in
     let short = rest_short (class_at c.loop-next.self.slabs c.args.class).order (c.loop-next.invariant.place + 1) c.next_out-next.result next here.once in
@@ -105,7 +105,7 @@ loop-next-preserved c =
     let here : AtPlace c.loop-next.self c.args.class c.loop-next.invariant.place c.in-Some.chunk
     = at_place _ _ _ _ _ _ c.self-in-Some.invariant.kept c.self-in-Some.view_is c.loop-next.invariant.class (sym c.loop-next.invariant.at ∙ c.in-Some.is) in
     let next : c.next_out-next.result ≡ slice_get (class_at c.loop-next.self.slabs c.args.class).order (c.loop-next.invariant.place + 1)
-    = c.next_out-next.ensures ∙ ap (λ (m : Machine). behind c.in-Some.chunk (class_of_chunk m.slabs c.in-Some.chunk).order) c.self-in-Some.view_is ∙ here.next in
+    = c.next_out-next.ensures.chunk ∙ ap (λ (m : Machine). behind c.in-Some.chunk (class_of_chunk m.slabs c.in-Some.chunk).order) c.self-in-Some.view_is ∙ here.next in
     record {
       place = c.loop-next.invariant.place + 1;
       at = next;

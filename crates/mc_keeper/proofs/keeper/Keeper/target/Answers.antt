@@ -27,7 +27,7 @@ loop-next-smaller c =
     let here : FreeAt c.args.self.now c.args.class c.loop-next.invariant.place c.in-Some.free
     = found_free _ _ _ _ _ _ c.self.invariant.kept c.self.view_is c.requires (sym c.loop-next.invariant.at ∙ c.in-Some.is) in
     let next : c.next_free-next.result ≡ slice_get (class_at c.args.self.now.slabs c.args.class).free (c.loop-next.invariant.place + 1)
-    = c.next_free-next.ensures ∙ ap (λ (m : Machine). behind c.in-Some.free (class_of_chunk m.slabs c.in-Some.free).free) c.self.view_is ∙ here.next in
+    = c.next_free-next.ensures.chunk ∙ ap (λ (m : Machine). behind c.in-Some.free (class_of_chunk m.slabs c.in-Some.free).free) c.self.view_is ∙ here.next in
     let left = ap (λ (n : Option ChunkId). length (rest_from n (class_at c.args.self.now.slabs c.args.class).free)) c.in-Some.is in
     omega (arith, left, here.smaller c.next_free-next.result next)
 
@@ -36,7 +36,7 @@ loop-next-preserved c =
     let here : FreeAt c.args.self.now c.args.class c.loop-next.invariant.place c.in-Some.free
     = found_free _ _ _ _ _ _ c.self.invariant.kept c.self.view_is c.requires (sym c.loop-next.invariant.at ∙ c.in-Some.is) in
     let next : c.next_free-next.result ≡ slice_get (class_at c.args.self.now.slabs c.args.class).free (c.loop-next.invariant.place + 1)
-    = c.next_free-next.ensures ∙ ap (λ (m : Machine). behind c.in-Some.free (class_of_chunk m.slabs c.in-Some.free).free) c.self.view_is ∙ here.next in
+    = c.next_free-next.ensures.chunk ∙ ap (λ (m : Machine). behind c.in-Some.free (class_of_chunk m.slabs c.in-Some.free).free) c.self.view_is ∙ here.next in
     let on : not (c.in-Some.free.page == c.args.page) ≡ false = grind (arith, nat_tests) in
     record {
       place = c.loop-next.invariant.place + 1;

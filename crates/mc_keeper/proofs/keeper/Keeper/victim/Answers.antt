@@ -10,7 +10,7 @@ pub returns-then-is_idle : goal.returns-then-is_idle
 returns-then-is_idle c =
     let m : Machine = c.args.self.now in
     let at : slice_get (class_at m.slabs c.args.class).order c.loop-place.place ≡ Some c.in_ok-chunk.chunk
-    = rw (← c.self.view_is) (sym c.in_ok-chunk.ensures) in
+    = rw (← c.self.view_is) (sym c.in_ok-chunk.ensures.chunk) in
     sym (find_here (is_idle m) (class_at m.slabs c.args.class).order c.loop-place.place eviction_tries c.in_ok-chunk.chunk at c.loop-place.invariant
     (sym c.is_idle.ensures ∙ c.if-is_idle.true) c.loop-place-test.true)
 

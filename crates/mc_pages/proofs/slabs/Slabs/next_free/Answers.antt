@@ -7,7 +7,7 @@ use Rattle.mc_pages.specs.InOrder.{slabs_of}
 use Rattle.mc_pages.proofs.Chunks.{times_from_Contains}
 use Rattle.mc_pages.proofs.HandedOut.{IsClass-placed}
 use Rattle.mc_pages.proofs.RoomySlabs.{lists_at}
-use Rattle.mc_pages.proofs.Roomy.{same_state}
+use Rattle.mc_pages.proofs.Roomy.{same_state, accounted_there}
 use Rattle.mc_pages.proofs.slabs.Slabs.next_free.Goals as goal
 
 -- the chunk is in the list
@@ -36,11 +36,14 @@ next-requires-clause-there c =
     let at = c.class_place.ensures ∙ ap (place_in c.args.chunk) (sym (same_state c.self.view_is)) in
     subst (λ (chunks : List ChunkId). Contains chunks c.args.chunk) (sym (lists_at c.self.inside (class_of_page slabs c.args.chunk.page) _ is at).0) there
 
-pub returns : goal.returns
-returns c =
+pub returns-clause-chunk : goal.returns-clause-chunk
+returns-clause-chunk c =
     let slabs = slabs_of c.self.inside in
     let there = subst (IsThere c.args.chunk) (sym (same_state c.self.view_is)) c.requires in
     let is = is_class slabs c.args.chunk c.self.invariant.order.accounted there in
     let at = c.class_place.ensures ∙ ap (place_in c.args.chunk) (sym (same_state c.self.view_is)) in
     c.next.ensures ∙ (ap (behind c.args.chunk) (lists_at c.self.inside (class_of_page slabs c.args.chunk.page) _ is at).0
     ∙ ap (λ (s : SlabState). behind c.args.chunk (class_of_chunk s c.args.chunk).free) (same_state c.self.view_is))
+
+pub returns-clause-accounted : goal.returns-clause-accounted
+returns-clause-accounted c = accounted_there c.self.inside c.self.view_is c.self.invariant

@@ -5,7 +5,7 @@ use Rattle.mc_pages.specs.ClassState.{ClassState, numbers_of}
 use Rattle.mc_pages.specs.SlabState.{SlabState, IsClass, class_at}
 use Rattle.mc_pages.specs.InOrder.{slabs_of}
 use Rattle.mc_pages.proofs.RoomySlabs.{length-classes, IsPlace-class, lists_at, read_state}
-use Rattle.mc_pages.proofs.Roomy.{same_state}
+use Rattle.mc_pages.proofs.Roomy.{same_state, accounted_there}
 use Rattle.mc_pages.proofs.slabs.Slabs.numbers.Goals as goal
 
 pub index-slab-requires : goal.index-slab-requires
@@ -18,8 +18,8 @@ length-requires c =
     let is = subst (λ (s : SlabState). IsClass s c.args.class) (sym (same_state c.self.view_is)) c.requires in
     (IsPlace-class c.self.inside c.args.class _ c.self.invariant is refl).0
 
-pub returns : goal.returns
-returns c =
+pub returns-clause-numbers : goal.returns-clause-numbers
+returns-clause-numbers c =
     let is = subst (λ (s : SlabState). IsClass s c.args.class) (sym (same_state c.self.view_is)) c.requires in
     let read = read_state c.self.inside c.args.class _ _ is refl c.index-slab.ensures in
     let pages = c.page_count.ensures ∙ ap (λ (class : ClassState). length class.pages) read in
@@ -29,3 +29,6 @@ returns c =
     ap₂ (λ (p f : ℕ). made p f c.evictions.result) pages free
     ∙ (ap (λ (e : ℕ). record (numbers_of (class_at (slabs_of c.self.inside) c.args.class)) { evictions = e }) evictions
     ∙ ap (λ (s : SlabState). numbers_of (class_at s c.args.class)) (same_state c.self.view_is))
+
+pub returns-clause-accounted : goal.returns-clause-accounted
+returns-clause-accounted c = accounted_there c.self.inside c.self.view_is c.self.invariant

@@ -11,11 +11,11 @@ use Rattle.mc_pages.proofs.slabs.Slabs.pick.Goals as goal
 
 pub overflow_add-self-inside : goal.overflow_add-self-inside
 overflow_add-self-inside c =
-    omega (arith, c.self.invariant.order.cursor.1, c.class_count-count.ensures.count, c.class_count-count.ensures.below, ap (λ (s : SlabState). length s.classes) (same_state c.self.view_is))
+    omega (arith, c.self.invariant.order.accounted.cursor.1, c.class_count-count.ensures.count, c.class_count-count.ensures.below, ap (λ (s : SlabState). length s.classes) (same_state c.self.view_is))
 
 pub overflow_add-self-inside-2 : goal.overflow_add-self-inside-2
 overflow_add-self-inside-2 c =
-    omega (arith, c.self.invariant.order.cursor.1, c.class_count-count.ensures.count, c.class_count-count.ensures.below, ap (λ (s : SlabState). length s.classes) (same_state c.self.view_is))
+    omega (arith, c.self.invariant.order.accounted.cursor.1, c.class_count-count.ensures.count, c.class_count-count.ensures.below, ap (λ (s : SlabState). length s.classes) (same_state c.self.view_is))
 
 pub returns : goal.returns
 returns c =

@@ -5,7 +5,7 @@ use Rattle.mc_pages.proofs.slabs.Slabs.set_automove.Goals as goal
 pub invariant_of-self : goal.invariant_of-self
 invariant_of-self c =
     record {
-      order = IsInOrder-automove (slabs_of c.self.inside) c.self.inside.granted c.args.mode c.self.invariant.order;
+      order = IsInOrder-automove (slabs_of c.self.inside) c.self.inside.granted c.args.mode c.requires c.self.invariant.order;
       ledger = c.self.invariant.ledger;
       pool = c.self.invariant.pool;
       classes = c.self.invariant.classes;

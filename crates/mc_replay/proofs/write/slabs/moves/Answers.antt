@@ -7,5 +7,5 @@ use Rattle.mc_replay.proofs.write.slabs.moves.Goals as goal
 pub returns : goal.returns
 returns c =
     let slabs = c.args.slabs.now.state in
-    ends_with _ _ _ _ _ _ _ _ c.in_ok-moving.ensures (ap moving_text c.moving.ensures) c.totals-2.ensures
-    (ap (λ t. totals_line t c.automove.result) c.totals.ensures ∙ ap (totals_line (totals_of slabs)) c.automove.ensures)
+    ends_with _ _ _ _ _ _ _ _ c.in_ok-moving.ensures (ap moving_text c.moving.ensures.moving) c.totals-2.ensures
+    (ap (λ t. totals_line t c.automove.result) c.totals.ensures.totals ∙ ap (totals_line (totals_of slabs)) c.automove.ensures.mode)

@@ -7,4 +7,4 @@ use Rattle.mc_replay.proofs.write.slabs.owners.Goals as goal
 pub loop-page-preserved : goal.loop-page-preserved
 loop-page-preserved c =
     written_next (λ page. owner_line page (owner_at c.args.slabs.now.state.owners page)) c.loop-page.page _ _ _ _ c.loop-page.invariant c.in_ok-owner.ensures
-    (ap (owner_line c.loop-page.page) c.owner.ensures)
+    (ap (owner_line c.loop-page.page) c.owner.ensures.owner)

@@ -1,0 +1,8 @@
+use Rattle.mc_pages.proofs.Roomy.{accounted_there}
+use Rattle.mc_pages.proofs.slabs.Slabs.automove.Goals as goal
+
+pub returns-clause-accounted : goal.returns-clause-accounted
+returns-clause-accounted c = accounted_there c.self.inside c.self.view_is c.self.invariant
+
+pub returns-clause-at_most : goal.returns-clause-at_most
+returns-clause-at_most c = c.self.invariant.order.accounted.mode

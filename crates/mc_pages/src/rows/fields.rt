@@ -1,0 +1,170 @@
+//! The rows in memory, and the one call that writes a field of theirs.
+//!
+//! Nothing stands below this module, so that no other reaches what is private here: lists and calls write by `put`.
+ghost use Rattle.std.specs.Prelude.{◌≡◌, ℕ, ◌+◌, ◌*◌, ◌<◌, ◌≤◌, IfOk, length};
+ghost use Rattle.mc_pages.specs.Rows.{RowsState, IsChange, IsField, IsRow, IsList, field_of, with_change, row_at, row_place, length_of, lengthened, shortened, fresh_rows};
+
+use super::{Change, Field, ListName, Mark};
+use crate::ids::ChunkId;
+use crate::writes::Writes;
+use std::alloc::{AllocError, Global};
+use std::marker::Model;
+
+/// The chunks beside a chunk in its list. A list has a row of its own, where `next` is its head, `previous` its tail, and
+/// the mark says nothing.
+#[derive(Clone, Copy)]
+pub(crate) struct Row {
+    next: Option<ChunkId>,
+    previous: Option<ChunkId>,
+    mark: Mark,
+}
+
+/// A row for each chunk, and head, tail and length of each list. Fields are written one at a time, and contracts count
+/// how often, as `writes`. Lengths aren't counted.
+#[derive(Drop)]
+pub struct Rows {
+    /// The most chunks that a page has.
+    most: u64,
+    rows: Vec<Row>,
+    free: Vec<Row>,
+    handed_out: Vec<Row>,
+    free_lengths: Vec<u64>,
+    handed_out_lengths: Vec<u64>,
+    writes: Writes,
+}
+
+impl Model for Rows {
+    ghost use Rattle.mc_pages.specs.Rows.{RowsState};
+
+    ghost Value = { RowsState };
+
+    ghost use Rattle.mc_pages.specs.RowsInside.{rows_of, HasSpace};
+
+    ghost view = { rows_of };
+
+    ghost invariant = { HasSpace };
+}
+
+impl Rows {
+    /// Empty lists for so many classes, and rows for so many pages.
+    pub(crate) fn new(
+        alloc: Global,
+        most: u64,
+        pages: usize,
+        classes: usize,
+    ) -> Result<Rows, AllocError>
+        requires most { most ≤ 256 }
+        requires pages { pages ≤ 64 }
+        ensures { IfOk result (λ rows. rows ≡ fresh_rows most (pages * most) classes) }
+    {
+        let none = Row {
+            next: None,
+            previous: None,
+            mark: Mark::Unlisted,
+        };
+        Ok(Rows {
+            most,
+            rows: vec![in alloc; none; pages * most as usize]?,
+            free: vec![in alloc; none; classes]?,
+            handed_out: vec![in alloc; none; classes]?,
+            free_lengths: vec![in alloc; 0; classes]?,
+            handed_out_lengths: vec![in alloc; 0; classes]?,
+            writes: Writes::new(),
+        })
+    }
+
+    /// What the field holds.
+    pub(super) fn get(&self, field: Field) -> Option<ChunkId>
+        requires { IsField self.now field }
+        ensures { result ≡ field_of self.now field }
+    {
+        match field {
+            Field::Next(chunk) => self.rows[self.place(chunk)].next,
+            Field::Previous(chunk) => self.rows[self.place(chunk)].previous,
+            Field::Head(ListName::Free(class)) => self.free[class].next,
+            Field::Head(ListName::HandedOut(class)) => self.handed_out[class].next,
+            Field::Tail(ListName::Free(class)) => self.free[class].previous,
+            Field::Tail(ListName::HandedOut(class)) => self.handed_out[class].previous,
+        }
+    }
+
+    /// In which kind of list the chunk is.
+    pub(crate) fn mark(&self, chunk: ChunkId) -> Mark
+        requires { IsRow self.now chunk }
+        ensures { result ≡ (row_at self.now chunk).mark }
+    {
+        self.rows[self.place(chunk)].mark
+    }
+
+    /// Writes a field. No other call does.
+    pub(super) fn put(&mut self, change: Change)
+        requires { IsChange self.old change }
+        ensures { self.new ≡ with_change self.old change }
+    {
+        self.writes.add();
+        match change {
+            Change::Link(Field::Next(chunk), link) => {
+                let place = self.place(chunk);
+                self.rows[place].next = link;
+            }
+            Change::Link(Field::Previous(chunk), link) => {
+                let place = self.place(chunk);
+                self.rows[place].previous = link;
+            }
+            Change::Link(Field::Head(ListName::Free(class)), link) => self.free[class].next = link,
+            Change::Link(Field::Head(ListName::HandedOut(class)), link) =>
+                self.handed_out[class].next = link,
+            Change::Link(Field::Tail(ListName::Free(class)), link) => self.free[class].previous =
+                link,
+            Change::Link(Field::Tail(ListName::HandedOut(class)), link) =>
+                self.handed_out[class].previous = link,
+            Change::Mark(chunk, mark) => {
+                let place = self.place(chunk);
+                self.rows[place].mark = mark;
+            }
+        }
+    }
+
+    /// How many chunks the list has.
+    pub(crate) fn length(&self, list: ListName) -> u64
+        requires { IsList self.now list }
+        ensures { result ≡ length_of self.now list }
+    {
+        match list {
+            ListName::Free(class) => self.free_lengths[class],
+            ListName::HandedOut(class) => self.handed_out_lengths[class],
+        }
+    }
+
+    /// The list has one chunk more.
+    pub(super) fn lengthen(&mut self, list: ListName)
+        requires list { IsList self.old list }
+        requires below { length_of self.old list < 65536 }
+        ensures { self.new ≡ lengthened self.old list }
+    {
+        match list {
+            ListName::Free(class) => self.free_lengths[class] += 1,
+            ListName::HandedOut(class) => self.handed_out_lengths[class] += 1,
+        }
+    }
+
+    /// The list has one chunk less.
+    pub(super) fn shorten(&mut self, list: ListName)
+        requires list { IsList self.old list }
+        requires some { 1 ≤ length_of self.old list }
+        ensures { self.new ≡ shortened self.old list }
+    {
+        match list {
+            ListName::Free(class) => self.free_lengths[class] -= 1,
+            ListName::HandedOut(class) => self.handed_out_lengths[class] -= 1,
+        }
+    }
+
+    /// Where the chunk's row stands.
+    fn place(&self, chunk: ChunkId) -> usize
+        requires { IsRow self.now chunk }
+        ensures { result ≡ row_place self.now.most chunk }
+    {
+        (chunk.page * self.most + chunk.index) as usize
+    }
+}
