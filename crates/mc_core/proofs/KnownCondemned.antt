@@ -158,7 +158,7 @@ module _ (m : Moment) (hand kept spent : ℕ) (may : MayStep m hand (Join kept s
               | inr apart_too ↦
                   let row : row_of known' other ≡ row_of m.past.known other =
                   row_other (with_more m.past.known kept (row_of m.past.known spent)) spent other [] apart ∙ row_other m.past.known kept other (row_of m.past.known kept ++ row_of m.past.known spent) apart_too in
-                  All-weaker (IsOwn m.past.known other) (IsOwn known' other) (λ holding own stale. subst (λ (r : List Known). Contains r (known_by holding)) (sym row) (own stale)) (row_of m.state.holdings other) (lawful.known.own other)
+                  All-weaker (IsOwn m.past.known other) (IsOwn known' other) (λ holding own stale. let (room, has) = own stale in (room, subst (λ (r : List Known). Contains r (known_by room holding)) (sym row) has)) (row_of m.state.holdings other) (lawful.known.own other)
             ]
       ]
 

@@ -46,6 +46,7 @@ module _ (m : Moment) (l : IsLawful m) (chunk : ChunkId) (place word : ℕ) (pla
     whole = is.whole;
     older = is.older;
     shows = λ out. shows_filled k.chunk k.words (placed_at m l k.chunk k.issue is.inside out).0 (other out) (is.shows out);
+    room = is.room;
     apart = apart;
   }
 

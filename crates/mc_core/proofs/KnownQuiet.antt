@@ -25,7 +25,7 @@ use Rattle.mc_core.proofs.KnownStill.{IsApartFrom, IsNoOlder, not_shown, still_t
 
 -- the hand knows the item, if the holding is a reference
 abbrev pub IsOwn : List (List Known) → ℕ → Holding → Type 0
-IsOwn known hand holding = is_fresh holding ≡ false → Contains (row_of known hand) (known_by holding)
+IsOwn known hand holding = is_fresh holding ≡ false → (room : ℕ) × Contains (row_of known hand) (known_by room holding)
 
 -- each linked chunk is known to some hand
 abbrev pub AreLinkedKnown : Classes → List Head → List (List Known) → Type 0
