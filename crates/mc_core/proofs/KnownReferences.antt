@@ -46,8 +46,8 @@ module _ (m : Moment) (l : IsLawful m) (chunk : ChunkId) (near : has_chunk m.sta
       let here : Shows m.state.table m.state.slabs m.state.words chunk k.words = subst (λ (c : ChunkId). Shows m.state.table m.state.slabs m.state.words c k.words) same.0 shown in
       let words : k.words ≡ item_at m.state chunk = sym (shown_item m.state chunk k.words here whole) in
       let room : k.room ≡ room_at m.state chunk =
-          sym (still.room (subst (λ (c : ChunkId). IsHandedOut (head_in m.state.table m.state.heads c) k.issue) (sym same.0) (inr linked, sym same.1)))
-          ∙ ap (λ (c : ChunkId). room_in m.state.table (class_of_page m.state.slabs c.page)) same.0 in
+      sym (still.room (subst (λ (c : ChunkId). IsHandedOut (head_in m.state.table m.state.heads c) k.issue) (sym same.0) (inr linked, sym same.1)))
+      ∙ ap (λ (c : ChunkId). room_in m.state.table (class_of_page m.state.slabs c.page)) same.0 in
       (hand, k, has, λ i. record { chunk = same.0 i; issue = same.1 i; room = room i; words = words i })
 
   -- so what holds of each known item holds of it
