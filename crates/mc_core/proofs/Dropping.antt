@@ -1,5 +1,5 @@
 -- A holding is given up, an item is unlinked or taken away: counts and holdings stay as the law says.
-use Rattle.std.proofs.Common.{◌≡◌, ◌⊎◌, ℕ, ◌<◌, ◌==◌, Bool, true, false, List, length, find, Option, Some, None, refl, sym, ap, ◌∙◌, arith, subst, slice_set, inl, inr, eqb-true}
+use Rattle.std.proofs.Common.{◌≡◌, ◌⊎◌, ℕ, ◌<◌, ◌==◌, Bool, true, false, List, length, Option, Some, None, refl, sym, ap, ◌∙◌, arith, subst, slice_set, inl, inr, eqb-true}
 use Rattle.std.proofs.lemmas.Bool.{and_parts}
 use Rattle.mc_pages.specs.declared.ids.ChunkId.{ChunkId}
 use Rattle.mc_pages.proofs.Chunks.{same_from_is_chunk}
@@ -10,18 +10,19 @@ use Rattle.mc_core.specs.declared.holding.Holding.{Holding}
 use Rattle.mc_core.specs.declared.holding.Kind.{Kind}
 use Rattle.mc_core.specs.declared.holding.Kind.TheVariants.{Reference, Fresh}
 use Rattle.mc_core.specs.Head.{is_linked}
-use Rattle.mc_core.specs.Holdings.{Words, is_of, is_fresh, is_fresh_kind, is_copy_kind, is_copy_of, has_fresh, holding_of}
-use Rattle.mc_core.specs.State.{has_chunk, head_place, head_at, with_head, item_at, is_hand, has_slabs, stripe_of, stripe_at, has_stripe, holdings_at, without_holding}
+use Rattle.mc_core.specs.Holdings.{Words, is_of, is_fresh_kind, is_copy_kind, is_copy_of, has_fresh, holding_of}
+use Rattle.mc_core.specs.State.{has_chunk, head_place, head_at, with_head, item_at, is_hand, has_slabs, stripe_of, stripe_at, has_stripe, holdings_at}
 use Rattle.mc_core.specs.Silent.{writer_of}
 use Rattle.mc_core.specs.Chunks.{let_go, holds_as, after_drop}
 use Rattle.mc_core.specs.Items.{unlinked, chunk_of, is_linked_at, can_unlink, stripe_unlinked, with_unlinked, after_unlink}
-use Rattle.mc_core.specs.Evictions.{condemned, is_idle, key_at, can_take_away, has_copy, has_reason, can_condemn, as_rescue, with_rescue, copy_of, with_told, after_condemn}
+use Rattle.mc_core.specs.Evictions.{condemned, is_idle, key_at, can_take_away, has_copy, has_reason, can_condemn, as_rescue, after_condemn}
 use Rattle.mc_core.specs.Columns.{Each, holders, link_of}
 use Rattle.mc_core.specs.Counts.{AreCounted, AreHeld}
 use Rattle.mc_core.specs.Past.{Moment}
 use Rattle.mc_core.specs.Lawful.{IsLawful}
 use Rattle.mc_core.proofs.Holders.{found_each, found_passes, hand_within, nobodys}
-use Rattle.mc_core.proofs.Rows.{rows_more, rows_less, each_less, each_more, less_none, most_less, most_swapped, less_here, less_other, less_le, stale_less, swapped}
+use Rattle.mc_core.proofs.Rows.{rows_less, each_less, most_less, less_here, less_other, stale_less}
+use Rattle.mc_core.proofs.Changed.{rows_changed, holders_changed, most_changed, each_changed}
 use Rattle.mc_core.proofs.Turns.{Turn, IsSo, each_so, held_from_so, turn_counted, turn_each, turn_so}
 use Rattle.mc_core.proofs.Entered.{tag_linked, entry_of}
 use Rattle.mc_core.proofs.Referring.{linked_stale}
@@ -138,69 +139,49 @@ module _ (m : Moment) (l : IsLawful m) (hand : ℕ) (there : is_hand m.state han
       issued = l.counted.issued chunk near;
     }
 
-    condemned_each : (now kept : List (List Holding)) (same : (other : ChunkId) → holders other now ≡ holders other rows) → holders chunk kept ≡ 0 → Each (IsSo m.state.table m.state.slabs m.state.heads m.state.words rows) kept →
-        Each (IsSo m.state.table m.state.slabs (slice_set m.state.heads (head_place m.state.table chunk) (condemned (head_at m.state chunk))) m.state.words now) kept
-    condemned_each now kept same none so =
-        turn_each m.state.table m.state.heads rows now chunk (condemned (head_at m.state chunk)) (condemned_turn now same) m.state.slabs m.state.slabs m.state.words (λ page. refl) kept
-        (λ i row inside j other on is. absurd (nobodys chunk kept none i row inside j other on is)) so
-
     abbrev heads_condemned : List Head
     heads_condemned = slice_set m.state.heads (head_place m.state.table chunk) (condemned (head_at m.state chunk))
 
-    none_tallied : AreCounted m.state.table heads_condemned rows × AreHeld m.state.table m.state.slabs heads_condemned m.state.words rows
-    none_tallied = (
-      turn_counted m.state.table m.state.heads rows rows chunk (condemned (head_at m.state chunk)) (condemned_turn rows (λ other. refl)) l.counted,
-      held_from_so m.state.table m.state.slabs heads_condemned m.state.words rows (condemned_each rows rows (λ other. refl) nobody each) l.held.most,
-    )
-
-    -- the copy is bound to the item
-    module _ (item : Words) (copy : Holding) (found : find (is_copy_of chunk) (holdings_at m.state hand) ≡ Some copy) where
-      abbrev kept : List (List Holding)
-      kept = rows_less rows hand (is_copy_of chunk)
-
+    -- the copies are bound to the item
+    module _ (item : Words) where
       abbrev now : List (List Holding)
-      now = rows_more kept hand (as_rescue chunk item copy)
+      now = rows_changed rows hand (is_copy_of chunk) (as_rescue chunk item)
 
       same : (other : ChunkId) → holders other now ≡ holders other rows
-      same other = swapped rows hand within other (is_copy_of chunk) copy (as_rescue chunk item copy) found refl
+      same = holders_changed (is_copy_of chunk) (as_rescue chunk item) rows hand within (λ h. refl)
 
-      kept_none : holders chunk kept ≡ 0
-      kept_none = let less = less_le rows hand within chunk (is_copy_of chunk) copy found in let none = nobody in omega arith
+      -- a holding of another chunk
+      abbrev IsSoApart : Holding → Type 0
+      IsSoApart holding = IsSo m.state.table m.state.slabs m.state.heads m.state.words rows holding × (holding.chunk ≡ chunk → ⊥)
 
-      copy_fresh : is_fresh copy ≡ true
-      copy_fresh = fresh_copy copy.kind (found_passes (is_copy_of chunk) (holdings_at m.state hand) copy found)
-        where
-          fresh_copy : (kind : Kind) → is_copy_kind chunk kind ≡ true → is_fresh_kind kind ≡ true
-          fresh_copy Reference is = absurd (cc)
-          fresh_copy (Fresh purpose) is = refl
+      stays_so : (holding : Holding) → IsSoApart holding → IsSo m.state.table m.state.slabs heads_condemned m.state.words now holding
+      stays_so holding before =
+          turn_so m.state.table m.state.heads rows now chunk (condemned (head_at m.state chunk)) (condemned_turn now same) m.state.slabs m.state.slabs m.state.words (λ page. refl) holding (λ is. absurd (before.1 is)) before.0
 
-      copy_so : IsSo m.state.table m.state.slabs heads_condemned m.state.words now (as_rescue chunk item copy)
-      copy_so =
-          let before = found_each (IsSo m.state.table m.state.slabs m.state.heads m.state.words rows) rows hand (is_copy_of chunk) copy found each in
-          let quiet = found_each (λ h. h.chunk ≡ chunk → ⊥) rows hand (is_copy_of chunk) copy found (nobodys chunk rows nobody) in
-          let so = turn_so m.state.table m.state.heads rows now chunk (condemned (head_at m.state chunk)) (condemned_turn now same) m.state.slabs m.state.slabs m.state.words (λ page. refl) copy (λ is. absurd (quiet is)) before in
+      fresh_copy : (kind : Kind) → is_copy_kind chunk kind ≡ true → is_fresh_kind kind ≡ true
+      fresh_copy Reference is = absurd (cc)
+      fresh_copy (Fresh purpose) is = refl
+
+      bound_so : (holding : Holding) → is_copy_of chunk holding ≡ true → IsSoApart holding → IsSo m.state.table m.state.slabs heads_condemned m.state.words now (as_rescue chunk item holding)
+      bound_so holding copy before =
+          let so = stays_so holding before in
+          let fresh = fresh_copy holding.kind copy in
           record {
             inside = so.inside;
             issue = so.issue;
             shows = so.shows;
-            sized = ((λ fresh. so.sized.0 copy_fresh), λ stale. absurd (cc));
-            alone = λ fresh. so.alone copy_fresh;
+            sized = ((λ _. so.sized.0 fresh), λ stale. absurd (cc));
+            alone = λ _. so.alone fresh;
           }
 
-      some_tallied : AreCounted m.state.table heads_condemned now × AreHeld m.state.table m.state.slabs heads_condemned m.state.words now
-      some_tallied = (
+      bound_tallied : AreCounted m.state.table heads_condemned now × AreHeld m.state.table m.state.slabs heads_condemned m.state.words now
+      bound_tallied = (
         turn_counted m.state.table m.state.heads rows now chunk (condemned (head_at m.state chunk)) (condemned_turn now same) l.counted,
         held_from_so m.state.table m.state.slabs heads_condemned m.state.words now
-            (each_more kept hand (IsSo m.state.table m.state.slabs heads_condemned m.state.words now) (as_rescue chunk item copy)
-            (condemned_each now kept same kept_none (each_less rows hand (IsSo m.state.table m.state.slabs m.state.heads m.state.words rows) (is_copy_of chunk) each)) copy_so)
-            (most_swapped rows hand within (is_copy_of chunk) copy (as_rescue chunk item copy) found l.held.most),
+            (each_changed (is_copy_of chunk) (as_rescue chunk item) rows hand IsSoApart (IsSo m.state.table m.state.slabs heads_condemned m.state.words now) stays_so bound_so
+            (λ i row on j holding there. (each i row on j holding there, nobodys chunk rows nobody i row on j holding there)))
+            (most_changed (is_copy_of chunk) (as_rescue chunk item) rows hand within l.held.most),
       )
-
-    bound_tallied : (stripes : List ReadyStripe) (item : Words) (o : Option Holding) → find (is_copy_of chunk) (holdings_at m.state hand) ≡ o →
-        IsTallied (with_head (with_rescue (without_holding (record m.state { stripes = stripes }) hand (is_copy_of chunk)) hand chunk item o) chunk (condemned (head_at m.state chunk)))
-    bound_tallied stripes item None found =
-        subst (λ now. AreCounted m.state.table heads_condemned now × AreHeld m.state.table m.state.slabs heads_condemned m.state.words now) (sym (less_none rows hand (is_copy_of chunk) found)) none_tallied
-    bound_tallied stripes item (Some copy) found = some_tallied item copy found
 
   pub condemn_tallied : (chunk : ChunkId) → can_condemn m.state hand chunk ≡ true → IsTallied (after_condemn m.state hand chunk)
   condemn_tallied chunk can =
@@ -212,5 +193,4 @@ module _ (m : Moment) (l : IsLawful m) (hand : ℕ) (there : is_hand m.state han
       let idle = and_parts _ (is_idle (head_at m.state chunk)) has.0 in
       let near = and_parts (has_slabs m.state hand) (has_chunk m.state.table chunk) idle.0 in
       let both = and_parts (is_linked (head_at m.state chunk).tag) ((head_at m.state chunk).count == 1) idle.1 in
-      bound_tallied chunk near.1 (tag_linked (head_at m.state chunk).tag both.0) (eqb-true (head_at m.state chunk).count 1 both.1)
-      (with_told m.state hand chunk key).stripes (item_at m.state chunk) (copy_of m.state hand chunk) refl
+      bound_tallied chunk near.1 (tag_linked (head_at m.state chunk).tag both.0) (eqb-true (head_at m.state chunk).count 1 both.1) (item_at m.state chunk)

@@ -1,5 +1,5 @@
 -- A word of a fresh chunk is written: counts and holdings stay as the law says.
-use Rattle.std.proofs.Common.{◌≡◌, ℕ, zero, suc, ◌+◌, ◌<◌, true, List, [], ◌∷◌, length, set, Some, None, refl, sym, ap, ◌∙◌, arith, subst, nat_lt, All, slice_get, slice_set, slice_index, slice_index_or, inl, inr, ltb-true, length-set, get_or-set_same, get_or-set_other}
+use Rattle.std.proofs.Common.{◌≡◌, ℕ, zero, suc, ◌+◌, ◌<◌, ◌≤◌, true, List, [], ◌∷◌, length, set, Some, None, refl, sym, ap, ◌∙◌, arith, subst, nat_lt, All, slice_get, slice_set, slice_index, slice_index_or, inl, inr, ltb-true, length-set, get_or-set_same, get_or-set_other}
 use Rattle.std.proofs.lemmas.Bool.{and_parts, cases_eq, both_ways}
 use Rattle.std.proofs.lemmas.Option.{slice_get_within}
 use Rattle.std.proofs.lemmas.List.Elements.{All-from_get_or}
@@ -8,15 +8,16 @@ use Rattle.mc_pages.specs.SlabState.{class_of_page}
 use Rattle.mc_pages.proofs.Chunks.{same_from_is_chunk}
 use Rattle.mc_core.specs.declared.holding.Holding.{Holding}
 use Rattle.mc_core.specs.Holdings.{is_of, is_fresh, holding_of}
-use Rattle.mc_core.specs.State.{has_chunk, room_in, is_hand, holdings_at, without_holding, with_word}
-use Rattle.mc_core.specs.Chunks.{can_fill_in, can_fill, refilled, after_fill}
-use Rattle.mc_core.specs.Columns.{head_in, place_in, Each, holders, link_of}
+use Rattle.mc_core.specs.State.{has_chunk, room_in, is_hand, holdings_at}
+use Rattle.mc_core.specs.Chunks.{can_fill_in, can_fill, filled, after_fill}
+use Rattle.mc_core.specs.Columns.{head_in, place_in, Each, holds, holders, link_of}
 use Rattle.mc_core.specs.Counts.{AreCounted, AreHeld}
 use Rattle.mc_core.specs.Past.{Moment}
 use Rattle.mc_core.specs.Lawful.{IsLawful}
 use Rattle.mc_core.proofs.Base.{IsPlaced, placed_at, same_word, word_within, IsOut, held_out}
-use Rattle.mc_core.proofs.Holders.{found_each, found_passes, hand_within, fresh_lost, nobodys}
-use Rattle.mc_core.proofs.Rows.{rows_more, rows_less, each_less, each_more, most_swapped, swapped}
+use Rattle.mc_core.proofs.Holders.{found_each, found_passes, hand_within, fresh_lost, fresh_once, holds-le-holders, nobodys}
+use Rattle.mc_core.proofs.Rows.{rows_less, each_less}
+use Rattle.mc_core.proofs.Changed.{rows_changed, holders_changed, most_changed, each_changed_once}
 use Rattle.mc_core.proofs.Turns.{IsSo, each_so, held_from_so}
 use Rattle.mc_core.proofs.Tallied.{IsTallied}
 
@@ -66,14 +67,11 @@ module _ (m : Moment) (l : IsLawful m) where
     abbrev rows : List (List Holding)
     rows = m.state.holdings
 
-    abbrev filled : Holding
-    filled = record holding { words = slice_set holding.words place (Some word) }
-
     abbrev left : List (List Holding)
     left = rows_less rows hand (is_of chunk)
 
     abbrev now : List (List Holding)
-    now = rows_more left hand filled
+    now = rows_changed rows hand (is_of chunk) (filled place word)
 
     abbrev words' : List ℕ
     words' = slice_set m.state.words (place_in m.state.table m.state.slabs holding.chunk place) word
@@ -89,7 +87,7 @@ module _ (m : Moment) (l : IsLawful m) where
 
     -- each chunk is held as often as before, and this one by nobody else
     same : (other : ChunkId) → holders other now ≡ holders other rows
-    same other = swapped rows hand within other (is_of chunk) holding filled found refl
+    same = holders_changed (is_of chunk) (filled place word) rows hand within (λ h. refl)
 
     pub left_none : holders holding.chunk left ≡ 0
     left_none = fresh_lost m l hand there (is_of chunk) holding found fresh
@@ -124,7 +122,7 @@ module _ (m : Moment) (l : IsLawful m) where
     }
 
     -- the holding with the word
-    filled_so : IsSo m.state.table m.state.slabs m.state.heads words' now filled
+    filled_so : IsSo m.state.table m.state.slabs m.state.heads words' now (filled place word holding)
     filled_so = record {
       inside = so.inside;
       issue = so.issue;
@@ -150,25 +148,28 @@ module _ (m : Moment) (l : IsLawful m) where
     filled_tallied =
         let others = each_less rows hand (IsSo m.state.table m.state.slabs m.state.heads m.state.words rows) (is_of chunk) (each_so m.state.table m.state.slabs m.state.heads m.state.words rows l.held) in
         let outs = each_less rows hand (IsOut m l) (is_of chunk) out_each in
-        let apart = nobodys holding.chunk left left_none in (
+        let apart = nobodys holding.chunk left left_none in
+        let once = fresh_once m l hand (is_of chunk) holding found fresh in
+        let few = holds-le-holders holding.chunk rows hand in
+        let alone : holds chunk (holdings_at m.state hand) ≤ 1 = subst (λ c. holds c (holdings_at m.state hand) ≤ 1) filled_is (omega arith) in (
           counted,
           held_from_so m.state.table m.state.slabs m.state.heads words' now
-              (each_more left hand (IsSo m.state.table m.state.slabs m.state.heads words' now) filled
+              (each_changed_once rows hand chunk (filled place word) (IsSo m.state.table m.state.slabs m.state.heads words' now) holding found alone within
               (λ i row inside j other on.
               other_so (slice_index_or (slice_index_or left i row) j other) (apart i row inside j other on) (outs i row inside j other on) (others i row inside j other on)) filled_so)
-              (most_swapped rows hand within (is_of chunk) holding filled found l.held.most),
+              (most_changed (is_of chunk) (filled place word) rows hand within l.held.most),
         )
 
-    pub refilled_tallied : IsTallied (with_word (refilled (without_holding m.state hand (is_of chunk)) hand place word (Some holding)) chunk place word)
-    refilled_tallied =
+    pub after_fill_tallied : IsTallied (after_fill m.state hand chunk place word)
+    after_fill_tallied =
         subst (λ c. AreCounted m.state.table m.state.heads now × AreHeld m.state.table m.state.slabs m.state.heads (slice_set m.state.words (place_in m.state.table m.state.slabs c place) word) now) filled_is filled_tallied
 
   pub fill_tallied : (hand : ℕ) → is_hand m.state hand ≡ true → (chunk : ChunkId) (place word : ℕ) → can_fill m.state hand chunk place ≡ true → IsTallied (after_fill m.state hand chunk place word)
   fill_tallied hand there chunk place word can =
       elim (holding_of chunk (holdings_at m.state hand)) as (λ o. holding_of chunk (holdings_at m.state hand) ≡ o → can_fill_in place o ≡ true →
-      IsTallied (with_word (refilled (without_holding m.state hand (is_of chunk)) hand place word o) chunk place word)) [
+      IsTallied (after_fill m.state hand chunk place word)) [
         | None ↦ λ _ never. absurd (cc)
         | Some holding ↦ λ found may.
             let both = and_parts (is_fresh holding) (nat_lt place (length holding.words)) may in
-            refilled_tallied hand there chunk place word holding found both.0 (ltb-true place (length holding.words) both.1)
+            after_fill_tallied hand there chunk place word holding found both.0 (ltb-true place (length holding.words) both.1)
       ] refl can

@@ -32,7 +32,7 @@ per_page_most table class sound is =
     (le_trans (mul-le-mul_left (table.page / size_of table class) smaller) (div-mul-le_self table.page (size_of table class)))
 
 -- a page that a class has is one of the arena
-page_within : (slabs : SlabState) (page : ℕ) → 1 ≤ class_of_page slabs page → page < length slabs.owners
+pub page_within : (slabs : SlabState) (page : ℕ) → 1 ≤ class_of_page slabs page → page < length slabs.owners
 page_within slabs page some = elim (cases_lt page (length slabs.owners)) [
   | inl within ↦ within
   | inr past ↦ let none : class_of_page slabs page ≡ 0 = ap class_of_owner (get_or_past slabs.owners page Untouched past) in absurd (omega arith)

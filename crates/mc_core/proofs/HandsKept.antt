@@ -7,14 +7,11 @@ use Rattle.mc_core.specs.declared.event.Change.TheVariants.{Grow, BeginMove, Fin
 use Rattle.mc_core.specs.declared.event.Step.{Step}
 use Rattle.mc_core.specs.declared.event.Step.TheVariants as step
 use Rattle.mc_core.specs.declared.ids.Ids.{Ids}
-use Rattle.mc_core.specs.declared.holding.Holding.{Holding}
 use Rattle.mc_core.specs.declared.look.Look.{Look}
-use Rattle.mc_core.specs.Holdings.{Words, holding_of, is_of}
-use Rattle.mc_core.specs.State.{State, is_held_by, is_hand, number_at, holdings_at, has_slabs, without_holding, with_look}
+use Rattle.mc_core.specs.State.{State, is_held_by, is_hand, number_at, has_slabs, with_look}
 use Rattle.mc_core.specs.Locks.{looked}
-use Rattle.mc_core.specs.Chunks.{popped, popped_off, refilled, next_free, target_of}
+use Rattle.mc_core.specs.Chunks.{popped, popped_off, next_free, target_of}
 use Rattle.mc_core.specs.Items.{referred_to, with_unlinked, chunk_of, with_got}
-use Rattle.mc_core.specs.Evictions.{with_rescue, copy_of}
 use Rattle.mc_core.specs.Silent.{after_change}
 use Rattle.mc_core.specs.Run.{after_step}
 use Rattle.mc_core.specs.Identities.{AreHands, IsFreeOrHeld, number_in, stamps_in}
@@ -61,10 +58,6 @@ ids_popped_off : (s : State) (hand : ℕ) (old : ChunkId) (chunk : Option ChunkI
 ids_popped_off s hand old None = refl
 ids_popped_off s hand old (Some chunk) = refl
 
-ids_refilled : (s : State) (hand place word : ℕ) (holding : Option Holding) → SameIds s (refilled s hand place word holding)
-ids_refilled s hand place word None = refl
-ids_refilled s hand place word (Some holding) = refl
-
 ids_referred : (s : State) (hand : ℕ) (place : Option (ChunkId × ℕ)) → SameIds s (referred_to s hand place)
 ids_referred s hand None = refl
 ids_referred s hand (Some place) = refl
@@ -72,10 +65,6 @@ ids_referred s hand (Some place) = refl
 ids_unlinked : (s : State) (place : Option (ChunkId × ℕ)) → SameIds s (with_unlinked s place)
 ids_unlinked s None = refl
 ids_unlinked s (Some place) = refl
-
-ids_rescue : (s : State) (hand : ℕ) (old : ChunkId) (item : Words) (copy : Option Holding) → SameIds s (with_rescue s hand old item copy)
-ids_rescue s hand old item None = refl
-ids_rescue s hand old item (Some holding) = refl
 
 ids_looked : (s : State) (hand : ℕ) (look : Look) → SameIds s (looked s hand look)
 ids_looked s hand look = elim (has_slabs s hand) as (λ b. (cond b (with_look s hand look) s).ids ≡ s.ids) [ true ↦ refl | false ↦ refl ]
@@ -96,7 +85,7 @@ ids_step s hand (step.GiveStripe stripe) h = refl
 ids_step s hand (step.Head chunk) h = ids_looked s hand _
 ids_step s hand (step.Pop class) h = ids_popped _ hand (next_free s class)
 ids_step s hand (step.PopOff old) h = ids_popped_off s hand old (target_of s old.page)
-ids_step s hand (step.Fill chunk place word) h = ids_refilled (without_holding s hand (is_of chunk)) hand place word (holding_of chunk (holdings_at s hand))
+ids_step s hand (step.Fill chunk place word) h = refl
 ids_step s hand (step.Word chunk place) h = refl
 ids_step s hand (step.WordHeld chunk place) h = refl
 ids_step s hand (step.Link chunk) h = absurd (cc)
@@ -104,7 +93,7 @@ ids_step s hand (step.Refer key) h = ids_referred (with_got s hand key) hand (ch
 ids_step s hand (step.Unlink key) h = ids_unlinked _ (chunk_of s key)
 ids_step s hand (step.Release chunk) h = refl
 ids_step s hand (step.Discard chunk) h = refl
-ids_step s hand (step.Condemn chunk) h = ids_rescue _ hand chunk _ (copy_of s hand chunk)
+ids_step s hand (step.Condemn chunk) h = refl
 ids_step s hand (step.PutBack chunk) h = refl
 ids_step s hand (step.Clear chunk) h = refl
 ids_step s hand (step.Cut page index) h = refl

@@ -8,14 +8,13 @@ use Rattle.mc_stripe.specs.StripeState.{ReadyStripe, new_stripe, place_of}
 use Rattle.mc_stripe.specs.Changes.{after_got, used_up}
 use Rattle.mc_stripe.proofs.Entries.{at_without_entry}
 use Rattle.mc_core.specs.declared.head.Tag.TheVariants.{Unlinked, Linked}
-use Rattle.mc_core.specs.declared.holding.Holding.{Holding}
 use Rattle.mc_core.specs.Head.{is_linked}
-use Rattle.mc_core.specs.Holdings.{is_of, is_fresh, is_copy_of, has_fresh, holding_of}
-use Rattle.mc_core.specs.State.{has_chunk, head_place, head_at, with_head, word_at, item_at, has_slabs, has_stripe, stripe_of, stripe_at, holdings_at, without_holding, with_word}
+use Rattle.mc_core.specs.Holdings.{is_of, is_fresh, has_fresh, holding_of}
+use Rattle.mc_core.specs.State.{has_chunk, head_at, word_at, has_slabs, has_stripe, stripe_of, stripe_at, holdings_at}
 use Rattle.mc_core.specs.Silent.{writer_of}
-use Rattle.mc_core.specs.Chunks.{can_fill_in, can_fill, refilled, after_fill}
+use Rattle.mc_core.specs.Chunks.{can_fill_in, can_fill, after_fill}
 use Rattle.mc_core.specs.Items.{referred, chunk_of, can_refer_to, can_refer, referred_to, with_got, after_refer, is_linked_at, can_unlink, stripe_unlinked, unlinked, with_unlinked, after_unlink}
-use Rattle.mc_core.specs.Evictions.{condemned, is_idle, key_at, can_take_away, has_copy, has_reason, can_condemn, with_rescue, stripe_condemned, copy_of, with_told, after_condemn}
+use Rattle.mc_core.specs.Evictions.{condemned, is_idle, key_at, can_take_away, has_copy, has_reason, can_condemn, stripe_condemned, after_condemn}
 use Rattle.mc_core.specs.Columns.{head_in, place_in, Shows, holders}
 use Rattle.mc_core.specs.Indexed.{AreIndexed}
 use Rattle.mc_core.specs.Past.{Moment}
@@ -90,22 +89,15 @@ module _ (m : Moment) (l : IsLawful m) (hand : ℕ) where
       let near = and_parts (has_slabs m.state hand) (has_chunk m.state.table chunk) idle.0 in
       let both = and_parts (is_linked (head_at m.state chunk).tag) ((head_at m.state chunk).count == 1) idle.1 in
       let is = tag_linked (head_at m.state chunk).tag both.0 in
-      let fewer = fewer_indexed m l chunk near.1 (condemned (head_at m.state chunk)) key (word_at m.state chunk 1)
+      fewer_indexed m l chunk near.1 (condemned (head_at m.state chunk)) key (word_at m.state chunk 1)
       (stripe_condemned stripe (has_copy m.state hand chunk) (writer_of m.state hand) key) (λ never. cc) (l.indexed.linked chunk near.1 is)
-      (λ other. condemned_gives stripe (has_copy m.state hand chunk) (writer_of m.state hand) key other (rising key)) in
-      bound (copy_of m.state hand chunk) fewer
-    where
-      bound : (o : Option Holding) →
-          AreIndexed m.state.table m.state.slabs (slice_set m.state.heads (head_place m.state.table chunk) (condemned (head_at m.state chunk))) m.state.words (with_told m.state hand chunk (key_at m.state chunk)).stripes →
-          IsIndexed (with_head (with_rescue (without_holding (with_told m.state hand chunk (key_at m.state chunk)) hand (is_copy_of chunk)) hand chunk (item_at m.state chunk) o) chunk (condemned (head_at m.state chunk)))
-      bound None are = are
-      bound (Some copy) are = are
+      (λ other. condemned_gives stripe (has_copy m.state hand chunk) (writer_of m.state hand) key other (rising key))
 
   -- a word of a fresh chunk
   pub fill_indexed : (chunk : ChunkId) (place word : ℕ) → can_fill m.state hand chunk place ≡ true → IsIndexed (after_fill m.state hand chunk place word)
   fill_indexed chunk place word can =
       elim (holding_of chunk (holdings_at m.state hand)) as (λ o. holding_of chunk (holdings_at m.state hand) ≡ o → can_fill_in place o ≡ true →
-      IsIndexed (with_word (refilled (without_holding m.state hand (is_of chunk)) hand place word o) chunk place word)) [
+      IsIndexed (after_fill m.state hand chunk place word)) [
         | None ↦ λ _ never. absurd (cc)
         | Some holding ↦ λ found may.
             let both = and_parts (is_fresh holding) (nat_lt place (length holding.words)) may in

@@ -1,5 +1,5 @@
 -- Known items as the item of a chunk is taken away, and as two hands become one.
-use Rattle.std.proofs.Common.{◌≡◌, ◌≢◌, ℕ, ◌<◌, ◌==◌, not, true, List, [], ◌++◌, length, refl, sym, ap, subst, ◌∙◌, inl, inr, arith, Option, Some, None, Contains, All, eqb-true, eq-eqb}
+use Rattle.std.proofs.Common.{◌≡◌, ◌≢◌, ℕ, ◌<◌, ◌==◌, not, true, List, [], ◌++◌, length, refl, sym, ap, subst, ◌∙◌, inl, inr, arith, Contains, All, eqb-true, eq-eqb}
 use Rattle.std.proofs.lemmas.Bool.{and_parts, both_ways, cases_eq}
 use Rattle.std.proofs.lemmas.List.{nil_from_length}
 use Rattle.std.proofs.lemmas.List.Elements.{All-nil, All-weaker}
@@ -12,8 +12,8 @@ use Rattle.mc_core.specs.declared.holding.Kind.{Kind}
 use Rattle.mc_core.specs.declared.holding.Kind.TheVariants.{Reference, Fresh}
 use Rattle.mc_core.specs.Head.{is_linked}
 use Rattle.mc_core.specs.Holdings.{Words, stamp_in, is_fresh_kind, is_copy_of, is_copy_kind}
-use Rattle.mc_core.specs.State.{State, is_hand, has_chunk, head_at, item_at, has_slabs, has_stripe, stripe_of, stripe_at, holdings_at, with_head, without_holding}
-use Rattle.mc_core.specs.Evictions.{is_idle, condemned, key_at, has_copy, has_reason, can_take_away, with_told, with_rescue, as_rescue, copy_of}
+use Rattle.mc_core.specs.State.{State, is_hand, has_chunk, head_at, item_at, has_slabs, has_stripe, stripe_of, stripe_at, with_head}
+use Rattle.mc_core.specs.Evictions.{is_idle, condemned, key_at, has_copy, has_reason, can_take_away, with_told, with_bound, as_rescue}
 use Rattle.mc_core.specs.Hands as hands
 use Rattle.mc_core.specs.Past.{Moment, Known, Saying, with_more, known_by, moment_stepped}
 use Rattle.mc_core.specs.Columns.{head_in, Each, IsKnownToSome}
@@ -22,14 +22,13 @@ use Rattle.mc_core.specs.Laws.{MayStep}
 use Rattle.mc_core.specs.Lawful.{IsLawful, KnownIn}
 use Rattle.mc_core.proofs.Base.{each_map}
 use Rattle.mc_core.proofs.Plays.{hand_there}
-use Rattle.mc_core.proofs.Rows.{rows_less, rows_more, each_more}
-use Rattle.mc_core.proofs.Holders.{found_passes, found_each}
+use Rattle.mc_core.proofs.Changed.{rows_changed, each_changed}
 use Rattle.mc_core.proofs.MoreRows.{row_of, row_other, joined_rows, each_joined, joined_contains}
 use Rattle.mc_core.proofs.SaidOnce.{said_joined, once_joined}
 use Rattle.mc_core.proofs.KnownStill.{IsApartFrom}
-use Rattle.mc_core.proofs.KnownQuiet.{known_turned, apart_less, own_less, own_added, all_agree, IsOwn, IsStill, younger_condemned}
+use Rattle.mc_core.proofs.KnownQuiet.{known_turned, own_changed, all_agree, IsOwn, IsStill, younger_condemned}
 use Rattle.mc_core.proofs.KnownLearned.{AreOne}
-use Rattle.mc_core.proofs.KnownChunks.{KnownAt, known_end}
+use Rattle.mc_core.proofs.KnownChunks.{known_end}
 use Rattle.mc_core.proofs.KnownReferences.{linked_tag}
 
 -- a copy is fresh
@@ -67,30 +66,16 @@ module _ (m : Moment) (hand : ℕ) (chunk : ChunkId) (may : MayStep m hand (Cond
   abbrev told : State
   told = with_told m.state hand chunk (key_at m.state chunk)
 
-  abbrev less : List (List Holding)
-  less = rows_less m.state.holdings hand (is_copy_of chunk)
-
-  -- what is left where the hand's copy is this
-  abbrev end : Option Holding → State
-  end copy = with_head (with_rescue (without_holding told hand (is_copy_of chunk)) hand chunk (item_at m.state chunk) copy) chunk head
-
-  condemned_with : (rows' : List (List Holding)) → ((k : Known) → IsStill m l k → Each (IsApartFrom k) rows') → ((other : ℕ) → All (IsOwn m.past.known other) (row_of rows' other)) →
-      KnownAt (record (with_head told chunk head) { holdings = rows' }) m.past.said m.past.known
-  condemned_with rows' apart own =
-      known_turned m l m.state.slabs chunk head rows' (λ page. refl) is.near (younger_condemned (head_at m.state chunk) is.linked) (λ never. absurd (cc)) apart own
-
-  condemned_of : (copy : Option Holding) → copy_of m.state hand chunk ≡ copy → KnownAt (end copy) m.past.said m.past.known
-  condemned_of None found = condemned_with less (apart_less m l hand (is_copy_of chunk)) (own_less m l hand (is_copy_of chunk))
-  condemned_of (Some holding) found =
-      let fresh = copy_fresh chunk holding.kind (found_passes (is_copy_of chunk) (holdings_at m.state hand) holding found) in
-      let rescue : Holding = as_rescue chunk (item_at m.state chunk) holding in
-      condemned_with (rows_more less hand rescue)
-      (λ k still. each_more less hand (IsApartFrom k) rescue (apart_less m l hand (is_copy_of chunk) k still)
-      (λ _. found_each (IsApartFrom k) m.state.holdings hand (is_copy_of chunk) holding found still.apart fresh))
-      (own_added m l less hand rescue (own_less m l hand (is_copy_of chunk)) refl)
+  -- what the hand's copies of the chunk become
+  abbrev binds : Holding → Holding
+  binds = as_rescue chunk (item_at m.state chunk)
 
   pub known_condemn : KnownIn (moment_stepped m hand (Condemn chunk))
-  known_condemn = known_end m hand (end (copy_of m.state hand chunk)) (condemned_of (copy_of m.state hand chunk) refl)
+  known_condemn =
+      known_end m hand (with_head (with_bound told hand chunk (item_at m.state chunk)) chunk head)
+      (known_turned m l m.state.slabs chunk head (rows_changed m.state.holdings hand (is_copy_of chunk) binds) (λ page. refl) is.near (younger_condemned (head_at m.state chunk) is.linked) (λ never. absurd (cc))
+      (λ k still. each_changed (is_copy_of chunk) binds m.state.holdings hand (IsApartFrom k) (IsApartFrom k) (λ h apart. apart) (λ h copy apart _. apart (copy_fresh chunk h.kind copy)) still.apart)
+      (own_changed m l hand (is_copy_of chunk) binds (λ h _. refl)))
 
 -- what two hands are that may become one
 pub record AreJoined (m : Moment) (hand kept spent : ℕ) : Type 0 where
@@ -158,7 +143,7 @@ module _ (m : Moment) (hand kept spent : ℕ) (may : MayStep m hand (Join kept s
               | inr apart_too ↦
                   let row : row_of known' other ≡ row_of m.past.known other =
                   row_other (with_more m.past.known kept (row_of m.past.known spent)) spent other [] apart ∙ row_other m.past.known kept other (row_of m.past.known kept ++ row_of m.past.known spent) apart_too in
-                  All-weaker (IsOwn m.past.known other) (IsOwn known' other) (λ holding own stale. subst (λ (r : List Known). Contains r (known_by holding)) (sym row) (own stale)) (row_of m.state.holdings other) (lawful.known.own other)
+                  All-weaker (IsOwn m.past.known other) (IsOwn known' other) (λ holding own stale. let (room, has) = own stale in (room, subst (λ (r : List Known). Contains r (known_by room holding)) (sym row) has)) (row_of m.state.holdings other) (lawful.known.own other)
             ]
       ]
 

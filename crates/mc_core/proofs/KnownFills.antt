@@ -1,26 +1,27 @@
 -- Known items as a word of a fresh chunk is written.
-use Rattle.std.proofs.Common.{◌≡◌, ℕ, ◌<◌, true, List, [], length, refl, sym, ap, subst, ◌∙◌, arith, slice_set, Some, None, nat_lt, ltb-true, get_or-set_other}
-use Rattle.std.proofs.lemmas.Bool.{and_parts}
+use Rattle.std.proofs.Common.{◌≡◌, ℕ, ◌<◌, ◌≤◌, All, true, List, [], length, refl, sym, ap, subst, ◌∙◌, arith, slice_set, Some, None, nat_lt, ltb-true, get_or-set_other}
+use Rattle.std.proofs.lemmas.Bool.{and_parts, both_ways}
 use Rattle.std.proofs.lemmas.Option.{slice_get_within}
 use Rattle.mc_pages.specs.declared.ids.ChunkId.{ChunkId}
 use Rattle.mc_pages.specs.SlabState.{class_of_page}
 use Rattle.mc_pages.proofs.Chunks.{same_from_is_chunk}
 use Rattle.mc_core.specs.declared.event.Step.TheVariants.{Fill}
 use Rattle.mc_core.specs.declared.holding.Holding.{Holding}
-use Rattle.mc_core.specs.Holdings.{Words, is_of, holding_of, is_fresh}
-use Rattle.mc_core.specs.State.{State, room_in, holdings_at, with_word, without_holding}
-use Rattle.mc_core.specs.Chunks.{can_fill_in, refilled}
+use Rattle.mc_core.specs.Holdings.{Words, is_of, holding_of, is_fresh, change_each}
+use Rattle.mc_core.specs.State.{room_in, holdings_at}
+use Rattle.mc_core.specs.Chunks.{can_fill_in, filled, after_fill}
 use Rattle.mc_core.specs.Past.{Moment, Known, with_more, moment_stepped}
-use Rattle.mc_core.specs.Columns.{Each, head_in, place_in, Shows, IsHandedOut}
+use Rattle.mc_core.specs.Columns.{Each, head_in, place_in, Shows, IsHandedOut, holds}
 use Rattle.mc_core.specs.Counts.{IsSized}
 use Rattle.mc_core.specs.Knowing.{IsTrueStill}
 use Rattle.mc_core.specs.Laws.{MayStep}
 use Rattle.mc_core.specs.Lawful.{IsLawful, KnownIn}
-use Rattle.mc_core.proofs.Base.{IsPlaced, placed_at, same_word, held_out, IsOut}
-use Rattle.mc_core.proofs.Rows.{rows_less, rows_more, each_more}
-use Rattle.mc_core.proofs.Holders.{found_passes, found_all, found_each}
+use Rattle.mc_core.proofs.Base.{IsPlaced, placed_at, same_word, held_out, IsOut, all_lose}
+use Rattle.mc_core.proofs.Changed.{rows_changed, each_changed, all_changed_once}
+use Rattle.mc_core.proofs.MoreRows.{row_of, rows_set}
+use Rattle.mc_core.proofs.Holders.{found_passes, found_all, found_each, fresh_once, holds-le-holders}
 use Rattle.mc_core.proofs.KnownStill.{IsApartFrom}
-use Rattle.mc_core.proofs.KnownQuiet.{known_quiet, apart_less, own_less, own_added, IsStill}
+use Rattle.mc_core.proofs.KnownQuiet.{known_quiet, IsOwn, IsStill}
 use Rattle.mc_core.proofs.KnownChunks.{KnownAt, known_end}
 
 module _ (m : Moment) (l : IsLawful m) (chunk : ChunkId) (place word : ℕ) (placed : IsPlaced m.state.slabs chunk) (on : place < room_in m.state.table (class_of_page m.state.slabs chunk.page)) where
@@ -46,6 +47,7 @@ module _ (m : Moment) (l : IsLawful m) (chunk : ChunkId) (place word : ℕ) (pla
     whole = is.whole;
     older = is.older;
     shows = λ out. shows_filled k.chunk k.words (placed_at m l k.chunk k.issue is.inside out).0 (other out) (is.shows out);
+    room = is.room;
     apart = apart;
   }
 
@@ -78,22 +80,29 @@ module _ (m : Moment) (l : IsLawful m) (hand : ℕ) (chunk : ChunkId) (place : �
 
 module _ (m : Moment) (hand : ℕ) (chunk : ChunkId) (place word : ℕ) where
   known_filled : (l : IsLawful m) (holding : Holding) → holding_of chunk (holdings_at m.state hand) ≡ Some holding → can_fill_in place (Some holding) ≡ true →
-      KnownAt (with_word (refilled (without_holding m.state hand (is_of chunk)) hand place word (Some holding)) chunk place word) (with_more m.past.said hand []) (with_more m.past.known hand [])
+      KnownAt (after_fill m.state hand chunk place word) (with_more m.past.said hand []) (with_more m.past.known hand [])
   known_filled l holding found can =
-      let filled : Holding = record holding { words = slice_set holding.words place (Some word) } in
-      let less = rows_less m.state.holdings hand (is_of chunk) in
-      let end : State = with_word (refilled (without_holding m.state hand (is_of chunk)) hand place word (Some holding)) chunk place word in
-      known_end m hand end
-      (known_quiet m l m.state.slabs m.state.heads (slice_set m.state.words (place_in m.state.table m.state.slabs chunk place) word) (rows_more less hand filled)
-      (λ k is. still_filled m l chunk place word (fill_placed m l hand chunk place holding found can) (fill_on m l hand chunk place holding found can) (rows_more less hand filled) k
-      (fill_apart m l hand chunk place holding found can k is)
-      (each_more less hand (IsApartFrom k) filled (apart_less m l hand (is_of chunk) k is) (found_each (IsApartFrom k) m.state.holdings hand (is_of chunk) holding found is.apart)) is)
-      (own_added m l less hand filled (own_less m l hand (is_of chunk)) (fill_fresh m l hand chunk place holding found can)) l.known.linked)
+      known_end m hand (after_fill m.state hand chunk place word)
+      (known_quiet m l m.state.slabs m.state.heads (slice_set m.state.words (place_in m.state.table m.state.slabs chunk place) word) (rows_changed m.state.holdings hand (is_of chunk) (filled place word))
+      (λ k is. still_filled m l chunk place word (fill_placed m l hand chunk place holding found can) (fill_on m l hand chunk place holding found can) (rows_changed m.state.holdings hand (is_of chunk) (filled place word)) k
+      (fill_apart m l hand chunk place holding found can k is) (each_changed (is_of chunk) (filled place word) m.state.holdings hand (IsApartFrom k) (IsApartFrom k) (λ h apart. apart) (λ h _ apart. apart) is.apart) is)
+      own_filled l.known.linked)
+    where
+      own_filled : (other : ℕ) → All (IsOwn m.past.known other) (row_of (rows_changed m.state.holdings hand (is_of chunk) (filled place word)) other)
+      own_filled =
+          let row = holdings_at m.state hand in
+          let fresh = fill_fresh m l hand chunk place holding found can in
+          let one = fresh_once m l hand (is_of chunk) holding found fresh in
+          let few = holds-le-holders holding.chunk m.state.holdings hand in
+          let once : holds chunk row ≤ 1 = subst (λ c. holds c row ≤ 1) (fill_at m l hand chunk place holding found can) (omega arith) in
+          rows_set (IsOwn m.past.known) m.state.holdings hand (change_each (is_of chunk) (filled place word) row) l.known.own
+          (all_changed_once (IsOwn m.past.known hand) chunk (filled place word) row holding found once (all_lose (IsOwn m.past.known hand) (is_of chunk) row (l.known.own hand))
+          (λ stale. absurd (both_ways (is_fresh holding) stale fresh)))
 
   pub known_fill : MayStep m hand (Fill chunk place word) → KnownIn (moment_stepped m hand (Fill chunk place word))
   known_fill may =
       elim (holding_of chunk (holdings_at m.state hand)) as (λ o. holding_of chunk (holdings_at m.state hand) ≡ o → can_fill_in place o ≡ true →
-      KnownAt (with_word (refilled (without_holding m.state hand (is_of chunk)) hand place word o) chunk place word) (with_more m.past.said hand []) (with_more m.past.known hand [])) [
+      KnownAt (after_fill m.state hand chunk place word) (with_more m.past.said hand []) (with_more m.past.known hand [])) [
         | None ↦ λ _ never. absurd (cc)
         | Some holding ↦ λ found can. known_filled may.lawful holding found can
       ] refl may.allowed

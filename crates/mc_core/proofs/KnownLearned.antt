@@ -28,7 +28,7 @@ known_more known hand more P (other, k, has, p) = (other, k, more_contains known
 
 pub own_more : (known : List (List Known)) (hand : ℕ) (more : List Known) (other : ℕ) (row : List Holding) → All (IsOwn known other) row → All (IsOwn (with_more known hand more) other) row
 own_more known hand more other row all = All-weaker (IsOwn known other) (IsOwn (with_more known hand more) other)
-    (λ holding own stale. more_contains known hand other more (known_by holding) (own stale)) row all
+    (λ holding own stale. let (room, has) = own stale in (room, more_contains known hand other more (known_by room holding) has)) row all
 
 module _ (m : Moment) (l : IsLawful m) (hand : ℕ) (there : is_hand m.state hand ≡ true) (knew : Known) where
   abbrev known' : List (List Known)
@@ -49,12 +49,12 @@ module _ (m : Moment) (l : IsLawful m) (hand : ℕ) (there : is_hand m.state han
       (all_one (λ k. Each (AreOne k) known') knew (each_more (AreOne knew) m.past.known hand (knew ∷ []) agrees (all_one (AreOne knew) knew (λ _ _. refl))))
 
   -- the hand's new reference is to the item that it learned
-  own_learned : (rows' : List (List Holding)) (reference : Holding) → ((other : ℕ) → All (IsOwn m.past.known other) (row_of rows' other)) → known_by reference ≡ knew →
+  own_learned : (rows' : List (List Holding)) (reference : Holding) → ((other : ℕ) → All (IsOwn m.past.known other) (row_of rows' other)) → known_by knew.room reference ≡ knew →
       (other : ℕ) → All (IsOwn known' other) (row_of (rows_more rows' hand reference) other)
   own_learned rows' reference own is =
       let grown = λ (other : ℕ). own_more m.past.known hand (knew ∷ []) other (row_of rows' other) (own other) in
       rows_set (IsOwn known') rows' hand (row_of rows' hand ++ reference ∷ []) grown
-      (all_more (IsOwn known' hand) (row_of rows' hand) reference (grown hand) (λ _. subst (λ (k : Known). Contains (row_of known' hand) k) (sym is) newly_known))
+      (all_more (IsOwn known' hand) (row_of rows' hand) reference (grown hand) (λ _. (knew.room, subst (λ (k : Known). Contains (row_of known' hand) k) (sym is) newly_known)))
 
   -- one header changes, and the hand gets a reference to the item
   module _ (chunk : ChunkId) (head : Head) (near : has_chunk m.state.table chunk ≡ true) (reference : Holding) (rows' : List (List Holding)) (said' : List (List Saying)) where
@@ -65,7 +65,7 @@ module _ (m : Moment) (l : IsLawful m) (hand : ℕ) (there : is_hand m.state han
     IsStillNow k = IsTrueStill m.state.table m.state.slabs heads' m.state.words (rows_more rows' hand reference) k
 
     pub known_learned : ((stamp : ℕ) → said_count stamp said' ≤ 1) → ((stamp : ℕ) (words : Words) → IsSaid m.past.said stamp words → IsSaid said' stamp words) → IsSaid said' (stamp_in knew.words) knew.words →
-        ((k : Known) → IsStill m l k → IsStillNow k) → IsStillNow knew → Each (AreOne knew) m.past.known → ((other : ℕ) → All (IsOwn m.past.known other) (row_of rows' other)) → known_by reference ≡ knew →
+        ((k : Known) → IsStill m l k → IsStillNow k) → IsStillNow knew → Each (AreOne knew) m.past.known → ((other : ℕ) → All (IsOwn m.past.known other) (row_of rows' other)) → known_by knew.room reference ≡ knew →
         knew.chunk ≡ chunk → knew.issue ≡ head.issue → AreKnown m.state.table m.state.slabs heads' m.state.words (rows_more rows' hand reference) said' known'
     known_learned once more said still knew_still agrees own is at issue =
         let by_some = each_more (λ k. IsSaid said' (stamp_in k.words) k.words) m.past.known hand (knew ∷ [])

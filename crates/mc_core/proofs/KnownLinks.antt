@@ -4,6 +4,7 @@ use Rattle.std.specs.Bool.{nat_eq}
 use Rattle.std.specs.Option.{option_eq}
 use Rattle.std.proofs.lemmas.Bool.{and_parts}
 use Rattle.mc_pages.specs.declared.ids.ChunkId.{ChunkId}
+use Rattle.mc_pages.specs.SlabState.{class_of_page}
 use Rattle.mc_pages.proofs.Chunks.{same_from_is_chunk}
 use Rattle.mc_core.specs.declared.event.Step.TheVariants.{Link}
 use Rattle.mc_core.specs.declared.head.Head.{Head}
@@ -15,7 +16,7 @@ use Rattle.mc_core.specs.declared.holding.Kind.TheVariants.{Reference, Fresh}
 use Rattle.mc_core.specs.declared.holding.Purpose.TheVariants.{Item, Copy, Rescue}
 use Rattle.mc_core.specs.Head.{is_unlinked}
 use Rattle.mc_core.specs.Holdings.{Words, stamp_in, item_in, is_complete, is_of, holding_of, is_fresh, is_fresh_kind}
-use Rattle.mc_core.specs.State.{State, is_hand, has_chunk, head_place, head_at, ids_at, with_head, holdings_at, with_holding, without_holding}
+use Rattle.mc_core.specs.State.{State, room_in, room_at, is_hand, has_chunk, head_place, head_at, ids_at, with_head, holdings_at, with_holding, without_holding}
 use Rattle.mc_core.specs.Items.{linked, as_reference, told_link, after_link_of, are_same, suits, can_tell_link, can_link_holding, can_count, is_next_stamp}
 use Rattle.mc_core.specs.Past.{Moment, Known, Saying, with_more, saying_of, said_by, known_by, known_of_holding, moment_stepped}
 use Rattle.mc_core.specs.Columns.{head_in, Each, Shows}
@@ -71,7 +72,7 @@ module _ (m : Moment) (l : IsLawful m) (hand : ℕ) (there : is_hand m.state han
   reference = as_reference holding
 
   abbrev knew : Known
-  knew = known_by reference
+  knew = known_by (room_at m.state chunk) reference
 
   at : holding.chunk ≡ chunk
   at = same_from_is_chunk holding.chunk chunk (found_passes (is_of chunk) row holding found)
@@ -110,6 +111,7 @@ module _ (m : Moment) (l : IsLawful m) (hand : ℕ) (there : is_hand m.state han
         older = head_now m.state.table m.state.heads chunk head l.sized.headers near (λ h. holding.issue ≤ h.issue) holding.chunk out.0 (λ _. let same = issue_is in omega arith) (λ _. let same = out.1.1 in omega arith);
         shows = λ _. shows_item m.state.table m.state.slabs m.state.words holding.chunk holding.words complete
             (found_each (λ h. Shows m.state.table m.state.slabs m.state.words h.chunk h.words) m.state.holdings hand (is_of chunk) holding found l.held.shows);
+        room = λ _. ap (λ (c : ChunkId). room_in m.state.table (class_of_page m.state.slabs c.page)) at;
         apart = knew_apart;
       }
 
@@ -136,7 +138,7 @@ module _ (m : Moment) (hand : ℕ) (chunk : ChunkId) where
   ends holding kind = with_holding (with_head (told_link left hand holding kind) chunk (linked (head_at left chunk))) hand (as_reference holding)
 
   abbrev Goal : Holding → Kind → Type 0
-  Goal holding kind = KnownAt (ends holding kind) (with_more m.past.said hand (saying_of kind holding.words)) (with_more m.past.known hand (known_by (as_reference holding) ∷ []))
+  Goal holding kind = KnownAt (ends holding kind) (with_more m.past.said hand (saying_of kind holding.words)) (with_more m.past.known hand (known_by (room_at m.state chunk) (as_reference holding) ∷ []))
 
   module _ (may : MayStep m hand (Link chunk)) (holding : Holding) (found : holding_of chunk (holdings_at m.state hand) ≡ Some holding) (complete : is_complete holding.words ≡ true)
       (unlinked : is_unlinked (head_at m.state chunk).tag ≡ true) where
@@ -146,7 +148,7 @@ module _ (m : Moment) (hand : ℕ) (chunk : ChunkId) where
     -- an item of the hand's own is said
     linked_own : is_fresh holding ≡ true → is_next_stamp (ids_at m.state hand) (stamp_in holding.words) ≡ true →
         KnownAt (with_holding (with_head left chunk (linked (head_at m.state chunk))) hand (as_reference holding)) (with_more m.past.said hand (record { stamp = stamp_in holding.words; words = item_in holding.words } ∷ []))
-        (with_more m.past.known hand (known_by (as_reference holding) ∷ []))
+        (with_more m.past.known hand (known_by (room_at m.state chunk) (as_reference holding) ∷ []))
     linked_own fresh next =
         let l = may.lawful in
         let s : Saying = record { stamp = stamp_in holding.words; words = item_in holding.words } in
@@ -164,7 +166,7 @@ module _ (m : Moment) (hand : ℕ) (chunk : ChunkId) where
         let rescue : IsRescue m.past.said (Fresh (Rescue old item)) = subst (IsRescue m.past.said) kind (found_each (λ h. IsRescue m.past.said h.kind) m.state.holdings hand (is_of chunk) holding found l.rescued) in
         let said : IsSaid m.past.said (stamp_in holding.words) (item_in holding.words) =
         subst (λ n. IsSaid m.past.said n (item_in holding.words)) (item_stamp holding.words complete) (subst (λ (ws : Words). IsSaid m.past.said (stamp_in ws) ws) (sym is) rescue.2) in
-        subst (λ (s : List (List Saying)). KnownAt (ends holding (Fresh (Rescue old item))) s (with_more m.past.known hand (known_by (as_reference holding) ∷ []))) (sym (with_none m.past.said hand))
+        subst (λ (s : List (List Saying)). KnownAt (ends holding (Fresh (Rescue old item))) s (with_more m.past.known hand (known_by (room_at m.state chunk) (as_reference holding) ∷ []))) (sym (with_none m.past.said hand))
         (link_learned m l hand may.there chunk holding found fresh complete unlinked m.past.said l.known.once (λ stamp words is. is) said)
 
     linked_kind : (kind : Kind) → holding.kind ≡ kind → suits m.state hand holding.words kind ≡ true → Goal holding kind
@@ -176,7 +178,7 @@ module _ (m : Moment) (hand : ℕ) (chunk : ChunkId) where
   pub known_link : MayStep m hand (Link chunk) → KnownIn (moment_stepped m hand (Link chunk))
   known_link may =
       elim (holding_of chunk (holdings_at m.state hand)) as (λ o. holding_of chunk (holdings_at m.state hand) ≡ o → can_link_holding m.state hand chunk o ≡ true →
-      KnownAt (after_link_of left hand chunk o) (with_more m.past.said hand (said_by o)) (with_more m.past.known hand (known_of_holding o))) [
+      KnownAt (after_link_of left hand chunk o) (with_more m.past.said hand (said_by o)) (with_more m.past.known hand (known_of_holding (room_at m.state chunk) o))) [
         | None ↦ λ _ never. absurd (cc)
         | Some holding ↦ λ found can.
             let parts = and_parts _ (can_count (head_at m.state chunk)) can in

@@ -7,7 +7,7 @@ use Rattle.mc_pages.specs.SlabState.{SlabState, class_of_page}
 use Rattle.mc_core.specs.declared.head.Head.{Head}
 use Rattle.mc_core.specs.declared.head.Tag.TheVariants.{Unlinked, Linked}
 use Rattle.mc_core.specs.declared.holding.Holding.{Holding}
-use Rattle.mc_core.specs.Holdings.{Words, stamp_in, is_fresh, lose}
+use Rattle.mc_core.specs.Holdings.{Words, stamp_in, is_fresh, change_each, lose}
 use Rattle.mc_core.specs.Past.{Moment, Known, Saying, known_by, with_more}
 use Rattle.mc_core.specs.State.{has_chunk, head_place}
 use Rattle.mc_core.specs.Chunks.{handed_out, let_go, with_tag_free, with_tag_out}
@@ -19,13 +19,14 @@ use Rattle.mc_core.specs.Knowing.{IsSaid, IsTrueStill, AreKnown}
 use Rattle.mc_core.specs.Lawful.{IsLawful}
 use Rattle.mc_core.proofs.Base.{each_map, all_lose, all_more}
 use Rattle.mc_core.proofs.Rows.{rows_less, rows_more, each_less}
+use Rattle.mc_core.proofs.Changed.{rows_changed, all_changed}
 use Rattle.mc_core.proofs.MoreRows.{row_of, rows_set, with_none}
 use Rattle.mc_core.proofs.SaidOnce.{said_one}
 use Rattle.mc_core.proofs.KnownStill.{IsApartFrom, IsNoOlder, not_shown, still_turned, linked_turned}
 
 -- the hand knows the item, if the holding is a reference
 abbrev pub IsOwn : List (List Known) → ℕ → Holding → Type 0
-IsOwn known hand holding = is_fresh holding ≡ false → Contains (row_of known hand) (known_by holding)
+IsOwn known hand holding = is_fresh holding ≡ false → (room : ℕ) × Contains (row_of known hand) (known_by room holding)
 
 -- each linked chunk is known to some hand
 abbrev pub AreLinkedKnown : Classes → List Head → List (List Known) → Type 0
@@ -92,6 +93,13 @@ module _ (m : Moment) (l : IsLawful m) where
 
   pub own_less : (hand : ℕ) (test : Holding → Bool) (other : ℕ) → All (IsOwn known other) (row_of (rows_less rows hand test) other)
   own_less hand test = rows_set (IsOwn known) rows hand (lose test (row_of rows hand)) l.known.own (all_lose (IsOwn known hand) test (row_of rows hand) (l.known.own hand))
+
+  -- some holdings are changed, and are fresh then
+  pub own_changed : (hand : ℕ) (test : Holding → Bool) (change : Holding → Holding) → ((holding : Holding) → test holding ≡ true → is_fresh (change holding) ≡ true) →
+      (other : ℕ) → All (IsOwn known other) (row_of (rows_changed rows hand test change) other)
+  own_changed hand test change fresh =
+      rows_set (IsOwn known) rows hand (change_each test change (row_of rows hand)) l.known.own
+      (all_changed test change (IsOwn known hand) (IsOwn known hand) (λ holding is own stale. absurd (both_ways (is_fresh (change holding)) stale (fresh holding is))) (λ holding _ own. own) (row_of rows hand) (l.known.own hand))
 
   pub own_added : (rows' : List (List Holding)) (hand : ℕ) (holding : Holding) → ((other : ℕ) → All (IsOwn known other) (row_of rows' other)) → is_fresh holding ≡ true → (other : ℕ) → All (IsOwn known other) (row_of (rows_more rows' hand holding) other)
   own_added rows' hand holding own fresh =

@@ -1,7 +1,8 @@
 -- Known items as a hand gets a reference to a linked chunk.
-use Rattle.std.proofs.Common.{◌≡◌, ℕ, ◌==◌, true, [], ◌∷◌, refl, sym, subst, inr, slice_set, Some, None, Contains}
+use Rattle.std.proofs.Common.{◌≡◌, ℕ, ◌==◌, true, [], ◌∷◌, refl, sym, subst, inr, slice_set, Some, None, Contains, ap, ◌∙◌}
 use Rattle.std.proofs.lemmas.Bool.{and_parts}
 use Rattle.mc_pages.specs.declared.ids.ChunkId.{ChunkId}
+use Rattle.mc_pages.specs.SlabState.{class_of_page}
 use Rattle.mc_core.specs.declared.event.Step.TheVariants.{Refer, Again}
 use Rattle.mc_core.specs.declared.head.Head.{Head}
 use Rattle.mc_core.specs.declared.head.Tag.{Tag}
@@ -9,7 +10,7 @@ use Rattle.mc_core.specs.declared.head.Tag.TheVariants.{Out, Free, Unlinked, Lin
 use Rattle.mc_core.specs.declared.holding.Holding.{Holding}
 use Rattle.mc_core.specs.Head.{is_linked}
 use Rattle.mc_core.specs.Holdings.{stamp_in}
-use Rattle.mc_core.specs.State.{is_hand, has_chunk, head_place, head_at, item_at}
+use Rattle.mc_core.specs.State.{room_in, room_at, is_hand, has_chunk, head_place, head_at, item_at}
 use Rattle.mc_core.specs.Items.{referred, new_reference, with_reference, with_got, referred_to, chunk_of, can_refer_to, can_count, has_place_again}
 use Rattle.mc_core.specs.Past.{Moment, Known, with_more, known_by, known_of_place, moment_stepped}
 use Rattle.mc_core.specs.Columns.{IsHandedOut, head_in, Each, Shows}
@@ -33,7 +34,7 @@ linked_tag Linked h = refl
 module _ (m : Moment) (l : IsLawful m) (chunk : ChunkId) (near : has_chunk m.state.table chunk ≡ true) (linked : (head_at m.state chunk).tag ≡ Linked) where
   -- the item in the chunk
   abbrev pub item_known : Known
-  item_known = known_by (new_reference m.state chunk)
+  item_known = known_by (room_at m.state chunk) (new_reference m.state chunk)
 
   -- is known to some hand
   pub linked_known : (hand : ℕ) × (k : Known) × Contains (row_of m.past.known hand) k × (k ≡ item_known)
@@ -44,7 +45,10 @@ module _ (m : Moment) (l : IsLawful m) (chunk : ChunkId) (near : has_chunk m.sta
       let shown = still.shows (subst (λ (c : ChunkId). IsHandedOut (head_in m.state.table m.state.heads c) k.issue) (sym same.0) (inr linked, sym same.1)) in
       let here : Shows m.state.table m.state.slabs m.state.words chunk k.words = subst (λ (c : ChunkId). Shows m.state.table m.state.slabs m.state.words c k.words) same.0 shown in
       let words : k.words ≡ item_at m.state chunk = sym (shown_item m.state chunk k.words here whole) in
-      (hand, k, has, λ i. record { chunk = same.0 i; issue = same.1 i; words = words i })
+      let room : k.room ≡ room_at m.state chunk =
+      sym (still.room (subst (λ (c : ChunkId). IsHandedOut (head_in m.state.table m.state.heads c) k.issue) (sym same.0) (inr linked, sym same.1)))
+      ∙ ap (λ (c : ChunkId). room_in m.state.table (class_of_page m.state.slabs c.page)) same.0 in
+      (hand, k, has, λ i. record { chunk = same.0 i; issue = same.1 i; room = room i; words = words i })
 
   -- so what holds of each known item holds of it
   pub item_has : (P : Known → Type 0) → Each P m.past.known → P item_known
@@ -65,12 +69,12 @@ module _ (m : Moment) (l : IsLawful m) (hand : ℕ) (there : is_hand m.state han
       still_turned m.state.table m.state.heads chunk head l.sized.headers near m.state.slabs m.state.slabs m.state.words m.state.holdings (rows_more m.state.holdings hand reference) k
       (younger_referred (head_at m.state chunk)) refl (each_more m.state.holdings hand (IsApartFrom k) reference is.apart (λ never _ _. absurd (cc))) is
 
-  pub known_referred : KnownAt (with_reference m.state hand chunk) (with_more m.past.said hand []) (with_more m.past.known hand (known_by reference ∷ []))
+  pub known_referred : KnownAt (with_reference m.state hand chunk) (with_more m.past.said hand []) (with_more m.past.known hand (known_by (room_at m.state chunk) reference ∷ []))
   known_referred =
       let said = item_has m l chunk near linked (λ k. IsSaid m.past.said (stamp_in k.words) k.words) l.known.said_by_some in
-      subst (λ s. KnownAt (with_reference m.state hand chunk) s (with_more m.past.known hand (known_by reference ∷ []))) (sym (with_none m.past.said hand))
-      (known_learned m l hand there (known_by reference) chunk head near reference m.state.holdings m.past.said l.known.once (λ stamp words is. is) said still
-      (still (known_by reference) (item_has m l chunk near linked (IsStill m l) l.known.still))
+      subst (λ s. KnownAt (with_reference m.state hand chunk) s (with_more m.past.known hand (known_by (room_at m.state chunk) reference ∷ []))) (sym (with_none m.past.said hand))
+      (known_learned m l hand there (known_by (room_at m.state chunk) reference) chunk head near reference m.state.holdings m.past.said l.known.once (λ stamp words is. is) said still
+      (still (known_by (room_at m.state chunk) reference) (item_has m l chunk near linked (IsStill m l) l.known.still))
       (item_has m l chunk near linked (λ k. Each (AreOne k) m.past.known) l.known.one) l.known.own refl refl refl)
 
 module _ (m : Moment) (hand : ℕ) where

@@ -1,5 +1,5 @@
 -- A known item stays true as a header, rows of holdings or lists of chunks change.
-use Rattle.std.proofs.Common.{◌≡◌, ◌⊎◌, ℕ, ◌*◌, ◌≤◌, true, false, List, length, sym, subst, ◌∙◌, inl, inr, arith, slice_set}
+use Rattle.std.proofs.Common.{◌≡◌, ◌⊎◌, ℕ, ◌*◌, ◌≤◌, true, false, List, length, sym, subst, ◌∙◌, inl, inr, arith, slice_set, ap}
 use Rattle.std.proofs.lemmas.Bool.{cases_Bool}
 use Rattle.mc_classes.specs.Classes.{Classes, pages_of}
 use Rattle.mc_pages.specs.declared.ids.ChunkId.{ChunkId}
@@ -12,7 +12,7 @@ use Rattle.mc_core.specs.declared.head.Tag.TheVariants.{Out, Free, Unlinked, Lin
 use Rattle.mc_core.specs.declared.holding.Holding.{Holding}
 use Rattle.mc_core.specs.Holdings.{is_fresh}
 use Rattle.mc_core.specs.Past.{Known}
-use Rattle.mc_core.specs.State.{has_chunk, head_place, most_of}
+use Rattle.mc_core.specs.State.{room_in, has_chunk, head_place, most_of}
 use Rattle.mc_core.specs.Columns.{head_in, Shows, Each, IsHandedOut, IsKnownToSome}
 use Rattle.mc_core.specs.Knowing.{IsTrueStill}
 use Rattle.mc_core.proofs.Base.{head_written, head_other}
@@ -59,11 +59,17 @@ module _ (table : Classes) (heads : List Head) (chunk : ChunkId) (head : Head) (
     shows = head_now (λ h. IsHandedOut h k.issue → Shows table next words k.chunk k.words) k.chunk true_so_far.inside
         (λ is out. still_shows (subst (λ (c : ChunkId). IsHandedOut (head_in table heads c) k.issue) is (younger.shows k.issue (older_here is) out)))
         (λ _. still_shows);
+    room = head_now (λ h. IsHandedOut h k.issue → room_in table (class_of_page next k.chunk.page) ≡ k.room) k.chunk true_so_far.inside
+        (λ is out. still_room (subst (λ (c : ChunkId). IsHandedOut (head_in table heads c) k.issue) is (younger.shows k.issue (older_here is) out)))
+        (λ _. still_room);
     apart = apart;
   }
     where
       older_here : chunk ≡ k.chunk → k.issue ≤ old.issue
       older_here is = subst (λ (c : ChunkId). k.issue ≤ (head_in table heads c).issue) (sym is) true_so_far.older
+
+      still_room : IsHandedOut (head_in table heads k.chunk) k.issue → room_in table (class_of_page next k.chunk.page) ≡ k.room
+      still_room out = ap (room_in table) same ∙ true_so_far.room out
 
       still_shows : IsHandedOut (head_in table heads k.chunk) k.issue → Shows table next words k.chunk k.words
       still_shows out = shows_class table slabs next words k.chunk k.words same (true_so_far.shows out)
@@ -87,5 +93,6 @@ still_listed table slabs next heads words rows rows' k same apart so_far = recor
   whole = so_far.whole;
   older = so_far.older;
   shows = λ out. shows_class table slabs next words k.chunk k.words (same out) (so_far.shows out);
+  room = λ out. ap (room_in table) (same out) ∙ so_far.room out;
   apart = apart;
 }

@@ -22,6 +22,7 @@ pub mod HandsKept
 pub mod HandsSteps
 pub mod Holders
 pub mod Rows
+pub mod Changed
 pub mod Turns
 pub mod FreeChunks
 pub mod Tallied

@@ -4,7 +4,8 @@ use Rattle.std.specs.List.{find, position, position_or_len, remove, range_with_l
 use Rattle.std.proofs.lemmas.Bool.{cases_lt}
 use Rattle.std.proofs.lemmas.List.Folds.{find_at}
 use Rattle.std.proofs.lemmas.Option.{slice_get_past}
-use Rattle.std.proofs.lemmas.List.{replicate-append-replicate}
+use Rattle.std.proofs.Math.Seq.{take-append_seam}
+use Rattle.std.proofs.lemmas.List.{replicate-append-replicate, set-get_or}
 use Rattle.std.proofs.lemmas.List.FromFn.{map-range_with_len_more}
 use Rattle.mc_core.specs.declared.holding.Holding.{Holding}
 use Rattle.mc_core.specs.Holdings.{lose}
@@ -99,3 +100,52 @@ copied_more xs old new n m x copied at added more =
 -- all entries were copied
 pub copied_all : {X : Type 0} (xs old : List X) (n : ℕ) → old ≡ take n xs → slice_get xs n ≡ None → old ≡ xs
 copied_all xs old n copied past = copied ∙ take_all xs n past
+
+-- the first n entries are changed
+abbrev pub changed_to : {X : Type 0} → ℕ → (X → X) → List X → List X
+changed_to zero change xs = xs
+changed_to (suc n) change [] = []
+changed_to (suc n) change (x ∷ xs) = change x ∷ changed_to n change xs
+
+-- all of them
+pub changed_all : {X : Type 0} (change : X → X) (xs : List X) → changed_to (length xs) change xs ≡ map change xs
+changed_all change [] = refl
+changed_all change (x ∷ xs) = ap (λ ys. change x ∷ ys) (changed_all change xs)
+
+-- none beyond them, yet
+pub unchanged_at : {X : Type 0} (change : X → X) (xs : List X) (n : ℕ) (d : X) → get_or (changed_to n change xs) n d ≡ get_or xs n d
+unchanged_at change [] zero d = refl
+unchanged_at change [] (suc n) d = refl
+unchanged_at change (x ∷ xs) zero d = refl
+unchanged_at change (x ∷ xs) (suc n) d = unchanged_at change xs n d
+
+-- the next one too
+pub changed_next : {X : Type 0} (change : X → X) (xs : List X) (n : ℕ) (d : X) → n < length xs → set (changed_to n change xs) n (change (get_or xs n d)) ≡ changed_to (suc n) change xs
+changed_next change [] n d within = absurd (omega arith)
+changed_next change (x ∷ xs) zero d within = refl
+changed_next change (x ∷ xs) (suc n) d within = ap (λ ys. change x ∷ ys) (changed_next change xs n d (omega arith))
+
+length_changed : {X : Type 0} (change : X → X) (xs : List X) (n : ℕ) → length (changed_to n change xs) ≡ length xs
+length_changed change [] zero = refl
+length_changed change [] (suc n) = refl
+length_changed change (x ∷ xs) zero = refl
+length_changed change (x ∷ xs) (suc n) = let rest = length_changed change xs n in omega arith
+
+-- so it is after the entry that stands there was written
+pub changed_more : {X : Type 0} (change : X → X) (xs items now : List X) (n : ℕ) (x : X) → items ≡ changed_to n change xs → n < length items → get_or items n x ≡ x → now ≡ set items n (change x) → now ≡ changed_to (n + 1) change xs
+changed_more {X} change xs items now n x were within at is =
+    let entry : get_or xs n x ≡ x = sym (unchanged_at change xs n x) ∙ (ap (λ (ys : List X). get_or ys n x) (sym were) ∙ at) in
+    let long : length (changed_to n change xs) ≡ length xs = length_changed change xs n in
+    let there : length items ≡ length (changed_to n change xs) = ap length were in
+    is ∙ (ap (λ (ys : List X). set ys n (change x)) were ∙ (ap (λ y. set (changed_to n change xs) n (change y)) (sym entry)
+    ∙ (changed_next change xs n x (omega arith) ∙ ap (λ k. changed_to k change xs) (sym (add-one n)))))
+
+-- or was to stay
+pub changed_not : {X : Type 0} (change : X → X) (xs items : List X) (n : ℕ) (x : X) → items ≡ changed_to n change xs → n < length items → get_or items n x ≡ x → change x ≡ x → items ≡ changed_to (n + 1) change xs
+changed_not {X} change xs items n x were within at same =
+    changed_more change xs items items n x were within at (sym (set-get_or items n x) ∙ ap (set items n) (at ∙ sym same))
+
+-- when all are changed, and stand in the list again
+pub changed_whole : {X : Type 0} (change : X → X) (xs items rest : List X) (n m : ℕ) → items ≡ changed_to n change xs → n ≡ length xs → m ≡ length items → take m (items ++ rest) ≡ map change xs
+changed_whole {X} change xs items rest n m were end all =
+    ap (λ k. take k (items ++ rest)) all ∙ (take-append_seam items rest ∙ (were ∙ (ap (λ k. changed_to k change xs) end ∙ changed_all change xs)))

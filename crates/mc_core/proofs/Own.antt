@@ -15,14 +15,14 @@ use Rattle.mc_core.specs.declared.holding.Holding.{Holding}
 use Rattle.mc_core.specs.declared.holding.Kind.{Kind}
 use Rattle.mc_core.specs.declared.holding.Kind.TheVariants.{Reference, Fresh}
 use Rattle.mc_core.specs.declared.holding.Purpose.TheVariants.{Item, Copy, Rescue}
-use Rattle.mc_core.specs.Holdings.{Words, lose, is_of, is_copy_of, holding_of}
-use Rattle.mc_core.specs.State.{State, gone, number_at, has_slabs, holdings_at, looks_at, with_head, with_word, with_slabs, with_stripe, with_ids, with_holding, without_holding, with_looks, with_look}
+use Rattle.mc_core.specs.Holdings.{lose, change_each, is_of, is_copy_of, holding_of}
+use Rattle.mc_core.specs.State.{State, gone, number_at, item_at, has_slabs, holdings_at, looks_at, with_head, with_word, with_slabs, with_stripe, with_ids, with_holding, without_holding, with_looks, with_look}
 use Rattle.mc_core.specs.Silent.{after_change}
 use Rattle.mc_core.specs.Locks.{looked}
-use Rattle.mc_core.specs.Chunks.{popped, popped_off, refilled, target_of, next_free, new_holding, handed_out, after_fill, let_go, with_tag_free, with_tag_out}
+use Rattle.mc_core.specs.Evictions.{as_rescue}
+use Rattle.mc_core.specs.Chunks.{popped, popped_off, filled, target_of, next_free, new_holding, handed_out, after_fill, let_go, with_tag_free, with_tag_out}
 use Rattle.mc_core.specs.Chunks as chunks
 use Rattle.mc_core.specs.Items.{told_link, after_link_of, referred_to, with_got, with_unlinked, chunk_of}
-use Rattle.mc_core.specs.Evictions.{with_rescue, copy_of}
 use Rattle.mc_core.specs.Run.{after_step}
 
 pub record IsOwn (before now : State) (hand : ℕ) : Type 0 where
@@ -178,10 +178,6 @@ own_popped_off : (s : State) (hand : ℕ) (old : ChunkId) (chunk : Option ChunkI
 own_popped_off s hand old None = own_same s hand
 own_popped_off s hand old (Some chunk) = own_then (own_slabs s hand _) (own_then (own_fresh _ hand chunk _ _) (own_look _ hand _))
 
-own_refilled : (s : State) (hand place word : ℕ) (holding : Option Holding) → IsOwn s (refilled s hand place word holding) hand
-own_refilled s hand place word None = own_same s hand
-own_refilled s hand place word (Some holding) = own_more s hand _
-
 own_told : (s : State) (hand : ℕ) (holding : Holding) (kind : Kind) → IsOwn s (told_link s hand holding kind) hand
 own_told s hand holding Reference = own_then (own_stripe s hand _ _) (own_ids _ hand _ refl)
 own_told s hand holding (Fresh Item) = own_then (own_stripe s hand _ _) (own_ids _ hand _ refl)
@@ -199,10 +195,6 @@ own_referred s hand (Some place) = own_fresh s hand place.0 _ _
 own_unlinked : (s : State) (hand : ℕ) (place : Option (ChunkId × ℕ)) → IsOwn s (with_unlinked s place) hand
 own_unlinked s hand None = own_same s hand
 own_unlinked s hand (Some place) = own_head s hand place.0 _
-
-own_rescue : (s : State) (hand : ℕ) (old : ChunkId) (item : Words) (copy : Option Holding) → IsOwn s (with_rescue s hand old item copy) hand
-own_rescue s hand old item None = own_same s hand
-own_rescue s hand old item (Some holding) = own_more s hand _
 
 own_dropped : (s : State) (hand : ℕ) (chunk : ChunkId) → IsOwn s (chunks.after_drop s hand chunk) hand
 own_dropped s hand chunk = own_then (own_head s hand chunk _) (own_less _ hand _)
@@ -230,8 +222,7 @@ own_step s hand (step.GiveStripe stripe) h = absurd (cc)
 own_step s hand (step.Head chunk) h = own_looked s hand _
 own_step s hand (Pop class) h = own_then (own_slabs s hand _) (own_popped _ hand (next_free s class))
 own_step s hand (PopOff old) h = own_popped_off s hand old (target_of s old.page)
-own_step s hand (Fill chunk place word) h =
-    own_then (own_less s hand (is_of chunk)) (own_then (own_refilled _ hand place word (holding_of chunk (holdings_at s hand))) (own_word _ hand chunk place word))
+own_step s hand (Fill chunk place word) h = own_then (own_row s hand (change_each (is_of chunk) (filled place word) (holdings_at s hand))) (own_word _ hand chunk place word)
 own_step s hand (Word chunk place) h = own_same s hand
 own_step s hand (WordHeld chunk place) h = own_look s hand _
 own_step s hand (Link chunk) h = own_then (own_less s hand (is_of chunk)) (own_linked _ hand chunk (holding_of chunk (holdings_at s hand)))
@@ -240,7 +231,8 @@ own_step s hand (Unlink key) h = own_then (own_stripe s hand _ _) (own_unlinked 
 own_step s hand (Release chunk) h = own_dropped s hand chunk
 own_step s hand (Discard chunk) h = own_dropped s hand chunk
 own_step s hand (Condemn chunk) h =
-    own_then (own_stripe s hand _ _) (own_then (own_less _ hand (is_copy_of chunk)) (own_then (own_rescue _ hand chunk _ (copy_of s hand chunk)) (own_then (own_head _ hand chunk _) (own_look _ hand _))))
+    own_then (own_stripe s hand _ _)
+    (own_then (own_row _ hand (change_each (is_copy_of chunk) (as_rescue chunk (item_at s chunk)) (holdings_at s hand))) (own_then (own_head _ hand chunk _) (own_look _ hand _)))
 own_step s hand (PutBack chunk) h = own_moved s hand _ chunk _ _
 own_step s hand (Clear chunk) h = own_moved s hand _ chunk _ _
 own_step s hand (step.Cut page index) h = own_moved s hand _ _ _ _

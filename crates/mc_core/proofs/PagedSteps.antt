@@ -16,11 +16,10 @@ use Rattle.mc_core.specs.declared.event.Step.{Step}
 use Rattle.mc_core.specs.declared.event.Step.TheVariants.{TakeSlabs, TakeStripe, MissSlabs, MissStripe, GiveSlabs, GiveStripe, Pop, PopOff, Fill, Word, WordHeld, Link, Refer, Unlink, Release, Discard, Condemn, PutBack, Clear, Cut, Again, Join}
 use Rattle.mc_core.specs.declared.event.Step.TheVariants as step
 use Rattle.mc_core.specs.Holdings.{is_of, holding_of}
-use Rattle.mc_core.specs.State.{State, is_class, number_at, has_slabs, with_slabs, item_at, holdings_at, without_holding}
+use Rattle.mc_core.specs.State.{State, is_class, number_at, has_slabs, with_slabs, holdings_at, without_holding}
 use Rattle.mc_core.specs.Silent.{is_handed_out, is_listed, is_whole}
 use Rattle.mc_core.specs.Chunks.{next_free, is_moving_page, is_target, target_of, is_next_uncut, popped_off, can_pop, after_pop, can_pop_off, after_pop_off, can_put_back, after_put_back, can_clear, after_clear, can_cut, after_cut}
 use Rattle.mc_core.specs.Items.{with_got, chunk_of}
-use Rattle.mc_core.specs.Evictions.{with_told, key_at}
 use Rattle.mc_core.specs.Run.{after_step}
 use Rattle.mc_core.specs.Places.{ArePaged}
 use Rattle.mc_core.specs.Past.{first_moment}
@@ -28,7 +27,7 @@ use Rattle.mc_core.specs.Lawful.{PagedIn}
 use Rattle.mc_core.specs.Laws.{StepsKeep}
 use Rattle.mc_core.proofs.OfTable.{pop_shape, back_shape, replace_shape, clear_shape, cut_shape}
 use Rattle.mc_core.proofs.Listed.{Contains_from_among, IsClass_from, found_among, page_of_move, next_uncut_is, places_from_listed}
-use Rattle.mc_core.proofs.SameSlabs.{looked_keeps, popped_keeps, refilled_keeps, told_link_keeps, linked_keeps, referred_keeps, unlinked_keeps, bound_keeps}
+use Rattle.mc_core.proofs.SameSlabs.{looked_keeps, popped_keeps, told_link_keeps, linked_keeps, referred_keeps, unlinked_keeps}
 use Rattle.mc_core.proofs.StepTests.{pop_tests, pop_off_tests, put_back_tests, clear_tests, cut_tests}
 use Rattle.mc_core.proofs.PagedChanges.{StayPaged, paged_from, lock_not_free, whole_is}
 
@@ -154,7 +153,7 @@ paged_steps moment hand (Pop class) may = pop_paged moment.state hand may.lawful
 paged_steps moment hand (PopOff old) may = pop_off_paged moment.state hand may.lawful.paged old may.allowed
 paged_steps moment hand (Fill chunk place word) may =
     let state = moment.state in
-    passes state hand (Fill chunk place word) may.lawful.paged (refilled_keeps pages_part (without_holding state hand (is_of chunk)) hand place word (holding_of chunk (holdings_at state hand)) (λ h. refl))
+    passes state hand (Fill chunk place word) may.lawful.paged (refl)
 paged_steps moment hand (Word chunk place) may = may.lawful.paged
 paged_steps moment hand (WordHeld chunk place) may = may.lawful.paged
 paged_steps moment hand (Link chunk) may =
@@ -169,7 +168,7 @@ paged_steps moment hand (Release chunk) may = may.lawful.paged
 paged_steps moment hand (Discard chunk) may = may.lawful.paged
 paged_steps moment hand (Condemn chunk) may =
     let state = moment.state in
-    passes state hand (Condemn chunk) may.lawful.paged (bound_keeps pages_part (with_told state hand chunk (key_at state chunk)) hand chunk (item_at state chunk) refl (λ h. refl))
+    passes state hand (Condemn chunk) may.lawful.paged (refl)
 paged_steps moment hand (PutBack chunk) may = put_back_paged moment.state hand may.lawful.paged chunk may.allowed
 paged_steps moment hand (Clear chunk) may = clear_paged moment.state hand may.lawful.paged chunk may.allowed
 paged_steps moment hand (Cut page index) may = cut_step_paged moment.state hand may.lawful.paged (record { page = page; index = index }) may.allowed

@@ -36,7 +36,7 @@ use Rattle.mc_core.proofs.Listed.{Contains_from_among, IsClass_from, times_from_
 use Rattle.mc_core.proofs.FreeChunks.{near_placed, placed_in, first_placed, found_placed}
 use Rattle.mc_core.proofs.SamePages.{is_in_hand}
 use Rattle.mc_core.proofs.StepTests.{pop_tests, pop_off_tests, put_back_tests, clear_tests, cut_tests, condemn_tests}
-use Rattle.mc_core.proofs.SameSlabs.{looked_keeps, refilled_keeps, told_link_keeps, linked_keeps, referred_keeps, unlinked_keeps, bound_keeps}
+use Rattle.mc_core.proofs.SameSlabs.{looked_keeps, told_link_keeps, linked_keeps, referred_keeps, unlinked_keeps}
 use Rattle.mc_core.proofs.PlacedAlike.{AreAlike, kind_of, same_at, placed_alike}
 use Rattle.mc_core.proofs.PlacedWritten.{Changes, placed_written}
 use Rattle.mc_core.proofs.PlacedLists.{first_is, pop_lists, replace_lists, back_lists, clear_lists, cut_lists}
@@ -226,10 +226,7 @@ module _ (m : Moment) (l : IsLawful m) (hand : ℕ) where
   cut_step_placed chunk can = let tests = cut_tests state hand chunk can in cut_placed m l chunk (with_tag_free (head_at state chunk)) refl tests.1 tests.2
 
   fill_frame : (chunk : ChunkId) (place word : ℕ) → (frame (after_step state hand (Fill chunk place word)) ≡ frame state) × ((after_step state hand (Fill chunk place word)).heads ≡ state.heads)
-  fill_frame chunk place word =
-      let left : State = without_holding state hand (is_of chunk) in
-      let found = holding_of chunk (holdings_at state hand) in
-      (refilled_keeps frame left hand place word found (λ h. refl), refilled_keeps (λ s. s.heads) left hand place word found (λ h. refl))
+  fill_frame chunk place word = (refl, refl)
 
 pub placed_steps : StepsKeep PlacedIn
 placed_steps moment hand TakeSlabs may = may.lawful.placed
@@ -269,8 +266,8 @@ placed_steps moment hand (Condemn chunk) may =
     let state = moment.state in
     let told : State = with_told state hand chunk (key_at state chunk) in
     let before : State = with_bound told hand chunk (item_at state chunk) in
-    passes state hand (Condemn chunk) may.lawful.placed (bound_keeps frame told hand chunk (item_at state chunk) refl (λ h. refl))
-    (condemn_alike state before chunk (bound_keeps headers_part told hand chunk (item_at state chunk) refl (λ h. refl)) (condemn_tests state hand chunk may.allowed).2)
+    passes state hand (Condemn chunk) may.lawful.placed refl
+    (condemn_alike state before chunk refl (condemn_tests state hand chunk may.allowed).2)
 placed_steps moment hand (PutBack chunk) may = put_back_placed moment may.lawful hand chunk may.allowed
 placed_steps moment hand (Clear chunk) may = clear_step_placed moment may.lawful hand chunk may.allowed
 placed_steps moment hand (Cut page index) may = cut_step_placed moment may.lawful hand (record { page = page; index = index }) may.allowed

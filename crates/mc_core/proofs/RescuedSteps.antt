@@ -1,5 +1,5 @@
 -- Every change and every step keeps what holdings say of items that are being rescued.
-use Rattle.std.proofs.Common.{◌≡◌, ℕ, ◌≤◌, Bool, true, false, List, [], length, refl, arith, slice_set, slice_index, Option, Some, None, if◌then◌else◌}
+use Rattle.std.proofs.Common.{◌≡◌, ℕ, ◌≤◌, Bool, true, false, List, [], length, arith, slice_index, Option, Some, None, if◌then◌else◌}
 use Rattle.mc_classes.specs.Classes.{Classes, IsSound}
 use Rattle.mc_pages.specs.declared.ids.ChunkId.{ChunkId}
 use Rattle.mc_pages.specs.Changes as slabs_changes
@@ -15,9 +15,9 @@ use Rattle.mc_core.specs.declared.look.Look.TheVariants.{Saw, SawStripe}
 use Rattle.mc_core.specs.Holdings.{Words, stamp_in, item_length, is_complete, is_of, is_copy_of, holding_of}
 use Rattle.mc_core.specs.State.{State, has_slabs, head_at, item_at, holdings_at, with_slabs, with_look, with_head, with_holding, without_holding}
 use Rattle.mc_core.specs.Locks.{looked}
-use Rattle.mc_core.specs.Chunks.{next_free, popped, target_of, popped_off, refilled}
+use Rattle.mc_core.specs.Chunks.{next_free, popped, target_of, popped_off, filled}
 use Rattle.mc_core.specs.Items.{chunk_of, after_link_of, told_link, with_got, referred_to, with_unlinked, linked, as_reference}
-use Rattle.mc_core.specs.Evictions.{key_at, with_told, with_rescue, copy_of}
+use Rattle.mc_core.specs.Evictions.{as_rescue}
 use Rattle.mc_core.specs.Run.{after_step}
 use Rattle.mc_core.specs.Past.{Moment, Saying, with_more, said_by, first_moment}
 use Rattle.mc_core.specs.Columns.{Each}
@@ -26,7 +26,7 @@ use Rattle.mc_core.specs.Laws.{MayStep, ChangesKeep, StepsKeep}
 use Rattle.mc_core.specs.Lawful.{RescuedIn}
 use Rattle.mc_core.proofs.Base.{each_map}
 use Rattle.mc_core.proofs.Rows.{rows_less, rows_more, each_less, each_more}
-use Rattle.mc_core.proofs.Holders.{found_each}
+use Rattle.mc_core.proofs.Changed.{rows_changed, each_changed}
 use Rattle.mc_core.proofs.Plays.{hand_there}
 use Rattle.mc_core.proofs.MoreRows.{joined_rows}
 use Rattle.mc_core.proofs.SaidOnce.{said_more, said_joined}
@@ -82,10 +82,8 @@ module _ (m : Moment) (hand : ℕ) where
     popped_off_rescued old None = is
     popped_off_rescued old (Some chunk) = one_more _ tt
 
-    filled_rescued : (chunk : ChunkId) (place word : ℕ) (found : Option Holding) → holding_of chunk (holdings_at m.state hand) ≡ found → AreRescued (refilled (without_holding m.state hand (is_of chunk)) hand place word found).holdings m.past.said
-    filled_rescued chunk place word None found = one_less (is_of chunk)
-    filled_rescued chunk place word (Some holding) found =
-        one_other (is_of chunk) (record holding { words = slice_set holding.words place (Some word) }) (found_each (IsSaidRescue m.past.said) m.state.holdings hand (is_of chunk) holding found is)
+    filled_rescued : (chunk : ChunkId) (place word : ℕ) → AreRescued (rows_changed m.state.holdings hand (is_of chunk) (filled place word)) m.past.said
+    filled_rescued chunk place word = each_changed (is_of chunk) (filled place word) m.state.holdings hand (IsSaidRescue m.past.said) (IsSaidRescue m.past.said) (λ h rescue. rescue) (λ h _ rescue. rescue) is
 
     linked_kind : (chunk : ChunkId) (holding : Holding) (kind : Kind) → AreRescued (with_holding (with_head (told_link (without_holding m.state hand (is_of chunk)) hand holding kind) chunk (linked (head_at m.state chunk))) hand (as_reference holding)).holdings m.past.said
     linked_kind chunk holding Reference = one_other (is_of chunk) (as_reference holding) tt
@@ -106,15 +104,15 @@ module _ (m : Moment) (hand : ℕ) where
     unlinked_rescued s (Some place) is = is
 
   -- the item of a chunk that is condemned was said
-  condemned_rescued : (chunk : ChunkId) → MayStep m hand (Condemn chunk) → (copy : Option Holding) → AreRescued (with_rescue (without_holding m.state hand (is_copy_of chunk)) hand chunk (item_at m.state chunk) copy).holdings m.past.said
-  condemned_rescued chunk may None = one_less may.lawful.rescued (is_copy_of chunk)
-  condemned_rescued chunk may (Some holding) =
+  condemned_rescued : (chunk : ChunkId) → MayStep m hand (Condemn chunk) → AreRescued (rows_changed m.state.holdings hand (is_copy_of chunk) (as_rescue chunk (item_at m.state chunk))) m.past.said
+  condemned_rescued chunk may =
       let l = may.lawful in
       let is = condemnable m hand chunk may in
       let whole = item_has m l chunk is.near is.linked (λ k. (is_complete k.words ≡ true) × (length k.words ≡ item_length k.words))
       (each_map (IsStill m l) (λ k. (is_complete k.words ≡ true) × (length k.words ≡ item_length k.words)) m.past.known (λ k still. still.whole) l.known.still) in
       let said = item_has m l chunk is.near is.linked (λ k. IsSaid m.past.said (stamp_in k.words) k.words) l.known.said_by_some in
-      one_other l.rescued (is_copy_of chunk) (record holding { kind = Fresh (Rescue chunk (item_at m.state chunk)) }) (whole.0, whole.1, said)
+      each_changed (is_copy_of chunk) (as_rescue chunk (item_at m.state chunk)) m.state.holdings hand (IsSaidRescue m.past.said) (IsSaidRescue m.past.said) (λ h rescue. rescue)
+      (λ h _ rescue. (whole.0, whole.1, said)) l.rescued
 
 joined_rescued : (m : Moment) (hand kept spent : ℕ) → MayStep m hand (Join kept spent) → AreRescued m.state.holdings (joined_rows m.past.said kept spent)
 joined_rescued m hand kept spent may =
@@ -147,7 +145,7 @@ rescued_steps m hand (step.Head chunk) may = ends m hand (after_step m.state han
 rescued_steps m hand (Pop class) may = ends m hand (after_step m.state hand (Pop class)) [] (popped_rescued m hand may.lawful.rescued class (next_free m.state class))
 rescued_steps m hand (PopOff old) may = ends m hand (after_step m.state hand (PopOff old)) [] (popped_off_rescued m hand may.lawful.rescued old (target_of m.state old.page))
 rescued_steps m hand (Fill chunk place word) may =
-    ends m hand (after_step m.state hand (Fill chunk place word)) [] (filled_rescued m hand may.lawful.rescued chunk place word (holding_of chunk (holdings_at m.state hand)) refl)
+    ends m hand (after_step m.state hand (Fill chunk place word)) [] (filled_rescued m hand may.lawful.rescued chunk place word)
 rescued_steps m hand (Word chunk place) may = ends m hand m.state [] may.lawful.rescued
 rescued_steps m hand (WordHeld chunk place) may = ends m hand m.state [] may.lawful.rescued
 rescued_steps m hand (Link chunk) may =
@@ -156,14 +154,7 @@ rescued_steps m hand (Refer key) may = ends m hand (after_step m.state hand (Ref
 rescued_steps m hand (Unlink key) may = ends m hand (after_step m.state hand (Unlink key)) [] (unlinked_rescued m hand may.lawful.rescued _ (chunk_of m.state key) may.lawful.rescued)
 rescued_steps m hand (Release chunk) may = ends m hand (after_step m.state hand (Release chunk)) [] (one_less m hand may.lawful.rescued (is_of chunk))
 rescued_steps m hand (Discard chunk) may = ends m hand (after_step m.state hand (Discard chunk)) [] (one_less m hand may.lawful.rescued (is_of chunk))
-rescued_steps m hand (Condemn chunk) may = ends m hand (after_step m.state hand (Condemn chunk)) [] (condemned_with m hand chunk may)
-  where
-    condemned_with : (m : Moment) (hand : ℕ) (chunk : ChunkId) (may : MayStep m hand (Condemn chunk)) → AreRescued (after_step m.state hand (Condemn chunk)).holdings m.past.said
-    condemned_with m hand chunk may =
-        elim (copy_of m.state hand chunk) as (λ o. AreRescued (with_rescue (without_holding (with_told m.state hand chunk (key_at m.state chunk)) hand (is_copy_of chunk)) hand chunk (item_at m.state chunk) o).holdings m.past.said) [
-          | None ↦ condemned_rescued m hand chunk may None
-          | Some holding ↦ condemned_rescued m hand chunk may (Some holding)
-        ]
+rescued_steps m hand (Condemn chunk) may = ends m hand (after_step m.state hand (Condemn chunk)) [] (condemned_rescued m hand chunk may)
 rescued_steps m hand (PutBack chunk) may = ends m hand m.state [] may.lawful.rescued
 rescued_steps m hand (Clear chunk) may = ends m hand m.state [] may.lawful.rescued
 rescued_steps m hand (Cut page index) may = ends m hand m.state [] may.lawful.rescued

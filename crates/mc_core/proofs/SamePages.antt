@@ -98,7 +98,7 @@ first_page_there slabs granted src source dst kept answer =
     let told = source_is slabs src source dst answer in first_page_within slabs granted source kept told.0 (omega (arith, told.1))
 
 -- a page that begins to move is its class's still
-begun_pages : (slabs : SlabState) (granted : ℕ) (src : Option ℕ) (dst : ℕ) (answer : Result ℕ Reassign) → IsInOrder slabs granted → answer_of slabs src dst ≡ answer →
+pub begun_pages : (slabs : SlabState) (granted : ℕ) (src : Option ℕ) (dst : ℕ) (answer : Result ℕ Reassign) → IsInOrder slabs granted → answer_of slabs src dst ≡ answer →
     (page : ℕ) → class_of_page (begun slabs src dst answer) page ≡ class_of_page slabs page
 begun_pages slabs granted src dst (Err refusal) kept is page = refl
 begun_pages slabs granted src dst (Ok source) kept is page =
@@ -125,7 +125,7 @@ no_class_cut slabs chunk (inl is) = and_left _ _ (ap (λ (o : Owner). is_of_clas
 no_class_cut slabs chunk (inr is) = and_left _ _ (ap (λ (o : Owner). is_of_class (class_of_owner o) o) is)
 
 -- the pages of the other classes after a class got a page
-grown_pages : (slabs : SlabState) (class page other : ℕ) → other ≢ page → class_of_page (after_grow slabs class page) other ≡ class_of_page slabs other
+pub grown_pages : (slabs : SlabState) (class page other : ℕ) → other ≢ page → class_of_page (after_grow slabs class page) other ≡ class_of_page slabs other
 grown_pages slabs class page other apart =
     ap (λ os. class_of_owner (owner_at os other)) (grown_owners slabs class page) ∙ ap class_of_owner (owner_at-set_other slabs.owners page other (Class class) apart)
 

@@ -1,5 +1,5 @@
 -- What each step leaves: a part of the state that no branch of it changes, the table, and the owners of pages.
-use Rattle.std.proofs.Common.{◌≡◌, ℕ, Bool, true, false, Option, Some, None, if◌then◌else◌, refl, ◌∙◌}
+use Rattle.std.proofs.Common.{◌≡◌, ℕ, Bool, true, false, Option, Some, None, if◌then◌else◌, refl}
 use Rattle.mc_pages.specs.declared.ids.ChunkId.{ChunkId}
 use Rattle.mc_core.specs.declared.holding.Holding.{Holding}
 use Rattle.mc_core.specs.declared.holding.Kind.{Kind}
@@ -9,12 +9,11 @@ use Rattle.mc_core.specs.declared.look.Look.{Look}
 use Rattle.mc_core.specs.declared.event.Step.{Step}
 use Rattle.mc_core.specs.declared.event.Step.TheVariants.{TakeSlabs, TakeStripe, MissSlabs, MissStripe, GiveSlabs, GiveStripe, Pop, PopOff, Fill, Word, WordHeld, Link, Refer, Unlink, Release, Discard, Condemn, PutBack, Clear, Cut, Again, Join}
 use Rattle.mc_core.specs.declared.event.Step.TheVariants as step
-use Rattle.mc_core.specs.Holdings.{Words, is_of, holding_of, is_copy_of}
-use Rattle.mc_core.specs.State.{State, has_slabs, with_look, with_head, with_holding, with_slabs, head_at, item_at, holdings_at, without_holding}
+use Rattle.mc_core.specs.Holdings.{is_of, holding_of}
+use Rattle.mc_core.specs.State.{State, has_slabs, with_look, with_head, with_slabs, head_at, holdings_at, without_holding}
 use Rattle.mc_core.specs.Locks.{looked}
-use Rattle.mc_core.specs.Chunks.{popped, popped_off, refilled, next_free, target_of}
+use Rattle.mc_core.specs.Chunks.{popped, popped_off, next_free, target_of}
 use Rattle.mc_core.specs.Items.{told_link, with_rescued, with_set, after_link_of, with_got, referred_to, with_reference, with_unlinked, unlinked, chunk_of}
-use Rattle.mc_core.specs.Evictions.{with_rescue, with_bound, with_told, key_at, copy_of}
 use Rattle.mc_core.specs.Run.{after_step}
 use Rattle.mc_pages.specs.Changes as slabs_changes
 
@@ -30,10 +29,6 @@ module _ {T : Type 0} (part : State → T) where
   pub popped_off_keeps : (state : State) (hand : ℕ) (old : ChunkId) (next : Option ChunkId) → ((chunk : ChunkId) → part (popped_off state hand old (Some chunk)) ≡ part state) → part (popped_off state hand old next) ≡ part state
   popped_off_keeps state hand old None keeps = refl
   popped_off_keeps state hand old (Some chunk) keeps = keeps chunk
-
-  pub refilled_keeps : (state : State) (hand place word : ℕ) (found : Option Holding) → ((holding : Holding) → part (with_holding state hand holding) ≡ part state) → part (refilled state hand place word found) ≡ part state
-  refilled_keeps state hand place word None keeps = refl
-  refilled_keeps state hand place word (Some holding) keeps = keeps _
 
   pub told_link_keeps : (state : State) (hand : ℕ) (holding : Holding) (kind : Kind) → part (with_rescued state hand holding) ≡ part state → part (with_set state hand holding) ≡ part state → part (told_link state hand holding kind) ≡ part state
   told_link_keeps state hand holding Reference rescued set = set
@@ -53,14 +48,6 @@ module _ {T : Type 0} (part : State → T) where
   unlinked_keeps state None keeps = refl
   unlinked_keeps state (Some place) keeps = keeps place.0
 
-  pub rescue_keeps : (state : State) (hand : ℕ) (old : ChunkId) (item : Words) (found : Option Holding) → ((holding : Holding) → part (with_holding state hand holding) ≡ part state) → part (with_rescue state hand old item found) ≡ part state
-  rescue_keeps state hand old item None keeps = refl
-  rescue_keeps state hand old item (Some holding) keeps = keeps _
-
-  pub bound_keeps : (state : State) (hand : ℕ) (chunk : ChunkId) (item : Words) → part (without_holding state hand (is_copy_of chunk)) ≡ part state →
-      ((holding : Holding) → part (with_holding (without_holding state hand (is_copy_of chunk)) hand holding) ≡ part (without_holding state hand (is_copy_of chunk))) → part (with_bound state hand chunk item) ≡ part state
-  bound_keeps state hand chunk item lost keeps = rescue_keeps (without_holding state hand (is_copy_of chunk)) hand chunk item (copy_of state hand chunk) keeps ∙ lost
-
 -- no step changes the table
 pub table_stays : (state : State) (hand : ℕ) (step : Step) → (after_step state hand step).table ≡ state.table
 table_stays state hand TakeSlabs = refl
@@ -72,7 +59,7 @@ table_stays state hand (GiveStripe stripe) = refl
 table_stays state hand (step.Head chunk) = looked_keeps (λ s. s.table) state hand _ refl
 table_stays state hand (Pop class) = popped_keeps (λ s. s.table) (with_slabs state (slabs_changes.after_pop state.slabs class)) hand (next_free state class) (λ chunk. refl)
 table_stays state hand (PopOff old) = popped_off_keeps (λ s. s.table) state hand old (target_of state old.page) (λ chunk. refl)
-table_stays state hand (Fill chunk place word) = refilled_keeps (λ s. s.table) (without_holding state hand (is_of chunk)) hand place word (holding_of chunk (holdings_at state hand)) (λ h. refl)
+table_stays state hand (Fill chunk place word) = refl
 table_stays state hand (Word chunk place) = refl
 table_stays state hand (WordHeld chunk place) = refl
 table_stays state hand (Link chunk) =
@@ -82,7 +69,7 @@ table_stays state hand (Refer key) = referred_keeps (λ s. s.table) (with_got st
 table_stays state hand (Unlink key) = unlinked_keeps (λ s. s.table) _ (chunk_of state key) (λ chunk. refl)
 table_stays state hand (Release chunk) = refl
 table_stays state hand (Discard chunk) = refl
-table_stays state hand (Condemn chunk) = bound_keeps (λ s. s.table) (with_told state hand chunk (key_at state chunk)) hand chunk (item_at state chunk) refl (λ h. refl)
+table_stays state hand (Condemn chunk) = refl
 table_stays state hand (PutBack chunk) = refl
 table_stays state hand (Clear chunk) = refl
 table_stays state hand (Cut page index) = refl
@@ -100,7 +87,7 @@ owners_stay state hand (GiveStripe stripe) = refl
 owners_stay state hand (step.Head chunk) = looked_keeps (λ s. s.slabs.owners) state hand _ refl
 owners_stay state hand (Pop class) = popped_keeps (λ s. s.slabs.owners) (with_slabs state (slabs_changes.after_pop state.slabs class)) hand (next_free state class) (λ chunk. refl)
 owners_stay state hand (PopOff old) = popped_off_keeps (λ s. s.slabs.owners) state hand old (target_of state old.page) (λ chunk. refl)
-owners_stay state hand (Fill chunk place word) = refilled_keeps (λ s. s.slabs.owners) (without_holding state hand (is_of chunk)) hand place word (holding_of chunk (holdings_at state hand)) (λ h. refl)
+owners_stay state hand (Fill chunk place word) = refl
 owners_stay state hand (Word chunk place) = refl
 owners_stay state hand (WordHeld chunk place) = refl
 owners_stay state hand (Link chunk) =
@@ -110,7 +97,7 @@ owners_stay state hand (Refer key) = referred_keeps (λ s. s.slabs.owners) (with
 owners_stay state hand (Unlink key) = unlinked_keeps (λ s. s.slabs.owners) _ (chunk_of state key) (λ chunk. refl)
 owners_stay state hand (Release chunk) = refl
 owners_stay state hand (Discard chunk) = refl
-owners_stay state hand (Condemn chunk) = bound_keeps (λ s. s.slabs.owners) (with_told state hand chunk (key_at state chunk)) hand chunk (item_at state chunk) refl (λ h. refl)
+owners_stay state hand (Condemn chunk) = refl
 owners_stay state hand (PutBack chunk) = refl
 owners_stay state hand (Clear chunk) = refl
 owners_stay state hand (Cut page index) = refl

@@ -76,14 +76,14 @@ module _ (m : Moment) (l : IsLawful m) where
 
   -- pages and lists as the hand found them
   abbrev pub found_by : List Hold → ℕ → SlabState
-  found_by holds hand = (slice_index_or holds hand (no_hold m.state.table)).found
+  found_by holds hand = (slice_index_or holds hand no_hold).found
 
   -- no hold begins or ends
   abbrev pub same_holds : ℕ → List Hold
-  same_holds hand = slice_set m.past.holds hand (slice_index_or m.past.holds hand (no_hold m.state.table))
+  same_holds hand = slice_set m.past.holds hand (slice_index_or m.past.holds hand no_hold)
 
   found_same : (hand h : ℕ) → found_by m.past.holds h ≡ found_by (same_holds hand) h
-  found_same hand h = ap (λ holds. found_by holds h) (sym (set-get_or m.past.holds hand (no_hold m.state.table)))
+  found_same hand h = ap (λ holds. found_by holds h) (sym (set-get_or m.past.holds hand no_hold))
 
   -- a step that appends no look to the looks of the lock's holder
   pub seen_quiet : (hand : ℕ) (more : List Known) (heads' : List Head) (words' : List ℕ) → LeavesSeen table m.state.slabs m.state.heads heads' m.state.words words' known (with_more known hand more) →

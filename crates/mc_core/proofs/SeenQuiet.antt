@@ -12,10 +12,10 @@ use Rattle.mc_core.specs.declared.holding.Kind.TheVariants.{Reference, Fresh}
 use Rattle.mc_core.specs.declared.holding.Purpose.TheVariants.{Item, Copy, Rescue}
 use Rattle.mc_core.specs.Head.{is_linked, is_unlinked}
 use Rattle.mc_core.specs.Holdings.{is_of, has_fresh, holding_of}
-use Rattle.mc_core.specs.Chunks.{can_fill_in, refilled, holds_as, let_go, after_drop}
+use Rattle.mc_core.specs.Chunks.{can_fill_in, holds_as, let_go, after_drop}
 use Rattle.mc_core.specs.Items.{linked, unlinked, referred, stripe_unlinked, chunk_of, is_linked_at, with_unlinked, with_got, can_refer_to, referred_to, with_reference, has_place_again, can_count, told_link, as_reference, after_link_of, can_link_holding}
 use Rattle.mc_core.specs.Silent.{writer_of}
-use Rattle.mc_core.specs.State.{State, has_slabs, has_chunk, head_at, head_place, looks_at, holdings_at, with_word, with_head, with_holding, with_stripe, without_holding, stripe_of, stripe_at}
+use Rattle.mc_core.specs.State.{State, room_at, has_slabs, has_chunk, head_at, head_place, looks_at, holdings_at, with_head, with_holding, with_stripe, without_holding, stripe_of, stripe_at}
 use Rattle.mc_core.specs.Run.{after_step}
 use Rattle.mc_core.specs.Past.{Moment, Known, no_hold, with_more, known_of_holding, known_of_place, moment_stepped}
 use Rattle.mc_core.specs.Columns.{head_in, place_in, IsHandedOut}
@@ -58,7 +58,7 @@ module _ (m : Moment) (l : IsLawful m) (hand : ℕ) (chunk : ChunkId) (holding :
 module _ (m : Moment) (hand : ℕ) (l : IsLawful m) where
   -- what a hand with the lock saw, after a step that gives this state and teaches this
   abbrev pub SeenBy : List Known → State → ℕ → Type 0
-  SeenBy more s h = AreSeen s.table s.slabs s.heads s.words (with_more m.past.known hand more) (slice_index_or (same_holds m l hand) h (no_hold s.table)).found (looks_at s h)
+  SeenBy more s h = AreSeen s.table s.slabs s.heads s.words (with_more m.past.known hand more) (slice_index_or (same_holds m l hand) h no_hold).found (looks_at s h)
 
   -- one header changes
   turned : (more : List Known) (chunk : ChunkId) (head : Head) → has_chunk m.state.table chunk ≡ true → StaysPut (head_at m.state chunk) head → (h : ℕ) → has_slabs m.state h ≡ true → SeenBy more (with_head m.state chunk head) h
@@ -91,7 +91,7 @@ module _ (m : Moment) (hand : ℕ) where
       let l = may.lawful in
       let before = has_before m.state (after_step m.state hand (Fill chunk place word)) hand h (own_step m.state hand (Fill chunk place word) refl) has in
       elim (holding_of chunk (holdings_at m.state hand)) as (λ o. holding_of chunk (holdings_at m.state hand) ≡ o → can_fill_in place o ≡ true →
-      SeenBy m hand l [] (with_word (refilled (without_holding m.state hand (is_of chunk)) hand place word o) chunk place word) h) [
+      SeenBy m hand l [] (after_step m.state hand (Fill chunk place word)) h) [
         | None ↦ λ _ never. absurd (cc)
         | Some holding ↦ λ found can.
             seen_quiet m l hand [] m.state.heads (words' m hand l chunk place word holding found can) (leaves_filled m hand l chunk place word holding found can) h before
@@ -166,12 +166,12 @@ module _ (m : Moment) (hand : ℕ) where
       let l = may.lawful in
       let before = has_before m.state (after_step m.state hand (Link chunk)) hand h (own_step m.state hand (Link chunk) refl) has in
       elim (holding_of chunk (holdings_at m.state hand)) as (λ o. holding_of chunk (holdings_at m.state hand) ≡ o → can_link_holding m.state hand chunk o ≡ true →
-      SeenBy m hand l (known_of_holding o) (after_link_of (without_holding m.state hand (is_of chunk)) hand chunk o) h) [
+      SeenBy m hand l (known_of_holding (room_at m.state chunk) o) (after_link_of (without_holding m.state hand (is_of chunk)) hand chunk o) h) [
         | None ↦ λ _ never. absurd (cc)
         | Some holding ↦ λ found can.
             let parts = and_parts _ (can_count (head_at m.state chunk)) can in
             let tag = and_parts _ (is_unlinked (head_at m.state chunk).tag) parts.0 in
-            seen_linked l chunk holding found tag.1 (known_of_holding (Some holding)) h before holding.kind
+            seen_linked l chunk holding found tag.1 (known_of_holding (room_at m.state chunk) (Some holding)) h before holding.kind
       ] refl may.allowed
 
   -- nothing of it changes

@@ -71,14 +71,14 @@ module _ (m : Moment) (hand : ℕ) where
       let (n, is_h, word) = held_is (lock_word m.state hand) (number_at m.state h) has in
       let same : hand ≡ h = l.hands.apart hand h n (number_of_word (number_at m.state hand) n may.there word) is_h in
       let is = hand_there m.state hand may.there in let long = l.hands.look_rows in let rows = l.rows.holds in
-      let hold : Hold = slice_index_or m.past.holds hand (no_hold m.state.table) in
+      let hold : Hold = slice_index_or m.past.holds hand no_hold in
       let begun : Hold = record hold { found = m.state.slabs; count = hold.count + 1 } in
       let holds' = slice_set m.past.holds hand begun in
-      let found : (slice_index_or holds' hand (no_hold m.state.table)).found ≡ m.state.slabs =
-      ap (λ (x : Hold). x.found) (get_or-set_same m.past.holds hand begun (no_hold m.state.table) (omega arith)) in
+      let found : (slice_index_or holds' hand no_hold).found ≡ m.state.slabs =
+      ap (λ (x : Hold). x.found) (get_or-set_same m.past.holds hand begun no_hold (omega arith)) in
       let looks : row_of (slice_set m.state.looks hand []) hand ≡ [] = row_same m.state.looks hand [] (omega arith) in
       let seen = nothing_learned (λ _ known. AreSeen m.state.table m.state.slabs m.state.heads m.state.words known m.state.slabs []) m.past.said m.past.known hand (nothing_seen m) in
-      subst (λ n. AreSeen m.state.table m.state.slabs m.state.heads m.state.words (with_more m.past.known hand []) (slice_index_or holds' n (no_hold m.state.table)).found (row_of (slice_set m.state.looks hand []) n)) same
+      subst (λ n. AreSeen m.state.table m.state.slabs m.state.heads m.state.words (with_more m.past.known hand []) (slice_index_or holds' n no_hold).found (row_of (slice_set m.state.looks hand []) n)) same
       (subst (λ f. AreSeen m.state.table m.state.slabs m.state.heads m.state.words (with_more m.past.known hand []) f (row_of (slice_set m.state.looks hand []) hand)) (sym found)
       (subst (λ looks. AreSeen m.state.table m.state.slabs m.state.heads m.state.words (with_more m.past.known hand []) m.state.slabs looks) (sym looks) seen))
 
@@ -105,18 +105,18 @@ module _ (m : Moment) (hand : ℕ) where
     seen_join : SeenIn (moment_stepped m hand (Join kept spent))
     seen_join h has =
         let both = joined_has h has in
-        let holds' = slice_set m.past.holds spent (no_hold m.state.table) in
+        let holds' = slice_set m.past.holds spent no_hold in
         let known' = joined_rows m.past.known kept spent in
-        let found : (slice_index_or m.past.holds h (no_hold m.state.table)).found ≡ (slice_index_or holds' h (no_hold m.state.table)).found =
-        ap (λ (x : Hold). x.found) (sym (get_or-set_other m.past.holds spent h (no_hold m.state.table) (no_hold m.state.table) both.0)) in
+        let found : (slice_index_or m.past.holds h no_hold).found ≡ (slice_index_or holds' h no_hold).found =
+        ap (λ (x : Hold). x.found) (sym (get_or-set_other m.past.holds spent h no_hold no_hold both.0)) in
         let looks : looks_at m.state h ≡ row_of (slice_set m.state.looks spent []) h = sym (row_other m.state.looks spent h [] both.0) in
-        let seen = seen_left m.state.table m.state.slabs (slice_index_or m.past.holds h (no_hold m.state.table)).found m.state.heads m.state.heads m.state.words m.state.words m.past.known known' (looks_at m.state h)
+        let seen = seen_left m.state.table m.state.slabs (slice_index_or m.past.holds h no_hold).found m.state.heads m.state.heads m.state.words m.state.words m.past.known known' (looks_at m.state h)
         (record {
           headers = λ chunk near. put_same _;
           items = λ chunk issue. known_still m hand kept spent may (λ k. (k.chunk ≡ chunk) × (k.issue ≡ issue));
           data_words = λ chunk place issue near is within. refl;
         }) (may.lawful.seen h both.1) in
-        subst (λ looks. AreSeen m.state.table m.state.slabs m.state.heads m.state.words known' (slice_index_or holds' h (no_hold m.state.table)).found looks) looks
+        subst (λ looks. AreSeen m.state.table m.state.slabs m.state.heads m.state.words known' (slice_index_or holds' h no_hold).found looks) looks
         (subst (λ f. AreSeen m.state.table m.state.slabs m.state.heads m.state.words known' f (looks_at m.state h)) found seen)
 
 pub seen_steps : StepsKeep SeenIn

@@ -14,13 +14,12 @@ use Rattle.mc_core.specs.declared.head.Tag.TheVariants.{Out, Free, Unlinked, Lin
 use Rattle.mc_core.specs.declared.look.Look.{Look}
 use Rattle.mc_core.specs.declared.look.Look.TheVariants as look
 use Rattle.mc_core.specs.Head.{is_out, is_free, is_dead}
-use Rattle.mc_core.specs.Holdings.{is_copy_of}
 use Rattle.mc_core.specs.Looks.{was_linked}
 use Rattle.mc_core.specs.Silent.{is_handed_out, is_listed}
 use Rattle.mc_core.specs.Locks.{looked}
 use Rattle.mc_core.specs.Chunks.{handed_out, with_tag_free, with_tag_out, next_free, popped, target_of, is_target, popped_off, has_place, can_hand_out, is_moving_page, is_next_uncut}
-use Rattle.mc_core.specs.Evictions.{condemned, key_at, with_told, with_rescue, copy_of}
-use Rattle.mc_core.specs.State.{State, has_slabs, is_hand, has_chunk, is_class, head_at, head_place, room_at, item_at, looks_at, with_slabs, with_head, with_look, without_holding}
+use Rattle.mc_core.specs.Evictions.{condemned}
+use Rattle.mc_core.specs.State.{has_slabs, is_hand, has_chunk, is_class, head_at, head_place, room_at, looks_at, with_slabs, with_head, with_look}
 use Rattle.mc_core.specs.Run.{after_step}
 use Rattle.mc_core.specs.Past.{Moment, moment_stepped}
 use Rattle.mc_core.specs.Columns.{IsHandedOut}
@@ -189,12 +188,6 @@ module _ (m : Moment) (hand : ℕ) where
       let before = has_before m.state (after_step m.state hand (Condemn chunk)) hand h (own_step m.state hand (Condemn chunk) refl) has in
       let is = condemnable m hand chunk may in
       let head = condemned (head_at m.state chunk) in
-      let told : State = with_told m.state hand chunk (key_at m.state chunk) in
-      let left : State = without_holding told hand (is_copy_of chunk) in
-      let goal = turns m hand l may.there is.slabs m.state.slabs chunk head (look.Condemned chunk head)
+      turns m hand l may.there is.slabs m.state.slabs chunk head (look.Condemned chunk head)
       (adds_turned m.state.table m.state.slabs m.state.heads m.state.words m.past.known (looks_at m.state hand) m.state.slabs chunk head (look.Condemned chunk head) l.sized.headers is.near (λ page. refl) refl
-      (λ other before. refl) (λ other before. refl) (λ other place before. refl) (λ issue out. (inl refl, out.1))) h before in
-      elim (copy_of m.state hand chunk) as (λ o. SeenBy m hand l [] (with_look (with_head (with_rescue left hand chunk (item_at m.state chunk) o) chunk head) hand (look.Condemned chunk head)) h) [
-        | None ↦ goal
-        | Some holding ↦ goal
-      ]
+      (λ other before. refl) (λ other before. refl) (λ other place before. refl) (λ issue out. (inl refl, out.1))) h before

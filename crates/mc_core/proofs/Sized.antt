@@ -9,15 +9,14 @@ use Rattle.mc_core.specs.declared.event.Step.TheVariants.{TakeSlabs, TakeStripe,
 use Rattle.mc_core.specs.declared.event.Step.TheVariants as step
 use Rattle.mc_core.specs.Head.{never_cut}
 use Rattle.mc_core.specs.Holdings.{is_of, holding_of}
-use Rattle.mc_core.specs.State.{State, most_of, page_words, with_slabs, item_at, holdings_at, without_holding}
+use Rattle.mc_core.specs.State.{State, most_of, page_words, with_slabs, holdings_at, without_holding}
 use Rattle.mc_core.specs.Chunks.{next_free, target_of}
 use Rattle.mc_core.specs.Items.{with_got, chunk_of}
-use Rattle.mc_core.specs.Evictions.{with_told, key_at}
 use Rattle.mc_core.specs.Run.{after_step}
 use Rattle.mc_core.specs.Past.{first_moment}
 use Rattle.mc_core.specs.Lawful.{SizedIn}
 use Rattle.mc_core.specs.Laws.{ChangesKeep, StepsKeep}
-use Rattle.mc_core.proofs.SameSlabs.{looked_keeps, popped_keeps, popped_off_keeps, refilled_keeps, told_link_keeps, linked_keeps, referred_keeps, unlinked_keeps, bound_keeps, table_stays}
+use Rattle.mc_core.proofs.SameSlabs.{looked_keeps, popped_keeps, popped_off_keeps, told_link_keeps, linked_keeps, referred_keeps, unlinked_keeps, table_stays}
 use Rattle.mc_pages.specs.Changes as slabs_changes
 
 abbrev head_count : State → ℕ
@@ -34,7 +33,7 @@ heads_stay state hand (GiveStripe stripe) = refl
 heads_stay state hand (step.Head chunk) = looked_keeps head_count state hand _ refl
 heads_stay state hand (Pop class) = popped_keeps head_count (with_slabs state (slabs_changes.after_pop state.slabs class)) hand (next_free state class) (λ chunk. length-set state.heads _ _)
 heads_stay state hand (PopOff old) = popped_off_keeps head_count state hand old (target_of state old.page) (λ chunk. length-set state.heads _ _)
-heads_stay state hand (Fill chunk place word) = refilled_keeps head_count (without_holding state hand (is_of chunk)) hand place word (holding_of chunk (holdings_at state hand)) (λ h. refl)
+heads_stay state hand (Fill chunk place word) = refl
 heads_stay state hand (Word chunk place) = refl
 heads_stay state hand (WordHeld chunk place) = refl
 heads_stay state hand (Link chunk) =
@@ -45,7 +44,7 @@ heads_stay state hand (Refer key) = referred_keeps head_count (with_got state ha
 heads_stay state hand (Unlink key) = unlinked_keeps head_count _ (chunk_of state key) (λ chunk. length-set state.heads _ _)
 heads_stay state hand (Release chunk) = length-set state.heads _ _
 heads_stay state hand (Discard chunk) = length-set state.heads _ _
-heads_stay state hand (Condemn chunk) = length-set _ _ _ ∙ bound_keeps head_count (with_told state hand chunk (key_at state chunk)) hand chunk (item_at state chunk) refl (λ h. refl)
+heads_stay state hand (Condemn chunk) = length-set _ _ _
 heads_stay state hand (PutBack chunk) = length-set state.heads _ _
 heads_stay state hand (Clear chunk) = length-set state.heads _ _
 heads_stay state hand (Cut page index) = length-set state.heads _ _
@@ -66,7 +65,7 @@ words_stay state hand (GiveStripe stripe) = refl
 words_stay state hand (step.Head chunk) = looked_keeps word_count state hand _ refl
 words_stay state hand (Pop class) = popped_keeps word_count (with_slabs state (slabs_changes.after_pop state.slabs class)) hand (next_free state class) (λ chunk. refl)
 words_stay state hand (PopOff old) = popped_off_keeps word_count state hand old (target_of state old.page) (λ chunk. refl)
-words_stay state hand (Fill chunk place word) = length-set _ _ _ ∙ refilled_keeps word_count (without_holding state hand (is_of chunk)) hand place word (holding_of chunk (holdings_at state hand)) (λ h. refl)
+words_stay state hand (Fill chunk place word) = length-set _ _ _
 words_stay state hand (Word chunk place) = refl
 words_stay state hand (WordHeld chunk place) = refl
 words_stay state hand (Link chunk) =
@@ -76,7 +75,7 @@ words_stay state hand (Refer key) = referred_keeps word_count (with_got state ha
 words_stay state hand (Unlink key) = unlinked_keeps word_count _ (chunk_of state key) (λ chunk. refl)
 words_stay state hand (Release chunk) = refl
 words_stay state hand (Discard chunk) = refl
-words_stay state hand (Condemn chunk) = bound_keeps word_count (with_told state hand chunk (key_at state chunk)) hand chunk (item_at state chunk) refl (λ h. refl)
+words_stay state hand (Condemn chunk) = refl
 words_stay state hand (PutBack chunk) = refl
 words_stay state hand (Clear chunk) = refl
 words_stay state hand (Cut page index) = refl

@@ -248,9 +248,9 @@ module _ (hand : ℕ) (chunk : ChunkId) (issue : ℕ) where
   stays_stale m event l allowed held now stale =
       let after = moment_after m event in
       let l' = lawful_events m event l allowed in
-      let k : Known = known_by held.holding in
-      let own : Contains (row_of m.past.known hand) k = All-contains (λ (h : Holding). is_fresh h ≡ false → Contains (row_of m.past.known hand) (known_by h)) (holdings_at m.state hand) held.holding (l.known.own hand) held.among stale in
-      let there = known_persists m event l allowed held k own in
+      let own = All-contains (λ (h : Holding). is_fresh h ≡ false → (room : ℕ) × Contains (row_of m.past.known hand) (known_by room h)) (holdings_at m.state hand) held.holding (l.known.own hand) held.among stale in
+      let k : Known = known_by own.0 held.holding in
+      let there = known_persists m event l allowed held k own.1 in
       let still = each_contained (IsTrueStill after.state.table after.state.slabs after.state.heads after.state.words after.state.holdings) after.past.known there.0 k l'.known.still there.1 in
       let Apart = λ (h : Holding). is_fresh h ≡ true → h.chunk ≡ k.chunk → h.issue ≡ k.issue → ⊥ in
       let apart = All-contains Apart (holdings_at after.state hand) now.holding (each_row Apart after.state.holdings hand still.apart) now.among in

@@ -17,14 +17,14 @@ use Rattle.mc_core.specs.declared.holding.Purpose.TheVariants.{Item, Copy, Rescu
 use Rattle.mc_core.specs.declared.ids.Ids.{Ids}
 use Rattle.mc_core.specs.declared.look.Look.{Look}
 use Rattle.mc_core.specs.Head.{is_unlinked}
-use Rattle.mc_core.specs.Holdings.{Words, key_in, stamp_in, item_in, is_complete, is_of, has_fresh, holding_of}
+use Rattle.mc_core.specs.Holdings.{key_in, stamp_in, item_in, is_complete, is_of, has_fresh, holding_of}
 use Rattle.mc_core.specs.State.{State, has_chunk, head_at, ids_at, has_slabs, has_stripe, stripe_of, stripe_at, with_stripe, without_holding, holdings_at, with_look}
 use Rattle.mc_core.specs.Silent.{is_aside, can_tell_none, writer_of, allows_change, after_change}
 use Rattle.mc_core.specs.Locks.{looked}
-use Rattle.mc_core.specs.Chunks.{popped, popped_off, refilled, target_of, next_free, has_place}
+use Rattle.mc_core.specs.Chunks.{popped, popped_off, target_of, next_free, has_place}
 use Rattle.mc_core.specs.Items.{most_stamps, suits, can_link_key, can_tell_link, can_link_holding, is_entry_aside, is_none_else_aside, is_next_stamp, are_same, can_count, told_link, after_link_of, referred_to, with_got, with_unlinked, is_ready_for, can_refer_to, can_lift, is_linked_at, chunk_of, stripe_unlinked}
 use Rattle.mc_core.specs.Items as items
-use Rattle.mc_core.specs.Evictions.{is_idle, can_take_away, has_copy, has_reason, key_at, with_rescue, with_bound, with_told, copy_of, stripe_condemned}
+use Rattle.mc_core.specs.Evictions.{is_idle, can_take_away, has_copy, has_reason, key_at, with_bound, with_told, stripe_condemned}
 use Rattle.mc_core.specs.Evictions as evictions
 use Rattle.mc_core.specs.Run.{allows_step, after_step}
 use Rattle.mc_core.specs.Past.{Saying, saying_of, said_by, sayings_of}
@@ -103,10 +103,6 @@ module _ (state : State) (hand : ℕ) (l : AreLegal state.stripes state.stripe_l
   unlinked_stripes s None = refl
   unlinked_stripes s (Some place) = refl
 
-  rescue_stripes : (s : State) (chunk : ChunkId) (item : Words) (copy : Option Holding) → (with_rescue s hand chunk item copy).stripes ≡ s.stripes
-  rescue_stripes s chunk item None = refl
-  rescue_stripes s chunk item (Some holding) = refl
-
   -- the same list under another name
   renamed : (now other : List ReadyStripe) → now ≡ other → MayTell state other hand [] → MayTell state now hand []
   renamed now other e may = subst (λ (xs : List ReadyStripe). MayTell state xs hand []) (sym e) may
@@ -149,11 +145,10 @@ module _ (state : State) (hand : ℕ) (l : AreLegal state.stripes state.stripe_l
       let away = and_parts (stripe.ready && is_some (place_of stripe.state key)) (not rescues || is_none stripe.state.aside) taken.1 in
       let there = (and_parts stripe.ready (is_some (place_of stripe.state key)) away.0).1 in
       let now = λ (b : Bool). slice_set state.stripes at (stripe_condemned stripe b (writer_of state hand) key) in
-      renamed _ (now rescues) (rescue_stripes (without_holding (with_told state hand chunk key) hand _) chunk _ (copy_of (with_told state hand chunk key) hand chunk))
-      (elim rescues as (λ b. (not b || is_none stripe.state.aside) ≡ true → MayTell state (now b) hand []) [
+      elim rescues as (λ b. (not b || is_none stripe.state.aside) ≡ true → MayTell state (now b) hand []) [
         | true ↦ λ none. inr (tells_lifted state hand l at has key stripe.ready refl there (none_is stripe.state.aside none))
         | false ↦ λ _. inr (tells_evicted state hand l at has key there)
-      ] away.1)
+      ] away.1
 
   module _ (chunk : ChunkId) where
     abbrev without : State
@@ -196,10 +191,6 @@ module _ (state : State) (hand : ℕ) (l : AreLegal state.stripes state.stripe_l
   popped_off_stripes s old None = refl
   popped_off_stripes s old (Some chunk) = refl
 
-  refilled_stripes : (s : State) (place word : ℕ) (holding : Option Holding) → (refilled s hand place word holding).stripes ≡ s.stripes
-  refilled_stripes s place word None = refl
-  refilled_stripes s place word (Some holding) = refl
-
   looked_stripes : (s : State) (look : Look) → (looked s hand look).stripes ≡ s.stripes
   looked_stripes s look = elim (has_slabs s hand) as (λ b. (cond b (with_look s hand look) s).stripes ≡ s.stripes) [ true ↦ refl | false ↦ refl ]
 
@@ -213,7 +204,7 @@ module _ (state : State) (hand : ℕ) (l : AreLegal state.stripes state.stripe_l
   told_by_step (step.Head chunk) h = inl (looked_stripes state _, refl)
   told_by_step (Pop class) h = inl (popped_stripes _ (next_free state class), refl)
   told_by_step (PopOff old) h = inl (popped_off_stripes state old (target_of state old.page), refl)
-  told_by_step (Fill chunk place word) h = inl (refilled_stripes (without_holding state hand (is_of chunk)) place word (holding_of chunk (holdings_at state hand)), refl)
+  told_by_step (Fill chunk place word) h = inl (refl, refl)
   told_by_step (Word chunk place) h = inl (refl, refl)
   told_by_step (WordHeld chunk place) h = inl (refl, refl)
   told_by_step (Link chunk) h = told_by_link chunk (holding_of chunk (holdings_at state hand)) h

@@ -17,8 +17,6 @@ use Rattle.mc_core.specs.State.{State, room_in, word_place, holdings_at, without
 use Rattle.mc_core.specs.Silent.{after_change}
 use Rattle.mc_core.specs.Chunks.{can_fill_in, after_fill, next_free, target_of}
 use Rattle.mc_core.specs.Items.{with_got, chunk_of}
-use Rattle.mc_core.specs.Evictions.{with_told, key_at}
-use Rattle.mc_core.specs.State.{item_at}
 use Rattle.mc_core.specs.Run.{after_step}
 use Rattle.mc_core.specs.Columns.{holds, holders}
 use Rattle.mc_core.specs.Past.{Moment}
@@ -26,12 +24,12 @@ use Rattle.mc_core.specs.Lawful.{IsLawful}
 use Rattle.mc_core.proofs.Base.{IsPlaced, same_word, holds_own}
 use Rattle.mc_core.proofs.Holders.{holds-cons, holds_from_found, holds-le-holders, fresh_once}
 use Rattle.mc_core.proofs.KnownFills.{fill_at, fill_fresh, fill_placed, fill_on}
-use Rattle.mc_core.proofs.SameSlabs.{looked_keeps, popped_keeps, popped_off_keeps, refilled_keeps, told_link_keeps, linked_keeps, referred_keeps, unlinked_keeps, bound_keeps}
+use Rattle.mc_core.proofs.SameSlabs.{looked_keeps, popped_keeps, popped_off_keeps, told_link_keeps, linked_keeps, referred_keeps, unlinked_keeps}
 
 -- the words after a fill
 pub filled_words : (state : State) (hand : ℕ) (chunk : ChunkId) (place word : ℕ) → (after_fill state hand chunk place word).words ≡ slice_set state.words (word_place state chunk place) word
 filled_words state hand chunk place word =
-    refilled_keeps (λ s. slice_set s.words (word_place s chunk place) word) (without_holding state hand (is_of chunk)) hand place word (holding_of chunk (holdings_at state hand)) (λ h. refl)
+    refl
 
 abbrev pub is_fill : Step → Bool
 is_fill (step.Fill chunk place word) = true
@@ -57,7 +55,7 @@ step_words state hand (step.Refer key) h = referred_keeps (λ s. s.words) (with_
 step_words state hand (step.Unlink key) h = unlinked_keeps (λ s. s.words) _ (chunk_of state key) (λ chunk. refl)
 step_words state hand (step.Release chunk) h = refl
 step_words state hand (step.Discard chunk) h = refl
-step_words state hand (step.Condemn chunk) h = bound_keeps (λ s. s.words) (with_told state hand chunk (key_at state chunk)) hand chunk (item_at state chunk) refl (λ held. refl)
+step_words state hand (step.Condemn chunk) h = refl
 step_words state hand (step.PutBack chunk) h = refl
 step_words state hand (step.Clear chunk) h = refl
 step_words state hand (step.Cut page index) h = refl

@@ -14,7 +14,7 @@ use Rattle.mc_core.specs.declared.holding.Purpose.TheVariants.{Item, Copy}
 use Rattle.mc_core.specs.declared.look.Look.TheVariants.{Popped, PoppedOff, PutBack, Cleared, Cut}
 use Rattle.mc_core.specs.Head.{is_free, is_out, is_dead}
 use Rattle.mc_core.specs.Holdings.{is_of, is_fresh, holding_of}
-use Rattle.mc_core.specs.State.{State, is_class, has_chunk, head_at, with_head, room_at, with_word, has_slabs, with_slabs, holdings_at, with_holding, without_holding, with_look}
+use Rattle.mc_core.specs.State.{State, is_class, has_chunk, head_at, with_head, room_at, with_word, has_slabs, with_slabs, holdings_at, with_holding, with_changed, without_holding, with_look}
 use Rattle.mc_core.specs.Silent.{is_handed_out, is_listed}
 
 -- the greatest issue number, with which a chunk is used up
@@ -97,14 +97,12 @@ can_fill_in place (Some holding) = is_fresh holding && nat_lt place (length hold
 abbrev pub can_fill : State → ℕ → ChunkId → ℕ → Bool
 can_fill state hand chunk place = can_fill_in place (holding_of chunk (holdings_at state hand))
 
--- the holding comes back with one more word
-abbrev pub refilled : State → ℕ → ℕ → ℕ → Option Holding → State
-refilled state hand place word None = state
-refilled state hand place word (Some holding) = with_holding state hand (record holding { words = slice_set holding.words place (Some word) })
+-- the holding with one more word
+abbrev pub filled : ℕ → ℕ → Holding → Holding
+filled place word holding = record holding { words = slice_set holding.words place (Some word) }
 
 abbrev pub after_fill : State → ℕ → ChunkId → ℕ → ℕ → State
-after_fill state hand chunk place word =
-    with_word (refilled (without_holding state hand (is_of chunk)) hand place word (holding_of chunk (holdings_at state hand))) chunk place word
+after_fill state hand chunk place word = with_word (with_changed state hand (is_of chunk) (filled place word)) chunk place word
 
 -- one holder less
 abbrev pub let_go : Head → Head

@@ -1,5 +1,5 @@
 -- Items that are taken away from their chunks, to make room or since their page moves.
-use Rattle.std.specs.Prelude.{ℕ, ◌==◌, Bool, not, ◌&&◌, ◌||◌, if◌then◌else◌, find, is_some, is_none, Option, Some, None}
+use Rattle.std.specs.Prelude.{ℕ, ◌==◌, Bool, not, ◌&&◌, ◌||◌, if◌then◌else◌, is_some, is_none}
 use Rattle.std.specs.List.{list_all, list_any}
 use Rattle.mc_classes.specs.Classes.{pages_of}
 use Rattle.mc_pages.specs.declared.ids.ChunkId.{ChunkId}
@@ -16,7 +16,7 @@ use Rattle.mc_core.specs.declared.look.Look.TheVariants.{Condemned}
 use Rattle.mc_core.specs.Head.{is_linked}
 use Rattle.mc_core.specs.Holdings.{Words, is_copy_of}
 use Rattle.mc_core.specs.Looks.{is_found_alive}
-use Rattle.mc_core.specs.State.{State, has_chunk, head_at, with_head, word_at, item_at, has_slabs, has_stripe, stripe_of, stripe_at, with_stripe, holdings_at, with_holding, without_holding, looks_at, with_look}
+use Rattle.mc_core.specs.State.{State, has_chunk, head_at, with_head, word_at, item_at, has_slabs, has_stripe, stripe_of, stripe_at, with_stripe, holdings_at, with_changed, looks_at, with_look}
 use Rattle.mc_core.specs.Silent.{is_whole, writer_of}
 use Rattle.mc_core.specs.Chunks.{is_moving_page, target_of}
 
@@ -72,22 +72,14 @@ condemned head = record { issue = head.issue; tag = Unlinked; count = 0 }
 abbrev pub as_rescue : ChunkId → Words → Holding → Holding
 as_rescue old item holding = record holding { kind = Fresh (Rescue old item) }
 
-abbrev pub with_rescue : State → ℕ → ChunkId → Words → Option Holding → State
-with_rescue state hand old item None = state
-with_rescue state hand old item (Some holding) = with_holding state hand (as_rescue old item holding)
-
 -- the stripe of the key: its entry is put aside for a rescue, and else evicted
 abbrev pub stripe_condemned : ReadyStripe → Bool → ℕ → ℕ → ReadyStripe
 stripe_condemned stripe rescues writer key =
     if rescues then record stripe { state = after_lift stripe.state key } else used_up (after_evict stripe.state writer key)
 
--- the hand's copy of this chunk
-abbrev pub copy_of : State → ℕ → ChunkId → Option Holding
-copy_of state hand chunk = find (is_copy_of chunk) (holdings_at state hand)
-
--- the hand's copy of this chunk, if it has one, is to have these words
+-- each copy of this chunk that the hand holds is to have these words, and counts as a copy of it no more
 abbrev pub with_bound : State → ℕ → ChunkId → Words → State
-with_bound state hand chunk item = with_rescue (without_holding state hand (is_copy_of chunk)) hand chunk item (copy_of state hand chunk)
+with_bound state hand chunk item = with_changed state hand (is_copy_of chunk) (as_rescue chunk item)
 
 -- the stripe of the key knows that the item was taken away
 abbrev pub with_told : State → ℕ → ChunkId → ℕ → State

@@ -1,5 +1,5 @@
 -- The holdings of one hand, and the words of an item.
-use Rattle.std.specs.Prelude.{ℕ, ◌+◌, Bool, true, false, ◌&&◌, nat_le, if◌then◌else◌, List, [], ◌∷◌, length, take, find, slice_index_or, is_some, unwrap_or, Option, None}
+use Rattle.std.specs.Prelude.{ℕ, ◌+◌, Bool, true, false, ◌&&◌, nat_le, if◌then◌else◌, List, [], ◌∷◌, length, map, take, find, slice_index_or, is_some, unwrap_or, Option, None}
 use Rattle.std.specs.List.{list_any, list_all}
 use Rattle.mc_pages.specs.declared.ids.ChunkId.{ChunkId}
 use Rattle.mc_pages.specs.ClassState.{is_chunk}
@@ -50,6 +50,10 @@ holding_of chunk holdings = find (is_of chunk) holdings
 abbrev pub lose : (Holding → Bool) → List Holding → List Holding
 lose test [] = []
 lose test (holding ∷ holdings) = if test holding then holdings else holding ∷ lose test holdings
+
+-- each holding that passes the test is changed so, and keeps its place
+abbrev pub change_each : (Holding → Bool) → (Holding → Holding) → List Holding → List Holding
+change_each test change holdings = map (λ holding. if test holding then change holding else holding) holdings
 
 abbrev pub is_fresh_kind : Kind → Bool
 is_fresh_kind Reference = false

@@ -2,7 +2,7 @@
 use Rattle.std.specs.Prelude.{◌≡◌, ⊤, ℕ, ◌≤◌, true, false, List, [], length, slice_index_or, All, Contains}
 use Rattle.mc_classes.specs.Classes.{Classes}
 use Rattle.mc_pages.specs.declared.ids.ChunkId.{ChunkId}
-use Rattle.mc_pages.specs.SlabState.{SlabState}
+use Rattle.mc_pages.specs.SlabState.{SlabState, class_of_page}
 use Rattle.mc_core.specs.declared.head.Head.{Head}
 use Rattle.mc_core.specs.declared.head.Tag.TheVariants.{Linked}
 use Rattle.mc_core.specs.declared.holding.Holding.{Holding}
@@ -12,20 +12,21 @@ use Rattle.mc_core.specs.declared.holding.Purpose.TheVariants.{Rescue}
 use Rattle.mc_core.specs.Holdings.{Words, stamp_in, item_length, is_complete, is_fresh}
 use Rattle.mc_core.specs.Past.{Known, Saying, known_by}
 use Rattle.mc_core.specs.Identities.{said_count}
-use Rattle.mc_core.specs.State.{has_chunk}
+use Rattle.mc_core.specs.State.{room_in, has_chunk}
 use Rattle.mc_core.specs.Columns.{head_in, Shows, Each, IsHandedOut, IsKnownToSome}
 
 -- somebody said this
 abbrev pub IsSaid : List (List Saying) → ℕ → Words → Type 0
 IsSaid said stamp words = (hand : ℕ) × (s : Saying) × Contains (slice_index_or said hand []) s × (s.stamp ≡ stamp) × (s.words ≡ words)
 
--- a known item: it is whole; its chunk was handed out with this issue at the latest, no fresh chunk has it, and while it lasts its
--- words are the chunk's
+-- a known item: it is whole; its chunk was handed out with this issue at the latest, no fresh chunk has it; and as long as the chunk
+-- is handed out with this issue, its words are the item's, and it has the room of its page's class
 pub record IsTrueStill (table : Classes) (slabs : SlabState) (heads : List Head) (words : List ℕ) (holdings : List (List Holding)) (k : Known) : Type 0 where
   pub inside : has_chunk table k.chunk ≡ true
   pub whole : (is_complete k.words ≡ true) × (length k.words ≡ item_length k.words)
   pub older : k.issue ≤ (head_in table heads k.chunk).issue
   pub shows : IsHandedOut (head_in table heads k.chunk) k.issue → Shows table slabs words k.chunk k.words
+  pub room : IsHandedOut (head_in table heads k.chunk) k.issue → room_in table (class_of_page slabs k.chunk.page) ≡ k.room
   pub apart : Each (λ holding. is_fresh holding ≡ true → holding.chunk ≡ k.chunk → holding.issue ≡ k.issue → ⊥) holdings
 
 -- known: what hands said and know
@@ -36,8 +37,8 @@ pub record AreKnown (table : Classes) (slabs : SlabState) (heads : List Head) (w
   pub still : Each (IsTrueStill table slabs heads words holdings) known
   -- one chunk and issue has one item
   pub one : Each (λ k. Each (λ other. other.chunk ≡ k.chunk → other.issue ≡ k.issue → other.words ≡ k.words) known) known
-  -- each reference is known to its own hand
-  pub own : (hand : ℕ) → All (λ holding. is_fresh holding ≡ false → Contains (slice_index_or known hand []) (known_by holding)) (slice_index_or holdings hand [])
+  -- each reference is known to its own hand, with some room
+  pub own : (hand : ℕ) → All (λ holding. is_fresh holding ≡ false → (room : ℕ) × Contains (slice_index_or known hand []) (known_by room holding)) (slice_index_or holdings hand [])
   -- each linked chunk is known to some hand
   pub linked : (chunk : ChunkId) → has_chunk table chunk ≡ true → (head_in table heads chunk).tag ≡ Linked → IsKnownToSome known (λ k. (k.chunk ≡ chunk) × (k.issue ≡ (head_in table heads chunk).issue))
 

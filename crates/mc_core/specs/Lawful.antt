@@ -46,7 +46,7 @@ NumberedIn m = AreNumbered m.state.ids m.past.mine m.past.said m.past.known
 -- the looks of a hand that has the slabs lock
 abbrev pub IsSeenBy : State → Past → ℕ → Type 0
 IsSeenBy state past hand =
-    AreSeen state.table state.slabs state.heads state.words past.known (slice_index_or past.holds hand (no_hold state.table)).found
+    AreSeen state.table state.slabs state.heads state.words past.known (slice_index_or past.holds hand no_hold).found
     (slice_index_or state.looks hand [])
 
 abbrev pub SeenIn : Moment → Type 0

@@ -16,7 +16,7 @@ use Rattle.mc_core.specs.declared.holding.Kind.{Kind}
 use Rattle.mc_core.specs.declared.holding.Kind.TheVariants.{Fresh}
 use Rattle.mc_core.specs.declared.holding.Purpose.TheVariants.{Rescue}
 use Rattle.mc_core.specs.Holdings.{Words, stamp_in, item_in, holding_of}
-use Rattle.mc_core.specs.State.{State, head_at, number_at, stripe_at, holdings_at, new_state}
+use Rattle.mc_core.specs.State.{State, room_at, head_at, number_at, stripe_at, holdings_at, new_state}
 use Rattle.mc_core.specs.Silent.{after_change}
 use Rattle.mc_core.specs.Items.{chunk_of, new_reference}
 use Rattle.mc_core.specs.Run.{after_step}
@@ -32,10 +32,11 @@ pub record Saying : Type 0 where
   pub stamp : ℕ
   pub words : Words
 
--- the item that a chunk had with this issue number
+-- the item that a chunk had with this issue number, and for how many words the chunk had room
 pub record Known : Type 0 where
   pub chunk : ChunkId
   pub issue : ℕ
+  pub room : ℕ
   pub words : Words
 
 -- a hold of the slabs lock: pages and lists as it began and as it ended, and how many holds there were
@@ -96,22 +97,22 @@ abbrev pub sayings_of : State → ℕ → Step → List Saying
 sayings_of state hand (Link chunk) = said_by (holding_of chunk (holdings_at state hand))
 sayings_of state hand other = []
 
-abbrev pub known_by : Holding → Known
-known_by holding = record { chunk = holding.chunk; issue = holding.issue; words = holding.words }
+abbrev pub known_by : ℕ → Holding → Known
+known_by room holding = record { chunk = holding.chunk; issue = holding.issue; room = room; words = holding.words }
 
-abbrev pub known_of_holding : Option Holding → List Known
-known_of_holding None = []
-known_of_holding (Some holding) = record { chunk = holding.chunk; issue = holding.issue; words = item_in holding.words } ∷ []
+abbrev pub known_of_holding : ℕ → Option Holding → List Known
+known_of_holding room None = []
+known_of_holding room (Some holding) = record { chunk = holding.chunk; issue = holding.issue; room = room; words = item_in holding.words } ∷ []
 
 abbrev pub known_of_place : State → Option (ChunkId × ℕ) → List Known
 known_of_place state None = []
-known_of_place state (Some place) = known_by (new_reference state place.0) ∷ []
+known_of_place state (Some place) = known_by (room_at state place.0) (new_reference state place.0) ∷ []
 
 -- the item to which the hand gets a reference
 abbrev pub known_of : State → ℕ → Step → List Known
-known_of state hand (Link chunk) = known_of_holding (holding_of chunk (holdings_at state hand))
+known_of state hand (Link chunk) = known_of_holding (room_at state chunk) (holding_of chunk (holdings_at state hand))
 known_of state hand (Refer key) = known_of_place state (chunk_of state key)
-known_of state hand (Again chunk issue) = known_by (new_reference state chunk) ∷ []
+known_of state hand (Again chunk issue) = known_by (room_at state chunk) (new_reference state chunk) ∷ []
 known_of state hand other = []
 
 abbrev pub history_at : State → ℕ → List Call
@@ -146,14 +147,19 @@ longer_each [] ys = ys
 longer_each (x ∷ xs) [] = x ∷ xs
 longer_each (x ∷ xs) (y ∷ ys) = longer x y ∷ longer_each xs ys
 
-abbrev pub no_hold : Classes → Hold
-no_hold table = record { found = fresh_slabs table; left = fresh_slabs table; count = 0 }
+-- pages and lists of no class, which stand for those of a hold that never was
+abbrev pub no_slabs : SlabState
+no_slabs = fresh_slabs (record { page = 0; limit = 0; sizes = [] })
+
+-- of a hand that never had the slabs lock, or is gone: one constant, whatever the classes are
+abbrev pub no_hold : Hold
+no_hold = record { found = no_slabs; left = no_slabs; count = 0 }
 
 -- the first hand knows what the second knew, which knows nothing any more
 abbrev pub joined : Classes → Past → ℕ → ℕ → Past
 joined table past kept spent = record {
   saw = slice_set past.saw spent [];
-  holds = slice_set past.holds spent (no_hold table);
+  holds = slice_set past.holds spent no_hold;
   mine = slice_set (with_more past.mine kept (slice_index_or past.mine spent [])) spent [];
   seen = slice_set (slice_set past.seen kept (longer_each (slice_index_or past.seen kept []) (slice_index_or past.seen spent []))) spent [];
   said = slice_set (with_more past.said kept (slice_index_or past.said spent [])) spent [];
@@ -169,7 +175,7 @@ with_calls before now past hand =
 abbrev pub learned_alone : State → State → Past → ℕ → Step → Past
 learned_alone before now past hand step = record (with_calls before now past hand) {
   saw = with_more past.saw hand (sights_of before step);
-  holds = slice_set past.holds hand (hold_after before.slabs step (slice_index_or past.holds hand (no_hold before.table)));
+  holds = slice_set past.holds hand (hold_after before.slabs step (slice_index_or past.holds hand no_hold));
   seen = slice_set past.seen hand (seen_after before step (slice_index_or past.seen hand []));
   said = with_more past.said hand (sayings_of before hand step);
   known = with_more past.known hand (known_of before hand step);
@@ -202,7 +208,7 @@ moment_after moment event = moment_stepped (moment_changes moment event.hand eve
 abbrev pub no_past : Classes → ℕ → ℕ → Past
 no_past table stripes hands = record {
   saw = replicate hands [];
-  holds = replicate hands (no_hold table);
+  holds = replicate hands no_hold;
   mine = map (λ number. record { number = number; calls = replicate stripes [] } ∷ []) (range_with_len 0 hands);
   seen = replicate hands (replicate stripes []);
   said = replicate hands [];

@@ -10,7 +10,7 @@ use Rattle.mc_core.specs.declared.ids.Ids.{Ids}
 use Rattle.mc_core.specs.declared.holding.Holding.{Holding}
 use Rattle.mc_core.specs.declared.look.Look.{Look}
 use Rattle.mc_core.specs.Head.{never_cut}
-use Rattle.mc_core.specs.Holdings.{Words, lose}
+use Rattle.mc_core.specs.Holdings.{Words, change_each, lose}
 
 pub record State : Type 0 where
   -- the size classes, which never change
@@ -123,6 +123,10 @@ holdings_at state hand = slice_index_or state.holdings hand []
 
 abbrev pub with_holding : State → ℕ → Holding → State
 with_holding state hand holding = record state { holdings = slice_set state.holdings hand (holdings_at state hand ++ holding ∷ []) }
+
+-- the hand's holdings that pass the test are changed so
+abbrev pub with_changed : State → ℕ → (Holding → Bool) → (Holding → Holding) → State
+with_changed state hand test change = record state { holdings = slice_set state.holdings hand (change_each test change (holdings_at state hand)) }
 
 -- less the hand's first holding that passes the test
 abbrev pub without_holding : State → ℕ → (Holding → Bool) → State

@@ -1,10 +1,13 @@
 //! What a hand holds: references, and chunks that it got and fills.
-ghost use Rattle.std.specs.Prelude.{◌≡◌, true};
+ghost use Rattle.std.specs.Prelude.{◌≡◌, true, if◌then◌else◌, OnOk};
+ghost use Rattle.mc_core.specs.Holdings.{is_of, is_copy_of, change_each};
+ghost use Rattle.mc_core.specs.Chunks.{filled};
+ghost use Rattle.mc_core.specs.Evictions.{as_rescue};
 
 use crate::series::Series;
 use crate::words;
 use mc_pages::ChunkId;
-use std::alloc::Global;
+use std::alloc::{AllocError, Global};
 
 /// One holding of a chunk, by one hand.
 #[derive(Drop)]
@@ -39,8 +42,9 @@ pub enum Purpose {
 }
 
 impl Holding {
-    ghost use Rattle.mc_core.specs.Holdings.{is_fresh, is_copy_of, is_complete};
+    ghost use Rattle.mc_core.specs.Holdings.{is_fresh, is_of, is_copy_of, is_complete};
     ghost use Rattle.mc_core.specs.Items.{as_reference};
+    ghost use Rattle.mc_core.specs.Chunks.{filled};
     ghost use Rattle.mc_core.specs.Evictions.{as_rescue};
 
     /// Whether the chunk wasn't linked yet.
@@ -79,13 +83,47 @@ impl Holding {
         }
     }
 
-    /// The item that the chunk is a copy of was condemned: the copy is to have these words.
-    pub(crate) fn into_rescue(self, old: ChunkId, item: Series<Option<u64>>) -> Holding
-        ensures { result ≡ as_rescue old item self }
+    /// A word of this chunk is written, if the holding is of it.
+    fn fill(&mut self, chunk: ChunkId, place: u64, word: u64)
+        ensures { self.new ≡ (if is_of chunk self.old then filled place word self.old else self.old) }
     {
-        Holding {
-            kind: Kind::Fresh(Purpose::Rescue(old, item)),
-            ..self
+        if self.chunk == chunk {
+            self.words.set(place as usize, Some(word));
         }
     }
+
+    /// The item of this chunk was condemned: if the holding is to be a copy of it, it is to have these words, and no others.
+    fn bind(&mut self, alloc: Global, old: ChunkId, item: &[Option<u64>]) -> Result<(), AllocError>
+        ensures { OnOk result (self.new ≡ (if is_copy_of old self.old then as_rescue old item.now self.old else self.old)) }
+    {
+        if self.is_copy_of(old) {
+            let item = Series::copy_of(alloc, item)?;
+            self.kind = Kind::Fresh(Purpose::Rescue(old, item));
+        }
+        Ok(())
+    }
+}
+
+/// A word of this chunk is written, if it is among what a hand holds.
+pub(crate) fn fill_chunk(holdings: &mut Series<Holding>, chunk: ChunkId, place: u64, word: u64)
+    ensures { holdings.new ≡ change_each (is_of chunk) (filled place word) holdings.old }
+{
+    for holding in holdings.items.iter_mut() {
+        holding.fill(chunk, place, word);
+    }
+}
+
+/// The item of this chunk was condemned: each copy of it that a hand holds is to have these words.
+pub(crate) fn bind_copies(
+    alloc: Global,
+    holdings: &mut Series<Holding>,
+    chunk: ChunkId,
+    item: &[Option<u64>],
+) -> Result<(), AllocError>
+    ensures { OnOk result (holdings.new ≡ change_each (is_copy_of chunk) (as_rescue chunk item.now) holdings.old) }
+{
+    for holding in holdings.items.iter_mut() {
+        holding.bind(alloc, chunk, item)?;
+    }
+    Ok(())
 }

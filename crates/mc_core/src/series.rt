@@ -1,5 +1,5 @@
 //! A list that contracts compare.
-ghost use Rattle.std.specs.Prelude.{◌≡◌, ◌<◌, [], ◌∷◌, ◌++◌, length, slice_index_or, slice_set, take, OnOk, OnErr};
+ghost use Rattle.std.specs.Prelude.{◌≡◌, ◌<◌, [], ◌∷◌, ◌++◌, length, slice_index_or, slice_set, take, IfOk, OnOk, OnErr};
 ghost use Rattle.std.specs.List.{remove};
 
 use std::alloc::{AllocError, Global};
@@ -8,7 +8,7 @@ use std::marker::Model;
 /// Values, one after another. Two series of the same values are equal, whatever room they have.
 #[derive(Drop)]
 pub struct Series<T> {
-    items: Vec<T>,
+    pub(crate) items: Vec<T>,
 }
 
 impl<T> Model for Series<T> {
@@ -34,6 +34,16 @@ impl<T> Series<T> {
         ensures { result.now ≡ self.now }
     {
         self.items.as_slice()
+    }
+}
+
+impl<T: Copy> Series<T> {
+    /// The same values.
+    pub fn copy_of(alloc: Global, values: &[T]) -> Result<Series<T>, AllocError>
+        ensures { IfOk result (λ series. series ≡ values.now) }
+    {
+        let items = Vec::from_slice(alloc, values)?;
+        Ok(Series { items })
     }
 }
 

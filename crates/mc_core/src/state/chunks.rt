@@ -7,6 +7,7 @@ ghost use Rattle.mc_core.specs.Chunks.{has_place, can_hand_out, with_fresh, next
 
 use super::State;
 use crate::head::{Head, Tag};
+use crate::holding;
 use crate::holding::{Holding, Kind, Purpose};
 use crate::look::Look;
 use crate::series::Series;
@@ -218,22 +219,12 @@ impl State {
     }
 
     /// A word of a fresh chunk is written.
-    pub(super) fn fill(
-        &mut self,
-        hand: u64,
-        chunk: ChunkId,
-        place: u64,
-        word: u64,
-    ) -> Result<(), AllocError>
-        requires here { hand < length self.old.ids }
-        ensures { OnOk result (self.new ≡ after_fill self.old hand chunk place word) }
+    pub(super) fn fill(&mut self, hand: u64, chunk: ChunkId, place: u64, word: u64)
+        requires { hand < length self.old.ids }
+        ensures { self.new ≡ after_fill self.old hand chunk place word }
     {
-        if let Some(mut holding) = self.take_holding(hand, chunk) {
-            holding.words.set(place as usize, Some(word));
-            self.gain(hand, holding)?;
-        }
+        holding::fill_chunk(&mut self.holdings[hand as usize], chunk, place, word);
         self.set_word(chunk, place, word);
-        Ok(())
     }
 
     /// Whether the hand's first holding of the chunk is fresh, or isn't.

@@ -1,17 +1,13 @@
 //! Items that are taken away from their chunks, to make room or since their page moves.
-ghost use Rattle.std.specs.Prelude.{◌≡◌, ◌<◌, true, length, find, IfOk, OnOk};
-ghost use Rattle.std.specs.List.{position};
-ghost use Rattle.mc_core.specs.Holdings.{is_copy_of, lose};
-ghost use Rattle.mc_core.specs.State.{without_holding, stripe_of, stripe_at, with_stripe};
+ghost use Rattle.std.specs.Prelude.{◌≡◌, ◌<◌, true, length, IfOk, OnOk};
+ghost use Rattle.mc_core.specs.State.{stripe_of, stripe_at, with_stripe};
 ghost use Rattle.mc_core.specs.Silent.{writer_of};
-ghost use Rattle.mc_core.specs.Evictions.{has_copy, none_dead, has_no_page, must_leave, lacks_room, has_reason, is_idle, can_take_away, can_condemn, condemned, stripe_condemned, copy_of, with_bound, after_condemn};
+ghost use Rattle.mc_core.specs.Evictions.{has_copy, none_dead, has_no_page, must_leave, lacks_room, has_reason, is_idle, can_take_away, can_condemn, condemned, stripe_condemned, with_bound, after_condemn};
 
 use super::State;
 use crate::head::{Head, Tag};
-use crate::holding::Holding;
-use crate::look;
 use crate::look::Look;
-use crate::series::Series;
+use crate::{holding, look};
 use mc_pages::ChunkId;
 use std::alloc::AllocError;
 
@@ -32,26 +28,6 @@ impl Head {
             count: 0,
             ..self
         }
-    }
-}
-
-/// Where the first copy of this chunk stands.
-fn place_of_copy(holdings: &[Holding], chunk: ChunkId) -> Option<usize>
-    ensures { result ≡ position (is_copy_of chunk) holdings.now }
-{
-    holdings
-        .iter()
-        .position(|holding| holding.is_copy_of(chunk))
-}
-
-/// Takes the first copy of this chunk.
-fn take_copy_of(holdings: &mut Series<Holding>, chunk: ChunkId) -> Option<Holding>
-    ensures holding { result ≡ find (is_copy_of chunk) holdings.old }
-    ensures without { holdings.new ≡ lose (is_copy_of chunk) holdings.old }
-{
-    match place_of_copy(holdings.as_slice(), chunk) {
-        Some(place) => Some(holdings.remove(place)),
-        None => None,
     }
 }
 
@@ -160,34 +136,17 @@ impl State {
         let head = self.head(chunk).condemned();
         let rescues = self.has_copy(hand, chunk);
         self.tell_condemn(hand, key, rescues);
-        self.bind_copy(hand, chunk, item)?;
+        self.bind(hand, chunk, item.as_slice())?;
         self.set_head(chunk, head);
         self.note(hand, Look::Condemned(chunk, head))
     }
 
-    /// The hand's copy of this chunk, if it has one, is to have these words.
-    fn bind_copy(
-        &mut self,
-        hand: u64,
-        chunk: ChunkId,
-        item: Series<Option<u64>>,
-    ) -> Result<(), AllocError>
+    /// Each copy of this chunk that the hand holds is to have these words.
+    fn bind(&mut self, hand: u64, chunk: ChunkId, item: &[Option<u64>]) -> Result<(), AllocError>
         requires { hand < length self.old.ids }
-        ensures { OnOk result (self.new ≡ with_bound self.old hand chunk item) }
+        ensures { OnOk result (self.new ≡ with_bound self.old hand chunk item.now) }
     {
-        match self.take_copy(hand, chunk) {
-            Some(holding) => self.gain(hand, holding.into_rescue(chunk, item)),
-            None => Ok(()),
-        }
-    }
-
-    /// Takes the hand's copy of this chunk away from it.
-    fn take_copy(&mut self, hand: u64, chunk: ChunkId) -> Option<Holding>
-        requires { hand < length self.old.ids }
-        ensures copy { result ≡ copy_of self.old hand chunk }
-        ensures without { self.new ≡ without_holding self.old hand (is_copy_of chunk) }
-    {
-        take_copy_of(&mut self.holdings[hand as usize], chunk)
+        holding::bind_copies(self.alloc, &mut self.holdings[hand as usize], chunk, item)
     }
 
     /// The stripe of the key comes to know: its entry is put aside, or evicted.

@@ -57,7 +57,7 @@ impl State {
             Step::Head(chunk) => self.look(hand, chunk)?,
             Step::Pop(class) => self.pop(hand, class)?,
             Step::PopOff(old) => self.pop_off(hand, old)?,
-            Step::Fill(chunk, place, word) => self.fill(hand, chunk, place, word)?,
+            Step::Fill(chunk, place, word) => self.fill(hand, chunk, place, word),
             Step::WordHeld(chunk, place) => self.word_held(hand, chunk, place)?,
             Step::Link(chunk) => self.link(hand, chunk)?,
             Step::Refer(key) => self.refer(hand, key)?,
