@@ -429,7 +429,7 @@ fn refusals(rt: HostRuntime) {
     assert_refused(
         &rt,
         alloc,
-        "page u64MAX",
+        "page 2^64 - 1",
         Config {
             page: u64::MAX,
             ..FOUR_CLASSES
@@ -439,7 +439,7 @@ fn refusals(rt: HostRuntime) {
     assert_refused(
         &rt,
         alloc,
-        "page u64MAX - 7",
+        "page 2^64 - 8",
         Config {
             page: u64::MAX - 7,
             ..FOUR_CLASSES
@@ -449,7 +449,7 @@ fn refusals(rt: HostRuntime) {
     assert_refused(
         &rt,
         alloc,
-        "limit u64MAX",
+        "limit 2^64 - 1",
         Config {
             limit: u64::MAX,
             ..FOUR_CLASSES
@@ -459,7 +459,7 @@ fn refusals(rt: HostRuntime) {
     assert_refused(
         &rt,
         alloc,
-        "first u64MAX",
+        "first 2^64 - 1",
         Config {
             first: u64::MAX,
             ..FOUR_CLASSES
@@ -469,7 +469,7 @@ fn refusals(rt: HostRuntime) {
     assert_refused(
         &rt,
         alloc,
-        "num u64MAX",
+        "num 2^64 - 1",
         Config {
             num: u64::MAX,
             ..FOUR_CLASSES
@@ -479,7 +479,7 @@ fn refusals(rt: HostRuntime) {
     assert_refused(
         &rt,
         alloc,
-        "num u64MAX, den u64MAX - 1",
+        "num 2^64 - 1, den 2^64 - 2",
         Config {
             num: u64::MAX,
             den: u64::MAX - 1,
@@ -490,7 +490,7 @@ fn refusals(rt: HostRuntime) {
     assert_refused(
         &rt,
         alloc,
-        "den u64MAX",
+        "den 2^64 - 1",
         Config {
             den: u64::MAX,
             ..FOUR_CLASSES
@@ -500,7 +500,7 @@ fn refusals(rt: HostRuntime) {
     assert_refused(
         &rt,
         alloc,
-        "max u64MAX - 7",
+        "max 2^64 - 8",
         Config {
             max: u64::MAX - 7,
             ..FOUR_CLASSES
@@ -510,7 +510,7 @@ fn refusals(rt: HostRuntime) {
     assert_refused(
         &rt,
         alloc,
-        "stripes u64MAX",
+        "stripes 2^64 - 1",
         Config {
             stripes: u64::MAX,
             ..FOUR_CLASSES
@@ -520,7 +520,7 @@ fn refusals(rt: HostRuntime) {
     assert_refused(
         &rt,
         alloc,
-        "bulk u64MAX",
+        "bulk 2^64 - 1",
         Config {
             bulk: u64::MAX,
             ..FOUR_CLASSES

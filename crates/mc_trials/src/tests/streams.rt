@@ -121,29 +121,46 @@ fn written<L: Ledger>(
 #[test]
 fn writes_until_a_failure(rt: HostRuntime) -> Result<(), Fail> {
     let rows = [
-        // held back, written in one, and flushed
-        (20_000, true, [100, 200, 300], ([true; 3], true, 600, 2)),
-        (20_000, true, [0, 0, 0], ([true; 3], true, 0, 1)),
-        // more than is held back
         (
+            "held back, written in one, and flushed",
+            20_000,
+            true,
+            [100, 200, 300],
+            ([true; 3], true, 600, 2),
+        ),
+        ("nothing", 20_000, true, [0, 0, 0], ([true; 3], true, 0, 1)),
+        (
+            "more than is held back",
             20_000,
             true,
             [8192, 1, 10_000],
             ([true; 3], true, 18_193, 21),
         ),
-        // nothing is written or flushed after the failure
         (
+            "nothing is written or flushed after the failure",
             9000,
             true,
             [8192, 10_000, 1],
             ([true, false, false], false, 9000, 11),
         ),
-        (0, true, [100, 200, 300], ([true; 3], false, 0, 1)),
-        (20_000, false, [100, 200, 300], ([true; 3], false, 600, 2)),
+        (
+            "the first write fails",
+            0,
+            true,
+            [100, 200, 300],
+            ([true; 3], false, 0, 1),
+        ),
+        (
+            "the flush fails",
+            20_000,
+            false,
+            [100, 200, 300],
+            ([true; 3], false, 600, 2),
+        ),
     ];
-    for (room, is_flushed, pieces, outcome) in rows {
+    for (name, room, is_flushed, pieces, outcome) in rows {
         let got = written::<Brand>(rt.alloc(), Blank::new(1), room, is_flushed, pieces)?;
-        assert_eq!(rt; got, outcome, "{pieces:?}");
+        assert_same(&rt, got, outcome, name);
     }
     Ok(())
 }
