@@ -2,16 +2,17 @@
 //!
 //! A clause of the law that is *kept* holds before anything was done. Every silent change, every step and every event that
 //! is allowed in a lawful moment leaves it true.
-ghost use Rattle.std.specs.Prelude.{◌≡◌, ℕ, List, [], ◌∷◌, Ok, Err};
-ghost use Rattle.mc_pages.specs.declared.ledger.Entry.TheVariants.{Granted};
+ghost use Rattle.std.specs.Prelude.{◌≡◌, ℕ, List, [], ◌∷◌, ◌++◌, Ok, Err};
+ghost use Rattle.mc_pages.specs.declared.ledger.Entry.TheVariants.{Granted, Began, Ended};
 ghost use Rattle.mc_stripe.specs.declared.history.Call.{Call};
 ghost use Rattle.mc_stripe.specs.Sequential.{StampMap, Leads};
 ghost use Rattle.mc_core.specs.declared.event.Event.{Event};
-ghost use Rattle.mc_core.specs.declared.event.Step.TheVariants.{TakeSlabs, Pop};
-ghost use Rattle.mc_core.specs.Rows.{played, grows, does};
+ghost use Rattle.mc_core.specs.declared.event.Step.TheVariants.{TakeSlabs, Pop, Head};
+ghost use Rattle.mc_core.specs.Rows.{played, grows, does, played_on, chunk_at, gets, stores, full_page, looks_at_both, takes_away, begins_rescue, ends_rescue};
 ghost use Rattle.mc_core.specs.Lawful.{IsLawful, SizedIn, PagedIn, PlacedIn, CountedIn, HeldIn, IndexedIn, LegalIn, HandsIn, RowsIn, NumberedIn, SeenIn, KnownIn, RescuedIn, ToldIn};
 ghost use Rattle.mc_core.specs.Laws.{IsKeptByAll, ArePlayed, AreLawful};
 ghost use Rattle.mc_core.specs.Frame.{AreFramed};
+ghost use Rattle.mc_core.specs.Reasons.{CondemnsAreReasoned};
 ghost use Rattle.mc_core.specs.Stretch.{StretchesKeep};
 ghost use Rattle.mc_core.specs.Follows.{AreKept, AreSaidItems, SeenGrows};
 
@@ -20,6 +21,21 @@ pub fn worked_runs()
     ensures whole_page { played (grows 20) ≡ Ok (Granted 0 1 ∷ []) }
     ensures cut_short { played (grows 19) ≡ Err 21 }
     ensures no_page { played (does [] TakeSlabs ∷ does [] (Pop 1) ∷ []) ≡ Err 1 }
+{}
+
+/// An item is evicted from a full class behind a sweep. It is refused without a sweep, where a chunk is free, and where a page is left.
+pub fn worked_evictions()
+    ensures evicted { played_on 1 (full_page ++ looks_at_both ++ takes_away (chunk_at 0 1)) ≡ Ok (Granted 0 1 ∷ []) }
+    ensures no_sweep { played_on 1 (full_page ++ takes_away (chunk_at 0 1)) ≡ Err 18 }
+    ensures half_a_sweep { played_on 1 (full_page ++ does [] (Head (chunk_at 0 1)) ∷ takes_away (chunk_at 0 1)) ≡ Err 19 }
+    ensures a_free_chunk { played_on 1 (gets 0 ++ stores (chunk_at 0 1) 1 ++ does [] (Head (chunk_at 0 1)) ∷ takes_away (chunk_at 0 1)) ≡ Err 12 }
+    ensures a_page_left { played_on 2 (full_page ++ looks_at_both ++ takes_away (chunk_at 0 1)) ≡ Err 20 }
+{}
+
+/// An item is rescued off its moving page, which then comes to the pool. It isn't rescued onto that page.
+pub fn worked_rescues()
+    ensures rescued { played_on 2 (gets 0 ++ stores (chunk_at 0 1) 1 ++ gets 1 ++ begins_rescue ++ ends_rescue) ≡ Ok (Granted 0 1 ∷ Granted 1 1 ∷ Began 0 1 0 ∷ Ended 0 0 ∷ []) }
+    ensures no_chunk_off { played_on 2 (gets 0 ++ stores (chunk_at 0 1) 1 ++ gets 1 ++ stores (chunk_at 1 1) 2 ++ stores (chunk_at 1 0) 3 ++ begins_rescue) ≡ Err 27 }
 {}
 
 /// There is a header for each chunk, and all data words.
@@ -106,6 +122,13 @@ pub fn the_law_is_kept()
 /// what others see behind theirs. A join leaves all but the hand that is taken over.
 pub fn others_are_left_alone()
     ensures { AreFramed }
+{}
+
+/// An item is taken away for a reason alone. It goes to a copy off its moving page. Or each chunk that its class handed out
+/// was seen not dead, and nothing was taken since; and then it leaves its moving page, off which there is no chunk for it,
+/// or makes room where there is neither a free chunk nor a page.
+pub fn condemns_have_a_reason()
+    ensures { CondemnsAreReasoned }
 {}
 
 /// Every moment of a run is lawful.
