@@ -11,7 +11,8 @@ returns-else-holds_up c unlisted =
     let is : IsClass c.args.self.now.slabs.state c.in-Some.moving.src = moving_class c.args.self.now.slabs.state c.in-Some.moving c.moving.ensures.accounted runs in
     let whole : c.args.self.now.slabs.state.uncut ≡ None = search rules in
     let within : c.in-Some.moving.at < (class_at c.args.self.now.slabs.state c.in-Some.moving.src).per_page = search (rules, sized_class) in
-    let found : c.is_listed.result ≡ Some false = search rules in
-    (c.in-Some.moving,
-    can_pass_looked c.args.self.now.slabs.state c.args.found c.in-Some.moving c.moving.ensures.accounted runs whole within
-    (λ _. ap (places_in c.args.self.now.slabs.state c.in-Some.moving.src) (sym c.chunk_at.ensures) ∙ c.is_listed.ensures.unlisted found))
+    let found : c.is_listed.result ≡ Some false = search rules in (
+      c.in-Some.moving,
+      can_pass_looked c.args.self.now.slabs.state c.args.found c.in-Some.moving c.moving.ensures.accounted runs whole within
+          (λ _. ap (places_in c.args.self.now.slabs.state c.in-Some.moving.src) (sym c.chunk_at.ensures) ∙ c.is_listed.ensures.unlisted found),
+    )
