@@ -1,27 +1,27 @@
--- Memories that differ in one thing from an accounted one, and aren't accounted for.
+-- A memory that is accounted for, and four that aren't, each for one reason.
 use Rattle.std.specs.Prelude.{[], ◌∷◌, Some}
 use Rattle.mc_classes.specs.Classes.{Classes}
-use Rattle.mc_pages.specs.declared.ledger.Owner.TheVariants.{Untouched, Class, Moving}
+use Rattle.mc_pages.specs.declared.ledger.Owner.TheVariants.{Class, Moving}
 use Rattle.mc_pages.specs.declared.ledger.Entry.TheVariants.{Granted, Began}
 use Rattle.mc_pages.specs.SlabState.{SlabState, fresh_slabs}
 
--- two pages, and one class with one chunk a page
-abbrev pub two_pages : Classes
-two_pages = record { page = 64; limit = 128; sizes = 64 ∷ [] }
+-- one page, and one class with one chunk a page
+abbrev pub one_page : Classes
+one_page = record { page = 64; limit = 64; sizes = 64 ∷ [] }
 
 -- nothing was granted
 abbrev pub nothing_granted : SlabState
-nothing_granted = fresh_slabs two_pages
+nothing_granted = fresh_slabs one_page
 
--- a page is owned by class 5, which isn't one of the classes
+-- the page is owned by class 5, which isn't one of the classes
 abbrev pub page_of_no_class : SlabState
-page_of_no_class = record nothing_granted { owners = Class 5 ∷ Untouched ∷ []; ledger = Granted 0 5 ∷ [] }
+page_of_no_class = record nothing_granted { owners = Class 5 ∷ []; ledger = Granted 0 5 ∷ [] }
 
 -- the class's one page is on the move to the pool
 abbrev pub last_page_moves : SlabState
 last_page_moves = record nothing_granted {
   classes = record { size = 64; per_page = 1; pages = 0 ∷ []; free = record { page = 0; index = 0 } ∷ []; order = []; evictions = 0 } ∷ [];
-  owners = Moving 1 0 ∷ Untouched ∷ [];
+  owners = Moving 1 0 ∷ [];
   ledger = Granted 0 1 ∷ Began 0 1 0 ∷ [];
   moving = Some (record { page = 0; src = 1; dst = 0; at = 0; busy = 0 });
 }

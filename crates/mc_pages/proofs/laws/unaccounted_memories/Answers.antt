@@ -1,11 +1,11 @@
 use Rattle.std.proofs.Common.{arith}
-use Rattle.mc_pages.specs.Unaccounted.{two_pages}
+use Rattle.mc_pages.specs.Unaccounted.{one_page}
 use Rattle.mc_pages.proofs.Fresh.{IsAccounted-fresh}
 use Rattle.mc_pages.proofs.Unaccounted.{no_such_class, no_last_page, no_such_cursor, no_such_mode}
 use Rattle.mc_pages.proofs.laws.unaccounted_memories.Goals as goal
 
 pub returns-clause-nothing_granted : goal.returns-clause-nothing_granted
-returns-clause-nothing_granted c = IsAccounted-fresh two_pages (omega arith)
+returns-clause-nothing_granted c = IsAccounted-fresh one_page (omega arith)
 
 pub returns-clause-page_of_no_class : goal.returns-clause-page_of_no_class
 returns-clause-page_of_no_class c = no_such_class
