@@ -26,7 +26,7 @@ use Rattle.mc_machine.proofs.KeptChanges.{place_once}
 use Rattle.mc_machine.proofs.KeptMoverClear.{cleared_after, contains_counted, dead_here, handed_item, idle_here, kept_cleared, kept_freed, leads_dead}
 use Rattle.mc_machine.proofs.KeptMoverRescue.{kept_rescued, listed_still, vacant}
 use Rattle.mc_machine.proofs.KeptStore.{is_at-tells}
-use Rattle.mc_machine.proofs.Orders.{in_lists_once}
+use Rattle.mc_pages.proofs.ListedChunks.{in_lists_once}
 use Rattle.mc_machine.proofs.Sweeps.{item_at-without_item}
 use Rattle.mc_laws.proofs.Lawful.{IsLawful, off, Proceeds, as_held, not_held, proceeds_from, proceeds_slabs, proceeds_without}
 

@@ -15,7 +15,7 @@ use Rattle.mc_machine.specs.Supply.{eviction_tries, relieved, victim, with_evict
 use Rattle.mc_laws.proofs.Indexes.{index_of, leads_index}
 use Rattle.mc_machine.proofs.KeptEvict.{kept_counted}
 use Rattle.mc_machine.proofs.KeptMoverClear.{idle_here, kept_back}
-use Rattle.mc_machine.proofs.Victims.{found_holds}
+use Rattle.mc_pages.proofs.FirstFound.{found_holds}
 use Rattle.mc_laws.proofs.Lawful.{IsLawful, off, Proceeds, proceeds_same, proceeds_without}
 use Rattle.mc_laws.proofs.ProceedSweeps.{order_back}
 

@@ -12,7 +12,7 @@ use Rattle.mc_pages.proofs.RoomyGrow.{grow_grants, grow_takes, next_granted, nex
 use Rattle.mc_machine.specs.Kept.{IsKept}
 use Rattle.mc_machine.specs.Machine.{Machine, extended, has_free, stocked, swept, with_cut_page, with_new_page}
 use Rattle.mc_machine.specs.Supply.{supplied}
-use Rattle.mc_machine.proofs.Cuts.{chunk_at, cuts_more, next_after_cut, next_cut}
+use Rattle.mc_pages.proofs.Cuts.{chunk_at, cuts_more, next_after_cut, next_cut}
 use Rattle.mc_machine.proofs.Grown.{per_page_given, per_page_grown}
 use Rattle.mc_machine.proofs.KeptChanges.{kept_grow}
 use Rattle.mc_machine.proofs.Stocks.{IsClass-stocked, IsClass-swept}

@@ -13,7 +13,7 @@ use Rattle.mc_pages.proofs.GrantedPage.{length-owners, length-pages_le}
 use Rattle.mc_machine.specs.Items.{Items}
 use Rattle.mc_machine.specs.Kept.{IsKept}
 use Rattle.mc_watch.specs.Texts.{AreCounts}
-use Rattle.mc_machine.proofs.Orders.{in_lists_once, page_of_listed}
+use Rattle.mc_pages.proofs.ListedChunks.{in_lists_once, page_of_listed}
 use Rattle.mc_machine.proofs.Grown.{per_page_kept}
 
 module _ (table : Classes) (slabs : SlabState) (index : List (ℕ × ChunkId)) (items : Items) (class : ℕ)

@@ -25,12 +25,12 @@ use Rattle.mc_machine.specs.Machine.{Machine, is_dead}
 use Rattle.mc_machine.specs.Kept.{AreCounted, IsKept, dead_items, is_dead_item, places}
 use Rattle.mc_machine.proofs.DeadItems.{linked_lives, dead-without_item, dead-with_item, dead-set_item, dead-held, dead-owned}
 use Rattle.mc_machine.proofs.DeadOrders.{dead_few}
-use Rattle.mc_machine.proofs.GivenPage.{classes-grown, class_at-grown}
+use Rattle.mc_pages.proofs.NextPage.{classes-grown, class_at-grown}
 use Rattle.mc_machine.proofs.HeldElsewhere.{held-taken, held-given_back, is_held-Contains}
 use Rattle.mc_machine.proofs.KeptChanges.{listed, place_once}
 use Rattle.mc_machine.proofs.Links.{LinkedIn, linked_in, some_places}
-use Rattle.mc_machine.proofs.Moves.{classes-cuts, order-cuts, order-with_class}
-use Rattle.mc_machine.proofs.Orders.{page_of_listed}
+use Rattle.mc_pages.proofs.ClassChanges.{classes-cuts, order-cuts, order-with_class}
+use Rattle.mc_pages.proofs.ListedChunks.{page_of_listed}
 
 -- ---- the counts that stay
 

@@ -22,7 +22,7 @@ use Rattle.mc_machine.proofs.Chunks.{chunk_cmp-self}
 use Rattle.mc_machine.proofs.KeptChanges.{place_once}
 use Rattle.mc_machine.proofs.KeptStore.{is_at-tells}
 use Rattle.mc_machine.proofs.Links.{some_places}
-use Rattle.mc_machine.proofs.Orders.{page_of_listed}
+use Rattle.mc_pages.proofs.ListedChunks.{page_of_listed}
 
 -- ---- two lists in which each chunk stands as often have as many chunks that pass a test
 

@@ -14,9 +14,9 @@ use Rattle.mc_pages.specs.Changes.{after_grow, after_cut, next_page}
 use Rattle.mc_machine.specs.Items.{Items}
 use Rattle.mc_machine.specs.Kept.{IsKept}
 use Rattle.mc_machine.specs.Machine.{Machine, with_new_page}
-use Rattle.mc_machine.proofs.Moves.{class_at-with_class}
-use Rattle.mc_machine.proofs.Cuts.{chunk_at}
-use Rattle.mc_machine.proofs.GivenPage.{nobody_next, owners-grown, class_at-grown}
+use Rattle.mc_pages.proofs.OneClass.{class_at-with_class_same}
+use Rattle.mc_pages.proofs.Cuts.{chunk_at}
+use Rattle.mc_pages.proofs.NextPage.{nobody_next, owners-grown, class_at-grown}
 
 -- the chunks of a page are the table's
 pub per_page_kept : (table : Classes) (slabs : SlabState) (index : List (ℕ × ChunkId)) (items : Items) (class : ℕ)
@@ -37,14 +37,14 @@ per_page_given slabs class page all valid next =
     = ap (λ (owners : List Owner). owner_at owners page) (owners-grown slabs class page)
     ∙ get_or-set_same slabs.owners page (Class class) Untouched inside in
     let here : class_at (after_grow slabs class page) class ≡ with_page (class_at slabs class) page
-    = class_at-grown slabs class page class ∙ class_at-with_class slabs class (with_page (class_at slabs class) page) valid in
+    = class_at-grown slabs class page class ∙ class_at-with_class_same slabs class (with_page (class_at slabs class) page) valid in
     ap (λ owner. (class_at (after_grow slabs class page) (class_of_owner owner)).per_page) own
     ∙ ap (λ (c : ClassState). c.per_page) here
 
 -- the class's chunks a page are as before
 pub per_page_grown : (slabs : SlabState) (class page : ℕ) → IsClass slabs class → (class_at (after_grow slabs class page) class).per_page ≡ (class_at slabs class).per_page
 per_page_grown slabs class page valid =
-    ap (λ (c : ClassState). c.per_page) (class_at-grown slabs class page class ∙ class_at-with_class slabs class (with_page (class_at slabs class) page) valid)
+    ap (λ (c : ClassState). c.per_page) (class_at-grown slabs class page class ∙ class_at-with_class_same slabs class (with_page (class_at slabs class) page) valid)
 
 -- the machine after a class got a page
 pub new_page_view : (m : Machine) (slabs : SlabState) (class page per_page : ℕ) → next_page m.slabs ≡ Some page

@@ -24,9 +24,10 @@ use Rattle.mc_machine.specs.Kept.{places, IsKept}
 use Rattle.mc_machine.proofs.Chunks.{places-unlinked_items, places-without_item, places-without_item-le, places-without_item-other}
 use Rattle.mc_machine.proofs.Links.{links-unlinked_items, links-without_item-le, linked_chunk-unlinked_items, linked_chunk-without_item, some_places, LinkedIn, linked_in, unlinked_items_none}
 use Rattle.mc_pages.proofs.Chunks.{is_chunk-same, times-without, times-cons}
-use Rattle.mc_machine.proofs.Orders.{in_lists_once, page_of_listed}
-use Rattle.mc_machine.proofs.GivenPage.{nobody_next, classes-grown, owners-grown, page-grown, limit-grown, class_at-grown}
-use Rattle.mc_machine.proofs.Moves.{class_at-with_class, class_at-with_other, order-with_class, owners-cuts, classes-cuts, order-cuts, per_pages-with_class, per_pages-cuts, page-cuts, limit-cuts}
+use Rattle.mc_pages.proofs.ListedChunks.{in_lists_once, page_of_listed}
+use Rattle.mc_pages.proofs.NextPage.{nobody_next, classes-grown, owners-grown, page-grown, limit-grown, class_at-grown}
+use Rattle.mc_pages.proofs.OneClass.{class_at-with_class_same, class_at-with_class_other}
+use Rattle.mc_pages.proofs.ClassChanges.{order-with_class, owners-cuts, classes-cuts, order-cuts, per_pages-with_class, per_pages-cuts, page-cuts, limit-cuts}
 
 -- two chunks have one name, or are two
 is_chunk-tells : (c d : ChunkId) → ((is_chunk c d ≡ true) × (c ≡ d)) ⊎ ((is_chunk c d ≡ false) × (c ≢ d))
@@ -139,11 +140,11 @@ order_back_step : (b : Bool) (slabs : SlabState) (other : ℕ) (x y : ChunkId) �
     → times y (class_at (after_back slabs x) other).order ≡ times y (class_at slabs other).order
 order_back_step true slabs other x y valid valid_other handed apart is =
     let same : other ≡ class_of_page slabs x.page = grind (arith, nat_tests) in
-    rw (same, class_at-with_class slabs (class_of_page slabs x.page) (put_back (class_of_chunk slabs x) x) valid)
+    rw (same, class_at-with_class_same slabs (class_of_page slabs x.page) (put_back (class_of_chunk slabs x) x) valid)
     (grind (arith, times-without y x (class_of_chunk slabs x).order handed))
 order_back_step false slabs other x y valid valid_other handed apart is =
     let elsewhere : other ≢ class_of_page slabs x.page = grind (arith, nat_tests) in
-    rw (class_at-with_other slabs (class_of_page slabs x.page) other (put_back (class_of_chunk slabs x) x) valid valid_other elsewhere) refl
+    rw (class_at-with_class_other slabs (class_of_page slabs x.page) other (put_back (class_of_chunk slabs x) x) valid.0 valid_other.0 elsewhere) refl
 
 -- the chunk itself is in none then
 none_back : (slabs : SlabState) (class : ℕ) (x : ChunkId) → IsAccounted (after_back slabs x) → IsClass slabs (class_of_page slabs x.page)
@@ -154,7 +155,7 @@ none_back slabs class x accounted valid valid_new = elim (leb_tells 1 (times x (
       let listed_in = λ (c : ClassState). times x c.free + times x c.order in
       let back : class_at (after_back slabs x) class ≡ put_back (class_of_chunk slabs x) x
       = ap (λ (n : ℕ). class_at (after_back slabs x) n) (sym own)
-      ∙ class_at-with_class slabs (class_of_page slabs x.page) (put_back (class_of_chunk slabs x) x) valid in
+      ∙ class_at-with_class_same slabs (class_of_page slabs x.page) (put_back (class_of_chunk slabs x) x) valid in
       let free : times x (x ∷ (class_of_chunk slabs x).free) ≡ 1 + times x (class_of_chunk slabs x).free
       = times-cons x x (class_of_chunk slabs x).free ∙ ap (λ b. truth b + times x (class_of_chunk slabs x).free) (is_chunk-same x) in
       absurd (omega (
@@ -189,7 +190,7 @@ kept_back table slabs index new_index items x kept accounted there leads =
       handed_out = λ y. elim (is_chunk-tells x y) [
         | inl same ↦
             let back : class_at (after_back slabs x) (class_of_page slabs x.page) ≡ put_back (class_of_chunk slabs x) x
-            = class_at-with_class slabs (class_of_page slabs x.page) (put_back (class_of_chunk slabs x) x) valid in
+            = class_at-with_class_same slabs (class_of_page slabs x.page) (put_back (class_of_chunk slabs x) x) valid in
             let less : times x (without x (class_of_chunk slabs x).order) + 1 ≡ times x (class_of_chunk slabs x).order
             = grind (arith, is_chunk-same x, times-without x x (class_of_chunk slabs x).order handed) in
             rw (← same.1) (rw back (omega (arith, kept.handed_out x, less, places-without_item x items there)))

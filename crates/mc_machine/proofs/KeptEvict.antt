@@ -18,7 +18,7 @@ use Rattle.mc_machine.specs.Items.{Items, item_at, is_linked, without_item}
 use Rattle.mc_machine.specs.Kept.{places, IsKept}
 use Rattle.mc_machine.proofs.KeptChanges.{kept_back, listed}
 use Rattle.mc_machine.proofs.Links.{linked_chunk-without_linked, some_places}
-use Rattle.mc_machine.proofs.Moves.{order-with_class, per_pages-with_class}
+use Rattle.mc_pages.proofs.ClassChanges.{order-with_class, per_pages-with_class}
 
 -- what has an item that its key leads to is there
 pub linked_item : (items : Items) (x : ChunkId) → is_linked items x ≡ true → (item : Item) × (item_at items x ≡ Some item) × (item.linked ≡ true)

@@ -18,7 +18,7 @@ use Rattle.mc_pages.proofs.HandedOut.{class_of_placed}
 use Rattle.mc_pages.proofs.OneClass.{length-with_class}
 use Rattle.mc_machine.specs.Items.{Items, linked_chunk}
 use Rattle.mc_machine.specs.Kept.{places, links, IsKept}
-use Rattle.mc_machine.proofs.Moves.{per_pages-with_class}
+use Rattle.mc_pages.proofs.ClassChanges.{per_pages-with_class}
 
 -- the lists of one class are other ones, and all else of the pages and chunks is as before
 pub record ChangesClass (slabs new : SlabState) (class : ℕ) : Type 0 where

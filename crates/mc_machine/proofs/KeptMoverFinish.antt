@@ -21,8 +21,8 @@ use Rattle.mc_machine.specs.Items.{Items}
 use Rattle.mc_machine.specs.Kept.{places, IsKept}
 use Rattle.mc_machine.specs.Machine.{Machine, with_cut_page}
 use Rattle.mc_machine.specs.Mover.{with_finish}
-use Rattle.mc_machine.proofs.Moves.{order-with_class, per_pages-with_class, classes-cuts, order-cuts, owners-cuts, per_pages-cuts, page-cuts, limit-cuts}
-use Rattle.mc_machine.proofs.Cuts.{per_page-map}
+use Rattle.mc_pages.proofs.ClassChanges.{order-with_class, per_pages-with_class, classes-cuts, order-cuts, owners-cuts, per_pages-cuts, page-cuts, limit-cuts}
+use Rattle.mc_pages.proofs.Cuts.{per_page-map}
 
 -- a chunk of the page that was cleared has no place in its class
 none_placed : (slabs : SlabState) (move : Moving) (chunk : ChunkId) → IsAccounted slabs → slabs.uncut ≡ None → CanFinish slabs move → chunk.page ≡ move.page

@@ -18,8 +18,8 @@ use Rattle.mc_machine.specs.Mover.{Looked, looked_at, saved, target, with_cleare
 use Rattle.mc_pages.specs.ClassState.{times}
 use Rattle.std.specs.Prelude.{nat_lt}
 use Rattle.mc_pages.specs.declared.moves.Found.TheVariants.{Cleared, Busy, Already}
-use Rattle.mc_machine.proofs.Moves.{per_pages-with_class}
-use Rattle.mc_machine.proofs.Cuts.{per_page-map}
+use Rattle.mc_pages.proofs.ClassChanges.{per_pages-with_class}
+use Rattle.mc_pages.proofs.Cuts.{per_page-map}
 
 -- the position and the counters are other ones
 pub kept_moved : (table : Classes) (slabs : SlabState) (index : List (ℕ × ChunkId)) (items : Items) (moving : Option Moving) (rescues evictions busy : ℕ)

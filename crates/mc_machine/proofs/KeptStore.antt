@@ -18,9 +18,10 @@ use Rattle.mc_machine.specs.Items.{Items, chunk_cmp, item_at, with_item, linked_
 use Rattle.mc_machine.specs.Kept.{places, IsKept}
 use Rattle.mc_machine.proofs.Chunks.{places_none, places-with_item, none-places}
 use Rattle.mc_machine.proofs.Links.{links_none, links-with_item, linked_chunk-with_item}
-use Rattle.mc_machine.proofs.Orders.{in_lists_once, page_of_listed}
+use Rattle.mc_pages.proofs.ListedChunks.{in_lists_once, page_of_listed}
 use Rattle.mc_machine.proofs.KeptChanges.{listed}
-use Rattle.mc_machine.proofs.Moves.{class_at-with_class, class_at-with_other, handed-chunk, per_page-handed, per_pages-with_class}
+use Rattle.mc_pages.proofs.OneClass.{class_at-with_class_same, class_at-with_class_other}
+use Rattle.mc_pages.proofs.ClassChanges.{handed-chunk, per_page-handed, per_pages-with_class}
 
 -- two chunks compare equal and are one, or don't
 pub is_at-tells : (c d : ChunkId) → ((is_at (chunk_cmp c) d ≡ true) × (c ≡ d)) ⊎ ((is_at (chunk_cmp c) d ≡ false) × (is_chunk d c ≡ false))
@@ -48,10 +49,10 @@ order_pop_step : (b : Bool) (slabs : SlabState) (class other : ℕ) (x y : Chunk
     → times y (class_at (after_pop slabs class) other).order ≡ times y (class_at slabs other).order
 order_pop_step true slabs class other x y valid valid_other head apart is =
     let same : other ≡ class = grind (arith, nat_tests) in
-    rw (same, class_at-with_class slabs class (popped (class_at slabs class)) valid) (handed-other x y (class_at slabs class) (class_at slabs class).free head apart)
+    rw (same, class_at-with_class_same slabs class (popped (class_at slabs class)) valid) (handed-other x y (class_at slabs class) (class_at slabs class).free head apart)
 order_pop_step false slabs class other x y valid valid_other head apart is =
     let elsewhere : other ≢ class = grind (arith, nat_tests) in
-    ap (λ (c : ClassState). times y c.order) (class_at-with_other slabs class other (popped (class_at slabs class)) valid valid_other elsewhere)
+    ap (λ (c : ClassState). times y c.order) (class_at-with_class_other slabs class other (popped (class_at slabs class)) valid.0 valid_other.0 elsewhere)
 
 -- what is known of the chunk that a class hands out next
 pub record IsNext (slabs : SlabState) (items : Items) (class : ℕ) (x : ChunkId) : Type 0 where
@@ -73,7 +74,7 @@ is_next table slabs index items class x kept valid head =
     record {
       own = own;
       empty = none-places x items none;
-      listed = rw (class_at-with_class slabs class (popped (class_at slabs class)) valid) (omega (arith, handed));
+      listed = rw (class_at-with_class_same slabs class (popped (class_at slabs class)) valid) (omega (arith, handed));
     }
 
 -- after an item comes into the next chunk of a class and that chunk is handed out, under a key that led nowhere

@@ -18,7 +18,7 @@ use Rattle.mc_machine.specs.Item.{is_linked_to}
 use Rattle.mc_machine.specs.Items.{Items, linked_chunk}
 use Rattle.mc_machine.specs.Kept.{places, IsKept}
 use Rattle.mc_machine.proofs.Chunks.{chunk_cmp-self}
-use Rattle.mc_machine.proofs.Moves.{per_pages-with_class}
+use Rattle.mc_pages.proofs.ClassChanges.{per_pages-with_class}
 
 -- the chunk that a key leads to has an item
 leads_there : (key : ℕ) (chunk : ChunkId) (items : Items) → linked_chunk items key ≡ Some chunk → 1 ≤ places chunk items

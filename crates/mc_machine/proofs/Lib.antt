@@ -1,18 +1,12 @@
 pub mod Chunks
 pub mod Links
-pub mod Orders
-pub mod Moves
 pub mod KeptChanges
 pub mod KeptStore
 pub mod KeptEvict
 pub mod Sweeps
-pub mod Cuts
-pub mod GivenPage
 pub mod Grown
 pub mod Bounds
-pub mod Victims
 pub mod Stocks
-pub mod ClassCounts
 pub mod KeptTouch
 pub mod KeptBegin
 pub mod MoverLists
@@ -26,7 +20,6 @@ pub mod MoverTurns
 pub mod Watched
 pub mod Modes
 pub mod StoredItems
-pub mod Walks
 pub mod DeadItems
 pub mod DeadOrders
 pub mod HeldElsewhere

@@ -9,8 +9,8 @@ use Rattle.mc_pages.specs.SlabState.{IsClass, class_at, class_of_chunk, class_of
 use Rattle.mc_pages.proofs.Chunks.{times_from_Contains}
 use Rattle.mc_machine.specs.Kept.{IsKept}
 use Rattle.mc_machine.specs.Machine.{Machine}
-use Rattle.mc_machine.proofs.Orders.{in_lists_once, page_of_listed}
-use Rattle.mc_machine.proofs.Walks.{behind_there, rest_from, rest_long, rest_short}
+use Rattle.mc_pages.proofs.ListedChunks.{in_lists_once, page_of_listed}
+use Rattle.mc_pages.proofs.RestOfList.{behind_there, rest_from, rest_long, rest_short}
 
 -- what stands from a place on: the chunk there, and what is behind it
 pub drop_there : (chunks : List ChunkId) (place : ℕ) (x : ChunkId) → slice_get chunks place ≡ Some x → drop place chunks ≡ x ∷ drop (place + 1) chunks

@@ -14,8 +14,8 @@ use Rattle.mc_machine.specs.Items.{Items, linked_chunk, unlinked_items}
 use Rattle.mc_machine.specs.Machine.{Machine, dead_chunks, swept, has_free, extended, stocked, with_new_page}
 use Rattle.mc_machine.specs.Supply.{victim, with_eviction, supplied}
 use Rattle.mc_machine.proofs.Links.{linked_chunk-unlinked_items}
-use Rattle.mc_machine.proofs.Moves.{classes-cuts}
-use Rattle.mc_machine.proofs.GivenPage.{classes-grown}
+use Rattle.mc_pages.proofs.ClassChanges.{classes-cuts}
+use Rattle.mc_pages.proofs.NextPage.{classes-grown}
 use Rattle.mc_machine.proofs.Sweeps.{classes-reclaims}
 
 -- the number of classes stays: in a sweep, in sweeps, with a new page, and where a class is stocked

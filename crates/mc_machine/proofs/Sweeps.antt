@@ -12,7 +12,7 @@ use Rattle.mc_pages.specs.SlabState.{IsClass, class_at, class_of_page}
 use Rattle.mc_machine.specs.Items.{Items, item_at, without_item}
 use Rattle.mc_machine.specs.Machine.{Machine, is_dead, after_reclaim, swept}
 use Rattle.mc_pages.proofs.Chunks.{same_from_is_chunk, is_chunk-same, times-cons, times-append}
-use Rattle.mc_machine.proofs.Moves.{class_at-with_class}
+use Rattle.mc_pages.proofs.OneClass.{class_at-with_class_same}
 
 -- another chunk's item stays
 pub item_at-without_item : (items : Items) (x y : ChunkId) → is_chunk x y ≡ false → item_at (without_item items x) y ≡ item_at items y
@@ -124,7 +124,7 @@ sweeps_on m class place x valid own once at none dead =
     let inside : place < length order = slice_get_within order place x at in
     let long : length before ≡ place = omega (arith, length-take place order) in
     let new_class : class_at (after_reclaim m x).slabs class ≡ put_back (class_at m.slabs class) x
-    = rw own (class_at-with_class m.slabs class (put_back (class_at m.slabs class) x) valid) in
+    = rw own (class_at-with_class_same m.slabs class (put_back (class_at m.slabs class) x) valid) in
     let new_order : (class_at (after_reclaim m x).slabs class).order ≡ before ++ after
     = ap (λ (c : ClassState). c.order) new_class ∙ ap (λ cs. without x cs) split ∙ found.taken in
     let kept_before : take place (before ++ after) ≡ before

@@ -18,7 +18,7 @@ use Rattle.mc_watch.specs.Decider.{DeciderState, after_window, all_noted, fresh_
 use Rattle.mc_machine.specs.Automove.{eviction_counts, free_counts, page_counts}
 use Rattle.mc_machine.specs.Machine.{with_mode}
 use Rattle.mc_machine.specs.Kept.{IsWatched}
-use Rattle.mc_machine.proofs.GivenPage.{classes-grown}
+use Rattle.mc_pages.proofs.NextPage.{classes-grown}
 
 -- ---- the counters through each change
 

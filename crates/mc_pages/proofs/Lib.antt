@@ -39,3 +39,10 @@ pub mod RoomyFresh
 pub mod RoomyGrow
 pub mod RoomyMoves
 pub mod RoomyFinish
+pub mod ClassChanges
+pub mod Cuts
+pub mod NextPage
+pub mod ListedChunks
+pub mod RestOfList
+pub mod FirstFound
+pub mod ClassCounts

@@ -9,7 +9,7 @@ use Rattle.mc_machine.specs.Kept.{IsKept}
 use Rattle.mc_machine.specs.Machine.{Machine, after_reclaim}
 use Rattle.mc_machine.proofs.Bounds.{listed_own, listed_once}
 use Rattle.mc_machine.proofs.Sweeps.{SweepsOn, sweeps_on, none_more, swept_none, past_none}
-use Rattle.mc_machine.proofs.Walks.{behind_there, rest_from, rest_long, rest_short}
+use Rattle.mc_pages.proofs.RestOfList.{behind_there, rest_from, rest_long, rest_short}
 use Rattle.mc_keeper.proofs.keeper.Keeper.sweep.Goals as goal
 
 -- what holds of the chunk at this place

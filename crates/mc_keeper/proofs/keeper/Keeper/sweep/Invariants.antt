@@ -2,7 +2,7 @@ use Rattle.std.proofs.Common.{◌≡◌, ℕ, ◌≤◌, [], length, take}
 use Rattle.std.specs.Prelude.{filter, slice_get}
 use Rattle.mc_pages.specs.SlabState.{IsClass, class_at}
 use Rattle.mc_machine.specs.Machine.{is_dead, swept}
-use Rattle.mc_machine.proofs.Walks.{rest_from}
+use Rattle.mc_pages.proofs.RestOfList.{rest_from}
 use Rattle.mc_keeper.proofs.keeper.Keeper.sweep.Given as goal
 
 -- the walk is at some place, no chunk before it is dead, and the rest of the sweep makes what the whole would

@@ -6,7 +6,7 @@ use Rattle.mc_pages.specs.ClassState.{behind}
 use Rattle.mc_pages.specs.SlabState.{class_at, class_of_chunk}
 use Rattle.mc_machine.specs.Machine.{Machine}
 use Rattle.mc_machine.proofs.MoverLists.{FreeAt, drop_past, find_behind, find_there, found_free}
-use Rattle.mc_machine.proofs.Walks.{rest_from}
+use Rattle.mc_pages.proofs.RestOfList.{rest_from}
 use Rattle.mc_keeper.proofs.keeper.Keeper.target.Goals as goal
 
 pub returns-then-free-page : goal.returns-then-free-page

@@ -3,7 +3,7 @@ use Rattle.std.specs.Prelude.{slice_get, find}
 use Rattle.mc_pages.specs.SlabState.{class_at}
 use Rattle.mc_machine.specs.Machine.{Machine, is_idle}
 use Rattle.mc_machine.specs.Supply.{eviction_tries}
-use Rattle.mc_machine.proofs.Victims.{find_here}
+use Rattle.mc_pages.proofs.FirstFound.{find_here}
 use Rattle.mc_keeper.proofs.keeper.Keeper.victim.Goals as goal
 
 pub returns-then-is_idle : goal.returns-then-is_idle

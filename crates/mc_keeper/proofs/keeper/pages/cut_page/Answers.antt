@@ -1,7 +1,7 @@
 use Rattle.std.proofs.Common.{◌∙◌, ap, arith}
 use Rattle.std.proofs.lemmas.Bool.Decides.{nat_tests}
 use Rattle.mc_pages.specs.SlabState.{SlabState}
-use Rattle.mc_machine.proofs.Cuts.{cuts_more, next_after_cut}
+use Rattle.mc_pages.proofs.Cuts.{cuts_more, next_after_cut}
 use Rattle.mc_keeper.proofs.keeper.pages.cut_page.Goals as goal
 
 pub cut-requires : goal.cut-requires

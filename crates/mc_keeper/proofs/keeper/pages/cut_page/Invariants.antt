@@ -2,7 +2,7 @@ use Rattle.std.proofs.Common.{◌≡◌}
 use Rattle.std.specs.Prelude.{fold}
 use Rattle.mc_pages.specs.Changes.{after_cut}
 use Rattle.mc_pages.specs.Accounted.{IsAccounted, first_chunks}
-use Rattle.mc_machine.proofs.Cuts.{next_cut}
+use Rattle.mc_pages.proofs.Cuts.{next_cut}
 use Rattle.mc_keeper.proofs.keeper.pages.cut_page.Given as goal
 
 -- the chunks below are cut, and the next one is the lowest that isn't

@@ -1,4 +1,4 @@
--- What each change of the pages and chunks does to the hand-out orders.
+-- What each change of the pages and chunks leaves as it was: the hand-out orders, the chunks a page, the owners, the sizes.
 use Rattle.std.proofs.Common.{◌≡◌, ◌≢◌, ℕ, ◌+◌, ◌-◌, ◌<◌, List, [], ◌∷◌, length, get_or, Bool, true, false, cond, Some, refl, ap, sym, ◌∙◌, arith, eqb}
 use Rattle.std.specs.Prelude.{fold, map, slice_get}
 use Rattle.std.proofs.Math.Seq.{map-set_same}
@@ -10,17 +10,6 @@ use Rattle.mc_pages.specs.ClassState.{ClassState, new_class, is_chunk, times, ha
 use Rattle.mc_pages.specs.SlabState.{SlabState, IsClass, class_at, class_of_page}
 use Rattle.mc_pages.specs.Changes.{with_class, after_cut}
 use Rattle.mc_pages.proofs.Chunks.{times-cons, is_chunk-same}
-
--- the class that was changed
-pub class_at-with_class : (slabs : SlabState) (class : ℕ) (state : ClassState) → IsClass slabs class
-    → class_at (with_class slabs class state) class ≡ state
-class_at-with_class slabs class state valid = get_or-set_same slabs.classes (class - 1) state (new_class 0 0) (omega (arith, valid.0, valid.1))
-
--- and another
-pub class_at-with_other : (slabs : SlabState) (class other : ℕ) (state : ClassState) → IsClass slabs class → IsClass slabs other → other ≢ class
-    → class_at (with_class slabs class state) other ≡ class_at slabs other
-class_at-with_other slabs class other state valid valid_other apart =
-    get_or-set_other slabs.classes (class - 1) (other - 1) state (new_class 0 0) (λ same. apart (omega (arith, valid.0, valid_other.0, same)))
 
 -- a change that leaves its class's hand-out order leaves all of them
 order_step : (b : Bool) (slabs : SlabState) (class other : ℕ) (state : ClassState) → IsClass slabs other → state.order ≡ (class_at slabs class).order

@@ -11,7 +11,7 @@ use Rattle.mc_pages.specs.SlabState.{SlabState, class_at, class_of_owner, class_
 use Rattle.mc_pages.specs.Ledger.{owner_at}
 use Rattle.mc_pages.specs.Changes.{after_cut}
 use Rattle.mc_pages.specs.Accounted.{first_chunks}
-use Rattle.mc_machine.proofs.Moves.{per_pages-cuts, owners-cuts}
+use Rattle.mc_pages.proofs.ClassChanges.{per_pages-cuts, owners-cuts}
 
 -- a chunk by its page and its place there
 abbrev pub chunk_at : ℕ → ℕ → ChunkId
