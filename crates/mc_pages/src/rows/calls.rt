@@ -12,6 +12,7 @@ use crate::ids::ChunkId;
 
 impl Rows {
     /// Takes the head of the class's free list to the back of its hand-out order.
+    #[inline(always)]
     pub(crate) fn pop(&mut self, class: usize) -> Option<ChunkId>
         requires linked { AreLinked self.old }
         requires class { IsPlace self.old class }
@@ -29,6 +30,7 @@ impl Rows {
     }
 
     /// Takes a handed-out chunk to the head of the class's free list.
+    #[inline(always)]
     pub(crate) fn back(&mut self, class: usize, chunk: ChunkId)
         requires linked { AreLinked self.old }
         requires class { IsPlace self.old class }
@@ -42,6 +44,7 @@ impl Rows {
     }
 
     /// Takes a handed-out chunk to the back of the class's hand-out order.
+    #[inline(always)]
     pub(crate) fn touch(&mut self, class: usize, chunk: ChunkId)
         requires linked { AreLinked self.old }
         requires class { IsPlace self.old class }
@@ -55,6 +58,7 @@ impl Rows {
     }
 
     /// Gives a free chunk the place of a handed-out one, which stands directly behind it then.
+    #[inline(always)]
     pub(crate) fn replace(&mut self, class: usize, new: ChunkId, old: ChunkId)
         requires linked { AreLinked self.old }
         requires class { IsPlace self.old class }
@@ -69,6 +73,7 @@ impl Rows {
     }
 
     /// Takes a chunk out of the list that it is in.
+    #[inline(always)]
     pub(crate) fn clear(&mut self, class: usize, chunk: ChunkId)
         requires linked { AreLinked self.old }
         requires class { IsPlace self.old class }
@@ -83,6 +88,7 @@ impl Rows {
     }
 
     /// Takes a chunk that is in no list to the head of the class's free list.
+    #[inline(always)]
     pub(crate) fn cut(&mut self, class: usize, next: ChunkId)
         requires linked { AreLinked self.old }
         requires class { IsPlace self.old class }

@@ -74,6 +74,7 @@ impl Rows {
     }
 
     /// What the field holds.
+    #[inline(always)]
     pub(super) fn get(&self, field: Field) -> Option<ChunkId>
         requires { IsField self.now field }
         ensures { result ≡ field_of self.now field }
@@ -97,6 +98,7 @@ impl Rows {
     }
 
     /// Writes a field. No other call does.
+    #[inline(always)]
     pub(super) fn put(&mut self, change: Change)
         requires { IsChange self.old change }
         ensures { self.new ≡ with_change self.old change }

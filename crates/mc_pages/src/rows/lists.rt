@@ -10,6 +10,7 @@ use crate::ids::ChunkId;
 
 impl Rows {
     /// Takes a chunk out of its list. What it is marked as is still to be written.
+    #[inline(always)]
     pub(super) fn unlink(&mut self, list: ListName, chunk: ChunkId)
         requires linked { AreLinked self.old }
         requires list { IsList self.old list }
@@ -40,6 +41,7 @@ impl Rows {
     }
 
     /// Puts a chunk first in a list.
+    #[inline(always)]
     pub(super) fn put_first(&mut self, list: ListName, chunk: ChunkId)
         requires linked { AreLinkedBut self.old chunk }
         requires list { IsList self.old list }
@@ -56,6 +58,7 @@ impl Rows {
     }
 
     /// Puts a chunk last in a list.
+    #[inline(always)]
     pub(super) fn put_last(&mut self, list: ListName, chunk: ChunkId)
         requires linked { AreLinkedBut self.old chunk }
         requires list { IsList self.old list }
@@ -72,6 +75,7 @@ impl Rows {
     }
 
     /// Puts a chunk directly before another in a list.
+    #[inline(always)]
     pub(super) fn put_before(&mut self, list: ListName, chunk: ChunkId, old: ChunkId)
         requires linked { AreLinkedBut self.old chunk }
         requires list { IsList self.old list }
@@ -89,6 +93,7 @@ impl Rows {
     }
 
     /// Puts a chunk between two neighbours. None stands for the list's end.
+    #[inline(always)]
     fn link(
         &mut self,
         list: ListName,
@@ -110,6 +115,7 @@ impl Rows {
     }
 
     /// Makes two chunks of a list neighbours. None stands for the list's end.
+    #[inline(always)]
     fn join(&mut self, list: ListName, before: Option<ChunkId>, behind: Option<ChunkId>)
         requires before { IsField self.old (forth list before) }
         requires behind { IsField self.old (back list behind) }
