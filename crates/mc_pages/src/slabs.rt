@@ -127,6 +127,16 @@ impl Slabs {
         }
     }
 
+    /// How many chunks a page of the class has.
+    pub fn per_page(&self, class: ClassId) -> u64
+        requires { IsClass self.now.state class }
+        ensures chunks { result ≡ (class_at self.now.state class).per_page }
+        ensures accounted { IsAccounted self.now.state }
+    {
+        let slab = &self.classes[class as usize - 1];
+        slab.per_page()
+    }
+
     /// What all classes have together.
     pub fn totals(&self) -> Totals
         ensures totals { result ≡ totals_of self.now.state }

@@ -207,6 +207,7 @@ fn assert_same_class(rt: &impl Abort, all: &Driven, own: &PlainClass, class: Cla
         evictions: own.evictions,
     };
     assert_equal(rt, all.numbers(class), Some(want), "numbers");
+    assert_same(rt, all.per_page(class), Some(own.per_page), "per_page");
     for (at, want) in own.free.iter().enumerate() {
         assert_equal(rt, all.free_at(class, at as u64), Some(*want), "free_at");
     }

@@ -326,6 +326,14 @@ impl Driven<'_> {
         }
     }
 
+    pub(super) fn per_page(&self, class: ClassId) -> Option<u64> {
+        if self.is_class(class) {
+            Some(self.slabs.per_page(class))
+        } else {
+            None
+        }
+    }
+
     pub(super) fn totals(&self) -> Totals {
         self.slabs.totals()
     }
