@@ -12,6 +12,7 @@ mod ledger;
 mod moves;
 mod numbers;
 mod rows;
+mod shared;
 mod slabs;
 mod writes;
 
@@ -21,4 +22,5 @@ pub use ledger::{Entry, Owner};
 pub use moves::{Found, Reassign};
 pub use numbers::{Numbers, Totals};
 pub use rows::{ListName, Rows};
+pub use shared::SharedSlabs;
 pub use slabs::{Grow, NoMemory, Slabs};

@@ -1,6 +1,7 @@
 //! Pages and chunks: worked calls, and many at random beside plain lists.
 mod driven;
 mod plain;
+mod shared;
 
 use super::{FOUR_CLASSES, assert_equal, assert_same};
 use driven::Driven;

@@ -1,0 +1,91 @@
+//! Slabs in their box: what is changed there is what the same calls make of slabs without one.
+ghost use Rattle.std.specs.Prelude.{◌≡◌, ◌≤◌, IsTrue, ◌↔◌};
+ghost use Rattle.mc_pages.specs.ClassState.{first_free};
+ghost use Rattle.mc_pages.specs.SlabState.{IsClass, class_at};
+ghost use Rattle.mc_pages.specs.Changes.{after_pop};
+ghost use Rattle.mc_page_trials.specs.Sized.{IsSized};
+
+use super::super::{FOUR_CLASSES, assert_equal};
+use super::driven::Driven;
+use mc_classes::{ClassId, ClassTable, PageId};
+use mc_pages::{ChunkId, Grow, NoMemory, SharedSlabs, Slabs};
+use std::alloc::Global;
+use std::test::Fail;
+
+/// Slabs in their box, and the table that they are made by.
+#[derive(Drop)]
+struct Boxed<'a> {
+    shared: SharedSlabs,
+    table: &'a ClassTable,
+    ghost sized: { IsSized shared table.now },
+}
+
+impl Boxed<'_> {
+    #[tactic(auto, using(crate::proofs::Sized::sized_fresh))]
+    fn new<'a>(alloc: Global, table: &'a ClassTable) -> Result<Boxed<'a>, NoMemory> {
+        let slabs = Slabs::new(alloc, table)?;
+        let shared = SharedSlabs::new(alloc, slabs)?;
+        Ok(Boxed { shared, table })
+    }
+
+    fn is_class(&self, class: ClassId) -> bool
+        ensures { IsTrue result ↔ IsClass self.now.shared class }
+    {
+        class >= 1 && class <= self.table.count()
+    }
+
+    /// None where there is no such class, or a page isn't cut yet.
+    #[tactic(auto, using(crate::proofs::Sized::changes))]
+    fn grow(&mut self, class: ClassId) -> Option<Result<PageId, Grow>> {
+        if !self.is_class(class) || self.shared.slabs().next_uncut().is_some() {
+            return None;
+        }
+        Some(self.shared.slabs_mut().grow(class))
+    }
+
+    /// Cuts the next chunk, if there is one.
+    #[tactic(auto, using(crate::proofs::Sized::changes))]
+    fn cut(&mut self) -> Option<ChunkId> {
+        let chunk = self.shared.slabs().next_uncut()?;
+        self.shared.slabs_mut().cut(chunk.page, chunk.index);
+        Some(chunk)
+    }
+
+    /// None where there is no such class, or it has no free chunk.
+    fn pop(&mut self, class: ClassId) -> Option<ChunkId> {
+        if self.is_class(class) {
+            hand_out(&mut self.shared, class)
+        } else {
+            None
+        }
+    }
+}
+
+/// The state is exactly what the definition makes of the state before.
+fn hand_out(shared: &mut SharedSlabs, class: ClassId) -> Option<ChunkId>
+    requires { IsClass shared.old class }
+    ensures chunk { result ≡ first_free (class_at shared.old class) }
+    ensures popped { shared.new ≡ after_pop shared.old class }
+{
+    shared.slabs_mut().pop(class)
+}
+
+#[test]
+fn slabs_in_a_box_are_changed_in_place(rt: HostRuntime) -> Result<(), Fail> {
+    let table = ClassTable::build(rt.alloc(), &FOUR_CLASSES)?;
+    let mut boxed = Boxed::new(rt.alloc(), &table)?;
+    let mut all = Driven::new(rt.alloc(), &table)?;
+    for class in [3, 4] {
+        assert_equal(&rt, boxed.grow(class), all.grow(class), "grow");
+        for _ in 0..6 {
+            assert_equal(&rt, boxed.cut(), all.cut(), "cut");
+        }
+        for _ in 0..3 {
+            assert_equal(&rt, boxed.pop(class), all.pop(class), "pop");
+        }
+    }
+    let slabs = boxed.shared.into_slabs();
+    assert_equal(&rt, slabs.totals(), all.totals(), "totals");
+    assert_equal(&rt, slabs.ledger(), all.ledger(), "ledger");
+    Ok(())
+}
