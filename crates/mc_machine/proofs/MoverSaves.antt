@@ -1,6 +1,6 @@
 -- An idle item of the moving page stays idle while its class's dead are put back, and what the mover finds at it.
 use Rattle.std.proofs.Common.{◌≡◌, ◌≢◌, ℕ, ◌≤◌, List, [], ◌∷◌, suc, Bool, true, false, not, Option, Some, None, refl, ap, sym, ◌∙◌, arith, Contains, length}
-use Rattle.std.specs.Prelude.{◌==◌, ◌&&◌, find, filter, fold, nat_lt, is_some, if◌then◌else◌}
+use Rattle.std.specs.Prelude.{◌==◌, ◌&&◌, find, filter, fold, nat_lt, if◌then◌else◌}
 use Rattle.std.specs.Option.{option_map_or}
 use Rattle.std.proofs.lemmas.Bool.{false≢true}
 use Rattle.std.proofs.lemmas.Bool.Decides.{nat_tests}
@@ -52,7 +52,7 @@ times-filter p chunk (c ∷ chunks) fails = filter_step (p c) (is_chunk c chunk)
     filter_step false s is any rest = rw is rest
 
 -- what is idle isn't dead
-not_dead : (m : Machine) (chunk : ChunkId) → is_idle m chunk ≡ true → is_dead m chunk ≡ false
+pub not_dead : (m : Machine) (chunk : ChunkId) → is_idle m chunk ≡ true → is_dead m chunk ≡ false
 not_dead m chunk idle = dead_step (item_at m.items chunk) refl idle
   where
     dead_step : (found : Option Item) → item_at m.items chunk ≡ found → (option_map_or (λ (item : Item). item.linked) found false && not (is_held m.holds chunk)) ≡ true
@@ -140,10 +140,19 @@ looked_with_item m now index class chunk item kept same valid cut there =
     let tests = with_item_tests now.table now.slabs index now.items class chunk item kept_now valid (own_from_cut now.slabs class chunk cut) there_now in
     rw (tests.0, tests.1) refl
 
--- what was found is there
-pub there_is : (found : Option Item) → is_some found ≡ true → (item : Item) × (found ≡ Some item)
-there_is None bad = absurd (false≢true bad)
-there_is (Some item) some = (item, refl)
+-- what somebody holds stays
+pub busy_if_held : (m : Machine) (class : ℕ) (chunk : ChunkId) → is_held m.holds chunk ≡ true → looked_item m class chunk ≡ record { machine = m; found = Busy }
+busy_if_held m class chunk held =
+    let dead : is_dead m chunk ≡ false = grind (arith, nat_tests) in
+    let idle : is_idle m chunk ≡ false = grind (arith, nat_tests) in
+    rw (dead, idle) refl
+
+-- and what nobody holds is dead or idle, as its key leads to it or not
+pub dead_if_unlinked : (m : Machine) (chunk : ChunkId) (item : Item) → item_at m.items chunk ≡ Some item → is_held m.holds chunk ≡ false → item.linked ≡ false → is_dead m chunk ≡ true
+dead_if_unlinked m chunk item there free unlinked = rw (there, free, unlinked) refl
+
+pub idle_if_linked : (m : Machine) (chunk : ChunkId) (item : Item) → item_at m.items chunk ≡ Some item → is_held m.holds chunk ≡ false → item.linked ≡ true → is_idle m chunk ≡ true
+idle_if_linked m chunk item there free linked = rw (there, free, linked) refl
 
 -- the page's class is the same after a sweep
 pub own_swept : (m now : Machine) (class page : ℕ) → now ≡ swept m class → class_of_page m.slabs page ≡ class → class_of_page now.slabs page ≡ class

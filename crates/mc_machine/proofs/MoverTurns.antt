@@ -1,5 +1,5 @@
 -- Turns of the mover: chunk after chunk and turn after turn, and how much they count at most.
-use Rattle.std.proofs.Common.{◌≡◌, ℕ, ◌+◌, ◌-◌, ◌<◌, ◌≤◌, zero, suc, Bool, true, false, Option, Some, None, refl, ap, sym, ◌∙◌, arith, add-one}
+use Rattle.std.proofs.Common.{◌≡◌, ℕ, ◌+◌, ◌-◌, ◌<◌, ◌≤◌, zero, suc, Bool, true, false, Option, Some, None, refl, ap, sym, ◌∙◌, arith, add-one, zero-add}
 use Rattle.std.specs.Prelude.{nat_lt, if◌then◌else◌}
 use Rattle.std.proofs.lemmas.Bool.Decides.{nat_tests}
 use Rattle.mc_pages.specs.declared.ids.Moving.{Moving}
@@ -22,6 +22,24 @@ chunks_suc (suc count) c = chunks_suc count (next_chunk c)
 pub chunks_more : (count : ℕ) (c now next : Counted) → now ≡ with_chunks count c → next_chunk now ≡ next → next ≡ with_chunks (count + 1) c
 chunks_more count c now next so_far one =
     sym one ∙ ap next_chunk so_far ∙ sym (chunks_suc count c) ∙ ap (λ n. with_chunks n c) (sym (add-one count))
+
+-- where the next one changes nothing, none of those behind it does
+still : (count : ℕ) (c : Counted) → next_chunk c ≡ c → with_chunks count c ≡ c
+still zero c same = refl
+still (suc count) c same = ap (with_chunks count) same ∙ still count c same
+
+-- some chunks are looked at, and then the others
+chunks_then : (done left : ℕ) (c : Counted) → with_chunks (done + left) c ≡ with_chunks left (with_chunks done c)
+chunks_then zero left c = ap (λ n. with_chunks n c) (zero-add left)
+chunks_then (suc done) left c =
+    let next : suc done + left ≡ suc (done + left) = omega arith in
+    ap (λ n. with_chunks n c) next ∙ chunks_then done left (next_chunk c)
+
+-- so a turn may stop there
+pub chunks_done : (count done : ℕ) (c now : Counted) → done ≤ count → now ≡ with_chunks done c → next_chunk now ≡ now → with_chunks count c ≡ now
+chunks_done count done c now within so_far same =
+    let split : count ≡ done + (count - done) = omega (arith, within) in
+    ap (λ n. with_chunks n c) split ∙ chunks_then done (count - done) c ∙ ap (with_chunks (count - done)) (sym so_far) ∙ still (count - done) now same
 
 -- counts that are at most so many are at most more
 pub at_most_more : (few many : ℕ) (counts : Counts) → AreAtMost few counts → few ≤ many → AreAtMost many counts

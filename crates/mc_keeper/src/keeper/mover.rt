@@ -1,5 +1,5 @@
 //! The mover: it looks at the chunks of the page on the move, and clears them.
-ghost use Rattle.std.specs.Prelude.{◌≡◌, ◌≢◌, ◌*◌, ◌<◌, ◌≤◌, nat_lt, true, false, IfOk, OnOk, Contains, Some, None, Err};
+ghost use Rattle.std.specs.Prelude.{◌≡◌, ◌≢◌, ◌*◌, ◌<◌, ◌≤◌, nat_lt, true, false, IfOk, OnOk, Contains, Some, None, Ok, Err};
 ghost use Rattle.std.specs.BTreeMap.{is_at};
 ghost use Rattle.std.specs.Map.{set_value};
 ghost use Rattle.std.specs.Option.{option_map};
@@ -11,7 +11,7 @@ ghost use Rattle.mc_pages.specs.Moves.{CanFinish, is_held_up};
 ghost use Rattle.mc_machine.specs.declared.turn.Counts.{Counts};
 ghost use Rattle.mc_machine.specs.Items.{item_at};
 ghost use Rattle.mc_machine.specs.Machine.{is_dead, is_idle};
-ghost use Rattle.mc_machine.specs.Mover.{AreAtMost, after_turns, is_at_end, looked_at, saved, target, turned, with_chunk, with_cleared, with_end, with_finish, with_saved};
+ghost use Rattle.mc_machine.specs.Mover.{AreAtMost, after_turns, is_at_end, looked_at, saved, target, turned, with_chunk, with_chunks, with_cleared, with_end, with_finish, with_saved};
 
 use super::Keeper;
 use super::pages::cut_page;
@@ -54,23 +54,35 @@ impl Keeper {
         ensures { IfOk result (λ ending. turned self.old counts.old ≡ record { machine = self.new; counts = counts.new; ending = ending }) }
     {
         self.turns += 1;
-        for _ in 0..self.bulk {
-            self.step(counts)?;
-        }
+        self.steps(counts)?;
         Ok(self.end_turn())
     }
 
-    /// Looks at the chunk at the move's position, and goes on from there. Nothing happens where no page moves or all
-    /// of it was looked at.
-    fn step(&mut self, counts: &mut Counts) -> Result<(), AllocError>
+    /// Looks at as many chunks as a turn may, or fewer where no page moves or all of it was looked at.
+    fn steps(&mut self, counts: &mut Counts) -> Result<(), AllocError>
+        requires { AreAtMost (256 * 999999) counts.old }
+        ensures { OnOk result (with_chunks self.old.bulk (record { machine = self.old; counts = counts.old }) ≡ record { machine = self.new; counts = counts.new }) }
+    {
+        for _ in 0..self.bulk {
+            if !self.step(counts)? {
+                return Ok(());
+            }
+        }
+        Ok(())
+    }
+
+    /// Looks at the chunk at the move's position, and goes on from there. Says whether there was one: nothing happens where
+    /// no page moves or all of it was looked at.
+    fn step(&mut self, counts: &mut Counts) -> Result<bool, AllocError>
         requires { AreAtMost 256000000 counts.old }
-        ensures { OnOk result (with_chunk (record { machine = self.old; counts = counts.old }) self.old.slabs.moving ≡ record { machine = self.new; counts = counts.new }) }
+        ensures looked { OnOk result (with_chunk (record { machine = self.old; counts = counts.old }) self.old.slabs.moving ≡ record { machine = self.new; counts = counts.new }) }
+        ensures nothing { result ≡ Ok false → (self.new ≡ self.old) × (counts.new ≡ counts.old) }
     {
         let Some(moving) = self.slabs.moving() else {
-            return Ok(());
+            return Ok(false);
         };
         if self.is_at_end(moving) {
-            return Ok(());
+            return Ok(false);
         }
         let chunk = ChunkId {
             page: moving.page,
@@ -79,7 +91,7 @@ impl Keeper {
         let found = self.look(moving.src, chunk)?;
         self.slabs.passed(found);
         counts.count(found);
-        Ok(())
+        Ok(true)
     }
 
     /// Whether all chunks of the page were looked at.
@@ -87,7 +99,7 @@ impl Keeper {
         requires { IsClass self.now.slabs moving.src }
         ensures { result ≡ is_at_end self.now moving }
     {
-        moving.at >= self.table.per_page(moving.src)
+        moving.at >= self.slabs.per_page(moving.src)
     }
 
     /// At the page's end the pass begins anew, or the move ends where nothing held it up.
@@ -131,17 +143,18 @@ impl Keeper {
         ensures looked { IfOk result (λ found. looked_at self.old class chunk ≡ record { machine = self.new; found = found }) }
         ensures clears { IfOk result (λ found. is_held_up found ≡ false → is_cleared self.new.slabs class chunk ≡ true) }
     {
-        if !self.items.contains_key(&chunk) {
+        let Some(item) = self.items.get(&chunk) else {
             return Ok(self.clear_free(class, chunk));
+        };
+        let is_linked = item.is_linked();
+        if self.holds.is_held(chunk) {
+            return Ok(Found::Busy);
         }
-        if self.is_dead(chunk) {
-            self.clear(chunk);
-            return Ok(Found::Cleared);
-        }
-        if self.is_idle(chunk) {
+        if is_linked {
             return self.save(class, chunk);
         }
-        Ok(Found::Busy)
+        self.clear(chunk);
+        Ok(Found::Cleared)
     }
 
     /// Clears the chunk, which has no item, if it is free.

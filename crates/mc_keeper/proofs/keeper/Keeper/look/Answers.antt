@@ -1,33 +1,28 @@
-use Rattle.std.proofs.Common.{◌≡◌, true, false, ap, sym, ◌∙◌, refl}
-use Rattle.mc_pages.specs.Accounted.{is_cleared}
-use Rattle.mc_machine.specs.Machine.{is_dead, is_idle}
-use Rattle.mc_machine.proofs.KeptMoverClear.{dead_here, idle_here, own_from_cut}
-use Rattle.mc_machine.proofs.MoverSaves.{looked_with_item, there_is}
+use Rattle.std.proofs.Common.{◌≡◌, true, false, Some, ap, sym, ◌∙◌, refl}
+use Rattle.mc_machine.specs.Holds.{is_held}
+use Rattle.mc_machine.specs.Items.{item_at}
+use Rattle.mc_machine.specs.Machine.{Machine, is_dead, is_idle}
+use Rattle.mc_machine.proofs.MoverSaves.{busy_if_held, dead_if_unlinked, idle_if_linked, looked_with_item, not_dead}
 use Rattle.mc_keeper.proofs.keeper.Keeper.look.Goals as goal
 
-pub returns-then-is_dead-clause-looked : goal.returns-then-is_dead-clause-looked
-returns-then-is_dead-clause-looked c =
-    let dead : is_dead c.args.self.now c.args.chunk ≡ true = sym c.is_dead.ensures ∙ c.if-is_dead.true in
-    let found = dead_here _ _ c.args.chunk c.self.view_is dead in
-    looked_with_item _ _ _ c.args.class c.args.chunk found.0 c.self.invariant.kept c.self.view_is c.requires.class c.requires.cut found.1
-    ∙ rw (dead, c.clear.ensures.cleared) refl
+pub returns-then-is_held-clause-looked : goal.returns-then-is_held-clause-looked
+returns-then-is_held-clause-looked c =
+    let held : is_held c.args.self.now.holds c.args.chunk ≡ true = ap (λ (m : Machine). is_held m.holds c.args.chunk) (sym c.self.view_is) ∙ sym c.is_held.ensures ∙ c.if-is_held.true in
+    looked_with_item _ _ _ c.args.class c.args.chunk c.in-Some.item.now c.self.invariant.kept c.self.view_is c.requires.class c.requires.cut (sym c.in-Some.ensures.value)
+    ∙ busy_if_held c.args.self.now c.args.class c.args.chunk held
 
-pub returns-then-is_idle-clause-looked : goal.returns-then-is_idle-clause-looked
-returns-then-is_idle-clause-looked c =
-    let dead : is_dead c.args.self.now c.args.chunk ≡ false = sym c.is_dead.ensures ∙ c.if-is_dead.false in
-    let idle : is_idle c.args.self.now c.args.chunk ≡ true = sym c.is_idle.ensures ∙ c.if-is_idle.true in
-    let found = idle_here _ _ c.args.chunk c.self.view_is idle in
-    rw (looked_with_item _ _ _ c.args.class c.args.chunk found.0 c.self.invariant.kept c.self.view_is c.requires.class c.requires.cut found.1, dead, idle) c.save.ensures.saved
+pub returns-then-is_linked-clause-looked : goal.returns-then-is_linked-clause-looked
+returns-then-is_linked-clause-looked c =
+    let free : is_held c.args.self.now.holds c.args.chunk ≡ false = ap (λ (m : Machine). is_held m.holds c.args.chunk) (sym c.self.view_is) ∙ sym c.is_held.ensures ∙ c.if-is_held.false in
+    let there : item_at c.args.self.now.items c.args.chunk ≡ Some c.in-Some.item.now = ap (λ (m : Machine). item_at m.items c.args.chunk) (sym c.self.view_is) ∙ sym c.in-Some.ensures.value in
+    let idle : is_idle c.args.self.now c.args.chunk ≡ true = idle_if_linked c.args.self.now c.args.chunk c.in-Some.item.now there free (sym c.is_linked-is_linked.ensures ∙ c.if-is_linked.true) in
+    let alive : is_dead c.args.self.now c.args.chunk ≡ false = not_dead c.args.self.now c.args.chunk idle in
+    rw (looked_with_item _ _ _ c.args.class c.args.chunk c.in-Some.item.now c.self.invariant.kept c.self.view_is c.requires.class c.requires.cut (sym c.in-Some.ensures.value), alive, idle) c.save.ensures.saved
 
 pub returns-clause-looked : goal.returns-clause-looked
 returns-clause-looked c =
-    let dead : is_dead c.args.self.now c.args.chunk ≡ false = sym c.is_dead.ensures ∙ c.if-is_dead.false in
-    let idle : is_idle c.args.self.now c.args.chunk ≡ false = sym c.is_idle.ensures ∙ c.if-is_idle.false in
-    let found = there_is _ (sym c.contains_key.ensures ∙ c.if-not-contains_key.false) in
-    looked_with_item _ _ _ c.args.class c.args.chunk found.0 c.self.invariant.kept c.self.view_is c.requires.class c.requires.cut found.1
-    ∙ rw (dead, idle) refl
-
-pub returns-then-is_dead-clause-clears : goal.returns-then-is_dead-clause-clears
-returns-then-is_dead-clause-clears c =
-    λ done. ap (λ n. is_cleared c.clear.new.self.slabs n c.args.chunk) (sym (own_from_cut c.args.self.now.slabs c.args.class c.args.chunk c.requires.cut))
-    ∙ c.clear.ensures.clears
+    let free : is_held c.args.self.now.holds c.args.chunk ≡ false = ap (λ (m : Machine). is_held m.holds c.args.chunk) (sym c.self.view_is) ∙ sym c.is_held.ensures ∙ c.if-is_held.false in
+    let there : item_at c.args.self.now.items c.args.chunk ≡ Some c.in-Some.item.now = ap (λ (m : Machine). item_at m.items c.args.chunk) (sym c.self.view_is) ∙ sym c.in-Some.ensures.value in
+    let dead : is_dead c.args.self.now c.args.chunk ≡ true = dead_if_unlinked c.args.self.now c.args.chunk c.in-Some.item.now there free (sym c.is_linked-is_linked.ensures ∙ c.if-is_linked.false) in
+    looked_with_item _ _ _ c.args.class c.args.chunk c.in-Some.item.now c.self.invariant.kept c.self.view_is c.requires.class c.requires.cut (sym c.in-Some.ensures.value)
+    ∙ rw (dead, c.clear.ensures.cleared) refl

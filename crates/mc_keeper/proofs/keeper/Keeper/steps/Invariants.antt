@@ -1,6 +1,6 @@
 use Rattle.std.proofs.Common.{◌≡◌}
 use Rattle.mc_machine.specs.Mover.{Counted, with_chunks}
-use Rattle.mc_keeper.proofs.keeper.Keeper.turn.Given as goal
+use Rattle.mc_keeper.proofs.keeper.Keeper.steps.Given as goal
 
 -- so many chunks were looked at
 abbrev pub invariant-loop : goal.invariant-loop

@@ -1,0 +1,23 @@
+use Rattle.std.proofs.Common.{◌≡◌, ◌*◌, Ok, arith, sym, ap, ap₂, ◌∙◌}
+use Rattle.mc_machine.specs.declared.turn.Counts.{Counts}
+use Rattle.mc_machine.specs.Machine.{Machine}
+use Rattle.mc_machine.specs.Mover.{Counted}
+use Rattle.mc_machine.proofs.MoverTurns.{at_most_more, chunks_done, chunks_more, counts_now}
+use Rattle.mc_keeper.proofs.keeper.Keeper.steps.Goals as goal
+
+pub step-requires : goal.step-requires
+step-requires c =
+    at_most_more _ _ c.loop.counts (counts_now c.loop.counter (256 * 999999) _ _ c.loop.invariant c.requires) (omega (arith, c.loop-test.true, c.self.invariant.bulk))
+
+pub loop-preserved : goal.loop-preserved
+loop-preserved c = chunks_more c.loop.counter _ _ _ c.loop.invariant c.in_ok-step.ensures.looked
+
+-- nothing is left to look at
+pub returns-then-not-branch : goal.returns-then-not-branch
+returns-then-not-branch c =
+    let counted : Machine → Counts → Counted = λ machine counts. record { machine = machine; counts = counts } in
+    let nothing = c.in_ok-step.ensures.nothing (ap Ok c.if-not-branch.true) in
+    let same : counted c.step.new.self c.step.new.counts ≡ counted c.loop.self c.loop.counts = ap₂ counted nothing.0 nothing.1 in
+    chunks_done c.args.self.now.bulk c.loop.counter _ (counted c.loop.self c.loop.counts) (omega (arith, c.loop-test.true, ap (λ (m : Machine). m.bulk) c.self.view_is)) c.loop.invariant
+    (c.in_ok-step.ensures.looked ∙ same)
+    ∙ sym same
