@@ -15,7 +15,7 @@ mod sweep;
 
 use mc_classes::ClassTable;
 use mc_pages::{ChunkId, Slabs};
-use mc_parts::{DeadCounts, Holds, Item};
+use mc_parts::{DeadCounts, Holds, ItemTable};
 use mc_watch::Decider;
 pub use serve::Stop;
 use std::alloc::{AllocError, Global};
@@ -31,7 +31,7 @@ pub struct Keeper {
     bulk: u64,
     slabs: Slabs,
     index: BTreeMap<u64, ChunkId>,
-    items: BTreeMap<ChunkId, Item>,
+    items: ItemTable,
     holds: Holds,
     /// How many handed-out chunks of each class are dead, so that a sweep walks only where one is.
     dead: DeadCounts,
@@ -48,7 +48,7 @@ impl Model for Keeper {
 
     ghost use Rattle.mc_keeper.specs.KeeperKept.{AreKept};
 
-    ghost view = { λ k. record { table = k.table; bulk = k.bulk; slabs = k.slabs.state; items = k.items.entries; holds = k.holds; turns = k.turns; decider = k.decider } };
+    ghost view = { λ k. record { table = k.table; bulk = k.bulk; slabs = k.slabs.state; items = k.items; holds = k.holds; turns = k.turns; decider = k.decider } };
 
     ghost invariant = { AreKept };
 }
@@ -79,7 +79,7 @@ impl Keeper {
             bulk,
             slabs,
             index: BTreeMap::new(alloc),
-            items: BTreeMap::new(alloc),
+            items: ItemTable::new(alloc),
             holds,
             dead,
             turns: 0,

@@ -1,2 +1,3 @@
 pub mod HoldLists
 pub mod FoundHolds
+pub mod ItemPlaces

@@ -1,1 +1,2 @@
 pub mod HoldsKept
+pub mod ItemsByPlace

@@ -1,12 +1,14 @@
-//! What the keeper is made of: items, who holds which chunk, counts of the dead, and the lines of its replies.
+//! What the keeper is made of: items by place, who holds which chunk, counts of the dead, and the lines of its replies.
 #![tactic(auto)]
 
 mod dead;
 mod holds;
 mod item;
+mod table;
 mod text;
 
 pub use dead::{DeadCounts, class_of, count_unheld};
 pub use holds::Holds;
 pub use item::{Item, words_from};
+pub use table::ItemTable;
 pub use text::{push_answer, push_key_line, push_turn_line, push_window_line, push_words_line};

@@ -143,7 +143,7 @@ impl Keeper {
         ensures looked { IfOk result (λ found. looked_at self.old class chunk ≡ record { machine = self.new; found = found }) }
         ensures clears { IfOk result (λ found. is_held_up found ≡ false → is_cleared self.new.slabs class chunk ≡ true) }
     {
-        let Some(item) = self.items.get(&chunk) else {
+        let Some(item) = self.items.get(chunk) else {
             return Ok(self.clear_free(class, chunk));
         };
         let is_linked = item.is_linked();
@@ -183,7 +183,7 @@ impl Keeper {
     {
         let class = class_of(&self.slabs, chunk);
         self.slabs.clear(chunk);
-        self.items.remove(&chunk);
+        self.items.remove(chunk);
         self.dead.decrement(class);
     }
 
@@ -233,7 +233,7 @@ impl Keeper {
         ensures rescued { OnOk result (self.new ≡ (with_saved self.old old (Some new)).machine) }
         ensures clears { OnOk result (is_cleared self.new.slabs (class_of_page self.old.slabs old.page) old ≡ true) }
     {
-        let Some(item) = self.items.remove(&old) else {
+        let Some(item) = self.items.remove(old) else {
             return Ok(());
         };
         let key = item.key();
@@ -260,7 +260,7 @@ impl Keeper {
         ensures evicted { self.new ≡ (with_saved self.old chunk None).machine }
         ensures clears { is_cleared self.new.slabs (class_of_page self.old.slabs chunk.page) chunk ≡ true }
     {
-        if let Some(item) = self.items.remove(&chunk) {
+        if let Some(item) = self.items.remove(chunk) {
             self.index.remove(&item.key());
         }
         self.slabs.clear(chunk);

@@ -17,7 +17,11 @@ impl Keeper {
         if self.holds.is_full(worker) {
             return push_key_line(text, b"TOO_MANY_REFS", key);
         }
-        match self.index.get(&key).and_then(|chunk| self.items.get(chunk)) {
+        match self
+            .index
+            .get(&key)
+            .and_then(|chunk| self.items.get(*chunk))
+        {
             Some(item) => push_words_line(text, b"VALUE", key, item.words()),
             None => push_key_line(text, b"NOT_FOUND", key),
         }
@@ -60,7 +64,7 @@ impl Keeper {
         let Some(chunk) = self.last_hold(worker, key) else {
             return push_key_line(text, b"NOT_HELD", key);
         };
-        match self.items.get(&chunk) {
+        match self.items.get(chunk) {
             Some(item) => {
                 push_words_line(text, b"DROPPED", key, item.words())?;
                 let is_linked = item.is_linked();
@@ -105,7 +109,7 @@ impl Keeper {
     fn has_key(&self, chunk: ChunkId, key: u64) -> bool
         ensures { result ≡ has_key self.now.items key chunk }
     {
-        match self.items.get(&chunk) {
+        match self.items.get(chunk) {
             Some(item) => item.key() == key,
             None => false,
         }

@@ -4,7 +4,7 @@ ghost use Rattle.std.specs.Option.{is_some};
 ghost use Rattle.mc_pages.specs.ClassState.{first_free};
 ghost use Rattle.mc_pages.specs.SlabState.{IsClass, class_at};
 ghost use Rattle.mc_pages.specs.Changes.{after_pop};
-ghost use Rattle.mc_machine.specs.Items.{item_at, linked_chunk, unlinked_in, unlinked_items, with_item};
+ghost use Rattle.mc_machine.specs.Items.{linked_chunk, unlinked_items, with_item};
 ghost use Rattle.mc_machine.specs.Item.{new_item};
 ghost use Rattle.mc_machine.specs.Lines.{stored};
 ghost use Rattle.mc_machine.specs.Supply.{asks_for_page, supplied, supply};
@@ -14,7 +14,6 @@ use mc_classes::ClassId;
 use mc_pages::ChunkId;
 use mc_parts::{Item, count_unheld};
 use std::alloc::AllocError;
-use std::collections::BTreeMap;
 
 impl Keeper {
     /// Stores an item in a chunk of the class, in the place of the key's old one, and says whether there was a
@@ -52,7 +51,7 @@ impl Keeper {
     {
         match self.index.remove(&key) {
             Some(chunk) => {
-                unlink_in(&mut self.items, chunk);
+                self.items.unlink(chunk);
                 count_unheld(&mut self.dead, &self.holds, &self.slabs, chunk);
                 true
             }
@@ -84,18 +83,9 @@ impl Keeper {
                 Ok(())
             }
             Err(_) => {
-                self.items.remove(&chunk);
+                self.items.remove(chunk);
                 Err(AllocError)
             }
         }
-    }
-}
-
-/// The item in the chunk, if there is one: its key leads to it no more.
-fn unlink_in(items: &mut BTreeMap<ChunkId, Item>, chunk: ChunkId)
-    ensures { items.new.entries ≡ unlinked_in items.old.entries chunk (item_at items.old.entries chunk) }
-{
-    if let Some(item) = items.get_mut(&chunk) {
-        item.unlink();
     }
 }

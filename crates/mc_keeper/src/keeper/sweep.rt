@@ -48,7 +48,7 @@ impl Keeper {
     pub(super) fn is_dead(&self, chunk: ChunkId) -> bool
         ensures { result ≡ is_dead self.now chunk }
     {
-        match self.items.get(&chunk) {
+        match self.items.get(chunk) {
             Some(item) => !item.is_linked() && !self.holds.is_held(chunk),
             None => false,
         }
@@ -58,7 +58,7 @@ impl Keeper {
     pub(super) fn is_idle(&self, chunk: ChunkId) -> bool
         ensures { result ≡ is_idle self.now chunk }
     {
-        match self.items.get(&chunk) {
+        match self.items.get(chunk) {
             Some(item) => item.is_linked() && !self.holds.is_held(chunk),
             None => false,
         }
@@ -73,7 +73,7 @@ impl Keeper {
     {
         let class = class_of(&self.slabs, chunk);
         self.slabs.back(chunk);
-        self.items.remove(&chunk);
+        self.items.remove(chunk);
         self.dead.decrement(class);
     }
 }

@@ -32,7 +32,7 @@ invariant_of-self c =
     let cut : is_cut c.self.inside.slabs.state c.args.class c.args.chunk ≡ true = rw slabs c.requires.cut in
     let own : class_of_page c.self.inside.slabs.state c.args.chunk.page ≡ c.args.class = own_from_cut c.self.inside.slabs.state c.args.class c.args.chunk cut in
     let valid : IsClass c.self.inside.slabs.state (class_of_page c.self.inside.slabs.state c.args.chunk.page) = rw own (rw slabs c.requires.class) in
-    let empty : item_at c.self.inside.items.entries c.args.chunk ≡ None = rw (ap (λ (m : Machine). m.items) c.self.view_is) c.requires.empty in
+    let empty : item_at c.self.inside.items c.args.chunk ≡ None = rw (ap (λ (m : Machine). m.items) c.self.view_is) c.requires.empty in
     record {
       kept = rw c.clear.ensures.cleared (kept_freed _ _ _ _ c.args.chunk c.self.invariant.kept empty valid (rw c.clear.ensures.cleared at c.clear.ensures.accounted));
       watched = rw c.clear.ensures.cleared (watched-clear c.self.inside.slabs.state _ c.self.invariant.watched c.args.chunk);
@@ -47,7 +47,7 @@ returns-else-is_free-clause-looked c =
     let own : class_of_page c.self.inside.slabs.state c.args.chunk.page ≡ c.args.class = own_from_cut c.self.inside.slabs.state c.args.class c.args.chunk cut in
     let class : IsClass c.self.inside.slabs.state c.args.class = rw slabs c.requires.class in
     let valid : IsClass c.self.inside.slabs.state (class_of_page c.self.inside.slabs.state c.args.chunk.page) = rw own class in
-    let empty : item_at c.self.inside.items.entries c.args.chunk ≡ None = rw (ap (λ (m : Machine). m.items) c.self.view_is) c.requires.empty in
+    let empty : item_at c.self.inside.items c.args.chunk ≡ None = rw (ap (λ (m : Machine). m.items) c.self.view_is) c.requires.empty in
     let order : times c.args.chunk (class_at c.self.inside.slabs.state c.args.class).order ≡ 0 = rw own at (not_handed _ _ _ _ c.args.chunk c.self.invariant.kept empty valid) in
     let free : times c.args.chunk (class_at c.self.inside.slabs.state c.args.class).free ≡ 0 = let none = rw own at c.is_free.ensures.free in grind (arith, nat_tests, none, c.if-is_free.false) in
     let cleared : is_cleared c.args.self.now.slabs c.args.class c.args.chunk ≡ true
@@ -61,7 +61,7 @@ returns-else-is_free-clause-clears c =
     let own : class_of_page c.self.inside.slabs.state c.args.chunk.page ≡ c.args.class = own_from_cut c.self.inside.slabs.state c.args.class c.args.chunk cut in
     let class : IsClass c.self.inside.slabs.state c.args.class = rw slabs c.requires.class in
     let valid : IsClass c.self.inside.slabs.state (class_of_page c.self.inside.slabs.state c.args.chunk.page) = rw own class in
-    let empty : item_at c.self.inside.items.entries c.args.chunk ≡ None = rw (ap (λ (m : Machine). m.items) c.self.view_is) c.requires.empty in
+    let empty : item_at c.self.inside.items c.args.chunk ≡ None = rw (ap (λ (m : Machine). m.items) c.self.view_is) c.requires.empty in
     let order : times c.args.chunk (class_at c.self.inside.slabs.state c.args.class).order ≡ 0 = rw own at (not_handed _ _ _ _ c.args.chunk c.self.invariant.kept empty valid) in
     let free : times c.args.chunk (class_at c.self.inside.slabs.state c.args.class).free ≡ 0 = let none = rw own at c.is_free.ensures.free in grind (arith, nat_tests, none, c.if-is_free.false) in
     rw (← slabs) (cleared_there _ _ _ c.self.invariant.kept.accounted class cut free order)

@@ -14,7 +14,7 @@ use Rattle.mc_keeper.proofs.keeper.Keeper.drop.Goals as goal
 -- what was found is held
 pub give_back-requires-clause-held : goal.give_back-requires-clause-held
 give_back-requires-clause-held c =
-    found_there (has_key c.self.inside.items.entries c.args.key) (held_by c.self.inside.holds c.args.worker) c.in-Some.chunk
+    found_there (has_key c.self.inside.items c.args.key) (held_by c.self.inside.holds c.args.worker) c.in-Some.chunk
     (ap (λ (m : Machine). last_hold m c.args.worker c.args.key) c.self.view_is ∙ sym c.last_hold.ensures ∙ c.in-Some.is)
 
 pub count_unheld-requires-clause-class : goal.count_unheld-requires-clause-class
@@ -28,7 +28,7 @@ count_unheld-requires-clause-few c =
 pub invariant_of-self : goal.invariant_of-self
 invariant_of-self c =
     let held : Contains (held_by c.self.inside.holds c.args.worker) c.in-Some.chunk
-    = found_there (has_key c.self.inside.items.entries c.args.key) (held_by c.self.inside.holds c.args.worker) c.in-Some.chunk
+    = found_there (has_key c.self.inside.items c.args.key) (held_by c.self.inside.holds c.args.worker) c.in-Some.chunk
     (ap (λ (m : Machine). last_hold m c.args.worker c.args.key) c.self.view_is ∙ sym c.last_hold.ensures ∙ c.in-Some.is) in
     let dead : c.in-Some-get.item.now.linked ≡ false = grind (arith, nat_tests, c.is_linked-is_linked.ensures, c.if-not-is_linked.true) in
     let class = class_of_item _ _ _ _ c.in-Some.chunk c.in-Some-get.item.now c.self.invariant.kept (sym c.in-Some-get.ensures.value) in
@@ -44,7 +44,7 @@ invariant_of-self c =
 pub invariant_of-self-else-not-is_linked : goal.invariant_of-self-else-not-is_linked
 invariant_of-self-else-not-is_linked c =
     let held : Contains (held_by c.self.inside.holds c.args.worker) c.in-Some.chunk
-    = found_there (has_key c.self.inside.items.entries c.args.key) (held_by c.self.inside.holds c.args.worker) c.in-Some.chunk
+    = found_there (has_key c.self.inside.items c.args.key) (held_by c.self.inside.holds c.args.worker) c.in-Some.chunk
     (ap (λ (m : Machine). last_hold m c.args.worker c.args.key) c.self.view_is ∙ sym c.last_hold.ensures ∙ c.in-Some.is) in
     let linked : c.in-Some-get.item.now.linked ≡ true = grind (arith, nat_tests, c.is_linked-is_linked.ensures, c.if-not-is_linked.false) in
     record {

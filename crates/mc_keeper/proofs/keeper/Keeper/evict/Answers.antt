@@ -21,8 +21,8 @@ back-requires c =
 pub invariant_of-self : goal.invariant_of-self
 invariant_of-self c =
     let valid : IsClass c.self.inside.slabs.state c.args.class = rw (ap (λ (m : Machine). m.slabs) c.self.view_is) c.requires.class in
-    let at : item_at c.self.inside.items.entries c.args.chunk ≡ Some c.in-Some.item = sym c.in-Some.ensures.value in
-    let idle : is_linked c.self.inside.items.entries c.args.chunk ≡ true = rw (ap (λ (m : Machine). m.items) c.self.view_is) (and_parts _ _ c.requires.idle).0 in
+    let at : item_at c.self.inside.items c.args.chunk ≡ Some c.in-Some.item = sym c.in-Some.ensures.value in
+    let idle : is_linked c.self.inside.items c.args.chunk ≡ true = rw (ap (λ (m : Machine). m.items) c.self.view_is) (and_parts _ _ c.requires.idle).0 in
     let linked : c.in-Some.item.linked ≡ true = rw at at idle in
     record {
       kept = rw (c.evicted.ensures.evicted, c.back.ensures.back, c.remove.ensures.entries)
@@ -40,6 +40,6 @@ invariant_of-self c =
 -- the chunk has an item
 pub invariant_of-self-in_default : goal.invariant_of-self-in_default
 invariant_of-self-in_default c =
-    let idle : is_linked c.self.inside.items.entries c.args.chunk ≡ true = rw (ap (λ (m : Machine). m.items) c.self.view_is) (and_parts _ _ c.requires.idle).0 in
-    let found = linked_item c.self.inside.items.entries c.args.chunk idle in
+    let idle : is_linked c.self.inside.items c.args.chunk ≡ true = rw (ap (λ (m : Machine). m.items) c.self.view_is) (and_parts _ _ c.requires.idle).0 in
+    let found = linked_item c.self.inside.items c.args.chunk idle in
     absurd (c.in_default.not-Some found.0 (c.remove.ensures.value ∙ found.1))

@@ -18,7 +18,7 @@ pub invariant_of-self-in-Ok : goal.invariant_of-self-in-Ok
 invariant_of-self-in-Ok c =
     let valid : IsClass c.self.inside.slabs.state c.args.class = rw (ap (λ (m : Machine). m.slabs) c.self.view_is) c.requires.class in
     let head : first_free (class_at c.self.inside.slabs.state c.args.class) ≡ Some c.args.chunk = rw (ap (λ (m : Machine). m.slabs) c.self.view_is) c.requires.free in
-    let unlinked : linked_chunk c.self.inside.items.entries c.args.key ≡ None = rw (ap (λ (m : Machine). m.items) c.self.view_is) c.requires.unlinked in
+    let unlinked : linked_chunk c.self.inside.items c.args.key ≡ None = rw (ap (λ (m : Machine). m.items) c.self.view_is) c.requires.unlinked in
     record {
       kept = rw (c.in_ok-insert.ensures.entries, c.new.ensures, c.pop.ensures.popped)
           (kept_store _ _ _ _ _ c.args.class c.args.key c.args.words.items c.args.chunk c.self.invariant.kept valid head
@@ -35,7 +35,7 @@ pub invariant_of-self-in-Err : goal.invariant_of-self-in-Err
 invariant_of-self-in-Err c =
     let valid : IsClass c.self.inside.slabs.state c.args.class = rw (ap (λ (m : Machine). m.slabs) c.self.view_is) c.requires.class in
     let head : first_free (class_at c.self.inside.slabs.state c.args.class) ≡ Some c.args.chunk = rw (ap (λ (m : Machine). m.slabs) c.self.view_is) c.requires.free in
-    let empty : item_at c.self.inside.items.entries c.args.chunk ≡ None
+    let empty : item_at c.self.inside.items c.args.chunk ≡ None
     = (is_next _ _ _ _ c.args.class c.args.chunk c.self.invariant.kept valid head).empty in
     record {
       kept = rw (c.in-Err.ensures.err, c.remove.ensures.entries, c.in_ok-insert.ensures.entries, without_item-with_item c.args.chunk _ _ empty) c.self.invariant.kept;

@@ -35,7 +35,7 @@ invariant_of-self c =
     let class : IsClass c.self.inside.slabs.state (class_of_page c.self.inside.slabs.state c.args.chunk.page) = rw (ap (λ (m : Machine). m.slabs) c.self.view_is) c.requires.class in
     let found = dead_here _ _ c.args.chunk c.self.view_is c.requires.dead in
     let unheld = dead_unheld _ _ c.args.chunk c.self.view_is c.requires.dead in
-    let unlinked : is_unlinked c.self.inside.items.entries c.args.chunk ≡ true
+    let unlinked : is_unlinked c.self.inside.items c.args.chunk ≡ true
     = rw (ap (λ (m : Machine). m.items) c.self.view_is) (and_parts _ _ c.requires.dead).0 in
     record {
       kept = rw (c.back.ensures.back, c.remove.ensures.entries)

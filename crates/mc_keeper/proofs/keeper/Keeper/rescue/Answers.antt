@@ -66,12 +66,12 @@ invariant_of-self-in-Err c =
     let found = idle_here _ _ c.args.old c.self.view_is c.requires.idle in
     let same : found.0 ≡ c.in-Some.item = same_Some _ _ (sym found.1 ∙ sym c.in-Some.ensures.value) in
     record {
-      kept = rw (c.back.ensures.back, c.in-Err.ensures.err, c.remove.ensures.entries) (kept_back _ _ _ _ _ c.args.old found.0 c.self.invariant.kept found.1
+      kept = rw (c.back.ensures.back, c.in-Err.ensures.unchanged, c.remove.ensures.entries) (kept_back _ _ _ _ _ c.args.old found.0 c.self.invariant.kept found.1
           (rw c.back.ensures.back at c.back.ensures.accounted)
           (leads_gone _ _ _ _ _ c.args.old found.0 c.key-key.result c.self.invariant.kept found.1 found.2
           (c.key-key.ensures ∙ sym (ap (λ (item : Item). item.key) same)) c.remove-in-Err.ensures.updates.0));
       watched = rw c.back.ensures.back (watched-back c.self.inside.slabs.state _ c.self.invariant.watched c.args.old);
-      counted = rw (c.back.ensures.back, c.in-Err.ensures.err, c.remove.ensures.entries)
+      counted = rw (c.back.ensures.back, c.in-Err.ensures.unchanged, c.remove.ensures.entries)
           (counted_gone _ _ _ _ _ _ c.args.old found.0 c.self.invariant.counted (length-set c.self.inside.slabs.state.classes _ _) found.1 found.2);
       bulk = c.self.invariant.bulk;
     }

@@ -23,8 +23,8 @@ count_unheld-requires-clause-few c =
 pub invariant_of-self : goal.invariant_of-self
 invariant_of-self c =
     let found : lookup (is_at (nat_cmp c.args.key)) c.self.inside.index.entries ≡ Some c.in-Some.chunk = sym c.in-Some.ensures.value in
-    let unlinks : c.unlink_in.new.items.entries ≡ unlinked_items c.self.inside.items.entries c.args.key
-    = rw c.unlink_in.ensures (unlinks_found _ _ _ _ c.args.key c.in-Some.chunk c.self.invariant.kept found) in
+    let unlinks : c.unlink.new.self ≡ unlinked_items c.self.inside.items c.args.key
+    = rw c.unlink.ensures (unlinks_found _ _ _ _ c.args.key c.in-Some.chunk c.self.invariant.kept found) in
     let there = leads_linked _ _ _ _ c.args.key c.in-Some.chunk c.self.invariant.kept found in
     let leads = there.0 in
     let class = there.1 in
@@ -38,8 +38,8 @@ invariant_of-self c =
 pub returns-in-Some-clause-unlinked : goal.returns-in-Some-clause-unlinked
 returns-in-Some-clause-unlinked c =
     let found : lookup (is_at (nat_cmp c.args.key)) c.self.inside.index.entries ≡ Some c.in-Some.chunk = sym c.in-Some.ensures.value in
-    let unlinks : c.unlink_in.new.items.entries ≡ unlinked_items c.self.inside.items.entries c.args.key
-    = rw c.unlink_in.ensures (unlinks_found _ _ _ _ c.args.key c.in-Some.chunk c.self.invariant.kept found) in
+    let unlinks : c.unlink.new.self ≡ unlinked_items c.self.inside.items c.args.key
+    = rw c.unlink.ensures (unlinks_found _ _ _ _ c.args.key c.in-Some.chunk c.self.invariant.kept found) in
     rw (← c.self.view_is) (rw unlinks refl)
 
 pub returns-in-None-clause-unlinked : goal.returns-in-None-clause-unlinked
