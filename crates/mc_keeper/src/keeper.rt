@@ -15,7 +15,7 @@ mod sweep;
 
 use mc_classes::ClassTable;
 use mc_pages::{ChunkId, Slabs};
-use mc_parts::{DeadCounts, Holds, ItemTable};
+use mc_parts::{DeadCounts, Holds, ItemTable, LastDead};
 use mc_watch::Decider;
 pub use serve::Stop;
 use std::alloc::{AllocError, Global};
@@ -35,6 +35,8 @@ pub struct Keeper {
     holds: Holds,
     /// How many handed-out chunks of each class are dead, so that a sweep walks only where one is.
     dead: DeadCounts,
+    /// Which of each class came last, so that the only one is put back without a walk.
+    last_dead: LastDead,
     /// How many turns of the mover were begun.
     turns: u64,
     /// What the automover knows of the last windows.
@@ -73,6 +75,7 @@ impl Keeper {
         };
         let holds = Holds::new(alloc)?;
         let dead = DeadCounts::new(alloc, table.count())?;
+        let last_dead = LastDead::new(alloc, table.count())?;
         Ok(Keeper {
             alloc,
             table,
@@ -82,6 +85,7 @@ impl Keeper {
             items: ItemTable::new(alloc),
             holds,
             dead,
+            last_dead,
             turns: 0,
             decider,
         })

@@ -1,6 +1,6 @@
 -- The dead items of a class are the dead chunks of its hand-out order.
 use Rattle.std.proofs.Common.{◌≡◌, ℕ, ◌+◌, ◌≤◌, List, [], ◌∷◌, length, Bool, true, false, not, Some, inl, inr, refl, ap, sym, ◌∙◌, arith}
-use Rattle.std.specs.Prelude.{◌==◌, ◌&&◌, if◌then◌else◌, count_by}
+use Rattle.std.specs.Prelude.{◌==◌, ◌&&◌, if◌then◌else◌, count_by, filter}
 use Rattle.std.proofs.lemmas.Bool.{cases_Bool}
 use Rattle.std.proofs.lemmas.Bool.Decides.{nat_tests, leb_tells}
 use Rattle.std.proofs.lemmas.List.Sums.{count_by-le-length, length-filter, sum_by-cons}
@@ -165,3 +165,37 @@ dead_few m index class kept valid =
       count_by-le-length (is_dead m) (class_at m.slabs class).order,
       order_short m.table m.slabs index m.items class kept valid,
     )
+
+-- ---- a dead chunk is the only one where there is one
+
+some_pass : (p : ChunkId → Bool) (x : ChunkId) (chunks : List ChunkId) → 1 ≤ times x chunks → p x ≡ true → 1 ≤ length (filter p chunks)
+some_pass p x chunks some passes = omega (arith, length-filter p chunks, count_by-without p x chunks some, ap truth passes)
+
+none_left : (chunks : List ChunkId) → length chunks ≡ 0 → chunks ≡ []
+none_left [] none = refl
+none_left (c ∷ chunks) none = absurd (omega (arith, none))
+
+only_one : (p : ChunkId → Bool) (x : ChunkId) (chunks : List ChunkId) → 1 ≤ times x chunks → p x ≡ true → length (filter p chunks) ≡ 1 → filter p chunks ≡ x ∷ []
+only_one p x [] some passes one = absurd (omega (arith, one))
+only_one p x (c ∷ chunks) some passes one = elim (cases_Bool (is_chunk c x)) [
+  | inl same ↦
+      let here : c ≡ x = same_from_is_chunk c x same in
+      let first : p c ≡ true = rw here passes in
+      let rest : filter p chunks ≡ [] = none_left (filter p chunks) (let all : length (c ∷ filter p chunks) ≡ 1 = rw first at one in omega (arith, all)) in
+      rw (first, rest, here) refl
+  | inr apart ↦
+      let below : 1 ≤ times x chunks = omega (arith, some, times-cons x c chunks, ap truth apart) in
+      elim (cases_Bool (p c)) [
+        | inl first ↦
+            let all : length (c ∷ filter p chunks) ≡ 1 = rw first at one in
+            absurd (omega (arith, all, some_pass p x chunks below passes))
+        | inr fails ↦
+            let rest : length (filter p chunks) ≡ 1 = rw fails at one in
+            rw fails (only_one p x chunks below passes rest)
+      ]
+]
+
+pub only_dead : (m : Machine) (index : List (ℕ × ChunkId)) (class : ℕ) (x : ChunkId) → IsKept m.table m.slabs index m.items → IsClass m.slabs class
+    → dead_items m.slabs.owners m.holds m.items class ≡ 1 → is_dead m x ≡ true → 1 ≤ times x (class_at m.slabs class).order → dead_chunks m class ≡ x ∷ []
+only_dead m index class x kept valid one dead some =
+    only_one (is_dead m) x (class_at m.slabs class).order some dead (sym (dead_in_order m index class kept valid) ∙ one)

@@ -1,5 +1,6 @@
-//! How many handed-out chunks of each class are dead: neither a key leads to them nor anybody holds them.
-ghost use Rattle.std.specs.Prelude.{◌≡◌, ◌+◌, ◌-◌, ◌<◌, ◌≤◌, length, IfOk, if◌then◌else◌, replicate, slice_index_or, slice_set};
+//! Handed-out chunks that are dead: neither a key leads to them nor anybody holds them. How many each class has, and which of
+//! them came last.
+ghost use Rattle.std.specs.Prelude.{◌≡◌, ◌+◌, ◌-◌, ◌<◌, ◌≤◌, length, IfOk, if◌then◌else◌, None, replicate, slice_index_or, slice_set, Some};
 ghost use Rattle.mc_pages.specs.SlabState.{IsClass, class_of_page};
 ghost use Rattle.mc_machine.specs.Holds.{is_held};
 
@@ -63,15 +64,68 @@ impl DeadCounts {
     }
 }
 
-/// Counts a chunk as dead where nobody holds it. No key leads to it any more.
-pub fn count_unheld(dead: &mut DeadCounts, holds: &Holds, slabs: &Slabs, chunk: ChunkId)
+/// For each class the chunk that was counted as dead last, be it dead still or not.
+#[derive(Drop)]
+pub struct LastDead {
+    by_class: Vec<Option<ChunkId>>,
+}
+
+impl Model for LastDead {
+    ghost use Rattle.std.specs.Prelude.{List, Option};
+    ghost use Rattle.mc_pages.specs.declared.ids.ChunkId.{ChunkId};
+
+    ghost Value = { List (Option ChunkId) };
+
+    ghost view = { λ d. d.by_class.items };
+}
+
+impl LastDead {
+    /// No chunk of so many classes was counted yet.
+    pub fn new(alloc: Global, classes: u64) -> Result<LastDead, AllocError>
+        ensures { IfOk result (λ last. last ≡ replicate classes None) }
+    {
+        Ok(LastDead {
+            by_class: vec![in alloc; None; classes as usize]?,
+        })
+    }
+
+    /// The class's, none where there is no such class.
+    pub fn of(&self, class: ClassId) -> Option<ChunkId>
+        requires { 1 ≤ class }
+        ensures { result ≡ slice_index_or self.now (class - 1) None }
+    {
+        *self.by_class.get(class as usize - 1)?
+    }
+
+    /// The class's is this chunk now. Where there is no such class nothing changes.
+    pub fn set(&mut self, class: ClassId, chunk: ChunkId)
+        requires { 1 ≤ class }
+        ensures { self.new ≡ slice_set self.old (class - 1) (Some chunk) }
+    {
+        if class <= self.by_class.len() as u64 {
+            self.by_class[class as usize - 1] = Some(chunk);
+        }
+    }
+}
+
+/// Counts a chunk as dead where nobody holds it, and notes it as its class's last. No key leads to it any more.
+pub fn count_unheld(
+    dead: &mut DeadCounts,
+    last: &mut LastDead,
+    holds: &Holds,
+    slabs: &Slabs,
+    chunk: ChunkId,
+)
     requires class { IsClass slabs.now.state (class_of_page slabs.now.state chunk.page) }
     requires of_each { length dead.old ≡ length slabs.now.state.classes }
     requires few { slice_index_or dead.old (class_of_page slabs.now.state chunk.page - 1) 0 < 65536 }
-    ensures { dead.new ≡ (if is_held holds.now chunk then dead.old else slice_set dead.old (class_of_page slabs.now.state chunk.page - 1) (slice_index_or dead.old (class_of_page slabs.now.state chunk.page - 1) 0 + 1)) }
+    ensures counts { dead.new ≡ (if is_held holds.now chunk then dead.old else slice_set dead.old (class_of_page slabs.now.state chunk.page - 1) (slice_index_or dead.old (class_of_page slabs.now.state chunk.page - 1) 0 + 1)) }
+    ensures last { last.new ≡ (if is_held holds.now chunk then last.old else slice_set last.old (class_of_page slabs.now.state chunk.page - 1) (Some chunk)) }
 {
     if !holds.is_held(chunk) {
-        dead.increment(class_of(slabs, chunk));
+        let class = class_of(slabs, chunk);
+        dead.increment(class);
+        last.set(class, chunk);
     }
 }
 

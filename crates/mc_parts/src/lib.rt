@@ -7,7 +7,7 @@ mod item;
 mod table;
 mod text;
 
-pub use dead::{DeadCounts, class_of, count_unheld};
+pub use dead::{DeadCounts, LastDead, class_of, count_unheld};
 pub use holds::Holds;
 pub use item::{Item, words_from};
 pub use table::ItemTable;

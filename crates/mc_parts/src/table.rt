@@ -1,6 +1,6 @@
 //! The items by place: for each page, an item or none at each index.
 ghost use Rattle.std.specs.Prelude.{◌≡◌, ◌<◌, true, false, [], length, slice_index_or, None, OnOk, OnErr};
-ghost use Rattle.std.specs.Option.{is_some, option_copied};
+ghost use Rattle.std.specs.Option.{option_copied};
 ghost use Rattle.mc_machine.specs.Items.{item_at, unlinked_in, with_item, without_item};
 ghost use Rattle.mc_parts.specs.ItemsByPlace.{AreAlike, HasPlace, items_from, places_of};
 
@@ -45,13 +45,6 @@ impl ItemTable {
             return None;
         }
         self.pages[chunk.page as usize][chunk.index as usize].as_ref()
-    }
-
-    /// Whether the chunk has an item.
-    pub fn contains(&self, chunk: ChunkId) -> bool
-        ensures { result ≡ is_some (item_at self.now chunk) }
-    {
-        self.get(chunk).is_some()
     }
 
     /// The item comes into the chunk, in the place of what was there.

@@ -70,7 +70,13 @@ impl Keeper {
                 let is_linked = item.is_linked();
                 self.holds.give_back(worker, chunk);
                 if !is_linked {
-                    count_unheld(&mut self.dead, &self.holds, &self.slabs, chunk);
+                    count_unheld(
+                        &mut self.dead,
+                        &mut self.last_dead,
+                        &self.holds,
+                        &self.slabs,
+                        chunk,
+                    );
                 }
                 Ok(())
             }

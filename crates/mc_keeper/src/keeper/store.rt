@@ -52,7 +52,13 @@ impl Keeper {
         match self.index.remove(&key) {
             Some(chunk) => {
                 self.items.unlink(chunk);
-                count_unheld(&mut self.dead, &self.holds, &self.slabs, chunk);
+                count_unheld(
+                    &mut self.dead,
+                    &mut self.last_dead,
+                    &self.holds,
+                    &self.slabs,
+                    chunk,
+                );
                 true
             }
             None => false,

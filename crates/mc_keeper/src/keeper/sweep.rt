@@ -1,6 +1,6 @@
 //! Dead chunks are put back: those that neither a key leads to nor anybody holds.
-ghost use Rattle.std.specs.Prelude.{◌≡◌, ◌≤◌, nat_lt, true, Contains, length};
-ghost use Rattle.mc_pages.specs.SlabState.{IsClass, class_of_page, class_of_chunk};
+ghost use Rattle.std.specs.Prelude.{◌≡◌, ◌≤◌, nat_lt, true, [], ◌∷◌, Contains, IfSome, length};
+ghost use Rattle.mc_pages.specs.SlabState.{IsClass, class_at, class_of_page, class_of_chunk};
 ghost use Rattle.mc_machine.specs.Machine.{dead_chunks, is_dead, is_idle, swept, all_swept, after_reclaim};
 
 use super::Keeper;
@@ -9,9 +9,37 @@ use mc_pages::ChunkId;
 use mc_parts::class_of;
 
 impl Keeper {
-    /// Puts back the dead chunks of a class, the one that was handed out first of all first. It walks along the hand-out
-    /// order as far as the last of them.
+    /// Puts back the dead chunks of a class, the one that was handed out first of all first.
     pub(super) fn sweep(&mut self, class: ClassId)
+        requires { IsClass self.old.slabs class }
+        ensures { self.new ≡ swept self.old class }
+    {
+        match self.only_dead(class) {
+            Some(chunk) => self.reclaim(chunk),
+            None => self.sweep_order(class),
+        }
+    }
+
+    /// The only dead chunk of the class, where it has one alone and that is the one which came last.
+    fn only_dead(&self, class: ClassId) -> Option<ChunkId>
+        requires { IsClass self.now.slabs class }
+        ensures only { IfSome result (λ chunk. dead_chunks self.now class ≡ chunk ∷ []) }
+        ensures dead { IfSome result (λ chunk. is_dead self.now chunk ≡ true) }
+        ensures own { IfSome result (λ chunk. class_of_page self.now.slabs chunk.page ≡ class) }
+        ensures listed { IfSome result (λ chunk. Contains (class_at self.now.slabs class).order chunk) }
+    {
+        if self.dead.of(class) != 1 {
+            return None;
+        }
+        let chunk = self.last_dead.of(class)?;
+        if self.is_dead(chunk) && class_of(&self.slabs, chunk) == class {
+            return Some(chunk);
+        }
+        None
+    }
+
+    /// Puts back the dead chunks of a class, on a walk along the hand-out order as far as the last of them.
+    fn sweep_order(&mut self, class: ClassId)
         requires { IsClass self.old.slabs class }
         ensures { self.new ≡ swept self.old class }
     {

@@ -35,7 +35,7 @@ invariant_of-self c =
     record {
       kept = c.self.invariant.kept;
       watched = c.self.invariant.watched;
-      counted = rw (c.count_unheld.ensures, c.give_back.ensures)
+      counted = rw (c.count_unheld.ensures.counts, c.give_back.ensures)
           (counted_given_back _ _ _ _ _ c.args.worker c.in-Some.chunk c.in-Some-get.item.now c.self.invariant.counted (sym c.in-Some-get.ensures.value) dead
           (place_once _ _ _ _ c.in-Some.chunk c.self.invariant.kept) held class.0 class.1);
       bulk = c.self.invariant.bulk;

@@ -31,7 +31,7 @@ invariant_of-self c =
     record {
       kept = rw unlinks (kept_unlink _ _ _ _ _ c.args.key c.self.invariant.kept c.remove.ensures.updates.0);
       watched = c.self.invariant.watched;
-      counted = rw (unlinks, c.count_unheld.ensures) (counted_unlinked _ _ _ _ _ c.args.key c.in-Some.chunk c.self.invariant.counted leads class.0 class.1);
+      counted = rw (unlinks, c.count_unheld.ensures.counts) (counted_unlinked _ _ _ _ _ c.args.key c.in-Some.chunk c.self.invariant.counted leads class.0 class.1);
       bulk = c.self.invariant.bulk;
     }
 

@@ -3,7 +3,7 @@ use Rattle.std.specs.Prelude.{filter, slice_get}
 use Rattle.mc_pages.specs.SlabState.{IsClass, class_at}
 use Rattle.mc_machine.specs.Machine.{is_dead, swept}
 use Rattle.mc_pages.proofs.RestOfList.{rest_from}
-use Rattle.mc_keeper.proofs.keeper.Keeper.sweep.Given as goal
+use Rattle.mc_keeper.proofs.keeper.Keeper.sweep_order.Given as goal
 
 -- the walk is at some place, no chunk before it is dead, and the rest of the sweep makes what the whole would
 abbrev pub invariant-loop-next : goal.invariant-loop-next
