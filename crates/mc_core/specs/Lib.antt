@@ -23,5 +23,7 @@ pub mod Lawful
 pub mod Rows
 pub mod InOrder
 pub mod Laws
+pub mod Views
+pub mod Frame
 pub mod Stretch
 pub mod Follows

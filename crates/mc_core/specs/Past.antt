@@ -156,8 +156,8 @@ abbrev pub no_hold : Hold
 no_hold = record { found = no_slabs; left = no_slabs; count = 0 }
 
 -- the first hand knows what the second knew, which knows nothing any more
-abbrev pub joined : Classes → Past → ℕ → ℕ → Past
-joined table past kept spent = record {
+abbrev pub joined : Past → ℕ → ℕ → Past
+joined past kept spent = record {
   saw = slice_set past.saw spent [];
   holds = slice_set past.holds spent no_hold;
   mine = slice_set (with_more past.mine kept (slice_index_or past.mine spent [])) spent [];
@@ -183,7 +183,7 @@ learned_alone before now past hand step = record (with_calls before now past han
 
 -- what the hands know after a step
 abbrev pub learned : State → State → Past → ℕ → Step → Past
-learned before now past hand (Join kept spent) = joined before.table past kept spent
+learned before now past hand (Join kept spent) = joined past kept spent
 learned before now past hand step = learned_alone before now past hand step
 
 -- the moment after a change of a value behind a lock
@@ -205,8 +205,8 @@ abbrev pub moment_after : Moment → Event → Moment
 moment_after moment event = moment_stepped (moment_changes moment event.hand event.before) event.hand event.step
 
 -- nobody saw or said anything; each hand has its number
-abbrev pub no_past : Classes → ℕ → ℕ → Past
-no_past table stripes hands = record {
+abbrev pub no_past : ℕ → ℕ → Past
+no_past stripes hands = record {
   saw = replicate hands [];
   holds = replicate hands no_hold;
   mine = map (λ number. record { number = number; calls = replicate stripes [] } ∷ []) (range_with_len 0 hands);
@@ -217,4 +217,4 @@ no_past table stripes hands = record {
 
 -- nothing was done yet
 abbrev pub first_moment : Classes → ℕ → ℕ → Moment
-first_moment table stripes hands = record { state = new_state table stripes hands; past = no_past table stripes hands }
+first_moment table stripes hands = record { state = new_state table stripes hands; past = no_past stripes hands }

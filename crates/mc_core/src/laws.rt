@@ -11,6 +11,7 @@ ghost use Rattle.mc_core.specs.declared.event.Step.TheVariants.{TakeSlabs, Pop};
 ghost use Rattle.mc_core.specs.Rows.{played, grows, does};
 ghost use Rattle.mc_core.specs.Lawful.{IsLawful, SizedIn, PagedIn, PlacedIn, CountedIn, HeldIn, IndexedIn, LegalIn, HandsIn, RowsIn, NumberedIn, SeenIn, KnownIn, RescuedIn, ToldIn};
 ghost use Rattle.mc_core.specs.Laws.{IsKeptByAll, ArePlayed, AreLawful};
+ghost use Rattle.mc_core.specs.Frame.{AreFramed};
 ghost use Rattle.mc_core.specs.Stretch.{StretchesKeep};
 ghost use Rattle.mc_core.specs.Follows.{AreKept, AreSaidItems, SeenGrows};
 
@@ -99,6 +100,12 @@ pub fn calls_are_kept()
 /// All clauses together.
 pub fn the_law_is_kept()
     ensures { IsKeptByAll IsLawful }
+{}
+
+/// Each step and each change of one hand leaves what all other hands have, what is behind locks that the hand hasn't, and
+/// what others see behind theirs. A join leaves all but the hand that is taken over.
+pub fn others_are_left_alone()
+    ensures { AreFramed }
 {}
 
 /// Every moment of a run is lawful.
