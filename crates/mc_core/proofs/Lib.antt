@@ -86,4 +86,5 @@ pub mod Guards
 pub mod Frames
 pub mod Next
 pub mod Framed
+pub mod Reasons
 pub mod SeenGrows

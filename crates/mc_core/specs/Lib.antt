@@ -25,5 +25,6 @@ pub mod InOrder
 pub mod Laws
 pub mod Views
 pub mod Frame
+pub mod Reasons
 pub mod Stretch
 pub mod Follows
