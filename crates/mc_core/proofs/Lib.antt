@@ -87,4 +87,5 @@ pub mod Frames
 pub mod Next
 pub mod Framed
 pub mod Reasons
+pub mod Effects
 pub mod SeenGrows

@@ -26,5 +26,6 @@ pub mod Laws
 pub mod Views
 pub mod Frame
 pub mod Reasons
+pub mod Effects
 pub mod Stretch
 pub mod Follows

@@ -13,6 +13,7 @@ ghost use Rattle.mc_core.specs.Rows.{played, grows, does, played_on, chunk_at, g
 ghost use Rattle.mc_core.specs.Lawful.{IsLawful, SizedIn, PagedIn, PlacedIn, CountedIn, HeldIn, IndexedIn, LegalIn, HandsIn, RowsIn, NumberedIn, SeenIn, KnownIn, RescuedIn, ToldIn};
 ghost use Rattle.mc_core.specs.Laws.{IsKeptByAll, ArePlayed, AreLawful};
 ghost use Rattle.mc_core.specs.Frame.{AreFramed};
+ghost use Rattle.mc_core.specs.Effects.{WriteOneWord, HistoriesGrow, RunsArePlayed};
 ghost use Rattle.mc_core.specs.Reasons.{CondemnsAreReasoned};
 ghost use Rattle.mc_core.specs.Stretch.{StretchesKeep};
 ghost use Rattle.mc_core.specs.Follows.{AreKept, AreSaidItems, SeenGrows};
@@ -133,6 +134,17 @@ pub fn others_are_left_alone()
     ensures { AreFramed }
 {}
 
+/// A change of a value behind a lock writes no word of the arena, and a step or an event one at most: a header, a data word, the word of
+/// a lock, or that of the hands.
+pub fn one_word_a_step()
+    ensures { WriteOneWord }
+{}
+
+/// Each stripe's history only grows, and what comes in is by the stepping hand's number.
+pub fn histories_grow()
+    ensures { HistoriesGrow }
+{}
+
 /// An item is taken away for a reason alone. It goes to a copy off its moving page. Or each chunk that its class handed out
 /// was seen not dead, and nothing was taken since; and then it leaves its moving page, off which there is no chunk for it,
 /// or makes room where there is neither a free chunk nor a page.
@@ -144,6 +156,11 @@ pub fn condemns_have_a_reason()
 pub fn runs_are_lawful()
     ensures played { (events : List Event) → ArePlayed events }
     ensures lawful { AreLawful }
+{}
+
+/// A run is played to its end, and its last moment's state is what is left.
+pub fn runs_are_played()
+    ensures { RunsArePlayed }
 {}
 
 /// While a hand keeps one holding, its chunk is handed out with its issue number, its page stays with its class, and no word
