@@ -88,4 +88,5 @@ pub mod Next
 pub mod Framed
 pub mod Reasons
 pub mod Effects
+pub mod Learns
 pub mod SeenGrows

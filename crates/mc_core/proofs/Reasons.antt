@@ -1,8 +1,8 @@
 -- What a condemn that is allowed tells of its reason.
-use Rattle.std.proofs.Common.{◌≡◌, ◌≢◌, ◌⊎◌, ℕ, suc, ◌+◌, ◌<◌, ◌≤◌, ◌==◌, ◌&&◌, ◌||◌, not, cond, Bool, true, false, List, [], ◌∷◌, ◌++◌, length, Option, Some, None, refl, sym, ap, ap₂, ◌∙◌, subst, inl, inr, arith, find, is_some, is_none, count_by, nat_lt, slice_get, All, Contains, eqb-true}
+use Rattle.std.proofs.Common.{◌≡◌, ◌≢◌, ◌⊎◌, ℕ, suc, ◌+◌, ◌≤◌, ◌==◌, ◌&&◌, not, cond, Bool, true, false, List, [], ◌∷◌, length, Option, Some, None, refl, sym, ap, ap₂, ◌∙◌, subst, inl, inr, arith, find, is_none, count_by, nat_lt, slice_get, All, Contains, eqb-true}
 use Rattle.std.specs.List.{fold, list_all, list_any}
 use Rattle.std.specs.Option.{option_map_or}
-use Rattle.std.proofs.lemmas.Bool.{and_parts, or_cases, both_ways, cases_Bool, ltb-false, ne_eqb}
+use Rattle.std.proofs.lemmas.Bool.{and_parts, or_cases, both_ways, ltb-false, ne_eqb}
 use Rattle.std.proofs.lemmas.List.{nil_from_length}
 use Rattle.std.proofs.lemmas.List.Elements.{All-nil, All-cons, All-weaker, All-contains}
 use Rattle.std.proofs.lemmas.List.Sums.{sum_by-cons, count_by-le-length}
@@ -16,28 +16,25 @@ use Rattle.mc_pages.specs.ClassState.{is_chunk, first_free}
 use Rattle.mc_pages.specs.Ledger.{owner_at}
 use Rattle.mc_pages.specs.SlabState.{SlabState, class_at, class_of_page, class_of_chunk, is_untouched, totals_of}
 use Rattle.mc_pages.proofs.Chunks.{same_from_is_chunk}
-use Rattle.mc_core.specs.declared.event.Step.TheVariants.{Condemn}
 use Rattle.mc_core.specs.declared.head.Head.{Head}
 use Rattle.mc_core.specs.declared.head.Tag.{Tag}
 use Rattle.mc_core.specs.declared.head.Tag.TheVariants.{Unlinked}
 use Rattle.mc_core.specs.declared.holding.Holding.{Holding}
-use Rattle.mc_core.specs.declared.holding.Kind.{Kind}
-use Rattle.mc_core.specs.declared.holding.Kind.TheVariants.{Reference, Fresh}
-use Rattle.mc_core.specs.declared.holding.Purpose.TheVariants.{Item, Copy, Rescue}
+use Rattle.mc_core.specs.declared.holding.Kind.TheVariants.{Fresh}
+use Rattle.mc_core.specs.declared.holding.Purpose.TheVariants.{Copy}
 use Rattle.mc_core.specs.declared.look.Look.{Look}
 use Rattle.mc_core.specs.declared.look.Look.TheVariants.{Saw, SawStripe, Read, Popped, PoppedOff, Condemned, PutBack, Cleared, Cut, Changed}
 use Rattle.mc_core.specs.Head.{is_unlinked, is_dead}
-use Rattle.mc_core.specs.Holdings.{is_copy_of, is_copy_kind}
+use Rattle.mc_core.specs.Holdings.{is_copy_of}
 use Rattle.mc_core.specs.Looks.{stays_alive, is_found_alive}
-use Rattle.mc_core.specs.State.{State, has_slabs, head_at, holdings_at, looks_at}
+use Rattle.mc_core.specs.State.{has_slabs, head_at, holdings_at, looks_at}
 use Rattle.mc_core.specs.Silent.{is_whole}
 use Rattle.mc_core.specs.Chunks.{is_moving_page, is_target, target_of, most_issue}
 use Rattle.mc_core.specs.Evictions.{has_copy, none_dead, has_no_page, must_leave, lacks_room, has_reason}
 use Rattle.mc_core.specs.Knowing.{IsRescue}
-use Rattle.mc_core.specs.Past.{Moment, Saying}
-use Rattle.mc_core.specs.Laws.{MayStep}
+use Rattle.mc_core.specs.Past.{Moment}
 use Rattle.mc_core.specs.Lawful.{IsLawful}
-use Rattle.mc_core.specs.Reasons.{takes, sees, WasFoundAlive, IsSwept, Moves, HasNoneOff, IsOutOfRoom, HasCopyOff, MustGo, IsReasoned, CondemnsAreReasoned}
+use Rattle.mc_core.specs.Reasons.{takes, sees, WasFoundAlive, IsSwept, Moves, HasNoneOff, IsOutOfRoom, HasCopyOff, MustGo, CondemnsAreReasoned}
 use Rattle.mc_core.proofs.Base.{each_row}
 use Rattle.mc_core.proofs.KnownCondemned.{condemnable}
 use Rattle.mc_core.proofs.RescuedSteps.{copy_is}

@@ -27,5 +27,6 @@ pub mod Views
 pub mod Frame
 pub mod Reasons
 pub mod Effects
+pub mod Learns
 pub mod Stretch
 pub mod Follows

@@ -14,6 +14,7 @@ ghost use Rattle.mc_core.specs.Lawful.{IsLawful, SizedIn, PagedIn, PlacedIn, Cou
 ghost use Rattle.mc_core.specs.Laws.{IsKeptByAll, ArePlayed, AreLawful};
 ghost use Rattle.mc_core.specs.Frame.{AreFramed};
 ghost use Rattle.mc_core.specs.Effects.{WriteOneWord, HistoriesGrow, RunsArePlayed};
+ghost use Rattle.mc_core.specs.Learns.{AreLearned};
 ghost use Rattle.mc_core.specs.Reasons.{CondemnsAreReasoned};
 ghost use Rattle.mc_core.specs.Stretch.{StretchesKeep};
 ghost use Rattle.mc_core.specs.Follows.{AreKept, AreSaidItems, SeenGrows};
@@ -143,6 +144,11 @@ pub fn one_word_a_step()
 /// Each stripe's history only grows, and what comes in is by the stepping hand's number.
 pub fn histories_grow()
     ensures { HistoriesGrow }
+{}
+
+/// What a hand knows after a change, a step or a join is told by what it knew, and, of a join, by what the other hand knew.
+pub fn learning_is_by_rows()
+    ensures { AreLearned }
 {}
 
 /// An item is taken away for a reason alone. It goes to a copy off its moving page. Or each chunk that its class handed out
