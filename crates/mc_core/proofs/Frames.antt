@@ -79,12 +79,14 @@ row_alone m now hand other next apart same = λ k. record {
   ids = same.ids k;
   holdings = same.holdings k;
   looks = same.looks k;
-  saw = get_or-set_other m.past.saw hand other (slice_index_or m.past.saw hand [] ++ sights_of m.state next) [] apart k;
-  hold = get_or-set_other m.past.holds hand other (hold_after m.state.slabs next (slice_index_or m.past.holds hand no_hold)) no_hold apart k;
-  mine = get_or-set_other m.past.mine hand other (map (own_after m.state now (number_at m.state hand)) (slice_index_or m.past.mine hand [])) [] apart k;
-  seen = get_or-set_other m.past.seen hand other (seen_after m.state next (slice_index_or m.past.seen hand [])) [] apart k;
-  said = get_or-set_other m.past.said hand other (slice_index_or m.past.said hand [] ++ sayings_of m.state hand next) [] apart k;
-  known = get_or-set_other m.past.known hand other (slice_index_or m.past.known hand [] ++ known_of m.state hand next) [] apart k;
+  knows = record {
+    saw = get_or-set_other m.past.saw hand other (slice_index_or m.past.saw hand [] ++ sights_of m.state next) [] apart k;
+    hold = get_or-set_other m.past.holds hand other (hold_after m.state.slabs next (slice_index_or m.past.holds hand no_hold)) no_hold apart k;
+    mine = get_or-set_other m.past.mine hand other (map (own_after m.state now (number_at m.state hand)) (slice_index_or m.past.mine hand [])) [] apart k;
+    seen = get_or-set_other m.past.seen hand other (seen_after m.state next (slice_index_or m.past.seen hand [])) [] apart k;
+    said = get_or-set_other m.past.said hand other (slice_index_or m.past.said hand [] ++ sayings_of m.state hand next) [] apart k;
+    known = get_or-set_other m.past.known hand other (slice_index_or m.past.known hand [] ++ known_of m.state hand next) [] apart k;
+  };
 }
 
 pub row_stays : (m : Moment) (hand other : ℕ) (next : Step) → is_join next ≡ false → other ≢ hand → row_at (moment_stepped m hand next) other ≡ row_at m other
@@ -114,10 +116,12 @@ row_stays_changed m hand other change apart =
       ids = ap (λ (ids : List Ids). slice_index_or ids other gone) (ids_change m.state hand change) k;
       holdings = own.holdings other apart k;
       looks = own.looks other apart k;
-      saw = slice_index_or m.past.saw other [];
-      hold = slice_index_or m.past.holds other no_hold;
-      mine = get_or-set_other m.past.mine hand other (map (own_after m.state now (number_at m.state hand)) (slice_index_or m.past.mine hand [])) [] apart k;
-      seen = slice_index_or m.past.seen other [];
-      said = slice_index_or m.past.said other [];
-      known = slice_index_or m.past.known other [];
+      knows = record {
+        saw = slice_index_or m.past.saw other [];
+        hold = slice_index_or m.past.holds other no_hold;
+        mine = get_or-set_other m.past.mine hand other (map (own_after m.state now (number_at m.state hand)) (slice_index_or m.past.mine hand [])) [] apart k;
+        seen = slice_index_or m.past.seen other [];
+        said = slice_index_or m.past.said other [];
+        known = slice_index_or m.past.known other [];
+      };
     }

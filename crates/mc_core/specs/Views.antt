@@ -1,25 +1,19 @@
 -- All that there is of one hand, and what it sees behind the locks that it has.
-use Rattle.std.specs.Prelude.{ℕ, List, [], slice_index_or, if◌then◌else◌, Option, Some, None}
+use Rattle.std.specs.Prelude.{ℕ, List, if◌then◌else◌, Option, Some, None}
 use Rattle.mc_pages.specs.SlabState.{SlabState}
-use Rattle.mc_stripe.specs.declared.history.Call.{Call}
 use Rattle.mc_stripe.specs.StripeState.{ReadyStripe}
 use Rattle.mc_core.specs.declared.ids.Ids.{Ids}
 use Rattle.mc_core.specs.declared.holding.Holding.{Holding}
 use Rattle.mc_core.specs.declared.look.Look.{Look}
 use Rattle.mc_core.specs.State.{State, ids_at, holdings_at, looks_at, has_slabs, has_stripe, stripe_at}
-use Rattle.mc_core.specs.Past.{Sight, Saying, Known, Hold, Own, Moment, no_hold}
+use Rattle.mc_core.specs.Past.{Knowledge, Moment, knowledge_at}
 
--- a field for each column over the hands
+-- who the hand is, what it holds, what it saw under its last hold of the slabs lock, and what it knows
 pub record Row : Type 0 where
   pub ids : Ids
   pub holdings : List Holding
   pub looks : List Look
-  pub saw : List Sight
-  pub hold : Hold
-  pub mine : List Own
-  pub seen : List (List Call)
-  pub said : List Saying
-  pub known : List Known
+  pub knows : Knowledge
 
 -- the row of a hand
 abbrev pub row_at : Moment → ℕ → Row
@@ -27,12 +21,7 @@ row_at moment hand = record {
   ids = ids_at moment.state hand;
   holdings = holdings_at moment.state hand;
   looks = looks_at moment.state hand;
-  saw = slice_index_or moment.past.saw hand [];
-  hold = slice_index_or moment.past.holds hand no_hold;
-  mine = slice_index_or moment.past.mine hand [];
-  seen = slice_index_or moment.past.seen hand [];
-  said = slice_index_or moment.past.said hand [];
-  known = slice_index_or moment.past.known hand [];
+  knows = knowledge_at moment.past hand;
 }
 
 -- pages and lists, where the hand has their lock
