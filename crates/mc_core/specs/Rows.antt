@@ -6,7 +6,7 @@ use Rattle.mc_pages.specs.declared.ids.ChunkId.{ChunkId}
 use Rattle.mc_pages.specs.declared.ledger.Entry.{Entry}
 use Rattle.mc_core.specs.declared.event.Event.{Event}
 use Rattle.mc_core.specs.declared.event.Step.{Step}
-use Rattle.mc_core.specs.declared.event.Step.TheVariants.{TakeSlabs, TakeStripe, GiveSlabs, GiveStripe, Head, Pop, PopOff, Fill, Link, Release, Condemn, Clear, Cut}
+use Rattle.mc_core.specs.declared.event.Step.TheVariants.{TakeSlabs, TakeStripe, GiveSlabs, GiveStripe, Head, Pop, PopOff, Fill, Link, Unlink, Release, Condemn, Clear, Cut}
 use Rattle.mc_core.specs.declared.event.Change.{Change}
 use Rattle.mc_core.specs.declared.event.Change.TheVariants.{Grow, BeginMove, FinishMove, Reserve}
 use Rattle.mc_core.specs.State.{State, new_state}
@@ -54,9 +54,13 @@ gets page = does (Grow 1 ∷ []) (Cut page 0) ∷ does [] (Cut page 1) ∷ []
 abbrev pub fills_with : ChunkId → ℕ → List Event
 fills_with chunk key = does [] (Fill chunk 0 key) ∷ does [] (Fill chunk 1 key) ∷ does [] (Fill chunk 2 1) ∷ does [] (Fill chunk 3 7) ∷ []
 
--- the chunk is handed out, filled, linked and let go
+-- the chunk is filled, linked and let go
+abbrev pub puts : ChunkId → ℕ → List Event
+puts chunk key = fills_with chunk key ++ does (Reserve 0 ∷ []) (Link chunk) ∷ does [] (Release chunk) ∷ []
+
+-- it is handed out before
 abbrev pub stores : ChunkId → ℕ → List Event
-stores chunk key = does [] (Pop 1) ∷ fills_with chunk key ++ does (Reserve 0 ∷ []) (Link chunk) ∷ does [] (Release chunk) ∷ []
+stores chunk key = does [] (Pop 1) ∷ puts chunk key
 
 -- a page whose two chunks have items
 abbrev pub full_page : List Event
@@ -84,8 +88,16 @@ begins_move = does (BeginMove (Some 1) 0 ∷ []) (Head (chunk_at 0 1)) ∷ []
 abbrev pub begins_rescue : List Event
 begins_rescue = does (BeginMove (Some 1) 0 ∷ []) (PopOff (chunk_at 0 1)) ∷ []
 
--- the item is taken to that chunk, both chunks of the page are cleared, and the move ends
-abbrev pub ends_rescue : List Event
-ends_rescue =
-    fills_with (chunk_at 1 1) 1 ++ takes_away (chunk_at 0 1) ++ does [] (Link (chunk_at 1 1)) ∷ does [] (Release (chunk_at 1 1)) ∷ does [] (Clear (chunk_at 0 1)) ∷ does [] (Clear (chunk_at 0 0))
-    ∷ does (FinishMove ∷ []) GiveSlabs ∷ does [] (GiveStripe 0) ∷ []
+-- the item is taken to that chunk, and both chunks of the page are cleared
+abbrev pub rescues : List Event
+rescues =
+    fills_with (chunk_at 1 1) 1 ++ takes_away (chunk_at 0 1) ++ does [] (Link (chunk_at 1 1)) ∷ does [] (Release (chunk_at 1 1)) ∷ does [] (Clear (chunk_at 0 1)) ∷ does [] (Clear (chunk_at 0 0)) ∷ []
+
+-- the move ends, and the locks are given back
+abbrev pub ends : List Event
+ends = does (FinishMove ∷ []) GiveSlabs ∷ does [] (GiveStripe 0) ∷ []
+
+-- the item is deleted while its copy is under way, its page leaves the class and comes again, and a new item stands in its chunk
+abbrev pub comes_again : List Event
+comes_again =
+    does (Reserve 0 ∷ []) (Unlink 1) ∷ begins_rescue ++ does [] (Clear (chunk_at 0 1)) ∷ does [] (Clear (chunk_at 0 0)) ∷ does (FinishMove ∷ Grow 1 ∷ []) (Cut 0 0) ∷ does [] (Cut 0 1) ∷ stores (chunk_at 0 1) 2

@@ -8,8 +8,8 @@ ghost use Rattle.mc_stripe.specs.declared.history.Call.{Call};
 ghost use Rattle.mc_stripe.specs.Sequential.{StampMap, Leads};
 ghost use Rattle.mc_core.specs.declared.event.Event.{Event};
 ghost use Rattle.mc_core.specs.declared.event.Step.TheVariants.{TakeSlabs, Pop, Head, Cut};
-ghost use Rattle.mc_core.specs.declared.event.Change.TheVariants.{Grow};
-ghost use Rattle.mc_core.specs.Rows.{played, grows, does, played_on, chunk_at, gets, stores, full_page, one_of_four, three_of_four, looks_at, takes_away, begins_move, begins_rescue, ends_rescue};
+ghost use Rattle.mc_core.specs.declared.event.Change.TheVariants.{Grow, FinishMove};
+ghost use Rattle.mc_core.specs.Rows.{played, grows, does, played_on, chunk_at, gets, puts, stores, full_page, one_of_four, three_of_four, looks_at, takes_away, begins_move, begins_rescue, rescues, ends, comes_again};
 ghost use Rattle.mc_core.specs.Lawful.{IsLawful, SizedIn, PagedIn, PlacedIn, CountedIn, HeldIn, IndexedIn, LegalIn, HandsIn, RowsIn, NumberedIn, SeenIn, KnownIn, RescuedIn, ToldIn};
 ghost use Rattle.mc_core.specs.Laws.{IsKeptByAll, ArePlayed, AreLawful};
 ghost use Rattle.mc_core.specs.Frame.{AreFramed};
@@ -27,7 +27,7 @@ pub fn worked_runs()
 {}
 
 /// An item is evicted from a full class behind a sweep. It is refused without a sweep, behind half of one, and behind one that an
-/// eviction ended; where a chunk is free; where a page is left; and where one is half cut.
+/// eviction ended; where a chunk is free; where a page is left, or one is pooled; and where one is half cut.
 pub fn worked_evictions()
     ensures evicted { played_on 1 (full_page ++ looks_at 0 ++ takes_away (chunk_at 0 1)) ≡ Ok (Granted 0 1 ∷ []) }
     ensures no_sweep { played_on 1 (full_page ++ takes_away (chunk_at 0 1)) ≡ Err 18 }
@@ -35,16 +35,21 @@ pub fn worked_evictions()
     ensures one_a_sweep { played_on 1 (full_page ++ looks_at 0 ++ takes_away (chunk_at 0 1) ++ takes_away (chunk_at 0 0)) ≡ Err 21 }
     ensures a_free_chunk { played_on 1 (gets 0 ++ stores (chunk_at 0 1) 1 ++ does [] (Head (chunk_at 0 1)) ∷ takes_away (chunk_at 0 1)) ≡ Err 12 }
     ensures a_page_left { played_on 2 (full_page ++ looks_at 0 ++ takes_away (chunk_at 0 1)) ≡ Err 20 }
+    ensures a_pooled_page { played_on 2 (one_of_four ++ begins_rescue ++ rescues ++ does (FinishMove ∷ []) (Pop 1) ∷ puts (chunk_at 1 0) 2 ++ looks_at 1 ++ takes_away (chunk_at 1 1)) ≡ Err 32 }
     ensures half_a_page { played_on 2 (full_page ++ does (Grow 1 ∷ []) (Cut 1 0) ∷ stores (chunk_at 1 0) 3 ++ looks_at 0 ++ does [] (Head (chunk_at 1 0)) ∷ takes_away (chunk_at 0 1)) ≡ Err 29 }
 {}
 
-/// An item is rescued off its moving page, which then comes to the pool. It isn't rescued onto that page. Where no chunk is off the
-/// page, the item leaves it behind a sweep, and neither without one nor where a chunk is there.
+/// An item is rescued off its moving page, which then comes to the pool. It isn't rescued onto that page, nor to a chunk that is for
+/// something else, nor when its page stays. Where no chunk is off the page, the item leaves it behind a sweep, and neither without
+/// one, nor behind one that a handing out ended, nor where a chunk is there.
 pub fn worked_rescues()
-    ensures rescued { played_on 2 (one_of_four ++ begins_rescue ++ ends_rescue) ≡ Ok (Granted 0 1 ∷ Granted 1 1 ∷ Began 0 1 0 ∷ Ended 0 0 ∷ []) }
+    ensures rescued { played_on 2 (one_of_four ++ begins_rescue ++ rescues ++ ends) ≡ Ok (Granted 0 1 ∷ Granted 1 1 ∷ Began 0 1 0 ∷ Ended 0 0 ∷ []) }
     ensures no_chunk_off { played_on 2 (three_of_four ++ begins_rescue) ≡ Err 27 }
+    ensures no_copy { played_on 2 (one_of_four ++ does [] (Pop 1) ∷ begins_move ++ takes_away (chunk_at 0 1)) ≡ Err 15 }
+    ensures a_page_that_stays { played_on 2 (one_of_four ++ comes_again ++ takes_away (chunk_at 0 1)) ≡ Err 26 }
     ensures leaves { played_on 2 (three_of_four ++ begins_move ++ looks_at 1 ++ takes_away (chunk_at 0 1)) ≡ Ok (Granted 0 1 ∷ Granted 1 1 ∷ Began 0 1 0 ∷ []) }
     ensures no_sweep { played_on 2 (three_of_four ++ begins_move ++ takes_away (chunk_at 0 1)) ≡ Err 28 }
+    ensures old_sweep { played_on 2 (one_of_four ++ stores (chunk_at 1 1) 2 ++ begins_move ++ does [] (Head (chunk_at 1 1)) ∷ does [] (Pop 1) ∷ does [] (Head (chunk_at 1 0)) ∷ takes_away (chunk_at 0 1)) ≡ Err 24 }
     ensures a_chunk_off { played_on 2 (one_of_four ++ begins_move ++ takes_away (chunk_at 0 1)) ≡ Err 14 }
 {}
 
