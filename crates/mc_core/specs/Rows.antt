@@ -97,7 +97,7 @@ rescues =
 abbrev pub ends : List Event
 ends = does (FinishMove ∷ []) GiveSlabs ∷ does [] (GiveStripe 0) ∷ []
 
--- the item is deleted while its copy is under way, its page leaves the class and comes again, and a new item stands in its chunk
+-- the item is deleted, a chunk is handed out for a copy of it, its page leaves the class and comes again, and a new item stands in its chunk
 abbrev pub comes_again : List Event
 comes_again =
     does (Reserve 0 ∷ []) (Unlink 1) ∷ begins_rescue ++ does [] (Clear (chunk_at 0 1)) ∷ does [] (Clear (chunk_at 0 0)) ∷ does (FinishMove ∷ Grow 1 ∷ []) (Cut 0 0) ∷ does [] (Cut 0 1) ∷ stores (chunk_at 0 1) 2
