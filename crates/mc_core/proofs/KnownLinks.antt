@@ -163,7 +163,7 @@ module _ (m : Moment) (hand : ℕ) (chunk : ChunkId) where
         let l = may.lawful in
         let fresh : is_fresh holding ≡ true = ap is_fresh_kind kind in
         let is = same_words (item_in holding.words) item same in
-        let rescue : IsRescue m.past.said (Fresh (Rescue old item)) = subst (IsRescue m.past.said) kind (found_each (λ h. IsRescue m.past.said h.kind) m.state.holdings hand (is_of chunk) holding found l.rescued) in
+        let rescue : IsRescue m.past.said holding.chunk (Fresh (Rescue old item)) = subst (IsRescue m.past.said holding.chunk) kind (found_each (λ h. IsRescue m.past.said h.chunk h.kind) m.state.holdings hand (is_of chunk) holding found l.rescued) in
         let said : IsSaid m.past.said (stamp_in holding.words) (item_in holding.words) =
         subst (λ n. IsSaid m.past.said n (item_in holding.words)) (item_stamp holding.words complete) (subst (λ (ws : Words). IsSaid m.past.said (stamp_in ws) ws) (sym is) rescue.2) in
         subst (λ (s : List (List Saying)). KnownAt (ends holding (Fresh (Rescue old item))) s (with_more m.past.known hand (known_by (room_at m.state chunk) (as_reference holding) ∷ []))) (sym (with_none m.past.said hand))

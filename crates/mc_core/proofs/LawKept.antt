@@ -85,11 +85,11 @@ lawful_first table stripes hands sound some someone few = record {
 }
 
 -- the state of a moment is that of the model
-changes_state : (m : Moment) (hand : ℕ) (changes : List Change) → (moment_changes m hand changes).state ≡ after_changes m.state hand changes
+pub changes_state : (m : Moment) (hand : ℕ) (changes : List Change) → (moment_changes m hand changes).state ≡ after_changes m.state hand changes
 changes_state m hand [] = refl
 changes_state m hand (change ∷ changes) = changes_state (moment_changed m hand change) hand changes
 
-state_after : (m : Moment) (event : Event) → (moment_after m event).state ≡ after m.state event
+pub state_after : (m : Moment) (event : Event) → (moment_after m event).state ≡ after m.state event
 state_after m event = ap (λ (s : State). after_step s event.hand event.step) (changes_state m event.hand event.before)
 
 -- the changes before a step keep the law

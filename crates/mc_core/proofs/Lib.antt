@@ -82,4 +82,11 @@ pub mod LawKept
 pub mod WordsStay
 pub mod Stretches
 pub mod Follows
+pub mod Guards
+pub mod Frames
+pub mod Next
+pub mod Framed
+pub mod Reasons
+pub mod Effects
+pub mod Learns
 pub mod SeenGrows

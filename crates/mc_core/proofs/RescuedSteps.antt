@@ -1,6 +1,10 @@
 -- Every change and every step keeps what holdings say of items that are being rescued.
-use Rattle.std.proofs.Common.{◌≡◌, ℕ, ◌≤◌, Bool, true, false, List, [], length, arith, slice_index, Option, Some, None, if◌then◌else◌}
+use Rattle.std.proofs.Common.{◌≡◌, ◌≢◌, refl, ℕ, ◌≤◌, ◌==◌, not, nat_lt, ap, subst, eq-eqb, Bool, true, false, List, [], length, arith, slice_index, Option, Some, None, if◌then◌else◌}
+use Rattle.std.specs.Prelude.{⊤}
+use Rattle.std.proofs.lemmas.Bool.{and_parts, both_ways}
 use Rattle.mc_classes.specs.Classes.{Classes, IsSound}
+use Rattle.mc_pages.specs.SlabState.{class_at, class_of_page}
+use Rattle.mc_pages.proofs.Chunks.{same_from_is_chunk}
 use Rattle.mc_pages.specs.declared.ids.ChunkId.{ChunkId}
 use Rattle.mc_pages.specs.Changes as slabs_changes
 use Rattle.mc_core.specs.declared.event.Change.TheVariants.{Grow, BeginMove, FinishMove, Touch, SetAutomove, Passed, Wrap, Evicted, Reserve, GotNone, DeletedNone}
@@ -12,10 +16,10 @@ use Rattle.mc_core.specs.declared.holding.Kind.TheVariants.{Reference, Fresh}
 use Rattle.mc_core.specs.declared.holding.Purpose.TheVariants.{Item, Copy, Rescue}
 use Rattle.mc_core.specs.declared.look.Look.{Look}
 use Rattle.mc_core.specs.declared.look.Look.TheVariants.{Saw, SawStripe}
-use Rattle.mc_core.specs.Holdings.{Words, stamp_in, item_length, is_complete, is_of, is_copy_of, holding_of}
+use Rattle.mc_core.specs.Holdings.{Words, stamp_in, item_length, is_complete, is_of, is_copy_of, is_copy_kind, holding_of}
 use Rattle.mc_core.specs.State.{State, has_slabs, head_at, item_at, holdings_at, with_slabs, with_look, with_head, with_holding, without_holding}
 use Rattle.mc_core.specs.Locks.{looked}
-use Rattle.mc_core.specs.Chunks.{next_free, popped, target_of, popped_off, filled}
+use Rattle.mc_core.specs.Chunks.{next_free, popped, is_target, target_of, most_issue, popped_off, filled}
 use Rattle.mc_core.specs.Items.{chunk_of, after_link_of, told_link, with_got, referred_to, with_unlinked, linked, as_reference}
 use Rattle.mc_core.specs.Evictions.{as_rescue}
 use Rattle.mc_core.specs.Run.{after_step}
@@ -24,7 +28,7 @@ use Rattle.mc_core.specs.Columns.{Each}
 use Rattle.mc_core.specs.Knowing.{IsSaid, IsRescue}
 use Rattle.mc_core.specs.Laws.{MayStep, ChangesKeep, StepsKeep}
 use Rattle.mc_core.specs.Lawful.{RescuedIn}
-use Rattle.mc_core.proofs.Base.{each_map}
+use Rattle.mc_core.proofs.Base.{each_map, found_has}
 use Rattle.mc_core.proofs.Rows.{rows_less, rows_more, each_less, each_more}
 use Rattle.mc_core.proofs.Changed.{rows_changed, each_changed}
 use Rattle.mc_core.proofs.Plays.{hand_there}
@@ -36,21 +40,37 @@ use Rattle.mc_core.proofs.KnownCondemned.{condemnable, are_joined}
 use Rattle.mc_core.proofs.KnownSteps.{each_none}
 
 -- what was said is said still
-rescue_still : (said said' : List (List Saying)) → ((stamp : ℕ) (words : Words) → IsSaid said stamp words → IsSaid said' stamp words) → (kind : Kind) → IsRescue said kind → IsRescue said' kind
-rescue_still said said' more Reference is = tt
-rescue_still said said' more (Fresh Item) is = tt
-rescue_still said said' more (Fresh (Copy old)) is = tt
-rescue_still said said' more (Fresh (Rescue old item)) is = (is.0, is.1, more (stamp_in item) item is.2)
+rescue_still : (said said' : List (List Saying)) → ((stamp : ℕ) (words : Words) → IsSaid said stamp words → IsSaid said' stamp words) → (chunk : ChunkId) (kind : Kind) → IsRescue said chunk kind → IsRescue said' chunk kind
+rescue_still said said' more chunk Reference is = tt
+rescue_still said said' more chunk (Fresh Item) is = tt
+rescue_still said said' more chunk (Fresh (Copy old)) is = is
+rescue_still said said' more chunk (Fresh (Rescue old item)) is = (is.0, is.1, more (stamp_in item) item is.2, is.3)
+
+-- a copy is off the page of the chunk that it is to be a copy of
+pub copy_is : (said : List (List Saying)) (chunk old : ChunkId) (kind : Kind) → is_copy_kind old kind ≡ true → IsRescue said chunk kind → (kind ≡ Fresh (Copy old)) × (chunk.page ≢ old.page)
+copy_is said chunk old Reference is off = absurd (cc)
+copy_is said chunk old (Fresh Item) is off = absurd (cc)
+copy_is said chunk old (Fresh (Copy other)) is off =
+    let same = same_from_is_chunk other old is in (ap (λ (c : ChunkId). Fresh (Copy c)) same, subst (λ (c : ChunkId). chunk.page ≢ c.page) same off)
+copy_is said chunk old (Fresh (Rescue other item)) is off = absurd (cc)
+
+-- so is a chunk that one may be taken to
+target_off : (s : State) (page : ℕ) (chunk : ChunkId) → target_of s page ≡ Some chunk → chunk.page ≢ page
+target_off s page chunk found =
+    let free = (class_at s.slabs (class_of_page s.slabs page)).free in
+    let passes = (found_has (λ (c : ChunkId). ⊤) (is_target s page) free chunk found (λ i c within. tt)).1 in
+    let off = (and_parts (not (chunk.page == page)) (nat_lt (head_at s chunk).issue most_issue) passes).0 in
+    λ same. both_ways (not (chunk.page == page)) (ap not (eq-eqb chunk.page page same)) off
 
 abbrev IsSaidRescue : List (List Saying) → Holding → Type 0
-IsSaidRescue said holding = IsRescue said holding.kind
+IsSaidRescue said holding = IsRescue said holding.chunk holding.kind
 
 abbrev AreRescued : List (List Holding) → List (List Saying) → Type 0
 AreRescued rows said = Each (IsSaidRescue said) rows
 
 rescued_more : (rows : List (List Holding)) (said : List (List Saying)) (hand : ℕ) (more : List Saying) → AreRescued rows said → AreRescued rows (with_more said hand more)
 rescued_more rows said hand more =
-    each_map (IsSaidRescue said) (IsSaidRescue (with_more said hand more)) rows (λ holding. rescue_still said (with_more said hand more) (λ stamp words. said_more said hand more stamp words) holding.kind)
+    each_map (IsSaidRescue said) (IsSaidRescue (with_more said hand more)) rows (λ holding. rescue_still said (with_more said hand more) (λ stamp words. said_more said hand more stamp words) holding.chunk holding.kind)
 
 module _ (m : Moment) (hand : ℕ) where
   -- what is left of rows and sayings
@@ -68,19 +88,19 @@ module _ (m : Moment) (hand : ℕ) where
     one_less test = each_less m.state.holdings hand (IsSaidRescue m.past.said) test is
 
     -- a holding goes and one comes
-    one_other : (test : Holding → Bool) (holding : Holding) → IsRescue m.past.said holding.kind → AreRescued (rows_more (rows_less m.state.holdings hand test) hand holding) m.past.said
+    one_other : (test : Holding → Bool) (holding : Holding) → IsRescue m.past.said holding.chunk holding.kind → AreRescued (rows_more (rows_less m.state.holdings hand test) hand holding) m.past.said
     one_other test holding new = each_more (rows_less m.state.holdings hand test) hand (IsSaidRescue m.past.said) holding (one_less test) new
 
-    one_more : (holding : Holding) → IsRescue m.past.said holding.kind → AreRescued (rows_more m.state.holdings hand holding) m.past.said
+    one_more : (holding : Holding) → IsRescue m.past.said holding.chunk holding.kind → AreRescued (rows_more m.state.holdings hand holding) m.past.said
     one_more holding new = each_more m.state.holdings hand (IsSaidRescue m.past.said) holding is new
 
     popped_rescued : (class : ℕ) (next : Option ChunkId) → AreRescued (popped (with_slabs m.state (slabs_changes.after_pop m.state.slabs class)) hand next).holdings m.past.said
     popped_rescued class None = is
     popped_rescued class (Some chunk) = one_more _ tt
 
-    popped_off_rescued : (old : ChunkId) (next : Option ChunkId) → AreRescued (popped_off m.state hand old next).holdings m.past.said
-    popped_off_rescued old None = is
-    popped_off_rescued old (Some chunk) = one_more _ tt
+    popped_off_rescued : (old : ChunkId) (next : Option ChunkId) → target_of m.state old.page ≡ next → AreRescued (popped_off m.state hand old next).holdings m.past.said
+    popped_off_rescued old None found = is
+    popped_off_rescued old (Some chunk) found = one_more _ (target_off m.state old.page chunk found)
 
     filled_rescued : (chunk : ChunkId) (place word : ℕ) → AreRescued (rows_changed m.state.holdings hand (is_of chunk) (filled place word)) m.past.said
     filled_rescued chunk place word = each_changed (is_of chunk) (filled place word) m.state.holdings hand (IsSaidRescue m.past.said) (IsSaidRescue m.past.said) (λ h rescue. rescue) (λ h _ rescue. rescue) is
@@ -112,14 +132,14 @@ module _ (m : Moment) (hand : ℕ) where
       (each_map (IsStill m l) (λ k. (is_complete k.words ≡ true) × (length k.words ≡ item_length k.words)) m.past.known (λ k still. still.whole) l.known.still) in
       let said = item_has m l chunk is.near is.linked (λ k. IsSaid m.past.said (stamp_in k.words) k.words) l.known.said_by_some in
       each_changed (is_copy_of chunk) (as_rescue chunk (item_at m.state chunk)) m.state.holdings hand (IsSaidRescue m.past.said) (IsSaidRescue m.past.said) (λ h rescue. rescue)
-      (λ h _ rescue. (whole.0, whole.1, said)) l.rescued
+      (λ h copy rescue. (whole.0, whole.1, said, (copy_is m.past.said h.chunk chunk h.kind copy rescue).1)) l.rescued
 
 joined_rescued : (m : Moment) (hand kept spent : ℕ) → MayStep m hand (Join kept spent) → AreRescued m.state.holdings (joined_rows m.past.said kept spent)
 joined_rescued m hand kept spent may =
     let join = are_joined m hand kept spent may in
     let rows = may.lawful.rows.said in let within = hand_there m.state kept join.there in
     each_map (IsSaidRescue m.past.said) (IsSaidRescue (joined_rows m.past.said kept spent)) m.state.holdings
-    (λ holding. rescue_still m.past.said (joined_rows m.past.said kept spent) (λ stamp words. said_joined m.past.said kept spent stamp words join.apart (omega arith)) holding.kind) may.lawful.rescued
+    (λ holding. rescue_still m.past.said (joined_rows m.past.said kept spent) (λ stamp words. said_joined m.past.said kept spent stamp words join.apart (omega arith)) holding.chunk holding.kind) may.lawful.rescued
 
 pub rescued_changes : ChangesKeep RescuedIn
 rescued_changes m hand (Grow class) may = may.lawful.rescued
@@ -143,7 +163,7 @@ rescued_steps m hand GiveSlabs may = ends m hand m.state [] may.lawful.rescued
 rescued_steps m hand (GiveStripe stripe) may = ends m hand m.state [] may.lawful.rescued
 rescued_steps m hand (step.Head chunk) may = ends m hand (after_step m.state hand (step.Head chunk)) [] (looked_rescued m hand (Saw chunk (head_at m.state chunk)) may.lawful.rescued)
 rescued_steps m hand (Pop class) may = ends m hand (after_step m.state hand (Pop class)) [] (popped_rescued m hand may.lawful.rescued class (next_free m.state class))
-rescued_steps m hand (PopOff old) may = ends m hand (after_step m.state hand (PopOff old)) [] (popped_off_rescued m hand may.lawful.rescued old (target_of m.state old.page))
+rescued_steps m hand (PopOff old) may = ends m hand (after_step m.state hand (PopOff old)) [] (popped_off_rescued m hand may.lawful.rescued old (target_of m.state old.page) refl)
 rescued_steps m hand (Fill chunk place word) may =
     ends m hand (after_step m.state hand (Fill chunk place word)) [] (filled_rescued m hand may.lawful.rescued chunk place word)
 rescued_steps m hand (Word chunk place) may = ends m hand m.state [] may.lawful.rescued

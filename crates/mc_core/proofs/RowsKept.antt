@@ -63,7 +63,7 @@ rows_alone m hand step l long = record {
   known = length-set m.past.known hand _ ∙ l.known ∙ sym long;
 }
 
-rows_joined : (m : Moment) (kept spent : ℕ) → HaveRows m.state.ids m.past → HaveRows (slice_set m.state.ids spent gone) (joined m.state.table m.past kept spent)
+rows_joined : (m : Moment) (kept spent : ℕ) → HaveRows m.state.ids m.past → HaveRows (slice_set m.state.ids spent gone) (joined m.past kept spent)
 rows_joined m kept spent l =
     let long = length-set m.state.ids spent gone in
     record {

@@ -1,5 +1,5 @@
 -- What hands said and know.
-use Rattle.std.specs.Prelude.{◌≡◌, ⊤, ℕ, ◌≤◌, true, false, List, [], length, slice_index_or, All, Contains}
+use Rattle.std.specs.Prelude.{◌≡◌, ◌≢◌, ⊤, ℕ, ◌≤◌, true, false, List, [], length, slice_index_or, All, Contains}
 use Rattle.mc_classes.specs.Classes.{Classes}
 use Rattle.mc_pages.specs.declared.ids.ChunkId.{ChunkId}
 use Rattle.mc_pages.specs.SlabState.{SlabState, class_of_page}
@@ -8,7 +8,7 @@ use Rattle.mc_core.specs.declared.head.Tag.TheVariants.{Linked}
 use Rattle.mc_core.specs.declared.holding.Holding.{Holding}
 use Rattle.mc_core.specs.declared.holding.Kind.{Kind}
 use Rattle.mc_core.specs.declared.holding.Kind.TheVariants.{Fresh}
-use Rattle.mc_core.specs.declared.holding.Purpose.TheVariants.{Rescue}
+use Rattle.mc_core.specs.declared.holding.Purpose.TheVariants.{Copy, Rescue}
 use Rattle.mc_core.specs.Holdings.{Words, stamp_in, item_length, is_complete, is_fresh}
 use Rattle.mc_core.specs.Past.{Known, Saying, known_by}
 use Rattle.mc_core.specs.Identities.{said_count}
@@ -42,7 +42,9 @@ pub record AreKnown (table : Classes) (slabs : SlabState) (heads : List Head) (w
   -- each linked chunk is known to some hand
   pub linked : (chunk : ChunkId) → has_chunk table chunk ≡ true → (head_in table heads chunk).tag ≡ Linked → IsKnownToSome known (λ k. (k.chunk ≡ chunk) × (k.issue ≡ (head_in table heads chunk).issue))
 
--- an item that is being rescued: its words were said with its stamp
-abbrev pub IsRescue : List (List Saying) → Kind → Type 0
-IsRescue said (Fresh (Rescue old item)) = (is_complete item ≡ true) × (length item ≡ item_length item) × IsSaid said (stamp_in item) item
-IsRescue said kind = ⊤
+-- what a fresh chunk is for: a copy is off the page of the chunk that it is to be a copy of; and the words of an item that is being
+-- rescued were said with its stamp
+abbrev pub IsRescue : List (List Saying) → ChunkId → Kind → Type 0
+IsRescue said chunk (Fresh (Copy old)) = chunk.page ≢ old.page
+IsRescue said chunk (Fresh (Rescue old item)) = (is_complete item ≡ true) × (length item ≡ item_length item) × IsSaid said (stamp_in item) item × (chunk.page ≢ old.page)
+IsRescue said chunk kind = ⊤

@@ -56,7 +56,7 @@ abbrev pub KnownIn : Moment → Type 0
 KnownIn m = AreKnown m.state.table m.state.slabs m.state.heads m.state.words m.state.holdings m.past.said m.past.known
 
 abbrev pub RescuedIn : Moment → Type 0
-RescuedIn m = Each (λ holding. IsRescue m.past.said holding.kind) m.state.holdings
+RescuedIn m = Each (λ holding. IsRescue m.past.said holding.chunk holding.kind) m.state.holdings
 
 abbrev pub ToldIn : Moment → Type 0
 ToldIn m = AreTold m.state.stripes m.past.mine m.past.seen m.past.said

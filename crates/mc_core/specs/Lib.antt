@@ -23,5 +23,10 @@ pub mod Lawful
 pub mod Rows
 pub mod InOrder
 pub mod Laws
+pub mod Views
+pub mod Frame
+pub mod Reasons
+pub mod Effects
+pub mod Learns
 pub mod Stretch
 pub mod Follows

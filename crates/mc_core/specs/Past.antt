@@ -156,8 +156,8 @@ abbrev pub no_hold : Hold
 no_hold = record { found = no_slabs; left = no_slabs; count = 0 }
 
 -- the first hand knows what the second knew, which knows nothing any more
-abbrev pub joined : Classes → Past → ℕ → ℕ → Past
-joined table past kept spent = record {
+abbrev pub joined : Past → ℕ → ℕ → Past
+joined past kept spent = record {
   saw = slice_set past.saw spent [];
   holds = slice_set past.holds spent no_hold;
   mine = slice_set (with_more past.mine kept (slice_index_or past.mine spent [])) spent [];
@@ -171,19 +171,57 @@ abbrev pub with_calls : State → State → Past → ℕ → Past
 with_calls before now past hand =
     record past { mine = slice_set past.mine hand (map (own_after before now (number_at before hand)) (slice_index_or past.mine hand [])) }
 
--- what the stepping hand learns, from the state before the step to the one after it
-abbrev pub learned_alone : State → State → Past → ℕ → Step → Past
-learned_alone before now past hand step = record (with_calls before now past hand) {
-  saw = with_more past.saw hand (sights_of before step);
-  holds = slice_set past.holds hand (hold_after before.slabs step (slice_index_or past.holds hand no_hold));
-  seen = slice_set past.seen hand (seen_after before step (slice_index_or past.seen hand []));
-  said = with_more past.said hand (sayings_of before hand step);
-  known = with_more past.known hand (known_of before hand step);
+-- what one hand knows: its row of each column
+pub record Knowledge : Type 0 where
+  pub saw : List Sight
+  pub hold : Hold
+  pub mine : List Own
+  pub seen : List (List Call)
+  pub said : List Saying
+  pub known : List Known
+
+abbrev pub knowledge_at : Past → ℕ → Knowledge
+knowledge_at past hand = record {
+  saw = slice_index_or past.saw hand [];
+  hold = slice_index_or past.holds hand no_hold;
+  mine = slice_index_or past.mine hand [];
+  seen = slice_index_or past.seen hand [];
+  said = slice_index_or past.said hand [];
+  known = slice_index_or past.known hand [];
 }
+
+abbrev pub with_knowledge : Past → ℕ → Knowledge → Past
+with_knowledge past hand knows = record {
+  saw = slice_set past.saw hand knows.saw;
+  holds = slice_set past.holds hand knows.hold;
+  mine = slice_set past.mine hand knows.mine;
+  seen = slice_set past.seen hand knows.seen;
+  said = slice_set past.said hand knows.said;
+  known = slice_set past.known hand knows.known;
+}
+
+-- the hand's own calls, with those that came in from the one state to the other
+abbrev pub own_calls_after : State → State → ℕ → List Own → List Own
+own_calls_after before now hand mine = map (own_after before now (number_at before hand)) mine
+
+-- what the stepping hand knows after the step, from what it knew and from the states before and after
+abbrev pub knowledge_after : State → State → ℕ → Step → Knowledge → Knowledge
+knowledge_after before now hand step knows = record {
+  saw = knows.saw ++ sights_of before step;
+  hold = hold_after before.slabs step knows.hold;
+  mine = own_calls_after before now hand knows.mine;
+  seen = seen_after before step knows.seen;
+  said = knows.said ++ sayings_of before hand step;
+  known = knows.known ++ known_of before hand step;
+}
+
+-- the stepping hand alone learns
+abbrev pub learned_alone : State → State → Past → ℕ → Step → Past
+learned_alone before now past hand step = with_knowledge past hand (knowledge_after before now hand step (knowledge_at past hand))
 
 -- what the hands know after a step
 abbrev pub learned : State → State → Past → ℕ → Step → Past
-learned before now past hand (Join kept spent) = joined before.table past kept spent
+learned before now past hand (Join kept spent) = joined past kept spent
 learned before now past hand step = learned_alone before now past hand step
 
 -- the moment after a change of a value behind a lock
@@ -205,8 +243,8 @@ abbrev pub moment_after : Moment → Event → Moment
 moment_after moment event = moment_stepped (moment_changes moment event.hand event.before) event.hand event.step
 
 -- nobody saw or said anything; each hand has its number
-abbrev pub no_past : Classes → ℕ → ℕ → Past
-no_past table stripes hands = record {
+abbrev pub no_past : ℕ → ℕ → Past
+no_past stripes hands = record {
   saw = replicate hands [];
   holds = replicate hands no_hold;
   mine = map (λ number. record { number = number; calls = replicate stripes [] } ∷ []) (range_with_len 0 hands);
@@ -217,4 +255,4 @@ no_past table stripes hands = record {
 
 -- nothing was done yet
 abbrev pub first_moment : Classes → ℕ → ℕ → Moment
-first_moment table stripes hands = record { state = new_state table stripes hands; past = no_past table stripes hands }
+first_moment table stripes hands = record { state = new_state table stripes hands; past = no_past stripes hands }

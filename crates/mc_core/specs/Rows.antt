@@ -1,13 +1,14 @@
 -- Worked runs.
-use Rattle.std.specs.Prelude.{ℕ, List, [], ◌∷◌, ◌++◌, map, Result, Ok, Err}
+use Rattle.std.specs.Prelude.{ℕ, ◌*◌, List, [], ◌∷◌, ◌++◌, map, Some, Result, Ok, Err}
 use Rattle.std.specs.List.{range_with_len}
 use Rattle.mc_classes.specs.Classes.{Classes}
+use Rattle.mc_pages.specs.declared.ids.ChunkId.{ChunkId}
 use Rattle.mc_pages.specs.declared.ledger.Entry.{Entry}
 use Rattle.mc_core.specs.declared.event.Event.{Event}
 use Rattle.mc_core.specs.declared.event.Step.{Step}
-use Rattle.mc_core.specs.declared.event.Step.TheVariants.{TakeSlabs, GiveSlabs, Cut}
+use Rattle.mc_core.specs.declared.event.Step.TheVariants.{TakeSlabs, TakeStripe, GiveSlabs, GiveStripe, Head, Pop, PopOff, Fill, Link, Unlink, Release, Condemn, Clear, Cut}
 use Rattle.mc_core.specs.declared.event.Change.{Change}
-use Rattle.mc_core.specs.declared.event.Change.TheVariants.{Grow}
+use Rattle.mc_core.specs.declared.event.Change.TheVariants.{Grow, BeginMove, FinishMove, Reserve}
 use Rattle.mc_core.specs.State.{State, new_state}
 use Rattle.mc_core.specs.Run.{play}
 
@@ -33,3 +34,70 @@ ledger_of (Err place) = Err place
 
 abbrev pub played : List Event → Result (List Entry) ℕ
 played events = ledger_of (play (new_state four_classes 4 1) events)
+
+-- so many pages of 64 bytes, and one class of 32 bytes
+abbrev pub one_class : ℕ → Classes
+one_class pages = record { page = 64; limit = pages * 64; sizes = 32 ∷ [] }
+
+-- the events of one hand that takes both locks of an arena of so many pages and one stripe
+abbrev pub played_on : ℕ → List Event → Result (List Entry) ℕ
+played_on pages events = ledger_of (play (new_state (one_class pages) 1 1) (does [] TakeSlabs ∷ does [] (TakeStripe 0) ∷ events))
+
+abbrev pub chunk_at : ℕ → ℕ → ChunkId
+chunk_at page index = record { page = page; index = index }
+
+-- the class gets the page, and its two chunks are cut
+abbrev pub gets : ℕ → List Event
+gets page = does (Grow 1 ∷ []) (Cut page 0) ∷ does [] (Cut page 1) ∷ []
+
+-- a fresh chunk is filled with a key, the stamp of the same number, and one word
+abbrev pub fills_with : ChunkId → ℕ → List Event
+fills_with chunk key = does [] (Fill chunk 0 key) ∷ does [] (Fill chunk 1 key) ∷ does [] (Fill chunk 2 1) ∷ does [] (Fill chunk 3 7) ∷ []
+
+-- the chunk is filled, linked and let go
+abbrev pub puts : ChunkId → ℕ → List Event
+puts chunk key = fills_with chunk key ++ does (Reserve 0 ∷ []) (Link chunk) ∷ does [] (Release chunk) ∷ []
+
+-- it is handed out before
+abbrev pub stores : ChunkId → ℕ → List Event
+stores chunk key = does [] (Pop 1) ∷ puts chunk key
+
+-- a page whose two chunks have items
+abbrev pub full_page : List Event
+full_page = gets 0 ++ stores (chunk_at 0 1) 1 ++ stores (chunk_at 0 0) 2
+
+-- the item of a chunk is taken away
+abbrev pub takes_away : ChunkId → List Event
+takes_away chunk = does (Reserve 0 ∷ []) (Condemn chunk) ∷ []
+
+-- both chunks of a page are looked at
+abbrev pub looks_at : ℕ → List Event
+looks_at page = does [] (Head (chunk_at page 1)) ∷ does [] (Head (chunk_at page 0)) ∷ []
+
+-- two pages, of whose four chunks one has an item, or all but one on its page
+abbrev pub one_of_four : List Event
+one_of_four = gets 0 ++ stores (chunk_at 0 1) 1 ++ gets 1
+
+abbrev pub three_of_four : List Event
+three_of_four = one_of_four ++ stores (chunk_at 1 1) 2 ++ stores (chunk_at 1 0) 3
+
+-- page 0 begins to move, and its item is looked at, or gets another chunk
+abbrev pub begins_move : List Event
+begins_move = does (BeginMove (Some 1) 0 ∷ []) (Head (chunk_at 0 1)) ∷ []
+
+abbrev pub begins_rescue : List Event
+begins_rescue = does (BeginMove (Some 1) 0 ∷ []) (PopOff (chunk_at 0 1)) ∷ []
+
+-- the item is taken to that chunk, and both chunks of the page are cleared
+abbrev pub rescues : List Event
+rescues =
+    fills_with (chunk_at 1 1) 1 ++ takes_away (chunk_at 0 1) ++ does [] (Link (chunk_at 1 1)) ∷ does [] (Release (chunk_at 1 1)) ∷ does [] (Clear (chunk_at 0 1)) ∷ does [] (Clear (chunk_at 0 0)) ∷ []
+
+-- the move ends, and the locks are given back
+abbrev pub ends : List Event
+ends = does (FinishMove ∷ []) GiveSlabs ∷ does [] (GiveStripe 0) ∷ []
+
+-- the item is deleted, a chunk is handed out for a copy of it, its page leaves the class and comes again, and a new item stands in its chunk
+abbrev pub comes_again : List Event
+comes_again =
+    does (Reserve 0 ∷ []) (Unlink 1) ∷ begins_rescue ++ does [] (Clear (chunk_at 0 1)) ∷ does [] (Clear (chunk_at 0 0)) ∷ does (FinishMove ∷ Grow 1 ∷ []) (Cut 0 0) ∷ does [] (Cut 0 1) ∷ stores (chunk_at 0 1) 2

@@ -2,15 +2,20 @@
 //!
 //! A clause of the law that is *kept* holds before anything was done. Every silent change, every step and every event that
 //! is allowed in a lawful moment leaves it true.
-ghost use Rattle.std.specs.Prelude.{◌≡◌, ℕ, List, [], ◌∷◌, Ok, Err};
-ghost use Rattle.mc_pages.specs.declared.ledger.Entry.TheVariants.{Granted};
+ghost use Rattle.std.specs.Prelude.{◌≡◌, ℕ, List, [], ◌∷◌, ◌++◌, Ok, Err};
+ghost use Rattle.mc_pages.specs.declared.ledger.Entry.TheVariants.{Granted, Began, Ended};
 ghost use Rattle.mc_stripe.specs.declared.history.Call.{Call};
 ghost use Rattle.mc_stripe.specs.Sequential.{StampMap, Leads};
 ghost use Rattle.mc_core.specs.declared.event.Event.{Event};
-ghost use Rattle.mc_core.specs.declared.event.Step.TheVariants.{TakeSlabs, Pop};
-ghost use Rattle.mc_core.specs.Rows.{played, grows, does};
+ghost use Rattle.mc_core.specs.declared.event.Step.TheVariants.{TakeSlabs, Pop, Head, Cut};
+ghost use Rattle.mc_core.specs.declared.event.Change.TheVariants.{Grow, FinishMove};
+ghost use Rattle.mc_core.specs.Rows.{played, grows, does, played_on, chunk_at, gets, puts, stores, full_page, one_of_four, three_of_four, looks_at, takes_away, begins_move, begins_rescue, rescues, ends, comes_again};
 ghost use Rattle.mc_core.specs.Lawful.{IsLawful, SizedIn, PagedIn, PlacedIn, CountedIn, HeldIn, IndexedIn, LegalIn, HandsIn, RowsIn, NumberedIn, SeenIn, KnownIn, RescuedIn, ToldIn};
 ghost use Rattle.mc_core.specs.Laws.{IsKeptByAll, ArePlayed, AreLawful};
+ghost use Rattle.mc_core.specs.Frame.{AreFramed};
+ghost use Rattle.mc_core.specs.Effects.{WriteOneWord, HistoriesGrow, RunsArePlayed};
+ghost use Rattle.mc_core.specs.Learns.{AreLearned};
+ghost use Rattle.mc_core.specs.Reasons.{CondemnsAreReasoned};
 ghost use Rattle.mc_core.specs.Stretch.{StretchesKeep};
 ghost use Rattle.mc_core.specs.Follows.{AreKept, AreSaidItems, SeenGrows};
 
@@ -19,6 +24,33 @@ pub fn worked_runs()
     ensures whole_page { played (grows 20) ≡ Ok (Granted 0 1 ∷ []) }
     ensures cut_short { played (grows 19) ≡ Err 21 }
     ensures no_page { played (does [] TakeSlabs ∷ does [] (Pop 1) ∷ []) ≡ Err 1 }
+{}
+
+/// An item is evicted from a full class behind a sweep. It is refused without a sweep, behind half of one, and behind one that an
+/// eviction ended; where a chunk is free; where a page is left, or one is pooled; and where one is half cut.
+pub fn worked_evictions()
+    ensures evicted { played_on 1 (full_page ++ looks_at 0 ++ takes_away (chunk_at 0 1)) ≡ Ok (Granted 0 1 ∷ []) }
+    ensures no_sweep { played_on 1 (full_page ++ takes_away (chunk_at 0 1)) ≡ Err 18 }
+    ensures half_a_sweep { played_on 1 (full_page ++ does [] (Head (chunk_at 0 1)) ∷ takes_away (chunk_at 0 1)) ≡ Err 19 }
+    ensures one_a_sweep { played_on 1 (full_page ++ looks_at 0 ++ takes_away (chunk_at 0 1) ++ takes_away (chunk_at 0 0)) ≡ Err 21 }
+    ensures a_free_chunk { played_on 1 (gets 0 ++ stores (chunk_at 0 1) 1 ++ does [] (Head (chunk_at 0 1)) ∷ takes_away (chunk_at 0 1)) ≡ Err 12 }
+    ensures a_page_left { played_on 2 (full_page ++ looks_at 0 ++ takes_away (chunk_at 0 1)) ≡ Err 20 }
+    ensures a_pooled_page { played_on 2 (one_of_four ++ begins_rescue ++ rescues ++ does (FinishMove ∷ []) (Pop 1) ∷ puts (chunk_at 1 0) 2 ++ looks_at 1 ++ takes_away (chunk_at 1 1)) ≡ Err 32 }
+    ensures half_a_page { played_on 2 (full_page ++ does (Grow 1 ∷ []) (Cut 1 0) ∷ stores (chunk_at 1 0) 3 ++ looks_at 0 ++ does [] (Head (chunk_at 1 0)) ∷ takes_away (chunk_at 0 1)) ≡ Err 29 }
+{}
+
+/// An item is rescued off its moving page, which then comes to the pool. It isn't rescued onto that page, nor to a chunk that is for
+/// something else, nor when its page stays. Where no chunk is off the page, the item leaves it behind a sweep, and neither without
+/// one, nor behind one that a handing out ended, nor where a chunk is there.
+pub fn worked_rescues()
+    ensures rescued { played_on 2 (one_of_four ++ begins_rescue ++ rescues ++ ends) ≡ Ok (Granted 0 1 ∷ Granted 1 1 ∷ Began 0 1 0 ∷ Ended 0 0 ∷ []) }
+    ensures no_chunk_off { played_on 2 (three_of_four ++ begins_rescue) ≡ Err 27 }
+    ensures no_copy { played_on 2 (one_of_four ++ does [] (Pop 1) ∷ begins_move ++ takes_away (chunk_at 0 1)) ≡ Err 15 }
+    ensures a_page_that_stays { played_on 2 (one_of_four ++ comes_again ++ takes_away (chunk_at 0 1)) ≡ Err 26 }
+    ensures leaves { played_on 2 (three_of_four ++ begins_move ++ looks_at 1 ++ takes_away (chunk_at 0 1)) ≡ Ok (Granted 0 1 ∷ Granted 1 1 ∷ Began 0 1 0 ∷ []) }
+    ensures no_sweep { played_on 2 (three_of_four ++ begins_move ++ takes_away (chunk_at 0 1)) ≡ Err 28 }
+    ensures old_sweep { played_on 2 (one_of_four ++ stores (chunk_at 1 1) 2 ++ begins_move ++ does [] (Head (chunk_at 1 1)) ∷ does [] (Pop 1) ∷ does [] (Head (chunk_at 1 0)) ∷ takes_away (chunk_at 0 1)) ≡ Err 24 }
+    ensures a_chunk_off { played_on 2 (one_of_four ++ begins_move ++ takes_away (chunk_at 0 1)) ≡ Err 14 }
 {}
 
 /// There is a header for each chunk, and all data words.
@@ -85,7 +117,8 @@ pub fn known_items_are_kept()
     ensures { IsKeptByAll KnownIn }
 {}
 
-/// The words of an item that is being rescued were said with its stamp.
+/// A chunk that is to have a copy is off the page of what it copies, and the words of an item that is being rescued were said with
+/// its stamp.
 pub fn rescues_are_kept()
     ensures { IsKeptByAll RescuedIn }
 {}
@@ -101,10 +134,44 @@ pub fn the_law_is_kept()
     ensures { IsKeptByAll IsLawful }
 {}
 
+/// Each step and each change of one hand leaves what all other hands have, what is behind locks that the hand hasn't, and
+/// what others see behind theirs. A join leaves all but the hand that is taken over.
+pub fn others_are_left_alone()
+    ensures { AreFramed }
+{}
+
+/// A change of a value behind a lock writes no word of the arena, and a step or an event one at most: a header, a data word, the word of
+/// a lock, or that of the hands.
+pub fn one_word_a_step()
+    ensures { WriteOneWord }
+{}
+
+/// Each stripe's history only grows, and what comes in is by the stepping hand's number.
+pub fn histories_grow()
+    ensures { HistoriesGrow }
+{}
+
+/// What a hand knows after a change, a step or a join is told by what it knew, and, of a join, by what the other hand knew.
+pub fn learning_is_by_rows()
+    ensures { AreLearned }
+{}
+
+/// An item is taken away for a reason alone. It goes to a copy off its moving page. Or each chunk that its class handed out
+/// was seen not dead, and nothing was taken since; and then it leaves its moving page, off which there is no chunk for it,
+/// or makes room where there is neither a free chunk nor a page.
+pub fn condemns_have_a_reason()
+    ensures { CondemnsAreReasoned }
+{}
+
 /// Every moment of a run is lawful.
 pub fn runs_are_lawful()
     ensures played { (events : List Event) → ArePlayed events }
     ensures lawful { AreLawful }
+{}
+
+/// A run is played to its end, and its last moment's state is what is left.
+pub fn runs_are_played()
+    ensures { RunsArePlayed }
 {}
 
 /// While a hand keeps one holding, its chunk is handed out with its issue number, its page stays with its class, and no word

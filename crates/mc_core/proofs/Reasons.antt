@@ -1,0 +1,228 @@
+-- What a condemn that is allowed tells of its reason.
+use Rattle.std.proofs.Common.{◌≡◌, ◌≢◌, ◌⊎◌, ℕ, suc, ◌+◌, ◌≤◌, ◌==◌, ◌&&◌, not, cond, Bool, true, false, List, [], ◌∷◌, length, Option, Some, None, refl, sym, ap, ap₂, ◌∙◌, subst, inl, inr, arith, find, is_none, count_by, nat_lt, slice_get, All, Contains, eqb-true}
+use Rattle.std.specs.List.{fold, list_all, list_any}
+use Rattle.std.specs.Option.{option_map_or}
+use Rattle.std.proofs.lemmas.Bool.{and_parts, or_cases, both_ways, ltb-false, ne_eqb}
+use Rattle.std.proofs.lemmas.List.{nil_from_length}
+use Rattle.std.proofs.lemmas.List.Elements.{All-nil, All-cons, All-weaker, All-contains}
+use Rattle.std.proofs.lemmas.List.Sums.{sum_by-cons, count_by-le-length}
+use Rattle.mc_classes.specs.Classes.{pages_of}
+use Rattle.mc_pages.specs.declared.ids.ChunkId.{ChunkId}
+use Rattle.mc_pages.specs.declared.ids.Moving.{Moving}
+use Rattle.mc_pages.specs.declared.ledger.Owner.{Owner}
+use Rattle.mc_pages.specs.declared.ledger.Owner.TheVariants.{Untouched}
+use Rattle.mc_pages.specs.Accounted.{truth}
+use Rattle.mc_pages.specs.ClassState.{is_chunk, first_free}
+use Rattle.mc_pages.specs.Ledger.{owner_at}
+use Rattle.mc_pages.specs.SlabState.{SlabState, class_at, class_of_page, class_of_chunk, is_untouched, totals_of}
+use Rattle.mc_pages.proofs.Chunks.{same_from_is_chunk}
+use Rattle.mc_core.specs.declared.head.Head.{Head}
+use Rattle.mc_core.specs.declared.head.Tag.{Tag}
+use Rattle.mc_core.specs.declared.head.Tag.TheVariants.{Unlinked}
+use Rattle.mc_core.specs.declared.holding.Holding.{Holding}
+use Rattle.mc_core.specs.declared.holding.Kind.TheVariants.{Fresh}
+use Rattle.mc_core.specs.declared.holding.Purpose.TheVariants.{Copy}
+use Rattle.mc_core.specs.declared.look.Look.{Look}
+use Rattle.mc_core.specs.declared.look.Look.TheVariants.{Saw, SawStripe, Read, Popped, PoppedOff, Condemned, PutBack, Cleared, Cut, Changed}
+use Rattle.mc_core.specs.Head.{is_unlinked, is_dead}
+use Rattle.mc_core.specs.Holdings.{is_copy_of}
+use Rattle.mc_core.specs.Looks.{stays_alive, is_found_alive}
+use Rattle.mc_core.specs.State.{has_slabs, head_at, holdings_at, looks_at}
+use Rattle.mc_core.specs.Silent.{is_whole}
+use Rattle.mc_core.specs.Chunks.{is_moving_page, is_target, target_of, most_issue}
+use Rattle.mc_core.specs.Evictions.{has_copy, none_dead, has_no_page, must_leave, lacks_room, has_reason}
+use Rattle.mc_core.specs.Knowing.{IsRescue}
+use Rattle.mc_core.specs.Past.{Moment}
+use Rattle.mc_core.specs.Lawful.{IsLawful}
+use Rattle.mc_core.specs.Reasons.{takes, sees, WasFoundAlive, IsSwept, Moves, HasNoneOff, IsOutOfRoom, HasCopyOff, MustGo, CondemnsAreReasoned}
+use Rattle.mc_core.proofs.Base.{each_row}
+use Rattle.mc_core.proofs.KnownCondemned.{condemnable}
+use Rattle.mc_core.proofs.RescuedSteps.{copy_is}
+
+-- neither a taking nor a look at the chunk
+abbrev IsQuiet : ChunkId → Look → Type 0
+IsQuiet chunk look = (takes look ≡ false) × (sees chunk look ≡ false)
+
+dead_is : (head : Head) → head.tag ≡ Unlinked → head.count ≡ 0 → is_dead head ≡ true
+dead_is head tag count = ap₂ (λ (t : Tag) n. is_unlinked t && (n == 0)) tag count
+
+alive_is : (head : Head) → not (is_dead head) ≡ true → head.tag ≡ Unlinked → head.count ≡ 0 → ⊥
+alive_is head alive tag count = both_ways (not (is_dead head)) (ap not (dead_is head tag count)) alive
+
+-- from the end: nothing yet says anything of the chunk, or a look at it does
+module _ (chunk : ChunkId) (looks : List Look) (quiet : All (IsQuiet chunk) looks) (before : Bool) where
+  abbrev Tells : Look → Type 0
+  Tells look = ((before ≡ true) × All (IsQuiet chunk) (look ∷ looks)) ⊎ WasFoundAlive (look ∷ looks) chunk
+
+  saw_alive : (seen : ChunkId) (head : Head) → stays_alive chunk before (Saw seen head) ≡ true → Tells (Saw seen head)
+  saw_alive seen head =
+      elim (is_chunk seen chunk) as (λ b. is_chunk seen chunk ≡ b → cond b (not (is_dead head)) before ≡ true → Tells (Saw seen head)) [
+        | true ↦ λ here alive. inr (record {
+          before = [];
+          head = head;
+          since = looks;
+          split = ap (λ (c : ChunkId). Saw c head ∷ looks) (same_from_is_chunk seen chunk here);
+          alive = alive_is head alive;
+          quiet = quiet;
+        })
+        | false ↦ λ elsewhere was. inl (was, All-cons (IsQuiet chunk) (Saw seen head) looks (refl, elsewhere) quiet)
+      ] refl
+
+  tells_alive : (look : Look) → stays_alive chunk before look ≡ true → Tells look
+  tells_alive (Saw seen head) is = saw_alive seen head is
+  tells_alive (SawStripe stripe word) is = inl (is, All-cons (IsQuiet chunk) (SawStripe stripe word) looks (refl, refl) quiet)
+  tells_alive (Read seen place word) is = inl (is, All-cons (IsQuiet chunk) (Read seen place word) looks (refl, refl) quiet)
+  tells_alive (Popped seen head) is = absurd (cc)
+  tells_alive (PoppedOff seen old head) is = absurd (cc)
+  tells_alive (Condemned seen head) is = absurd (cc)
+  tells_alive (PutBack seen head) is = inl (is, All-cons (IsQuiet chunk) (PutBack seen head) looks (refl, refl) quiet)
+  tells_alive (Cleared seen head) is = absurd (cc)
+  tells_alive (Cut seen head) is = inl (is, All-cons (IsQuiet chunk) (Cut seen head) looks (refl, refl) quiet)
+  tells_alive (Changed change) is = inl (is, All-cons (IsQuiet chunk) (Changed change) looks (refl, refl) quiet)
+
+later : (chunk : ChunkId) (look : Look) (looks : List Look) → WasFoundAlive looks chunk → WasFoundAlive (look ∷ looks) chunk
+later chunk look looks found = record {
+  before = look ∷ found.before;
+  head = found.head;
+  since = found.since;
+  split = ap (λ rest. look ∷ rest) found.split;
+  alive = found.alive;
+  quiet = found.quiet;
+}
+
+alive_split : (chunk : ChunkId) (looks : List Look) (before : Bool) → fold (stays_alive chunk) before looks ≡ true → ((before ≡ true) × All (IsQuiet chunk) looks) ⊎ WasFoundAlive looks chunk
+alive_split chunk [] before is = inl (is, All-nil (IsQuiet chunk))
+alive_split chunk (look ∷ looks) before is =
+    elim (alive_split chunk looks (stays_alive chunk before look) is) [
+      | inl both ↦ tells_alive chunk looks both.1 before look both.0
+      | inr found ↦ inr (later chunk look looks found)
+    ]
+
+pub found_alive : (looks : List Look) (chunk : ChunkId) → is_found_alive looks chunk ≡ true → WasFoundAlive looks chunk
+found_alive looks chunk is = elim (alive_split chunk looks false is) [ inl both ↦ absurd (let never = both.0 in cc) | inr found ↦ found ]
+
+-- each entry passes
+all_pass : {X : Type 0} (test : X → Bool) (xs : List X) → list_all test xs ≡ true → All (λ x. test x ≡ true) xs
+all_pass test [] is = All-nil (λ x. test x ≡ true)
+all_pass test (x ∷ xs) is = let both = and_parts (test x) (list_all test xs) is in All-cons (λ x. test x ≡ true) x xs both.0 (all_pass test xs both.1)
+
+-- none is found
+none_found : {X : Type 0} (test : X → Bool) (xs : List X) → find test xs ≡ None → All (λ x. test x ≡ false) xs
+none_found test [] none = All-nil (λ x. test x ≡ false)
+none_found test (x ∷ xs) none =
+    elim (test x) as (λ b. test x ≡ b → cond b (Some x) (find test xs) ≡ None → All (λ x. test x ≡ false) (x ∷ xs)) [
+      | true ↦ λ _ never. absurd (cc)
+      | false ↦ λ fails later. All-cons (λ x. test x ≡ false) x xs fails (none_found test xs later)
+    ] refl none
+
+-- some passes
+some_passes : {X : Type 0} (test : X → Bool) (xs : List X) → list_any test xs ≡ true → (x : X) × Contains xs x × (test x ≡ true)
+some_passes test [] is = absurd (cc)
+some_passes test (x ∷ xs) is =
+    elim (or_cases (test x) (list_any test xs) is) [
+      | inl here ↦ (x, (0, omega arith, refl), here)
+      | inr later ↦ let (y, (i, within, at), passes) = some_passes test xs later in (y, (suc i, omega arith, at), passes)
+    ]
+
+none_is : {X : Type 0} (o : Option X) → is_none o ≡ true → o ≡ None
+none_is None is = refl
+none_is (Some x) is = absurd (cc)
+
+-- where as many pages were granted as there are, each was
+all_granted : (owners : List Owner) → count_by (λ owner. not (is_untouched owner)) owners ≡ length owners → All (λ owner. is_untouched owner ≡ false) owners
+all_granted [] is = All-nil (λ owner. is_untouched owner ≡ false)
+all_granted (owner ∷ owners) is =
+    let sum = sum_by-cons (λ (o : Owner). truth (not (is_untouched o))) owner owners in
+    let most = count_by-le-length (λ (o : Owner). not (is_untouched o)) owners in
+    elim (is_untouched owner) as (λ b. is_untouched owner ≡ b → count_by (λ o. not (is_untouched o)) (owner ∷ owners) ≡ truth (not b) + count_by (λ o. not (is_untouched o)) owners → All (λ o. is_untouched o ≡ false) (owner ∷ owners)) [
+      | true ↦ λ _ sum. absurd (omega arith)
+      | false ↦ λ granted sum. All-cons (λ o. is_untouched o ≡ false) owner owners granted (all_granted owners (omega arith))
+    ] refl sum
+
+moves_is : (slabs : SlabState) (page : ℕ) (moving : Option Moving) → slabs.moving ≡ moving → option_map_or (λ move. move.page == page) moving false ≡ true → Moves slabs page
+moves_is slabs page None at is = absurd (cc)
+moves_is slabs page (Some move) at is = (move, at, eqb-true move.page page is)
+
+module _ (m : Moment) (l : IsLawful m) (hand : ℕ) (chunk : ChunkId) (has : has_slabs m.state hand ≡ true) where
+  abbrev class : ℕ
+  class = class_of_page m.state.slabs chunk.page
+
+  moving : is_moving_page m.state.slabs chunk.page ≡ true → Moves m.state.slabs chunk.page
+  moving is = moves_is m.state.slabs chunk.page m.state.slabs.moving refl is
+
+  swept : none_dead m.state hand chunk ≡ true → IsSwept m.state hand class
+  swept is =
+      let order = (class_at m.state.slabs class).order in
+      let looks = looks_at m.state hand in
+      (has, All-weaker (λ c. is_found_alive looks c ≡ true) (WasFoundAlive looks) (λ c. found_alive looks c) order (all_pass (is_found_alive looks) order is))
+
+  none_off : is_none (target_of m.state chunk.page) ≡ true → HasNoneOff m.state class chunk.page
+  none_off is =
+      let free = (class_at m.state.slabs class).free in
+      All-weaker (λ c. is_target m.state chunk.page c ≡ false) (λ (c : ChunkId). c.page ≢ chunk.page → most_issue ≤ (head_at m.state c).issue) not_target free
+      (none_found (is_target m.state chunk.page) free (none_is (target_of m.state chunk.page) is))
+    where
+      not_target : (c : ChunkId) → is_target m.state chunk.page c ≡ false → c.page ≢ chunk.page → most_issue ≤ (head_at m.state c).issue
+      not_target c isnt off =
+          ltb-false (head_at m.state c).issue most_issue (sym (ap (λ b. not b && nat_lt (head_at m.state c).issue most_issue) (ne_eqb c.page chunk.page off)) ∙ isnt)
+
+  out_of_room : lacks_room m.state hand chunk ≡ true → IsSwept m.state hand class × IsOutOfRoom m.state class
+  out_of_room is =
+      let whole = and_parts _ (is_whole m.state.slabs) is in
+      let page = and_parts _ (has_no_page m.state) whole.0 in
+      let dead = and_parts (is_none (first_free (class_of_chunk m.state.slabs chunk))) (none_dead m.state hand chunk) page.0 in
+      let pages = and_parts ((totals_of m.state.slabs).pool == 0) ((totals_of m.state.slabs).granted == pages_of m.state.table) page.1 in
+      let owners = l.paged.of_table.owners in
+      let all = all_granted m.state.slabs.owners (eqb-true (totals_of m.state.slabs).granted (pages_of m.state.table) pages.1 ∙ sym owners) in (
+        swept dead.1,
+        record {
+          none_free = nothing_free (class_at m.state.slabs class).free dead.0;
+          none_pooled = nil_from_length m.state.slabs.pool (eqb-true (length m.state.slabs.pool) 0 pages.0);
+          none_untouched = λ page within untouched. let granted : is_untouched (owner_at m.state.slabs.owners page) ≡ false = all page Untouched (omega arith) in
+              both_ways (is_untouched (owner_at m.state.slabs.owners page)) granted (ap is_untouched untouched);
+          none_half_cut = none_is m.state.slabs.uncut whole.1;
+        },
+      )
+    where
+      nothing_free : (free : List ChunkId) → is_none (slice_get free 0) ≡ true → free ≡ []
+      nothing_free [] is = refl
+      nothing_free (c ∷ free) is = absurd (cc)
+
+  -- what is said of the hand's holdings
+  abbrev rescued : Holding → Type 0
+  rescued holding = IsRescue m.past.said holding.chunk holding.kind
+
+  own_rescued : All rescued (holdings_at m.state hand)
+  own_rescued = each_row rescued m.state.holdings hand l.rescued
+
+  copied : has_copy m.state hand chunk ≡ true → HasCopyOff m.state hand chunk
+  copied is =
+      let (copy, among, passes) = some_passes (is_copy_of chunk) (holdings_at m.state hand) is in
+      let both = copy_is m.past.said copy.chunk chunk copy.kind passes (All-contains rescued (holdings_at m.state hand) copy own_rescued among) in
+      record { copy = copy; among = among; meant = both.0; off = both.1 }
+
+  all_off : All (λ (copy : Holding). copy.kind ≡ Fresh (Copy chunk) → copy.chunk.page ≢ chunk.page) (holdings_at m.state hand)
+  all_off = All-weaker rescued (λ (copy : Holding). copy.kind ≡ Fresh (Copy chunk) → copy.chunk.page ≢ chunk.page) off (holdings_at m.state hand) own_rescued
+    where
+      off : (copy : Holding) → rescued copy → copy.kind ≡ Fresh (Copy chunk) → copy.chunk.page ≢ chunk.page
+      off copy is meant = subst (IsRescue m.past.said copy.chunk) meant is
+
+  reason : has_reason m.state hand chunk ≡ true → (Moves m.state.slabs chunk.page × HasCopyOff m.state hand chunk) ⊎ (IsSwept m.state hand class × MustGo m.state chunk.page)
+  reason is =
+      elim (or_cases _ (lacks_room m.state hand chunk) is) [
+        | inl leaves ↦
+            elim (or_cases (is_moving_page m.state.slabs chunk.page && has_copy m.state hand chunk) (must_leave m.state hand chunk) leaves) [
+              | inl copies ↦ let both = and_parts (is_moving_page m.state.slabs chunk.page) (has_copy m.state hand chunk) copies in inl (moving both.0, copied both.1)
+              | inr must ↦
+                  let target = and_parts _ (is_none (target_of m.state chunk.page)) must in
+                  let both = and_parts (is_moving_page m.state.slabs chunk.page) (none_dead m.state hand chunk) target.0 in
+                  inr (swept both.1, inl (moving both.0, none_off target.1))
+            ]
+        | inr lacks ↦ let both = out_of_room lacks in inr (both.0, inr both.1)
+      ]
+
+pub condemns_are_reasoned : CondemnsAreReasoned
+condemns_are_reasoned m hand chunk may =
+    let has = (condemnable m hand chunk may).slabs in
+    let why = (and_parts _ (has_reason m.state hand chunk) may.allowed).1 in
+    record { reason = reason m may.lawful hand chunk has why; copies = all_off m may.lawful hand chunk has }

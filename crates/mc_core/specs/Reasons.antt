@@ -1,0 +1,81 @@
+-- Why an item may be taken away, in words of their own.
+use Rattle.std.specs.Prelude.{◌≡◌, ◌≢◌, ◌⊎◌, ℕ, ◌-◌, ◌^◌, ◌<◌, ◌≤◌, Bool, true, false, List, [], ◌∷◌, ◌++◌, Some, None, All, Contains}
+use Rattle.mc_classes.specs.Classes.{pages_of}
+use Rattle.mc_pages.specs.declared.ids.ChunkId.{ChunkId}
+use Rattle.mc_pages.specs.declared.ids.Moving.{Moving}
+use Rattle.mc_pages.specs.declared.ledger.Owner.TheVariants.{Untouched}
+use Rattle.mc_pages.specs.ClassState.{is_chunk}
+use Rattle.mc_pages.specs.Ledger.{owner_at}
+use Rattle.mc_pages.specs.SlabState.{SlabState, class_at, class_of_page}
+use Rattle.mc_core.specs.declared.event.Step.TheVariants.{Condemn}
+use Rattle.mc_core.specs.declared.head.Head.{Head}
+use Rattle.mc_core.specs.declared.head.Tag.TheVariants.{Unlinked}
+use Rattle.mc_core.specs.declared.holding.Holding.{Holding}
+use Rattle.mc_core.specs.declared.holding.Kind.TheVariants.{Fresh}
+use Rattle.mc_core.specs.declared.holding.Purpose.TheVariants.{Copy}
+use Rattle.mc_core.specs.declared.look.Look.{Look}
+use Rattle.mc_core.specs.declared.look.Look.TheVariants.{Saw, Popped, PoppedOff, Condemned, Cleared}
+use Rattle.mc_core.specs.State.{State, has_slabs, head_at, holdings_at, looks_at}
+use Rattle.mc_core.specs.Past.{Moment}
+use Rattle.mc_core.specs.Laws.{MayStep}
+
+-- a chunk was handed out, condemned or cleared
+abbrev pub takes : Look → Bool
+takes (Popped chunk head) = true
+takes (PoppedOff chunk old head) = true
+takes (Condemned chunk head) = true
+takes (Cleared chunk head) = true
+takes look = false
+
+-- the chunk's header was seen
+abbrev pub sees : ChunkId → Look → Bool
+sees chunk (Saw seen head) = is_chunk seen chunk
+sees chunk look = false
+
+-- the chunk was found not dead by the last look at it, and since then the hand handed out, condemned and cleared nothing
+pub record WasFoundAlive (looks : List Look) (chunk : ChunkId) : Type 0 where
+  pub before : List Look
+  pub head : Head
+  pub since : List Look
+  pub split : looks ≡ before ++ Saw chunk head ∷ since
+  pub alive : head.tag ≡ Unlinked → head.count ≡ 0 → ⊥
+  pub quiet : All (λ look. (takes look ≡ false) × (sees chunk look ≡ false)) since
+
+-- so it is, under this hold of the slabs lock, of each chunk that the class handed out
+abbrev pub IsSwept : State → ℕ → ℕ → Type 0
+IsSwept state hand class = (has_slabs state hand ≡ true) × All (WasFoundAlive (looks_at state hand)) (class_at state.slabs class).order
+
+-- the page is on the move
+abbrev pub Moves : SlabState → ℕ → Type 0
+Moves slabs page = (move : Moving) × (slabs.moving ≡ Some move) × (move.page ≡ page)
+
+-- each free chunk of the class is on this page, or its issue numbers are used up
+abbrev pub HasNoneOff : State → ℕ → ℕ → Type 0
+HasNoneOff state class page = All (λ (chunk : ChunkId). chunk.page ≢ page → 2 ^ 46 - 1 ≤ (head_at state chunk).issue) (class_at state.slabs class).free
+
+-- the class has no free chunk, and no page is pooled, untouched or half cut
+pub record IsOutOfRoom (state : State) (class : ℕ) : Type 0 where
+  pub none_free : (class_at state.slabs class).free ≡ []
+  pub none_pooled : state.slabs.pool ≡ []
+  pub none_untouched : (page : ℕ) → page < pages_of state.table → owner_at state.slabs.owners page ≢ Untouched
+  pub none_half_cut : state.slabs.uncut ≡ None
+
+-- the hand has a fresh chunk that was handed out to it for a copy of this one, and is on another page
+pub record HasCopyOff (state : State) (hand : ℕ) (chunk : ChunkId) : Type 0 where
+  pub copy : Holding
+  pub among : Contains (holdings_at state hand) copy
+  pub meant : copy.kind ≡ Fresh (Copy chunk)
+  pub off : copy.chunk.page ≢ chunk.page
+
+-- the item must leave its moving page, or makes room
+abbrev pub MustGo : State → ℕ → Type 0
+MustGo state page = (Moves state.slabs page × HasNoneOff state (class_of_page state.slabs page) page) ⊎ IsOutOfRoom state (class_of_page state.slabs page)
+
+-- the item goes to a copy, off its moving page; or, after a sweep of its class, it must go. And whatever is to be a copy of it is off its page
+pub record IsReasoned (state : State) (hand : ℕ) (chunk : ChunkId) : Type 0 where
+  pub reason : (Moves state.slabs chunk.page × HasCopyOff state hand chunk) ⊎ (IsSwept state hand (class_of_page state.slabs chunk.page) × MustGo state chunk.page)
+  pub copies : All (λ copy. copy.kind ≡ Fresh (Copy chunk) → copy.chunk.page ≢ chunk.page) (holdings_at state hand)
+
+-- no item is taken away without such a reason
+abbrev pub CondemnsAreReasoned : Type 0
+CondemnsAreReasoned = (moment : Moment) (hand : ℕ) (chunk : ChunkId) → MayStep moment hand (Condemn chunk) → IsReasoned moment.state hand chunk
