@@ -22,9 +22,8 @@ use Rattle.mc_core.specs.Chunks.{next_free, is_moving_page, is_target, target_of
 use Rattle.mc_core.specs.Items.{with_got, chunk_of}
 use Rattle.mc_core.specs.Run.{after_step}
 use Rattle.mc_core.specs.Places.{ArePaged}
-use Rattle.mc_core.specs.Past.{first_moment}
 use Rattle.mc_core.specs.Lawful.{PagedIn}
-use Rattle.mc_core.specs.Laws.{StepsKeep}
+use Rattle.mc_core.specs.Laws.{StepsKeep, HoldsAtFirst}
 use Rattle.mc_core.proofs.OfTable.{pop_shape, back_shape, replace_shape, clear_shape, cut_shape}
 use Rattle.mc_core.proofs.Listed.{Contains_from_among, IsClass_from, found_among, page_of_move, next_uncut_is, places_from_listed}
 use Rattle.mc_core.proofs.SameSlabs.{looked_keeps, popped_keeps, told_link_keeps, linked_keeps, referred_keeps, unlinked_keeps}
@@ -182,8 +181,8 @@ per_pages page (size ∷ sizes) = ap (λ ns. page / size ∷ ns) (per_pages page
 no_move : (move : Moving) → None ≡ Some move → ⊥
 no_move move h = cc
 
-pub paged_first : (table : Classes) (stripes hands : ℕ) → IsSound table → 1 ≤ stripes → 1 ≤ hands → hands ≤ 64 → PagedIn (first_moment table stripes hands)
-paged_first table stripes hands sound some someone few =
+pub paged_first : HoldsAtFirst PagedIn
+paged_first table stripes hands start sound some someone few _ =
     let kept = IsInOrder-fresh table sound in
     record {
       of_table = record { per_page = per_pages table.page table.sizes; owners = length-replicate {A = Owner} (pages_of table) Untouched; accounted = kept.accounted };

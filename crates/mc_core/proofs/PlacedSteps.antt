@@ -29,9 +29,9 @@ use Rattle.mc_core.specs.Evictions.{is_idle, condemned, with_told, with_bound, k
 use Rattle.mc_core.specs.Run.{after_step}
 use Rattle.mc_core.specs.Columns.{head_in}
 use Rattle.mc_core.specs.Places.{ArePlaced}
-use Rattle.mc_core.specs.Past.{Moment, first_moment}
+use Rattle.mc_core.specs.Past.{Moment}
 use Rattle.mc_core.specs.Lawful.{IsLawful, PlacedIn}
-use Rattle.mc_core.specs.Laws.{StepsKeep}
+use Rattle.mc_core.specs.Laws.{StepsKeep, HoldsAtFirst}
 use Rattle.mc_core.proofs.Listed.{Contains_from_among, IsClass_from, times_from_among, next_uncut_is, places_from_listed}
 use Rattle.mc_core.proofs.FreeChunks.{near_placed, placed_in, first_placed, found_placed}
 use Rattle.mc_core.proofs.SamePages.{is_in_hand}
@@ -40,6 +40,7 @@ use Rattle.mc_core.proofs.SameSlabs.{looked_keeps, told_link_keeps, linked_keeps
 use Rattle.mc_core.proofs.PlacedAlike.{AreAlike, kind_of, same_at, placed_alike}
 use Rattle.mc_core.proofs.PlacedWritten.{Changes, placed_written}
 use Rattle.mc_core.proofs.PlacedLists.{first_is, pop_lists, replace_lists, back_lists, clear_lists, cut_lists}
+use Rattle.mc_core.proofs.Made.{first_heads}
 
 -- what is dead is handed out
 dead_in_hand : (head : Head) → is_dead head ≡ true → is_in_hand head.tag ≡ true
@@ -285,14 +286,13 @@ no_chunks page [] i chunk = (refl, refl)
 no_chunks page (size ∷ sizes) zero chunk = (refl, refl)
 no_chunks page (size ∷ sizes) (suc i) chunk = no_chunks page sizes i chunk
 
-pub placed_first : (table : Classes) (stripes hands : ℕ) → IsSound table → 1 ≤ stripes → 1 ≤ hands → hands ≤ 64 → PlacedIn (first_moment table stripes hands)
-placed_first table stripes hands sound some someone few =
+pub placed_first : HoldsAtFirst PlacedIn
+placed_first table stripes hands start sound some someone few small =
     let fresh : SlabState = fresh_slabs table in
     let uncut : (class : ℕ) (chunk : ChunkId) → is_cut fresh class chunk ≡ false = λ class chunk. and_left _ _ (ap (is_of_class class) (read_replicate (pages_of table) chunk.page Untouched)) in
-    let out : (chunk : ChunkId) → head_in table (replicate (pages_of table * most_of table) never_cut) chunk ≡ never_cut = λ chunk. read_replicate (pages_of table * most_of table) (head_place table chunk) never_cut in
     record {
       free = λ class chunk is. (no_chunks table.page table.sizes (class - 1) chunk).0 ∙ sym (ap truth (and_left _ _ (uncut class chunk)));
       order = λ class chunk is. (no_chunks table.page table.sizes (class - 1) chunk).1 ∙ sym (ap truth (and_left _ _ (uncut class chunk)));
       cleared = λ class chunk is cut tag. absurd (both_ways _ (uncut class chunk) cut);
-      elsewhere = λ chunk here none. ap (λ (h : Head). h.tag) (out chunk);
+      elsewhere = λ chunk here none. (first_heads (pages_of table * most_of table) (head_place table chunk) start small).out;
     }

@@ -22,7 +22,7 @@ use Rattle.mc_core.specs.Run.{after_step}
 use Rattle.mc_core.specs.Past.{Moment, Saying, with_more, said_by, first_moment}
 use Rattle.mc_core.specs.Columns.{Each}
 use Rattle.mc_core.specs.Knowing.{IsSaid, IsRescue}
-use Rattle.mc_core.specs.Laws.{MayStep, ChangesKeep, StepsKeep}
+use Rattle.mc_core.specs.Laws.{MayStep, ChangesKeep, StepsKeep, HoldsAtFirst}
 use Rattle.mc_core.specs.Lawful.{RescuedIn}
 use Rattle.mc_core.proofs.Base.{each_map}
 use Rattle.mc_core.proofs.Rows.{rows_less, rows_more, each_less, each_more}
@@ -161,5 +161,5 @@ rescued_steps m hand (Cut page index) may = ends m hand m.state [] may.lawful.re
 rescued_steps m hand (Again chunk issue) may = ends m hand (after_step m.state hand (Again chunk issue)) [] (one_more m hand may.lawful.rescued _ tt)
 rescued_steps m hand (Join kept spent) may = joined_rescued m hand kept spent may
 
-pub rescued_first : (table : Classes) (stripes hands : ℕ) → IsSound table → 1 ≤ stripes → 1 ≤ hands → hands ≤ 64 → RescuedIn (first_moment table stripes hands)
-rescued_first table stripes hands sound some one most = each_none (IsSaidRescue (first_moment table stripes hands).past.said) hands
+pub rescued_first : HoldsAtFirst RescuedIn
+rescued_first table stripes hands start sound some one most _ = each_none (IsSaidRescue (first_moment table stripes hands start).past.said) hands

@@ -7,10 +7,10 @@ use Rattle.mc_classes.specs.Classes.{Classes, IsSound}
 use Rattle.mc_core.specs.declared.event.Step.{Step}
 use Rattle.mc_core.specs.declared.event.Step.TheVariants as step
 use Rattle.mc_core.specs.State.{State, gone, number_at}
-use Rattle.mc_core.specs.Past.{Moment, learned_alone, joined, moment_stepped, first_moment}
+use Rattle.mc_core.specs.Past.{Moment, learned_alone, joined, moment_stepped}
 use Rattle.mc_core.specs.Identities.{HaveRows}
 use Rattle.mc_core.specs.Lawful.{RowsIn}
-use Rattle.mc_core.specs.Laws.{StepsKeep}
+use Rattle.mc_core.specs.Laws.{StepsKeep, HoldsAtFirst}
 use Rattle.mc_core.specs.Run.{after_step}
 use Rattle.mc_core.proofs.Own.{IsOwn, own_step}
 use Rattle.mc_core.proofs.Learned.{is_join, learned_is}
@@ -82,8 +82,8 @@ rows_steps m hand step may =
       | inr (kept, spent, is) ↦ subst (λ (s : Step). RowsIn (moment_stepped m hand s)) (sym is) (rows_joined m kept spent may.lawful.rows)
     ]
 
-pub rows_first : (table : Classes) (stripes hands : ℕ) → IsSound table → 1 ≤ stripes → 1 ≤ hands → hands ≤ 64 → RowsIn (first_moment table stripes hands)
-rows_first table stripes hands sound _ _ _ =
+pub rows_first : HoldsAtFirst RowsIn
+rows_first table stripes hands start sound _ _ _ _ =
     let named = length-map (range_with_len 0 hands) _ ∙ length-range_with_len 0 hands in
     record {
       saw = length-replicate hands _ ∙ sym named;

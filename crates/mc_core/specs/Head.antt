@@ -46,6 +46,10 @@ is_linked tag = false
 abbrev pub is_dead : Head → Bool
 is_dead head = is_unlinked head.tag && head.count == 0
 
--- the header of a chunk that was never cut
+-- the header of a chunk that was never cut, where issue numbers count on from this one
+abbrev pub uncut_from : ℕ → Head
+uncut_from start = record { issue = start; tag = Out; count = 0 }
+
+-- what is read of a chunk that the arena doesn't have
 abbrev pub never_cut : Head
-never_cut = record { issue = 0; tag = Out; count = 0 }
+never_cut = uncut_from 0

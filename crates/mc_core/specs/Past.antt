@@ -216,5 +216,5 @@ no_past table stripes hands = record {
 }
 
 -- nothing was done yet
-abbrev pub first_moment : Classes → ℕ → ℕ → Moment
-first_moment table stripes hands = record { state = new_state table stripes hands; past = no_past table stripes hands }
+abbrev pub first_moment : Classes → ℕ → ℕ → ℕ → Moment
+first_moment table stripes hands start = record { state = new_state table stripes hands start; past = no_past table stripes hands }

@@ -5,7 +5,7 @@ use Rattle.mc_classes.specs.Classes.{Classes}
 use Rattle.mc_pages.specs.declared.ledger.Entry.{Entry}
 use Rattle.mc_core.specs.declared.event.Event.{Event}
 use Rattle.mc_core.specs.declared.event.Step.{Step}
-use Rattle.mc_core.specs.declared.event.Step.TheVariants.{TakeSlabs, GiveSlabs, Cut}
+use Rattle.mc_core.specs.declared.event.Step.TheVariants.{TakeSlabs, GiveSlabs, Pop, Discard, PutBack, Cut}
 use Rattle.mc_core.specs.declared.event.Change.{Change}
 use Rattle.mc_core.specs.declared.event.Change.TheVariants.{Grow}
 use Rattle.mc_core.specs.State.{State, new_state}
@@ -32,4 +32,9 @@ ledger_of (Ok state) = Ok state.slabs.ledger
 ledger_of (Err place) = Err place
 
 abbrev pub played : List Event → Result (List Entry) ℕ
-played events = ledger_of (play (new_state four_classes 4 1) events)
+played events = ledger_of (play (new_state four_classes 4 1 0) events)
+
+-- the same, where issue numbers count on from this one, and a chunk of class 1 is handed out twice
+abbrev pub pops_from : ℕ → Result (List Entry) ℕ
+pops_from start = ledger_of (play (new_state four_classes 4 1 start) (grows 20 ++ does [] TakeSlabs ∷ does [] (Pop 1) ∷ does [] (Discard (record { page = 0; index = 20 })) ∷
+    does [] (PutBack (record { page = 0; index = 20 })) ∷ does [] (Pop 1) ∷ []))

@@ -2,23 +2,28 @@
 //!
 //! A clause of the law that is *kept* holds before anything was done. Every silent change, every step and every event that
 //! is allowed in a lawful moment leaves it true.
-ghost use Rattle.std.specs.Prelude.{◌≡◌, ℕ, List, [], ◌∷◌, Ok, Err};
+ghost use Rattle.std.specs.Prelude.{◌≡◌, ◌-◌, ℕ, List, [], ◌∷◌, Ok, Err};
 ghost use Rattle.mc_pages.specs.declared.ledger.Entry.TheVariants.{Granted};
 ghost use Rattle.mc_stripe.specs.declared.history.Call.{Call};
 ghost use Rattle.mc_stripe.specs.Sequential.{StampMap, Leads};
 ghost use Rattle.mc_core.specs.declared.event.Event.{Event};
 ghost use Rattle.mc_core.specs.declared.event.Step.TheVariants.{TakeSlabs, Pop};
-ghost use Rattle.mc_core.specs.Rows.{played, grows, does};
+ghost use Rattle.mc_core.specs.Rows.{played, grows, does, pops_from};
+ghost use Rattle.mc_core.specs.Chunks.{most_issue};
 ghost use Rattle.mc_core.specs.Lawful.{IsLawful, SizedIn, PagedIn, PlacedIn, CountedIn, HeldIn, IndexedIn, LegalIn, HandsIn, RowsIn, NumberedIn, SeenIn, KnownIn, RescuedIn, ToldIn};
 ghost use Rattle.mc_core.specs.Laws.{IsKeptByAll, ArePlayed, AreLawful};
 ghost use Rattle.mc_core.specs.Stretch.{StretchesKeep};
 ghost use Rattle.mc_core.specs.Follows.{AreKept, AreSaidItems, SeenGrows};
 
-/// Three runs of one hand: a page that is cut whole, one cut short, and a chunk from a class without a page.
+/// Runs of one hand: a page that is cut whole, one cut short, and a chunk from a class without a page; and where issue
+/// numbers count on from one below the greatest, a chunk is handed out once and not again.
 pub fn worked_runs()
     ensures whole_page { played (grows 20) ≡ Ok (Granted 0 1 ∷ []) }
     ensures cut_short { played (grows 19) ≡ Err 21 }
     ensures no_page { played (does [] TakeSlabs ∷ does [] (Pop 1) ∷ []) ≡ Err 1 }
+    ensures twice { pops_from (most_issue - 2) ≡ Ok (Granted 0 1 ∷ []) }
+    ensures once { pops_from (most_issue - 1) ≡ Err 27 }
+    ensures worn { pops_from most_issue ≡ Err 24 }
 {}
 
 /// There is a header for each chunk, and all data words.
