@@ -12,11 +12,11 @@ use Rattle.mc_core.specs.declared.holding.Kind.{Kind}
 use Rattle.mc_core.specs.declared.holding.Kind.TheVariants.{Reference, Fresh}
 use Rattle.mc_core.specs.Head.{is_linked}
 use Rattle.mc_core.specs.Holdings.{Words, stamp_in, is_fresh_kind, is_copy_of, is_copy_kind}
-use Rattle.mc_core.specs.State.{State, is_hand, has_chunk, head_at, item_at, has_slabs, has_stripe, stripe_of, stripe_at, with_head}
+use Rattle.mc_core.specs.State.{State, is_hand, has_chunk, head_at, item_at, has_slabs, has_stripe, stripe_of, stripe_at, with_head, holdings_at, looks_at}
 use Rattle.mc_core.specs.Evictions.{is_idle, condemned, key_at, has_copy, has_reason, can_take_away, with_told, with_bound, as_rescue}
 use Rattle.mc_core.specs.Hands as hands
-use Rattle.mc_core.specs.Past.{Moment, Known, Saying, with_more, known_by, moment_stepped}
-use Rattle.mc_core.specs.Columns.{head_in, Each, IsKnownToSome}
+use Rattle.mc_core.specs.Past.{Moment, Known, Saying, with_more, known_by, moment_stepped, IsKnownToSome}
+use Rattle.mc_core.specs.Columns.{head_in, Each}
 use Rattle.mc_core.specs.Knowing.{IsSaid}
 use Rattle.mc_core.specs.Laws.{MayStep}
 use Rattle.mc_core.specs.Lawful.{IsLawful, KnownIn}
@@ -45,8 +45,8 @@ pub record IsCondemnable (s : State) (hand : ℕ) (chunk : ChunkId) : Type 0 whe
 
 pub condemnable : (m : Moment) (hand : ℕ) (chunk : ChunkId) → MayStep m hand (Condemn chunk) → IsCondemnable m.state hand chunk
 condemnable m hand chunk may =
-    let reason = and_parts _ (has_reason m.state hand chunk) may.allowed in
-    let take = and_parts _ (can_take_away (stripe_at m.state (stripe_of m.state (key_at m.state chunk))) (key_at m.state chunk) (has_copy m.state hand chunk)) reason.0 in
+    let reason = and_parts _ (has_reason m.state.table m.state.heads m.state.slabs (looks_at m.state hand) (holdings_at m.state hand) chunk) may.allowed in
+    let take = and_parts _ (can_take_away (stripe_at m.state (stripe_of m.state (key_at m.state chunk))) (key_at m.state chunk) (has_copy (holdings_at m.state hand) chunk)) reason.0 in
     let stripe = and_parts _ (has_stripe m.state hand (stripe_of m.state (key_at m.state chunk))) take.0 in
     let idle = and_parts _ (is_idle (head_at m.state chunk)) stripe.0 in
     let both = and_parts (has_slabs m.state hand) (has_chunk m.state.table chunk) idle.0 in

@@ -8,12 +8,12 @@ use Rattle.mc_core.specs.declared.head.Head.{Head}
 use Rattle.mc_core.specs.declared.head.Tag.TheVariants.{Unlinked, Linked}
 use Rattle.mc_core.specs.declared.holding.Holding.{Holding}
 use Rattle.mc_core.specs.Holdings.{Words, stamp_in, is_fresh, change_each, lose}
-use Rattle.mc_core.specs.Past.{Moment, Known, Saying, known_by, with_more}
+use Rattle.mc_core.specs.Past.{Moment, Known, Saying, known_by, with_more, IsKnownToSome}
 use Rattle.mc_core.specs.State.{has_chunk, head_place}
 use Rattle.mc_core.specs.Chunks.{handed_out, let_go, with_tag_free, with_tag_out}
 use Rattle.mc_core.specs.Items.{linked, unlinked, referred}
 use Rattle.mc_core.specs.Evictions.{condemned}
-use Rattle.mc_core.specs.Columns.{head_in, Each, IsHandedOut, IsKnownToSome}
+use Rattle.mc_core.specs.Columns.{head_in, Each, IsHandedOut}
 use Rattle.mc_core.specs.Identities.{said_count}
 use Rattle.mc_core.specs.Knowing.{IsSaid, IsTrueStill, AreKnown}
 use Rattle.mc_core.specs.Lawful.{IsLawful}

@@ -11,9 +11,9 @@ use Rattle.mc_core.specs.declared.head.Tag.{Tag}
 use Rattle.mc_core.specs.declared.head.Tag.TheVariants.{Out, Free, Unlinked, Linked}
 use Rattle.mc_core.specs.declared.holding.Holding.{Holding}
 use Rattle.mc_core.specs.Holdings.{is_fresh}
-use Rattle.mc_core.specs.Past.{Known}
+use Rattle.mc_core.specs.Past.{Known, IsKnownToSome}
 use Rattle.mc_core.specs.State.{room_in, has_chunk, head_place, most_of}
-use Rattle.mc_core.specs.Columns.{head_in, Shows, Each, IsHandedOut, IsKnownToSome}
+use Rattle.mc_core.specs.Columns.{head_in, Shows, Each, IsHandedOut}
 use Rattle.mc_core.specs.Knowing.{IsTrueStill}
 use Rattle.mc_core.proofs.Base.{head_written, head_other}
 use Rattle.mc_core.proofs.ShownItems.{shows_class}

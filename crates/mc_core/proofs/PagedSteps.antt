@@ -91,12 +91,12 @@ paged_with state hand slabs now was held stay same =
     same_paged (with_slabs state slabs) now same (paged_from state.table state.slabs slabs state.slabs_lock was stay (lock_not_free state.slabs_lock (number_at state hand) held))
 
 -- a target is a free chunk of its class
-pub target_free : (state : State) (page : ℕ) (chunk : ChunkId) → target_of state page ≡ Some chunk → Contains (class_at state.slabs (class_of_page state.slabs page)).free chunk
+pub target_free : (state : State) (page : ℕ) (chunk : ChunkId) → target_of state.table state.heads state.slabs page ≡ Some chunk → Contains (class_at state.slabs (class_of_page state.slabs page)).free chunk
 target_free state page chunk is =
     let free = (class_at state.slabs (class_of_page state.slabs page)).free in
-    Contains_from_among free chunk (found_among (is_target state page) free chunk is)
+    Contains_from_among free chunk (found_among (is_target state.table state.heads page) free chunk is)
 
-popped_off_paged : (state : State) (hand : ℕ) (old : ChunkId) (next : Option ChunkId) → target_of state old.page ≡ next → Paged (pages_part state) → has_slabs state hand ≡ true → is_handed_out state.slabs old ≡ true →
+popped_off_paged : (state : State) (hand : ℕ) (old : ChunkId) (next : Option ChunkId) → target_of state.table state.heads state.slabs old.page ≡ next → Paged (pages_part state) → has_slabs state hand ≡ true → is_handed_out state.slabs old ≡ true →
     Paged (pages_part (popped_off state hand old next))
 popped_off_paged state hand old None is was held out = was
 popped_off_paged state hand old (Some chunk) is was held out =
@@ -112,7 +112,7 @@ module _ (state : State) (hand : ℕ) (was : Paged (pages_part state)) where
       (popped_keeps pages_part (with_slabs state slabs) hand (next_free state class) (λ chunk. refl))
 
   pop_off_paged : (old : ChunkId) → can_pop_off state hand old ≡ true → Paged (pages_part (after_pop_off state hand old))
-  pop_off_paged old can = let tests = pop_off_tests state hand old (target_of state old.page) can in popped_off_paged state hand old (target_of state old.page) refl was tests.0 tests.2
+  pop_off_paged old can = let tests = pop_off_tests state hand old (target_of state.table state.heads state.slabs old.page) can in popped_off_paged state hand old (target_of state.table state.heads state.slabs old.page) refl was tests.0 tests.2
 
   put_back_paged : (chunk : ChunkId) → can_put_back state hand chunk ≡ true → Paged (pages_part (after_put_back state hand chunk))
   put_back_paged chunk can =

@@ -90,13 +90,13 @@ module _ (m : Moment) (l : IsLawful m) where
       subst (λ s. ArePlaced table (slabs_changes.with_class slabs class s) (slice_set heads (head_place table chunk) head)) (sym (popped_as (class_at slabs class) chunk split.0 split.1))
       (written class state slabs.uncut chunk head (subst (λ t. Changes table slabs class state slabs.uncut chunk t) (sym tag) lists))
 
-  replaced_placed : (old chunk : ChunkId) (head : Head) → head.tag ≡ Unlinked → is_handed_out slabs old ≡ true → target_of m.state old.page ≡ Some chunk →
+  replaced_placed : (old chunk : ChunkId) (head : Head) → head.tag ≡ Unlinked → is_handed_out slabs old ≡ true → target_of m.state.table m.state.heads m.state.slabs old.page ≡ Some chunk →
       ArePlaced table (slabs_changes.after_replace slabs chunk old) (slice_set heads (head_place table chunk) head)
   replaced_placed old chunk head tag out found =
       let class = class_of_page slabs old.page in
       let state = class_at slabs class in
       let is = IsClass-handed_out slabs old l.paged.order.1.accounted (Contains_from_among state.order old out) in
-      let at = found_placed m l class chunk (is_target m.state old.page) is found in
+      let at = found_placed m l class chunk (is_target m.state.table m.state.heads old.page) is found in
       let cut : is_cut slabs class chunk ≡ true = subst (λ n. is_cut slabs n chunk ≡ true) at.0 at.1.cut in
       let lists = replace_lists table slabs heads l.placed class chunk is (near class chunk is cut) cut old (times_from_among state.order old out) at.2 in
       written class (replaced state chunk old) slabs.uncut chunk head (subst (λ t. Changes table slabs class (replaced state chunk old) slabs.uncut chunk t) (sym tag) lists)
@@ -212,7 +212,7 @@ module _ (m : Moment) (l : IsLawful m) (hand : ℕ) where
   pop_placed class (Some chunk) is can =
       popped_placed m l class chunk (handed_out (head_at state chunk)) refl (IsClass_from state.table state.slabs class l.paged.of_table (pop_tests state hand class (Some chunk) can).1) is
 
-  pop_off_placed : (old : ChunkId) (next : Option ChunkId) → target_of state old.page ≡ next →
+  pop_off_placed : (old : ChunkId) (next : Option ChunkId) → target_of state.table state.heads state.slabs old.page ≡ next →
       (has_slabs state hand && is_moving_page state.slabs old.page && is_handed_out state.slabs old && has_place state hand && can_hand_out state next) ≡ true → Placed (frame (popped_off state hand old next)) (popped_off state hand old next).heads
   pop_off_placed old None is can = l.placed
   pop_off_placed old (Some chunk) is can = replaced_placed m l old chunk (handed_out (head_at state chunk)) refl (pop_off_tests state hand old (Some chunk) can).2 is
@@ -242,7 +242,7 @@ placed_steps moment hand (step.Head chunk) may =
     let state = moment.state in
     passes state hand (step.Head chunk) may.lawful.placed (looked_keeps frame state hand _ refl) (same_alike state.heads _ (looked_keeps (λ s. s.heads) state hand _ refl))
 placed_steps moment hand (Pop class) may = pop_placed moment may.lawful hand class (next_free moment.state class) refl may.allowed
-placed_steps moment hand (PopOff old) may = pop_off_placed moment may.lawful hand old (target_of moment.state old.page) refl may.allowed
+placed_steps moment hand (PopOff old) may = pop_off_placed moment may.lawful hand old (target_of moment.state.table moment.state.heads moment.state.slabs old.page) refl may.allowed
 placed_steps moment hand (Fill chunk place word) may =
     let state = moment.state in
     let same = fill_frame moment may.lawful hand chunk place word in

@@ -143,7 +143,7 @@ rescued_steps m hand GiveSlabs may = ends m hand m.state [] may.lawful.rescued
 rescued_steps m hand (GiveStripe stripe) may = ends m hand m.state [] may.lawful.rescued
 rescued_steps m hand (step.Head chunk) may = ends m hand (after_step m.state hand (step.Head chunk)) [] (looked_rescued m hand (Saw chunk (head_at m.state chunk)) may.lawful.rescued)
 rescued_steps m hand (Pop class) may = ends m hand (after_step m.state hand (Pop class)) [] (popped_rescued m hand may.lawful.rescued class (next_free m.state class))
-rescued_steps m hand (PopOff old) may = ends m hand (after_step m.state hand (PopOff old)) [] (popped_off_rescued m hand may.lawful.rescued old (target_of m.state old.page))
+rescued_steps m hand (PopOff old) may = ends m hand (after_step m.state hand (PopOff old)) [] (popped_off_rescued m hand may.lawful.rescued old (target_of m.state.table m.state.heads m.state.slabs old.page))
 rescued_steps m hand (Fill chunk place word) may =
     ends m hand (after_step m.state hand (Fill chunk place word)) [] (filled_rescued m hand may.lawful.rescued chunk place word)
 rescued_steps m hand (Word chunk place) may = ends m hand m.state [] may.lawful.rescued

@@ -4,7 +4,7 @@ use Rattle.std.proofs.lemmas.Bool.{and_parts}
 use Rattle.mc_pages.specs.declared.ids.ChunkId.{ChunkId}
 use Rattle.mc_pages.specs.SlabState.{class_of_page}
 use Rattle.mc_core.specs.Head.{is_free, is_out, is_dead}
-use Rattle.mc_core.specs.State.{State, is_class, has_chunk, head_at, has_slabs, has_stripe, stripe_of, stripe_at}
+use Rattle.mc_core.specs.State.{State, is_class, has_chunk, head_at, has_slabs, has_stripe, stripe_of, stripe_at, holdings_at, looks_at}
 use Rattle.mc_core.specs.Silent.{is_handed_out, is_listed}
 use Rattle.mc_core.specs.Chunks.{has_place, can_hand_out, is_moving_page, is_next_uncut, can_put_back, can_clear, can_cut}
 use Rattle.mc_core.specs.Evictions.{is_idle, key_at, can_take_away, has_copy, has_reason, can_condemn}
@@ -62,9 +62,9 @@ module _ (state : State) (hand : ℕ) where
   condemn_tests chunk can =
       let key = key_at state chunk in
       let stripe = stripe_of state key in
-      let takes = can_take_away (stripe_at state stripe) key (has_copy state hand chunk) in
+      let takes = can_take_away (stripe_at state stripe) key (has_copy (holdings_at state hand) chunk) in
       let idle = is_idle (head_at state chunk) in
-      let first = and_parts (has_slabs state hand && has_chunk state.table chunk && idle && has_stripe state hand stripe && takes) (has_reason state hand chunk) can in
+      let first = and_parts (has_slabs state hand && has_chunk state.table chunk && idle && has_stripe state hand stripe && takes) (has_reason state.table state.heads state.slabs (looks_at state hand) (holdings_at state hand) chunk) can in
       let second = and_parts (has_slabs state hand && has_chunk state.table chunk && idle && has_stripe state hand stripe) takes first.0 in
       let third = and_parts (has_slabs state hand && has_chunk state.table chunk && idle) (has_stripe state hand stripe) second.0 in
       let fourth = and_parts (has_slabs state hand && has_chunk state.table chunk) idle third.0 in

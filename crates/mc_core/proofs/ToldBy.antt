@@ -18,7 +18,7 @@ use Rattle.mc_core.specs.declared.ids.Ids.{Ids}
 use Rattle.mc_core.specs.declared.look.Look.{Look}
 use Rattle.mc_core.specs.Head.{is_unlinked}
 use Rattle.mc_core.specs.Holdings.{key_in, stamp_in, item_in, is_complete, is_of, has_fresh, holding_of}
-use Rattle.mc_core.specs.State.{State, has_chunk, head_at, ids_at, has_slabs, has_stripe, stripe_of, stripe_at, with_stripe, without_holding, holdings_at, with_look}
+use Rattle.mc_core.specs.State.{State, has_chunk, head_at, ids_at, has_slabs, has_stripe, stripe_of, stripe_at, with_stripe, without_holding, holdings_at, with_look, looks_at}
 use Rattle.mc_core.specs.Silent.{is_aside, can_tell_none, writer_of, allows_change, after_change}
 use Rattle.mc_core.specs.Locks.{looked}
 use Rattle.mc_core.specs.Chunks.{popped, popped_off, target_of, next_free, has_place}
@@ -137,9 +137,9 @@ module _ (state : State) (hand : ℕ) (l : AreLegal state.stripes state.stripe_l
       let key = key_at state chunk in
       let at = stripe_of state key in
       let stripe = stripe_at state at in
-      let rescues = has_copy state hand chunk in
+      let rescues = has_copy (holdings_at state hand) chunk in
       let free = has_slabs state hand && has_chunk state.table chunk && is_idle (head_at state chunk) in
-      let parts = and_parts (free && has_stripe state hand at && can_take_away stripe key rescues) (has_reason state hand chunk) h in
+      let parts = and_parts (free && has_stripe state hand at && can_take_away stripe key rescues) (has_reason state.table state.heads state.slabs (looks_at state hand) (holdings_at state hand) chunk) h in
       let taken = and_parts (free && has_stripe state hand at) (can_take_away stripe key rescues) parts.0 in
       let has = (and_parts free (has_stripe state hand at) taken.0).1 in
       let away = and_parts (stripe.ready && is_some (place_of stripe.state key)) (not rescues || is_none stripe.state.aside) taken.1 in
@@ -203,7 +203,7 @@ module _ (state : State) (hand : ℕ) (l : AreLegal state.stripes state.stripe_l
   told_by_step (GiveStripe stripe) h = inl (refl, refl)
   told_by_step (step.Head chunk) h = inl (looked_stripes state _, refl)
   told_by_step (Pop class) h = inl (popped_stripes _ (next_free state class), refl)
-  told_by_step (PopOff old) h = inl (popped_off_stripes state old (target_of state old.page), refl)
+  told_by_step (PopOff old) h = inl (popped_off_stripes state old (target_of state.table state.heads state.slabs old.page), refl)
   told_by_step (Fill chunk place word) h = inl (refl, refl)
   told_by_step (Word chunk place) h = inl (refl, refl)
   told_by_step (WordHeld chunk place) h = inl (refl, refl)

@@ -10,10 +10,10 @@ use Rattle.mc_core.specs.declared.holding.Kind.{Kind}
 use Rattle.mc_core.specs.declared.holding.Kind.TheVariants.{Fresh}
 use Rattle.mc_core.specs.declared.holding.Purpose.TheVariants.{Rescue}
 use Rattle.mc_core.specs.Holdings.{Words, stamp_in, item_length, is_complete, is_fresh}
-use Rattle.mc_core.specs.Past.{Known, Saying, known_by}
+use Rattle.mc_core.specs.Past.{Known, Saying, known_by, IsKnownToSome}
 use Rattle.mc_core.specs.Identities.{said_count}
 use Rattle.mc_core.specs.State.{room_in, has_chunk}
-use Rattle.mc_core.specs.Columns.{head_in, Shows, Each, IsHandedOut, IsKnownToSome}
+use Rattle.mc_core.specs.Columns.{head_in, Shows, Each, IsHandedOut}
 
 -- somebody said this
 abbrev pub IsSaid : List (List Saying) → ℕ → Words → Type 0

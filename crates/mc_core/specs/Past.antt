@@ -1,5 +1,5 @@
 -- What hands saw and know, which decides nothing.
-use Rattle.std.specs.Prelude.{ℕ, ◌+◌, ◌==◌, nat_le, if◌then◌else◌, List, [], ◌∷◌, ◌++◌, length, map, drop, replicate, slice_index, slice_index_or, slice_set, Option, Some, None}
+use Rattle.std.specs.Prelude.{ℕ, ◌+◌, ◌==◌, nat_le, if◌then◌else◌, List, [], ◌∷◌, ◌++◌, length, map, drop, replicate, slice_index, slice_index_or, slice_set, Option, Some, None, Contains}
 use Rattle.std.specs.List.{range_with_len}
 use Rattle.mc_classes.specs.Classes.{Classes}
 use Rattle.mc_pages.specs.declared.ids.ChunkId.{ChunkId}
@@ -38,6 +38,10 @@ pub record Known : Type 0 where
   pub issue : ℕ
   pub room : ℕ
   pub words : Words
+
+-- some hand knows such an item
+abbrev pub IsKnownToSome : List (List Known) → (Known → Type 0) → Type 0
+IsKnownToSome known P = (hand : ℕ) × (k : Known) × Contains (slice_index_or known hand []) k × P k
 
 -- a hold of the slabs lock: pages and lists as it began and as it ended, and how many holds there were
 pub record Hold : Type 0 where

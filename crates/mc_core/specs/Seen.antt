@@ -10,10 +10,10 @@ use Rattle.mc_core.specs.declared.head.Head.{Head}
 use Rattle.mc_core.specs.declared.look.Look.{Look}
 use Rattle.mc_core.specs.declared.look.Look.TheVariants.{Saw, Read, Popped, PoppedOff, Condemned, PutBack, Cleared, Cut, Changed}
 use Rattle.mc_core.specs.Head.{is_free, is_out, is_dead, is_linked}
-use Rattle.mc_core.specs.Past.{Known}
+use Rattle.mc_core.specs.Past.{Known, IsKnownToSome}
 use Rattle.mc_core.specs.State.{room_in, has_chunk}
 use Rattle.mc_core.specs.Silent.{slabs_after}
-use Rattle.mc_core.specs.Columns.{head_in, place_in, IsHandedOut, IsKnownToSome}
+use Rattle.mc_core.specs.Columns.{head_in, place_in, IsHandedOut}
 
 -- the newer of two headers, where the look is at this chunk
 abbrev pub newer : ChunkId → ChunkId → Head → Option Head → Option Head

@@ -1,6 +1,6 @@
 //! Items that are taken away from their chunks, to make room or since their page moves.
 ghost use Rattle.std.specs.Prelude.{◌≡◌, ◌<◌, true, length, IfOk, OnOk};
-ghost use Rattle.mc_core.specs.State.{stripe_of, stripe_at, with_stripe};
+ghost use Rattle.mc_core.specs.State.{stripe_of, stripe_at, with_stripe, holdings_at, looks_at};
 ghost use Rattle.mc_core.specs.Silent.{writer_of};
 ghost use Rattle.mc_core.specs.Evictions.{has_copy, none_dead, has_no_page, must_leave, lacks_room, has_reason, is_idle, can_take_away, can_condemn, condemned, stripe_condemned, with_bound, after_condemn};
 
@@ -35,7 +35,7 @@ impl State {
     /// Whether the hand got a fresh chunk for a copy of this one.
     fn has_copy(&self, hand: u64, chunk: ChunkId) -> bool
         requires { hand < length self.now.ids }
-        ensures { result ≡ has_copy self.now hand chunk }
+        ensures { result ≡ has_copy (holdings_at self.now hand) chunk }
     {
         self.holdings(hand)
             .iter()
@@ -45,7 +45,7 @@ impl State {
     /// Whether no handed-out chunk of the chunk's class is dead, as far as the hand saw.
     fn none_dead(&self, hand: u64, chunk: ChunkId) -> Result<bool, AllocError>
         requires { hand < length self.now.ids }
-        ensures { IfOk result (λ none. none ≡ none_dead self.now hand chunk) }
+        ensures { IfOk result (λ none. none ≡ none_dead self.now.slabs (looks_at self.now hand) chunk) }
     {
         let order = self.order(self.class_of_page(chunk.page))?;
         let looks = self.looks(hand);
@@ -58,7 +58,7 @@ impl State {
 
     /// Whether there is neither a pooled page nor a page left.
     fn has_no_page(&self) -> bool
-        ensures { result ≡ has_no_page self.now }
+        ensures { result ≡ has_no_page self.now.table self.now.slabs }
     {
         let totals = self.slabs.totals();
         totals.pool == 0 && totals.granted == self.table.pages()
@@ -67,7 +67,7 @@ impl State {
     /// Whether the page moves, and there is no other chunk for the item.
     fn must_leave(&self, hand: u64, chunk: ChunkId) -> Result<bool, AllocError>
         requires { hand < length self.now.ids }
-        ensures { IfOk result (λ must. must ≡ must_leave self.now hand chunk) }
+        ensures { IfOk result (λ must. must ≡ must_leave self.now.table self.now.heads self.now.slabs (looks_at self.now hand) chunk) }
     {
         if !self.is_moving_page(chunk.page) || !self.none_dead(hand, chunk)? {
             return Ok(false);
@@ -78,7 +78,7 @@ impl State {
     /// Whether the class has neither a free chunk nor a dead one, and no page is to be had.
     fn lacks_room(&self, hand: u64, chunk: ChunkId) -> Result<bool, AllocError>
         requires { hand < length self.now.ids }
-        ensures { IfOk result (λ lacks. lacks ≡ lacks_room self.now hand chunk) }
+        ensures { IfOk result (λ lacks. lacks ≡ lacks_room self.now.table self.now.slabs (looks_at self.now hand) chunk) }
     {
         let has_free = self.next_free(self.class_of_page(chunk.page)).is_some();
         if has_free || !self.none_dead(hand, chunk)? {
@@ -90,7 +90,7 @@ impl State {
     /// Whether there is a reason to take the item away.
     fn has_reason(&self, hand: u64, chunk: ChunkId) -> Result<bool, AllocError>
         requires { hand < length self.now.ids }
-        ensures { IfOk result (λ has. has ≡ has_reason self.now hand chunk) }
+        ensures { IfOk result (λ has. has ≡ has_reason self.now.table self.now.heads self.now.slabs (looks_at self.now hand) (holdings_at self.now hand) chunk) }
     {
         if self.is_moving_page(chunk.page) && self.has_copy(hand, chunk) {
             return Ok(true);
