@@ -15,7 +15,6 @@ use Rattle.mc_core.proofs.HandsKept.{hands_changes, ids_change}
 use Rattle.mc_core.proofs.HandsSteps.{hands_steps}
 use Rattle.mc_core.proofs.IndexedKept.{indexed_changes, indexed_steps, indexed_first}
 use Rattle.mc_core.proofs.KnownSteps.{known_changes, known_steps, known_first}
-use Rattle.mc_core.proofs.Learned.{rows_changes}
 use Rattle.mc_core.proofs.LegalKept.{legal_changes, legal_steps, legal_first}
 use Rattle.mc_core.proofs.NumberedKept.{numbered_changes}
 use Rattle.mc_core.proofs.NumberedSteps.{numbered_steps}
@@ -24,7 +23,7 @@ use Rattle.mc_core.proofs.PagedSteps.{paged_steps, paged_first}
 use Rattle.mc_core.proofs.PlacedChanges.{placed_changes}
 use Rattle.mc_core.proofs.PlacedSteps.{placed_steps, placed_first}
 use Rattle.mc_core.proofs.RescuedSteps.{rescued_changes, rescued_steps, rescued_first}
-use Rattle.mc_core.proofs.RowsKept.{rows_steps, rows_first}
+use Rattle.mc_core.proofs.RowsKept.{rows_changes, rows_steps, rows_first}
 use Rattle.mc_core.proofs.SeenSteps.{seen_changes, seen_steps, seen_first}
 use Rattle.mc_core.proofs.Sized.{sized_changes, sized_steps, sized_first}
 use Rattle.mc_core.proofs.TalliedKept.{counted_changes, counted_steps, counted_first, held_changes, held_steps, held_first}

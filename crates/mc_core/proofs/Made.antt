@@ -42,7 +42,7 @@ first_heads count place start small =
 pub new_in_order : (table : Classes) (stripes hands start : ℕ) → IsSound table → 1 ≤ stripes → start ≤ most_issue → IsAccounted (fresh_slabs table) → IsInOrder (new_state table stripes hands start)
 new_in_order table stripes hands start sound some small all = record {
   sound = sound;
-  slabs = record { per_page = per_pages table.page table.sizes; owners = length-replicate {A = Owner} (pages_of table) Untouched; accounted = all };
+  slabs = record { page = refl; limit = refl; per_page = per_pages table.page table.sizes; owners = length-replicate {A = Owner} (pages_of table) Untouched; accounted = all };
   issued = λ place. (first_heads (pages_of table * most_of table) place start small).fits;
   stripes = let count = length-replicate {A = ReadyStripe} stripes new_stripe in omega arith;
   locks = length-replicate {A = ℕ} stripes 0 ∙ sym (length-replicate {A = ReadyStripe} stripes new_stripe);

@@ -58,14 +58,14 @@ linked m hand chunk may =
     ]
 
 -- two hands that may be joined are apart, and are there
-pub join_facts : (m : Moment) (hand kept spent : ℕ) → MayStep m hand (step.Join kept spent) → (kept ≢ spent) × (kept < length m.state.ids) × (spent < length m.state.ids) × (is_some (number_in m.state.ids kept) ≡ true)
+pub join_facts : (m : Moment) (hand kept spent : ℕ) → MayStep m hand (step.Join kept spent) → (kept ≢ spent) × (kept < length m.state.ids) × (spent < length m.state.ids) × (is_some (number_in m.state.ids kept) ≡ true) × (is_some (number_in m.state.ids spent) ≡ true)
 join_facts m hand kept spent may =
     let parts = and_parts (hand == kept && not (kept == spent) && is_hand m.state spent && hands.is_idle m.state kept) (hands.is_idle m.state spent) may.allowed in
     let first = and_parts (hand == kept && not (kept == spent) && is_hand m.state spent) (hands.is_idle m.state kept) parts.0 in
     let second = and_parts (hand == kept && not (kept == spent)) (is_hand m.state spent) first.0 in
     let third = and_parts (hand == kept) (not (kept == spent)) second.0 in
     let there : is_some (number_in m.state.ids kept) ≡ true = subst (λ h. is_some (number_in m.state.ids h) ≡ true) (eqb-true hand kept third.0) may.there in
-    ((λ e. false≢true (ap not (sym (eq-eqb kept spent e)) ∙ third.1)), hand_within m.state.ids kept there, hand_within m.state.ids spent second.1, there)
+    ((λ e. false≢true (ap not (sym (eq-eqb kept spent e)) ∙ third.1)), hand_within m.state.ids kept there, hand_within m.state.ids spent second.1, there, second.1)
 
 join : (m : Moment) (hand kept spent : ℕ) → MayStep m hand (step.Join kept spent) → NumberedIn (moment_stepped m hand (step.Join kept spent))
 join m hand kept spent may =

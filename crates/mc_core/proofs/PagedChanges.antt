@@ -49,7 +49,7 @@ paged_from table old new lock was now held = record {
 
 module _ (table : Classes) (slabs : SlabState) (lock : ℕ) (paged : ArePaged table slabs lock) where
   stays : StayPaged slabs slabs
-  stays = record { shape = record { counts = refl; owners = refl }; order = paged.order }
+  stays = record { shape = record { page = refl; limit = refl; counts = refl; owners = refl }; order = paged.order }
 
   grow_order : (class page : ℕ) → IsClass slabs class → slabs.uncut ≡ None → next_page slabs ≡ Some page → (granted : ℕ) × IsInOrder (after_grow slabs class page) granted
   grow_order class page is whole next =
@@ -124,7 +124,7 @@ module _ (table : Classes) (slabs : SlabState) (lock : ℕ) (paged : ArePaged ta
 
   automove_paged : (mode : ℕ) → nat_le mode 2 ≡ true → StayPaged slabs (record slabs { automove = mode })
   automove_paged mode few = record {
-    shape = record { counts = refl; owners = refl };
+    shape = record { page = refl; limit = refl; counts = refl; owners = refl };
     order = (paged.order.0, IsInOrder-automove slabs paged.order.0 mode (leb-true mode 2 few) paged.order.1);
   }
 

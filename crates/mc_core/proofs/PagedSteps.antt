@@ -185,7 +185,7 @@ pub paged_first : HoldsAtFirst PagedIn
 paged_first table stripes hands start sound some someone few _ =
     let kept = IsInOrder-fresh table sound in
     record {
-      of_table = record { per_page = per_pages table.page table.sizes; owners = length-replicate {A = Owner} (pages_of table) Untouched; accounted = kept.accounted };
+      of_table = record { page = refl; limit = refl; per_page = per_pages table.page table.sizes; owners = length-replicate {A = Owner} (pages_of table) Untouched; accounted = kept.accounted };
       order = (0, kept);
       whole = λ free. refl;
     }
