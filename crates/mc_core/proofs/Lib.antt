@@ -41,6 +41,7 @@ pub mod ShownItems
 pub mod KnownStill
 pub mod KnownQuiet
 pub mod Learned
+pub mod SeenRows
 pub mod RowsKept
 pub mod NumberedKept
 pub mod LinkKinds
@@ -83,3 +84,5 @@ pub mod WordsStay
 pub mod Stretches
 pub mod Follows
 pub mod SeenGrows
+pub mod Needless
+pub mod Judged

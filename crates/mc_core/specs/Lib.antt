@@ -25,3 +25,5 @@ pub mod InOrder
 pub mod Laws
 pub mod Stretch
 pub mod Follows
+pub mod Needless
+pub mod Judged

@@ -30,6 +30,10 @@ last_head chunk before (Cleared seen head) = newer chunk seen head before
 last_head chunk before (Cut seen head) = newer chunk seen head before
 last_head chunk before other = before
 
+-- the header of the chunk as the hand last saw it, or wrote it itself
+abbrev pub seen_head : List Look → ChunkId → Option Head
+seen_head looks chunk = fold (last_head chunk) None looks
+
 -- the issue number with which the chunk was found linked, unless it was put back or cleared since
 abbrev pub linked_issue : ChunkId → Option ℕ → Look → Option ℕ
 linked_issue chunk before (Saw seen head) = if is_chunk seen chunk && is_linked head.tag then Some head.issue else before
@@ -69,7 +73,7 @@ pub record IsReadStill (table : Classes) (slabs : SlabState) (words : List ℕ) 
 -- looks: under a hold of the slabs lock, what the hand last saw or wrote of each header holds still, and so do the words that it
 -- read; and what it did to pages and lists since it found them gave those of now
 pub record AreSeen (table : Classes) (slabs : SlabState) (heads : List Head) (words : List ℕ) (known : List (List Known)) (found : SlabState) (looks : List Look) : Type 0 where
-  pub last_heads : (chunk : ChunkId) (seen : Head) → has_chunk table chunk ≡ true → fold (last_head chunk) None looks ≡ Some seen → IsStill (head_in table heads chunk) seen
+  pub last_heads : (chunk : ChunkId) (seen : Head) → has_chunk table chunk ≡ true → seen_head looks chunk ≡ Some seen → IsStill (head_in table heads chunk) seen
   pub linked : (chunk : ChunkId) (issue : ℕ) → has_chunk table chunk ≡ true → fold (linked_issue chunk) None looks ≡ Some issue →
       IsHandedOut (head_in table heads chunk) issue × IsKnownToSome known (λ k. (k.chunk ≡ chunk) × (k.issue ≡ issue))
   pub read_words : (chunk : ChunkId) (place word : ℕ) → has_chunk table chunk ≡ true → fold (last_read chunk place) None looks ≡ Some word →

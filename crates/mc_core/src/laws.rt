@@ -13,6 +13,8 @@ ghost use Rattle.mc_core.specs.Chunks.{most_issue};
 ghost use Rattle.mc_core.specs.Lawful.{IsLawful, SizedIn, PagedIn, PlacedIn, CountedIn, HeldIn, IndexedIn, LegalIn, HandsIn, RowsIn, NumberedIn, SeenIn, KnownIn, RescuedIn, ToldIn};
 ghost use Rattle.mc_core.specs.Laws.{IsKeptByAll, ArePlayed, AreLawful};
 ghost use Rattle.mc_core.specs.Stretch.{StretchesKeep};
+ghost use Rattle.mc_core.specs.Needless.{AllAreNeedless};
+ghost use Rattle.mc_core.specs.Judged.{AllAreJudged};
 ghost use Rattle.mc_core.specs.Follows.{AreKept, AreSaidItems, SeenGrows};
 
 /// Runs of one hand: a page that is cut whole, one cut short, and a chunk from a class without a page; and where issue
@@ -133,6 +135,17 @@ pub fn linked_items_were_said()
 /// took it over.
 pub fn what_is_seen_grows()
     ensures { SeenGrows }
+{}
+
+/// What events would test of counts and tags follows from the law: a count has room for one more, the head of a free list is
+/// free, what is dead is handed out, what is cut next is out, where a key leads is linked, and what a hand fills isn't.
+pub fn tests_are_needless()
+    ensures { AllAreNeedless }
+{}
+
+/// What a hand saw under the slabs lock is so still, and so allows its steps.
+pub fn what_is_seen_allows()
+    ensures { AllAreJudged }
 {}
 
 /// A legal history leaves one map from keys to stamps.
