@@ -84,5 +84,6 @@ pub mod WordsStay
 pub mod Stretches
 pub mod Follows
 pub mod SeenGrows
+pub mod Codes
 pub mod Needless
 pub mod Judged

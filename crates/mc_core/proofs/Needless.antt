@@ -162,6 +162,7 @@ pub are_needless : AllAreNeedless
 are_needless m l = record {
   most = most m l;
   room = room m l;
+  fits = λ chunk near. record { issue = l.counted.issued chunk near; count = let few = most m l chunk near in omega arith };
   next = next m l;
   target = target m l;
   dead = dead m l;

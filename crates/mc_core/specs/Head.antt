@@ -18,11 +18,11 @@ tag_of (suc (suc zero)) = Unlinked
 tag_of (suc (suc (suc n))) = Linked
 
 -- the header as a word
-abbrev pub code : Head → ℕ
+unfoldable pub code : Head → ℕ
 code head = head.issue * 262144 + number_of head.tag * 65536 + head.count
 
 -- the header that a word is
-abbrev pub decode : ℕ → Head
+unfoldable pub decode : ℕ → Head
 decode word = record { issue = word / 262144; tag = tag_of (word / 65536 % 4); count = word % 65536 }
 
 -- the chunk was cut, and waits on its free list

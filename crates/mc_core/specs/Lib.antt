@@ -25,5 +25,6 @@ pub mod InOrder
 pub mod Laws
 pub mod Stretch
 pub mod Follows
+pub mod Codes
 pub mod Needless
 pub mod Judged

@@ -10,6 +10,7 @@ use Rattle.mc_core.specs.State.{is_class, has_chunk, head_at, holdings_at}
 use Rattle.mc_core.specs.Silent.{is_handed_out, is_listed}
 use Rattle.mc_core.specs.Chunks.{most_holdings, next_free, is_moving_page, target_of}
 use Rattle.mc_core.specs.Items.{can_count, chunk_of}
+use Rattle.mc_core.specs.Codes.{FitsBits}
 use Rattle.mc_core.specs.Past.{Moment}
 use Rattle.mc_core.specs.Lawful.{IsLawful}
 
@@ -22,6 +23,8 @@ pub record AreNeedless (m : Moment) : Type 0 where
   -- a count is far below what fits, so there is room for one more
   pub most : (chunk : ChunkId) → has_chunk m.state.table chunk ≡ true → (head_at m.state chunk).count ≤ most_count
   pub room : (chunk : ChunkId) → has_chunk m.state.table chunk ≡ true → can_count (head_at m.state chunk) ≡ true
+  -- and a header is one word
+  pub fits : (chunk : ChunkId) → has_chunk m.state.table chunk ≡ true → FitsBits (head_at m.state chunk)
   -- the head of a free list is free, and so is a target
   pub next : (class : ℕ) (chunk : ChunkId) → is_class m.state.table class ≡ true → next_free m.state class ≡ Some chunk →
       (has_chunk m.state.table chunk ≡ true) × ((head_at m.state chunk).tag ≡ Free)

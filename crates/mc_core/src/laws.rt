@@ -13,6 +13,7 @@ ghost use Rattle.mc_core.specs.Chunks.{most_issue};
 ghost use Rattle.mc_core.specs.Lawful.{IsLawful, SizedIn, PagedIn, PlacedIn, CountedIn, HeldIn, IndexedIn, LegalIn, HandsIn, RowsIn, NumberedIn, SeenIn, KnownIn, RescuedIn, ToldIn};
 ghost use Rattle.mc_core.specs.Laws.{IsKeptByAll, ArePlayed, AreLawful};
 ghost use Rattle.mc_core.specs.Stretch.{StretchesKeep};
+ghost use Rattle.mc_core.specs.Codes.{AreOneWord, AllAreSums};
 ghost use Rattle.mc_core.specs.Needless.{AllAreNeedless};
 ghost use Rattle.mc_core.specs.Judged.{AllAreJudged};
 ghost use Rattle.mc_core.specs.Follows.{AreKept, AreSaidItems, SeenGrows};
@@ -135,6 +136,12 @@ pub fn linked_items_were_said()
 /// took it over.
 pub fn what_is_seen_grows()
     ensures { SeenGrows }
+{}
+
+/// A header whose parts fit is one word, and each change of it is one sum on that word.
+pub fn headers_are_words()
+    ensures one_word { AreOneWord }
+    ensures sums { AllAreSums }
 {}
 
 /// What events would test of counts and tags follows from the law: a count has room for one more, the head of a free list is
