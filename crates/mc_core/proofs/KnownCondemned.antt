@@ -11,7 +11,7 @@ use Rattle.mc_core.specs.declared.holding.Holding.{Holding}
 use Rattle.mc_core.specs.declared.holding.Kind.{Kind}
 use Rattle.mc_core.specs.declared.holding.Kind.TheVariants.{Reference, Fresh}
 use Rattle.mc_core.specs.Head.{is_linked}
-use Rattle.mc_core.specs.Holdings.{Words, stamp_in, is_fresh_kind, is_copy_of, is_copy_kind}
+use Rattle.mc_core.specs.Holdings.{is_fresh_kind, is_copy_of, is_copy_kind, stamp_of}
 use Rattle.mc_core.specs.State.{State, is_hand, has_chunk, head_at, item_at, has_slabs, has_stripe, stripe_of, stripe_at, with_head, holdings_at, looks_at}
 use Rattle.mc_core.specs.Evictions.{is_idle, condemned, key_at, has_copy, has_reason, can_take_away, with_told, with_bound, as_rescue}
 use Rattle.mc_core.specs.Hands as hands
@@ -121,7 +121,7 @@ module _ (m : Moment) (hand kept spent : ℕ) (may : MayStep m hand (Join kept s
   within : (n : ℕ) → is_hand m.state n ≡ true → n < length m.state.ids
   within n there = hand_there m.state n there
 
-  said_still : (stamp : ℕ) (words : Words) → IsSaid m.past.said stamp words → IsSaid said' stamp words
+  said_still : (stamp : ℕ) (words : List ℕ) → IsSaid m.past.said stamp words → IsSaid said' stamp words
   said_still stamp words said =
       let rows = lawful.rows.said in let is = within kept join.there in said_joined m.past.said kept spent stamp words join.apart (omega arith) said
 
@@ -151,8 +151,8 @@ module _ (m : Moment) (hand kept spent : ℕ) (may : MayStep m hand (Join kept s
   known_join =
       let rows = lawful.rows.said in let in_kept = within kept join.there in let in_spent = within spent join.there_too in
       let once = λ (stamp : ℕ). once_joined m.past.said kept spent stamp join.apart (omega arith) (omega arith) (lawful.known.once stamp) in
-      let by_some = each_joined (λ k. IsSaid said' (stamp_in k.words) k.words) m.past.known kept spent
-      (each_map (λ k. IsSaid m.past.said (stamp_in k.words) k.words) (λ k. IsSaid said' (stamp_in k.words) k.words) m.past.known (λ k. said_still (stamp_in k.words) k.words) lawful.known.said_by_some) in
+      let by_some = each_joined (λ k. IsSaid said' (stamp_of k.words) k.words) m.past.known kept spent
+      (each_map (λ k. IsSaid m.past.said (stamp_of k.words) k.words) (λ k. IsSaid said' (stamp_of k.words) k.words) m.past.known (λ k. said_still (stamp_of k.words) k.words) lawful.known.said_by_some) in
       record {
         once = once;
         agree = all_agree said' known' once by_some;

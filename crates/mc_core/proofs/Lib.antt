@@ -38,6 +38,7 @@ pub mod MoreRows
 pub mod Totals
 pub mod SaidOnce
 pub mod ShownItems
+pub mod Numbers
 pub mod KnownStill
 pub mod KnownQuiet
 pub mod Learned

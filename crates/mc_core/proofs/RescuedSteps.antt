@@ -1,5 +1,5 @@
 -- Every change and every step keeps what holdings say of items that are being rescued.
-use Rattle.std.proofs.Common.{◌≡◌, ℕ, ◌≤◌, Bool, true, false, List, [], length, arith, slice_index, Option, Some, None, if◌then◌else◌}
+use Rattle.std.proofs.Common.{◌≡◌, ℕ, ◌≤◌, Bool, true, false, List, [], length, arith, slice_index, subst, Option, Some, None, if◌then◌else◌}
 use Rattle.mc_classes.specs.Classes.{Classes, IsSound}
 use Rattle.mc_pages.specs.declared.ids.ChunkId.{ChunkId}
 use Rattle.mc_pages.specs.Changes as slabs_changes
@@ -12,7 +12,7 @@ use Rattle.mc_core.specs.declared.holding.Kind.TheVariants.{Reference, Fresh}
 use Rattle.mc_core.specs.declared.holding.Purpose.TheVariants.{Item, Copy, Rescue}
 use Rattle.mc_core.specs.declared.look.Look.{Look}
 use Rattle.mc_core.specs.declared.look.Look.TheVariants.{Saw, SawStripe}
-use Rattle.mc_core.specs.Holdings.{Words, stamp_in, item_length, is_complete, is_of, is_copy_of, holding_of}
+use Rattle.mc_core.specs.Holdings.{stamp_in, item_length, is_complete, is_of, is_copy_of, holding_of, stamp_of, numbers}
 use Rattle.mc_core.specs.State.{State, has_slabs, head_at, item_at, holdings_at, with_slabs, with_look, with_head, with_holding, without_holding}
 use Rattle.mc_core.specs.Locks.{looked}
 use Rattle.mc_core.specs.Chunks.{next_free, popped, target_of, popped_off, filled}
@@ -31,16 +31,17 @@ use Rattle.mc_core.proofs.Plays.{hand_there}
 use Rattle.mc_core.proofs.MoreRows.{joined_rows}
 use Rattle.mc_core.proofs.SaidOnce.{said_more, said_joined}
 use Rattle.mc_core.proofs.KnownQuiet.{IsStill}
-use Rattle.mc_core.proofs.KnownReferences.{item_has}
+use Rattle.mc_core.proofs.KnownReferences.{item_has, linked_whole}
 use Rattle.mc_core.proofs.KnownCondemned.{condemnable, are_joined}
 use Rattle.mc_core.proofs.KnownSteps.{each_none}
+use Rattle.mc_core.proofs.Numbers.{numbers_at}
 
 -- what was said is said still
-rescue_still : (said said' : List (List Saying)) → ((stamp : ℕ) (words : Words) → IsSaid said stamp words → IsSaid said' stamp words) → (kind : Kind) → IsRescue said kind → IsRescue said' kind
+rescue_still : (said said' : List (List Saying)) → ((stamp : ℕ) (words : List ℕ) → IsSaid said stamp words → IsSaid said' stamp words) → (kind : Kind) → IsRescue said kind → IsRescue said' kind
 rescue_still said said' more Reference is = tt
 rescue_still said said' more (Fresh Item) is = tt
 rescue_still said said' more (Fresh (Copy old)) is = tt
-rescue_still said said' more (Fresh (Rescue old item)) is = (is.0, is.1, more (stamp_in item) item is.2)
+rescue_still said said' more (Fresh (Rescue old item)) is = (is.0, is.1, more (stamp_in item) (numbers item) is.2)
 
 abbrev IsSaidRescue : List (List Saying) → Holding → Type 0
 IsSaidRescue said holding = IsRescue said holding.kind
@@ -108,11 +109,12 @@ module _ (m : Moment) (hand : ℕ) where
   condemned_rescued chunk may =
       let l = may.lawful in
       let is = condemnable m hand chunk may in
-      let whole = item_has m l chunk is.near is.linked (λ k. (is_complete k.words ≡ true) × (length k.words ≡ item_length k.words))
-      (each_map (IsStill m l) (λ k. (is_complete k.words ≡ true) × (length k.words ≡ item_length k.words)) m.past.known (λ k still. still.whole) l.known.still) in
-      let said = item_has m l chunk is.near is.linked (λ k. IsSaid m.past.said (stamp_in k.words) k.words) l.known.said_by_some in
+      let item = item_at m.state chunk in
+      let whole = linked_whole m l chunk is.near is.linked in
+      let said = item_has m l chunk is.near is.linked (λ k. IsSaid m.past.said (stamp_of k.words) k.words) l.known.said_by_some in
+      let said_so : IsSaid m.past.said (stamp_in item) (numbers item) = subst (λ n. IsSaid m.past.said n (numbers item)) (numbers_at item 1) said in
       each_changed (is_copy_of chunk) (as_rescue chunk (item_at m.state chunk)) m.state.holdings hand (IsSaidRescue m.past.said) (IsSaidRescue m.past.said) (λ h rescue. rescue)
-      (λ h _ rescue. (whole.0, whole.1, said)) l.rescued
+      (λ h _ rescue. (whole.complete, whole.long, said_so)) l.rescued
 
 joined_rescued : (m : Moment) (hand kept spent : ℕ) → MayStep m hand (Join kept spent) → AreRescued m.state.holdings (joined_rows m.past.said kept spent)
 joined_rescued m hand kept spent may =

@@ -17,7 +17,7 @@ use Rattle.mc_core.specs.declared.holding.Purpose.TheVariants.{Item, Copy, Rescu
 use Rattle.mc_core.specs.declared.ids.Ids.{Ids}
 use Rattle.mc_core.specs.declared.look.Look.{Look}
 use Rattle.mc_core.specs.Head.{is_unlinked}
-use Rattle.mc_core.specs.Holdings.{key_in, stamp_in, item_in, is_complete, is_of, has_fresh, holding_of}
+use Rattle.mc_core.specs.Holdings.{key_in, stamp_in, item_in, is_complete, is_of, has_fresh, holding_of, numbers}
 use Rattle.mc_core.specs.State.{State, has_chunk, head_at, ids_at, has_slabs, has_stripe, stripe_of, stripe_at, with_stripe, without_holding, holdings_at, with_look, looks_at}
 use Rattle.mc_core.specs.Silent.{is_aside, can_tell_none, writer_of, allows_change, after_change}
 use Rattle.mc_core.specs.Locks.{looked}
@@ -160,11 +160,11 @@ module _ (state : State) (hand : ℕ) (l : AreLegal state.stripes state.stripe_l
     told_by_kind holding (Fresh Item) has h =
         let key = key_in holding.words in
         let parts = and_parts (is_next_stamp (ids_at state hand) (stamp_in holding.words)) (is_none_else_aside (stripe_at state (stripe_of state key)).state key) h in
-        inr (tells_set state hand l (stripe_of state key) has key holding.chunk (stamp_in holding.words) (item_in holding.words) refl (own_stamp (ids_at state hand) (stamp_in holding.words) parts.0) (of_key (stripe_at state (stripe_of state key)).state.aside key parts.1))
+        inr (tells_set state hand l (stripe_of state key) has key holding.chunk (stamp_in holding.words) (numbers (item_in holding.words)) refl (own_stamp (ids_at state hand) (stamp_in holding.words) parts.0) (of_key (stripe_at state (stripe_of state key)).state.aside key parts.1))
     told_by_kind holding (Fresh (Copy old)) has h =
         let key = key_in holding.words in
         let parts = and_parts (is_next_stamp (ids_at state hand) (stamp_in holding.words)) (is_none_else_aside (stripe_at state (stripe_of state key)).state key) h in
-        inr (tells_set state hand l (stripe_of state key) has key holding.chunk (stamp_in holding.words) (item_in holding.words) refl (own_stamp (ids_at state hand) (stamp_in holding.words) parts.0) (of_key (stripe_at state (stripe_of state key)).state.aside key parts.1))
+        inr (tells_set state hand l (stripe_of state key) has key holding.chunk (stamp_in holding.words) (numbers (item_in holding.words)) refl (own_stamp (ids_at state hand) (stamp_in holding.words) parts.0) (of_key (stripe_at state (stripe_of state key)).state.aside key parts.1))
     told_by_kind holding (Fresh (Rescue old item)) has h =
         let key = key_in holding.words in
         let stripe = stripe_at state (stripe_of state key) in
