@@ -1,15 +1,14 @@
 -- The index: its entries are the linked chunks after every change and step, and at first.
-use Rattle.std.proofs.Common.{◌≡◌, ℕ, ◌*◌, ◌%◌, ◌<◌, ◌≤◌, ◌&&◌, Bool, true, false, cond, length, replicate, Some, None, refl, sym, ap, ◌∙◌, arith, subst, slice_set, inl, inr, is_none}
+use Rattle.std.proofs.Common.{◌≡◌, ℕ, ◌*◌, ◌%◌, ◌<◌, ◌&&◌, Bool, true, false, cond, length, replicate, Some, None, refl, sym, ap, ◌∙◌, arith, subst, slice_set, inl, inr, is_none}
 use Rattle.std.proofs.lemmas.Bool.{and_parts, cases_lt}
 use Rattle.std.proofs.lemmas.List.{set_past}
 use Rattle.std.proofs.lemmas.Option.{get_or_from_slice_get}
-use Rattle.mc_classes.specs.Classes.{Classes, IsSound, pages_of}
+use Rattle.mc_classes.specs.Classes.{pages_of}
 use Rattle.mc_pages.specs.SlabState.{fresh_slabs}
 use Rattle.mc_stripe.specs.StripeState.{ReadyStripe, new_stripe, place_of}
 use Rattle.mc_stripe.specs.Changes as stripe_changes
 use Rattle.mc_stripe.specs.Changes.{after_got, used_up}
 use Rattle.mc_stripe.proofs.Entries.{at_without_entry, by_equal}
-use Rattle.mc_core.specs.declared.head.Head.{Head}
 use Rattle.mc_core.specs.declared.head.Tag.TheVariants.{Out, Linked}
 use Rattle.mc_core.specs.declared.look.Look.{Look}
 use Rattle.mc_core.specs.declared.event.Change.{Change}

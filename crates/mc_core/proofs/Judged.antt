@@ -9,7 +9,7 @@ use Rattle.mc_pages.specs.SlabState.{SlabState, class_at, class_of_page}
 use Rattle.mc_pages.proofs.Chunks.{is_chunk-same, same_from_is_chunk}
 use Rattle.mc_core.specs.declared.head.Head.{Head}
 use Rattle.mc_core.specs.declared.head.Tag.{Tag}
-use Rattle.mc_core.specs.declared.head.Tag.TheVariants.{Out, Free, Unlinked, Linked}
+use Rattle.mc_core.specs.declared.head.Tag.TheVariants.{Free, Unlinked, Linked}
 use Rattle.mc_core.specs.declared.look.Look.{Look}
 use Rattle.mc_core.specs.Head.{is_free, is_out, is_dead}
 use Rattle.mc_core.specs.State.{is_class, has_chunk, head_at, has_slabs, looks_at}
@@ -18,7 +18,7 @@ use Rattle.mc_core.specs.Chunks.{most_issue, has_place, can_hand_out, next_free,
 use Rattle.mc_core.specs.Seen.{seen_head, IsStill}
 use Rattle.mc_core.specs.Past.{Moment}
 use Rattle.mc_core.specs.Lawful.{IsLawful}
-use Rattle.mc_core.specs.Judged.{is_seen_unfit, sees_no_target, SeesTarget, IsJudged, AllAreJudged}
+use Rattle.mc_core.specs.Judged.{is_seen_unfit, sees_no_target, SeesTarget, AllAreJudged}
 use Rattle.mc_core.proofs.Listed.{or_parts, times_from_among}
 use Rattle.mc_core.proofs.FreeChunks.{near_placed, free_placed}
 use Rattle.mc_core.proofs.Entered.{tag_free}

@@ -1,5 +1,5 @@
 -- Tests of events that the law answers.
-use Rattle.std.proofs.Common.{◌≡◌, ◌⊎◌, ℕ, zero, suc, ◌+◌, ◌*◌, ◌<◌, ◌≤◌, ◌==◌, ◌&&◌, ◌||◌, Bool, true, false, not, cond, List, [], ◌∷◌, length, Option, Some, None, refl, sym, ap, ◌∙◌, subst, inl, inr, arith, All, lt-ltb, ltb-true, nat_lt, eq-eqb, eqb-true}
+use Rattle.std.proofs.Common.{◌≡◌, ℕ, ◌*◌, ◌≤◌, ◌==◌, ◌||◌, Bool, true, false, cond, List, [], ◌∷◌, length, Option, Some, None, refl, sym, ap, ◌∙◌, subst, inl, inr, arith, All, lt-ltb, ltb-true, nat_lt, eq-eqb, eqb-true}
 use Rattle.std.proofs.lemmas.Bool.{cases_Bool, and_parts, and_from, or_right}
 use Rattle.std.specs.Option.{option_map_or}
 use Rattle.std.proofs.lemmas.List.Elements.{All-head, All-tail}
@@ -14,17 +14,17 @@ use Rattle.mc_pages.proofs.Chunks.{same_from_is_chunk}
 use Rattle.mc_core.specs.declared.head.Tag.{Tag}
 use Rattle.mc_core.specs.declared.head.Tag.TheVariants.{Out, Free, Unlinked, Linked}
 use Rattle.mc_core.specs.declared.holding.Holding.{Holding}
-use Rattle.mc_core.specs.Head.{is_free, is_out, is_unlinked, is_linked, is_dead}
+use Rattle.mc_core.specs.Head.{is_free, is_unlinked, is_linked, is_dead}
 use Rattle.mc_core.specs.Holdings.{is_of, is_fresh, holding_of}
-use Rattle.mc_core.specs.State.{is_class, has_chunk, most_of, head_at, holdings_at}
+use Rattle.mc_core.specs.State.{is_class, has_chunk, head_at, holdings_at}
 use Rattle.mc_core.specs.Silent.{is_among, is_handed_out, is_listed}
 use Rattle.mc_core.specs.Chunks.{next_free, is_moving_page, is_target, target_of}
 use Rattle.mc_core.specs.Items.{can_count, chunk_of}
-use Rattle.mc_core.specs.Columns.{head_in, holds, holders, link_of}
+use Rattle.mc_core.specs.Columns.{head_in, holders}
 use Rattle.mc_core.specs.Places.{is_cut_there}
 use Rattle.mc_core.specs.Past.{Moment}
 use Rattle.mc_core.specs.Lawful.{IsLawful}
-use Rattle.mc_core.specs.Needless.{most_count, AreNeedless, AllAreNeedless}
+use Rattle.mc_core.specs.Needless.{most_count, AllAreNeedless}
 use Rattle.mc_core.proofs.Listed.{IsClass_from, none_among, or_parts}
 use Rattle.mc_core.proofs.Base.{placed_from, placed_at}
 use Rattle.mc_core.proofs.FreeChunks.{near_in, near_placed, first_placed, found_placed}

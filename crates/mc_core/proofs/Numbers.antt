@@ -1,7 +1,7 @@
 -- Known words as numbers, and back.
-use Rattle.std.proofs.Common.{◌≡◌, ℕ, zero, suc, ◌+◌, true, List, [], ◌∷◌, length, map, Option, Some, None, refl, sym, ap, ap₂, ◌∙◌, arith, slice_index, is_some, unwrap_or, le-leb}
+use Rattle.std.proofs.Common.{◌≡◌, ℕ, zero, suc, true, List, [], ◌∷◌, length, Some, None, refl, ap, ◌∙◌, arith, slice_index, is_some, unwrap_or, le-leb}
 use Rattle.std.specs.List.{list_all}
-use Rattle.std.proofs.lemmas.Bool.{and_parts, and_from}
+use Rattle.std.proofs.lemmas.Bool.{and_from}
 use Rattle.std.proofs.lemmas.List.{length-map, take_all}
 use Rattle.mc_core.specs.Holdings.{Words, all_known, numbers, word_in, length_of, item_length, item_in}
 use Rattle.mc_core.proofs.ShownItems.{IsWhole}

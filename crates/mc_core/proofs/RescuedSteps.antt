@@ -1,6 +1,5 @@
 -- Every change and every step keeps what holdings say of items that are being rescued.
-use Rattle.std.proofs.Common.{◌≡◌, ℕ, ◌≤◌, Bool, true, false, List, [], length, arith, slice_index, subst, Option, Some, None, if◌then◌else◌}
-use Rattle.mc_classes.specs.Classes.{Classes, IsSound}
+use Rattle.std.proofs.Common.{ℕ, Bool, true, false, List, [], arith, slice_index, subst, Option, Some, None, if◌then◌else◌}
 use Rattle.mc_pages.specs.declared.ids.ChunkId.{ChunkId}
 use Rattle.mc_pages.specs.Changes as slabs_changes
 use Rattle.mc_core.specs.declared.event.Change.TheVariants.{Grow, BeginMove, FinishMove, Touch, SetAutomove, Passed, Wrap, Evicted, Reserve, GotNone, DeletedNone}
@@ -12,7 +11,7 @@ use Rattle.mc_core.specs.declared.holding.Kind.TheVariants.{Reference, Fresh}
 use Rattle.mc_core.specs.declared.holding.Purpose.TheVariants.{Item, Copy, Rescue}
 use Rattle.mc_core.specs.declared.look.Look.{Look}
 use Rattle.mc_core.specs.declared.look.Look.TheVariants.{Saw, SawStripe}
-use Rattle.mc_core.specs.Holdings.{stamp_in, item_length, is_complete, is_of, is_copy_of, holding_of, stamp_of, numbers}
+use Rattle.mc_core.specs.Holdings.{stamp_in, is_of, is_copy_of, holding_of, stamp_of, numbers}
 use Rattle.mc_core.specs.State.{State, has_slabs, head_at, item_at, holdings_at, with_slabs, with_look, with_head, with_holding, without_holding}
 use Rattle.mc_core.specs.Locks.{looked}
 use Rattle.mc_core.specs.Chunks.{next_free, popped, target_of, popped_off, filled}
@@ -30,7 +29,6 @@ use Rattle.mc_core.proofs.Changed.{rows_changed, each_changed}
 use Rattle.mc_core.proofs.Plays.{hand_there}
 use Rattle.mc_core.proofs.MoreRows.{joined_rows}
 use Rattle.mc_core.proofs.SaidOnce.{said_more, said_joined}
-use Rattle.mc_core.proofs.KnownQuiet.{IsStill}
 use Rattle.mc_core.proofs.KnownReferences.{item_has, linked_whole}
 use Rattle.mc_core.proofs.KnownCondemned.{condemnable, are_joined}
 use Rattle.mc_core.proofs.KnownSteps.{each_none}

@@ -8,8 +8,6 @@ use Rattle.mc_stripe.specs.StripeState.{new_stripe}
 use Rattle.mc_core.specs.declared.event.Change.{Change}
 use Rattle.mc_core.specs.declared.event.Step.{Step}
 use Rattle.mc_core.specs.declared.event.Step.TheVariants as step
-use Rattle.mc_core.specs.State.{State, stripe_of}
-use Rattle.mc_core.specs.Silent.{after_change}
 use Rattle.mc_core.specs.Past.{Past, Moment, history_at, seen_after, longer_each, moment_changed, moment_changes, moment_stepped}
 use Rattle.mc_core.specs.Run.{after_step}
 use Rattle.mc_core.specs.Histories.{IsBeginning}

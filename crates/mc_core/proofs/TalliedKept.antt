@@ -1,10 +1,9 @@
 -- Counts and holdings: kept by every change and every step, and true at first.
 use Rattle.std.proofs.Common.{◌∙◌, ◌≡◌, ℕ, zero, suc, ◌*◌, ◌≤◌, Bool, true, false, cond, List, [], length, replicate, refl, sym, ap, arith, subst, All, slice_index_or}
 use Rattle.std.proofs.lemmas.List.Elements.{All-nil, All-replicate}
-use Rattle.mc_classes.specs.Classes.{Classes, IsSound, pages_of}
+use Rattle.mc_classes.specs.Classes.{pages_of}
 use Rattle.mc_pages.specs.declared.ids.ChunkId.{ChunkId}
 use Rattle.mc_pages.specs.SlabState.{SlabState, class_of_page, fresh_slabs}
-use Rattle.mc_core.specs.declared.head.Head.{Head}
 use Rattle.mc_core.specs.declared.holding.Holding.{Holding}
 use Rattle.mc_core.specs.declared.look.Look.{Look}
 use Rattle.mc_core.specs.declared.event.Change.{Change}
