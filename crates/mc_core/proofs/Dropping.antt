@@ -11,11 +11,11 @@ use Rattle.mc_core.specs.declared.holding.Kind.{Kind}
 use Rattle.mc_core.specs.declared.holding.Kind.TheVariants.{Reference, Fresh}
 use Rattle.mc_core.specs.Head.{is_linked}
 use Rattle.mc_core.specs.Holdings.{Words, is_of, is_fresh_kind, is_copy_kind, is_copy_of, has_fresh, holding_of}
-use Rattle.mc_core.specs.State.{has_chunk, head_place, head_at, with_head, item_at, is_hand, has_slabs, stripe_of, stripe_at, has_stripe, holdings_at}
+use Rattle.mc_core.specs.State.{has_chunk, head_place, head_at, with_head, item_at, is_hand, has_slabs, stripe_of, stripe_at, has_stripe, holdings_at, looks_at}
 use Rattle.mc_core.specs.Silent.{writer_of}
 use Rattle.mc_core.specs.Chunks.{let_go, holds_as, after_drop}
 use Rattle.mc_core.specs.Items.{unlinked, chunk_of, is_linked_at, can_unlink, stripe_unlinked, with_unlinked, after_unlink}
-use Rattle.mc_core.specs.Evictions.{condemned, is_idle, key_at, can_take_away, has_copy, has_reason, can_condemn, as_rescue, after_condemn}
+use Rattle.mc_core.specs.Evictions.{condemned, is_linked_unheld, key_at, can_lose_entry, has_copy, has_reason, can_condemn, as_rescue, after_condemn}
 use Rattle.mc_core.specs.Columns.{Each, holders, link_of}
 use Rattle.mc_core.specs.Counts.{AreCounted, AreHeld}
 use Rattle.mc_core.specs.Past.{Moment}
@@ -187,10 +187,10 @@ module _ (m : Moment) (l : IsLawful m) (hand : ℕ) (there : is_hand m.state han
   condemn_tallied chunk can =
       let key = key_at m.state chunk in
       let stripe = stripe_at m.state (stripe_of m.state key) in
-      let reason = and_parts _ (has_reason m.state hand chunk) can in
-      let take = and_parts _ (can_take_away stripe key (has_copy m.state hand chunk)) reason.0 in
+      let reason = and_parts _ (has_reason m.state.table m.state.heads m.state.slabs (looks_at m.state hand) (holdings_at m.state hand) chunk) can in
+      let take = and_parts _ (can_lose_entry stripe key (has_copy (holdings_at m.state hand) chunk)) reason.0 in
       let has = and_parts _ (has_stripe m.state hand (stripe_of m.state key)) take.0 in
-      let idle = and_parts _ (is_idle (head_at m.state chunk)) has.0 in
+      let idle = and_parts _ (is_linked_unheld (head_at m.state chunk)) has.0 in
       let near = and_parts (has_slabs m.state hand) (has_chunk m.state.table chunk) idle.0 in
       let both = and_parts (is_linked (head_at m.state chunk).tag) ((head_at m.state chunk).count == 1) idle.1 in
       bound_tallied chunk near.1 (tag_linked (head_at m.state chunk).tag both.0) (eqb-true (head_at m.state chunk).count 1 both.1) (item_at m.state chunk)

@@ -5,17 +5,17 @@ use Rattle.std.proofs.lemmas.Bool.{cases_lt, cases_eq, and_right, lt-leb}
 use Rattle.std.proofs.lemmas.List.{get_or_past, get_or-replicate, length-replicate}
 use Rattle.std.proofs.lemmas.List.FromFn.{get_or-map-range_with_len, length-map-range_with_len}
 use Rattle.std.proofs.lemmas.List.Elements.{All-nil, All-cons, All-replicate, All-weaker, All-contains_itself}
-use Rattle.mc_classes.specs.Classes.{Classes, IsSound}
 use Rattle.mc_pages.specs.Accounted.{truth}
 use Rattle.mc_stripe.specs.declared.history.Call.{Call}
 use Rattle.mc_stripe.specs.StripeState.{ReadyStripe, new_stripe}
 use Rattle.mc_core.specs.declared.ids.Ids.{Ids}
 use Rattle.mc_core.specs.State.{gone}
-use Rattle.mc_core.specs.Past.{Own, Saying, first_moment}
+use Rattle.mc_core.specs.Past.{Own, Saying}
 use Rattle.mc_core.specs.Columns.{Each}
 use Rattle.mc_core.specs.Identities.{IsFreeOrHeld, owns, owners, number_in, stamps_in, said_count, AreCountedTo}
 use Rattle.mc_core.specs.Histories.{hand_of, set_count, IsSetIn, IsStored}
 use Rattle.mc_core.specs.Lawful.{HandsIn, NumberedIn, ToldIn}
+use Rattle.mc_core.specs.Laws.{HoldsAtFirst}
 use Rattle.mc_core.proofs.Grown.{calls_in}
 use Rattle.mc_core.proofs.MoreRows.{row_of}
 use Rattle.mc_core.proofs.ToldKept.{IsBegun, IsOwnIn}
@@ -105,8 +105,8 @@ module _ (hands : ℕ) where
       none_between zero = refl
       none_between (suc count) = ap truth (and_right (nat_le 1 (suc count)) (nat_le (suc count) 0) (lt-leb (suc count) 0 (omega arith)))
 
-pub hands_first : (table : Classes) (stripes hands : ℕ) → IsSound table → 1 ≤ stripes → 1 ≤ hands → hands ≤ 64 → HandsIn (first_moment table stripes hands)
-hands_first table stripes hands sound _ some most =
+pub hands_first : HoldsAtFirst HandsIn
+hands_first table stripes hands start sound _ some most _ =
     let long = length-map-range_with_len (named hands) 0 hands in
     record {
       count = (omega (arith, some, long), omega (arith, most, long));
@@ -120,8 +120,8 @@ hands_first table stripes hands sound _ some most =
       nothing = λ hand none. same_entry hands hand [];
     }
 
-pub numbered_first : (table : Classes) (stripes hands : ℕ) → IsSound table → 1 ≤ stripes → 1 ≤ hands → hands ≤ 64 → NumberedIn (first_moment table stripes hands)
-numbered_first table stripes hands sound _ _ _ =
+pub numbered_first : HoldsAtFirst NumberedIn
+numbered_first table stripes hands start sound _ _ _ _ =
     let said_row : (hand : ℕ) → row_of (replicate hands []) hand ≡ [] = λ hand. same_entry hands hand [] in
     record {
       apart = λ number. (owners_from hands stripes number 0 hands).0;
@@ -159,8 +159,8 @@ entry_is zero i x y e = absurd (cc)
 entry_is (suc n) zero x y e = cc
 entry_is (suc n) (suc i) x y e = entry_is n i x y e
 
-pub told_first : (table : Classes) (stripes hands : ℕ) → IsSound table → 1 ≤ stripes → 1 ≤ hands → hands ≤ 64 → ToldIn (first_moment table stripes hands)
-told_first table stripes hands sound _ _ _ = record {
+pub told_first : HoldsAtFirst ToldIn
+told_first table stripes hands start sound _ _ _ _ = record {
   own_calls = own_first stripes 0 hands;
   begun = All-replicate (IsBegun (replicate stripes new_stripe)) hands (replicate stripes [])
       (λ stripe calls value at is. (value.state.history, ap (λ (cs : List Call). cs ++ value.state.history) (entry_is stripes stripe [] calls at)));

@@ -4,7 +4,7 @@ use Rattle.std.proofs.lemmas.List.Elements.{All-weaker, All-contains, All-contai
 use Rattle.mc_pages.specs.declared.ids.ChunkId.{ChunkId}
 use Rattle.mc_stripe.specs.StripeState.{place_of}
 use Rattle.mc_core.specs.declared.holding.Holding.{Holding}
-use Rattle.mc_core.specs.Holdings.{Words, key_in, stamp_in, word_in}
+use Rattle.mc_core.specs.Holdings.{Words, word_in, stamp_of, all_known, key_of}
 use Rattle.mc_core.specs.State.{holdings_at}
 use Rattle.mc_core.specs.Columns.{head_in, place_in, Shows, IsHandedOut}
 use Rattle.mc_core.specs.Past.{Moment, Known}
@@ -15,6 +15,7 @@ use Rattle.mc_core.specs.Follows.{AreKept, AreSaidItems}
 use Rattle.mc_core.proofs.Base.{IsOut, held_out, placed_at, each_row}
 use Rattle.mc_core.proofs.MoreRows.{each_contained}
 use Rattle.mc_core.proofs.ShownItems.{IsWhole, whole_word}
+use Rattle.mc_core.proofs.Numbers.{known_at, whole_known}
 
 pub are_kept : AreKept
 are_kept m l hand =
@@ -38,17 +39,17 @@ are_said_items m l chunk inside linked =
     let k : Known = known.1 in
     let Still = IsTrueStill m.state.table m.state.slabs m.state.heads m.state.words m.state.holdings in
     let still = each_contained Still m.past.known known.0 k l.known.still known.2 in
-    let said = each_contained (λ (x : Known). IsSaid m.past.said (stamp_in x.words) x.words) m.past.known known.0 k l.known.said_by_some known.2 in
+    let said = each_contained (λ (x : Known). IsSaid m.past.said (stamp_of x.words) x.words) m.past.known known.0 k l.known.said_by_some known.2 in
     let out : IsHandedOut (head_in m.state.table m.state.heads chunk) k.issue = (inr linked, sym known.3.1) in
-    let shows : Shows m.state.table m.state.slabs m.state.words chunk k.words =
-    subst (λ (c : ChunkId). Shows m.state.table m.state.slabs m.state.words c k.words) known.3.0
+    let shows : Shows m.state.table m.state.slabs m.state.words chunk (all_known k.words) =
+    subst (λ (c : ChunkId). Shows m.state.table m.state.slabs m.state.words c (all_known k.words)) known.3.0
     (still.shows (subst (λ (c : ChunkId). IsHandedOut (head_in m.state.table m.state.heads c) k.issue) (sym known.3.0) out)) in
-    let whole : IsWhole k.words = record { complete = still.whole.0; long = still.whole.1 } in
-    let key : slice_index m.state.words (place_in m.state.table m.state.slabs chunk 0) ≡ key_in k.words = shown_word m chunk k.words whole shows 0 (omega arith) in
-    let stamp : slice_index m.state.words (place_in m.state.table m.state.slabs chunk 1) ≡ stamp_in k.words = shown_word m chunk k.words whole shows 1 (omega arith) in
+    let whole : IsWhole (all_known k.words) = whole_known k.words still.whole in
+    let key : slice_index m.state.words (place_in m.state.table m.state.slabs chunk 0) ≡ key_of k.words = shown_word m chunk (all_known k.words) whole shows 0 (omega arith) ∙ known_at k.words 0 in
+    let stamp : slice_index m.state.words (place_in m.state.table m.state.slabs chunk 1) ≡ stamp_of k.words = shown_word m chunk (all_known k.words) whole shows 1 (omega arith) ∙ known_at k.words 1 in
     record {
       words = k.words;
-      whole = still.whole.0;
+      whole = still.whole;
       shows = shows;
       said = said;
       entry = ap (λ n. place_of (stripe_for m.state.stripes n).state n) (sym key) ∙ l.indexed.linked chunk inside linked ∙ ap (λ n. Some (chunk, n)) stamp;

@@ -9,7 +9,7 @@ use Rattle.mc_core.specs.declared.event.Step.TheVariants as step
 use Rattle.mc_core.specs.declared.event.Change.{Change}
 use Rattle.mc_core.specs.State.{gone, is_held_by, number_at, has_slabs, has_stripe, stripe_at}
 use Rattle.mc_core.specs.Locks.{lock_word, has_stripes}
-use Rattle.mc_core.specs.Silent.{is_whole}
+use Rattle.mc_core.specs.Silent.{none_half_cut}
 use Rattle.mc_core.specs.Past.{Moment, no_hold, with_more, longer_each, moment_stepped, moment_changed}
 use Rattle.mc_core.specs.Frame.{IsFramed, HasSame, AreFramed, takes_over}
 use Rattle.mc_core.specs.Laws.{MayStep, MayChange}
@@ -76,7 +76,7 @@ module _ (m : Moment) (id : ℕ) where
 
   pub give_slabs_next : MayStep m id GiveSlabs → IsNext m (moment_stepped m id GiveSlabs) id
   give_slabs_next may =
-      let has = (and_parts (has_slabs m.state id) (is_whole m.state.slabs) may.allowed).0 in
+      let has = (and_parts (has_slabs m.state id) (none_half_cut m.state.slabs) may.allowed).0 in
       record {
         lawful = lawful_steps m id GiveSlabs may;
         table = refl;

@@ -42,19 +42,21 @@ module _ (m : Moment) (l : IsLawful m) where
   abbrev slabs : SlabState
   slabs = m.state.slabs
 
-  -- a chunk that was cut is one of the arena
-  pub near_placed : (chunk : ChunkId) → IsPlaced slabs chunk → has_chunk m.state.table chunk ≡ true
-  near_placed chunk placed =
+  -- a chunk of a class's page is one of the arena
+  pub near_in : (chunk : ChunkId) → IsClass slabs (class_of_page slabs chunk.page) → chunk.index < (class_at slabs (class_of_page slabs chunk.page)).per_page → has_chunk m.state.table chunk ≡ true
+  near_in chunk is below =
       let class = class_of_page slabs chunk.page in
       let count = class_count m.state.table slabs l.paged.of_table in
-      let is = placed.class in
       let within : (1 ≤ class) × (class ≤ length m.state.table.sizes) = (is.0, omega arith) in
       let most = per_page_most m.state.table class l.sized.sound within in
       let chunks = per_page_is m.state.table slabs class l.paged.of_table is in
-      let below = placed.within in
       let page = page_within slabs chunk.page is.0 in
       let pages = l.paged.of_table.owners in
       and_from _ _ (lt-ltb chunk.page (pages_of m.state.table) (omega arith)) (lt-ltb chunk.index (most_of m.state.table) (omega arith))
+
+  -- so is one that was cut
+  pub near_placed : (chunk : ChunkId) → IsPlaced slabs chunk → has_chunk m.state.table chunk ≡ true
+  near_placed chunk placed = near_in chunk placed.class placed.within
 
   -- a chunk that was cut for a class is so for the class of its page
   pub placed_in : (class : ℕ) (chunk : ChunkId) → IsClass slabs class → is_cut slabs class chunk ≡ true → (class_of_page slabs chunk.page ≡ class) × IsPlaced slabs chunk

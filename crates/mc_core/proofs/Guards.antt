@@ -16,9 +16,9 @@ use Rattle.mc_core.specs.Holdings.{is_of, holding_of, key_in, has_fresh}
 use Rattle.mc_core.specs.State.{State, has_slabs, has_stripe, stripe_of, stripe_at, with_stripe, with_slabs, holdings_at, without_holding}
 use Rattle.mc_core.specs.Silent.{writer_of, after_change, allows_change}
 use Rattle.mc_core.specs.Chunks.{next_free, target_of, has_place}
-use Rattle.mc_core.specs.Items.{with_got, chunk_of, after_link_of, can_link_holding, can_link_key, told_link, can_refer_to, is_ready_for, can_lift, is_linked_at}
+use Rattle.mc_core.specs.Items.{with_got, chunk_of, after_link_of, can_link_holding, can_link_key, told_link, can_refer_to, can_look_up, can_lift, is_linked_at}
 use Rattle.mc_core.specs.Items as items
-use Rattle.mc_core.specs.Evictions.{key_at, can_take_away, has_copy, has_reason}
+use Rattle.mc_core.specs.Evictions.{key_at, can_lose_entry, has_copy, has_reason}
 use Rattle.mc_core.specs.Run.{after_step, allows_step}
 use Rattle.mc_pages.specs.Changes as slabs_changes
 use Rattle.mc_core.proofs.SameSlabs.{looked_keeps, popped_keeps, popped_off_keeps, told_link_keeps, referred_keeps, unlinked_keeps}
@@ -76,7 +76,7 @@ guards_link s hand chunk (Some holding) can =
     guards_stripe s (after_link_of left hand chunk (Some holding)) hand key told.0 has
     (told_link_keeps (λ x. x.slabs) left hand holding holding.kind refl refl) told.1
 
-ready_has : (s : State) (hand key : ℕ) → is_ready_for s hand key ≡ true → has_stripe s hand (stripe_of s key) ≡ true
+ready_has : (s : State) (hand key : ℕ) → can_look_up s hand key ≡ true → has_stripe s hand (stripe_of s key) ≡ true
 ready_has s hand key can =
     let first = and_parts (has_stripe s hand (stripe_of s key) && (stripe_at s (stripe_of s key)).ready) _ can in
     (and_parts (has_stripe s hand (stripe_of s key)) (stripe_at s (stripe_of s key)).ready first.0).0
@@ -99,13 +99,13 @@ guards_step s hand (step.Word chunk place) can = guards_same s _ hand refl refl
 guards_step s hand (step.WordHeld chunk place) can = guards_same s _ hand refl refl
 guards_step s hand (step.Link chunk) can = guards_link s hand chunk (holding_of chunk (holdings_at s hand)) can
 guards_step s hand (step.Refer key) can =
-    let first = and_parts (is_ready_for s hand key && has_place s hand) (can_refer_to s (chunk_of s key)) can in
-    let has = ready_has s hand key (and_parts (is_ready_for s hand key) (has_place s hand) first.0).0 in
+    let first = and_parts (can_look_up s hand key && has_place s hand) (can_refer_to s (chunk_of s key)) can in
+    let has = ready_has s hand key (and_parts (can_look_up s hand key) (has_place s hand) first.0).0 in
     guards_stripe s _ hand key _ has (referred_keeps (λ x. x.slabs) (with_got s hand key) hand (chunk_of s key) (λ chunk. refl))
     (referred_keeps (λ x. x.stripes) (with_got s hand key) hand (chunk_of s key) (λ chunk. refl))
 guards_step s hand (step.Unlink key) can =
-    let first = and_parts (is_ready_for s hand key && can_lift s hand key) (is_linked_at s (chunk_of s key)) can in
-    let has = ready_has s hand key (and_parts (is_ready_for s hand key) (can_lift s hand key) first.0).0 in
+    let first = and_parts (can_look_up s hand key && can_lift s hand key) (is_linked_at s (chunk_of s key)) can in
+    let has = ready_has s hand key (and_parts (can_look_up s hand key) (can_lift s hand key) first.0).0 in
     let value : ReadyStripe = items.stripe_unlinked (stripe_at s (stripe_of s key)) (has_fresh (holdings_at s hand)) (writer_of s hand) key in
     guards_stripe s _ hand key value has (unlinked_keeps (λ x. x.slabs) (with_stripe s (stripe_of s key) value) (chunk_of s key) (λ chunk. refl))
     (unlinked_keeps (λ x. x.stripes) (with_stripe s (stripe_of s key) value) (chunk_of s key) (λ chunk. refl))
@@ -114,7 +114,7 @@ guards_step s hand (step.Discard chunk) can = guards_same s _ hand refl refl
 guards_step s hand (step.Condemn chunk) can =
     let key = key_at s chunk in
     let stripe = stripe_of s key in
-    let takes = can_take_away (stripe_at s stripe) key (has_copy s hand chunk) in
+    let takes = can_lose_entry (stripe_at s stripe) key (has_copy s hand chunk) in
     let first = and_parts _ (has_reason s hand chunk) can in
     let second = and_parts _ takes first.0 in
     let has = (and_parts _ (has_stripe s hand stripe) second.0).1 in

@@ -124,15 +124,15 @@ module _ (m : Moment) (l : IsLawful m) (hand : ℕ) where
   -- and after one takes the place of another
   pub pop_off_by : (P : State → Type 0) (old : ChunkId) → can_pop_off m.state hand old ≡ true → ((chunk : ChunkId) → MayHandOut m hand chunk → P (popped_off m.state hand old (Some chunk))) → P (after_pop_off m.state hand old)
   pop_off_by P old can each =
-      let parts = and_parts _ (can_hand_out m.state (target_of m.state old.page)) can in
+      let parts = and_parts _ (can_hand_out m.state (target_of m.state.table m.state.heads m.state.slabs old.page)) can in
       let more = and_parts _ (has_place m.state hand) parts.0 in
       let out = and_parts _ (is_handed_out m.state.slabs old) more.0 in
       let class = class_of_page m.state.slabs old.page in
       let is = IsClass-handed_out m.state.slabs old l.paged.of_table.accounted (Contains_from_among (class_at m.state.slabs class).order old out.1) in
-      elim (target_of m.state old.page) as (λ o. target_of m.state old.page ≡ o → can_hand_out m.state o ≡ true → P (popped_off m.state hand old o)) [
+      elim (target_of m.state.table m.state.heads m.state.slabs old.page) as (λ o. target_of m.state.table m.state.heads m.state.slabs old.page ≡ o → can_hand_out m.state o ≡ true → P (popped_off m.state hand old o)) [
         | None ↦ λ _ never. absurd (cc)
         | Some chunk ↦ λ found may.
-            let at = found_placed m l class chunk (is_target m.state old.page) is found in
+            let at = found_placed m l class chunk (is_target m.state.table m.state.heads old.page) is found in
             let free = can_hand_out_parts chunk may in
             each chunk (record { near = near_placed m l chunk at.1; free = free.0; unused = free.1; room = ltb-true (length (holdings_at m.state hand)) 256 more.1 })
       ] refl parts.1

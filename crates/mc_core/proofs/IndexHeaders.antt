@@ -13,7 +13,7 @@ use Rattle.mc_core.specs.Head.{is_free, is_out, is_unlinked, is_dead, is_linked}
 use Rattle.mc_core.specs.State.{has_chunk, head_place, head_at, has_slabs, holdings_at}
 use Rattle.mc_core.specs.Silent.{is_handed_out, is_listed}
 use Rattle.mc_core.specs.Chunks.{handed_out, holds_as, after_drop, let_go, can_pop, after_pop, can_pop_off, after_pop_off, with_tag_free, with_tag_out, can_put_back, after_put_back, can_clear, after_clear, is_next_uncut, can_cut, after_cut, is_moving_page}
-use Rattle.mc_core.specs.Items.{can_count, referred, with_reference, can_again, has_place_again}
+use Rattle.mc_core.specs.Items.{can_count, referred, with_reference, can_again, has_place_unlocked}
 use Rattle.mc_core.specs.Indexed.{AreIndexed}
 use Rattle.mc_core.specs.Past.{Moment}
 use Rattle.mc_core.specs.Lawful.{IsLawful}
@@ -63,7 +63,7 @@ module _ (m : Moment) (l : IsLawful m) where
       let count = and_parts _ (can_count (head_at m.state chunk)) can in
       let same = and_parts _ ((head_at m.state chunk).issue == issue) count.0 in
       let linked = and_parts _ (is_linked (head_at m.state chunk).tag) same.0 in
-      let room = and_parts (has_chunk m.state.table chunk) (has_place_again m.state hand) linked.0 in
+      let room = and_parts (has_chunk m.state.table chunk) (has_place_unlocked m.state hand) linked.0 in
       header_only m.state.slabs (λ page. refl) chunk (referred (head_at m.state chunk)) room.0 (λ linked. linked) (λ linked. linked)
 
   -- a chunk that isn't linked gets another tag

@@ -10,11 +10,11 @@ use Rattle.mc_stripe.proofs.Entries.{at_without_entry}
 use Rattle.mc_core.specs.declared.head.Tag.TheVariants.{Unlinked, Linked}
 use Rattle.mc_core.specs.Head.{is_linked}
 use Rattle.mc_core.specs.Holdings.{is_of, is_fresh, has_fresh, holding_of}
-use Rattle.mc_core.specs.State.{has_chunk, head_at, word_at, has_slabs, has_stripe, stripe_of, stripe_at, holdings_at}
+use Rattle.mc_core.specs.State.{has_chunk, head_at, word_at, has_slabs, has_stripe, stripe_of, stripe_at, holdings_at, looks_at}
 use Rattle.mc_core.specs.Silent.{writer_of}
 use Rattle.mc_core.specs.Chunks.{can_fill_in, can_fill, after_fill}
 use Rattle.mc_core.specs.Items.{referred, chunk_of, can_refer_to, can_refer, referred_to, with_got, after_refer, is_linked_at, can_unlink, stripe_unlinked, unlinked, with_unlinked, after_unlink}
-use Rattle.mc_core.specs.Evictions.{condemned, is_idle, key_at, can_take_away, has_copy, has_reason, can_condemn, stripe_condemned, after_condemn}
+use Rattle.mc_core.specs.Evictions.{condemned, is_linked_unheld, key_at, can_lose_entry, has_copy, has_reason, can_condemn, stripe_condemned, after_condemn}
 use Rattle.mc_core.specs.Columns.{head_in, place_in, Shows, holders}
 use Rattle.mc_core.specs.Indexed.{AreIndexed}
 use Rattle.mc_core.specs.Past.{Moment}
@@ -82,16 +82,16 @@ module _ (m : Moment) (l : IsLawful m) (hand : ℕ) where
   condemn_indexed chunk can =
       let key = key_at m.state chunk in
       let stripe = stripe_at m.state (stripe_of m.state key) in
-      let reason = and_parts _ (has_reason m.state hand chunk) can in
-      let take = and_parts _ (can_take_away stripe key (has_copy m.state hand chunk)) reason.0 in
+      let reason = and_parts _ (has_reason m.state.table m.state.heads m.state.slabs (looks_at m.state hand) (holdings_at m.state hand) chunk) can in
+      let take = and_parts _ (can_lose_entry stripe key (has_copy (holdings_at m.state hand) chunk)) reason.0 in
       let has = and_parts _ (has_stripe m.state hand (stripe_of m.state key)) take.0 in
-      let idle = and_parts _ (is_idle (head_at m.state chunk)) has.0 in
+      let idle = and_parts _ (is_linked_unheld (head_at m.state chunk)) has.0 in
       let near = and_parts (has_slabs m.state hand) (has_chunk m.state.table chunk) idle.0 in
       let both = and_parts (is_linked (head_at m.state chunk).tag) ((head_at m.state chunk).count == 1) idle.1 in
       let is = tag_linked (head_at m.state chunk).tag both.0 in
       fewer_indexed m l chunk near.1 (condemned (head_at m.state chunk)) key (word_at m.state chunk 1)
-      (stripe_condemned stripe (has_copy m.state hand chunk) (writer_of m.state hand) key) (λ never. cc) (l.indexed.linked chunk near.1 is)
-      (λ other. condemned_gives stripe (has_copy m.state hand chunk) (writer_of m.state hand) key other (rising key))
+      (stripe_condemned stripe (has_copy (holdings_at m.state hand) chunk) (writer_of m.state hand) key) (λ never. cc) (l.indexed.linked chunk near.1 is)
+      (λ other. condemned_gives stripe (has_copy (holdings_at m.state hand) chunk) (writer_of m.state hand) key other (rising key))
 
   -- a word of a fresh chunk
   pub fill_indexed : (chunk : ChunkId) (place word : ℕ) → can_fill m.state hand chunk place ≡ true → IsIndexed (after_fill m.state hand chunk place word)

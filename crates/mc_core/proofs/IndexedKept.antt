@@ -1,29 +1,27 @@
 -- The index: its entries are the linked chunks after every change and step, and at first.
-use Rattle.std.proofs.Common.{◌≡◌, ℕ, ◌*◌, ◌%◌, ◌<◌, ◌≤◌, ◌&&◌, Bool, true, false, cond, length, replicate, Some, None, refl, sym, ap, ◌∙◌, arith, subst, slice_set, inl, inr, is_none}
+use Rattle.std.proofs.Common.{◌≡◌, ℕ, ◌*◌, ◌%◌, ◌<◌, ◌&&◌, Bool, true, false, cond, length, replicate, Some, None, refl, sym, ap, ◌∙◌, arith, subst, slice_set, inl, inr, is_none}
 use Rattle.std.proofs.lemmas.Bool.{and_parts, cases_lt}
 use Rattle.std.proofs.lemmas.List.{set_past}
 use Rattle.std.proofs.lemmas.Option.{get_or_from_slice_get}
-use Rattle.mc_classes.specs.Classes.{Classes, IsSound, pages_of}
+use Rattle.mc_classes.specs.Classes.{pages_of}
 use Rattle.mc_pages.specs.SlabState.{fresh_slabs}
 use Rattle.mc_stripe.specs.StripeState.{ReadyStripe, new_stripe, place_of}
 use Rattle.mc_stripe.specs.Changes as stripe_changes
 use Rattle.mc_stripe.specs.Changes.{after_got, used_up}
 use Rattle.mc_stripe.proofs.Entries.{at_without_entry, by_equal}
-use Rattle.mc_core.specs.declared.head.Head.{Head}
 use Rattle.mc_core.specs.declared.head.Tag.TheVariants.{Out, Linked}
 use Rattle.mc_core.specs.declared.look.Look.{Look}
 use Rattle.mc_core.specs.declared.event.Change.{Change}
 use Rattle.mc_core.specs.declared.event.Change.TheVariants.{Grow, BeginMove, FinishMove, Touch, SetAutomove, Passed, Wrap, Evicted, Reserve, GotNone, DeletedNone}
 use Rattle.mc_core.specs.declared.event.Step.TheVariants.{TakeSlabs, TakeStripe, MissSlabs, MissStripe, GiveSlabs, GiveStripe, Pop, PopOff, Fill, Word, WordHeld, Link, Refer, Unlink, Release, Discard, Condemn, PutBack, Clear, Cut, Again, Join}
 use Rattle.mc_core.specs.declared.event.Step.TheVariants as step
-use Rattle.mc_core.specs.Head.{never_cut}
 use Rattle.mc_core.specs.State.{State, most_of, head_place, stripe_of, stripe_at, has_slabs, has_stripe, with_look, new_state}
 use Rattle.mc_core.specs.Silent.{writer_of, can_tell_none, after_change}
 use Rattle.mc_core.specs.Columns.{head_in}
 use Rattle.mc_core.specs.Indexed.{AreIndexed}
-use Rattle.mc_core.specs.Past.{Moment, first_moment}
+use Rattle.mc_core.specs.Past.{Moment}
 use Rattle.mc_core.specs.Lawful.{IsLawful, IndexedIn}
-use Rattle.mc_core.specs.Laws.{MayChange, ChangesKeep, StepsKeep}
+use Rattle.mc_core.specs.Laws.{MayChange, ChangesKeep, StepsKeep, HoldsAtFirst}
 use Rattle.mc_core.proofs.SamePages.{stays_changes}
 use Rattle.mc_core.proofs.TalliedKept.{all_same}
 use Rattle.mc_core.proofs.Index.{leads, AreOwn, own_from, indexed_from, same_leads, same_own}
@@ -31,6 +29,7 @@ use Rattle.mc_core.proofs.IndexStays.{IsIndexed, word_moved, indexed_stays}
 use Rattle.mc_core.proofs.IndexHeaders.{pop_indexed, pop_off_indexed, drop_indexed, again_indexed, put_back_indexed, clear_indexed, cut_indexed}
 use Rattle.mc_core.proofs.IndexSteps.{refer_indexed, unlink_indexed, condemn_indexed, fill_indexed, nowhere_from}
 use Rattle.mc_core.proofs.IndexLinks.{link_indexed}
+use Rattle.mc_core.proofs.Made.{first_heads}
 
 own : (m : Moment) → IsLawful m → AreOwn m.state.stripes
 own m l = own_from m.state.table m.state.slabs m.state.heads m.state.words m.state.stripes l.indexed
@@ -131,10 +130,10 @@ new_own stripes = λ stripe key value place at there.
     let new : new_stripe ≡ value = sym (all_same new_stripe stripes stripe) ∙ get_or_from_slice_get (replicate stripes new_stripe) stripe value new_stripe at in
     let never : None ≡ Some place = ap (λ (v : ReadyStripe). place_of v.state key) new ∙ there in absurd (cc)
 
-pub indexed_first : (table : Classes) (stripes hands : ℕ) → IsSound table → 1 ≤ stripes → 1 ≤ hands → hands ≤ 64 → IndexedIn (first_moment table stripes hands)
-indexed_first table stripes hands sound some_stripe some_hand few =
-    let state = new_state table stripes hands in
+pub indexed_first : HoldsAtFirst IndexedIn
+indexed_first table stripes hands start sound some_stripe some_hand few small =
+    let state = new_state table stripes hands start in
     indexed_from table (fresh_slabs table) state.heads state.words (replicate stripes new_stripe) (new_own stripes)
     (λ key stamp chunk there. let never : None ≡ Some (chunk, stamp) = sym (new_leads stripes key) ∙ there in absurd (cc))
     (λ chunk near linked.
-    let out : Out ≡ Linked = ap (λ (head : Head). head.tag) (sym (all_same never_cut (pages_of table * most_of table) (head_place table chunk))) ∙ linked in absurd (cc))
+    let out : Out ≡ Linked = sym (first_heads (pages_of table * most_of table) (head_place table chunk) start small).out ∙ linked in absurd (cc))

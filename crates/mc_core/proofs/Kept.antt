@@ -21,7 +21,7 @@ changed state new after kept is shape all = record {
 }
 
 pub same_shape : (slabs : SlabState) → HasShape slabs slabs
-same_shape slabs = record { counts = refl; owners = refl }
+same_shape slabs = record { page = refl; limit = refl; counts = refl; owners = refl }
 
 -- what a grant that may be refused leaves
 pub grown_shape : (result : Result ℕ Grow) (old new : SlabState) (class : ℕ) → IfOk result (λ page. (next_page old ≡ Some page) × (new ≡ after_grow old class page)) → OnErr result (new ≡ old) → HasShape old new

@@ -143,15 +143,15 @@ module _ (m : Moment) (hand : ℕ) where
   pub known_pop_off : (old : ChunkId) → MayStep m hand (PopOff old) → KnownIn (moment_stepped m hand (PopOff old))
   known_pop_off old may =
       let l = may.lawful in
-      let parts = and_parts _ (can_hand_out m.state (target_of m.state old.page)) may.allowed in
+      let parts = and_parts _ (can_hand_out m.state (target_of m.state.table m.state.heads m.state.slabs old.page)) may.allowed in
       let more = and_parts _ (has_place m.state hand) parts.0 in
       let out = and_parts _ (is_handed_out m.state.slabs old) more.0 in
       let class = class_of_page m.state.slabs old.page in
       let is = IsClass-handed_out m.state.slabs old l.paged.of_table.accounted (Contains_from_among (class_at m.state.slabs class).order old out.1) in
-      elim (target_of m.state old.page) as (λ o. target_of m.state old.page ≡ o → can_hand_out m.state o ≡ true → KnownAt (popped_off m.state hand old o) (with_more m.past.said hand []) (with_more m.past.known hand [])) [
+      elim (target_of m.state.table m.state.heads m.state.slabs old.page) as (λ o. target_of m.state.table m.state.heads m.state.slabs old.page ≡ o → can_hand_out m.state o ≡ true → KnownAt (popped_off m.state hand old o) (with_more m.past.said hand []) (with_more m.past.known hand [])) [
         | None ↦ λ _ never. absurd (cc)
         | Some chunk ↦ λ found _.
-            let at = found_placed m l class chunk (is_target m.state old.page) is found in
+            let at = found_placed m l class chunk (is_target m.state.table m.state.heads old.page) is found in
             known_fresh l (slabs_changes.after_replace m.state.slabs chunk old) (λ page. refl) chunk (near_placed m l chunk at.1) (Copy old)
       ] refl parts.1
 

@@ -11,12 +11,12 @@ use Rattle.mc_core.specs.declared.holding.Holding.{Holding}
 use Rattle.mc_core.specs.declared.holding.Kind.{Kind}
 use Rattle.mc_core.specs.declared.holding.Kind.TheVariants.{Reference, Fresh}
 use Rattle.mc_core.specs.Head.{is_linked}
-use Rattle.mc_core.specs.Holdings.{Words, stamp_in, is_fresh_kind, is_copy_of, is_copy_kind}
-use Rattle.mc_core.specs.State.{State, is_hand, has_chunk, head_at, item_at, has_slabs, has_stripe, stripe_of, stripe_at, with_head}
-use Rattle.mc_core.specs.Evictions.{is_idle, condemned, key_at, has_copy, has_reason, can_take_away, with_told, with_bound, as_rescue}
+use Rattle.mc_core.specs.Holdings.{is_fresh_kind, is_copy_of, is_copy_kind, stamp_of}
+use Rattle.mc_core.specs.State.{State, is_hand, has_chunk, head_at, item_at, has_slabs, has_stripe, stripe_of, stripe_at, with_head, holdings_at, looks_at}
+use Rattle.mc_core.specs.Evictions.{is_linked_unheld, condemned, key_at, has_copy, has_reason, can_lose_entry, with_told, with_bound, as_rescue}
 use Rattle.mc_core.specs.Hands as hands
-use Rattle.mc_core.specs.Past.{Moment, Known, Saying, with_more, known_by, moment_stepped}
-use Rattle.mc_core.specs.Columns.{head_in, Each, IsKnownToSome}
+use Rattle.mc_core.specs.Past.{Moment, Known, Saying, with_more, known_by, moment_stepped, IsKnownToSome}
+use Rattle.mc_core.specs.Columns.{head_in, Each}
 use Rattle.mc_core.specs.Knowing.{IsSaid}
 use Rattle.mc_core.specs.Laws.{MayStep}
 use Rattle.mc_core.specs.Lawful.{IsLawful, KnownIn}
@@ -45,10 +45,10 @@ pub record IsCondemnable (s : State) (hand : ℕ) (chunk : ChunkId) : Type 0 whe
 
 pub condemnable : (m : Moment) (hand : ℕ) (chunk : ChunkId) → MayStep m hand (Condemn chunk) → IsCondemnable m.state hand chunk
 condemnable m hand chunk may =
-    let reason = and_parts _ (has_reason m.state hand chunk) may.allowed in
-    let take = and_parts _ (can_take_away (stripe_at m.state (stripe_of m.state (key_at m.state chunk))) (key_at m.state chunk) (has_copy m.state hand chunk)) reason.0 in
+    let reason = and_parts _ (has_reason m.state.table m.state.heads m.state.slabs (looks_at m.state hand) (holdings_at m.state hand) chunk) may.allowed in
+    let take = and_parts _ (can_lose_entry (stripe_at m.state (stripe_of m.state (key_at m.state chunk))) (key_at m.state chunk) (has_copy (holdings_at m.state hand) chunk)) reason.0 in
     let stripe = and_parts _ (has_stripe m.state hand (stripe_of m.state (key_at m.state chunk))) take.0 in
-    let idle = and_parts _ (is_idle (head_at m.state chunk)) stripe.0 in
+    let idle = and_parts _ (is_linked_unheld (head_at m.state chunk)) stripe.0 in
     let both = and_parts (has_slabs m.state hand) (has_chunk m.state.table chunk) idle.0 in
     let head = and_parts (is_linked (head_at m.state chunk).tag) ((head_at m.state chunk).count == 1) idle.1 in
     record { slabs = both.0; near = both.1; linked = linked_tag (head_at m.state chunk).tag head.0; alone = eqb-true (head_at m.state chunk).count 1 head.1 }
@@ -121,7 +121,7 @@ module _ (m : Moment) (hand kept spent : ℕ) (may : MayStep m hand (Join kept s
   within : (n : ℕ) → is_hand m.state n ≡ true → n < length m.state.ids
   within n there = hand_there m.state n there
 
-  said_still : (stamp : ℕ) (words : Words) → IsSaid m.past.said stamp words → IsSaid said' stamp words
+  said_still : (stamp : ℕ) (words : List ℕ) → IsSaid m.past.said stamp words → IsSaid said' stamp words
   said_still stamp words said =
       let rows = lawful.rows.said in let is = within kept join.there in said_joined m.past.said kept spent stamp words join.apart (omega arith) said
 
@@ -151,8 +151,8 @@ module _ (m : Moment) (hand kept spent : ℕ) (may : MayStep m hand (Join kept s
   known_join =
       let rows = lawful.rows.said in let in_kept = within kept join.there in let in_spent = within spent join.there_too in
       let once = λ (stamp : ℕ). once_joined m.past.said kept spent stamp join.apart (omega arith) (omega arith) (lawful.known.once stamp) in
-      let by_some = each_joined (λ k. IsSaid said' (stamp_in k.words) k.words) m.past.known kept spent
-      (each_map (λ k. IsSaid m.past.said (stamp_in k.words) k.words) (λ k. IsSaid said' (stamp_in k.words) k.words) m.past.known (λ k. said_still (stamp_in k.words) k.words) lawful.known.said_by_some) in
+      let by_some = each_joined (λ k. IsSaid said' (stamp_of k.words) k.words) m.past.known kept spent
+      (each_map (λ k. IsSaid m.past.said (stamp_of k.words) k.words) (λ k. IsSaid said' (stamp_of k.words) k.words) m.past.known (λ k. said_still (stamp_of k.words) k.words) lawful.known.said_by_some) in
       record {
         once = once;
         agree = all_agree said' known' once by_some;

@@ -7,7 +7,7 @@ use Rattle.mc_pages.specs.SlabState.{class_of_page}
 use Rattle.mc_pages.proofs.Chunks.{same_from_is_chunk}
 use Rattle.mc_core.specs.declared.event.Step.TheVariants.{Fill}
 use Rattle.mc_core.specs.declared.holding.Holding.{Holding}
-use Rattle.mc_core.specs.Holdings.{Words, is_of, holding_of, is_fresh, change_each}
+use Rattle.mc_core.specs.Holdings.{Words, is_of, holding_of, is_fresh, change_each, all_known}
 use Rattle.mc_core.specs.State.{room_in, holdings_at}
 use Rattle.mc_core.specs.Chunks.{can_fill_in, filled, after_fill}
 use Rattle.mc_core.specs.Past.{Moment, Known, with_more, moment_stepped}
@@ -46,7 +46,7 @@ module _ (m : Moment) (l : IsLawful m) (chunk : ChunkId) (place word : ℕ) (pla
     inside = is.inside;
     whole = is.whole;
     older = is.older;
-    shows = λ out. shows_filled k.chunk k.words (placed_at m l k.chunk k.issue is.inside out).0 (other out) (is.shows out);
+    shows = λ out. shows_filled k.chunk (all_known k.words) (placed_at m l k.chunk k.issue is.inside out).0 (other out) (is.shows out);
     room = is.room;
     apart = apart;
   }

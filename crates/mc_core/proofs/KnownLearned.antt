@@ -4,10 +4,10 @@ use Rattle.mc_pages.specs.declared.ids.ChunkId.{ChunkId}
 use Rattle.std.proofs.lemmas.List.Elements.{All-weaker}
 use Rattle.mc_core.specs.declared.head.Head.{Head}
 use Rattle.mc_core.specs.declared.holding.Holding.{Holding}
-use Rattle.mc_core.specs.Holdings.{Words, stamp_in}
-use Rattle.mc_core.specs.Past.{Moment, Known, Saying, known_by, with_more}
+use Rattle.mc_core.specs.Holdings.{stamp_of}
+use Rattle.mc_core.specs.Past.{Moment, Known, Saying, known_by, with_more, IsKnownToSome}
 use Rattle.mc_core.specs.State.{has_chunk, head_place, is_hand}
-use Rattle.mc_core.specs.Columns.{Each, IsKnownToSome}
+use Rattle.mc_core.specs.Columns.{Each}
 use Rattle.mc_core.specs.Identities.{said_count}
 use Rattle.mc_core.specs.Knowing.{IsSaid, IsTrueStill, AreKnown}
 use Rattle.mc_core.specs.Lawful.{IsLawful}
@@ -64,13 +64,13 @@ module _ (m : Moment) (l : IsLawful m) (hand : ℕ) (there : is_hand m.state han
     abbrev IsStillNow : Known → Type 0
     IsStillNow k = IsTrueStill m.state.table m.state.slabs heads' m.state.words (rows_more rows' hand reference) k
 
-    pub known_learned : ((stamp : ℕ) → said_count stamp said' ≤ 1) → ((stamp : ℕ) (words : Words) → IsSaid m.past.said stamp words → IsSaid said' stamp words) → IsSaid said' (stamp_in knew.words) knew.words →
+    pub known_learned : ((stamp : ℕ) → said_count stamp said' ≤ 1) → ((stamp : ℕ) (words : List ℕ) → IsSaid m.past.said stamp words → IsSaid said' stamp words) → IsSaid said' (stamp_of knew.words) knew.words →
         ((k : Known) → IsStill m l k → IsStillNow k) → IsStillNow knew → Each (AreOne knew) m.past.known → ((other : ℕ) → All (IsOwn m.past.known other) (row_of rows' other)) → known_by knew.room reference ≡ knew →
         knew.chunk ≡ chunk → knew.issue ≡ head.issue → AreKnown m.state.table m.state.slabs heads' m.state.words (rows_more rows' hand reference) said' known'
     known_learned once more said still knew_still agrees own is at issue =
-        let by_some = each_more (λ k. IsSaid said' (stamp_in k.words) k.words) m.past.known hand (knew ∷ [])
-        (each_map (λ k. IsSaid m.past.said (stamp_in k.words) k.words) (λ k. IsSaid said' (stamp_in k.words) k.words) m.past.known (λ k was. more (stamp_in k.words) k.words was) l.known.said_by_some)
-        (all_one (λ k. IsSaid said' (stamp_in k.words) k.words) knew said) in
+        let by_some = each_more (λ k. IsSaid said' (stamp_of k.words) k.words) m.past.known hand (knew ∷ [])
+        (each_map (λ k. IsSaid m.past.said (stamp_of k.words) k.words) (λ k. IsSaid said' (stamp_of k.words) k.words) m.past.known (λ k was. more (stamp_of k.words) k.words was) l.known.said_by_some)
+        (all_one (λ k. IsSaid said' (stamp_of k.words) k.words) knew said) in
         record {
           once = once;
           agree = all_agree said' known' once by_some;

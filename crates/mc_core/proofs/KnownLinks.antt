@@ -1,5 +1,5 @@
 -- Known items as a fresh chunk is linked.
-use Rattle.std.proofs.Common.{◌≡◌, ℕ, ◌<◌, ◌≤◌, true, List, [], ◌∷◌, length, refl, sym, ap, subst, ◌∙◌, arith, slice_set, Option, Some, None, eqb-true}
+use Rattle.std.proofs.Common.{◌≡◌, ℕ, ◌<◌, ◌≤◌, true, List, [], ◌∷◌, length, refl, sym, ap, subst, ◌∙◌, arith, slice_set, Option, Some, None, eqb-true, is_some}
 use Rattle.std.specs.Bool.{nat_eq}
 use Rattle.std.specs.Option.{option_eq}
 use Rattle.std.proofs.lemmas.Bool.{and_parts}
@@ -15,7 +15,7 @@ use Rattle.mc_core.specs.declared.holding.Kind.{Kind}
 use Rattle.mc_core.specs.declared.holding.Kind.TheVariants.{Reference, Fresh}
 use Rattle.mc_core.specs.declared.holding.Purpose.TheVariants.{Item, Copy, Rescue}
 use Rattle.mc_core.specs.Head.{is_unlinked}
-use Rattle.mc_core.specs.Holdings.{Words, stamp_in, item_in, is_complete, is_of, holding_of, is_fresh, is_fresh_kind}
+use Rattle.mc_core.specs.Holdings.{Words, stamp_in, item_in, is_complete, is_of, holding_of, is_fresh, is_fresh_kind, numbers}
 use Rattle.mc_core.specs.State.{State, room_in, room_at, is_hand, has_chunk, head_place, head_at, ids_at, with_head, holdings_at, with_holding, without_holding}
 use Rattle.mc_core.specs.Items.{linked, as_reference, told_link, after_link_of, are_same, suits, can_tell_link, can_link_holding, can_count, is_next_stamp}
 use Rattle.mc_core.specs.Past.{Moment, Known, Saying, with_more, saying_of, said_by, known_by, known_of_holding, moment_stepped}
@@ -35,6 +35,8 @@ use Rattle.mc_core.proofs.KnownStill.{IsApartFrom, head_now, still_turned}
 use Rattle.mc_core.proofs.KnownQuiet.{IsStill, apart_less, own_less, younger_linked}
 use Rattle.mc_core.proofs.KnownLearned.{AreOne, known_learned}
 use Rattle.mc_core.proofs.KnownChunks.{KnownAt}
+use Rattle.mc_core.proofs.Numbers.{known_numbers, numbers_at, numbers_whole}
+use Rattle.std.specs.List.{list_all}
 
 -- two items that are the same
 pub same_words : (a b : Words) → are_same a b ≡ true → a ≡ b
@@ -107,10 +109,11 @@ module _ (m : Moment) (l : IsLawful m) (hand : ℕ) (there : is_hand m.state han
       let whole = item_whole holding.words complete in
       record {
         inside = out.0;
-        whole = (whole.complete, whole.long);
+        whole = numbers_whole (item_in holding.words) whole.long;
         older = head_now m.state.table m.state.heads chunk head l.sized.headers near (λ h. holding.issue ≤ h.issue) holding.chunk out.0 (λ _. let same = issue_is in omega arith) (λ _. let same = out.1.1 in omega arith);
-        shows = λ _. shows_item m.state.table m.state.slabs m.state.words holding.chunk holding.words complete
-            (found_each (λ h. Shows m.state.table m.state.slabs m.state.words h.chunk h.words) m.state.holdings hand (is_of chunk) holding found l.held.shows);
+        shows = λ _. subst (Shows m.state.table m.state.slabs m.state.words holding.chunk) (sym (known_numbers (item_in holding.words) (and_parts _ (list_all is_some (item_in holding.words)) complete).1))
+            (shows_item m.state.table m.state.slabs m.state.words holding.chunk holding.words complete
+            (found_each (λ h. Shows m.state.table m.state.slabs m.state.words h.chunk h.words) m.state.holdings hand (is_of chunk) holding found l.held.shows));
         room = λ _. ap (λ (c : ChunkId). room_in m.state.table (class_of_page m.state.slabs c.page)) at;
         apart = knew_apart;
       }
@@ -122,11 +125,11 @@ module _ (m : Moment) (l : IsLawful m) (hand : ℕ) (there : is_hand m.state han
       (λ k is same issue. absurd (found_each (IsApartFrom k) m.state.holdings hand (is_of chunk) holding found is.apart fresh (sym same) (sym issue)))
       l.known.still
 
-  pub link_learned : (said' : List (List Saying)) → ((stamp : ℕ) → said_count stamp said' ≤ 1) → ((stamp : ℕ) (words : Words) → IsSaid m.past.said stamp words → IsSaid said' stamp words) →
-      IsSaid said' (stamp_in holding.words) (item_in holding.words) → KnownAt (with_holding (with_head (without_holding m.state hand (is_of chunk)) chunk head) hand reference) said' (with_more m.past.known hand (knew ∷ []))
+  pub link_learned : (said' : List (List Saying)) → ((stamp : ℕ) → said_count stamp said' ≤ 1) → ((stamp : ℕ) (words : List ℕ) → IsSaid m.past.said stamp words → IsSaid said' stamp words) →
+      IsSaid said' (stamp_in holding.words) (numbers (item_in holding.words)) → KnownAt (with_holding (with_head (without_holding m.state hand (is_of chunk)) chunk head) hand reference) said' (with_more m.past.known hand (knew ∷ []))
   link_learned said' once more said =
       known_learned m l hand there knew chunk head near reference less said' once more
-      (subst (λ n. IsSaid said' n (item_in holding.words)) (sym (item_stamp holding.words complete)) said)
+      (subst (λ n. IsSaid said' n (numbers (item_in holding.words))) (sym (numbers_at (item_in holding.words) 1 ∙ item_stamp holding.words complete)) said)
       still knew_still none_knew (own_less m l hand (is_of chunk)) refl at issue_is
 
 module _ (m : Moment) (hand : ℕ) (chunk : ChunkId) where
@@ -147,11 +150,11 @@ module _ (m : Moment) (hand : ℕ) (chunk : ChunkId) where
 
     -- an item of the hand's own is said
     linked_own : is_fresh holding ≡ true → is_next_stamp (ids_at m.state hand) (stamp_in holding.words) ≡ true →
-        KnownAt (with_holding (with_head left chunk (linked (head_at m.state chunk))) hand (as_reference holding)) (with_more m.past.said hand (record { stamp = stamp_in holding.words; words = item_in holding.words } ∷ []))
+        KnownAt (with_holding (with_head left chunk (linked (head_at m.state chunk))) hand (as_reference holding)) (with_more m.past.said hand (record { stamp = stamp_in holding.words; words = numbers (item_in holding.words) } ∷ []))
         (with_more m.past.known hand (known_by (room_at m.state chunk) (as_reference holding) ∷ []))
     linked_own fresh next =
         let l = may.lawful in
-        let s : Saying = record { stamp = stamp_in holding.words; words = item_in holding.words } in
+        let s : Saying = record { stamp = stamp_in holding.words; words = numbers (item_in holding.words) } in
         let unsaid = next_unsaid m.state.ids m.past.mine m.past.said m.past.known hand s.stamp l.numbered next in
         link_learned m l hand may.there chunk holding found fresh complete unlinked (with_more m.past.said hand (s ∷ []))
         (λ stamp. once_more m.past.said hand s stamp within unsaid (l.known.once stamp)) (λ stamp words. said_more m.past.said hand (s ∷ []) stamp words)
@@ -164,8 +167,8 @@ module _ (m : Moment) (hand : ℕ) (chunk : ChunkId) where
         let fresh : is_fresh holding ≡ true = ap is_fresh_kind kind in
         let is = same_words (item_in holding.words) item same in
         let rescue : IsRescue m.past.said holding.chunk (Fresh (Rescue old item)) = subst (IsRescue m.past.said holding.chunk) kind (found_each (λ h. IsRescue m.past.said h.chunk h.kind) m.state.holdings hand (is_of chunk) holding found l.rescued) in
-        let said : IsSaid m.past.said (stamp_in holding.words) (item_in holding.words) =
-        subst (λ n. IsSaid m.past.said n (item_in holding.words)) (item_stamp holding.words complete) (subst (λ (ws : Words). IsSaid m.past.said (stamp_in ws) ws) (sym is) rescue.2) in
+        let said : IsSaid m.past.said (stamp_in holding.words) (numbers (item_in holding.words)) =
+        subst (λ n. IsSaid m.past.said n (numbers (item_in holding.words))) (item_stamp holding.words complete) (subst (λ (ws : Words). IsSaid m.past.said (stamp_in ws) (numbers ws)) (sym is) rescue.2) in
         subst (λ (s : List (List Saying)). KnownAt (ends holding (Fresh (Rescue old item))) s (with_more m.past.known hand (known_by (room_at m.state chunk) (as_reference holding) ∷ []))) (sym (with_none m.past.said hand))
         (link_learned m l hand may.there chunk holding found fresh complete unlinked m.past.said l.known.once (λ stamp words is. is) said)
 

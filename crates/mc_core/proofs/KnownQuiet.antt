@@ -7,13 +7,13 @@ use Rattle.mc_pages.specs.SlabState.{SlabState, class_of_page}
 use Rattle.mc_core.specs.declared.head.Head.{Head}
 use Rattle.mc_core.specs.declared.head.Tag.TheVariants.{Unlinked, Linked}
 use Rattle.mc_core.specs.declared.holding.Holding.{Holding}
-use Rattle.mc_core.specs.Holdings.{Words, stamp_in, is_fresh, change_each, lose}
-use Rattle.mc_core.specs.Past.{Moment, Known, Saying, known_by, with_more}
+use Rattle.mc_core.specs.Holdings.{is_fresh, change_each, lose, stamp_of}
+use Rattle.mc_core.specs.Past.{Moment, Known, Saying, known_by, with_more, IsKnownToSome}
 use Rattle.mc_core.specs.State.{has_chunk, head_place}
 use Rattle.mc_core.specs.Chunks.{handed_out, let_go, with_tag_free, with_tag_out}
 use Rattle.mc_core.specs.Items.{linked, unlinked, referred}
 use Rattle.mc_core.specs.Evictions.{condemned}
-use Rattle.mc_core.specs.Columns.{head_in, Each, IsHandedOut, IsKnownToSome}
+use Rattle.mc_core.specs.Columns.{head_in, Each, IsHandedOut}
 use Rattle.mc_core.specs.Identities.{said_count}
 use Rattle.mc_core.specs.Knowing.{IsSaid, IsTrueStill, AreKnown}
 use Rattle.mc_core.specs.Lawful.{IsLawful}
@@ -39,11 +39,11 @@ nothing_learned P said known hand p =
     subst (λ (s : List (List Saying)). P s (with_more known hand [])) (sym (with_none said hand)) (subst (λ (k : List (List Known)). P said k) (sym (with_none known hand)) p)
 
 -- what is known agrees with what is said
-pub all_agree : (said : List (List Saying)) (known : List (List Known)) → ((stamp : ℕ) → said_count stamp said ≤ 1) → Each (λ k. IsSaid said (stamp_in k.words) k.words) known →
-    Each (λ k. (words : Words) → IsSaid said (stamp_in k.words) words → words ≡ k.words) known
+pub all_agree : (said : List (List Saying)) (known : List (List Known)) → ((stamp : ℕ) → said_count stamp said ≤ 1) → Each (λ k. IsSaid said (stamp_of k.words) k.words) known →
+    Each (λ k. (words : List ℕ) → IsSaid said (stamp_of k.words) words → words ≡ k.words) known
 all_agree said known once each =
-    each_map (λ k. IsSaid said (stamp_in k.words) k.words) (λ k. (words : Words) → IsSaid said (stamp_in k.words) words → words ≡ k.words) known
-    (λ k is words too. said_one said (stamp_in k.words) words k.words (once (stamp_in k.words)) too is) each
+    each_map (λ k. IsSaid said (stamp_of k.words) k.words) (λ k. (words : List ℕ) → IsSaid said (stamp_of k.words) words → words ≡ k.words) known
+    (λ k is words too. said_one said (stamp_of k.words) words k.words (once (stamp_of k.words)) too is) each
 
 module _ (m : Moment) (l : IsLawful m) where
   abbrev pub table : Classes

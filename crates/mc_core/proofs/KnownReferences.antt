@@ -9,9 +9,9 @@ use Rattle.mc_core.specs.declared.head.Tag.{Tag}
 use Rattle.mc_core.specs.declared.head.Tag.TheVariants.{Out, Free, Unlinked, Linked}
 use Rattle.mc_core.specs.declared.holding.Holding.{Holding}
 use Rattle.mc_core.specs.Head.{is_linked}
-use Rattle.mc_core.specs.Holdings.{stamp_in}
+use Rattle.mc_core.specs.Holdings.{stamp_of, all_known, numbers}
 use Rattle.mc_core.specs.State.{room_in, room_at, is_hand, has_chunk, head_place, head_at, item_at}
-use Rattle.mc_core.specs.Items.{referred, new_reference, with_reference, with_got, referred_to, chunk_of, can_refer_to, can_count, has_place_again}
+use Rattle.mc_core.specs.Items.{referred, new_reference, with_reference, with_got, referred_to, chunk_of, can_refer_to, can_count, has_place_unlocked}
 use Rattle.mc_core.specs.Past.{Moment, Known, with_more, known_by, known_of_place, moment_stepped}
 use Rattle.mc_core.specs.Columns.{IsHandedOut, head_in, Each, Shows}
 use Rattle.mc_core.specs.Knowing.{IsSaid, IsTrueStill}
@@ -24,6 +24,7 @@ use Rattle.mc_core.proofs.KnownStill.{IsApartFrom, still_turned}
 use Rattle.mc_core.proofs.KnownQuiet.{IsStill, younger_referred}
 use Rattle.mc_core.proofs.KnownLearned.{AreOne, known_learned}
 use Rattle.mc_core.proofs.KnownChunks.{KnownAt, entry_of}
+use Rattle.mc_core.proofs.Numbers.{numbers_known, whole_known}
 
 pub linked_tag : (tag : Tag) → is_linked tag ≡ true → tag ≡ Linked
 linked_tag Out h = absurd (cc)
@@ -37,22 +38,26 @@ module _ (m : Moment) (l : IsLawful m) (chunk : ChunkId) (near : has_chunk m.sta
   item_known = known_by (room_at m.state chunk) (new_reference m.state chunk)
 
   -- is known to some hand
-  pub linked_known : (hand : ℕ) × (k : Known) × Contains (row_of m.past.known hand) k × (k ≡ item_known)
+  pub linked_known : (hand : ℕ) × (k : Known) × Contains (row_of m.past.known hand) k × (k ≡ item_known) × IsWhole (item_at m.state chunk)
   linked_known =
       let (hand, k, has, same) = l.known.linked chunk near linked in
       let still = each_contained (IsStill m l) m.past.known hand k l.known.still has in
-      let whole : IsWhole k.words = record { complete = still.whole.0; long = still.whole.1 } in
+      let whole : IsWhole (all_known k.words) = whole_known k.words still.whole in
       let shown = still.shows (subst (λ (c : ChunkId). IsHandedOut (head_in m.state.table m.state.heads c) k.issue) (sym same.0) (inr linked, sym same.1)) in
-      let here : Shows m.state.table m.state.slabs m.state.words chunk k.words = subst (λ (c : ChunkId). Shows m.state.table m.state.slabs m.state.words c k.words) same.0 shown in
-      let words : k.words ≡ item_at m.state chunk = sym (shown_item m.state chunk k.words here whole) in
+      let here : Shows m.state.table m.state.slabs m.state.words chunk (all_known k.words) = subst (λ (c : ChunkId). Shows m.state.table m.state.slabs m.state.words c (all_known k.words)) same.0 shown in
+      let item = shown_item m.state chunk (all_known k.words) here whole in
+      let words : k.words ≡ numbers (item_at m.state chunk) = sym (ap numbers item ∙ numbers_known k.words) in
       let room : k.room ≡ room_at m.state chunk =
       sym (still.room (subst (λ (c : ChunkId). IsHandedOut (head_in m.state.table m.state.heads c) k.issue) (sym same.0) (inr linked, sym same.1)))
       ∙ ap (λ (c : ChunkId). room_in m.state.table (class_of_page m.state.slabs c.page)) same.0 in
-      (hand, k, has, λ i. record { chunk = same.0 i; issue = same.1 i; room = room i; words = words i })
+      (hand, k, has, λ i. record { chunk = same.0 i; issue = same.1 i; room = room i; words = words i }, subst IsWhole (sym item) whole)
+
+  pub linked_whole : IsWhole (item_at m.state chunk)
+  linked_whole = linked_known.4
 
   -- so what holds of each known item holds of it
   pub item_has : (P : Known → Type 0) → Each P m.past.known → P item_known
-  item_has P each = let (hand, k, has, same) = linked_known in subst P same (each_contained P m.past.known hand k each has)
+  item_has P each = let (hand, k, has, same, whole) = linked_known in subst P same (each_contained P m.past.known hand k each has)
 
 module _ (m : Moment) (l : IsLawful m) (hand : ℕ) (there : is_hand m.state hand ≡ true) (chunk : ChunkId) (near : has_chunk m.state.table chunk ≡ true) (linked : (head_at m.state chunk).tag ≡ Linked) where
   abbrev reference : Holding
@@ -71,7 +76,7 @@ module _ (m : Moment) (l : IsLawful m) (hand : ℕ) (there : is_hand m.state han
 
   pub known_referred : KnownAt (with_reference m.state hand chunk) (with_more m.past.said hand []) (with_more m.past.known hand (known_by (room_at m.state chunk) reference ∷ []))
   known_referred =
-      let said = item_has m l chunk near linked (λ k. IsSaid m.past.said (stamp_in k.words) k.words) l.known.said_by_some in
+      let said = item_has m l chunk near linked (λ k. IsSaid m.past.said (stamp_of k.words) k.words) l.known.said_by_some in
       subst (λ s. KnownAt (with_reference m.state hand chunk) s (with_more m.past.known hand (known_by (room_at m.state chunk) reference ∷ []))) (sym (with_none m.past.said hand))
       (known_learned m l hand there (known_by (room_at m.state chunk) reference) chunk head near reference m.state.holdings m.past.said l.known.once (λ stamp words is. is) said still
       (still (known_by (room_at m.state chunk) reference) (item_has m l chunk near linked (IsStill m l) l.known.still))
@@ -94,5 +99,5 @@ module _ (m : Moment) (hand : ℕ) where
       let parts = and_parts _ (can_count (head_at m.state chunk)) may.allowed in
       let right = and_parts _ ((head_at m.state chunk).issue == issue) parts.0 in
       let tag = and_parts _ (is_linked (head_at m.state chunk).tag) right.0 in
-      let near = (and_parts (has_chunk m.state.table chunk) (has_place_again m.state hand) tag.0).0 in
+      let near = (and_parts (has_chunk m.state.table chunk) (has_place_unlocked m.state hand) tag.0).0 in
       known_referred m may.lawful hand may.there chunk near (linked_tag (head_at m.state chunk).tag tag.1)

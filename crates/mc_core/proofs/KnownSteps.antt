@@ -1,16 +1,14 @@
 -- Every change and every step keeps what hands said and know.
-use Rattle.std.proofs.Common.{◌≡◌, ℕ, zero, suc, ◌*◌, ◌≤◌, List, [], replicate, get_or, refl, sym, ap, subst, ◌∙◌, arith, slice_index, All}
+use Rattle.std.proofs.Common.{◌≡◌, ℕ, zero, suc, ◌*◌, List, [], replicate, get_or, refl, sym, subst, ◌∙◌, arith, slice_index, All}
 use Rattle.std.proofs.lemmas.List.Elements.{All-nil, All-replicate}
-use Rattle.mc_classes.specs.Classes.{Classes, IsSound, pages_of}
+use Rattle.mc_classes.specs.Classes.{pages_of}
 use Rattle.mc_pages.specs.SlabState.{SlabState}
-use Rattle.mc_core.specs.declared.head.Head.{Head}
 use Rattle.mc_core.specs.declared.head.Tag.{Tag}
 use Rattle.mc_core.specs.declared.head.Tag.TheVariants.{Out, Linked}
 use Rattle.mc_core.specs.declared.event.Change.TheVariants.{Grow, BeginMove, FinishMove, Touch, SetAutomove, Passed, Wrap, Evicted, Reserve, GotNone, DeletedNone}
 use Rattle.mc_core.specs.declared.event.Step.TheVariants.{TakeSlabs, TakeStripe, MissSlabs, MissStripe, GiveSlabs, GiveStripe, Pop, PopOff, Fill, Word, WordHeld, Link, Refer, Unlink, Release, Discard, Condemn, PutBack, Clear, Cut, Again, Join}
 use Rattle.mc_core.specs.declared.event.Step.TheVariants as step
 use Rattle.mc_core.specs.declared.look.Look.TheVariants.{Saw, SawStripe}
-use Rattle.mc_core.specs.Head.{never_cut}
 use Rattle.mc_core.specs.State.{head_place, head_at, most_of, with_slabs}
 use Rattle.mc_core.specs.Silent.{slabs_after}
 use Rattle.mc_core.specs.Run.{after_step}
@@ -18,9 +16,9 @@ use Rattle.mc_core.specs.Past.{Moment, first_moment}
 use Rattle.mc_core.specs.Columns.{Each}
 use Rattle.mc_core.specs.Identities.{said_count}
 use Rattle.mc_core.specs.Knowing.{IsSaid, IsTrueStill}
-use Rattle.mc_core.specs.Holdings.{Words, stamp_in}
+use Rattle.mc_core.specs.Holdings.{stamp_of}
 use Rattle.mc_core.specs.declared.holding.Holding.{Holding}
-use Rattle.mc_core.specs.Laws.{ChangesKeep, StepsKeep, StaysOfClass}
+use Rattle.mc_core.specs.Laws.{ChangesKeep, StepsKeep, StaysOfClass, HoldsAtFirst}
 use Rattle.mc_core.specs.Lawful.{IsLawful, KnownIn}
 use Rattle.mc_core.proofs.SamePages.{stays_changes}
 use Rattle.mc_core.proofs.KnownStill.{still_listed}
@@ -31,6 +29,7 @@ use Rattle.mc_core.proofs.KnownFills.{known_fill}
 use Rattle.mc_core.proofs.KnownLinks.{known_link}
 use Rattle.mc_core.proofs.KnownReferences.{known_refer, known_again}
 use Rattle.mc_core.proofs.KnownCondemned.{known_condemn, known_join}
+use Rattle.mc_core.proofs.Made.{first_heads}
 
 -- the order of lists changes, and what is handed out stays of its class
 known_listed : (m : Moment) (l : IsLawful m) (next : SlabState) → StaysOfClass m.state (with_slabs m.state next) → KnownAt (with_slabs m.state next) m.past.said m.past.known
@@ -91,16 +90,16 @@ none_said : (stamp hands : ℕ) → said_count stamp (replicate hands []) ≡ 0
 none_said stamp zero = refl
 none_said stamp (suc hands) = let rest = none_said stamp hands in omega arith
 
-pub known_first : (table : Classes) (stripes hands : ℕ) → IsSound table → 1 ≤ stripes → 1 ≤ hands → hands ≤ 64 → KnownIn (first_moment table stripes hands)
-known_first table stripes hands sound some one most =
-    let m = first_moment table stripes hands in
+pub known_first : HoldsAtFirst KnownIn
+known_first table stripes hands start sound some one most small =
+    let m = first_moment table stripes hands start in
     record {
       once = λ stamp. let none = none_said stamp hands in omega arith;
-      agree = each_none (λ k. (words : Words) → IsSaid m.past.said (stamp_in k.words) words → words ≡ k.words) hands;
-      said_by_some = each_none (λ k. IsSaid m.past.said (stamp_in k.words) k.words) hands;
+      agree = each_none (λ k. (words : List ℕ) → IsSaid m.past.said (stamp_of k.words) words → words ≡ k.words) hands;
+      said_by_some = each_none (λ k. IsSaid m.past.said (stamp_of k.words) k.words) hands;
       still = each_none (IsTrueStill table m.state.slabs m.state.heads m.state.words m.state.holdings) hands;
       one = each_none (λ k. Each (AreOne k) m.past.known) hands;
       own = λ hand. subst (λ (row : List Holding). All (IsOwn m.past.known hand) row) (sym (read_replicate hands hand [])) (All-nil (IsOwn m.past.known hand));
       linked = λ chunk near linked.
-          let was : ◌≡◌ {A = Tag} Out Linked = sym (ap (λ (h : Head). h.tag) (read_replicate (pages_of table * most_of table) (head_place table chunk) never_cut)) ∙ linked in absurd (cc);
+          let was : ◌≡◌ {A = Tag} Out Linked = sym (first_heads (pages_of table * most_of table) (head_place table chunk) start small).out ∙ linked in absurd (cc);
     }

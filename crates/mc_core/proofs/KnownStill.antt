@@ -10,10 +10,10 @@ use Rattle.mc_core.specs.declared.head.Head.{Head}
 use Rattle.mc_core.specs.declared.head.Tag.{Tag}
 use Rattle.mc_core.specs.declared.head.Tag.TheVariants.{Out, Free, Unlinked, Linked}
 use Rattle.mc_core.specs.declared.holding.Holding.{Holding}
-use Rattle.mc_core.specs.Holdings.{is_fresh}
-use Rattle.mc_core.specs.Past.{Known}
+use Rattle.mc_core.specs.Holdings.{is_fresh, all_known}
+use Rattle.mc_core.specs.Past.{Known, IsKnownToSome}
 use Rattle.mc_core.specs.State.{room_in, has_chunk, head_place, most_of}
-use Rattle.mc_core.specs.Columns.{head_in, Shows, Each, IsHandedOut, IsKnownToSome}
+use Rattle.mc_core.specs.Columns.{head_in, Shows, Each, IsHandedOut}
 use Rattle.mc_core.specs.Knowing.{IsTrueStill}
 use Rattle.mc_core.proofs.Base.{head_written, head_other}
 use Rattle.mc_core.proofs.ShownItems.{shows_class}
@@ -56,7 +56,7 @@ module _ (table : Classes) (heads : List Head) (chunk : ChunkId) (head : Head) (
     inside = true_so_far.inside;
     whole = true_so_far.whole;
     older = head_now (λ h. k.issue ≤ h.issue) k.chunk true_so_far.inside (λ is. let was = older_here is in let more = younger.issue in omega arith) (λ _. true_so_far.older);
-    shows = head_now (λ h. IsHandedOut h k.issue → Shows table next words k.chunk k.words) k.chunk true_so_far.inside
+    shows = head_now (λ h. IsHandedOut h k.issue → Shows table next words k.chunk (all_known k.words)) k.chunk true_so_far.inside
         (λ is out. still_shows (subst (λ (c : ChunkId). IsHandedOut (head_in table heads c) k.issue) is (younger.shows k.issue (older_here is) out)))
         (λ _. still_shows);
     room = head_now (λ h. IsHandedOut h k.issue → room_in table (class_of_page next k.chunk.page) ≡ k.room) k.chunk true_so_far.inside
@@ -71,8 +71,8 @@ module _ (table : Classes) (heads : List Head) (chunk : ChunkId) (head : Head) (
       still_room : IsHandedOut (head_in table heads k.chunk) k.issue → room_in table (class_of_page next k.chunk.page) ≡ k.room
       still_room out = ap (room_in table) same ∙ true_so_far.room out
 
-      still_shows : IsHandedOut (head_in table heads k.chunk) k.issue → Shows table next words k.chunk k.words
-      still_shows out = shows_class table slabs next words k.chunk k.words same (true_so_far.shows out)
+      still_shows : IsHandedOut (head_in table heads k.chunk) k.issue → Shows table next words k.chunk (all_known k.words)
+      still_shows out = shows_class table slabs next words k.chunk (all_known k.words) same (true_so_far.shows out)
 
   -- each linked chunk is known to some hand
   pub linked_turned : (known known' : List (List Known)) → ((P : Known → Type 0) → IsKnownToSome known P → IsKnownToSome known' P)
@@ -92,7 +92,7 @@ still_listed table slabs next heads words rows rows' k same apart so_far = recor
   inside = so_far.inside;
   whole = so_far.whole;
   older = so_far.older;
-  shows = λ out. shows_class table slabs next words k.chunk k.words (same out) (so_far.shows out);
+  shows = λ out. shows_class table slabs next words k.chunk (all_known k.words) (same out) (so_far.shows out);
   room = λ out. ap (room_in table) (same out) ∙ so_far.room out;
   apart = apart;
 }

@@ -15,7 +15,6 @@ use Rattle.mc_core.proofs.HandsKept.{hands_changes, ids_change}
 use Rattle.mc_core.proofs.HandsSteps.{hands_steps}
 use Rattle.mc_core.proofs.IndexedKept.{indexed_changes, indexed_steps, indexed_first}
 use Rattle.mc_core.proofs.KnownSteps.{known_changes, known_steps, known_first}
-use Rattle.mc_core.proofs.Learned.{rows_changes}
 use Rattle.mc_core.proofs.LegalKept.{legal_changes, legal_steps, legal_first}
 use Rattle.mc_core.proofs.NumberedKept.{numbered_changes}
 use Rattle.mc_core.proofs.NumberedSteps.{numbered_steps}
@@ -24,7 +23,7 @@ use Rattle.mc_core.proofs.PagedSteps.{paged_steps, paged_first}
 use Rattle.mc_core.proofs.PlacedChanges.{placed_changes}
 use Rattle.mc_core.proofs.PlacedSteps.{placed_steps, placed_first}
 use Rattle.mc_core.proofs.RescuedSteps.{rescued_changes, rescued_steps, rescued_first}
-use Rattle.mc_core.proofs.RowsKept.{rows_steps, rows_first}
+use Rattle.mc_core.proofs.RowsKept.{rows_changes, rows_steps, rows_first}
 use Rattle.mc_core.proofs.SeenSteps.{seen_changes, seen_steps, seen_first}
 use Rattle.mc_core.proofs.Sized.{sized_changes, sized_steps, sized_first}
 use Rattle.mc_core.proofs.TalliedKept.{counted_changes, counted_steps, counted_first, held_changes, held_steps, held_first}
@@ -67,21 +66,21 @@ lawful_steps m hand step may = record {
 }
 
 pub lawful_first : HoldsAtFirst IsLawful
-lawful_first table stripes hands sound some someone few = record {
-  sized = sized_first table stripes hands sound some someone few;
-  paged = paged_first table stripes hands sound some someone few;
-  placed = placed_first table stripes hands sound some someone few;
-  counted = counted_first table stripes hands sound some someone few;
-  held = held_first table stripes hands sound some someone few;
-  indexed = indexed_first table stripes hands sound some someone few;
-  legal = legal_first table stripes hands sound some someone few;
-  hands = hands_first table stripes hands sound some someone few;
-  rows = rows_first table stripes hands sound some someone few;
-  numbered = numbered_first table stripes hands sound some someone few;
-  seen = seen_first table stripes hands sound some someone few;
-  known = known_first table stripes hands sound some someone few;
-  rescued = rescued_first table stripes hands sound some someone few;
-  told = told_first table stripes hands sound some someone few;
+lawful_first table stripes hands start sound some someone few small = record {
+  sized = sized_first table stripes hands start sound some someone few small;
+  paged = paged_first table stripes hands start sound some someone few small;
+  placed = placed_first table stripes hands start sound some someone few small;
+  counted = counted_first table stripes hands start sound some someone few small;
+  held = held_first table stripes hands start sound some someone few small;
+  indexed = indexed_first table stripes hands start sound some someone few small;
+  legal = legal_first table stripes hands start sound some someone few small;
+  hands = hands_first table stripes hands start sound some someone few small;
+  rows = rows_first table stripes hands start sound some someone few small;
+  numbered = numbered_first table stripes hands start sound some someone few small;
+  seen = seen_first table stripes hands start sound some someone few small;
+  known = known_first table stripes hands start sound some someone few small;
+  rescued = rescued_first table stripes hands start sound some someone few small;
+  told = told_first table stripes hands start sound some someone few small;
 }
 
 -- the state of a moment is that of the model
@@ -146,8 +145,8 @@ are_played events m state e = played_from 0 m events state e
 pub are_lawful : AreLawful
 are_lawful = record {
   runs = lawful_run;
-  from_first = λ table stripes hands events state sound some someone few e.
-      let first = first_moment table stripes hands in
+  from_first = λ table stripes hands start events state sound some someone few small e.
+      let first = first_moment table stripes hands start in
       let played = are_played events first state e in
-      (played.1, lawful_run first events (lawful_first table stripes hands sound some someone few) played.0);
+      (played.1, lawful_run first events (lawful_first table stripes hands start sound some someone few small) played.0);
 }

@@ -1,5 +1,5 @@
 -- What hands know after a change or a step: as many rows, and whose numbers they are.
-use Rattle.std.proofs.Common.{◌≡◌, ℕ, zero, suc, ◌+◌, ◌==◌, Bool, true, false, cond, List, [], ◌∷◌, map, Option, Some, None, refl, sym, ap, ap₂, drop, ◌∙◌, slice_set, slice_index_or, count_by, length-set}
+use Rattle.std.proofs.Common.{◌≡◌, ℕ, zero, suc, ◌+◌, ◌==◌, Bool, true, false, cond, List, [], ◌∷◌, map, Option, Some, None, refl, sym, ap, ap₂, drop, ◌∙◌, slice_set, slice_index_or, count_by}
 use Rattle.std.proofs.lemmas.List.Sums.{sum_by-cons}
 use Rattle.mc_pages.specs.Accounted.{truth}
 use Rattle.mc_core.specs.declared.event.Step.{Step}
@@ -7,9 +7,6 @@ use Rattle.mc_core.specs.declared.event.Step.TheVariants as step
 use Rattle.mc_core.specs.State.{State, number_at}
 use Rattle.mc_core.specs.Past.{Past, Own, learned, learned_alone, own_after, told, with_calls}
 use Rattle.mc_core.specs.Identities.{owns, owners}
-use Rattle.mc_core.specs.Lawful.{RowsIn}
-use Rattle.mc_core.specs.Laws.{ChangesKeep}
-use Rattle.mc_core.proofs.Own.{own_change}
 use Rattle.mc_core.proofs.MoreRows.{row_of}
 
 abbrev pub is_join : Step → Bool
@@ -92,16 +89,3 @@ owners_same [] (y ∷ now) number e = absurd (cc)
 owners_same (x ∷ before) [] number e = absurd (cc)
 owners_same (x ∷ before) (y ∷ now) number e =
     ap₂ (λ a b. a + b) (owns_same (x ∷ before) (y ∷ now) 0 number e) (owners_same before now number (ap (drop 1) e))
-
-pub rows_changes : ChangesKeep RowsIn
-rows_changes m hand change may =
-    let l = may.lawful.rows in
-    let long = (own_change m.state hand change).long in
-    record {
-      saw = l.saw ∙ sym long;
-      holds = l.holds ∙ sym long;
-      mine = length-set m.past.mine hand _ ∙ l.mine ∙ sym long;
-      seen = l.seen ∙ sym long;
-      said = l.said ∙ sym long;
-      known = l.known ∙ sym long;
-    }

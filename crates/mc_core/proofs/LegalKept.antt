@@ -1,10 +1,9 @@
 -- Each event keeps the histories of the stripes legal.
-use Rattle.std.proofs.Common.{◌≡◌, ◌≢◌, ℕ, zero, suc, ◌+◌, ◌≤◌, true, List, replicate, Option, Some, None, refl, sym, ap, subst, ◌∙◌, inl, inr, arith, slice_get, is_some, is_none}
+use Rattle.std.proofs.Common.{◌≡◌, ◌≢◌, ℕ, zero, suc, ◌+◌, true, List, replicate, Option, Some, None, refl, sym, ap, subst, ◌∙◌, inl, inr, arith, slice_get, is_some, is_none}
 use Rattle.std.specs.Option.{option_map_or}
 use Rattle.std.proofs.lemmas.Bool.{and_parts}
 use Rattle.std.proofs.lemmas.List.{length-replicate}
 use Rattle.std.proofs.lemmas.List.Elements.{All-replicate}
-use Rattle.mc_classes.specs.Classes.{Classes, IsSound}
 use Rattle.mc_stripe.specs.StripeState.{ReadyStripe, new_stripe}
 use Rattle.mc_stripe.specs.Legal.{IsLegal}
 use Rattle.mc_stripe.proofs.Kept.{IsLegal-new}
@@ -14,9 +13,9 @@ use Rattle.mc_core.specs.State.{State, number_at, has_stripe, stripe_at}
 use Rattle.mc_core.specs.Locks.{lock_word}
 use Rattle.mc_core.specs.Run.{after_step}
 use Rattle.mc_core.specs.Indexed.{AreLegal}
-use Rattle.mc_core.specs.Past.{Moment, Saying, first_moment}
+use Rattle.mc_core.specs.Past.{Moment, Saying}
 use Rattle.mc_core.specs.Lawful.{LegalIn}
-use Rattle.mc_core.specs.Laws.{MayStep, ChangesKeep, StepsKeep}
+use Rattle.mc_core.specs.Laws.{MayStep, ChangesKeep, StepsKeep, HoldsAtFirst}
 use Rattle.mc_core.proofs.StripesKept.{legal_locked}
 use Rattle.mc_core.proofs.Tellings.{tells_legal}
 use Rattle.mc_core.proofs.ToldBy.{MayTell, told_by_change, told_by_step}
@@ -80,8 +79,8 @@ none_some x e = cc
 new_at : (count stripe : ℕ) (value : ReadyStripe) → slice_get (replicate count new_stripe) stripe ≡ Some value → value ≡ new_stripe
 new_at count stripe value e = sym (replicated count stripe value e)
 
-pub legal_first : (table : Classes) (stripes hands : ℕ) → IsSound table → 1 ≤ stripes → 1 ≤ hands → hands ≤ 64 → LegalIn (first_moment table stripes hands)
-legal_first table stripes hands sound some _ _ = record {
+pub legal_first : HoldsAtFirst LegalIn
+legal_first table stripes hands start sound some _ _ _ = record {
   lock_count = length-replicate stripes 0 ∙ sym (length-replicate stripes new_stripe);
   some = omega (arith, some, length-replicate stripes new_stripe);
   legal = All-replicate (λ (v : ReadyStripe). IsLegal v.state) stripes new_stripe IsLegal-new;

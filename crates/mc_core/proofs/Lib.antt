@@ -38,9 +38,11 @@ pub mod MoreRows
 pub mod Totals
 pub mod SaidOnce
 pub mod ShownItems
+pub mod Numbers
 pub mod KnownStill
 pub mod KnownQuiet
 pub mod Learned
+pub mod SeenRows
 pub mod RowsKept
 pub mod NumberedKept
 pub mod LinkKinds
@@ -90,3 +92,6 @@ pub mod Reasons
 pub mod Effects
 pub mod Learns
 pub mod SeenGrows
+pub mod Codes
+pub mod Needless
+pub mod Judged

@@ -10,7 +10,7 @@ use Rattle.mc_core.specs.declared.holding.Holding.{Holding}
 use Rattle.mc_core.specs.declared.holding.Kind.{Kind}
 use Rattle.mc_core.specs.declared.holding.Kind.TheVariants.{Reference, Fresh}
 use Rattle.mc_core.specs.declared.holding.Purpose.TheVariants.{Item, Copy, Rescue}
-use Rattle.mc_core.specs.Holdings.{key_in, stamp_in, item_in, is_of}
+use Rattle.mc_core.specs.Holdings.{key_in, stamp_in, item_in, is_of, numbers}
 use Rattle.mc_core.specs.State.{State, ids_at, stripe_of, stripe_at, without_holding}
 use Rattle.mc_core.specs.Silent.{writer_of}
 use Rattle.mc_core.specs.Items.{most_stamps, suits, is_next_stamp, stamped, told_link, can_link_holding, after_link_of}
@@ -36,7 +36,7 @@ module _ (state : State) (hand : ℕ) (chunk : ChunkId) where
   pub record IsStored (holding : Holding) (now : State) (said : List Saying) : Type 0 where
     pub next : is_next_stamp (ids_at state hand) (stamp_in holding.words) ≡ true
     pub ids : now.ids ≡ slice_set state.ids hand (stamped (ids_at state hand))
-    pub says : said ≡ record { stamp = stamp_in holding.words; words = item_in holding.words } ∷ []
+    pub says : said ≡ record { stamp = stamp_in holding.words; words = numbers (item_in holding.words) } ∷ []
     pub stripes : now.stripes ≡ slice_set state.stripes (stripe_of state (key_in holding.words))
         (used_up (stripe_changes.after_link (stripe_at state (stripe_of state (key_in holding.words))).state (writer_of state hand) (key_in holding.words) holding.chunk (stamp_in holding.words)))
 

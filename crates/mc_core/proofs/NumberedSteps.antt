@@ -7,7 +7,7 @@ use Rattle.mc_core.specs.declared.event.Step.{Step}
 use Rattle.mc_core.specs.declared.event.Step.TheVariants as step
 use Rattle.mc_core.specs.declared.ids.Ids.{Ids}
 use Rattle.mc_core.specs.declared.holding.Holding.{Holding}
-use Rattle.mc_core.specs.Holdings.{stamp_in, item_in, holding_of}
+use Rattle.mc_core.specs.Holdings.{stamp_in, item_in, holding_of, numbers}
 use Rattle.mc_core.specs.State.{gone, is_hand, ids_at, holdings_at}
 use Rattle.mc_core.specs.Hands as hands
 use Rattle.mc_core.specs.Items.{stamped}
@@ -40,7 +40,7 @@ stored : (m : Moment) (hand : ℕ) (chunk : ChunkId) (holding : Holding) → May
 stored m hand chunk holding may is =
     let now = after_step m.state hand (step.Link chunk) in
     let past = learned_alone m.state now m.past hand (step.Link chunk) in
-    let s : Saying = record { stamp = stamp_in holding.words; words = item_in holding.words } in
+    let s : Saying = record { stamp = stamp_in holding.words; words = numbers (item_in holding.words) } in
     let within = hand_within m.state.ids hand may.there in
     let told : AreNumbered m.state.ids past.mine m.past.said m.past.known =
     numbered_quiet m.state.ids m.past.mine past.mine m.past.said m.past.known m.past.known (same_numbers m.state now m.past hand) may.lawful.numbered (λ other none. refl) in
@@ -58,14 +58,14 @@ linked m hand chunk may =
     ]
 
 -- two hands that may be joined are apart, and are there
-pub join_facts : (m : Moment) (hand kept spent : ℕ) → MayStep m hand (step.Join kept spent) → (kept ≢ spent) × (kept < length m.state.ids) × (spent < length m.state.ids) × (is_some (number_in m.state.ids kept) ≡ true)
+pub join_facts : (m : Moment) (hand kept spent : ℕ) → MayStep m hand (step.Join kept spent) → (kept ≢ spent) × (kept < length m.state.ids) × (spent < length m.state.ids) × (is_some (number_in m.state.ids kept) ≡ true) × (is_some (number_in m.state.ids spent) ≡ true)
 join_facts m hand kept spent may =
     let parts = and_parts (hand == kept && not (kept == spent) && is_hand m.state spent && hands.is_idle m.state kept) (hands.is_idle m.state spent) may.allowed in
     let first = and_parts (hand == kept && not (kept == spent) && is_hand m.state spent) (hands.is_idle m.state kept) parts.0 in
     let second = and_parts (hand == kept && not (kept == spent)) (is_hand m.state spent) first.0 in
     let third = and_parts (hand == kept) (not (kept == spent)) second.0 in
     let there : is_some (number_in m.state.ids kept) ≡ true = subst (λ h. is_some (number_in m.state.ids h) ≡ true) (eqb-true hand kept third.0) may.there in
-    ((λ e. false≢true (ap not (sym (eq-eqb kept spent e)) ∙ third.1)), hand_within m.state.ids kept there, hand_within m.state.ids spent second.1, there)
+    ((λ e. false≢true (ap not (sym (eq-eqb kept spent e)) ∙ third.1)), hand_within m.state.ids kept there, hand_within m.state.ids spent second.1, there, second.1)
 
 join : (m : Moment) (hand kept spent : ℕ) → MayStep m hand (step.Join kept spent) → NumberedIn (moment_stepped m hand (step.Join kept spent))
 join m hand kept spent may =

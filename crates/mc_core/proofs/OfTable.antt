@@ -22,18 +22,20 @@ same_map f (x ∷ xs) (suc i) y d e = ap (λ zs. f x ∷ zs) (same_map f xs i y 
 abbrev pub chunk_counts : SlabState → List ℕ
 chunk_counts slabs = map (λ (class : ClassState). class.per_page) slabs.classes
 
--- classes and owners are as many as before, and each class has as many chunks a page
+-- page size and limit are the same, classes and owners are as many as before, and each class has as many chunks a page
 pub record HasShape (old new : SlabState) : Type 0 where
+  pub page : new.page ≡ old.page
+  pub limit : new.limit ≡ old.limit
   pub counts : chunk_counts new ≡ chunk_counts old
   pub owners : length new.owners ≡ length old.owners
 
 pub of_table : (table : Classes) (old new : SlabState) → IsOfTable table old → HasShape old new → IsAccounted new → IsOfTable table new
-of_table table old new is shape all = record { per_page = shape.counts ∙ is.per_page; owners = shape.owners ∙ is.owners; accounted = all }
+of_table table old new is shape all = record { page = shape.page ∙ is.page; limit = shape.limit ∙ is.limit; per_page = shape.counts ∙ is.per_page; owners = shape.owners ∙ is.owners; accounted = all }
 
 -- one class changes, and keeps its chunks a page
 pub class_shape : (slabs : SlabState) (class : ℕ) (state : ClassState) → state.per_page ≡ (class_at slabs class).per_page → HasShape slabs (with_class slabs class state)
 class_shape slabs class state e =
-    record { counts = same_map (λ (c : ClassState). c.per_page) slabs.classes (class - 1) state (new_class 0 0) e; owners = refl }
+    record { page = refl; limit = refl; counts = same_map (λ (c : ClassState). c.per_page) slabs.classes (class - 1) state (new_class 0 0) e; owners = refl }
 
 handed_out-per_page : (class : ClassState) (free : List ChunkId) → (handed_out class free).per_page ≡ class.per_page
 handed_out-per_page class [] = refl
@@ -60,27 +62,27 @@ evicted_shape slabs class = class_shape slabs class (evicted (class_at slabs cla
 pub cut_shape : (slabs : SlabState) (chunk : ChunkId) → HasShape slabs (after_cut slabs chunk)
 cut_shape slabs chunk =
     let of_class = class_shape slabs (class_of_page slabs chunk.page) (with_cut (class_of_chunk slabs chunk) chunk) refl in
-    record { counts = of_class.counts; owners = refl }
+    record { page = refl; limit = refl; counts = of_class.counts; owners = refl }
 
 given_shape : (slabs : SlabState) (class page : ℕ) → HasShape slabs (with_given slabs class page)
 given_shape slabs class page =
     let of_class = class_shape slabs class (with_page (class_at slabs class) page) refl in
-    record { counts = of_class.counts; owners = length-set slabs.owners page _ }
+    record { page = refl; limit = refl; counts = of_class.counts; owners = length-set slabs.owners page _ }
 
 grow_shape_if : (slabs : SlabState) (class page : ℕ) (pooled : Bool) → HasShape slabs (cond pooled (after_take slabs class page) (after_grant slabs class page))
-grow_shape_if slabs class page true = let given = given_shape slabs class page in record { counts = given.counts; owners = given.owners }
-grow_shape_if slabs class page false = let given = given_shape slabs class page in record { counts = given.counts; owners = given.owners }
+grow_shape_if slabs class page true = let given = given_shape slabs class page in record { page = refl; limit = refl; counts = given.counts; owners = given.owners }
+grow_shape_if slabs class page false = let given = given_shape slabs class page in record { page = refl; limit = refl; counts = given.counts; owners = given.owners }
 
 pub grow_shape : (slabs : SlabState) (class page : ℕ) → HasShape slabs (after_grow slabs class page)
 grow_shape slabs class page = grow_shape_if slabs class page (nat_lt 0 (length slabs.pool))
 
 pub begin_shape : (slabs : SlabState) (src : Option ℕ) (dst source : ℕ) → HasShape slabs (after_begin slabs src source dst)
-begin_shape slabs src dst source = record { counts = refl; owners = length-set slabs.owners (first_page slabs source) _ }
+begin_shape slabs src dst source = record { page = refl; limit = refl; counts = refl; owners = length-set slabs.owners (first_page slabs source) _ }
 
 released_shape : (slabs : SlabState) (page src : ℕ) → HasShape slabs (released slabs page src)
 released_shape slabs page src =
     let of_class = class_shape slabs src (without_page (class_at slabs src) page) refl in
-    record { counts = of_class.counts; owners = length-set slabs.owners page _ }
+    record { page = refl; limit = refl; counts = of_class.counts; owners = length-set slabs.owners page _ }
 
 arrived_shape : (slabs : SlabState) (move : Moving) (pooled : Bool) →
     HasShape slabs (cond pooled (released slabs move.page move.src) (record (with_given (released slabs move.page move.src) move.dst move.page) { pool = slabs.pool }))
@@ -88,18 +90,18 @@ arrived_shape slabs move true = released_shape slabs move.page move.src
 arrived_shape slabs move false =
     let gone = released_shape slabs move.page move.src in
     let given = given_shape (released slabs move.page move.src) move.dst move.page in
-    record { counts = given.counts ∙ gone.counts; owners = given.owners ∙ gone.owners }
+    record { page = refl; limit = refl; counts = given.counts ∙ gone.counts; owners = given.owners ∙ gone.owners }
 
 pub finish_shape : (slabs : SlabState) (move : Option Moving) → HasShape slabs (after_finish slabs move)
-finish_shape slabs None = record { counts = refl; owners = refl }
+finish_shape slabs None = record { page = refl; limit = refl; counts = refl; owners = refl }
 finish_shape slabs (Some move) =
-    let there = arrived_shape slabs move (move.dst == 0) in record { counts = there.counts; owners = there.owners }
+    let there = arrived_shape slabs move (move.dst == 0) in record { page = there.page; limit = there.limit; counts = there.counts; owners = there.owners }
 
 pub passed_shape : (slabs : SlabState) (found : Found) → HasShape slabs (after_passed slabs found)
-passed_shape slabs found = record { counts = refl; owners = refl }
+passed_shape slabs found = record { page = refl; limit = refl; counts = refl; owners = refl }
 
 pub wrap_shape : (slabs : SlabState) → HasShape slabs (after_wrap slabs)
-wrap_shape slabs = record { counts = refl; owners = refl }
+wrap_shape slabs = record { page = refl; limit = refl; counts = refl; owners = refl }
 
 -- there are as many classes as the table has
 pub class_count : (table : Classes) (slabs : SlabState) → IsOfTable table slabs → length slabs.classes ≡ length table.sizes

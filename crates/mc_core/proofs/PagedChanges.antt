@@ -16,7 +16,7 @@ use Rattle.mc_pages.proofs.RoomyGrow.{next_pooled, next_granted, grow_takes, gro
 use Rattle.mc_core.specs.declared.event.Change.{Change}
 use Rattle.mc_core.specs.declared.event.Change.TheVariants.{Grow, BeginMove, FinishMove, Touch, SetAutomove, Passed, Wrap, Evicted, Reserve, GotNone, DeletedNone}
 use Rattle.mc_core.specs.State.{is_class, number_at, has_slabs, is_held_by}
-use Rattle.mc_core.specs.Silent.{is_handed_out, is_whole, can_finish, can_pass, can_wrap, run_of, grown, begun, can_change_slabs, slabs_after}
+use Rattle.mc_core.specs.Silent.{is_handed_out, none_half_cut, can_finish, can_pass, can_wrap, run_of, grown, begun, can_change_slabs, slabs_after}
 use Rattle.mc_core.specs.Places.{ArePaged}
 use Rattle.mc_core.specs.Past.{Moment}
 use Rattle.mc_core.specs.Lawful.{PagedIn}
@@ -49,7 +49,7 @@ paged_from table old new lock was now held = record {
 
 module _ (table : Classes) (slabs : SlabState) (lock : ℕ) (paged : ArePaged table slabs lock) where
   stays : StayPaged slabs slabs
-  stays = record { shape = record { counts = refl; owners = refl }; order = paged.order }
+  stays = record { shape = record { page = refl; limit = refl; counts = refl; owners = refl }; order = paged.order }
 
   grow_order : (class page : ℕ) → IsClass slabs class → slabs.uncut ≡ None → next_page slabs ≡ Some page → (granted : ℕ) × IsInOrder (after_grow slabs class page) granted
   grow_order class page is whole next =
@@ -63,7 +63,7 @@ module _ (table : Classes) (slabs : SlabState) (lock : ℕ) (paged : ArePaged ta
             (granted + 1, subst (λ (s : SlabState). IsInOrder s (granted + 1)) (sym (grow_grants slabs class page empty)) (subst (λ p. IsInOrder (after_grant slabs class p) (granted + 1)) (sym first.0) grants))
       ]
 
-  grown_paged : (class : ℕ) (next : Option ℕ) → next_page slabs ≡ next → is_class table class ≡ true → is_whole slabs ≡ true → StayPaged slabs (grown slabs class next)
+  grown_paged : (class : ℕ) (next : Option ℕ) → next_page slabs ≡ next → is_class table class ≡ true → none_half_cut slabs ≡ true → StayPaged slabs (grown slabs class next)
   grown_paged class None is named whole = stays
   grown_paged class (Some page) is named whole =
       let class_is = IsClass_from table slabs class paged.of_table named in
@@ -124,15 +124,15 @@ module _ (table : Classes) (slabs : SlabState) (lock : ℕ) (paged : ArePaged ta
 
   automove_paged : (mode : ℕ) → nat_le mode 2 ≡ true → StayPaged slabs (record slabs { automove = mode })
   automove_paged mode few = record {
-    shape = record { counts = refl; owners = refl };
+    shape = record { page = refl; limit = refl; counts = refl; owners = refl };
     order = (paged.order.0, IsInOrder-automove slabs paged.order.0 mode (leb-true mode 2 few) paged.order.1);
   }
 
 -- each change of pages and lists that is allowed
 paged_slabs : (table : Classes) (slabs : SlabState) (lock : ℕ) → ArePaged table slabs lock → (change : Change) → can_change_slabs table slabs change ≡ true → StayPaged slabs (slabs_after slabs change)
 paged_slabs table slabs lock paged (Grow class) can =
-    let parts = and_parts (is_class table class && is_whole slabs) (is_some (next_page slabs)) can in
-    let tests = and_parts (is_class table class) (is_whole slabs) parts.0 in
+    let parts = and_parts (is_class table class && none_half_cut slabs) (is_some (next_page slabs)) can in
+    let tests = and_parts (is_class table class) (none_half_cut slabs) parts.0 in
     grown_paged table slabs lock paged class (next_page slabs) refl tests.0 tests.1
 paged_slabs table slabs lock paged (BeginMove src dst) can = begun_paged table slabs lock paged src dst (answer_of slabs src dst) refl
 paged_slabs table slabs lock paged FinishMove can = finished_paged table slabs lock paged can

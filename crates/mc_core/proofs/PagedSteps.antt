@@ -1,8 +1,8 @@
 -- Pages and lists stay in order under each step.
-use Rattle.std.proofs.Common.{◌≡◌, ℕ, ◌/◌, ◌≤◌, true, List, [], ◌∷◌, map, Option, Some, None, refl, sym, ap, subst, eqb-true, Contains}
+use Rattle.std.proofs.Common.{◌≡◌, ℕ, ◌/◌, true, List, [], ◌∷◌, map, Option, Some, None, refl, sym, ap, subst, eqb-true, Contains}
 use Rattle.std.proofs.lemmas.Bool.{and_parts}
 use Rattle.std.proofs.lemmas.List.{length-replicate}
-use Rattle.mc_classes.specs.Classes.{Classes, IsSound, pages_of}
+use Rattle.mc_classes.specs.Classes.{Classes, pages_of}
 use Rattle.mc_pages.specs.declared.ids.ChunkId.{ChunkId}
 use Rattle.mc_pages.specs.declared.ids.Moving.{Moving}
 use Rattle.mc_pages.specs.declared.ledger.Owner.{Owner}
@@ -17,14 +17,13 @@ use Rattle.mc_core.specs.declared.event.Step.TheVariants.{TakeSlabs, TakeStripe,
 use Rattle.mc_core.specs.declared.event.Step.TheVariants as step
 use Rattle.mc_core.specs.Holdings.{is_of, holding_of}
 use Rattle.mc_core.specs.State.{State, is_class, number_at, has_slabs, with_slabs, holdings_at, without_holding}
-use Rattle.mc_core.specs.Silent.{is_handed_out, is_listed, is_whole}
+use Rattle.mc_core.specs.Silent.{is_handed_out, is_listed, none_half_cut}
 use Rattle.mc_core.specs.Chunks.{next_free, is_moving_page, is_target, target_of, is_next_uncut, popped_off, can_pop, after_pop, can_pop_off, after_pop_off, can_put_back, after_put_back, can_clear, after_clear, can_cut, after_cut}
 use Rattle.mc_core.specs.Items.{with_got, chunk_of}
 use Rattle.mc_core.specs.Run.{after_step}
 use Rattle.mc_core.specs.Places.{ArePaged}
-use Rattle.mc_core.specs.Past.{first_moment}
 use Rattle.mc_core.specs.Lawful.{PagedIn}
-use Rattle.mc_core.specs.Laws.{StepsKeep}
+use Rattle.mc_core.specs.Laws.{StepsKeep, HoldsAtFirst}
 use Rattle.mc_core.proofs.OfTable.{pop_shape, back_shape, replace_shape, clear_shape, cut_shape}
 use Rattle.mc_core.proofs.Listed.{Contains_from_among, IsClass_from, found_among, page_of_move, next_uncut_is, places_from_listed}
 use Rattle.mc_core.proofs.SameSlabs.{looked_keeps, popped_keeps, told_link_keeps, linked_keeps, referred_keeps, unlinked_keeps}
@@ -92,12 +91,12 @@ paged_with state hand slabs now was held stay same =
     same_paged (with_slabs state slabs) now same (paged_from state.table state.slabs slabs state.slabs_lock was stay (lock_not_free state.slabs_lock (number_at state hand) held))
 
 -- a target is a free chunk of its class
-pub target_free : (state : State) (page : ℕ) (chunk : ChunkId) → target_of state page ≡ Some chunk → Contains (class_at state.slabs (class_of_page state.slabs page)).free chunk
+pub target_free : (state : State) (page : ℕ) (chunk : ChunkId) → target_of state.table state.heads state.slabs page ≡ Some chunk → Contains (class_at state.slabs (class_of_page state.slabs page)).free chunk
 target_free state page chunk is =
     let free = (class_at state.slabs (class_of_page state.slabs page)).free in
-    Contains_from_among free chunk (found_among (is_target state page) free chunk is)
+    Contains_from_among free chunk (found_among (is_target state.table state.heads page) free chunk is)
 
-popped_off_paged : (state : State) (hand : ℕ) (old : ChunkId) (next : Option ChunkId) → target_of state old.page ≡ next → Paged (pages_part state) → has_slabs state hand ≡ true → is_handed_out state.slabs old ≡ true →
+popped_off_paged : (state : State) (hand : ℕ) (old : ChunkId) (next : Option ChunkId) → target_of state.table state.heads state.slabs old.page ≡ next → Paged (pages_part state) → has_slabs state hand ≡ true → is_handed_out state.slabs old ≡ true →
     Paged (pages_part (popped_off state hand old next))
 popped_off_paged state hand old None is was held out = was
 popped_off_paged state hand old (Some chunk) is was held out =
@@ -113,7 +112,7 @@ module _ (state : State) (hand : ℕ) (was : Paged (pages_part state)) where
       (popped_keeps pages_part (with_slabs state slabs) hand (next_free state class) (λ chunk. refl))
 
   pop_off_paged : (old : ChunkId) → can_pop_off state hand old ≡ true → Paged (pages_part (after_pop_off state hand old))
-  pop_off_paged old can = let tests = pop_off_tests state hand old (target_of state old.page) can in popped_off_paged state hand old (target_of state old.page) refl was tests.0 tests.2
+  pop_off_paged old can = let tests = pop_off_tests state hand old (target_of state.table state.heads state.slabs old.page) can in popped_off_paged state hand old (target_of state.table state.heads state.slabs old.page) refl was tests.0 tests.2
 
   put_back_paged : (chunk : ChunkId) → can_put_back state hand chunk ≡ true → Paged (pages_part (after_put_back state hand chunk))
   put_back_paged chunk can =
@@ -146,7 +145,7 @@ paged_steps moment hand MissSlabs may = may.lawful.paged
 paged_steps moment hand (MissStripe stripe) may = passes moment.state hand (MissStripe stripe) may.lawful.paged (looked_keeps pages_part moment.state hand _ refl)
 paged_steps moment hand GiveSlabs may =
     let state = moment.state in
-    let parts = and_parts (has_slabs state hand) (is_whole state.slabs) may.allowed in relocked state hand may.lawful.paged 0 (whole_is state.slabs.uncut parts.1)
+    let parts = and_parts (has_slabs state hand) (none_half_cut state.slabs) may.allowed in relocked state hand may.lawful.paged 0 (whole_is state.slabs.uncut parts.1)
 paged_steps moment hand (GiveStripe stripe) may = may.lawful.paged
 paged_steps moment hand (step.Head chunk) may = passes moment.state hand (step.Head chunk) may.lawful.paged (looked_keeps pages_part moment.state hand _ refl)
 paged_steps moment hand (Pop class) may = pop_paged moment.state hand may.lawful.paged class may.allowed
@@ -182,11 +181,11 @@ per_pages page (size ∷ sizes) = ap (λ ns. page / size ∷ ns) (per_pages page
 no_move : (move : Moving) → None ≡ Some move → ⊥
 no_move move h = cc
 
-pub paged_first : (table : Classes) (stripes hands : ℕ) → IsSound table → 1 ≤ stripes → 1 ≤ hands → hands ≤ 64 → PagedIn (first_moment table stripes hands)
-paged_first table stripes hands sound some someone few =
+pub paged_first : HoldsAtFirst PagedIn
+paged_first table stripes hands start sound some someone few _ =
     let kept = IsInOrder-fresh table sound in
     record {
-      of_table = record { per_page = per_pages table.page table.sizes; owners = length-replicate {A = Owner} (pages_of table) Untouched; accounted = kept.accounted };
+      of_table = record { page = refl; limit = refl; per_page = per_pages table.page table.sizes; owners = length-replicate {A = Owner} (pages_of table) Untouched; accounted = kept.accounted };
       order = (0, kept);
       whole = λ free. refl;
     }

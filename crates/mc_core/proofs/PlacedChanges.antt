@@ -28,7 +28,7 @@ use Rattle.mc_pages.proofs.RoomyGrow.{next_within}
 use Rattle.mc_core.specs.declared.event.Change.{Change}
 use Rattle.mc_core.specs.declared.event.Change.TheVariants.{Grow, BeginMove, FinishMove, Touch, SetAutomove, Passed, Wrap, Evicted, Reserve, GotNone, DeletedNone}
 use Rattle.mc_core.specs.State.{is_class, has_slabs}
-use Rattle.mc_core.specs.Silent.{is_handed_out, is_whole, has_page, can_finish, grown, begun, can_change_slabs, slabs_after}
+use Rattle.mc_core.specs.Silent.{is_handed_out, none_half_cut, has_page, can_finish, grown, begun, can_change_slabs, slabs_after}
 use Rattle.mc_core.specs.Places.{ArePaged, ArePlaced}
 use Rattle.mc_core.specs.Past.{Moment}
 use Rattle.mc_core.specs.Lawful.{IsLawful, PlacedIn}
@@ -168,7 +168,7 @@ grow_listed slabs class page listed =
       | false ↦ given_pooled slabs (with_given slabs class page) _ _ slabs.moved listed
     ]
 
-grown_listed : (table : Classes) (slabs : SlabState) (lock : ℕ) (class : ℕ) (next : Option ℕ) → ArePaged table slabs lock → next_page slabs ≡ next → is_class table class ≡ true → is_whole slabs ≡ true → AreListed slabs (grown slabs class next)
+grown_listed : (table : Classes) (slabs : SlabState) (lock : ℕ) (class : ℕ) (next : Option ℕ) → ArePaged table slabs lock → next_page slabs ≡ next → is_class table class ≡ true → none_half_cut slabs ≡ true → AreListed slabs (grown slabs class next)
 grown_listed table slabs lock class None paged is named whole = same_listed slabs
 grown_listed table slabs lock class (Some page) paged is named whole =
     let granted = paged.order.0 in let kept = paged.order.1 in
@@ -241,8 +241,8 @@ finish_listed slabs granted (Some move) kept is can = ended_listed slabs move (k
 -- each change of pages and lists that is allowed
 pub slabs_listed : (table : Classes) (slabs : SlabState) (lock : ℕ) → ArePaged table slabs lock → (change : Change) → can_change_slabs table slabs change ≡ true → AreListed slabs (slabs_after slabs change)
 slabs_listed table slabs lock paged (Grow class) can =
-    let parts = and_parts (is_class table class && is_whole slabs) (is_some (next_page slabs)) can in
-    let tests = and_parts (is_class table class) (is_whole slabs) parts.0 in
+    let parts = and_parts (is_class table class && none_half_cut slabs) (is_some (next_page slabs)) can in
+    let tests = and_parts (is_class table class) (none_half_cut slabs) parts.0 in
     grown_listed table slabs lock class (next_page slabs) paged refl tests.0 tests.1
 slabs_listed table slabs lock paged (BeginMove src dst) can = begin_listed slabs paged.order.0 paged.order.1 src dst (answer_of slabs src dst) refl
 slabs_listed table slabs lock paged FinishMove can = finish_listed slabs paged.order.0 slabs.moving paged.order.1 refl can

@@ -2,7 +2,7 @@
 use Rattle.std.proofs.Common.{◌≡◌, ℕ, zero, suc, ◌-◌, ◌/◌, map, replicate, ◌*◌, ◌≤◌, ◌==◌, ◌&&◌, ◌||◌, Bool, true, false, List, [], ◌∷◌, ◌++◌, slice_set, get_or, Option, Some, None, refl, sym, ap, subst, ◌∙◌, inl, inr, arith, eqb-true}
 use Rattle.std.specs.Option.{option_map_or}
 use Rattle.std.proofs.lemmas.Bool.{and_parts, and_left, cases_Bool, or_left, or_right, false≢true, both_ways}
-use Rattle.mc_classes.specs.Classes.{Classes, IsSound, pages_of}
+use Rattle.mc_classes.specs.Classes.{Classes, pages_of}
 use Rattle.mc_pages.specs.declared.ids.ChunkId.{ChunkId}
 use Rattle.mc_pages.specs.declared.ids.Moving.{Moving}
 use Rattle.mc_pages.specs.declared.ledger.Owner.TheVariants.{Untouched}
@@ -24,14 +24,14 @@ use Rattle.mc_core.specs.declared.event.Step.TheVariants.{TakeSlabs, TakeStripe,
 use Rattle.mc_core.specs.declared.event.Step.TheVariants as step
 use Rattle.mc_core.specs.declared.holding.Holding.{Holding}
 use Rattle.mc_core.specs.Holdings.{is_of, holding_of, is_complete}
-use Rattle.mc_core.specs.Items.{linked, with_told_link, can_tell_link, can_count, can_link_holding, after_link_of, with_got, referred, referred_to, chunk_of, unlinked, with_unlinked, is_linked_at, is_ready_for, can_lift}
-use Rattle.mc_core.specs.Evictions.{is_idle, condemned, with_told, with_bound, key_at}
+use Rattle.mc_core.specs.Items.{linked, with_told_link, can_tell_link, can_count, can_link_holding, after_link_of, with_got, referred, referred_to, chunk_of, unlinked, with_unlinked, is_linked_at, can_look_up, can_lift}
+use Rattle.mc_core.specs.Evictions.{is_linked_unheld, condemned, with_told, with_bound, key_at}
 use Rattle.mc_core.specs.Run.{after_step}
 use Rattle.mc_core.specs.Columns.{head_in}
 use Rattle.mc_core.specs.Places.{ArePlaced}
-use Rattle.mc_core.specs.Past.{Moment, first_moment}
+use Rattle.mc_core.specs.Past.{Moment}
 use Rattle.mc_core.specs.Lawful.{IsLawful, PlacedIn}
-use Rattle.mc_core.specs.Laws.{StepsKeep}
+use Rattle.mc_core.specs.Laws.{StepsKeep, HoldsAtFirst}
 use Rattle.mc_core.proofs.Listed.{Contains_from_among, IsClass_from, times_from_among, next_uncut_is, places_from_listed}
 use Rattle.mc_core.proofs.FreeChunks.{near_placed, placed_in, first_placed, found_placed}
 use Rattle.mc_core.proofs.SamePages.{is_in_hand}
@@ -40,6 +40,7 @@ use Rattle.mc_core.proofs.SameSlabs.{looked_keeps, told_link_keeps, linked_keeps
 use Rattle.mc_core.proofs.PlacedAlike.{AreAlike, kind_of, same_at, placed_alike}
 use Rattle.mc_core.proofs.PlacedWritten.{Changes, placed_written}
 use Rattle.mc_core.proofs.PlacedLists.{first_is, pop_lists, replace_lists, back_lists, clear_lists, cut_lists}
+use Rattle.mc_core.proofs.Made.{first_heads}
 
 -- what is dead is handed out
 dead_in_hand : (head : Head) → is_dead head ≡ true → is_in_hand head.tag ≡ true
@@ -89,13 +90,13 @@ module _ (m : Moment) (l : IsLawful m) where
       subst (λ s. ArePlaced table (slabs_changes.with_class slabs class s) (slice_set heads (head_place table chunk) head)) (sym (popped_as (class_at slabs class) chunk split.0 split.1))
       (written class state slabs.uncut chunk head (subst (λ t. Changes table slabs class state slabs.uncut chunk t) (sym tag) lists))
 
-  replaced_placed : (old chunk : ChunkId) (head : Head) → head.tag ≡ Unlinked → is_handed_out slabs old ≡ true → target_of m.state old.page ≡ Some chunk →
+  replaced_placed : (old chunk : ChunkId) (head : Head) → head.tag ≡ Unlinked → is_handed_out slabs old ≡ true → target_of m.state.table m.state.heads m.state.slabs old.page ≡ Some chunk →
       ArePlaced table (slabs_changes.after_replace slabs chunk old) (slice_set heads (head_place table chunk) head)
   replaced_placed old chunk head tag out found =
       let class = class_of_page slabs old.page in
       let state = class_at slabs class in
       let is = IsClass-handed_out slabs old l.paged.order.1.accounted (Contains_from_among state.order old out) in
-      let at = found_placed m l class chunk (is_target m.state old.page) is found in
+      let at = found_placed m l class chunk (is_target m.state.table m.state.heads old.page) is found in
       let cut : is_cut slabs class chunk ≡ true = subst (λ n. is_cut slabs n chunk ≡ true) at.0 at.1.cut in
       let lists = replace_lists table slabs heads l.placed class chunk is (near class chunk is cut) cut old (times_from_among state.order old out) at.2 in
       written class (replaced state chunk old) slabs.uncut chunk head (subst (λ t. Changes table slabs class (replaced state chunk old) slabs.uncut chunk t) (sym tag) lists)
@@ -190,7 +191,7 @@ unlink_alike state before (Some place) same can =
     subst (λ h. AreAlike state.heads (slice_set before.heads (head_place before.table place.0) (unlinked h))) (sym head)
     (written_alike state before place.0 (unlinked (head_at state place.0)) same (sym (handed_out_kind (head_at state place.0) (or_right _ _ can))))
 
-condemn_alike : (state before : State) (chunk : ChunkId) → headers_part before ≡ headers_part state → is_idle (head_at state chunk) ≡ true → AreAlike state.heads (slice_set before.heads (head_place before.table chunk) (condemned (head_at state chunk)))
+condemn_alike : (state before : State) (chunk : ChunkId) → headers_part before ≡ headers_part state → is_linked_unheld (head_at state chunk) ≡ true → AreAlike state.heads (slice_set before.heads (head_place before.table chunk) (condemned (head_at state chunk)))
 condemn_alike state before chunk same idle =
     written_alike state before chunk (condemned (head_at state chunk)) same
     (sym (handed_out_kind (head_at state chunk) (or_right _ _ (and_parts (is_linked (head_at state chunk).tag) ((head_at state chunk).count == 1) idle).0)))
@@ -211,7 +212,7 @@ module _ (m : Moment) (l : IsLawful m) (hand : ℕ) where
   pop_placed class (Some chunk) is can =
       popped_placed m l class chunk (handed_out (head_at state chunk)) refl (IsClass_from state.table state.slabs class l.paged.of_table (pop_tests state hand class (Some chunk) can).1) is
 
-  pop_off_placed : (old : ChunkId) (next : Option ChunkId) → target_of state old.page ≡ next →
+  pop_off_placed : (old : ChunkId) (next : Option ChunkId) → target_of state.table state.heads state.slabs old.page ≡ next →
       (has_slabs state hand && is_moving_page state.slabs old.page && is_handed_out state.slabs old && has_place state hand && can_hand_out state next) ≡ true → Placed (frame (popped_off state hand old next)) (popped_off state hand old next).heads
   pop_off_placed old None is can = l.placed
   pop_off_placed old (Some chunk) is can = replaced_placed m l old chunk (handed_out (head_at state chunk)) refl (pop_off_tests state hand old (Some chunk) can).2 is
@@ -241,7 +242,7 @@ placed_steps moment hand (step.Head chunk) may =
     let state = moment.state in
     passes state hand (step.Head chunk) may.lawful.placed (looked_keeps frame state hand _ refl) (same_alike state.heads _ (looked_keeps (λ s. s.heads) state hand _ refl))
 placed_steps moment hand (Pop class) may = pop_placed moment may.lawful hand class (next_free moment.state class) refl may.allowed
-placed_steps moment hand (PopOff old) may = pop_off_placed moment may.lawful hand old (target_of moment.state old.page) refl may.allowed
+placed_steps moment hand (PopOff old) may = pop_off_placed moment may.lawful hand old (target_of moment.state.table moment.state.heads moment.state.slabs old.page) refl may.allowed
 placed_steps moment hand (Fill chunk place word) may =
     let state = moment.state in
     let same = fill_frame moment may.lawful hand chunk place word in
@@ -258,7 +259,7 @@ placed_steps moment hand (Refer key) may =
     passes state hand (Refer key) may.lawful.placed (referred_keeps frame (with_got state hand key) hand (chunk_of state key) (λ chunk. refl)) (refer_alike state hand key (chunk_of state key))
 placed_steps moment hand (Unlink key) may =
     let state = moment.state in
-    let parts = and_parts (is_ready_for state hand key && can_lift state hand key) (is_linked_at state (chunk_of state key)) may.allowed in
+    let parts = and_parts (can_look_up state hand key && can_lift state hand key) (is_linked_at state (chunk_of state key)) may.allowed in
     passes state hand (Unlink key) may.lawful.placed (unlinked_keeps frame _ (chunk_of state key) (λ chunk. refl)) (unlink_alike state _ (chunk_of state key) refl parts.1)
 placed_steps moment hand (Release chunk) may = let state = moment.state in passes state hand (Release chunk) may.lawful.placed refl (written_alike state state chunk (let_go (head_at state chunk)) refl refl)
 placed_steps moment hand (Discard chunk) may = let state = moment.state in passes state hand (Discard chunk) may.lawful.placed refl (written_alike state state chunk (let_go (head_at state chunk)) refl refl)
@@ -285,14 +286,13 @@ no_chunks page [] i chunk = (refl, refl)
 no_chunks page (size ∷ sizes) zero chunk = (refl, refl)
 no_chunks page (size ∷ sizes) (suc i) chunk = no_chunks page sizes i chunk
 
-pub placed_first : (table : Classes) (stripes hands : ℕ) → IsSound table → 1 ≤ stripes → 1 ≤ hands → hands ≤ 64 → PlacedIn (first_moment table stripes hands)
-placed_first table stripes hands sound some someone few =
+pub placed_first : HoldsAtFirst PlacedIn
+placed_first table stripes hands start sound some someone few small =
     let fresh : SlabState = fresh_slabs table in
     let uncut : (class : ℕ) (chunk : ChunkId) → is_cut fresh class chunk ≡ false = λ class chunk. and_left _ _ (ap (is_of_class class) (read_replicate (pages_of table) chunk.page Untouched)) in
-    let out : (chunk : ChunkId) → head_in table (replicate (pages_of table * most_of table) never_cut) chunk ≡ never_cut = λ chunk. read_replicate (pages_of table * most_of table) (head_place table chunk) never_cut in
     record {
       free = λ class chunk is. (no_chunks table.page table.sizes (class - 1) chunk).0 ∙ sym (ap truth (and_left _ _ (uncut class chunk)));
       order = λ class chunk is. (no_chunks table.page table.sizes (class - 1) chunk).1 ∙ sym (ap truth (and_left _ _ (uncut class chunk)));
       cleared = λ class chunk is cut tag. absurd (both_ways _ (uncut class chunk) cut);
-      elsewhere = λ chunk here none. ap (λ (h : Head). h.tag) (out chunk);
+      elsewhere = λ chunk here none. (first_heads (pages_of table * most_of table) (head_place table chunk) start small).out;
     }

@@ -73,12 +73,12 @@ tells_stop end place e = subst (λ end. TellsEnd end (Err (NotAllowed place))) (
 
 -- a configuration has no two tables
 pub played : (config : Config) (hands : ℕ) (events : List Event) (told : Result State Stop) (table : Classes) (state : State) →
-    IsTableOf config table → state ≡ new_state table config.stripes hands → TellsEnd (play state events) told → IsPlayed config hands events told
+    IsTableOf config table → state ≡ new_state table config.stripes hands 0 → TellsEnd (play state events) told → IsPlayed config hands events told
 played config hands events told table state is made tells = record {
   exact = λ other too.
-      subst (λ (t : Classes). TellsEnd (play (new_state t config.stripes hands) events) told) (one_table config table other is too)
+      subst (λ (t : Classes). TellsEnd (play (new_state t config.stripes hands 0) events) told) (one_table config table other is too)
       (subst (λ (s : State). TellsEnd (play s events) told) made tells);
 }
 
 pub played_none : (config : Config) (hands : ℕ) (events : List Event) (told : Result State Stop) → told ≡ Err NoMemory → IsPlayed config hands events told
-played_none config hands events told e = record { exact = λ other too. tells_memory (play (new_state other config.stripes hands) events) told e }
+played_none config hands events told e = record { exact = λ other too. tells_memory (play (new_state other config.stripes hands 0) events) told e }

@@ -28,7 +28,7 @@ use Rattle.mc_core.specs.Head.{is_unlinked, is_dead}
 use Rattle.mc_core.specs.Holdings.{is_copy_of}
 use Rattle.mc_core.specs.Looks.{stays_alive, is_found_alive}
 use Rattle.mc_core.specs.State.{has_slabs, head_at, holdings_at, looks_at}
-use Rattle.mc_core.specs.Silent.{is_whole}
+use Rattle.mc_core.specs.Silent.{none_half_cut}
 use Rattle.mc_core.specs.Chunks.{is_moving_page, is_target, target_of, most_issue}
 use Rattle.mc_core.specs.Evictions.{has_copy, none_dead, has_no_page, must_leave, lacks_room, has_reason}
 use Rattle.mc_core.specs.Knowing.{IsRescue}
@@ -150,27 +150,27 @@ module _ (m : Moment) (l : IsLawful m) (hand : ℕ) (chunk : ChunkId) (has : has
   moving : is_moving_page m.state.slabs chunk.page ≡ true → Moves m.state.slabs chunk.page
   moving is = moves_is m.state.slabs chunk.page m.state.slabs.moving refl is
 
-  swept : none_dead m.state hand chunk ≡ true → IsSwept m.state hand class
+  swept : none_dead m.state.slabs (looks_at m.state hand) chunk ≡ true → IsSwept m.state hand class
   swept is =
       let order = (class_at m.state.slabs class).order in
       let looks = looks_at m.state hand in
       (has, All-weaker (λ c. is_found_alive looks c ≡ true) (WasFoundAlive looks) (λ c. found_alive looks c) order (all_pass (is_found_alive looks) order is))
 
-  none_off : is_none (target_of m.state chunk.page) ≡ true → HasNoneOff m.state class chunk.page
+  none_off : is_none (target_of m.state.table m.state.heads m.state.slabs chunk.page) ≡ true → HasNoneOff m.state class chunk.page
   none_off is =
       let free = (class_at m.state.slabs class).free in
-      All-weaker (λ c. is_target m.state chunk.page c ≡ false) (λ (c : ChunkId). c.page ≢ chunk.page → most_issue ≤ (head_at m.state c).issue) not_target free
-      (none_found (is_target m.state chunk.page) free (none_is (target_of m.state chunk.page) is))
+      All-weaker (λ c. is_target m.state.table m.state.heads chunk.page c ≡ false) (λ (c : ChunkId). c.page ≢ chunk.page → most_issue ≤ (head_at m.state c).issue) not_target free
+      (none_found (is_target m.state.table m.state.heads chunk.page) free (none_is (target_of m.state.table m.state.heads m.state.slabs chunk.page) is))
     where
-      not_target : (c : ChunkId) → is_target m.state chunk.page c ≡ false → c.page ≢ chunk.page → most_issue ≤ (head_at m.state c).issue
+      not_target : (c : ChunkId) → is_target m.state.table m.state.heads chunk.page c ≡ false → c.page ≢ chunk.page → most_issue ≤ (head_at m.state c).issue
       not_target c isnt off =
           ltb-false (head_at m.state c).issue most_issue (sym (ap (λ b. not b && nat_lt (head_at m.state c).issue most_issue) (ne_eqb c.page chunk.page off)) ∙ isnt)
 
-  out_of_room : lacks_room m.state hand chunk ≡ true → IsSwept m.state hand class × IsOutOfRoom m.state class
+  out_of_room : lacks_room m.state.table m.state.slabs (looks_at m.state hand) chunk ≡ true → IsSwept m.state hand class × IsOutOfRoom m.state class
   out_of_room is =
-      let whole = and_parts _ (is_whole m.state.slabs) is in
-      let page = and_parts _ (has_no_page m.state) whole.0 in
-      let dead = and_parts (is_none (first_free (class_of_chunk m.state.slabs chunk))) (none_dead m.state hand chunk) page.0 in
+      let whole = and_parts _ (none_half_cut m.state.slabs) is in
+      let page = and_parts _ (has_no_page m.state.table m.state.slabs) whole.0 in
+      let dead = and_parts (is_none (first_free (class_of_chunk m.state.slabs chunk))) (none_dead m.state.slabs (looks_at m.state hand) chunk) page.0 in
       let pages = and_parts ((totals_of m.state.slabs).pool == 0) ((totals_of m.state.slabs).granted == pages_of m.state.table) page.1 in
       let owners = l.paged.of_table.owners in
       let all = all_granted m.state.slabs.owners (eqb-true (totals_of m.state.slabs).granted (pages_of m.state.table) pages.1 ∙ sym owners) in (
@@ -195,7 +195,7 @@ module _ (m : Moment) (l : IsLawful m) (hand : ℕ) (chunk : ChunkId) (has : has
   own_rescued : All rescued (holdings_at m.state hand)
   own_rescued = each_row rescued m.state.holdings hand l.rescued
 
-  copied : has_copy m.state hand chunk ≡ true → HasCopyOff m.state hand chunk
+  copied : has_copy (holdings_at m.state hand) chunk ≡ true → HasCopyOff m.state hand chunk
   copied is =
       let (copy, among, passes) = some_passes (is_copy_of chunk) (holdings_at m.state hand) is in
       let both = copy_is m.past.said copy.chunk chunk copy.kind passes (All-contains rescued (holdings_at m.state hand) copy own_rescued among) in
@@ -207,15 +207,15 @@ module _ (m : Moment) (l : IsLawful m) (hand : ℕ) (chunk : ChunkId) (has : has
       off : (copy : Holding) → rescued copy → copy.kind ≡ Fresh (Copy chunk) → copy.chunk.page ≢ chunk.page
       off copy is meant = subst (IsRescue m.past.said copy.chunk) meant is
 
-  reason : has_reason m.state hand chunk ≡ true → (Moves m.state.slabs chunk.page × HasCopyOff m.state hand chunk) ⊎ (IsSwept m.state hand class × MustGo m.state chunk.page)
+  reason : has_reason m.state.table m.state.heads m.state.slabs (looks_at m.state hand) (holdings_at m.state hand) chunk ≡ true → (Moves m.state.slabs chunk.page × HasCopyOff m.state hand chunk) ⊎ (IsSwept m.state hand class × MustGo m.state chunk.page)
   reason is =
-      elim (or_cases _ (lacks_room m.state hand chunk) is) [
+      elim (or_cases _ (lacks_room m.state.table m.state.slabs (looks_at m.state hand) chunk) is) [
         | inl leaves ↦
-            elim (or_cases (is_moving_page m.state.slabs chunk.page && has_copy m.state hand chunk) (must_leave m.state hand chunk) leaves) [
-              | inl copies ↦ let both = and_parts (is_moving_page m.state.slabs chunk.page) (has_copy m.state hand chunk) copies in inl (moving both.0, copied both.1)
+            elim (or_cases (is_moving_page m.state.slabs chunk.page && has_copy (holdings_at m.state hand) chunk) (must_leave m.state.table m.state.heads m.state.slabs (looks_at m.state hand) chunk) leaves) [
+              | inl copies ↦ let both = and_parts (is_moving_page m.state.slabs chunk.page) (has_copy (holdings_at m.state hand) chunk) copies in inl (moving both.0, copied both.1)
               | inr must ↦
-                  let target = and_parts _ (is_none (target_of m.state chunk.page)) must in
-                  let both = and_parts (is_moving_page m.state.slabs chunk.page) (none_dead m.state hand chunk) target.0 in
+                  let target = and_parts _ (is_none (target_of m.state.table m.state.heads m.state.slabs chunk.page)) must in
+                  let both = and_parts (is_moving_page m.state.slabs chunk.page) (none_dead m.state.slabs (looks_at m.state hand) chunk) target.0 in
                   inr (swept both.1, inl (moving both.0, none_off target.1))
             ]
         | inr lacks ↦ let both = out_of_room lacks in inr (both.0, inr both.1)
@@ -224,5 +224,5 @@ module _ (m : Moment) (l : IsLawful m) (hand : ℕ) (chunk : ChunkId) (has : has
 pub condemns_are_reasoned : CondemnsAreReasoned
 condemns_are_reasoned m hand chunk may =
     let has = (condemnable m hand chunk may).slabs in
-    let why = (and_parts _ (has_reason m.state hand chunk) may.allowed).1 in
+    let why = (and_parts _ (has_reason m.state.table m.state.heads m.state.slabs (looks_at m.state hand) (holdings_at m.state hand) chunk) may.allowed).1 in
     record { reason = reason m may.lawful hand chunk has why; copies = all_off m may.lawful hand chunk has }

@@ -11,7 +11,7 @@ use Rattle.mc_core.specs.Head.{is_free, is_out, is_linked}
 use Rattle.mc_core.specs.Holdings.{is_fresh}
 use Rattle.mc_core.specs.State.{has_chunk, head_place, head_at, room_in, word_at, is_hand, holdings_at}
 use Rattle.mc_core.specs.Chunks.{has_place}
-use Rattle.mc_core.specs.Items.{can_count, referred, new_reference, with_reference, chunk_of, is_ready_for, can_refer, can_refer_to, with_got, referred_to, after_refer, can_again, has_place_again}
+use Rattle.mc_core.specs.Items.{can_count, referred, new_reference, with_reference, chunk_of, can_look_up, can_refer, can_refer_to, with_got, referred_to, after_refer, can_again, has_place_unlocked}
 use Rattle.mc_core.specs.Columns.{head_in, Each}
 use Rattle.mc_core.specs.Past.{Moment}
 use Rattle.mc_core.specs.Lawful.{IsLawful}
@@ -83,7 +83,7 @@ module _ (m : Moment) (l : IsLawful m) (hand : ℕ) (there : is_hand m.state han
   pub refer_tallied : (key : ℕ) → can_refer m.state hand key ≡ true → IsTallied (after_refer m.state hand key)
   refer_tallied key can =
       let parts = and_parts _ (can_refer_to m.state (chunk_of m.state key)) can in
-      let more = and_parts (is_ready_for m.state hand key) (has_place m.state hand) parts.0 in
+      let more = and_parts (can_look_up m.state hand key) (has_place m.state hand) parts.0 in
       let room = ltb-true (length (holdings_at m.state hand)) 256 more.1 in
       elim (chunk_of m.state key) as (λ o. chunk_of m.state key ≡ o → can_refer_to m.state o ≡ true → IsTallied (referred_to (with_got m.state hand key) hand o)) [
         | None ↦ λ _ never. absurd (cc)
@@ -97,7 +97,7 @@ module _ (m : Moment) (l : IsLawful m) (hand : ℕ) (there : is_hand m.state han
       let count = and_parts _ (can_count (head_at m.state chunk)) can in
       let same = and_parts _ ((head_at m.state chunk).issue == issue) count.0 in
       let linked = and_parts _ (is_linked (head_at m.state chunk).tag) same.0 in
-      let room = and_parts (has_chunk m.state.table chunk) (has_place_again m.state hand) linked.0 in
+      let room = and_parts (has_chunk m.state.table chunk) (has_place_unlocked m.state hand) linked.0 in
       let is = tag_linked (head_at m.state chunk).tag linked.1 in
       let few = ltb-true (length (holdings_at m.state hand)) 255 room.1 in
       referred_tallied chunk room.0 is (entry_linked m l chunk room.0 is).fits (omega arith)

@@ -16,7 +16,7 @@ use Rattle.mc_core.specs.declared.holding.Kind.TheVariants.{Reference, Fresh}
 use Rattle.mc_core.specs.declared.holding.Purpose.TheVariants.{Item, Copy, Rescue}
 use Rattle.mc_core.specs.declared.look.Look.{Look}
 use Rattle.mc_core.specs.declared.look.Look.TheVariants.{Saw, SawStripe}
-use Rattle.mc_core.specs.Holdings.{Words, stamp_in, item_length, is_complete, is_of, is_copy_of, is_copy_kind, holding_of}
+use Rattle.mc_core.specs.Holdings.{stamp_in, is_of, is_copy_of, is_copy_kind, holding_of, stamp_of, numbers}
 use Rattle.mc_core.specs.State.{State, has_slabs, head_at, item_at, holdings_at, with_slabs, with_look, with_head, with_holding, without_holding}
 use Rattle.mc_core.specs.Locks.{looked}
 use Rattle.mc_core.specs.Chunks.{next_free, popped, is_target, target_of, most_issue, popped_off, filled}
@@ -26,7 +26,7 @@ use Rattle.mc_core.specs.Run.{after_step}
 use Rattle.mc_core.specs.Past.{Moment, Saying, with_more, said_by, first_moment}
 use Rattle.mc_core.specs.Columns.{Each}
 use Rattle.mc_core.specs.Knowing.{IsSaid, IsRescue}
-use Rattle.mc_core.specs.Laws.{MayStep, ChangesKeep, StepsKeep}
+use Rattle.mc_core.specs.Laws.{MayStep, ChangesKeep, StepsKeep, HoldsAtFirst}
 use Rattle.mc_core.specs.Lawful.{RescuedIn}
 use Rattle.mc_core.proofs.Base.{each_map, found_has}
 use Rattle.mc_core.proofs.Rows.{rows_less, rows_more, each_less, each_more}
@@ -34,17 +34,17 @@ use Rattle.mc_core.proofs.Changed.{rows_changed, each_changed}
 use Rattle.mc_core.proofs.Plays.{hand_there}
 use Rattle.mc_core.proofs.MoreRows.{joined_rows}
 use Rattle.mc_core.proofs.SaidOnce.{said_more, said_joined}
-use Rattle.mc_core.proofs.KnownQuiet.{IsStill}
-use Rattle.mc_core.proofs.KnownReferences.{item_has}
+use Rattle.mc_core.proofs.KnownReferences.{item_has, linked_whole}
 use Rattle.mc_core.proofs.KnownCondemned.{condemnable, are_joined}
 use Rattle.mc_core.proofs.KnownSteps.{each_none}
+use Rattle.mc_core.proofs.Numbers.{numbers_at}
 
 -- what was said is said still
-rescue_still : (said said' : List (List Saying)) → ((stamp : ℕ) (words : Words) → IsSaid said stamp words → IsSaid said' stamp words) → (chunk : ChunkId) (kind : Kind) → IsRescue said chunk kind → IsRescue said' chunk kind
+rescue_still : (said said' : List (List Saying)) → ((stamp : ℕ) (words : List ℕ) → IsSaid said stamp words → IsSaid said' stamp words) → (chunk : ChunkId) (kind : Kind) → IsRescue said chunk kind → IsRescue said' chunk kind
 rescue_still said said' more chunk Reference is = tt
 rescue_still said said' more chunk (Fresh Item) is = tt
 rescue_still said said' more chunk (Fresh (Copy old)) is = is
-rescue_still said said' more chunk (Fresh (Rescue old item)) is = (is.0, is.1, more (stamp_in item) item is.2, is.3)
+rescue_still said said' more chunk (Fresh (Rescue old item)) is = (is.0, is.1, more (stamp_in item) (numbers item) is.2, is.3)
 
 -- a copy is off the page of the chunk that it is to be a copy of
 pub copy_is : (said : List (List Saying)) (chunk old : ChunkId) (kind : Kind) → is_copy_kind old kind ≡ true → IsRescue said chunk kind → (kind ≡ Fresh (Copy old)) × (chunk.page ≢ old.page)
@@ -55,10 +55,10 @@ copy_is said chunk old (Fresh (Copy other)) is off =
 copy_is said chunk old (Fresh (Rescue other item)) is off = absurd (cc)
 
 -- so is a chunk that one may be taken to
-target_off : (s : State) (page : ℕ) (chunk : ChunkId) → target_of s page ≡ Some chunk → chunk.page ≢ page
+target_off : (s : State) (page : ℕ) (chunk : ChunkId) → target_of s.table s.heads s.slabs page ≡ Some chunk → chunk.page ≢ page
 target_off s page chunk found =
     let free = (class_at s.slabs (class_of_page s.slabs page)).free in
-    let passes = (found_has (λ (c : ChunkId). ⊤) (is_target s page) free chunk found (λ i c within. tt)).1 in
+    let passes = (found_has (λ (c : ChunkId). ⊤) (is_target s.table s.heads page) free chunk found (λ i c within. tt)).1 in
     let off = (and_parts (not (chunk.page == page)) (nat_lt (head_at s chunk).issue most_issue) passes).0 in
     λ same. both_ways (not (chunk.page == page)) (ap not (eq-eqb chunk.page page same)) off
 
@@ -98,7 +98,7 @@ module _ (m : Moment) (hand : ℕ) where
     popped_rescued class None = is
     popped_rescued class (Some chunk) = one_more _ tt
 
-    popped_off_rescued : (old : ChunkId) (next : Option ChunkId) → target_of m.state old.page ≡ next → AreRescued (popped_off m.state hand old next).holdings m.past.said
+    popped_off_rescued : (old : ChunkId) (next : Option ChunkId) → target_of m.state.table m.state.heads m.state.slabs old.page ≡ next → AreRescued (popped_off m.state hand old next).holdings m.past.said
     popped_off_rescued old None found = is
     popped_off_rescued old (Some chunk) found = one_more _ (target_off m.state old.page chunk found)
 
@@ -128,11 +128,12 @@ module _ (m : Moment) (hand : ℕ) where
   condemned_rescued chunk may =
       let l = may.lawful in
       let is = condemnable m hand chunk may in
-      let whole = item_has m l chunk is.near is.linked (λ k. (is_complete k.words ≡ true) × (length k.words ≡ item_length k.words))
-      (each_map (IsStill m l) (λ k. (is_complete k.words ≡ true) × (length k.words ≡ item_length k.words)) m.past.known (λ k still. still.whole) l.known.still) in
-      let said = item_has m l chunk is.near is.linked (λ k. IsSaid m.past.said (stamp_in k.words) k.words) l.known.said_by_some in
+      let item = item_at m.state chunk in
+      let whole = linked_whole m l chunk is.near is.linked in
+      let said = item_has m l chunk is.near is.linked (λ k. IsSaid m.past.said (stamp_of k.words) k.words) l.known.said_by_some in
+      let said_so : IsSaid m.past.said (stamp_in item) (numbers item) = subst (λ n. IsSaid m.past.said n (numbers item)) (numbers_at item 1) said in
       each_changed (is_copy_of chunk) (as_rescue chunk (item_at m.state chunk)) m.state.holdings hand (IsSaidRescue m.past.said) (IsSaidRescue m.past.said) (λ h rescue. rescue)
-      (λ h copy rescue. (whole.0, whole.1, said, (copy_is m.past.said h.chunk chunk h.kind copy rescue).1)) l.rescued
+      (λ h copy rescue. (whole.complete, whole.long, said_so, (copy_is m.past.said h.chunk chunk h.kind copy rescue).1)) l.rescued
 
 joined_rescued : (m : Moment) (hand kept spent : ℕ) → MayStep m hand (Join kept spent) → AreRescued m.state.holdings (joined_rows m.past.said kept spent)
 joined_rescued m hand kept spent may =
@@ -163,7 +164,7 @@ rescued_steps m hand GiveSlabs may = ends m hand m.state [] may.lawful.rescued
 rescued_steps m hand (GiveStripe stripe) may = ends m hand m.state [] may.lawful.rescued
 rescued_steps m hand (step.Head chunk) may = ends m hand (after_step m.state hand (step.Head chunk)) [] (looked_rescued m hand (Saw chunk (head_at m.state chunk)) may.lawful.rescued)
 rescued_steps m hand (Pop class) may = ends m hand (after_step m.state hand (Pop class)) [] (popped_rescued m hand may.lawful.rescued class (next_free m.state class))
-rescued_steps m hand (PopOff old) may = ends m hand (after_step m.state hand (PopOff old)) [] (popped_off_rescued m hand may.lawful.rescued old (target_of m.state old.page) refl)
+rescued_steps m hand (PopOff old) may = ends m hand (after_step m.state hand (PopOff old)) [] (popped_off_rescued m hand may.lawful.rescued old (target_of m.state.table m.state.heads m.state.slabs old.page) refl)
 rescued_steps m hand (Fill chunk place word) may =
     ends m hand (after_step m.state hand (Fill chunk place word)) [] (filled_rescued m hand may.lawful.rescued chunk place word)
 rescued_steps m hand (Word chunk place) may = ends m hand m.state [] may.lawful.rescued
@@ -181,5 +182,5 @@ rescued_steps m hand (Cut page index) may = ends m hand m.state [] may.lawful.re
 rescued_steps m hand (Again chunk issue) may = ends m hand (after_step m.state hand (Again chunk issue)) [] (one_more m hand may.lawful.rescued _ tt)
 rescued_steps m hand (Join kept spent) may = joined_rescued m hand kept spent may
 
-pub rescued_first : (table : Classes) (stripes hands : ℕ) → IsSound table → 1 ≤ stripes → 1 ≤ hands → hands ≤ 64 → RescuedIn (first_moment table stripes hands)
-rescued_first table stripes hands sound some one most = each_none (IsSaidRescue (first_moment table stripes hands).past.said) hands
+pub rescued_first : HoldsAtFirst RescuedIn
+rescued_first table stripes hands start sound some one most _ = each_none (IsSaidRescue (first_moment table stripes hands start).past.said) hands

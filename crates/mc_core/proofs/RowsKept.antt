@@ -1,19 +1,26 @@
 -- Each step keeps a row for each hand, and but for a join it keeps the hands' numbers.
-use Rattle.std.proofs.Common.{◌≡◌, ◌⊎◌, ℕ, ◌≤◌, false, length, refl, sym, ◌∙◌, subst, slice_set, length-set, inl, inr}
+use Rattle.std.proofs.Common.{◌≡◌, ◌≢◌, ◌⊎◌, ℕ, true, false, List, [], length, replicate, is_some, Option, Some, None, refl, sym, ap, ◌∙◌, subst, slice_set, length-set, inl, inr, arith}
 use Rattle.std.specs.List.{range_with_len}
-use Rattle.std.proofs.lemmas.List.{length-replicate, length-map}
+use Rattle.std.proofs.lemmas.Bool.{cases_eq, cases_lt, false≢true}
+use Rattle.std.proofs.lemmas.List.{length-replicate, length-map, set_past, get_or_past, get_or-replicate}
 use Rattle.std.proofs.lemmas.List.FromFn.{length-range_with_len}
-use Rattle.mc_classes.specs.Classes.{Classes, IsSound}
+use Rattle.mc_stripe.specs.declared.history.Call.{Call}
+use Rattle.mc_stripe.specs.StripeState.{new_stripe}
+use Rattle.mc_core.specs.declared.ids.Ids.{Ids}
 use Rattle.mc_core.specs.declared.event.Step.{Step}
 use Rattle.mc_core.specs.declared.event.Step.TheVariants as step
-use Rattle.mc_core.specs.State.{State, gone, number_at}
-use Rattle.mc_core.specs.Past.{Moment, learned_alone, joined, moment_stepped, first_moment}
-use Rattle.mc_core.specs.Identities.{HaveRows}
+use Rattle.mc_core.specs.State.{State, gone, number_at, new_state}
+use Rattle.mc_core.specs.Past.{Moment, seen_after, longer_each, learned_alone, moment_stepped}
+use Rattle.mc_core.specs.Identities.{HaveRows, number_in}
 use Rattle.mc_core.specs.Lawful.{RowsIn}
-use Rattle.mc_core.specs.Laws.{StepsKeep}
+use Rattle.mc_core.specs.Laws.{MayStep, ChangesKeep, StepsKeep, HoldsAtFirst}
 use Rattle.mc_core.specs.Run.{after_step}
-use Rattle.mc_core.proofs.Own.{IsOwn, own_step}
+use Rattle.mc_core.proofs.Own.{IsOwn, own_step, own_change}
 use Rattle.mc_core.proofs.Learned.{is_join, learned_is}
+use Rattle.mc_core.proofs.MoreRows.{row_of, row_same, row_other}
+use Rattle.mc_core.proofs.HandsSteps.{gone_set}
+use Rattle.mc_core.proofs.NumberedSteps.{join_facts}
+use Rattle.mc_core.proofs.SeenRows.{change_long, step_long, seen_long, longer_long}
 
 -- as many hands, and each its number
 pub record SameHands (before now : State) : Type 0 where
@@ -52,20 +59,47 @@ by_join s hand (step.Cut page index) = inl (refl, from_own s hand (step.Cut page
 by_join s hand (step.Again chunk issue) = inl (refl, from_own s hand (step.Again chunk issue) (own_step s hand (step.Again chunk issue) refl))
 by_join s hand (step.Join kept spent) = inr (kept, spent, refl)
 
-rows_alone : (m : Moment) (hand : ℕ) (step : Step) → HaveRows m.state.ids m.past → length (after_step m.state hand step).ids ≡ length m.state.ids →
-    HaveRows (after_step m.state hand step).ids (learned_alone m.state (after_step m.state hand step) m.past hand step)
-rows_alone m hand step l long = record {
+-- in each row of a live hand there are so many, and so there are after one is written
+seen_kept : (ids : List Ids) (rows : List (List (List Call))) (count hand : ℕ) (row : List (List Call)) → ((other : ℕ) → is_some (number_in ids other) ≡ true → length (row_of rows other) ≡ count) →
+    (is_some (number_in ids hand) ≡ true → length row ≡ count) → (other : ℕ) → is_some (number_in ids other) ≡ true → length (row_of (slice_set rows hand row) other) ≡ count
+seen_kept ids rows count hand row each own other there = elim (cases_eq other hand) [
+  | inl same ↦ elim (cases_lt hand (length rows)) [
+    | inl within ↦ ap (λ h. length (row_of (slice_set rows hand row) h)) same ∙ (ap length (row_same rows hand row within) ∙ own (subst (λ h. is_some (number_in ids h) ≡ true) same there))
+    | inr past ↦ ap (λ (rs : List (List (List Call))). length (row_of rs other)) (set_past rows hand row past) ∙ each other there
+  ]
+  | inr apart ↦ ap length (row_other rows hand other row apart) ∙ each other there
+]
+
+rows_alone : (m : Moment) (hand : ℕ) (step : Step) → RowsIn m → SameHands m.state (after_step m.state hand step) →
+    HaveRows (after_step m.state hand step).ids (length (after_step m.state hand step).stripes) (learned_alone m.state (after_step m.state hand step) m.past hand step)
+rows_alone m hand step l same = let long = same.long in record {
   saw = length-set m.past.saw hand _ ∙ l.saw ∙ sym long;
   holds = length-set m.past.holds hand _ ∙ l.holds ∙ sym long;
   mine = length-set m.past.mine hand _ ∙ l.mine ∙ sym long;
   seen = length-set m.past.seen hand _ ∙ l.seen ∙ sym long;
   said = length-set m.past.said hand _ ∙ l.said ∙ sym long;
   known = length-set m.past.known hand _ ∙ l.known ∙ sym long;
+  histories = λ other there.
+      let now = step_long m.state hand step in
+      let was : is_some (number_in m.state.ids other) ≡ true = ap is_some (sym (same.numbers other)) ∙ there in
+      seen_kept m.state.ids m.past.seen (length m.state.stripes) hand (seen_after m.state step (row_of m.past.seen hand)) l.histories
+      (λ here. seen_long m.state step (row_of m.past.seen hand) ∙ l.histories hand here) other was ∙ sym now;
 }
 
-rows_joined : (m : Moment) (kept spent : ℕ) → HaveRows m.state.ids m.past → HaveRows (slice_set m.state.ids spent gone) (joined m.past kept spent)
-rows_joined m kept spent l =
+-- a hand that is there after a join is another than the spent one, and was there
+there_before : (ids : List Ids) (spent other : ℕ) (number : Option ℕ) → number_in (slice_set ids spent gone) other ≡ number → is_some number ≡ true → (other ≢ spent) × (is_some (number_in ids other) ≡ true)
+there_before ids spent other None is there = absurd (cc)
+there_before ids spent other (Some number) is there = let was = gone_set ids spent other number is in (was.0, ap is_some was.1)
+
+rows_joined : (m : Moment) (hand kept spent : ℕ) → MayStep m hand (step.Join kept spent) → RowsIn (moment_stepped m hand (step.Join kept spent))
+rows_joined m hand kept spent may =
+    let l = may.lawful.rows in
     let long = length-set m.state.ids spent gone in
+    let facts = join_facts m hand kept spent may in
+    let in_kept = l.histories kept facts.3 in
+    let in_spent = l.histories spent facts.4 in
+    let both = longer_each (row_of m.past.seen kept) (row_of m.past.seen spent) in
+    let put = slice_set m.past.seen kept both in
     record {
       saw = length-set m.past.saw spent _ ∙ l.saw ∙ sym long;
       holds = length-set m.past.holds spent _ ∙ l.holds ∙ sym long;
@@ -73,17 +107,22 @@ rows_joined m kept spent l =
       seen = length-set _ spent _ ∙ length-set m.past.seen kept _ ∙ l.seen ∙ sym long;
       said = length-set _ spent _ ∙ length-set m.past.said kept _ ∙ l.said ∙ sym long;
       known = length-set _ spent _ ∙ length-set m.past.known kept _ ∙ l.known ∙ sym long;
+      histories = λ other there.
+          let was = there_before m.state.ids spent other (number_in (slice_set m.state.ids spent gone) other) refl there in
+          ap length (row_other put spent other [] was.0)
+          ∙ seen_kept m.state.ids m.past.seen (length m.state.stripes) kept both l.histories
+          (λ _. longer_long (row_of m.past.seen kept) (row_of m.past.seen spent) (in_kept ∙ sym in_spent) ∙ in_kept) other was.1;
     }
 
 pub rows_steps : StepsKeep RowsIn
 rows_steps m hand step may =
     elim (by_join m.state hand step) [
-      | inl (other, same) ↦ subst (HaveRows (after_step m.state hand step).ids) (sym (learned_is m.state (after_step m.state hand step) m.past hand step other)) (rows_alone m hand step may.lawful.rows same.long)
-      | inr (kept, spent, is) ↦ subst (λ (s : Step). RowsIn (moment_stepped m hand s)) (sym is) (rows_joined m kept spent may.lawful.rows)
+      | inl (other, same) ↦ subst (HaveRows (after_step m.state hand step).ids (length (after_step m.state hand step).stripes)) (sym (learned_is m.state (after_step m.state hand step) m.past hand step other)) (rows_alone m hand step may.lawful.rows same)
+      | inr (kept, spent, is) ↦ subst (λ (s : Step). RowsIn (moment_stepped m hand s)) (sym is) (rows_joined m hand kept spent (subst (MayStep m hand) is may))
     ]
 
-pub rows_first : (table : Classes) (stripes hands : ℕ) → IsSound table → 1 ≤ stripes → 1 ≤ hands → hands ≤ 64 → RowsIn (first_moment table stripes hands)
-rows_first table stripes hands sound _ _ _ =
+pub rows_first : HoldsAtFirst RowsIn
+rows_first table stripes hands start sound _ _ _ _ =
     let named = length-map (range_with_len 0 hands) _ ∙ length-range_with_len 0 hands in
     record {
       saw = length-replicate hands _ ∙ sym named;
@@ -92,4 +131,22 @@ rows_first table stripes hands sound _ _ _ =
       seen = length-replicate hands _ ∙ sym named;
       said = length-replicate hands _ ∙ sym named;
       known = length-replicate hands _ ∙ sym named;
+      histories = λ hand there. elim (cases_lt hand hands) [
+        | inl within ↦ ap length (get_or-replicate hands hand (replicate stripes []) [] within) ∙ (length-replicate stripes [] ∙ sym (length-replicate stripes new_stripe))
+        | inr past ↦ absurd (false≢true (sym (ap (λ (i : Ids). is_some i.number) (get_or_past (new_state table stripes hands start).ids hand gone (omega (arith, past, named)))) ∙ there))
+      ];
+    }
+
+pub rows_changes : ChangesKeep RowsIn
+rows_changes m hand change may =
+    let l = may.lawful.rows in
+    let own = own_change m.state hand change in
+    record {
+      saw = l.saw ∙ sym own.long;
+      holds = l.holds ∙ sym own.long;
+      mine = length-set m.past.mine hand _ ∙ l.mine ∙ sym own.long;
+      seen = l.seen ∙ sym own.long;
+      said = l.said ∙ sym own.long;
+      known = l.known ∙ sym own.long;
+      histories = λ other there. l.histories other (ap is_some (sym (own.numbers other)) ∙ there) ∙ sym (change_long m.state hand change);
     }

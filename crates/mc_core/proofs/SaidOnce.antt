@@ -7,7 +7,6 @@ use Rattle.std.proofs.lemmas.List.Elements.{All-head, All-tail, All-weaker}
 use Rattle.std.proofs.lemmas.List.Sums.{sum_by-cons, get_or-le-sum_by}
 use Rattle.mc_pages.specs.Accounted.{truth}
 use Rattle.mc_core.specs.declared.ids.Ids.{Ids}
-use Rattle.mc_core.specs.Holdings.{Words}
 use Rattle.mc_core.specs.Items.{is_next_stamp, most_stamps}
 use Rattle.mc_core.specs.Past.{with_more, Own, Saying, Known}
 use Rattle.mc_core.specs.Identities.{owns, said_times, said_count, AreCountedTo, AreNumbered}
@@ -47,7 +46,7 @@ row_once stamp (s ∷ row) a b once (suc k, within, at) (suc k', within', at') i
     row_once stamp row a b (omega (arith, times-cons stamp s row)) (k, omega arith, at) (k', omega arith, at') is_a is_b
 
 -- what is said with one stamp is one
-pub said_one : (said : List (List Saying)) (stamp : ℕ) (a b : Words) → said_count stamp said ≤ 1 → IsSaid said stamp a → IsSaid said stamp b → a ≡ b
+pub said_one : (said : List (List Saying)) (stamp : ℕ) (a b : List ℕ) → said_count stamp said ≤ 1 → IsSaid said stamp a → IsSaid said stamp b → a ≡ b
 said_one said stamp a b once (hand, s, has, is, words) (hand', s', has', is', words') =
     let some = times_at stamp (row_of said hand) s is has in
     let some' = times_at stamp (row_of said hand') s' is' has' in
@@ -62,10 +61,10 @@ said_one said stamp a b once (hand, s, has, is, words) (hand', s', has', is', wo
     ]
 
 -- more may be said
-pub said_more : (said : List (List Saying)) (hand : ℕ) (more : List Saying) (stamp : ℕ) (words : Words) → IsSaid said stamp words → IsSaid (with_more said hand more) stamp words
+pub said_more : (said : List (List Saying)) (hand : ℕ) (more : List Saying) (stamp : ℕ) (words : List ℕ) → IsSaid said stamp words → IsSaid (with_more said hand more) stamp words
 said_more said hand more stamp words (other, s, has, is, same) = (other, s, more_contains said hand other more s has, is, same)
 
-pub said_joined : (said : List (List Saying)) (kept spent : ℕ) (stamp : ℕ) (words : Words) → kept ≢ spent → kept < length said → IsSaid said stamp words → IsSaid (joined_rows said kept spent) stamp words
+pub said_joined : (said : List (List Saying)) (kept spent : ℕ) (stamp : ℕ) (words : List ℕ) → kept ≢ spent → kept < length said → IsSaid said stamp words → IsSaid (joined_rows said kept spent) stamp words
 said_joined said kept spent stamp words apart within (other, s, has, is, same) =
     let there = joined_contains said kept spent other s apart within has in (there.0, s, there.1, is, same)
 

@@ -32,7 +32,7 @@ use Rattle.mc_core.specs.declared.event.Change.{Change}
 use Rattle.mc_core.specs.declared.event.Change.TheVariants.{Grow, BeginMove, FinishMove, Touch, SetAutomove, Passed, Wrap, Evicted, Reserve, GotNone, DeletedNone}
 use Rattle.mc_core.specs.Head.{is_free, is_out}
 use Rattle.mc_core.specs.State.{State, has_chunk, has_slabs}
-use Rattle.mc_core.specs.Silent.{has_page, has_listed, is_whole, can_finish, grown, begun, after_change}
+use Rattle.mc_core.specs.Silent.{has_page, has_listed, none_half_cut, can_finish, grown, begun, after_change}
 use Rattle.mc_core.specs.Columns.{head_in, IsHandedOut}
 use Rattle.mc_core.specs.Past.{Moment}
 use Rattle.mc_core.specs.Places.{ArePlaced, is_cut_there}
@@ -153,7 +153,7 @@ none_handed_out table slabs heads move chunk placed is none on here out =
 -- what a move that may end asks
 pub finish_tests : (slabs : SlabState) (move : Moving) → can_finish slabs (Some move) ≡ true → (has_page (class_at slabs move.src).free move.page ≡ false) × (has_page (class_at slabs move.src).order move.page ≡ false)
 finish_tests slabs move h =
-    let parts = and_parts (is_whole slabs) (not (has_listed slabs move.src move.page)) h in
+    let parts = and_parts (none_half_cut slabs) (not (has_listed slabs move.src move.page)) h in
     or_none (has_page (class_at slabs move.src).free move.page) (has_page (class_at slabs move.src).order move.page) (not-true (has_listed slabs move.src move.page) parts.1)
 
 -- handed-out chunks stay those of their classes

@@ -15,10 +15,10 @@ use Rattle.mc_core.specs.declared.look.Look.{Look}
 use Rattle.mc_core.specs.declared.look.Look.TheVariants.{Saw, SawStripe, Read, Popped, PoppedOff, Condemned, PutBack, Cleared, Cut, Changed}
 use Rattle.mc_core.specs.Head.{is_linked}
 use Rattle.mc_core.specs.Looks.{stays_linked, was_linked}
-use Rattle.mc_core.specs.Past.{Known}
+use Rattle.mc_core.specs.Past.{Known, IsKnownToSome}
 use Rattle.mc_core.specs.Silent.{slabs_after}
 use Rattle.mc_core.specs.State.{room_in, has_chunk, head_place, most_of, page_words}
-use Rattle.mc_core.specs.Columns.{head_in, place_in, IsHandedOut, IsKnownToSome}
+use Rattle.mc_core.specs.Columns.{head_in, place_in, IsHandedOut}
 use Rattle.mc_core.specs.Seen.{newer, last_head, linked_issue, last_read, told_by_look, IsStill, IsReadStill, AreSeen}
 use Rattle.mc_core.proofs.KnownStill.{head_now}
 use Rattle.mc_core.proofs.KnownReferences.{linked_tag}

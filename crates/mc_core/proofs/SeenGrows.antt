@@ -6,11 +6,8 @@ use Rattle.std.proofs.lemmas.List.{append-nil}
 use Rattle.mc_stripe.specs.declared.history.Call.{Call}
 use Rattle.mc_stripe.specs.StripeState.{new_stripe}
 use Rattle.mc_core.specs.declared.event.Change.{Change}
-use Rattle.mc_core.specs.declared.event.Change.TheVariants.{Grow, BeginMove, FinishMove, Touch, SetAutomove, Passed, Wrap, Evicted, Reserve, GotNone, DeletedNone}
 use Rattle.mc_core.specs.declared.event.Step.{Step}
 use Rattle.mc_core.specs.declared.event.Step.TheVariants as step
-use Rattle.mc_core.specs.State.{State, stripe_of}
-use Rattle.mc_core.specs.Silent.{after_change}
 use Rattle.mc_core.specs.Past.{Past, Moment, history_at, seen_after, longer_each, moment_changed, moment_changes, moment_stepped}
 use Rattle.mc_core.specs.Run.{after_step}
 use Rattle.mc_core.specs.Histories.{IsBeginning}
@@ -23,6 +20,7 @@ use Rattle.mc_core.proofs.Learned.{learned_is}
 use Rattle.mc_core.proofs.MoreRows.{row_of, row_same, row_other}
 use Rattle.mc_core.proofs.NumberedSteps.{hand_within, join_facts}
 use Rattle.mc_core.proofs.RowsKept.{by_join}
+use Rattle.mc_core.proofs.SeenRows.{seen_or, change_long}
 use Rattle.mc_core.proofs.ToldSteps.{begun_row}
 
 -- of two beginnings of one list the shorter begins the longer
@@ -69,32 +67,6 @@ longer_second (x ∷ xs) (y ∷ ys) zero calls is =
     ]
 longer_second (x ∷ xs) (y ∷ ys) (suc stripe) calls is = longer_second xs ys stripe calls is
 
--- a step shows the hand one history, or none
-seen_or : (state : State) (next : Step) (row : List (List Call)) → (seen_after state next row ≡ row) ⊎ ((stripe : ℕ) × (seen_after state next row ≡ slice_set row stripe (history_at state stripe)))
-seen_or state (step.TakeStripe stripe) row = inr (stripe, refl)
-seen_or state (step.GiveStripe stripe) row = inr (stripe, refl)
-seen_or state step.TakeSlabs row = inl refl
-seen_or state step.MissSlabs row = inl refl
-seen_or state (step.MissStripe stripe) row = inl refl
-seen_or state step.GiveSlabs row = inl refl
-seen_or state (step.Head chunk) row = inl refl
-seen_or state (step.Pop class) row = inl refl
-seen_or state (step.PopOff old) row = inl refl
-seen_or state (step.Fill chunk place word) row = inl refl
-seen_or state (step.Word chunk place) row = inl refl
-seen_or state (step.WordHeld chunk place) row = inl refl
-seen_or state (step.Link chunk) row = inl refl
-seen_or state (step.Refer key) row = inl refl
-seen_or state (step.Unlink key) row = inl refl
-seen_or state (step.Release chunk) row = inl refl
-seen_or state (step.Discard chunk) row = inl refl
-seen_or state (step.Condemn chunk) row = inl refl
-seen_or state (step.PutBack chunk) row = inl refl
-seen_or state (step.Clear chunk) row = inl refl
-seen_or state (step.Cut page index) row = inl refl
-seen_or state (step.Again chunk issue) row = inl refl
-seen_or state (step.Join kept spent) row = inl refl
-
 -- what stands in a row after a write
 set_there : (row : List (List Call)) (at : ℕ) (calls : List Call) → at < length row → slice_get (slice_set row at calls) at ≡ Some calls
 set_there row at calls within =
@@ -106,19 +78,6 @@ set_else (x ∷ row) zero zero calls apart = absurd (apart refl)
 set_else (x ∷ row) zero (suc other) calls apart = refl
 set_else (x ∷ row) (suc at) zero calls apart = refl
 set_else (x ∷ row) (suc at) (suc other) calls apart = set_else row at other calls (λ e. apart (ap suc e))
-
-change_long : (state : State) (who : ℕ) (change : Change) → length (after_change state who change).stripes ≡ length state.stripes
-change_long state who (Grow class) = refl
-change_long state who (BeginMove src dst) = refl
-change_long state who FinishMove = refl
-change_long state who (Touch chunk) = refl
-change_long state who (SetAutomove mode) = refl
-change_long state who (Passed found) = refl
-change_long state who Wrap = refl
-change_long state who (Evicted class) = refl
-change_long state who (Reserve stripe) = length-set state.stripes stripe _
-change_long state who (GotNone key) = length-set state.stripes (stripe_of state key) _
-change_long state who (DeletedNone key) = length-set state.stripes (stripe_of state key) _
 
 -- no silent change shows anything
 changes_unseen : (m : Moment) (who : ℕ) (changes : List Change) → (moment_changes m who changes).past.seen ≡ m.past.seen

@@ -10,9 +10,9 @@ use Rattle.mc_core.specs.declared.head.Tag.{Tag}
 use Rattle.mc_core.specs.declared.head.Tag.TheVariants.{Out, Free, Unlinked, Linked}
 use Rattle.mc_core.specs.declared.look.Look.{Look}
 use Rattle.mc_core.specs.Head.{is_free, is_out, is_dead, is_unlinked}
-use Rattle.mc_core.specs.Past.{Known}
+use Rattle.mc_core.specs.Past.{Known, IsKnownToSome}
 use Rattle.mc_core.specs.State.{room_in, has_chunk}
-use Rattle.mc_core.specs.Columns.{head_in, place_in, IsHandedOut, IsKnownToSome}
+use Rattle.mc_core.specs.Columns.{head_in, place_in, IsHandedOut}
 use Rattle.mc_core.specs.Seen.{last_head, linked_issue, last_read, told_by_look, IsStill, IsReadStill, AreSeen}
 
 -- nobody holds it, and no key leads to it

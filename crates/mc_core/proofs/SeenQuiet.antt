@@ -13,7 +13,7 @@ use Rattle.mc_core.specs.declared.holding.Purpose.TheVariants.{Item, Copy, Rescu
 use Rattle.mc_core.specs.Head.{is_linked, is_unlinked}
 use Rattle.mc_core.specs.Holdings.{is_of, has_fresh, holding_of}
 use Rattle.mc_core.specs.Chunks.{can_fill_in, holds_as, let_go, after_drop}
-use Rattle.mc_core.specs.Items.{linked, unlinked, referred, stripe_unlinked, chunk_of, is_linked_at, with_unlinked, with_got, can_refer_to, referred_to, with_reference, has_place_again, can_count, told_link, as_reference, after_link_of, can_link_holding}
+use Rattle.mc_core.specs.Items.{linked, unlinked, referred, stripe_unlinked, chunk_of, is_linked_at, with_unlinked, with_got, can_refer_to, referred_to, with_reference, has_place_unlocked, can_count, told_link, as_reference, after_link_of, can_link_holding}
 use Rattle.mc_core.specs.Silent.{writer_of}
 use Rattle.mc_core.specs.State.{State, room_at, has_slabs, has_chunk, head_at, head_place, looks_at, holdings_at, with_head, with_holding, with_stripe, without_holding, stripe_of, stripe_at}
 use Rattle.mc_core.specs.Run.{after_step}
@@ -145,7 +145,7 @@ module _ (m : Moment) (hand : ℕ) where
       let parts = and_parts _ (can_count (head_at m.state chunk)) may.allowed in
       let right = and_parts _ ((head_at m.state chunk).issue == issue) parts.0 in
       let tag = and_parts _ (is_linked (head_at m.state chunk).tag) right.0 in
-      let near = (and_parts (has_chunk m.state.table chunk) (has_place_again m.state hand) tag.0).0 in
+      let near = (and_parts (has_chunk m.state.table chunk) (has_place_unlocked m.state hand) tag.0).0 in
       seen_referred may.lawful chunk _ near (linked_tag (head_at m.state chunk).tag tag.1) h has
 
   -- a fresh chunk is linked

@@ -1,8 +1,7 @@
 -- Every change and every step keeps what the holder of the slabs lock saw.
-use Rattle.std.proofs.Common.{◌≡◌, ◌≢◌, ℕ, ◌+◌, ◌≤◌, true, List, [], refl, sym, ap, subst, inl, inr, arith, slice_set, slice_index_or, Option, Some, None, is_some, get_or-set_same, get_or-set_other}
+use Rattle.std.proofs.Common.{◌≡◌, ◌≢◌, ℕ, ◌+◌, true, List, [], refl, sym, ap, subst, inl, inr, arith, slice_set, slice_index_or, Option, Some, None, is_some, get_or-set_same, get_or-set_other}
 use Rattle.std.specs.Option.{option_map_or}
 use Rattle.std.proofs.lemmas.Bool.{and_parts, both_ways, cases_eq}
-use Rattle.mc_classes.specs.Classes.{Classes, IsSound}
 use Rattle.mc_core.specs.declared.event.Change.{Change}
 use Rattle.mc_core.specs.declared.event.Change.TheVariants.{Grow, BeginMove, FinishMove, Touch, SetAutomove, Passed, Wrap, Evicted, Reserve, GotNone, DeletedNone}
 use Rattle.mc_core.specs.declared.event.Step.TheVariants.{TakeSlabs, TakeStripe, MissSlabs, MissStripe, GiveSlabs, GiveStripe, Pop, PopOff, Fill, Word, WordHeld, Link, Refer, Unlink, Release, Discard, Condemn, PutBack, Clear, Cut, Again, Join}
@@ -14,7 +13,7 @@ use Rattle.mc_core.specs.Silent.{slabs_after}
 use Rattle.mc_core.specs.State.{gone, is_held_by, has_slabs, is_hand, number_at, looks_at, with_slabs, with_look}
 use Rattle.mc_core.specs.Past.{Moment, Hold, no_hold, with_more, moment_stepped, first_moment}
 use Rattle.mc_core.specs.Seen.{AreSeen}
-use Rattle.mc_core.specs.Laws.{MayStep, ChangesKeep, StepsKeep, StaysOfClass}
+use Rattle.mc_core.specs.Laws.{MayStep, ChangesKeep, StepsKeep, StaysOfClass, HoldsAtFirst}
 use Rattle.mc_core.specs.Lawful.{IsLawful, IsSeenBy, SeenIn}
 use Rattle.mc_core.proofs.SamePages.{stays_changes}
 use Rattle.mc_core.proofs.Plays.{hand_there}
@@ -144,6 +143,6 @@ seen_steps m hand (Cut page index) may = seen_cut m hand page index may
 seen_steps m hand (Again chunk issue) may = seen_again m hand chunk issue may
 seen_steps m hand (Join kept spent) may = seen_join m hand kept spent may
 
-pub seen_first : (table : Classes) (stripes hands : ℕ) → IsSound table → 1 ≤ stripes → 1 ≤ hands → hands ≤ 64 → SeenIn (first_moment table stripes hands)
-seen_first table stripes hands sound some one most h has =
-    let (n, is, word) = held_is 0 (number_at (first_moment table stripes hands).state h) has in absurd (omega arith)
+pub seen_first : HoldsAtFirst SeenIn
+seen_first table stripes hands start sound some one most _ h has =
+    let (n, is, word) = held_is 0 (number_at (first_moment table stripes hands start).state h) has in absurd (omega arith)

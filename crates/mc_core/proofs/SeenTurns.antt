@@ -165,16 +165,16 @@ module _ (m : Moment) (hand : ℕ) where
   seen_pop_off old may h has =
       let l = may.lawful in
       let before = has_before m.state (after_step m.state hand (PopOff old)) hand h (own_step m.state hand (PopOff old) refl) has in
-      let parts = and_parts _ (can_hand_out m.state (target_of m.state old.page)) may.allowed in
+      let parts = and_parts _ (can_hand_out m.state (target_of m.state.table m.state.heads m.state.slabs old.page)) may.allowed in
       let more = and_parts _ (has_place m.state hand) parts.0 in
       let out = and_parts _ (is_handed_out m.state.slabs old) more.0 in
       let mine = (and_parts (has_slabs m.state hand) (is_moving_page m.state.slabs old.page) out.0).0 in
       let class = class_of_page m.state.slabs old.page in
       let is = IsClass-handed_out m.state.slabs old l.paged.of_table.accounted (Contains_from_among (class_at m.state.slabs class).order old out.1) in
-      elim (target_of m.state old.page) as (λ o. target_of m.state old.page ≡ o → can_hand_out m.state o ≡ true → SeenBy m hand l [] (popped_off m.state hand old o) h) [
+      elim (target_of m.state.table m.state.heads m.state.slabs old.page) as (λ o. target_of m.state.table m.state.heads m.state.slabs old.page ≡ o → can_hand_out m.state o ≡ true → SeenBy m hand l [] (popped_off m.state hand old o) h) [
         | None ↦ λ _ never. absurd (cc)
         | Some chunk ↦ λ found _.
-            let at = found_placed m l class chunk (is_target m.state old.page) is found in
+            let at = found_placed m l class chunk (is_target m.state.table m.state.heads old.page) is found in
             let head = handed_out (head_at m.state chunk) in
             let next = slabs_changes.after_replace m.state.slabs chunk old in
             turns m hand l may.there mine next chunk head (look.PoppedOff chunk old head)

@@ -1,5 +1,5 @@
 -- Sizes: there stay as many headers and data words as the table says.
-use Rattle.std.proofs.Common.{◌≡◌, ℕ, ◌*◌, ◌≤◌, length, refl, sym, ap, subst, ◌∙◌, length-set}
+use Rattle.std.proofs.Common.{◌≡◌, ℕ, ◌*◌, length, refl, sym, ap, subst, ◌∙◌, length-set}
 use Rattle.std.proofs.lemmas.List.{length-replicate}
 use Rattle.mc_classes.specs.Classes.{Classes, IsSound, pages_of}
 use Rattle.mc_core.specs.declared.head.Head.{Head}
@@ -7,15 +7,14 @@ use Rattle.mc_core.specs.declared.event.Change.TheVariants.{Grow, BeginMove, Fin
 use Rattle.mc_core.specs.declared.event.Step.{Step}
 use Rattle.mc_core.specs.declared.event.Step.TheVariants.{TakeSlabs, TakeStripe, MissSlabs, MissStripe, GiveSlabs, GiveStripe, Pop, PopOff, Fill, Word, WordHeld, Link, Refer, Unlink, Release, Discard, Condemn, PutBack, Clear, Cut, Again, Join}
 use Rattle.mc_core.specs.declared.event.Step.TheVariants as step
-use Rattle.mc_core.specs.Head.{never_cut}
+use Rattle.mc_core.specs.Head.{uncut_from}
 use Rattle.mc_core.specs.Holdings.{is_of, holding_of}
 use Rattle.mc_core.specs.State.{State, most_of, page_words, with_slabs, holdings_at, without_holding}
 use Rattle.mc_core.specs.Chunks.{next_free, target_of}
 use Rattle.mc_core.specs.Items.{with_got, chunk_of}
 use Rattle.mc_core.specs.Run.{after_step}
-use Rattle.mc_core.specs.Past.{first_moment}
 use Rattle.mc_core.specs.Lawful.{SizedIn}
-use Rattle.mc_core.specs.Laws.{ChangesKeep, StepsKeep}
+use Rattle.mc_core.specs.Laws.{ChangesKeep, StepsKeep, HoldsAtFirst}
 use Rattle.mc_core.proofs.SameSlabs.{looked_keeps, popped_keeps, popped_off_keeps, told_link_keeps, linked_keeps, referred_keeps, unlinked_keeps, table_stays}
 use Rattle.mc_pages.specs.Changes as slabs_changes
 
@@ -32,7 +31,7 @@ heads_stay state hand GiveSlabs = refl
 heads_stay state hand (GiveStripe stripe) = refl
 heads_stay state hand (step.Head chunk) = looked_keeps head_count state hand _ refl
 heads_stay state hand (Pop class) = popped_keeps head_count (with_slabs state (slabs_changes.after_pop state.slabs class)) hand (next_free state class) (λ chunk. length-set state.heads _ _)
-heads_stay state hand (PopOff old) = popped_off_keeps head_count state hand old (target_of state old.page) (λ chunk. length-set state.heads _ _)
+heads_stay state hand (PopOff old) = popped_off_keeps head_count state hand old (target_of state.table state.heads state.slabs old.page) (λ chunk. length-set state.heads _ _)
 heads_stay state hand (Fill chunk place word) = refl
 heads_stay state hand (Word chunk place) = refl
 heads_stay state hand (WordHeld chunk place) = refl
@@ -64,7 +63,7 @@ words_stay state hand GiveSlabs = refl
 words_stay state hand (GiveStripe stripe) = refl
 words_stay state hand (step.Head chunk) = looked_keeps word_count state hand _ refl
 words_stay state hand (Pop class) = popped_keeps word_count (with_slabs state (slabs_changes.after_pop state.slabs class)) hand (next_free state class) (λ chunk. refl)
-words_stay state hand (PopOff old) = popped_off_keeps word_count state hand old (target_of state old.page) (λ chunk. refl)
+words_stay state hand (PopOff old) = popped_off_keeps word_count state hand old (target_of state.table state.heads state.slabs old.page) (λ chunk. refl)
 words_stay state hand (Fill chunk place word) = length-set _ _ _
 words_stay state hand (Word chunk place) = refl
 words_stay state hand (WordHeld chunk place) = refl
@@ -106,9 +105,9 @@ sized_steps moment hand step may =
       places = words_stay moment.state hand step ∙ was.places ∙ sym (ap (λ (t : Classes). pages_of t * page_words t) table);
     }
 
-pub sized_first : (table : Classes) (stripes hands : ℕ) → IsSound table → 1 ≤ stripes → 1 ≤ hands → hands ≤ 64 → SizedIn (first_moment table stripes hands)
-sized_first table stripes hands sound some someone few = record {
+pub sized_first : HoldsAtFirst SizedIn
+sized_first table stripes hands start sound some someone few _ = record {
   sound = sound;
-  headers = length-replicate {A = Head} (pages_of table * most_of table) never_cut;
+  headers = length-replicate {A = Head} (pages_of table * most_of table) (uncut_from start);
   places = length-replicate {A = ℕ} (pages_of table * page_words table) 0;
 }

@@ -4,10 +4,10 @@ use Rattle.std.proofs.lemmas.Bool.{and_parts}
 use Rattle.mc_pages.specs.declared.ids.ChunkId.{ChunkId}
 use Rattle.mc_pages.specs.SlabState.{class_of_page}
 use Rattle.mc_core.specs.Head.{is_free, is_out, is_dead}
-use Rattle.mc_core.specs.State.{State, is_class, has_chunk, head_at, has_slabs, has_stripe, stripe_of, stripe_at}
+use Rattle.mc_core.specs.State.{State, is_class, has_chunk, head_at, has_slabs, has_stripe, stripe_of, stripe_at, holdings_at, looks_at}
 use Rattle.mc_core.specs.Silent.{is_handed_out, is_listed}
 use Rattle.mc_core.specs.Chunks.{has_place, can_hand_out, is_moving_page, is_next_uncut, can_put_back, can_clear, can_cut}
-use Rattle.mc_core.specs.Evictions.{is_idle, key_at, can_take_away, has_copy, has_reason, can_condemn}
+use Rattle.mc_core.specs.Evictions.{is_linked_unheld, key_at, can_lose_entry, has_copy, has_reason, can_condemn}
 
 module _ (state : State) (hand : ℕ) where
   -- a chunk is handed out: of this class
@@ -58,13 +58,13 @@ module _ (state : State) (hand : ℕ) where
       (third.0, third.1, second.1)
 
   -- a linked chunk that nobody holds loses its item
-  pub condemn_tests : (chunk : ChunkId) → can_condemn state hand chunk ≡ true → (has_slabs state hand ≡ true) × (has_chunk state.table chunk ≡ true) × (is_idle (head_at state chunk) ≡ true)
+  pub condemn_tests : (chunk : ChunkId) → can_condemn state hand chunk ≡ true → (has_slabs state hand ≡ true) × (has_chunk state.table chunk ≡ true) × (is_linked_unheld (head_at state chunk) ≡ true)
   condemn_tests chunk can =
       let key = key_at state chunk in
       let stripe = stripe_of state key in
-      let takes = can_take_away (stripe_at state stripe) key (has_copy state hand chunk) in
-      let idle = is_idle (head_at state chunk) in
-      let first = and_parts (has_slabs state hand && has_chunk state.table chunk && idle && has_stripe state hand stripe && takes) (has_reason state hand chunk) can in
+      let takes = can_lose_entry (stripe_at state stripe) key (has_copy (holdings_at state hand) chunk) in
+      let idle = is_linked_unheld (head_at state chunk) in
+      let first = and_parts (has_slabs state hand && has_chunk state.table chunk && idle && has_stripe state hand stripe && takes) (has_reason state.table state.heads state.slabs (looks_at state hand) (holdings_at state hand) chunk) can in
       let second = and_parts (has_slabs state hand && has_chunk state.table chunk && idle && has_stripe state hand stripe) takes first.0 in
       let third = and_parts (has_slabs state hand && has_chunk state.table chunk && idle) (has_stripe state hand stripe) second.0 in
       let fourth = and_parts (has_slabs state hand && has_chunk state.table chunk) idle third.0 in

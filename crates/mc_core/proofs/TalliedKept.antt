@@ -1,10 +1,9 @@
 -- Counts and holdings: kept by every change and every step, and true at first.
-use Rattle.std.proofs.Common.{◌≡◌, ℕ, zero, suc, ◌*◌, ◌≤◌, Bool, true, false, cond, List, [], length, replicate, refl, sym, ap, arith, subst, All, slice_index_or}
+use Rattle.std.proofs.Common.{◌∙◌, ◌≡◌, ℕ, zero, suc, ◌*◌, ◌≤◌, Bool, true, false, cond, List, [], length, replicate, refl, sym, ap, arith, subst, All, slice_index_or}
 use Rattle.std.proofs.lemmas.List.Elements.{All-nil, All-replicate}
-use Rattle.mc_classes.specs.Classes.{Classes, IsSound, pages_of}
+use Rattle.mc_classes.specs.Classes.{pages_of}
 use Rattle.mc_pages.specs.declared.ids.ChunkId.{ChunkId}
 use Rattle.mc_pages.specs.SlabState.{SlabState, class_of_page, fresh_slabs}
-use Rattle.mc_core.specs.declared.head.Head.{Head}
 use Rattle.mc_core.specs.declared.holding.Holding.{Holding}
 use Rattle.mc_core.specs.declared.look.Look.{Look}
 use Rattle.mc_core.specs.declared.event.Change.{Change}
@@ -12,15 +11,15 @@ use Rattle.mc_core.specs.declared.event.Change.TheVariants.{Grow, BeginMove, Fin
 use Rattle.mc_core.specs.declared.event.Step.{Step}
 use Rattle.mc_core.specs.declared.event.Step.TheVariants.{TakeSlabs, TakeStripe, MissSlabs, MissStripe, GiveSlabs, GiveStripe, Pop, PopOff, Fill, Word, WordHeld, Link, Refer, Unlink, Release, Discard, Condemn, PutBack, Clear, Cut, Again, Join}
 use Rattle.mc_core.specs.declared.event.Step.TheVariants as step
-use Rattle.mc_core.specs.Head.{never_cut}
+use Rattle.mc_core.specs.Head.{uncut_from}
 use Rattle.mc_core.specs.State.{State, most_of, head_place, room_in, has_slabs, with_look, new_state}
 use Rattle.mc_core.specs.Silent.{after_change}
 use Rattle.mc_core.specs.Run.{after_step}
-use Rattle.mc_core.specs.Columns.{Each, holders}
+use Rattle.mc_core.specs.Columns.{Each, holders, link_of}
 use Rattle.mc_core.specs.Counts.{AreHeld, IsSized}
-use Rattle.mc_core.specs.Past.{Moment, first_moment}
+use Rattle.mc_core.specs.Past.{Moment}
 use Rattle.mc_core.specs.Lawful.{IsLawful, CountedIn, HeldIn}
-use Rattle.mc_core.specs.Laws.{MayChange, MayStep, ChangesKeep, StepsKeep}
+use Rattle.mc_core.specs.Laws.{MayChange, MayStep, ChangesKeep, StepsKeep, HoldsAtFirst}
 use Rattle.mc_core.proofs.Base.{IsOut}
 use Rattle.mc_core.proofs.SamePages.{stays_changes}
 use Rattle.mc_core.proofs.Turns.{IsSo, each_so, held_from_so, shows_moved}
@@ -31,6 +30,7 @@ use Rattle.mc_core.proofs.Linking.{link_tallied}
 use Rattle.mc_core.proofs.Referring.{refer_tallied, again_tallied}
 use Rattle.mc_core.proofs.Dropping.{drop_tallied, unlink_tallied, condemn_tallied}
 use Rattle.mc_core.proofs.Closing.{put_back_tallied, clear_tallied, cut_tallied}
+use Rattle.mc_core.proofs.Made.{first_heads}
 
 pub counted_changes : ChangesKeep CountedIn
 counted_changes m hand (Grow class) may = may.lawful.counted
@@ -128,18 +128,18 @@ none_held chunk (suc hands) = let rest = none_held chunk hands in omega arith
 none_each : (P : Holding → Type 0) (hands : ℕ) → Each P (replicate hands [])
 none_each P hands = All-replicate (All P) hands [] (All-nil P)
 
-pub counted_first : (table : Classes) (stripes hands : ℕ) → IsSound table → 1 ≤ stripes → 1 ≤ hands → hands ≤ 64 → CountedIn (first_moment table stripes hands)
-counted_first table stripes hands sound some_stripe some_hand few =
-    let at = λ (chunk : ChunkId). all_same never_cut (pages_of table * most_of table) (head_place table chunk) in
+pub counted_first : HoldsAtFirst CountedIn
+counted_first table stripes hands start sound some_stripe some_hand few small =
+    let at = λ (chunk : ChunkId). first_heads (pages_of table * most_of table) (head_place table chunk) start small in
     record {
-      counted = λ chunk near. rw (at chunk) (let none = none_held chunk hands in omega arith);
-      shut = λ chunk near shut. ap (λ (head : Head). head.count) (at chunk);
-      issued = λ chunk near. rw (at chunk) (omega arith);
+      counted = λ chunk near. let none = none_held chunk hands in (at chunk).none ∙ omega (arith, none, ap link_of (at chunk).out);
+      shut = λ chunk near shut. (at chunk).none;
+      issued = λ chunk near. (at chunk).fits;
     }
 
-pub held_first : (table : Classes) (stripes hands : ℕ) → IsSound table → 1 ≤ stripes → 1 ≤ hands → hands ≤ 64 → HeldIn (first_moment table stripes hands)
-held_first table stripes hands sound some_stripe some_hand few =
-    let heads = replicate (pages_of table * most_of table) never_cut in
-    let words = (new_state table stripes hands).words in
+pub held_first : HoldsAtFirst HeldIn
+held_first table stripes hands start sound some_stripe some_hand few _ =
+    let heads = replicate (pages_of table * most_of table) (uncut_from start) in
+    let words = (new_state table stripes hands start).words in
     held_from_so table (fresh_slabs table) heads words (replicate hands []) (none_each (IsSo table (fresh_slabs table) heads words (replicate hands [])) hands)
     (All-replicate (λ (row : List Holding). length row ≤ 256) hands [] (omega arith))

@@ -16,7 +16,6 @@ use Rattle.mc_stripe.proofs.Kept.{IsLegal-after_got, IsLegal-after_unlink, IsLeg
 use Rattle.mc_core.specs.State.{State, has_stripe, stripe_of, stripe_at, number_at}
 use Rattle.mc_core.specs.Silent.{is_aside, writer_of}
 use Rattle.mc_core.specs.Indexed.{AreLegal}
-use Rattle.mc_core.specs.Holdings.{Words}
 use Rattle.mc_core.specs.Past.{Saying}
 use Rattle.mc_core.specs.Identities.{said_times}
 use Rattle.mc_core.specs.Histories.{hand_of, is_set_of, IsSetIn}
@@ -37,7 +36,7 @@ pub record Tells (state : State) (now : List ReadyStripe) (hand : ℕ) (said : L
   pub stores : (stamp : ℕ) → count_by (is_set_of stamp) more ≡ said_times stamp said
 
 -- one set counts as one saying
-stored_one : (hand key stamp other : ℕ) (words : Words) → count_by (is_set_of other) (Set hand key stamp ∷ []) ≡ said_times other (record { stamp = stamp; words = words } ∷ [])
+stored_one : (hand key stamp other : ℕ) (words : List ℕ) → count_by (is_set_of other) (Set hand key stamp ∷ []) ≡ said_times other (record { stamp = stamp; words = words } ∷ [])
 stored_one hand key stamp other words = refl
 
 -- what is told keeps the stripes legal
@@ -164,7 +163,7 @@ module _ (state : State) (hand : ℕ) (l : AreLegal state.stripes state.stripe_l
   no_entry entry is = absurd (cc)
 
   -- an item was stored under it
-  pub tells_set : (key : ℕ) (chunk : ChunkId) (stamp : ℕ) (words : Words) → stripe_of state key ≡ at → stamp / 2 ^ 48 ≡ writer_of state hand → IfSome (key_aside old) (λ other. other ≡ key) → Tells state (slice_set state.stripes at (used_up (stripe_changes.after_link old (writer_of state hand) key chunk stamp))) hand (record { stamp = stamp; words = words } ∷ [])
+  pub tells_set : (key : ℕ) (chunk : ChunkId) (stamp : ℕ) (words : List ℕ) → stripe_of state key ≡ at → stamp / 2 ^ 48 ≡ writer_of state hand → IfSome (key_aside old) (λ other. other ≡ key) → Tells state (slice_set state.stripes at (used_up (stripe_changes.after_link old (writer_of state hand) key chunk stamp))) hand (record { stamp = stamp; words = words } ∷ [])
   tells_set key chunk stamp words here own_stamp same = record {
     at = at;
     value = used_up (stripe_changes.after_link old (writer_of state hand) key chunk stamp);

@@ -17,14 +17,14 @@ use Rattle.mc_core.specs.declared.holding.Purpose.TheVariants.{Item, Copy, Rescu
 use Rattle.mc_core.specs.declared.ids.Ids.{Ids}
 use Rattle.mc_core.specs.declared.look.Look.{Look}
 use Rattle.mc_core.specs.Head.{is_unlinked}
-use Rattle.mc_core.specs.Holdings.{key_in, stamp_in, item_in, is_complete, is_of, has_fresh, holding_of}
-use Rattle.mc_core.specs.State.{State, has_chunk, head_at, ids_at, has_slabs, has_stripe, stripe_of, stripe_at, with_stripe, without_holding, holdings_at, with_look}
+use Rattle.mc_core.specs.Holdings.{key_in, stamp_in, item_in, is_complete, is_of, has_fresh, holding_of, numbers}
+use Rattle.mc_core.specs.State.{State, has_chunk, head_at, ids_at, has_slabs, has_stripe, stripe_of, stripe_at, with_stripe, without_holding, holdings_at, with_look, looks_at}
 use Rattle.mc_core.specs.Silent.{is_aside, can_tell_none, writer_of, allows_change, after_change}
 use Rattle.mc_core.specs.Locks.{looked}
 use Rattle.mc_core.specs.Chunks.{popped, popped_off, target_of, next_free, has_place}
-use Rattle.mc_core.specs.Items.{most_stamps, suits, can_link_key, can_tell_link, can_link_holding, is_entry_aside, is_none_else_aside, is_next_stamp, are_same, can_count, told_link, after_link_of, referred_to, with_got, with_unlinked, is_ready_for, can_refer_to, can_lift, is_linked_at, chunk_of, stripe_unlinked}
+use Rattle.mc_core.specs.Items.{most_stamps, suits, can_link_key, can_tell_link, can_link_holding, is_entry_aside, is_none_else_aside, is_next_stamp, are_same, can_count, told_link, after_link_of, referred_to, with_got, with_unlinked, can_look_up, can_refer_to, can_lift, is_linked_at, chunk_of, stripe_unlinked}
 use Rattle.mc_core.specs.Items as items
-use Rattle.mc_core.specs.Evictions.{is_idle, can_take_away, has_copy, has_reason, key_at, with_bound, with_told, stripe_condemned}
+use Rattle.mc_core.specs.Evictions.{is_linked_unheld, can_lose_entry, has_copy, has_reason, key_at, with_bound, with_told, stripe_condemned}
 use Rattle.mc_core.specs.Evictions as evictions
 use Rattle.mc_core.specs.Run.{allows_step, after_step}
 use Rattle.mc_core.specs.Past.{Saying, saying_of, said_by, sayings_of}
@@ -89,7 +89,7 @@ module _ (state : State) (hand : ℕ) (l : AreLegal state.stripes state.stripe_l
   told_by_change (GotNone key) h = let parts = none_told key h in inr (tells_got state hand l (stripe_of state key) parts.0 key parts.1)
   told_by_change (DeletedNone key) h = let parts = none_told key h in inr (tells_deleted state hand l (stripe_of state key) parts.0 key parts.1)
 
-  ready_for : (key : ℕ) → is_ready_for state hand key ≡ true → (has_stripe state hand (stripe_of state key) ≡ true) × (is_aside (stripe_at state (stripe_of state key)).state key ≡ false)
+  ready_for : (key : ℕ) → can_look_up state hand key ≡ true → (has_stripe state hand (stripe_of state key) ≡ true) × (is_aside (stripe_at state (stripe_of state key)).state key ≡ false)
   ready_for key h =
       let stripe = stripe_at state (stripe_of state key) in
       let parts = and_parts (has_stripe state hand (stripe_of state key) && stripe.ready) (not (is_aside stripe.state key)) h in
@@ -109,8 +109,8 @@ module _ (state : State) (hand : ℕ) (l : AreLegal state.stripes state.stripe_l
 
   told_by_refer : (key : ℕ) → items.can_refer state hand key ≡ true → MayTell state (items.after_refer state hand key).stripes hand []
   told_by_refer key h =
-      let parts = and_parts (is_ready_for state hand key && has_place state hand) (can_refer_to state (chunk_of state key)) h in
-      let ready = ready_for key (and_parts (is_ready_for state hand key) (has_place state hand) parts.0).0 in
+      let parts = and_parts (can_look_up state hand key && has_place state hand) (can_refer_to state (chunk_of state key)) h in
+      let ready = ready_for key (and_parts (can_look_up state hand key) (has_place state hand) parts.0).0 in
       renamed _ _ (referred_stripes (with_got state hand key) (chunk_of state key)) (inr (tells_got state hand l (stripe_of state key) ready.0 key ready.1))
 
   linked_there : (place : Option (ChunkId × ℕ)) → is_linked_at state place ≡ true → is_some place ≡ true
@@ -122,8 +122,8 @@ module _ (state : State) (hand : ℕ) (l : AreLegal state.stripes state.stripe_l
       let at = stripe_of state key in
       let stripe = stripe_at state at in
       let lifts = has_fresh (holdings_at state hand) in
-      let parts = and_parts (is_ready_for state hand key && can_lift state hand key) (is_linked_at state (chunk_of state key)) h in
-      let both = and_parts (is_ready_for state hand key) (can_lift state hand key) parts.0 in
+      let parts = and_parts (can_look_up state hand key && can_lift state hand key) (is_linked_at state (chunk_of state key)) h in
+      let both = and_parts (can_look_up state hand key) (can_lift state hand key) parts.0 in
       let ready = ready_for key both.0 in
       let now = λ (b : Bool). slice_set state.stripes at (stripe_unlinked stripe b (writer_of state hand) key) in
       renamed _ (now lifts) (unlinked_stripes (with_stripe state at (stripe_unlinked stripe lifts (writer_of state hand) key)) (chunk_of state key))
@@ -137,10 +137,10 @@ module _ (state : State) (hand : ℕ) (l : AreLegal state.stripes state.stripe_l
       let key = key_at state chunk in
       let at = stripe_of state key in
       let stripe = stripe_at state at in
-      let rescues = has_copy state hand chunk in
-      let free = has_slabs state hand && has_chunk state.table chunk && is_idle (head_at state chunk) in
-      let parts = and_parts (free && has_stripe state hand at && can_take_away stripe key rescues) (has_reason state hand chunk) h in
-      let taken = and_parts (free && has_stripe state hand at) (can_take_away stripe key rescues) parts.0 in
+      let rescues = has_copy (holdings_at state hand) chunk in
+      let free = has_slabs state hand && has_chunk state.table chunk && is_linked_unheld (head_at state chunk) in
+      let parts = and_parts (free && has_stripe state hand at && can_lose_entry stripe key rescues) (has_reason state.table state.heads state.slabs (looks_at state hand) (holdings_at state hand) chunk) h in
+      let taken = and_parts (free && has_stripe state hand at) (can_lose_entry stripe key rescues) parts.0 in
       let has = (and_parts free (has_stripe state hand at) taken.0).1 in
       let away = and_parts (stripe.ready && is_some (place_of stripe.state key)) (not rescues || is_none stripe.state.aside) taken.1 in
       let there = (and_parts stripe.ready (is_some (place_of stripe.state key)) away.0).1 in
@@ -160,11 +160,11 @@ module _ (state : State) (hand : ℕ) (l : AreLegal state.stripes state.stripe_l
     told_by_kind holding (Fresh Item) has h =
         let key = key_in holding.words in
         let parts = and_parts (is_next_stamp (ids_at state hand) (stamp_in holding.words)) (is_none_else_aside (stripe_at state (stripe_of state key)).state key) h in
-        inr (tells_set state hand l (stripe_of state key) has key holding.chunk (stamp_in holding.words) (item_in holding.words) refl (own_stamp (ids_at state hand) (stamp_in holding.words) parts.0) (of_key (stripe_at state (stripe_of state key)).state.aside key parts.1))
+        inr (tells_set state hand l (stripe_of state key) has key holding.chunk (stamp_in holding.words) (numbers (item_in holding.words)) refl (own_stamp (ids_at state hand) (stamp_in holding.words) parts.0) (of_key (stripe_at state (stripe_of state key)).state.aside key parts.1))
     told_by_kind holding (Fresh (Copy old)) has h =
         let key = key_in holding.words in
         let parts = and_parts (is_next_stamp (ids_at state hand) (stamp_in holding.words)) (is_none_else_aside (stripe_at state (stripe_of state key)).state key) h in
-        inr (tells_set state hand l (stripe_of state key) has key holding.chunk (stamp_in holding.words) (item_in holding.words) refl (own_stamp (ids_at state hand) (stamp_in holding.words) parts.0) (of_key (stripe_at state (stripe_of state key)).state.aside key parts.1))
+        inr (tells_set state hand l (stripe_of state key) has key holding.chunk (stamp_in holding.words) (numbers (item_in holding.words)) refl (own_stamp (ids_at state hand) (stamp_in holding.words) parts.0) (of_key (stripe_at state (stripe_of state key)).state.aside key parts.1))
     told_by_kind holding (Fresh (Rescue old item)) has h =
         let key = key_in holding.words in
         let stripe = stripe_at state (stripe_of state key) in
@@ -203,7 +203,7 @@ module _ (state : State) (hand : ℕ) (l : AreLegal state.stripes state.stripe_l
   told_by_step (GiveStripe stripe) h = inl (refl, refl)
   told_by_step (step.Head chunk) h = inl (looked_stripes state _, refl)
   told_by_step (Pop class) h = inl (popped_stripes _ (next_free state class), refl)
-  told_by_step (PopOff old) h = inl (popped_off_stripes state old (target_of state old.page), refl)
+  told_by_step (PopOff old) h = inl (popped_off_stripes state old (target_of state.table state.heads state.slabs old.page), refl)
   told_by_step (Fill chunk place word) h = inl (refl, refl)
   told_by_step (Word chunk place) h = inl (refl, refl)
   told_by_step (WordHeld chunk place) h = inl (refl, refl)

@@ -13,7 +13,7 @@ use Rattle.mc_core.specs.declared.ids.Ids.{Ids}
 use Rattle.mc_core.specs.State.{State}
 use Rattle.mc_core.specs.Silent.{writer_of}
 use Rattle.mc_core.specs.Past.{Own, Saying, Known, own_after, told}
-use Rattle.mc_core.specs.Holdings.{key_in}
+use Rattle.mc_core.specs.Holdings.{key_of}
 use Rattle.mc_core.specs.Columns.{Each}
 use Rattle.mc_core.specs.Identities.{owns, owners, number_in, said_times, AreNumbered}
 use Rattle.mc_core.specs.Indexed.{stripe_for}
@@ -68,7 +68,7 @@ module _ (writer : ℕ) (old now : List ReadyStripe) (g : AreGrown writer old no
   -- what was stored is stored
   pub stored_grown : (s : Saying) → IsStored old s → IsStored now s
   stored_grown s was =
-      let key = key_in s.words in
+      let key = key_of s.words in
       let grown = g.each (key % length old) in
       let set : Call = Set (s.stamp / 2 ^ 48) key s.stamp in
       let here : (stripe_for now key).state.history ≡ (stripe_for old key).state.history ++ grown.more = ap (λ (n : ℕ). history_in now (key % n)) g.long ∙ grown.grown in

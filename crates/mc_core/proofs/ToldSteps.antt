@@ -13,7 +13,7 @@ use Rattle.mc_stripe.specs.Changes.{after_link, used_up}
 use Rattle.mc_core.specs.declared.event.Step.{Step}
 use Rattle.mc_core.specs.declared.event.Step.TheVariants as step
 use Rattle.mc_core.specs.declared.holding.Holding.{Holding}
-use Rattle.mc_core.specs.Holdings.{Words, key_in, stamp_in, item_in, item_length, holding_of}
+use Rattle.mc_core.specs.Holdings.{Words, key_in, stamp_in, item_in, item_length, holding_of, numbers}
 use Rattle.mc_core.specs.State.{State, number_at, is_hand, stripe_at, stripe_of, ids_at, holdings_at}
 use Rattle.mc_core.specs.Silent.{writer_of, after_change}
 use Rattle.mc_core.specs.Past.{Past, Moment, Own, Saying, own_after, with_calls, with_more, sayings_of, seen_after, history_at, longer_each, moment_stepped}
@@ -34,6 +34,7 @@ use Rattle.mc_core.proofs.StripesKept.{get_set}
 use Rattle.mc_core.proofs.ToldBy.{MayTell, own_stamp, told_by_change, told_by_step}
 use Rattle.mc_core.proofs.ToldKept.{grown_told, set_count_told, IsBegun, begun_grown, stored_grown, sets_grown, writers_grown, IsOwnIn, one_owner, own_calls_grown}
 use Rattle.mc_core.proofs.Totals.{total_more, total_joined, said_total, owned_total}
+use Rattle.mc_core.proofs.Numbers.{numbers_at}
 
 -- the number of a hand that is there is what it writes
 number_is : (state : State) (hand : ℕ) (number : Option ℕ) → number_at state hand ≡ number → is_some number ≡ true → number_at state hand ≡ Some (writer_of state hand)
@@ -135,7 +136,7 @@ stored_new m hand chunk holding may is =
     let old = (stripe_at m.state at).state in
     let writer = writer_of m.state hand in
     let value : ReadyStripe = used_up (after_link old writer key holding.chunk stamp) in
-    let s : Saying = record { stamp = stamp; words = item_in holding.words } in
+    let s : Saying = record { stamp = stamp; words = numbers (item_in holding.words) } in
     let stripes = slice_set m.state.stripes at value in
     let some = may.lawful.legal.some in
     let within : at < length m.state.stripes = mod-lt key some in
@@ -144,7 +145,7 @@ stored_new m hand chunk holding may is =
     let own : stamp / 2 ^ 48 ≡ writer = own_stamp (ids_at m.state hand) stamp is.next in
     let set : Contains value.state.history (Set writer key stamp) = Contains-push old.history (Set writer key stamp) in
     let stored : IsStored stripes s =
-    rw (key_of_item holding.words, own) (subst (λ (calls : List Call). Contains calls (Set writer key stamp)) (sym here) set) in
+    rw (numbers_at (item_in holding.words) 0 ∙ key_of_item holding.words, own) (subst (λ (calls : List Call). Contains calls (Set writer key stamp)) (sym here) set) in
     subst (λ (xs : List ReadyStripe). All (IsStored xs) (sayings_of m.state hand (step.Link chunk))) (sym is.stripes)
     (subst (All (IsStored stripes)) (sym is.says) (All-cons (IsStored stripes) s [] stored (All-nil (IsStored stripes))))
 

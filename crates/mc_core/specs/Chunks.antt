@@ -1,6 +1,7 @@
 -- Chunks that are handed out, filled, given up, put back, cleared and cut.
-use Rattle.std.specs.Prelude.{ℕ, ◌+◌, ◌-◌, ◌^◌, ◌==◌, Bool, true, false, not, ◌&&◌, ◌||◌, nat_lt, find, length, replicate, slice_set, Option, Some, None}
+use Rattle.std.specs.Prelude.{ℕ, ◌+◌, ◌-◌, ◌^◌, ◌==◌, Bool, true, false, not, ◌&&◌, ◌||◌, nat_lt, List, find, length, replicate, slice_set, Option, Some, None}
 use Rattle.std.specs.Option.{option_map_or}
+use Rattle.mc_classes.specs.Classes.{Classes}
 use Rattle.mc_pages.specs.declared.ids.ChunkId.{ChunkId}
 use Rattle.mc_pages.specs.ClassState.{is_chunk, first_free}
 use Rattle.mc_pages.specs.SlabState.{SlabState, class_at, class_of_page}
@@ -15,6 +16,7 @@ use Rattle.mc_core.specs.declared.look.Look.TheVariants.{Popped, PoppedOff, PutB
 use Rattle.mc_core.specs.Head.{is_free, is_out, is_dead}
 use Rattle.mc_core.specs.Holdings.{is_of, is_fresh, holding_of}
 use Rattle.mc_core.specs.State.{State, is_class, has_chunk, head_at, with_head, room_at, with_word, has_slabs, with_slabs, holdings_at, with_holding, with_changed, without_holding, with_look}
+use Rattle.mc_core.specs.Columns.{head_in}
 use Rattle.mc_core.specs.Silent.{is_handed_out, is_listed}
 
 -- the greatest issue number, with which a chunk is used up
@@ -69,16 +71,16 @@ abbrev pub is_moving_page : SlabState → ℕ → Bool
 is_moving_page slabs page = option_map_or (λ move. move.page == page) slabs.moving false
 
 -- the chunk is off the page and isn't used up
-abbrev pub is_target : State → ℕ → ChunkId → Bool
-is_target state page chunk = not (chunk.page == page) && nat_lt (head_at state chunk).issue most_issue
+abbrev pub is_target : Classes → List Head → ℕ → ChunkId → Bool
+is_target table heads page chunk = not (chunk.page == page) && nat_lt (head_in table heads chunk).issue most_issue
 
 -- the first free chunk of the class that an item of the page can be taken to
-abbrev pub target_of : State → ℕ → Option ChunkId
-target_of state page = find (is_target state page) (class_at state.slabs (class_of_page state.slabs page)).free
+abbrev pub target_of : Classes → List Head → SlabState → ℕ → Option ChunkId
+target_of table heads slabs page = find (is_target table heads page) (class_at slabs (class_of_page slabs page)).free
 
 abbrev pub can_pop_off : State → ℕ → ChunkId → Bool
 can_pop_off state hand old =
-    has_slabs state hand && is_moving_page state.slabs old.page && is_handed_out state.slabs old && has_place state hand && can_hand_out state (target_of state old.page)
+    has_slabs state hand && is_moving_page state.slabs old.page && is_handed_out state.slabs old && has_place state hand && can_hand_out state (target_of state.table state.heads state.slabs old.page)
 
 abbrev pub popped_off : State → ℕ → ChunkId → Option ChunkId → State
 popped_off state hand old None = state
@@ -87,7 +89,7 @@ popped_off state hand old (Some chunk) =
     (PoppedOff chunk old (handed_out (head_at state chunk)))
 
 abbrev pub after_pop_off : State → ℕ → ChunkId → State
-after_pop_off state hand old = popped_off state hand old (target_of state old.page)
+after_pop_off state hand old = popped_off state hand old (target_of state.table state.heads state.slabs old.page)
 
 -- the holding is fresh, and its chunk has such a place
 abbrev pub can_fill_in : ℕ → Option Holding → Bool

@@ -1,5 +1,5 @@
 -- Parts of the state that the clauses of the law speak of.
-use Rattle.std.specs.Prelude.{◌≡◌, ◌⊎◌, ℕ, ◌+◌, ◌*◌, ◌≤◌, List, [], ◌∷◌, length, count_by, slice_get, slice_index, slice_index_or, Some, All, Contains}
+use Rattle.std.specs.Prelude.{◌≡◌, ◌⊎◌, ℕ, ◌+◌, ◌*◌, ◌≤◌, List, [], ◌∷◌, length, count_by, slice_get, slice_index, slice_index_or, Some, All}
 use Rattle.mc_classes.specs.Classes.{Classes}
 use Rattle.mc_pages.specs.declared.ids.ChunkId.{ChunkId}
 use Rattle.mc_pages.specs.SlabState.{SlabState, class_of_page}
@@ -10,7 +10,6 @@ use Rattle.mc_core.specs.declared.head.Tag.TheVariants.{Unlinked, Linked}
 use Rattle.mc_core.specs.declared.holding.Holding.{Holding}
 use Rattle.mc_core.specs.Head.{never_cut, is_linked}
 use Rattle.mc_core.specs.Holdings.{Words, is_of}
-use Rattle.mc_core.specs.Past.{Known}
 use Rattle.mc_core.specs.State.{head_place, room_in, page_words}
 
 -- the header of a chunk
@@ -46,7 +45,3 @@ link_of tag = truth (is_linked tag)
 -- the chunk is handed out with this issue number
 abbrev pub IsHandedOut : Head → ℕ → Type 0
 IsHandedOut head issue = ((head.tag ≡ Unlinked) ⊎ (head.tag ≡ Linked)) × (head.issue ≡ issue)
-
--- some hand knows such an item
-abbrev pub IsKnownToSome : List (List Known) → (Known → Type 0) → Type 0
-IsKnownToSome known P = (hand : ℕ) × (k : Known) × Contains (slice_index_or known hand []) k × P k

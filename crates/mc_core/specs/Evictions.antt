@@ -1,10 +1,10 @@
 -- Items that are taken away from their chunks, to make room or since their page moves.
-use Rattle.std.specs.Prelude.{ℕ, ◌==◌, Bool, not, ◌&&◌, ◌||◌, if◌then◌else◌, is_some, is_none}
+use Rattle.std.specs.Prelude.{ℕ, ◌==◌, Bool, not, ◌&&◌, ◌||◌, if◌then◌else◌, List, is_some, is_none}
 use Rattle.std.specs.List.{list_all, list_any}
-use Rattle.mc_classes.specs.Classes.{pages_of}
+use Rattle.mc_classes.specs.Classes.{Classes, pages_of}
 use Rattle.mc_pages.specs.declared.ids.ChunkId.{ChunkId}
 use Rattle.mc_pages.specs.ClassState.{first_free}
-use Rattle.mc_pages.specs.SlabState.{class_of_chunk, totals_of}
+use Rattle.mc_pages.specs.SlabState.{SlabState, class_of_chunk, totals_of}
 use Rattle.mc_stripe.specs.StripeState.{ReadyStripe, place_of}
 use Rattle.mc_stripe.specs.Changes.{after_evict, after_lift, used_up}
 use Rattle.mc_core.specs.declared.head.Head.{Head}
@@ -12,57 +12,57 @@ use Rattle.mc_core.specs.declared.head.Tag.TheVariants.{Unlinked}
 use Rattle.mc_core.specs.declared.holding.Holding.{Holding}
 use Rattle.mc_core.specs.declared.holding.Kind.TheVariants.{Fresh}
 use Rattle.mc_core.specs.declared.holding.Purpose.TheVariants.{Rescue}
+use Rattle.mc_core.specs.declared.look.Look.{Look}
 use Rattle.mc_core.specs.declared.look.Look.TheVariants.{Condemned}
 use Rattle.mc_core.specs.Head.{is_linked}
 use Rattle.mc_core.specs.Holdings.{Words, is_copy_of}
 use Rattle.mc_core.specs.Looks.{is_found_alive}
 use Rattle.mc_core.specs.State.{State, has_chunk, head_at, with_head, word_at, item_at, has_slabs, has_stripe, stripe_of, stripe_at, with_stripe, holdings_at, with_changed, looks_at, with_look}
-use Rattle.mc_core.specs.Silent.{is_whole, writer_of}
+use Rattle.mc_core.specs.Silent.{none_half_cut, writer_of}
 use Rattle.mc_core.specs.Chunks.{is_moving_page, target_of}
 
 -- the hand got a fresh chunk for a copy of this one
-abbrev pub has_copy : State → ℕ → ChunkId → Bool
-has_copy state hand chunk = list_any (is_copy_of chunk) (holdings_at state hand)
+abbrev pub has_copy : List Holding → ChunkId → Bool
+has_copy holdings chunk = list_any (is_copy_of chunk) holdings
 
 -- no handed-out chunk of the chunk's class is dead, as far as the hand saw
-abbrev pub none_dead : State → ℕ → ChunkId → Bool
-none_dead state hand chunk = list_all (is_found_alive (looks_at state hand)) (class_of_chunk state.slabs chunk).order
+abbrev pub none_dead : SlabState → List Look → ChunkId → Bool
+none_dead slabs looks chunk = list_all (is_found_alive looks) (class_of_chunk slabs chunk).order
 
 -- neither a pooled page nor a page left
-abbrev pub has_no_page : State → Bool
-has_no_page state = (totals_of state.slabs).pool == 0 && (totals_of state.slabs).granted == pages_of state.table
+abbrev pub has_no_page : Classes → SlabState → Bool
+has_no_page table slabs = (totals_of slabs).pool == 0 && (totals_of slabs).granted == pages_of table
 
 -- the page moves, and there is no other chunk for the item
-abbrev pub must_leave : State → ℕ → ChunkId → Bool
-must_leave state hand chunk = is_moving_page state.slabs chunk.page && none_dead state hand chunk && is_none (target_of state chunk.page)
+abbrev pub must_leave : Classes → List Head → SlabState → List Look → ChunkId → Bool
+must_leave table heads slabs looks chunk = is_moving_page slabs chunk.page && none_dead slabs looks chunk && is_none (target_of table heads slabs chunk.page)
 
 -- the class has neither a free chunk nor a dead one, and no page is to be had
-abbrev pub lacks_room : State → ℕ → ChunkId → Bool
-lacks_room state hand chunk =
-    is_none (first_free (class_of_chunk state.slabs chunk)) && none_dead state hand chunk && has_no_page state && is_whole state.slabs
+abbrev pub lacks_room : Classes → SlabState → List Look → ChunkId → Bool
+lacks_room table slabs looks chunk = is_none (first_free (class_of_chunk slabs chunk)) && none_dead slabs looks chunk && has_no_page table slabs && none_half_cut slabs
 
 -- why an item may be taken away: it goes to another chunk, its page moves, or room is needed
-abbrev pub has_reason : State → ℕ → ChunkId → Bool
-has_reason state hand chunk =
-    is_moving_page state.slabs chunk.page && has_copy state hand chunk || must_leave state hand chunk || lacks_room state hand chunk
+abbrev pub has_reason : Classes → List Head → SlabState → List Look → List Holding → ChunkId → Bool
+has_reason table heads slabs looks holdings chunk =
+    is_moving_page slabs chunk.page && has_copy holdings chunk || must_leave table heads slabs looks chunk || lacks_room table slabs looks chunk
 
 -- the key of the item in the chunk
 abbrev pub key_at : State → ChunkId → ℕ
 key_at state chunk = word_at state chunk 0
 
 -- a linked chunk that nobody holds
-abbrev pub is_idle : Head → Bool
-is_idle head = is_linked head.tag && head.count == 1
+abbrev pub is_linked_unheld : Head → Bool
+is_linked_unheld head = is_linked head.tag && head.count == 1
 
 -- the stripe of the key is held and has room for a call, the key is there, and its entry can be put aside where it must
-abbrev pub can_take_away : ReadyStripe → ℕ → Bool → Bool
-can_take_away stripe key rescues = stripe.ready && is_some (place_of stripe.state key) && (not rescues || is_none stripe.state.aside)
+abbrev pub can_lose_entry : ReadyStripe → ℕ → Bool → Bool
+can_lose_entry stripe key rescues = stripe.ready && is_some (place_of stripe.state key) && (not rescues || is_none stripe.state.aside)
 
 abbrev pub can_condemn : State → ℕ → ChunkId → Bool
 can_condemn state hand chunk =
-    has_slabs state hand && has_chunk state.table chunk && is_idle (head_at state chunk) && has_stripe state hand (stripe_of state (key_at state chunk))
-    && can_take_away (stripe_at state (stripe_of state (key_at state chunk))) (key_at state chunk) (has_copy state hand chunk)
-    && has_reason state hand chunk
+    has_slabs state hand && has_chunk state.table chunk && is_linked_unheld (head_at state chunk) && has_stripe state hand (stripe_of state (key_at state chunk))
+    && can_lose_entry (stripe_at state (stripe_of state (key_at state chunk))) (key_at state chunk) (has_copy (holdings_at state hand) chunk)
+    && has_reason state.table state.heads state.slabs (looks_at state hand) (holdings_at state hand) chunk
 
 -- a header after its item was taken away
 abbrev pub condemned : Head → Head
@@ -84,7 +84,7 @@ with_bound state hand chunk item = with_changed state hand (is_copy_of chunk) (a
 -- the stripe of the key knows that the item was taken away
 abbrev pub with_told : State → ℕ → ChunkId → ℕ → State
 with_told state hand chunk key =
-    with_stripe state (stripe_of state key) (stripe_condemned (stripe_at state (stripe_of state key)) (has_copy state hand chunk) (writer_of state hand) key)
+    with_stripe state (stripe_of state key) (stripe_condemned (stripe_at state (stripe_of state key)) (has_copy (holdings_at state hand) chunk) (writer_of state hand) key)
 
 abbrev pub after_condemn : State → ℕ → ChunkId → State
 after_condemn state hand chunk =

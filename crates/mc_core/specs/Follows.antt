@@ -6,7 +6,7 @@ use Rattle.mc_stripe.specs.StripeState.{place_of}
 use Rattle.mc_core.specs.declared.event.Event.{Event}
 use Rattle.mc_core.specs.declared.event.Step.TheVariants.{Join}
 use Rattle.mc_core.specs.declared.head.Tag.TheVariants.{Linked}
-use Rattle.mc_core.specs.Holdings.{Words, key_in, stamp_in, is_complete}
+use Rattle.mc_core.specs.Holdings.{all_known, key_of, stamp_of, length_of}
 use Rattle.mc_core.specs.State.{has_chunk, holdings_at}
 use Rattle.mc_core.specs.Columns.{head_in, Shows}
 use Rattle.mc_core.specs.Past.{Moment, moment_after}
@@ -22,11 +22,11 @@ AreKept = (moment : Moment) → IsLawful moment → (hand : ℕ) → All (IsKept
 
 -- the words of a linked chunk are a whole item, said with the stamp of the key's entry
 pub record IsSaidItem (moment : Moment) (chunk : ChunkId) : Type 0 where
-  pub words : Words
-  pub whole : is_complete words ≡ true
-  pub shows : Shows moment.state.table moment.state.slabs moment.state.words chunk words
-  pub said : IsSaid moment.past.said (stamp_in words) words
-  pub entry : place_of (stripe_for moment.state.stripes (key_in words)).state (key_in words) ≡ Some (chunk, stamp_in words)
+  pub words : List ℕ
+  pub whole : length words ≡ length_of words
+  pub shows : Shows moment.state.table moment.state.slabs moment.state.words chunk (all_known words)
+  pub said : IsSaid moment.past.said (stamp_of words) words
+  pub entry : place_of (stripe_for moment.state.stripes (key_of words)).state (key_of words) ≡ Some (chunk, stamp_of words)
 
 -- so it is of each
 abbrev pub AreSaidItems : Type 0

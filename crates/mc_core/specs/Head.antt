@@ -18,11 +18,11 @@ tag_of (suc (suc zero)) = Unlinked
 tag_of (suc (suc (suc n))) = Linked
 
 -- the header as a word
-abbrev pub code : Head → ℕ
+unfoldable pub code : Head → ℕ
 code head = head.issue * 262144 + number_of head.tag * 65536 + head.count
 
 -- the header that a word is
-abbrev pub decode : ℕ → Head
+unfoldable pub decode : ℕ → Head
 decode word = record { issue = word / 262144; tag = tag_of (word / 65536 % 4); count = word % 65536 }
 
 -- the chunk was cut, and waits on its free list
@@ -46,6 +46,10 @@ is_linked tag = false
 abbrev pub is_dead : Head → Bool
 is_dead head = is_unlinked head.tag && head.count == 0
 
--- the header of a chunk that was never cut
+-- the header of a chunk that was never cut, where issue numbers count on from this one
+abbrev pub uncut_from : ℕ → Head
+uncut_from start = record { issue = start; tag = Out; count = 0 }
+
+-- what is read of a chunk that the arena doesn't have
 abbrev pub never_cut : Head
-never_cut = record { issue = 0; tag = Out; count = 0 }
+never_cut = uncut_from 0

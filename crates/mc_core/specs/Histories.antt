@@ -4,7 +4,7 @@ use Rattle.mc_stripe.specs.declared.history.Call.{Call}
 use Rattle.mc_stripe.specs.declared.history.Call.TheVariants.{Set, Get, Delete, Evict}
 use Rattle.mc_stripe.specs.declared.history.Call.TheVariants as call
 use Rattle.mc_stripe.specs.StripeState.{ReadyStripe}
-use Rattle.mc_core.specs.Holdings.{key_in}
+use Rattle.mc_core.specs.Holdings.{key_of}
 use Rattle.mc_core.specs.Past.{Own, Saying}
 use Rattle.mc_core.specs.Identities.{owners, said_count}
 use Rattle.mc_core.specs.Indexed.{stripe_for}
@@ -38,7 +38,7 @@ set_count stamp (stripe ∷ stripes) = count_by (is_set_of stamp) stripe.state.h
 
 -- what is said was stored under its key, by the hand of the stamp
 abbrev pub IsStored : List ReadyStripe → Saying → Type 0
-IsStored stripes s = Contains (stripe_for stripes (key_in s.words)).state.history (Set (s.stamp / 2 ^ 48) (key_in s.words) s.stamp)
+IsStored stripes s = Contains (stripe_for stripes (key_of s.words)).state.history (Set (s.stamp / 2 ^ 48) (key_of s.words) s.stamp)
 
 -- histories: each hand's own calls are those of its numbers, and what it saw begins the present history; each call is of one hand's
 -- number; a stamp is stored where it is said

@@ -1,5 +1,5 @@
 -- The holdings of one hand, and the words of an item.
-use Rattle.std.specs.Prelude.{ℕ, ◌+◌, Bool, true, false, ◌&&◌, nat_le, if◌then◌else◌, List, [], ◌∷◌, length, map, take, find, slice_index_or, is_some, unwrap_or, Option, None}
+use Rattle.std.specs.Prelude.{ℕ, ◌+◌, Bool, true, false, ◌&&◌, nat_le, if◌then◌else◌, List, [], ◌∷◌, length, map, take, find, slice_index, slice_index_or, is_some, unwrap_or, Option, Some, None}
 use Rattle.std.specs.List.{list_any, list_all}
 use Rattle.mc_pages.specs.declared.ids.ChunkId.{ChunkId}
 use Rattle.mc_pages.specs.ClassState.{is_chunk}
@@ -11,6 +11,24 @@ use Rattle.mc_core.specs.declared.holding.Purpose.TheVariants.{Copy}
 -- the words of a chunk, as far as they are known
 abbrev pub Words : Type 0
 Words = List (Option ℕ)
+
+-- these words, each of them known
+abbrev pub all_known : List ℕ → Words
+all_known item = map (λ word. Some word) item
+
+-- the known words as numbers, with 0 for each other
+abbrev pub numbers : Words → List ℕ
+numbers words = map (λ word. unwrap_or word 0) words
+
+-- the key and the stamp of an item, and how many words it takes: these two, its length, and as many as that says
+abbrev pub key_of : List ℕ → ℕ
+key_of item = slice_index item 0
+
+abbrev pub stamp_of : List ℕ → ℕ
+stamp_of item = slice_index item 1
+
+abbrev pub length_of : List ℕ → ℕ
+length_of item = 3 + slice_index item 2
 
 -- a word by its place, 0 where it isn't known
 abbrev pub word_in : Words → ℕ → ℕ

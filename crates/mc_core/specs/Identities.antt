@@ -1,5 +1,5 @@
 -- Hands, their numbers, their locks and their stamps.
-use Rattle.std.specs.Prelude.{◌≡◌, ◌⊎◌, ℕ, ◌+◌, ◌*◌, ◌/◌, ◌^◌, ◌<◌, ◌≤◌, ◌==◌, true, ◌&&◌, nat_le, List, [], ◌∷◌, length, count_by, slice_index_or, Option, Some, None, All}
+use Rattle.std.specs.Prelude.{◌≡◌, ◌⊎◌, ℕ, ◌+◌, ◌*◌, ◌/◌, ◌^◌, ◌<◌, ◌≤◌, ◌==◌, true, ◌&&◌, nat_le, List, [], ◌∷◌, length, count_by, slice_index_or, is_some, Option, Some, None, All}
 use Rattle.mc_pages.specs.Accounted.{truth}
 use Rattle.mc_core.specs.declared.holding.Holding.{Holding}
 use Rattle.mc_core.specs.declared.ids.Ids.{Ids}
@@ -30,14 +30,15 @@ pub record AreHands (ids : List Ids) (slabs_lock : ℕ) (locks : List ℕ) (hold
   pub stripes : All (IsFreeOrHeld ids) locks
   pub nothing : (hand : ℕ) → number_in ids hand ≡ None → slice_index_or holdings hand [] ≡ []
 
--- rows: there is a row for each hand
-pub record HaveRows (ids : List Ids) (past : Past) : Type 0 where
+-- rows: there is a row for each hand, and a live hand saw a history of each stripe, if an empty one
+pub record HaveRows (ids : List Ids) (stripes : ℕ) (past : Past) : Type 0 where
   pub saw : length past.saw ≡ length ids
   pub holds : length past.holds ≡ length ids
   pub mine : length past.mine ≡ length ids
   pub seen : length past.seen ≡ length ids
   pub said : length past.said ≡ length ids
   pub known : length past.known ≡ length ids
+  pub histories : (hand : ℕ) → is_some (number_in ids hand) ≡ true → length (slice_index_or past.seen hand []) ≡ stripes
 
 -- how often one hand, and all hands, have the number
 abbrev pub owns : ℕ → List Own → ℕ

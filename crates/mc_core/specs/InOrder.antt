@@ -23,8 +23,10 @@ state_of state = record {
   looks = state.looks.items;
 }
 
--- the pages and chunks are those of the table
+-- the pages and chunks, and the limit, are those of the table
 pub record IsOfTable (table : Classes) (slabs : SlabState) : Type 0 where
+  pub page : slabs.page ≡ table.page
+  pub limit : slabs.limit ≡ table.limit
   pub per_page : map (λ class. class.per_page) slabs.classes ≡ map (λ size. table.page / size) table.sizes
   pub owners : length slabs.owners ≡ pages_of table
   pub accounted : IsAccounted slabs

@@ -140,13 +140,13 @@ abbrev pub can_refer_to : State → Option (ChunkId × ℕ) → Bool
 can_refer_to state None = false
 can_refer_to state (Some place) = is_linked (head_at state place.0).tag && can_count (head_at state place.0)
 
--- the stripe of the key is held, and has room for a call
-abbrev pub is_ready_for : State → ℕ → ℕ → Bool
-is_ready_for state hand key =
+-- the stripe of the key is held and has room for a call, and the key's entry isn't aside
+abbrev pub can_look_up : State → ℕ → ℕ → Bool
+can_look_up state hand key =
     has_stripe state hand (stripe_of state key) && (stripe_at state (stripe_of state key)).ready && not (is_aside (stripe_at state (stripe_of state key)).state key)
 
 abbrev pub can_refer : State → ℕ → ℕ → Bool
-can_refer state hand key = is_ready_for state hand key && has_place state hand && can_refer_to state (chunk_of state key)
+can_refer state hand key = can_look_up state hand key && has_place state hand && can_refer_to state (chunk_of state key)
 
 abbrev pub referred_to : State → ℕ → Option (ChunkId × ℕ) → State
 referred_to state hand None = state
@@ -168,7 +168,7 @@ is_linked_at state None = false
 is_linked_at state (Some place) = is_linked (head_at state place.0).tag
 
 abbrev pub can_unlink : State → ℕ → ℕ → Bool
-can_unlink state hand key = is_ready_for state hand key && can_lift state hand key && is_linked_at state (chunk_of state key)
+can_unlink state hand key = can_look_up state hand key && can_lift state hand key && is_linked_at state (chunk_of state key)
 
 -- the stripe after the key is deleted, or its entry put aside
 abbrev pub stripe_unlinked : ReadyStripe → Bool → ℕ → ℕ → ReadyStripe
@@ -185,13 +185,13 @@ after_unlink state hand key =
     (stripe_unlinked (stripe_at state (stripe_of state key)) (has_fresh (holdings_at state hand)) (writer_of state hand) key))
     (chunk_of state key)
 
--- the most holdings of a hand that takes a reference without a lock
-abbrev pub has_place_again : State → ℕ → Bool
-has_place_again state hand = nat_lt (length (holdings_at state hand)) 255
+-- the hand may take one more reference without a lock: it leaves a place that a lock gives
+abbrev pub has_place_unlocked : State → ℕ → Bool
+has_place_unlocked state hand = nat_lt (length (holdings_at state hand)) 255
 
 abbrev pub can_again : State → ℕ → ChunkId → ℕ → Bool
 can_again state hand chunk issue =
-    has_chunk state.table chunk && has_place_again state hand && is_linked (head_at state chunk).tag && (head_at state chunk).issue == issue && can_count (head_at state chunk)
+    has_chunk state.table chunk && has_place_unlocked state hand && is_linked (head_at state chunk).tag && (head_at state chunk).issue == issue && can_count (head_at state chunk)
 
 abbrev pub after_again : State → ℕ → ChunkId → State
 after_again state hand chunk = with_reference state hand chunk

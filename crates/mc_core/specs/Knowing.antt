@@ -9,31 +9,31 @@ use Rattle.mc_core.specs.declared.holding.Holding.{Holding}
 use Rattle.mc_core.specs.declared.holding.Kind.{Kind}
 use Rattle.mc_core.specs.declared.holding.Kind.TheVariants.{Fresh}
 use Rattle.mc_core.specs.declared.holding.Purpose.TheVariants.{Copy, Rescue}
-use Rattle.mc_core.specs.Holdings.{Words, stamp_in, item_length, is_complete, is_fresh}
-use Rattle.mc_core.specs.Past.{Known, Saying, known_by}
+use Rattle.mc_core.specs.Holdings.{stamp_in, item_length, is_complete, is_fresh, all_known, numbers, stamp_of, length_of}
+use Rattle.mc_core.specs.Past.{Known, Saying, known_by, IsKnownToSome}
 use Rattle.mc_core.specs.Identities.{said_count}
 use Rattle.mc_core.specs.State.{room_in, has_chunk}
-use Rattle.mc_core.specs.Columns.{head_in, Shows, Each, IsHandedOut, IsKnownToSome}
+use Rattle.mc_core.specs.Columns.{head_in, Shows, Each, IsHandedOut}
 
 -- somebody said this
-abbrev pub IsSaid : List (List Saying) → ℕ → Words → Type 0
+abbrev pub IsSaid : List (List Saying) → ℕ → List ℕ → Type 0
 IsSaid said stamp words = (hand : ℕ) × (s : Saying) × Contains (slice_index_or said hand []) s × (s.stamp ≡ stamp) × (s.words ≡ words)
 
 -- a known item: it is whole; its chunk was handed out with this issue at the latest, no fresh chunk has it; and as long as the chunk
 -- is handed out with this issue, its words are the item's, and it has the room of its page's class
 pub record IsTrueStill (table : Classes) (slabs : SlabState) (heads : List Head) (words : List ℕ) (holdings : List (List Holding)) (k : Known) : Type 0 where
   pub inside : has_chunk table k.chunk ≡ true
-  pub whole : (is_complete k.words ≡ true) × (length k.words ≡ item_length k.words)
+  pub whole : length k.words ≡ length_of k.words
   pub older : k.issue ≤ (head_in table heads k.chunk).issue
-  pub shows : IsHandedOut (head_in table heads k.chunk) k.issue → Shows table slabs words k.chunk k.words
+  pub shows : IsHandedOut (head_in table heads k.chunk) k.issue → Shows table slabs words k.chunk (all_known k.words)
   pub room : IsHandedOut (head_in table heads k.chunk) k.issue → room_in table (class_of_page slabs k.chunk.page) ≡ k.room
   pub apart : Each (λ holding. is_fresh holding ≡ true → holding.chunk ≡ k.chunk → holding.issue ≡ k.issue → ⊥) holdings
 
 -- known: what hands said and know
 pub record AreKnown (table : Classes) (slabs : SlabState) (heads : List Head) (words : List ℕ) (holdings : List (List Holding)) (said : List (List Saying)) (known : List (List Known)) : Type 0 where
   pub once : (stamp : ℕ) → said_count stamp said ≤ 1
-  pub agree : Each (λ k. (words : Words) → IsSaid said (stamp_in k.words) words → words ≡ k.words) known
-  pub said_by_some : Each (λ k. IsSaid said (stamp_in k.words) k.words) known
+  pub agree : Each (λ k. (words : List ℕ) → IsSaid said (stamp_of k.words) words → words ≡ k.words) known
+  pub said_by_some : Each (λ k. IsSaid said (stamp_of k.words) k.words) known
   pub still : Each (IsTrueStill table slabs heads words holdings) known
   -- one chunk and issue has one item
   pub one : Each (λ k. Each (λ other. other.chunk ≡ k.chunk → other.issue ≡ k.issue → other.words ≡ k.words) known) known
@@ -46,5 +46,6 @@ pub record AreKnown (table : Classes) (slabs : SlabState) (heads : List Head) (w
 -- rescued were said with its stamp
 abbrev pub IsRescue : List (List Saying) → ChunkId → Kind → Type 0
 IsRescue said chunk (Fresh (Copy old)) = chunk.page ≢ old.page
-IsRescue said chunk (Fresh (Rescue old item)) = (is_complete item ≡ true) × (length item ≡ item_length item) × IsSaid said (stamp_in item) item × (chunk.page ≢ old.page)
+IsRescue said chunk (Fresh (Rescue old item)) =
+    (is_complete item ≡ true) × (length item ≡ item_length item) × IsSaid said (stamp_in item) (numbers item) × (chunk.page ≢ old.page)
 IsRescue said chunk kind = ⊤

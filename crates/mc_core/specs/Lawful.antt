@@ -1,5 +1,5 @@
 -- The law: what holds of a moment between any two events; and what a holding means.
-use Rattle.std.specs.Prelude.{◌≡◌, ℕ, true, [], slice_index_or}
+use Rattle.std.specs.Prelude.{◌≡◌, ℕ, true, [], length, slice_index_or}
 use Rattle.mc_pages.specs.SlabState.{IsClass, class_of_page}
 use Rattle.mc_core.specs.declared.holding.Holding.{Holding}
 use Rattle.mc_core.specs.State.{State, has_slabs}
@@ -38,7 +38,7 @@ abbrev pub HandsIn : Moment → Type 0
 HandsIn m = AreHands m.state.ids m.state.slabs_lock m.state.stripe_locks m.state.holdings m.state.looks
 
 abbrev pub RowsIn : Moment → Type 0
-RowsIn m = HaveRows m.state.ids m.past
+RowsIn m = HaveRows m.state.ids (length m.state.stripes) m.past
 
 abbrev pub NumberedIn : Moment → Type 0
 NumberedIn m = AreNumbered m.state.ids m.past.mine m.past.said m.past.known

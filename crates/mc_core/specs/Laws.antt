@@ -8,6 +8,7 @@ use Rattle.mc_core.specs.declared.event.Event.{Event}
 use Rattle.mc_core.specs.declared.event.Step.{Step}
 use Rattle.mc_core.specs.State.{State, is_hand, has_chunk, new_state}
 use Rattle.mc_core.specs.Silent.{allows_change}
+use Rattle.mc_core.specs.Chunks.{most_issue}
 use Rattle.mc_core.specs.Run.{allows_step, is_allowed, play}
 use Rattle.mc_core.specs.Columns.{head_in, IsHandedOut}
 use Rattle.mc_core.specs.Past.{Moment, moment_changed, moment_stepped, moment_after, first_moment}
@@ -42,9 +43,10 @@ StaysOfClass before now = (chunk : ChunkId) (issue : ℕ) → has_chunk before.t
 abbrev pub EventsKeep : (Moment → Type 0) → Type 0
 EventsKeep Clause = (moment : Moment) (event : Event) → IsLawful moment → is_allowed moment.state event ≡ true → Clause (moment_after moment event)
 
--- the clause holds before anything was done, of each arena that can be made
+-- the clause holds before anything was done, of each arena that can be made, from each issue number on
 abbrev pub HoldsAtFirst : (Moment → Type 0) → Type 0
-HoldsAtFirst Clause = (table : Classes) (stripes hands : ℕ) → IsSound table → 1 ≤ stripes → 1 ≤ hands → hands ≤ 64 → Clause (first_moment table stripes hands)
+HoldsAtFirst Clause = (table : Classes) (stripes hands start : ℕ) → IsSound table → 1 ≤ stripes → 1 ≤ hands → hands ≤ 64 → start ≤ most_issue →
+    Clause (first_moment table stripes hands start)
 
 -- the clause holds at first, and is kept by each change, each step and each event
 pub record IsKeptByAll (Clause : Moment → Type 0) : Type 0 where
@@ -70,5 +72,6 @@ ArePlayed events = (moment : Moment) (state : State) → play moment.state event
 -- every moment of a run is lawful; and what is played to the end from the beginning ends in a lawful moment
 pub record AreLawful : Type 0 where
   pub runs : (moment : Moment) (events : List Event) → IsLawful moment → IsRun moment events → IsLawful (moment_at_end moment events)
-  pub from_first : (table : Classes) (stripes hands : ℕ) (events : List Event) (state : State) → IsSound table → 1 ≤ stripes → 1 ≤ hands → hands ≤ 64 →
-      play (new_state table stripes hands) events ≡ Ok state → ((moment_at_end (first_moment table stripes hands) events).state ≡ state) × IsLawful (moment_at_end (first_moment table stripes hands) events)
+  pub from_first : (table : Classes) (stripes hands start : ℕ) (events : List Event) (state : State) → IsSound table → 1 ≤ stripes → 1 ≤ hands → hands ≤ 64 → start ≤ most_issue →
+      play (new_state table stripes hands start) events ≡ Ok state →
+      ((moment_at_end (first_moment table stripes hands start) events).state ≡ state) × IsLawful (moment_at_end (first_moment table stripes hands start) events)

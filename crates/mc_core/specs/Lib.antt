@@ -30,3 +30,6 @@ pub mod Effects
 pub mod Learns
 pub mod Stretch
 pub mod Follows
+pub mod Codes
+pub mod Needless
+pub mod Judged

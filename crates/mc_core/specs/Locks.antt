@@ -5,7 +5,7 @@ use Rattle.mc_pages.specs.declared.ids.ChunkId.{ChunkId}
 use Rattle.mc_core.specs.declared.look.Look.{Look}
 use Rattle.mc_core.specs.declared.look.Look.TheVariants.{Saw, SawStripe}
 use Rattle.mc_core.specs.State.{State, has_chunk, head_at, number_at, has_slabs, has_stripe, stripe_at, with_looks, with_look}
-use Rattle.mc_core.specs.Silent.{is_whole}
+use Rattle.mc_core.specs.Silent.{none_half_cut}
 
 -- a look counts under the slabs lock alone
 abbrev pub looked : State → ℕ → Look → State
@@ -45,7 +45,7 @@ after_take_stripe state hand stripe = with_stripe_lock state stripe (lock_word s
 
 -- what is given back has no page half cut
 abbrev pub can_give_slabs : State → ℕ → Bool
-can_give_slabs state hand = has_slabs state hand && is_whole state.slabs
+can_give_slabs state hand = has_slabs state hand && none_half_cut state.slabs
 
 abbrev pub after_give_slabs : State → State
 after_give_slabs state = record state { slabs_lock = 0 }

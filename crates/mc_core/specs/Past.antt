@@ -1,5 +1,5 @@
 -- What hands saw and know, which decides nothing.
-use Rattle.std.specs.Prelude.{ℕ, ◌+◌, ◌==◌, nat_le, if◌then◌else◌, List, [], ◌∷◌, ◌++◌, length, map, drop, replicate, slice_index, slice_index_or, slice_set, Option, Some, None}
+use Rattle.std.specs.Prelude.{ℕ, ◌+◌, ◌==◌, nat_le, if◌then◌else◌, List, [], ◌∷◌, ◌++◌, length, map, drop, replicate, slice_index, slice_index_or, slice_set, Option, Some, None, Contains}
 use Rattle.std.specs.List.{range_with_len}
 use Rattle.mc_classes.specs.Classes.{Classes}
 use Rattle.mc_pages.specs.declared.ids.ChunkId.{ChunkId}
@@ -15,7 +15,7 @@ use Rattle.mc_core.specs.declared.holding.Holding.{Holding}
 use Rattle.mc_core.specs.declared.holding.Kind.{Kind}
 use Rattle.mc_core.specs.declared.holding.Kind.TheVariants.{Fresh}
 use Rattle.mc_core.specs.declared.holding.Purpose.TheVariants.{Rescue}
-use Rattle.mc_core.specs.Holdings.{Words, stamp_in, item_in, holding_of}
+use Rattle.mc_core.specs.Holdings.{Words, stamp_in, item_in, holding_of, numbers}
 use Rattle.mc_core.specs.State.{State, room_at, head_at, number_at, stripe_at, holdings_at, new_state}
 use Rattle.mc_core.specs.Silent.{after_change}
 use Rattle.mc_core.specs.Items.{chunk_of, new_reference}
@@ -30,14 +30,18 @@ pub data Sight : Type 0 where
 -- a stamp, and the words that were said with it
 pub record Saying : Type 0 where
   pub stamp : ℕ
-  pub words : Words
+  pub words : List ℕ
 
 -- the item that a chunk had with this issue number, and for how many words the chunk had room
 pub record Known : Type 0 where
   pub chunk : ChunkId
   pub issue : ℕ
   pub room : ℕ
-  pub words : Words
+  pub words : List ℕ
+
+-- some hand knows such an item
+abbrev pub IsKnownToSome : List (List Known) → (Known → Type 0) → Type 0
+IsKnownToSome known P = (hand : ℕ) × (k : Known) × Contains (slice_index_or known hand []) k × P k
 
 -- a hold of the slabs lock: pages and lists as it began and as it ended, and how many holds there were
 pub record Hold : Type 0 where
@@ -86,7 +90,7 @@ hold_after slabs other hold = hold
 -- the item's stamp and words, unless it was rescued
 abbrev pub saying_of : Kind → Words → List Saying
 saying_of (Fresh (Rescue old item)) words = []
-saying_of kind words = record { stamp = stamp_in words; words = item_in words } ∷ []
+saying_of kind words = record { stamp = stamp_in words; words = numbers (item_in words) } ∷ []
 
 abbrev pub said_by : Option Holding → List Saying
 said_by None = []
@@ -98,11 +102,11 @@ sayings_of state hand (Link chunk) = said_by (holding_of chunk (holdings_at stat
 sayings_of state hand other = []
 
 abbrev pub known_by : ℕ → Holding → Known
-known_by room holding = record { chunk = holding.chunk; issue = holding.issue; room = room; words = holding.words }
+known_by room holding = record { chunk = holding.chunk; issue = holding.issue; room = room; words = numbers holding.words }
 
 abbrev pub known_of_holding : ℕ → Option Holding → List Known
 known_of_holding room None = []
-known_of_holding room (Some holding) = record { chunk = holding.chunk; issue = holding.issue; room = room; words = item_in holding.words } ∷ []
+known_of_holding room (Some holding) = record { chunk = holding.chunk; issue = holding.issue; room = room; words = numbers (item_in holding.words) } ∷ []
 
 abbrev pub known_of_place : State → Option (ChunkId × ℕ) → List Known
 known_of_place state None = []
@@ -254,5 +258,5 @@ no_past stripes hands = record {
 }
 
 -- nothing was done yet
-abbrev pub first_moment : Classes → ℕ → ℕ → Moment
-first_moment table stripes hands = record { state = new_state table stripes hands; past = no_past stripes hands }
+abbrev pub first_moment : Classes → ℕ → ℕ → ℕ → Moment
+first_moment table stripes hands start = record { state = new_state table stripes hands start; past = no_past stripes hands }

@@ -6,7 +6,7 @@ use Rattle.mc_pages.specs.declared.ids.ChunkId.{ChunkId}
 use Rattle.mc_pages.specs.declared.ledger.Entry.{Entry}
 use Rattle.mc_core.specs.declared.event.Event.{Event}
 use Rattle.mc_core.specs.declared.event.Step.{Step}
-use Rattle.mc_core.specs.declared.event.Step.TheVariants.{TakeSlabs, TakeStripe, GiveSlabs, GiveStripe, Head, Pop, PopOff, Fill, Link, Unlink, Release, Condemn, Clear, Cut}
+use Rattle.mc_core.specs.declared.event.Step.TheVariants.{TakeSlabs, TakeStripe, GiveSlabs, GiveStripe, Head, Pop, PopOff, Fill, Link, Unlink, Release, Discard, Condemn, PutBack, Clear, Cut}
 use Rattle.mc_core.specs.declared.event.Change.{Change}
 use Rattle.mc_core.specs.declared.event.Change.TheVariants.{Grow, BeginMove, FinishMove, Reserve}
 use Rattle.mc_core.specs.State.{State, new_state}
@@ -33,7 +33,12 @@ ledger_of (Ok state) = Ok state.slabs.ledger
 ledger_of (Err place) = Err place
 
 abbrev pub played : List Event → Result (List Entry) ℕ
-played events = ledger_of (play (new_state four_classes 4 1) events)
+played events = ledger_of (play (new_state four_classes 4 1 0) events)
+
+-- the same, where issue numbers count on from this one, and a chunk of class 1 is handed out twice
+abbrev pub pops_from : ℕ → Result (List Entry) ℕ
+pops_from start = ledger_of (play (new_state four_classes 4 1 start) (grows 20 ++ does [] TakeSlabs ∷ does [] (Pop 1) ∷ does [] (Discard (record { page = 0; index = 20 })) ∷
+    does [] (PutBack (record { page = 0; index = 20 })) ∷ does [] (Pop 1) ∷ []))
 
 -- so many pages of 64 bytes, and one class of 32 bytes
 abbrev pub one_class : ℕ → Classes
@@ -41,7 +46,7 @@ one_class pages = record { page = 64; limit = pages * 64; sizes = 32 ∷ [] }
 
 -- the events of one hand that takes both locks of an arena of so many pages and one stripe
 abbrev pub played_on : ℕ → List Event → Result (List Entry) ℕ
-played_on pages events = ledger_of (play (new_state (one_class pages) 1 1) (does [] TakeSlabs ∷ does [] (TakeStripe 0) ∷ events))
+played_on pages events = ledger_of (play (new_state (one_class pages) 1 1 0) (does [] TakeSlabs ∷ does [] (TakeStripe 0) ∷ events))
 
 abbrev pub chunk_at : ℕ → ℕ → ChunkId
 chunk_at page index = record { page = page; index = index }

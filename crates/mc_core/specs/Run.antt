@@ -92,4 +92,4 @@ TellsEnd (Err place) told = (told ≡ Err (NotAllowed place)) ⊎ (told ≡ Err 
 
 -- the events were played with the table of this configuration, from the beginning
 pub record IsPlayed (config : Config) (hands : ℕ) (events : List Event) (told : Result State Stop) : Type 0 where
-  pub exact : (table : Classes) → IsTableOf config table → TellsEnd (play (new_state table config.stripes hands) events) told
+  pub exact : (table : Classes) → IsTableOf config table → TellsEnd (play (new_state table config.stripes hands 0) events) told

@@ -10,10 +10,10 @@ use Rattle.mc_core.specs.declared.head.Head.{Head}
 use Rattle.mc_core.specs.declared.look.Look.{Look}
 use Rattle.mc_core.specs.declared.look.Look.TheVariants.{Saw, Read, Popped, PoppedOff, Condemned, PutBack, Cleared, Cut, Changed}
 use Rattle.mc_core.specs.Head.{is_free, is_out, is_dead, is_linked}
-use Rattle.mc_core.specs.Past.{Known}
+use Rattle.mc_core.specs.Past.{Known, IsKnownToSome}
 use Rattle.mc_core.specs.State.{room_in, has_chunk}
 use Rattle.mc_core.specs.Silent.{slabs_after}
-use Rattle.mc_core.specs.Columns.{head_in, place_in, IsHandedOut, IsKnownToSome}
+use Rattle.mc_core.specs.Columns.{head_in, place_in, IsHandedOut}
 
 -- the newer of two headers, where the look is at this chunk
 abbrev pub newer : ChunkId → ChunkId → Head → Option Head → Option Head
@@ -29,6 +29,10 @@ last_head chunk before (PutBack seen head) = newer chunk seen head before
 last_head chunk before (Cleared seen head) = newer chunk seen head before
 last_head chunk before (Cut seen head) = newer chunk seen head before
 last_head chunk before other = before
+
+-- the header of the chunk as the hand last saw it, or wrote it itself
+abbrev pub seen_head : List Look → ChunkId → Option Head
+seen_head looks chunk = fold (last_head chunk) None looks
 
 -- the issue number with which the chunk was found linked, unless it was put back or cleared since
 abbrev pub linked_issue : ChunkId → Option ℕ → Look → Option ℕ
@@ -69,7 +73,7 @@ pub record IsReadStill (table : Classes) (slabs : SlabState) (words : List ℕ) 
 -- looks: under a hold of the slabs lock, what the hand last saw or wrote of each header holds still, and so do the words that it
 -- read; and what it did to pages and lists since it found them gave those of now
 pub record AreSeen (table : Classes) (slabs : SlabState) (heads : List Head) (words : List ℕ) (known : List (List Known)) (found : SlabState) (looks : List Look) : Type 0 where
-  pub last_heads : (chunk : ChunkId) (seen : Head) → has_chunk table chunk ≡ true → fold (last_head chunk) None looks ≡ Some seen → IsStill (head_in table heads chunk) seen
+  pub last_heads : (chunk : ChunkId) (seen : Head) → has_chunk table chunk ≡ true → seen_head looks chunk ≡ Some seen → IsStill (head_in table heads chunk) seen
   pub linked : (chunk : ChunkId) (issue : ℕ) → has_chunk table chunk ≡ true → fold (linked_issue chunk) None looks ≡ Some issue →
       IsHandedOut (head_in table heads chunk) issue × IsKnownToSome known (λ k. (k.chunk ≡ chunk) × (k.issue ≡ issue))
   pub read_words : (chunk : ChunkId) (place word : ℕ) → has_chunk table chunk ≡ true → fold (last_read chunk place) None looks ≡ Some word →

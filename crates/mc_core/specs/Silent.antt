@@ -40,17 +40,17 @@ has_page chunks page = list_any (λ c. c.page == page) chunks
 abbrev pub has_listed : SlabState → ℕ → ℕ → Bool
 has_listed slabs class page = has_page (class_at slabs class).free page || has_page (class_at slabs class).order page
 
--- a page is whole, or its chunks aren't all cut yet
-abbrev pub is_whole : SlabState → Bool
-is_whole slabs = is_none slabs.uncut
+-- no page is half cut
+abbrev pub none_half_cut : SlabState → Bool
+none_half_cut slabs = is_none slabs.uncut
 
 abbrev pub can_grow : Classes → SlabState → ℕ → Bool
-can_grow table slabs class = is_class table class && is_whole slabs && is_some (next_page slabs)
+can_grow table slabs class = is_class table class && none_half_cut slabs && is_some (next_page slabs)
 
 -- each chunk of the moving page is cleared
 abbrev pub can_finish : SlabState → Option Moving → Bool
 can_finish slabs None = false
-can_finish slabs (Some move) = is_whole slabs && not (has_listed slabs move.src move.page)
+can_finish slabs (Some move) = none_half_cut slabs && not (has_listed slabs move.src move.page)
 
 -- the move that runs, with the chunks of a page of its source
 abbrev pub run_of : Classes → Option Moving → Option (Moving × ℕ)

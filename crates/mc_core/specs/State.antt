@@ -9,7 +9,7 @@ use Rattle.mc_core.specs.declared.head.Head.{Head}
 use Rattle.mc_core.specs.declared.ids.Ids.{Ids}
 use Rattle.mc_core.specs.declared.holding.Holding.{Holding}
 use Rattle.mc_core.specs.declared.look.Look.{Look}
-use Rattle.mc_core.specs.Head.{never_cut}
+use Rattle.mc_core.specs.Head.{never_cut, uncut_from}
 use Rattle.mc_core.specs.Holdings.{Words, change_each, lose}
 
 pub record State : Type 0 where
@@ -142,11 +142,11 @@ with_looks state hand looks = record state { looks = slice_set state.looks hand 
 abbrev pub with_look : State → ℕ → Look → State
 with_look state hand look = with_looks state hand (looks_at state hand ++ look ∷ [])
 
--- all pages untouched, all locks free, and hands numbered from 0 that hold nothing
-abbrev pub new_state : Classes → ℕ → ℕ → State
-new_state table stripes hands = record {
+-- all pages untouched, all locks free, hands numbered from 0 that hold nothing, and issue numbers that count on from this one
+abbrev pub new_state : Classes → ℕ → ℕ → ℕ → State
+new_state table stripes hands start = record {
   table = table;
-  heads = replicate (pages_of table * most_of table) never_cut;
+  heads = replicate (pages_of table * most_of table) (uncut_from start);
   words = replicate (pages_of table * page_words table) 0;
   slabs_lock = 0;
   stripe_locks = replicate stripes 0;

@@ -50,6 +50,7 @@ impl Head {
     };
 
     /// The header as a word.
+    #[tactic(auto, unfolding(crate::specs::Head::code))]
     pub fn word(self) -> u64
         requires { self.issue < 2 ^ 46 }
         ensures { result ≡ code self }

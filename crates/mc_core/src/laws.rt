@@ -2,14 +2,15 @@
 //!
 //! A clause of the law that is *kept* holds before anything was done. Every silent change, every step and every event that
 //! is allowed in a lawful moment leaves it true.
-ghost use Rattle.std.specs.Prelude.{◌≡◌, ℕ, List, [], ◌∷◌, ◌++◌, Ok, Err};
+ghost use Rattle.std.specs.Prelude.{◌≡◌, ◌-◌, ℕ, List, [], ◌∷◌, ◌++◌, Ok, Err};
 ghost use Rattle.mc_pages.specs.declared.ledger.Entry.TheVariants.{Granted, Began, Ended};
 ghost use Rattle.mc_stripe.specs.declared.history.Call.{Call};
 ghost use Rattle.mc_stripe.specs.Sequential.{StampMap, Leads};
 ghost use Rattle.mc_core.specs.declared.event.Event.{Event};
 ghost use Rattle.mc_core.specs.declared.event.Step.TheVariants.{TakeSlabs, Pop, Head, Cut};
 ghost use Rattle.mc_core.specs.declared.event.Change.TheVariants.{Grow, FinishMove};
-ghost use Rattle.mc_core.specs.Rows.{played, grows, does, played_on, chunk_at, gets, puts, stores, full_page, one_of_four, three_of_four, looks_at, takes_away, begins_move, begins_rescue, rescues, ends, comes_again};
+ghost use Rattle.mc_core.specs.Rows.{played, grows, does, pops_from, played_on, chunk_at, gets, puts, stores, full_page, one_of_four, three_of_four, looks_at, takes_away, begins_move, begins_rescue, rescues, ends, comes_again};
+ghost use Rattle.mc_core.specs.Chunks.{most_issue};
 ghost use Rattle.mc_core.specs.Lawful.{IsLawful, SizedIn, PagedIn, PlacedIn, CountedIn, HeldIn, IndexedIn, LegalIn, HandsIn, RowsIn, NumberedIn, SeenIn, KnownIn, RescuedIn, ToldIn};
 ghost use Rattle.mc_core.specs.Laws.{IsKeptByAll, ArePlayed, AreLawful};
 ghost use Rattle.mc_core.specs.Frame.{AreFramed};
@@ -17,13 +18,20 @@ ghost use Rattle.mc_core.specs.Effects.{WriteOneWord, HistoriesGrow, RunsArePlay
 ghost use Rattle.mc_core.specs.Learns.{AreLearned};
 ghost use Rattle.mc_core.specs.Reasons.{CondemnsAreReasoned};
 ghost use Rattle.mc_core.specs.Stretch.{StretchesKeep};
+ghost use Rattle.mc_core.specs.Codes.{AreOneWord, AllAreSums};
+ghost use Rattle.mc_core.specs.Needless.{AllAreNeedless};
+ghost use Rattle.mc_core.specs.Judged.{AllAreJudged};
 ghost use Rattle.mc_core.specs.Follows.{AreKept, AreSaidItems, SeenGrows};
 
-/// Three runs of one hand: a page that is cut whole, one cut short, and a chunk from a class without a page.
+/// Runs of one hand: a page that is cut whole, one cut short, and a chunk from a class without a page; and where issue
+/// numbers count on from one below the greatest, a chunk is handed out once and not again.
 pub fn worked_runs()
     ensures whole_page { played (grows 20) ≡ Ok (Granted 0 1 ∷ []) }
     ensures cut_short { played (grows 19) ≡ Err 21 }
     ensures no_page { played (does [] TakeSlabs ∷ does [] (Pop 1) ∷ []) ≡ Err 1 }
+    ensures twice { pops_from (most_issue - 2) ≡ Ok (Granted 0 1 ∷ []) }
+    ensures once { pops_from (most_issue - 1) ≡ Err 27 }
+    ensures worn { pops_from most_issue ≡ Err 24 }
 {}
 
 /// An item is evicted from a full class behind a sweep. It is refused without a sweep, behind half of one, and behind one that an
@@ -195,6 +203,23 @@ pub fn linked_items_were_said()
 /// took it over.
 pub fn what_is_seen_grows()
     ensures { SeenGrows }
+{}
+
+/// A header whose parts fit is one word, and each change of it is one sum on that word.
+pub fn headers_are_words()
+    ensures one_word { AreOneWord }
+    ensures sums { AllAreSums }
+{}
+
+/// What events would test of counts and tags follows from the law: a count has room for one more, the head of a free list is
+/// free, what is dead is handed out, what is cut next is out, where a key leads is linked, and what a hand fills isn't.
+pub fn tests_are_needless()
+    ensures { AllAreNeedless }
+{}
+
+/// What a hand saw under the slabs lock is so still, and so allows its steps.
+pub fn what_is_seen_allows()
+    ensures { AllAreJudged }
 {}
 
 /// A legal history leaves one map from keys to stamps.

@@ -18,7 +18,7 @@ pub fn replay(alloc: Global, config: &Config, hands: u64, events: &[Event]) -> R
     let Ok(table) = ClassTable::build(alloc, config) else {
         return Err(Stop::NoMemory);
     };
-    let state = State::new(alloc, table, config.stripes, hands)?;
+    let state = State::new(alloc, table, config.stripes, hands, 0)?;
     play_all(state, events)
 }
 

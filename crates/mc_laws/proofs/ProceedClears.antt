@@ -17,7 +17,7 @@ use Rattle.mc_machine.specs.Item.{Item}
 use Rattle.mc_machine.specs.Items.{Items, chunk_cmp, item_at, linked_chunk, is_linked, is_unlinked, with_item, without_item, with_found_item, with_moved_item}
 use Rattle.mc_machine.specs.Holds.{is_held, held_by}
 use Rattle.mc_machine.specs.Kept.{places}
-use Rattle.mc_machine.specs.Machine.{Machine, is_dead, is_idle}
+use Rattle.mc_machine.specs.Machine.{Machine, is_dead, is_linked_unheld}
 use Rattle.mc_machine.specs.Mover.{with_cleared}
 use Rattle.mc_machine.proofs.Chunks.{none-places, places_none}
 use Rattle.mc_laws.proofs.FoundItems.{found_before, item_at-with_item}
@@ -77,7 +77,7 @@ module _ (m : Machine) (class : ℕ) (chunk : ChunkId) (lawful : IsLawful m) (va
       clears_item found.0 lawful.index found.1 (not-true (is_held m.holds chunk) (and_parts (is_unlinked m.items chunk) _ dead).1)
       (leads_dead m.table (off m.slabs) lawful.index m.items chunk found.0 lawful.kept found.1 found.2)
 
-  pub clears_idle : is_idle m chunk ≡ true → Clears m (with_cleared m chunk) class chunk
+  pub clears_idle : is_linked_unheld m chunk ≡ true → Clears m (with_cleared m chunk) class chunk
   clears_idle idle =
       let found = idle_here m m chunk refl idle in
       clears_item found.0 (index_of (without_item m.items chunk)) found.1

@@ -10,7 +10,7 @@ use Rattle.mc_pages.specs.InOrder.{IsInOrder}
 use Rattle.mc_pages.proofs.Kept.{IsInOrder-after_evicted}
 use Rattle.mc_machine.specs.Items.{is_linked, without_item}
 use Rattle.mc_machine.specs.Holds.{is_held}
-use Rattle.mc_machine.specs.Machine.{Machine, has_free, is_idle}
+use Rattle.mc_machine.specs.Machine.{Machine, has_free, is_linked_unheld}
 use Rattle.mc_machine.specs.Supply.{eviction_tries, relieved, victim, with_eviction}
 use Rattle.mc_laws.proofs.Indexes.{index_of, leads_index}
 use Rattle.mc_machine.proofs.KeptEvict.{kept_counted}
@@ -19,7 +19,7 @@ use Rattle.mc_pages.proofs.FirstFound.{found_holds}
 use Rattle.mc_laws.proofs.Lawful.{IsLawful, off, Proceeds, proceeds_same, proceeds_without}
 use Rattle.mc_laws.proofs.ProceedSweeps.{order_back}
 
-proceeds_evicted : (m : Machine) (class : ℕ) (chunk : ChunkId) → IsLawful m → IsClass m.slabs class → is_idle m chunk ≡ true
+proceeds_evicted : (m : Machine) (class : ℕ) (chunk : ChunkId) → IsLawful m → IsClass m.slabs class → is_linked_unheld m chunk ≡ true
     → Proceeds m (with_eviction m class (Some chunk))
 proceeds_evicted m class chunk lawful valid idle =
     let found = idle_here m m chunk refl idle in
@@ -40,7 +40,7 @@ proceeds_eviction : (m : Machine) (class : ℕ) (found : Option ChunkId) → IsL
     → Proceeds m (with_eviction m class found)
 proceeds_eviction m class None lawful valid is = proceeds_same m lawful
 proceeds_eviction m class (Some chunk) lawful valid is =
-    proceeds_evicted m class chunk lawful valid (found_holds (is_idle m) (class_at m.slabs class).order eviction_tries chunk is).0
+    proceeds_evicted m class chunk lawful valid (found_holds (is_linked_unheld m) (class_at m.slabs class).order eviction_tries chunk is).0
 
 pub proceeds_relieved : (m : Machine) (class : ℕ) → IsLawful m → IsClass m.slabs class → Proceeds m (relieved m class)
 proceeds_relieved m class lawful valid = relieved_way (has_free m class)

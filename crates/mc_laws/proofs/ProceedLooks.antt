@@ -17,7 +17,7 @@ use Rattle.mc_pages.specs.Moves.{CanPass, after_passed, chunk_at_position, is_he
 use Rattle.mc_pages.proofs.Kept.{IsInOrder-after_passed}
 use Rattle.mc_machine.specs.Items.{is_linked}
 use Rattle.mc_machine.specs.Holds.{is_held}
-use Rattle.mc_machine.specs.Machine.{Machine, is_dead, is_idle, swept}
+use Rattle.mc_machine.specs.Machine.{Machine, is_dead, is_linked_unheld, swept}
 use Rattle.mc_machine.specs.Mover.{Counted, Looked, is_at_end, looked_at, saved, target, with_chunk, with_chunks, with_cleared, with_looked, with_saved}
 use Rattle.std.proofs.lemmas.Bool.{and_parts, not-true}
 use Rattle.mc_machine.proofs.KeptMoverClear.{idle_here, own_from_cut}
@@ -37,7 +37,7 @@ looks_cleared m new class chunk found clears = record { proceeds = clears.procee
 
 -- an idle item is saved or evicted
 saves_to : (m : Machine) (class : ℕ) (chunk : ChunkId) (found : Option ChunkId) → IsLawful m → IsClass m.slabs class
-    → option_map (λ (move : Moving). move.page) m.slabs.moving ≡ Some chunk.page → class_of_page m.slabs chunk.page ≡ class → is_idle m chunk ≡ true
+    → option_map (λ (move : Moving). move.page) m.slabs.moving ≡ Some chunk.page → class_of_page m.slabs chunk.page ≡ class → is_linked_unheld m chunk ≡ true
     → target m class chunk.page ≡ found → LooksOn m class chunk (with_saved m chunk found)
 saves_to m class chunk None lawful valid moving own idle is =
     looks_cleared m (with_cleared m chunk) class chunk (with_saved m chunk None).found (clears_idle m class chunk lawful valid moving own idle)
@@ -50,7 +50,7 @@ saves_to m class chunk (Some new) lawful valid moving own idle is =
 -- a chunk of the moving page, which its class cut
 module _ (m : Machine) (class : ℕ) (chunk : ChunkId) (lawful : IsLawful m) (valid : IsClass m.slabs class)
     (moving : option_map (λ (move : Moving). move.page) m.slabs.moving ≡ Some chunk.page) (own : class_of_page m.slabs chunk.page ≡ class) where
-  saves : is_idle m chunk ≡ true → LooksOn m class chunk (saved m class chunk)
+  saves : is_linked_unheld m chunk ≡ true → LooksOn m class chunk (saved m class chunk)
   saves idle =
       let first : Proceeds m (swept m class) = proceeds_swept m class lawful valid in
       let there : LooksOn (swept m class) class chunk (saved m class chunk)
@@ -60,7 +60,7 @@ module _ (m : Machine) (class : ℕ) (chunk : ChunkId) (lawful : IsLawful m) (va
       record { proceeds = proceeds_then m (swept m class) (saved m class chunk).machine first there.proceeds; clears = there.clears }
 
   look_ways : (before free dead idle : Bool) → is_cleared m.slabs class chunk ≡ before → nat_lt 0 (times chunk (class_at m.slabs class).free) ≡ free
-      → is_dead m chunk ≡ dead → is_idle m chunk ≡ idle → LooksOn m class chunk (
+      → is_dead m chunk ≡ dead → is_linked_unheld m chunk ≡ idle → LooksOn m class chunk (
       if before then record { machine = m; found = Already }
       else if free then record { machine = record m { slabs = after_clear m.slabs chunk }; found = Cleared }
       else if dead then record { machine = with_cleared m chunk; found = Cleared }
@@ -78,7 +78,7 @@ module _ (m : Machine) (class : ℕ) (chunk : ChunkId) (lawful : IsLawful m) (va
 
   pub looks_on : LooksOn m class chunk (looked_at m class chunk)
   looks_on =
-      look_ways (is_cleared m.slabs class chunk) (nat_lt 0 (times chunk (class_at m.slabs class).free)) (is_dead m chunk) (is_idle m chunk)
+      look_ways (is_cleared m.slabs class chunk) (nat_lt 0 (times chunk (class_at m.slabs class).free)) (is_dead m chunk) (is_linked_unheld m chunk)
       refl refl refl refl
 
 -- the chunk at the position is looked at and passed

@@ -24,7 +24,7 @@ use Rattle.mc_pages.proofs.OneClass.{class_at-with_class_same, length-with_class
 use Rattle.mc_machine.specs.Item.{Item, is_linked_to}
 use Rattle.mc_machine.specs.Items.{Items, item_at, is_linked, is_unlinked, linked_chunk, without_item}
 use Rattle.mc_machine.specs.Holds.{is_held}
-use Rattle.mc_machine.specs.Machine.{Machine, is_dead, is_idle}
+use Rattle.mc_machine.specs.Machine.{Machine, is_dead, is_linked_unheld}
 use Rattle.mc_machine.specs.Kept.{places, links, IsKept}
 use Rattle.mc_machine.proofs.KeptMoverChange.{changes_class, kept_changed}
 
@@ -91,7 +91,7 @@ pub dead_here : (m now : Machine) (chunk : ChunkId) → m ≡ now → is_dead no
     → (item : Item) × (item_at m.items chunk ≡ Some item) × (item.linked ≡ false)
 dead_here m now chunk same dead = dead_item m.items chunk (is_held m.holds chunk) (rw same dead)
 
-pub idle_here : (m now : Machine) (chunk : ChunkId) → m ≡ now → is_idle now chunk ≡ true
+pub idle_here : (m now : Machine) (chunk : ChunkId) → m ≡ now → is_linked_unheld now chunk ≡ true
     → (item : Item) × (item_at m.items chunk ≡ Some item) × (item.linked ≡ true)
 idle_here m now chunk same idle = idle_item m.items chunk (is_held m.holds chunk) (rw same idle)
 

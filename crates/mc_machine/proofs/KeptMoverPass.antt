@@ -13,7 +13,7 @@ use Rattle.mc_pages.specs.Changes.{with_class, after_back, after_clear, after_re
 use Rattle.mc_pages.specs.Moves.{is_held_up, chunk_at_position, CanPass}
 use Rattle.mc_machine.specs.Items.{Items}
 use Rattle.mc_machine.specs.Kept.{IsKept}
-use Rattle.mc_machine.specs.Machine.{Machine, is_dead, is_idle, dead_chunks, after_reclaim, swept}
+use Rattle.mc_machine.specs.Machine.{Machine, is_dead, is_linked_unheld, dead_chunks, after_reclaim, swept}
 use Rattle.mc_machine.specs.Mover.{Looked, looked_at, saved, target, with_cleared, with_saved}
 use Rattle.mc_pages.specs.ClassState.{times}
 use Rattle.std.specs.Prelude.{nat_lt}
@@ -92,7 +92,7 @@ keeps_ways false false false false m class chunk = keeps_same m.slabs
 
 keeps_looked : (m : Machine) (class : ℕ) (chunk : ChunkId) → KeepsMove m.slabs (looked_at m class chunk).machine.slabs
 keeps_looked m class chunk =
-    keeps_ways (is_cleared m.slabs class chunk) (nat_lt 0 (times chunk (class_at m.slabs class).free)) (is_dead m chunk) (is_idle m chunk) m class chunk
+    keeps_ways (is_cleared m.slabs class chunk) (nat_lt 0 (times chunk (class_at m.slabs class).free)) (is_dead m chunk) (is_linked_unheld m chunk) m class chunk
 
 -- what was looked at may be passed
 pub can_pass : (m new : Machine) (found : Found) (move : Moving) → looked_at m move.src (chunk_at_position move) ≡ record { machine = new; found = found }

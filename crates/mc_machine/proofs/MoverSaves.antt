@@ -19,7 +19,7 @@ use Rattle.mc_machine.specs.Holds.{is_held}
 use Rattle.mc_machine.specs.Item.{Item}
 use Rattle.mc_machine.specs.Items.{Items, item_at, without_item}
 use Rattle.mc_machine.specs.Kept.{IsKept}
-use Rattle.mc_machine.specs.Machine.{Machine, is_dead, is_idle, dead_chunks, after_reclaim, swept}
+use Rattle.mc_machine.specs.Machine.{Machine, is_dead, is_linked_unheld, dead_chunks, after_reclaim, swept}
 use Rattle.mc_machine.specs.Mover.{Looked, looked_at, saved, target, with_cleared}
 use Rattle.mc_machine.proofs.KeptMoverClear.{handed_item, own_from_cut}
 
@@ -30,7 +30,7 @@ item_at-without (e ∷ items) x y apart = grind (arith, nat_tests, item_at-witho
 
 -- what other chunks' items go leaves a chunk idle or not
 idle-reclaims : (m : Machine) (chunks : List ChunkId) (chunk : ChunkId) → times chunk chunks ≡ 0
-    → is_idle (fold after_reclaim m chunks) chunk ≡ is_idle m chunk
+    → is_linked_unheld (fold after_reclaim m chunks) chunk ≡ is_linked_unheld m chunk
 idle-reclaims m [] chunk none = refl
 idle-reclaims m (c ∷ chunks) chunk none =
     let apart : is_chunk c chunk ≡ false = grind (arith, nat_tests, times-cons chunk c chunks) in
@@ -52,7 +52,7 @@ times-filter p chunk (c ∷ chunks) fails = filter_step (p c) (is_chunk c chunk)
     filter_step false s is any rest = rw is rest
 
 -- what is idle isn't dead
-pub not_dead : (m : Machine) (chunk : ChunkId) → is_idle m chunk ≡ true → is_dead m chunk ≡ false
+pub not_dead : (m : Machine) (chunk : ChunkId) → is_linked_unheld m chunk ≡ true → is_dead m chunk ≡ false
 not_dead m chunk idle = dead_step (item_at m.items chunk) refl idle
   where
     dead_step : (found : Option Item) → item_at m.items chunk ≡ found → (option_map_or (λ (item : Item). item.linked) found false && not (is_held m.holds chunk)) ≡ true
@@ -61,7 +61,7 @@ not_dead m chunk idle = dead_step (item_at m.items chunk) refl idle
     dead_step (Some item) is idle_here = rw is (grind (arith, nat_tests))
 
 -- an idle item is still so after a sweep
-pub idle_swept : (m : Machine) (class : ℕ) (chunk : ChunkId) → is_idle m chunk ≡ true → is_idle (swept m class) chunk ≡ true
+pub idle_swept : (m : Machine) (class : ℕ) (chunk : ChunkId) → is_linked_unheld m chunk ≡ true → is_linked_unheld (swept m class) chunk ≡ true
 idle_swept m class chunk idle =
     idle-reclaims m (dead_chunks m class) chunk (times-filter (is_dead m) chunk (class_at m.slabs class).order (not_dead m chunk idle)) ∙ idle
 
@@ -128,7 +128,7 @@ with_item_tests table slabs index items class chunk item kept valid own there =
 abbrev pub looked_item : Machine → ℕ → ChunkId → Looked
 looked_item m class chunk =
     if is_dead m chunk then record { machine = with_cleared m chunk; found = Cleared }
-    else if is_idle m chunk then saved m class chunk
+    else if is_linked_unheld m chunk then saved m class chunk
     else record { machine = m; found = Busy }
 
 pub looked_with_item : (m now : Machine) (index : List (ℕ × ChunkId)) (class : ℕ) (chunk : ChunkId) (item : Item) → IsKept m.table m.slabs index m.items → m ≡ now
@@ -144,14 +144,14 @@ looked_with_item m now index class chunk item kept same valid cut there =
 pub busy_if_held : (m : Machine) (class : ℕ) (chunk : ChunkId) → is_held m.holds chunk ≡ true → looked_item m class chunk ≡ record { machine = m; found = Busy }
 busy_if_held m class chunk held =
     let dead : is_dead m chunk ≡ false = grind (arith, nat_tests) in
-    let idle : is_idle m chunk ≡ false = grind (arith, nat_tests) in
+    let idle : is_linked_unheld m chunk ≡ false = grind (arith, nat_tests) in
     rw (dead, idle) refl
 
 -- and what nobody holds is dead or idle, as its key leads to it or not
 pub dead_if_unlinked : (m : Machine) (chunk : ChunkId) (item : Item) → item_at m.items chunk ≡ Some item → is_held m.holds chunk ≡ false → item.linked ≡ false → is_dead m chunk ≡ true
 dead_if_unlinked m chunk item there free unlinked = rw (there, free, unlinked) refl
 
-pub idle_if_linked : (m : Machine) (chunk : ChunkId) (item : Item) → item_at m.items chunk ≡ Some item → is_held m.holds chunk ≡ false → item.linked ≡ true → is_idle m chunk ≡ true
+pub idle_if_linked : (m : Machine) (chunk : ChunkId) (item : Item) → item_at m.items chunk ≡ Some item → is_held m.holds chunk ≡ false → item.linked ≡ true → is_linked_unheld m chunk ≡ true
 idle_if_linked m chunk item there free linked = rw (there, free, linked) refl
 
 -- the page's class is the same after a sweep

@@ -46,8 +46,8 @@ abbrev pub is_dead : Machine → ChunkId → Bool
 is_dead m chunk = is_unlinked m.items chunk && not (is_held m.holds chunk)
 
 -- its key leads to the chunk's item, and nobody holds it
-abbrev pub is_idle : Machine → ChunkId → Bool
-is_idle m chunk = is_linked m.items chunk && not (is_held m.holds chunk)
+abbrev pub is_linked_unheld : Machine → ChunkId → Bool
+is_linked_unheld m chunk = is_linked m.items chunk && not (is_held m.holds chunk)
 
 -- the class's dead chunks, oldest handed out first
 abbrev pub dead_chunks : Machine → ℕ → List ChunkId

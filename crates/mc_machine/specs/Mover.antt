@@ -13,7 +13,7 @@ use Rattle.mc_machine.specs.declared.turn.Counts.{Counts}
 use Rattle.mc_machine.specs.declared.turn.Ending.{Ending}
 use Rattle.mc_machine.specs.declared.turn.Ending.TheVariants.{Idle, Went, Finished}
 use Rattle.mc_machine.specs.Items.{with_moved_item, without_item}
-use Rattle.mc_machine.specs.Machine.{Machine, is_dead, is_idle, swept, with_cut_page}
+use Rattle.mc_machine.specs.Machine.{Machine, is_dead, is_linked_unheld, swept, with_cut_page}
 
 -- a machine, and what the mover found on its way to it
 pub record Looked : Type 0 where
@@ -46,7 +46,7 @@ looked_at m class chunk =
     if is_cleared m.slabs class chunk then record { machine = m; found = Already }
     else if nat_lt 0 (times chunk (class_at m.slabs class).free) then record { machine = record m { slabs = after_clear m.slabs chunk }; found = Cleared }
     else if is_dead m chunk then record { machine = with_cleared m chunk; found = Cleared }
-    else if is_idle m chunk then saved m class chunk
+    else if is_linked_unheld m chunk then saved m class chunk
     else record { machine = m; found = Busy }
 
 -- nothing was done yet

@@ -5,7 +5,7 @@ use Rattle.mc_pages.specs.declared.ids.ChunkId.{ChunkId}
 use Rattle.mc_pages.specs.ClassState.{first_free}
 use Rattle.mc_pages.specs.SlabState.{class_at}
 use Rattle.mc_pages.specs.Changes.{after_evicted}
-use Rattle.mc_machine.specs.Machine.{Machine, has_free, is_idle, after_reclaim, stocked}
+use Rattle.mc_machine.specs.Machine.{Machine, has_free, is_linked_unheld, after_reclaim, stocked}
 
 -- how many of the oldest chunks are looked at for an item to evict
 abbrev pub eviction_tries : ℕ
@@ -14,7 +14,7 @@ eviction_tries = 5
 -- the chunk of the item that is evicted: the first of the oldest five that nobody holds. None of the five is dead, as
 -- those were put back before
 abbrev pub victim : Machine → ℕ → Option ChunkId
-victim m class = find (is_idle m) (take eviction_tries (class_at m.slabs class).order)
+victim m class = find (is_linked_unheld m) (take eviction_tries (class_at m.slabs class).order)
 
 -- the item in this chunk, if there is one, is evicted, and the chunk put back
 abbrev pub with_eviction : Machine → ℕ → Option ChunkId → Machine

@@ -25,7 +25,7 @@ pub record SlabState : Type 0 where
   -- the lowest chunk that isn't cut yet, of a page just given to a class
   pub uncut : Option ChunkId
   pub moving : Option Moving
-  -- the class at which the pick of a source goes on
+  -- the pick of a source goes on behind this class
   pub cursor : ℕ
   -- the counters, each at most 2^64 - 1
   pub moved : ℕ

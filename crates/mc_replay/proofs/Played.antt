@@ -26,7 +26,7 @@ pub all_played : {T E : Type 0} (bytes : T → List ℕ) (config : Config) (hand
     IsPlayed config hands slice told → slice ≡ events → told ≡ Ok state → IfOk made (λ text. bytes text ≡ told_text config.stripes (Ok state)) → IfOk made (λ text. IsAnswer config hands events (bytes text))
 all_played bytes config hands slice events told state (Ok text) played same is made =
     subst (λ (es : List Event). IsAnswer config hands es (bytes text)) same
-    (record { exact = λ table of_config. made ∙ from_end config.stripes (play (new_state table config.stripes hands) slice) told state (played.exact table of_config) is })
+    (record { exact = λ table of_config. made ∙ from_end config.stripes (play (new_state table config.stripes hands 0) slice) told state (played.exact table of_config) is })
 all_played bytes config hands slice events told state (Err e) played same is made = made
 
 -- an event wasn't allowed
@@ -34,7 +34,7 @@ pub not_all_played : {T E : Type 0} (bytes : T → List ℕ) (config : Config) (
     IsPlayed config hands slice told → slice ≡ events → told ≡ Err (NotAllowed place) → IfOk made (λ text. bytes text ≡ told_text config.stripes (Err place)) → IfOk made (λ text. IsAnswer config hands events (bytes text))
 not_all_played bytes config hands slice events told place (Ok text) played same is made =
     subst (λ (es : List Event). IsAnswer config hands es (bytes text)) same
-    (record { exact = λ table of_config. made ∙ from_stop config.stripes (play (new_state table config.stripes hands) slice) told place (played.exact table of_config) is })
+    (record { exact = λ table of_config. made ∙ from_stop config.stripes (play (new_state table config.stripes hands 0) slice) told place (played.exact table of_config) is })
 not_all_played bytes config hands slice events told place (Err e) played same is made = made
 
 -- behind the list's first line

@@ -190,11 +190,11 @@ told_text stripes (Err place) = codes "answer NotAllowed " ++ decimal place ++ c
 
 -- the text is what is to be written of these events, played from the beginning with the table of this configuration
 pub record IsAnswer (config : Config) (hands : ℕ) (events : List Event) (text : List ℕ) : Type 0 where
-  pub exact : (table : Classes) → IsTableOf config table → text ≡ told_text config.stripes (play (new_state table config.stripes hands) events)
+  pub exact : (table : Classes) → IsTableOf config table → text ≡ told_text config.stripes (play (new_state table config.stripes hands 0) events)
 
 -- the same, behind the list's first line
 pub record IsWritten (name : List ℕ) (config : Config) (hands : ℕ) (events : List Event) (bytes : List ℕ) : Type 0 where
-  pub exact : (table : Classes) → IsTableOf config table → bytes ≡ (name ++ codes "\n") ++ told_text config.stripes (play (new_state table config.stripes hands) events)
+  pub exact : (table : Classes) → IsTableOf config table → bytes ≡ (name ++ codes "\n") ++ told_text config.stripes (play (new_state table config.stripes hands 0) events)
 
 -- that was written behind what a writer held
 pub record WritesList (name : List ℕ) (config : Config) (hands : ℕ) (events : List Event) (old new : Option (List ℕ)) : Type 0 where

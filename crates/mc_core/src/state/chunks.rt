@@ -168,7 +168,7 @@ impl State {
 
     /// The first free chunk that an item of the page can be taken to.
     pub(super) fn target(&self, page: PageId) -> Result<Option<ChunkId>, AllocError>
-        ensures { IfOk result (λ target. target ≡ target_of self.now page) }
+        ensures { IfOk result (λ target. target ≡ target_of self.now.table self.now.heads self.now.slabs page) }
     {
         let free = self.free(self.class_of_page(page))?;
         Ok(

@@ -1,8 +1,8 @@
 //! Items that are taken away from their chunks, to make room or since their page moves.
 ghost use Rattle.std.specs.Prelude.{◌≡◌, ◌<◌, true, length, IfOk, OnOk};
-ghost use Rattle.mc_core.specs.State.{stripe_of, stripe_at, with_stripe};
+ghost use Rattle.mc_core.specs.State.{stripe_of, stripe_at, with_stripe, holdings_at, looks_at};
 ghost use Rattle.mc_core.specs.Silent.{writer_of};
-ghost use Rattle.mc_core.specs.Evictions.{has_copy, none_dead, has_no_page, must_leave, lacks_room, has_reason, is_idle, can_take_away, can_condemn, condemned, stripe_condemned, with_bound, after_condemn};
+ghost use Rattle.mc_core.specs.Evictions.{has_copy, none_dead, has_no_page, must_leave, lacks_room, has_reason, is_linked_unheld, can_lose_entry, can_condemn, condemned, stripe_condemned, with_bound, after_condemn};
 
 use super::State;
 use crate::head::{Head, Tag};
@@ -13,8 +13,8 @@ use std::alloc::AllocError;
 
 impl Head {
     /// Whether the chunk is linked and nobody holds it.
-    fn is_idle(self) -> bool
-        ensures { result ≡ is_idle self }
+    fn is_linked_unheld(self) -> bool
+        ensures { result ≡ is_linked_unheld self }
     {
         self.tag == Tag::Linked && self.count == 1
     }
@@ -35,7 +35,7 @@ impl State {
     /// Whether the hand got a fresh chunk for a copy of this one.
     fn has_copy(&self, hand: u64, chunk: ChunkId) -> bool
         requires { hand < length self.now.ids }
-        ensures { result ≡ has_copy self.now hand chunk }
+        ensures { result ≡ has_copy (holdings_at self.now hand) chunk }
     {
         self.holdings(hand)
             .iter()
@@ -45,7 +45,7 @@ impl State {
     /// Whether no handed-out chunk of the chunk's class is dead, as far as the hand saw.
     fn none_dead(&self, hand: u64, chunk: ChunkId) -> Result<bool, AllocError>
         requires { hand < length self.now.ids }
-        ensures { IfOk result (λ none. none ≡ none_dead self.now hand chunk) }
+        ensures { IfOk result (λ none. none ≡ none_dead self.now.slabs (looks_at self.now hand) chunk) }
     {
         let order = self.order(self.class_of_page(chunk.page))?;
         let looks = self.looks(hand);
@@ -58,7 +58,7 @@ impl State {
 
     /// Whether there is neither a pooled page nor a page left.
     fn has_no_page(&self) -> bool
-        ensures { result ≡ has_no_page self.now }
+        ensures { result ≡ has_no_page self.now.table self.now.slabs }
     {
         let totals = self.slabs.totals();
         totals.pool == 0 && totals.granted == self.table.pages()
@@ -67,7 +67,7 @@ impl State {
     /// Whether the page moves, and there is no other chunk for the item.
     fn must_leave(&self, hand: u64, chunk: ChunkId) -> Result<bool, AllocError>
         requires { hand < length self.now.ids }
-        ensures { IfOk result (λ must. must ≡ must_leave self.now hand chunk) }
+        ensures { IfOk result (λ must. must ≡ must_leave self.now.table self.now.heads self.now.slabs (looks_at self.now hand) chunk) }
     {
         if !self.is_moving_page(chunk.page) || !self.none_dead(hand, chunk)? {
             return Ok(false);
@@ -78,19 +78,19 @@ impl State {
     /// Whether the class has neither a free chunk nor a dead one, and no page is to be had.
     fn lacks_room(&self, hand: u64, chunk: ChunkId) -> Result<bool, AllocError>
         requires { hand < length self.now.ids }
-        ensures { IfOk result (λ lacks. lacks ≡ lacks_room self.now hand chunk) }
+        ensures { IfOk result (λ lacks. lacks ≡ lacks_room self.now.table self.now.slabs (looks_at self.now hand) chunk) }
     {
         let has_free = self.next_free(self.class_of_page(chunk.page)).is_some();
         if has_free || !self.none_dead(hand, chunk)? {
             return Ok(false);
         }
-        Ok(self.has_no_page() && self.is_whole())
+        Ok(self.has_no_page() && self.none_half_cut())
     }
 
     /// Whether there is a reason to take the item away.
     fn has_reason(&self, hand: u64, chunk: ChunkId) -> Result<bool, AllocError>
         requires { hand < length self.now.ids }
-        ensures { IfOk result (λ has. has ≡ has_reason self.now hand chunk) }
+        ensures { IfOk result (λ has. has ≡ has_reason self.now.table self.now.heads self.now.slabs (looks_at self.now hand) (holdings_at self.now hand) chunk) }
     {
         if self.is_moving_page(chunk.page) && self.has_copy(hand, chunk) {
             return Ok(true);
@@ -102,8 +102,8 @@ impl State {
     }
 
     /// Whether the stripe has room for a call, the key is there, and its entry can be put aside where it must.
-    fn can_take_away(&self, key: u64, rescues: bool) -> bool
-        ensures { result ≡ can_take_away (stripe_at self.now (stripe_of self.now key)) key rescues }
+    fn can_lose_entry(&self, key: u64, rescues: bool) -> bool
+        ensures { result ≡ can_lose_entry (stripe_at self.now (stripe_of self.now key)) key rescues }
     {
         let stripe = &self.stripes[self.stripe_of(key) as usize];
         stripe.is_ready() && stripe.find(key).is_some() && (!rescues || stripe.aside().is_none())
@@ -115,10 +115,10 @@ impl State {
         ensures { IfOk result (λ can. can ≡ can_condemn self.now hand chunk) }
     {
         let key = self.word(chunk, 0);
-        let is_open = self.has_slabs(hand) && self.has_chunk(chunk) && self.head(chunk).is_idle();
+        let is_open = self.has_slabs(hand) && self.has_chunk(chunk) && self.head(chunk).is_linked_unheld();
         if !is_open
             || !self.has_stripe(hand, self.stripe_of(key))
-            || !self.can_take_away(key, self.has_copy(hand, chunk))
+            || !self.can_lose_entry(key, self.has_copy(hand, chunk))
         {
             return Ok(false);
         }
@@ -151,7 +151,7 @@ impl State {
 
     /// The stripe of the key comes to know: its entry is put aside, or evicted.
     fn tell_condemn(&mut self, hand: u64, key: u64, rescues: bool)
-        requires { can_take_away (stripe_at self.old (stripe_of self.old key)) key rescues ≡ true }
+        requires { can_lose_entry (stripe_at self.old (stripe_of self.old key)) key rescues ≡ true }
         ensures { self.new ≡ with_stripe self.old (stripe_of self.old key) (stripe_condemned (stripe_at self.old (stripe_of self.old key)) rescues (writer_of self.old hand) key) }
     {
         let writer = self.writer(hand);

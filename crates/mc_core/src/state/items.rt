@@ -3,7 +3,7 @@ ghost use Rattle.std.specs.Prelude.{◌≡◌, ◌<◌, true, length, Some, OnOk
 ghost use Rattle.mc_stripe.specs.StripeState.{key_aside};
 ghost use Rattle.mc_core.specs.Holdings.{has_fresh, is_complete, key_in};
 ghost use Rattle.mc_core.specs.State.{head_at, holdings_at, ids_at, stripe_of, stripe_at};
-ghost use Rattle.mc_core.specs.Items.{linked, unlinked, referred, can_count, is_next_stamp, suits, can_link_key, can_link_holding, can_link, after_link, can_tell_link, with_told_link, with_rescued, with_set, is_none_else_aside, most_stamps, with_reference, chunk_of, is_ready_for, can_refer, after_refer, with_got, can_unlink, after_unlink, can_again, after_again, can_word, can_word_held, after_word_held};
+ghost use Rattle.mc_core.specs.Items.{linked, unlinked, referred, can_count, is_next_stamp, suits, can_link_key, can_link_holding, can_link, after_link, can_tell_link, with_told_link, with_rescued, with_set, is_none_else_aside, most_stamps, with_reference, chunk_of, can_look_up, can_refer, after_refer, with_got, can_unlink, after_unlink, can_again, after_again, can_word, can_word_held, after_word_held};
 
 use super::State;
 use crate::head::{Head, Tag};
@@ -209,8 +209,8 @@ impl State {
     }
 
     /// Whether the stripe of the key is the hand's, has room for a call, and the key isn't aside.
-    fn is_ready_for(&self, hand: u64, key: u64) -> bool
-        ensures { result ≡ is_ready_for self.now hand key }
+    fn can_look_up(&self, hand: u64, key: u64) -> bool
+        ensures { result ≡ can_look_up self.now hand key }
     {
         let place = self.stripe_of(key);
         let stripe = &self.stripes[place as usize];
@@ -222,7 +222,7 @@ impl State {
         requires { hand < length self.now.ids }
         ensures { result ≡ can_refer self.now hand key }
     {
-        if !self.is_ready_for(hand, key) || !self.has_place(hand) {
+        if !self.can_look_up(hand, key) || !self.has_place(hand) {
             return false;
         }
         match self.chunk_of(key) {
@@ -250,7 +250,7 @@ impl State {
 
     /// The stripe of the key comes to know that the key was looked up.
     fn tell_got(&mut self, hand: u64, key: u64)
-        requires { is_ready_for self.old hand key ≡ true }
+        requires { can_look_up self.old hand key ≡ true }
         ensures { self.new ≡ with_got self.old hand key }
     {
         let writer = self.writer(hand);
@@ -272,7 +272,7 @@ impl State {
         requires { hand < length self.now.ids }
         ensures { result ≡ can_unlink self.now hand key }
     {
-        if !self.is_ready_for(hand, key) {
+        if !self.can_look_up(hand, key) {
             return false;
         }
         if self.has_fresh(hand) && !self.has_none_aside(self.stripe_of(key)) {

@@ -78,7 +78,7 @@ impl State {
     pub(super) fn can_give_slabs(&self, hand: u64) -> bool
         ensures { result ≡ can_give_slabs self.now hand }
     {
-        self.has_slabs(hand) && self.is_whole()
+        self.has_slabs(hand) && self.none_half_cut()
     }
 
     /// The slabs lock is given back.

@@ -5,8 +5,9 @@ ghost use Rattle.mc_stripe.specs.StripeState.{new_stripe};
 ghost use Rattle.mc_classes.specs.Classes.{pages_of};
 ghost use Rattle.mc_pages.specs.SlabState.{fresh_slabs};
 ghost use Rattle.mc_pages.specs.Accounted.{IsAccounted};
-ghost use Rattle.mc_core.specs.Head.{never_cut};
+ghost use Rattle.mc_core.specs.Head.{uncut_from};
 ghost use Rattle.mc_core.specs.State.{most_of, new_state};
+ghost use Rattle.mc_core.specs.Chunks.{most_issue};
 
 use super::State;
 use crate::head::Head;
@@ -18,18 +19,20 @@ use mc_stripe::Stripe;
 use std::alloc::{AllocError, Global};
 
 impl State {
-    /// All pages are untouched, all locks free, and nobody holds anything.
+    /// All pages are untouched, all locks free, nobody holds anything, and issue numbers count on from this one.
     pub(crate) fn new(
         alloc: Global,
         table: ClassTable,
         stripes: u64,
         hands: u64,
+        start: u64,
     ) -> Result<State, AllocError>
         requires stripes { (1 ≤ stripes) × (stripes ≤ 64) }
         requires hands { (1 ≤ hands) × (hands ≤ 64) }
-        ensures { IfOk result (λ state. state ≡ new_state table stripes hands) }
+        requires start { start ≤ most_issue }
+        ensures { IfOk result (λ state. state ≡ new_state table stripes hands start) }
     {
-        let heads = heads_of(alloc, &table)?;
+        let heads = heads_of(alloc, &table, start)?;
         let words = zeros(alloc, table.pages() * (table.page() / 8))?;
         let slabs = slabs_of(alloc, &table)?;
         let stripe_locks = zeros(alloc, stripes)?;
@@ -60,12 +63,16 @@ fn zeros(alloc: Global, count: u64) -> Result<Vec<u64>, AllocError>
     vec![in alloc; 0; count as usize]
 }
 
-/// A header for each index of each page.
-fn heads_of(alloc: Global, table: &ClassTable) -> Result<Vec<Head>, AllocError>
-    ensures { IfOk result (λ heads. heads.items ≡ replicate (pages_of table.now * most_of table.now) never_cut) }
+/// A header for each index of each page, with this issue number.
+fn heads_of(alloc: Global, table: &ClassTable, start: u64) -> Result<Vec<Head>, AllocError>
+    ensures { IfOk result (λ heads. heads.items ≡ replicate (pages_of table.now * most_of table.now) (uncut_from start)) }
 {
     let count = table.pages() * table.per_page(1);
-    vec![in alloc; Head::NEVER_CUT; count as usize]
+    let head = Head {
+        issue: start,
+        ..Head::NEVER_CUT
+    };
+    vec![in alloc; head; count as usize]
 }
 
 /// All pages untouched.

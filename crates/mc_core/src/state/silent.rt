@@ -6,7 +6,7 @@ ghost use Rattle.mc_stripe.specs.Changes.{used_up};
 ghost use Rattle.mc_core.specs.declared.event.Change.TheVariants.{BeginMove, FinishMove, Touch, SetAutomove, Passed, Wrap, Evicted, Reserve};
 ghost use Rattle.mc_core.specs.declared.look.Look.TheVariants.{Changed};
 ghost use Rattle.mc_core.specs.State.{has_slabs, stripe_of, stripe_at, with_slabs, with_stripe, with_look};
-ghost use Rattle.mc_core.specs.Silent.{is_whole, run_of, is_cleared_at, can_finish, can_pass, can_wrap, can_tell_none, writer_of, slabs_after, can_change_slabs, allows_change, after_change, allows_changes, after_changes, told_none, call_of};
+ghost use Rattle.mc_core.specs.Silent.{none_half_cut, run_of, is_cleared_at, can_finish, can_pass, can_wrap, can_tell_none, writer_of, slabs_after, can_change_slabs, allows_change, after_change, allows_changes, after_changes, told_none, call_of};
 ghost use Rattle.mc_core.specs.Done.{IsDone};
 
 use super::State;
@@ -29,8 +29,8 @@ fn is_held_up(found: Found) -> bool
 
 impl State {
     /// Whether no page is half cut.
-    pub(super) fn is_whole(&self) -> bool
-        ensures { result ≡ is_whole self.now.slabs }
+    pub(super) fn none_half_cut(&self) -> bool
+        ensures { result ≡ none_half_cut self.now.slabs }
     {
         self.slabs.half_cut().is_none()
     }
@@ -39,7 +39,7 @@ impl State {
     fn grow(&mut self, class: ClassId) -> Result<bool, AllocError>
         ensures { IfOk result (IsDone (can_change_slabs self.old.table self.old.slabs (Change.Grow class)) (with_slabs self.old (slabs_after self.old.slabs (Change.Grow class))) self.new) }
     {
-        if !self.is_class(class) || !self.is_whole() {
+        if !self.is_class(class) || !self.none_half_cut() {
             return Ok(false);
         }
         match self.slabs.grow(class) {
@@ -65,7 +65,7 @@ impl State {
         ensures { IfOk result (λ can. can ≡ can_finish self.now.slabs self.now.slabs.moving) }
     {
         match self.slabs.moving() {
-            Some(moving) if self.is_whole() => Ok(!self.has_listed(moving.src, moving.page)?),
+            Some(moving) if self.none_half_cut() => Ok(!self.has_listed(moving.src, moving.page)?),
             _ => Ok(false),
         }
     }

@@ -2,7 +2,7 @@
 ghost use Rattle.std.specs.Prelude.{◌≡◌, true, Contains, IfOk, OnOk, Some};
 ghost use Rattle.std.specs.Option.{is_some};
 ghost use Rattle.mc_pages.specs.SlabState.{IsClass, class_at};
-ghost use Rattle.mc_machine.specs.Machine.{is_idle};
+ghost use Rattle.mc_machine.specs.Machine.{is_linked_unheld};
 ghost use Rattle.mc_machine.specs.Supply.{evicts, victim, with_eviction, supplied};
 
 use super::Keeper;
@@ -51,7 +51,7 @@ impl Keeper {
     {
         for place in 0..TRIES {
             let chunk = self.slabs.order_at(class, place)?;
-            if self.is_idle(chunk) {
+            if self.is_linked_unheld(chunk) {
                 return Some(chunk);
             }
         }
@@ -61,7 +61,7 @@ impl Keeper {
     /// Evicts the chunk's item: it is gone, and the chunk is put back.
     fn evict(&mut self, class: ClassId, chunk: ChunkId)
         requires class { IsClass self.old.slabs class }
-        requires idle { is_idle self.old chunk ≡ true }
+        requires idle { is_linked_unheld self.old chunk ≡ true }
         requires listed { Contains (class_at self.old.slabs class).order chunk }
         ensures { self.new ≡ with_eviction self.old class (Some chunk) }
     {

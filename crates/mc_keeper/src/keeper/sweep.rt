@@ -1,7 +1,7 @@
 //! Dead chunks are put back: those that neither a key leads to nor anybody holds.
 ghost use Rattle.std.specs.Prelude.{◌≡◌, ◌≤◌, nat_lt, true, [], ◌∷◌, Contains, IfSome, length};
 ghost use Rattle.mc_pages.specs.SlabState.{IsClass, class_at, class_of_page, class_of_chunk};
-ghost use Rattle.mc_machine.specs.Machine.{dead_chunks, is_dead, is_idle, swept, all_swept, after_reclaim};
+ghost use Rattle.mc_machine.specs.Machine.{dead_chunks, is_dead, is_linked_unheld, swept, all_swept, after_reclaim};
 
 use super::Keeper;
 use mc_classes::ClassId;
@@ -83,8 +83,8 @@ impl Keeper {
     }
 
     /// Whether a key leads to the chunk's item, and nobody holds it.
-    pub(super) fn is_idle(&self, chunk: ChunkId) -> bool
-        ensures { result ≡ is_idle self.now chunk }
+    pub(super) fn is_linked_unheld(&self, chunk: ChunkId) -> bool
+        ensures { result ≡ is_linked_unheld self.now chunk }
     {
         match self.items.get(chunk) {
             Some(item) => item.is_linked() && !self.holds.is_held(chunk),

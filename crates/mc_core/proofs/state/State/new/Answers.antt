@@ -27,7 +27,7 @@ invariant_of-result c =
       ids = c.in_ok-ids.ids;
       holdings = c.in_ok-holdings.holdings;
       looks = c.in_ok-looks.looks;
-    }) ≡ new_state c.args.table c.args.stripes c.args.hands = λ i. record {
+    }) ≡ new_state c.args.table c.args.stripes c.args.hands c.args.start = λ i. record {
       table = c.args.table;
       heads = c.in_ok-heads.ensures i;
       words = words i;
@@ -39,4 +39,4 @@ invariant_of-result c =
       holdings = c.in_ok-holdings.ensures i;
       looks = c.in_ok-looks.ensures i;
     } in
-    subst (λ (s : State). IsInOrder s) (sym whole) (new_in_order c.args.table c.args.stripes c.args.hands c.pages.ensures.sound c.requires.stripes.0 all)
+    subst (λ (s : State). IsInOrder s) (sym whole) (new_in_order c.args.table c.args.stripes c.args.hands c.args.start c.pages.ensures.sound c.requires.stripes.0 c.requires.start all)

@@ -1,7 +1,7 @@
 use Rattle.std.proofs.Common.{◌≡◌, true, false, Some, ap, sym, ◌∙◌, refl}
 use Rattle.mc_machine.specs.Holds.{is_held}
 use Rattle.mc_machine.specs.Items.{item_at}
-use Rattle.mc_machine.specs.Machine.{Machine, is_dead, is_idle}
+use Rattle.mc_machine.specs.Machine.{Machine, is_dead, is_linked_unheld}
 use Rattle.mc_machine.proofs.MoverSaves.{busy_if_held, dead_if_unlinked, idle_if_linked, looked_with_item, not_dead}
 use Rattle.mc_keeper.proofs.keeper.Keeper.look.Goals as goal
 
@@ -15,7 +15,7 @@ pub returns-then-is_linked-clause-looked : goal.returns-then-is_linked-clause-lo
 returns-then-is_linked-clause-looked c =
     let free : is_held c.args.self.now.holds c.args.chunk ≡ false = ap (λ (m : Machine). is_held m.holds c.args.chunk) (sym c.self.view_is) ∙ sym c.is_held.ensures ∙ c.if-is_held.false in
     let there : item_at c.args.self.now.items c.args.chunk ≡ Some c.in-Some.item.now = ap (λ (m : Machine). item_at m.items c.args.chunk) (sym c.self.view_is) ∙ sym c.in-Some.ensures.value in
-    let idle : is_idle c.args.self.now c.args.chunk ≡ true = idle_if_linked c.args.self.now c.args.chunk c.in-Some.item.now there free (sym c.is_linked-is_linked.ensures ∙ c.if-is_linked.true) in
+    let idle : is_linked_unheld c.args.self.now c.args.chunk ≡ true = idle_if_linked c.args.self.now c.args.chunk c.in-Some.item.now there free (sym c.is_linked-is_linked.ensures ∙ c.if-is_linked.true) in
     let alive : is_dead c.args.self.now c.args.chunk ≡ false = not_dead c.args.self.now c.args.chunk idle in
     rw (looked_with_item _ _ _ c.args.class c.args.chunk c.in-Some.item.now c.self.invariant.kept c.self.view_is c.requires.class c.requires.cut (sym c.in-Some.ensures.value), alive, idle) c.save.ensures.saved
 

@@ -1,21 +1,21 @@
 use Rattle.std.proofs.Common.{◌≡◌, ℕ, Some, sym, ap, ◌∙◌, arith, take}
 use Rattle.std.specs.Prelude.{slice_get, find}
 use Rattle.mc_pages.specs.SlabState.{class_at}
-use Rattle.mc_machine.specs.Machine.{Machine, is_idle}
+use Rattle.mc_machine.specs.Machine.{Machine, is_linked_unheld}
 use Rattle.mc_machine.specs.Supply.{eviction_tries}
 use Rattle.mc_pages.proofs.FirstFound.{find_here}
 use Rattle.mc_keeper.proofs.keeper.Keeper.victim.Goals as goal
 
-pub returns-then-is_idle : goal.returns-then-is_idle
-returns-then-is_idle c =
+pub returns-then-is_linked_unheld : goal.returns-then-is_linked_unheld
+returns-then-is_linked_unheld c =
     let m : Machine = c.args.self.now in
     let at : slice_get (class_at m.slabs c.args.class).order c.loop-place.place ≡ Some c.in_ok-chunk.chunk
     = rw (← c.self.view_is) (sym c.in_ok-chunk.ensures.chunk) in
-    sym (find_here (is_idle m) (class_at m.slabs c.args.class).order c.loop-place.place eviction_tries c.in_ok-chunk.chunk at c.loop-place.invariant
-    (sym c.is_idle.ensures ∙ c.if-is_idle.true) c.loop-place-test.true)
+    sym (find_here (is_linked_unheld m) (class_at m.slabs c.args.class).order c.loop-place.place eviction_tries c.in_ok-chunk.chunk at c.loop-place.invariant
+    (sym c.is_linked_unheld.ensures ∙ c.if-is_linked_unheld.true) c.loop-place-test.true)
 
 pub returns : goal.returns
 returns c =
     let m : Machine = c.args.self.now in
     let all : eviction_tries ≡ c.loop-place.place = omega (arith, c.loop-place-test.false, c.loop-place.auto.place-end) in
-    sym (ap (λ (n : ℕ). find (is_idle m) (take n (class_at m.slabs c.args.class).order)) all ∙ c.loop-place.invariant)
+    sym (ap (λ (n : ℕ). find (is_linked_unheld m) (take n (class_at m.slabs c.args.class).order)) all ∙ c.loop-place.invariant)

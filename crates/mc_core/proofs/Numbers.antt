@@ -1,0 +1,51 @@
+-- Known words as numbers, and back.
+use Rattle.std.proofs.Common.{◌≡◌, ℕ, zero, suc, true, List, [], ◌∷◌, length, Some, None, refl, ap, ◌∙◌, arith, slice_index, is_some, unwrap_or, le-leb}
+use Rattle.std.specs.List.{list_all}
+use Rattle.std.proofs.lemmas.Bool.{and_from}
+use Rattle.std.proofs.lemmas.List.{length-map, take_all}
+use Rattle.mc_core.specs.Holdings.{Words, all_known, numbers, word_in, length_of, item_length, item_in}
+use Rattle.mc_core.proofs.ShownItems.{IsWhole}
+
+pub numbers_known : (item : List ℕ) → numbers (all_known item) ≡ item
+numbers_known [] = refl
+numbers_known (word ∷ item) = ap (λ rest. word ∷ rest) (numbers_known item)
+
+pub known_numbers : (words : Words) → list_all is_some words ≡ true → all_known (numbers words) ≡ words
+known_numbers [] all = refl
+known_numbers (None ∷ words) all = absurd (cc)
+known_numbers (Some word ∷ words) all = ap (λ (rest : Words). Some word ∷ rest) (known_numbers words all)
+
+pub numbers_at : (words : Words) (place : ℕ) → slice_index (numbers words) place ≡ word_in words place
+numbers_at [] place = refl
+numbers_at (word ∷ words) zero = refl
+numbers_at (word ∷ words) (suc place) = numbers_at words place
+
+pub known_at : (item : List ℕ) (place : ℕ) → word_in (all_known item) place ≡ slice_index item place
+known_at [] place = refl
+known_at (word ∷ item) zero = refl
+known_at (word ∷ item) (suc place) = known_at item place
+
+pub numbers_long : (words : Words) → length (numbers words) ≡ length words
+numbers_long words = length-map words (λ word. unwrap_or word 0)
+
+pub known_long : (item : List ℕ) → length (all_known item) ≡ length item
+known_long item = length-map item (λ word. Some word)
+
+each_known : (item : List ℕ) → list_all is_some (all_known item) ≡ true
+each_known [] = refl
+each_known (word ∷ item) = each_known item
+
+-- an item that has as many words as it takes is whole
+pub whole_known : (item : List ℕ) → length item ≡ length_of item → IsWhole (all_known item)
+whole_known item long =
+    let count = known_long item in
+    let third = known_at item 2 in
+    let all : item_in (all_known item) ≡ all_known item = take_all (item_length (all_known item)) (all_known item) (omega arith) in
+    record {
+      complete = and_from _ _ (le-leb (item_length (all_known item)) (length (all_known item)) (omega arith)) (ap (list_all is_some) all ∙ each_known item);
+      long = omega arith;
+    }
+
+-- and a whole one has as many
+pub numbers_whole : (words : Words) → length words ≡ item_length words → length (numbers words) ≡ length_of (numbers words)
+numbers_whole words long = let count = numbers_long words in let third = numbers_at words 2 in omega arith

@@ -1,0 +1,5 @@
+use Rattle.mc_core.proofs.Needless.{are_needless}
+use Rattle.mc_core.proofs.laws.tests_are_needless.Goals as goal
+
+pub returns : goal.returns
+returns c = are_needless

@@ -1,0 +1,45 @@
+-- Headers as words: each is one, and a change of it adds to its word, or takes from it.
+use Rattle.std.specs.Prelude.{◌≡◌, ℕ, ◌+◌, ◌-◌, ◌%◌, ◌^◌, ◌<◌, ◌≤◌, true}
+use Rattle.mc_core.specs.declared.head.Head.{Head}
+use Rattle.mc_core.specs.declared.head.Tag.TheVariants.{Out, Free, Unlinked, Linked}
+use Rattle.mc_core.specs.Head.{code, decode, is_dead}
+use Rattle.mc_core.specs.Chunks.{most_issue, handed_out, let_go, with_tag_free, with_tag_out}
+use Rattle.mc_core.specs.Items.{linked, unlinked, referred}
+use Rattle.mc_core.specs.Evictions.{is_linked_unheld, condemned}
+
+-- a word of 64 bits after so much is added to it
+abbrev pub plus : ℕ → ℕ → ℕ
+plus more word = (word + more) % 2 ^ 64
+
+-- and after so much is taken from it
+abbrev pub minus : ℕ → ℕ → ℕ
+minus less word = (word + (2 ^ 64 - less)) % 2 ^ 64
+
+-- issue number and count fit their bits
+pub record FitsBits (head : Head) : Type 0 where
+  pub issue : head.issue < 2 ^ 46
+  pub count : head.count < 2 ^ 16
+
+-- a header that fits is one word, and a word is one header
+pub record AreOneWord : Type 0 where
+  pub word : (head : Head) → FitsBits head → code head < 2 ^ 64
+  pub back : (head : Head) → FitsBits head → decode (code head) ≡ head
+  pub again : (word : ℕ) → code (decode word) ≡ word
+  pub fits : (word : ℕ) → word < 2 ^ 64 → FitsBits (decode word)
+
+-- each change of a header is one sum
+pub record AreSums (head : Head) : Type 0 where
+  pub hand_out : head.tag ≡ Free → head.count ≡ 0 → head.issue < most_issue → code (handed_out head) ≡ plus 327681 (code head)
+  pub refer : head.count < 65535 → code (referred head) ≡ plus 1 (code head)
+  pub release : 1 ≤ head.count → code (let_go head) ≡ minus 1 (code head)
+  pub link : head.tag ≡ Unlinked → head.count < 65535 → code (linked head) ≡ plus 65537 (code head)
+  pub unlink : head.tag ≡ Linked → 1 ≤ head.count → code (unlinked head) ≡ minus 65537 (code head)
+  pub condemn : is_linked_unheld head ≡ true → code (condemned head) ≡ minus 65537 (code head)
+  pub put_back : is_dead head ≡ true → code (with_tag_free head) ≡ minus 65536 (code head)
+  pub clear_free : head.tag ≡ Free → code (with_tag_out head) ≡ minus 65536 (code head)
+  pub clear_dead : is_dead head ≡ true → code (with_tag_out head) ≡ minus 131072 (code head)
+  pub cut : head.tag ≡ Out → code (with_tag_free head) ≡ plus 65536 (code head)
+
+-- so it is of each that fits
+abbrev pub AllAreSums : Type 0
+AllAreSums = (head : Head) → FitsBits head → AreSums head
