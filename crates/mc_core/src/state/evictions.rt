@@ -115,7 +115,9 @@ impl State {
         ensures { IfOk result (λ can. can ≡ can_condemn self.now hand chunk) }
     {
         let key = self.word(chunk, 0);
-        let is_open = self.has_slabs(hand) && self.has_chunk(chunk) && self.head(chunk).is_linked_unheld();
+        let is_open = self.has_slabs(hand)
+            && self.has_chunk(chunk)
+            && self.head(chunk).is_linked_unheld();
         if !is_open
             || !self.has_stripe(hand, self.stripe_of(key))
             || !self.can_lose_entry(key, self.has_copy(hand, chunk))
