@@ -1,5 +1,5 @@
 -- Every change and every step keeps what holdings say of items that are being rescued.
-use Rattle.std.proofs.Common.{ℕ, Bool, true, false, List, [], arith, slice_index, subst, Option, Some, None, if◌then◌else◌}
+use Rattle.std.proofs.Common.{◌≡◌, length, ℕ, Bool, true, false, List, [], arith, slice_index, Option, Some, None, if◌then◌else◌}
 use Rattle.mc_pages.specs.declared.ids.ChunkId.{ChunkId}
 use Rattle.mc_pages.specs.Changes as slabs_changes
 use Rattle.mc_core.specs.declared.event.Change.TheVariants.{Grow, BeginMove, FinishMove, Touch, SetAutomove, Passed, Wrap, Evicted, Reserve, GotNone, DeletedNone}
@@ -11,10 +11,10 @@ use Rattle.mc_core.specs.declared.holding.Kind.TheVariants.{Reference, Fresh}
 use Rattle.mc_core.specs.declared.holding.Purpose.TheVariants.{Item, Copy, Rescue}
 use Rattle.mc_core.specs.declared.look.Look.{Look}
 use Rattle.mc_core.specs.declared.look.Look.TheVariants.{Saw, SawStripe}
-use Rattle.mc_core.specs.Holdings.{stamp_in, is_of, is_copy_of, holding_of, stamp_of, numbers}
+use Rattle.mc_core.specs.Holdings.{is_of, is_copy_of, holding_of, stamp_of, length_of}
 use Rattle.mc_core.specs.State.{State, has_slabs, head_at, item_at, holdings_at, with_slabs, with_look, with_head, with_holding, without_holding}
 use Rattle.mc_core.specs.Locks.{looked}
-use Rattle.mc_core.specs.Chunks.{next_free, popped, target_of, popped_off, filled}
+use Rattle.mc_core.specs.Chunks.{next_free, popped, target_of, popped_off, filled, filled_kind}
 use Rattle.mc_core.specs.Items.{chunk_of, after_link_of, told_link, with_got, referred_to, with_unlinked, linked, as_reference}
 use Rattle.mc_core.specs.Evictions.{as_rescue}
 use Rattle.mc_core.specs.Run.{after_step}
@@ -29,17 +29,23 @@ use Rattle.mc_core.proofs.Changed.{rows_changed, each_changed}
 use Rattle.mc_core.proofs.Plays.{hand_there}
 use Rattle.mc_core.proofs.MoreRows.{joined_rows}
 use Rattle.mc_core.proofs.SaidOnce.{said_more, said_joined}
-use Rattle.mc_core.proofs.KnownReferences.{item_has, linked_whole}
+use Rattle.mc_core.proofs.KnownReferences.{item_has}
 use Rattle.mc_core.proofs.KnownCondemned.{condemnable, are_joined}
 use Rattle.mc_core.proofs.KnownSteps.{each_none}
-use Rattle.mc_core.proofs.Numbers.{numbers_at}
+use Rattle.mc_core.proofs.KnownQuiet.{IsStill}
 
 -- what was said is said still
 rescue_still : (said said' : List (List Saying)) → ((stamp : ℕ) (words : List ℕ) → IsSaid said stamp words → IsSaid said' stamp words) → (kind : Kind) → IsRescue said kind → IsRescue said' kind
-rescue_still said said' more Reference is = tt
-rescue_still said said' more (Fresh Item) is = tt
-rescue_still said said' more (Fresh (Copy old)) is = tt
-rescue_still said said' more (Fresh (Rescue old item)) is = (is.0, is.1, more (stamp_in item) (numbers item) is.2)
+rescue_still said said' more (Reference own) is = tt
+rescue_still said said' more (Fresh Item own) is = tt
+rescue_still said said' more (Fresh (Copy old) own) is = tt
+rescue_still said said' more (Fresh (Rescue old item) own) is = (is.0, more (stamp_of item) item is.1)
+
+filled_rescue : (said : List (List Saying)) (place word : ℕ) (kind : Kind) → IsRescue said kind → IsRescue said (filled_kind place word kind)
+filled_rescue said place word (Reference own) is = tt
+filled_rescue said place word (Fresh Item own) is = tt
+filled_rescue said place word (Fresh (Copy old) own) is = tt
+filled_rescue said place word (Fresh (Rescue old item) own) is = is
 
 abbrev IsSaidRescue : List (List Saying) → Holding → Type 0
 IsSaidRescue said holding = IsRescue said holding.kind
@@ -82,13 +88,13 @@ module _ (m : Moment) (hand : ℕ) where
     popped_off_rescued old (Some chunk) = one_more _ tt
 
     filled_rescued : (chunk : ChunkId) (place word : ℕ) → AreRescued (rows_changed m.state.holdings hand (is_of chunk) (filled place word)) m.past.said
-    filled_rescued chunk place word = each_changed (is_of chunk) (filled place word) m.state.holdings hand (IsSaidRescue m.past.said) (IsSaidRescue m.past.said) (λ h rescue. rescue) (λ h _ rescue. rescue) is
+    filled_rescued chunk place word = each_changed (is_of chunk) (filled place word) m.state.holdings hand (IsSaidRescue m.past.said) (IsSaidRescue m.past.said) (λ h rescue. rescue) (λ h _ rescue. filled_rescue m.past.said place word h.kind rescue) is
 
     linked_kind : (chunk : ChunkId) (holding : Holding) (kind : Kind) → AreRescued (with_holding (with_head (told_link (without_holding m.state hand (is_of chunk)) hand holding kind) chunk (linked (head_at m.state chunk))) hand (as_reference holding)).holdings m.past.said
-    linked_kind chunk holding Reference = one_other (is_of chunk) (as_reference holding) tt
-    linked_kind chunk holding (Fresh Item) = one_other (is_of chunk) (as_reference holding) tt
-    linked_kind chunk holding (Fresh (Copy old)) = one_other (is_of chunk) (as_reference holding) tt
-    linked_kind chunk holding (Fresh (Rescue old item)) = one_other (is_of chunk) (as_reference holding) tt
+    linked_kind chunk holding (Reference own) = one_other (is_of chunk) (as_reference holding) tt
+    linked_kind chunk holding (Fresh Item own) = one_other (is_of chunk) (as_reference holding) tt
+    linked_kind chunk holding (Fresh (Copy old) own) = one_other (is_of chunk) (as_reference holding) tt
+    linked_kind chunk holding (Fresh (Rescue old item) own) = one_other (is_of chunk) (as_reference holding) tt
 
     linked_rescued : (chunk : ChunkId) (found : Option Holding) → AreRescued (after_link_of (without_holding m.state hand (is_of chunk)) hand chunk found).holdings m.past.said
     linked_rescued chunk None = one_less (is_of chunk)
@@ -107,12 +113,11 @@ module _ (m : Moment) (hand : ℕ) where
   condemned_rescued chunk may =
       let l = may.lawful in
       let is = condemnable m hand chunk may in
-      let item = item_at m.state chunk in
-      let whole = linked_whole m l chunk is.near is.linked in
+      let whole = item_has m l chunk is.near is.linked (λ k. length k.words ≡ length_of k.words)
+      (each_map (IsStill m l) (λ k. length k.words ≡ length_of k.words) m.past.known (λ k still. still.whole) l.known.still) in
       let said = item_has m l chunk is.near is.linked (λ k. IsSaid m.past.said (stamp_of k.words) k.words) l.known.said_by_some in
-      let said_so : IsSaid m.past.said (stamp_in item) (numbers item) = subst (λ n. IsSaid m.past.said n (numbers item)) (numbers_at item 1) said in
       each_changed (is_copy_of chunk) (as_rescue chunk (item_at m.state chunk)) m.state.holdings hand (IsSaidRescue m.past.said) (IsSaidRescue m.past.said) (λ h rescue. rescue)
-      (λ h _ rescue. (whole.complete, whole.long, said_so)) l.rescued
+      (λ h _ rescue. (whole, said)) l.rescued
 
 joined_rescued : (m : Moment) (hand kept spent : ℕ) → MayStep m hand (Join kept spent) → AreRescued m.state.holdings (joined_rows m.past.said kept spent)
 joined_rescued m hand kept spent may =
