@@ -10,7 +10,7 @@ use Rattle.mc_core.specs.declared.holding.Holding.{Holding}
 use Rattle.mc_core.specs.declared.holding.Kind.{Kind}
 use Rattle.mc_core.specs.declared.holding.Kind.TheVariants.{Reference, Fresh}
 use Rattle.mc_core.specs.Head.{is_linked}
-use Rattle.mc_core.specs.Holdings.{Words, is_of, is_fresh_kind, is_copy_kind, is_copy_of, has_fresh, holding_of}
+use Rattle.mc_core.specs.Holdings.{is_of, is_fresh_kind, is_copy_kind, is_copy_of, has_fresh, holding_of}
 use Rattle.mc_core.specs.State.{has_chunk, head_place, head_at, with_head, item_at, is_hand, has_slabs, stripe_of, stripe_at, has_stripe, holdings_at, looks_at}
 use Rattle.mc_core.specs.Silent.{writer_of}
 use Rattle.mc_core.specs.Chunks.{let_go, holds_as, after_drop}
@@ -143,7 +143,7 @@ module _ (m : Moment) (l : IsLawful m) (hand : ℕ) (there : is_hand m.state han
     heads_condemned = slice_set m.state.heads (head_place m.state.table chunk) (condemned (head_at m.state chunk))
 
     -- the copies are bound to the item
-    module _ (item : Words) where
+    module _ (item : List ℕ) where
       abbrev now : List (List Holding)
       now = rows_changed rows hand (is_copy_of chunk) (as_rescue chunk item)
 
@@ -159,8 +159,8 @@ module _ (m : Moment) (l : IsLawful m) (hand : ℕ) (there : is_hand m.state han
           turn_so m.state.table m.state.heads rows now chunk (condemned (head_at m.state chunk)) (condemned_turn now same) m.state.slabs m.state.slabs m.state.words (λ page. refl) holding (λ is. absurd (before.1 is)) before.0
 
       fresh_copy : (kind : Kind) → is_copy_kind chunk kind ≡ true → is_fresh_kind kind ≡ true
-      fresh_copy Reference is = absurd (cc)
-      fresh_copy (Fresh purpose) is = refl
+      fresh_copy (Reference own) is = absurd (cc)
+      fresh_copy (Fresh purpose own) is = refl
 
       bound_so : (holding : Holding) → is_copy_of chunk holding ≡ true → IsSoApart holding → IsSo m.state.table m.state.slabs heads_condemned m.state.words now (as_rescue chunk item holding)
       bound_so holding copy before =

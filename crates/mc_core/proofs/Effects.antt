@@ -136,10 +136,10 @@ told_of s hand chunk head reference holding kind = with_holding (with_head (told
 
 one_told : (s : State) (hand : ℕ) (chunk : ChunkId) (head : Head) (reference holding : Holding) (kind : Kind)
     → SameLocks s (told_of s hand chunk head reference holding kind) → IsOneWord s (told_of s hand chunk head reference holding kind)
-one_told s hand chunk head reference holding Reference locks = header_written s (told_of s hand chunk head reference holding Reference) locks _ _ refl refl
-one_told s hand chunk head reference holding (Fresh Item) locks = header_written s (told_of s hand chunk head reference holding (Fresh Item)) locks _ _ refl refl
-one_told s hand chunk head reference holding (Fresh (Copy old)) locks = header_written s (told_of s hand chunk head reference holding (Fresh (Copy old))) locks _ _ refl refl
-one_told s hand chunk head reference holding (Fresh (Rescue old item)) locks = header_written s (told_of s hand chunk head reference holding (Fresh (Rescue old item))) locks _ _ refl refl
+one_told s hand chunk head reference holding (Reference own) locks = header_written s (told_of s hand chunk head reference holding (Reference own)) locks _ _ refl refl
+one_told s hand chunk head reference holding (Fresh Item own) locks = header_written s (told_of s hand chunk head reference holding (Fresh Item own)) locks _ _ refl refl
+one_told s hand chunk head reference holding (Fresh (Copy old) own) locks = header_written s (told_of s hand chunk head reference holding (Fresh (Copy old) own)) locks _ _ refl refl
+one_told s hand chunk head reference holding (Fresh (Rescue old item) own) locks = header_written s (told_of s hand chunk head reference holding (Fresh (Rescue old item) own)) locks _ _ refl refl
 
 one_linked : (s : State) (hand : ℕ) (chunk : ChunkId) (found : Option Holding) → SameLocks s (after_link_of s hand chunk found) → IsOneWord s (after_link_of s hand chunk found)
 one_linked s hand chunk None locks = nothing_written s s locks refl refl

@@ -7,10 +7,12 @@ use Rattle.mc_pages.specs.declared.ids.ChunkId.{ChunkId}
 use Rattle.mc_pages.specs.SlabState.{class_of_page}
 use Rattle.mc_pages.proofs.Chunks.{same_from_is_chunk}
 use Rattle.mc_core.specs.declared.holding.Holding.{Holding}
-use Rattle.mc_core.specs.Holdings.{is_of, is_fresh, holding_of}
+use Rattle.mc_core.specs.declared.holding.Kind.{Kind}
+use Rattle.mc_core.specs.declared.holding.Kind.TheVariants.{Reference, Fresh}
+use Rattle.mc_core.specs.Holdings.{is_of, is_fresh, holding_of, words_of, is_fresh_kind, words_of_kind}
 use Rattle.mc_core.specs.State.{has_chunk, room_in, is_hand, holdings_at}
-use Rattle.mc_core.specs.Chunks.{can_fill_in, can_fill, filled, after_fill}
-use Rattle.mc_core.specs.Columns.{head_in, place_in, Each, holds, holders, link_of}
+use Rattle.mc_core.specs.Chunks.{can_fill_in, can_fill, filled, after_fill, filled_kind}
+use Rattle.mc_core.specs.Columns.{head_in, place_in, Each, holds, holders, link_of, Shows}
 use Rattle.mc_core.specs.Counts.{AreCounted, AreHeld}
 use Rattle.mc_core.specs.Past.{Moment}
 use Rattle.mc_core.specs.Lawful.{IsLawful}
@@ -33,6 +35,15 @@ get_set_other (first ∷ xs) zero zero x y apart at = absurd (apart refl)
 get_set_other (first ∷ xs) zero (suc other) x y apart at = at
 get_set_other (first ∷ xs) (suc place) zero x y apart at = at
 get_set_other (first ∷ xs) (suc place) (suc other) x y apart at = get_set_other xs place other x y (λ same. apart (ap suc same)) at
+
+-- a fill writes a word of a fresh chunk, which stays fresh
+pub filled_words : (place word : ℕ) (kind : Kind) → is_fresh_kind kind ≡ true → words_of_kind (filled_kind place word kind) ≡ slice_set (words_of_kind kind) place (Some word)
+filled_words place word (Reference own) fresh = absurd (cc)
+filled_words place word (Fresh purpose own) fresh = refl
+
+pub filled_fresh : (place word : ℕ) (kind : Kind) → is_fresh_kind (filled_kind place word kind) ≡ is_fresh_kind kind
+filled_fresh place word (Reference own) = refl
+filled_fresh place word (Fresh purpose own) = refl
 
 module _ (m : Moment) (l : IsLawful m) where
   -- each holding's chunk is handed out, and so has a place
@@ -63,7 +74,7 @@ module _ (m : Moment) (l : IsLawful m) where
   word_written chunk place word near is within = get_or-set_same m.state.words (place_in m.state.table m.state.slabs chunk place) word 0 (word_within m l chunk place near is within)
 
   module _ (hand : ℕ) (there : is_hand m.state hand ≡ true) (chunk : ChunkId) (place word : ℕ) (holding : Holding) (found : holding_of chunk (holdings_at m.state hand) ≡ Some holding)
-      (fresh : is_fresh holding ≡ true) (inside : place < length holding.words) where
+      (fresh : is_fresh holding ≡ true) (inside : place < length (words_of holding)) where
     abbrev rows : List (List Holding)
     rows = m.state.holdings
 
@@ -113,7 +124,7 @@ module _ (m : Moment) (l : IsLawful m) where
       shows = record {
         fits = before.shows.fits;
         known_words = λ at known is.
-            let on = slice_get_within other.words at (Some known) is in
+            let on = slice_get_within (words_of other) at (Some known) is in
             let fits = before.shows.fits in
             word_kept holding.chunk other.chunk place at word placed (placed_of other out) roomy (omega arith) apart ∙ before.shows.known_words at known is;
       };
@@ -126,21 +137,24 @@ module _ (m : Moment) (l : IsLawful m) where
     filled_so = record {
       inside = so.inside;
       issue = so.issue;
-      shows = record {
-        fits = let long = length-set holding.words place (Some word) in let fits = so.shows.fits in omega arith;
+      shows = subst (Shows m.state.table m.state.slabs words' holding.chunk) (sym (filled_words place word holding.kind fresh)) (record {
+        fits = let long = length-set (words_of holding) place (Some word) in let fits = so.shows.fits in omega arith;
         known_words = λ at known is. elim (cases_eq at place) [
           | inl here ↦
-              let last : Some word ≡ Some known = get_set_same holding.words place (Some word) (Some known) (subst (λ n. slice_get (set holding.words place (Some word)) n ≡ Some (Some known)) here is) in
+              let last : Some word ≡ Some known = get_set_same (words_of holding) place (Some word) (Some known) (subst (λ n. slice_get (set (words_of holding) place (Some word)) n ≡ Some (Some known)) here is) in
               let value : word ≡ known = cc in
               ap (λ n. slice_index words' (place_in m.state.table m.state.slabs holding.chunk n)) here ∙ (word_written holding.chunk place word so.inside placed roomy ∙ value)
           | inr apart ↦
-              let before = get_set_other holding.words place at (Some word) (Some known) apart is in
-              let on = slice_get_within holding.words at (Some known) before in
+              let before = get_set_other (words_of holding) place at (Some word) (Some known) apart is in
+              let on = slice_get_within (words_of holding) at (Some known) before in
               let fits = so.shows.fits in
               word_same_chunk holding.chunk place at word placed roomy (omega arith) apart ∙ so.shows.known_words at known before
         ];
-      };
-      sized = ((λ is. length-set holding.words place (Some word) ∙ so.sized.0 fresh), λ stale. absurd (both_ways (is_fresh holding) stale fresh));
+      });
+      sized = (
+        (λ is. ap length (filled_words place word holding.kind fresh) ∙ length-set (words_of holding) place (Some word) ∙ so.sized.0 fresh),
+        λ stale. absurd (both_ways (is_fresh holding) (sym (filled_fresh place word holding.kind) ∙ stale) fresh),
+      );
       alone = λ is. let both = so.alone fresh in (both.0, same holding.chunk ∙ both.1);
     }
 
@@ -170,6 +184,6 @@ module _ (m : Moment) (l : IsLawful m) where
       IsTallied (after_fill m.state hand chunk place word)) [
         | None ↦ λ _ never. absurd (cc)
         | Some holding ↦ λ found may.
-            let both = and_parts (is_fresh holding) (nat_lt place (length holding.words)) may in
-            after_fill_tallied hand there chunk place word holding found both.0 (ltb-true place (length holding.words) both.1)
+            let both = and_parts (is_fresh holding) (nat_lt place (length (words_of holding))) may in
+            after_fill_tallied hand there chunk place word holding found both.0 (ltb-true place (length (words_of holding)) both.1)
       ] refl can

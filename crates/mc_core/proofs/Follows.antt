@@ -4,7 +4,7 @@ use Rattle.std.proofs.lemmas.List.Elements.{All-weaker, All-contains, All-contai
 use Rattle.mc_pages.specs.declared.ids.ChunkId.{ChunkId}
 use Rattle.mc_stripe.specs.StripeState.{place_of}
 use Rattle.mc_core.specs.declared.holding.Holding.{Holding}
-use Rattle.mc_core.specs.Holdings.{Words, word_in, stamp_of, all_known, key_of}
+use Rattle.mc_core.specs.Holdings.{Words, word_in, stamp_of, all_known, key_of, words_of}
 use Rattle.mc_core.specs.State.{holdings_at}
 use Rattle.mc_core.specs.Columns.{head_in, place_in, Shows, IsHandedOut}
 use Rattle.mc_core.specs.Past.{Moment, Known}
@@ -20,7 +20,7 @@ use Rattle.mc_core.proofs.Numbers.{known_at, whole_known}
 pub are_kept : AreKept
 are_kept m l hand =
     let row = holdings_at m.state hand in
-    let Shown = λ (h : Holding). Shows m.state.table m.state.slabs m.state.words h.chunk h.words in
+    let Shown = λ (h : Holding). Shows m.state.table m.state.slabs m.state.words h.chunk (words_of h) in
     All-weaker (Contains row) (IsKept m.state) (λ holding among.
     let out = All-contains (IsOut m l) row holding (held_out m l hand) among in
     record {

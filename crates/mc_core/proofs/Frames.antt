@@ -28,10 +28,10 @@ pub record SameHand (before now : State) (other : ℕ) : Type 0 where
   pub looks : looks_at now other ≡ looks_at before other
 
 ids_told : (s : State) (hand other : ℕ) (holding : Holding) (kind : Kind) → other ≢ hand → ids_at (told_link s hand holding kind) other ≡ ids_at s other
-ids_told s hand other holding Reference apart = get_or-set_other s.ids hand other _ gone apart
-ids_told s hand other holding (Fresh Item) apart = get_or-set_other s.ids hand other _ gone apart
-ids_told s hand other holding (Fresh (Copy old)) apart = get_or-set_other s.ids hand other _ gone apart
-ids_told s hand other holding (Fresh (Rescue old item)) apart = refl
+ids_told s hand other holding (Reference own) apart = get_or-set_other s.ids hand other _ gone apart
+ids_told s hand other holding (Fresh Item own) apart = get_or-set_other s.ids hand other _ gone apart
+ids_told s hand other holding (Fresh (Copy old) own) apart = get_or-set_other s.ids hand other _ gone apart
+ids_told s hand other holding (Fresh (Rescue old item) own) apart = refl
 
 ids_linked : (s : State) (hand other : ℕ) (chunk : ChunkId) (found : Option Holding) → other ≢ hand → ids_at (after_link_of s hand chunk found) other ≡ ids_at s other
 ids_linked s hand other chunk None apart = refl

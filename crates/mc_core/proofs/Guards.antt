@@ -12,7 +12,7 @@ use Rattle.mc_core.specs.declared.event.Step.TheVariants as step
 use Rattle.mc_core.specs.declared.event.Change.{Change}
 use Rattle.mc_core.specs.declared.event.Change.TheVariants.{Grow, BeginMove, FinishMove, Touch, SetAutomove, Passed, Wrap, Evicted, Reserve, GotNone, DeletedNone}
 use Rattle.mc_core.specs.Frame.{AreGuarded}
-use Rattle.mc_core.specs.Holdings.{is_of, holding_of, key_in, has_fresh}
+use Rattle.mc_core.specs.Holdings.{is_of, holding_of, key_in, has_fresh, words_of}
 use Rattle.mc_core.specs.State.{State, has_slabs, has_stripe, stripe_of, stripe_at, with_stripe, with_slabs, holdings_at, without_holding}
 use Rattle.mc_core.specs.Silent.{writer_of, after_change, allows_change}
 use Rattle.mc_core.specs.Chunks.{next_free, target_of, has_place}
@@ -58,17 +58,17 @@ module _ (s now : State) (hand : ℕ) where
   }
 
 -- which stripe a link writes
-told_stripes : (s : State) (hand : ℕ) (holding : Holding) (kind : Kind) → (value : ReadyStripe) × ((told_link s hand holding kind).stripes ≡ slice_set s.stripes (stripe_of s (key_in holding.words)) value)
-told_stripes s hand holding Reference = (_, refl)
-told_stripes s hand holding (Fresh Item) = (_, refl)
-told_stripes s hand holding (Fresh (Copy old)) = (_, refl)
-told_stripes s hand holding (Fresh (Rescue old item)) = (_, refl)
+told_stripes : (s : State) (hand : ℕ) (holding : Holding) (kind : Kind) → (value : ReadyStripe) × ((told_link s hand holding kind).stripes ≡ slice_set s.stripes (stripe_of s (key_in (words_of holding))) value)
+told_stripes s hand holding (Reference own) = (_, refl)
+told_stripes s hand holding (Fresh Item own) = (_, refl)
+told_stripes s hand holding (Fresh (Copy old) own) = (_, refl)
+told_stripes s hand holding (Fresh (Rescue old item) own) = (_, refl)
 
 guards_link : (s : State) (hand : ℕ) (chunk : ChunkId) (found : Option Holding) → can_link_holding s hand chunk found ≡ true → AreGuarded s (after_link_of (without_holding s hand (is_of chunk)) hand chunk found) hand
 guards_link s hand chunk None can = absurd (cc)
 guards_link s hand chunk (Some holding) can =
     let left : State = without_holding s hand (is_of chunk) in
-    let key = key_in holding.words in
+    let key = key_in (words_of holding) in
     let parts = link_parts s hand chunk holding can in
     let ready = and_parts (has_stripe s hand (stripe_of s key) && (stripe_at s (stripe_of s key)).ready) _ parts.1 in
     let has = (and_parts (has_stripe s hand (stripe_of s key)) (stripe_at s (stripe_of s key)).ready ready.0).0 in

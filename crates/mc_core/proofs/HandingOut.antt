@@ -25,6 +25,7 @@ use Rattle.mc_core.proofs.Rows.{rows_more, each_more, most_more, more_here, more
 use Rattle.mc_core.proofs.Turns.{Turn, each_so, held_from_so, turn_counted, turn_each, turn_more, IsSo}
 use Rattle.mc_core.proofs.FreeChunks.{near_placed, first_placed, found_placed}
 use Rattle.mc_core.proofs.Tallied.{IsTallied}
+use Rattle.mc_core.specs.Holdings.{words_of}
 
 link_of_free : (tag : Tag) → is_free tag ≡ true → link_of tag ≡ 0
 link_of_free Out free = refl
@@ -71,7 +72,7 @@ module _ (m : Moment) (l : IsLawful m) (hand : ℕ) (there : is_hand m.state han
       neither (inl never) = cc
       neither (inr never) = cc
 
-  unknown : Shows m.state.table next m.state.words chunk holding.words
+  unknown : Shows m.state.table next m.state.words chunk (words_of holding)
   unknown = record {
     fits = let long = length-replicate {A = Option ℕ} (room_in m.state.table (class_of_page next chunk.page)) None in omega arith;
     known_words = λ place word at. absurd (none_known (room_in m.state.table (class_of_page next chunk.page)) place word None refl at);

@@ -13,7 +13,7 @@ use Rattle.mc_core.specs.declared.holding.Kind.{Kind}
 use Rattle.mc_core.specs.declared.holding.Kind.TheVariants.{Reference, Fresh}
 use Rattle.mc_core.specs.declared.holding.Purpose.TheVariants.{Item, Copy, Rescue}
 use Rattle.mc_core.specs.Head.{is_unlinked}
-use Rattle.mc_core.specs.Holdings.{key_in, stamp_in, is_complete, holding_of, is_of}
+use Rattle.mc_core.specs.Holdings.{key_in, stamp_in, is_complete, holding_of, is_of, words_of}
 use Rattle.mc_core.specs.State.{State, gone, is_held_by, is_hand, number_at, ids_at, head_at, holdings_at, has_slabs, without_holding}
 use Rattle.mc_core.specs.Locks.{lock_word}
 use Rattle.mc_core.specs.Hands.{has_no_stripe}
@@ -37,13 +37,13 @@ set_or P (x ∷ xs) (suc i) (suc j) v d new old = set_or P xs i j v d new old
 
 -- what is told of a link: it may be by cases of what the chunk is for
 pub link_parts : (state : State) (hand : ℕ) (chunk : ChunkId) (holding : Holding) → can_link_holding state hand chunk (Some holding) ≡ true →
-    (is_complete holding.words ≡ true) × (can_link_key state hand (key_in holding.words) ≡ true) × (suits state hand holding.words holding.kind ≡ true)
+    (is_complete (words_of holding) ≡ true) × (can_link_key state hand (key_in (words_of holding)) ≡ true) × (suits state hand (words_of holding) holding.kind ≡ true)
 link_parts state hand chunk holding h =
-    let key = key_in holding.words in
-    let parts = and_parts (is_complete holding.words && can_tell_link state hand holding && is_unlinked (head_at state chunk).tag) (can_count (head_at state chunk)) h in
-    let more = and_parts (is_complete holding.words && can_tell_link state hand holding) (is_unlinked (head_at state chunk).tag) parts.0 in
-    let first = and_parts (is_complete holding.words) (can_tell_link state hand holding) more.0 in
-    let both = and_parts (can_link_key state hand key) (suits state hand holding.words holding.kind) first.1 in
+    let key = key_in (words_of holding) in
+    let parts = and_parts (is_complete (words_of holding) && can_tell_link state hand holding && is_unlinked (head_at state chunk).tag) (can_count (head_at state chunk)) h in
+    let more = and_parts (is_complete (words_of holding) && can_tell_link state hand holding) (is_unlinked (head_at state chunk).tag) parts.0 in
+    let first = and_parts (is_complete (words_of holding)) (can_tell_link state hand holding) more.0 in
+    let both = and_parts (can_link_key state hand key) (suits state hand (words_of holding) holding.kind) first.1 in
     (first.0, both.0, both.1)
 
 -- a next stamp
@@ -62,11 +62,11 @@ module _ (state : State) (hand : ℕ) (s : State) (same : s.ids ≡ state.ids) (
       let here : (ids_at s hand).stamps ≡ (ids_at state hand).stamps = ap (λ (ids : List Ids). (slice_index_or ids hand gone).stamps) same in
       set_or (λ (i : Ids). i.stamps < 2 ^ 48) s.ids hand other (stamped (ids_at s hand)) gone (omega (arith, here, left)) (old_stamps other)
 
-  stamps_told : (holding : Holding) (kind : Kind) → suits state hand holding.words kind ≡ true → (other : ℕ) → stamps_in (told_link s hand holding kind).ids other < 2 ^ 48
-  stamps_told holding Reference h other = absurd (cc)
-  stamps_told holding (Fresh Item) h other = new_stamps (stamp_left (ids_at state hand) (stamp_in holding.words) _ h) other
-  stamps_told holding (Fresh (Copy old)) h other = new_stamps (stamp_left (ids_at state hand) (stamp_in holding.words) _ h) other
-  stamps_told holding (Fresh (Rescue old item)) h other = old_stamps other
+  stamps_told : (holding : Holding) (kind : Kind) → suits state hand (words_of holding) kind ≡ true → (other : ℕ) → stamps_in (told_link s hand holding kind).ids other < 2 ^ 48
+  stamps_told holding (Reference own) h other = absurd (cc)
+  stamps_told holding (Fresh Item own) h other = new_stamps (stamp_left (ids_at state hand) (stamp_in (words_of holding)) _ h) other
+  stamps_told holding (Fresh (Copy old) own) h other = new_stamps (stamp_left (ids_at state hand) (stamp_in (words_of holding)) _ h) other
+  stamps_told holding (Fresh (Rescue old item) own) h other = old_stamps other
 
 link_stamps : (state : State) (hand : ℕ) (chunk : ChunkId) (holding : Option Holding) → ((other : ℕ) → stamps_in state.ids other < 2 ^ 48) → can_link_holding state hand chunk holding ≡ true
     → (other : ℕ) → stamps_in (after_link_of (without_holding state hand (is_of chunk)) hand chunk holding).ids other < 2 ^ 48

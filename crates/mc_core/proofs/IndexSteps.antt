@@ -9,7 +9,7 @@ use Rattle.mc_stripe.specs.Changes.{after_got, used_up}
 use Rattle.mc_stripe.proofs.Entries.{at_without_entry}
 use Rattle.mc_core.specs.declared.head.Tag.TheVariants.{Unlinked, Linked}
 use Rattle.mc_core.specs.Head.{is_linked}
-use Rattle.mc_core.specs.Holdings.{is_of, is_fresh, has_fresh, holding_of}
+use Rattle.mc_core.specs.Holdings.{is_of, is_fresh, has_fresh, holding_of, words_of}
 use Rattle.mc_core.specs.State.{has_chunk, head_at, word_at, has_slabs, has_stripe, stripe_of, stripe_at, holdings_at, looks_at}
 use Rattle.mc_core.specs.Silent.{writer_of}
 use Rattle.mc_core.specs.Chunks.{can_fill_in, can_fill, after_fill}
@@ -100,12 +100,12 @@ module _ (m : Moment) (l : IsLawful m) (hand : ℕ) where
       IsIndexed (after_fill m.state hand chunk place word)) [
         | None ↦ λ _ never. absurd (cc)
         | Some holding ↦ λ found may.
-            let both = and_parts (is_fresh holding) (nat_lt place (length holding.words)) may in
-            let inside = ltb-true place (length holding.words) both.1 in
+            let both = and_parts (is_fresh holding) (nat_lt place (length (words_of holding))) may in
+            let inside = ltb-true place (length (words_of holding)) both.1 in
             let is = same_from_is_chunk holding.chunk chunk (found_passes (is_of chunk) (holdings_at m.state hand) holding found) in
             let out = found_each (IsOut m l) m.state.holdings hand (is_of chunk) holding found (out_each m l) in
             let alone = found_each (λ h. is_fresh h ≡ true → ((head_in m.state.table m.state.heads h.chunk).tag ≡ Unlinked) × (holders h.chunk m.state.holdings ≡ 1)) m.state.holdings hand (is_of chunk) holding found l.held.alone both.0 in
-            let shows = found_each (λ h. Shows m.state.table m.state.slabs m.state.words h.chunk h.words) m.state.holdings hand (is_of chunk) holding found l.held.shows in
+            let shows = found_each (λ h. Shows m.state.table m.state.slabs m.state.words h.chunk (words_of h)) m.state.holdings hand (is_of chunk) holding found l.held.shows in
             let room = shows.fits in
             subst (λ c. AreIndexed m.state.table m.state.slabs m.state.heads (slice_set m.state.words (place_in m.state.table m.state.slabs c place) word) m.state.stripes) is
             (filled_indexed m l holding.chunk place word (placed_of m l holding out) (omega arith) (λ linked. let never : Unlinked ≡ Linked = sym alone.0 ∙ linked in cc))

@@ -33,8 +33,8 @@ use Rattle.mc_core.proofs.KnownReferences.{linked_tag}
 
 -- a copy is fresh
 pub copy_fresh : (old : ChunkId) (kind : Kind) → is_copy_kind old kind ≡ true → is_fresh_kind kind ≡ true
-copy_fresh old Reference h = absurd (cc)
-copy_fresh old (Fresh purpose) h = refl
+copy_fresh old (Reference own) h = absurd (cc)
+copy_fresh old (Fresh purpose own) h = refl
 
 -- what may be condemned
 pub record IsCondemnable (s : State) (hand : ℕ) (chunk : ChunkId) : Type 0 where

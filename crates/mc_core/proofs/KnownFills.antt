@@ -7,7 +7,7 @@ use Rattle.mc_pages.specs.SlabState.{class_of_page}
 use Rattle.mc_pages.proofs.Chunks.{same_from_is_chunk}
 use Rattle.mc_core.specs.declared.event.Step.TheVariants.{Fill}
 use Rattle.mc_core.specs.declared.holding.Holding.{Holding}
-use Rattle.mc_core.specs.Holdings.{Words, is_of, holding_of, is_fresh, change_each, all_known}
+use Rattle.mc_core.specs.Holdings.{Words, is_of, holding_of, is_fresh, change_each, all_known, words_of}
 use Rattle.mc_core.specs.State.{room_in, holdings_at}
 use Rattle.mc_core.specs.Chunks.{can_fill_in, filled, after_fill}
 use Rattle.mc_core.specs.Past.{Moment, Known, with_more, moment_stepped}
@@ -23,6 +23,7 @@ use Rattle.mc_core.proofs.Holders.{found_passes, found_all, found_each, fresh_on
 use Rattle.mc_core.proofs.KnownStill.{IsApartFrom}
 use Rattle.mc_core.proofs.KnownQuiet.{known_quiet, IsOwn, IsStill}
 use Rattle.mc_core.proofs.KnownChunks.{KnownAt, known_end}
+use Rattle.mc_core.proofs.Filling.{filled_fresh}
 
 module _ (m : Moment) (l : IsLawful m) (chunk : ChunkId) (place word : ℕ) (placed : IsPlaced m.state.slabs chunk) (on : place < room_in m.state.table (class_of_page m.state.slabs chunk.page)) where
   -- a word of one chunk is no word of another
@@ -57,7 +58,7 @@ module _ (m : Moment) (l : IsLawful m) (hand : ℕ) (chunk : ChunkId) (place : �
   fill_at = same_from_is_chunk holding.chunk chunk (found_passes (is_of chunk) (holdings_at m.state hand) holding found)
 
   pub fill_fresh : is_fresh holding ≡ true
-  fill_fresh = (and_parts (is_fresh holding) (nat_lt place (length holding.words)) can).0
+  fill_fresh = (and_parts (is_fresh holding) (nat_lt place (length (words_of holding))) can).0
 
   pub fill_out : IsOut m l holding
   fill_out = found_all (IsOut m l) (is_of chunk) (holdings_at m.state hand) holding found (held_out m l hand)
@@ -69,7 +70,7 @@ module _ (m : Moment) (l : IsLawful m) (hand : ℕ) (chunk : ChunkId) (place : �
   fill_on =
       let sized = found_each (λ h. IsSized (room_in m.state.table (class_of_page m.state.slabs h.chunk.page)) h) m.state.holdings hand (is_of chunk) holding found l.held.sized in
       let long = sized.0 fill_fresh in
-      let within = ltb-true place (length holding.words) (and_parts (is_fresh holding) (nat_lt place (length holding.words)) can).1 in
+      let within = ltb-true place (length (words_of holding)) (and_parts (is_fresh holding) (nat_lt place (length (words_of holding))) can).1 in
       subst (λ (c : ChunkId). place < room_in m.state.table (class_of_page m.state.slabs c.page)) fill_at (omega arith)
 
   -- no item that is shown is known of its chunk
@@ -85,7 +86,7 @@ module _ (m : Moment) (hand : ℕ) (chunk : ChunkId) (place word : ℕ) where
       known_end m hand (after_fill m.state hand chunk place word)
       (known_quiet m l m.state.slabs m.state.heads (slice_set m.state.words (place_in m.state.table m.state.slabs chunk place) word) (rows_changed m.state.holdings hand (is_of chunk) (filled place word))
       (λ k is. still_filled m l chunk place word (fill_placed m l hand chunk place holding found can) (fill_on m l hand chunk place holding found can) (rows_changed m.state.holdings hand (is_of chunk) (filled place word)) k
-      (fill_apart m l hand chunk place holding found can k is) (each_changed (is_of chunk) (filled place word) m.state.holdings hand (IsApartFrom k) (IsApartFrom k) (λ h apart. apart) (λ h _ apart. apart) is.apart) is)
+      (fill_apart m l hand chunk place holding found can k is) (each_changed (is_of chunk) (filled place word) m.state.holdings hand (IsApartFrom k) (IsApartFrom k) (λ h apart. apart) (λ h _ apart fresh. apart (sym (filled_fresh place word h.kind) ∙ fresh)) is.apart) is)
       own_filled l.known.linked)
     where
       own_filled : (other : ℕ) → All (IsOwn m.past.known other) (row_of (rows_changed m.state.holdings hand (is_of chunk) (filled place word)) other)
@@ -97,7 +98,7 @@ module _ (m : Moment) (hand : ℕ) (chunk : ChunkId) (place word : ℕ) where
           let once : holds chunk row ≤ 1 = subst (λ c. holds c row ≤ 1) (fill_at m l hand chunk place holding found can) (omega arith) in
           rows_set (IsOwn m.past.known) m.state.holdings hand (change_each (is_of chunk) (filled place word) row) l.known.own
           (all_changed_once (IsOwn m.past.known hand) chunk (filled place word) row holding found once (all_lose (IsOwn m.past.known hand) (is_of chunk) row (l.known.own hand))
-          (λ stale. absurd (both_ways (is_fresh holding) stale fresh)))
+          (λ stale. absurd (both_ways (is_fresh holding) (sym (filled_fresh place word holding.kind) ∙ stale) fresh)))
 
   pub known_fill : MayStep m hand (Fill chunk place word) → KnownIn (moment_stepped m hand (Fill chunk place word))
   known_fill may =

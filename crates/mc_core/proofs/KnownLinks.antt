@@ -15,7 +15,7 @@ use Rattle.mc_core.specs.declared.holding.Kind.{Kind}
 use Rattle.mc_core.specs.declared.holding.Kind.TheVariants.{Reference, Fresh}
 use Rattle.mc_core.specs.declared.holding.Purpose.TheVariants.{Item, Copy, Rescue}
 use Rattle.mc_core.specs.Head.{is_unlinked}
-use Rattle.mc_core.specs.Holdings.{Words, stamp_in, item_in, is_complete, is_of, holding_of, is_fresh, is_fresh_kind, numbers}
+use Rattle.mc_core.specs.Holdings.{Words, stamp_in, item_in, is_complete, is_of, holding_of, is_fresh, is_fresh_kind, numbers, words_of, all_known, stamp_of}
 use Rattle.mc_core.specs.State.{State, room_in, room_at, is_hand, has_chunk, head_place, head_at, ids_at, with_head, holdings_at, with_holding, without_holding}
 use Rattle.mc_core.specs.Items.{linked, as_reference, told_link, after_link_of, are_same, suits, can_tell_link, can_link_holding, can_count, is_next_stamp}
 use Rattle.mc_core.specs.Past.{Moment, Known, Saying, with_more, saying_of, said_by, known_by, known_of_holding, moment_stepped}
@@ -35,17 +35,17 @@ use Rattle.mc_core.proofs.KnownStill.{IsApartFrom, head_now, still_turned}
 use Rattle.mc_core.proofs.KnownQuiet.{IsStill, apart_less, own_less, younger_linked}
 use Rattle.mc_core.proofs.KnownLearned.{AreOne, known_learned}
 use Rattle.mc_core.proofs.KnownChunks.{KnownAt}
-use Rattle.mc_core.proofs.Numbers.{known_numbers, numbers_at, numbers_whole}
+use Rattle.mc_core.proofs.Numbers.{known_numbers, numbers_at, numbers_whole, numbers_known}
 use Rattle.std.specs.List.{list_all}
 
 -- two items that are the same
-pub same_words : (a b : Words) → are_same a b ≡ true → a ≡ b
+pub same_words : (a : Words) (b : List ℕ) → are_same a b ≡ true → a ≡ all_known b
 same_words [] [] h = refl
 same_words [] (y ∷ ys) h = absurd (cc)
 same_words (x ∷ xs) [] h = absurd (cc)
 same_words (x ∷ xs) (y ∷ ys) h =
-    let parts = and_parts (option_eq nat_eq x y) (are_same xs ys) h in
-    let first = same_word_of x y parts.0 in let rest = same_words xs ys parts.1 in cc
+    let parts = and_parts (option_eq nat_eq x (Some y)) (are_same xs ys) h in
+    let first = same_word_of x (Some y) parts.0 in let rest = same_words xs ys parts.1 in cc
   where
     same_word_of : (x y : Option ℕ) → option_eq nat_eq x y ≡ true → x ≡ y
     same_word_of None None h = refl
@@ -60,7 +60,7 @@ unlinked_tag Unlinked h = refl
 unlinked_tag Linked h = absurd (cc)
 
 module _ (m : Moment) (l : IsLawful m) (hand : ℕ) (there : is_hand m.state hand ≡ true) (chunk : ChunkId) (holding : Holding) (found : holding_of chunk (holdings_at m.state hand) ≡ Some holding)
-    (fresh : is_fresh holding ≡ true) (complete : is_complete holding.words ≡ true) (unlinked : is_unlinked (head_at m.state chunk).tag ≡ true) where
+    (fresh : is_fresh holding ≡ true) (complete : is_complete (words_of holding) ≡ true) (unlinked : is_unlinked (head_at m.state chunk).tag ≡ true) where
   abbrev row : List Holding
   row = holdings_at m.state hand
 
@@ -106,14 +106,14 @@ module _ (m : Moment) (l : IsLawful m) (hand : ℕ) (there : is_hand m.state han
 
   knew_still : IsStillNow knew
   knew_still =
-      let whole = item_whole holding.words complete in
+      let whole = item_whole (words_of holding) complete in
       record {
         inside = out.0;
-        whole = numbers_whole (item_in holding.words) whole.long;
+        whole = numbers_whole (item_in (words_of holding)) whole.long;
         older = head_now m.state.table m.state.heads chunk head l.sized.headers near (λ h. holding.issue ≤ h.issue) holding.chunk out.0 (λ _. let same = issue_is in omega arith) (λ _. let same = out.1.1 in omega arith);
-        shows = λ _. subst (Shows m.state.table m.state.slabs m.state.words holding.chunk) (sym (known_numbers (item_in holding.words) (and_parts _ (list_all is_some (item_in holding.words)) complete).1))
-            (shows_item m.state.table m.state.slabs m.state.words holding.chunk holding.words complete
-            (found_each (λ h. Shows m.state.table m.state.slabs m.state.words h.chunk h.words) m.state.holdings hand (is_of chunk) holding found l.held.shows));
+        shows = λ _. subst (Shows m.state.table m.state.slabs m.state.words holding.chunk) (sym (known_numbers (item_in (words_of holding)) (and_parts _ (list_all is_some (item_in (words_of holding))) complete).1))
+            (shows_item m.state.table m.state.slabs m.state.words holding.chunk (words_of holding) complete
+            (found_each (λ h. Shows m.state.table m.state.slabs m.state.words h.chunk (words_of h)) m.state.holdings hand (is_of chunk) holding found l.held.shows));
         room = λ _. ap (λ (c : ChunkId). room_in m.state.table (class_of_page m.state.slabs c.page)) at;
         apart = knew_apart;
       }
@@ -126,10 +126,10 @@ module _ (m : Moment) (l : IsLawful m) (hand : ℕ) (there : is_hand m.state han
       l.known.still
 
   pub link_learned : (said' : List (List Saying)) → ((stamp : ℕ) → said_count stamp said' ≤ 1) → ((stamp : ℕ) (words : List ℕ) → IsSaid m.past.said stamp words → IsSaid said' stamp words) →
-      IsSaid said' (stamp_in holding.words) (numbers (item_in holding.words)) → KnownAt (with_holding (with_head (without_holding m.state hand (is_of chunk)) chunk head) hand reference) said' (with_more m.past.known hand (knew ∷ []))
+      IsSaid said' (stamp_in (words_of holding)) (numbers (item_in (words_of holding))) → KnownAt (with_holding (with_head (without_holding m.state hand (is_of chunk)) chunk head) hand reference) said' (with_more m.past.known hand (knew ∷ []))
   link_learned said' once more said =
       known_learned m l hand there knew chunk head near reference less said' once more
-      (subst (λ n. IsSaid said' n (numbers (item_in holding.words))) (sym (numbers_at (item_in holding.words) 1 ∙ item_stamp holding.words complete)) said)
+      (subst (λ n. IsSaid said' n (numbers (item_in (words_of holding)))) (sym (numbers_at (item_in (words_of holding)) 1 ∙ item_stamp (words_of holding) complete)) said)
       still knew_still none_knew (own_less m l hand (is_of chunk)) refl at issue_is
 
 module _ (m : Moment) (hand : ℕ) (chunk : ChunkId) where
@@ -141,42 +141,44 @@ module _ (m : Moment) (hand : ℕ) (chunk : ChunkId) where
   ends holding kind = with_holding (with_head (told_link left hand holding kind) chunk (linked (head_at left chunk))) hand (as_reference holding)
 
   abbrev Goal : Holding → Kind → Type 0
-  Goal holding kind = KnownAt (ends holding kind) (with_more m.past.said hand (saying_of kind holding.words)) (with_more m.past.known hand (known_by (room_at m.state chunk) (as_reference holding) ∷ []))
+  Goal holding kind = KnownAt (ends holding kind) (with_more m.past.said hand (saying_of kind (words_of holding))) (with_more m.past.known hand (known_by (room_at m.state chunk) (as_reference holding) ∷ []))
 
-  module _ (may : MayStep m hand (Link chunk)) (holding : Holding) (found : holding_of chunk (holdings_at m.state hand) ≡ Some holding) (complete : is_complete holding.words ≡ true)
+  module _ (may : MayStep m hand (Link chunk)) (holding : Holding) (found : holding_of chunk (holdings_at m.state hand) ≡ Some holding) (complete : is_complete (words_of holding) ≡ true)
       (unlinked : is_unlinked (head_at m.state chunk).tag ≡ true) where
     within : hand < length m.past.said
     within = let rows = may.lawful.rows.said in let is = hand_there m.state hand may.there in omega arith
 
     -- an item of the hand's own is said
-    linked_own : is_fresh holding ≡ true → is_next_stamp (ids_at m.state hand) (stamp_in holding.words) ≡ true →
-        KnownAt (with_holding (with_head left chunk (linked (head_at m.state chunk))) hand (as_reference holding)) (with_more m.past.said hand (record { stamp = stamp_in holding.words; words = numbers (item_in holding.words) } ∷ []))
+    linked_own : is_fresh holding ≡ true → is_next_stamp (ids_at m.state hand) (stamp_in (words_of holding)) ≡ true →
+        KnownAt (with_holding (with_head left chunk (linked (head_at m.state chunk))) hand (as_reference holding)) (with_more m.past.said hand (record { stamp = stamp_in (words_of holding); words = numbers (item_in (words_of holding)) } ∷ []))
         (with_more m.past.known hand (known_by (room_at m.state chunk) (as_reference holding) ∷ []))
     linked_own fresh next =
         let l = may.lawful in
-        let s : Saying = record { stamp = stamp_in holding.words; words = numbers (item_in holding.words) } in
+        let s : Saying = record { stamp = stamp_in (words_of holding); words = numbers (item_in (words_of holding)) } in
         let unsaid = next_unsaid m.state.ids m.past.mine m.past.said m.past.known hand s.stamp l.numbered next in
         link_learned m l hand may.there chunk holding found fresh complete unlinked (with_more m.past.said hand (s ∷ []))
         (λ stamp. once_more m.past.said hand s stamp within unsaid (l.known.once stamp)) (λ stamp words. said_more m.past.said hand (s ∷ []) stamp words)
         (hand, s, more_added m.past.said hand (s ∷ []) s within (one_contained s), refl, refl)
 
     -- what was rescued was said
-    linked_rescued : (old : ChunkId) (item : Words) → holding.kind ≡ Fresh (Rescue old item) → are_same (item_in holding.words) item ≡ true → Goal holding (Fresh (Rescue old item))
-    linked_rescued old item kind same =
+    linked_rescued : (old : ChunkId) (item : List ℕ) (own : Words) → holding.kind ≡ Fresh (Rescue old item) own → are_same (item_in (words_of holding)) item ≡ true → Goal holding (Fresh (Rescue old item) own)
+    linked_rescued old item own kind same =
         let l = may.lawful in
         let fresh : is_fresh holding ≡ true = ap is_fresh_kind kind in
-        let is = same_words (item_in holding.words) item same in
-        let rescue : IsRescue m.past.said holding.chunk (Fresh (Rescue old item)) = subst (IsRescue m.past.said holding.chunk) kind (found_each (λ h. IsRescue m.past.said h.chunk h.kind) m.state.holdings hand (is_of chunk) holding found l.rescued) in
-        let said : IsSaid m.past.said (stamp_in holding.words) (numbers (item_in holding.words)) =
-        subst (λ n. IsSaid m.past.said n (numbers (item_in holding.words))) (item_stamp holding.words complete) (subst (λ (ws : Words). IsSaid m.past.said (stamp_in ws) (numbers ws)) (sym is) rescue.2) in
-        subst (λ (s : List (List Saying)). KnownAt (ends holding (Fresh (Rescue old item))) s (with_more m.past.known hand (known_by (room_at m.state chunk) (as_reference holding) ∷ []))) (sym (with_none m.past.said hand))
+        let is = same_words (item_in (words_of holding)) item same in
+        let rescue : IsRescue m.past.said holding.chunk (Fresh (Rescue old item) own) = subst (IsRescue m.past.said holding.chunk) kind (found_each (λ h. IsRescue m.past.said h.chunk h.kind) m.state.holdings hand (is_of chunk) holding found l.rescued) in
+        let same_item : numbers (item_in (words_of holding)) ≡ item = ap numbers is ∙ numbers_known item in
+        let stamp : stamp_of item ≡ stamp_in (words_of holding) = ap stamp_of (sym same_item) ∙ numbers_at (item_in (words_of holding)) 1 ∙ item_stamp (words_of holding) complete in
+        let said : IsSaid m.past.said (stamp_in (words_of holding)) (numbers (item_in (words_of holding))) =
+        subst (λ n. IsSaid m.past.said n (numbers (item_in (words_of holding)))) stamp (subst (IsSaid m.past.said (stamp_of item)) (sym same_item) rescue.1) in
+        subst (λ (s : List (List Saying)). KnownAt (ends holding (Fresh (Rescue old item) own)) s (with_more m.past.known hand (known_by (room_at m.state chunk) (as_reference holding) ∷ []))) (sym (with_none m.past.said hand))
         (link_learned m l hand may.there chunk holding found fresh complete unlinked m.past.said l.known.once (λ stamp words is. is) said)
 
-    linked_kind : (kind : Kind) → holding.kind ≡ kind → suits m.state hand holding.words kind ≡ true → Goal holding kind
-    linked_kind Reference kind can = absurd (cc)
-    linked_kind (Fresh Item) kind can = linked_own (ap is_fresh_kind kind) (and_parts _ _ can).0
-    linked_kind (Fresh (Copy old)) kind can = linked_own (ap is_fresh_kind kind) (and_parts _ _ can).0
-    linked_kind (Fresh (Rescue old item)) kind can = linked_rescued old item kind (and_parts _ _ can).0
+    linked_kind : (kind : Kind) → holding.kind ≡ kind → suits m.state hand (words_of holding) kind ≡ true → Goal holding kind
+    linked_kind (Reference own) kind can = absurd (cc)
+    linked_kind (Fresh Item own) kind can = linked_own (ap is_fresh_kind kind) (and_parts _ _ can).0
+    linked_kind (Fresh (Copy old) own) kind can = linked_own (ap is_fresh_kind kind) (and_parts _ _ can).0
+    linked_kind (Fresh (Rescue old item) own) kind can = linked_rescued old item own kind (and_parts _ _ can).0
 
   pub known_link : MayStep m hand (Link chunk) → KnownIn (moment_stepped m hand (Link chunk))
   known_link may =
@@ -186,6 +188,6 @@ module _ (m : Moment) (hand : ℕ) (chunk : ChunkId) where
         | Some holding ↦ λ found can.
             let parts = and_parts _ (can_count (head_at m.state chunk)) can in
             let tag = and_parts _ (is_unlinked (head_at m.state chunk).tag) parts.0 in
-            let tells = and_parts (is_complete holding.words) (can_tell_link m.state hand holding) tag.0 in
-            linked_kind may holding found tells.0 tag.1 holding.kind refl (and_parts _ (suits m.state hand holding.words holding.kind) tells.1).1
+            let tells = and_parts (is_complete (words_of holding)) (can_tell_link m.state hand holding) tag.0 in
+            linked_kind may holding found tells.0 tag.1 holding.kind refl (and_parts _ (suits m.state hand (words_of holding) holding.kind) tells.1).1
       ] refl may.allowed

@@ -38,7 +38,7 @@ module _ (m : Moment) (l : IsLawful m) (chunk : ChunkId) (near : has_chunk m.sta
   item_known = known_by (room_at m.state chunk) (new_reference m.state chunk)
 
   -- is known to some hand
-  pub linked_known : (hand : ℕ) × (k : Known) × Contains (row_of m.past.known hand) k × (k ≡ item_known) × IsWhole (item_at m.state chunk)
+  pub linked_known : (hand : ℕ) × (k : Known) × Contains (row_of m.past.known hand) k × (k ≡ item_known)
   linked_known =
       let (hand, k, has, same) = l.known.linked chunk near linked in
       let still = each_contained (IsStill m l) m.past.known hand k l.known.still has in
@@ -46,18 +46,15 @@ module _ (m : Moment) (l : IsLawful m) (chunk : ChunkId) (near : has_chunk m.sta
       let shown = still.shows (subst (λ (c : ChunkId). IsHandedOut (head_in m.state.table m.state.heads c) k.issue) (sym same.0) (inr linked, sym same.1)) in
       let here : Shows m.state.table m.state.slabs m.state.words chunk (all_known k.words) = subst (λ (c : ChunkId). Shows m.state.table m.state.slabs m.state.words c (all_known k.words)) same.0 shown in
       let item = shown_item m.state chunk (all_known k.words) here whole in
-      let words : k.words ≡ numbers (item_at m.state chunk) = sym (ap numbers item ∙ numbers_known k.words) in
+      let words : k.words ≡ item_at m.state chunk = sym (sym (numbers_known (item_at m.state chunk)) ∙ ap numbers item ∙ numbers_known k.words) in
       let room : k.room ≡ room_at m.state chunk =
       sym (still.room (subst (λ (c : ChunkId). IsHandedOut (head_in m.state.table m.state.heads c) k.issue) (sym same.0) (inr linked, sym same.1)))
       ∙ ap (λ (c : ChunkId). room_in m.state.table (class_of_page m.state.slabs c.page)) same.0 in
-      (hand, k, has, λ i. record { chunk = same.0 i; issue = same.1 i; room = room i; words = words i }, subst IsWhole (sym item) whole)
-
-  pub linked_whole : IsWhole (item_at m.state chunk)
-  linked_whole = linked_known.4
+      (hand, k, has, λ i. record { chunk = same.0 i; issue = same.1 i; room = room i; words = words i })
 
   -- so what holds of each known item holds of it
   pub item_has : (P : Known → Type 0) → Each P m.past.known → P item_known
-  item_has P each = let (hand, k, has, same, whole) = linked_known in subst P same (each_contained P m.past.known hand k each has)
+  item_has P each = let (hand, k, has, same) = linked_known in subst P same (each_contained P m.past.known hand k each has)
 
 module _ (m : Moment) (l : IsLawful m) (hand : ℕ) (there : is_hand m.state hand ≡ true) (chunk : ChunkId) (near : has_chunk m.state.table chunk ≡ true) (linked : (head_at m.state chunk).tag ≡ Linked) where
   abbrev reference : Holding

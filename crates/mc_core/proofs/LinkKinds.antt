@@ -10,7 +10,7 @@ use Rattle.mc_core.specs.declared.holding.Holding.{Holding}
 use Rattle.mc_core.specs.declared.holding.Kind.{Kind}
 use Rattle.mc_core.specs.declared.holding.Kind.TheVariants.{Reference, Fresh}
 use Rattle.mc_core.specs.declared.holding.Purpose.TheVariants.{Item, Copy, Rescue}
-use Rattle.mc_core.specs.Holdings.{key_in, stamp_in, item_in, is_of, numbers}
+use Rattle.mc_core.specs.Holdings.{key_in, stamp_in, item_in, is_of, numbers, words_of}
 use Rattle.mc_core.specs.State.{State, ids_at, stripe_of, stripe_at, without_holding}
 use Rattle.mc_core.specs.Silent.{writer_of}
 use Rattle.mc_core.specs.Items.{most_stamps, suits, is_next_stamp, stamped, told_link, can_link_holding, after_link_of}
@@ -34,27 +34,27 @@ module _ (state : State) (hand : ℕ) (chunk : ChunkId) where
 
   -- a new stamp is said, and stored in the history of the key's stripe
   pub record IsStored (holding : Holding) (now : State) (said : List Saying) : Type 0 where
-    pub next : is_next_stamp (ids_at state hand) (stamp_in holding.words) ≡ true
+    pub next : is_next_stamp (ids_at state hand) (stamp_in (words_of holding)) ≡ true
     pub ids : now.ids ≡ slice_set state.ids hand (stamped (ids_at state hand))
-    pub says : said ≡ record { stamp = stamp_in holding.words; words = numbers (item_in holding.words) } ∷ []
-    pub stripes : now.stripes ≡ slice_set state.stripes (stripe_of state (key_in holding.words))
-        (used_up (stripe_changes.after_link (stripe_at state (stripe_of state (key_in holding.words))).state (writer_of state hand) (key_in holding.words) holding.chunk (stamp_in holding.words)))
+    pub says : said ≡ record { stamp = stamp_in (words_of holding); words = numbers (item_in (words_of holding)) } ∷ []
+    pub stripes : now.stripes ≡ slice_set state.stripes (stripe_of state (key_in (words_of holding)))
+        (used_up (stripe_changes.after_link (stripe_at state (stripe_of state (key_in (words_of holding)))).state (writer_of state hand) (key_in (words_of holding)) holding.chunk (stamp_in (words_of holding))))
 
   -- an old stamp stays, and the rescue comes into the history of the key's stripe
   pub record IsBack (holding : Holding) (now : State) (said : List Saying) : Type 0 where
     pub ids : now.ids ≡ state.ids
     pub says : said ≡ []
-    pub stripes : now.stripes ≡ slice_set state.stripes (stripe_of state (key_in holding.words))
-        (used_up (after_rescue (stripe_at state (stripe_of state (key_in holding.words))).state (writer_of state hand) (key_in holding.words) holding.chunk))
+    pub stripes : now.stripes ≡ slice_set state.stripes (stripe_of state (key_in (words_of holding)))
+        (used_up (after_rescue (stripe_at state (stripe_of state (key_in (words_of holding)))).state (writer_of state hand) (key_in (words_of holding)) holding.chunk))
 
-  by_kind : (holding : Holding) (kind : Kind) → suits state hand holding.words kind ≡ true →
-      IsStored holding (told_link without hand holding kind) (saying_of kind holding.words) ⊎ IsBack holding (told_link without hand holding kind) (saying_of kind holding.words)
-  by_kind holding Reference h = absurd (cc)
-  by_kind holding (Fresh Item) h = inl record { next = (and_parts (is_next_stamp (ids_at state hand) (stamp_in holding.words)) _ h).0; ids = refl; says = refl; stripes = refl }
-  by_kind holding (Fresh (Copy old)) h = inl record { next = (and_parts (is_next_stamp (ids_at state hand) (stamp_in holding.words)) _ h).0; ids = refl; says = refl; stripes = refl }
-  by_kind holding (Fresh (Rescue old item)) h = inr record { ids = refl; says = refl; stripes = refl }
+  by_kind : (holding : Holding) (kind : Kind) → suits state hand (words_of holding) kind ≡ true →
+      IsStored holding (told_link without hand holding kind) (saying_of kind (words_of holding)) ⊎ IsBack holding (told_link without hand holding kind) (saying_of kind (words_of holding))
+  by_kind holding (Reference own) h = absurd (cc)
+  by_kind holding (Fresh Item own) h = inl record { next = (and_parts (is_next_stamp (ids_at state hand) (stamp_in (words_of holding))) _ h).0; ids = refl; says = refl; stripes = refl }
+  by_kind holding (Fresh (Copy old) own) h = inl record { next = (and_parts (is_next_stamp (ids_at state hand) (stamp_in (words_of holding))) _ h).0; ids = refl; says = refl; stripes = refl }
+  by_kind holding (Fresh (Rescue old item) own) h = inr record { ids = refl; says = refl; stripes = refl }
 
-  kind_after : (holding : Holding) → IsStored holding (told_link without hand holding holding.kind) (saying_of holding.kind holding.words) ⊎ IsBack holding (told_link without hand holding holding.kind) (saying_of holding.kind holding.words)
+  kind_after : (holding : Holding) → IsStored holding (told_link without hand holding holding.kind) (saying_of holding.kind (words_of holding)) ⊎ IsBack holding (told_link without hand holding holding.kind) (saying_of holding.kind (words_of holding))
       → IsStored holding (after_link_of without hand chunk (Some holding)) (said_by (Some holding)) ⊎ IsBack holding (after_link_of without hand chunk (Some holding)) (said_by (Some holding))
   kind_after holding (inl is) = inl record { next = is.next; ids = is.ids; says = is.says; stripes = is.stripes }
   kind_after holding (inr is) = inr record { ids = is.ids; says = is.says; stripes = is.stripes }

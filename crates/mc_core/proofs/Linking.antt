@@ -1,5 +1,5 @@
 -- A fresh chunk is linked: counts and holdings stay as the law says.
-use Rattle.std.proofs.Common.{◌≡◌, ℕ, ◌<◌, true, List, length, Some, None, refl, ap, ◌∙◌, arith, subst, slice_set}
+use Rattle.std.proofs.Common.{◌≡◌, ℕ, ◌<◌, true, List, length, Some, None, refl, ap, ◌∙◌, arith, subst, slice_set, is_some, sym}
 use Rattle.std.proofs.lemmas.Bool.{and_parts}
 use Rattle.mc_pages.specs.declared.ids.ChunkId.{ChunkId}
 use Rattle.mc_pages.proofs.Chunks.{same_from_is_chunk}
@@ -10,7 +10,7 @@ use Rattle.mc_core.specs.declared.holding.Kind.{Kind}
 use Rattle.mc_core.specs.declared.holding.Kind.TheVariants.{Reference, Fresh}
 use Rattle.mc_core.specs.declared.holding.Purpose.TheVariants.{Item, Copy, Rescue}
 use Rattle.mc_core.specs.Head.{is_unlinked}
-use Rattle.mc_core.specs.Holdings.{Words, item_in, is_complete, is_of, is_fresh, is_fresh_kind, holding_of}
+use Rattle.mc_core.specs.Holdings.{Words, item_in, is_complete, is_of, is_fresh, is_fresh_kind, holding_of, words_of, all_known, numbers}
 use Rattle.mc_core.specs.State.{State, has_chunk, head_place, head_at, with_head, is_hand, holdings_at, with_holding, without_holding}
 use Rattle.mc_core.specs.Items.{can_count, suits, can_tell_link, can_link_holding, can_link, linked, as_reference, told_link, after_link_of, after_link}
 use Rattle.mc_core.specs.Columns.{head_in, Shows, holders, link_of}
@@ -24,17 +24,19 @@ use Rattle.mc_core.proofs.WholeItems.{filled_whole, in_front}
 use Rattle.mc_core.proofs.Entered.{tag_unlinked}
 use Rattle.mc_core.proofs.Referring.{linked_open}
 use Rattle.mc_core.proofs.Tallied.{IsTallied}
+use Rattle.mc_core.proofs.Numbers.{known_numbers, numbers_whole}
+use Rattle.std.specs.List.{list_all}
 
 -- what suits is fresh
 pub suits_fresh : (state : State) (hand : ℕ) (words : Words) (kind : Kind) → suits state hand words kind ≡ true → is_fresh_kind kind ≡ true
-suits_fresh state hand words Reference suit = absurd (cc)
-suits_fresh state hand words (Fresh purpose) suit = refl
+suits_fresh state hand words (Reference own) suit = absurd (cc)
+suits_fresh state hand words (Fresh purpose own) suit = refl
 
 -- what a link asks
 pub record MayLink (m : Moment) (hand : ℕ) (chunk : ChunkId) (holding : Holding) : Type 0 where
   pub found : holding_of chunk (holdings_at m.state hand) ≡ Some holding
   pub fresh : is_fresh holding ≡ true
-  pub complete : is_complete holding.words ≡ true
+  pub complete : is_complete (words_of holding) ≡ true
   pub told : can_tell_link m.state hand holding ≡ true
   pub unlinked : (head_at m.state chunk).tag ≡ Unlinked
 
@@ -42,11 +44,11 @@ pub may_link : (m : Moment) (hand : ℕ) (chunk : ChunkId) (holding : Holding) �
 may_link m hand chunk holding found can =
     let counts = and_parts _ (can_count (head_at m.state chunk)) can in
     let unlinked = and_parts _ (is_unlinked (head_at m.state chunk).tag) counts.0 in
-    let tells = and_parts (is_complete holding.words) (can_tell_link m.state hand holding) unlinked.0 in
-    let suit = and_parts _ (suits m.state hand holding.words holding.kind) tells.1 in
+    let tells = and_parts (is_complete (words_of holding)) (can_tell_link m.state hand holding) unlinked.0 in
+    let suit = and_parts _ (suits m.state hand (words_of holding) holding.kind) tells.1 in
     record {
       found = found;
-      fresh = suits_fresh m.state hand holding.words holding.kind suit.1;
+      fresh = suits_fresh m.state hand (words_of holding) holding.kind suit.1;
       complete = tells.0;
       told = tells.1;
       unlinked = tag_unlinked (head_at m.state chunk).tag unlinked.1;
@@ -96,11 +98,12 @@ module _ (m : Moment) (l : IsLawful m) (hand : ℕ) (there : is_hand m.state han
     issued = l.counted.issued chunk (subst (λ c. has_chunk m.state.table c ≡ true) is so.inside);
   }
 
-  shows : Shows m.state.table m.state.slabs m.state.words chunk (item_in holding.words)
-  shows = let before = so.shows in let fits = (filled_whole holding.words may.complete).1 in subst (λ c. Shows m.state.table m.state.slabs m.state.words c (item_in holding.words)) is (record {
-    fits = let room = before.fits in omega arith;
-    known_words = λ place word at. before.known_words place word (in_front _ holding.words place word at);
-  })
+  shows : Shows m.state.table m.state.slabs m.state.words chunk (all_known (numbers (item_in (words_of holding))))
+  shows = let before = so.shows in let fits = (filled_whole (words_of holding) may.complete).1 in subst (Shows m.state.table m.state.slabs m.state.words chunk) (sym (known_numbers (item_in (words_of holding)) (and_parts (Rattle.mc_core.specs.Holdings.fits (words_of holding)) (list_all is_some (item_in (words_of holding))) may.complete).1))
+      (subst (λ c. Shows m.state.table m.state.slabs m.state.words c (item_in (words_of holding))) is (record {
+        fits = let room = before.fits in omega arith;
+        known_words = λ place word at. before.known_words place word (in_front _ (words_of holding) place word at);
+      }))
 
   linked_tallied : AreCounted m.state.table heads' now × AreHeld m.state.table m.state.slabs heads' m.state.words now
   linked_tallied =
@@ -109,7 +112,7 @@ module _ (m : Moment) (l : IsLawful m) (hand : ℕ) (there : is_hand m.state han
       (each_less rows hand (IsSo m.state.table m.state.slabs m.state.heads m.state.words rows) (is_of chunk) (each_so m.state.table m.state.slabs m.state.heads m.state.words rows l.held)) in
       let new = turn_more m.state.table m.state.heads rows now chunk (linked old) turn m.state.slabs m.state.slabs m.state.words (λ page. refl) (as_reference holding) is
       (so.issue ∙ ap (λ c. (head_in m.state.table m.state.heads c).issue) is) shows
-      ((λ fresh. absurd (cc)), λ stale. (filled_whole holding.words may.complete).0) (λ fresh. absurd (cc)) in (
+      ((λ fresh. absurd (cc)), λ stale. numbers_whole (item_in (words_of holding)) (filled_whole (words_of holding) may.complete).0.0) (λ fresh. absurd (cc)) in (
         turn_counted m.state.table m.state.heads rows now chunk (linked old) turn l.counted,
         held_from_so m.state.table m.state.slabs heads' m.state.words now
             (each_more left hand (IsSo m.state.table m.state.slabs heads' m.state.words now) (as_reference holding) kept new)
@@ -118,10 +121,10 @@ module _ (m : Moment) (l : IsLawful m) (hand : ℕ) (there : is_hand m.state han
 
   -- whichever way the stripe is told
   told_tallied : (kind : Kind) → IsTallied (with_holding (with_head (told_link (without_holding m.state hand (is_of chunk)) hand holding kind) chunk (linked old)) hand (as_reference holding))
-  told_tallied Reference = linked_tallied
-  told_tallied (Fresh Item) = linked_tallied
-  told_tallied (Fresh (Copy other)) = linked_tallied
-  told_tallied (Fresh (Rescue other item)) = linked_tallied
+  told_tallied (Reference own) = linked_tallied
+  told_tallied (Fresh Item own) = linked_tallied
+  told_tallied (Fresh (Copy other) own) = linked_tallied
+  told_tallied (Fresh (Rescue other item) own) = linked_tallied
 
   pub link_of_tallied : IsTallied (after_link_of (without_holding m.state hand (is_of chunk)) hand chunk (Some holding))
   link_of_tallied = told_tallied holding.kind

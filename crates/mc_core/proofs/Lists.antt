@@ -8,7 +8,7 @@ use Rattle.std.proofs.Math.Seq.{take-append_seam}
 use Rattle.std.proofs.lemmas.List.{replicate-append-replicate, set-get_or}
 use Rattle.std.proofs.lemmas.List.FromFn.{map-range_with_len_more}
 use Rattle.mc_core.specs.declared.holding.Holding.{Holding}
-use Rattle.mc_core.specs.Holdings.{lose}
+use Rattle.mc_core.specs.Holdings.{lose, Words, all_known}
 
 pub replicate_more : {X : Type 0} (n : ℕ) (x : X) → replicate (n + 1) x ≡ replicate n x ++ x ∷ []
 replicate_more n x = sym (replicate-append-replicate n 1 x)
@@ -149,3 +149,8 @@ changed_not {X} change xs items n x were within at same =
 pub changed_whole : {X : Type 0} (change : X → X) (xs items rest : List X) (n m : ℕ) → items ≡ changed_to n change xs → n ≡ length xs → m ≡ length items → take m (items ++ rest) ≡ map change xs
 changed_whole {X} change xs items rest n m were end all =
     ap (λ k. take k (items ++ rest)) all ∙ (take-append_seam items rest ∙ (were ∙ (ap (λ k. changed_to k change xs) end ∙ changed_all change xs)))
+
+-- known words, each made of a place
+pub all_known_map : (f : ℕ → ℕ) (places : List ℕ) → all_known (map f places) ≡ map (λ place. Some (f place)) places
+all_known_map f [] = refl
+all_known_map f (place ∷ places) = ap (λ (words : Words). Some (f place) ∷ words) (all_known_map f places)

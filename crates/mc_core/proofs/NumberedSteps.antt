@@ -7,7 +7,7 @@ use Rattle.mc_core.specs.declared.event.Step.{Step}
 use Rattle.mc_core.specs.declared.event.Step.TheVariants as step
 use Rattle.mc_core.specs.declared.ids.Ids.{Ids}
 use Rattle.mc_core.specs.declared.holding.Holding.{Holding}
-use Rattle.mc_core.specs.Holdings.{stamp_in, item_in, holding_of, numbers}
+use Rattle.mc_core.specs.Holdings.{stamp_in, item_in, holding_of, numbers, words_of}
 use Rattle.mc_core.specs.State.{gone, is_hand, ids_at, holdings_at}
 use Rattle.mc_core.specs.Hands as hands
 use Rattle.mc_core.specs.Items.{stamped}
@@ -40,7 +40,7 @@ stored : (m : Moment) (hand : ℕ) (chunk : ChunkId) (holding : Holding) → May
 stored m hand chunk holding may is =
     let now = after_step m.state hand (step.Link chunk) in
     let past = learned_alone m.state now m.past hand (step.Link chunk) in
-    let s : Saying = record { stamp = stamp_in holding.words; words = numbers (item_in holding.words) } in
+    let s : Saying = record { stamp = stamp_in (words_of holding); words = numbers (item_in (words_of holding)) } in
     let within = hand_within m.state.ids hand may.there in
     let told : AreNumbered m.state.ids past.mine m.past.said m.past.known =
     numbered_quiet m.state.ids m.past.mine past.mine m.past.said m.past.known m.past.known (same_numbers m.state now m.past hand) may.lawful.numbered (λ other none. refl) in

@@ -1,9 +1,11 @@
 -- Known words as numbers, and back.
-use Rattle.std.proofs.Common.{◌≡◌, ℕ, zero, suc, true, List, [], ◌∷◌, length, Some, None, refl, ap, ◌∙◌, arith, slice_index, is_some, unwrap_or, le-leb}
+use Rattle.std.proofs.Common.{◌≡◌, ℕ, zero, suc, true, List, [], ◌∷◌, length, Some, None, refl, ap, ◌∙◌, arith, slice_index, is_some, unwrap_or, le-leb, ◌≢◌, ◌&&◌, false, nat_eq}
 use Rattle.std.specs.List.{list_all}
+use Rattle.std.specs.Option.{option_eq}
 use Rattle.std.proofs.lemmas.Bool.{and_from}
 use Rattle.std.proofs.lemmas.List.{length-map, take_all}
 use Rattle.mc_core.specs.Holdings.{Words, all_known, numbers, word_in, length_of, item_length, item_in}
+use Rattle.mc_core.specs.Items.{are_same}
 use Rattle.mc_core.proofs.ShownItems.{IsWhole}
 
 pub numbers_known : (item : List ℕ) → numbers (all_known item) ≡ item
@@ -46,6 +48,21 @@ whole_known item long =
       long = omega arith;
     }
 
+-- and so it is of known words
+pub known_whole : (item : List ℕ) → length (all_known item) ≡ item_length (all_known item) → length item ≡ length_of item
+known_whole item long = let count = known_long item in let third = known_at item 2 in omega arith
+
 -- and a whole one has as many
 pub numbers_whole : (words : Words) → length words ≡ item_length words → length (numbers words) ≡ length_of (numbers words)
 numbers_whole words long = let count = numbers_long words in let third = numbers_at words 2 in omega arith
+
+-- words are an item's only where they are as many
+pub other_length : (words : Words) (item : List ℕ) → length words ≢ length item → false ≡ are_same words item
+other_length [] [] other = absurd (other refl)
+other_length [] (number ∷ item) other = refl
+other_length (word ∷ words) [] other = refl
+other_length (word ∷ words) (number ∷ item) other =
+    elim (option_eq nat_eq word (Some number)) as (λ b. false ≡ (b && are_same words item)) [
+      | true ↦ other_length words item (λ e. other (ap suc e))
+      | false ↦ refl
+    ]

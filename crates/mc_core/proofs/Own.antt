@@ -179,10 +179,10 @@ own_popped_off s hand old None = own_same s hand
 own_popped_off s hand old (Some chunk) = own_then (own_slabs s hand _) (own_then (own_fresh _ hand chunk _ _) (own_look _ hand _))
 
 own_told : (s : State) (hand : ℕ) (holding : Holding) (kind : Kind) → IsOwn s (told_link s hand holding kind) hand
-own_told s hand holding Reference = own_then (own_stripe s hand _ _) (own_ids _ hand _ refl)
-own_told s hand holding (Fresh Item) = own_then (own_stripe s hand _ _) (own_ids _ hand _ refl)
-own_told s hand holding (Fresh (Copy old)) = own_then (own_stripe s hand _ _) (own_ids _ hand _ refl)
-own_told s hand holding (Fresh (Rescue old item)) = own_stripe s hand _ _
+own_told s hand holding (Reference own) = own_then (own_stripe s hand _ _) (own_ids _ hand _ refl)
+own_told s hand holding (Fresh Item own) = own_then (own_stripe s hand _ _) (own_ids _ hand _ refl)
+own_told s hand holding (Fresh (Copy old) own) = own_then (own_stripe s hand _ _) (own_ids _ hand _ refl)
+own_told s hand holding (Fresh (Rescue old item) own) = own_stripe s hand _ _
 
 own_linked : (s : State) (hand : ℕ) (chunk : ChunkId) (holding : Option Holding) → IsOwn s (after_link_of s hand chunk holding) hand
 own_linked s hand chunk None = own_same s hand

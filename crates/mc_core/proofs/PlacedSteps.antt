@@ -23,7 +23,7 @@ use Rattle.mc_core.specs.declared.event.Step.{Step}
 use Rattle.mc_core.specs.declared.event.Step.TheVariants.{TakeSlabs, TakeStripe, MissSlabs, MissStripe, GiveSlabs, GiveStripe, Pop, PopOff, Fill, Word, WordHeld, Link, Refer, Unlink, Release, Discard, Condemn, PutBack, Clear, Cut, Again, Join}
 use Rattle.mc_core.specs.declared.event.Step.TheVariants as step
 use Rattle.mc_core.specs.declared.holding.Holding.{Holding}
-use Rattle.mc_core.specs.Holdings.{is_of, holding_of, is_complete}
+use Rattle.mc_core.specs.Holdings.{is_of, holding_of, is_complete, words_of}
 use Rattle.mc_core.specs.Items.{linked, with_told_link, can_tell_link, can_count, can_link_holding, after_link_of, with_got, referred, referred_to, chunk_of, unlinked, with_unlinked, is_linked_at, can_look_up, can_lift}
 use Rattle.mc_core.specs.Evictions.{is_linked_unheld, condemned, with_told, with_bound, key_at}
 use Rattle.mc_core.specs.Run.{after_step}
@@ -176,8 +176,8 @@ link_alike state hand chunk None can = same_alike state.heads state.heads refl
 link_alike state hand chunk (Some holding) can =
     let left : State = without_holding state hand (is_of chunk) in
     let told = told_link_keeps headers_part left hand holding holding.kind refl refl in
-    let first = and_parts (is_complete holding.words && can_tell_link state hand holding && is_unlinked (head_at state chunk).tag) (can_count (head_at state chunk)) can in
-    let second = and_parts (is_complete holding.words && can_tell_link state hand holding) (is_unlinked (head_at state chunk).tag) first.0 in
+    let first = and_parts (is_complete (words_of holding) && can_tell_link state hand holding && is_unlinked (head_at state chunk).tag) (can_count (head_at state chunk)) can in
+    let second = and_parts (is_complete (words_of holding) && can_tell_link state hand holding) (is_unlinked (head_at state chunk).tag) first.0 in
     written_alike state (with_told_link left hand holding) chunk (linked (head_at state chunk)) told (sym (handed_out_kind (head_at state chunk) (or_left _ _ second.1)))
 
 refer_alike : (state : State) (hand key : ℕ) (place : Option (ChunkId × ℕ)) → AreAlike state.heads (referred_to (with_got state hand key) hand place).heads

@@ -25,7 +25,7 @@ use Rattle.mc_core.specs.declared.holding.Purpose.TheVariants.{Copy}
 use Rattle.mc_core.specs.declared.look.Look.{Look}
 use Rattle.mc_core.specs.declared.look.Look.TheVariants.{Saw, SawStripe, Read, Popped, PoppedOff, Condemned, PutBack, Cleared, Cut, Changed}
 use Rattle.mc_core.specs.Head.{is_unlinked, is_dead}
-use Rattle.mc_core.specs.Holdings.{is_copy_of}
+use Rattle.mc_core.specs.Holdings.{Words, is_copy_of}
 use Rattle.mc_core.specs.Looks.{stays_alive, is_found_alive}
 use Rattle.mc_core.specs.State.{has_slabs, head_at, holdings_at, looks_at}
 use Rattle.mc_core.specs.Silent.{none_half_cut}
@@ -199,13 +199,13 @@ module _ (m : Moment) (l : IsLawful m) (hand : ℕ) (chunk : ChunkId) (has : has
   copied is =
       let (copy, among, passes) = some_passes (is_copy_of chunk) (holdings_at m.state hand) is in
       let both = copy_is m.past.said copy.chunk chunk copy.kind passes (All-contains rescued (holdings_at m.state hand) copy own_rescued among) in
-      record { copy = copy; among = among; meant = both.0; off = both.1 }
+      record { copy = copy; among = among; words = both.0.0; meant = both.0.1; off = both.1 }
 
-  all_off : All (λ (copy : Holding). copy.kind ≡ Fresh (Copy chunk) → copy.chunk.page ≢ chunk.page) (holdings_at m.state hand)
-  all_off = All-weaker rescued (λ (copy : Holding). copy.kind ≡ Fresh (Copy chunk) → copy.chunk.page ≢ chunk.page) off (holdings_at m.state hand) own_rescued
+  all_off : All (λ (copy : Holding). (words : Words) → copy.kind ≡ Fresh (Copy chunk) words → copy.chunk.page ≢ chunk.page) (holdings_at m.state hand)
+  all_off = All-weaker rescued (λ (copy : Holding). (words : Words) → copy.kind ≡ Fresh (Copy chunk) words → copy.chunk.page ≢ chunk.page) off (holdings_at m.state hand) own_rescued
     where
-      off : (copy : Holding) → rescued copy → copy.kind ≡ Fresh (Copy chunk) → copy.chunk.page ≢ chunk.page
-      off copy is meant = subst (IsRescue m.past.said copy.chunk) meant is
+      off : (copy : Holding) → rescued copy → (words : Words) → copy.kind ≡ Fresh (Copy chunk) words → copy.chunk.page ≢ chunk.page
+      off copy is words meant = subst (IsRescue m.past.said copy.chunk) meant is
 
   reason : has_reason m.state.table m.state.heads m.state.slabs (looks_at m.state hand) (holdings_at m.state hand) chunk ≡ true → (Moves m.state.slabs chunk.page × HasCopyOff m.state hand chunk) ⊎ (IsSwept m.state hand class × MustGo m.state chunk.page)
   reason is =

@@ -9,7 +9,7 @@ use Rattle.mc_core.specs.declared.head.Tag.TheVariants.{Unlinked, Linked}
 use Rattle.mc_core.specs.declared.holding.Holding.{Holding}
 use Rattle.mc_core.specs.Head.{is_free, is_out, is_linked}
 use Rattle.mc_core.specs.Holdings.{is_fresh}
-use Rattle.mc_core.specs.State.{has_chunk, head_place, head_at, room_in, word_at, is_hand, holdings_at}
+use Rattle.mc_core.specs.State.{has_chunk, head_place, head_at, room_in, word_at, is_hand, holdings_at, item_at}
 use Rattle.mc_core.specs.Chunks.{has_place}
 use Rattle.mc_core.specs.Items.{can_count, referred, new_reference, with_reference, chunk_of, can_look_up, can_refer, can_refer_to, with_got, referred_to, after_refer, can_again, has_place_unlocked}
 use Rattle.mc_core.specs.Columns.{head_in, Each}
@@ -21,6 +21,7 @@ use Rattle.mc_core.proofs.Turns.{Turn, IsSo, each_so, held_from_so, turn_counted
 use Rattle.mc_core.proofs.WholeItems.{item_whole, item_shows}
 use Rattle.mc_core.proofs.Entered.{tag_linked, entry_of, entry_linked}
 use Rattle.mc_core.proofs.Tallied.{IsTallied}
+use Rattle.mc_core.proofs.Numbers.{known_whole}
 
 -- what is linked is neither free nor out
 pub linked_open : (tag : Tag) → tag ≡ Linked → (is_free tag ≡ true) ⊎ (is_out tag ≡ true) → ⊥
@@ -73,7 +74,7 @@ module _ (m : Moment) (l : IsLawful m) (hand : ℕ) (there : is_hand m.state han
         (λ i row inside j other on is. (refl, linked_stale chunk linked i row inside j other on is))
         (each_so m.state.table m.state.slabs m.state.heads m.state.words rows l.held) in
         let new = turn_more m.state.table m.state.heads rows now chunk (referred old) turn m.state.slabs m.state.slabs m.state.words (λ page. refl) holding refl refl
-        (item_shows m.state chunk fit) ((λ fresh. absurd (cc)), λ stale. item_whole m.state chunk fit) (λ fresh. absurd (cc)) in (
+        (item_shows m.state chunk fit) ((λ fresh. absurd (cc)), λ stale. known_whole (item_at m.state chunk) (item_whole m.state chunk fit).0) (λ fresh. absurd (cc)) in (
           turn_counted m.state.table m.state.heads rows now chunk (referred old) turn l.counted,
           held_from_so m.state.table m.state.slabs heads' m.state.words now
               (each_more rows hand (IsSo m.state.table m.state.slabs heads' m.state.words now) holding kept new)

@@ -16,10 +16,10 @@ use Rattle.mc_core.specs.declared.holding.Kind.TheVariants.{Reference, Fresh}
 use Rattle.mc_core.specs.declared.holding.Purpose.TheVariants.{Item, Copy, Rescue}
 use Rattle.mc_core.specs.declared.look.Look.{Look}
 use Rattle.mc_core.specs.declared.look.Look.TheVariants.{Saw, SawStripe}
-use Rattle.mc_core.specs.Holdings.{stamp_in, is_of, is_copy_of, is_copy_kind, holding_of, stamp_of, numbers}
+use Rattle.mc_core.specs.Holdings.{Words, is_of, is_copy_of, is_copy_kind, holding_of, stamp_of, length_of}
 use Rattle.mc_core.specs.State.{State, has_slabs, head_at, item_at, holdings_at, with_slabs, with_look, with_head, with_holding, without_holding}
 use Rattle.mc_core.specs.Locks.{looked}
-use Rattle.mc_core.specs.Chunks.{next_free, popped, is_target, target_of, most_issue, popped_off, filled}
+use Rattle.mc_core.specs.Chunks.{next_free, popped, is_target, target_of, most_issue, popped_off, filled, filled_kind}
 use Rattle.mc_core.specs.Items.{chunk_of, after_link_of, told_link, with_got, referred_to, with_unlinked, linked, as_reference}
 use Rattle.mc_core.specs.Evictions.{as_rescue}
 use Rattle.mc_core.specs.Run.{after_step}
@@ -34,25 +34,32 @@ use Rattle.mc_core.proofs.Changed.{rows_changed, each_changed}
 use Rattle.mc_core.proofs.Plays.{hand_there}
 use Rattle.mc_core.proofs.MoreRows.{joined_rows}
 use Rattle.mc_core.proofs.SaidOnce.{said_more, said_joined}
-use Rattle.mc_core.proofs.KnownReferences.{item_has, linked_whole}
+use Rattle.mc_core.proofs.KnownReferences.{item_has}
 use Rattle.mc_core.proofs.KnownCondemned.{condemnable, are_joined}
 use Rattle.mc_core.proofs.KnownSteps.{each_none}
-use Rattle.mc_core.proofs.Numbers.{numbers_at}
+use Rattle.mc_core.proofs.KnownQuiet.{IsStill}
 
 -- what was said is said still
 rescue_still : (said said' : List (List Saying)) → ((stamp : ℕ) (words : List ℕ) → IsSaid said stamp words → IsSaid said' stamp words) → (chunk : ChunkId) (kind : Kind) → IsRescue said chunk kind → IsRescue said' chunk kind
-rescue_still said said' more chunk Reference is = tt
-rescue_still said said' more chunk (Fresh Item) is = tt
-rescue_still said said' more chunk (Fresh (Copy old)) is = is
-rescue_still said said' more chunk (Fresh (Rescue old item)) is = (is.0, is.1, more (stamp_in item) (numbers item) is.2, is.3)
+rescue_still said said' more chunk (Reference own) is = tt
+rescue_still said said' more chunk (Fresh Item own) is = tt
+rescue_still said said' more chunk (Fresh (Copy old) own) is = is
+rescue_still said said' more chunk (Fresh (Rescue old item) own) is = (is.0, more (stamp_of item) item is.1, is.2)
+
+filled_rescue : (said : List (List Saying)) (place word : ℕ) (chunk : ChunkId) (kind : Kind) → IsRescue said chunk kind → IsRescue said chunk (filled_kind place word kind)
+filled_rescue said place word chunk (Reference own) is = tt
+filled_rescue said place word chunk (Fresh Item own) is = tt
+filled_rescue said place word chunk (Fresh (Copy old) own) is = is
+filled_rescue said place word chunk (Fresh (Rescue old item) own) is = is
 
 -- a copy is off the page of the chunk that it is to be a copy of
-pub copy_is : (said : List (List Saying)) (chunk old : ChunkId) (kind : Kind) → is_copy_kind old kind ≡ true → IsRescue said chunk kind → (kind ≡ Fresh (Copy old)) × (chunk.page ≢ old.page)
-copy_is said chunk old Reference is off = absurd (cc)
-copy_is said chunk old (Fresh Item) is off = absurd (cc)
-copy_is said chunk old (Fresh (Copy other)) is off =
-    let same = same_from_is_chunk other old is in (ap (λ (c : ChunkId). Fresh (Copy c)) same, subst (λ (c : ChunkId). chunk.page ≢ c.page) same off)
-copy_is said chunk old (Fresh (Rescue other item)) is off = absurd (cc)
+pub copy_is : (said : List (List Saying)) (chunk old : ChunkId) (kind : Kind) → is_copy_kind old kind ≡ true → IsRescue said chunk kind
+    → ((own : Words) × (kind ≡ Fresh (Copy old) own)) × (chunk.page ≢ old.page)
+copy_is said chunk old (Reference own) is off = absurd (cc)
+copy_is said chunk old (Fresh Item own) is off = absurd (cc)
+copy_is said chunk old (Fresh (Copy other) own) is off =
+    let same = same_from_is_chunk other old is in ((own, ap (λ (c : ChunkId). Fresh (Copy c) own) same), subst (λ (c : ChunkId). chunk.page ≢ c.page) same off)
+copy_is said chunk old (Fresh (Rescue other item) own) is off = absurd (cc)
 
 -- so is a chunk that one may be taken to
 target_off : (s : State) (page : ℕ) (chunk : ChunkId) → target_of s.table s.heads s.slabs page ≡ Some chunk → chunk.page ≢ page
@@ -103,13 +110,13 @@ module _ (m : Moment) (hand : ℕ) where
     popped_off_rescued old (Some chunk) found = one_more _ (target_off m.state old.page chunk found)
 
     filled_rescued : (chunk : ChunkId) (place word : ℕ) → AreRescued (rows_changed m.state.holdings hand (is_of chunk) (filled place word)) m.past.said
-    filled_rescued chunk place word = each_changed (is_of chunk) (filled place word) m.state.holdings hand (IsSaidRescue m.past.said) (IsSaidRescue m.past.said) (λ h rescue. rescue) (λ h _ rescue. rescue) is
+    filled_rescued chunk place word = each_changed (is_of chunk) (filled place word) m.state.holdings hand (IsSaidRescue m.past.said) (IsSaidRescue m.past.said) (λ h rescue. rescue) (λ h _ rescue. filled_rescue m.past.said place word h.chunk h.kind rescue) is
 
     linked_kind : (chunk : ChunkId) (holding : Holding) (kind : Kind) → AreRescued (with_holding (with_head (told_link (without_holding m.state hand (is_of chunk)) hand holding kind) chunk (linked (head_at m.state chunk))) hand (as_reference holding)).holdings m.past.said
-    linked_kind chunk holding Reference = one_other (is_of chunk) (as_reference holding) tt
-    linked_kind chunk holding (Fresh Item) = one_other (is_of chunk) (as_reference holding) tt
-    linked_kind chunk holding (Fresh (Copy old)) = one_other (is_of chunk) (as_reference holding) tt
-    linked_kind chunk holding (Fresh (Rescue old item)) = one_other (is_of chunk) (as_reference holding) tt
+    linked_kind chunk holding (Reference own) = one_other (is_of chunk) (as_reference holding) tt
+    linked_kind chunk holding (Fresh Item own) = one_other (is_of chunk) (as_reference holding) tt
+    linked_kind chunk holding (Fresh (Copy old) own) = one_other (is_of chunk) (as_reference holding) tt
+    linked_kind chunk holding (Fresh (Rescue old item) own) = one_other (is_of chunk) (as_reference holding) tt
 
     linked_rescued : (chunk : ChunkId) (found : Option Holding) → AreRescued (after_link_of (without_holding m.state hand (is_of chunk)) hand chunk found).holdings m.past.said
     linked_rescued chunk None = one_less (is_of chunk)
@@ -128,12 +135,11 @@ module _ (m : Moment) (hand : ℕ) where
   condemned_rescued chunk may =
       let l = may.lawful in
       let is = condemnable m hand chunk may in
-      let item = item_at m.state chunk in
-      let whole = linked_whole m l chunk is.near is.linked in
+      let whole = item_has m l chunk is.near is.linked (λ k. length k.words ≡ length_of k.words)
+      (each_map (IsStill m l) (λ k. length k.words ≡ length_of k.words) m.past.known (λ k still. still.whole) l.known.still) in
       let said = item_has m l chunk is.near is.linked (λ k. IsSaid m.past.said (stamp_of k.words) k.words) l.known.said_by_some in
-      let said_so : IsSaid m.past.said (stamp_in item) (numbers item) = subst (λ n. IsSaid m.past.said n (numbers item)) (numbers_at item 1) said in
       each_changed (is_copy_of chunk) (as_rescue chunk (item_at m.state chunk)) m.state.holdings hand (IsSaidRescue m.past.said) (IsSaidRescue m.past.said) (λ h rescue. rescue)
-      (λ h copy rescue. (whole.complete, whole.long, said_so, (copy_is m.past.said h.chunk chunk h.kind copy rescue).1)) l.rescued
+      (λ h copy rescue. (whole, said, (copy_is m.past.said h.chunk chunk h.kind copy rescue).1)) l.rescued
 
 joined_rescued : (m : Moment) (hand kept spent : ℕ) → MayStep m hand (Join kept spent) → AreRescued m.state.holdings (joined_rows m.past.said kept spent)
 joined_rescued m hand kept spent may =

@@ -31,10 +31,10 @@ module _ {T : Type 0} (part : State → T) where
   popped_off_keeps state hand old (Some chunk) keeps = keeps chunk
 
   pub told_link_keeps : (state : State) (hand : ℕ) (holding : Holding) (kind : Kind) → part (with_rescued state hand holding) ≡ part state → part (with_set state hand holding) ≡ part state → part (told_link state hand holding kind) ≡ part state
-  told_link_keeps state hand holding Reference rescued set = set
-  told_link_keeps state hand holding (Fresh Item) rescued set = set
-  told_link_keeps state hand holding (Fresh (Copy old)) rescued set = set
-  told_link_keeps state hand holding (Fresh (Rescue old item)) rescued set = rescued
+  told_link_keeps state hand holding (Reference own) rescued set = set
+  told_link_keeps state hand holding (Fresh Item own) rescued set = set
+  told_link_keeps state hand holding (Fresh (Copy old) own) rescued set = set
+  told_link_keeps state hand holding (Fresh (Rescue old item) own) rescued set = rescued
 
   pub linked_keeps : (state : State) (hand : ℕ) (chunk : ChunkId) (found : Option Holding) → ((holding : Holding) → part (after_link_of state hand chunk (Some holding)) ≡ part state) → part (after_link_of state hand chunk found) ≡ part state
   linked_keeps state hand chunk None keeps = refl

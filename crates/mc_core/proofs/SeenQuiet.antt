@@ -155,10 +155,10 @@ module _ (m : Moment) (hand : ℕ) where
       let put = put_linked (head_at m.state chunk) (unlinked_tag (head_at m.state chunk).tag tag) (held_count m l hand chunk holding found) in
       let is = turned m hand l more chunk (linked (head_at m.state chunk)) (held_near m l hand chunk holding found) put h has in
       elim kind as (λ kind. SeenBy m hand l more (with_holding (with_head (told_link (without_holding m.state hand (is_of chunk)) hand holding kind) chunk (linked (head_at m.state chunk))) hand (as_reference holding)) h) [
-        | Reference ↦ is
-        | Fresh Item ↦ is
-        | Fresh (Copy old) ↦ is
-        | Fresh (Rescue old item) ↦ is
+        | Reference own ↦ is
+        | Fresh Item own ↦ is
+        | Fresh (Copy old) own ↦ is
+        | Fresh (Rescue old item) own ↦ is
       ]
 
   pub seen_link : (chunk : ChunkId) → MayStep m hand (Link chunk) → SeenIn (moment_stepped m hand (Link chunk))

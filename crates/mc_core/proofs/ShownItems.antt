@@ -1,15 +1,16 @@
 -- Whole items, and the chunks that show them.
 use Rattle.std.proofs.Common.{◌≡◌, ℕ, zero, suc, ◌+◌, ◌*◌, ◌<◌, ◌≤◌, min, true, List, [], ◌∷◌, length, take, refl, sym, ap, subst, ◌∙◌, arith, leb-true, le-leb, slice_get, slice_index, Some, None, Option, is_some, length-take-le, get_or-take, take_all, unwrap_or}
-use Rattle.std.specs.List.{list_all}
+use Rattle.std.specs.List.{list_all, range_with_len}
 use Rattle.std.proofs.lemmas.Bool.{and_parts, and_from}
 use Rattle.std.proofs.lemmas.List.FromFn.{fill_by_all}
 use Rattle.std.proofs.lemmas.Option.{get_or_from_slice_get}
 use Rattle.mc_classes.specs.Classes.{Classes}
 use Rattle.mc_pages.specs.declared.ids.ChunkId.{ChunkId}
 use Rattle.mc_pages.specs.SlabState.{SlabState, class_of_page}
-use Rattle.mc_core.specs.Holdings.{Words, word_in, stamp_in, item_length, item_in, fits, is_complete}
+use Rattle.mc_core.specs.Holdings.{Words, word_in, stamp_in, item_length, item_in, fits, is_complete, all_known}
 use Rattle.mc_core.specs.State.{State, room_in, room_at, word_at, item_at, page_words}
 use Rattle.mc_core.specs.Columns.{Shows}
+use Rattle.mc_core.proofs.Lists.{all_known_map}
 
 -- all words are known, and there are as many as the item takes
 pub record IsWhole (words : Words) : Type 0 where
@@ -33,7 +34,7 @@ whole_word words place is within =
     word_there words place (subst (λ (ws : Words). list_all is_some ws ≡ true) (whole_item words is) parts.1) within
 
 -- the chunk that shows a whole item has that item
-pub shown_item : (state : State) (chunk : ChunkId) (known : Words) → Shows state.table state.slabs state.words chunk known → IsWhole known → item_at state chunk ≡ known
+pub shown_item : (state : State) (chunk : ChunkId) (known : Words) → Shows state.table state.slabs state.words chunk known → IsWhole known → all_known (item_at state chunk) ≡ known
 shown_item state chunk known shows is =
     let room = room_at state chunk in
     let shown = λ (place : ℕ) (within : place < length known). shows.known_words place (word_in known place) (whole_word known place is within) in
@@ -41,7 +42,8 @@ shown_item state chunk known shows is =
     let last : word_at state chunk 2 ≡ word_in known 2 = shown 2 (omega arith) in
     let fit : length known ≤ room = shows.fits in
     let count : length known ≡ min (3 + word_at state chunk 2) room = omega arith in
-    sym (fill_by_all (λ place. Some (word_at state chunk place)) known (min (3 + word_at state chunk 2) room) None count
+    all_known_map (word_at state chunk) (range_with_len 0 (min (3 + word_at state chunk 2) room))
+    ∙ sym (fill_by_all (λ place. Some (word_at state chunk place)) known (min (3 + word_at state chunk 2) room) None count
     (λ place within.
     let inside : place < length known = omega arith in
     get_or_from_slice_get known place (Some (word_in known place)) None (whole_word known place is inside) ∙ ap Some (sym (shown place inside))))

@@ -31,6 +31,7 @@ use Rattle.mc_core.proofs.Referring.{refer_tallied, again_tallied}
 use Rattle.mc_core.proofs.Dropping.{drop_tallied, unlink_tallied, condemn_tallied}
 use Rattle.mc_core.proofs.Closing.{put_back_tallied, clear_tallied, cut_tallied}
 use Rattle.mc_core.proofs.Made.{first_heads}
+use Rattle.mc_core.specs.Holdings.{words_of}
 
 pub counted_changes : ChangesKeep CountedIn
 counted_changes m hand (Grow class) may = may.lawful.counted
@@ -57,7 +58,7 @@ held_moved m l next same =
     moved holding out so = record {
       inside = so.inside;
       issue = so.issue;
-      shows = shows_moved m.state.table m.state.slabs next m.state.words holding.chunk holding.words (same holding out) so.shows;
+      shows = shows_moved m.state.table m.state.slabs next m.state.words holding.chunk (words_of holding) (same holding out) so.shows;
       sized = subst (λ class. IsSized (room_in m.state.table class) holding) (sym (same holding out)) so.sized;
       alone = so.alone;
     }

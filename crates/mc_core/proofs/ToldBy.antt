@@ -17,7 +17,7 @@ use Rattle.mc_core.specs.declared.holding.Purpose.TheVariants.{Item, Copy, Rescu
 use Rattle.mc_core.specs.declared.ids.Ids.{Ids}
 use Rattle.mc_core.specs.declared.look.Look.{Look}
 use Rattle.mc_core.specs.Head.{is_unlinked}
-use Rattle.mc_core.specs.Holdings.{key_in, stamp_in, item_in, is_complete, is_of, has_fresh, holding_of, numbers}
+use Rattle.mc_core.specs.Holdings.{key_in, stamp_in, item_in, is_complete, is_of, has_fresh, holding_of, numbers, words_of}
 use Rattle.mc_core.specs.State.{State, has_chunk, head_at, ids_at, has_slabs, has_stripe, stripe_of, stripe_at, with_stripe, without_holding, holdings_at, with_look, looks_at}
 use Rattle.mc_core.specs.Silent.{is_aside, can_tell_none, writer_of, allows_change, after_change}
 use Rattle.mc_core.specs.Locks.{looked}
@@ -154,31 +154,31 @@ module _ (state : State) (hand : ℕ) (l : AreLegal state.stripes state.stripe_l
     abbrev without : State
     without = without_holding state hand (is_of chunk)
 
-    told_by_kind : (holding : Holding) (kind : Kind) → has_stripe state hand (stripe_of state (key_in holding.words)) ≡ true → suits state hand holding.words kind ≡ true →
-        MayTell state (told_link without hand holding kind).stripes hand (saying_of kind holding.words)
-    told_by_kind holding Reference has h = absurd (cc)
-    told_by_kind holding (Fresh Item) has h =
-        let key = key_in holding.words in
-        let parts = and_parts (is_next_stamp (ids_at state hand) (stamp_in holding.words)) (is_none_else_aside (stripe_at state (stripe_of state key)).state key) h in
-        inr (tells_set state hand l (stripe_of state key) has key holding.chunk (stamp_in holding.words) (numbers (item_in holding.words)) refl (own_stamp (ids_at state hand) (stamp_in holding.words) parts.0) (of_key (stripe_at state (stripe_of state key)).state.aside key parts.1))
-    told_by_kind holding (Fresh (Copy old)) has h =
-        let key = key_in holding.words in
-        let parts = and_parts (is_next_stamp (ids_at state hand) (stamp_in holding.words)) (is_none_else_aside (stripe_at state (stripe_of state key)).state key) h in
-        inr (tells_set state hand l (stripe_of state key) has key holding.chunk (stamp_in holding.words) (numbers (item_in holding.words)) refl (own_stamp (ids_at state hand) (stamp_in holding.words) parts.0) (of_key (stripe_at state (stripe_of state key)).state.aside key parts.1))
-    told_by_kind holding (Fresh (Rescue old item)) has h =
-        let key = key_in holding.words in
+    told_by_kind : (holding : Holding) (kind : Kind) → has_stripe state hand (stripe_of state (key_in (words_of holding))) ≡ true → suits state hand (words_of holding) kind ≡ true →
+        MayTell state (told_link without hand holding kind).stripes hand (saying_of kind (words_of holding))
+    told_by_kind holding (Reference own) has h = absurd (cc)
+    told_by_kind holding (Fresh Item own) has h =
+        let key = key_in (words_of holding) in
+        let parts = and_parts (is_next_stamp (ids_at state hand) (stamp_in (words_of holding))) (is_none_else_aside (stripe_at state (stripe_of state key)).state key) h in
+        inr (tells_set state hand l (stripe_of state key) has key holding.chunk (stamp_in (words_of holding)) (numbers (item_in (words_of holding))) refl (own_stamp (ids_at state hand) (stamp_in (words_of holding)) parts.0) (of_key (stripe_at state (stripe_of state key)).state.aside key parts.1))
+    told_by_kind holding (Fresh (Copy old) own) has h =
+        let key = key_in (words_of holding) in
+        let parts = and_parts (is_next_stamp (ids_at state hand) (stamp_in (words_of holding))) (is_none_else_aside (stripe_at state (stripe_of state key)).state key) h in
+        inr (tells_set state hand l (stripe_of state key) has key holding.chunk (stamp_in (words_of holding)) (numbers (item_in (words_of holding))) refl (own_stamp (ids_at state hand) (stamp_in (words_of holding)) parts.0) (of_key (stripe_at state (stripe_of state key)).state.aside key parts.1))
+    told_by_kind holding (Fresh (Rescue old item) own) has h =
+        let key = key_in (words_of holding) in
         let stripe = stripe_at state (stripe_of state key) in
-        let parts = and_parts (are_same (item_in holding.words) item) (is_entry_aside stripe.state key old (stamp_in holding.words)) h in
-        inr (tells_rescued state hand l (stripe_of state key) has key holding.chunk (key_is stripe.state.aside key old (stamp_in holding.words) parts.1))
+        let parts = and_parts (are_same (item_in (words_of holding)) item) (is_entry_aside stripe.state key old (stamp_in (words_of holding))) h in
+        inr (tells_rescued state hand l (stripe_of state key) has key holding.chunk (key_is stripe.state.aside key old (stamp_in (words_of holding)) parts.1))
 
     told_by_link : (holding : Option Holding) → can_link_holding state hand chunk holding ≡ true → MayTell state (after_link_of without hand chunk holding).stripes hand (said_by holding)
     told_by_link None h = absurd (cc)
     told_by_link (Some holding) h =
-        let key = key_in holding.words in
-        let parts = and_parts (is_complete holding.words && can_tell_link state hand holding && is_unlinked (head_at state chunk).tag) (can_count (head_at state chunk)) h in
-        let more = and_parts (is_complete holding.words && can_tell_link state hand holding) (is_unlinked (head_at state chunk).tag) parts.0 in
-        let told = (and_parts (is_complete holding.words) (can_tell_link state hand holding) more.0).1 in
-        let both = and_parts (can_link_key state hand key) (suits state hand holding.words holding.kind) told in
+        let key = key_in (words_of holding) in
+        let parts = and_parts (is_complete (words_of holding) && can_tell_link state hand holding && is_unlinked (head_at state chunk).tag) (can_count (head_at state chunk)) h in
+        let more = and_parts (is_complete (words_of holding) && can_tell_link state hand holding) (is_unlinked (head_at state chunk).tag) parts.0 in
+        let told = (and_parts (is_complete (words_of holding)) (can_tell_link state hand holding) more.0).1 in
+        let both = and_parts (can_link_key state hand key) (suits state hand (words_of holding) holding.kind) told in
         let ready = and_parts (has_stripe state hand (stripe_of state key) && (stripe_at state (stripe_of state key)).ready) (is_none (place_of (stripe_at state (stripe_of state key)).state key)) both.0 in
         let has = (and_parts (has_stripe state hand (stripe_of state key)) (stripe_at state (stripe_of state key)).ready ready.0).0 in
         told_by_kind holding holding.kind has both.1

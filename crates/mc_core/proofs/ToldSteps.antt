@@ -13,7 +13,7 @@ use Rattle.mc_stripe.specs.Changes.{after_link, used_up}
 use Rattle.mc_core.specs.declared.event.Step.{Step}
 use Rattle.mc_core.specs.declared.event.Step.TheVariants as step
 use Rattle.mc_core.specs.declared.holding.Holding.{Holding}
-use Rattle.mc_core.specs.Holdings.{Words, key_in, stamp_in, item_in, item_length, holding_of, numbers}
+use Rattle.mc_core.specs.Holdings.{Words, key_in, stamp_in, item_in, item_length, holding_of, numbers, words_of}
 use Rattle.mc_core.specs.State.{State, number_at, is_hand, stripe_at, stripe_of, ids_at, holdings_at}
 use Rattle.mc_core.specs.Silent.{writer_of, after_change}
 use Rattle.mc_core.specs.Past.{Past, Moment, Own, Saying, own_after, with_calls, with_more, sayings_of, seen_after, history_at, longer_each, moment_stepped}
@@ -130,13 +130,13 @@ stored_new : (m : Moment) (hand : ℕ) (chunk : ChunkId) (holding : Holding) →
     → link.IsStored m.state hand chunk holding (after_step m.state hand (step.Link chunk)) (sayings_of m.state hand (step.Link chunk))
     → All (IsStored (after_step m.state hand (step.Link chunk)).stripes) (sayings_of m.state hand (step.Link chunk))
 stored_new m hand chunk holding may is =
-    let stamp = stamp_in holding.words in
-    let key = key_in holding.words in
+    let stamp = stamp_in (words_of holding) in
+    let key = key_in (words_of holding) in
     let at = stripe_of m.state key in
     let old = (stripe_at m.state at).state in
     let writer = writer_of m.state hand in
     let value : ReadyStripe = used_up (after_link old writer key holding.chunk stamp) in
-    let s : Saying = record { stamp = stamp; words = numbers (item_in holding.words) } in
+    let s : Saying = record { stamp = stamp; words = numbers (item_in (words_of holding)) } in
     let stripes = slice_set m.state.stripes at value in
     let some = may.lawful.legal.some in
     let within : at < length m.state.stripes = mod-lt key some in
@@ -145,7 +145,7 @@ stored_new m hand chunk holding may is =
     let own : stamp / 2 ^ 48 ≡ writer = own_stamp (ids_at m.state hand) stamp is.next in
     let set : Contains value.state.history (Set writer key stamp) = Contains-push old.history (Set writer key stamp) in
     let stored : IsStored stripes s =
-    rw (numbers_at (item_in holding.words) 0 ∙ key_of_item holding.words, own) (subst (λ (calls : List Call). Contains calls (Set writer key stamp)) (sym here) set) in
+    rw (numbers_at (item_in (words_of holding)) 0 ∙ key_of_item (words_of holding), own) (subst (λ (calls : List Call). Contains calls (Set writer key stamp)) (sym here) set) in
     subst (λ (xs : List ReadyStripe). All (IsStored xs) (sayings_of m.state hand (step.Link chunk))) (sym is.stripes)
     (subst (All (IsStored stripes)) (sym is.says) (All-cons (IsStored stripes) s [] stored (All-nil (IsStored stripes))))
 

@@ -10,7 +10,7 @@ use Rattle.mc_core.specs.declared.head.Head.{Head}
 use Rattle.mc_core.specs.declared.head.Tag.TheVariants.{Unlinked}
 use Rattle.mc_core.specs.declared.holding.Holding.{Holding}
 use Rattle.mc_core.specs.Head.{is_free, is_out}
-use Rattle.mc_core.specs.Holdings.{Words, is_fresh}
+use Rattle.mc_core.specs.Holdings.{Words, is_fresh, words_of}
 use Rattle.mc_core.specs.State.{head_place, has_chunk, most_of, page_words, room_in}
 use Rattle.mc_core.specs.Columns.{head_in, Shows, Each, holders, link_of}
 use Rattle.mc_core.specs.Counts.{AreCounted, AreHeld, IsSized}
@@ -33,7 +33,7 @@ IsAlone table heads rows holding = is_fresh holding ≡ true → ((head_in table
 pub record IsSo (table : Classes) (slabs : SlabState) (heads : List Head) (words : List ℕ) (rows : List (List Holding)) (holding : Holding) : Type 0 where
   pub inside : has_chunk table holding.chunk ≡ true
   pub issue : holding.issue ≡ (head_in table heads holding.chunk).issue
-  pub shows : Shows table slabs words holding.chunk holding.words
+  pub shows : Shows table slabs words holding.chunk (words_of holding)
   pub sized : IsSized (room_in table (class_of_page slabs holding.chunk.page)) holding
   pub alone : IsAlone table heads rows holding
 
@@ -100,7 +100,7 @@ module _ (table : Classes) (heads : List Head) (rows now : List (List Holding)) 
         record {
           inside = so.inside;
           issue = so.issue ∙ ap (λ (h : Head). h.issue) (sym kept);
-          shows = shows_moved table slabs next words holding.chunk holding.words (same holding.chunk.page) so.shows;
+          shows = shows_moved table slabs next words holding.chunk (words_of holding) (same holding.chunk.page) so.shows;
           sized = subst (λ class. IsSized (room_in table class) holding) (sym (same holding.chunk.page)) so.sized;
           alone = λ fresh. let alone = so.alone fresh in (ap (λ (h : Head). h.tag) kept ∙ alone.0, turn.others holding.chunk isnt ∙ alone.1);
         }
@@ -109,7 +109,7 @@ module _ (table : Classes) (heads : List Head) (rows now : List (List Holding)) 
     so_here holding is issue stale so = record {
       inside = so.inside;
       issue = so.issue ∙ (ap (λ c. (head_in table heads c).issue) is ∙ (sym issue ∙ (ap (λ (h : Head). h.issue) (sym written) ∙ ap (λ c. (head_in table heads' c).issue) (sym is))));
-      shows = shows_moved table slabs next words holding.chunk holding.words (same holding.chunk.page) so.shows;
+      shows = shows_moved table slabs next words holding.chunk (words_of holding) (same holding.chunk.page) so.shows;
       sized = subst (λ class. IsSized (room_in table class) holding) (sym (same holding.chunk.page)) so.sized;
       alone = λ fresh. absurd (both_ways (is_fresh holding) stale fresh);
     }
@@ -130,12 +130,12 @@ module _ (table : Classes) (heads : List Head) (rows now : List (List Holding)) 
         turn_so (slice_index_or (slice_index_or kept hand row) place holding) (quiet hand row within place holding inside) (each hand row within place holding inside)
 
     -- one more holding, of this chunk
-    pub turn_more : (holding : Holding) → holding.chunk ≡ chunk → holding.issue ≡ head.issue → Shows table next words chunk holding.words → IsSized (room_in table (class_of_page next chunk.page)) holding →
+    pub turn_more : (holding : Holding) → holding.chunk ≡ chunk → holding.issue ≡ head.issue → Shows table next words chunk (words_of holding) → IsSized (room_in table (class_of_page next chunk.page)) holding →
         (is_fresh holding ≡ true → (head.tag ≡ Unlinked) × (holders chunk now ≡ 1)) → IsSo table next heads' words now holding
     turn_more holding is issue shows sized alone = record {
       inside = ap (has_chunk table) is ∙ turn.near;
       issue = issue ∙ (ap (λ (h : Head). h.issue) (sym written) ∙ ap (λ c. (head_in table heads' c).issue) (sym is));
-      shows = subst (λ c. Shows table next words c holding.words) (sym is) shows;
+      shows = subst (λ c. Shows table next words c (words_of holding)) (sym is) shows;
       sized = subst (λ (c : ChunkId). IsSized (room_in table (class_of_page next c.page)) holding) (sym is) sized;
       alone = λ fresh. let both = alone fresh in
           (ap (λ c. (head_in table heads' c).tag) is ∙ (ap (λ (h : Head). h.tag) written ∙ both.0), ap (λ c. holders c now) is ∙ both.1);

@@ -1,14 +1,15 @@
 -- Whole items: the words of a chunk's item, as they are read and as they were filled.
-use Rattle.std.proofs.Common.{◌≡◌, ℕ, zero, suc, ◌+◌, ◌≤◌, true, List, [], ◌∷◌, length, map, min, take, Some, None, Option, refl, ap, ◌∙◌, arith, slice_get, is_some, unwrap_or, le-leb, leb-true}
+use Rattle.std.proofs.Common.{◌≡◌, ℕ, zero, suc, ◌+◌, ◌≤◌, true, List, [], ◌∷◌, length, map, min, take, Some, None, Option, refl, ap, ◌∙◌, arith, slice_get, is_some, unwrap_or, le-leb, leb-true, sym, subst}
 use Rattle.std.specs.List.{range_with_len, list_all}
 use Rattle.std.proofs.lemmas.Bool.{and_parts, and_from}
 use Rattle.std.proofs.lemmas.List.{length-take-le, get_or-take, get_or-map, take_all}
 use Rattle.std.proofs.lemmas.List.FromFn.{length-map-range_with_len, length-range_with_len, get_or-range_with_len}
 use Rattle.mc_pages.specs.declared.ids.ChunkId.{ChunkId}
 use Rattle.mc_pages.specs.SlabState.{class_of_page}
-use Rattle.mc_core.specs.Holdings.{Words, word_in, item_length, item_in, fits, is_complete}
+use Rattle.mc_core.specs.Holdings.{Words, word_in, item_length, item_in, fits, is_complete, all_known}
 use Rattle.mc_core.specs.State.{State, room_in, word_at, item_at}
 use Rattle.mc_core.specs.Columns.{Shows}
+use Rattle.mc_core.proofs.Lists.{all_known_map}
 
 -- as many words as the item takes, all of them known
 abbrev pub IsWhole : Words → Type 0
@@ -34,9 +35,9 @@ in_front (suc n) [] place word at = at
 in_front (suc n) (first ∷ words) zero word at = at
 in_front (suc n) (first ∷ words) (suc place) word at = in_front n words place word at
 
-all_known : (f : ℕ → ℕ) (places : List ℕ) → list_all is_some (map (λ place. Some (f place)) places) ≡ true
-all_known f [] = refl
-all_known f (place ∷ places) = all_known f places
+each_known : (f : ℕ → ℕ) (places : List ℕ) → list_all is_some (map (λ place. Some (f place)) places) ≡ true
+each_known f [] = refl
+each_known f (place ∷ places) = each_known f places
 
 read_at : (f : ℕ → ℕ) (from n place word : ℕ) → slice_get (map (λ place. Some (f place)) (range_with_len from n)) place ≡ Some (Some word) → f (from + place) ≡ word
 read_at f from zero place word at = absurd (cc)
@@ -59,17 +60,18 @@ module _ (f : ℕ → ℕ) (room : ℕ) (fit : 3 + f 2 ≤ room) where
       ap (λ (o : Option ℕ). unwrap_or o 0) (get_or-map (λ place. Some (f place)) places 2 0 None (omega arith)) ∙ ap f at
 
   pub read_whole : IsWhole words
-  read_whole = let all = long in let last = third in whole_from words (omega arith) (all_known f (range_with_len 0 (min (3 + f 2) room)))
+  read_whole = let all = long in let last = third in whole_from words (omega arith) (each_known f (range_with_len 0 (min (3 + f 2) room)))
 
 -- the item in a chunk is whole, and the chunk's words
-pub item_whole : (state : State) (chunk : ChunkId) → 3 + word_at state chunk 2 ≤ room_in state.table (class_of_page state.slabs chunk.page) → IsWhole (item_at state chunk)
-item_whole state chunk fit = read_whole (word_at state chunk) (room_in state.table (class_of_page state.slabs chunk.page)) fit
+pub item_whole : (state : State) (chunk : ChunkId) → 3 + word_at state chunk 2 ≤ room_in state.table (class_of_page state.slabs chunk.page) → IsWhole (all_known (item_at state chunk))
+item_whole state chunk fit = subst IsWhole (sym (all_known_map (word_at state chunk) (range_with_len 0 (min (3 + word_at state chunk 2) (room_in state.table (class_of_page state.slabs chunk.page))))))
+    (read_whole (word_at state chunk) (room_in state.table (class_of_page state.slabs chunk.page)) fit)
 
-pub item_shows : (state : State) (chunk : ChunkId) → 3 + word_at state chunk 2 ≤ room_in state.table (class_of_page state.slabs chunk.page) → Shows state.table state.slabs state.words chunk (item_at state chunk)
-item_shows state chunk fit = record {
+pub item_shows : (state : State) (chunk : ChunkId) → 3 + word_at state chunk 2 ≤ room_in state.table (class_of_page state.slabs chunk.page) → Shows state.table state.slabs state.words chunk (all_known (item_at state chunk))
+item_shows state chunk fit = subst (Shows state.table state.slabs state.words chunk) (sym (all_known_map (word_at state chunk) (range_with_len 0 (min (3 + word_at state chunk 2) (room_in state.table (class_of_page state.slabs chunk.page)))))) (record {
   fits = let all = long (word_at state chunk) (room_in state.table (class_of_page state.slabs chunk.page)) fit in omega arith;
   known_words = λ place word at. ap (word_at state chunk) (zero_less place) ∙ read_at (word_at state chunk) 0 (min (3 + word_at state chunk 2) (room_in state.table (class_of_page state.slabs chunk.page))) place word at;
-}
+})
   where
     zero_less : (place : ℕ) → place ≡ 0 + place
     zero_less place = omega arith

@@ -9,12 +9,13 @@ use Rattle.mc_pages.specs.Changes as slabs_changes
 use Rattle.mc_core.specs.declared.head.Head.{Head}
 use Rattle.mc_core.specs.declared.head.Tag.TheVariants.{Out, Free, Unlinked}
 use Rattle.mc_core.specs.declared.holding.Holding.{Holding}
-use Rattle.mc_core.specs.declared.holding.Kind.TheVariants.{Fresh}
+use Rattle.mc_core.specs.declared.holding.Kind.{Kind}
+use Rattle.mc_core.specs.declared.holding.Kind.TheVariants.{Reference, Fresh}
 use Rattle.mc_core.specs.declared.holding.Purpose.{Purpose}
 use Rattle.mc_core.specs.declared.holding.Purpose.TheVariants.{Item, Copy}
 use Rattle.mc_core.specs.declared.look.Look.TheVariants.{Popped, PoppedOff, PutBack, Cleared, Cut}
 use Rattle.mc_core.specs.Head.{is_free, is_out, is_dead}
-use Rattle.mc_core.specs.Holdings.{is_of, is_fresh, holding_of}
+use Rattle.mc_core.specs.Holdings.{is_of, is_fresh, holding_of, words_of}
 use Rattle.mc_core.specs.State.{State, is_class, has_chunk, head_at, with_head, room_at, with_word, has_slabs, with_slabs, holdings_at, with_holding, with_changed, without_holding, with_look}
 use Rattle.mc_core.specs.Columns.{head_in}
 use Rattle.mc_core.specs.Silent.{is_handed_out, is_listed}
@@ -45,8 +46,7 @@ abbrev pub new_holding : State → ChunkId → Purpose → Holding
 new_holding state chunk purpose = record {
   chunk = chunk;
   issue = (head_at state chunk).issue + 1;
-  kind = Fresh purpose;
-  words = replicate (room_at state chunk) None;
+  kind = Fresh purpose (replicate (room_at state chunk) None);
 }
 
 -- the header and the hand's holdings after the chunk is handed out to it
@@ -94,14 +94,19 @@ after_pop_off state hand old = popped_off state hand old (target_of state.table 
 -- the holding is fresh, and its chunk has such a place
 abbrev pub can_fill_in : ℕ → Option Holding → Bool
 can_fill_in place None = false
-can_fill_in place (Some holding) = is_fresh holding && nat_lt place (length holding.words)
+can_fill_in place (Some holding) = is_fresh holding && nat_lt place (length (words_of holding))
 
 abbrev pub can_fill : State → ℕ → ChunkId → ℕ → Bool
 can_fill state hand chunk place = can_fill_in place (holding_of chunk (holdings_at state hand))
 
+-- a fresh chunk with one more word
+abbrev pub filled_kind : ℕ → ℕ → Kind → Kind
+filled_kind place word (Reference item) = Reference item
+filled_kind place word (Fresh purpose words) = Fresh purpose (slice_set words place (Some word))
+
 -- the holding with one more word
 abbrev pub filled : ℕ → ℕ → Holding → Holding
-filled place word holding = record holding { words = slice_set holding.words place (Some word) }
+filled place word holding = record holding { kind = filled_kind place word holding.kind }
 
 abbrev pub after_fill : State → ℕ → ChunkId → ℕ → ℕ → State
 after_fill state hand chunk place word = with_word (with_changed state hand (is_of chunk) (filled place word)) chunk place word

@@ -7,7 +7,7 @@ use Rattle.mc_core.specs.declared.head.Head.{Head}
 use Rattle.mc_core.specs.declared.head.Tag.TheVariants.{Unlinked}
 use Rattle.mc_core.specs.declared.holding.Holding.{Holding}
 use Rattle.mc_core.specs.Head.{is_free, is_out}
-use Rattle.mc_core.specs.Holdings.{item_length, is_complete, is_fresh}
+use Rattle.mc_core.specs.Holdings.{is_fresh, words_of, item_of, length_of}
 use Rattle.mc_core.specs.State.{room_in, has_chunk}
 use Rattle.mc_core.specs.Columns.{head_in, Shows, Each, holders, link_of}
 
@@ -19,13 +19,13 @@ pub record AreCounted (table : Classes) (heads : List Head) (holdings : List (Li
 
 -- a reference has its whole item, and a fresh chunk a place for each word
 abbrev pub IsSized : ℕ → Holding → Type 0
-IsSized room holding = (is_fresh holding ≡ true → length holding.words ≡ room) × (is_fresh holding ≡ false → (length holding.words ≡ item_length holding.words) × (is_complete holding.words ≡ true))
+IsSized room holding = (is_fresh holding ≡ true → length (words_of holding) ≡ room) × (is_fresh holding ≡ false → length (item_of holding) ≡ length_of (item_of holding))
 
 -- holdings: each has its header's issue and its chunk's words, and a fresh one is the only one of its chunk
 pub record AreHeld (table : Classes) (slabs : SlabState) (heads : List Head) (words : List ℕ) (holdings : List (List Holding)) : Type 0 where
   pub inside : Each (λ holding. has_chunk table holding.chunk ≡ true) holdings
   pub issues : Each (λ holding. holding.issue ≡ (head_in table heads holding.chunk).issue) holdings
-  pub shows : Each (λ holding. Shows table slabs words holding.chunk holding.words) holdings
+  pub shows : Each (λ holding. Shows table slabs words holding.chunk (words_of holding)) holdings
   pub sized : Each (λ holding. IsSized (room_in table (class_of_page slabs holding.chunk.page)) holding) holdings
   pub alone : Each (λ holding. is_fresh holding ≡ true → ((head_in table heads holding.chunk).tag ≡ Unlinked) × (holders holding.chunk holdings ≡ 1)) holdings
   pub most : All (λ row. length row ≤ 256) holdings

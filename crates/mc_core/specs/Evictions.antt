@@ -15,7 +15,7 @@ use Rattle.mc_core.specs.declared.holding.Purpose.TheVariants.{Rescue}
 use Rattle.mc_core.specs.declared.look.Look.{Look}
 use Rattle.mc_core.specs.declared.look.Look.TheVariants.{Condemned}
 use Rattle.mc_core.specs.Head.{is_linked}
-use Rattle.mc_core.specs.Holdings.{Words, is_copy_of}
+use Rattle.mc_core.specs.Holdings.{is_copy_of, words_of}
 use Rattle.mc_core.specs.Looks.{is_found_alive}
 use Rattle.mc_core.specs.State.{State, has_chunk, head_at, with_head, word_at, item_at, has_slabs, has_stripe, stripe_of, stripe_at, with_stripe, holdings_at, with_changed, looks_at, with_look}
 use Rattle.mc_core.specs.Silent.{none_half_cut, writer_of}
@@ -69,8 +69,8 @@ abbrev pub condemned : Head → Head
 condemned head = record { issue = head.issue; tag = Unlinked; count = 0 }
 
 -- the fresh chunk is to have these words, and no others
-abbrev pub as_rescue : ChunkId → Words → Holding → Holding
-as_rescue old item holding = record holding { kind = Fresh (Rescue old item) }
+abbrev pub as_rescue : ChunkId → List ℕ → Holding → Holding
+as_rescue old item holding = record holding { kind = Fresh (Rescue old item) (words_of holding) }
 
 -- the stripe of the key: its entry is put aside for a rescue, and else evicted
 abbrev pub stripe_condemned : ReadyStripe → Bool → ℕ → ℕ → ReadyStripe
@@ -78,7 +78,7 @@ stripe_condemned stripe rescues writer key =
     if rescues then record stripe { state = after_lift stripe.state key } else used_up (after_evict stripe.state writer key)
 
 -- each copy of this chunk that the hand holds is to have these words, and counts as a copy of it no more
-abbrev pub with_bound : State → ℕ → ChunkId → Words → State
+abbrev pub with_bound : State → ℕ → ChunkId → List ℕ → State
 with_bound state hand chunk item = with_changed state hand (is_copy_of chunk) (as_rescue chunk item)
 
 -- the stripe of the key knows that the item was taken away

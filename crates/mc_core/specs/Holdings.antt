@@ -73,16 +73,32 @@ lose test (holding ∷ holdings) = if test holding then holdings else holding �
 abbrev pub change_each : (Holding → Bool) → (Holding → Holding) → List Holding → List Holding
 change_each test change holdings = map (λ holding. if test holding then change holding else holding) holdings
 
+-- the words that a holding's chunk is known to have: of a reference all of its item, of a fresh chunk those that were filled
+abbrev pub words_of_kind : Kind → Words
+words_of_kind (Reference item) = all_known item
+words_of_kind (Fresh purpose words) = words
+
+abbrev pub words_of : Holding → Words
+words_of holding = words_of_kind holding.kind
+
+-- the same as numbers
+abbrev pub item_of_kind : Kind → List ℕ
+item_of_kind (Reference item) = item
+item_of_kind (Fresh purpose words) = numbers words
+
+abbrev pub item_of : Holding → List ℕ
+item_of holding = item_of_kind holding.kind
+
 abbrev pub is_fresh_kind : Kind → Bool
-is_fresh_kind Reference = false
-is_fresh_kind (Fresh purpose) = true
+is_fresh_kind (Reference item) = false
+is_fresh_kind (Fresh purpose words) = true
 
 abbrev pub is_fresh : Holding → Bool
 is_fresh holding = is_fresh_kind holding.kind
 
 -- the fresh chunk is to be a copy of the item in this chunk, which wasn't condemned yet
 abbrev pub is_copy_kind : ChunkId → Kind → Bool
-is_copy_kind old (Fresh (Copy chunk)) = is_chunk chunk old
+is_copy_kind old (Fresh (Copy chunk) words) = is_chunk chunk old
 is_copy_kind old kind = false
 
 abbrev pub is_copy_of : ChunkId → Holding → Bool

@@ -1,5 +1,5 @@
 -- Items that are linked, referred to, read and unlinked.
-use Rattle.std.specs.Prelude.{ℕ, ◌+◌, ◌-◌, ◌/◌, ◌%◌, ◌^◌, ◌==◌, Bool, true, false, not, ◌&&◌, ◌||◌, nat_lt, if◌then◌else◌, [], ◌∷◌, length, is_none, nat_eq, Option, Some, None}
+use Rattle.std.specs.Prelude.{ℕ, ◌+◌, ◌-◌, ◌/◌, ◌%◌, ◌^◌, ◌==◌, Bool, true, false, not, ◌&&◌, ◌||◌, nat_lt, if◌then◌else◌, List, [], ◌∷◌, length, is_none, nat_eq, Option, Some, None}
 use Rattle.std.specs.Option.{option_eq, option_map_or}
 use Rattle.mc_pages.specs.declared.ids.ChunkId.{ChunkId}
 use Rattle.mc_pages.specs.ClassState.{is_chunk}
@@ -15,7 +15,7 @@ use Rattle.mc_core.specs.declared.holding.Kind.TheVariants.{Reference, Fresh}
 use Rattle.mc_core.specs.declared.holding.Purpose.TheVariants.{Rescue}
 use Rattle.mc_core.specs.declared.look.Look.TheVariants.{Read}
 use Rattle.mc_core.specs.Head.{is_linked, is_unlinked}
-use Rattle.mc_core.specs.Holdings.{Words, key_in, stamp_in, item_in, is_complete, is_of, is_fresh, has_fresh, holding_of}
+use Rattle.mc_core.specs.Holdings.{Words, key_in, stamp_in, item_in, is_complete, is_of, is_fresh, has_fresh, holding_of, words_of, numbers, item_of}
 use Rattle.mc_core.specs.Looks.{was_linked}
 use Rattle.mc_core.specs.State.{State, has_chunk, head_at, with_head, room_at, word_at, item_at, ids_at, with_ids, has_slabs, has_stripe, stripe_of, stripe_at, with_stripe, holdings_at, with_holding, without_holding, looks_at, with_look}
 use Rattle.mc_core.specs.Silent.{is_aside, writer_of}
@@ -46,12 +46,12 @@ abbrev pub is_next_stamp : Ids → ℕ → Bool
 is_next_stamp ids stamp =
     nat_lt ids.stamps most_stamps && option_eq nat_eq ids.number (Some (stamp / 2 ^ 48)) && stamp % 2 ^ 48 == ids.stamps + 1
 
--- two items have the same words
-abbrev pub are_same : Words → Words → Bool
+-- the words are all known, and are those of the item
+abbrev pub are_same : Words → List ℕ → Bool
 are_same [] [] = true
 are_same [] (y ∷ ys) = false
 are_same (x ∷ xs) [] = false
-are_same (x ∷ xs) (y ∷ ys) = option_eq nat_eq x y && are_same xs ys
+are_same (x ∷ xs) (y ∷ ys) = option_eq nat_eq x (Some y) && are_same xs ys
 
 -- the entry aside is of this key, chunk and stamp
 abbrev pub is_entry_aside : StripeState → ℕ → ChunkId → ℕ → Bool
@@ -63,10 +63,10 @@ is_none_else_aside stripe key = is_none stripe.aside || is_aside stripe key
 
 -- an item of the hand's own has its next stamp; a copy has the words of the item that was condemned, whose entry is aside
 abbrev pub suits : State → ℕ → Words → Kind → Bool
-suits state hand words Reference = false
-suits state hand words (Fresh (Rescue old item)) =
+suits state hand words (Reference own) = false
+suits state hand words (Fresh (Rescue old item) own) =
     are_same (item_in words) item && is_entry_aside (stripe_at state (stripe_of state (key_in words))).state (key_in words) old (stamp_in words)
-suits state hand words (Fresh purpose) =
+suits state hand words (Fresh purpose own) =
     is_next_stamp (ids_at state hand) (stamp_in words) && is_none_else_aside (stripe_at state (stripe_of state (key_in words))).state (key_in words)
 
 -- the stripe of the key is held, has room for a call, and the key leads nowhere
@@ -76,12 +76,12 @@ can_link_key state hand key =
 
 -- the stripe of the key may come to know of the link
 abbrev pub can_tell_link : State → ℕ → Holding → Bool
-can_tell_link state hand holding = can_link_key state hand (key_in holding.words) && suits state hand holding.words holding.kind
+can_tell_link state hand holding = can_link_key state hand (key_in (words_of holding)) && suits state hand (words_of holding) holding.kind
 
 abbrev pub can_link_holding : State → ℕ → ChunkId → Option Holding → Bool
 can_link_holding state hand chunk None = false
 can_link_holding state hand chunk (Some holding) =
-    is_complete holding.words && can_tell_link state hand holding && is_unlinked (head_at state chunk).tag && can_count (head_at state chunk)
+    is_complete (words_of holding) && can_tell_link state hand holding && is_unlinked (head_at state chunk).tag && can_count (head_at state chunk)
 
 abbrev pub can_link : State → ℕ → ChunkId → Bool
 can_link state hand chunk = can_link_holding state hand chunk (holding_of chunk (holdings_at state hand))
@@ -92,24 +92,24 @@ stamped ids = record ids { stamps = ids.stamps + 1 }
 
 -- the hand refers to the item
 abbrev pub as_reference : Holding → Holding
-as_reference holding = record holding { kind = Reference; words = item_in holding.words }
+as_reference holding = record holding { kind = Reference (numbers (item_in (words_of holding))) }
 
 -- the entry aside comes back with the new chunk
 abbrev pub with_rescued : State → ℕ → Holding → State
 with_rescued state hand holding =
-    let stripe = stripe_of state (key_in holding.words) in
-    with_stripe state stripe (used_up (after_rescue (stripe_at state stripe).state (writer_of state hand) (key_in holding.words) holding.chunk))
+    let stripe = stripe_of state (key_in (words_of holding)) in
+    with_stripe state stripe (used_up (after_rescue (stripe_at state stripe).state (writer_of state hand) (key_in (words_of holding)) holding.chunk))
 
 -- an item is stored, and a stamp given out
 abbrev pub with_set : State → ℕ → Holding → State
 with_set state hand holding =
-    let stripe = stripe_of state (key_in holding.words) in
+    let stripe = stripe_of state (key_in (words_of holding)) in
     with_ids (with_stripe state stripe
-    (used_up (stripe_changes.after_link (stripe_at state stripe).state (writer_of state hand) (key_in holding.words) holding.chunk (stamp_in holding.words))))
+    (used_up (stripe_changes.after_link (stripe_at state stripe).state (writer_of state hand) (key_in (words_of holding)) holding.chunk (stamp_in (words_of holding)))))
     hand (stamped (ids_at state hand))
 
 abbrev pub told_link : State → ℕ → Holding → Kind → State
-told_link state hand holding (Fresh (Rescue old item)) = with_rescued state hand holding
+told_link state hand holding (Fresh (Rescue old item) own) = with_rescued state hand holding
 told_link state hand holding kind = with_set state hand holding
 
 -- the stripe of the key knows of the link
@@ -126,7 +126,7 @@ after_link state hand chunk = after_link_of (without_holding state hand (is_of c
 
 -- a reference to the item in the chunk
 abbrev pub new_reference : State → ChunkId → Holding
-new_reference state chunk = record { chunk = chunk; issue = (head_at state chunk).issue; kind = Reference; words = item_at state chunk }
+new_reference state chunk = record { chunk = chunk; issue = (head_at state chunk).issue; kind = Reference (item_at state chunk) }
 
 abbrev pub with_reference : State → ℕ → ChunkId → State
 with_reference state hand chunk = with_holding (with_head state chunk (referred (head_at state chunk))) hand (new_reference state chunk)
@@ -199,7 +199,7 @@ after_again state hand chunk = with_reference state hand chunk
 -- the first holding of the chunk is a reference, and its item has such a word
 abbrev pub can_read_in : ℕ → Option Holding → Bool
 can_read_in place None = false
-can_read_in place (Some holding) = not (is_fresh holding) && nat_lt place (length holding.words)
+can_read_in place (Some holding) = not (is_fresh holding) && nat_lt place (length (item_of holding))
 
 abbrev pub can_word : State → ℕ → ChunkId → ℕ → Bool
 can_word state hand chunk place = can_read_in place (holding_of chunk (holdings_at state hand))

@@ -9,7 +9,7 @@ use Rattle.mc_core.specs.declared.holding.Holding.{Holding}
 use Rattle.mc_core.specs.declared.holding.Kind.{Kind}
 use Rattle.mc_core.specs.declared.holding.Kind.TheVariants.{Fresh}
 use Rattle.mc_core.specs.declared.holding.Purpose.TheVariants.{Copy, Rescue}
-use Rattle.mc_core.specs.Holdings.{stamp_in, item_length, is_complete, is_fresh, all_known, numbers, stamp_of, length_of}
+use Rattle.mc_core.specs.Holdings.{is_fresh, all_known, stamp_of, length_of}
 use Rattle.mc_core.specs.Past.{Known, Saying, known_by, IsKnownToSome}
 use Rattle.mc_core.specs.Identities.{said_count}
 use Rattle.mc_core.specs.State.{room_in, has_chunk}
@@ -45,7 +45,6 @@ pub record AreKnown (table : Classes) (slabs : SlabState) (heads : List Head) (w
 -- what a fresh chunk is for: a copy is off the page of the chunk that it is to be a copy of; and the words of an item that is being
 -- rescued were said with its stamp
 abbrev pub IsRescue : List (List Saying) → ChunkId → Kind → Type 0
-IsRescue said chunk (Fresh (Copy old)) = chunk.page ≢ old.page
-IsRescue said chunk (Fresh (Rescue old item)) =
-    (is_complete item ≡ true) × (length item ≡ item_length item) × IsSaid said (stamp_in item) (numbers item) × (chunk.page ≢ old.page)
+IsRescue said chunk (Fresh (Copy old) own) = chunk.page ≢ old.page
+IsRescue said chunk (Fresh (Rescue old item) own) = (length item ≡ length_of item) × IsSaid said (stamp_of item) item × (chunk.page ≢ old.page)
 IsRescue said chunk kind = ⊤

@@ -12,6 +12,7 @@ use Rattle.mc_core.specs.Seen.{AreSeen}
 use Rattle.mc_core.specs.Identities.{AreHands, HaveRows, AreNumbered}
 use Rattle.mc_core.specs.Knowing.{AreKnown, IsRescue}
 use Rattle.mc_core.specs.Histories.{AreTold}
+use Rattle.mc_core.specs.Holdings.{words_of}
 
 abbrev pub SizedIn : Moment → Type 0
 SizedIn m = AreSized m.state.table m.state.heads m.state.words
@@ -81,5 +82,5 @@ pub record IsLawful (moment : Moment) : Type 0 where
 -- *kept*: the chunk of a holding is handed out with its issue, has its words, and its page belongs to a class or moves away from one
 pub record IsKept (state : State) (holding : Holding) : Type 0 where
   pub handed_out : IsHandedOut (head_in state.table state.heads holding.chunk) holding.issue
-  pub shows : Shows state.table state.slabs state.words holding.chunk holding.words
+  pub shows : Shows state.table state.slabs state.words holding.chunk (words_of holding)
   pub owned : IsClass state.slabs (class_of_page state.slabs holding.chunk.page)

@@ -15,7 +15,7 @@ use Rattle.mc_core.specs.declared.holding.Holding.{Holding}
 use Rattle.mc_core.specs.declared.holding.Kind.{Kind}
 use Rattle.mc_core.specs.declared.holding.Kind.TheVariants.{Fresh}
 use Rattle.mc_core.specs.declared.holding.Purpose.TheVariants.{Rescue}
-use Rattle.mc_core.specs.Holdings.{Words, stamp_in, item_in, holding_of, numbers}
+use Rattle.mc_core.specs.Holdings.{Words, stamp_in, item_in, holding_of, numbers, words_of, item_of}
 use Rattle.mc_core.specs.State.{State, room_at, head_at, number_at, stripe_at, holdings_at, new_state}
 use Rattle.mc_core.specs.Silent.{after_change}
 use Rattle.mc_core.specs.Items.{chunk_of, new_reference}
@@ -89,12 +89,12 @@ hold_after slabs other hold = hold
 
 -- the item's stamp and words, unless it was rescued
 abbrev pub saying_of : Kind → Words → List Saying
-saying_of (Fresh (Rescue old item)) words = []
+saying_of (Fresh (Rescue old item) own) words = []
 saying_of kind words = record { stamp = stamp_in words; words = numbers (item_in words) } ∷ []
 
 abbrev pub said_by : Option Holding → List Saying
 said_by None = []
-said_by (Some holding) = saying_of holding.kind holding.words
+said_by (Some holding) = saying_of holding.kind (words_of holding)
 
 -- what a link says
 abbrev pub sayings_of : State → ℕ → Step → List Saying
@@ -102,11 +102,11 @@ sayings_of state hand (Link chunk) = said_by (holding_of chunk (holdings_at stat
 sayings_of state hand other = []
 
 abbrev pub known_by : ℕ → Holding → Known
-known_by room holding = record { chunk = holding.chunk; issue = holding.issue; room = room; words = numbers holding.words }
+known_by room holding = record { chunk = holding.chunk; issue = holding.issue; room = room; words = item_of holding }
 
 abbrev pub known_of_holding : ℕ → Option Holding → List Known
 known_of_holding room None = []
-known_of_holding room (Some holding) = record { chunk = holding.chunk; issue = holding.issue; room = room; words = numbers (item_in holding.words) } ∷ []
+known_of_holding room (Some holding) = record { chunk = holding.chunk; issue = holding.issue; room = room; words = numbers (item_in (words_of holding)) } ∷ []
 
 abbrev pub known_of_place : State → Option (ChunkId × ℕ) → List Known
 known_of_place state None = []

@@ -15,6 +15,7 @@ use Rattle.mc_core.specs.declared.holding.Kind.TheVariants.{Fresh}
 use Rattle.mc_core.specs.declared.holding.Purpose.TheVariants.{Copy}
 use Rattle.mc_core.specs.declared.look.Look.{Look}
 use Rattle.mc_core.specs.declared.look.Look.TheVariants.{Saw, Popped, PoppedOff, Condemned, Cleared}
+use Rattle.mc_core.specs.Holdings.{Words}
 use Rattle.mc_core.specs.State.{State, has_slabs, head_at, holdings_at, looks_at}
 use Rattle.mc_core.specs.Past.{Moment}
 use Rattle.mc_core.specs.Laws.{MayStep}
@@ -64,7 +65,8 @@ pub record IsOutOfRoom (state : State) (class : ℕ) : Type 0 where
 pub record HasCopyOff (state : State) (hand : ℕ) (chunk : ChunkId) : Type 0 where
   pub copy : Holding
   pub among : Contains (holdings_at state hand) copy
-  pub meant : copy.kind ≡ Fresh (Copy chunk)
+  pub words : Words
+  pub meant : copy.kind ≡ Fresh (Copy chunk) words
   pub off : copy.chunk.page ≢ chunk.page
 
 -- the item must leave its moving page, or makes room
@@ -74,7 +76,7 @@ MustGo state page = (Moves state.slabs page × HasNoneOff state (class_of_page s
 -- the item goes to a copy, off its moving page; or, after a sweep of its class, it must go. And whatever is to be a copy of it is off its page
 pub record IsReasoned (state : State) (hand : ℕ) (chunk : ChunkId) : Type 0 where
   pub reason : (Moves state.slabs chunk.page × HasCopyOff state hand chunk) ⊎ (IsSwept state hand (class_of_page state.slabs chunk.page) × MustGo state chunk.page)
-  pub copies : All (λ copy. copy.kind ≡ Fresh (Copy chunk) → copy.chunk.page ≢ chunk.page) (holdings_at state hand)
+  pub copies : All (λ copy. (words : Words) → copy.kind ≡ Fresh (Copy chunk) words → copy.chunk.page ≢ chunk.page) (holdings_at state hand)
 
 -- no item is taken away without such a reason
 abbrev pub CondemnsAreReasoned : Type 0

@@ -10,7 +10,7 @@ use Rattle.mc_core.specs.declared.ids.Ids.{Ids}
 use Rattle.mc_core.specs.declared.holding.Holding.{Holding}
 use Rattle.mc_core.specs.declared.look.Look.{Look}
 use Rattle.mc_core.specs.Head.{never_cut, uncut_from}
-use Rattle.mc_core.specs.Holdings.{Words, change_each, lose}
+use Rattle.mc_core.specs.Holdings.{change_each, lose}
 
 pub record State : Type 0 where
   -- the size classes, which never change
@@ -74,8 +74,8 @@ abbrev pub with_word : State → ChunkId → ℕ → ℕ → State
 with_word state chunk place word = record state { words = slice_set state.words (word_place state chunk place) word }
 
 -- the item in a chunk: key, stamp, length, and as many words as its length says, as far as the chunk goes
-abbrev pub item_at : State → ChunkId → Words
-item_at state chunk = map (λ place. Some (word_at state chunk place)) (range_with_len 0 (min (3 + word_at state chunk 2) (room_at state chunk)))
+abbrev pub item_at : State → ChunkId → List ℕ
+item_at state chunk = map (λ place. word_at state chunk place) (range_with_len 0 (min (3 + word_at state chunk 2) (room_at state chunk)))
 
 -- a hand that another took over
 abbrev pub gone : Ids

@@ -1,5 +1,5 @@
 //! What a hand holds: references, and chunks that it got and fills.
-ghost use Rattle.std.specs.Prelude.{◌≡◌, true, if◌then◌else◌, OnOk};
+ghost use Rattle.std.specs.Prelude.{◌≡◌, true, if◌then◌else◌, IfOk, OnOk};
 ghost use Rattle.mc_core.specs.Holdings.{is_of, is_copy_of, change_each};
 ghost use Rattle.mc_core.specs.Chunks.{filled};
 ghost use Rattle.mc_core.specs.Evictions.{as_rescue};
@@ -16,18 +16,16 @@ pub struct Holding {
     /// The chunk's issue number as it was handed out.
     pub issue: u64,
     pub kind: Kind,
-    /// The words of the chunk's item: key, stamp, length and then the words proper. Of a fresh chunk those that were
-    /// filled so far, one place for each word that the chunk has room for.
-    pub words: Series<Option<u64>>,
 }
 
 /// Whether the chunk was linked yet.
 #[derive(Drop)]
 pub enum Kind {
-    /// A reference to an item.
-    Reference,
-    /// The hand got the chunk and fills it.
-    Fresh(Purpose),
+    /// A reference to an item: its words, which are key, stamp, length and then the words proper.
+    Reference(Series<u64>),
+    /// The hand got the chunk and fills it: what for, and the words that it filled so far, one place for each word that
+    /// the chunk has room for.
+    Fresh(Purpose, Series<Option<u64>>),
 }
 
 /// What a fresh chunk is for.
@@ -38,11 +36,11 @@ pub enum Purpose {
     /// A copy of the item in this chunk of the moving page.
     Copy(ChunkId),
     /// The same, and the old chunk was condemned: its words as it was.
-    Rescue(ChunkId, Series<Option<u64>>),
+    Rescue(ChunkId, Series<u64>),
 }
 
 impl Holding {
-    ghost use Rattle.mc_core.specs.Holdings.{is_fresh, is_of, is_copy_of, is_complete};
+    ghost use Rattle.mc_core.specs.Holdings.{is_fresh, is_of, is_copy_of, is_complete, word_in, words_of};
     ghost use Rattle.mc_core.specs.Items.{as_reference};
     ghost use Rattle.mc_core.specs.Chunks.{filled};
     ghost use Rattle.mc_core.specs.Evictions.{as_rescue};
@@ -52,8 +50,8 @@ impl Holding {
         ensures { result ≡ is_fresh self.now }
     {
         match self.kind {
-            Kind::Reference => false,
-            Kind::Fresh(_) => true,
+            Kind::Reference(_) => false,
+            Kind::Fresh(_, _) => true,
         }
     }
 
@@ -62,25 +60,36 @@ impl Holding {
         ensures { result ≡ is_copy_of old self.now }
     {
         match &self.kind {
-            Kind::Fresh(Purpose::Copy(chunk)) => *chunk == old,
+            Kind::Fresh(Purpose::Copy(chunk), _) => *chunk == old,
             _ => false,
         }
     }
 
-    /// The item was linked: the hand refers to it.
-    pub(crate) fn into_reference(self) -> Holding
-        requires { is_complete self.words ≡ true }
-        ensures { result ≡ as_reference self }
+    /// A word by its place, 0 where it isn't known.
+    pub(crate) fn word(&self, place: usize) -> u64
+        ensures { result ≡ word_in (words_of self.now) place }
     {
-        let length = words::word_in(self.words.as_slice(), 2) as usize + 3;
-        let mut words = self.words;
-        words.truncate(length);
-        Holding {
+        match &self.kind {
+            Kind::Reference(item) => words::number_in(item.as_slice(), place),
+            Kind::Fresh(_, words) => words::word_in(words.as_slice(), place),
+        }
+    }
+
+    /// The item was linked: the hand refers to it.
+    pub(crate) fn as_reference(&self, alloc: Global) -> Result<Holding, AllocError>
+        requires fresh { is_fresh self.now ≡ true }
+        requires complete { is_complete (words_of self.now) ≡ true }
+        ensures { IfOk result (λ holding. holding ≡ as_reference self.now) }
+    {
+        let item = match &self.kind {
+            Kind::Reference(item) => Series::copy_of(alloc, item.as_slice())?,
+            Kind::Fresh(_, words) => { words::numbers_of(alloc, words::item_in(words.as_slice()))? }
+        };
+        Ok(Holding {
             chunk: self.chunk,
             issue: self.issue,
-            kind: Kind::Reference,
-            words,
-        }
+            kind: Kind::Reference(item),
+        })
     }
 
     /// A word of this chunk is written, if the holding is of it.
@@ -88,17 +97,21 @@ impl Holding {
         ensures { self.new ≡ (if is_of chunk self.old then filled place word self.old else self.old) }
     {
         if self.chunk == chunk {
-            self.words.set(place as usize, Some(word));
+            if let Kind::Fresh(_, words) = &mut self.kind {
+                words.set(place as usize, Some(word));
+            }
         }
     }
 
     /// The item of this chunk was condemned: if the holding is to be a copy of it, it is to have these words, and no others.
-    fn bind(&mut self, alloc: Global, old: ChunkId, item: &[Option<u64>]) -> Result<(), AllocError>
+    fn bind(&mut self, alloc: Global, old: ChunkId, item: &[u64]) -> Result<(), AllocError>
         ensures { OnOk result (self.new ≡ (if is_copy_of old self.old then as_rescue old item.now self.old else self.old)) }
     {
         if self.is_copy_of(old) {
             let item = Series::copy_of(alloc, item)?;
-            self.kind = Kind::Fresh(Purpose::Rescue(old, item));
+            if let Kind::Fresh(purpose, _) = &mut self.kind {
+                *purpose = Purpose::Rescue(old, item);
+            }
         }
         Ok(())
     }
@@ -118,7 +131,7 @@ pub(crate) fn bind_copies(
     alloc: Global,
     holdings: &mut Series<Holding>,
     chunk: ChunkId,
-    item: &[Option<u64>],
+    item: &[u64],
 ) -> Result<(), AllocError>
     ensures { OnOk result (holdings.new ≡ change_each (is_copy_of chunk) (as_rescue chunk item.now) holdings.old) }
 {

@@ -1,5 +1,5 @@
 //! A list that contracts compare.
-ghost use Rattle.std.specs.Prelude.{◌≡◌, ◌<◌, [], ◌∷◌, ◌++◌, length, slice_index_or, slice_set, take, IfOk, OnOk, OnErr};
+ghost use Rattle.std.specs.Prelude.{◌≡◌, ◌<◌, [], ◌∷◌, ◌++◌, length, slice_index_or, slice_set, IfOk, OnOk, OnErr};
 ghost use Rattle.std.specs.List.{remove};
 
 use std::alloc::{AllocError, Global};
@@ -73,12 +73,5 @@ impl<T: Drop> Series<T> {
         if place < self.items.len() {
             self.items[place] = value;
         }
-    }
-
-    /// Leaves so many first values.
-    pub fn truncate(&mut self, count: usize)
-        ensures { self.new ≡ take count self.old }
-    {
-        self.items.truncate(count);
     }
 }

@@ -1,8 +1,11 @@
 //! The words of a chunk, as far as they are known.
-ghost use Rattle.std.specs.Prelude.{◌≡◌, true, is_some};
+ghost use Rattle.std.specs.Prelude.{◌≡◌, true, is_some, slice_index, IfOk};
 ghost use Rattle.std.specs.List.{list_all};
-ghost use Rattle.mc_core.specs.Holdings.{word_in, item_in, fits, is_complete};
+ghost use Rattle.mc_core.specs.Holdings.{word_in, numbers, item_in, fits, is_complete};
 ghost use Rattle.mc_core.specs.Items.{are_same};
+
+use crate::series::Series;
+use std::alloc::{AllocError, Global};
 
 /// A word by its place, 0 where it isn't known.
 pub(crate) fn word_in(words: &[Option<u64>], place: usize) -> u64
@@ -10,6 +13,17 @@ pub(crate) fn word_in(words: &[Option<u64>], place: usize) -> u64
 {
     if place < words.len() {
         words[place].unwrap_or(0)
+    } else {
+        0
+    }
+}
+
+/// A number by its place, 0 where there is none.
+pub(crate) fn number_in(numbers: &[u64], place: usize) -> u64
+    ensures { result ≡ slice_index numbers.now place }
+{
+    if place < numbers.len() {
+        numbers[place]
     } else {
         0
     }
@@ -39,11 +53,30 @@ pub(crate) fn is_complete(words: &[Option<u64>]) -> bool
     are_known(item_in(words))
 }
 
-/// Whether two items have the same words.
-pub(crate) fn are_same(words: &[Option<u64>], others: &[Option<u64>]) -> bool
-    ensures { result ≡ are_same words.now others.now }
+/// Whether the words are all known, and are those of the item.
+pub(crate) fn are_same(words: &[Option<u64>], item: &[u64]) -> bool
+    ensures { result ≡ are_same words.now item.now }
 {
-    words == others
+    if words.len() != item.len() {
+        return false;
+    }
+    for place in 0..words.len() {
+        if words[place] != Some(item[place]) {
+            return false;
+        }
+    }
+    true
+}
+
+/// The words as numbers, with 0 for each that isn't known.
+pub(crate) fn numbers_of(alloc: Global, words: &[Option<u64>]) -> Result<Series<u64>, AllocError>
+    ensures { IfOk result (λ found. found ≡ numbers words.now) }
+{
+    let mut found = Series::new(alloc);
+    for word in words {
+        found.push(word.unwrap_or(0))?;
+    }
+    Ok(found)
 }
 
 /// The words of an item that fits.

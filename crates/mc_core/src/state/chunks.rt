@@ -102,8 +102,7 @@ impl State {
             Holding {
                 chunk,
                 issue: head.issue,
-                kind: Kind::Fresh(purpose),
-                words,
+                kind: Kind::Fresh(purpose, words),
             },
         )?;
         Ok(head)
@@ -213,7 +212,10 @@ impl State {
         ensures { result ≡ can_fill self.now hand chunk place }
     {
         match self.holding(hand, chunk) {
-            Some(holding) => holding.is_fresh() && place < holding.words.as_slice().len() as u64,
+            Some(holding) => match &holding.kind {
+                Kind::Fresh(_, words) => place < words.as_slice().len() as u64,
+                Kind::Reference(_) => false,
+            },
             None => false,
         }
     }

@@ -75,13 +75,13 @@ impl State {
 
     /// The words of the item in a chunk.
     #[tactic(auto, using(crate::proofs::Lists::map_range_more))]
-    pub(super) fn item(&self, chunk: ChunkId) -> Result<Series<Option<u64>>, AllocError>
+    pub(super) fn item(&self, chunk: ChunkId) -> Result<Series<u64>, AllocError>
         ensures { IfOk result (λ words. words ≡ item_at self.now chunk) }
     {
         let length = self.word(chunk, 2).saturating_add(3).min(self.room(chunk));
         let mut words = Series::new(self.alloc);
         for place in 0..length {
-            words.push(Some(self.word(chunk, place)))?;
+            words.push(self.word(chunk, place))?;
         }
         Ok(words)
     }

@@ -144,7 +144,7 @@ impl State {
     }
 
     /// Each copy of this chunk that the hand holds is to have these words.
-    fn bind(&mut self, hand: u64, chunk: ChunkId, item: &[Option<u64>]) -> Result<(), AllocError>
+    fn bind(&mut self, hand: u64, chunk: ChunkId, item: &[u64]) -> Result<(), AllocError>
         requires { hand < length self.old.ids }
         ensures { OnOk result (self.new ≡ with_bound self.old hand chunk item.now) }
     {

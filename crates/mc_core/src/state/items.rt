@@ -1,7 +1,7 @@
 //! Items that are linked, referred to, read and unlinked.
 ghost use Rattle.std.specs.Prelude.{◌≡◌, ◌<◌, true, length, Some, OnOk};
 ghost use Rattle.mc_stripe.specs.StripeState.{key_aside};
-ghost use Rattle.mc_core.specs.Holdings.{has_fresh, is_complete, key_in};
+ghost use Rattle.mc_core.specs.Holdings.{has_fresh, is_complete, key_in, words_of};
 ghost use Rattle.mc_core.specs.State.{head_at, holdings_at, ids_at, stripe_of, stripe_at};
 ghost use Rattle.mc_core.specs.Items.{linked, unlinked, referred, can_count, is_next_stamp, suits, can_link_key, can_link_holding, can_link, after_link, can_tell_link, with_told_link, with_rescued, with_set, is_none_else_aside, most_stamps, with_reference, chunk_of, can_look_up, can_refer, after_refer, with_got, can_unlink, after_unlink, can_again, after_again, can_word, can_word_held, after_word_held};
 
@@ -84,20 +84,19 @@ impl State {
     /// Whether words and purpose of a fresh chunk are such that it can be linked.
     fn suits(&self, hand: u64, holding: &Holding) -> bool
         requires here { hand < length self.now.ids }
-        requires complete { is_complete holding.now.words ≡ true }
-        ensures { result ≡ suits self.now hand holding.now.words holding.now.kind }
+        requires complete { is_complete (words_of holding.now) ≡ true }
+        ensures { result ≡ suits self.now hand (words_of holding.now) holding.now.kind }
     {
-        let words = holding.words.as_slice();
-        let key = words::word_in(words, 0);
-        let stamp = words::word_in(words, 1);
+        let key = holding.word(0);
+        let stamp = holding.word(1);
         let stripe = &self.stripes[self.stripe_of(key) as usize];
         match &holding.kind {
-            Kind::Reference => false,
-            Kind::Fresh(Purpose::Rescue(old, item)) => {
-                words::are_same(words::item_in(words), item.as_slice())
+            Kind::Reference(_) => false,
+            Kind::Fresh(Purpose::Rescue(old, item), words) => {
+                words::are_same(words::item_in(words.as_slice()), item.as_slice())
                     && stripe.entry_aside() == Some((key, (*old, stamp)))
             }
-            Kind::Fresh(_) => {
+            Kind::Fresh(_, _) => {
                 self.ids[hand as usize].is_next_stamp(stamp)
                     && stripe.aside().is_none_or(|other| other == key)
             }
@@ -112,10 +111,12 @@ impl State {
         let Some(holding) = self.holding(hand, chunk) else {
             return false;
         };
-        let words = holding.words.as_slice();
+        let Kind::Fresh(_, words) = &holding.kind else {
+            return false;
+        };
         let head = self.head(chunk);
-        words::is_complete(words)
-            && (self.can_link_key(hand, words::word_in(words, 0)) && self.suits(hand, holding))
+        words::is_complete(words.as_slice())
+            && (self.can_link_key(hand, holding.word(0)) && self.suits(hand, holding))
             && head.tag == Tag::Unlinked
             && head.can_count()
     }
@@ -132,7 +133,8 @@ impl State {
         let head = self.head(chunk).linked();
         self.tell_link(hand, &holding);
         self.set_head(chunk, head);
-        self.gain(hand, holding.into_reference())
+        let reference = holding.as_reference(self.alloc)?;
+        self.gain(hand, reference)
     }
 
     /// The stripe of the key comes to know of the link, and a stamp is given out, but for a rescue.
@@ -141,7 +143,7 @@ impl State {
         requires allowed { can_tell_link self.old hand holding.now ≡ true }
         ensures { self.new ≡ with_told_link self.old hand holding.now }
     {
-        if let Kind::Fresh(Purpose::Rescue(_, _)) = &holding.kind {
+        if let Kind::Fresh(Purpose::Rescue(_, _), _) = &holding.kind {
             self.tell_rescue(hand, holding);
         } else {
             self.tell_set(hand, holding);
@@ -150,11 +152,11 @@ impl State {
 
     /// The stripe of the key comes to know of a rescue.
     fn tell_rescue(&mut self, hand: u64, holding: &Holding)
-        requires key { can_link_key self.old hand (key_in holding.now.words) ≡ true }
-        requires aside { key_aside (stripe_at self.old (stripe_of self.old (key_in holding.now.words))).state ≡ Some (key_in holding.now.words) }
+        requires key { can_link_key self.old hand (key_in (words_of holding.now)) ≡ true }
+        requires aside { key_aside (stripe_at self.old (stripe_of self.old (key_in (words_of holding.now)))).state ≡ Some (key_in (words_of holding.now)) }
         ensures { self.new ≡ with_rescued self.old hand holding.now }
     {
-        let key = words::word_in(holding.words.as_slice(), 0);
+        let key = holding.word(0);
         let writer = self.writer(hand);
         let place = self.stripe_of(key);
         let stripe = &mut self.stripes[place as usize];
@@ -164,14 +166,13 @@ impl State {
     /// The stripe of the key comes to know of an item that is stored, and a stamp is given out.
     fn tell_set(&mut self, hand: u64, holding: &Holding)
         requires here { hand < length self.old.ids }
-        requires key { can_link_key self.old hand (key_in holding.now.words) ≡ true }
-        requires aside { is_none_else_aside (stripe_at self.old (stripe_of self.old (key_in holding.now.words))).state (key_in holding.now.words) ≡ true }
+        requires key { can_link_key self.old hand (key_in (words_of holding.now)) ≡ true }
+        requires aside { is_none_else_aside (stripe_at self.old (stripe_of self.old (key_in (words_of holding.now)))).state (key_in (words_of holding.now)) ≡ true }
         requires stamps { (ids_at self.old hand).stamps < most_stamps }
         ensures { self.new ≡ with_set self.old hand holding.now }
     {
-        let words = holding.words.as_slice();
-        let key = words::word_in(words, 0);
-        let stamp = words::word_in(words, 1);
+        let key = holding.word(0);
+        let stamp = holding.word(1);
         let writer = self.writer(hand);
         let place = self.stripe_of(key);
         let stripe = &mut self.stripes[place as usize];
@@ -194,8 +195,7 @@ impl State {
             Holding {
                 chunk,
                 issue: head.issue,
-                kind: Kind::Reference,
-                words,
+                kind: Kind::Reference(words),
             },
         )
     }
@@ -334,7 +334,10 @@ impl State {
         ensures { result ≡ can_word self.now hand chunk place }
     {
         match self.holding(hand, chunk) {
-            Some(holding) => !holding.is_fresh() && place < holding.words.as_slice().len() as u64,
+            Some(holding) => match &holding.kind {
+                Kind::Reference(item) => place < item.as_slice().len() as u64,
+                Kind::Fresh(_, _) => false,
+            },
             None => false,
         }
     }
