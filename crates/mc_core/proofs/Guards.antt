@@ -13,7 +13,7 @@ use Rattle.mc_core.specs.declared.event.Change.{Change}
 use Rattle.mc_core.specs.declared.event.Change.TheVariants.{Grow, BeginMove, FinishMove, Touch, SetAutomove, Passed, Wrap, Evicted, Reserve, GotNone, DeletedNone}
 use Rattle.mc_core.specs.Frame.{AreGuarded}
 use Rattle.mc_core.specs.Holdings.{is_of, holding_of, key_in, has_fresh, words_of}
-use Rattle.mc_core.specs.State.{State, has_slabs, has_stripe, stripe_of, stripe_at, with_stripe, with_slabs, holdings_at, without_holding}
+use Rattle.mc_core.specs.State.{State, has_slabs, has_stripe, stripe_of, stripe_at, with_stripe, with_slabs, holdings_at, looks_at, without_holding}
 use Rattle.mc_core.specs.Silent.{writer_of, after_change, allows_change}
 use Rattle.mc_core.specs.Chunks.{next_free, target_of, has_place}
 use Rattle.mc_core.specs.Items.{with_got, chunk_of, after_link_of, can_link_holding, can_link_key, told_link, can_refer_to, can_look_up, can_lift, is_linked_at}
@@ -93,7 +93,7 @@ guards_step s hand (step.Pop class) can =
     guards_slabs s _ hand (pop_tests s hand class (next_free s class) can).0
     (popped_keeps (λ x. x.stripes) (with_slabs s (slabs_changes.after_pop s.slabs class)) hand (next_free s class) (λ chunk. refl))
 guards_step s hand (step.PopOff old) can =
-    guards_slabs s _ hand (pop_off_tests s hand old (target_of s old.page) can).0 (popped_off_keeps (λ x. x.stripes) s hand old (target_of s old.page) (λ chunk. refl))
+    guards_slabs s _ hand (pop_off_tests s hand old (target_of s.table s.heads s.slabs old.page) can).0 (popped_off_keeps (λ x. x.stripes) s hand old (target_of s.table s.heads s.slabs old.page) (λ chunk. refl))
 guards_step s hand (step.Fill chunk place word) can = guards_same s _ hand refl refl
 guards_step s hand (step.Word chunk place) can = guards_same s _ hand refl refl
 guards_step s hand (step.WordHeld chunk place) can = guards_same s _ hand refl refl
@@ -114,8 +114,8 @@ guards_step s hand (step.Discard chunk) can = guards_same s _ hand refl refl
 guards_step s hand (step.Condemn chunk) can =
     let key = key_at s chunk in
     let stripe = stripe_of s key in
-    let takes = can_lose_entry (stripe_at s stripe) key (has_copy s hand chunk) in
-    let first = and_parts _ (has_reason s hand chunk) can in
+    let takes = can_lose_entry (stripe_at s stripe) key (has_copy (holdings_at s hand) chunk) in
+    let first = and_parts _ (has_reason s.table s.heads s.slabs (looks_at s hand) (holdings_at s hand) chunk) can in
     let second = and_parts _ takes first.0 in
     let has = (and_parts _ (has_stripe s hand stripe) second.0).1 in
     guards_stripe s _ hand key _ has refl refl

@@ -23,7 +23,7 @@ record HasRow (past : Past) (hand : ℕ) : Type 0 where
   said : hand < length past.said
   known : hand < length past.known
 
-has_row : (m : Moment) (hand : ℕ) → HaveRows m.state.ids m.past → hand < length m.state.ids → HasRow m.past hand
+has_row : (m : Moment) (hand : ℕ) → HaveRows m.state.ids (length m.state.stripes) m.past → hand < length m.state.ids → HasRow m.past hand
 has_row m hand rows within = record {
   saw = omega (arith, rows.saw, within);
   hold = omega (arith, rows.holds, within);
