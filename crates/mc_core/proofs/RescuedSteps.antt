@@ -1,8 +1,7 @@
 -- Every change and every step keeps what holdings say of items that are being rescued.
-use Rattle.std.proofs.Common.{◌≡◌, ◌≢◌, refl, ℕ, ◌≤◌, ◌==◌, not, nat_lt, ap, subst, eq-eqb, Bool, true, false, List, [], length, arith, slice_index, Option, Some, None, if◌then◌else◌}
+use Rattle.std.proofs.Common.{◌≡◌, ◌≢◌, refl, ℕ, ◌==◌, not, nat_lt, ap, subst, eq-eqb, Bool, true, false, List, [], length, arith, slice_index, Option, Some, None, if◌then◌else◌}
 use Rattle.std.specs.Prelude.{⊤}
 use Rattle.std.proofs.lemmas.Bool.{and_parts, both_ways}
-use Rattle.mc_classes.specs.Classes.{Classes, IsSound}
 use Rattle.mc_pages.specs.SlabState.{class_at, class_of_page}
 use Rattle.mc_pages.proofs.Chunks.{same_from_is_chunk}
 use Rattle.mc_pages.specs.declared.ids.ChunkId.{ChunkId}
