@@ -1,24 +1,13 @@
--- The workers' lists of holds as vectors: what changes when a hold is taken or given back, and whether a chunk is held.
+-- The workers' lists of holds as vectors: what changes when a hold is taken or given back.
 use Rattle.std.proofs.Common.{◌≡◌, ℕ, ◌+◌, ◌-◌, ◌<◌, List, [], ◌∷◌, ◌++◌, length, get_or, set, suc, zero, Contains, Option, Some, None, refl, ap, sym, ◌∙◌, arith, reverse, map, find, inl, inr}
 use Rattle.std.specs.Option.{option_map}
-use Rattle.std.specs.Prelude.{Bool, ◌||◌, nat_lt, sum_by}
-use Rattle.std.specs.List.{list_any, remove}
+use Rattle.std.specs.Prelude.{Bool}
+use Rattle.std.specs.List.{remove}
 use Rattle.std.proofs.lemmas.Bool.{cases_Bool}
-use Rattle.std.proofs.lemmas.Bool.Decides.{nat_tests}
 use Rattle.std.proofs.lemmas.List.{map-set, set-get_or, get_or-map, reverse-append, length-reverse, append-nil}
 use Rattle.std.proofs.lemmas.List.Edits.{remove-append_left, remove-append_right}
-use Rattle.std.proofs.lemmas.List.Sums.{sum_by-cons}
 use Rattle.mc_pages.specs.declared.ids.ChunkId.{ChunkId}
-use Rattle.mc_pages.specs.ClassState.{is_chunk, times}
-use Rattle.mc_pages.proofs.Chunks.{times-append, times-cons}
 use Rattle.mc_machine.specs.Holds.{held_by}
-
--- the order of a list doesn't change how often a chunk stands there
-times-reverse : (chunk : ChunkId) (chunks : List ChunkId) → times chunk (reverse chunks) ≡ times chunk chunks
-times-reverse chunk [] = refl
-times-reverse chunk (c ∷ chunks) =
-    let turned : reverse (c ∷ chunks) ≡ reverse chunks ++ c ∷ [] = reverse-append (c ∷ []) chunks in
-    omega (arith, ap (λ (cs : List ChunkId). times chunk cs) turned, times-append chunk (reverse chunks) (c ∷ []), times-cons chunk c chunks, times-cons chunk c [], times-reverse chunk chunks)
 
 -- a vector is replaced, and f says what each means
 module _ {A : Type 0} (f : A → List ChunkId) (vectors : List A) (worker : ℕ) (old new : A) (inside : worker < length vectors)
@@ -50,25 +39,6 @@ reverse-remove (c ∷ chunks) (suc i) k all =
     let inside : k < length (reverse chunks) = omega (arith, length-reverse chunks) in
     reverse-append (c ∷ []) (remove chunks i) ∙ ap (λ l. l ++ c ∷ []) (reverse-remove chunks i k (omega arith))
     ∙ sym (ap (λ l. remove l k) (reverse-append (c ∷ []) chunks) ∙ remove-append_left (reverse chunks) (c ∷ []) k inside)
-
--- a list has the chunk where it stands there some times
-any_times : (chunk : ChunkId) (chunks : List ChunkId) → list_any (λ c. is_chunk c chunk) chunks ≡ nat_lt 0 (times chunk chunks)
-any_times chunk [] = refl
-any_times chunk (c ∷ chunks) = grind (arith, nat_tests, any_times chunk chunks, times-cons chunk c chunks)
-
-some_of_two : (a b : ℕ) → nat_lt 0 (a + b) ≡ (nat_lt 0 a || nat_lt 0 b)
-some_of_two a b = grind (arith, nat_tests)
-
--- and one of the lists has it where all of them together do
-pub any_held : {A : Type 0} (f : A → List ChunkId) (chunk : ChunkId) (vectors : List A)
-    → list_any (λ v. list_any (λ c. is_chunk c chunk) (f v)) vectors ≡ nat_lt 0 (sum_by (times chunk) (map (λ v. reverse (f v)) vectors))
-any_held f chunk [] = refl
-any_held f chunk (v ∷ vectors) =
-    let here : list_any (λ c. is_chunk c chunk) (f v) ≡ nat_lt 0 (times chunk (reverse (f v)))
-    = any_times chunk (f v) ∙ ap (nat_lt 0) (sym (times-reverse chunk (f v))) in
-    sym (ap (nat_lt 0) (sum_by-cons (times chunk) (reverse (f v)) (map (λ v. reverse (f v)) vectors))
-    ∙ some_of_two (times chunk (reverse (f v))) (sum_by (times chunk) (map (λ v. reverse (f v)) vectors))
-    ∙ rw (← here, ← any_held f chunk vectors) refl)
 
 -- what a search finds is in the list
 pub found_there : {X : Type 0} (p : X → Bool) (xs : List X) (x : X) → find p xs ≡ Some x → Contains xs x

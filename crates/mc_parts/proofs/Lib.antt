@@ -1,3 +1,5 @@
 pub mod HoldLists
 pub mod FoundHolds
 pub mod ItemPlaces
+pub mod CountPlaces
+pub mod CountedHolds

@@ -1,2 +1,3 @@
 pub mod HoldsKept
 pub mod ItemsByPlace
+pub mod CountsByPlace

@@ -1,9 +1,9 @@
 //! Which chunks the workers hold.
-ghost use Rattle.std.specs.Prelude.{◌≡◌, ◌<◌, IfOk, OnOk, OnErr, Contains, position, reverse};
-ghost use Rattle.std.specs.List.{list_any};
+ghost use Rattle.std.specs.Prelude.{◌≡◌, ◌<◌, false, IfOk, OnOk, OnErr, Contains, position, reverse};
 ghost use Rattle.mc_pages.specs.ClassState.{is_chunk, without};
 ghost use Rattle.mc_machine.specs.Holds.{no_holds, held_by, is_full, is_held, with_hold, without_hold};
 
+use crate::hold_counts::HoldCounts;
 use mc_pages::ChunkId;
 use std::alloc::{AllocError, Global};
 use std::marker::Model;
@@ -18,6 +18,8 @@ const MAX_HOLDS: usize = 255;
 #[derive(Drop)]
 pub struct Holds {
     by_worker: Vec<Vec<ChunkId>>,
+    /// How many holds there are of each chunk, so that no list is searched to see whether it is held.
+    counts: HoldCounts,
 }
 
 impl Model for Holds {
@@ -41,7 +43,10 @@ impl Holds {
         for _ in 0..WORKERS {
             by_worker.push(Vec::new(alloc)).unwrap();
         }
-        Ok(Holds { by_worker })
+        Ok(Holds {
+            by_worker,
+            counts: HoldCounts::new(alloc),
+        })
     }
 
     /// Whether the worker can hold no more.
@@ -56,7 +61,7 @@ impl Holds {
     pub fn is_held(&self, chunk: ChunkId) -> bool
         ensures { result ≡ is_held self.now chunk }
     {
-        any_has(&self.by_worker, chunk)
+        self.counts.of(chunk) > 0
     }
 
     /// The chunks that the worker holds, the one that it took last standing last.
@@ -69,11 +74,14 @@ impl Holds {
 
     /// The worker takes a hold of the chunk.
     pub fn take(&mut self, worker: u64, chunk: ChunkId) -> Result<(), AllocError>
-        requires { worker < 64 }
+        requires worker { worker < 64 }
+        requires room { is_full self.old worker ≡ false }
         ensures ok { OnOk result (self.new ≡ with_hold self.old worker chunk) }
         ensures err { OnErr result (self.new ≡ self.old) }
     {
+        self.counts.reach(chunk)?;
         self.by_worker[worker as usize].push(chunk)?;
+        self.counts.increment(chunk);
         Ok(())
     }
 
@@ -84,21 +92,8 @@ impl Holds {
         ensures { self.new ≡ without_hold self.old worker chunk }
     {
         take_out_last(&mut self.by_worker[worker as usize], chunk);
+        self.counts.decrement(chunk);
     }
-}
-
-/// Whether one of the lists has the chunk.
-fn any_has(lists: &[Vec<ChunkId>], chunk: ChunkId) -> bool
-    ensures { result ≡ list_any (λ chunks. list_any (λ c. is_chunk c chunk) chunks.items) lists.now }
-{
-    lists.iter().any(|chunks| has(chunks, chunk))
-}
-
-/// Whether the list has the chunk.
-fn has(chunks: &[ChunkId], chunk: ChunkId) -> bool
-    ensures { result ≡ list_any (λ c. is_chunk c chunk) chunks.now }
-{
-    chunks.iter().any(|c| *c == chunk)
 }
 
 /// Removes the last place of the chunk, if it has one.

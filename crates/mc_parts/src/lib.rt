@@ -2,6 +2,7 @@
 #![tactic(auto)]
 
 mod dead;
+mod hold_counts;
 mod holds;
 mod item;
 mod table;
