@@ -1,0 +1,5 @@
+use Rattle.mc_words.specs.Told.{TellsEvent}
+use Rattle.mc_words.proofs.arena.Arena.subtract.Given as goal
+
+abbrev pub ghosts-fetch_sub : goal.ghosts-fetch_sub
+ghosts-fetch_sub g a = record { then = TellsEvent g.told }

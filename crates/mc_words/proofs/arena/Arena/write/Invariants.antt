@@ -1,0 +1,5 @@
+use Rattle.mc_words.specs.Told.{TellsEvent}
+use Rattle.mc_words.proofs.arena.Arena.write.Given as goal
+
+abbrev pub ghosts-store : goal.ghosts-store
+ghosts-store g a = record { then = TellsEvent g.told }

@@ -1,0 +1,79 @@
+-- What the words, the values at home and the views of a table mean: a lawful moment of the core.
+use Rattle.std.specs.Prelude.{◌≡◌, ℕ, zero, suc, ◌+◌, ◌<◌, ◌≤◌, true, false, List, map, length, take, drop, slice_index}
+use mathlib.Core.Option.{some}
+use lib.ListN.{get_elem?}
+use Rattle.atomic_table.specs.Table as table
+use Rattle.mc_classes.specs.Classes.{pages_of}
+use Rattle.mc_pages.specs.SlabState.{SlabState, class_of_page}
+use Rattle.mc_core.specs.declared.head.Head.{Head}
+use Rattle.mc_core.specs.Head.{decode}
+use Rattle.mc_core.specs.State.{State, is_hand, stripe_at}
+use Rattle.mc_core.specs.Past.{Moment}
+use Rattle.mc_core.specs.Lawful.{IsLawful}
+use Rattle.mc_words.specs.declared.slot.Slot.{Slot}
+use Rattle.mc_words.specs.declared.slot.Slot.TheVariants.{Empty, OfSlabs, OfStripe}
+use Rattle.mc_words.specs.View.{Setup, View, view_at, new_view, spent_view}
+use Rattle.mc_words.specs.Layout.{slabs_word, locks_from, lock_word, pages_from, heads_from, head_count, data_from, data_count, config_from, config_words, word_count}
+
+-- words of 64 bits, values at home, and views
+abbrev pub Words : Type 0
+Words = table.State Slot View
+
+-- the words are these columns
+pub record AreWords (setup : Setup) (cuts words : List ℕ) (lock : ℕ) (stripe_locks : List ℕ) (headers : List Head) (stored : List ℕ) : Type 0 where
+  pub wide : length words ≡ word_count setup
+  pub slabs_lock : slice_index words slabs_word ≡ lock
+  pub locks : take setup.config.stripes (drop locks_from words) ≡ stripe_locks
+  pub pages : take (pages_of setup.table) (drop (pages_from setup) words) ≡ cuts
+  pub heads : map decode (take (head_count setup) (drop (heads_from setup) words)) ≡ headers
+  pub items : take (data_count setup) (drop (data_from setup) words) ≡ stored
+  pub configured : drop (config_from setup) words ≡ config_words setup.config
+
+-- the words are the columns of the state, and these classes of pages
+abbrev pub WordsOf : Setup → List ℕ → List ℕ → State → Type 0
+WordsOf setup cuts words state = AreWords setup cuts words state.slabs_lock state.stripe_locks state.heads state.words
+
+-- slot 0 is that of the slabs, and slot i + 1 that of stripe i
+abbrev pub Has : State → ℕ → Slot → Type 0
+Has state zero (OfSlabs slabs) = slabs ≡ state.slabs
+Has state (suc stripe) (OfStripe value) = value ≡ stripe_at state stripe
+Has state zero (OfStripe value) = ⊥
+Has state zero Empty = ⊥
+Has state (suc stripe) (OfSlabs slabs) = ⊥
+Has state (suc stripe) Empty = ⊥
+
+-- a lock whose word is 0 has its value at home
+abbrev pub AreHome : Setup → List ℕ → List (mathlib.Core.Option.Option Slot) → State → Type 0
+AreHome setup words homes state = (lock : ℕ) → lock ≤ setup.config.stripes → slice_index words (lock_word lock) ≡ 0 → (slot : Slot) × (get_elem? homes lock ≡ some (some slot)) × Has state lock slot
+
+-- the view is what the moment has of the hand; a hand that is gone has one constant
+pub record IsViewOf (setup : Setup) (moment : Moment) (hand : ℕ) (view : View) : Type 0 where
+  pub there : is_hand moment.state hand ≡ true → view ≡ view_at setup view.spare moment hand
+  pub gone : is_hand moment.state hand ≡ false → view ≡ spent_view
+
+-- the word of each page that a class has is that class
+abbrev pub AreCut : List ℕ → SlabState → Type 0
+AreCut cuts slabs = (page : ℕ) → 1 ≤ class_of_page slabs page → slice_index cuts page ≡ class_of_page slabs page
+
+-- the table is the moment; a hand that isn't made yet has done nothing
+pub record Means (setup : Setup) (cuts : List ℕ) (t : Words) (moment : Moment) : Type 0 where
+  pub same_table : moment.state.table ≡ setup.table
+  pub hands : length moment.state.ids ≡ setup.hands
+  pub stripes : length moment.state.stripes ≡ setup.config.stripes
+  pub words : WordsOf setup cuts t.words moment.state
+  pub cut : AreCut cuts moment.state.slabs
+  pub homes : AreHome setup t.words t.homes moment.state
+  pub slots : length t.homes ≡ 1 + setup.config.stripes
+  pub views : (hand : ℕ) (view : View) → get_elem? t.views hand ≡ some view → IsViewOf setup moment hand view
+  pub most : length t.views ≤ setup.hands
+  -- the first hand makes the others
+  pub made : (hand : ℕ) (view : View) → get_elem? t.views hand ≡ some view → 1 ≤ view.spare → (hand ≡ 0) × (length t.views + view.spare ≡ setup.hands)
+  pub unmade : (hand : ℕ) → length t.views ≤ hand → hand < setup.hands → IsViewOf setup moment hand (new_view setup hand 0)
+
+-- the rule of the table: it means a lawful moment
+pub record Ruled (setup : Setup) (t : Words) : Type 0 where
+  pub moment : Moment
+  -- what the words of the pages say
+  pub cuts : List ℕ
+  pub means : Means setup cuts t moment
+  pub lawful : IsLawful moment

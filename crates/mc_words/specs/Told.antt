@@ -1,0 +1,26 @@
+-- What a step on the table tells the hand that makes it.
+use Rattle.std.specs.Prelude.{◌≡◌, ℕ, []}
+use Rattle.atomic_table.specs.Table as table
+use Rattle.mc_core.specs.declared.event.Step.{Step}
+use Rattle.mc_words.specs.declared.slot.Slot.{Slot}
+use Rattle.mc_words.specs.View.{View}
+use Rattle.mc_words.specs.Happens.{LawfulView, Happens, HappensAt, IsSameHand}
+
+-- what a hand knows, and the values that are out with it, each with its lock
+abbrev pub Sits : Type 0
+Sits = table.Me Slot View
+
+abbrev pub At : Type 0
+At = table.Step Slot
+
+-- no value came or went, and the view is of the same hand, and of a lawful moment
+abbrev pub StaysOut : Sits → Sits → Type 0
+StaysOut me now = (now.1 ≡ me.1) × IsSameHand me.0 now.0 × LawfulView now.0
+
+-- the step was this event, and found the word so
+abbrev pub TellsFound : Step → At → Sits → ℕ → Sits → Type 0
+TellsFound step at me found now = StaysOut me now × HappensAt at.word found me.0 [] step now.0
+
+-- the step was this event
+abbrev pub TellsEvent : Step → At → Sits → ℕ → Sits → Type 0
+TellsEvent step at me written now = StaysOut me now × Happens me.0 [] step now.0

@@ -1,0 +1,77 @@
+-- What a hand knows: its row of the core's moment, and the values behind the locks that it has.
+use Rattle.std.specs.Prelude.{ℕ, List, [], ◌∷◌, map, replicate, Option, Some, None}
+use Rattle.std.specs.List.{range_with_len}
+use Rattle.mc_classes.specs.declared.config.Config.{Config}
+use Rattle.mc_classes.specs.Classes.{Classes}
+use Rattle.mc_pages.specs.SlabState.{SlabState}
+use Rattle.mc_stripe.specs.StripeState.{ReadyStripe}
+use Rattle.mc_core.specs.State.{State, gone}
+use Rattle.mc_core.specs.Past.{Knowledge, Moment, no_hold}
+use Rattle.mc_core.specs.Learns.{both_know, knows_nothing}
+use Rattle.mc_core.specs.Views.{Row, row_at, held_slabs, held_stripe}
+
+-- what an arena is made with: its configuration, the table of that, and how many hands there are
+pub record Setup : Type 0 where
+  pub config : Config
+  pub table : Classes
+  pub hands : ℕ
+
+-- of one hand: the arena's setup, how many hands it may still make, its row, and the values behind the locks that it has
+pub record View : Type 0 where
+  pub setup : Setup
+  pub spare : ℕ
+  pub row : Row
+  pub slabs : Option SlabState
+  -- stripe 0 first
+  pub stripes : List (Option ReadyStripe)
+
+-- of each stripe its value, where the hand has its lock
+abbrev pub held_stripes : Setup → State → ℕ → List (Option ReadyStripe)
+held_stripes setup state hand = map (held_stripe state hand) (range_with_len 0 setup.config.stripes)
+
+-- all that a moment has of a hand
+abbrev pub view_at : Setup → ℕ → Moment → ℕ → View
+view_at setup spare moment hand = record {
+  setup = setup;
+  spare = spare;
+  row = row_at moment hand;
+  slabs = held_slabs moment.state hand;
+  stripes = held_stripes setup moment.state hand;
+}
+
+-- who saw, said and knows nothing
+abbrev pub new_knowledge : ℕ → ℕ → Knowledge
+new_knowledge stripes number = record {
+  saw = [];
+  hold = no_hold;
+  mine = record { number = number; calls = replicate stripes [] } ∷ [];
+  seen = replicate stripes [];
+  said = [];
+  known = [];
+}
+
+-- a hand that did nothing yet
+abbrev pub new_view : Setup → ℕ → ℕ → View
+new_view setup number spare = record {
+  setup = setup;
+  spare = spare;
+  row = record { ids = record { number = Some number; stamps = 0 }; holdings = []; looks = []; knows = new_knowledge setup.config.stripes number };
+  slabs = None;
+  stripes = map (λ stripe. None) (range_with_len 0 setup.config.stripes);
+}
+
+-- of no arena
+abbrev pub no_setup : Setup
+no_setup = record {
+  config = record { page = 0; limit = 0; first = 0; num = 0; den = 0; max = 0; stripes = 0; bulk = 0 };
+  table = record { page = 0; limit = 0; sizes = [] };
+  hands = 0;
+}
+
+-- a hand that another took over: one constant, whatever the arena is
+abbrev pub spent_view : View
+spent_view = record { setup = no_setup; spare = 0; row = record { ids = gone; holdings = []; looks = []; knows = knows_nothing }; slabs = None; stripes = [] }
+
+-- a hand that took another one over
+abbrev pub both_views : View → View → View
+both_views kept spent = record kept { row = record kept.row { knows = both_know kept.row.knows spent.row.knows } }

@@ -1,0 +1,41 @@
+//! Values that are out of their slots, and chunks, each with the hand that took it.
+ghost use Rattle.std.specs.Prelude.{◌≡◌};
+
+use mc_pages::{ChunkId, SharedSlabs, Slabs};
+use mc_stripe::Stripe;
+
+/// Pages and lists, while a hand has their lock. Where it is dropped, the lock stays held for good.
+#[derive(Drop)]
+pub struct SlabsHeld {
+    pub(crate) shared: SharedSlabs,
+}
+
+impl SlabsHeld {
+    /// Pages and lists, to be read.
+    pub fn slabs(&self) -> &Slabs
+        ensures slabs { result.now.state ≡ self.now.shared }
+    {
+        self.shared.slabs()
+    }
+}
+
+/// A stripe's index and history, while a hand has its lock. Where it is dropped, the lock stays held for good.
+#[derive(Drop)]
+pub struct StripeHeld {
+    /// Which stripe it is.
+    pub(crate) number: u64,
+    pub(crate) stripe: Stripe,
+}
+
+impl StripeHeld {
+    /// Index and history, to be read.
+    pub fn stripe(&self) -> &Stripe
+        ensures stripe { result.now ≡ self.now.stripe }
+    {
+        &self.stripe
+    }
+}
+
+/// Another hand has the lock, or this one.
+#[derive(Clone, Copy, PartialEq, Eq, Drop)]
+pub struct Held;

@@ -1,0 +1,44 @@
+//! The rule of the table: its words, the values at home and what the hands know mean a lawful moment of the core.
+use crate::plan::Plan;
+use crate::slot::Slot;
+use atomic_table::{Play, Seat, Table, TableRule};
+use std::alloc::Global;
+use std::marker::{Brand, Model};
+
+/// What a hand knows, which a contract sees as a `View`. No value of it is made, and it has no bytes.
+pub struct HandView {
+    nothing: (),
+}
+
+impl Model for HandView {
+    ghost use Rattle.mc_words.specs.View.{View, spent_view};
+
+    ghost Value = { View };
+
+    ghost view = { λ _. spent_view };
+}
+
+/// The table is lawful.
+pub struct LawfulTable;
+
+impl TableRule<Slot, HandView, Plan> for LawfulTable {
+    ghost use Rattle.std.specs.Prelude.{◌-◌};
+    ghost use Rattle.mc_words.specs.View.{new_view};
+    ghost use Rattle.mc_words.specs.Meaning.{Ruled};
+
+    ghost holds = { Ruled };
+
+    ghost first = { λ setup. new_view setup 0 (setup.hands - 1) };
+}
+
+pub(crate) type SharedTable = Table<Slot, HandView, Plan, LawfulTable, Global>;
+
+/// What a hand steps with.
+pub(crate) type HandSeat = Seat<Slot, HandView>;
+
+// What a step tells is picked by the function that makes it.
+impl Play<Slot, HandView> for Brand {
+    ghost use Rattle.std.specs.Prelude.{◌≡◌};
+
+    ghost then = { λ step me found now. now ≡ me };
+}

@@ -1,0 +1,81 @@
+//! One operation on one word, which is one event of the core.
+ghost use Rattle.std.specs.Prelude.{◌≡◌, ◌<◌, true, []};
+ghost use Rattle.mc_core.specs.declared.event.Step.{Step};
+ghost use Rattle.mc_core.specs.Codes.{plus, minus};
+ghost use Rattle.mc_words.specs.Arenas.{IsOfArena};
+ghost use Rattle.mc_words.specs.Happens.{Happens, HappensAt, IsSameHand, MayWrite, is_quiet};
+
+use crate::arena::Arena;
+use crate::rule::HandSeat;
+use mc_core::Step;
+use std::marker::Brand;
+
+impl Arena {
+    // The event looks at this word.
+    #[inline(always)]
+    pub(crate) fn look(&self, seat: &mut HandSeat, word: usize, step: Step) -> u64
+        ghost told: { Step }
+        requires is { told ≡ step }
+        requires still { is_quiet told ≡ true }
+        requires near { word < self.now.table.shared.table_id.words }
+        requires seat { IsOfArena self.now seat.old.table_id seat.old.me.0 }
+        requires may { MayWrite seat.old.me.0 told word (λ found. found) }
+        ensures seat { IsOfArena self.now seat.new.table_id seat.new.me.0 }
+        ensures out { seat.new.me.1 ≡ seat.old.me.1 }
+        ensures hand { IsSameHand seat.old.me.0 seat.new.me.0 }
+        ensures happens { HappensAt word result seat.old.me.0 [] told seat.new.me.0 }
+    {
+        self.table.shared.load::<Brand>(seat, word)
+    }
+
+    // The event writes this word.
+    #[inline(always)]
+    pub(crate) fn write(&self, seat: &mut HandSeat, word: usize, new: u64, step: Step)
+        ghost told: { Step }
+        requires is { told ≡ step }
+        requires still { is_quiet told ≡ true }
+        requires near { word < self.now.table.shared.table_id.words }
+        requires seat { IsOfArena self.now seat.old.table_id seat.old.me.0 }
+        requires may { MayWrite seat.old.me.0 told word (λ found. new) }
+        ensures seat { IsOfArena self.now seat.new.table_id seat.new.me.0 }
+        ensures out { seat.new.me.1 ≡ seat.old.me.1 }
+        ensures hand { IsSameHand seat.old.me.0 seat.new.me.0 }
+        ensures happens { Happens seat.old.me.0 [] told seat.new.me.0 }
+    {
+        self.table.shared.store::<Brand>(seat, word, new)
+    }
+
+    // The event adds to this word.
+    #[inline(always)]
+    pub(crate) fn add(&self, seat: &mut HandSeat, word: usize, more: u64, step: Step)
+        ghost told: { Step }
+        requires is { told ≡ step }
+        requires still { is_quiet told ≡ true }
+        requires near { word < self.now.table.shared.table_id.words }
+        requires seat { IsOfArena self.now seat.old.table_id seat.old.me.0 }
+        requires may { MayWrite seat.old.me.0 told word (plus more) }
+        ensures seat { IsOfArena self.now seat.new.table_id seat.new.me.0 }
+        ensures out { seat.new.me.1 ≡ seat.old.me.1 }
+        ensures hand { IsSameHand seat.old.me.0 seat.new.me.0 }
+        ensures happens { Happens seat.old.me.0 [] told seat.new.me.0 }
+    {
+        self.table.shared.fetch_add::<Brand>(seat, word, more);
+    }
+
+    // The event takes from this word.
+    #[inline(always)]
+    pub(crate) fn subtract(&self, seat: &mut HandSeat, word: usize, less: u64, step: Step)
+        ghost told: { Step }
+        requires is { told ≡ step }
+        requires still { is_quiet told ≡ true }
+        requires near { word < self.now.table.shared.table_id.words }
+        requires seat { IsOfArena self.now seat.old.table_id seat.old.me.0 }
+        requires may { MayWrite seat.old.me.0 told word (minus less) }
+        ensures seat { IsOfArena self.now seat.new.table_id seat.new.me.0 }
+        ensures out { seat.new.me.1 ≡ seat.old.me.1 }
+        ensures hand { IsSameHand seat.old.me.0 seat.new.me.0 }
+        ensures happens { Happens seat.old.me.0 [] told seat.new.me.0 }
+    {
+        self.table.shared.fetch_sub::<Brand>(seat, word, less);
+    }
+}
