@@ -6,6 +6,7 @@ use mathlib.Core.Option.{some, none}
 use lib.ListN.{get_elem?}
 use Rattle.atomic_table.specs.Table as table
 use Rattle.atomic_table.specs.Table.{Act, Valid, stepped, keeps, carried_after, Allows}
+use Rattle.mc_core.specs.declared.head.Head.{Head}
 use Rattle.mc_core.specs.declared.event.Step.{Step}
 use Rattle.mc_core.specs.declared.event.Step.TheVariants as core
 use Rattle.mc_core.specs.State.{State, is_held_by, is_hand, has_slabs, has_stripe, stripe_at}
@@ -25,6 +26,13 @@ use Rattle.mc_words.specs.Meaning.{Words, WordsOf, AreCut, Ruled}
 use Rattle.mc_words.specs.Happens.{LawfulView, Happens, HappensAt, MayWrite, is_quiet}
 use Rattle.mc_words.specs.Told.{Sits, StaysOut, TellsFound, TellsEvent}
 use Rattle.mc_words.proofs.Rules.{lawful_view, ruled_quiet}
+
+-- the columns that words have
+abbrev pub Columns : Type 0
+Columns = ℕ × List ℕ × List Head × List ℕ
+
+abbrev pub columns : State → Columns
+columns s = (s.slabs_lock, s.stripe_locks, s.heads, s.words)
 
 pub plain_if : (step : Step) → is_quiet step ≡ true → is_plain step ≡ true
 plain_if core.TakeSlabs q = absurd (cc)
@@ -77,11 +85,11 @@ alone_if (core.Cut page index) q = refl
 alone_if (core.Again chunk issue) q = refl
 
 -- whether a hand has a value is whether it has its lock
-has_if : {X : Type 0} (b : Bool) (x : X) → is_some (if b then Some x else None) ≡ b
+pub has_if : {X : Type 0} (b : Bool) (x : X) → is_some (if b then Some x else None) ≡ b
 has_if true x = refl
 has_if false x = refl
 
-map_map : {A B C : Type 0} (f : A → B) (g : B → C) (xs : List A) → map g (map f xs) ≡ map (λ x. g (f x)) xs
+pub map_map : {A B C : Type 0} (f : A → B) (g : B → C) (xs : List A) → map g (map f xs) ≡ map (λ x. g (f x)) xs
 map_map f g [] = refl
 map_map f g (x ∷ xs) = ap (λ l. g (f x) ∷ l) (map_map f g xs)
 

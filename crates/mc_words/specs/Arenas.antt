@@ -1,11 +1,10 @@
 -- What clauses say of an arena and of a hand.
-use Rattle.std.specs.Prelude.{◌≡◌, ℕ, List}
+use Rattle.std.specs.Prelude.{◌≡◌}
 use Rattle.atomic_table.specs.Seated.{TableId}
 use Rattle.mc_words.specs.declared.arena.Arena.{Arena}
 use Rattle.mc_words.specs.declared.hand.Hand.{Hand}
 use Rattle.mc_words.specs.View.{Setup, View}
 use Rattle.mc_words.specs.Happens.{LawfulView}
-use Rattle.mc_words.specs.Out.{locks_in}
 
 -- what the hand knows
 abbrev pub view : Hand → View
@@ -24,7 +23,3 @@ pub record IsOfArena (arena : Arena) (table : TableId) (view : View) : Type 0 wh
 -- the hand is one of the arena's
 abbrev pub IsHandOf : Arena → Hand → Type 0
 IsHandOf arena hand = IsOfArena arena hand.seat.table_id (view hand)
-
--- the hand has these locks, the last taken first
-abbrev pub locks_of : Hand → List ℕ
-locks_of hand = locks_in hand.locks

@@ -3,5 +3,7 @@ pub mod Layout
 pub mod Meaning
 pub mod Happens
 pub mod Told
+pub mod Taking
 pub mod Out
+pub mod Views
 pub mod Arenas

@@ -1,23 +1,36 @@
--- Which slots are out with a hand.
-use Rattle.std.specs.Prelude.{◌≡◌, ℕ, ◌+◌, ◌==◌, Bool, List, [], ◌∷◌, map, is_some}
-use Rattle.std.specs.List.{list_any, range_with_len}
+-- Which locks a hand has.
+use Rattle.std.specs.Prelude.{◌≡◌, ℕ, zero, suc, ◌==◌, Bool, true, false, List, [], ◌∷◌, map, is_some}
+use Rattle.std.specs.List.{range_with_len}
 use Rattle.mc_words.specs.declared.slot.Slot.{Slot}
 use Rattle.mc_words.specs.declared.locks.Locks.{Locks}
-use Rattle.mc_words.specs.declared.locks.Locks.TheVariants.{Neither, One, Two}
+use Rattle.mc_words.specs.declared.locks.Locks.TheVariants.{Neither, Slabs, Stripe, SlabsLast, StripeLast}
 use Rattle.mc_words.specs.View.{View}
 
--- the locks whose values are out, the last taken first; 0 is the slabs' lock, and i + 1 that of stripe i
-abbrev pub locks_out : List (ℕ × Slot) → List ℕ
-locks_out out = map (λ entry. entry.0) out
+-- the slots of the values that are out, that of the last taken first
+abbrev pub slots_out : List (ℕ × Slot) → List ℕ
+slots_out out = map (λ entry. entry.0) out
 
-abbrev pub locks_in : Locks → List ℕ
-locks_in Neither = []
-locks_in (One lock) = lock ∷ []
-locks_in (Two last first) = last ∷ first ∷ []
+abbrev pub slots_in : Locks → List ℕ
+slots_in Neither = []
+slots_in Slabs = zero ∷ []
+slots_in (Stripe stripe) = suc stripe ∷ []
+slots_in (SlabsLast stripe) = zero ∷ suc stripe ∷ []
+slots_in (StripeLast stripe) = suc stripe ∷ zero ∷ []
 
-abbrev pub is_out : List ℕ → ℕ → Bool
-is_out locks lock = list_any (λ other. other == lock) locks
+abbrev pub has_slabs_in : Locks → Bool
+has_slabs_in Neither = false
+has_slabs_in Slabs = true
+has_slabs_in (Stripe stripe) = false
+has_slabs_in (SlabsLast stripe) = true
+has_slabs_in (StripeLast stripe) = true
 
--- the view has the values of these locks and no other
-abbrev pub HasOut : View → List ℕ → Type 0
-HasOut view locks = (is_some view.slabs ≡ is_out locks 0) × (map is_some view.stripes ≡ map (λ stripe. is_out locks (1 + stripe)) (range_with_len 0 view.setup.config.stripes))
+abbrev pub has_stripe_in : Locks → ℕ → Bool
+has_stripe_in Neither other = false
+has_stripe_in Slabs other = false
+has_stripe_in (Stripe stripe) other = stripe == other
+has_stripe_in (SlabsLast stripe) other = stripe == other
+has_stripe_in (StripeLast stripe) other = stripe == other
+
+-- the view has the values behind these locks and no other
+abbrev pub HasLocks : View → Locks → Type 0
+HasLocks view locks = (is_some view.slabs ≡ has_slabs_in locks) × (map is_some view.stripes ≡ map (has_stripe_in locks) (range_with_len 0 view.setup.config.stripes))

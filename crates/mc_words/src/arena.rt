@@ -1,5 +1,5 @@
 //! The arena.
-ghost use Rattle.std.specs.Prelude.{◌≡◌, ◌+◌, ◌^◌, ◌<◌};
+ghost use Rattle.std.specs.Prelude.{◌≡◌, ◌+◌, ◌^◌, ◌<◌, ◌≤◌};
 ghost use Rattle.mc_core.specs.State.{most_of};
 ghost use Rattle.mc_words.specs.Layout.{word_count};
 
@@ -16,6 +16,7 @@ pub struct Arena {
     ghost planned: { table.shared.key ≡ plan },
     ghost words: { table.shared.table_id.words ≡ word_count plan },
     ghost slots: { table.shared.table_id.slots ≡ 1 + plan.config.stripes },
+    ghost few: { plan.config.stripes ≤ 64 },
     ghost most_is: { most ≡ most_of plan.table },
     ghost small: { word_count plan < 2 ^ 63 },
 }

@@ -1,6 +1,6 @@
 //! The hands of an arena.
 ghost use Rattle.std.specs.Prelude.{◌≡◌, ◌<◌, length, Some};
-ghost use Rattle.mc_words.specs.Out.{HasOut, locks_in, locks_out};
+ghost use Rattle.mc_words.specs.Out.{HasLocks, slots_in, slots_out};
 
 use crate::locks::Locks;
 use crate::rule::HandSeat;
@@ -16,6 +16,6 @@ pub struct Hand {
     ghost numbered: { seat.me.0.row.ids.number ≡ Some number },
     ghost small: { number < 64 },
     ghost counted: { chunks ≡ length seat.me.0.row.holdings },
-    ghost out: { locks_out seat.me.1 ≡ locks_in locks },
-    ghost known: { HasOut seat.me.0 (locks_in locks) },
+    ghost out: { slots_out seat.me.1 ≡ slots_in locks },
+    ghost locked: { HasLocks seat.me.0 locks },
 }

@@ -4,6 +4,7 @@
 pub mod arena;
 pub mod hand;
 pub mod held;
+pub mod locking;
 pub mod locks;
 pub mod plan;
 pub mod rule;

@@ -1,10 +1,20 @@
-//! Which locks a hand has.
+//! Which locks there are, and which a hand has.
 
-/// The locks of a hand, by number: 0 is the slabs' lock, and `i + 1` that of stripe `i`.
-#[derive(Clone, Copy, Drop)]
-pub(crate) enum Locks {
+/// A lock: that of the slabs, or of a stripe.
+#[derive(Clone, Copy)]
+pub enum Lock {
+    SlabsLock,
+    StripeLock(u64),
+}
+
+/// The locks of a hand.
+#[derive(Clone, Copy)]
+pub enum Locks {
     Neither,
-    One(u64),
-    /// The lock that was taken last, and the other.
-    Two(u64, u64),
+    Slabs,
+    Stripe(u64),
+    /// Both, of which the lock of the slabs was taken last.
+    SlabsLast(u64),
+    /// Both, of which the stripe's was taken last.
+    StripeLast(u64),
 }

@@ -1,0 +1,73 @@
+-- What a hand knows after a step, where no stripe's history grew.
+use Rattle.std.proofs.Common.{◌≡◌, ℕ, ◌+◌, ◌==◌, Bool, true, false, List, [], ◌∷◌, ◌++◌, map, drop, length, Option, Some, None, refl, sym, ap, ap₂, subst, ◌∙◌, if◌then◌else◌, append-nil}
+use Rattle.mc_stripe.specs.declared.history.Call.{Call}
+use Rattle.mc_stripe.specs.StripeState.{ReadyStripe}
+use Rattle.mc_core.specs.declared.event.Step.{Step}
+use Rattle.mc_core.specs.declared.event.Step.TheVariants as core
+use Rattle.mc_core.specs.State.{State, number_at}
+use Rattle.mc_core.specs.Past.{Moment, Knowledge, Own, Saying, Known, Sight, history_at, new_calls, told, own_after, own_calls_after, knowledge_at, knowledge_after, hold_after, seen_after, sights_of, sayings_of, known_of, moment_stepped}
+use Rattle.mc_core.specs.Laws.{MayStep}
+use Rattle.mc_core.specs.Run.{after_step}
+use Rattle.mc_core.proofs.Learns.{are_learned}
+use Rattle.mc_core.proofs.Learned.{is_join}
+
+drop_all : {A : Type 0} (xs : List A) → drop (length xs) xs ≡ []
+drop_all [] = refl
+drop_all (x ∷ xs) = drop_all xs
+
+module _ (before now : State) (same : now.stripes ≡ before.stripes) where
+  none_new : (stripe : ℕ) → new_calls before now stripe ≡ []
+  none_new stripe =
+      ap (λ (stripes : List ReadyStripe). drop (length (history_at before stripe)) (Rattle.std.specs.Prelude.slice_index_or stripes stripe Rattle.mc_stripe.specs.StripeState.new_stripe).state.history) same
+      ∙ drop_all (history_at before stripe)
+
+  none_told : (place : ℕ) (rows : List (List Call)) → told before now place rows ≡ rows
+  none_told place [] = refl
+  none_told place (calls ∷ rows) = ap₂ (λ (calls : List Call) (rows : List (List Call)). calls ∷ rows) (ap (λ more. calls ++ more) (none_new place) ∙ append-nil calls) (none_told (place + 1) rows)
+
+  own_same : (number : Option ℕ) (own : Own) → own_after before now number own ≡ own
+  own_same None own = refl
+  own_same (Some number) own = elim (own.number == number) as (λ (b : Bool). (if b then record own { calls = told before now 0 own.calls } else own) ≡ own) [
+    | true ↦ ap (λ calls. record own { calls = calls }) (none_told 0 own.calls)
+    | false ↦ refl
+  ]
+
+  pub mine_same : (hand : ℕ) (mine : List Own) → own_calls_after before now hand mine ≡ mine
+  mine_same hand [] = refl
+  mine_same hand (own ∷ mine) = ap₂ (λ (own : Own) (mine : List Own). own ∷ mine) (own_same (number_at before hand) own) (mine_same hand mine)
+
+no_join : (step : Step) → is_join step ≡ false → (kept spent : ℕ) → step ≡ core.Join kept spent → ⊥
+no_join step alone kept spent e = absurd (let both : true ≡ false = ap is_join (sym e) ∙ alone in cc)
+
+module _ (m : Moment) (id : ℕ) (step : Step) (alone : is_join step ≡ false) (may : MayStep m id step) (same : (after_step m.state id step).stripes ≡ m.state.stripes) where
+  abbrev knew : Knowledge
+  knew = knowledge_at m.past id
+
+  -- it saw, says and knows more, its hold and what it saw of histories follow the step, and it made no call
+  pub knows_after : knowledge_at (moment_stepped m id step).past id ≡ record {
+        saw = knew.saw ++ sights_of m.state step;
+        hold = hold_after m.state.slabs step knew.hold;
+        mine = knew.mine;
+        seen = seen_after m.state step knew.seen;
+        said = knew.said ++ sayings_of m.state id step;
+        known = knew.known ++ known_of m.state id step;
+      }
+  knows_after =
+      are_learned.steps m id step may (λ kept spent e. no_join step alone kept spent e)
+      ∙ ap (λ (mine : List Own). record {
+        saw = knew.saw ++ sights_of m.state step;
+        hold = hold_after m.state.slabs step knew.hold;
+        mine = mine;
+        seen = seen_after m.state step knew.seen;
+        said = knew.said ++ sayings_of m.state id step;
+        known = knew.known ++ known_of m.state id step;
+      }) (mine_same m.state (after_step m.state id step) same id knew.mine)
+
+-- what is said and known is as it was, where nothing came
+pub said_none : (saw : List Sight) (knows : Knowledge) (hold : Rattle.mc_core.specs.Past.Hold) (seen : List (List Call)) → record { saw = saw; hold = hold; mine = knows.mine; seen = seen; said = knows.said ++ []; known = knows.known ++ [] }
+    ≡ record knows { saw = saw; hold = hold; seen = seen }
+said_none saw knows hold seen = λ k. record { saw = saw; hold = hold; mine = knows.mine; seen = seen; said = append-nil knows.said k; known = append-nil knows.known k }
+
+-- nothing was found, either
+pub knows_same : (knows : Knowledge) → record { saw = knows.saw ++ []; hold = knows.hold; mine = knows.mine; seen = knows.seen; said = knows.said ++ []; known = knows.known ++ [] } ≡ knows
+knows_same knows = λ k. record { saw = append-nil knows.saw k; hold = knows.hold; mine = knows.mine; seen = knows.seen; said = append-nil knows.said k; known = append-nil knows.known k }

@@ -1,0 +1,5 @@
+use Rattle.mc_words.specs.Taking.{GivesValue}
+use Rattle.mc_words.proofs.arena.Arena.give.Given as goal
+
+abbrev pub ghosts-store : goal.ghosts-store
+ghosts-store g a = record { then = λ at me written now. GivesValue g.told.0 me now }

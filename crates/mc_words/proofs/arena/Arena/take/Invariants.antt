@@ -1,0 +1,5 @@
+use Rattle.mc_words.specs.Taking.{Takes}
+use Rattle.mc_words.proofs.arena.Arena.take.Given as goal
+
+abbrev pub ghosts-compare_exchange : goal.ghosts-compare_exchange
+ghosts-compare_exchange g a = record { then = Takes g.told }
