@@ -2,5 +2,8 @@ pub mod Written
 pub mod Rules
 pub mod Quiet
 pub mod TakeAndGive
-pub mod Slots
+pub mod OutFirst
 pub mod Knows
+pub mod LockViews
+pub mod Locked
+pub mod Heads

@@ -32,7 +32,8 @@ use Rattle.mc_words.specs.Layout.{lock_word, locks_from}
 use Rattle.mc_words.specs.Meaning.{Words, AreWords, WordsOf, AreCut, Has, Ruled}
 use Rattle.mc_words.specs.Happens.{LawfulView, Happens, is_quiet}
 use Rattle.mc_words.specs.Told.{Sits}
-use Rattle.mc_words.specs.Taking.{slot_of, take_of, miss_of, give_of, IsLockOf, HasValue, can_give, HasStripes, Gains, Loses, IsOneHand, TakesValue, Takes, GivesValue}
+use Rattle.mc_words.specs.Slots.{slot_of}
+use Rattle.mc_words.specs.Taking.{take_of, miss_of, give_of, IsLockOf, HasValue, can_give, HasStripes, Gains, Loses, IsOneHand, TakesValue, Takes, GivesValue}
 use Rattle.mc_words.proofs.Rules.{ruled_next, is_view_now}
 use Rattle.mc_words.proofs.Written.{slabs_lock_written, lock_written, lock_read, unwritten}
 use Rattle.mc_words.proofs.Quiet.{Columns, columns, Goes, goes, was, map_map, has_if}
@@ -226,12 +227,13 @@ module _ (setup : Setup) (slots id : ℕ) (me : Sits) (numbered : is_some me.0.r
           ∙ (ap (λ w. if is_held_by w (number_at m.state id) then Some (stripe_at m.state stripe) else None) (get_or-set_same m.state.stripe_locks stripe (core_locks.lock_word m.state id) 0 (omega arith) ∙ word_is)
           ∙ (ap (λ b. if b then Some (stripe_at m.state stripe) else None) has_it ∙ ap Some (sym has)))
 
-      gains : (l : Lock) → IsLockOf setup l → Gains l me.0 (view_at setup me.0.spare (moment_stepped m id (take_of l)) id)
-      gains SlabsLock within = (
+      gains : (l : Lock) → IsLockOf setup l → word_of m.state l ≡ 0 → Gains l me.0 (view_at setup me.0.spare (moment_stepped m id (take_of l)) id)
+      gains SlabsLock within zero_is = (
+        ap (λ (v : View). is_some v.slabs) own ∙ (has_if (has_slabs m.state id) m.state.slabs ∙ (ap (λ w. is_held_by w (number_at m.state id)) zero_is ∙ free_lock (number_at m.state id))),
         has_if (is_held_by (core_locks.lock_word m.state id) (number_at m.state id)) m.state.slabs ∙ (ap (λ w. is_held_by w (number_at m.state id)) word_is ∙ has_it),
         ap (λ (v : View). map is_some v.stripes) (sym own),
       )
-      gains (StripeLock stripe) within =
+      gains (StripeLock stripe) within zero_is =
           let count = lock_count in
           let now : State = (moment_stepped m id (take_of (StripeLock stripe))).state in
           let each : (i : ℕ) → is_some (held_stripe m.state id i) ≡ false → is_some (held_stripe now id i) ≡ (stripe == i) = λ i none. elim (cases_eq stripe i) [
@@ -263,7 +265,7 @@ module _ (setup : Setup) (slots id : ℕ) (me : Sits) (numbered : is_some me.0.r
               slot = slot;
               out = refl;
               value = has_value lock slot near has;
-              gains = gains lock near;
+              gains = gains lock near word_free;
               same = one_hand taken take_next;
               lawful = lawful_next taken (slice_set t.words place (number + 1)) take_next written (take_slabs m.state id lock);
               happens = happens_by (take_of lock) can_take;

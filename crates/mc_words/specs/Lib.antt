@@ -3,6 +3,7 @@ pub mod Layout
 pub mod Meaning
 pub mod Happens
 pub mod Told
+pub mod Slots
 pub mod Taking
 pub mod Out
 pub mod Views

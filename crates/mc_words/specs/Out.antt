@@ -1,10 +1,11 @@
 -- Which locks a hand has.
-use Rattle.std.specs.Prelude.{◌≡◌, ℕ, zero, suc, ◌==◌, Bool, true, false, List, [], ◌∷◌, map, is_some}
+use Rattle.std.specs.Prelude.{◌≡◌, ℕ, zero, suc, ◌<◌, ◌==◌, Bool, true, false, List, [], ◌∷◌, length, map, is_some, if◌then◌else◌, Some}
 use Rattle.std.specs.List.{range_with_len}
 use Rattle.mc_words.specs.declared.slot.Slot.{Slot}
 use Rattle.mc_words.specs.declared.locks.Locks.{Locks}
 use Rattle.mc_words.specs.declared.locks.Locks.TheVariants.{Neither, Slabs, Stripe, SlabsLast, StripeLast}
 use Rattle.mc_words.specs.View.{View}
+use Rattle.mc_words.specs.Told.{Sits}
 
 -- the slots of the values that are out, that of the last taken first
 abbrev pub slots_out : List (ℕ × Slot) → List ℕ
@@ -34,3 +35,66 @@ has_stripe_in (StripeLast stripe) other = stripe == other
 -- the view has the values behind these locks and no other
 abbrev pub HasLocks : View → Locks → Type 0
 HasLocks view locks = (is_some view.slabs ≡ has_slabs_in locks) × (map is_some view.stripes ≡ map (has_stripe_in locks) (range_with_len 0 view.setup.config.stripes))
+
+-- a hand's notes: its number, how many chunks it holds, and its locks
+abbrev pub IsNoted : Sits → ℕ → ℕ → Locks → Type 0
+IsNoted me number chunks locks =
+    (me.0.row.ids.number ≡ Some number) × (number < 64) × (chunks ≡ length me.0.row.holdings) × (slots_out me.1 ≡ slots_in locks) × HasLocks me.0 locks
+
+-- with the lock of the slabs, too
+abbrev pub with_slabs : Locks → Locks
+with_slabs Neither = Slabs
+with_slabs Slabs = Slabs
+with_slabs (Stripe stripe) = SlabsLast stripe
+with_slabs (SlabsLast stripe) = SlabsLast stripe
+with_slabs (StripeLast stripe) = StripeLast stripe
+
+-- without it
+abbrev pub without_slabs : Locks → Locks
+without_slabs Neither = Neither
+without_slabs Slabs = Neither
+without_slabs (Stripe stripe) = Stripe stripe
+without_slabs (SlabsLast stripe) = Stripe stripe
+without_slabs (StripeLast stripe) = Stripe stripe
+
+-- with the lock of this stripe, too
+abbrev pub with_stripe : ℕ → Locks → Locks
+with_stripe stripe Neither = Stripe stripe
+with_stripe stripe Slabs = StripeLast stripe
+with_stripe stripe (Stripe other) = Stripe other
+with_stripe stripe (SlabsLast other) = SlabsLast other
+with_stripe stripe (StripeLast other) = StripeLast other
+
+-- without the stripe's lock
+abbrev pub without_stripe : Locks → Locks
+without_stripe Neither = Neither
+without_stripe Slabs = Slabs
+without_stripe (Stripe stripe) = Neither
+without_stripe (SlabsLast stripe) = Slabs
+without_stripe (StripeLast stripe) = Slabs
+
+-- the hand has no stripe's lock
+abbrev pub has_no_stripe : Locks → Bool
+has_no_stripe Neither = true
+has_no_stripe Slabs = true
+has_no_stripe (Stripe stripe) = false
+has_no_stripe (SlabsLast stripe) = false
+has_no_stripe (StripeLast stripe) = false
+
+-- the lock of this slot was taken before the other one
+abbrev pub is_behind : Locks → ℕ → Bool
+is_behind (SlabsLast stripe) zero = false
+is_behind (SlabsLast stripe) (suc slot) = true
+is_behind (StripeLast stripe) zero = true
+is_behind (StripeLast stripe) (suc slot) = false
+is_behind other slot = false
+
+-- the two in the other order
+abbrev pub turned_locks : Locks → Locks
+turned_locks (SlabsLast stripe) = StripeLast stripe
+turned_locks (StripeLast stripe) = SlabsLast stripe
+turned_locks other = other
+
+-- the lock of this slot, which is one of them, as the one that was taken last
+abbrev pub with_last : ℕ → Locks → Locks
+with_last slot locks = if is_behind locks slot then turned_locks locks else locks

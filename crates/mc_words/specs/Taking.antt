@@ -1,5 +1,5 @@
 -- Locks that are taken and given, of the slabs and of stripes alike.
-use Rattle.std.specs.Prelude.{◌≡◌, ◌≢◌, ℕ, zero, suc, ◌≤◌, ◌==◌, Bool, true, false, [], ◌∷◌, map, is_some, is_none, slice_index_or, Some, None}
+use Rattle.std.specs.Prelude.{◌≡◌, ◌≢◌, ℕ, ◌≤◌, ◌==◌, Bool, true, false, [], ◌∷◌, map, is_some, is_none, slice_index_or, Some, None}
 use Rattle.std.specs.List.{range_with_len}
 use Rattle.atomic_table.specs.Table.{rest}
 use Rattle.mc_core.specs.declared.event.Step.{Step}
@@ -13,12 +13,8 @@ use Rattle.mc_words.specs.declared.locks.Lock.{Lock}
 use Rattle.mc_words.specs.declared.locks.Lock.TheVariants.{SlabsLock, StripeLock}
 use Rattle.mc_words.specs.View.{Setup, View}
 use Rattle.mc_words.specs.Happens.{LawfulView, Happens, HappensAt}
+use Rattle.mc_words.specs.Slots.{slot_of}
 use Rattle.mc_words.specs.Told.{Sits, At, StaysOut}
-
--- the slot of the value behind the lock
-abbrev pub slot_of : Lock → ℕ
-slot_of SlabsLock = zero
-slot_of (StripeLock stripe) = suc stripe
 
 -- the events by which it is taken, missed and given
 abbrev pub take_of : Lock → Step
@@ -61,9 +57,9 @@ can_give Empty = false
 abbrev pub HasStripes : View → (ℕ → Bool) → Type 0
 HasStripes view has = map is_some view.stripes ≡ map has (range_with_len 0 view.setup.config.stripes)
 
--- the hand has the lock, and otherwise what it had
+-- the hand has the lock, which it hadn't, and otherwise what it had
 abbrev pub Gains : Lock → View → View → Type 0
-Gains SlabsLock view now = (is_some now.slabs ≡ true) × (map is_some now.stripes ≡ map is_some view.stripes)
+Gains SlabsLock view now = (is_some view.slabs ≡ false) × (is_some now.slabs ≡ true) × (map is_some now.stripes ≡ map is_some view.stripes)
 Gains (StripeLock stripe) view now = (is_some now.slabs ≡ is_some view.slabs) × (HasStripes view (λ other. false) → HasStripes now (λ other. stripe == other))
 
 -- it hasn't the lock any more, and otherwise what it had

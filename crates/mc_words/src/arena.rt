@@ -1,7 +1,7 @@
 //! The arena.
 ghost use Rattle.std.specs.Prelude.{◌≡◌, ◌+◌, ◌^◌, ◌<◌, ◌≤◌};
-ghost use Rattle.mc_core.specs.State.{most_of};
-ghost use Rattle.mc_words.specs.Layout.{word_count};
+ghost use Rattle.mc_core.specs.State.{most_of, page_words};
+ghost use Rattle.mc_words.specs.Layout.{data_from, heads_from, pages_from, word_count};
 
 use crate::plan::Plan;
 use crate::rule::SharedTable;
@@ -11,12 +11,19 @@ use crate::rule::SharedTable;
 pub struct Arena {
     pub(crate) table: SharedTable,
     pub(crate) plan: Plan,
+    /// The word of page 0, that of the header of its chunk 0, and its first data word.
+    pub(crate) first_page: usize,
+    pub(crate) first_head: usize,
+    pub(crate) first_data: usize,
     /// The most chunks of a page.
-    pub(crate) most: u64,
+    pub(crate) most: usize,
+    /// The words of a page.
+    pub(crate) words_a_page: u64,
     ghost planned: { table.shared.key ≡ plan },
     ghost words: { table.shared.table_id.words ≡ word_count plan },
     ghost slots: { table.shared.table_id.slots ≡ 1 + plan.config.stripes },
     ghost few: { plan.config.stripes ≤ 64 },
-    ghost most_is: { most ≡ most_of plan.table },
+    ghost places: { (first_page ≡ pages_from plan) × (first_head ≡ heads_from plan) × (first_data ≡ data_from plan) },
+    ghost counts: { (most ≡ most_of plan.table) × (words_a_page ≡ page_words plan.table) },
     ghost small: { word_count plan < 2 ^ 63 },
 }

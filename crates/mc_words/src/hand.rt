@@ -1,8 +1,7 @@
 //! The hands of an arena.
-ghost use Rattle.std.specs.Prelude.{◌≡◌, ◌<◌, length, Some};
-ghost use Rattle.mc_words.specs.Out.{HasLocks, slots_in, slots_out};
+ghost use Rattle.mc_words.specs.Out.{IsNoted};
 
-use crate::locks::Locks;
+use crate::locks::{Lock, Locks};
 use crate::rule::HandSeat;
 
 /// What a thread acts with: who it is, which locks it has, and how many chunks it holds.
@@ -13,9 +12,23 @@ pub struct Hand {
     /// How many chunks it holds.
     pub(crate) chunks: u64,
     pub(crate) locks: Locks,
-    ghost numbered: { seat.me.0.row.ids.number ≡ Some number },
-    ghost small: { number < 64 },
-    ghost counted: { chunks ≡ length seat.me.0.row.holdings },
-    ghost out: { slots_out seat.me.1 ≡ slots_in locks },
-    ghost locked: { HasLocks seat.me.0 locks },
+    ghost noted: { IsNoted seat.me number chunks locks },
+}
+
+impl Hand {
+    ghost use Rattle.std.specs.Prelude.{◌≡◌};
+    ghost use Rattle.mc_words.specs.Out.{with_last};
+    ghost use Rattle.mc_words.specs.Slots.{slot_of};
+
+    // Brings the value behind this lock, which the hand has, before the other.
+    pub(crate) fn bring_forward(&mut self, lock: Lock)
+        ensures locks { self.new.locks ≡ with_last (slot_of lock) self.old.locks }
+        ensures table { self.new.seat.table_id ≡ self.old.seat.table_id }
+        ensures view { self.new.seat.me.0 ≡ self.old.seat.me.0 }
+    {
+        if self.locks.is_behind(lock) {
+            self.seat.turn();
+            self.locks = self.locks.turned();
+        }
+    }
 }

@@ -5,7 +5,8 @@ ghost use Rattle.mc_words.specs.declared.slot.Slot.{Slot};
 ghost use Rattle.mc_words.specs.Arenas.{IsOfArena, setup_of};
 ghost use Rattle.mc_words.specs.Happens.{Happens, HappensAt, IsSameHand};
 ghost use Rattle.mc_words.specs.Layout.{lock_word};
-ghost use Rattle.mc_words.specs.Taking.{Gains, GivesValue, HasValue, IsLockOf, IsOneHand, Loses, can_give, give_of, miss_of, slot_of, take_of};
+ghost use Rattle.mc_words.specs.Slots.{slot_of};
+ghost use Rattle.mc_words.specs.Taking.{Gains, GivesValue, HasValue, IsLockOf, IsOneHand, Loses, can_give, give_of, miss_of, take_of};
 ghost use Rattle.mc_words.specs.Out.{slots_out};
 
 use crate::arena::Arena;
@@ -13,19 +14,6 @@ use crate::locks::Lock;
 use crate::rule::HandSeat;
 use crate::slot::Slot;
 use std::marker::Brand;
-
-impl Lock {
-    /// The slot of the value behind the lock; its word is the next.
-    pub(crate) fn slot(self) -> usize
-        requires { slot_of self < 65 }
-        ensures slot { result ≡ slot_of self }
-    {
-        match self {
-            Lock::SlabsLock => 0,
-            Lock::StripeLock(stripe) => stripe as usize + 1,
-        }
-    }
-}
 
 impl Arena {
     // Takes the lock, if its word is 0, and the value behind it out of its slot.

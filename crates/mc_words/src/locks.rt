@@ -1,10 +1,26 @@
 //! Which locks there are, and which a hand has.
+ghost use Rattle.std.specs.Prelude.{◌≡◌, ◌<◌};
+ghost use Rattle.mc_words.specs.Out.{has_no_stripe, is_behind, turned_locks, with_slabs, with_stripe, without_slabs, without_stripe};
+ghost use Rattle.mc_words.specs.Slots.{slot_of};
 
 /// A lock: that of the slabs, or of a stripe.
 #[derive(Clone, Copy)]
 pub enum Lock {
     SlabsLock,
     StripeLock(u64),
+}
+
+impl Lock {
+    /// The number of the slot behind the lock, whose word is the next.
+    pub(crate) fn slot(self) -> usize
+        requires few { slot_of self < 65 }
+        ensures slot { result ≡ slot_of self }
+    {
+        match self {
+            Lock::SlabsLock => 0,
+            Lock::StripeLock(stripe) => stripe as usize + 1,
+        }
+    }
 }
 
 /// The locks of a hand.
@@ -17,4 +33,72 @@ pub enum Locks {
     SlabsLast(u64),
     /// Both, of which the stripe's was taken last.
     StripeLast(u64),
+}
+
+impl Locks {
+    /// With the lock of the slabs, too.
+    pub(crate) fn with_slabs(self) -> Locks
+        ensures locks { result ≡ with_slabs self }
+    {
+        match self {
+            Locks::Neither | Locks::Slabs => Locks::Slabs,
+            Locks::Stripe(stripe) => Locks::SlabsLast(stripe),
+            both => both,
+        }
+    }
+
+    /// Without it.
+    pub(crate) fn without_slabs(self) -> Locks
+        ensures locks { result ≡ without_slabs self }
+    {
+        match self {
+            Locks::Neither | Locks::Slabs => Locks::Neither,
+            Locks::Stripe(stripe) | Locks::SlabsLast(stripe) | Locks::StripeLast(stripe) => {
+                Locks::Stripe(stripe)
+            }
+        }
+    }
+
+    /// With the lock of this stripe, too.
+    pub(crate) fn with_stripe(self, stripe: u64) -> Locks
+        ensures locks { result ≡ with_stripe stripe self }
+    {
+        match self {
+            Locks::Neither => Locks::Stripe(stripe),
+            Locks::Slabs => Locks::StripeLast(stripe),
+            other => other,
+        }
+    }
+
+    /// Without the stripe's lock.
+    pub(crate) fn without_stripe(self) -> Locks
+        ensures locks { result ≡ without_stripe self }
+    {
+        match self {
+            Locks::Neither | Locks::Stripe(_) => Locks::Neither,
+            Locks::Slabs | Locks::SlabsLast(_) | Locks::StripeLast(_) => Locks::Slabs,
+        }
+    }
+
+    /// Whether this lock, which is one of them, was taken before the other.
+    pub(crate) fn is_behind(self, lock: Lock) -> bool
+        ensures behind { result ≡ is_behind self (slot_of lock) }
+    {
+        match self {
+            Locks::SlabsLast(_) => matches!(lock, Lock::StripeLock(_)),
+            Locks::StripeLast(_) => matches!(lock, Lock::SlabsLock),
+            _ => false,
+        }
+    }
+
+    /// The two in the other order.
+    pub(crate) fn turned(self) -> Locks
+        ensures locks { result ≡ turned_locks self }
+    {
+        match self {
+            Locks::SlabsLast(stripe) => Locks::StripeLast(stripe),
+            Locks::StripeLast(stripe) => Locks::SlabsLast(stripe),
+            other => other,
+        }
+    }
 }

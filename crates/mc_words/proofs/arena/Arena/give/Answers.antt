@@ -3,9 +3,10 @@ use Rattle.atomic_table.specs.Table.{Allows, rest}
 use Rattle.mc_words.specs.View.{Setup}
 use Rattle.mc_words.specs.Meaning.{Ruled}
 use Rattle.mc_words.specs.Told.{Sits}
-use Rattle.mc_words.specs.Taking.{slot_of, GivesValue}
+use Rattle.mc_words.specs.Slots.{slot_of}
+use Rattle.mc_words.specs.Taking.{GivesValue}
 use Rattle.mc_words.proofs.Quiet.{has_number}
-use Rattle.mc_words.proofs.Slots.{few_locks, first_slot}
+use Rattle.mc_words.proofs.OutFirst.{few_locks, first_slot}
 use Rattle.mc_words.proofs.TakeAndGive.{gives_back}
 use Rattle.mc_words.proofs.arena.Arena.give.Goals as goal
 
@@ -13,7 +14,7 @@ pub slot-slot-requires : goal.slot-slot-requires
 slot-slot-requires g c =
     let (is, (near, more)) = c.requires in
     let a = c.args.self.now in
-    few_locks a.table.shared.key a.plan c.args.lock g.told.0 a.planned a.few (ap (λ t. t.0) is) near
+    record { few = few_locks a.table.shared.key a.plan c.args.lock g.told.0 a.planned a.few (ap (λ t. t.0) is) near }
 
 pub exchange-requires : goal.exchange-requires
 exchange-requires g c =

@@ -5,9 +5,10 @@ use Rattle.atomic_table.specs.Table.{Allows, step}
 use Rattle.mc_words.specs.View.{Setup, View}
 use Rattle.mc_words.specs.Meaning.{Ruled}
 use Rattle.mc_words.specs.Happens.{Happens, HappensAt}
-use Rattle.mc_words.specs.Taking.{slot_of, take_of, miss_of, Takes}
+use Rattle.mc_words.specs.Slots.{slot_of}
+use Rattle.mc_words.specs.Taking.{take_of, miss_of, Takes}
 use Rattle.mc_words.proofs.Quiet.{has_number}
-use Rattle.mc_words.proofs.Slots.{few_locks}
+use Rattle.mc_words.proofs.OutFirst.{few_locks}
 use Rattle.mc_words.proofs.TakeAndGive.{tries}
 use Rattle.mc_words.proofs.arena.Arena.take.Goals as goal
 
@@ -15,7 +16,7 @@ pub slot-slot-requires : goal.slot-slot-requires
 slot-slot-requires g c =
     let (is, (near, more)) = c.requires in
     let a = c.args.self.now in
-    few_locks a.table.shared.key a.plan c.args.lock g.told a.planned a.few is near
+    record { few = few_locks a.table.shared.key a.plan c.args.lock g.told a.planned a.few is near }
 
 pub compare_exchange-found-requires : goal.compare_exchange-found-requires
 compare_exchange-found-requires g c =

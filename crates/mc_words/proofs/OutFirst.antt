@@ -5,7 +5,8 @@ use Rattle.mc_words.specs.declared.slot.Slot.{Slot}
 use Rattle.mc_words.specs.declared.locks.Lock.{Lock}
 use Rattle.mc_words.specs.View.{Setup}
 use Rattle.mc_words.specs.Out.{slots_out}
-use Rattle.mc_words.specs.Taking.{slot_of, IsLockOf}
+use Rattle.mc_words.specs.Slots.{slot_of}
+use Rattle.mc_words.specs.Taking.{IsLockOf}
 
 abbrev front_or : List ℕ → ℕ → ℕ
 front_or [] none = none

@@ -1,0 +1,44 @@
+use Rattle.std.proofs.Common.{◌≡◌, ◌<◌, Some, None, length, slice_index_or, refl, sym, ap, subst, arith, ◌∙◌}
+use Rattle.mc_words.specs.declared.locks.Lock.TheVariants.{StripeLock}
+use Rattle.mc_core.specs.declared.look.Look.TheVariants.{SawStripe}
+use Rattle.mc_core.specs.Past.{stripe_word}
+use Rattle.mc_words.specs.View.{View, Setup}
+use Rattle.mc_words.specs.Views.{saw}
+use Rattle.mc_words.specs.Out.{IsNoted}
+use Rattle.mc_words.specs.Taking.{HasValue}
+use Rattle.mc_words.proofs.Locked.{noted_stripe, noted_same}
+use Rattle.mc_words.proofs.LockViews.{taken_stripe, missed_stripe, look_holds}
+use Rattle.mc_words.proofs.arena.Arena.try_stripe.Goals as goal
+
+pub invariant_of-hand : goal.invariant_of-hand
+invariant_of-hand c =
+    let told = c.in-Some-OfStripe.ensures in
+    let value = c.in-Some-OfStripe.value in
+    let has : slice_index_or c.take.new.seat.me.0.stripes c.args.stripe None ≡ Some value = subst (HasValue c.take.new.seat.me.0 (StripeLock c.args.stripe)) c.in-Some-OfStripe.field-0-is told.value in
+    let is = taken_stripe c.args.hand.now.seat.me.0 c.take.new.seat.me.0 c.args.stripe value told.taken has in
+    let a = c.args.hand.now in
+    let noted = noted_stripe a.seat.me c.take.new.seat.me a.number a.chunks c.args.stripe a.locks c.requires.one a.noted c.take.ensures.hand told.gains told.out (ap (λ (v : View). v.row.holdings) is) in
+    record { noted = subst (IsNoted c.take.new.seat.me a.number a.chunks) (sym c.with_stripe-hand.ensures.locks) noted }
+
+pub invariant_of-hand-in-None : goal.invariant_of-hand-in-None
+invariant_of-hand-in-None c =
+    let a = c.args.hand.now in
+    let stays = c.in-None.ensures.stays refl in
+    let near : c.args.stripe < a.seat.me.0.setup.config.stripes = let same = ap (λ (s : Setup). s.config.stripes) c.requires.arena.setup in let near = c.requires.near in omega arith in
+    let (word, busy, at) = c.in-None.ensures.missed refl in
+    let is = missed_stripe a.seat.me.0 c.take.new.seat.me.0 c.args.stripe word near at in
+    record { noted = noted_same a.seat.me c.take.new.seat.me a.number a.chunks a.chunks a.locks a.noted stays.0 stays.1 (a.noted.2 ∙ ap length (sym (ap (λ (v : View). v.row.holdings) is ∙ look_holds (SawStripe c.args.stripe word) (saw (stripe_word c.args.stripe word) a.seat.me.0)))) }
+
+pub returns-in-Some-OfStripe-clause-lent : goal.returns-in-Some-OfStripe-clause-lent
+returns-in-Some-OfStripe-clause-lent c =
+    let told = c.in-Some-OfStripe.ensures in
+    taken_stripe c.args.hand.now.seat.me.0 c.take.new.seat.me.0 c.args.stripe c.in-Some-OfStripe.value told.taken (subst (HasValue c.take.new.seat.me.0 (StripeLock c.args.stripe)) c.in-Some-OfStripe.field-0-is told.value)
+
+pub returns-in-None-clause-missed : goal.returns-in-None-clause-missed
+returns-in-None-clause-missed c = (c.in-None.ensures.missed refl).2.0
+
+pub returns-in-None-clause-held : goal.returns-in-None-clause-held
+returns-in-None-clause-held c =
+    let (word, busy, at) = c.in-None.ensures.missed refl in
+    let near : c.args.stripe < c.args.hand.now.seat.me.0.setup.config.stripes = let same = ap (λ (s : Setup). s.config.stripes) c.requires.arena.setup in let near = c.requires.near in omega arith in
+    (word, busy, missed_stripe c.args.hand.now.seat.me.0 c.take.new.seat.me.0 c.args.stripe word near at)

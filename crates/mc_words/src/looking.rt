@@ -1,0 +1,29 @@
+//! Looks at headers.
+ghost use Rattle.std.specs.Prelude.{◌≡◌, true, []};
+ghost use Rattle.mc_core.specs.Head.{decode};
+ghost use Rattle.mc_core.specs.State.{has_chunk};
+ghost use Rattle.mc_core.specs.declared.event.Step.TheVariants as step;
+ghost use Rattle.mc_words.specs.Arenas.{IsHandOf, setup_of, view};
+ghost use Rattle.mc_words.specs.Happens.{Happens};
+ghost use Rattle.mc_words.specs.Views.{head_seen};
+
+use crate::arena::Arena;
+use crate::hand::Hand;
+use mc_core::Step;
+use mc_pages::ChunkId;
+
+impl Arena {
+    /// The header of a chunk, as it is now. Under the slabs lock the look counts.
+    #[inline(always)]
+    pub fn head(&self, hand: &mut Hand, chunk: ChunkId) -> u64
+        requires arena { IsHandOf self.now hand.old }
+        requires near { has_chunk (setup_of self.now).table chunk ≡ true }
+        ensures arena { IsHandOf self.now hand.new }
+        ensures locks { hand.new.locks ≡ hand.old.locks }
+        ensures happens { Happens (view hand.old) [] (step.Head chunk) (view hand.new) }
+        ensures seen { view hand.new ≡ head_seen chunk (decode result) (view hand.old) }
+    {
+        let word = self.head_word(chunk);
+        self.look(&mut hand.seat, word, Step::Head(chunk))
+    }
+}

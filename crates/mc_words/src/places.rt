@@ -1,0 +1,43 @@
+//! Where words of the table stand.
+ghost use Rattle.std.specs.Prelude.{◌≡◌, ◌<◌, true};
+ghost use Rattle.mc_classes.specs.Classes.{pages_of};
+ghost use Rattle.mc_core.specs.State.{has_chunk};
+ghost use Rattle.mc_words.specs.Arenas.{setup_of};
+ghost use Rattle.mc_words.specs.Layout.{config_from, data_word, head_word, page_word};
+
+use crate::arena::Arena;
+use mc_classes::PageId;
+use mc_pages::ChunkId;
+
+impl Arena {
+    /// The word of a page.
+    #[inline(always)]
+    pub(crate) fn page_word(&self, page: PageId) -> usize
+        requires near { page < pages_of (setup_of self.now).table }
+        ensures word { result ≡ page_word (setup_of self.now) page }
+        ensures near { result < self.now.table.shared.table_id.words }
+    {
+        self.first_page + page as usize
+    }
+
+    /// The word of a chunk's header.
+    #[inline(always)]
+    pub(crate) fn head_word(&self, chunk: ChunkId) -> usize
+        requires near { has_chunk (setup_of self.now).table chunk ≡ true }
+        ensures word { result ≡ head_word (setup_of self.now) chunk }
+        ensures near { result < self.now.table.shared.table_id.words }
+    {
+        self.first_head + chunk.page as usize * self.most + chunk.index as usize
+    }
+
+    /// A data word, of a chunk with room for so many.
+    #[inline(always)]
+    pub(crate) fn data_word(&self, room: u64, chunk: ChunkId, place: u64) -> usize
+        requires near { data_word (setup_of self.now) room chunk place < config_from (setup_of self.now) }
+        ensures word { result ≡ data_word (setup_of self.now) room chunk place }
+        ensures near { result < self.now.table.shared.table_id.words }
+    {
+        let offset = chunk.page * self.words_a_page + chunk.index * room + place;
+        self.first_data + offset as usize
+    }
+}
