@@ -1,18 +1,15 @@
 -- Steps on headers: what the core allows, and which word it is.
-use Rattle.std.proofs.Common.{◌≡◌, ℕ, ◌+◌, ◌*◌, ◌<◌, ◌≤◌, true, List, slice_set, slice_index, slice_index_or, refl, sym, ap, subst, ◌∙◌, arith, mul_comm}
-use Rattle.std.proofs.lemmas.Nat.{mul-add-lt}
+use Rattle.std.proofs.Common.{◌≡◌, ℕ, ◌<◌, true, List, slice_set, slice_index, slice_index_or, refl, sym, ap, subst, ◌∙◌, arith}
 use Rattle.mc_classes.specs.Classes.{pages_of}
 use Rattle.mc_pages.specs.declared.ids.ChunkId.{ChunkId}
 use Rattle.mc_core.specs.declared.head.Head.{Head}
-use Rattle.mc_core.specs.declared.event.Step.{Step}
 use Rattle.mc_core.specs.declared.event.Step.TheVariants as core
 use Rattle.mc_core.specs.Head.{decode, never_cut}
-use Rattle.mc_core.specs.State.{State, has_chunk, head_at, head_place, most_of, page_words}
-use Rattle.mc_core.specs.Run.{after_step}
+use Rattle.mc_core.specs.State.{State, has_chunk, head_at, head_place}
 use Rattle.mc_core.proofs.SameSlabs.{looked_keeps}
 use Rattle.mc_words.specs.View.{Setup, View}
-use Rattle.mc_words.specs.Layout.{head_word, heads_from, head_count, page_word, pages_from, data_word, data_from, data_count, config_from, word_count}
-use Rattle.mc_words.specs.Meaning.{AreWords, WordsOf}
+use Rattle.mc_words.specs.Layout.{head_word, page_word, word_count}
+use Rattle.mc_words.specs.Meaning.{AreWords}
 use Rattle.mc_words.specs.Happens.{LawfulView, MayWrite}
 use Rattle.mc_words.proofs.Quiet.{Columns, columns}
 use Rattle.mc_words.proofs.Written.{head_near, head_read, head_written, unwritten}
@@ -50,10 +47,8 @@ may_look view chunk near was fits =
     )
 
 -- words stand in the table
-pub head_word_near : (setup plan : Setup) (chunk : ChunkId) → setup ≡ plan → has_chunk setup.table chunk ≡ true → head_word setup chunk < word_count plan
-head_word_near setup plan chunk same near =
-    let below = head_near setup chunk near in
-    subst (λ (p : Setup). head_word setup chunk < word_count p) same (omega arith)
+pub head_word_near : (setup : Setup) (chunk : ChunkId) → has_chunk setup.table chunk ≡ true → head_word setup chunk < word_count setup
+head_word_near setup chunk near = let below = head_near setup chunk near in omega arith
 
-pub page_word_near : (setup plan : Setup) (page : ℕ) → setup ≡ plan → page < pages_of setup.table → page_word setup page < word_count plan
-page_word_near setup plan page same near = subst (λ (p : Setup). page_word setup page < word_count p) same (omega arith)
+pub page_word_near : (setup : Setup) (page : ℕ) → page < pages_of setup.table → page_word setup page < word_count setup
+page_word_near setup page near = omega arith

@@ -7,3 +7,4 @@ pub mod Knows
 pub mod LockViews
 pub mod Locked
 pub mod Heads
+pub mod Owners

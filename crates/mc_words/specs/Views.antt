@@ -1,15 +1,19 @@
 -- What each call changes of a hand's view: all else stays.
-use Rattle.std.specs.Prelude.{ℕ, ◌+◌, List, [], ◌∷◌, ◌++◌, is_some, if◌then◌else◌, slice_set, Some, None}
+use Rattle.std.specs.Prelude.{ℕ, ◌+◌, List, [], ◌∷◌, ◌++◌, is_some, if◌then◌else◌, replicate, slice_set, Some, None}
 use Rattle.mc_pages.specs.declared.ids.ChunkId.{ChunkId}
 use Rattle.mc_pages.specs.SlabState.{SlabState}
 use Rattle.mc_stripe.specs.StripeState.{ReadyStripe}
 use Rattle.mc_core.specs.declared.head.Head.{Head}
 use Rattle.mc_core.specs.declared.holding.Holding.{Holding}
 use Rattle.mc_core.specs.declared.look.Look.{Look}
-use Rattle.mc_core.specs.declared.look.Look.TheVariants.{Saw, SawStripe}
+use Rattle.mc_core.specs.declared.look.Look.TheVariants.{Saw, SawStripe, Popped, PutBack, Cut}
 use Rattle.mc_core.specs.Past.{Sight, Knowledge, header, slabs_word, stripe_word}
 use Rattle.mc_core.specs.Holdings.{is_of, lose, change_each}
-use Rattle.mc_core.specs.Chunks.{filled}
+use Rattle.mc_pages.specs.Changes.{after_pop, after_back, after_cut}
+use Rattle.mc_core.specs.declared.holding.Kind.TheVariants.{Fresh}
+use Rattle.mc_core.specs.declared.holding.Purpose.TheVariants.{Item}
+use Rattle.mc_core.specs.State.{room_in}
+use Rattle.mc_core.specs.Chunks.{filled, handed_out, with_tag_free}
 use Rattle.mc_words.specs.View.{View}
 
 -- the hand knows this
@@ -79,3 +83,20 @@ word_filled chunk place word view = with_holdings (change_each (is_of chunk) (fi
 -- a holding of the chunk was given up
 abbrev pub chunk_dropped : ChunkId → View → View
 chunk_dropped chunk view = with_holdings (lose (is_of chunk) view.row.holdings) view
+
+-- a chunk with room for so many words, which nobody has filled yet
+abbrev pub fresh_holding : ChunkId → ℕ → ℕ → Holding
+fresh_holding chunk issue room = record { chunk = chunk; issue = issue; kind = Fresh Item (replicate room None) }
+
+-- the next free chunk of the class was handed out, whose header was this
+abbrev pub chunk_popped : SlabState → ℕ → ChunkId → Head → View → View
+chunk_popped slabs class chunk head view =
+    looked (Popped chunk (handed_out head)) (with_slabs (after_pop slabs class) (with_holdings (view.row.holdings ++ fresh_holding chunk (head.issue + 1) (room_in view.setup.table class) ∷ []) view))
+
+-- a dead chunk went to its free list, whose header was this
+abbrev pub chunk_put_back : SlabState → ChunkId → Head → View → View
+chunk_put_back slabs chunk head view = looked (PutBack chunk (with_tag_free head)) (with_slabs (after_back slabs chunk) view)
+
+-- a chunk was cut, whose header was this
+abbrev pub chunk_cut : SlabState → ChunkId → Head → View → View
+chunk_cut slabs chunk head view = looked (Cut chunk (with_tag_free head)) (with_slabs (after_cut slabs chunk) view)

@@ -1,9 +1,12 @@
-use Rattle.std.proofs.Common.{refl, ap, sym, subst, ◌∙◌, length}
+use Rattle.std.proofs.Common.{◌≡◌, ℕ, refl, ap, sym, subst, ◌∙◌, length, true, []}
 use Rattle.mc_core.specs.Past.{header}
 use Rattle.mc_core.specs.Head.{decode}
+use Rattle.mc_core.specs.State.{has_chunk}
 use Rattle.mc_core.specs.declared.look.Look.TheVariants.{Saw}
 use Rattle.mc_core.specs.declared.event.Step.TheVariants as core
 use Rattle.mc_words.specs.View.{View, Setup}
+use Rattle.mc_words.specs.Layout.{head_word}
+use Rattle.mc_words.specs.Happens.{MayWrite, HappensAt}
 use Rattle.mc_words.specs.Views.{saw}
 use Rattle.mc_words.proofs.Heads.{may_look}
 use Rattle.mc_words.proofs.Locked.{noted_same}
@@ -11,13 +14,32 @@ use Rattle.mc_words.proofs.LockViews.{seen_head, look_holds}
 use Rattle.mc_words.proofs.arena.Arena.head.Goals as goal
 
 pub look-requires : goal.look-requires
-look-requires c = ?
+look-requires c =
+    let arena = c.requires.arena in
+    let view = c.args.hand.now.seat.me.0 in
+    let near : has_chunk view.setup.table c.args.chunk ≡ true = subst (λ (s : Setup). has_chunk s.table c.args.chunk ≡ true) (sym arena.setup) c.requires.near in
+    let place : c.head_word-word.result ≡ head_word view.setup c.args.chunk = c.head_word-word.ensures.word ∙ ap (λ (s : Setup). head_word s c.args.chunk) (sym arena.setup) in
+    (refl, (refl, (c.head_word-word.ensures.near, (arena, subst (λ (n : ℕ). MayWrite view (core.Head c.args.chunk) n (λ found. found)) (sym place) (may_look view c.args.chunk near)))))
 
 pub invariant_of-hand : goal.invariant_of-hand
-invariant_of-hand c = ?
+invariant_of-hand c =
+    let a = c.args.hand.now in
+    let arena = c.requires.arena in
+    let view = a.seat.me.0 in
+    let near : has_chunk view.setup.table c.args.chunk ≡ true = subst (λ (s : Setup). has_chunk s.table c.args.chunk ≡ true) (sym arena.setup) c.requires.near in
+    let place : c.head_word-word.result ≡ head_word view.setup c.args.chunk = c.head_word-word.ensures.word ∙ ap (λ (s : Setup). head_word s c.args.chunk) (sym arena.setup) in
+    let at = subst (λ (n : ℕ). HappensAt n c.look.result view [] (core.Head c.args.chunk) c.look.new.seat.me.0) place c.look.ensures.happens in
+    let is = seen_head view c.look.new.seat.me.0 c.args.chunk c.look.result near at in
+    let held = ap (λ (v : View). v.row.holdings) is ∙ look_holds (Saw c.args.chunk (decode c.look.result)) (saw (header c.args.chunk (decode c.look.result)) view) in
+    record { noted = noted_same a.seat.me c.look.new.seat.me a.number a.chunks a.chunks a.locks a.noted c.look.ensures.out c.look.ensures.hand (a.noted.2 ∙ ap length (sym held)) }
 
 pub returns-clause-happens : goal.returns-clause-happens
-returns-clause-happens c = ?
+returns-clause-happens c = c.look.ensures.happens.0
 
 pub returns-clause-seen : goal.returns-clause-seen
-returns-clause-seen c = ?
+returns-clause-seen c =
+    let arena = c.requires.arena in
+    let view = c.args.hand.now.seat.me.0 in
+    let near : has_chunk view.setup.table c.args.chunk ≡ true = subst (λ (s : Setup). has_chunk s.table c.args.chunk ≡ true) (sym arena.setup) c.requires.near in
+    let place : c.head_word-word.result ≡ head_word view.setup c.args.chunk = c.head_word-word.ensures.word ∙ ap (λ (s : Setup). head_word s c.args.chunk) (sym arena.setup) in
+    seen_head view c.look.new.seat.me.0 c.args.chunk c.look.result near (subst (λ (n : ℕ). HappensAt n c.look.result view [] (core.Head c.args.chunk) c.look.new.seat.me.0) place c.look.ensures.happens)
