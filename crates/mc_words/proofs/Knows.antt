@@ -5,7 +5,7 @@ use Rattle.mc_stripe.specs.StripeState.{ReadyStripe}
 use Rattle.mc_core.specs.declared.event.Step.{Step}
 use Rattle.mc_core.specs.declared.event.Step.TheVariants as core
 use Rattle.mc_core.specs.State.{State, number_at}
-use Rattle.mc_core.specs.Past.{Moment, Knowledge, Own, Saying, Known, Sight, history_at, new_calls, told, own_after, own_calls_after, knowledge_at, knowledge_after, hold_after, seen_after, sights_of, sayings_of, known_of, moment_stepped}
+use Rattle.mc_core.specs.Past.{Moment, Knowledge, Own, Hold, Sight, history_at, new_calls, told, own_after, own_calls_after, knowledge_at, hold_after, seen_after, sights_of, sayings_of, known_of, moment_stepped}
 use Rattle.mc_core.specs.Laws.{MayStep}
 use Rattle.mc_core.specs.Run.{after_step}
 use Rattle.mc_core.proofs.Learns.{are_learned}
@@ -39,35 +39,29 @@ module _ (before now : State) (same : now.stripes ≡ before.stripes) where
 no_join : (step : Step) → is_join step ≡ false → (kept spent : ℕ) → step ≡ core.Join kept spent → ⊥
 no_join step alone kept spent e = absurd (let both : true ≡ false = ap is_join (sym e) ∙ alone in cc)
 
-module _ (m : Moment) (id : ℕ) (step : Step) (alone : is_join step ≡ false) (may : MayStep m id step) (same : (after_step m.state id step).stripes ≡ m.state.stripes) where
-  abbrev knew : Knowledge
-  knew = knowledge_at m.past id
+-- it saw, says and knows more, its hold and what it saw of histories follow the step, and it made no call
+abbrev pub known_after : Moment → ℕ → Step → Knowledge → Knowledge
+known_after m id step knew = record {
+  saw = knew.saw ++ sights_of m.state step;
+  hold = hold_after m.state.slabs step knew.hold;
+  mine = knew.mine;
+  seen = seen_after m.state step knew.seen;
+  said = knew.said ++ sayings_of m.state id step;
+  known = knew.known ++ known_of m.state id step;
+}
 
-  -- it saw, says and knows more, its hold and what it saw of histories follow the step, and it made no call
-  pub knows_after : knowledge_at (moment_stepped m id step).past id ≡ record {
-        saw = knew.saw ++ sights_of m.state step;
-        hold = hold_after m.state.slabs step knew.hold;
-        mine = knew.mine;
-        seen = seen_after m.state step knew.seen;
-        said = knew.said ++ sayings_of m.state id step;
-        known = knew.known ++ known_of m.state id step;
-      }
-  knows_after =
-      are_learned.steps m id step may (λ kept spent e. no_join step alone kept spent e)
-      ∙ ap (λ (mine : List Own). record {
-        saw = knew.saw ++ sights_of m.state step;
-        hold = hold_after m.state.slabs step knew.hold;
-        mine = mine;
-        seen = seen_after m.state step knew.seen;
-        said = knew.said ++ sayings_of m.state id step;
-        known = knew.known ++ known_of m.state id step;
-      }) (mine_same m.state (after_step m.state id step) same id knew.mine)
+pub knows_after : (m : Moment) (id : ℕ) (step : Step) → is_join step ≡ false → MayStep m id step → (after_step m.state id step).stripes ≡ m.state.stripes → knowledge_at (moment_stepped m id step).past id ≡ known_after m id step (knowledge_at m.past id)
+knows_after m id step alone may same =
+    are_learned.steps m id step may (λ kept spent e. no_join step alone kept spent e)
+    ∙ ap (λ (mine : List Own). record (known_after m id step (knowledge_at m.past id)) { mine = mine }) (mine_same m.state (after_step m.state id step) same id (knowledge_at m.past id).mine)
 
--- what is said and known is as it was, where nothing came
-pub said_none : (saw : List Sight) (knows : Knowledge) (hold : Rattle.mc_core.specs.Past.Hold) (seen : List (List Call)) → record { saw = saw; hold = hold; mine = knows.mine; seen = seen; said = knows.said ++ []; known = knows.known ++ [] }
-    ≡ record knows { saw = saw; hold = hold; seen = seen }
+-- of what is said and known, nothing is new
+abbrev pub more_seen : List Sight → Hold → List (List Call) → Knowledge → Knowledge
+more_seen saw hold seen knows = record { saw = saw; hold = hold; mine = knows.mine; seen = seen; said = knows.said ++ []; known = knows.known ++ [] }
+
+pub said_none : (saw : List Sight) (knows : Knowledge) (hold : Hold) (seen : List (List Call)) → more_seen saw hold seen knows ≡ record knows { saw = saw; hold = hold; seen = seen }
 said_none saw knows hold seen = λ k. record { saw = saw; hold = hold; mine = knows.mine; seen = seen; said = append-nil knows.said k; known = append-nil knows.known k }
 
--- nothing was found, either
-pub knows_same : (knows : Knowledge) → record { saw = knows.saw ++ []; hold = knows.hold; mine = knows.mine; seen = knows.seen; said = knows.said ++ []; known = knows.known ++ [] } ≡ knows
+-- nor was anything found
+pub knows_same : (knows : Knowledge) → more_seen (knows.saw ++ []) knows.hold knows.seen knows ≡ knows
 knows_same knows = λ k. record { saw = append-nil knows.saw k; hold = knows.hold; mine = knows.mine; seen = knows.seen; said = append-nil knows.said k; known = append-nil knows.known k }

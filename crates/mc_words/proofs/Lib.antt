@@ -8,3 +8,4 @@ pub mod LockViews
 pub mod Locked
 pub mod Heads
 pub mod Owners
+pub mod OwnerViews

@@ -1,20 +1,18 @@
 -- The owner's pass: what the core allows of a hand that knows what its view says, and which word it writes.
-use Rattle.std.proofs.Common.{◌≡◌, ◌≢◌, ◌⊎◌, ℕ, ◌+◌, ◌-◌, ◌*◌, ◌/◌, ◌%◌, ◌^◌, ◌<◌, ◌≤◌, Bool, true, false, ◌&&◌, ◌||◌, not, List, [], ◌∷◌, ◌++◌, length, Option, Some, None, refl, sym, ap, ap₂, subst, ◌∙◌, inl, inr, arith, slice_set, slice_index, slice_index_or, is_some, lt-ltb, mul_comm, if◌then◌else◌}
-use Rattle.std.proofs.lemmas.Bool.{and_parts, and_from}
-use Rattle.std.proofs.lemmas.Nat.{mul-add-lt}
+use Rattle.std.proofs.Common.{◌≡◌, ℕ, suc, ◌+◌, ◌*◌, ◌^◌, ◌<◌, ◌≤◌, Bool, true, ◌&&◌, ◌||◌, not, List, [], ◌∷◌, length, Some, sym, ap, ap₂, subst, ◌∙◌, inl, inr, arith, slice_set, slice_index, lt-ltb, if◌then◌else◌}
+use Rattle.std.proofs.lemmas.Bool.{and_from, cases_Bool}
 use Rattle.mc_classes.specs.Classes.{pages_of}
 use Rattle.mc_pages.specs.declared.ids.ChunkId.{ChunkId}
 use Rattle.mc_pages.specs.ClassState.{first_free}
 use Rattle.mc_pages.specs.SlabState.{SlabState, class_at, class_of_page}
 use Rattle.mc_pages.specs.Changes as slabs_changes
 use Rattle.mc_core.specs.declared.head.Head.{Head}
-use Rattle.mc_core.specs.declared.head.Tag.TheVariants.{Out, Free, Unlinked, Linked}
+use Rattle.mc_core.specs.declared.head.Tag.TheVariants.{Out, Free}
 use Rattle.mc_core.specs.declared.holding.Holding.{Holding}
-use Rattle.mc_core.specs.declared.look.Look.{Look}
 use Rattle.mc_core.specs.declared.event.Step.TheVariants as core
-use Rattle.mc_core.specs.Head.{code, decode, is_free, is_dead, is_out}
-use Rattle.mc_core.specs.Holdings.{is_of, is_fresh, holding_of, words_of}
-use Rattle.mc_core.specs.State.{State, is_class, has_chunk, has_slabs, head_at, head_place, holdings_at, looks_at, room_at, room_in, page_words, with_slabs, with_word, without_holding, with_changed}
+use Rattle.mc_core.specs.Head.{code, decode, is_free, is_dead}
+use Rattle.mc_core.specs.Holdings.{is_of, is_fresh, holding_of, lose, words_of}
+use Rattle.mc_core.specs.State.{State, is_class, has_chunk, has_slabs, head_at, head_place, holdings_at, looks_at, room_at, room_in, page_words, with_slabs}
 use Rattle.mc_core.specs.Chunks as chunks
 use Rattle.mc_core.specs.Chunks.{most_issue, most_holdings, has_place, next_free, handed_out, let_go, with_tag_free, holds_as, can_fill_in, popped, after_fill, filled}
 use Rattle.mc_core.specs.Codes.{plus, minus, FitsBits}
@@ -30,11 +28,11 @@ use Rattle.mc_core.proofs.KnownFills.{fill_at, fill_placed, fill_on}
 use Rattle.mc_core.proofs.Holders.{found_each}
 use Rattle.mc_core.proofs.SeenQuiet.{held_count}
 use Rattle.mc_core.proofs.Base.{word_within}
-use Rattle.mc_words.specs.View.{Setup, View}
-use Rattle.mc_words.specs.Layout.{head_word, data_word, data_from, data_count, config_from}
-use Rattle.mc_words.specs.Meaning.{WordsOf}
+use Rattle.mc_core.proofs.FreeChunks.{near_placed}
+use Rattle.mc_words.specs.View.{View}
+use Rattle.mc_words.specs.Layout.{head_word, data_word, data_from, data_count}
 use Rattle.mc_words.specs.Happens.{LawfulView, MayWrite}
-use Rattle.mc_words.proofs.Quiet.{Columns, columns}
+use Rattle.mc_words.proofs.Quiet.{columns}
 use Rattle.mc_words.proofs.Heads.{AreAll, near_here, head_is, header_written}
 use Rattle.mc_words.proofs.Written.{data_written}
 use Rattle.mc_words.proofs.TakeAndGive.{held_from}
@@ -106,8 +104,11 @@ module _ (view : View) (chunk : ChunkId) (holding : Holding) (place : ℕ) (foun
   pub place_near : place_in was.moment.state.table was.moment.state.slabs chunk place < data_count view.setup
   place_near =
       let m = was.moment in
-      subst (λ table. place_in m.state.table m.state.slabs chunk place < pages_of table * page_words table) was.same_table
-      (word_within m was.lawful chunk place (fill_placed m was.lawful was.hand chunk place holding filled_here filled_can) (fill_on m was.lawful was.hand chunk place holding filled_here filled_can))
+      let placed = fill_placed m was.lawful was.hand chunk place holding filled_here filled_can in
+      let inside = word_within m was.lawful chunk place (near_placed m was.lawful chunk placed) placed (fill_on m was.lawful was.hand chunk place holding filled_here filled_can) in
+      let long = was.lawful.sized.places in
+      let count : pages_of m.state.table * page_words m.state.table ≡ data_count view.setup = ap (λ table. pages_of table * page_words table) was.same_table in
+      omega arith
 
   pub can_fill_here : (word : ℕ) → (chunks.can_fill was.moment.state was.hand chunk place ≡ true) × AreAll view.setup was.cuts (slice_set was.words (data_word view.setup (length (words_of holding)) chunk place) word) (columns (after_fill was.moment.state was.hand chunk place word))
   can_fill_here word =
@@ -197,3 +198,11 @@ uncut_near view was slabs chunk mine next =
 pub holding_near : (view : View) → LawfulView view → (chunk : ChunkId) (holding : Holding) → holding_of chunk view.row.holdings ≡ Some holding → is_fresh holding ≡ true → has_chunk view.setup.table chunk ≡ true
 holding_near view was chunk holding found fresh =
     ap (λ table. has_chunk table chunk) (sym was.same_table) ∙ ((needless view was).fresh was.hand chunk holding (ap (holding_of chunk) (holdings_here view was) ∙ found) fresh).0
+
+-- one holding less
+pub one_less : (chunk : ChunkId) (holdings : List Holding) (holding : Holding) → holding_of chunk holdings ≡ Some holding → suc (length (lose (is_of chunk) holdings)) ≡ length holdings
+one_less chunk [] holding found = absurd (cc)
+one_less chunk (first ∷ more) holding found = elim (cases_Bool (is_of chunk first)) [
+  | inl is ↦ ap (λ (b : Bool). suc (length (if b then more else first ∷ lose (is_of chunk) more))) is
+  | inr isnt ↦ ap (λ (b : Bool). suc (length (if b then more else first ∷ lose (is_of chunk) more))) isnt ∙ ap suc (one_less chunk more holding (ap (λ (b : Bool). if b then Some first else holding_of chunk more) (sym isnt) ∙ found))
+]

@@ -7,4 +7,5 @@ pub mod Slots
 pub mod Taking
 pub mod Out
 pub mod Views
+pub mod Fresh
 pub mod Arenas

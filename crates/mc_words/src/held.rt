@@ -39,3 +39,34 @@ impl StripeHeld {
 /// Another hand has the lock, or this one.
 #[derive(Clone, Copy, PartialEq, Eq, Drop)]
 pub struct Held;
+
+/// A chunk that was handed out to a hand, which fills it. It has to be spent.
+pub struct Fresh {
+    pub(crate) chunk: ChunkId,
+    /// How many words it has.
+    pub(crate) room: u64,
+}
+
+impl Fresh {
+    /// Which chunk it is.
+    pub fn chunk(&self) -> ChunkId
+        ensures chunk { result ≡ self.now.chunk }
+    {
+        self.chunk
+    }
+
+    /// How many words it has.
+    pub fn room(&self) -> u64
+        ensures room { result ≡ self.now.room }
+    {
+        self.room
+    }
+}
+
+/// The chunk at the head of the free list has the greatest issue number.
+#[derive(Clone, Copy, PartialEq, Eq, Drop)]
+pub struct WornOut;
+
+/// The header isn't as it was expected.
+#[derive(Clone, Copy, PartialEq, Eq, Drop)]
+pub struct Moved;

@@ -2,6 +2,7 @@
 #![tactic(auto)]
 
 pub mod arena;
+pub mod filling;
 pub mod hand;
 pub mod held;
 pub mod locking;

@@ -1,0 +1,47 @@
+//! Fresh chunks that are filled and given up.
+ghost use Rattle.std.specs.Prelude.{◌≡◌, ◌<◌, []};
+ghost use Rattle.mc_core.specs.declared.event.Step.TheVariants as step;
+ghost use Rattle.mc_words.specs.Arenas.{IsHandOf, view};
+ghost use Rattle.mc_words.specs.Fresh.{IsFreshOf};
+ghost use Rattle.mc_words.specs.Happens.{Happens};
+ghost use Rattle.mc_words.specs.Views.{chunk_dropped, word_filled};
+
+use crate::arena::Arena;
+use crate::hand::Hand;
+use crate::held::Fresh;
+use mc_core::Step;
+
+impl Arena {
+    /// Writes a word of a fresh chunk.
+    #[inline(always)]
+    pub fn fill(&self, hand: &mut Hand, fresh: &mut Fresh, place: u64, word: u64)
+        requires arena { IsHandOf self.now hand.old }
+        requires fresh { IsFreshOf (view hand.old) fresh.old.chunk fresh.old.room }
+        requires near { place < fresh.old.room }
+        ensures arena { IsHandOf self.now hand.new }
+        ensures locks { hand.new.locks ≡ hand.old.locks }
+        ensures same { fresh.new ≡ fresh.old }
+        ensures happens { Happens (view hand.old) [] (step.Fill fresh.old.chunk place word) (view hand.new) }
+        ensures filled { view hand.new ≡ word_filled fresh.old.chunk place word (view hand.old) }
+    {
+        let at = self.data_word(fresh.room, fresh.chunk, place);
+        let step = Step::Fill(fresh.chunk, place, word);
+        self.write(&mut hand.seat, at, word, step);
+    }
+
+    /// Gives a fresh chunk up, which is dead then, until somebody puts it back. It takes no lock.
+    #[inline(always)]
+    pub fn discard(&self, hand: &mut Hand, fresh: Fresh)
+        requires arena { IsHandOf self.now hand.old }
+        requires fresh { IsFreshOf (view hand.old) fresh.chunk fresh.room }
+        ensures arena { IsHandOf self.now hand.new }
+        ensures locks { hand.new.locks ≡ hand.old.locks }
+        ensures happens { Happens (view hand.old) [] (step.Discard fresh.chunk) (view hand.new) }
+        ensures dropped { view hand.new ≡ chunk_dropped fresh.chunk (view hand.old) }
+    {
+        let Fresh { chunk, room: _ } = fresh;
+        let word = self.head_word(chunk);
+        self.subtract(&mut hand.seat, word, 1, Step::Discard(chunk));
+        hand.chunks -= 1;
+    }
+}
