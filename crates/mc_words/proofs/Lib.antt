@@ -9,3 +9,5 @@ pub mod Locked
 pub mod Heads
 pub mod Owners
 pub mod OwnerViews
+pub mod Filled
+pub mod Judging

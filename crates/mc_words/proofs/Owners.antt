@@ -30,7 +30,7 @@ use Rattle.mc_core.proofs.SeenQuiet.{held_count}
 use Rattle.mc_core.proofs.Base.{word_within}
 use Rattle.mc_core.proofs.FreeChunks.{near_placed}
 use Rattle.mc_words.specs.View.{View}
-use Rattle.mc_words.specs.Layout.{head_word, data_word, data_from, data_count}
+use Rattle.mc_words.specs.Layout.{head_word, data_word, data_from, data_count, config_from}
 use Rattle.mc_words.specs.Happens.{LawfulView, MayWrite}
 use Rattle.mc_words.proofs.Quiet.{columns}
 use Rattle.mc_words.proofs.Heads.{AreAll, near_here, head_is, header_written}
@@ -109,6 +109,10 @@ module _ (view : View) (chunk : ChunkId) (holding : Holding) (place : ℕ) (foun
       let long = was.lawful.sized.places in
       let count : pages_of m.state.table * page_words m.state.table ≡ data_count view.setup = ap (λ table. pages_of table * page_words table) was.same_table in
       omega arith
+
+  -- it is a data word
+  pub fill_near : data_word view.setup (length (words_of holding)) chunk place < config_from view.setup
+  fill_near = let is = place_is in let near = place_near in omega arith
 
   pub can_fill_here : (word : ℕ) → (chunks.can_fill was.moment.state was.hand chunk place ≡ true) × AreAll view.setup was.cuts (slice_set was.words (data_word view.setup (length (words_of holding)) chunk place) word) (columns (after_fill was.moment.state was.hand chunk place word))
   can_fill_here word =

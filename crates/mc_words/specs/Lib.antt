@@ -8,4 +8,5 @@ pub mod Taking
 pub mod Out
 pub mod Views
 pub mod Fresh
+pub mod Owner
 pub mod Arenas

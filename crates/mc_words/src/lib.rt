@@ -4,6 +4,7 @@
 pub mod arena;
 pub mod filling;
 pub mod hand;
+pub mod handing;
 pub mod held;
 pub mod locking;
 pub mod looking;

@@ -1,6 +1,40 @@
-use Rattle.std.proofs.Common.{◌≡◌, ℕ, refl, ap, sym, subst, ◌∙◌}
+use Rattle.std.proofs.Common.{◌≡◌, ◌<◌, ℕ, refl, ap, sym, subst, length, ◌∙◌}
+use Rattle.mc_core.specs.Holdings.{words_of}
+use Rattle.mc_core.specs.declared.event.Step.TheVariants as core
+use Rattle.mc_words.specs.View.{View, Setup}
+use Rattle.mc_words.specs.Layout.{data_word, config_from}
+use Rattle.mc_words.specs.Happens.{MayWrite}
+use Rattle.mc_words.proofs.Owners.{may_fill, fill_near}
 use Rattle.mc_words.proofs.OwnerViews.{filled_word}
+use Rattle.mc_words.proofs.Filled.{fill_holds}
+use Rattle.mc_words.proofs.Locked.{noted_same}
 use Rattle.mc_words.proofs.arena.Arena.fill.Goals as goal
+
+pub data_word-at-requires : goal.data_word-at-requires
+data_word-at-requires c =
+    let fresh = c.requires.fresh in
+    let arena = c.requires.arena in
+    let chunk = c.args.fresh.now.chunk in
+    let near = subst (λ (n : ℕ). c.args.place < n) (sym fresh.room_is) c.requires.near in
+    let below = fill_near c.args.hand.now.seat.me.0 chunk fresh.holding c.args.place fresh.found fresh.fresh near arena.lawful in
+    record { near = subst (λ (p : Setup × ℕ). data_word p.0 p.1 chunk c.args.place < config_from p.0) (λ k. (arena.setup k, fresh.room_is k)) below }
+
+pub write-requires : goal.write-requires
+write-requires c =
+    let fresh = c.requires.fresh in
+    let arena = c.requires.arena in
+    let view = c.args.hand.now.seat.me.0 in
+    let chunk = c.args.fresh.now.chunk in
+    let near = subst (λ (n : ℕ). c.args.place < n) (sym fresh.room_is) c.requires.near in
+    let place : c.data_word-at.result ≡ data_word view.setup (length (words_of fresh.holding)) chunk c.args.place =
+    c.data_word-at.ensures.word ∙ (λ k. data_word (sym arena.setup k) (sym fresh.room_is k) chunk c.args.place) in
+    (refl, (refl, (c.data_word-at.ensures.near, (arena, subst (λ (n : ℕ). MayWrite view (core.Fill chunk c.args.place c.args.word) n (λ found. c.args.word)) (sym place) (may_fill view chunk fresh.holding c.args.place c.args.word fresh.found fresh.fresh near)))))
+
+pub invariant_of-hand : goal.invariant_of-hand
+invariant_of-hand c =
+    let a = c.args.hand.now in
+    let is = filled_word a.seat.me.0 c.write.new.seat.me.0 c.args.fresh.now.chunk c.args.place c.args.word c.write.ensures.happens in
+    record { noted = noted_same a.seat.me c.write.new.seat.me a.number a.chunks a.chunks a.locks a.noted c.write.ensures.out c.write.ensures.hand (a.noted.2 ∙ (sym (fill_holds c.args.fresh.now.chunk c.args.place c.args.word a.seat.me.0.row.holdings) ∙ ap (λ (v : View). length v.row.holdings) (sym is))) }
 
 pub returns-clause-filled : goal.returns-clause-filled
 returns-clause-filled c = filled_word c.args.hand.now.seat.me.0 c.write.new.seat.me.0 c.args.fresh.now.chunk c.args.place c.args.word c.write.ensures.happens

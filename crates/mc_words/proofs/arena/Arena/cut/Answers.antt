@@ -1,0 +1,37 @@
+use Rattle.std.proofs.Common.{◌≡◌, ℕ, refl, ap, sym, subst, ◌∙◌, length, true}
+use Rattle.mc_pages.specs.declared.ids.ChunkId.{ChunkId}
+use Rattle.mc_core.specs.Codes.{plus}
+use Rattle.mc_core.specs.State.{has_chunk}
+use Rattle.mc_core.specs.declared.event.Step.TheVariants as core
+use Rattle.mc_words.specs.View.{View, Setup}
+use Rattle.mc_words.specs.Layout.{head_word}
+use Rattle.mc_words.specs.Happens.{MayWrite}
+use Rattle.mc_words.proofs.Owners.{may_cut, uncut_near}
+use Rattle.mc_words.proofs.Judging.{cuts}
+use Rattle.mc_words.proofs.Locked.{noted_same}
+use Rattle.mc_words.proofs.arena.Arena.cut.Goals as goal
+
+pub head_word-word-requires : goal.head_word-word-requires
+head_word-word-requires c =
+    let arena = c.requires.arena in
+    let near = uncut_near c.args.hand.now.seat.me.0 arena.lawful c.args.held.now.shared (record { page = c.args.page; index = c.args.index }) c.requires.held c.requires.next in
+    record { near = subst (λ (s : Setup). has_chunk s.table (record { page = c.args.page; index = c.args.index }) ≡ true) arena.setup near }
+
+pub add-requires : goal.add-requires
+add-requires c =
+    let arena = c.requires.arena in
+    let view = c.args.hand.now.seat.me.0 in
+    let chunk : ChunkId = record { page = c.args.page; index = c.args.index } in
+    let slabs = c.args.held.now.shared in
+    let near = uncut_near view arena.lawful slabs chunk c.requires.held c.requires.next in
+    let place : c.head_word-word.result ≡ head_word view.setup chunk = c.head_word-word.ensures.word ∙ ap (λ (s : Setup). head_word s chunk) (sym arena.setup) in
+    (refl, (refl, (c.head_word-word.ensures.near, (arena, subst (λ (n : ℕ). MayWrite view (core.Cut c.args.page c.args.index) n (plus 65536)) (sym place) (may_cut view slabs c.args.page c.args.index c.requires.held near c.requires.next)))))
+
+pub invariant_of-hand : goal.invariant_of-hand
+invariant_of-hand c =
+    let a = c.args.hand.now in
+    let cut = cuts a.seat.me.0 c.add.new.seat.me.0 c.args.held.now.shared c.args.page c.args.index c.requires.held c.requires.next c.add.ensures.happens in
+    record { noted = noted_same a.seat.me c.add.new.seat.me a.number a.chunks a.chunks a.locks a.noted c.add.ensures.out c.add.ensures.hand (a.noted.2 ∙ ap (λ (v : View). length v.row.holdings) (sym cut.is)) }
+
+pub returns-clause-cut : goal.returns-clause-cut
+returns-clause-cut c = cuts c.args.hand.now.seat.me.0 c.add.new.seat.me.0 c.args.held.now.shared c.args.page c.args.index c.requires.held c.requires.next c.add.ensures.happens

@@ -1,0 +1,46 @@
+-- The owner's pass, as a hand knows it: each call looks first where it has to, and then steps.
+use Rattle.std.specs.Prelude.{◌≡◌, ℕ, ◌<◌, true, [], Option, Some}
+use Rattle.mc_pages.specs.declared.ids.ChunkId.{ChunkId}
+use Rattle.mc_pages.specs.ClassState.{first_free}
+use Rattle.mc_pages.specs.SlabState.{SlabState, class_at}
+use Rattle.mc_core.specs.declared.head.Head.{Head}
+use Rattle.mc_core.specs.declared.head.Tag.TheVariants.{Out, Free}
+use Rattle.mc_core.specs.declared.event.Step.TheVariants as step
+use Rattle.mc_core.specs.Chunks.{most_issue}
+use Rattle.mc_core.specs.Head.{is_dead}
+use Rattle.mc_words.specs.View.{View}
+use Rattle.mc_words.specs.Happens.{Happens}
+use Rattle.mc_words.specs.Views.{head_seen, chunk_popped, chunk_put_back, chunk_cut}
+
+-- the hand saw this header, and the first chunk of the free list, which isn't used up, was handed out
+pub record PopsFirst (view : View) (slabs : SlabState) (class : ℕ) (chunk : ChunkId) (now : View) : Type 0 where
+  pub first : first_free (class_at slabs class) ≡ Some chunk
+  pub head : Head
+  pub unused : head.issue < most_issue
+  pub looks : Happens view [] (step.Head chunk) (head_seen chunk head view)
+  pub happens : Happens (head_seen chunk head view) [] (step.Pop class) now
+  pub is : now ≡ chunk_popped slabs class chunk head (head_seen chunk head view)
+
+-- it saw a header, and it is the chunk's, which isn't as was asked
+pub record SeesOther (view : View) (asked : Option ChunkId) (IsOther : Head → Type 0) (now : View) : Type 0 where
+  pub chunk : ChunkId
+  pub is_asked : asked ≡ Some chunk
+  pub head : Head
+  pub other : IsOther head
+  pub happens : Happens view [] (step.Head chunk) now
+  pub is : now ≡ head_seen chunk head view
+
+-- it saw that the chunk is dead, and put it back
+pub record PutsBack (view : View) (slabs : SlabState) (chunk : ChunkId) (now : View) : Type 0 where
+  pub head : Head
+  pub dead : is_dead head ≡ true
+  pub looks : Happens view [] (step.Head chunk) (head_seen chunk head view)
+  pub happens : Happens (head_seen chunk head view) [] (step.PutBack chunk) now
+  pub is : now ≡ chunk_put_back slabs chunk head (head_seen chunk head view)
+
+-- the chunk, which was out, was cut
+pub record Cuts (view : View) (slabs : SlabState) (chunk : ChunkId) (now : View) : Type 0 where
+  pub head : Head
+  pub out : head.tag ≡ Out
+  pub happens : Happens view [] (step.Cut chunk.page chunk.index) now
+  pub is : now ≡ chunk_cut slabs chunk head view
