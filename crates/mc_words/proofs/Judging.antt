@@ -1,5 +1,5 @@
 -- A look at a chunk, and the step that it allows.
-use Rattle.std.proofs.Common.{◌≡◌, ℕ, ◌+◌, ◌*◌, ◌/◌, ◌%◌, ◌^◌, ◌<◌, ◌≤◌, ◌==◌, Bool, true, false, ◌&&◌, List, [], ◌∷◌, ◌++◌, length, length-append, Option, Some, None, refl, sym, ap, ap₂, subst, ◌∙◌, inl, inr, arith, replicate, is_some, if◌then◌else◌, eq-eqb, ne_eqb, eqb-true, leb-true, zero, suc}
+use Rattle.std.proofs.Common.{◌≡◌, ℕ, ◌+◌, ◌/◌, ◌%◌, ◌<◌, ◌≤◌, ◌==◌, Bool, true, false, List, [], ◌∷◌, length, Some, None, refl, sym, ap, subst, ◌∙◌, inl, inr, arith, is_some, if◌then◌else◌, eq-eqb, eqb-true, leb-true, zero, suc}
 use Rattle.std.specs.List.{fold}
 use Rattle.std.specs.Prelude.{All, Contains}
 use Rattle.std.proofs.lemmas.Bool.{and_parts, and_from, cases_Bool}
@@ -8,19 +8,16 @@ use Rattle.std.proofs.lemmas.List.{length-replicate}
 use Rattle.std.proofs.lemmas.List.Sums.{fold-append}
 use Rattle.std.proofs.lemmas.List.Folds.{find-append}
 use Rattle.mc_pages.specs.declared.ids.ChunkId.{ChunkId}
-use Rattle.mc_pages.specs.ClassState.{first_free, is_chunk}
+use Rattle.mc_pages.specs.ClassState.{first_free}
 use Rattle.mc_pages.specs.SlabState.{SlabState, IsClass, class_at, class_of_page, class_of_chunk}
 use Rattle.mc_pages.proofs.Chunks.{is_chunk-same}
 use Rattle.mc_core.specs.declared.head.Head.{Head}
-use Rattle.mc_core.specs.declared.head.Tag.{Tag}
-use Rattle.mc_core.specs.declared.head.Tag.TheVariants.{Out, Free, Unlinked, Linked}
 use Rattle.mc_core.specs.declared.holding.Holding.{Holding}
-use Rattle.mc_core.specs.declared.look.Look.{Look}
 use Rattle.mc_core.specs.declared.look.Look.TheVariants.{Saw}
 use Rattle.mc_core.specs.declared.event.Step.TheVariants as core
-use Rattle.mc_core.specs.Head.{decode, tag_of, is_unlinked, is_dead, is_free}
+use Rattle.mc_core.specs.Head.{decode, tag_of, is_unlinked, is_dead}
 use Rattle.mc_core.specs.Holdings.{is_of, holding_of}
-use Rattle.mc_core.specs.State.{State, is_class, has_chunk, head_at, holdings_at, looks_at, room_in}
+use Rattle.mc_core.specs.State.{is_class, has_chunk, head_at, room_in}
 use Rattle.mc_core.specs.Chunks.{most_issue, most_holdings, next_free}
 use Rattle.mc_core.specs.Past.{Sight, header}
 use Rattle.mc_core.specs.Seen.{last_head, seen_head}
@@ -35,12 +32,12 @@ use Rattle.mc_core.proofs.Holders.{none_held}
 use Rattle.mc_words.specs.View.{View}
 use Rattle.mc_words.specs.Happens.{LawfulView, Happens}
 use Rattle.mc_words.specs.Fresh.{IsFreshOf}
-use Rattle.mc_words.specs.Owner.{Cuts}
+use Rattle.mc_words.specs.Owner.{PopsFirst, PutsBack, Cuts}
 use Rattle.mc_words.specs.Views.{head_seen, looked_if_held, chunk_popped, chunk_put_back, chunk_cut, fresh_holding}
 use Rattle.mc_words.specs.Views as views
 use Rattle.mc_words.proofs.Heads.{near_here}
 use Rattle.mc_words.proofs.Owners.{slabs_here, looks_here, holdings_here}
-use Rattle.mc_words.proofs.OwnerViews.{popped_chunk, put_back_chunk, cut_chunk}
+use Rattle.mc_words.proofs.OwnerViews.{holding_rows, popped_chunk, put_back_chunk, cut_chunk}
 
 -- a look leaves pages and lists, and under the slabs lock it is the last one at the chunk
 module _ (view : View) (chunk : ChunkId) (head : Head) (slabs : SlabState) (mine : view.slabs ≡ Some slabs) where
@@ -72,9 +69,11 @@ none_found chunk (holding ∷ holdings) none = ap (λ (b : Bool). if b then Some
 
 -- what a header's word tells
 pub issue_left : (word : ℕ) → (70368744177663 ≤ word / 262144 → ⊥) → (decode word).issue < most_issue
+unfolding decode
 issue_left word left = omega arith
 
 pub issue_worn : (word : ℕ) → 70368744177663 ≤ word / 262144 → most_issue ≤ (decode word).issue
+unfolding decode
 issue_worn word worn = omega arith
 
 unlinked_two : (tag : ℕ) → tag < 4 → is_unlinked (tag_of tag) ≡ true → tag ≡ 2
@@ -84,12 +83,14 @@ unlinked_two (suc (suc zero)) near is = refl
 unlinked_two (suc (suc (suc tag))) near is = absurd (cc)
 
 pub word_dead : (word : ℕ) → word % 262144 ≡ 131072 → is_dead (decode word) ≡ true
+unfolding decode
 word_dead word is =
     let tag : word / 65536 % 4 ≡ 2 = omega arith in
     let count : word % 65536 ≡ 0 = omega arith in
     and_from _ _ (ap (λ (n : ℕ). is_unlinked (tag_of n)) tag) (eq-eqb (word % 65536) 0 count)
 
 pub word_alive : (word : ℕ) → (word % 262144 ≡ 131072 → ⊥) → is_dead (decode word) ≡ false
+unfolding decode
 word_alive word isnt = elim (cases_Bool (is_dead (decode word))) [
   | inl dead ↦
       let parts = and_parts (is_unlinked (decode word).tag) ((decode word).count == 0) dead in
@@ -133,7 +134,7 @@ module _ (view now : View) (slabs : SlabState) (mine : view.slabs ≡ Some slabs
         let count = was.lawful.counted.counted chunk here in
         let shut = was.lawful.counted.shut chunk here (inl free) in
         let none : holders chunk m.state.holdings ≡ 0 = omega arith in
-        none_found chunk view.row.holdings (subst (All (λ holding. is_of chunk holding ≡ false)) (holdings_here view was) (none_held chunk m.state.holdings none was.hand (holdings_at m.state was.hand) []))
+        none_found chunk view.row.holdings (subst (All (λ holding. is_of chunk holding ≡ false)) (holdings_here view was) (none_held chunk m.state.holdings none was.hand [] (holding_rows view was)))
 
   pub pops : seen_head view.row.looks chunk ≡ Some head → Happens view [] (core.Pop class) now → now ≡ chunk_popped slabs class chunk head view
   pops last h = popped_chunk view now slabs mine class chunk head h first (on_class h.was) (still h.was last)
@@ -176,3 +177,33 @@ cuts view now slabs page index mine next h =
       happens = h;
       is = cut_chunk view now slabs mine page index (head_at m.state chunk) h refl;
     }
+
+-- a look, and what follows it
+module _ (view seen now : View) (slabs : SlabState) (chunk : ChunkId) (head : Head) (mine : view.slabs ≡ Some slabs) (is : seen ≡ head_seen chunk head view) (looks : Happens view [] (core.Head chunk) seen) where
+  pub after_slabs : seen.slabs ≡ Some slabs
+  after_slabs = ap (λ (v : View). v.slabs) is ∙ seen_slabs view chunk head slabs mine
+
+  pub after_last : seen_head seen.row.looks chunk ≡ Some head
+  after_last = ap (λ (v : View). seen_head v.row.looks chunk) is ∙ seen_last view chunk head slabs mine
+
+  pub after_holds : seen.row.holdings ≡ view.row.holdings
+  after_holds = ap (λ (v : View). v.row.holdings) is ∙ seen_holds view chunk head slabs mine
+
+  pub put_back_after : has_chunk seen.setup.table chunk ≡ true → is_dead head ≡ true → Happens seen [] (core.PutBack chunk) now → PutsBack view slabs chunk now
+  put_back_after near dead h = record {
+    head = head;
+    dead = dead;
+    looks = subst (Happens view [] (core.Head chunk)) is looks;
+    happens = subst (λ (v : View). Happens v [] (core.PutBack chunk) now) is h;
+    is = puts_back seen now slabs after_slabs chunk head near after_last dead h ∙ ap (chunk_put_back slabs chunk head) is;
+  }
+
+  pub pop_after : (class : ℕ) → is_class seen.setup.table class ≡ true → first_free (class_at slabs class) ≡ Some chunk → head.issue < most_issue → Happens seen [] (core.Pop class) now → PopsFirst view slabs class chunk now
+  pop_after class class_is first left h = record {
+    first = first;
+    head = head;
+    unused = left;
+    looks = subst (Happens view [] (core.Head chunk)) is looks;
+    happens = subst (λ (v : View). Happens v [] (core.Pop class) now) is h;
+    is = pops seen now slabs after_slabs class chunk head class_is first after_last h ∙ ap (chunk_popped slabs class chunk head) is;
+  }

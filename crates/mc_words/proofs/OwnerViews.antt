@@ -24,11 +24,11 @@ use Rattle.mc_words.proofs.Knows.{known_after, more_seen, knows_after, knows_sam
 use Rattle.mc_words.proofs.LockViews.{may_step, rows_there, view_from, holdings_were, looks_were, knew, slabs_were, stripes_were, rows}
 use Rattle.mc_words.proofs.Owners.{slabs_here}
 
-module _ (view now : View) where
-  -- there is a row of holdings
-  holding_rows : (was : LawfulView view) → was.hand < length was.moment.state.holdings
-  holding_rows was = let near = rows_there view was in let count = was.lawful.hands.holding_rows in omega arith
+-- there is a row of holdings
+pub holding_rows : (view : View) (was : LawfulView view) → was.hand < length was.moment.state.holdings
+holding_rows view was = let near = rows_there view was in let count = was.lawful.hands.holding_rows in omega arith
 
+module _ (view now : View) where
   -- nothing was learned
   learned_none : (step : Step) (h : Happens view [] step now) → is_join step ≡ false → (after_step h.was.moment.state h.was.hand step).stripes ≡ h.was.moment.state.stripes
       → ((knows : Knowledge) → known_after h.was.moment h.was.hand step knows ≡ more_seen (knows.saw ++ []) knows.hold knows.seen knows)
@@ -44,7 +44,7 @@ module _ (view now : View) where
       let id : ℕ = h.was.hand in
       let after : Moment = moment_stepped m id (core.Fill chunk place word) in
       let change : List Holding → List Holding = λ holdings. change_each (is_of chunk) (filled place word) holdings in
-      h.is ∙ view_from view h.was after refl (change view.row.holdings) (get_or-set_same m.state.holdings id (change (holdings_at m.state id)) [] (holding_rows h.was) ∙ ap change (holdings_were view now h.was)) view.row.looks (looks_were view now h.was)
+      h.is ∙ view_from view h.was after refl (change view.row.holdings) (get_or-set_same m.state.holdings id (change (holdings_at m.state id)) [] (holding_rows view h.was) ∙ ap change (holdings_were view now h.was)) view.row.looks (looks_were view now h.was)
       view.row.knows (learned_none (core.Fill chunk place word) h refl refl (λ knows. refl)) view.slabs (slabs_were view now h.was) view.stripes (stripes_were view now h.was)
 
   -- a fresh chunk was given up
@@ -53,7 +53,7 @@ module _ (view now : View) where
       let m : Moment = h.was.moment in
       let id : ℕ = h.was.hand in
       let after : Moment = moment_stepped m id (core.Discard chunk) in
-      h.is ∙ view_from view h.was after refl (lose (is_of chunk) view.row.holdings) (get_or-set_same m.state.holdings id (lose (is_of chunk) (holdings_at m.state id)) [] (holding_rows h.was) ∙ ap (lose (is_of chunk)) (holdings_were view now h.was)) view.row.looks (looks_were view now h.was)
+      h.is ∙ view_from view h.was after refl (lose (is_of chunk) view.row.holdings) (get_or-set_same m.state.holdings id (lose (is_of chunk) (holdings_at m.state id)) [] (holding_rows view h.was) ∙ ap (lose (is_of chunk)) (holdings_were view now h.was)) view.row.looks (looks_were view now h.was)
       view.row.knows (learned_none (core.Discard chunk) h refl refl (λ knows. refl)) view.slabs (slabs_were view now h.was) view.stripes (stripes_were view now h.was)
 
   module _ (slabs : SlabState) (mine : view.slabs ≡ Some slabs) where
@@ -107,7 +107,7 @@ module _ (view now : View) where
         h.is ∙ view_from view h.was after (ap (λ (s : State). Rattle.mc_core.specs.State.ids_at s id) state_is)
         (view.row.holdings ++ fresh_holding chunk (head.issue + 1) (room_in view.setup.table class) ∷ [])
         (ap (λ (s : State). holdings_at s id) state_is
-        ∙ (get_or-set_same m.state.holdings id (holdings_at m.state id ++ new ∷ []) [] (holding_rows h.was)
+        ∙ (get_or-set_same m.state.holdings id (holdings_at m.state id ++ new ∷ []) [] (holding_rows view h.was)
         ∙ (λ k. holdings_were view now h.was k ++ fresh_holding chunk ((is k).issue + 1) (room k) ∷ [])))
         (view.row.looks ++ Popped chunk (handed_out head) ∷ [])
         (ap (λ (s : State). looks_at s id) state_is

@@ -4,7 +4,7 @@ use Rattle.mc_pages.specs.declared.ids.ChunkId.{ChunkId}
 use Rattle.mc_pages.specs.ClassState.{first_free}
 use Rattle.mc_pages.specs.SlabState.{SlabState, class_at}
 use Rattle.mc_core.specs.declared.head.Head.{Head}
-use Rattle.mc_core.specs.declared.head.Tag.TheVariants.{Out, Free}
+use Rattle.mc_core.specs.declared.head.Tag.TheVariants.{Out}
 use Rattle.mc_core.specs.declared.event.Step.TheVariants as step
 use Rattle.mc_core.specs.Chunks.{most_issue}
 use Rattle.mc_core.specs.Head.{is_dead}
