@@ -7,6 +7,7 @@ use Rattle.std.proofs.lemmas.List.Elements.{All-head, All-tail}
 use Rattle.std.proofs.lemmas.List.{length-replicate}
 use Rattle.std.proofs.lemmas.List.Sums.{fold-append}
 use Rattle.std.proofs.lemmas.List.Folds.{find-append}
+use Rattle.mc_classes.specs.Classes.{Classes, size_of}
 use Rattle.mc_pages.specs.declared.ids.ChunkId.{ChunkId}
 use Rattle.mc_pages.specs.ClassState.{first_free}
 use Rattle.mc_pages.specs.SlabState.{SlabState, IsClass, class_at, class_of_page, class_of_chunk}
@@ -68,7 +69,7 @@ none_found chunk (holding ∷ holdings) none = ap (λ (b : Bool). if b then Some
     ∙ none_found chunk holdings (All-tail (λ (h : Holding). is_of chunk h ≡ false) holding holdings none)
 
 -- what a header's word tells
-pub issue_left : (word : ℕ) → (70368744177663 ≤ word / 262144 → ⊥) → (decode word).issue < most_issue
+pub issue_left : (word : ℕ) → word / 262144 < 70368744177663 → (decode word).issue < most_issue
 unfolding decode
 issue_left word left = omega arith
 
@@ -207,3 +208,19 @@ module _ (view seen now : View) (slabs : SlabState) (chunk : ChunkId) (head : He
     happens = subst (λ (v : View). Happens v [] (core.Pop class) now) is h;
     is = pops seen now slabs after_slabs class chunk head class_is first after_last h ∙ ap (chunk_popped slabs class chunk head) is;
   }
+
+-- a class of the table is one of the slabs
+pub class_of_table : (table : Classes) (class : ℕ) → is_class table class ≡ true → (1 ≤ class) × (class ≤ length table.sizes)
+class_of_table table class is = let parts = and_parts _ _ is in (leb-true 1 class parts.0, leb-true class (length table.sizes) parts.1)
+
+pub class_of_slabs : (view : View) → LawfulView view → (slabs : SlabState) (class : ℕ) → view.slabs ≡ Some slabs → is_class view.setup.table class ≡ true → IsClass slabs class
+class_of_slabs view was slabs class mine is =
+    let m = was.moment in
+    let in' = class_of_table m.state.table class (ap (λ table. is_class table class) was.same_table ∙ is) in
+    let count = class_count m.state.table m.state.slabs was.lawful.paged.of_table in
+    let low = in'.0 in
+    let high = in'.1 in
+    subst (λ (x : SlabState). IsClass x class) (slabs_here view was slabs mine).1 (low, omega arith)
+
+pub room_of : (table : Classes) (class size : ℕ) → is_class table class ≡ true → size ≡ size_of table class → size / 8 ≡ room_in table class
+room_of table class size is size_is = ap (λ (n : ℕ). n / 8) size_is ∙ ap (λ (b : Bool). if b then size_of table class / 8 else 0) (sym is)
