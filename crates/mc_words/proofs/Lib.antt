@@ -11,3 +11,4 @@ pub mod Owners
 pub mod OwnerViews
 pub mod Filled
 pub mod Judging
+pub mod Opens

@@ -7,6 +7,8 @@ pub mod Slots
 pub mod Taking
 pub mod Out
 pub mod Views
+pub mod Opening
+pub mod Places
 pub mod Fresh
 pub mod Owner
 pub mod Arenas

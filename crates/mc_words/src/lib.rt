@@ -9,6 +9,7 @@ pub mod held;
 pub mod locking;
 pub mod looking;
 pub mod locks;
+pub mod opening;
 pub mod places;
 pub mod plan;
 pub mod rule;

@@ -1,0 +1,11 @@
+-- Where the groups of words begin, as numbers.
+use Rattle.std.specs.Prelude.{◌≡◌}
+use Rattle.mc_words.specs.declared.opening.Places.{Places}
+use Rattle.mc_words.specs.View.{Setup}
+use Rattle.mc_words.specs.Layout.{pages_from, heads_from, data_from, config_from}
+
+pub record ArePlaces (setup : Setup) (places : Places) : Type 0 where
+  pub pages : places.pages ≡ pages_from setup
+  pub heads : places.heads ≡ heads_from setup
+  pub data_words : places.data ≡ data_from setup
+  pub config : places.config ≡ config_from setup
