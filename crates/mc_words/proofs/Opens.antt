@@ -1,33 +1,34 @@
 -- The table of a new arena means the core's first moment, and a hand that is made changes nothing of it.
-use Rattle.std.proofs.Common.{◌≡◌, ◌≢◌, ◌⊎◌, ℕ, zero, suc, ◌+◌, ◌-◌, ◌*◌, ◌^◌, ◌<◌, ◌≤◌, Bool, true, false, List, [], ◌∷◌, ◌++◌, map, length, length-append, take, drop, replicate, Option, Some, None, refl, sym, ap, subst, ◌∙◌, inl, inr, arith, zero-add, slice_set, slice_index, slice_index_or, length-set, get_or, is_some, if◌then◌else◌}
+use Rattle.std.proofs.Common.{◌≡◌, ℕ, zero, suc, ◌+◌, ◌-◌, ◌*◌, ◌<◌, ◌≤◌, Bool, true, false, List, [], ◌∷◌, ◌++◌, map, length, length-append, take, drop, replicate, Some, None, refl, sym, ap, subst, ◌∙◌, arith, zero-add, slice_index, get_or, is_some, if◌then◌else◌}
 use Rattle.std.specs.List.{range_with_len}
-use Rattle.std.proofs.lemmas.List.{length-replicate, drop-replicate, take-replicate, get_or-replicate, get_or_append_left, drop-append-le, take-append-le, length-map, length-drop}
+use Rattle.std.proofs.lemmas.List.{length-replicate, drop-replicate, take-replicate, get_or-replicate, get_or_append_left, drop-append-le, take-append-le, length-map}
 use Rattle.std.proofs.Math.Seq.{drop-append_seam, drop-append-add, take-append_seam}
 use Rattle.std.proofs.lemmas.List.FromFn.{get_or-map-range_with_len, length-map-range_with_len}
 use mathlib.Core.Option.{some}
 use mathlib.Core.Option as maybe
 use lib.ListN.{get_elem?}
 use Rattle.atomic_table.specs.Table as table
-use Rattle.atomic_table.proofs.Lists.{at_set}
 use Rattle.mc_classes.specs.Classes.{IsSound, pages_of}
 use Rattle.mc_pages.specs.Ledger.{all_untouched, owner_at}
 use Rattle.mc_pages.specs.SlabState.{fresh_slabs, class_of_owner}
 use Rattle.mc_stripe.specs.StripeState.{new_stripe}
-use Rattle.mc_core.specs.declared.head.Head.{Head}
 use Rattle.mc_core.specs.Head.{code, decode, uncut_from}
-use Rattle.mc_core.specs.State.{State, gone, is_hand, is_held_by, number_at, stripe_at}
+use Rattle.mc_core.specs.State.{gone, is_held_by, number_at, stripe_at}
 use Rattle.mc_core.specs.Chunks.{most_issue}
 use Rattle.mc_core.specs.Past.{Moment, first_moment, no_hold}
 use Rattle.mc_core.specs.Views.{held_slabs, held_stripe}
 use Rattle.mc_core.proofs.Codes.{are_one_word}
 use Rattle.mc_core.proofs.Framed.{free_lock}
 use Rattle.mc_core.proofs.LawKept.{lawful_first}
-use Rattle.mc_words.specs.declared.slot.Slot.{Slot}
 use Rattle.mc_words.specs.declared.slot.Slot.TheVariants.{OfSlabs, OfStripe}
 use Rattle.mc_words.specs.View.{Setup, View, view_at, new_view}
-use Rattle.mc_words.specs.Layout.{locks_from, pages_from, heads_from, head_count, data_from, data_count, config_from, config_words, word_count}
+use Rattle.mc_words.specs.Layout.{locks_from, pages_from, heads_from, head_count, data_count, config_from, config_words}
 use Rattle.mc_words.specs.Meaning.{AreWords, AreHome, IsViewOf, Ruled}
-use Rattle.mc_words.specs.Opening.{first_words, first_slots, first_view, one_made, next_view}
+use Rattle.mc_words.specs.declared.locks.Locks.TheVariants.{Neither}
+use Rattle.mc_words.specs.Out.{IsNoted}
+use Rattle.mc_words.specs.Happens.{LawfulView}
+use Rattle.mc_words.proofs.Quiet.{map_map}
+use Rattle.mc_words.specs.Opening.{first_words, first_slots, first_view}
 
 map_replicate : {A B : Type 0} (f : A → B) (n : ℕ) (a : A) → map f (replicate n a) ≡ replicate n (f a)
 map_replicate f zero a = refl
@@ -39,9 +40,9 @@ same_entry n i x d within = get_or-replicate n i x d within
 -- some of many zeros, with something behind them
 zeros : (first count all : ℕ) (more : List ℕ) → first + count ≤ all → take {A = ℕ} count (drop first (replicate all 0 ++ more)) ≡ replicate count 0
 zeros first count all more fits =
-    let long = length-replicate all 0 in
+    let long : length (replicate {A = ℕ} all 0) ≡ all = length-replicate all 0 in
     let left : drop first (replicate all 0) ≡ replicate (all - first) 0 = drop-replicate first all 0 in
-    let long' = length-replicate (all - first) 0 in
+    let long' : length (replicate {A = ℕ} (all - first) 0) ≡ all - first = length-replicate (all - first) 0 in
     ap (take count) (drop-append-le first (replicate all 0) more (omega arith) ∙ ap (λ l. l ++ more) left)
     ∙ (take-append-le count (replicate (all - first) 0) more (omega arith) ∙ take-replicate count (all - first) 0 (omega arith))
 
@@ -85,13 +86,14 @@ module _ (setup : Setup) (start : ℕ) (small : start ≤ most_issue) where
   pub words_first : AreWords setup (replicate (pages_of setup.table) 0) (first_words setup start) 0 (replicate setup.config.stripes 0) (replicate headers (uncut_from start)) (replicate data_words 0)
   words_first = record {
     wide =
-        let a = length-append (replicate H 0) behind_pages in
-        let b = length-append (replicate headers (start * 262144)) behind_heads in
-        let c = length-append (replicate data_words 0) behind_data in
-        let x = length-replicate H 0 in
-        let y = length-replicate headers (start * 262144) in
-        let z = length-replicate data_words 0 in omega arith;
-    slabs_lock = let long = length-replicate H 0 in get_or_append_left (replicate H 0) behind_pages 0 1 (omega arith) ∙ same_entry H 1 0 0 (omega arith);
+        let a : length (first_words setup start) ≡ length (replicate {A = ℕ} H 0) + length behind_pages = length-append (replicate H 0) behind_pages in
+        let b : length behind_pages ≡ length (replicate {A = ℕ} headers (start * 262144)) + length behind_heads = length-append (replicate headers (start * 262144)) behind_heads in
+        let c : length behind_heads ≡ length (replicate {A = ℕ} data_words 0) + length behind_data = length-append (replicate data_words 0) behind_data in
+        let x : length (replicate {A = ℕ} H 0) ≡ H = length-replicate H 0 in
+        let y : length (replicate {A = ℕ} headers (start * 262144)) ≡ headers = length-replicate headers (start * 262144) in
+        let z : length (replicate {A = ℕ} data_words 0) ≡ data_words = length-replicate data_words 0 in
+        let w : length behind_data ≡ 8 = refl in omega arith;
+    slabs_lock = let long : length (replicate {A = ℕ} H 0) ≡ H = length-replicate H 0 in get_or_append_left (replicate H 0) behind_pages 0 1 (omega arith) ∙ same_entry H 1 0 0 (omega arith);
     locks = zeros locks_from setup.config.stripes H behind_pages (omega arith);
     pages = zeros (pages_from setup) (pages_of setup.table) H behind_pages (omega arith);
     heads = ap (λ l. map decode (take headers l)) (here H (replicate H 0) behind_pages (length-replicate H 0))
@@ -191,3 +193,23 @@ module _ (setup : Setup) (start : ℕ) (sound : IsSound setup.table) (stripes : 
       made : (id : ℕ) (v : View) → get_elem? (first_view setup ∷ []) id ≡ some v → 1 ≤ v.spare → (id ≡ 0) × (1 + v.spare ≡ setup.hands)
       made zero v at more = (refl, (let e : setup.hands - 1 ≡ v.spare = ap (λ (u : View). u.spare) (maybe.some-injective _ v at) in omega arith))
       made (suc id) v at more = absurd (maybe.some-ne-none v (sym at))
+
+  -- what the first hand knows is of the first moment, and so it notes
+  pub first_lawful : LawfulView (first_view setup)
+  first_lawful = record {
+    moment = first;
+    hand = 0;
+    lawful = lawful_first setup.table setup.config.stripes setup.hands start sound stripes hands few small;
+    same_table = refl;
+    hands = length-map-range_with_len _ 0 setup.hands;
+    stripes = length-replicate setup.config.stripes new_stripe;
+    there = ap (λ (v : View). is_some v.row.ids.number) (view_first 0 (setup.hands - 1) (omega arith));
+    is = sym (view_first 0 (setup.hands - 1) (omega arith));
+    words = first_words setup start;
+    cuts = replicate (pages_of setup.table) 0;
+    are = words_first setup start small;
+    cut = λ page has. absurd (let none = no_class (pages_of setup.table) page in omega arith);
+  }
+
+pub first_noted : (setup : Setup) → IsNoted (first_view setup, []) 0 0 Neither
+first_noted setup = (refl, omega arith, refl, refl, (refl, map_map (λ (stripe : ℕ). None) is_some (range_with_len 0 setup.config.stripes)))

@@ -1,7 +1,9 @@
 //! The beginning of an arena.
 ghost use Rattle.std.specs.Prelude.{◌≡◌, ◌+◌, ◌*◌, ◌^◌, ◌<◌, ◌≤◌, IfOk};
+ghost use Rattle.mc_classes.specs.Classes.{IsSound};
 ghost use Rattle.mc_core.specs.Chunks.{most_issue};
 ghost use Rattle.mc_words.specs.Arenas.{IsHandOf, setup_of, view};
+ghost use Rattle.mc_words.specs.Layout.{word_count};
 ghost use Rattle.mc_words.specs.Places.{ArePlaces};
 ghost use Rattle.mc_words.specs.Opening.{first_slots, first_view, first_words};
 
@@ -10,7 +12,7 @@ use crate::hand::Hand;
 use crate::locks::Locks;
 use crate::plan::Plan;
 use crate::slot::Slot;
-use atomic_table::{Refused, Table};
+use atomic_table::Table;
 use mc_pages::{NoMemory, SharedSlabs, Slabs};
 use mc_stripe::Stripe;
 use std::alloc::{AllocError, Global};
@@ -47,4 +49,78 @@ fn words_of(alloc: Global, plan: &Plan, places: Places, start: u64) -> Result<Ve
     ];
     words.extend_from_slice(&numbers)?;
     Ok(words)
+}
+
+// The values at home at first.
+fn slots_of(alloc: Global, plan: &Plan) -> Result<Vec<Slot>, AllocError>
+    ensures slots { IfOk result (λ slots. slots.items ≡ first_slots plan.now) }
+{
+    let Ok(slabs) = Slabs::new(alloc, plan.classes()) else {
+        return Err(AllocError);
+    };
+    let Ok(shared) = SharedSlabs::new(alloc, slabs) else {
+        return Err(AllocError);
+    };
+    let mut slots = Vec::new(alloc);
+    slots.push(Slot::OfSlabs(shared))?;
+    for _stripe in 0..plan.config().stripes {
+        slots.push(Slot::OfStripe(Stripe::new(alloc)))?;
+    }
+    Ok(slots)
+}
+
+impl Plan {
+    /// Where the groups of words begin.
+    pub(crate) fn places(&self) -> Places
+        ensures places { ArePlaces self.now result }
+        ensures small { word_count self.now < 2 ^ 63 }
+        ensures sound { IsSound self.now.table }
+        ensures stripes { (1 ≤ self.now.config.stripes) × (self.now.config.stripes ≤ 64) }
+        ensures hands { (1 ≤ self.now.hands) × (self.now.hands ≤ 64) }
+    {
+        let classes = self.classes();
+        let count = classes.pages();
+        let pages = 2 + self.config().stripes;
+        let heads = pages + count;
+        let data = heads + count * classes.per_page(1);
+        let config = data + count * (classes.page() / 8);
+        Places {
+            pages: pages as usize,
+            heads: heads as usize,
+            data: data as usize,
+            config: config as usize,
+        }
+    }
+}
+
+impl Arena {
+    // An arena in which nothing was done, and its first hand.
+    pub(crate) fn open(alloc: Global, plan: Plan, start: u64) -> Result<(Arena, Hand), NoMemory>
+        requires start { start ≤ most_issue }
+        ensures arena { IfOk result (λ opened. IsHandOf opened.0 opened.1 × (setup_of opened.0 ≡ plan)) }
+        ensures view { IfOk result (λ opened. view opened.1 ≡ first_view plan) }
+    {
+        let places = plan.places();
+        let words = words_of(alloc, &plan, places, start)?;
+        let slots = slots_of(alloc, &plan)?;
+        let Ok((table, seat)) = Table::new(alloc, words.as_slice(), slots, &plan) else {
+            return Err(NoMemory);
+        };
+        let arena = Arena {
+            most: plan.classes().per_page(1) as usize,
+            words_a_page: plan.classes().page() / 8,
+            first_page: places.pages,
+            first_head: places.heads,
+            first_data: places.data,
+            table,
+            plan,
+        };
+        let hand = Hand {
+            seat,
+            number: 0,
+            chunks: 0,
+            locks: Locks::Neither,
+        };
+        Ok((arena, hand))
+    }
 }
