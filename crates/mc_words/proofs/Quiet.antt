@@ -7,24 +7,26 @@ use lib.ListN.{get_elem?}
 use Rattle.atomic_table.specs.Table as table
 use Rattle.atomic_table.specs.Table.{Act, Valid, stepped, keeps, carried_after, Allows}
 use Rattle.mc_core.specs.declared.head.Head.{Head}
+use Rattle.mc_core.specs.declared.event.Change.{Change}
 use Rattle.mc_core.specs.declared.event.Step.{Step}
 use Rattle.mc_core.specs.declared.event.Step.TheVariants as core
 use Rattle.mc_core.specs.State.{State, is_held_by, is_hand, has_slabs, has_stripe, stripe_at}
-use Rattle.mc_core.specs.Past.{Moment, moment_stepped}
+use Rattle.mc_core.specs.Past.{Moment, moment_stepped, moment_changed}
 use Rattle.mc_core.specs.Views.{held_slabs, held_stripe}
 use Rattle.mc_core.specs.Run.{allows_step, after_step}
-use Rattle.mc_core.specs.Laws.{MayStep}
+use Rattle.mc_core.specs.Laws.{MayStep, MayChange}
 use Rattle.mc_core.proofs.Own.{is_plain}
 use Rattle.mc_core.proofs.Learned.{is_join}
 use Rattle.mc_core.proofs.SameSlabs.{owners_stay}
-use Rattle.mc_core.proofs.Next.{IsQuiet, quiet_step}
+use Rattle.mc_core.proofs.LawKept.{lawful_changes}
+use Rattle.mc_core.proofs.Next.{IsQuiet, quiet_step, quiet_change, quiet_then}
 use Rattle.mc_pages.specs.SlabState.{SlabState, class_of_owner, class_of_page}
 use Rattle.mc_pages.specs.Ledger.{owner_at}
 use Rattle.mc_words.specs.declared.slot.Slot.{Slot}
 use Rattle.mc_words.specs.View.{Setup, View, view_at, held_stripes}
 use Rattle.mc_words.specs.Meaning.{Words, WordsOf, AreCut, Ruled}
-use Rattle.mc_words.specs.Happens.{LawfulView, Happens, HappensAt, MayWrite, is_quiet}
-use Rattle.mc_words.specs.Told.{Sits, StaysOut, TellsFound, TellsEvent}
+use Rattle.mc_words.specs.Happens.{LawfulView, Happens, HappensAt, MayWrite, MayTell, is_quiet}
+use Rattle.mc_words.specs.Told.{Sits, StaysOut, TellsFound, TellsEvent, TellsChange}
 use Rattle.mc_words.proofs.Rules.{lawful_view, ruled_quiet}
 
 -- the columns that words have
@@ -189,6 +191,30 @@ module _ (setup : Setup) (slots id : ℕ) (me : Sits) (numbered : is_some me.0.r
           tells (stays_out now quiet (lawful_after r.cuts now (slice_set t.words place word) quiet are cut)) (happens, refl),
         )
 
+    -- a change, and then a step that takes and gives no lock
+    pub tells : (change : Change) (step : Step) → is_quiet step ≡ true → (place : ℕ) (written : ℕ → ℕ) → MayTell me.0 change step place written → Goes t place (λ found. TellsChange change step me) (written (slice_index t.words place))
+    tells change step still place written may =
+        let before : MayChange m id change = record { lawful = r.lawful; there = there; allowed = may.allowed was } in
+        let changed : Moment = moment_changed m id change in
+        let first : IsQuiet m changed id = quiet_change m id change before in
+        let next_may : MayStep changed id step = record { lawful = lawful_changes m id change before; there = ap is_some first.next.number ∙ there; allowed = may.step_allowed was } in
+        let now : Moment = moment_stepped changed id step in
+        let quiet : IsQuiet m now id = quiet_then m changed now id first (quiet_step changed id step (plain_if step still) (alone_if step still) next_may) in
+        let write = may.writes was in
+        let words : List ℕ = slice_set t.words place (written (slice_index t.words place)) in
+        let are : WordsOf setup write.0 words now.state = subst (λ (s : Setup). WordsOf s write.0 words now.state) of write.1 in
+        let happens : Happens me.0 (change ∷ []) step (view_at setup me.0.spare now id) = record {
+          was = was;
+          allowed = and_from _ _ there (and_from _ _ (and_from _ _ before.allowed refl) next_may.allowed);
+          is = ap (λ (s : Setup). view_at s me.0.spare now id) (sym of);
+        } in (
+          view_at setup me.0.spare now id,
+          keeps,
+          tt,
+          ruled_quiet setup t r id me.0 at write.0 now words there quiet are write.2,
+          (stays_out now quiet (lawful_after write.0 now words quiet are write.2), happens),
+        )
+
   -- as its callers show it
   module _ (step : Step) (still : is_quiet step ≡ true) (place : ℕ) (written : ℕ → ℕ) (may : MayWrite me.0 step place written) where
     pub may_go : (told : ℕ → Sits → Type 0) → ((found : ℕ) (now : View) → StaysOut me (now, me.1) → HappensAt place found me.0 [] step now → told found (now, me.1)) → Allows (Ruled setup) slots id me place written told
@@ -210,6 +236,13 @@ module _ (setup : Setup) (slots id : ℕ) (me : Sits) (numbered : is_some me.0.r
     -- a sum
     pub changes : (first second : ℕ) → Allows (Ruled setup) slots id me place written (λ found. TellsEvent step (table.step slots place first second none) me found)
     changes first second = may_go (λ found. TellsEvent step (table.step slots place first second none) me found) (λ found now out happens. (out, happens.0))
+
+  -- a change that is told by a look or by a store
+  pub tells_looking : (change : Change) (step : Step) → is_quiet step ≡ true → (place first second : ℕ) → MayTell me.0 change step place (λ found. found) → Allows (Ruled setup) slots id me place (λ n. n) (λ found. TellsChange change step me)
+  tells_looking change step still place first second may t r _ at fits = tells t r at change step still place (λ found. found) may
+
+  pub tells_storing : (change : Change) (step : Step) → is_quiet step ≡ true → (place word : ℕ) → MayTell me.0 change step place (λ found. word) → Allows (Ruled setup) slots id me place (λ n. word) (λ found. TellsChange change step me)
+  tells_storing change step still place word may t r _ at fits = tells t r at change step still place (λ found. word) may
 
 -- a view of a lawful moment has a number
 pub has_number : (view : View) → LawfulView view → is_some view.row.ids.number ≡ true

@@ -7,6 +7,7 @@ use Rattle.mc_core.specs.declared.event.Step.TheVariants.{TakeSlabs, TakeStripe,
 use Rattle.mc_core.specs.State.{is_hand}
 use Rattle.mc_core.specs.Past.{Moment, moment_after}
 use Rattle.mc_core.specs.Lawful.{IsLawful}
+use Rattle.mc_core.specs.Silent.{allows_change, after_change}
 use Rattle.mc_core.specs.Run.{allows_step, after_step, is_allowed}
 use Rattle.mc_words.specs.View.{View, view_at}
 use Rattle.mc_words.specs.Meaning.{WordsOf, AreCut}
@@ -54,6 +55,14 @@ abbrev pub MayWrite : View → Step → ℕ → (ℕ → ℕ) → Type 0
 MayWrite view step place written =
     (was : LawfulView view) → slice_index was.words place < 2 ^ 64 →
     (allows_step was.moment.state was.hand step ≡ true) × WordsOf view.setup was.cuts (slice_set was.words place (written (slice_index was.words place))) (after_step was.moment.state was.hand step)
+
+-- wherever a hand knows this view the core allows this change and then the step, and the word at this place becomes so
+pub record MayTell (view : View) (change : Change) (step : Step) (place : ℕ) (written : ℕ → ℕ) : Type 0 where
+  pub allowed : (was : LawfulView view) → allows_change was.moment.state was.hand change ≡ true
+  pub step_allowed : (was : LawfulView view) → allows_step (after_change was.moment.state was.hand change) was.hand step ≡ true
+  pub writes : (was : LawfulView view) →
+      let now = after_step (after_change was.moment.state was.hand change) was.hand step in
+      (cuts : List ℕ) × WordsOf view.setup cuts (slice_set was.words place (written (slice_index was.words place))) now × AreCut cuts now.slabs
 
 -- the views are of one hand, which has the same locks
 pub record IsSameHand (view now : View) : Type 0 where

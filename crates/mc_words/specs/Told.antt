@@ -1,6 +1,7 @@
 -- What a step on the table tells the hand that makes it.
-use Rattle.std.specs.Prelude.{◌≡◌, ℕ, []}
+use Rattle.std.specs.Prelude.{◌≡◌, ℕ, [], ◌∷◌}
 use Rattle.atomic_table.specs.Table as table
+use Rattle.mc_core.specs.declared.event.Change.{Change}
 use Rattle.mc_core.specs.declared.event.Step.{Step}
 use Rattle.mc_words.specs.declared.slot.Slot.{Slot}
 use Rattle.mc_words.specs.View.{View}
@@ -24,3 +25,7 @@ TellsFound step at me found now = StaysOut me now × HappensAt at.word found me.
 -- the step was this event
 abbrev pub TellsEvent : Step → At → Sits → ℕ → Sits → Type 0
 TellsEvent step at me written now = StaysOut me now × Happens me.0 [] step now.0
+
+-- the step was this event, before which the change was made
+abbrev pub TellsChange : Change → Step → Sits → Sits → Type 0
+TellsChange change step me now = StaysOut me now × Happens me.0 (change ∷ []) step now.0

@@ -1,13 +1,14 @@
 //! One operation on one word, which is one event of the core.
-ghost use Rattle.std.specs.Prelude.{◌≡◌, ◌<◌, true, []};
+ghost use Rattle.std.specs.Prelude.{◌≡◌, ◌<◌, ◌∷◌, true, []};
+ghost use Rattle.mc_core.specs.declared.event.Change.{Change};
 ghost use Rattle.mc_core.specs.declared.event.Step.{Step};
 ghost use Rattle.mc_core.specs.Codes.{plus, minus};
 ghost use Rattle.mc_words.specs.Arenas.{IsOfArena};
-ghost use Rattle.mc_words.specs.Happens.{Happens, HappensAt, IsSameHand, MayWrite, is_quiet};
+ghost use Rattle.mc_words.specs.Happens.{Happens, HappensAt, IsSameHand, MayTell, MayWrite, is_quiet};
 
 use crate::arena::Arena;
 use crate::rule::HandSeat;
-use mc_core::Step;
+use mc_core::{Change, Step};
 use std::marker::Brand;
 
 impl Arena {
@@ -77,5 +78,46 @@ impl Arena {
         ensures happens { Happens seat.old.me.0 [] told seat.new.me.0 }
     {
         self.table.shared.fetch_sub::<Brand>(seat, word, less);
+    }
+
+    // The event is a change of a value behind a lock that the hand has, which is told by a look at this word.
+    #[inline(always)]
+    pub(crate) fn tell(&self, seat: &mut HandSeat, word: usize, change: Change, step: Step)
+        ghost told: { Change × Step }
+        requires is { told ≡ (change, step) }
+        requires still { is_quiet told.1 ≡ true }
+        requires near { word < self.now.table.shared.table_id.words }
+        requires seat { IsOfArena self.now seat.old.table_id seat.old.me.0 }
+        requires may { MayTell seat.old.me.0 told.0 told.1 word (λ found. found) }
+        ensures seat { IsOfArena self.now seat.new.table_id seat.new.me.0 }
+        ensures out { seat.new.me.1 ≡ seat.old.me.1 }
+        ensures hand { IsSameHand seat.old.me.0 seat.new.me.0 }
+        ensures happens { Happens seat.old.me.0 (told.0 ∷ []) told.1 seat.new.me.0 }
+    {
+        self.table.shared.load::<Brand>(seat, word);
+    }
+
+    // The same, where the change gives a page to a class, which is stored in the page's word.
+    #[inline(always)]
+    pub(crate) fn tell_page(
+        &self,
+        seat: &mut HandSeat,
+        word: usize,
+        class: u64,
+        change: Change,
+        step: Step,
+    )
+        ghost told: { Change × Step }
+        requires is { told ≡ (change, step) }
+        requires still { is_quiet told.1 ≡ true }
+        requires near { word < self.now.table.shared.table_id.words }
+        requires seat { IsOfArena self.now seat.old.table_id seat.old.me.0 }
+        requires may { MayTell seat.old.me.0 told.0 told.1 word (λ found. class) }
+        ensures seat { IsOfArena self.now seat.new.table_id seat.new.me.0 }
+        ensures out { seat.new.me.1 ≡ seat.old.me.1 }
+        ensures hand { IsSameHand seat.old.me.0 seat.new.me.0 }
+        ensures happens { Happens seat.old.me.0 (told.0 ∷ []) told.1 seat.new.me.0 }
+    {
+        self.table.shared.store::<Brand>(seat, word, class)
     }
 }

@@ -1,0 +1,10 @@
+use Rattle.mc_words.proofs.Quiet.{tells_storing, has_number}
+use Rattle.mc_words.proofs.arena.Arena.tell_page.Goals as goal
+
+pub store-requires : goal.store-requires
+store-requires g c =
+    let (is, (still, (near, (seat, may)))) = c.requires in (
+      seat.same_table,
+      near,
+      tells_storing c.args.self.now.table.shared.key _ _ c.args.seat.now.me (has_number _ seat.lawful) seat.setup g.told.0 g.told.1 still c.args.word c.args.class may,
+    )
