@@ -12,3 +12,5 @@ pub mod OwnerViews
 pub mod Filled
 pub mod Judging
 pub mod Opens
+pub mod Pages
+pub mod ChangeViews

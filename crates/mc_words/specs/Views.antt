@@ -1,12 +1,14 @@
 -- What each call changes of a hand's view: all else stays.
-use Rattle.std.specs.Prelude.{ℕ, ◌+◌, List, [], ◌∷◌, ◌++◌, is_some, if◌then◌else◌, replicate, slice_set, Some, None}
+use Rattle.std.specs.Prelude.{ℕ, ◌+◌, List, [], ◌∷◌, ◌++◌, is_some, if◌then◌else◌, replicate, slice_set, Some, None, true}
 use Rattle.mc_pages.specs.declared.ids.ChunkId.{ChunkId}
 use Rattle.mc_pages.specs.SlabState.{SlabState}
 use Rattle.mc_stripe.specs.StripeState.{ReadyStripe}
 use Rattle.mc_core.specs.declared.head.Head.{Head}
 use Rattle.mc_core.specs.declared.holding.Holding.{Holding}
 use Rattle.mc_core.specs.declared.look.Look.{Look}
-use Rattle.mc_core.specs.declared.look.Look.TheVariants.{Saw, SawStripe, Popped, PutBack, Cut}
+use Rattle.mc_core.specs.declared.look.Look.TheVariants.{Saw, SawStripe, Popped, PutBack, Cut, Changed}
+use Rattle.mc_core.specs.declared.event.Change.{Change}
+use Rattle.mc_core.specs.Silent.{slabs_after}
 use Rattle.mc_core.specs.Past.{Sight, Knowledge, header, slabs_word, stripe_word}
 use Rattle.mc_core.specs.Holdings.{is_of, lose, change_each}
 use Rattle.mc_pages.specs.Changes.{after_pop, after_back, after_cut}
@@ -100,3 +102,11 @@ chunk_put_back slabs chunk head view = looked (PutBack chunk (with_tag_free head
 -- a chunk was cut, whose header was this
 abbrev pub chunk_cut : SlabState → ChunkId → Head → View → View
 chunk_cut slabs chunk head view = looked (Cut chunk (with_tag_free head)) (with_slabs (after_cut slabs chunk) view)
+
+-- pages and lists were changed, which was told by a look at the word of their lock
+abbrev pub slabs_changed : SlabState → Change → ℕ → View → View
+slabs_changed slabs change word view = slabs_missed word (looked (Changed change) (with_slabs (slabs_after slabs change) view))
+
+-- room was made in a stripe, which was told by a look at the word of its lock
+abbrev pub stripe_reserved : ℕ → ReadyStripe → ℕ → View → View
+stripe_reserved stripe value word view = stripe_missed stripe word (record view { stripes = slice_set view.stripes stripe (Some (record value { ready = true })) })

@@ -2,6 +2,7 @@
 #![tactic(auto)]
 
 pub mod arena;
+pub mod changing;
 pub mod filling;
 pub mod hand;
 pub mod handing;
