@@ -1,7 +1,9 @@
 -- The words of the pages: a page that a class gets, and the change by which it gets it.
-use Rattle.std.proofs.Common.{◌≡◌, ℕ, ◌<◌, ◌≤◌, true, List, length, slice_index, slice_set, Some, refl, sym, ap, ◌∙◌, subst, inl, inr, arith, get_or-set_same, get_or-set_other}
+use Rattle.std.proofs.Common.{◌/◌, None, is_none, is_some, ◌≡◌, ℕ, ◌<◌, ◌≤◌, true, List, length, slice_index, slice_set, Some, refl, sym, ap, ◌∙◌, subst, inl, inr, arith, get_or-set_same, get_or-set_other}
 use Rattle.std.proofs.lemmas.Bool.{cases_eq, and_from}
-use Rattle.mc_classes.specs.Classes.{pages_of}
+use Rattle.mc_classes.specs.Classes.{Classes, pages_of}
+use Rattle.mc_pages.proofs.RoomyGrow.{next_within}
+use Rattle.mc_pages.proofs.GrantedPage.{length-owners}
 use Rattle.mc_pages.specs.SlabState.{SlabState, class_of_owner, class_of_page}
 use Rattle.mc_pages.specs.declared.ledger.Owner.{Owner}
 use Rattle.mc_pages.specs.declared.ledger.Owner.TheVariants.{Untouched, Class}
@@ -9,13 +11,13 @@ use Rattle.mc_pages.specs.Ledger.{owner_at}
 use Rattle.mc_pages.specs.Changes.{next_page, after_grow}
 use Rattle.mc_core.specs.declared.event.Change.TheVariants.{Grow, SetAutomove}
 use Rattle.mc_core.specs.declared.event.Step.TheVariants as core
-use Rattle.mc_core.specs.State.{State}
+use Rattle.mc_core.specs.State.{State, is_class}
 use Rattle.mc_core.specs.Silent.{grown, can_change_slabs}
 use Rattle.mc_core.proofs.SamePages.{grown_owners, grown_pages}
 use Rattle.mc_words.specs.View.{View}
 use Rattle.mc_words.specs.Layout.{lock_word, page_word}
 use Rattle.mc_words.specs.Meaning.{AreCut}
-use Rattle.mc_words.specs.Happens.{MayTell}
+use Rattle.mc_words.specs.Happens.{LawfulView, MayTell}
 use Rattle.mc_words.proofs.Written.{cuts_long, page_written, unwritten}
 use Rattle.mc_words.proofs.Owners.{slabs_here}
 
@@ -59,3 +61,19 @@ may_set_automove view slabs mode mine can = record {
   step_allowed = λ was. refl;
   writes = λ was. let s : State = was.moment.state in (was.cuts, unwritten view.setup was.cuts was.words s.slabs_lock s.stripe_locks s.heads s.words was.are (lock_word 0), was.cut);
 }
+
+-- the page that comes next stands in the arena
+pub next_near : (view : View) → LawfulView view → (slabs : SlabState) (page : ℕ) → view.slabs ≡ Some slabs → next_page slabs ≡ Some page → (page < pages_of view.setup.table) × (page < length slabs.owners)
+next_near view was slabs page mine next =
+    let s : State = was.moment.state in
+    let same = (slabs_here view was slabs mine).1 in
+    let order = was.lawful.paged.order in
+    let inside : page < length s.slabs.owners = next_within s.slabs order.0 page order.1 (ap next_page same ∙ next) in
+    let long : length s.slabs.owners ≡ s.slabs.limit / s.slabs.page = length-owners s.slabs order.1.accounted in
+    let of = was.lawful.paged.of_table in
+    let pages : s.slabs.limit / s.slabs.page ≡ pages_of view.setup.table = (λ k. of.limit k / of.page k) ∙ ap pages_of was.same_table in
+    let owners : length s.slabs.owners ≡ length slabs.owners = ap (λ (x : SlabState). length x.owners) same in
+    (omega arith, omega arith)
+
+pub can_grow_here : (table : Classes) (slabs : SlabState) (class page : ℕ) → is_class table class ≡ true → slabs.uncut ≡ None → next_page slabs ≡ Some page → can_change_slabs table slabs (Grow class) ≡ true
+can_grow_here table slabs class page is whole next = and_from _ _ (and_from _ _ is (ap is_none whole)) (ap is_some next)
