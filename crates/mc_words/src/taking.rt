@@ -91,7 +91,11 @@ impl Arena {
     {
         let StripeHeld { number, stripe } = held;
         hand.bring_forward(Lock::StripeLock(number));
-        self.give(&mut hand.seat, Lock::StripeLock(number), Slot::OfStripe(stripe));
+        self.give(
+            &mut hand.seat,
+            Lock::StripeLock(number),
+            Slot::OfStripe(stripe),
+        );
         hand.locks = hand.locks.without_stripe();
     }
 }
