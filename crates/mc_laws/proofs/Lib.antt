@@ -8,9 +8,15 @@ pub mod ProceedClears
 pub mod ProceedLooks
 pub mod ProceedTurns
 pub mod ProceedCommands
+pub mod Spares
 pub mod Stands
 pub mod Told
 pub mod ToldSets
 pub mod ToldHolds
 pub mod ToldRuns
 pub mod ToldWords
+pub mod ToldPresent
+pub mod Known
+pub mod KnownSets
+pub mod KnownHolds
+pub mod KnownRuns

@@ -1,3 +1,5 @@
 pub mod Answered
 pub mod Words
+pub mod Present
+pub mod Stays
 pub mod Rows

@@ -5,6 +5,8 @@ ghost use Rattle.mc_classes.specs.Classes.{Classes, IsSound};
 ghost use Rattle.mc_script.specs.Command.{IsValid};
 ghost use Rattle.mc_script.specs.declared.command.Command.{Command};
 ghost use Rattle.mc_laws.specs.Rows.{AnswersOfReassign, BusyItem, DeadMakesRoom, EvictionAsksForAPage, FirstPath, FullClassEvicts, HeldIsKept, OneChunkATurn, PageThroughThePool, PageToAnotherClass, PageToSpare, PageToTheLeader, RescueIntoDead, ShadowedHold, TooManyHeld, TouchedIsKept, TwoMovesByThePick, WordsFromAnswers};
+ghost use Rattle.mc_laws.specs.Present.{TellsOneItem};
+ghost use Rattle.mc_laws.specs.Stays.{KeepsHeld, KeepsSeen};
 ghost use Rattle.mc_laws.specs.Words.{TellsHeldWords, TellsLastWords};
 
 /// What scripts of all forms of lines are answered: items that come and go, are held and touched, and pages that
@@ -41,4 +43,23 @@ pub fn values_were_stored()
 /// dropped since. A drop of a key of which the worker holds nothing is answered NOT_HELD. So it is after any valid commands.
 pub fn dropped_were_held()
     ensures { (table : Classes) (bulk mode : ℕ) (commands : List Command) → IsSound table → All IsValid commands → TellsHeldWords table bulk mode commands }
+{}
+
+/// Each key has no item, or the words of its last stored set; and get, hold, touch and delete agree which, whoever asks.
+/// A worker with 255 holds is answered TOO_MANY_REFS by get and hold, and no other is. So it is after any valid commands.
+pub fn keys_have_one_answer()
+    ensures { (table : Classes) (bulk mode : ℕ) (commands : List Command) → IsSound table → All IsValid commands → TellsOneItem table bulk mode commands }
+{}
+
+/// After an answer that shows a key's item, which is STORED, VALUE, HELD or TOUCHED, a get of the key is answered by its
+/// words, as long as no set was stored, the key wasn't deleted and the mover had no turn. So nothing else takes an item
+/// away: no window, no reassign, no statistics, no drop, and no set that is refused. A worker with 255 holds is refused.
+pub fn seen_items_stay()
+    ensures { (table : Classes) (bulk mode : ℕ) (commands : List Command) → IsSound table → All IsValid commands → KeepsSeen table bulk mode commands }
+{}
+
+/// While a worker holds a key's item, a get of the key is answered by its words: no set evicts it, and no turn. Its hold is of
+/// that item as long as it isn't dropped, the key isn't deleted, and no set of the key is stored.
+pub fn held_items_stay()
+    ensures { (table : Classes) (bulk mode : ℕ) (commands : List Command) → IsSound table → All IsValid commands → KeepsHeld table bulk mode commands }
 {}
