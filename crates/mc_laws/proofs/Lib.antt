@@ -20,3 +20,7 @@ pub mod Known
 pub mod KnownSets
 pub mod KnownHolds
 pub mod KnownRuns
+pub mod PagesAddUp
+pub mod GrownRuns
+pub mod Accounts
+pub mod WholeReplies
