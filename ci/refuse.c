@@ -1,6 +1,8 @@
-/* A library to be preloaded: it refuses the Nth request for memory that the program makes, and tells how many were made.
+/* A library to be preloaded: it refuses the Nth request for memory that the program makes, or that and all behind it, and tells
+   how many were made.
 
      REFUSE_REQUEST   N, counted from 1 (none: nothing is refused)
+     REFUSE_ON        is there: all requests behind the Nth are refused too
      REFUSE_TOLD      a file that is to get the number of requests, once the program ends
 
    A request is a malloc or a realloc, which is all that the program's allocator calls. */
@@ -14,16 +16,18 @@ extern void *__libc_realloc(void *old, size_t size);
 
 static unsigned long requests;
 static unsigned long refused;
+static int goes_on;
 
 __attribute__((constructor)) static void begin(void) {
     const char *number = getenv("REFUSE_REQUEST");
     refused = number ? strtoul(number, NULL, 10) : 0;
+    goes_on = getenv("REFUSE_ON") != NULL;
     requests = 0;
 }
 
 static int is_refused(void) {
     requests += 1;
-    return requests == refused;
+    return requests == refused || (goes_on && refused && requests > refused);
 }
 
 void *malloc(size_t size) {

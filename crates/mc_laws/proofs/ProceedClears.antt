@@ -28,7 +28,7 @@ use Rattle.mc_machine.proofs.KeptMoverRescue.{kept_rescued, listed_still, vacant
 use Rattle.mc_machine.proofs.KeptStore.{is_at-tells}
 use Rattle.mc_pages.proofs.ListedChunks.{in_lists_once}
 use Rattle.mc_machine.proofs.Sweeps.{item_at-without_item}
-use Rattle.mc_laws.proofs.Lawful.{IsLawful, off, Proceeds, as_held, not_held, proceeds_from, proceeds_slabs, proceeds_without}
+use Rattle.mc_laws.proofs.Lawful.{IsLawful, off, Proceeds, not_held, proceeds_from, proceeds_slabs, proceeds_without}
 
 -- the machine went on, and the chunk is cleared
 pub record Clears (m new : Machine) (class : ℕ) (chunk : ChunkId) : Type 0 where
@@ -51,7 +51,7 @@ module _ (m : Machine) (class : ℕ) (chunk : ChunkId) (lawful : IsLawful m) (va
       let order : IsInOrder (off (after_clear m.slabs chunk)) lawful.granted = IsInOrder-after_clear (off m.slabs) lawful.granted chunk lawful.order moving placed in
       record {
         proceeds = proceeds_slabs m (after_clear m.slabs chunk) lawful.granted lawful
-            (kept_freed m.table (off m.slabs) lawful.index m.items chunk lawful.kept (empty_free free) valid_own order.accounted) order;
+            (kept_freed m.table (off m.slabs) lawful.index m.items chunk lawful.kept (empty_free free) valid_own order.accounted) order (omega arith) refl;
         cleared = ap (λ n. is_cleared (after_clear m.slabs chunk) n chunk) (sym own)
             ∙ cleared_after (off m.slabs) chunk lawful.kept.accounted order.accounted placed;
       }
@@ -65,8 +65,8 @@ module _ (m : Machine) (class : ℕ) (chunk : ChunkId) (lawful : IsLawful m) (va
       = omega (arith, handed_item m.table (off m.slabs) lawful.index m.items chunk item lawful.kept there) in
       let order : IsInOrder (off (after_clear m.slabs chunk)) lawful.granted = IsInOrder-after_clear (off m.slabs) lawful.granted chunk lawful.order moving placed in
       record {
-        proceeds = proceeds_without m (after_clear m.slabs chunk) index lawful.granted chunk item lawful there free
-            (kept_cleared m.table (off m.slabs) lawful.index index m.items chunk item lawful.kept there order.accounted leads) order;
+        proceeds = proceeds_without m (after_clear m.slabs chunk) index chunk item lawful there free
+            (kept_cleared m.table (off m.slabs) lawful.index index m.items chunk item lawful.kept there order.accounted leads) order refl;
         cleared = ap (λ n. is_cleared (after_clear m.slabs chunk) n chunk) (sym own)
             ∙ cleared_after (off m.slabs) chunk lawful.kept.accounted order.accounted placed;
       }
@@ -139,8 +139,8 @@ module _ (m : Machine) (class : ℕ) (old new : ChunkId) (item : Item) (lawful :
   rescued_to =
       proceeds_from m (record m { slabs = after_clear (after_replace m.slabs new old) old; items = with_item (without_item m.items old) new item })
       (set_value (is_at (nat_cmp item.key)) lawful.index new) lawful.granted lawful
-      (kept_rescued m.table (off m.slabs) lawful.index m.items old new item lawful.kept there linked free order_rescued.accounted) order_rescued refl
-      (λ worker c held. ap (option_map as_held) (stands_rescued worker c held))
+      (kept_rescued m.table (off m.slabs) lawful.index m.items old new item lawful.kept there linked free order_rescued.accounted) order_rescued (omega arith) refl refl refl
+      stands_rescued
       (λ c found at is. linked_rescued c found at)
 
   pub clears_rescued : Clears m (record m { slabs = after_clear (after_replace m.slabs new old) old; items = with_moved_item m.items old new }) class old

@@ -30,7 +30,7 @@ use Rattle.mc_machine.proofs.KeptBegin.{kept_begin}
 use Rattle.mc_machine.proofs.KeptChanges.{kept_unlink}
 use Rattle.mc_machine.proofs.KeptTouch.{kept_touch, leads_to_handed_out}
 use Rattle.mc_machine.proofs.Links.{linked_chunk-unlinked_items}
-use Rattle.mc_laws.proofs.Lawful.{IsLawful, off, Proceeds, as_held, proceeds_from, proceeds_same, proceeds_slabs, proceeds_then, stored_as}
+use Rattle.mc_laws.proofs.Lawful.{IsLawful, off, Proceeds, as_held, lawful_from, proceeds_from, proceeds_same, proceeds_slabs, proceeds_then, stored_as}
 
 pub proceeds_touched : (m : Machine) (key : ℕ) (chunk : ChunkId) → IsLawful m → linked_chunk m.items key ≡ Some chunk
     → Proceeds m (record m { slabs = after_touch m.slabs chunk })
@@ -39,14 +39,14 @@ proceeds_touched m key chunk lawful leads =
     = leads_to_handed_out m.table (off m.slabs) lawful.index m.items key chunk lawful.kept (lawful.kept.leads key ∙ leads) in
     let order : IsInOrder (off (after_touch m.slabs chunk)) lawful.granted = IsInOrder-after_touch (off m.slabs) lawful.granted chunk lawful.order handed in
     proceeds_slabs m (after_touch m.slabs chunk) lawful.granted lawful
-    (kept_touch m.table (off m.slabs) lawful.index m.items chunk lawful.kept handed order.accounted) order
+    (kept_touch m.table (off m.slabs) lawful.index m.items chunk lawful.kept handed order.accounted) order (omega arith) refl
 
 pub proceeds_begun : (m : Machine) (src : Option ℕ) (source dst : ℕ) → IsLawful m → answer_of m.slabs src dst ≡ Ok source
     → Proceeds m (record m { slabs = after_begin m.slabs src source dst })
 proceeds_begun m src source dst lawful answer =
     let order : IsInOrder (off (after_begin m.slabs src source dst)) lawful.granted = IsInOrder-after_begin (off m.slabs) lawful.granted src source dst lawful.order answer in
     proceeds_slabs m (after_begin m.slabs src source dst) lawful.granted lawful
-    (kept_begin m.table (off m.slabs) lawful.index m.items src source dst lawful.kept answer order.accounted) order
+    (kept_begin m.table (off m.slabs) lawful.index m.items src source dst lawful.kept answer order.accounted) order (omega arith) refl
 
 -- a page is asked for
 pub proceeds_asked : (m : Machine) (src : Option ℕ) (dst : ℕ) (answer : Result ℕ Reassign) → IsLawful m → answer_of m.slabs src dst ≡ answer
@@ -55,8 +55,16 @@ proceeds_asked m src dst (Err refusal) lawful is = proceeds_same m lawful
 proceeds_asked m src dst (Ok source) lawful is = proceeds_begun m src source dst lawful is
 
 -- the automover's mode changes
-pub proceeds_automove : (m : Machine) (mode : ℕ) → IsLawful m → Proceeds m (record m { slabs = with_mode m.slabs mode })
-proceeds_automove m mode lawful = proceeds_slabs m (with_mode m.slabs mode) lawful.granted lawful lawful.kept lawful.order
+pub lawful_automove : (m : Machine) (mode : ℕ) → IsLawful m → IsLawful (record m { slabs = with_mode m.slabs mode })
+lawful_automove m mode lawful = record {
+  index = lawful.index;
+  kept = lawful.kept;
+  granted = lawful.granted;
+  order = lawful.order;
+  workers = lawful.workers;
+  few = lawful.few;
+  stored = lawful.stored;
+}
 
 -- a window ends
 pub proceeds_fed : (m : Machine) → IsLawful m → Proceeds m (with_window (all_swept m))
@@ -64,7 +72,7 @@ proceeds_fed m lawful =
     let swept : Machine = all_swept m in
     let first : Proceeds m swept = proceeds_all_swept m lawful in
     proceeds_then m swept (with_window swept) first
-    (proceeds_from swept (with_window swept) first.lawful.index first.lawful.granted first.lawful first.lawful.kept first.lawful.order refl
+    (proceeds_from swept (with_window swept) first.lawful.index first.lawful.granted first.lawful first.lawful.kept first.lawful.order (omega arith) refl refl refl
     (λ worker chunk held. refl) (λ chunk item at is. (chunk, at)))
 
 -- and its decision is acted on
@@ -77,7 +85,7 @@ held_unlinked : (b : Bool) (item : Item) → as_held (if b then unlinked item el
 held_unlinked true item = refl
 held_unlinked false item = refl
 
-stands_unlinked : (key : ℕ) (items : Items) (chunk : ChunkId) → stored_as (unlinked_items items key) chunk ≡ stored_as items chunk
+pub stands_unlinked : (key : ℕ) (items : Items) (chunk : ChunkId) → stored_as (unlinked_items items key) chunk ≡ stored_as items chunk
 stands_unlinked key items chunk = ap (option_map as_held) (item_at-unlinked_items key items chunk) ∙ same_held (item_at items chunk)
   where
     same_held : (found : Option Item) → option_map as_held (option_map (unlinked_from key) found) ≡ option_map as_held found
@@ -102,12 +110,11 @@ linked_still key items chunk item at linked = found_in (item_at items chunk) ref
     found_in (Some found) there same =
         found_way (is_linked_to key found) found refl there (same_Some (unlinked_from key found) item same)
 
-pub proceeds_unlinked : (m : Machine) (key : ℕ) → IsLawful m → Proceeds m (record m { items = unlinked_items m.items key })
-proceeds_unlinked m key lawful =
+pub lawful_unlinked : (m : Machine) (key : ℕ) → IsLawful m → IsLawful (record m { items = unlinked_items m.items key })
+lawful_unlinked m key lawful =
     let index : List (ℕ × ChunkId) = index_of (unlinked_items m.items key) in
     let leads : (q : ℕ) → lookup (is_at (nat_cmp q)) index ≡ cond (is_at (nat_cmp key) q) None (lookup (is_at (nat_cmp q)) lawful.index)
     = λ q. grind (arith, nat_tests, leads_index (unlinked_items m.items key) q, linked_chunk-unlinked_items q key m.items, lawful.kept.leads q) in
-    proceeds_from m (record m { items = unlinked_items m.items key }) index lawful.granted lawful
+    lawful_from m (record m { items = unlinked_items m.items key }) index lawful.granted lawful
     (kept_unlink m.table (off m.slabs) lawful.index index m.items key lawful.kept leads) lawful.order refl
     (λ worker chunk held. stands_unlinked key m.items chunk)
-    (λ chunk item at is. (chunk, (linked_still key m.items chunk item at is).0))

@@ -15,6 +15,7 @@ use Rattle.mc_machine.specs.Supply.{supplied}
 use Rattle.mc_pages.proofs.Cuts.{chunk_at, cuts_more, next_after_cut, next_cut}
 use Rattle.mc_machine.proofs.Grown.{per_page_given, per_page_grown}
 use Rattle.mc_machine.proofs.KeptChanges.{kept_grow}
+use Rattle.mc_machine.proofs.Modes.{mode-given}
 use Rattle.mc_machine.proofs.Stocks.{IsClass-stocked, IsClass-swept}
 use Rattle.mc_laws.proofs.Lawful.{IsLawful, off, Proceeds, proceeds_same, proceeds_slabs, proceeds_then}
 use Rattle.mc_laws.proofs.ProceedEvicts.{proceeds_relieved}
@@ -50,13 +51,13 @@ all_cut slabs granted page per_page order first same some =
 
 -- a class gets the next page
 order_grown : (slabs : SlabState) (granted class page : ℕ) → IsInOrder slabs granted → IsClass slabs class → slabs.uncut ≡ None → next_page slabs ≡ Some page
-    → (more : ℕ) × IsInOrder (after_grow slabs class page) more
+    → (more : ℕ) × IsInOrder (after_grow slabs class page) more × (granted ≤ more)
 order_grown slabs granted class page order valid whole next = elim (cases_lt 0 (length slabs.pool)) [
   | inl some ↦
-      (granted, rw (grow_takes slabs class page some) (IsInOrder-after_take slabs granted class page order valid whole (next_pooled slabs page some next)))
+      (granted, rw (grow_takes slabs class page some) (IsInOrder-after_take slabs granted class page order valid whole (next_pooled slabs page some next)), omega arith)
   | inr none ↦
       let is = next_granted slabs granted page order (omega (arith, none)) next in
-      (granted + 1, rw (grow_grants slabs class page (omega (arith, none)), is.0) (IsInOrder-after_grant slabs granted class order valid whole is.1))
+      (granted + 1, rw (grow_grants slabs class page (omega (arith, none)), is.0) (IsInOrder-after_grant slabs granted class order valid whole is.1), omega arith)
 ]
 
 uncut_grown : (b : Bool) (slabs : SlabState) (class page : ℕ)
@@ -95,6 +96,7 @@ proceeds_page m class (Some page) lawful valid next =
     = ap (λ (s : SlabState). with_cut_page s class page) (off-grow m.slabs class page) ∙ off-cut_page (after_grow m.slabs class page) class page in
     proceeds_slabs m (with_cut_page (after_grow m.slabs class page) class page) order.0 lawful
     (subst (λ (s : SlabState). IsKept m.table s lawful.index m.items) now kept) (subst (λ (s : SlabState). IsInOrder s order.0) now cut.0)
+    order.2 (mode-given m.slabs class page)
 
 proceeds_extended : (m : Machine) (class : ℕ) → IsLawful m → IsClass m.slabs class → Proceeds m (extended m class)
 proceeds_extended m class lawful valid = extended_way (has_free m class)
@@ -103,7 +105,7 @@ proceeds_extended m class lawful valid = extended_way (has_free m class)
     extended_way true = proceeds_same m lawful
     extended_way false = proceeds_page m class (next_page m.slabs) lawful valid refl
 
-proceeds_stocked : (m : Machine) (class : ℕ) → IsLawful m → IsClass m.slabs class → Proceeds m (stocked m class)
+pub proceeds_stocked : (m : Machine) (class : ℕ) → IsLawful m → IsClass m.slabs class → Proceeds m (stocked m class)
 proceeds_stocked m class lawful valid = stocked_way (has_free m class)
   where
     stocked_way : (b : Bool) → Proceeds m (if b then m else extended (swept m class) class)

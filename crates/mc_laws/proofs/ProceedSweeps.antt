@@ -34,17 +34,17 @@ proceeds_reclaim m chunk lawful dead =
     let found = dead_here m m chunk refl dead in
     let parts = and_parts (is_unlinked m.items chunk) _ dead in
     let order : IsInOrder (off (after_back m.slabs chunk)) lawful.granted = order_back m chunk found.0 lawful found.1 in
-    proceeds_without m (after_back m.slabs chunk) lawful.index lawful.granted chunk found.0 lawful found.1
+    proceeds_without m (after_back m.slabs chunk) lawful.index chunk found.0 lawful found.1
     (not-true (is_held m.holds chunk) parts.1)
-    (kept_reclaim m.table (off m.slabs) lawful.index m.items chunk lawful.kept order.accounted parts.0) order
+    (kept_reclaim m.table (off m.slabs) lawful.index m.items chunk lawful.kept order.accounted parts.0) order refl
 
 -- some chunks are dead, each of them once in the list
-record AreDead (m : Machine) (chunks : List ChunkId) : Type 0 where
-  dead : (chunk : ChunkId) → 1 ≤ times chunk chunks → is_dead m chunk ≡ true
-  once : (chunk : ChunkId) → times chunk chunks ≤ 1
+pub record AreDead (m : Machine) (chunks : List ChunkId) : Type 0 where
+  pub dead : (chunk : ChunkId) → 1 ≤ times chunk chunks → is_dead m chunk ≡ true
+  pub once : (chunk : ChunkId) → times chunk chunks ≤ 1
 
 -- when the first is put back the others are dead still
-dead_rest : (m : Machine) (c : ChunkId) (chunks : List ChunkId) → AreDead m (c ∷ chunks) → AreDead (after_reclaim m c) chunks
+pub dead_rest : (m : Machine) (c : ChunkId) (chunks : List ChunkId) → AreDead m (c ∷ chunks) → AreDead (after_reclaim m c) chunks
 dead_rest m c chunks are = record {
   dead = λ chunk there.
       let apart : is_chunk c chunk ≡ false = apart_from (is_chunk c chunk) chunk there refl in
@@ -85,17 +85,21 @@ passes_filter p chunk (c ∷ chunks) there = filter_step (p c) (is_chunk c chunk
         more (omega (arith, here, times-cons chunk c (filter p chunks), ap truth other))
     filter_step false s is any some more = more (rw is at some)
 
-pub proceeds_swept : (m : Machine) (class : ℕ) → IsLawful m → IsClass m.slabs class → Proceeds m (swept m class)
-proceeds_swept m class lawful valid =
+-- so are a class's dead chunks
+pub are_dead_swept : (m : Machine) (class : ℕ) → IsLawful m → IsClass m.slabs class → AreDead m (dead_chunks m class)
+are_dead_swept m class lawful valid =
     let order : List ChunkId = (class_at m.slabs class).order in
-    proceeds_reclaims m (dead_chunks m class) lawful (record {
+    record {
       dead = λ chunk there. passes_filter (is_dead m) chunk order there;
       once = λ chunk.
           omega (arith, times-filter-le (is_dead m) chunk order, listed_once m.table (off m.slabs) lawful.index m.items class lawful.kept valid chunk);
-    })
+    }
+
+pub proceeds_swept : (m : Machine) (class : ℕ) → IsLawful m → IsClass m.slabs class → Proceeds m (swept m class)
+proceeds_swept m class lawful valid = proceeds_reclaims m (dead_chunks m class) lawful (are_dead_swept m class lawful valid)
 
 -- one class after another
-proceeds_sweeps : (m : Machine) (count : ℕ) → IsLawful m → count ≤ length m.slabs.classes → Proceeds m (fold swept m (range_with_len 1 count))
+pub proceeds_sweeps : (m : Machine) (count : ℕ) → IsLawful m → count ≤ length m.slabs.classes → Proceeds m (fold swept m (range_with_len 1 count))
 proceeds_sweeps m zero lawful within = proceeds_same m lawful
 proceeds_sweeps m (suc count) lawful within =
     let now : Machine = fold swept m (range_with_len 1 count) in

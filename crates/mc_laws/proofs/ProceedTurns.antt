@@ -20,6 +20,7 @@ use Rattle.mc_machine.specs.Machine.{Machine, with_cut_page}
 use Rattle.mc_machine.specs.Mover.{Counted, Turned, is_at_end, is_went, most_turns, turned, turns_from, with_chunks, with_end, with_finish}
 use Rattle.mc_machine.proofs.KeptMoverFinish.{kept_pooled, kept_recut, per_page_finished, per_page_there, uncut_finished}
 use Rattle.mc_machine.proofs.KeptMoverPass.{kept_moved}
+use Rattle.mc_machine.proofs.Modes.{mode-cuts}
 use Rattle.mc_laws.proofs.Lawful.{IsLawful, off, Proceeds, proceeds_same, proceeds_from, proceeds_slabs, proceeds_then}
 use Rattle.mc_laws.proofs.ProceedLooks.{proceeds_chunks}
 use Rattle.mc_laws.proofs.ProceedPages.{all_cut, off-cut_page}
@@ -35,7 +36,7 @@ proceeds_wrapped m move lawful runs at_end busy =
       held_up = ltb-true 0 move.busy busy;
     } in
     let order : IsInOrder (off (after_wrap m.slabs)) lawful.granted = IsInOrder-after_wrap (off m.slabs) lawful.granted move lawful.order can in
-    proceeds_slabs m (after_wrap m.slabs) lawful.granted lawful (kept_moved m.table (off m.slabs) lawful.index m.items _ _ _ _ lawful.kept order.accounted) order
+    proceeds_slabs m (after_wrap m.slabs) lawful.granted lawful (kept_moved m.table (off m.slabs) lawful.index m.items _ _ _ _ lawful.kept order.accounted) order (omega arith) refl
 
 -- where the page has come to
 abbrev arrived_by : SlabState → Moving → Bool → SlabState
@@ -50,6 +51,10 @@ off-finished : (slabs : SlabState) (move : Moving) → finished (off slabs) move
 off-finished slabs move =
     elim (move.dst == 0) as (λ (b : Bool). ended_from (off slabs) move (arrived_by (off slabs) move b) ≡ off (ended_from slabs move (arrived_by slabs move b))) [ true ↦ refl | false ↦ refl ]
 
+mode-finished : (slabs : SlabState) (move : Moving) → (finished slabs move).automove ≡ slabs.automove
+mode-finished slabs move =
+    elim (move.dst == 0) as (λ (b : Bool). (ended_from slabs move (arrived_by slabs move b)).automove ≡ slabs.automove) [ true ↦ refl | false ↦ refl ]
+
 -- a move ends: its page goes into the pool, or a class cuts it
 finish_way : (b : Bool) (m : Machine) (move : Moving) → IsLawful m → CanFinish (off m.slabs) move → (move.dst == 0) ≡ b
     → Proceeds m (record m { slabs = if b then finished m.slabs move else with_cut_page (finished m.slabs move) move.dst move.page })
@@ -60,6 +65,7 @@ finish_way true m move lawful can pool =
     let now = off-finished m.slabs move in
     proceeds_slabs m (finished m.slabs move) lawful.granted lawful
     (subst (λ (s : SlabState). IsKept m.table s lawful.index m.items) now kept) (subst (λ (s : SlabState). IsInOrder s lawful.granted) now order)
+    (omega arith) (mode-finished m.slabs move)
 finish_way false m move lawful can class =
     let was : SlabState = off m.slabs in
     let is : IsMove was move = lawful.kept.accounted.move move can.runs in
@@ -76,6 +82,8 @@ finish_way false m move lawful can class =
     = ap (λ (s : SlabState). with_cut_page s move.dst move.page) (off-finished m.slabs move) ∙ off-cut_page (finished m.slabs move) move.dst move.page in
     proceeds_slabs m (with_cut_page (finished m.slabs move) move.dst move.page) lawful.granted lawful
     (subst (λ (s : SlabState). IsKept m.table s lawful.index m.items) now kept) (subst (λ (s : SlabState). IsInOrder s lawful.granted) now cut.0)
+    (omega arith)
+    (mode-cuts (finished m.slabs move) (first_chunks move.page (class_at (finished m.slabs move) move.dst).per_page) ∙ mode-finished m.slabs move)
 
 proceeds_finished : (m : Machine) (move : Moving) → IsLawful m → m.slabs.moving ≡ Some move → is_at_end m move ≡ true → nat_lt 0 move.busy ≡ false
     → Proceeds m (with_finish m move)
@@ -107,7 +115,8 @@ proceeds_turned m counts lawful =
     let begun : Machine = record m { turns = m.turns + 1 } in
     let c : Counted = with_chunks m.bulk (record { machine = begun; counts = counts }) in
     let first : Proceeds m begun
-    = proceeds_from m begun lawful.index lawful.granted lawful lawful.kept lawful.order refl (λ worker chunk held. refl) (λ chunk item at is. (chunk, at)) in
+    = proceeds_from m begun lawful.index lawful.granted lawful lawful.kept lawful.order (omega arith) refl refl refl (λ worker chunk held. refl)
+    (λ chunk item at is. (chunk, at)) in
     let looked : Proceeds begun c.machine = proceeds_chunks m.bulk (record { machine = begun; counts = counts }) first.lawful in
     proceeds_then m c.machine (turned m counts).machine (proceeds_then m begun c.machine first looked)
     (proceeds_end c c.machine.slabs.moving looked.lawful refl)

@@ -1,5 +1,5 @@
 -- The chunks that a worker holds, beside the keys and words that it was told of.
-use Rattle.std.proofs.Common.{◌≡◌, ℕ, ◌≤◌, List, [], ◌∷◌, Bool, true, false, cond, Option, Some, None, refl, ap, sym, ◌∙◌, arith}
+use Rattle.std.proofs.Common.{◌≡◌, ℕ, ◌≤◌, List, [], ◌∷◌, length, suc, Bool, true, false, cond, Option, Some, None, refl, ap, sym, ◌∙◌, arith}
 use Rattle.std.specs.Prelude.{find, ◌==◌}
 use Rattle.std.specs.Option.{option_map_or}
 use Rattle.std.proofs.lemmas.Bool.{false≢true}
@@ -105,3 +105,19 @@ times-without-le c chunk (d ∷ chunks) = times_step (is_chunk d chunk) refl (ti
     times_step : (b : Bool) → is_chunk d chunk ≡ b → times c (without chunk chunks) ≤ times c chunks → times c (without chunk (d ∷ chunks)) ≤ times c (d ∷ chunks)
     times_step true is more = rw is (omega (arith, times-cons c d chunks))
     times_step false is more = rw is (omega (arith, more, times-cons c d chunks, times-cons c d (without chunk chunks)))
+
+-- and the list is no longer
+pub length-without-le : (chunk : ChunkId) (chunks : List ChunkId) → length (without chunk chunks) ≤ length chunks
+length-without-le chunk [] = omega arith
+length-without-le chunk (d ∷ chunks) = length_step (is_chunk d chunk) refl (length-without-le chunk chunks)
+  where
+    length_step : (b : Bool) → is_chunk d chunk ≡ b → length (without chunk chunks) ≤ length chunks → length (without chunk (d ∷ chunks)) ≤ length (d ∷ chunks)
+    length_step true is more = rw is (omega arith)
+    length_step false is more = rw is (omega (arith, more))
+
+-- as many as it was told of
+pub length-stand : (items : Items) (chunks : List ChunkId) (held : List HeldWords) → Stand items chunks held → length held ≡ length chunks
+length-stand items [] [] all = refl
+length-stand items [] (h ∷ held) all = absurd all
+length-stand items (c ∷ chunks) [] all = absurd all
+length-stand items (c ∷ chunks) (h ∷ held) all = ap suc (length-stand items chunks held all.1)

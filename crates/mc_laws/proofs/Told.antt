@@ -15,16 +15,17 @@ use Rattle.mc_pages.specs.Changes.{after_pop}
 use Rattle.mc_pages.specs.InOrder.{IsInOrder}
 use Rattle.mc_pages.proofs.Kept.{IsInOrder-after_pop}
 use Rattle.mc_machine.specs.Item.{Item, is_linked_to, new_item}
-use Rattle.mc_machine.specs.Items.{chunk_cmp, item_at, linked_chunk, with_item}
+use Rattle.mc_machine.specs.Items.{chunk_cmp, item_at, linked_chunk, unlinked_items, with_item}
 use Rattle.mc_machine.specs.Holds.{held_by}
-use Rattle.mc_machine.specs.Machine.{Machine}
+use Rattle.mc_machine.specs.Machine.{Machine, with_mode}
 use Rattle.mc_laws.specs.Answered.{Answered, HeldWords, last_words, held_words}
 use Rattle.mc_machine.proofs.Chunks.{places-with_item, places_none}
 use Rattle.mc_laws.proofs.FoundItems.{item_at-with_item}
 use Rattle.mc_laws.proofs.Indexes.{index_of, leads_index}
 use Rattle.mc_machine.proofs.KeptStore.{IsNext, is_at-tells, is_next, kept_store}
 use Rattle.mc_machine.proofs.Links.{linked_chunk-with_item}
-use Rattle.mc_laws.proofs.Lawful.{off, IsLawful, Proceeds, as_held, stored_as}
+use Rattle.mc_laws.proofs.Lawful.{off, IsLawful, Proceeds, as_held, stands_on, stored_as}
+use Rattle.mc_laws.proofs.ProceedCommands.{lawful_automove, lawful_unlinked, linked_still, stands_unlinked}
 use Rattle.mc_laws.proofs.Stands.{Stand, stand_on}
 
 pub record AreTold (m : Machine) (answers : List Answered) : Type 0 where
@@ -39,7 +40,7 @@ pub record AreTold (m : Machine) (answers : List Answered) : Type 0 where
 stand_proceeded : (m new : Machine) (worker : ℕ) (held : List HeldWords) → Proceeds m new → Stand m.items (held_by m.holds worker) held
     → Stand new.items (held_by new.holds worker) held
 stand_proceeded m new worker held goes stands =
-    rw goes.holds (stand_on m.items new.items (held_by m.holds worker) held (λ c there. goes.stands worker c there) stands)
+    rw goes.holds (stand_on m.items new.items (held_by m.holds worker) held (λ c there. stands_on m new goes worker c there) stands)
 
 -- the machine went on, and one more answer leaves the words and holds as they were
 pub told_on : (m new : Machine) (answers : List Answered) (answered : Answered) → AreTold m answers → Proceeds m new
@@ -64,21 +65,27 @@ told_still m new answers told goes = record {
   holds = λ worker. stand_proceeded m new worker (held_words worker answers) goes (told.holds worker);
 }
 
--- the machine went on, and one more answer changes the words of a key to which no item is linked
-pub told_unlinked : (m new : Machine) (answers : List Answered) (answered : Answered) (key : ℕ) → AreTold m answers → Proceeds m new
-    → ((chunk : ChunkId) (item : Item) → item_at new.items chunk ≡ Some item → item.linked ≡ true → is_linked_to key item ≡ false)
+-- a key leads to no item any more, and one more answer changes its words
+pub told_unlinked : (m : Machine) (answers : List Answered) (answered : Answered) (key : ℕ) → AreTold m answers
     → ((q : ℕ) → (key == q) ≡ false → last_words q (answered ∷ answers) ≡ last_words q answers)
     → ((worker : ℕ) → held_words worker (answered ∷ answers) ≡ held_words worker answers)
-    → AreTold new (answered ∷ answers)
-told_unlinked m new answers answered key told goes none same_words same_held = record {
-  lawful = goes.lawful;
+    → AreTold (record m { items = unlinked_items m.items key }) (answered ∷ answers)
+told_unlinked m answers answered key told same_words same_held = record {
+  lawful = lawful_unlinked m key told.lawful;
   words = λ q chunk item at to.
       let linked : item.linked ≡ true = (and_parts item.linked (item.key == q) to).0 in
-      let before = goes.linked chunk item at linked in
-      let other : (key == q) ≡ false = grind (arith, nat_tests, none chunk item at linked) in
-      same_words q other ∙ told.words q before.0 item before.1 to;
-  holds = λ worker. rw (same_held worker) (stand_proceeded m new worker (held_words worker answers) goes (told.holds worker));
+      let before = linked_still key m.items chunk item at linked in
+      let none : is_linked_to key item ≡ false = before.1 in
+      let other : (key == q) ≡ false = grind (arith, nat_tests, none) in
+      same_words q other ∙ told.words q chunk item before.0 to;
+  holds = λ worker.
+      rw (same_held worker) (stand_on m.items (unlinked_items m.items key) (held_by m.holds worker) (held_words worker answers)
+      (λ c there. stands_unlinked key m.items c) (told.holds worker));
 }
+
+-- the automover's mode is another
+pub told_automove : (m : Machine) (mode : ℕ) (answers : List Answered) → AreTold m answers → AreTold (record m { slabs = with_mode m.slabs mode }) answers
+told_automove m mode answers told = record { lawful = lawful_automove m mode told.lawful; words = told.words; holds = told.holds }
 
 -- an item comes under a key that leads nowhere into the next chunk of a class
 module _ (m : Machine) (class key : ℕ) (words : List ℕ) (chunk : ChunkId) (lawful : IsLawful m) (valid : IsClass m.slabs class)
@@ -94,7 +101,7 @@ module _ (m : Machine) (class key : ℕ) (words : List ℕ) (chunk : ChunkId) (l
   found_stored : (c : ChunkId) → item_at after_store.items c ≡ cond (is_at (chunk_cmp c) chunk) (Some (new_item key words)) (item_at m.items c)
   found_stored c = item_at-with_item chunk (new_item key words) c m.items none_there
 
-  lawful_stored : IsLawful after_store
+  pub lawful_stored : IsLawful after_store
   lawful_stored =
       let index : List (ℕ × ChunkId) = index_of after_store.items in
       let order : IsInOrder (off (after_pop m.slabs class)) lawful.granted = IsInOrder-after_pop (off m.slabs) lawful.granted class lawful.order valid in
@@ -112,18 +119,26 @@ module _ (m : Machine) (class key : ℕ) (words : List ℕ) (chunk : ChunkId) (l
         granted = lawful.granted;
         order = order;
         workers = lawful.workers;
+        few = lawful.few;
         stored = λ worker c held. omega (arith, lawful.stored worker c held, places-with_item c chunk (new_item key words) m.items none_there);
       }
 
-  -- what is held stands elsewhere
-  stands_stored : (worker : ℕ) (c : ChunkId) → 1 ≤ times c (held_by m.holds worker) → stored_as after_store.items c ≡ stored_as m.items c
-  stands_stored worker c held = elim (is_at-tells c chunk) [
+  -- the new item is there, and what is held stands elsewhere
+  pub item_stored : item_at after_store.items chunk ≡ Some (new_item key words)
+  item_stored =
+      let here : is_at (chunk_cmp chunk) chunk ≡ true = grind (arith, nat_tests) in
+      found_stored chunk ∙ ap (λ b. cond b (Some (new_item key words)) (item_at m.items chunk)) here
+
+  pub held_stored : (worker : ℕ) (c : ChunkId) → 1 ≤ times c (held_by m.holds worker) → item_at after_store.items c ≡ item_at m.items c
+  held_stored worker c held = elim (is_at-tells c chunk) [
     | inl here ↦
         let none : item_at m.items c ≡ None = ap (item_at m.items) here.1 ∙ none_there in
         absurd (omega (arith, lawful.stored worker c held, places_none c m.items none))
-    | inr other ↦
-        ap (option_map as_held) (found_stored c ∙ ap (λ b. cond b (Some (new_item key words)) (item_at m.items c)) other.0)
+    | inr other ↦ found_stored c ∙ ap (λ b. cond b (Some (new_item key words)) (item_at m.items c)) other.0
   ]
+
+  stands_stored : (worker : ℕ) (c : ChunkId) → 1 ≤ times c (held_by m.holds worker) → stored_as after_store.items c ≡ stored_as m.items c
+  stands_stored worker c held = ap (option_map as_held) (held_stored worker c held)
 
   -- an item that is found then is the new one, or was there before
   pub found_then : (c : ChunkId) (item : Item) → item_at after_store.items c ≡ Some item → (new_item key words ≡ item) ⊎ (item_at m.items c ≡ Some item)

@@ -1,5 +1,5 @@
 -- What is told after a hold and after a drop.
-use Rattle.std.proofs.Common.{◌≡◌, ◌≢◌, ℕ, ◌≤◌, List, [], ◌∷◌, Bool, true, false, Option, Some, None, refl, ap, sym, ◌∙◌, subst, arith, inl, inr, eq-eqb, ne_eqb}
+use Rattle.std.proofs.Common.{◌≡◌, ◌≢◌, ℕ, ◌≤◌, List, [], ◌∷◌, length, Bool, true, false, Option, Some, None, refl, ap, sym, ◌∙◌, subst, arith, inl, inr, eq-eqb, ne_eqb}
 use Rattle.std.specs.Prelude.{if◌then◌else◌, ◌==◌, ◌&&◌, not, codes, slice_set}
 use Rattle.std.specs.Option.{option_map}
 use Rattle.std.proofs.lemmas.Bool.{and_parts, cases_eq, cases_Bool}
@@ -12,7 +12,7 @@ use Rattle.mc_pages.proofs.Chunks.{same_from_is_chunk, times-cons}
 use Rattle.mc_script.specs.declared.command.Command.TheVariants.{Hold, Drop}
 use Rattle.mc_machine.specs.Item.{Item}
 use Rattle.mc_machine.specs.Items.{has_key, item_at, linked_chunk}
-use Rattle.mc_machine.specs.Holds.{held_by}
+use Rattle.mc_machine.specs.Holds.{held_by, is_full}
 use Rattle.mc_machine.specs.Kept.{places}
 use Rattle.mc_machine.specs.Lines.{Served, dropped, held, last_hold, let_go, told as told_line}
 use Rattle.mc_machine.specs.Machine.{Machine}
@@ -21,13 +21,13 @@ use Rattle.mc_laws.specs.Answered.{Answered, held_words, last_words, with_held, 
 use Rattle.mc_machine.proofs.Links.{LinkedIn, linked_in, some_places}
 use Rattle.mc_machine.proofs.KeptChanges.{place_once}
 use Rattle.mc_laws.proofs.Lawful.{off, IsLawful, as_held, proceeds_same, stored_as}
-use Rattle.mc_laws.proofs.Stands.{Stand, finds_passing, stand_without, times-without-le}
+use Rattle.mc_laws.proofs.Stands.{Stand, finds_passing, length-without-le, stand_without, times-without-le}
 use Rattle.mc_laws.proofs.Told.{AreTold, told_on}
 use Rattle.mc_laws.proofs.ToldSets.{answered_by, both_pass, first_fails, same_text, second_fails}
 
 -- a worker holds other chunks, and one more answer tells what they store
 module _ (m : Machine) (answers : List Answered) (answered : Answered) (worker : ℕ) (chunks : List ChunkId) (told : AreTold m answers) (few : worker ≤ 63)
-    (there : (c : ChunkId) → 1 ≤ times c chunks → 1 ≤ places c m.items)
+    (there : (c : ChunkId) → 1 ≤ times c chunks → 1 ≤ places c m.items) (short : length chunks ≤ 255)
     (same_words : (key : ℕ) → last_words key (answered ∷ answers) ≡ last_words key answers)
     (same_held : (w : ℕ) → (worker == w) ≡ false → held_words w (answered ∷ answers) ≡ held_words w answers)
     (stands : Stand m.items chunks (held_words worker (answered ∷ answers))) where
@@ -44,6 +44,12 @@ module _ (m : Machine) (answers : List Answered) (answered : Answered) (worker :
     granted = told.lawful.granted;
     order = told.lawful.order;
     workers = length-set m.holds worker chunks ∙ told.lawful.workers;
+    few = λ w. elim (cases_eq w worker) [
+      | inl same ↦
+          let here : held_by (slice_set m.holds worker chunks) w ≡ chunks = ap (held_by (slice_set m.holds worker chunks)) same ∙ held_now in
+          omega (arith, short, ap (λ (cs : List ChunkId). length cs) here)
+      | inr apart ↦ omega (arith, told.lawful.few w, ap (λ (cs : List ChunkId). length cs) (held_other w apart))
+    ];
     stored = λ w c holds. elim (cases_eq w worker) [
       | inl same ↦
           let here : held_by (slice_set m.holds worker chunks) w ≡ chunks = ap (held_by (slice_set m.holds worker chunks)) same ∙ held_now in
@@ -64,12 +70,13 @@ module _ (m : Machine) (answers : List Answered) (answered : Answered) (worker :
   }
 
 -- a hold that found its key
-told_found : (m : Machine) (answers : List Answered) (worker key : ℕ) (found : Option ChunkId) → AreTold m answers → worker ≤ 63 → linked_chunk m.items key ≡ found
+told_found : (m : Machine) (answers : List Answered) (worker key : ℕ) (found : Option ChunkId) → AreTold m answers → worker ≤ 63
+    → is_full m.holds worker ≡ false → linked_chunk m.items key ≡ found
     → let served : Served = held m worker key found in
     AreTold served.machine (answered_by (Hold worker key) served ∷ answers)
-told_found m answers worker key None told few leads =
+told_found m answers worker key None told few room leads =
     told_on m m answers _ told (proceeds_same m told.lawful) (λ q. refl) (λ w. second_fails (worker == w) _ _)
-told_found m answers worker key (Some chunk) told few leads =
+told_found m answers worker key (Some chunk) told few room leads =
     let answered : Answered = answered_by (Hold worker key) (held m worker key (Some chunk)) in
     let in_chunk : LinkedIn key chunk m.items
     = linked_in key chunk m.items leads (place_once m.table (off m.slabs) told.lawful.index m.items chunk told.lawful.kept) (told.lawful.kept.one_link key) in
@@ -87,14 +94,15 @@ told_found m answers worker key (Some chunk) told few leads =
       | inl same ↦ rw (← same_from_is_chunk chunk c same) (some_places chunk item m.items in_chunk.there)
       | inr other ↦ told.lawful.stored worker c (omega (arith, there, times-cons c chunk (held_by m.holds worker), ap truth other))
     ])
+    (grind (arith, nat_tests, room))
     (λ q. refl) (λ w other. first_fails (worker == w) _ _ _ other) (rw now (stands, told.holds worker))
 
-pub told_hold : (m : Machine) (answers : List Answered) (worker key : ℕ) (full : Bool) → AreTold m answers → worker ≤ 63
+pub told_hold : (m : Machine) (answers : List Answered) (worker key : ℕ) (full : Bool) → AreTold m answers → worker ≤ 63 → is_full m.holds worker ≡ full
     → let served : Served = if full then told_line m (key_line (codes "TOO_MANY_REFS") key) else held m worker key (linked_chunk m.items key) in
     AreTold served.machine (answered_by (Hold worker key) served ∷ answers)
-told_hold m answers worker key true told few =
+told_hold m answers worker key true told few is =
     told_on m m answers _ told (proceeds_same m told.lawful) (λ q. refl) (λ w. second_fails (worker == w) _ _)
-told_hold m answers worker key false told few = told_found m answers worker key (linked_chunk m.items key) told few refl
+told_hold m answers worker key false told few is = told_found m answers worker key (linked_chunk m.items key) told few is refl
 
 -- a drop that is refused
 told_refused : (m : Machine) (answers : List Answered) (worker key : ℕ) → AreTold m answers
@@ -117,6 +125,7 @@ told_let_go m answers worker key chunk (Some item) told few last =
     = both_pass (worker == worker) _ _ _ (eq-eqb worker worker refl) refl in
     told_holds m answers answered worker (without chunk (held_by m.holds worker)) told few
     (λ c there. told.lawful.stored worker c (omega (arith, there, times-without-le c chunk (held_by m.holds worker))))
+    (omega (arith, told.lawful.few worker, length-without-le chunk (held_by m.holds worker)))
     (λ q. refl) (λ w other. first_fails (worker == w) _ _ _ other)
     (rw now (stand_without m.items key chunk (held_by m.holds worker) (held_words worker answers) has (told.holds worker) last))
 

@@ -1,5 +1,5 @@
 -- What is told after each command of a run.
-use Rattle.std.proofs.Common.{◌≡◌, ℕ, List, [], ◌∷◌, zero, suc, Bool, true, false, Option, Some, None, Result, refl, ap, sym, ◌∙◌, subst, arith, All}
+use Rattle.std.proofs.Common.{◌≡◌, ℕ, List, [], ◌∷◌, length, zero, suc, Bool, true, false, Option, Some, None, Result, refl, ap, sym, ◌∙◌, subst, arith, All}
 use Rattle.std.specs.Prelude.{if◌then◌else◌, replicate, codes}
 use Rattle.std.specs.Option.{option_and_then, option_map, option_map_or}
 use Rattle.std.proofs.lemmas.Option.{none-some, same_Some}
@@ -20,17 +20,17 @@ use Rattle.mc_machine.specs.Holds.{held_by, is_full}
 use Rattle.mc_watch.specs.declared.decider.Decision.{Decision}
 use Rattle.mc_machine.specs.Automove.{begun, decision, with_window}
 use Rattle.mc_machine.specs.Lines.{Served, acted, after_all, after_turn, last_hold, looked_up, made_youngest, read, reassigned, serve, told}
-use Rattle.mc_machine.specs.Machine.{Machine, all_swept, fresh_machine, with_mode}
+use Rattle.mc_machine.specs.Machine.{Machine, all_swept, fresh_machine}
 use Rattle.mc_machine.specs.Mover.{Turned, after_turns, no_counts}
 use Rattle.mc_machine.specs.declared.turn.Ending.TheVariants.{Idle}
 use Rattle.mc_machine.specs.Texts.{key_line}
 use Rattle.mc_laws.specs.Answered.{Answered, answers}
 use Rattle.mc_machine.proofs.KeptChanges.{kept_fresh}
 use Rattle.mc_laws.proofs.Lawful.{off, proceeds_same, proceeds_then}
-use Rattle.mc_laws.proofs.ProceedCommands.{proceeds_acted, proceeds_asked, proceeds_automove, proceeds_fed, proceeds_touched}
+use Rattle.mc_laws.proofs.ProceedCommands.{proceeds_acted, proceeds_asked, proceeds_fed, proceeds_touched}
 use Rattle.mc_laws.proofs.ProceedSweeps.{proceeds_all_swept}
 use Rattle.mc_laws.proofs.ProceedTurns.{proceeds_turns}
-use Rattle.mc_laws.proofs.Told.{AreTold, told_on}
+use Rattle.mc_laws.proofs.Told.{AreTold, told_automove, told_on}
 use Rattle.mc_laws.proofs.ToldSets.{answered_by, told_delete, told_set}
 use Rattle.mc_laws.proofs.ToldHolds.{told_drop, told_hold}
 
@@ -40,7 +40,7 @@ none_held zero worker = refl
 none_held (suc count) zero = refl
 none_held (suc count) (suc worker) = none_held count worker
 
-told_fresh : (table : Classes) (bulk mode : ℕ) → IsSound table → AreTold (fresh_machine table bulk mode) []
+pub told_fresh : (table : Classes) (bulk mode : ℕ) → IsSound table → AreTold (fresh_machine table bulk mode) []
 told_fresh table bulk mode sound =
     let order : IsInOrder (off (fresh_slabs table)) 0 = IsInOrder-fresh table sound in
     record {
@@ -50,6 +50,7 @@ told_fresh table bulk mode sound =
         granted = 0;
         order = order;
         workers = refl;
+        few = λ worker. omega (arith, ap (λ (cs : List ChunkId). length cs) (none_held 64 worker));
         stored = λ worker chunk held. absurd (omega (arith, held, ap (λ (cs : List ChunkId). times chunk cs) (none_held 64 worker)));
       };
       words = λ key chunk item at to. absurd (none-some item at);
@@ -90,14 +91,14 @@ module _ (m : Machine) (before : List Answered) (all : AreTold m before) where
       rw same (told_on m m before (answered_by (Get worker key) served) all (proceeds_same m all.lawful) (λ q. refl) (λ w. refl))
 
 -- a look-up changes nothing
-looked_way : (full : Bool) (m : Machine) (key : ℕ) (found : Option Item)
+pub looked_way : (full : Bool) (m : Machine) (key : ℕ) (found : Option Item)
     → (if full then told m (key_line (codes "TOO_MANY_REFS") key) else read m key found).machine ≡ m
 looked_way true m key found = refl
 looked_way false m key None = refl
 looked_way false m key (Some item) = refl
 
 -- a command of a run
-told_serve : (m : Machine) (before : List Answered) (command : Command) (served : Served) → AreTold m before → IsValid command → serve m command ≡ Some served
+pub told_serve : (m : Machine) (before : List Answered) (command : Command) (served : Served) → AreTold m before → IsValid command → serve m command ≡ Some served
     → AreTold served.machine (answered_by command served ∷ before)
 told_serve m before (Set worker key count base) served all valid is =
     subst (λ (s : Served). AreTold s.machine (answered_by (Set worker key count base) s ∷ before)) (same_Some _ served is)
@@ -112,7 +113,7 @@ told_serve m before (Get worker key) served all valid is =
     told_get m before all worker key served same
 told_serve m before (Hold worker key) served all valid is =
     subst (λ (s : Served). AreTold s.machine (answered_by (Hold worker key) s ∷ before)) (same_Some _ served is)
-    (told_hold m before worker key (is_full m.holds worker) all valid.0.1)
+    (told_hold m before worker key (is_full m.holds worker) all valid.0.1 refl)
 told_serve m before (Drop worker key) served all valid is =
     subst (λ (s : Served). AreTold s.machine (answered_by (Drop worker key) s ∷ before)) (same_Some _ served is)
     (told_drop m before worker key (last_hold m worker key) all valid.0.1 refl)
@@ -124,7 +125,7 @@ told_serve m before (ReassignPage src dst) served all valid is =
     (told_reassign m before all src dst (answer_of m.slabs src dst) refl)
 told_serve m before (Automove mode) served all valid is =
     subst (λ (s : Served). AreTold s.machine (answered_by (Automove mode) s ∷ before)) (same_Some _ served is)
-    (told_on m (record m { slabs = with_mode m.slabs mode }) before _ all (proceeds_automove m mode all.lawful) (λ q. refl) (λ w. refl))
+    (told_automove m mode _ (told_on m m before _ all (proceeds_same m all.lawful) (λ q. refl) (λ w. refl)))
 told_serve m before Window served all valid is =
     subst (λ (s : Served). AreTold s.machine (answered_by Window s ∷ before)) (same_Some _ served is)
     (told_window m before all (decision (with_window (all_swept m))))

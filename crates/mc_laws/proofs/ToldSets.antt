@@ -20,8 +20,8 @@ use Rattle.mc_machine.specs.Supply.{asks_for_page, supplied, supply}
 use Rattle.mc_machine.specs.Texts.{key_line}
 use Rattle.mc_laws.specs.Answered.{Answered, last_words}
 use Rattle.mc_machine.proofs.Stocks.{IsClass-supplied, nowhere-unlinked}
-use Rattle.mc_laws.proofs.Lawful.{Proceeds, proceeds_same, proceeds_then}
-use Rattle.mc_laws.proofs.ProceedCommands.{linked_still, proceeds_asked, proceeds_unlinked}
+use Rattle.mc_laws.proofs.Lawful.{proceeds_same}
+use Rattle.mc_laws.proofs.ProceedCommands.{proceeds_asked}
 use Rattle.mc_laws.proofs.ProceedPages.{proceeds_supplied}
 use Rattle.mc_laws.proofs.Told.{AreTold, told_on, told_still, told_stored, told_unlinked}
 
@@ -62,16 +62,14 @@ module _ (answers : List Answered) (worker key count base : ℕ) where
       let ready : Machine = supplied m class in
       let free : Machine = record ready { items = unlinked_items ready.items key } in
       let served : Served = stored ready class key (words_from base count) asks (Some chunk) in
-      let first : Proceeds m ready = proceeds_supplied m class told.lawful valid in
-      let next : Proceeds ready free = proceeds_unlinked ready key first.lawful in
       let all : AreTold free (answered_by (Set worker key count base) served ∷ answers)
-      = told_unlinked m free answers (answered_by (Set worker key count base) served) key told (proceeds_then m ready free first next)
-      (λ c item at linked. (linked_still key ready.items c item at linked).1)
+      = told_unlinked ready answers (answered_by (Set worker key count base) served) key
+      (told_still m ready answers told (proceeds_supplied m class told.lawful valid))
       (λ q other. first_fails (key == q) _ _ _ other) (λ w. refl) in
       let new_words : last_words key (answered_by (Set worker key count base) served ∷ answers) ≡ Some (words_from base count)
       = both_pass (key == key) _ _ _ (eq-eqb key key refl) (same_text (key_line (codes "STORED") key)) in
       set_asked (with_stored ready class key (words_from base count) chunk) class asks (answered_by (Set worker key count base) served ∷ answers)
-      (told_stored free class key (words_from base count) chunk next.lawful (IsClass-supplied m class valid) is (nowhere-unlinked ready.items key)
+      (told_stored free class key (words_from base count) chunk all.lawful (IsClass-supplied m class valid) is (nowhere-unlinked ready.items key)
       (answered_by (Set worker key count base) served ∷ answers) all new_words)
 
   set_class : (m : Machine) (class : Option ℕ) → AreTold m answers → class_of m.table (item_bytes count) ≡ class
@@ -96,6 +94,4 @@ pub told_delete : (m : Machine) (answers : List Answered) (worker key : ℕ) (fo
 told_delete m answers worker key None told is =
     told_on m m answers _ told (proceeds_same m told.lawful) (λ q. second_fails (key == q) _ _) (λ w. refl)
 told_delete m answers worker key (Some chunk) told is =
-    told_unlinked m (record m { items = unlinked_items m.items key }) answers _ key told (proceeds_unlinked m key told.lawful)
-    (λ c item at linked. (linked_still key m.items c item at linked).1)
-    (λ q other. first_fails (key == q) _ _ _ other) (λ w. refl)
+    told_unlinked m answers _ key told (λ q other. first_fails (key == q) _ _ _ other) (λ w. refl)

@@ -1,12 +1,13 @@
 -- Worked examples of the plain machine.
-use Rattle.std.specs.Prelude.{◌≡◌, ℕ, List, [], ◌∷◌, ◌++◌, codes, map, Some, None}
+use Rattle.std.specs.Prelude.{◌≡◌, ℕ, true, false, List, [], ◌∷◌, ◌++◌, codes, map, Some, None}
 use Rattle.std.specs.List.{range_with_len}
 use Rattle.mc_classes.specs.Classes.{Classes}
 use Rattle.mc_script.specs.declared.command.Command.{Command}
 use Rattle.mc_script.specs.declared.command.Command.TheVariants.{Set, Get, Hold, Drop, Delete, Touch, Reassign, Automove, Window, Turn, Stats, StatsSlabs}
 use Rattle.mc_machine.specs.Machine.{fresh_machine}
 use Rattle.mc_machine.specs.Lines.{replies_to}
-use Rattle.mc_laws.specs.Answered.{answers, last_words, held_words}
+use Rattle.mc_laws.specs.Answered.{Answered, answers, last_words, held_words}
+use Rattle.mc_laws.specs.Stays.{holds_now, is_seen}
 
 -- pages of 1024 bytes, four of them, and four classes
 abbrev pub four_classes : Classes
@@ -113,3 +114,20 @@ WordsFromAnswers = let told = answers (fresh_machine four_classes 64 0) (
     ) [] in
     (last_words 1 told ≡ Some (50 ∷ 51 ∷ [])) × (last_words 2 told ≡ None)
     × (held_words 1 told ≡ record { key = 2; words = 9 ∷ [] } ∷ record { key = 1; words = 7 ∷ 8 ∷ 9 ∷ [] } ∷ []) × (held_words 2 told ≡ [])
+
+-- what these commands were answered, the last first
+abbrev told_of : List Command → List Answered
+told_of commands = answers (fresh_machine four_classes 64 0) commands []
+
+-- what the answers show of key 1. It is seen behind windows, statistics, a refused drop and a refused set; not behind a
+-- stored set of another key, a turn or a delete; and again behind a get. A hold of it counts until it is dropped, and no
+-- more behind a stored set of it or a delete, where a drop gives back the newer hold first
+abbrev pub SeenFromAnswers : Type 0
+SeenFromAnswers =
+    (is_seen 1 (told_of (Set 1 1 3 7 ∷ Window ∷ Stats ∷ StatsSlabs ∷ Drop 1 1 ∷ Set 1 1 100 0 ∷ Reassign (Some 4) 1 ∷ Automove 1 ∷ [])) ≡ true)
+    × (is_seen 1 (told_of (Set 1 1 3 7 ∷ Set 1 2 3 9 ∷ [])) ≡ false) × (is_seen 1 (told_of (Set 1 1 3 7 ∷ Turn 1 ∷ [])) ≡ false)
+    × (is_seen 1 (told_of (Set 1 1 3 7 ∷ Hold 2 1 ∷ Delete 1 1 ∷ [])) ≡ false) × (is_seen 1 (told_of (Set 1 1 3 7 ∷ Turn 1 ∷ Get 2 1 ∷ [])) ≡ true)
+    × (is_seen 1 (told_of (Set 1 2 3 7 ∷ Get 1 1 ∷ Touch 1 1 ∷ [])) ≡ false)
+    × (holds_now 2 1 (told_of (Set 1 1 3 7 ∷ Hold 2 1 ∷ Hold 2 1 ∷ Hold 2 1 ∷ Set 1 2 3 9 ∷ Turn 1 ∷ Drop 2 1 ∷ Drop 2 2 ∷ [])) ≡ 2)
+    × (holds_now 1 1 (told_of (Set 1 1 3 7 ∷ Hold 2 1 ∷ [])) ≡ 0) × (holds_now 2 1 (told_of (Set 1 1 3 7 ∷ Hold 2 1 ∷ Delete 1 1 ∷ [])) ≡ 0)
+    × (holds_now 2 1 (told_of (Set 1 1 3 7 ∷ Hold 2 1 ∷ Set 1 1 3 9 ∷ Hold 2 1 ∷ Drop 2 1 ∷ [])) ≡ 0)

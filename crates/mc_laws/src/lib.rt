@@ -6,4 +6,8 @@
 
 mod laws;
 
-pub use laws::{dropped_were_held, values_were_stored, worked_examples};
+pub use laws::{
+    dropped_were_held, granted_bytes_stay, held_items_stay, keys_have_one_answer,
+    machines_are_accounted, replies_are_whole, seen_items_stay, statistics_add_up,
+    values_were_stored, worked_examples,
+};

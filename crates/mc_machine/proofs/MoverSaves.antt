@@ -81,7 +81,7 @@ length-reclaims m (c ∷ chunks) = length-reclaims (after_reclaim m c) chunks �
 pub moving-swept : (m : Machine) (class : ℕ) → (swept m class).slabs.moving ≡ m.slabs.moving
 moving-swept m class = moving-reclaims m (dead_chunks m class)
 
-owners-swept : (m : Machine) (class : ℕ) → (swept m class).slabs.owners ≡ m.slabs.owners
+pub owners-swept : (m : Machine) (class : ℕ) → (swept m class).slabs.owners ≡ m.slabs.owners
 owners-swept m class = owners-reclaims m (dead_chunks m class)
 
 pub class_swept : (m : Machine) (class other : ℕ) → IsClass m.slabs other → IsClass (swept m class).slabs other

@@ -1,6 +1,7 @@
 -- The decider refuses no window: what each change of the pages and chunks does to the counters of evictions.
-use Rattle.std.proofs.Common.{◌≡◌, ℕ, ◌-◌, ◌/◌, ◌^◌, ◌<◌, ◌≤◌, List, [], ◌∷◌, length, get_or, set, map, suc, zero, Bool, true, false, Option, None, refl, ap, sym, ◌∙◌, arith}
-use Rattle.std.specs.Prelude.{◌==◌, fold, Result, Ok, Err, IfOk, OnOk, OnErr}
+use Rattle.std.proofs.Common.{◌≡◌, ℕ, ◌+◌, ◌-◌, ◌/◌, ◌^◌, ◌<◌, ◌≤◌, List, [], ◌∷◌, length, get_or, set, map, suc, zero, Bool, true, false, Option, None, refl, ap, sym, ◌∙◌, arith, le-ltb}
+use Rattle.std.specs.Prelude.{◌==◌, nat_lt, fold, Result, Ok, Err, IfOk, OnOk, OnErr}
+use Rattle.std.specs.List.{list_any, range_with_len}
 use Rattle.std.proofs.Math.Seq.{map-set_same}
 use Rattle.std.proofs.lemmas.Bool.Decides.{nat_tests}
 use Rattle.std.proofs.lemmas.List.{get_or-map, length-map, length-set, map-set}
@@ -13,8 +14,7 @@ use Rattle.mc_pages.specs.Changes.{with_class, with_given, after_back, after_cle
 use Rattle.mc_pages.specs.declared.moves.Reassign.{Reassign}
 use Rattle.mc_pages.specs.Answer.{answer_of, MayAnswer}
 use Rattle.mc_pages.specs.Moves.{after_begin, released, finished}
-use Rattle.mc_watch.specs.declared.watched.Watched.{Watched}
-use Rattle.mc_watch.specs.Decider.{DeciderState, after_window, all_noted, fresh_class, fresh_decider, has_fallen, refusal_of}
+use Rattle.mc_watch.specs.Decider.{DeciderState, Window, after_window, evictions_of, fresh_decider, has_fallen, number_of, refusal_of}
 use Rattle.mc_machine.specs.Automove.{eviction_counts, free_counts, page_counts}
 use Rattle.mc_machine.specs.Machine.{with_mode}
 use Rattle.mc_machine.specs.Kept.{IsWatched}
@@ -65,7 +65,7 @@ pub watched-same : (old new : SlabState) (decider : DeciderState) → eviction_c
 watched-same old new decider same was = record {
   of_each = was.of_each ∙ sym (length-map old.classes (λ (c : ClassState). c.evictions)) ∙ sym (ap (λ (l : List ℕ). length l) same)
       ∙ length-map new.classes (λ (c : ClassState). c.evictions);
-  risen = rw same was.risen;
+  risen = λ class. rw same (was.risen class);
   small = λ place. rw same (was.small place);
 }
 
@@ -112,12 +112,12 @@ module _ (slabs new : SlabState) (decider : DeciderState) (src : Option ℕ) (ds
   watched_begun result may began same = begun_as (answer_of slabs src dst) result may began same
 
 -- one counter is not lower than before
-risen-set : (classes : List Watched) (counts : List ℕ) (place count : ℕ) → get_or counts place 0 ≤ count → has_fallen classes counts ≡ false
-    → has_fallen classes (set counts place count) ≡ false
-risen-set [] counts place count above risen = refl
-risen-set (class ∷ classes) [] place count above risen = refl
-risen-set (class ∷ classes) (c ∷ counts) zero count above risen = grind (arith, nat_tests)
-risen-set (class ∷ classes) (c ∷ counts) (suc place) count above risen = grind (arith, nat_tests, risen-set classes counts place count above)
+risen-set : (counts : List ℕ) (place count other least : ℕ) → get_or counts place 0 ≤ count → least ≤ get_or counts other 0 → least ≤ get_or (set counts place count) other 0
+risen-set [] place count other least above risen = risen
+risen-set (c ∷ counts) zero count zero least above risen = omega (arith, above, risen)
+risen-set (c ∷ counts) zero count (suc other) least above risen = risen
+risen-set (c ∷ counts) (suc place) count zero least above risen = risen
+risen-set (c ∷ counts) (suc place) count (suc other) least above risen = risen-set counts place count other least above risen
 
 small-set : (counts : List ℕ) (place count other : ℕ) → count < 2 ^ 64 → get_or counts other 0 < 2 ^ 64 → get_or (set counts place count) other 0 < 2 ^ 64
 small-set [] place count other few small = small
@@ -139,16 +139,11 @@ watched-evicted slabs class decider valid was =
     = map-set (λ (c : ClassState). c.evictions) slabs.classes (class - 1) (evicted (class_at slabs class)) in
     record {
       of_each = was.of_each ∙ sym (length-set slabs.classes (class - 1) (evicted (class_at slabs class)));
-      risen = rw now (risen-set decider.classes (eviction_counts slabs) (class - 1) (counted count 1) above was.risen);
+      risen = λ other. rw now (risen-set (eviction_counts slabs) (class - 1) (counted count 1) (other - 1) (evictions_of decider.windows other) above (was.risen other));
       small = λ place. rw now (small-set (eviction_counts slabs) (class - 1) (counted count 1) place less (was.small place));
     }
 
--- no class of a table has evictions
-risen-fresh : (page : ℕ) (sizes : List ℕ)
-    → has_fallen (map (λ size. fresh_class (page / size)) sizes) (map (λ (c : ClassState). c.evictions) (map (λ size. new_class size (page / size)) sizes)) ≡ false
-risen-fresh page [] = refl
-risen-fresh page (size ∷ sizes) = grind (arith, nat_tests, risen-fresh page sizes)
-
+-- no counter of a table is too large
 small-fresh : (page : ℕ) (sizes : List ℕ) (place : ℕ)
     → get_or (map (λ (c : ClassState). c.evictions) (map (λ size. new_class size (page / size)) sizes)) place 0 < 2 ^ 64
 small-fresh page [] place = omega arith
@@ -159,49 +154,34 @@ small-fresh page (size ∷ sizes) (suc place) = small-fresh page sizes place
 pub watched_fresh : (table : Classes) (mode : ℕ) (slabs : SlabState) (decider : DeciderState)
     → slabs ≡ with_mode (fresh_slabs table) mode → decider ≡ fresh_decider table → IsWatched slabs decider
 watched_fresh table mode slabs decider slabs_is decider_is = rw (slabs_is, decider_is) (record {
-  of_each = length-map table.sizes (λ size. fresh_class (table.page / size)) ∙ sym (length-map table.sizes (λ size. new_class size (table.page / size)));
-  risen = risen-fresh table.page table.sizes;
+  of_each = length-map table.sizes (λ size. table.page / size) ∙ sym (length-map table.sizes (λ size. new_class size (table.page / size)));
+  risen = λ class. omega arith;
   small = small-fresh table.page table.sizes;
 })
 
 -- ---- a window
 
+-- where no class has fewer evictions, none has fallen
+none_fallen : (evictions : List ℕ) (windows : List Window) (class count : ℕ) → ((c : ℕ) → evictions_of windows c ≤ number_of evictions c)
+    → list_any (λ c. nat_lt (number_of evictions c) (evictions_of windows c)) (range_with_len class count) ≡ false
+none_fallen evictions windows class zero risen = refl
+none_fallen evictions windows class (suc count) risen =
+    rw (le-ltb (number_of evictions class) (evictions_of windows class) (risen class)) (none_fallen evictions windows (class + 1) count risen)
+
 -- the numbers are taken
 pub taken : (slabs : SlabState) (decider : DeciderState) → IsWatched slabs decider
     → refusal_of decider (eviction_counts slabs) (page_counts slabs) (free_counts slabs) ≡ None
 taken slabs decider was =
-    let evictions : length (eviction_counts slabs) ≡ length decider.classes = length-map slabs.classes (λ (c : ClassState). c.evictions) ∙ sym was.of_each in
-    let pages : length (page_counts slabs) ≡ length decider.classes = length-map slabs.classes (λ (c : ClassState). length c.pages) ∙ sym was.of_each in
-    let free : length (free_counts slabs) ≡ length decider.classes = length-map slabs.classes (λ (c : ClassState). length c.free) ∙ sym was.of_each in
-    grind (arith, nat_tests, evictions, pages, free, was.risen)
-
-length-noted : (classes : List Watched) (evictions pages free : List ℕ) → length evictions ≡ length classes → length pages ≡ length classes → length free ≡ length classes
-    → length (all_noted classes evictions pages free) ≡ length classes
-length-noted [] evictions pages free e p f = refl
-length-noted (class ∷ classes) (x ∷ evictions) (y ∷ pages) (z ∷ free) e p f = omega (arith, length-noted classes evictions pages free (omega (arith, e)) (omega (arith, p)) (omega (arith, f)))
-length-noted (class ∷ classes) [] pages free e p f = absurd (omega (arith, e))
-length-noted (class ∷ classes) (x ∷ evictions) [] free e p f = absurd (omega (arith, p))
-length-noted (class ∷ classes) (x ∷ evictions) (y ∷ pages) [] e p f = absurd (omega (arith, f))
-
-risen-noted : (classes : List Watched) (evictions pages free : List ℕ) → has_fallen (all_noted classes evictions pages free) evictions ≡ false
-risen-noted [] evictions pages free = refl
-risen-noted (class ∷ classes) (x ∷ evictions) (y ∷ pages) (z ∷ free) = grind (arith, nat_tests, risen-noted classes evictions pages free)
-risen-noted (class ∷ classes) [] pages free = refl
-risen-noted (class ∷ classes) (x ∷ evictions) [] free = refl
-risen-noted (class ∷ classes) (x ∷ evictions) (y ∷ pages) [] = refl
+    let evictions : length (eviction_counts slabs) ≡ length decider.per_page = length-map slabs.classes (λ (c : ClassState). c.evictions) ∙ sym was.of_each in
+    let pages : length (page_counts slabs) ≡ length decider.per_page = length-map slabs.classes (λ (c : ClassState). length c.pages) ∙ sym was.of_each in
+    let free : length (free_counts slabs) ≡ length decider.per_page = length-map slabs.classes (λ (c : ClassState). length c.free) ∙ sym was.of_each in
+    let risen : has_fallen decider (eviction_counts slabs) ≡ false = none_fallen (eviction_counts slabs) decider.windows 1 (length decider.per_page) was.risen in
+    grind (arith, nat_tests, evictions, pages, free, risen)
 
 -- and none has fallen since
 pub watched-window : (slabs : SlabState) (decider : DeciderState) → IsWatched slabs decider
     → IsWatched slabs (after_window decider (eviction_counts slabs) (page_counts slabs) (free_counts slabs))
-watched-window slabs decider was =
-    let evictions : length (eviction_counts slabs) ≡ length decider.classes = length-map slabs.classes (λ (c : ClassState). c.evictions) ∙ sym was.of_each in
-    let pages : length (page_counts slabs) ≡ length decider.classes = length-map slabs.classes (λ (c : ClassState). length c.pages) ∙ sym was.of_each in
-    let free : length (free_counts slabs) ≡ length decider.classes = length-map slabs.classes (λ (c : ClassState). length c.free) ∙ sym was.of_each in
-    record {
-      of_each = length-noted decider.classes (eviction_counts slabs) (page_counts slabs) (free_counts slabs) evictions pages free ∙ was.of_each;
-      risen = risen-noted decider.classes (eviction_counts slabs) (page_counts slabs) (free_counts slabs);
-      small = was.small;
-    }
+watched-window slabs decider was = record { of_each = was.of_each; risen = λ class. omega arith; small = was.small }
 
 -- the decider has learned the numbers of a window, as the counts tell them
 pub watched_fed : (slabs seen : SlabState) (decider fed : DeciderState) (evictions pages free : List ℕ) → IsWatched slabs decider → seen ≡ slabs
@@ -209,3 +189,8 @@ pub watched_fed : (slabs seen : SlabState) (decider fed : DeciderState) (evictio
     → fed ≡ after_window decider evictions pages free → IsWatched slabs fed
 watched_fed slabs seen decider fed evictions pages free was same e p f is =
     rw (is, e, p, f, same) (watched-window slabs decider was)
+
+-- and doesn't refuse them
+pub taken_fed : (slabs seen : SlabState) (decider : DeciderState) (evictions pages free : List ℕ) → IsWatched slabs decider → seen ≡ slabs
+    → evictions ≡ eviction_counts seen → pages ≡ page_counts seen → free ≡ free_counts seen → refusal_of decider evictions pages free ≡ None
+taken_fed slabs seen decider evictions pages free was same e p f = rw (e, p, f, same) (taken slabs decider was)

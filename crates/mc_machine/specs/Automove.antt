@@ -29,7 +29,7 @@ begun m src dst (Ok source) = record m { slabs = after_begin m.slabs src source 
 abbrev pub with_asked_page : Machine → ℕ → Machine
 with_asked_page m class = begun m None class (answer_of m.slabs None class)
 
--- a window ends: the decider learns its numbers
+-- a window ends: the automover is fed its numbers
 abbrev pub with_window : Machine → Machine
 with_window m = record m { decider = after_window m.decider (eviction_counts m.slabs) (page_counts m.slabs) (free_counts m.slabs) }
 

@@ -1,5 +1,5 @@
 -- What a machine keeps through every command, with an index from keys to chunks and with counts of its dead items.
-use Rattle.std.specs.Prelude.{◌≡◌, ℕ, ◌+◌, ◌-◌, ◌/◌, ◌^◌, ◌<◌, ◌≤◌, ◌==◌, Bool, false, not, ◌&&◌, slice_index_or, List, [], ◌∷◌, length, map, None}
+use Rattle.std.specs.Prelude.{◌≡◌, ℕ, ◌+◌, ◌-◌, ◌/◌, ◌^◌, ◌<◌, ◌≤◌, ◌==◌, Bool, not, ◌&&◌, slice_index_or, List, [], ◌∷◌, length, map, None}
 use Rattle.std.specs.Ordering.{nat_cmp}
 use Rattle.std.specs.BTreeMap.{is_at}
 use Rattle.std.specs.Map.{lookup}
@@ -10,7 +10,7 @@ use Rattle.mc_pages.specs.ClassState.{times}
 use Rattle.mc_pages.specs.Ledger.{owner_at}
 use Rattle.mc_pages.specs.SlabState.{SlabState, IsClass, class_at, class_of_chunk, class_of_owner}
 use Rattle.mc_pages.specs.Accounted.{truth, IsAccounted}
-use Rattle.mc_watch.specs.Decider.{DeciderState, has_fallen}
+use Rattle.mc_watch.specs.Decider.{DeciderState, evictions_of, number_of}
 use Rattle.mc_machine.specs.Automove.{eviction_counts}
 use Rattle.mc_machine.specs.Holds.{Holds, is_held}
 use Rattle.mc_machine.specs.Item.{Item, is_linked_to}
@@ -43,10 +43,11 @@ pub record IsKept (table : Classes) (slabs : SlabState) (index : List (ℕ × Ch
   -- and a chunk that is handed out has an item
   pub stored : (class : ℕ) (chunk : ChunkId) → IsClass slabs class → times chunk (class_at slabs class).order ≤ places chunk items
 
--- the decider knows as many classes, and no class has fewer evictions than it was told of, so it refuses no window
+-- the decider was fed windows of as many classes, and no class has fewer evictions than it was told of last, so it refuses
+-- no window
 pub record IsWatched (slabs : SlabState) (decider : DeciderState) : Type 0 where
-  pub of_each : length decider.classes ≡ length slabs.classes
-  pub risen : has_fallen decider.classes (eviction_counts slabs) ≡ false
+  pub of_each : length decider.per_page ≡ length slabs.classes
+  pub risen : (class : ℕ) → evictions_of decider.windows class ≤ number_of (eviction_counts slabs) class
   -- a counter has 64 bits
   pub small : (place : ℕ) → slice_index_or (eviction_counts slabs) place 0 < 2 ^ 64
 

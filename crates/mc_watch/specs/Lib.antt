@@ -1,3 +1,4 @@
 pub mod Decider
+pub mod Remembered
 pub mod Texts
 pub mod Rows

@@ -1,7 +1,10 @@
 //! The automover's decider (after slabs.c's `slab_automove_decision`).
 ghost use Rattle.std.specs.Prelude.{◌≡◌, IfOk, OnOk, IfErr, OnErr, None, Some};
-ghost use Rattle.mc_watch.specs.Decider.{steady_leader, fresh_decider};
+ghost use Rattle.std.specs.Prelude.{◌/◌, map};
+ghost use Rattle.mc_watch.specs.Decider.{fresh_decider};
+ghost use Rattle.mc_watch.specs.Remembered.{fresh_class, steady_leader};
 
+use crate::fed::Fed;
 use crate::refusal::{Feed, NoMemory};
 use crate::watched::{Watched, has_fallen, leader, note_all, quiet_class, spare_class};
 use mc_classes::{ClassId, ClassTable};
@@ -23,14 +26,19 @@ pub struct Decider {
     classes: Vec<Watched>,
     /// The classes that led the last three windows, the newest first.
     leaders: [Option<ClassId>; 3],
+    /// All windows, of which the code remembers no more than that. Contracts speak of them.
+    fed: Fed,
 }
 
 impl Model for Decider {
     ghost use Rattle.mc_watch.specs.Decider.{DeciderState};
+    ghost use Rattle.mc_watch.specs.Remembered.{IsRemembered, numbers_of_pages};
 
     ghost Value = { DeciderState };
 
-    ghost view = { λ d. record { classes = d.classes.items; leaders = d.leaders } };
+    ghost view = { λ d. record { per_page = numbers_of_pages d.classes.items; windows = d.fed.windows } };
+
+    ghost invariant = { λ d. IsRemembered d.classes.items d.leaders d.fed.windows };
 }
 
 impl Decider {
@@ -44,6 +52,7 @@ impl Decider {
         Ok(Decider {
             classes: classes_of(alloc, table)?,
             leaders: [None; 3],
+            fed: Fed::new(),
         })
     }
 
@@ -76,6 +85,7 @@ impl Decider {
         }
         note_all(&mut self.classes, evictions, pages, free);
         self.leaders = [leader(&self.classes), self.leaders[0], self.leaders[1]];
+        self.fed = self.fed.then(evictions, pages, free);
         Ok(self.decision())
     }
 
@@ -106,7 +116,7 @@ impl Decider {
 
 /// The classes of the table, before any window.
 fn classes_of(alloc: Global, table: &ClassTable) -> Result<Vec<Watched>, AllocError>
-    ensures { IfOk result (λ classes. classes.items ≡ (fresh_decider table.now).classes) }
+    ensures { IfOk result (λ classes. classes.items ≡ map (λ size. fresh_class (table.now.page / size)) table.now.sizes) }
 {
     let mut classes = Vec::with_capacity(alloc, table.count() as usize)?;
     for place in 0..table.count() {

@@ -6,6 +6,7 @@
 #![tactic(auto)]
 
 mod decider;
+mod fed;
 mod laws;
 mod refusal;
 mod statistics;

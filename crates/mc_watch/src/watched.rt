@@ -1,6 +1,6 @@
 //! A size class as the decider knows it.
 ghost use Rattle.std.specs.Prelude.{◌≡◌, ◌≤◌, length, false};
-ghost use Rattle.mc_watch.specs.Decider.{fresh_class, noted, all_noted, has_fallen, leader_of, lowest, greatest_rise, has_been_quiet, has_spare_page};
+ghost use Rattle.mc_watch.specs.Remembered.{fresh_class, noted, all_noted, has_fallen, leader_of, lowest_watched, greatest_rise, has_been_quiet, has_spare_page};
 
 use mc_classes::ClassId;
 
@@ -110,7 +110,7 @@ fn greatest_rise(classes: &[Watched]) -> u64
 
 /// The lowest class that was quiet in all of the last three windows.
 pub(crate) fn quiet_class(classes: &[Watched]) -> Option<ClassId>
-    ensures { result ≡ lowest has_been_quiet classes.now }
+    ensures { result ≡ lowest_watched has_been_quiet classes.now }
 {
     classes
         .iter()
@@ -120,7 +120,7 @@ pub(crate) fn quiet_class(classes: &[Watched]) -> Option<ClassId>
 
 /// The lowest class that has a page to spare.
 pub(crate) fn spare_class(classes: &[Watched]) -> Option<ClassId>
-    ensures { result ≡ lowest has_spare_page classes.now }
+    ensures { result ≡ lowest_watched has_spare_page classes.now }
 {
     classes
         .iter()

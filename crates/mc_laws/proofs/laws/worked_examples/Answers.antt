@@ -73,3 +73,7 @@ returns-clause-page_to_the_leader c = refl
 pub returns-clause-words_from_answers : goal.returns-clause-words_from_answers
 unfolding digits
 returns-clause-words_from_answers c = (refl, refl, refl, refl)
+
+pub returns-clause-seen_from_answers : goal.returns-clause-seen_from_answers
+unfolding digits
+returns-clause-seen_from_answers c = (refl, refl, refl, refl, refl, refl, refl, refl, refl, refl)

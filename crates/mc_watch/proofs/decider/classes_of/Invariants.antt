@@ -1,5 +1,5 @@
 use Rattle.std.proofs.Common.{◌≡◌, ◌/◌, map, take}
-use Rattle.mc_watch.specs.Decider.{fresh_class}
+use Rattle.mc_watch.specs.Remembered.{fresh_class}
 use Rattle.mc_watch.proofs.decider.classes_of.Given as goal
 
 abbrev pub invariant-loop-place : goal.invariant-loop-place

@@ -1,5 +1,5 @@
 use Rattle.std.proofs.Common.{◌≡◌, ◌++◌, length, take, drop, false}
-use Rattle.mc_watch.specs.Decider.{all_noted, has_fallen}
+use Rattle.mc_watch.specs.Remembered.{all_noted, has_fallen}
 use Rattle.mc_watch.proofs.watched.note_all.Given as goal
 
 -- the classes so far are noted, and those that are left can be

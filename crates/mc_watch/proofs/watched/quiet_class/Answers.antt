@@ -1,7 +1,7 @@
 use Rattle.std.proofs.Common.{ℕ, ◌+◌, Option, option_map, ap, ◌∙◌, rules, tests}
 use Rattle.std.proofs.lemmas.Iterator.{YieldsList-from_slice}
 use Rattle.std.proofs.lemmas.Iterator.Search.{position_from_yields_List}
-use Rattle.mc_watch.specs.Decider.{has_been_quiet}
+use Rattle.mc_watch.specs.Remembered.{has_been_quiet}
 use Rattle.mc_watch.proofs.Places.{class_at_place}
 use Rattle.mc_watch.proofs.watched.quiet_class.Goals as goal
 
