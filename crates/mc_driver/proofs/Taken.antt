@@ -21,9 +21,9 @@ taken_all n (Some xs) (Some ys) bytes taken end short =
     let whole : xs ≡ bytes = taken ∙ ap (λ zs. bytes ++ zs) end ∙ append-nil bytes in
     rw whole (sym (take_all n bytes short))
 
-pub taken_end : (n : ℕ) (a b c : Option (List ℕ)) (old new : List ℕ) → Consumes a b old → TakesPiece b c old new 0 → IsAtEnd c → length old ≤ n
+pub taken_end : (n : ℕ) (a b c : Option (List ℕ)) (g h old new : List ℕ) → Consumes a b old → TakesPiece g h b c old new 0 → IsAtEnd c → length old ≤ n
     → IfSome a (λ all. new ≡ take n all)
-taken_end n a b c old new taken last end short =
+taken_end n a b c g h old new taken last end short =
     let nothing : last.piece ≡ [] = nil_from_length last.piece last.counted in
     let same : new ≡ old = last.appended ∙ ap (λ zs. old ++ zs) nothing ∙ append-nil old in
     let taken_then : Consumes a c (old ++ last.piece) = Consumes-trans a b c old last.piece taken last.consumed in

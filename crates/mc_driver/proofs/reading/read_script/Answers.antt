@@ -6,7 +6,7 @@ use Rattle.mc_driver.proofs.reading.read_script.Goals as goal
 -- the reader is at its end
 pub returns-then-count-eq0-clause-bytes : goal.returns-then-count-eq0-clause-bytes
 returns-then-count-eq0-clause-bytes g c =
-    taken_end 1048577 _ _ _ _ _ c.loop-bytes.invariant.taken (rw c.if-count-eq0.true at c.in_ok-count.ensures.taken) (c.in_ok-count.ensures.end (ap (λ n. Ok n) c.if-count-eq0.true)) (omega (arith, c.loop-bytes.invariant.most))
+    taken_end 1048577 _ _ _ _ _ _ _ c.loop-bytes.invariant.taken (rw c.if-count-eq0.true at c.in_ok-count.ensures.taken) (c.in_ok-count.ensures.end (ap (λ n. Ok n) c.if-count-eq0.true)) (omega (arith, c.loop-bytes.invariant.most))
 
 -- a byte more than the longest script was read
 pub returns-clause-bytes : goal.returns-clause-bytes

@@ -1,7 +1,7 @@
 use Rattle.std.proofs.Common.{◌≡◌, ap, sym, ◌∙◌, Err}
 use Rattle.mc_driver.specs.declared.fault.RunFault.{RunFault}
 use Rattle.mc_driver.specs.declared.fault.RunFault.TheVariants.{Config}
-use Rattle.mc_driver.proofs.Outcomes.{Unbuilt, unbuilt, outcome_known}
+use Rattle.mc_driver.proofs.Outcomes.{Unbuilt, unbuilt, outcome_known, outcome_of, since_is, whole_where_short}
 use Rattle.mc_driver.proofs.run.run_serial.Goals as goal
 
 pub returns-in-Err-clause-refused : goal.returns-in-Err-clause-refused
@@ -19,3 +19,12 @@ pub returns-clause-outcome : goal.returns-clause-outcome
 returns-clause-outcome g c =
     outcome_known _ c.in-Ok.table _ c.in_ok-bytes.bytes.items _ _ _ c.in-Ok.ensures.table c.in_ok-bytes.ensures.bytes
     (rw c.deref.ensures.value at c.run_script.ensures.outcome)
+
+pub returns-clause-answered : goal.returns-clause-answered
+returns-clause-answered g c =
+    rw (since_is _ _ c.in_ok-bytes.bytes.items c.in_ok-bytes.ensures.given)
+    (outcome_of _ c.in-Ok.table _ _ _ _ c.in-Ok.ensures.table (rw c.deref.ensures.value at c.run_script.ensures.outcome))
+
+pub returns-clause-whole : goal.returns-clause-whole
+returns-clause-whole g c =
+    whole_where_short c.in_ok-bytes.bytes.items _ _ _ _ _ (rw c.deref.ensures.value at c.run_script.ensures.outcome) c.in_ok-bytes.ensures.ended
