@@ -15,7 +15,7 @@ use Rattle.mc_script.specs.declared.command.Command.{Command}
 use Rattle.mc_driver.specs.declared.fault.RunFault.{RunFault}
 use Rattle.mc_driver.specs.declared.fault.RunFault.TheVariants.{Config as Refused, Script, TooLong, Read, Write, Memory, Turns}
 use Rattle.mc_machine.specs.Machine.{Machine, fresh_machine}
-use Rattle.mc_driver.specs.Reading.{since}
+use Rattle.mc_driver.specs.Reading.{IsReadFault, since}
 use Rattle.mc_driver.specs.Run.{IsOutcome, IsReadWhole, IsScript, IsScriptOutcome, config_fault, refusal_number}
 
 -- the front of the bytes is all of them where it is short
@@ -150,3 +150,34 @@ whole_where_short bytes machine old new (Err Read) Ended told ends = absurd told
 -- what came since is what was read
 pub since_is : (old new bytes : List ℕ) → new ≡ old ++ bytes → since old new ≡ bytes
 since_is old new bytes is = ap (λ all. drop (length old) all) is ∙ drop-append_seam old bytes
+
+-- a run whose reading failed, or that found no memory for it, answered nothing
+pub unread_outcome : (run : Run) (bytes : List ℕ) (held : Option (List ℕ)) (old new : ℕ) (fault : RunFault) → IsReadFault old new fault → IsOutcome run bytes held held (Err fault)
+unread_outcome run bytes held old new Read is = Keeps-refl held
+unread_outcome run bytes held old new Memory is = inl (Keeps-refl held)
+unread_outcome run bytes held old new (Refused number) is = absurd is
+unread_outcome run bytes held old new (Script number) is = absurd is
+unread_outcome run bytes held old new TooLong is = absurd is
+unread_outcome run bytes held old new Write is = absurd is
+unread_outcome run bytes held old new Turns is = absurd is
+
+pub unread_whole : (Ended : Type 0) (held : Option (List ℕ)) (old new : ℕ) (fault : RunFault) → IsReadFault old new fault → IsReadWhole Ended (Keeps held held) (Err fault)
+unread_whole Ended held old new Read is = Keeps-refl held
+unread_whole Ended held old new Memory is = inl (Keeps-refl held)
+unread_whole Ended held old new (Refused number) is = absurd is
+unread_whole Ended held old new (Script number) is = absurd is
+unread_whole Ended held old new TooLong is = absurd is
+unread_whole Ended held old new Write is = absurd is
+unread_whole Ended held old new Turns is = absurd is
+
+-- nor did one whose configuration was refused
+pub unbuilt_whole : (Ended : Type 0) (held : Option (List ℕ)) (error : ConfigError) → IsReadWhole Ended (Keeps held held) (Err (config_fault error))
+unbuilt_whole Ended held PageSize = Keeps-refl held
+unbuilt_whole Ended held FirstSize = Keeps-refl held
+unbuilt_whole Ended held Factor = Keeps-refl held
+unbuilt_whole Ended held ChunkMax = Keeps-refl held
+unbuilt_whole Ended held Limit = Keeps-refl held
+unbuilt_whole Ended held Stripes = Keeps-refl held
+unbuilt_whole Ended held TooManyChunks = Keeps-refl held
+unbuilt_whole Ended held Bulk = Keeps-refl held
+unbuilt_whole Ended held NoMemory = inl (Keeps-refl held)
