@@ -1,8 +1,7 @@
 //! The configuration of a slab memory and the table of its size classes, after memcached's slabs.c.
 //!
-//! [`ClassTable::build`] tests a [`Config`] and computes the sizes. [`Source`] and [`Sink`] are the
-//! readers and writers of every crate above: their ghost members tell contracts the bytes and how often
-//! they failed, and [`Failures`] counts that at no cost.
+//! [`ClassTable::build`] tests a [`Config`] and computes the sizes. A [`Sink`] is a writer of the crates above:
+//! its ghost members tell contracts the bytes and how often it failed, and [`Failures`] counts that at no cost.
 #![tactic(auto)]
 
 mod config;
@@ -12,7 +11,7 @@ mod laws;
 mod table;
 
 pub use config::{Config, ConfigError};
-pub use device::{Fault, Sink, Source};
+pub use device::{Fault, Sink};
 pub use failures::Failures;
 pub use laws::{one_table, sound_table};
 pub use table::{ClassId, ClassTable, PageId};

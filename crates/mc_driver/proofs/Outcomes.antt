@@ -1,6 +1,8 @@
 -- How a run ends, from how its parts ended.
-use Rattle.std.proofs.Common.{◌≡◌, ◌≢◌, ℕ, ◌+◌, ◌<◌, ◌≤◌, List, length, take, min, Bool, true, false, cond, Option, Some, None, Result, Ok, Err, refl, ap, ◌∙◌, arith, inl, inr}
+use Rattle.std.proofs.Common.{◌≡◌, ◌≢◌, ℕ, ◌+◌, ◌<◌, ◌≤◌, List, ◌++◌, length, take, drop, min, Bool, true, false, cond, Option, Some, None, Result, Ok, Err, refl, ap, ◌∙◌, arith, inl, inr}
 use Rattle.std.specs.Prelude.{IfSome, unwrap_or}
+use Rattle.std.specs.Io.KnownBytes.{Keeps}
+use Rattle.std.proofs.Math.Seq.{drop-append_seam}
 use Rattle.std.proofs.KnownBytes.{Keeps-refl}
 use Rattle.std.proofs.lemmas.List.{length-take, take_all}
 use Rattle.mc_classes.specs.declared.config.Config.{Config}
@@ -12,8 +14,9 @@ use Rattle.mc_options.specs.declared.settings.Run.{Run}
 use Rattle.mc_script.specs.declared.command.Command.{Command}
 use Rattle.mc_driver.specs.declared.fault.RunFault.{RunFault}
 use Rattle.mc_driver.specs.declared.fault.RunFault.TheVariants.{Config as Refused, Script, TooLong, Read, Write, Memory, Turns}
-use Rattle.mc_machine.specs.Machine.{fresh_machine}
-use Rattle.mc_driver.specs.Run.{IsOutcome, IsScript, IsScriptOutcome, config_fault, refusal_number}
+use Rattle.mc_machine.specs.Machine.{Machine, fresh_machine}
+use Rattle.mc_driver.specs.Reading.{IsReadFault, since}
+use Rattle.mc_driver.specs.Run.{IsOutcome, IsReadWhole, IsScript, IsScriptOutcome, config_fault, refusal_number}
 
 -- the front of the bytes is all of them where it is short
 front_all : (n : ℕ) (all front : List ℕ) → front ≡ take (n + 1) all → length front ≤ n → front ≡ all
@@ -118,3 +121,63 @@ unbuilt_as run error (Some first) is told =
 
 pub unbuilt : (run : Run) (error : ConfigError) → error ≡ unwrap_or (refusal_of run.config) NoMemory → Unbuilt run error
 unbuilt run error told = unbuilt_as run error (refusal_of run.config) refl told
+
+-- the outcome over bytes is the run's over them
+pub outcome_of : (run : Run) (table : Classes) (bytes : List ℕ) (old new : Option (List ℕ)) (result : Result (Unit {0}) RunFault)
+    → IsTableOf run.config table → IsScriptOutcome bytes (fresh_machine table run.config.bulk run.automove) old new result → IsOutcome run bytes old new result
+outcome_of run table bytes old new (Ok unit) is outcome = (table, is, outcome)
+outcome_of run table bytes old new (Err Turns) is outcome = (table, is, outcome)
+outcome_of run table bytes old new (Err TooLong) is outcome = (table, is, outcome)
+outcome_of run table bytes old new (Err (Script number)) is outcome = (table, is, outcome)
+outcome_of run table bytes old new (Err Write) is outcome = (table, is, outcome)
+outcome_of run table bytes old new (Err Memory) is outcome = inr (table, is, outcome)
+outcome_of run table bytes old new (Err (Refused number)) is told = absurd told
+outcome_of run table bytes old new (Err Read) is told = absurd told
+
+-- a script that was answered to isn't too long, so it was read to its end
+pub whole_where_short : (bytes : List ℕ) (machine : Machine) (old new : Option (List ℕ)) (result : Result (Unit {0}) RunFault) (Ended : Type 0)
+    → IsScriptOutcome bytes machine old new result → (length bytes ≤ 1048576 → Ended) → IsReadWhole Ended (Keeps old new) result
+whole_where_short bytes machine old new (Ok unit) Ended (commands, script, written) ends = ends script.short
+whole_where_short bytes machine old new (Err Turns) Ended (commands, script, written) ends = ends script.short
+whole_where_short bytes machine old new (Err TooLong) Ended (long, kept) ends = kept
+whole_where_short bytes machine old new (Err (Script number)) Ended (short, told, kept) ends = ends short
+whole_where_short bytes machine old new (Err Write) Ended (commands, script, broken) ends = ends script.short
+whole_where_short bytes machine old new (Err Memory) Ended (inl kept) ends = inl kept
+whole_where_short bytes machine old new (Err Memory) Ended (inr (commands, script, first)) ends = inr (ends script.short)
+whole_where_short bytes machine old new (Err (Refused number)) Ended told ends = absurd told
+whole_where_short bytes machine old new (Err Read) Ended told ends = absurd told
+
+-- what came since is what was read
+pub since_is : (old new bytes : List ℕ) → new ≡ old ++ bytes → since old new ≡ bytes
+since_is old new bytes is = ap (λ all. drop (length old) all) is ∙ drop-append_seam old bytes
+
+-- a run whose reading failed, or that found no memory for it, answered nothing
+pub unread_outcome : (run : Run) (bytes : List ℕ) (held : Option (List ℕ)) (old new : ℕ) (fault : RunFault) → IsReadFault old new fault → IsOutcome run bytes held held (Err fault)
+unread_outcome run bytes held old new Read is = Keeps-refl held
+unread_outcome run bytes held old new Memory is = inl (Keeps-refl held)
+unread_outcome run bytes held old new (Refused number) is = absurd is
+unread_outcome run bytes held old new (Script number) is = absurd is
+unread_outcome run bytes held old new TooLong is = absurd is
+unread_outcome run bytes held old new Write is = absurd is
+unread_outcome run bytes held old new Turns is = absurd is
+
+pub unread_whole : (Ended : Type 0) (held : Option (List ℕ)) (old new : ℕ) (fault : RunFault) → IsReadFault old new fault → IsReadWhole Ended (Keeps held held) (Err fault)
+unread_whole Ended held old new Read is = Keeps-refl held
+unread_whole Ended held old new Memory is = inl (Keeps-refl held)
+unread_whole Ended held old new (Refused number) is = absurd is
+unread_whole Ended held old new (Script number) is = absurd is
+unread_whole Ended held old new TooLong is = absurd is
+unread_whole Ended held old new Write is = absurd is
+unread_whole Ended held old new Turns is = absurd is
+
+-- nor did one whose configuration was refused
+pub unbuilt_whole : (Ended : Type 0) (held : Option (List ℕ)) (error : ConfigError) → IsReadWhole Ended (Keeps held held) (Err (config_fault error))
+unbuilt_whole Ended held PageSize = Keeps-refl held
+unbuilt_whole Ended held FirstSize = Keeps-refl held
+unbuilt_whole Ended held Factor = Keeps-refl held
+unbuilt_whole Ended held ChunkMax = Keeps-refl held
+unbuilt_whole Ended held Limit = Keeps-refl held
+unbuilt_whole Ended held Stripes = Keeps-refl held
+unbuilt_whole Ended held TooManyChunks = Keeps-refl held
+unbuilt_whole Ended held Bulk = Keeps-refl held
+unbuilt_whole Ended held NoMemory = inl (Keeps-refl held)

@@ -3,9 +3,9 @@ use Rattle.std.proofs.Common.{◌≡◌, ℕ, ◌+◌, ◌≤◌, List, [], ◌+
 use Rattle.std.specs.Prelude.{IfSome}
 use Rattle.std.specs.Io.KnownBytes.{Consumes, IsAtEnd}
 use Rattle.std.proofs.KnownBytes.{Consumes-trans}
-use Rattle.std.proofs.lemmas.List.{take_all, nil_from_length, append-nil, length-append}
+use Rattle.std.proofs.lemmas.List.{take_all, nil_from_length, append-nil, append_assoc, length-append}
 use Rattle.std.proofs.Math.Seq.{take-append_seam}
-use Rattle.mc_driver.specs.Reading.{TakesAtMost, TakesPiece}
+use Rattle.mc_driver.specs.Reading.{GivesAtMost, TakesAtMost, TakesPiece}
 
 -- as much as was asked for
 pub taken_full : (n : ℕ) (a b : Option (List ℕ)) (bytes : List ℕ) → Consumes a b bytes → length bytes ≡ n → IfSome a (λ all. bytes ≡ take n all)
@@ -21,9 +21,9 @@ taken_all n (Some xs) (Some ys) bytes taken end short =
     let whole : xs ≡ bytes = taken ∙ ap (λ zs. bytes ++ zs) end ∙ append-nil bytes in
     rw whole (sym (take_all n bytes short))
 
-pub taken_end : (n : ℕ) (a b c : Option (List ℕ)) (old new : List ℕ) → Consumes a b old → TakesPiece b c old new 0 → IsAtEnd c → length old ≤ n
+pub taken_end : (n : ℕ) (a b c : Option (List ℕ)) (g h old new : List ℕ) → Consumes a b old → TakesPiece g h b c old new 0 → IsAtEnd c → length old ≤ n
     → IfSome a (λ all. new ≡ take n all)
-taken_end n a b c old new taken last end short =
+taken_end n a b c g h old new taken last end short =
     let nothing : last.piece ≡ [] = nil_from_length last.piece last.counted in
     let same : new ≡ old = last.appended ∙ ap (λ zs. old ++ zs) nothing ∙ append-nil old in
     let taken_then : Consumes a c (old ++ last.piece) = Consumes-trans a b c old last.piece taken last.consumed in
@@ -34,3 +34,13 @@ taken_end n a b c old new taken last end short =
 pub takes_more : (n most : ℕ) (a b c : Option (List ℕ)) (taken : List ℕ) → Consumes a b taken → TakesAtMost n b c → length taken + n ≤ most → TakesAtMost most a c
 takes_more n most a b c taken first more fits =
     (taken ++ more.0, Consumes-trans a b c taken more.0 first more.1, omega (arith, more.2, fits, length-append taken more.0))
+
+-- what was given so far, with the piece that came last
+pub gave_piece : (first mid last old new : List ℕ) (b c : Option (List ℕ)) (count : ℕ) → mid ≡ first ++ old → TakesPiece mid last b c old new count → last ≡ first ++ new
+gave_piece first mid last old new b c count is took =
+    took.gave ∙ ap (λ bytes. bytes ++ took.piece) is ∙ append_assoc first old took.piece ∙ ap (λ bytes. first ++ bytes) (sym took.appended)
+
+-- what was given so far, and then at most so much more
+pub gives_more : (n most : ℕ) (first mid last old : List ℕ) → mid ≡ first ++ old → GivesAtMost n mid last → length old + n ≤ most → GivesAtMost most first last
+gives_more n most first mid last old is (piece, gave, few) fits =
+    (old ++ piece, gave ∙ ap (λ bytes. bytes ++ piece) is ∙ append_assoc first old piece, omega (arith, few, fits, length-append old piece))

@@ -1,5 +1,5 @@
 -- How a script comes from a reader.
-use Rattle.std.specs.Prelude.{◌≡◌, ℕ, ◌<◌, ◌≤◌, List, ◌++◌, length, Option}
+use Rattle.std.specs.Prelude.{◌≡◌, ℕ, ◌<◌, ◌≤◌, List, ◌++◌, length, drop, Option}
 use Rattle.std.specs.Io.KnownBytes.{Consumes}
 use Rattle.mc_driver.specs.declared.fault.RunFault.{RunFault}
 use Rattle.mc_driver.specs.declared.fault.RunFault.TheVariants.{Config, Script, TooLong, Read, Write, Memory, Turns}
@@ -14,12 +14,21 @@ IsReadFault old new TooLong = ⊥
 IsReadFault old new Write = ⊥
 IsReadFault old new Turns = ⊥
 
--- so many bytes went from what was left to the end of what was read
-pub record TakesPiece (left_old left_new : Option (List ℕ)) (old new : List ℕ) (count : ℕ) : Type 0 where
+-- so many bytes, which the reader gave, went from what was left to the end of what was read
+pub record TakesPiece (given_old given_new : List ℕ) (left_old left_new : Option (List ℕ)) (old new : List ℕ) (count : ℕ) : Type 0 where
   pub piece : List ℕ
-  pub appended : new ≡ old ++ piece
+  pub gave : given_new ≡ given_old ++ piece
   pub consumed : Consumes left_old left_new piece
+  pub appended : new ≡ old ++ piece
   pub counted : length piece ≡ count
+
+-- what is behind the bytes of before
+abbrev pub since : List ℕ → List ℕ → List ℕ
+since old new = drop (length old) new
+
+-- at most so many bytes were given
+abbrev pub GivesAtMost : ℕ → List ℕ → List ℕ → Type 0
+GivesAtMost most old new = (piece : List ℕ) × (new ≡ old ++ piece) × (length piece ≤ most)
 
 -- at most so many bytes were taken from what was left
 abbrev pub TakesAtMost : ℕ → Option (List ℕ) → Option (List ℕ) → Type 0

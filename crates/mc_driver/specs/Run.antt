@@ -129,3 +129,16 @@ IsOutcome run bytes old new (Err Read) = Keeps old new
 IsOutcome run bytes old new (Err Memory) = Keeps old new ⊎ OfMachine run (λ machine. IsScriptOutcome bytes machine old new (Err Memory))
 -- the machine's run ended so
 IsOutcome run bytes old new result = OfMachine run (λ machine. IsScriptOutcome bytes machine old new result)
+
+-- A script that was answered to was read to its end: where this is that the reader ended, and that nothing was written.
+abbrev pub IsReadWhole : Type 0 → Type 0 → Result (Unit {0}) RunFault → Type 0
+IsReadWhole Ended Kept (Ok unit) = Ended
+IsReadWhole Ended Kept (Err Turns) = Ended
+IsReadWhole Ended Kept (Err Write) = Ended
+IsReadWhole Ended Kept (Err (Script number)) = Ended
+-- memory ran out at a command, or before there was one
+IsReadWhole Ended Kept (Err Memory) = Kept ⊎ Ended
+-- nothing was answered
+IsReadWhole Ended Kept (Err (Refused number)) = Kept
+IsReadWhole Ended Kept (Err TooLong) = Kept
+IsReadWhole Ended Kept (Err Read) = Kept

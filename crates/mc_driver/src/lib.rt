@@ -2,7 +2,7 @@
 //!
 //! [`run_serial`] does a script's commands on one thread. Its contract says that what it writes is what a plain
 //! machine over lists answers. [`options`] reads the command line, and [`Input`] and [`Output`] are the
-//! standard streams as a run takes them.
+//! standard streams as a run takes them. A [`RecordedWriter`] tells what was written to a stream.
 #![tactic(auto)]
 
 mod fault;
@@ -11,5 +11,5 @@ mod run;
 
 pub use fault::RunFault;
 pub use mc_options::{Options, Run, options};
-pub use mc_streams::{Input, Output};
+pub use mc_streams::{Input, Output, RecordedWriter, Source};
 pub use run::run_serial;

@@ -1,21 +1,22 @@
 //! A serial run: one thread reads a script, does its commands in order, and writes each reply before the next command.
 ghost use Rattle.std.specs.Prelude.{◌≡◌, ◌<◌, ◌≤◌, ◌↔◌, ℕ, true, Some, Err, Ok, length, IfSome, IsSome, IfOk, OnOk, IfErr, All};
-ghost use Rattle.std.specs.Io.KnownBytes.{Appends};
+ghost use Rattle.std.specs.Io.KnownBytes.{Appends, Keeps};
 ghost use Rattle.mc_classes.specs.Refusals.{refusal_of};
 ghost use Rattle.mc_classes.specs.Classes.{IsSound};
 ghost use Rattle.mc_script.specs.Command.{IsValid};
 ghost use Rattle.mc_script.specs.Script.{script_of};
 ghost use Rattle.mc_machine.specs.Lines.{is_done, replies_to};
 ghost use Rattle.mc_machine.specs.Machine.{fresh_machine};
-ghost use Rattle.mc_driver.specs.Reading.{TakesAtMost};
-ghost use Rattle.mc_driver.specs.Run.{IsOutcome, IsScript, IsReplyFault, WroteReply, IsScriptFault, IsScriptOutcome, IsServeFault, config_fault, refusal_number};
+ghost use Rattle.mc_driver.specs.Reading.{GivesAtMost, TakesAtMost, since};
+ghost use Rattle.mc_driver.specs.Run.{IsOutcome, IsReadWhole, IsScript, IsReplyFault, WroteReply, IsScriptFault, IsScriptOutcome, IsServeFault, config_fault, refusal_number};
 
 use crate::fault::RunFault;
 use crate::reading::read_script;
-use mc_classes::{ClassTable, ConfigError, Sink, Source};
+use mc_classes::{ClassTable, ConfigError, Sink};
 use mc_keeper::Keeper;
 use mc_options::Run;
 use mc_script::{Command, MAX_SCRIPT, ScriptError};
+use mc_streams::Source;
 use std::alloc::{AllocError, Global};
 
 /// Reads a script and does its commands on one thread, in order. Each reply is written before the next command.
@@ -38,6 +39,7 @@ pub fn run_serial<R: Source, W: Sink>(
 
     // No more is read than shows that a script is too long.
     ensures most { TakesAtMost 1048577 (R.remaining reader.old) (R.remaining reader.new) }
+    ensures most_given { GivesAtMost 1048577 (R.given reader.old) (R.given reader.new) }
 
     // A failed read or write is told, exactly then.
     ensures read { (result ≡ Err RunFault.Read) ↔ (R.failures reader.old < R.failures reader.new) }
@@ -46,6 +48,10 @@ pub fn run_serial<R: Source, W: Sink>(
     // What is answered and written is what the plain machine says of the bytes.
     ensures outcome { IfSome (R.remaining reader.old) (λ bytes.
         IsOutcome run.now bytes (W.contents writer.old) (W.contents writer.new) result) }
+
+    // So it is of the bytes that the reader gave, which were all up to its end where a script was answered to.
+    ensures answered { IsOutcome run.now (since (R.given reader.old) (R.given reader.new)) (W.contents writer.old) (W.contents writer.new) result }
+    ensures whole { IsReadWhole (R.HasEnded reader.new) (Keeps (W.contents writer.old) (W.contents writer.new)) result }
 {
     let table = match ClassTable::build(alloc, &run.config) {
         Ok(table) => table,

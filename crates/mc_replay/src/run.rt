@@ -7,9 +7,10 @@ use crate::fault::RunFault;
 use crate::list::List;
 use crate::read::{Stage, read_all};
 use crate::write::answer;
-use mc_classes::{Sink, Source};
+use mc_classes::Sink;
 use mc_script::line::is_skipped;
 use mc_script::lines::Lines;
+use mc_streams::Source;
 use std::alloc::{AllocError, Global};
 
 /// Reads all lists and plays them, one after another. What a list answers is written before the next is played.

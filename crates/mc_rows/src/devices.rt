@@ -1,38 +1,48 @@
 //! A reader and a writer in memory, which fail where they are told to.
-use mc_classes::{Failures, Fault, Sink, Source};
+ghost use Rattle.std.specs.Prelude.{◌≤◌, length};
+
+use mc_classes::{Failures, Fault, Sink};
+use mc_streams::Source;
 use std::cmp;
 use std::sync::ledger::Ledger;
 
 /// Gives the bytes of a slice, at most `piece` in a read, and fails once `good` of them are gone.
 #[derive(Drop)]
 pub struct MemorySource<'a, L: Ledger> {
-    /// The bytes that are left.
-    pub rest: &'a [u8],
+    /// All bytes.
+    pub bytes: &'a [u8],
+    /// How many of them were given.
+    pub at: usize,
     /// The most bytes that a read gives.
     pub piece: usize,
     /// How many bytes are given before every read fails.
     pub good: usize,
     /// The failures so far.
     pub failures: Failures<L>,
+    pub ghost within: { at ≤ length bytes.now },
 }
 
 impl<L: Ledger> Source for MemorySource<'_, L> {
-    ghost use Rattle.std.specs.Prelude.{Some};
+    ghost use Rattle.std.specs.Prelude.{◌≤◌, drop, length, Some, take};
 
-    ghost remaining = { λ s. Some s.rest.now };
+    ghost given = { λ s. take s.at s.bytes.now };
+
+    ghost HasEnded = { λ s. length s.bytes.now ≤ s.at };
+
+    ghost remaining = { λ s. Some (drop s.at s.bytes.now) };
 
     ghost failures = { λ s. s.failures };
 
     fn read(&mut self, buf: &mut [u8]) -> Result<usize, Fault> {
-        let least = cmp::min(buf.len(), self.rest.len());
+        let rest = &self.bytes[self.at..];
+        let least = cmp::min(buf.len(), rest.len());
         if self.good == 0 || (self.piece == 0 && least > 0) {
             self.failures.add();
             return Err(Fault);
         }
         let count = cmp::min(least, cmp::min(self.piece, self.good));
-        let (bytes, rest) = self.rest.split_at(count);
-        buf[..count].copy_from_slice(bytes);
-        self.rest = rest;
+        buf[..count].copy_from_slice(&rest[..count]);
+        self.at += count;
         self.good -= count;
         Ok(count)
     }

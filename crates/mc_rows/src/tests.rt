@@ -117,7 +117,8 @@ fn play_counting<I: Ledger, O: Ledger>(
     requires writes_some { 0 < writes.parts }
 {
     let mut reader = MemorySource::<I> {
-        rest: script,
+        bytes: script,
+        at: 0,
         piece: limits.piece,
         good: limits.good_bytes,
         failures: Failures::new(reads),

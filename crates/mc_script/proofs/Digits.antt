@@ -1,34 +1,15 @@
--- Words of digits, as std's `parse` reads them.
-use Rattle.std.proofs.Common.{◌≡◌, ℕ, ◌^◌, ◌<◌, ◌≤◌, Bool, true, ◌&&◌, List, [], ◌∷◌, length, Some, None, Result, Ok, Err, refl, ap, sym, ◌∙◌, subst, arith, ⊎_elim}
-use Rattle.std.proofs.lemmas.Bool.{and_parts, and_from, cases_lt, false_from_ne_true, le-leb, leb-true, lt-ltb, ltb-true, cond-true, cond-false}
-use Rattle.std.proofs.lemmas.List.{get_or_past}
-use Rattle.std.proofs.lemmas.Option.{same_Some}
-use Rattle.std.proofs.lemmas.Str.{IsUtf8-from_ascii}
-use Rattle.std.proofs.lemmas.Str.Parse.{IsNumeralModel, numerals_by_value, tells_all_ascii_digits, digit_at, parse_digits}
-use Rattle.std.specs.Char.{is_ascii_digit}
-use Rattle.std.specs.List.{list_all}
-use Rattle.std.specs.Result.{result_ok, MatchResult, OkIff}
-use Rattle.std.specs.Str.{IsUtf8, all_ascii_digits}
-use Rattle.std.specs.Str.Parse.{ParsesUnsigned, digits_value}
+-- Words of digits and their numbers.
+use Rattle.std.proofs.Common.{◌≡◌, ℕ, ◌+◌, ◌-◌, ◌*◌, ◌^◌, ◌<◌, ◌≤◌, true, ◌&&◌, if◌then◌else◌, nat_lt, List, [], ◌∷◌, length, Option, Some, None, ap, sym, ◌∙◌, arith}
+use Rattle.std.proofs.lemmas.Bool.{and_parts, and_from, false_from_ne_true, le-leb, leb-true, lt-ltb, ltb-true, cond-true, cond-false}
+use Rattle.std.proofs.lemmas.Str.Parse.{IsNumeralModel, numerals_by_value, tells_all_ascii_digits}
+use Rattle.std.specs.Char.{digit_value, is_ascii_digit}
+use Rattle.std.specs.Str.{all_ascii_digits}
+use Rattle.std.specs.Str.Parse.{digits_value, digits_value_after}
 use Rattle.mc_script.specs.Words.{is_number, number_of}
-
--- the two words for "each byte is a digit" are one
-pub list_all_digits : (word : List ℕ) → list_all is_ascii_digit word ≡ all_ascii_digits word
-list_all_digits [] = refl
-list_all_digits (byte ∷ word) = ap (λ (b : Bool). is_ascii_digit byte && b) (list_all_digits word)
 
 -- the definitions are those that std's lemmas are about
 pub own : IsNumeralModel (λ ds. all_ascii_digits ds ≡ true) (digits_value 10)
 own = numerals_by_value _ tells_all_ascii_digits
-
--- digits are text
-pub digits_are_text : (word : List ℕ) → all_ascii_digits word ≡ true → IsUtf8 word
-digits_are_text word digits =
-    IsUtf8-from_ascii word (λ i.
-    ⊎_elim
-    (λ (lt : i < length word). let within = digit_at word i (own.to word digits) lt in omega (arith, within.1))
-    (λ (le : length word ≤ i). omega (arith, get_or_past word i 0 le))
-    (cases_lt i (length word)))
 
 -- what makes a number
 pub number_parts : (word : List ℕ) → is_number word ≡ true → (1 ≤ length word) × (length word ≤ 20) × (all_ascii_digits word ≡ true) × (digits_value 10 word < 2 ^ 64)
@@ -46,21 +27,36 @@ number_from_parts word some few digits fits = and_from _ _ (and_from _ _ (and_fr
 pub no_number : (word : List ℕ) → (is_number word ≡ true → ⊥) → None ≡ number_of word
 no_number word h = sym (cond-false _ _ _ (false_from_ne_true _ h))
 
--- an `Ok` is the number, and an `Err` says that there is none
-from_result : {E : Type 0} (word : List ℕ) (r : Result ℕ E) → OkIff r ((0 < length word) × (digits_value 10 word < 2 ^ 64)) (digits_value 10 word) → length word ≤ 20 → all_ascii_digits word ≡ true → result_ok r ≡ number_of word
-from_result word (Ok value) h few digits = ap Some h.1 ∙ sym (cond-true _ _ _ (number_from_parts word (omega (arith, h.0.0)) few digits h.0.1))
-from_result word (Err e) h few digits = no_number word (λ is. let parts = number_parts word is in h (omega (arith, parts.0), parts.3))
+-- a number only grows by more digits
+value_grows : (n : ℕ) (digits : List ℕ) → n ≤ digits_value_after 10 n digits
+value_grows n [] = omega arith
+value_grows n (c ∷ digits) = let more = value_grows (n * 10 + digit_value c) digits in omega arith
 
--- what `parse` reads
-pub number_from_parse : {E : Type 0} (word : List ℕ) (r : Result ℕ E) → ParsesUnsigned 64 10 word r → length word ≤ 20 → all_ascii_digits word ≡ true → result_ok r ≡ number_of word
-number_from_parse word r h few digits = from_result word r (parse_digits own 64 word r h digits) few digits
+-- what a digit stands for
+value_of_digit : (c : ℕ) → is_ascii_digit c ≡ true → digit_value c ≡ c - 48
+value_of_digit c h = grind arith
 
--- digits are text, so this is no error
-pub never_fails : {A E : Type 0} (r : Result A E) (word : List ℕ) (P : A → Type 0) (Q : E → Type 0) → MatchResult r P (λ e. ¬ (IsUtf8 word) × Q e) → all_ascii_digits word ≡ true → result_ok r ≡ None → ⊥
-never_fails (Ok text) word P Q h digits none = absurd (cc)
-never_fails (Err e) word P Q h digits none = h.0 (digits_are_text word digits)
+-- a number and one digit more, where it isn't too great
+abbrev pub with_digit : ℕ → ℕ → Option ℕ
+with_digit value c = if is_ascii_digit c && nat_lt (value * 10 + (c - 48)) (2 ^ 64) then Some (value * 10 + (c - 48)) else None
 
--- what is told of the text
-pub text_is : {A E : Type 0} (r : Result A E) (P : A → Type 0) (Q : E → Type 0) (text : A) → MatchResult r P Q → result_ok r ≡ Some text → P text
-text_is (Ok found) P Q text h some = subst P (same_Some found text some) h
-text_is (Err e) P Q text h some = absurd (cc)
+-- a byte that is no digit, or makes it too great: the word is no number
+pub stops_there : (value c : ℕ) (rest word : List ℕ) → None ≡ with_digit value c → all_ascii_digits (c ∷ rest) ≡ all_ascii_digits word
+    → digits_value_after 10 value (c ∷ rest) ≡ digits_value 10 word → None ≡ number_of word
+stops_there value c rest word none digits told =
+    no_number word (λ is.
+    let parts = number_parts word is in
+    let is_digit : is_ascii_digit c ≡ true = (and_parts _ _ (digits ∙ parts.2)).0 in
+    let grows = value_grows (value * 10 + digit_value c) rest in
+    let same = value_of_digit c is_digit in
+    let below : value * 10 + (c - 48) < 2 ^ 64 = omega (arith, parts.3) in
+    let some = none ∙ cond-true _ (Some (value * 10 + (c - 48))) None (and_from _ _ is_digit (lt-ltb _ _ below)) in
+    cc)
+
+-- all bytes are read
+pub all_read : (value : ℕ) (rest word : List ℕ) → rest ≡ [] → 0 < length word → length word ≤ 20 → value < 2 ^ 64 → all_ascii_digits rest ≡ all_ascii_digits word
+    → digits_value_after 10 value rest ≡ digits_value 10 word → Some value ≡ number_of word
+all_read value rest word none some few fits digits told =
+    let is : value ≡ digits_value 10 word = sym (ap (digits_value_after 10 value) none) ∙ told in
+    ap Some is
+    ∙ sym (cond-true _ _ _ (number_from_parts word (omega arith) few (sym digits ∙ ap all_ascii_digits none) (omega arith)))

@@ -1,47 +1,73 @@
 //! Standard streams as the readers and writers of a run.
-ghost use Rattle.std.specs.Prelude.{◌≡◌, ◌≤◌, ◌+◌, ◌++◌, [], true, false, drop, length, take, IfOk, IsErr, OnErr, OnOk, vec_capacity, vec_len};
-ghost use Rattle.std.specs.Io.KnownBytes.{Appends, Keeps, append_known};
+ghost use Rattle.std.specs.Prelude.{◌≡◌, ◌<◌, ◌≤◌, ◌+◌, ◌-◌, ◌^◌, ◌⊎◌, ◌++◌, [], true, false, drop, length, take, IfOk, IsErr, OnErr, OnOk, vec_capacity, vec_len};
+ghost use Rattle.std.specs.Io.KnownBytes.{Appends, Consumes, IsAtEnd, Keeps, append_known};
 ghost use Rattle.mc_classes.specs.Device.{Extends};
 
-use mc_classes::{Failures, Fault, Sink, Source};
+use crate::recorded::{RecordedReader, is_interrupted};
+use crate::source::Source;
+use mc_classes::{Failures, Fault, Sink};
 use std::alloc::{AllocError, Global};
-use std::io::{ErrorKind, Read, Write};
+use std::io::{Read, Write};
 use std::sync::ledger::Ledger;
 
 /// How many bytes are held back before they are written.
 const ROOM: usize = 8192;
 
-/// A reader. A read that a signal interrupts is tried again.
+/// A reader. A read that a signal interrupts is tried again, and one that fails otherwise is not.
 #[derive(Drop)]
 pub struct Input<R: Read, L: Ledger> {
-    reader: R,
+    reader: RecordedReader<R>,
     failed_reads: Failures<L>,
 }
 
 impl<R: Read, L: Ledger> Input<R, L> {
     /// Reads from `reader`, and counts on from `failed_reads`.
     pub fn new(reader: R, failed_reads: Failures<L>) -> Input<R, L>
-        ensures reader { result.reader ≡ reader }
+        ensures reader { result.reader.inner ≡ reader }
+        ensures given { result.reader.given.bytes ≡ [] }
+        ensures ends { result.reader.ends.total ≡ 0 }
         ensures failures { result.failed_reads ≡ failed_reads }
     {
         Input {
-            reader,
+            reader: RecordedReader::new(reader),
             failed_reads,
         }
     }
 }
 
 impl<R: Read, L: Ledger> Source for Input<R, L> {
-    ghost remaining = { λ s. R.remaining s.reader };
+    ghost given = { λ s. s.reader.given.bytes };
+
+    ghost HasEnded = { λ s. 0 < s.reader.ends.total };
+
+    ghost remaining = { λ s. R.remaining s.reader.inner };
 
     ghost failures = { λ s. s.failed_reads };
 
-    fn read(&mut self, buf: &mut [u8]) -> Result<usize, Fault> {
-        for _ in 0..u64::MAX {
+    fn read(&mut self, buf: &mut [u8]) -> Result<usize, Fault>
+        ensures within { IfOk result (λ n. n ≤ length buf.new) }
+        ensures gave { IfOk result (λ n. self.new.reader.given.bytes ≡ self.old.reader.given.bytes ++ take n buf.new) }
+        ensures ended { result ≡ Ok 0 → 0 < length buf.new → 0 < self.new.reader.ends.total }
+        ensures bytes { IfOk result (λ n. Consumes (R.remaining self.old.reader.inner) (R.remaining self.new.reader.inner) (take n buf.new)) }
+        ensures end { result ≡ Ok 0 → 0 < length buf.new → IsAtEnd (R.remaining self.new.reader.inner) }
+        ensures ok { OnOk result (self.new.failed_reads ≡ self.old.failed_reads) }
+        ensures err { OnErr result (self.new.failed_reads ≡ self.old.failed_reads + 1) }
+        ensures none { OnErr result (self.new.reader.given.bytes ≡ self.old.reader.given.bytes) }
+        ensures kept { OnErr result (Keeps (R.remaining self.old.reader.inner) (R.remaining self.new.reader.inner)) }
+
+        // What came before the answer were interruptions alone.
+        ensures retried { OnOk result (self.new.reader.errors.total ≡ self.old.reader.errors.total) }
+
+        // A failure tells an error, the only one, or that all of 2^64 - 1 reads were interrupted.
+        ensures failed { OnErr result ((self.new.reader.errors.total ≡ self.old.reader.errors.total + 1)
+            ⊎ ((self.new.reader.errors.total ≡ self.old.reader.errors.total)
+            × (self.new.reader.interruptions.total ≡ self.old.reader.interruptions.total + (2 ^ 64 - 1)))) }
+    {
+        for _tries in 0..u64::MAX {
             match self.reader.read(buf) {
                 Ok(count) => return Ok(count),
                 Err(error) => {
-                    if error.kind() != ErrorKind::Interrupted {
+                    if !is_interrupted(&error) {
                         break;
                     }
                 }
@@ -182,7 +208,7 @@ fn write_out<W: Write>(writer: &mut W, bytes: &[u8]) -> usize
             Ok(0) => break,
             Ok(count) => written += count,
             Err(error) => {
-                if error.kind() != ErrorKind::Interrupted {
+                if !is_interrupted(&error) {
                     break;
                 }
             }

@@ -9,7 +9,9 @@ ghost use Rattle.std.specs.Prelude.{◌≡◌, ◌<◌, ◌≤◌, IfOk};
 ghost use Rattle.mc_driver.specs.Status.{status_of};
 
 use mc_classes::{Failures, Fault};
-use mc_driver::{Input as Standard, Options, Output, Run, RunFault, options, run_serial};
+use mc_driver::{
+    Input as Standard, Options, Output, RecordedWriter, Run, RunFault, options, run_serial,
+};
 use std::env;
 use std::env::Env;
 use std::io::{self, ErrorKind};
@@ -81,7 +83,8 @@ fn serve<R: Input + Print + AllocGlobal, I: Ledger, O: Ledger>(
     requires writes_some { 0 < writes.parts }
 {
     let mut input = Standard::new(rt.reader(), Failures::<I>::new(reads));
-    let mut output = Output::new(rt.alloc(), io::writer(rt), Failures::<O>::new(writes))?;
+    let writer = RecordedWriter::new(io::writer(rt));
+    let mut output = Output::new(rt.alloc(), writer, Failures::<O>::new(writes))?;
     let done = run_serial(rt.alloc(), run, &mut input, &mut output);
     match output.finish() {
         Ok(_) => done,

@@ -2,7 +2,7 @@
 ghost use Rattle.std.specs.Prelude.{◌≡◌, IfOk, vec_len};
 
 use crate::fault::RunFault;
-use mc_classes::Source;
+use mc_streams::Source;
 use std::alloc::{AllocError, Global};
 
 /// How many bytes are asked for at a time.

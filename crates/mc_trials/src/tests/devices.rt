@@ -1,8 +1,9 @@
 //! Devices that meet the contracts: two that tell their bytes, and two that fail.
-ghost use Rattle.std.specs.Prelude.{◌≡◌, ◌<◌};
+ghost use Rattle.std.specs.Prelude.{◌≡◌, ◌<◌, ◌≤◌, length};
 
 use super::{assert_equal, assert_same};
-use mc_classes::{Failures, Fault, Sink, Source};
+use mc_classes::{Failures, Fault, Sink};
+use mc_streams::Source;
 use std::alloc::Global;
 use std::marker::Brand;
 use std::process::Abort;
@@ -13,21 +14,27 @@ use std::{cmp, mem};
 /// Reads from a slice, and never fails.
 #[derive(Drop)]
 struct SliceSource<'a> {
-    rest: &'a [u8],
+    bytes: &'a [u8],
+    at: usize,
+    ghost within: { at ≤ length bytes.now },
 }
 
 impl Source for SliceSource<'_> {
-    ghost use Rattle.std.specs.Prelude.{Some};
+    ghost use Rattle.std.specs.Prelude.{◌≤◌, drop, length, Some, take};
 
-    ghost remaining = { λ s. Some s.rest.now };
+    ghost given = { λ s. take s.at s.bytes.now };
+
+    ghost HasEnded = { λ s. length s.bytes.now ≤ s.at };
+
+    ghost remaining = { λ s. Some (drop s.at s.bytes.now) };
 
     ghost failures = { λ _. 0 };
 
     fn read(&mut self, buf: &mut [u8]) -> Result<usize, Fault> {
-        let count = cmp::min(buf.len(), self.rest.len());
-        let (bytes, rest) = self.rest.split_at(count);
-        buf[..count].copy_from_slice(bytes);
-        self.rest = rest;
+        let rest = &self.bytes[self.at..];
+        let count = cmp::min(buf.len(), rest.len());
+        buf[..count].copy_from_slice(&rest[..count]);
+        self.at += count;
         Ok(count)
     }
 }
@@ -39,7 +46,11 @@ struct BrokenSource<L: Ledger> {
 }
 
 impl<L: Ledger> Source for BrokenSource<L> {
-    ghost use Rattle.std.specs.Prelude.{None};
+    ghost use Rattle.std.specs.Prelude.{[], None};
+
+    ghost given = { λ _. [] };
+
+    ghost HasEnded = { λ _. ⊥ };
 
     ghost remaining = { λ _. None };
 
@@ -102,7 +113,8 @@ fn copies<L: Ledger>(rt: &impl Abort, alloc: Global, blank: Blank) -> Result<(),
         failures: Failures::new(blank),
     };
     let mut source = SliceSource {
-        rest: b"0123456789",
+        bytes: b"0123456789",
+        at: 0,
     };
     copy(&mut source, &mut sink, 10)?;
     assert_same(

@@ -2,8 +2,8 @@
 ghost use Rattle.std.specs.Prelude.{◌≡◌, ◌<◌};
 
 use super::{assert_equal, assert_same};
-use mc_classes::{Failures, Fault, Sink, Source};
-use mc_streams::{Input, Output};
+use mc_classes::{Failures, Fault, Sink};
+use mc_streams::{Input, Output, RecordedWriter, Source};
 use std::alloc::Global;
 use std::cell::Cell;
 use std::cmp;
@@ -112,7 +112,8 @@ fn written<L: Ledger>(
         taken: &taken,
         calls: &calls,
     };
-    let mut output = Output::<Narrow<'_>, L>::new(alloc, writer, Failures::new(blank))?;
+    let writer = RecordedWriter::new(writer);
+    let mut output = Output::<_, L>::new(alloc, writer, Failures::new(blank))?;
     let went = pieces.map(|piece| output.write_all(&bytes[..cmp::min(piece, 20_000)]).is_ok());
     let finished = output.finish().is_ok();
     Ok((went, finished, taken.get(), calls.get()))

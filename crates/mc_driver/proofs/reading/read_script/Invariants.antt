@@ -1,4 +1,4 @@
-use Rattle.std.proofs.Common.{◌≡◌, ◌-◌, ◌≤◌, vec_len}
+use Rattle.std.proofs.Common.{◌≡◌, ◌-◌, ◌≤◌, ◌++◌, vec_len}
 use Rattle.std.specs.Io.KnownBytes.{Consumes}
 use Rattle.mc_driver.proofs.reading.read_script.Given as goal
 
@@ -6,6 +6,7 @@ use Rattle.mc_driver.proofs.reading.read_script.Given as goal
 abbrev pub invariant-loop-bytes : goal.invariant-loop-bytes
 invariant-loop-bytes g l = record {
   taken : Consumes (g.R.Source.remaining l.initial.reader) (g.R.Source.remaining l.reader) l.bytes.items;
+  given : g.R.Source.given l.reader ≡ g.R.Source.given l.initial.reader ++ l.bytes.items;
   most : vec_len l.bytes ≤ 1048577;
   quiet : g.R.Source.failures l.reader ≡ g.R.Source.failures l.initial.reader;
   piece : vec_len l.piece ≡ 65536;

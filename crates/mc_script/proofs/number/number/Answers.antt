@@ -1,15 +1,21 @@
-use Rattle.std.proofs.Common.{◌≡◌, true, sym, ◌∙◌, arith, rules}
+use Rattle.std.proofs.Common.{suc, sym, ◌∙◌, ap, drop, get_or, arith}
+use Rattle.std.proofs.Math.ListN.{drop_of_length-le}
+use Rattle.std.proofs.Math.Seq.{drop-cons}
 use Rattle.std.specs.Str.{all_ascii_digits}
-use Rattle.mc_script.proofs.Digits.{never_fails, number_from_parse, text_is}
+use Rattle.std.specs.Str.Parse.{digits_value_after}
+use Rattle.mc_script.proofs.Digits.{stops_there, all_read}
 use Rattle.mc_script.proofs.number.number.Goals as goal
 
-pub returns-in_err-ok : goal.returns-in_err-ok
-returns-in_err-ok c =
-    let digits : all_ascii_digits c.args.word.now ≡ true = search rules in
-    absurd (never_fails c.from_utf8.result c.args.word.now _ _ c.from_utf8.ensures.cases digits (sym c.ok.ensures.value ∙ c.in_err-ok.was))
+pub returns-in_err-value : goal.returns-in_err-value
+returns-in_err-value c =
+    let i = c.loop-byte.byte-index in
+    let word = c.args.word.now in
+    let front = drop-cons word i 0 c.loop-byte-test.true in
+    c.from_residual.ensures
+    ∙ stops_there c.loop-byte.value (get_or word i 0) (drop (suc i) word) word (sym c.in_err-value.was ∙ c.with_digit.ensures)
+    (ap all_ascii_digits (sym front) ∙ c.loop-byte.invariant.digits) (ap (digits_value_after 10 c.loop-byte.value) (sym front) ∙ c.loop-byte.invariant.told)
 
 pub returns : goal.returns
 returns c =
-    let digits : all_ascii_digits c.args.word.now ≡ true = search rules in
-    let same = (text_is c.from_utf8.result _ _ c.in_ok-ok.field-0 c.from_utf8.ensures.cases (sym c.ok.ensures.value ∙ c.in_ok-ok.was)).0 in
-    c.ok-2.ensures.value ∙ number_from_parse c.args.word.now c.parse.result (rw same at c.parse.ensures.value.0) (omega arith) digits
+    all_read c.loop-byte.value (drop c.loop-byte.byte-index c.args.word.now) c.args.word.now (drop_of_length-le c.args.word.now (omega arith))
+    (grind arith) (omega arith) c.loop-byte.invariant.fits c.loop-byte.invariant.digits c.loop-byte.invariant.told

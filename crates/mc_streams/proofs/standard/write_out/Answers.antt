@@ -3,7 +3,7 @@ use lib.Seq.{take-add, take-take}
 use Rattle.std.specs.Io.KnownBytes.{Appends}
 use Rattle.std.proofs.KnownBytes.{Appends-trans, Appends-kept}
 use Rattle.mc_streams.proofs.standard.write_out.Goals as goal
-use Rattle.mc_streams.proofs.standard.write_out.Goals.{in-Ok, in-Err+else-ne}
+use Rattle.mc_streams.proofs.standard.write_out.Goals.{in-Ok, in-Err+else-not-is_interrupted}
 
 -- what the write took follows what was written before, and a write that failed took nothing
 pub loop-preserved : goal.loop-preserved
@@ -21,7 +21,7 @@ loop-preserved g c =
             within = omega arith;
             bytes = subst (Appends _ _) joined (Appends-trans _ _ _ _ _ before.bytes w.in-Ok.ensures.bytes);
           })
-      | in-Err+else-ne w ↦ rw w.written-is (record {
+      | in-Err+else-not-is_interrupted w ↦ rw w.written-is (record {
         within = before.within;
         bytes = Appends-kept _ _ _ _ before.bytes w.in-Err.ensures.bytes;
       })
