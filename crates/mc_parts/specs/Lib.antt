@@ -1,3 +1,4 @@
 pub mod HoldsKept
 pub mod ItemsByPlace
 pub mod CountsByPlace
+pub mod Leads

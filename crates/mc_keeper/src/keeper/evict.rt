@@ -68,7 +68,7 @@ impl Keeper {
         self.slabs.back(chunk);
         self.slabs.evicted(class);
         if let Some(item) = self.items.remove(chunk) {
-            self.index.remove(&item.key());
+            self.index.remove(item.key());
         }
     }
 }

@@ -17,11 +17,7 @@ impl Keeper {
         if self.holds.is_full(worker) {
             return push_key_line(text, b"TOO_MANY_REFS", key);
         }
-        match self
-            .index
-            .get(&key)
-            .and_then(|chunk| self.items.get(*chunk))
-        {
+        match self.index.get(key).and_then(|chunk| self.items.get(chunk)) {
             Some(item) => push_words_line(text, b"VALUE", key, item.words()),
             None => push_key_line(text, b"NOT_FOUND", key),
         }
@@ -41,7 +37,7 @@ impl Keeper {
         if self.holds.is_full(worker) {
             return push_key_line(text, b"TOO_MANY_REFS", key);
         }
-        match self.index.get(&key).copied() {
+        match self.index.get(key) {
             Some(chunk) => {
                 self.holds.take(worker, chunk)?;
                 push_key_line(text, b"HELD", key)
@@ -89,7 +85,7 @@ impl Keeper {
         ensures reply { OnOk result (text.new.items ≡ text.old.items ++ (made_youngest self.old key (linked_chunk self.old.items key)).reply) }
         ensures after { OnOk result (self.new ≡ (made_youngest self.old key (linked_chunk self.old.items key)).machine) }
     {
-        match self.index.get(&key).copied() {
+        match self.index.get(key) {
             Some(chunk) => {
                 self.slabs.touch(chunk);
                 push_key_line(text, b"TOUCHED", key)

@@ -49,7 +49,7 @@ impl Keeper {
         ensures was { result ≡ is_some (linked_chunk self.old.items key) }
         ensures unlinked { self.new ≡ record self.old { items = unlinked_items self.old.items key } }
     {
-        match self.index.remove(&key) {
+        match self.index.remove(key) {
             Some(chunk) => {
                 self.items.unlink(chunk);
                 count_unheld(

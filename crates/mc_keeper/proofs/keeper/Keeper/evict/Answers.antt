@@ -28,7 +28,7 @@ invariant_of-self c =
       kept = rw (c.evicted.ensures.evicted, c.back.ensures.back, c.remove.ensures.entries)
           (kept_evict _ _ _ _ _ c.args.class c.args.chunk c.in-Some.item c.self.invariant.kept
           (rw c.back.ensures.back at c.back.ensures.accounted) (rw (c.evicted.ensures.evicted, c.back.ensures.back) at c.evicted.ensures.accounted)
-          at linked (rw c.key.ensures at c.remove-in-Some.ensures.updates.0));
+          at linked (rw c.key.ensures at c.remove-in-Some.ensures.led));
       watched = rw (c.evicted.ensures.evicted, c.back.ensures.back) (watched-evicted (after_back c.self.inside.slabs.state c.args.chunk) c.args.class _ (valid.0, rw (length-set c.self.inside.slabs.state.classes _ _) valid.1)
           (watched-back c.self.inside.slabs.state _ c.self.invariant.watched c.args.chunk));
       counted = rw (c.evicted.ensures.evicted, c.back.ensures.back, c.remove.ensures.entries)

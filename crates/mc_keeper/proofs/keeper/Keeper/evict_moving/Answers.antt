@@ -28,7 +28,7 @@ invariant_of-self c =
             kept = rw c.remove.ensures.entries (kept_cleared _ _ _ _ _ c.args.chunk found.0 c.self.invariant.kept found.1
                 (rw cleared at c.clear.ensures.accounted)
                 (leads_gone _ _ _ _ _ c.args.chunk found.0 w.key.result c.self.invariant.kept found.1 found.2
-                (w.key.ensures ∙ sym (ap (λ (item : Item). item.key) same)) w.remove-in-Some.ensures.updates.0));
+                (w.key.ensures ∙ sym (ap (λ (item : Item). item.key) same)) w.remove-in-Some.ensures.led));
             watched = watched-clear c.self.inside.slabs.state _ c.self.invariant.watched c.args.chunk;
             counted = rw c.remove.ensures.entries (counted_gone _ _ _ _ _ _ c.args.chunk found.0 c.self.invariant.counted (length-set c.self.inside.slabs.state.classes _ _) found.1 found.2);
             bulk = c.self.invariant.bulk;

@@ -22,7 +22,7 @@ invariant_of-self-in-Ok c =
     record {
       kept = rw (c.in_ok-insert.ensures.entries, c.new.ensures, c.pop.ensures.popped)
           (kept_store _ _ _ _ _ c.args.class c.args.key c.args.words.items c.args.chunk c.self.invariant.kept valid head
-          (rw c.pop.ensures.popped at c.pop.ensures.accounted) unlinked c.in-Ok.ensures.updates.0);
+          (rw c.pop.ensures.popped at c.pop.ensures.accounted) unlinked c.in-Ok.ensures.led);
       watched = rw c.pop.ensures.popped (watched-pop c.self.inside.slabs.state _ c.self.invariant.watched c.args.class);
       counted = rw (c.in_ok-insert.ensures.entries, c.new.ensures, c.pop.ensures.popped)
           (counted_come _ _ _ _ _ _ c.args.chunk (new_item c.args.key c.args.words.items) c.self.invariant.counted (length-set c.self.inside.slabs.state.classes _ _)
@@ -38,7 +38,7 @@ invariant_of-self-in-Err c =
     let empty : item_at c.self.inside.items c.args.chunk ≡ None
     = (is_next _ _ _ _ c.args.class c.args.chunk c.self.invariant.kept valid head).empty in
     record {
-      kept = rw (c.in-Err.ensures.err, c.remove.ensures.entries, c.in_ok-insert.ensures.entries, without_item-with_item c.args.chunk _ _ empty) c.self.invariant.kept;
+      kept = rw (c.in-Err.ensures.unchanged, c.remove.ensures.entries, c.in_ok-insert.ensures.entries, without_item-with_item c.args.chunk _ _ empty) c.self.invariant.kept;
       watched = c.self.invariant.watched;
       counted = rw (c.remove.ensures.entries, c.in_ok-insert.ensures.entries, without_item-with_item c.args.chunk _ _ empty) c.self.invariant.counted;
       bulk = c.self.invariant.bulk;

@@ -41,7 +41,7 @@ invariant_of-self-in-Ok c =
     let slabs : c.clear.new.self.state ≡ after_clear (after_replace c.self.inside.slabs.state c.args.new c.args.old) c.args.old
     = c.clear.ensures.cleared ∙ ap (λ (s : SlabState). after_clear s c.args.old) c.replace.ensures.replaced in
     record {
-      kept = rw (slabs, c.lead_to.ensures, c.key-key.ensures, c.in-Ok.ensures.entries, c.remove.ensures.entries)
+      kept = rw (slabs, c.lead.ensures, c.key-key.ensures, c.in-Ok.ensures.entries, c.remove.ensures.entries)
           (kept_rescued _ _ _ _ c.args.old c.args.new c.in-Some.item c.self.invariant.kept (sym c.in-Some.ensures.value) linked free
           (rw slabs at c.clear.ensures.accounted));
       watched = rw slabs (watched-clear (after_replace c.self.inside.slabs.state c.args.new c.args.old) _
@@ -69,7 +69,7 @@ invariant_of-self-in-Err c =
       kept = rw (c.back.ensures.back, c.in-Err.ensures.unchanged, c.remove.ensures.entries) (kept_back _ _ _ _ _ c.args.old found.0 c.self.invariant.kept found.1
           (rw c.back.ensures.back at c.back.ensures.accounted)
           (leads_gone _ _ _ _ _ c.args.old found.0 c.key-key.result c.self.invariant.kept found.1 found.2
-          (c.key-key.ensures ∙ sym (ap (λ (item : Item). item.key) same)) c.remove-in-Err.ensures.updates.0));
+          (c.key-key.ensures ∙ sym (ap (λ (item : Item). item.key) same)) c.remove-in-Err.ensures.led));
       watched = rw c.back.ensures.back (watched-back c.self.inside.slabs.state _ c.self.invariant.watched c.args.old);
       counted = rw (c.back.ensures.back, c.in-Err.ensures.unchanged, c.remove.ensures.entries)
           (counted_gone _ _ _ _ _ _ c.args.old found.0 c.self.invariant.counted (length-set c.self.inside.slabs.state.classes _ _) found.1 found.2);
