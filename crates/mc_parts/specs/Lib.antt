@@ -2,3 +2,4 @@ pub mod HoldsKept
 pub mod ItemsByPlace
 pub mod CountsByPlace
 pub mod Leads
+pub mod ItemInPlace

@@ -1,5 +1,5 @@
 //! The mover: it looks at the chunks of the page on the move, and clears them.
-ghost use Rattle.std.specs.Prelude.{◌≡◌, ◌≢◌, ◌*◌, ◌<◌, ◌≤◌, nat_lt, true, false, IfOk, OnOk, Contains, Some, None, Ok, Err};
+ghost use Rattle.std.specs.Prelude.{◌≡◌, ◌≢◌, ◌*◌, ◌<◌, ◌≤◌, nat_lt, true, false, IfOk, OnOk, OnErr, Contains, Some, None, Ok, Err};
 ghost use Rattle.std.specs.Option.{option_map};
 ghost use Rattle.mc_pages.specs.SlabState.{IsClass, class_at, class_of_page, class_of_chunk};
 ghost use Rattle.mc_pages.specs.ClassState.{times};
@@ -227,26 +227,16 @@ impl Keeper {
         requires free { Contains (class_of_chunk self.old.slabs old).free new }
         requires off { new.page ≢ old.page }
         ensures rescued { OnOk result (self.new ≡ (with_saved self.old old (Some new)).machine) }
+        ensures refused { OnErr result (self.new ≡ self.old) }
         ensures clears { OnOk result (is_cleared self.new.slabs (class_of_page self.old.slabs old.page) old ≡ true) }
     {
-        let Some(item) = self.items.remove(old) else {
+        let Some(key) = self.items.relocate(old, new)? else {
             return Ok(());
         };
-        let key = item.key();
-        match self.items.insert(new, item) {
-            Ok(_) => {
-                self.index.lead(key, new);
-                self.slabs.replace(new, old);
-                self.slabs.clear(old);
-                Ok(())
-            }
-            Err(_) => {
-                // The item is lost with the run. What is left agrees: its chunk is free, and its key leads nowhere.
-                self.index.remove(key);
-                self.slabs.back(old);
-                Err(AllocError)
-            }
-        }
+        self.index.lead(key, new);
+        self.slabs.replace(new, old);
+        self.slabs.clear(old);
+        Ok(())
     }
 
     /// Evicts the chunk's item, and clears the chunk.
@@ -256,8 +246,8 @@ impl Keeper {
         ensures evicted { self.new ≡ (with_saved self.old chunk None).machine }
         ensures clears { is_cleared self.new.slabs (class_of_page self.old.slabs chunk.page) chunk ≡ true }
     {
-        if let Some(item) = self.items.remove(chunk) {
-            self.index.remove(item.key());
+        if let Some(key) = self.items.remove(chunk) {
+            self.index.remove(key);
         }
         self.slabs.clear(chunk);
     }
