@@ -42,15 +42,17 @@ impl KeyIndex {
         self.chunks.get(&key).copied()
     }
 
-    /// The key leads to this chunk now.
-    pub fn insert(&mut self, key: u64, chunk: ChunkId) -> Result<(), AllocError>
+    /// The key leads to this chunk now. Gives the chunk to which it led before.
+    pub fn insert(&mut self, key: u64, chunk: ChunkId) -> Result<Option<ChunkId>, AllocError>
+        ensures before { IfOk result (λ before. before ≡ chunk_of self.old key) }
         ensures led { OnOk result (IsLed self.old self.new key (Some chunk)) }
         ensures unchanged { OnErr result (self.new ≡ self.old) }
     {
-        match self.chunks.insert(key, chunk) {
-            Ok(_) => Ok(()),
-            Err(_) => Err(AllocError),
-        }
+        let before = match self.chunks.insert(key, chunk) {
+            Ok(before) => before,
+            Err(_) => return Err(AllocError),
+        };
+        Ok(before)
     }
 
     /// The key leads nowhere any more. Gives the chunk to which it led.

@@ -34,7 +34,6 @@ impl Keeper {
         let evicted = self.supply(class)?;
         match self.slabs.first_free(class) {
             Some(chunk) => {
-                self.unlink(key);
                 self.put(class, chunk, key, base, words)?;
                 if evicted && self.slabs.automove() == 2 {
                     self.ask_for_page(class)?;
@@ -66,8 +65,8 @@ impl Keeper {
         }
     }
 
-    /// Hands out the class's next free chunk and puts a new item into it, to which the key leads. A refusal changes
-    /// nothing.
+    /// Hands out the class's next free chunk and puts a new item into it, to which the key leads. The key's old item is
+    /// unlinked.
     fn put(
         &mut self,
         class: ClassId,
@@ -78,21 +77,30 @@ impl Keeper {
     ) -> Result<(), AllocError>
         requires class { IsClass self.old.slabs class }
         requires free { first_free (class_at self.old.slabs class) ≡ Some chunk }
-        requires unlinked { linked_chunk self.old.items key ≡ None }
         ensures put { OnOk result (self.new ≡ record self.old {
           slabs = after_pop self.old.slabs class;
-          items = with_item self.old.items chunk (new_item key (words_from base words));
+          items = with_item (unlinked_items self.old.items key) chunk (new_item key (words_from base words));
         }) }
     {
-        self.items.store(chunk, key, base, words)?;
-        match self.index.insert(key, chunk) {
-            Ok(_) => {
+        let before = self.index.insert(key, chunk)?;
+        if let Some(old) = before {
+            self.items.unlink(old);
+            count_unheld(
+                &mut self.dead,
+                &mut self.last_dead,
+                &self.holds,
+                &self.slabs,
+                old,
+            );
+        }
+        match self.items.store(chunk, key, base, words) {
+            Ok(()) => {
                 self.slabs.pop(class);
                 Ok(())
             }
-            Err(_) => {
-                self.items.remove(chunk);
-                Err(AllocError)
+            Err(error) => {
+                self.index.remove(key);
+                Err(error)
             }
         }
     }
