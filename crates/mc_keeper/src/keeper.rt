@@ -14,12 +14,11 @@ mod store;
 mod sweep;
 
 use mc_classes::ClassTable;
-use mc_pages::{ChunkId, Slabs};
-use mc_parts::{DeadCounts, Holds, ItemTable, LastDead};
+use mc_pages::Slabs;
+use mc_parts::{DeadCounts, Holds, ItemTable, KeyIndex, LastDead};
 use mc_watch::Decider;
 pub use serve::Stop;
 use std::alloc::{AllocError, Global};
-use std::collections::BTreeMap;
 use std::marker::Model;
 
 /// What a serial run stores: pages and chunks, the items in them, where each key leads, and who holds which chunk.
@@ -30,7 +29,7 @@ pub struct Keeper {
     /// How many chunks a turn of the mover looks at.
     bulk: u64,
     slabs: Slabs,
-    index: BTreeMap<u64, ChunkId>,
+    index: KeyIndex,
     items: ItemTable,
     holds: Holds,
     /// How many handed-out chunks of each class are dead, so that a sweep walks only where one is.
@@ -73,6 +72,7 @@ impl Keeper {
             Ok(decider) => decider,
             Err(_) => return Err(AllocError),
         };
+        let index = KeyIndex::new(alloc, most_items(&table))?;
         let holds = Holds::new(alloc)?;
         let dead = DeadCounts::new(alloc, table.count())?;
         let last_dead = LastDead::new(alloc, table.count())?;
@@ -81,7 +81,7 @@ impl Keeper {
             table,
             bulk,
             slabs,
-            index: BTreeMap::new(alloc),
+            index,
             items: ItemTable::new(alloc),
             holds,
             dead,
@@ -90,4 +90,9 @@ impl Keeper {
             decider,
         })
     }
+}
+
+/// The most items that there can be: no class has more chunks a page than the first.
+fn most_items(table: &ClassTable) -> usize {
+    (table.pages() * table.per_page(1)) as usize
 }

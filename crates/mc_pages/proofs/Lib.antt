@@ -3,6 +3,7 @@ pub mod Lists
 pub mod Runs
 pub mod RunChanges
 pub mod RowFields
+pub mod NumberedLinks
 pub mod Joined
 pub mod Linked
 pub mod ClassRows

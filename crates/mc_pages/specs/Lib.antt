@@ -1,5 +1,6 @@
 pub mod Ledger
 pub mod ClassState
+pub mod Links
 pub mod Rows
 pub mod RowsInside
 pub mod Linked

@@ -1,5 +1,5 @@
 -- The lists of all classes as rows, heads and tails, and what they mean.
-use Rattle.std.specs.Prelude.{ℕ, ◌+◌, ◌-◌, ◌*◌, ◌<◌, nat_lt, if◌then◌else◌, List, length, replicate, slice_index_or, slice_set, Option, None}
+use Rattle.std.specs.Prelude.{ℕ, ◌+◌, ◌-◌, ◌*◌, ◌<◌, nat_lt, if◌then◌else◌, List, length, replicate, slice_index_or, slice_set, Option, None, IfSome}
 use Rattle.mc_pages.specs.declared.ids.ChunkId.{ChunkId}
 use Rattle.mc_pages.specs.declared.rows.fields.Row.{Row}
 use Rattle.mc_pages.specs.declared.rows.ListName.{ListName}
@@ -104,9 +104,9 @@ abbrev pub with_change : RowsState → Change → RowsState
 with_change rows (change.Link field link) = with_field rows field link
 with_change rows (change.Mark chunk mark) = with_mark rows chunk mark
 
--- it is written into one of the rows
+-- it is written into one of the rows, and leads to none or to one of them
 abbrev pub IsChange : RowsState → Change → Type 0
-IsChange rows (change.Link field link) = IsField rows field
+IsChange rows (change.Link field link) = IsField rows field × IfSome link (IsRow rows)
 IsChange rows (change.Mark chunk mark) = IsRow rows chunk
 
 -- the length of a list is now this

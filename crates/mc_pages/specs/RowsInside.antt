@@ -14,6 +14,6 @@ rows_of rows = record {
   writes = rows.writes.total;
 }
 
--- a row's place is a number of the machine
+-- there are few rows, and few of a page
 abbrev pub HasSpace : Inside → Type 0
-HasSpace rows = vec_len rows.rows ≤ 16384
+HasSpace rows = (vec_len rows.rows ≤ 16384) × (rows.most ≤ 256)

@@ -5,6 +5,7 @@
 
 mod calls;
 mod fields;
+mod link;
 mod lists;
 
 use crate::ids::ChunkId;

@@ -12,7 +12,7 @@ use Rattle.mc_machine.specs.Holds.{held_by}
 -- a vector is replaced, and f says what each means
 module _ {A : Type 0} (f : A → List ChunkId) (vectors : List A) (worker : ℕ) (old new : A) (inside : worker < length vectors)
     (is : old ≡ get_or vectors worker old) where
-  held_now : f old ≡ held_by (map f vectors) worker
+  pub held_now : f old ≡ held_by (map f vectors) worker
   held_now = ap f is ∙ sym (get_or-map f vectors worker old [] inside)
 
   pub view_set : (change : List ChunkId → List ChunkId) → f new ≡ change (f old)

@@ -1,14 +1,15 @@
 -- Items by place: what is found, comes in and goes at a place is so in the list of all items.
 use Rattle.std.proofs.Common.{◌≡◌, ℕ, zero, suc, ◌+◌, ◌<◌, List, [], ◌∷◌, ◌++◌, length, Some, None, inl, inr, refl, ap, sym, ◌∙◌, arith, Option, slice_index_or, slice_set, Vec, Global}
-use Rattle.std.proofs.lemmas.Bool.{cases_Bool}
-use Rattle.std.proofs.lemmas.List.{map-append, map-set, get_or-map, get_or_default, get_or-set_same, length-map, length-set}
+use Rattle.std.proofs.lemmas.Bool.{cases_Bool, cases_eq}
+use Rattle.std.proofs.lemmas.List.{map-append, map-set, get_or-map, get_or_default, get_or-set_same, get_or-set_other, length-map, length-set, set-get_or}
 use Rattle.std.proofs.lemmas.Bool.Decides.{nat_tests}
 use Rattle.std.specs.declared.cmp.Ordering.TheVariants.{Less, Equal, Greater}
 use Rattle.std.specs.BTreeMap.{is_at}
 use Rattle.std.specs.Map.{set_value}
 use Rattle.mc_pages.specs.declared.ids.ChunkId.{ChunkId}
-use Rattle.mc_machine.specs.Item.{Item}
-use Rattle.mc_machine.specs.Items.{Items, chunk_cmp, item_at, with_item, without_item}
+use Rattle.std.specs.Option.{option_map}
+use Rattle.mc_machine.specs.Item.{Item, unlinked}
+use Rattle.mc_machine.specs.Items.{Items, chunk_cmp, item_at, unlinked_in, with_item, without_item}
 use Rattle.mc_parts.specs.ItemsByPlace.{chunk_at, items_in, items_from, places_of, AreAlike, HasPlace}
 
 -- ---- the order of chunks
@@ -177,6 +178,13 @@ set_from p (suc n) q j (places ∷ pages) old new is found =
     set_past q j p 0 places (items_from (p + 1) pages) new (omega (arith, is))
     ∙ ap (λ (later : Items). items_in p 0 places later) (set_from (p + 1) n q j pages old new (omega (arith, is)) found)
 
+gone_none : (chunk : ChunkId) (items : Items) → item_at items chunk ≡ None → without_item items chunk ≡ items
+gone_none chunk [] none = refl
+gone_none chunk (e ∷ items) none = elim (cases_Bool (is_at (chunk_cmp chunk) e.0)) [
+  | inl same ↦ let bad : Some e.1 ≡ None = rw same at none in cc
+  | inr other ↦ rw other (ap (λ (es : Items). e ∷ es) (gone_none chunk items (rw other at none)))
+]
+
 pub find_at : (pages : Pages) (c : ChunkId) → item_at (items_from 0 pages) c ≡ slice_index_or (row_of pages c.page) c.index None
 find_at pages c = find_from 0 c.page c.page c.index pages (omega arith)
 
@@ -256,6 +264,40 @@ module _ (pages : List (Vec (Option Item) Global)) (chunk : ChunkId) (row : Vec 
   value_there new old item found is =
       ap (items_from 0) (written new (Some item) is) ∙ sym (set_at (places_of pages) chunk old item (sym (find_at (places_of pages) chunk) ∙ found))
 
+  pub unlinked_there : (new : Vec (Option Item) Global) (x : Option Item) → item_at (items_from 0 (places_of pages)) chunk ≡ x
+      → new.items ≡ slice_set row.items chunk.index (option_map unlinked x)
+      → items_from 0 (places_of (slice_set pages chunk.page new)) ≡ unlinked_in (items_from 0 (places_of pages)) chunk x
+  unlinked_there new None found is = go_there new is ∙ gone_none chunk (items_from 0 (places_of pages)) found
+  unlinked_there new (Some item) found is = value_there new item (unlinked item) found is
+
+  -- what was there is written again: nothing changes
+  pub kept_there : (new : Vec (Option Item) Global) (x : Option Item) → x ≡ slice_index_or row.items chunk.index x → new.items ≡ slice_set row.items chunk.index x
+      → items_from 0 (places_of (slice_set pages chunk.page new)) ≡ items_from 0 (places_of pages)
+  kept_there new x read is =
+      let all = places_of pages in
+      let own = row_of all chunk.page in
+      let same : x ≡ slice_index_or own chunk.index None
+      = read ∙ get_or_default row.items chunk.index x None inside ∙ ap (λ (places : List (Option Item)). slice_index_or places chunk.index None) row_is in
+      ap (items_from 0)
+      (written new x is
+      ∙ ap (λ (y : Option Item). slice_set all chunk.page (slice_set own chunk.index y)) same
+      ∙ ap (λ (places : List (Option Item)). slice_set all chunk.page places) (set-get_or own chunk.index None)
+      ∙ set-get_or all chunk.page [])
+
+  -- another chunk still has its place after a write
+  pub still_there : (new : Vec (Option Item) Global) (x : Option Item) → new.items ≡ slice_set row.items chunk.index x
+      → (other : ChunkId) → HasPlace (places_of pages) other → HasPlace (places_of (slice_set pages chunk.page new)) other
+  still_there new x is other place = rw (written new x is) (record {
+    page = omega (arith, place.page, length-set (places_of pages) chunk.page (slice_set (row_of (places_of pages) chunk.page) chunk.index x));
+    index = elim (cases_eq other.page chunk.page) [
+      | inl here ↦
+          let at : other.index < length (row_of (places_of pages) chunk.page) = rw (← here) place.index in
+          rw (here, get_or-set_same (places_of pages) chunk.page (slice_set (row_of (places_of pages) chunk.page) chunk.index x) [] there.page)
+          (omega (arith, at, length-set (row_of (places_of pages) chunk.page) chunk.index x))
+      | inr apart ↦ rw (get_or-set_other (places_of pages) chunk.page other.page (slice_set (row_of (places_of pages) chunk.page) chunk.index x) [] apart) place.index
+    ];
+  })
+
 module _ (pages : List (Vec (Option Item) Global)) (page : ℕ) (new : Vec (Option Item) Global) (there : page < length pages) where
   -- what was written for a page is its row
   pub row_written : row_of (places_of (slice_set pages page new)) page ≡ new.items
@@ -290,13 +332,6 @@ page_pushed pages new empty =
 
 pub none_there : (pages : Pages) (chunk : ChunkId) → slice_index_or (row_of pages chunk.page) chunk.index None ≡ None → item_at (items_from 0 pages) chunk ≡ None
 none_there pages chunk none = find_at pages chunk ∙ none
-
-gone_none : (chunk : ChunkId) (items : Items) → item_at items chunk ≡ None → without_item items chunk ≡ items
-gone_none chunk [] none = refl
-gone_none chunk (e ∷ items) none = elim (cases_Bool (is_at (chunk_cmp chunk) e.0)) [
-  | inl same ↦ let bad : Some e.1 ≡ None = rw same at none in cc
-  | inr other ↦ rw other (ap (λ (es : Items). e ∷ es) (gone_none chunk items (rw other at none)))
-]
 
 pub none_goes : (chunk : ChunkId) (items : Items) → item_at items chunk ≡ None → items ≡ without_item items chunk
 none_goes chunk items none = sym (gone_none chunk items none)

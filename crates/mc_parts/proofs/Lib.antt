@@ -3,3 +3,4 @@ pub mod FoundHolds
 pub mod ItemPlaces
 pub mod CountPlaces
 pub mod CountedHolds
+pub mod LeadsByKey

@@ -1,3 +1,5 @@
 pub mod HoldsKept
 pub mod ItemsByPlace
 pub mod CountsByPlace
+pub mod Leads
+pub mod ItemInPlace

@@ -14,7 +14,7 @@ use std::marker::Model;
 pub(crate) struct HoldCounts {
     alloc: Global,
     /// For each page, from page 0, a count for each of its chunks up to the last that was held.
-    pages: Vec<Vec<u64>>,
+    pages: Vec<Vec<u16>>,
 }
 
 impl Model for HoldCounts {
@@ -45,7 +45,7 @@ impl HoldCounts {
             return 0;
         };
         match counts.get(chunk.index as usize) {
-            Some(count) => *count,
+            Some(count) => u64::from(*count),
             None => 0,
         }
     }
@@ -79,7 +79,7 @@ impl HoldCounts {
 }
 
 /// Sees to it that there are counts for the page.
-fn reach_page(alloc: Global, pages: &mut Vec<Vec<u64>>, page: u64) -> Result<(), AllocError>
+fn reach_page(alloc: Global, pages: &mut Vec<Vec<u16>>, page: u64) -> Result<(), AllocError>
     ensures there { OnOk result (page < length pages.new.items) }
     ensures same { CountAlike (counts_of pages.old.items) (counts_of pages.new.items) }
 {
@@ -90,7 +90,7 @@ fn reach_page(alloc: Global, pages: &mut Vec<Vec<u64>>, page: u64) -> Result<(),
 }
 
 /// Sees to it that the page has a count at the index.
-fn reach_index(counts: &mut Vec<u64>, index: u64) -> Result<(), AllocError>
+fn reach_index(counts: &mut Vec<u16>, index: u64) -> Result<(), AllocError>
     ensures there { OnOk result (index < length counts.new.items) }
     ensures same { (at : ℕ) → slice_index_or counts.new.items at 0 ≡ slice_index_or counts.old.items at 0 }
 {

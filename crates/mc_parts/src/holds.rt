@@ -1,6 +1,7 @@
 //! Which chunks the workers hold.
-ghost use Rattle.std.specs.Prelude.{◌≡◌, ◌<◌, false, IfOk, OnOk, OnErr, Contains, position, reverse};
-ghost use Rattle.mc_pages.specs.ClassState.{is_chunk, without};
+ghost use Rattle.std.specs.Prelude.{◌≡◌, ◌<◌, false, Some, IfOk, OnOk, OnErr, length, position, reverse};
+ghost use Rattle.std.specs.List.{remove};
+ghost use Rattle.mc_pages.specs.ClassState.{is_chunk};
 ghost use Rattle.mc_machine.specs.Holds.{no_holds, held_by, is_full, is_held, with_hold, without_hold};
 
 use crate::hold_counts::HoldCounts;
@@ -85,29 +86,22 @@ impl Holds {
         Ok(())
     }
 
-    /// The worker gives back the hold of the chunk that it took last.
-    pub fn give_back(&mut self, worker: u64, chunk: ChunkId)
+    /// The worker gives back the hold of the chunk that it took last, which stands at this place: of all that it holds the one
+    /// taken last stands at 0.
+    pub fn give_back(&mut self, worker: u64, chunk: ChunkId, place: usize)
         requires worker { worker < 64 }
-        requires held { Contains (held_by self.old worker) chunk }
+        requires first { position (λ c. is_chunk c chunk) (held_by self.old worker) ≡ Some place }
         ensures { self.new ≡ without_hold self.old worker chunk }
     {
-        take_out_last(&mut self.by_worker[worker as usize], chunk);
+        take_out(&mut self.by_worker[worker as usize], place);
         self.counts.decrement(chunk);
     }
 }
 
-/// Removes the last place of the chunk, if it has one.
-fn take_out_last(chunks: &mut Vec<ChunkId>, chunk: ChunkId)
-    ensures { reverse chunks.new.items ≡ without chunk (reverse chunks.old.items) }
+/// Removes the chunk behind which so many stand.
+fn take_out(chunks: &mut Vec<ChunkId>, behind: usize)
+    requires { behind < length chunks.old.items }
+    ensures { reverse chunks.new.items ≡ remove (reverse chunks.old.items) behind }
 {
-    if let Some(back) = place_from_back(chunks, chunk) {
-        chunks.remove(chunks.len() - 1 - back);
-    }
-}
-
-/// How many chunks stand behind the chunk's last place.
-fn place_from_back(chunks: &[ChunkId], chunk: ChunkId) -> Option<usize>
-    ensures { result ≡ position (λ c. is_chunk c chunk) (reverse chunks.now) }
-{
-    chunks.iter().rev().position(|c| *c == chunk)
+    chunks.remove(chunks.len() - 1 - behind);
 }

@@ -1,5 +1,5 @@
 //! What is stored under a key.
-ghost use Rattle.std.specs.Prelude.{◌≡◌, IfOk};
+ghost use Rattle.std.specs.Prelude.{◌≡◌, length, OnOk, OnErr};
 ghost use Rattle.mc_machine.specs.Item.{new_item, unlinked, words_from};
 
 use std::alloc::{AllocError, Global};
@@ -22,15 +22,25 @@ impl Model for Item {
 }
 
 impl Item {
-    /// A new item, to which its key leads.
-    pub fn new(key: u64, words: Vec<u64>) -> Item
-        ensures { result ≡ new_item key words.items }
-    {
+    /// An item without words, which takes no memory.
+    pub(crate) fn empty(alloc: Global) -> Item {
         Item {
-            key,
-            words,
-            linked: true,
+            key: 0,
+            words: Vec::new(alloc),
+            linked: false,
         }
+    }
+
+    /// Becomes a new item with so many words, base, base + 1 and so on, modulo 2^64, to which its key leads. The room of the
+    /// old words is used again.
+    pub(crate) fn renew(&mut self, key: u64, base: u64, words: u64) -> Result<(), AllocError>
+        ensures new { OnOk result (self.new ≡ new_item key (words_from base words)) }
+        ensures unchanged { OnErr result (self.new ≡ self.old) }
+    {
+        write_words(&mut self.words, base, words)?;
+        self.key = key;
+        self.linked = true;
+        Ok(())
     }
 
     /// Its key.
@@ -55,16 +65,31 @@ impl Item {
     }
 
     /// Its key leads to it no more.
-    pub fn unlink(&mut self)
+    pub(crate) fn unlink(&mut self)
         ensures { self.new ≡ unlinked self.old }
     {
         self.linked = false;
     }
 }
 
-/// So many words, base, base + 1 and so on, modulo 2^64.
-pub fn words_from(alloc: Global, base: u64, words: u64) -> Result<Vec<u64>, AllocError>
-    ensures { IfOk result (λ all. all.items ≡ words_from base words) }
+/// Writes so many words, base, base + 1 and so on, modulo 2^64, in the place of what was there.
+fn write_words(all: &mut Vec<u64>, base: u64, words: u64) -> Result<(), AllocError>
+    ensures words { OnOk result (all.new.items ≡ words_from base words) }
+    ensures unchanged { OnErr result (all.new.items ≡ all.old.items) }
 {
-    (0..words).map(|i| base.wrapping_add(i)).collect(alloc)
+    all.reserve_exact((words as usize).saturating_sub(all.len()))?;
+    all.resize(words as usize, 0)?;
+    count_up(all, base);
+    Ok(())
+}
+
+/// Writes base, base + 1 and so on, modulo 2^64.
+fn count_up(all: &mut [u64], base: u64)
+    ensures { all.new ≡ words_from base (length all.old) }
+{
+    let mut next = base;
+    for word in all.iter_mut() {
+        *word = next;
+        next = next.wrapping_add(1);
+    }
 }

@@ -5,11 +5,14 @@ mod dead;
 mod hold_counts;
 mod holds;
 mod item;
+mod key_index;
+mod place;
 mod table;
 mod text;
 
 pub use dead::{DeadCounts, LastDead, class_of, count_unheld};
 pub use holds::Holds;
-pub use item::{Item, words_from};
+pub use item::Item;
+pub use key_index::KeyIndex;
 pub use table::ItemTable;
 pub use text::{push_answer, push_key_line, push_turn_line, push_window_line, push_words_line};

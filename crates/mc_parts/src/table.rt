@@ -1,10 +1,12 @@
 //! The items by place: for each page, an item or none at each index.
-ghost use Rattle.std.specs.Prelude.{◌≡◌, ◌<◌, true, false, [], length, slice_index_or, None, OnOk, OnErr};
-ghost use Rattle.std.specs.Option.{option_copied};
-ghost use Rattle.mc_machine.specs.Items.{item_at, unlinked_in, with_item, without_item};
+ghost use Rattle.std.specs.Prelude.{◌≡◌, ◌<◌, true, false, [], length, slice_index_or, None, IfOk, OnOk, OnErr};
+ghost use Rattle.std.specs.Option.{option_copied, option_map};
+ghost use Rattle.mc_machine.specs.Item.{new_item, words_from};
+ghost use Rattle.mc_machine.specs.Items.{item_at, unlinked_in, with_item, with_moved_item, without_item};
 ghost use Rattle.mc_parts.specs.ItemsByPlace.{AreAlike, HasPlace, items_from, places_of};
 
 use crate::item::Item;
+use crate::place::Place;
 use mc_pages::ChunkId;
 use std::alloc::{AllocError, Global};
 use std::marker::Model;
@@ -14,7 +16,7 @@ use std::marker::Model;
 pub struct ItemTable {
     alloc: Global,
     /// For each page, from page 0, a place for each of its chunks up to the last that had an item.
-    pages: Vec<Vec<Option<Item>>>,
+    pages: Vec<Vec<Place>>,
 }
 
 impl Model for ItemTable {
@@ -44,28 +46,46 @@ impl ItemTable {
         if !has_place(&self.pages, chunk) {
             return None;
         }
-        self.pages[chunk.page as usize][chunk.index as usize].as_ref()
+        self.pages[chunk.page as usize][chunk.index as usize].item()
     }
 
-    /// The item comes into the chunk, in the place of what was there.
-    pub fn insert(&mut self, chunk: ChunkId, item: Item) -> Result<(), AllocError>
-        ensures entries { OnOk result (self.new ≡ with_item self.old chunk item) }
+    /// A new item comes into the chunk, in the place of what was there: a key with so many words, base, base + 1 and so on,
+    /// modulo 2^64.
+    pub fn store(
+        &mut self,
+        chunk: ChunkId,
+        key: u64,
+        base: u64,
+        words: u64,
+    ) -> Result<(), AllocError>
+        ensures entries { OnOk result (self.new ≡ with_item self.old chunk (new_item key (words_from base words))) }
         ensures unchanged { OnErr result (self.new ≡ self.old) }
     {
         reach(self.alloc, &mut self.pages, chunk)?;
-        self.pages[chunk.page as usize][chunk.index as usize] = Some(item);
+        self.pages[chunk.page as usize][chunk.index as usize].fill(key, base, words)?;
         Ok(())
     }
 
-    /// Takes the chunk's item out, if it has one.
-    pub fn remove(&mut self, chunk: ChunkId) -> Option<Item>
-        ensures value { result ≡ item_at self.old chunk }
+    /// The chunk's item goes, if it has one. Gives its key.
+    pub fn remove(&mut self, chunk: ChunkId) -> Option<u64>
+        ensures key { result ≡ option_map (λ item. item.key) (item_at self.old chunk) }
         ensures entries { self.new ≡ without_item self.old chunk }
     {
         if !has_place(&self.pages, chunk) {
             return None;
         }
-        self.pages[chunk.page as usize][chunk.index as usize].take()
+        self.pages[chunk.page as usize][chunk.index as usize].clear()
+    }
+
+    /// The item of a chunk comes into another, in the place of what was there. Gives its key. Nothing happens where there is
+    /// no item.
+    pub fn relocate(&mut self, old: ChunkId, new: ChunkId) -> Result<Option<u64>, AllocError>
+        ensures key { IfOk result (λ key. key ≡ option_map (λ item. item.key) (item_at self.old old)) }
+        ensures moved { OnOk result (self.new ≡ with_moved_item self.old old new) }
+        ensures unchanged { OnErr result (self.new ≡ self.old) }
+    {
+        reach(self.alloc, &mut self.pages, new)?;
+        Ok(relocate(self.alloc, &mut self.pages, old, new))
     }
 
     /// The chunk's item, if it has one, is linked no more.
@@ -75,14 +95,12 @@ impl ItemTable {
         if !has_place(&self.pages, chunk) {
             return;
         }
-        if let Some(item) = &mut self.pages[chunk.page as usize][chunk.index as usize] {
-            item.unlink();
-        }
+        self.pages[chunk.page as usize][chunk.index as usize].unlink();
     }
 }
 
 /// Whether there is a place for the chunk.
-fn has_place(pages: &[Vec<Option<Item>>], chunk: ChunkId) -> bool
+fn has_place(pages: &[Vec<Place>], chunk: ChunkId) -> bool
     ensures yes { result ≡ true → HasPlace (places_of pages.now) chunk }
     ensures no { result ≡ false → slice_index_or (slice_index_or (places_of pages.now) chunk.page []) chunk.index None ≡ None }
 {
@@ -92,26 +110,37 @@ fn has_place(pages: &[Vec<Option<Item>>], chunk: ChunkId) -> bool
     }
 }
 
+/// The item of a chunk comes into another, which has a place.
+fn relocate(alloc: Global, pages: &mut Vec<Vec<Place>>, old: ChunkId, new: ChunkId) -> Option<u64>
+    requires { HasPlace (places_of pages.old.items) new }
+    ensures key { result ≡ option_map (λ item. item.key) (item_at (items_from 0 (places_of pages.old.items)) old) }
+    ensures moved { items_from 0 (places_of pages.new.items) ≡ with_moved_item (items_from 0 (places_of pages.old.items)) old new }
+{
+    if !has_place(pages, old) {
+        return None;
+    }
+    match pages[old.page as usize][old.index as usize].take(alloc) {
+        Some(item) => {
+            let key = item.key();
+            pages[new.page as usize][new.index as usize].put(item);
+            Some(key)
+        }
+        None => None,
+    }
+}
+
 /// Sees to it that there is a place for the chunk.
-fn reach(
-    alloc: Global,
-    pages: &mut Vec<Vec<Option<Item>>>,
-    chunk: ChunkId,
-) -> Result<(), AllocError>
+fn reach(alloc: Global, pages: &mut Vec<Vec<Place>>, chunk: ChunkId) -> Result<(), AllocError>
     ensures there { OnOk result (HasPlace (places_of pages.new.items) chunk) }
     ensures same { items_from 0 (places_of pages.new.items) ≡ items_from 0 (places_of pages.old.items) }
 {
     reach_page(alloc, pages, chunk.page)?;
-    reach_index(&mut pages[chunk.page as usize], chunk.index)?;
+    reach_index(alloc, &mut pages[chunk.page as usize], chunk.index)?;
     Ok(())
 }
 
 /// Sees to it that there are places for the page.
-fn reach_page(
-    alloc: Global,
-    pages: &mut Vec<Vec<Option<Item>>>,
-    page: u64,
-) -> Result<(), AllocError>
+fn reach_page(alloc: Global, pages: &mut Vec<Vec<Place>>, page: u64) -> Result<(), AllocError>
     ensures there { OnOk result (page < length pages.new.items) }
     ensures same { items_from 0 (places_of pages.new.items) ≡ items_from 0 (places_of pages.old.items) }
 {
@@ -122,12 +151,12 @@ fn reach_page(
 }
 
 /// Sees to it that the page has a place at the index.
-fn reach_index(places: &mut Vec<Option<Item>>, index: u64) -> Result<(), AllocError>
+fn reach_index(alloc: Global, places: &mut Vec<Place>, index: u64) -> Result<(), AllocError>
     ensures there { OnOk result (index < length places.new.items) }
     ensures same { AreAlike places.old.items places.new.items }
 {
     while places.len() as u64 <= index {
-        places.push(None)?;
+        places.push(Place::empty(alloc))?;
     }
     Ok(())
 }

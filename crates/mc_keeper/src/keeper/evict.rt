@@ -67,8 +67,8 @@ impl Keeper {
     {
         self.slabs.back(chunk);
         self.slabs.evicted(class);
-        if let Some(item) = self.items.remove(chunk) {
-            self.index.remove(&item.key());
+        if let Some(key) = self.items.remove(chunk) {
+            self.index.remove(key);
         }
     }
 }

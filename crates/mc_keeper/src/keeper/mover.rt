@@ -1,9 +1,6 @@
 //! The mover: it looks at the chunks of the page on the move, and clears them.
-ghost use Rattle.std.specs.Prelude.{◌≡◌, ◌≢◌, ◌*◌, ◌<◌, ◌≤◌, nat_lt, true, false, IfOk, OnOk, Contains, Some, None, Ok, Err};
-ghost use Rattle.std.specs.BTreeMap.{is_at};
-ghost use Rattle.std.specs.Map.{set_value};
+ghost use Rattle.std.specs.Prelude.{◌≡◌, ◌≢◌, ◌*◌, ◌<◌, ◌≤◌, nat_lt, true, false, IfOk, OnOk, OnErr, Contains, Some, None, Ok, Err};
 ghost use Rattle.std.specs.Option.{option_map};
-ghost use Rattle.std.specs.Ordering.{nat_cmp};
 ghost use Rattle.mc_pages.specs.SlabState.{IsClass, class_at, class_of_page, class_of_chunk};
 ghost use Rattle.mc_pages.specs.ClassState.{times};
 ghost use Rattle.mc_pages.specs.Accounted.{is_cleared, is_cut};
@@ -21,7 +18,6 @@ use mc_machine::{Counts, Ending};
 use mc_pages::{ChunkId, Found, Moving};
 use mc_parts::class_of;
 use std::alloc::AllocError;
-use std::collections::BTreeMap;
 
 /// The most turns of a run (own).
 const MAX_TURNS: u64 = 1_000_000;
@@ -231,26 +227,16 @@ impl Keeper {
         requires free { Contains (class_of_chunk self.old.slabs old).free new }
         requires off { new.page ≢ old.page }
         ensures rescued { OnOk result (self.new ≡ (with_saved self.old old (Some new)).machine) }
+        ensures refused { OnErr result (self.new ≡ self.old) }
         ensures clears { OnOk result (is_cleared self.new.slabs (class_of_page self.old.slabs old.page) old ≡ true) }
     {
-        let Some(item) = self.items.remove(old) else {
+        let Some(key) = self.items.relocate(old, new)? else {
             return Ok(());
         };
-        let key = item.key();
-        match self.items.insert(new, item) {
-            Ok(_) => {
-                lead_to(&mut self.index, key, new);
-                self.slabs.replace(new, old);
-                self.slabs.clear(old);
-                Ok(())
-            }
-            Err(_) => {
-                // The item is lost with the run. What is left agrees: its chunk is free, and its key leads nowhere.
-                self.index.remove(&key);
-                self.slabs.back(old);
-                Err(AllocError)
-            }
-        }
+        self.index.lead(key, new);
+        self.slabs.replace(new, old);
+        self.slabs.clear(old);
+        Ok(())
     }
 
     /// Evicts the chunk's item, and clears the chunk.
@@ -260,18 +246,9 @@ impl Keeper {
         ensures evicted { self.new ≡ (with_saved self.old chunk None).machine }
         ensures clears { is_cleared self.new.slabs (class_of_page self.old.slabs chunk.page) chunk ≡ true }
     {
-        if let Some(item) = self.items.remove(chunk) {
-            self.index.remove(&item.key());
+        if let Some(key) = self.items.remove(chunk) {
+            self.index.remove(key);
         }
         self.slabs.clear(chunk);
-    }
-}
-
-/// The key leads to this chunk now, if it led to one.
-fn lead_to(index: &mut BTreeMap<u64, ChunkId>, key: u64, chunk: ChunkId)
-    ensures { index.new.entries ≡ set_value (is_at (nat_cmp key)) index.old.entries chunk }
-{
-    if let Some(place) = index.get_mut(&key) {
-        *place = chunk;
     }
 }

@@ -1,5 +1,9 @@
 //! What workers do with items that are there: they read, hold, give back and touch them.
-ghost use Rattle.std.specs.Prelude.{◌≡◌, ◌<◌, ◌++◌, OnOk, Some};
+ghost use Rattle.std.specs.Prelude.{◌≡◌, ◌<◌, ◌++◌, OnOk, IfSome, Some, length, position, reverse, slice_index_or};
+ghost use Rattle.std.specs.Option.{option_map};
+ghost use Rattle.mc_pages.specs.declared.ids.ChunkId.{ChunkId};
+ghost use Rattle.mc_pages.specs.ClassState.{is_chunk};
+ghost use Rattle.mc_machine.specs.Holds.{held_by};
 ghost use Rattle.mc_machine.specs.Items.{has_key, linked_chunk};
 ghost use Rattle.mc_machine.specs.Lines.{looked_up, kept, dropped, last_hold, made_youngest};
 
@@ -17,11 +21,7 @@ impl Keeper {
         if self.holds.is_full(worker) {
             return push_key_line(text, b"TOO_MANY_REFS", key);
         }
-        match self
-            .index
-            .get(&key)
-            .and_then(|chunk| self.items.get(*chunk))
-        {
+        match self.index.get(key).and_then(|chunk| self.items.get(chunk)) {
             Some(item) => push_words_line(text, b"VALUE", key, item.words()),
             None => push_key_line(text, b"NOT_FOUND", key),
         }
@@ -41,7 +41,7 @@ impl Keeper {
         if self.holds.is_full(worker) {
             return push_key_line(text, b"TOO_MANY_REFS", key);
         }
-        match self.index.get(&key).copied() {
+        match self.index.get(key) {
             Some(chunk) => {
                 self.holds.take(worker, chunk)?;
                 push_key_line(text, b"HELD", key)
@@ -61,14 +61,14 @@ impl Keeper {
         ensures reply { OnOk result (text.new.items ≡ text.old.items ++ (dropped self.old worker key (last_hold self.old worker key)).reply) }
         ensures after { OnOk result (self.new ≡ (dropped self.old worker key (last_hold self.old worker key)).machine) }
     {
-        let Some(chunk) = self.last_hold(worker, key) else {
+        let Some((chunk, place)) = self.last_hold(worker, key) else {
             return push_key_line(text, b"NOT_HELD", key);
         };
         match self.items.get(chunk) {
             Some(item) => {
                 push_words_line(text, b"DROPPED", key, item.words())?;
                 let is_linked = item.is_linked();
-                self.holds.give_back(worker, chunk);
+                self.holds.give_back(worker, chunk, place);
                 if !is_linked {
                     count_unheld(
                         &mut self.dead,
@@ -89,7 +89,7 @@ impl Keeper {
         ensures reply { OnOk result (text.new.items ≡ text.old.items ++ (made_youngest self.old key (linked_chunk self.old.items key)).reply) }
         ensures after { OnOk result (self.new ≡ (made_youngest self.old key (linked_chunk self.old.items key)).machine) }
     {
-        match self.index.get(&key).copied() {
+        match self.index.get(key) {
             Some(chunk) => {
                 self.slabs.touch(chunk);
                 push_key_line(text, b"TOUCHED", key)
@@ -98,17 +98,28 @@ impl Keeper {
         }
     }
 
-    /// The worker's hold of an item of the key that it took last.
-    fn last_hold(&self, worker: u64, key: u64) -> Option<ChunkId>
+    /// The chunk of the worker's hold of an item of the key that it took last, and where that stands among the worker's holds.
+    fn last_hold(&self, worker: u64, key: u64) -> Option<(ChunkId, usize)>
         requires { worker < 64 }
-        ensures { result ≡ last_hold self.now worker key }
+        ensures hold { option_map (λ hold. hold.0) result ≡ last_hold self.now worker key }
+        ensures first { IfSome result (λ hold. position (λ c. is_chunk c hold.0) (held_by self.now.holds worker) ≡ Some hold.1) }
+    {
+        match self.place_held(worker, key) {
+            Some(place) => Some((hold_at(self.holds.of(worker), place), place)),
+            None => None,
+        }
+    }
+
+    /// Where the worker's hold of an item of the key that it took last stands among its holds: the one taken last stands at 0.
+    fn place_held(&self, worker: u64, key: u64) -> Option<usize>
+        requires { worker < 64 }
+        ensures { result ≡ position (has_key self.now.items key) (held_by self.now.holds worker) }
     {
         self.holds
             .of(worker)
             .iter()
             .rev()
-            .copied()
-            .find(|chunk| self.has_key(*chunk, key))
+            .position(|chunk| self.has_key(*chunk, key))
     }
 
     /// Whether the chunk has an item of the key.
@@ -120,4 +131,12 @@ impl Keeper {
             None => false,
         }
     }
+}
+
+/// The chunk behind which so many stand.
+fn hold_at(chunks: &[ChunkId], behind: usize) -> ChunkId
+    requires { behind < length chunks.now }
+    ensures { (d : ChunkId) → result ≡ slice_index_or (reverse chunks.now) behind d }
+{
+    chunks[chunks.len() - 1 - behind]
 }

@@ -7,7 +7,7 @@ ghost use Rattle.mc_machine.specs.Items.{linked_chunk};
 ghost use Rattle.mc_machine.specs.Lines.{IsServed, serve, set_in, deleted};
 
 use super::Keeper;
-use mc_parts::{push_key_line, push_turn_line, words_from};
+use mc_parts::{push_key_line, push_turn_line};
 use mc_script::Command;
 use std::alloc::AllocError;
 use std::marker::Brand;
@@ -73,8 +73,7 @@ impl Keeper {
     {
         match self.table.class_for(24 + 8 * words) {
             Some(class) => {
-                let all = words_from(self.alloc, base, words)?;
-                let stored = self.store(class, key, all)?;
+                let stored = self.store(class, key, base, words)?;
                 push_key_line(text, if stored { b"STORED" } else { b"NO_ROOM" }, key)
             }
             None => push_key_line(text, b"TOO_LARGE", key),

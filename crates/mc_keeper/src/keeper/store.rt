@@ -5,36 +5,36 @@ ghost use Rattle.mc_pages.specs.ClassState.{first_free};
 ghost use Rattle.mc_pages.specs.SlabState.{IsClass, class_at};
 ghost use Rattle.mc_pages.specs.Changes.{after_pop};
 ghost use Rattle.mc_machine.specs.Items.{linked_chunk, unlinked_items, with_item};
-ghost use Rattle.mc_machine.specs.Item.{new_item};
+ghost use Rattle.mc_machine.specs.Item.{new_item, words_from};
 ghost use Rattle.mc_machine.specs.Lines.{stored};
 ghost use Rattle.mc_machine.specs.Supply.{asks_for_page, supplied, supply};
 
 use super::Keeper;
 use mc_classes::ClassId;
 use mc_pages::ChunkId;
-use mc_parts::{Item, count_unheld};
+use mc_parts::count_unheld;
 use std::alloc::AllocError;
 
 impl Keeper {
-    /// Stores an item in a chunk of the class, in the place of the key's old one, and says whether there was a
-    /// chunk for it. Where there is none, the old item stays, unless it was the one evicted. In mode 2 of the automover
-    /// an eviction asks for a page (after memcached's `slabs automove 2`).
+    /// Stores an item of so many words, base, base + 1 and so on, in a chunk of the class, in the place of the key's old one,
+    /// and says whether there was a chunk for it. Where there is none, the old item stays, unless it was the one evicted. In
+    /// mode 2 of the automover an eviction asks for a page (after memcached's `slabs automove 2`).
     #[tactic(auto, using(mc_machine::proofs::Stocks::store_steps))]
     pub(super) fn store(
         &mut self,
         class: ClassId,
         key: u64,
-        words: Vec<u64>,
+        base: u64,
+        words: u64,
     ) -> Result<bool, AllocError>
         requires { IsClass self.old.slabs class }
         ensures stored { IfOk result (λ stored. stored ≡ is_some (supply self.old class)) }
-        ensures after { OnOk result (self.new ≡ (stored (supplied self.old class) class key words.items (asks_for_page self.old class) (supply self.old class)).machine) }
+        ensures after { OnOk result (self.new ≡ (stored (supplied self.old class) class key (words_from base words) (asks_for_page self.old class) (supply self.old class)).machine) }
     {
         let evicted = self.supply(class)?;
         match self.slabs.first_free(class) {
             Some(chunk) => {
-                self.unlink(key);
-                self.put(class, chunk, key, words)?;
+                self.put(class, chunk, key, base, words)?;
                 if evicted && self.slabs.automove() == 2 {
                     self.ask_for_page(class)?;
                 }
@@ -49,7 +49,7 @@ impl Keeper {
         ensures was { result ≡ is_some (linked_chunk self.old.items key) }
         ensures unlinked { self.new ≡ record self.old { items = unlinked_items self.old.items key } }
     {
-        match self.index.remove(&key) {
+        match self.index.remove(key) {
             Some(chunk) => {
                 self.items.unlink(chunk);
                 count_unheld(
@@ -65,32 +65,42 @@ impl Keeper {
         }
     }
 
-    /// Hands out the class's next free chunk and puts a new item into it, to which the key leads. A refusal changes
-    /// nothing.
+    /// Hands out the class's next free chunk and puts a new item into it, to which the key leads. The key's old item is
+    /// unlinked.
     fn put(
         &mut self,
         class: ClassId,
         chunk: ChunkId,
         key: u64,
-        words: Vec<u64>,
+        base: u64,
+        words: u64,
     ) -> Result<(), AllocError>
         requires class { IsClass self.old.slabs class }
         requires free { first_free (class_at self.old.slabs class) ≡ Some chunk }
-        requires unlinked { linked_chunk self.old.items key ≡ None }
         ensures put { OnOk result (self.new ≡ record self.old {
           slabs = after_pop self.old.slabs class;
-          items = with_item self.old.items chunk (new_item key words.items);
+          items = with_item (unlinked_items self.old.items key) chunk (new_item key (words_from base words));
         }) }
     {
-        self.items.insert(chunk, Item::new(key, words))?;
-        match self.index.insert(key, chunk) {
-            Ok(_) => {
+        let before = self.index.insert(key, chunk)?;
+        if let Some(old) = before {
+            self.items.unlink(old);
+            count_unheld(
+                &mut self.dead,
+                &mut self.last_dead,
+                &self.holds,
+                &self.slabs,
+                old,
+            );
+        }
+        match self.items.store(chunk, key, base, words) {
+            Ok(()) => {
                 self.slabs.pop(class);
                 Ok(())
             }
-            Err(_) => {
-                self.items.remove(chunk);
-                Err(AllocError)
+            Err(error) => {
+                self.index.remove(key);
+                Err(error)
             }
         }
     }

@@ -4,6 +4,7 @@
 ghost use Rattle.std.specs.Prelude.{◌≡◌, ℕ, ◌+◌, ◌*◌, ◌<◌, ◌≤◌, IfOk, length};
 ghost use Rattle.mc_pages.specs.Rows.{RowsState, IsChange, IsField, IsRow, IsList, field_of, with_change, row_at, row_place, length_of, lengthened, shortened, fresh_rows};
 
+use super::link::Link;
 use super::{Change, Field, ListName, Mark};
 use crate::ids::ChunkId;
 use crate::writes::Writes;
@@ -14,8 +15,8 @@ use std::marker::Model;
 /// the mark says nothing.
 #[derive(Clone, Copy)]
 pub(crate) struct Row {
-    next: Option<ChunkId>,
-    previous: Option<ChunkId>,
+    next: Link,
+    previous: Link,
     mark: Mark,
 }
 
@@ -58,8 +59,8 @@ impl Rows {
         ensures { IfOk result (λ rows. rows ≡ fresh_rows most (pages * most) classes) }
     {
         let none = Row {
-            next: None,
-            previous: None,
+            next: Link::to(None),
+            previous: Link::to(None),
             mark: Mark::Unlisted,
         };
         Ok(Rows {
@@ -80,12 +81,12 @@ impl Rows {
         ensures { result ≡ field_of self.now field }
     {
         match field {
-            Field::Next(chunk) => self.rows[self.place(chunk)].next,
-            Field::Previous(chunk) => self.rows[self.place(chunk)].previous,
-            Field::Head(ListName::Free(class)) => self.free[class].next,
-            Field::Head(ListName::HandedOut(class)) => self.handed_out[class].next,
-            Field::Tail(ListName::Free(class)) => self.free[class].previous,
-            Field::Tail(ListName::HandedOut(class)) => self.handed_out[class].previous,
+            Field::Next(chunk) => self.rows[self.place(chunk)].next.chunk(),
+            Field::Previous(chunk) => self.rows[self.place(chunk)].previous.chunk(),
+            Field::Head(ListName::Free(class)) => self.free[class].next.chunk(),
+            Field::Head(ListName::HandedOut(class)) => self.handed_out[class].next.chunk(),
+            Field::Tail(ListName::Free(class)) => self.free[class].previous.chunk(),
+            Field::Tail(ListName::HandedOut(class)) => self.handed_out[class].previous.chunk(),
         }
     }
 
@@ -107,19 +108,20 @@ impl Rows {
         match change {
             Change::Link(Field::Next(chunk), link) => {
                 let place = self.place(chunk);
-                self.rows[place].next = link;
+                self.rows[place].next = Link::to(link);
             }
             Change::Link(Field::Previous(chunk), link) => {
                 let place = self.place(chunk);
-                self.rows[place].previous = link;
+                self.rows[place].previous = Link::to(link);
             }
-            Change::Link(Field::Head(ListName::Free(class)), link) => self.free[class].next = link,
+            Change::Link(Field::Head(ListName::Free(class)), link) => self.free[class].next =
+                Link::to(link),
             Change::Link(Field::Head(ListName::HandedOut(class)), link) =>
-                self.handed_out[class].next = link,
+                self.handed_out[class].next = Link::to(link),
             Change::Link(Field::Tail(ListName::Free(class)), link) => self.free[class].previous =
-                link,
+                Link::to(link),
             Change::Link(Field::Tail(ListName::HandedOut(class)), link) =>
-                self.handed_out[class].previous = link,
+                self.handed_out[class].previous = Link::to(link),
             Change::Mark(chunk, mark) => {
                 let place = self.place(chunk);
                 self.rows[place].mark = mark;

@@ -1,11 +1,12 @@
-use Rattle.std.proofs.Common.{◌∙◌, ap, List, Option}
+use Rattle.std.proofs.Common.{◌++◌, ◌∷◌, [], ◌∙◌, ap, List, Option}
 use Rattle.mc_machine.specs.Item.{Item}
 use Rattle.mc_parts.specs.ItemsByPlace.{items_in}
 use Rattle.mc_parts.proofs.ItemPlaces.{one_place_more}
 use Rattle.mc_parts.proofs.table.reach_index.Goals as goal
 
-pub loop-places-preserved : goal.loop-places-preserved
-loop-places-preserved c = λ page later.
-    ap (λ (places : List (Option Item)). items_in page 0 places later) c.in_ok-push.ensures.items
-    ∙ one_place_more c.loop-places.places.items page later
-    ∙ c.loop-places.invariant page later
+pub loop-alloc-preserved : goal.loop-alloc-preserved
+loop-alloc-preserved c = λ page later.
+    ap (λ (places : List (Option Item)). items_in page 0 places later)
+    (c.in_ok-push.ensures.items ∙ ap (λ (place : Option Item). c.loop-alloc.places.items ++ place ∷ []) c.empty.ensures)
+    ∙ one_place_more c.loop-alloc.places.items page later
+    ∙ c.loop-alloc.invariant page later

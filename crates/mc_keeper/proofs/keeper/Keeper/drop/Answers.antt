@@ -1,21 +1,25 @@
-use Rattle.std.proofs.Common.{◌≡◌, Contains, Some, true, false, sym, ◌∙◌, ap, arith}
+use Rattle.std.proofs.Common.{◌≡◌, ℕ, Contains, Option, Some, true, false, sym, ◌∙◌, ap, arith}
+use Rattle.std.specs.Prelude.{IfSome}
+use Rattle.std.specs.Option.{option_map}
+use Rattle.mc_pages.specs.declared.ids.ChunkId.{ChunkId}
 use Rattle.std.proofs.lemmas.Bool.Decides.{nat_tests}
-use Rattle.mc_machine.specs.Items.{has_key, item_at}
+use Rattle.mc_machine.specs.Items.{item_at}
 use Rattle.mc_machine.specs.Holds.{held_by}
 use Rattle.mc_machine.specs.Lines.{last_hold}
 use Rattle.mc_machine.specs.Machine.{Machine}
 use Rattle.mc_machine.proofs.Counted.{counted_given_back, counted_let_go, few_counted}
 use Rattle.mc_keeper.proofs.KeeperMachine.{machine_of}
-use Rattle.mc_parts.proofs.HoldLists.{found_there}
+use Rattle.mc_parts.proofs.FoundHolds.{found_held}
 use Rattle.mc_machine.proofs.KeptChanges.{place_once}
 use Rattle.mc_machine.proofs.KeptMoverClear.{class_of_item}
 use Rattle.mc_keeper.proofs.keeper.Keeper.drop.Goals as goal
 
--- what was found is held
-pub give_back-requires-clause-held : goal.give_back-requires-clause-held
-give_back-requires-clause-held c =
-    found_there (has_key c.self.inside.items c.args.key) (held_by c.self.inside.holds c.args.worker) c.in-Some.chunk
-    (ap (λ (m : Machine). last_hold m c.args.worker c.args.key) c.self.view_is ∙ sym c.last_hold.ensures ∙ c.in-Some.is)
+-- what is said of the hold that was found
+at_hold : (P : ChunkId × ℕ → Type 0) (found : Option (ChunkId × ℕ)) (hold : ChunkId × ℕ) → found ≡ Some hold → IfSome found P → P hold
+at_hold P found hold is said = rw is at said
+
+pub give_back-requires-clause-first : goal.give_back-requires-clause-first
+give_back-requires-clause-first c = rw (ap (λ (m : Machine). m.holds) c.self.view_is) (at_hold _ c.last_hold.result (c.in-Some.chunk, c.in-Some.place) c.in-Some.is c.last_hold.ensures.first)
 
 pub count_unheld-requires-clause-class : goal.count_unheld-requires-clause-class
 count_unheld-requires-clause-class c = class_of_item _ _ _ _ c.in-Some.chunk c.in-Some-get.item.now c.self.invariant.kept (sym c.in-Some-get.ensures.value)
@@ -28,8 +32,8 @@ count_unheld-requires-clause-few c =
 pub invariant_of-self : goal.invariant_of-self
 invariant_of-self c =
     let held : Contains (held_by c.self.inside.holds c.args.worker) c.in-Some.chunk
-    = found_there (has_key c.self.inside.items c.args.key) (held_by c.self.inside.holds c.args.worker) c.in-Some.chunk
-    (ap (λ (m : Machine). last_hold m c.args.worker c.args.key) c.self.view_is ∙ sym c.last_hold.ensures ∙ c.in-Some.is) in
+    = found_held c.in-Some.chunk (held_by c.self.inside.holds c.args.worker) c.in-Some.place
+    (rw (ap (λ (m : Machine). m.holds) c.self.view_is) (at_hold _ c.last_hold.result (c.in-Some.chunk, c.in-Some.place) c.in-Some.is c.last_hold.ensures.first)) in
     let dead : c.in-Some-get.item.now.linked ≡ false = grind (arith, nat_tests, c.is_linked-is_linked.ensures, c.if-not-is_linked.true) in
     let class = class_of_item _ _ _ _ c.in-Some.chunk c.in-Some-get.item.now c.self.invariant.kept (sym c.in-Some-get.ensures.value) in
     record {
@@ -44,8 +48,8 @@ invariant_of-self c =
 pub invariant_of-self-else-not-is_linked : goal.invariant_of-self-else-not-is_linked
 invariant_of-self-else-not-is_linked c =
     let held : Contains (held_by c.self.inside.holds c.args.worker) c.in-Some.chunk
-    = found_there (has_key c.self.inside.items c.args.key) (held_by c.self.inside.holds c.args.worker) c.in-Some.chunk
-    (ap (λ (m : Machine). last_hold m c.args.worker c.args.key) c.self.view_is ∙ sym c.last_hold.ensures ∙ c.in-Some.is) in
+    = found_held c.in-Some.chunk (held_by c.self.inside.holds c.args.worker) c.in-Some.place
+    (rw (ap (λ (m : Machine). m.holds) c.self.view_is) (at_hold _ c.last_hold.result (c.in-Some.chunk, c.in-Some.place) c.in-Some.is c.last_hold.ensures.first)) in
     let linked : c.in-Some-get.item.now.linked ≡ true = grind (arith, nat_tests, c.is_linked-is_linked.ensures, c.if-not-is_linked.false) in
     record {
       kept = c.self.invariant.kept;
@@ -57,14 +61,16 @@ invariant_of-self-else-not-is_linked c =
 
 pub returns-then-not-is_linked-clause-reply : goal.returns-then-not-is_linked-clause-reply
 returns-then-not-is_linked-clause-reply c =
-    let last : last_hold c.args.self.now c.args.worker c.args.key ≡ Some c.in-Some.chunk = sym c.last_hold.ensures ∙ c.in-Some.is in
+    let last : last_hold c.args.self.now c.args.worker c.args.key ≡ Some c.in-Some.chunk
+    = sym c.last_hold.ensures.hold ∙ ap (λ (found : Option (ChunkId × ℕ)). option_map (λ (hold : ChunkId × ℕ). hold.0) found) c.in-Some.is in
     let item : item_at c.args.self.now.items c.in-Some.chunk ≡ Some c.in-Some-get.item.now
     = ap (λ (m : Machine). item_at m.items c.in-Some.chunk) (sym c.self.view_is) ∙ sym c.in-Some-get.ensures.value in
     rw (last, item, ← c.words.ensures) c.in_ok-push_words_line-in-Some-get.ensures
 
 pub returns-else-not-is_linked-clause-reply : goal.returns-else-not-is_linked-clause-reply
 returns-else-not-is_linked-clause-reply c =
-    let last : last_hold c.args.self.now c.args.worker c.args.key ≡ Some c.in-Some.chunk = sym c.last_hold.ensures ∙ c.in-Some.is in
+    let last : last_hold c.args.self.now c.args.worker c.args.key ≡ Some c.in-Some.chunk
+    = sym c.last_hold.ensures.hold ∙ ap (λ (found : Option (ChunkId × ℕ)). option_map (λ (hold : ChunkId × ℕ). hold.0) found) c.in-Some.is in
     let item : item_at c.args.self.now.items c.in-Some.chunk ≡ Some c.in-Some-get.item.now
     = ap (λ (m : Machine). item_at m.items c.in-Some.chunk) (sym c.self.view_is) ∙ sym c.in-Some-get.ensures.value in
     rw (last, item, ← c.words.ensures) c.in_ok-push_words_line-in-Some-get.ensures

@@ -1,10 +1,13 @@
-use Rattle.std.proofs.Common.{◌≡◌, true, Some, Contains, sym, ap, subst, ◌∙◌, ℕ}
+use Rattle.std.proofs.Common.{◌≡◌, true, Option, Contains, sym, ap, subst, ◌∙◌, ℕ}
+use Rattle.std.specs.Option.{option_map}
+use Rattle.std.proofs.lemmas.Option.{same_Some}
+use Rattle.mc_machine.specs.Item.{Item}
 use Rattle.std.proofs.lemmas.Bool.{and_parts}
 use Rattle.std.proofs.lemmas.List.{length-set}
 use Rattle.mc_pages.specs.SlabState.{IsClass, class_at}
 use Rattle.mc_pages.specs.Changes.{after_back}
 use Rattle.mc_pages.proofs.HandedOut.{class_of_handed_out}
-use Rattle.mc_machine.specs.Items.{item_at, is_linked}
+use Rattle.mc_machine.specs.Items.{is_linked}
 use Rattle.mc_machine.specs.Machine.{Machine}
 use Rattle.mc_machine.proofs.KeptEvict.{kept_evict, linked_item}
 use Rattle.mc_machine.proofs.Watched.{watched-back, watched-evicted}
@@ -21,19 +24,20 @@ back-requires c =
 pub invariant_of-self : goal.invariant_of-self
 invariant_of-self c =
     let valid : IsClass c.self.inside.slabs.state c.args.class = rw (ap (λ (m : Machine). m.slabs) c.self.view_is) c.requires.class in
-    let at : item_at c.self.inside.items c.args.chunk ≡ Some c.in-Some.item = sym c.in-Some.ensures.value in
     let idle : is_linked c.self.inside.items c.args.chunk ≡ true = rw (ap (λ (m : Machine). m.items) c.self.view_is) (and_parts _ _ c.requires.idle).0 in
-    let linked : c.in-Some.item.linked ≡ true = rw at at idle in
+    let found = linked_item c.self.inside.items c.args.chunk idle in
+    let key : c.in-Some.key ≡ found.0.key
+    = same_Some c.in-Some.key found.0.key (c.in-Some.ensures.key ∙ ap (λ (o : Option Item). option_map (λ (item : Item). item.key) o) found.1) in
     record {
       kept = rw (c.evicted.ensures.evicted, c.back.ensures.back, c.remove.ensures.entries)
-          (kept_evict _ _ _ _ _ c.args.class c.args.chunk c.in-Some.item c.self.invariant.kept
+          (kept_evict _ _ _ _ _ c.args.class c.args.chunk found.0 c.self.invariant.kept
           (rw c.back.ensures.back at c.back.ensures.accounted) (rw (c.evicted.ensures.evicted, c.back.ensures.back) at c.evicted.ensures.accounted)
-          at linked (rw c.key.ensures at c.remove-in-Some.ensures.updates.0));
+          found.1 found.2 (rw key at c.remove-in-Some.ensures.led));
       watched = rw (c.evicted.ensures.evicted, c.back.ensures.back) (watched-evicted (after_back c.self.inside.slabs.state c.args.chunk) c.args.class _ (valid.0, rw (length-set c.self.inside.slabs.state.classes _ _) valid.1)
           (watched-back c.self.inside.slabs.state _ c.self.invariant.watched c.args.chunk));
       counted = rw (c.evicted.ensures.evicted, c.back.ensures.back, c.remove.ensures.entries)
-          (counted_gone _ _ _ _ _ _ c.args.chunk c.in-Some.item c.self.invariant.counted
-          (length-set (after_back c.self.inside.slabs.state c.args.chunk).classes _ _ ∙ length-set c.self.inside.slabs.state.classes _ _) at linked);
+          (counted_gone _ _ _ _ _ _ c.args.chunk found.0 c.self.invariant.counted
+          (length-set (after_back c.self.inside.slabs.state c.args.chunk).classes _ _ ∙ length-set c.self.inside.slabs.state.classes _ _) found.1 found.2);
       bulk = c.self.invariant.bulk;
     }
 
@@ -42,4 +46,4 @@ pub invariant_of-self-in_default : goal.invariant_of-self-in_default
 invariant_of-self-in_default c =
     let idle : is_linked c.self.inside.items c.args.chunk ≡ true = rw (ap (λ (m : Machine). m.items) c.self.view_is) (and_parts _ _ c.requires.idle).0 in
     let found = linked_item c.self.inside.items c.args.chunk idle in
-    absurd (c.in_default.not-Some found.0 (c.remove.ensures.value ∙ found.1))
+    absurd (c.in_default.not-Some found.0.key (c.remove.ensures.key ∙ ap (λ (o : Option Item). option_map (λ (item : Item). item.key) o) found.1))

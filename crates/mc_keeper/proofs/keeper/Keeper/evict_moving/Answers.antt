@@ -1,4 +1,5 @@
-use Rattle.std.proofs.Common.{◌≡◌, ap, sym, ◌∙◌, arith}
+use Rattle.std.proofs.Common.{◌≡◌, Option, ap, ◌∙◌, arith}
+use Rattle.std.specs.Option.{option_map}
 use Rattle.std.proofs.lemmas.Option.{none-some, same_Some}
 use Rattle.mc_machine.specs.Item.{Item}
 use Rattle.mc_machine.proofs.KeptMoverClear.{cleared_after, idle_here, handed_item, kept_cleared, leads_gone}
@@ -22,18 +23,18 @@ invariant_of-self c =
     let found = idle_here _ _ c.args.chunk c.self.view_is c.requires.idle in
     elim c.match-remove.branch [
       | in-Some w ↦
-          let same : found.0 ≡ w.in-Some.item = same_Some _ _ (sym found.1 ∙ sym w.in-Some.ensures.value) in
+          let key : w.in-Some.key ≡ found.0.key
+          = same_Some w.in-Some.key found.0.key (w.in-Some.ensures.key ∙ ap (λ (o : Option Item). option_map (λ (item : Item). item.key) o) found.1) in
           let cleared = rw w.self-inside-is at c.clear.ensures.cleared in
           rw (cleared, w.self-inside-is) (record {
             kept = rw c.remove.ensures.entries (kept_cleared _ _ _ _ _ c.args.chunk found.0 c.self.invariant.kept found.1
                 (rw cleared at c.clear.ensures.accounted)
-                (leads_gone _ _ _ _ _ c.args.chunk found.0 w.key.result c.self.invariant.kept found.1 found.2
-                (w.key.ensures ∙ sym (ap (λ (item : Item). item.key) same)) w.remove-in-Some.ensures.updates.0));
+                (leads_gone _ _ _ _ _ c.args.chunk found.0 w.in-Some.key c.self.invariant.kept found.1 found.2 key w.remove-in-Some.ensures.led));
             watched = watched-clear c.self.inside.slabs.state _ c.self.invariant.watched c.args.chunk;
             counted = rw c.remove.ensures.entries (counted_gone _ _ _ _ _ _ c.args.chunk found.0 c.self.invariant.counted (length-set c.self.inside.slabs.state.classes _ _) found.1 found.2);
             bulk = c.self.invariant.bulk;
           })
-      | in_default w ↦ absurd (none-some found.0 (w.in_default.ensures.value ∙ found.1))
+      | in_default w ↦ absurd (none-some found.0.key (w.in_default.ensures.key ∙ ap (λ (o : Option Item). option_map (λ (item : Item). item.key) o) found.1))
     ]
 
 pub returns-clause-clears : goal.returns-clause-clears
@@ -45,5 +46,5 @@ returns-clause-clears c =
           let cleared = rw w.self-inside-is at c.clear.ensures.cleared in
           rw (← c.self.view_is, cleared)
           (cleared_after c.self.inside.slabs.state c.args.chunk c.self.invariant.kept.accounted (rw cleared at c.clear.ensures.accounted) (omega (arith, handed)))
-      | in_default w ↦ absurd (none-some found.0 (w.in_default.ensures.value ∙ found.1))
+      | in_default w ↦ absurd (none-some found.0.key (w.in_default.ensures.key ∙ ap (λ (o : Option Item). option_map (λ (item : Item). item.key) o) found.1))
     ]

@@ -1,4 +1,4 @@
-use Rattle.std.proofs.Common.{◌≡◌, true, Some, sym, ◌∙◌, arith}
+use Rattle.std.proofs.Common.{◌≡◌, true, Some, sym, arith}
 use Rattle.std.proofs.lemmas.Bool.Decides.{nat_tests}
 use Rattle.std.specs.Ordering.{nat_cmp}
 use Rattle.std.specs.BTreeMap.{is_at}
@@ -9,8 +9,7 @@ use Rattle.mc_keeper.proofs.keeper.Keeper.hold.Goals as goal
 
 pub invariant_of-self-in-Some : goal.invariant_of-self-in-Some
 invariant_of-self-in-Some c =
-    let found : lookup (is_at (nat_cmp c.args.key)) c.self.inside.index.entries ≡ Some c.in-Some.chunk
-    = sym c.get.ensures.value ∙ sym c.copied.ensures ∙ c.in-Some.is in
+    let found : lookup (is_at (nat_cmp c.args.key)) c.self.inside.index ≡ Some c.in-Some.chunk = sym c.in-Some.ensures in
     let leads = (leads_linked _ _ _ _ c.args.key c.in-Some.chunk c.self.invariant.kept found).0 in
     let linked : leads.item.linked ≡ true = grind (arith, nat_tests, leads.linked) in
     record {

@@ -1,19 +1,27 @@
-use Rattle.std.proofs.Common.{rules, ◌≡◌, List, find, reverse, sym, ap, ◌∙◌}
-use borrow.Author.Tests.{tests}
-use Rattle.std.proofs.lemmas.Iterator.Search.{find_from_yields_List}
-use Rattle.std.proofs.lemmas.Iterator.Adapters.{YieldsList-from_rev_slice}
-use Rattle.std.proofs.lemmas.Iterator.Consumers.{YieldsList-from_copied}
+use Rattle.std.proofs.Common.{◌≡◌, ℕ, List, Option, Some, None, position, reverse, sym, ap, ◌∙◌, find, get_or}
+use Rattle.std.specs.Option.{option_map}
 use Rattle.mc_pages.specs.declared.ids.ChunkId.{ChunkId}
+use Rattle.mc_pages.specs.ClassState.{is_chunk}
 use Rattle.mc_machine.specs.Items.{has_key}
 use Rattle.mc_machine.specs.Holds.{held_by}
 use Rattle.mc_machine.specs.Machine.{Machine}
-use Rattle.mc_parts.proofs.HoldLists.{option_same}
+use Rattle.mc_parts.proofs.FoundHolds.{first_place, none_found}
 use Rattle.mc_keeper.proofs.keeper.Keeper.last_hold.Goals as goal
 
-pub returns : goal.returns
-returns c =
-    let found = find_from_yields_List (has_key c.args.self.now.items c.args.key) _ _ _ c.find.ensures.ran
-    (YieldsList-from_copied (YieldsList-from_rev_slice c.of.result.now (cc))) (λ x b q k. search (rules, tests)) in
+pub returns-in-Some-clause-hold : goal.returns-in-Some-clause-hold
+returns-in-Some-clause-hold c =
     let held : reverse c.of.result.now ≡ held_by c.args.self.now.holds c.args.worker
     = c.of.ensures ∙ ap (λ (m : Machine). held_by m.holds c.args.worker) c.self.view_is in
-    sym (option_same c.find.result) ∙ found ∙ ap (λ (chunks : List ChunkId). find (has_key c.args.self.now.items c.args.key) chunks) held
+    let first = first_place (has_key c.args.self.now.items c.args.key) (held_by c.args.self.now.holds c.args.worker) c.in-Some.place c.hold_at.result (sym c.in-Some.ensures) in
+    sym (first.0 ∙ ap Some (sym (c.hold_at.ensures c.hold_at.result ∙ ap (λ (chunks : List ChunkId). get_or chunks c.in-Some.place c.hold_at.result) held)))
+
+pub returns-in-Some-clause-first : goal.returns-in-Some-clause-first
+returns-in-Some-clause-first c =
+    let held : reverse c.of.result.now ≡ held_by c.args.self.now.holds c.args.worker
+    = c.of.ensures ∙ ap (λ (m : Machine). held_by m.holds c.args.worker) c.self.view_is in
+    let first = first_place (has_key c.args.self.now.items c.args.key) (held_by c.args.self.now.holds c.args.worker) c.in-Some.place c.hold_at.result (sym c.in-Some.ensures) in
+    let same = c.hold_at.ensures c.hold_at.result ∙ ap (λ (chunks : List ChunkId). get_or chunks c.in-Some.place c.hold_at.result) held in
+    ap (λ (chunk : ChunkId). position (λ x. is_chunk x chunk) (held_by c.args.self.now.holds c.args.worker)) same ∙ first.1
+
+pub returns-in-None-clause-hold : goal.returns-in-None-clause-hold
+returns-in-None-clause-hold c = sym (none_found (has_key c.args.self.now.items c.args.key) (held_by c.args.self.now.holds c.args.worker) (sym c.in-None.ensures))

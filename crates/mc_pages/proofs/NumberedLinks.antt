@@ -1,0 +1,14 @@
+-- What leads to a row has a number.
+use Rattle.std.proofs.Common.{◌≡◌, ℕ, ◌*◌, ◌<◌, ◌≤◌, length, Option, Some, None, arith}
+use Rattle.std.specs.Prelude.{IfSome}
+use Rattle.std.proofs.Math.Nat.{mul-le-mul_left}
+use Rattle.mc_pages.specs.declared.ids.ChunkId.{ChunkId}
+use Rattle.mc_pages.specs.Rows.{RowsState, IsRow}
+use Rattle.mc_pages.specs.Links.{HasNumber}
+
+pub numbered : (rows : RowsState) (link : Option ChunkId) → IfSome link (IsRow rows) → length rows.rows ≤ 16384 → rows.most ≤ 256 → HasNumber link
+numbered rows None row few most = tt
+numbered rows (Some chunk) row few most =
+    let some : 1 ≤ rows.most = omega (arith, row.0) in
+    let wide : chunk.page * 1 ≤ chunk.page * rows.most = mul-le-mul_left chunk.page some in
+    (omega (arith, row.1, few, wide), omega (arith, row.0, most))

@@ -1,0 +1,19 @@
+use Rattle.std.proofs.Common.{◌≤◌, length, arith}
+use Rattle.mc_pages.specs.Rows.{IsChange}
+use Rattle.mc_pages.specs.RowsInside.{rows_of}
+use Rattle.mc_pages.proofs.NumberedLinks.{numbered}
+use Rattle.mc_pages.proofs.rows.fields.Rows.put.Goals as goal
+
+pub to-requires : goal.to-requires
+to-requires c =
+    let whole : IsChange (rows_of c.self.inside) c.args.change = rw c.self.view_is c.requires in
+    let change = rw c.in-Link-Next-default.is at whole in
+    let few : length c.self.inside.rows.items ≤ 16384 = omega (arith, c.self.invariant.0, c.self.inside.rows.ok.0) in
+    numbered (rows_of c.self.inside) c.in-Link-Next-default.link change.1 few c.self.invariant.1
+
+pub to-requires-in-Link-Previous-default : goal.to-requires-in-Link-Previous-default
+to-requires-in-Link-Previous-default c =
+    let whole : IsChange (rows_of c.self.inside) c.args.change = rw c.self.view_is c.requires in
+    let change = rw c.in-Link-Previous-default.is at whole in
+    let few : length c.self.inside.rows.items ≤ 16384 = omega (arith, c.self.invariant.0, c.self.inside.rows.ok.0) in
+    numbered (rows_of c.self.inside) c.in-Link-Previous-default.link change.1 few c.self.invariant.1
