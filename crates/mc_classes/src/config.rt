@@ -138,8 +138,8 @@ impl Config {
         }
     }
 
-    /// The tests, in their order.
-    pub(crate) fn test(&self) -> Result<(), ConfigError>
+    /// Makes the tests, in their order, and allocates nothing.
+    pub fn test(&self) -> Result<(), ConfigError>
         ensures accepted { OnOk result (refusal_of self.now ≡ None) }
         ensures refused { IfErr result (λ error. refusal_of self.now ≡ Some error) }
     {
