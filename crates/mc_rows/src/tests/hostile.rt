@@ -1,5 +1,5 @@
 //! Scripts that are refused, and scripts at the edge of what is taken.
-use super::{FOUR_CLASSES, Row, WHOLE, assert_played, moves, play, plays_rows};
+use super::{FOUR_CLASSES, Row, WHOLE, assert_played, assert_same, moves, play, plays_rows};
 use mc_driver::RunFault;
 use std::test::Fail;
 
@@ -42,6 +42,13 @@ const TAKEN: [Row<'static>; 3] = [
     ),
 ];
 
+const SPENT: Row<'static> = (
+    "a held item holds up a move until the turns of the run are spent",
+    "1 set 1 22 100\n1 set 2 22 100\n1 set 3 22 100\n1 set 4 22 100\n1 set 5 22 100\n1 set 6 22 100\n1 set 7 22 100\n1 set 8 22 100\n1 hold 1\nreassign 4 1\nturn 1000000\nturn 1\n",
+    "STORED 1\r\nSTORED 2\r\nSTORED 3\r\nSTORED 4\r\nSTORED 5\r\nSTORED 6\r\nSTORED 7\r\nSTORED 8\r\nHELD 1\r\nOK\r\nTURN WENT 1 0 1 1000000 0\r\n",
+    Err(RunFault::Turns),
+);
+
 #[test]
 fn refused_lines(rt: HostRuntime) -> Result<(), Fail> {
     for script in REFUSED {
@@ -54,6 +61,21 @@ fn refused_lines(rt: HostRuntime) -> Result<(), Fail> {
 #[test]
 fn lines_at_the_edge(rt: HostRuntime) -> Result<(), Fail> {
     plays_rows(&rt, rt.alloc(), &TAKEN)?;
+    Ok(())
+}
+
+/// All turns of a run are done, and one more isn't: the replies before it were written, and the status is 5.
+#[test]
+fn spent_turns(rt: HostRuntime) -> Result<(), Fail> {
+    let (name, script, replies, end) = SPENT;
+    let played = play(rt.alloc(), FOUR_CLASSES, script.as_bytes(), WHOLE)?;
+    assert_played(&rt, &played, end, replies.as_bytes(), name);
+    assert_same(
+        &rt,
+        played.end.map_err(|fault| fault.status()),
+        Err(5),
+        name,
+    );
     Ok(())
 }
 
