@@ -1,5 +1,5 @@
 -- What leads to a row has a number.
-use Rattle.std.proofs.Common.{◌≡◌, ℕ, ◌*◌, ◌<◌, ◌≤◌, length, Option, Some, None, arith}
+use Rattle.std.proofs.Common.{◌*◌, ◌≤◌, length, Option, Some, None, arith}
 use Rattle.std.specs.Prelude.{IfSome}
 use Rattle.std.proofs.Math.Nat.{mul-le-mul_left}
 use Rattle.mc_pages.specs.declared.ids.ChunkId.{ChunkId}

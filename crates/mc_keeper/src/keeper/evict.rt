@@ -61,7 +61,7 @@ impl Keeper {
     /// Evicts the chunk's item: it is gone, and the chunk is put back.
     fn evict(&mut self, class: ClassId, chunk: ChunkId)
         requires class { IsClass self.old.slabs class }
-        requires idle { is_linked_unheld self.old chunk ≡ true }
+        requires unheld { is_linked_unheld self.old chunk ≡ true }
         requires listed { Contains (class_at self.old.slabs class).order chunk }
         ensures { self.new ≡ with_eviction self.old class (Some chunk) }
     {

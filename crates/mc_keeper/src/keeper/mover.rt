@@ -188,7 +188,7 @@ impl Keeper {
         requires class { IsClass self.old.slabs class }
         requires moving { option_map (λ move. move.page) self.old.slabs.moving ≡ Some chunk.page }
         requires own { class_of_page self.old.slabs chunk.page ≡ class }
-        requires idle { is_linked_unheld self.old chunk ≡ true }
+        requires unheld { is_linked_unheld self.old chunk ≡ true }
         ensures saved { IfOk result (λ found. saved self.old class chunk ≡ record { machine = self.new; found = found }) }
         ensures clears { IfOk result (λ found. is_held_up found ≡ false → is_cleared self.new.slabs class chunk ≡ true) }
     {
@@ -223,7 +223,7 @@ impl Keeper {
     /// Takes the item of a chunk to a free one, which gets the old one's place in the hand-out order.
     fn rescue(&mut self, old: ChunkId, new: ChunkId) -> Result<(), AllocError>
         requires moving { option_map (λ move. move.page) self.old.slabs.moving ≡ Some old.page }
-        requires idle { is_linked_unheld self.old old ≡ true }
+        requires unheld { is_linked_unheld self.old old ≡ true }
         requires free { Contains (class_of_chunk self.old.slabs old).free new }
         requires off { new.page ≢ old.page }
         ensures rescued { OnOk result (self.new ≡ (with_saved self.old old (Some new)).machine) }
@@ -242,7 +242,7 @@ impl Keeper {
     /// Evicts the chunk's item, and clears the chunk.
     fn evict_moving(&mut self, chunk: ChunkId)
         requires moving { option_map (λ move. move.page) self.old.slabs.moving ≡ Some chunk.page }
-        requires idle { is_linked_unheld self.old chunk ≡ true }
+        requires unheld { is_linked_unheld self.old chunk ≡ true }
         ensures evicted { self.new ≡ (with_saved self.old chunk None).machine }
         ensures clears { is_cleared self.new.slabs (class_of_page self.old.slabs chunk.page) chunk ≡ true }
     {

@@ -24,7 +24,7 @@ back-requires c =
 pub invariant_of-self : goal.invariant_of-self
 invariant_of-self c =
     let valid : IsClass c.self.inside.slabs.state c.args.class = rw (ap (λ (m : Machine). m.slabs) c.self.view_is) c.requires.class in
-    let idle : is_linked c.self.inside.items c.args.chunk ≡ true = rw (ap (λ (m : Machine). m.items) c.self.view_is) (and_parts _ _ c.requires.idle).0 in
+    let idle : is_linked c.self.inside.items c.args.chunk ≡ true = rw (ap (λ (m : Machine). m.items) c.self.view_is) (and_parts _ _ c.requires.unheld).0 in
     let found = linked_item c.self.inside.items c.args.chunk idle in
     let key : c.in-Some.key ≡ found.0.key
     = same_Some c.in-Some.key found.0.key (c.in-Some.ensures.key ∙ ap (λ (o : Option Item). option_map (λ (item : Item). item.key) o) found.1) in
@@ -44,6 +44,6 @@ invariant_of-self c =
 -- the chunk has an item
 pub invariant_of-self-in_default : goal.invariant_of-self-in_default
 invariant_of-self-in_default c =
-    let idle : is_linked c.self.inside.items c.args.chunk ≡ true = rw (ap (λ (m : Machine). m.items) c.self.view_is) (and_parts _ _ c.requires.idle).0 in
+    let idle : is_linked c.self.inside.items c.args.chunk ≡ true = rw (ap (λ (m : Machine). m.items) c.self.view_is) (and_parts _ _ c.requires.unheld).0 in
     let found = linked_item c.self.inside.items c.args.chunk idle in
     absurd (c.in_default.not-Some found.0.key (c.remove.ensures.key ∙ ap (λ (o : Option Item). option_map (λ (item : Item). item.key) o) found.1))

@@ -11,7 +11,7 @@ use Rattle.mc_keeper.proofs.keeper.Keeper.evict_moving.Goals as goal
 
 pub clear-requires-clause-listed : goal.clear-requires-clause-listed
 clear-requires-clause-listed c =
-    let found = idle_here _ _ c.args.chunk c.self.view_is c.requires.idle in
+    let found = idle_here _ _ c.args.chunk c.self.view_is c.requires.unheld in
     let handed = handed_item _ _ _ _ c.args.chunk found.0 c.self.invariant.kept found.1 in
     elim c.match-remove.branch [
       | in-Some w ↦ rw w.self-inside-is (omega (arith, handed))
@@ -20,7 +20,7 @@ clear-requires-clause-listed c =
 
 pub invariant_of-self : goal.invariant_of-self
 invariant_of-self c =
-    let found = idle_here _ _ c.args.chunk c.self.view_is c.requires.idle in
+    let found = idle_here _ _ c.args.chunk c.self.view_is c.requires.unheld in
     elim c.match-remove.branch [
       | in-Some w ↦
           let key : w.in-Some.key ≡ found.0.key
@@ -39,7 +39,7 @@ invariant_of-self c =
 
 pub returns-clause-clears : goal.returns-clause-clears
 returns-clause-clears c =
-    let found = idle_here _ _ c.args.chunk c.self.view_is c.requires.idle in
+    let found = idle_here _ _ c.args.chunk c.self.view_is c.requires.unheld in
     let handed = handed_item _ _ _ _ c.args.chunk found.0 c.self.invariant.kept found.1 in
     elim c.match-remove.branch [
       | in-Some w ↦

@@ -5,8 +5,8 @@ use Rattle.mc_machine.specs.Supply.{eviction_tries}
 use Rattle.mc_pages.proofs.FirstFound.{found_holds}
 use Rattle.mc_keeper.proofs.keeper.Keeper.relieve.Goals as goal
 
-pub evict-requires-clause-idle : goal.evict-requires-clause-idle
-evict-requires-clause-idle c =
+pub evict-requires-clause-unheld : goal.evict-requires-clause-unheld
+evict-requires-clause-unheld c =
     (found_holds (is_linked_unheld c.args.self.now) (class_at c.args.self.now.slabs c.args.class).order eviction_tries c.in-Some.chunk (sym c.in-Some.ensures)).0
 
 pub evict-requires-clause-listed : goal.evict-requires-clause-listed

@@ -15,18 +15,18 @@ use Rattle.mc_keeper.proofs.keeper.Keeper.rescue.Goals as goal
 
 pub replace-requires-clause-handed_out : goal.replace-requires-clause-handed_out
 replace-requires-clause-handed_out c =
-    let found = idle_here _ _ c.args.old c.self.view_is c.requires.idle in
+    let found = idle_here _ _ c.args.old c.self.view_is c.requires.unheld in
     contains_counted c.args.old (class_of_chunk c.self.inside.slabs.state c.args.old).order (handed_item _ _ _ _ c.args.old found.0 c.self.invariant.kept found.1)
 
 pub clear-requires-clause-listed : goal.clear-requires-clause-listed
 clear-requires-clause-listed c =
-    let found = idle_here _ _ c.args.old c.self.view_is c.requires.idle in
+    let found = idle_here _ _ c.args.old c.self.view_is c.requires.unheld in
     let free : Contains (class_of_chunk c.self.inside.slabs.state c.args.old).free c.args.new = rw (ap (λ (m : Machine). m.slabs) c.self.view_is) c.requires.free in
     rw c.replace.ensures.replaced (listed_still _ _ _ _ c.args.old c.args.new found.0 c.self.invariant.kept found.1 found.2 free)
 
 pub invariant_of-self-2 : goal.invariant_of-self-2
 invariant_of-self-2 c =
-    let found = idle_here _ _ c.args.old c.self.view_is c.requires.idle in
+    let found = idle_here _ _ c.args.old c.self.view_is c.requires.unheld in
     let item : Item = found.0 in
     let free : Contains (class_of_chunk c.self.inside.slabs.state c.args.old).free c.args.new = rw (ap (λ (m : Machine). m.slabs) c.self.view_is) c.requires.free in
     let slabs : c.clear.new.self.state ≡ after_clear (after_replace c.self.inside.slabs.state c.args.new c.args.old) c.args.old
@@ -51,7 +51,7 @@ invariant_of-self-2 c =
 
 pub returns-clause-clears : goal.returns-clause-clears
 returns-clause-clears c =
-    let found = idle_here _ _ c.args.old c.self.view_is c.requires.idle in
+    let found = idle_here _ _ c.args.old c.self.view_is c.requires.unheld in
     let free : Contains (class_of_chunk c.self.inside.slabs.state c.args.old).free c.args.new = rw (ap (λ (m : Machine). m.slabs) c.self.view_is) c.requires.free in
     let slabs : c.clear.new.self.state ≡ after_clear (after_replace c.self.inside.slabs.state c.args.new c.args.old) c.args.old
     = c.clear.ensures.cleared ∙ ap (λ (s : SlabState). after_clear s c.args.old) c.replace.ensures.replaced in

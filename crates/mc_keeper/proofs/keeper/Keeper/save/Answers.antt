@@ -9,8 +9,8 @@ target-requires c = rw c.sweep.ensures (class_swept c.args.self.now c.args.class
 pub rescue-requires-clause-moving : goal.rescue-requires-clause-moving
 rescue-requires-clause-moving c = rw (c.sweep.ensures, moving-swept c.args.self.now c.args.class) c.requires.moving
 
-pub rescue-requires-clause-idle : goal.rescue-requires-clause-idle
-rescue-requires-clause-idle c = rw c.sweep.ensures (idle_swept c.args.self.now c.args.class c.args.chunk c.requires.idle)
+pub rescue-requires-clause-unheld : goal.rescue-requires-clause-unheld
+rescue-requires-clause-unheld c = rw c.sweep.ensures (idle_swept c.args.self.now c.args.class c.args.chunk c.requires.unheld)
 
 pub rescue-requires-clause-free : goal.rescue-requires-clause-free
 rescue-requires-clause-free c =
@@ -22,8 +22,8 @@ rescue-requires-clause-off c = (target_free c.sweep.new.self c.args.class c.args
 pub evict_moving-requires-clause-moving : goal.evict_moving-requires-clause-moving
 evict_moving-requires-clause-moving c = rw (c.sweep.ensures, moving-swept c.args.self.now c.args.class) c.requires.moving
 
-pub evict_moving-requires-clause-idle : goal.evict_moving-requires-clause-idle
-evict_moving-requires-clause-idle c = rw c.sweep.ensures (idle_swept c.args.self.now c.args.class c.args.chunk c.requires.idle)
+pub evict_moving-requires-clause-unheld : goal.evict_moving-requires-clause-unheld
+evict_moving-requires-clause-unheld c = rw c.sweep.ensures (idle_swept c.args.self.now c.args.class c.args.chunk c.requires.unheld)
 
 pub returns-in_ok-rescue-in-Some-clause-clears : goal.returns-in_ok-rescue-in-Some-clause-clears
 returns-in_ok-rescue-in-Some-clause-clears c =

@@ -1,4 +1,4 @@
-use Rattle.std.proofs.Common.{◌≡◌, ◌<◌, ℕ, get_or, map, List, Some, length, reverse, Contains, position, sym, ap, ◌∙◌, Vec, Global, arith}
+use Rattle.std.proofs.Common.{◌≡◌, ◌<◌, ℕ, get_or, map, List, Some, length, reverse, Contains, position, ap, ◌∙◌, Vec, Global, arith}
 use Rattle.std.proofs.lemmas.List.{length-map, length-reverse, length-set}
 use Rattle.std.specs.Vec.{with_item}
 use Rattle.mc_pages.specs.declared.ids.ChunkId.{ChunkId}

@@ -1,4 +1,4 @@
-use Rattle.std.proofs.Common.{◌≡◌, ◌∙◌, sym, ap, refl, None, Option}
+use Rattle.std.proofs.Common.{◌∙◌, ap, refl, None, Option}
 use Rattle.std.specs.Option.{option_map}
 use Rattle.std.specs.Vec.{with_item}
 use Rattle.mc_machine.specs.Item.{Item}

@@ -1,9 +1,8 @@
-use Rattle.std.proofs.Common.{◌≡◌, ◌∙◌, sym, refl}
+use Rattle.std.proofs.Common.{sym, refl}
 use Rattle.std.specs.Option.{option_map}
 use Rattle.std.specs.Vec.{with_item}
 use Rattle.mc_machine.specs.Item.{unlinked}
-use Rattle.mc_machine.specs.Items.{item_at}
-use Rattle.mc_parts.specs.ItemsByPlace.{HasPlace, items_from, places_of}
+use Rattle.mc_parts.specs.ItemsByPlace.{HasPlace, places_of}
 use Rattle.mc_parts.proofs.ItemPlaces.{none_there, read_there, unlinked_there}
 use Rattle.mc_parts.proofs.table.ItemTable.unlink.Goals as goal
 
