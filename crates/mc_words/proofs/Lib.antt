@@ -12,5 +12,6 @@ pub mod OwnerViews
 pub mod Filled
 pub mod Judging
 pub mod Opens
+pub mod Splits
 pub mod Pages
 pub mod ChangeViews

@@ -194,22 +194,23 @@ module _ (setup : Setup) (start : ℕ) (sound : IsSound setup.table) (stripes : 
       made zero v at more = (refl, (let e : setup.hands - 1 ≡ v.spare = ap (λ (u : View). u.spare) (maybe.some-injective _ v at) in omega arith))
       made (suc id) v at more = absurd (maybe.some-ne-none v (sym at))
 
-  -- what the first hand knows is of the first moment, and so it notes
-  pub first_lawful : LawfulView (first_view setup)
-  first_lawful = record {
+  -- what a hand that did nothing knows is of the first moment
+  pub new_lawful : (hand spare : ℕ) → hand < setup.hands → LawfulView (new_view setup hand spare)
+  new_lawful hand spare within = record {
     moment = first;
-    hand = 0;
+    hand = hand;
     lawful = lawful_first setup.table setup.config.stripes setup.hands start sound stripes hands few small;
     same_table = refl;
     hands = length-map-range_with_len _ 0 setup.hands;
     stripes = length-replicate setup.config.stripes new_stripe;
-    there = ap (λ (v : View). is_some v.row.ids.number) (view_first 0 (setup.hands - 1) (omega arith));
-    is = sym (view_first 0 (setup.hands - 1) (omega arith));
+    there = ap (λ (v : View). is_some v.row.ids.number) (view_first hand spare within);
+    is = sym (view_first hand spare within);
     words = first_words setup start;
     cuts = replicate (pages_of setup.table) 0;
     are = words_first setup start small;
     cut = λ page has. absurd (let none = no_class (pages_of setup.table) page in omega arith);
   }
 
-pub first_noted : (setup : Setup) → IsNoted (first_view setup, []) 0 0 Neither
-first_noted setup = (refl, omega arith, refl, refl, (refl, map_map (λ (stripe : ℕ). None) is_some (range_with_len 0 setup.config.stripes)))
+-- and so it notes
+pub new_noted : (setup : Setup) (hand spare : ℕ) → hand < 64 → IsNoted (new_view setup hand spare, []) hand 0 Neither
+new_noted setup hand spare small = (refl, small, refl, refl, (refl, map_map (λ (stripe : ℕ). None) is_some (range_with_len 0 setup.config.stripes)))

@@ -12,3 +12,5 @@ pub mod Places
 pub mod Fresh
 pub mod Owner
 pub mod Arenas
+pub mod Refused
+pub mod Hands

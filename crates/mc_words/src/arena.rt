@@ -1,5 +1,6 @@
 //! The arena.
 ghost use Rattle.std.specs.Prelude.{◌≡◌, ◌+◌, ◌^◌, ◌<◌, ◌≤◌};
+ghost use Rattle.mc_classes.specs.Classes.{IsSound};
 ghost use Rattle.mc_core.specs.State.{most_of, page_words};
 ghost use Rattle.mc_words.specs.Layout.{data_from, heads_from, pages_from, word_count};
 
@@ -22,7 +23,10 @@ pub struct Arena {
     ghost planned: { table.shared.key ≡ plan },
     ghost words: { table.shared.table_id.words ≡ word_count plan },
     ghost slots: { table.shared.table_id.slots ≡ 1 + plan.config.stripes },
+    ghost sound: { IsSound plan.table },
+    ghost some: { 1 ≤ plan.config.stripes },
     ghost few: { plan.config.stripes ≤ 64 },
+    ghost hands: { (1 ≤ plan.hands) × (plan.hands ≤ 64) },
     ghost places: { (first_page ≡ pages_from plan) × (first_head ≡ heads_from plan) × (first_data ≡ data_from plan) },
     ghost counts: { (most ≡ most_of plan.table) × (words_a_page ≡ page_words plan.table) },
     ghost small: { word_count plan < 2 ^ 63 },

@@ -24,6 +24,26 @@ impl Model for Plan {
 }
 
 impl Plan {
+    pub(crate) fn new(config: Config, classes: ClassTable, hands: u64) -> Plan
+        requires stripes { (1 ≤ config.stripes) × (config.stripes ≤ 64) }
+        requires hands { (1 ≤ hands) × (hands ≤ 64) }
+        ensures plan { result ≡ record { config = config; table = classes; hands = hands } }
+    {
+        Plan {
+            config,
+            classes,
+            hands,
+        }
+    }
+
+    /// How many hands there are.
+    pub(crate) fn hands(&self) -> u64
+        ensures hands { result ≡ self.now.hands }
+        ensures few { (1 ≤ result) × (result ≤ 64) }
+    {
+        self.hands
+    }
+
     /// What the arena was configured with.
     pub(crate) fn config(&self) -> &Config
         ensures config { result.now ≡ self.now.config }

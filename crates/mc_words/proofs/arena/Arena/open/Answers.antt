@@ -1,4 +1,4 @@
-use Rattle.std.proofs.Common.{List, ℕ, ap, sym, subst, ◌∙◌}
+use Rattle.std.proofs.Common.{List, ℕ, ◌-◌, arith, ap, sym, subst, ◌∙◌}
 use Rattle.atomic_table.specs.Table.{opening}
 use Rattle.mc_words.specs.declared.slot.Slot.{Slot}
 use Rattle.mc_words.specs.declared.locks.Locks.TheVariants.{Neither}
@@ -8,7 +8,7 @@ use Rattle.mc_words.specs.Happens.{LawfulView}
 use Rattle.mc_words.specs.Opening.{first_view}
 use Rattle.mc_words.specs.Out.{IsNoted}
 use Rattle.mc_words.specs.Told.{Sits}
-use Rattle.mc_words.proofs.Opens.{opens, first_lawful, first_noted}
+use Rattle.mc_words.proofs.Opens.{opens, new_lawful, new_noted}
 use Rattle.mc_words.proofs.arena.Arena.open.Goals as goal
 
 pub new-requires : goal.new-requires
@@ -19,7 +19,7 @@ new-requires c =
     (opens setup c.args.start told.sound told.stripes.0 told.hands.0 told.hands.1 c.requires.start)
 
 pub invariant_of-hand : goal.invariant_of-hand
-invariant_of-hand c = record { noted = subst (λ (me : Sits). IsNoted me 0 0 Neither) (sym c.in-Ok.ensures.ok.4) (first_noted c.args.plan) }
+invariant_of-hand c = record { noted = subst (λ (me : Sits). IsNoted me 0 0 Neither) (sym c.in-Ok.ensures.ok.4) (let setup : Setup = c.args.plan in new_noted setup 0 (setup.hands - 1) (omega arith)) }
 
 pub returns-clause-arena : goal.returns-clause-arena
 returns-clause-arena c =
@@ -30,7 +30,7 @@ returns-clause-arena c =
       record {
         same_table = ok.2;
         setup = ap (λ (v : View). v.setup) view ∙ sym ok.5;
-        lawful = subst LawfulView (sym view) (first_lawful setup c.args.start told.sound told.stripes.0 told.hands.0 told.hands.1 c.requires.start);
+        lawful = subst LawfulView (sym view) (new_lawful setup c.args.start told.sound told.stripes.0 told.hands.0 told.hands.1 c.requires.start 0 (setup.hands - 1) (let some = told.hands.0 in omega arith));
       },
       ok.5,
     )

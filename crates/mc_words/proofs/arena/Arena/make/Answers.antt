@@ -1,0 +1,60 @@
+use Rattle.std.proofs.Common.{◌≡◌, ℕ, ◌-◌, ◌≤◌, [], sym, ap, subst, ◌∙◌, arith}
+use Rattle.mc_classes.specs.Classes.{IsSound}
+use Rattle.mc_words.specs.declared.arena.Arena.{Arena}
+use Rattle.mc_words.specs.declared.locks.Locks.TheVariants.{Neither}
+use Rattle.mc_words.specs.View.{Setup, View, new_view}
+use Rattle.mc_words.specs.Happens.{LawfulView}
+use Rattle.mc_words.specs.Opening.{next_view}
+use Rattle.mc_words.specs.Out.{IsNoted}
+use Rattle.mc_words.specs.Told.{Sits}
+use Rattle.mc_words.proofs.Opens.{new_lawful, new_noted}
+use Rattle.mc_words.proofs.Splits.{splits, one_lawful, next_is}
+use Rattle.mc_words.proofs.arena.Arena.make.Goals as goal
+
+pub split_seat-seat-requires : goal.split_seat-seat-requires
+split_seat-seat-requires c =
+    let arena : Arena = c.args.self.now in
+    let setup : Setup = arena.table.shared.key in
+    let view : View = c.args.first.now.seat.me.0 in
+    let is : view ≡ new_view setup 0 (setup.hands - c.args.number) = c.requires.first in
+    let spare : view.spare ≡ setup.hands - c.args.number = ap (λ (v : View). v.spare) is in
+    let near = c.requires.number.1 in (
+      c.requires.arena.same_table,
+      (let e = arena.words in omega arith),
+      splits setup c.args.first.now.seat.id view (omega arith) (ap (λ (v : View). v.setup) is),
+    )
+
+pub invariant_of-result : goal.invariant_of-result
+invariant_of-result c =
+    let arena : Arena = c.args.self.now in
+    let setup : Setup = arena.table.shared.key in
+    let number : ℕ = c.args.number in
+    let few : setup.hands ≤ 64 = subst (λ (s : Setup). s.hands ≤ 64) (sym arena.planned) arena.hands.1 in
+    let near = c.requires.number.1 in
+    let me : c.split_seat-seat.result.me ≡ (new_view setup number 0, []) =
+        c.split_seat-seat.ensures.4 ∙ ap (λ (v : View). (v, [])) (ap next_view c.requires.first ∙ next_is setup number near) in
+    record { noted = subst (λ (me : Sits). IsNoted me number 0 Neither) (sym me) (new_noted setup number 0 (omega arith)) }
+
+pub returns-clause-arena : goal.returns-clause-arena
+returns-clause-arena c =
+    let arena : Arena = c.args.self.now in
+    let setup : Setup = arena.table.shared.key in
+    let number : ℕ = c.args.number in
+    let plan = sym arena.planned in
+    let sound : IsSound setup.table = subst (λ (s : Setup). IsSound s.table) plan arena.sound in
+    let some : 1 ≤ setup.config.stripes = subst (λ (s : Setup). 1 ≤ s.config.stripes) plan arena.some in
+    let hands : (1 ≤ setup.hands) × (setup.hands ≤ 64) = subst (λ (s : Setup). (1 ≤ s.hands) × (s.hands ≤ 64)) plan arena.hands in
+    let told = c.split_seat-seat.ensures in
+    let one = ap (λ (me : Sits). me.0) told.2 in
+    let other = ap (λ (me : Sits). me.0) told.4 ∙ (ap next_view c.requires.first ∙ next_is setup number c.requires.number.1) in (
+      record {
+        same_table = told.0 ∙ c.requires.arena.same_table;
+        setup = ap (λ (v : View). v.setup) one ∙ c.requires.arena.setup;
+        lawful = subst LawfulView (sym one) (one_lawful c.args.first.now.seat.me.0 c.requires.arena.lawful);
+      },
+      record {
+        same_table = told.3 ∙ c.requires.arena.same_table;
+        setup = ap (λ (v : View). v.setup) other;
+        lawful = subst LawfulView (sym other) (new_lawful setup 0 sound some hands.0 hands.1 (omega arith) number 0 c.requires.number.1);
+      },
+    )

@@ -1,0 +1,23 @@
+-- The hands of a new arena.
+use Rattle.std.specs.Prelude.{◌≡◌, ℕ, ◌+◌, List, [], ◌∷◌, length, ⊤}
+use Rattle.mc_classes.specs.declared.config.Config.{Config}
+use Rattle.mc_classes.specs.Classes.{IsTableOf}
+use Rattle.mc_words.specs.declared.arena.Arena.{Arena}
+use Rattle.mc_words.specs.declared.hand.Hand.{Hand}
+use Rattle.mc_words.specs.View.{Setup, new_view}
+use Rattle.mc_words.specs.Arenas.{IsHandOf, setup_of, view}
+
+-- made with this configuration, its classes, and so many hands
+pub record IsMadeWith (config : Config) (hands : ℕ) (setup : Setup) : Type 0 where
+  pub config_is : setup.config ≡ config
+  pub table : IsTableOf config setup.table
+  pub hands_are : setup.hands ≡ hands
+
+-- these are hands of the arena that did nothing yet, numbered on from here
+abbrev pub AreHandsFrom : Arena → ℕ → List Hand → Type 0
+AreHandsFrom arena number [] = ⊤
+AreHandsFrom arena number (hand ∷ hands) = IsHandOf arena hand × (view hand ≡ new_view (setup_of arena) number 0) × AreHandsFrom arena (1 + number) hands
+
+-- all hands of a new arena, numbered from 0
+abbrev pub AreNewHands : Arena → List Hand → Type 0
+AreNewHands arena hands = (length hands ≡ (setup_of arena).hands) × AreHandsFrom arena 0 hands
