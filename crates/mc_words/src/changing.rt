@@ -25,6 +25,7 @@ impl Arena {
         requires held { (view hand.old).slabs ≡ Some held.old.shared }
         ensures arena { IsHandOf self.now hand.new }
         ensures locks { hand.new.locks ≡ hand.old.locks }
+        ensures held { (view hand.new).slabs ≡ Some held.new.shared }
         ensures set { held.new.shared ≡ record held.old.shared { automove = mode } }
         ensures happens { Happens (view hand.old) (change.SetAutomove mode ∷ []) step.MissSlabs (view hand.new) }
         ensures view { view hand.new ≡ slabs_changed held.old.shared (change.SetAutomove mode) (hand.old.number + 1) (view hand.old) }
@@ -48,6 +49,7 @@ impl Arena {
         requires held { (view hand.old).slabs ≡ Some held.old.shared }
         ensures arena { IsHandOf self.now hand.new }
         ensures locks { hand.new.locks ≡ hand.old.locks }
+        ensures held { (view hand.new).slabs ≡ Some held.new.shared }
         ensures given { IfOk result (λ page. (next_page held.old.shared ≡ Some page) × (held.new.shared ≡ after_grow held.old.shared class page)) }
         ensures happens { IfOk result (λ page. Happens (view hand.old) (change.Grow class ∷ []) step.MissSlabs (view hand.new)) }
         ensures view { IfOk result (λ page. view hand.new ≡ slabs_changed held.old.shared (change.Grow class) (hand.old.number + 1) (view hand.old)) }

@@ -23,6 +23,7 @@ impl Arena {
         ensures same { fresh.new ≡ fresh.old }
         ensures happens { Happens (view hand.old) [] (step.Fill fresh.old.chunk place word) (view hand.new) }
         ensures filled { view hand.new ≡ word_filled fresh.old.chunk place word (view hand.old) }
+        ensures fresh { IsFreshOf (view hand.new) fresh.new.chunk fresh.new.room }
     {
         let at = self.data_word(fresh.room, fresh.chunk, place);
         let step = Step::Fill(fresh.chunk, place, word);

@@ -4,9 +4,10 @@ use Rattle.mc_core.specs.declared.event.Step.TheVariants as core
 use Rattle.mc_words.specs.View.{View, Setup}
 use Rattle.mc_words.specs.Layout.{data_word, config_from}
 use Rattle.mc_words.specs.Happens.{MayWrite}
+use Rattle.mc_words.specs.Fresh.{IsFreshOf}
 use Rattle.mc_words.proofs.Owners.{may_fill, fill_near}
 use Rattle.mc_words.proofs.OwnerViews.{filled_word}
-use Rattle.mc_words.proofs.Filled.{fill_holds}
+use Rattle.mc_words.proofs.Filled.{fill_holds, still_fresh}
 use Rattle.mc_words.proofs.Locked.{noted_same}
 use Rattle.mc_words.proofs.arena.Arena.fill.Goals as goal
 
@@ -38,3 +39,10 @@ invariant_of-hand c =
 
 pub returns-clause-filled : goal.returns-clause-filled
 returns-clause-filled c = filled_word c.args.hand.now.seat.me.0 c.write.new.seat.me.0 c.args.fresh.now.chunk c.args.place c.args.word c.write.ensures.happens
+
+pub returns-clause-fresh : goal.returns-clause-fresh
+returns-clause-fresh c =
+    let view = c.args.hand.now.seat.me.0 in
+    let chunk = c.args.fresh.now.chunk in
+    let is = filled_word view c.write.new.seat.me.0 chunk c.args.place c.args.word c.write.ensures.happens in
+    subst (λ (v : View). IsFreshOf v chunk c.args.fresh.now.room) (sym is) (still_fresh chunk c.args.place c.args.word view c.args.fresh.now.room c.requires.fresh)

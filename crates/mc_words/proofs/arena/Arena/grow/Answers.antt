@@ -1,7 +1,8 @@
 use Rattle.std.proofs.Common.{◌≡◌, ◌<◌, ℕ, true, Some, refl, ap, sym, subst, ◌∙◌, length}
 use Rattle.mc_classes.specs.Classes.{pages_of}
 use Rattle.mc_pages.specs.SlabState.{SlabState, IsClass}
-use Rattle.mc_pages.specs.Changes.{next_page}
+use Rattle.mc_pages.specs.Changes.{after_grow, next_page}
+use Rattle.mc_core.specs.Silent.{grown}
 use Rattle.mc_core.specs.State.{is_class}
 use Rattle.mc_core.specs.declared.event.Change.TheVariants.{Grow}
 use Rattle.mc_core.specs.declared.event.Step.TheVariants as core
@@ -60,3 +61,11 @@ invariant_of-hand c =
 
 pub returns-clause-view : goal.returns-clause-view
 returns-clause-view c = changed_slabs c.args.hand.now.seat.me.0 c.tell_page.new.seat.me.0 c.args.held.now.shared (Grow c.args.class) c.args.hand.now.number (λ s hand. refl) c.requires.held c.args.hand.now.noted.0 c.tell_page.ensures.happens
+
+pub returns-clause-held : goal.returns-clause-held
+returns-clause-held c =
+    let slabs : SlabState = c.args.held.now.shared in
+    let class = c.args.class in
+    let next : next_page slabs ≡ Some c.in_ok-page.page = ap next_page (sym c.slabs_mut.ensures.slabs) ∙ c.in_ok-page.ensures.given.0 in
+    let is = changed_slabs c.args.hand.now.seat.me.0 c.tell_page.new.seat.me.0 slabs (Grow class) c.args.hand.now.number (λ s hand. refl) c.requires.held c.args.hand.now.noted.0 c.tell_page.ensures.happens in
+    ap (λ (v : View). v.slabs) is ∙ ap Some (ap (grown slabs class) next ∙ (ap (λ (x : SlabState). after_grow x class c.in_ok-page.page) (sym c.slabs_mut.ensures.slabs) ∙ sym c.in_ok-page.ensures.given.1))
