@@ -212,4 +212,4 @@ module _ (setup : Setup) (start : ℕ) (sound : IsSound setup.table) (stripes : 
   }
 
 pub first_noted : (setup : Setup) → IsNoted (first_view setup, []) 0 0 Neither
-first_noted setup = (refl, omega arith, refl, refl, (refl, map_map (λ (stripe : ℕ). None) is_some (range_with_len 0 setup.config.stripes)))
+first_noted setup = (refl, omega arith, refl, refl, (refl, map_map (λ (stripe : ℕ). None) is_some (range_with_len 0 setup.config.stripes), refl))
