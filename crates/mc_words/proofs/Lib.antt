@@ -6,6 +6,7 @@ pub mod OutFirst
 pub mod Knows
 pub mod LockViews
 pub mod Locked
+pub mod Unlocked
 pub mod Heads
 pub mod Owners
 pub mod OwnerViews

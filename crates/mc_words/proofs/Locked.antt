@@ -1,5 +1,5 @@
 -- The locks that a hand keeps note of are those whose values are out with it.
-use Rattle.std.proofs.Common.{◌≡◌, ℕ, zero, suc, ◌==◌, Bool, true, false, List, [], ◌∷◌, length, map, is_some, slice_index_or, ◌<◌, Some, None, zero-add, arith, eqb-true, refl, sym, ap, ◌∙◌}
+use Rattle.std.proofs.Common.{◌≡◌, ℕ, zero, suc, ◌==◌, Bool, true, false, nat_lt, List, [], ◌∷◌, length, map, is_some, slice_index_or, ◌<◌, Some, None, zero-add, arith, eqb-true, refl, sym, ap, ◌∙◌}
 use Rattle.std.proofs.lemmas.List.{get_or-map, length-map}
 use Rattle.std.proofs.lemmas.List.FromFn.{get_or-map-range_with_len, length-map-range_with_len}
 use Rattle.mc_pages.specs.SlabState.{SlabState}
@@ -11,7 +11,7 @@ use Rattle.mc_words.specs.declared.locks.Locks.TheVariants.{Neither, Slabs, Stri
 use Rattle.mc_words.specs.View.{Setup, View}
 use Rattle.mc_words.specs.Told.{Sits}
 use Rattle.mc_words.specs.Happens.{IsSameHand}
-use Rattle.mc_words.specs.Out.{slots_out, slots_in, has_slabs_in, has_stripe_in, HasLocks, IsNoted, with_last, with_slabs, without_slabs, with_stripe, without_stripe, has_no_stripe}
+use Rattle.mc_words.specs.Out.{slots_out, slots_in, has_slabs_in, has_stripe_in, is_within, HasLocks, IsNoted, with_last, with_slabs, without_slabs, with_stripe, without_stripe, has_no_stripe}
 use Rattle.mc_words.specs.Taking.{Gains, Loses, IsOneHand}
 
 slots_with : (locks : Locks) → has_slabs_in locks ≡ false → zero ∷ slots_in locks ≡ slots_in (with_slabs locks)
@@ -35,6 +35,36 @@ stripes_with (Stripe stripe) stripes = refl
 stripes_with (SlabsLast stripe) stripes = refl
 stripes_with (StripeLast stripe) stripes = refl
 
+-- whose stripe is the same, is within as many
+within_with : (stripes : ℕ) (locks : Locks) → is_within stripes locks ≡ is_within stripes (with_slabs locks)
+within_with stripes Neither = refl
+within_with stripes Slabs = refl
+within_with stripes (Stripe stripe) = refl
+within_with stripes (SlabsLast stripe) = refl
+within_with stripes (StripeLast stripe) = refl
+
+within_without : (stripes : ℕ) (locks : Locks) → is_within stripes locks ≡ true → is_within stripes (without_slabs locks) ≡ true
+within_without stripes Neither within = refl
+within_without stripes Slabs within = refl
+within_without stripes (Stripe stripe) within = within
+within_without stripes (SlabsLast stripe) within = within
+within_without stripes (StripeLast stripe) within = within
+
+-- and a stripe that comes, or goes
+within_stripe : (stripes stripe : ℕ) (locks : Locks) → nat_lt stripe stripes ≡ true → is_within stripes locks ≡ true → is_within stripes (with_stripe stripe locks) ≡ true
+within_stripe stripes stripe Neither near within = near
+within_stripe stripes stripe Slabs near within = near
+within_stripe stripes stripe (Stripe other) near within = within
+within_stripe stripes stripe (SlabsLast other) near within = within
+within_stripe stripes stripe (StripeLast other) near within = within
+
+within_no_stripe : (stripes : ℕ) (locks : Locks) → is_within stripes (without_stripe locks) ≡ true
+within_no_stripe stripes Neither = refl
+within_no_stripe stripes Slabs = refl
+within_no_stripe stripes (Stripe stripe) = refl
+within_no_stripe stripes (SlabsLast stripe) = refl
+within_no_stripe stripes (StripeLast stripe) = refl
+
 none_with : (locks : Locks) → has_no_stripe locks ≡ true → (stripe : ℕ) (stripes : List ℕ) → (map (has_stripe_in locks) stripes ≡ map (λ other. false) stripes) × (has_slabs_in (with_stripe stripe locks) ≡ has_slabs_in locks)
     × (map (has_stripe_in (with_stripe stripe locks)) stripes ≡ map (λ other. stripe == other) stripes) × (slots_in (with_stripe stripe locks) ≡ suc stripe ∷ slots_in locks)
 none_with Neither none stripe stripes = (refl, refl, refl, refl)
@@ -48,23 +78,29 @@ module _ (view now : View) (locks : Locks) (had : HasLocks view locks) (same : I
   range_same : range_with_len 0 view.setup.config.stripes ≡ range_with_len 0 now.setup.config.stripes
   range_same = ap (λ (s : Setup). range_with_len 0 s.config.stripes) (sym same.0)
 
+  -- and so is how many there are
+  within_same : (kept : Locks) → is_within view.setup.config.stripes kept ≡ is_within now.setup.config.stripes kept
+  within_same kept = ap (λ (s : Setup). is_within s.config.stripes kept) (sym same.0)
+
   -- of a hand with the lock of the slabs
   pub gained_slabs : Gains SlabsLock view now → HasLocks now (with_slabs locks) × (zero ∷ slots_in locks ≡ slots_in (with_slabs locks))
   gained_slabs gains = (
     (
       gains.1 ∙ has_with locks,
       gains.2 ∙ (had.1 ∙ (stripes_with locks (range_with_len 0 view.setup.config.stripes) ∙ ap (map (has_stripe_in (with_slabs locks))) range_same)),
+      sym (within_with view.setup.config.stripes locks ∙ within_same (with_slabs locks)) ∙ had.2,
     ),
     slots_with locks (sym had.0 ∙ gains.0),
   )
 
   -- and with that of a stripe
-  pub gained_stripe : (stripe : ℕ) → has_no_stripe locks ≡ true → Gains (StripeLock stripe) view now → HasLocks now (with_stripe stripe locks) × (suc stripe ∷ slots_in locks ≡ slots_in (with_stripe stripe locks))
-  gained_stripe stripe none gains =
+  pub gained_stripe : (stripe : ℕ) → has_no_stripe locks ≡ true → nat_lt stripe view.setup.config.stripes ≡ true → Gains (StripeLock stripe) view now → HasLocks now (with_stripe stripe locks) × (suc stripe ∷ slots_in locks ≡ slots_in (with_stripe stripe locks))
+  gained_stripe stripe none near gains =
       let (old, slabs, new, slots) = none_with locks none stripe (range_with_len 0 view.setup.config.stripes) in (
         (
           gains.0 ∙ (had.0 ∙ sym slabs),
           gains.1 (had.1 ∙ old) ∙ (ap (map (λ other. stripe == other)) (sym range_same) ∙ (sym new ∙ ap (map (has_stripe_in (with_stripe stripe locks))) range_same)),
+          sym (within_same (with_stripe stripe locks)) ∙ within_stripe view.setup.config.stripes stripe locks near had.2,
         ),
         sym slots,
       )
@@ -76,7 +112,11 @@ noted_same me now number chunks chunks' locks (is, few, count, slots, had) out s
   few,
   count',
   ap slots_out out ∙ slots,
-  (same.slabs ∙ had.0, same.stripes ∙ (had.1 ∙ ap (λ (s : Setup). map (has_stripe_in locks) (range_with_len 0 s.config.stripes)) (sym same.setup))),
+  (
+    same.slabs ∙ had.0,
+    same.stripes ∙ (had.1 ∙ ap (λ (s : Setup). map (has_stripe_in locks) (range_with_len 0 s.config.stripes)) (sym same.setup)),
+    ap (λ (s : Setup). is_within s.config.stripes locks) same.setup ∙ had.2,
+  ),
 )
 
 -- after the lock of the slabs was taken
@@ -91,10 +131,10 @@ noted_slabs me now number chunks locks (is, few, count, slots, had) same gains o
     )
 
 -- after a stripe's was
-pub noted_stripe : (me now : Sits) (number chunks stripe : ℕ) (locks : Locks) → has_no_stripe locks ≡ true → IsNoted me number chunks locks → IsOneHand me.0 now.0 → Gains (StripeLock stripe) me.0 now.0 → slots_out now.1 ≡ suc stripe ∷ slots_out me.1 → now.0.row.holdings ≡ me.0.row.holdings
+pub noted_stripe : (me now : Sits) (number chunks stripe : ℕ) (locks : Locks) → has_no_stripe locks ≡ true → nat_lt stripe me.0.setup.config.stripes ≡ true → IsNoted me number chunks locks → IsOneHand me.0 now.0 → Gains (StripeLock stripe) me.0 now.0 → slots_out now.1 ≡ suc stripe ∷ slots_out me.1 → now.0.row.holdings ≡ me.0.row.holdings
     → IsNoted now number chunks (with_stripe stripe locks)
-noted_stripe me now number chunks stripe locks none (is, few, count, slots, had) same gains out holdings =
-    let (locked, front) = gained_stripe me.0 now.0 locks had same stripe none gains in (
+noted_stripe me now number chunks stripe locks none near (is, few, count, slots, had) same gains out holdings =
+    let (locked, front) = gained_stripe me.0 now.0 locks had same stripe none near gains in (
       same.2 ∙ is,
       few,
       count ∙ ap length (sym holdings),
@@ -175,7 +215,11 @@ module _ (me now : Sits) (number chunks : ℕ) (locks : Locks) (same : IsOneHand
         few,
         count ∙ ap length (sym holdings),
         rest_same zero zero (slots_out now.1) (slots_in (without_slabs locks)) (sym out ∙ (slots ∙ slabs_last locks has)),
-        (loses.0 ∙ sym left.0, loses.1 ∙ (had.1 ∙ (left.1 ∙ ap (λ (s : Setup). map (has_stripe_in (without_slabs locks)) (range_with_len 0 s.config.stripes)) (sym same.0)))),
+        (
+          loses.0 ∙ sym left.0,
+          loses.1 ∙ (had.1 ∙ (left.1 ∙ ap (λ (s : Setup). map (has_stripe_in (without_slabs locks)) (range_with_len 0 s.config.stripes)) (sym same.0))),
+          within_without now.0.setup.config.stripes locks (ap (λ (s : Setup). is_within s.config.stripes locks) same.0 ∙ had.2),
+        ),
       )
 
   -- and after a stripe's was
@@ -191,5 +235,6 @@ module _ (me now : Sits) (number chunks : ℕ) (locks : Locks) (same : IsOneHand
         (
           loses.0 ∙ (had.0 ∙ left.0),
           loses.1 (had.1 ∙ that_stripe locks stripe stripes has) ∙ (ap (λ (s : Setup). map (λ other. false) (range_with_len 0 s.config.stripes)) same.0 ∙ (left.1 ∙ ap (λ (s : Setup). map (has_stripe_in (without_stripe locks)) (range_with_len 0 s.config.stripes)) (sym same.0))),
+          within_no_stripe now.0.setup.config.stripes locks,
         ),
       )

@@ -213,4 +213,4 @@ module _ (setup : Setup) (start : ℕ) (sound : IsSound setup.table) (stripes : 
 
 -- and so it notes
 pub new_noted : (setup : Setup) (hand spare : ℕ) → hand < 64 → IsNoted (new_view setup hand spare, []) hand 0 Neither
-new_noted setup hand spare small = (refl, small, refl, refl, (refl, map_map (λ (stripe : ℕ). None) is_some (range_with_len 0 setup.config.stripes)))
+new_noted setup hand spare small = (refl, small, refl, refl, (refl, map_map (λ (stripe : ℕ). None) is_some (range_with_len 0 setup.config.stripes), refl))

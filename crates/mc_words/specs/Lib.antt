@@ -10,6 +10,7 @@ pub mod Views
 pub mod Opening
 pub mod Places
 pub mod Fresh
+pub mod Idle
 pub mod Owner
 pub mod Arenas
 pub mod Refused

@@ -1,5 +1,5 @@
 -- Which locks a hand has.
-use Rattle.std.specs.Prelude.{◌≡◌, ℕ, zero, suc, ◌<◌, ◌==◌, Bool, true, false, List, [], ◌∷◌, length, map, is_some, if◌then◌else◌, Some}
+use Rattle.std.specs.Prelude.{◌≡◌, ℕ, zero, suc, ◌<◌, ◌==◌, Bool, true, false, nat_lt, List, [], ◌∷◌, length, map, is_some, if◌then◌else◌, Some}
 use Rattle.std.specs.List.{range_with_len}
 use Rattle.mc_words.specs.declared.slot.Slot.{Slot}
 use Rattle.mc_words.specs.declared.locks.Locks.{Locks}
@@ -32,9 +32,19 @@ has_stripe_in (Stripe stripe) other = stripe == other
 has_stripe_in (SlabsLast stripe) other = stripe == other
 has_stripe_in (StripeLast stripe) other = stripe == other
 
--- the view has the values behind these locks and no other
+-- the stripe among these locks is one of so many
+abbrev pub is_within : ℕ → Locks → Bool
+is_within stripes Neither = true
+is_within stripes Slabs = true
+is_within stripes (Stripe stripe) = nat_lt stripe stripes
+is_within stripes (SlabsLast stripe) = nat_lt stripe stripes
+is_within stripes (StripeLast stripe) = nat_lt stripe stripes
+
+-- these are locks of the arena, and the view has the values behind them and no other
 abbrev pub HasLocks : View → Locks → Type 0
-HasLocks view locks = (is_some view.slabs ≡ has_slabs_in locks) × (map is_some view.stripes ≡ map (has_stripe_in locks) (range_with_len 0 view.setup.config.stripes))
+HasLocks view locks =
+    (is_some view.slabs ≡ has_slabs_in locks) × (map is_some view.stripes ≡ map (has_stripe_in locks) (range_with_len 0 view.setup.config.stripes))
+    × (is_within view.setup.config.stripes locks ≡ true)
 
 -- a hand's notes: its number, how many chunks it holds, and its locks
 abbrev pub IsNoted : Sits → ℕ → ℕ → Locks → Type 0
@@ -80,6 +90,14 @@ has_no_stripe Slabs = true
 has_no_stripe (Stripe stripe) = false
 has_no_stripe (SlabsLast stripe) = false
 has_no_stripe (StripeLast stripe) = false
+
+-- the hand has no lock
+abbrev pub is_neither : Locks → Bool
+is_neither Neither = true
+is_neither Slabs = false
+is_neither (Stripe stripe) = false
+is_neither (SlabsLast stripe) = false
+is_neither (StripeLast stripe) = false
 
 -- the lock of this slot was taken before the other one
 abbrev pub is_behind : Locks → ℕ → Bool

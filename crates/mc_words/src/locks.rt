@@ -1,6 +1,6 @@
 //! Which locks there are, and which a hand has.
 ghost use Rattle.std.specs.Prelude.{◌≡◌, ◌<◌};
-ghost use Rattle.mc_words.specs.Out.{has_no_stripe, is_behind, turned_locks, with_slabs, with_stripe, without_slabs, without_stripe};
+ghost use Rattle.mc_words.specs.Out.{is_behind, is_neither, turned_locks, with_slabs, with_stripe, without_slabs, without_stripe};
 ghost use Rattle.mc_words.specs.Slots.{slot_of};
 
 /// A lock: that of the slabs, or of a stripe.
@@ -78,6 +78,13 @@ impl Locks {
             Locks::Neither | Locks::Stripe(_) => Locks::Neither,
             Locks::Slabs | Locks::SlabsLast(_) | Locks::StripeLast(_) => Locks::Slabs,
         }
+    }
+
+    /// Whether there is none.
+    pub(crate) fn is_neither(self) -> bool
+        ensures neither { result ≡ is_neither self }
+    {
+        matches!(self, Locks::Neither)
     }
 
     /// Whether this lock, which is one of them, was taken before the other.

@@ -1,4 +1,4 @@
-use Rattle.std.proofs.Common.{◌≡◌, ◌<◌, Some, None, length, slice_index_or, refl, sym, ap, subst, arith, ◌∙◌}
+use Rattle.std.proofs.Common.{◌≡◌, ◌<◌, Some, None, length, slice_index_or, refl, sym, ap, subst, arith, ◌∙◌, lt-ltb}
 use Rattle.mc_words.specs.declared.locks.Lock.TheVariants.{StripeLock}
 use Rattle.mc_core.specs.declared.look.Look.TheVariants.{SawStripe}
 use Rattle.mc_core.specs.Past.{stripe_word}
@@ -17,7 +17,8 @@ invariant_of-hand c =
     let has : slice_index_or c.take.new.seat.me.0.stripes c.args.stripe None ≡ Some value = subst (HasValue c.take.new.seat.me.0 (StripeLock c.args.stripe)) c.in-Some-OfStripe.field-0-is told.value in
     let is = taken_stripe c.args.hand.now.seat.me.0 c.take.new.seat.me.0 c.args.stripe value told.taken has in
     let a = c.args.hand.now in
-    let noted = noted_stripe a.seat.me c.take.new.seat.me a.number a.chunks c.args.stripe a.locks c.requires.one a.noted c.take.ensures.hand told.gains told.out (ap (λ (v : View). v.row.holdings) is) in
+    let near : c.args.stripe < a.seat.me.0.setup.config.stripes = let same = ap (λ (s : Setup). s.config.stripes) c.requires.arena.setup in let near = c.requires.near in omega arith in
+    let noted = noted_stripe a.seat.me c.take.new.seat.me a.number a.chunks c.args.stripe a.locks c.requires.one (lt-ltb c.args.stripe a.seat.me.0.setup.config.stripes near) a.noted c.take.ensures.hand told.gains told.out (ap (λ (v : View). v.row.holdings) is) in
     record { noted = subst (IsNoted c.take.new.seat.me a.number a.chunks) (sym c.with_stripe-hand.ensures.locks) noted }
 
 pub invariant_of-hand-in-None : goal.invariant_of-hand-in-None
