@@ -1,5 +1,5 @@
 -- A look at a chunk, and the step that it allows.
-use Rattle.std.proofs.Common.{◌≡◌, ℕ, ◌+◌, ◌/◌, ◌%◌, ◌<◌, ◌≤◌, ◌==◌, Bool, true, false, List, [], ◌∷◌, length, Some, None, refl, sym, ap, subst, ◌∙◌, inl, inr, arith, is_some, if◌then◌else◌, eq-eqb, eqb-true, leb-true, zero, suc}
+use Rattle.std.proofs.Common.{◌≡◌, ℕ, ◌+◌, ◌/◌, ◌%◌, ◌<◌, ◌≤◌, ◌==◌, Bool, true, false, List, [], ◌∷◌, ◌++◌, length, Some, None, refl, sym, ap, subst, ◌∙◌, inl, inr, arith, is_some, if◌then◌else◌, eq-eqb, eqb-true, leb-true, zero, suc}
 use Rattle.std.specs.List.{fold}
 use Rattle.std.specs.Prelude.{All, Contains}
 use Rattle.std.proofs.lemmas.Bool.{and_parts, and_from, cases_Bool}
@@ -49,7 +49,7 @@ module _ (view : View) (chunk : ChunkId) (head : Head) (slabs : SlabState) (mine
   held = ap is_some mine
 
   pub seen_is : seen ≡ views.looked (Saw chunk head) (views.saw (header chunk head) view)
-  seen_is = ap (λ (b : Bool). if b then views.looked (Saw chunk head) (views.saw (header chunk head) view) else views.saw (header chunk head) view) held
+  seen_is = ap (λ (b : Bool). views.with_looks (if b then view.row.looks ++ Saw chunk head ∷ [] else view.row.looks) (views.saw (header chunk head) view)) held
 
   pub seen_slabs : seen.slabs ≡ Some slabs
   seen_slabs = ap (λ (v : View). v.slabs) seen_is ∙ mine

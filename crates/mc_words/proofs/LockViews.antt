@@ -178,13 +178,9 @@ looks_after m id look within = elim (has_slabs m.state id) as (λ (b : Bool). lo
   | false ↦ refl
 ]
 
-looked_view : (b : Bool) (look : Look) (view : View) → with_looks (if b then view.row.looks ++ look ∷ [] else view.row.looks) view ≡ (if b then views.looked look view else view)
-looked_view true look view = refl
-looked_view false look view = refl
-
 -- a look leaves what is held
 pub look_holds : (look : Look) (view : View) → (looked_if_held look view).row.holdings ≡ view.row.holdings
-look_holds look view = elim (is_some view.slabs) as (λ (b : Bool). (if b then views.looked look view else view).row.holdings ≡ view.row.holdings) [ true ↦ refl | false ↦ refl ]
+look_holds look view = refl
 
 -- a view after a step that looks
 view_looked : (view now : View) (step : Step) (h : Happens view [] step now) (look : Look) (sight : Sight) → (moment_stepped h.was.moment h.was.hand step).state ≡ looked h.was.moment.state h.was.hand look
@@ -199,8 +195,7 @@ view_looked view now step h look sight state_is knows =
     ∙ (view_from view h.was after (kept Ids (λ s. ids_at s id) refl) view.row.holdings (kept (List Holding) (λ s. holdings_at s id) refl ∙ holdings_were view now h.was) looks (ap (λ (s : State). looks_at s id) state_is ∙ looks_after m id look (rows view now h.was))
     (record view.row.knows { saw = view.row.knows.saw ++ sight ∷ [] }) knows view.slabs (kept (Option SlabState) (λ s. held_slabs s id) refl ∙ slabs_were view now h.was) view.stripes (kept (List (Option ReadyStripe)) (λ s. held_stripes view.setup s id) refl ∙ stripes_were view now h.was)
     ∙ (ap (λ (old : List Look). with_looks (if has_slabs m.state id then old ++ look ∷ [] else old) (views.saw sight view)) (looks_were view now h.was)
-    ∙ (looked_view (has_slabs m.state id) look (views.saw sight view)
-    ∙ ap (λ (b : Bool). if b then views.looked look (views.saw sight view) else views.saw sight view) (sym (has_if (has_slabs m.state id) m.state.slabs) ∙ ap is_some (slabs_were view now h.was)))))
+    ∙ ap (λ (b : Bool). with_looks (if b then view.row.looks ++ look ∷ [] else view.row.looks) (views.saw sight view)) (sym (has_if (has_slabs m.state id) m.state.slabs) ∙ ap is_some (slabs_were view now h.was))))
 
 -- the word of a stripe's lock was seen
 pub missed_stripe : (view now : View) (stripe word : ℕ) → stripe < view.setup.config.stripes → HappensAt (lock_word (suc stripe)) word view [] (core.MissStripe stripe) now → now ≡ stripe_missed stripe word view

@@ -35,7 +35,7 @@ looked look view = with_looks (view.row.looks ++ look ∷ []) view
 
 -- a look counts under the slabs lock alone
 abbrev pub looked_if_held : Look → View → View
-looked_if_held look view = if is_some view.slabs then looked look view else view
+looked_if_held look view = with_looks (if is_some view.slabs then view.row.looks ++ look ∷ [] else view.row.looks) view
 
 abbrev pub with_holdings : List Holding → View → View
 with_holdings holdings view = record view { row = record view.row { holdings = holdings } }
