@@ -6,6 +6,7 @@ ghost use Rattle.mc_words.specs.Layout.{data_from, heads_from, pages_from, word_
 
 use crate::plan::Plan;
 use crate::rule::SharedTable;
+use mc_classes::{ClassTable, Config};
 
 /// A slab memory that up to 64 hands share. All that a hand does to it goes by `&self`.
 #[derive(Drop)]
@@ -30,4 +31,22 @@ pub struct Arena {
     ghost places: { (first_page ≡ pages_from plan) × (first_head ≡ heads_from plan) × (first_data ≡ data_from plan) },
     ghost counts: { (most ≡ most_of plan.table) × (words_a_page ≡ page_words plan.table) },
     ghost small: { word_count plan < 2 ^ 63 },
+}
+
+impl Arena {
+    ghost use Rattle.mc_words.specs.Arenas.{setup_of};
+
+    /// What it was configured with.
+    pub fn config(&self) -> &Config
+        ensures config { result.now ≡ (setup_of self.now).config }
+    {
+        self.plan.config()
+    }
+
+    /// Its size classes.
+    pub fn classes(&self) -> &ClassTable
+        ensures classes { result.now ≡ (setup_of self.now).table }
+    {
+        self.plan.classes()
+    }
 }

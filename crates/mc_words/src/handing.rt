@@ -16,6 +16,7 @@ ghost use Rattle.mc_words.specs.Owner.{Cuts, PopsFirst, PutsBack, SeesOther};
 
 use crate::arena::Arena;
 use crate::hand::Hand;
+use crate::header::{DEAD, HANDED_OUT, ISSUE_UNIT, MOST_ISSUE, TAG_UNIT};
 use crate::held::{Fresh, Moved, SlabsHeld, WornOut};
 use mc_classes::{ClassId, PageId};
 use mc_core::Step;
@@ -46,11 +47,11 @@ impl Arena {
             return Ok(None);
         };
         let head = self.head(hand, chunk);
-        if head / 262_144 >= 70_368_744_177_663 {
+        if head / ISSUE_UNIT >= MOST_ISSUE {
             return Err(WornOut);
         }
         let word = self.head_word(chunk);
-        self.add(&mut hand.seat, word, 327_681, Step::Pop(class));
+        self.add(&mut hand.seat, word, HANDED_OUT, Step::Pop(class));
         hand.chunks += 1;
         held.shared.slabs_mut().pop(class);
         let room = self.plan.classes().size(class) / 8;
@@ -74,11 +75,11 @@ impl Arena {
         ensures moved { OnErr result (SeesOther (view hand.old) (Some chunk) (λ head. is_dead head ≡ false) (view hand.new) × (held.new.shared ≡ held.old.shared)) }
     {
         let head = self.head(hand, chunk);
-        if head % 262_144 != 131_072 {
+        if head % ISSUE_UNIT != DEAD {
             return Err(Moved);
         }
         let word = self.head_word(chunk);
-        self.subtract(&mut hand.seat, word, 65_536, Step::PutBack(chunk));
+        self.subtract(&mut hand.seat, word, TAG_UNIT, Step::PutBack(chunk));
         held.shared.slabs_mut().back(chunk);
         Ok(())
     }
@@ -95,7 +96,7 @@ impl Arena {
         ensures shared { held.new.shared ≡ after_cut held.old.shared (record { page = page; index = index }) }
     {
         let word = self.head_word(ChunkId { page, index });
-        self.add(&mut hand.seat, word, 65_536, Step::Cut(page, index));
+        self.add(&mut hand.seat, word, TAG_UNIT, Step::Cut(page, index));
         held.shared.slabs_mut().cut(page, index);
     }
 }

@@ -6,6 +6,7 @@ pub mod changing;
 pub mod filling;
 pub mod hand;
 pub mod handing;
+mod header;
 pub mod held;
 pub mod locking;
 pub mod locks;

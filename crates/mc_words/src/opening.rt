@@ -9,6 +9,7 @@ ghost use Rattle.mc_words.specs.Opening.{first_slots, first_view, first_words};
 
 use crate::arena::Arena;
 use crate::hand::Hand;
+use crate::header::ISSUE_UNIT;
 use crate::locks::Locks;
 use crate::plan::Plan;
 use crate::slot::Slot;
@@ -34,7 +35,7 @@ fn words_of(alloc: Global, plan: &Plan, places: Places, start: u64) -> Result<Ve
 {
     let mut words = Vec::new(alloc);
     words.resize(places.heads, 0)?;
-    words.resize(places.data, start * 262_144)?;
+    words.resize(places.data, start * ISSUE_UNIT)?;
     words.resize(places.config, 0)?;
     let config = plan.config();
     let numbers = [

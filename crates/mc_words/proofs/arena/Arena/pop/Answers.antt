@@ -48,7 +48,7 @@ add-requires c =
     let mine = after_slabs view seen seen slabs chunk head c.requires.held is looks in
     let last = after_last view seen seen slabs chunk head c.requires.held is looks in
     let few : length seen.row.holdings < 256 = let few = c.requires.room in let same = ap length (after_holds view seen seen slabs chunk head c.requires.held is looks) in omega arith in
-    (refl, (refl, (c.head_word-word.ensures.near, (arena, subst (λ (n : ℕ). MayWrite seen (core.Pop class) n (plus 327681)) (sym place) (may_pop seen slabs class chunk head mine seen_class first near few last (issue_left c.head-head.result c.if-head-ge70368744177663.false))))))
+    (refl, (refl, (c.head_word-word.ensures.near, (arena, subst (λ (n : ℕ). MayWrite seen (core.Pop class) n (plus 327681)) (sym place) (may_pop seen slabs class chunk head mine seen_class first near few last (issue_left c.head-head.result c.if-head-ge-MOST_ISSUE.false))))))
 
 pub invariant_of-hand : goal.invariant_of-hand
 invariant_of-hand c =
@@ -73,8 +73,8 @@ invariant_of-hand c =
     let count = a.noted.2 in
     record { noted = noted_same a.seat.me c.add.new.seat.me a.number a.chunks (a.chunks + 1) a.locks a.noted c.add.ensures.out c.add.ensures.hand ((omega arith) ∙ (sym more ∙ ap (λ (v : View). length v.row.holdings) (sym popped))) }
 
-pub returns-then-head-ge70368744177663-clause-worn : goal.returns-then-head-ge70368744177663-clause-worn
-returns-then-head-ge70368744177663-clause-worn c =
+pub returns-then-head-ge-MOST_ISSUE-clause-worn : goal.returns-then-head-ge-MOST_ISSUE-clause-worn
+returns-then-head-ge-MOST_ISSUE-clause-worn c =
     let chunk = c.in-Some.chunk in
     let slabs = c.args.held.now.shared in
     let class = c.args.class in
@@ -88,7 +88,7 @@ returns-then-head-ge70368744177663-clause-worn c =
     let looks = c.head-head.ensures.happens in
     let is = c.head-head.ensures.seen in
     let seen_class = subst (λ (s : Setup). is_class s.table class ≡ true) (sym arena.setup) c.requires.class in
-    (record { chunk = chunk; is_asked = first; head = head; other = issue_worn c.head-head.result c.if-head-ge70368744177663.true; happens = looks; is = is }, refl)
+    (record { chunk = chunk; is_asked = first; head = head; other = issue_worn c.head-head.result c.if-head-ge-MOST_ISSUE.true; happens = looks; is = is }, refl)
 
 pub pop-requires : goal.pop-requires
 pop-requires c =
@@ -128,7 +128,7 @@ returns-clause-held c =
     let looks = c.head-head.ensures.happens in
     let is = c.head-head.ensures.seen in
     let seen_class = subst (λ (s : Setup). is_class s.table class ≡ true) (sym arena.setup) c.requires.class in
-    let popped = pop_after view seen c.add.new.seat.me.0 slabs chunk head c.requires.held is looks class seen_class first (issue_left c.head-head.result c.if-head-ge70368744177663.false) c.add.ensures.happens in
+    let popped = pop_after view seen c.add.new.seat.me.0 slabs chunk head c.requires.held is looks class seen_class first (issue_left c.head-head.result c.if-head-ge-MOST_ISSUE.false) c.add.ensures.happens in
     ap (λ (v : View). v.slabs) popped.is ∙ ap Some (ap (λ slabs. after_pop slabs class) (sym c.slabs_mut.ensures.slabs) ∙ sym c.pop.ensures.popped)
 
 pub returns-clause-popped : goal.returns-clause-popped
@@ -146,7 +146,7 @@ returns-clause-popped c =
     let looks = c.head-head.ensures.happens in
     let is = c.head-head.ensures.seen in
     let seen_class = subst (λ (s : Setup). is_class s.table class ≡ true) (sym arena.setup) c.requires.class in
-    (pop_after view seen c.add.new.seat.me.0 slabs chunk head c.requires.held is looks class seen_class first (issue_left c.head-head.result c.if-head-ge70368744177663.false) c.add.ensures.happens, c.pop.ensures.popped ∙ ap (λ slabs. after_pop slabs class) c.slabs_mut.ensures.slabs)
+    (pop_after view seen c.add.new.seat.me.0 slabs chunk head c.requires.held is looks class seen_class first (issue_left c.head-head.result c.if-head-ge-MOST_ISSUE.false) c.add.ensures.happens, c.pop.ensures.popped ∙ ap (λ slabs. after_pop slabs class) c.slabs_mut.ensures.slabs)
 
 pub returns-clause-fresh : goal.returns-clause-fresh
 returns-clause-fresh c =

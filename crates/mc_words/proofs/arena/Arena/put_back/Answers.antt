@@ -26,7 +26,7 @@ subtract-requires c =
     let place : c.head_word-word.result ≡ head_word seen.setup chunk = c.head_word-word.ensures.word ∙ ap (λ (s : Setup). head_word s chunk) (sym arena.setup) in
     let mine = after_slabs view seen seen slabs chunk head c.requires.held c.head-head.ensures.seen c.head-head.ensures.happens in
     let last = after_last view seen seen slabs chunk head c.requires.held c.head-head.ensures.seen c.head-head.ensures.happens in
-    (refl, (refl, (c.head_word-word.ensures.near, (arena, subst (λ (n : ℕ). MayWrite seen (core.PutBack chunk) n (minus 65536)) (sym place) (may_put_back seen slabs chunk head mine near last (word_dead c.head-head.result c.if-head-ne131072.false))))))
+    (refl, (refl, (c.head_word-word.ensures.near, (arena, subst (λ (n : ℕ). MayWrite seen (core.PutBack chunk) n (minus 65536)) (sym place) (may_put_back seen slabs chunk head mine near last (word_dead c.head-head.result c.if-head-ne-DEAD.false))))))
 
 pub invariant_of-hand : goal.invariant_of-hand
 invariant_of-hand c =
@@ -40,7 +40,7 @@ invariant_of-hand c =
     let near = subst (λ (s : Setup). has_chunk s.table chunk ≡ true) (sym arena.setup) c.requires.near in
     let mine = after_slabs view seen seen slabs chunk head c.requires.held c.head-head.ensures.seen c.head-head.ensures.happens in
     let last = after_last view seen seen slabs chunk head c.requires.held c.head-head.ensures.seen c.head-head.ensures.happens in
-    let is = puts_back seen c.subtract.new.seat.me.0 slabs mine chunk head near last (word_dead c.head-head.result c.if-head-ne131072.false) c.subtract.ensures.happens in
+    let is = puts_back seen c.subtract.new.seat.me.0 slabs mine chunk head near last (word_dead c.head-head.result c.if-head-ne-DEAD.false) c.subtract.ensures.happens in
     record { noted = noted_same a.seat.me c.subtract.new.seat.me a.number a.chunks a.chunks a.locks a.noted c.subtract.ensures.out c.subtract.ensures.hand (a.noted.2 ∙ ap (λ (v : View). length v.row.holdings) (sym is)) }
 
 pub back-requires : goal.back-requires
@@ -52,20 +52,20 @@ back-requires c =
     let seen = c.head-head.new.hand.seat.me.0 in
     let head = decode c.head-head.result in
     let near = subst (λ (s : Setup). has_chunk s.table chunk ≡ true) (sym arena.setup) c.requires.near in
-    let dead = word_dead c.head-head.result c.if-head-ne131072.false in
+    let dead = word_dead c.head-head.result c.if-head-ne-DEAD.false in
     let looks = c.head-head.ensures.happens in
     let is = c.head-head.ensures.seen in
     let mine = after_slabs view seen seen slabs chunk head c.requires.held is looks in
     let last = after_last view seen seen slabs chunk head c.requires.held is looks in
     subst (λ (x : SlabState). Contains (class_of_chunk x chunk).order chunk) (sym c.slabs_mut.ensures.slabs) (stands_out seen seen slabs mine chunk head near last dead arena.lawful)
 
-pub returns-then-head-ne131072-clause-moved : goal.returns-then-head-ne131072-clause-moved
-returns-then-head-ne131072-clause-moved c = (
+pub returns-then-head-ne-DEAD-clause-moved : goal.returns-then-head-ne-DEAD-clause-moved
+returns-then-head-ne-DEAD-clause-moved c = (
   record {
     chunk = c.args.chunk;
     is_asked = refl;
     head = decode c.head-head.result;
-    other = word_alive c.head-head.result c.if-head-ne131072.true;
+    other = word_alive c.head-head.result c.if-head-ne-DEAD.true;
     happens = c.head-head.ensures.happens;
     is = c.head-head.ensures.seen;
   },
@@ -82,7 +82,7 @@ returns-clause-held c =
     let now = c.subtract.new.seat.me.0 in
     let head = decode c.head-head.result in
     let near = subst (λ (s : Setup). has_chunk s.table chunk ≡ true) (sym arena.setup) c.requires.near in
-    let dead = word_dead c.head-head.result c.if-head-ne131072.false in
+    let dead = word_dead c.head-head.result c.if-head-ne-DEAD.false in
     let looks = c.head-head.ensures.happens in
     let is = c.head-head.ensures.seen in
     let back = put_back_after view seen now slabs chunk head c.requires.held is looks near dead c.subtract.ensures.happens in
@@ -98,7 +98,7 @@ returns-clause-back c =
     let now = c.subtract.new.seat.me.0 in
     let head = decode c.head-head.result in
     let near = subst (λ (s : Setup). has_chunk s.table chunk ≡ true) (sym arena.setup) c.requires.near in
-    let dead = word_dead c.head-head.result c.if-head-ne131072.false in
+    let dead = word_dead c.head-head.result c.if-head-ne-DEAD.false in
     let looks = c.head-head.ensures.happens in
     let is = c.head-head.ensures.seen in
     (put_back_after view seen now slabs chunk head c.requires.held is looks near dead c.subtract.ensures.happens, c.back.ensures.back ∙ ap (λ slabs. after_back slabs chunk) c.slabs_mut.ensures.slabs)

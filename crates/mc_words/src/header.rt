@@ -1,0 +1,16 @@
+//! The parts of a header's word, which is `issue * 2^18 + tag * 2^16 + count`.
+
+/// What an issue number is multiplied by.
+pub(crate) const ISSUE_UNIT: u64 = 262_144;
+
+/// What a tag's number is multiplied by. From one tag to the next it is added once.
+pub(crate) const TAG_UNIT: u64 = 65_536;
+
+/// The tag and the count of a dead chunk: it is unlinked, and nobody holds it.
+pub(crate) const DEAD: u64 = 2 * TAG_UNIT;
+
+/// What handing a free chunk out adds: the next issue, the next tag, and one holder.
+pub(crate) const HANDED_OUT: u64 = ISSUE_UNIT + TAG_UNIT + 1;
+
+/// The greatest issue number, with which a chunk is used up.
+pub(crate) const MOST_ISSUE: u64 = 70_368_744_177_663;
