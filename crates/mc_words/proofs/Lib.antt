@@ -15,3 +15,4 @@ pub mod Judging
 pub mod Opens
 pub mod Pages
 pub mod ChangeViews
+pub mod StripeChanges
