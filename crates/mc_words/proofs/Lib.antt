@@ -5,6 +5,7 @@ pub mod TakeAndGive
 pub mod OutFirst
 pub mod Knows
 pub mod LockViews
+pub mod Lent
 pub mod Locked
 pub mod Unlocked
 pub mod Heads
@@ -16,3 +17,4 @@ pub mod Opens
 pub mod Splits
 pub mod Pages
 pub mod ChangeViews
+pub mod StripeChanges

@@ -11,6 +11,7 @@ pub mod Opening
 pub mod Places
 pub mod Fresh
 pub mod Idle
+pub mod Lent
 pub mod Owner
 pub mod Arenas
 pub mod Refused
