@@ -1,5 +1,6 @@
 pub mod Written
 pub mod Rules
+pub mod Settled
 pub mod Quiet
 pub mod TakeAndGive
 pub mod OutFirst
@@ -15,3 +16,4 @@ pub mod Judging
 pub mod Opens
 pub mod Pages
 pub mod ChangeViews
+pub mod Joined

@@ -11,5 +11,6 @@ pub mod Opening
 pub mod Places
 pub mod Fresh
 pub mod Idle
+pub mod Joining
 pub mod Owner
 pub mod Arenas
