@@ -1,5 +1,6 @@
 pub mod Written
 pub mod Rules
+pub mod Settled
 pub mod Quiet
 pub mod TakeAndGive
 pub mod OutFirst
@@ -18,3 +19,4 @@ pub mod Splits
 pub mod Pages
 pub mod ChangeViews
 pub mod StripeChanges
+pub mod Joined

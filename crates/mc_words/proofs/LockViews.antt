@@ -59,13 +59,14 @@ stripes_set setup before now id stripe value near here others =
 -- a view from its parts
 pub view_from : (view : View) (was : LawfulView view) (after : Moment) → ids_at after.state was.hand ≡ ids_at was.moment.state was.hand → (holdings : List Holding) → holdings_at after.state was.hand ≡ holdings → (looks : List Look) → looks_at after.state was.hand ≡ looks
     → (knows : Knowledge) → knowledge_at after.past was.hand ≡ knows → (slabs : Option SlabState) → held_slabs after.state was.hand ≡ slabs → (stripes : List (Option ReadyStripe)) → held_stripes view.setup after.state was.hand ≡ stripes
-    → view_at view.setup view.spare after was.hand ≡ record { setup = view.setup; spare = view.spare; row = record { ids = view.row.ids; holdings = holdings; looks = looks; knows = knows }; slabs = slabs; stripes = stripes }
+    → view_at view.setup view.spare after was.hand ≡ record { setup = view.setup; spare = view.spare; row = record { ids = view.row.ids; holdings = holdings; looks = looks; knows = knows }; slabs = slabs; stripes = stripes; made_of = view.made_of }
 view_from view was after ids holdings holdings_are looks looks_are knows knows_is slabs slabs_are stripes stripes_are = λ k. record {
   setup = view.setup;
   spare = view.spare;
   row = record { ids = (ids ∙ ap (λ (v : View). v.row.ids) (sym was.is)) k; holdings = holdings_are k; looks = looks_are k; knows = knows_is k };
   slabs = slabs_are k;
   stripes = stripes_are k;
+  made_of = ap (λ (v : View). v.made_of) (sym was.is) k;
 }
 
 module _ (view now : View) where

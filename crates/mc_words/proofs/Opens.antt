@@ -27,6 +27,8 @@ use Rattle.mc_words.specs.Meaning.{AreWords, AreHome, IsViewOf, Ruled}
 use Rattle.mc_words.specs.declared.locks.Locks.TheVariants.{Neither}
 use Rattle.mc_words.specs.Out.{IsNoted}
 use Rattle.mc_words.specs.Happens.{LawfulView}
+use Rattle.mc_words.specs.Joining.{IsMade, Rule}
+use Rattle.mc_words.proofs.Settled.{not_made}
 use Rattle.mc_words.proofs.Quiet.{map_map}
 use Rattle.mc_words.specs.Opening.{first_words, first_slots, first_view}
 
@@ -158,6 +160,7 @@ module _ (setup : Setup) (start : ℕ) (sound : IsSound setup.table) (stripes : 
     };
     slabs = no_slabs hand k;
     stripes = map (λ stripe. no_stripe hand stripe k) (range_with_len 0 setup.config.stripes);
+    made_of = None;
   }
 
   is_view_first : (hand spare : ℕ) → hand < setup.hands → IsViewOf setup first hand (new_view setup hand spare)
@@ -166,7 +169,7 @@ module _ (setup : Setup) (start : ℕ) (sound : IsSound setup.table) (stripes : 
     gone = λ none. absurd (let e : true ≡ false = sym (ap (λ (v : View). is_some v.row.ids.number) (view_first hand spare within)) ∙ none in cc);
   }
 
-  pub opens : Ruled setup (table.opening (first_words setup start) (first_slots setup) (first_view setup))
+  opens : Ruled setup (table.opening (first_words setup start) (first_slots setup) (first_view setup))
   opens = record {
     moment = first;
     cuts = replicate (pages_of setup.table) 0;
@@ -193,6 +196,13 @@ module _ (setup : Setup) (start : ℕ) (sound : IsSound setup.table) (stripes : 
       made : (id : ℕ) (v : View) → get_elem? (first_view setup ∷ []) id ≡ some v → 1 ≤ v.spare → (id ≡ 0) × (1 + v.spare ≡ setup.hands)
       made zero v at more = (refl, (let e : setup.hands - 1 ≡ v.spare = ap (λ (u : View). u.spare) (maybe.some-injective _ v at) in omega arith))
       made (suc id) v at more = absurd (maybe.some-ne-none v (sym at))
+
+  pub rule_first : Rule setup (table.opening (first_words setup start) (first_slots setup) (first_view setup))
+  rule_first = record { ruled = opens; made = made }
+    where
+      made : (id : ℕ) (v : View) → get_elem? (first_view setup ∷ []) id ≡ some v → IsMade v
+      made zero v at = subst IsMade (maybe.some-injective _ v at) (not_made (first_view setup) refl)
+      made (suc id) v at = absurd (maybe.some-ne-none v (sym at))
 
   -- what a hand that did nothing knows is of the first moment
   pub new_lawful : (hand spare : ℕ) → hand < setup.hands → LawfulView (new_view setup hand spare)

@@ -27,7 +27,9 @@ use Rattle.mc_words.specs.View.{Setup, View, view_at, held_stripes}
 use Rattle.mc_words.specs.Meaning.{Words, WordsOf, AreCut, Ruled}
 use Rattle.mc_words.specs.Happens.{LawfulView, Happens, HappensAt, MayWrite, MayTell, is_quiet}
 use Rattle.mc_words.specs.Told.{Sits, StaysOut, TellsFound, TellsEvent, TellsChange}
+use Rattle.mc_words.specs.Joining.{Rule}
 use Rattle.mc_words.proofs.Rules.{lawful_view, ruled_quiet}
+use Rattle.mc_words.proofs.Settled.{IsSettled, lifts}
 
 -- the columns that words have
 abbrev pub Columns : Type 0
@@ -120,7 +122,7 @@ step_pages s hand step page = ap (λ owners. class_of_owner (owner_at owners pag
 pub cut_stays : (cuts : List ℕ) (before now : SlabState) → ((page : ℕ) → class_of_page now page ≡ class_of_page before page) → AreCut cuts before → AreCut cuts now
 cut_stays cuts before now same cut page has = let e = same page in cut page (omega arith) ∙ sym e
 
-module _ (setup : Setup) (slots id : ℕ) (me : Sits) (numbered : is_some me.0.row.ids.number ≡ true) (of : me.0.setup ≡ setup) where
+module _ (setup : Setup) (slots id : ℕ) (me : Sits) (live : IsSettled me.0) (of : me.0.setup ≡ setup) where
   -- the step can be made in this state, where the word becomes so
   abbrev pub Goes : Words → ℕ → (ℕ → Sits → Type 0) → ℕ → Type 0
   Goes t place told word = (w : View) × (a : Act Slot) × Valid t.homes me.1 a × Ruled setup (stepped t place word id me.1 w a) × told (slice_index t.words place) (w, carried_after me.1 a)
@@ -130,7 +132,7 @@ module _ (setup : Setup) (slots id : ℕ) (me : Sits) (numbered : is_some me.0.r
     m = r.moment
 
     abbrev pub was : LawfulView me.0
-    was = lawful_view setup t r id me.0 at numbered of
+    was = lawful_view setup t r id me.0 at live.0 of
 
     pub there : is_hand m.state id ≡ true
     there = was.there
@@ -217,33 +219,35 @@ module _ (setup : Setup) (slots id : ℕ) (me : Sits) (numbered : is_some me.0.r
 
   -- as its callers show it
   module _ (step : Step) (still : is_quiet step ≡ true) (place : ℕ) (written : ℕ → ℕ) (may : MayWrite me.0 step place written) where
-    pub may_go : (told : ℕ → Sits → Type 0) → ((found : ℕ) (now : View) → StaysOut me (now, me.1) → HappensAt place found me.0 [] step now → told found (now, me.1)) → Allows (Ruled setup) slots id me place written told
-    may_go told tells t r _ at fits =
+    pub may_go : (told : ℕ → Sits → Type 0) → ((found : ℕ) (now : View) → StaysOut me (now, me.1) → HappensAt place found me.0 [] step now → told found (now, me.1)) → Allows (Rule setup) slots id me place written told
+    may_go told tells =
+        lifts setup slots id me live.1 place written told
+        (λ t r _ at fits.
         let m : Moment = r.moment in
         let can = may (was t r at) fits in
         let are = subst (λ (s : Setup). WordsOf s r.cuts (slice_set t.words place (written (slice_index t.words place))) (after_step m.state id step)) of can.1 in
         goes t r at step still place (written (slice_index t.words place)) can.0 are told
-        (λ out happens. tells (slice_index t.words place) (view_at setup me.0.spare (moment_stepped m id step) id) out happens)
+        (λ out happens. tells (slice_index t.words place) (view_at setup me.0.spare (moment_stepped m id step) id) out happens))
 
     -- a look, or a change whose found word is told
-    pub finds : (first second : ℕ) → Allows (Ruled setup) slots id me place written (TellsFound step (table.step slots place first second none) me)
+    pub finds : (first second : ℕ) → Allows (Rule setup) slots id me place written (TellsFound step (table.step slots place first second none) me)
     finds first second = may_go (TellsFound step (table.step slots place first second none) me) (λ found now out happens. (out, happens))
 
     -- a write
-    pub writes : (first word : ℕ) → Allows (Ruled setup) slots id me place written (λ _. TellsEvent step (table.step slots place first 0 none) me word)
+    pub writes : (first word : ℕ) → Allows (Rule setup) slots id me place written (λ _. TellsEvent step (table.step slots place first 0 none) me word)
     writes first word = may_go (λ _. TellsEvent step (table.step slots place first 0 none) me word) (λ found now out happens. (out, happens.0))
 
     -- a sum
-    pub changes : (first second : ℕ) → Allows (Ruled setup) slots id me place written (λ found. TellsEvent step (table.step slots place first second none) me found)
+    pub changes : (first second : ℕ) → Allows (Rule setup) slots id me place written (λ found. TellsEvent step (table.step slots place first second none) me found)
     changes first second = may_go (λ found. TellsEvent step (table.step slots place first second none) me found) (λ found now out happens. (out, happens.0))
 
   -- a change that is told by a look or by a store
-  pub tells_looking : (change : Change) (step : Step) → is_quiet step ≡ true → (place first second : ℕ) → MayTell me.0 change step place (λ found. found) → Allows (Ruled setup) slots id me place (λ n. n) (λ found. TellsChange change step me)
-  tells_looking change step still place first second may t r _ at fits = tells t r at change step still place (λ found. found) may
+  pub tells_looking : (change : Change) (step : Step) → is_quiet step ≡ true → (place first second : ℕ) → MayTell me.0 change step place (λ found. found) → Allows (Rule setup) slots id me place (λ n. n) (λ found. TellsChange change step me)
+  tells_looking change step still place first second may = lifts setup slots id me live.1 place (λ n. n) (λ found. TellsChange change step me) (λ t r _ at fits. tells t r at change step still place (λ found. found) may)
 
-  pub tells_storing : (change : Change) (step : Step) → is_quiet step ≡ true → (place word : ℕ) → MayTell me.0 change step place (λ found. word) → Allows (Ruled setup) slots id me place (λ n. word) (λ found. TellsChange change step me)
-  tells_storing change step still place word may t r _ at fits = tells t r at change step still place (λ found. word) may
+  pub tells_storing : (change : Change) (step : Step) → is_quiet step ≡ true → (place word : ℕ) → MayTell me.0 change step place (λ found. word) → Allows (Rule setup) slots id me place (λ n. word) (λ found. TellsChange change step me)
+  tells_storing change step still place word may = lifts setup slots id me live.1 place (λ n. word) (λ found. TellsChange change step me) (λ t r _ at fits. tells t r at change step still place (λ found. word) may)
 
--- a view of a lawful moment has a number
-pub has_number : (view : View) → LawfulView view → is_some view.row.ids.number ≡ true
-has_number view lawful = ap (λ (v : View). is_some v.row.ids.number) lawful.is ∙ lawful.there
+-- a view of a lawful moment has a number, and is settled
+pub has_number : (view : View) → LawfulView view → IsSettled view
+has_number view lawful = (ap (λ (v : View). is_some v.row.ids.number) lawful.is ∙ lawful.there, ap (λ (v : View). v.made_of) lawful.is)

@@ -1,5 +1,5 @@
 -- What one hand does next keeps the rule of the table.
-use Rattle.std.proofs.Common.{◌≡◌, ◌≢◌, ℕ, zero, suc, ◌<◌, ◌≤◌, true, false, List, [], ◌∷◌, length, refl, sym, ap, subst, ◌∙◌, inl, inr, arith, slice_set, slice_index, is_some, length-set, map}
+use Rattle.std.proofs.Common.{◌≡◌, ◌≢◌, ℕ, zero, suc, ◌<◌, ◌≤◌, true, false, List, [], ◌∷◌, length, refl, sym, ap, subst, ◌∙◌, inl, inr, arith, slice_set, slice_index, is_some, length-set, map, None}
 use Rattle.std.proofs.lemmas.Bool.{cases_Bool}
 use Rattle.std.specs.List.{range_with_len}
 use mathlib.Core.Option.{some}
@@ -55,6 +55,7 @@ others_stay setup m now id other next apart spare = λ k. record {
   row = next.rows other apart k;
   slabs = next.slabs other apart k;
   stripes = map (λ stripe. next.stripes other stripe apart k) (range_with_len 0 setup.config.stripes);
+  made_of = None;
 }
 
 -- and its view

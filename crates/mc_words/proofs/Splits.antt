@@ -1,19 +1,22 @@
 -- A hand that is made changes nothing of the moment.
-use Rattle.std.proofs.Common.{◌≡◌, ◌≢◌, ◌⊎◌, ℕ, zero, suc, ◌+◌, ◌-◌, ◌<◌, ◌≤◌, List, [], ◌∷◌, ◌++◌, length, length-append, refl, sym, ap, subst, ◌∙◌, inl, inr, arith, slice_set, length-set}
+use Rattle.std.proofs.Common.{◌≡◌, ◌≢◌, ◌⊎◌, ℕ, zero, suc, ◌+◌, ◌-◌, ◌<◌, ◌≤◌, List, [], ◌∷◌, ◌++◌, map, length, None, length-append, refl, sym, ap, subst, ◌∙◌, inl, inr, arith, slice_set, length-set}
 use mathlib.Core.Option.{some}
 use lib.ListN.{get_elem?}
 use Rattle.atomic_table.specs.Table as table
-use Rattle.atomic_table.proofs.Lists.{at_set}
+use Rattle.atomic_table.proofs.Lists.{at_set, at_map}
+use Rattle.std.proofs.lemmas.List.{map-set, map-append}
 use mathlib.Core.Option as maybe
 use Rattle.mc_core.specs.Past.{Moment}
 use Rattle.mc_words.specs.declared.arena.Arena.{Arena}
 use Rattle.mc_words.specs.declared.hand.Hand.{Hand}
-use Rattle.mc_words.specs.View.{Setup, View, new_view}
+use Rattle.mc_words.specs.View.{Setup, View, new_view, settled}
 use Rattle.mc_words.specs.Meaning.{IsViewOf, Ruled}
 use Rattle.mc_words.specs.Happens.{LawfulView}
+use Rattle.mc_words.specs.Joining.{IsMade, Rule, all_settled}
 use Rattle.mc_words.specs.Opening.{one_made, next_view}
 use Rattle.mc_words.specs.Arenas.{IsHandOf, setup_of, view}
 use Rattle.mc_words.specs.Hands.{AreHandsFrom}
+use Rattle.mc_words.proofs.Settled.{settled_same, not_made}
 
 -- one entry more at the end of a list
 snoc_at : {A : Type 0} (l : List A) (last a : A) (i : ℕ) → get_elem? (l ++ last ∷ []) i ≡ some a → (get_elem? l i ≡ some a) ⊎ ((i ≡ length l) × (last ≡ a))
@@ -22,8 +25,9 @@ snoc_at [] last a (suc i) at = absurd (maybe.some-ne-none a (sym at))
 snoc_at (x ∷ xs) last a zero at = inl at
 snoc_at (x ∷ xs) last a (suc i) at = elim (snoc_at xs last a i at) [ inl old ↦ inl old | inr new ↦ inr ((let e = new.0 in omega arith), new.1) ]
 
-pub splits : (setup : Setup) (id : ℕ) (v : View) → 1 ≤ v.spare → v.setup ≡ setup → table.Splits (Ruled setup) id v (one_made v) (next_view v)
-splits setup id v more of t r at =
+-- the meaning of the table
+ruled_splits : (setup : Setup) (id : ℕ) (v : View) → 1 ≤ v.spare → v.setup ≡ setup → table.Splits (Ruled setup) id v (one_made v) (next_view v)
+ruled_splits setup id v more of t r at =
     let m : Moment = r.moment in
     let means = r.means in
     let sum = means.made id v at more in
@@ -73,6 +77,25 @@ splits setup id v more of t r at =
         ];
         unmade = λ other past within. means.unmade other (omega arith) within;
       };
+    }
+
+-- and its rule
+pub splits : (setup : Setup) (id : ℕ) (v : View) → 1 ≤ v.spare → v.setup ≡ setup → v.made_of ≡ None → table.Splits (Rule setup) id v (one_made v) (next_view v)
+splits setup id v more of plain t rule at =
+    let at_settled : get_elem? (map settled t.views) id ≡ some v = at_map settled t.views id v at ∙ ap some (settled_same v plain) in
+    let left : slice_set (map settled t.views) id (one_made v) ≡ map settled (slice_set t.views id (one_made v)) =
+        ap (slice_set (map settled t.views) id) (sym (settled_same (one_made v) plain)) ∙ sym (map-set settled t.views id (one_made v)) in
+    let views : slice_set (map settled t.views) id (one_made v) ++ next_view v ∷ [] ≡ map settled (slice_set t.views id (one_made v) ++ next_view v ∷ []) =
+        ap (λ (views : List View). views ++ next_view v ∷ []) left ∙ sym (map-append settled (slice_set t.views id (one_made v)) (next_view v ∷ [])) in
+    record {
+      ruled = subst (λ (views : List View). Ruled setup (record { words = t.words; homes = t.homes; views = views })) views (ruled_splits setup id v more of (all_settled t) rule.ruled at_settled);
+      made = λ other u at_u. elim (snoc_at (slice_set t.views id (one_made v)) (next_view v) u other at_u) [
+        | inl old ↦ elim (at_set t.views id other (one_made v) u old) [
+          | inl same ↦ subst IsMade same.1 (not_made (one_made v) plain)
+          | inr differs ↦ rule.made other u differs.1
+        ]
+        | inr last ↦ subst IsMade last.1 (not_made (next_view v) refl)
+      ];
     }
 
 -- the one that made another knows what it knew

@@ -131,6 +131,7 @@ module _ (view : View) (stripe : ℕ) (value : ReadyStripe) (mine : slice_index_
         row = record { ids = old.row.ids; holdings = old.row.holdings; looks = old.row.looks; knows = sym knows_made k };
         slabs = old.slabs;
         stripes = sym stripes_made k;
+        made_of = old.made_of;
       };
       words = was.words;
       cuts = was.cuts;

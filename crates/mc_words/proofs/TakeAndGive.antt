@@ -34,6 +34,8 @@ use Rattle.mc_words.specs.Happens.{LawfulView, Happens, is_quiet}
 use Rattle.mc_words.specs.Told.{Sits}
 use Rattle.mc_words.specs.Slots.{slot_of}
 use Rattle.mc_words.specs.Taking.{take_of, miss_of, give_of, IsLockOf, HasValue, can_give, HasStripes, Gains, Loses, IsOneHand, TakesValue, Takes, GivesValue}
+use Rattle.mc_words.specs.Joining.{Rule}
+use Rattle.mc_words.proofs.Settled.{IsSettled, lifts}
 use Rattle.mc_words.proofs.Rules.{ruled_next, is_view_now}
 use Rattle.mc_words.proofs.Written.{slabs_lock_written, lock_written, lock_read, unwritten}
 use Rattle.mc_words.proofs.Quiet.{Columns, columns, Goes, goes, was, map_map, has_if}
@@ -120,7 +122,7 @@ module _ (setup : Setup) (cuts words : List ℕ) (s : State) (are : WordsOf setu
       subst (λ (c : Columns). AreWords setup cuts (slice_set words (lock_word (suc stripe)) (slice_index words (lock_word (suc stripe)))) c.0 c.1 c.2 c.3) (sym (looked_keeps columns s id _ refl))
       (unwritten setup cuts words s.slabs_lock s.stripe_locks s.heads s.words are (lock_word (suc stripe)))
 
-module _ (setup : Setup) (slots id : ℕ) (me : Sits) (numbered : is_some me.0.row.ids.number ≡ true) (of : me.0.setup ≡ setup) (lock : Lock) (near : IsLockOf setup lock) where
+module _ (setup : Setup) (slots id : ℕ) (me : Sits) (live : IsSettled me.0) (of : me.0.setup ≡ setup) (lock : Lock) (near : IsLockOf setup lock) where
   -- the lock's slot and word
   abbrev slot_at : ℕ
   slot_at = slot_of lock
@@ -133,10 +135,10 @@ module _ (setup : Setup) (slots id : ℕ) (me : Sits) (numbered : is_some me.0.r
     m = r.moment
 
     there : is_hand m.state id ≡ true
-    there = (was setup slots id me numbered of t r at).there
+    there = (was setup slots id me live of t r at).there
 
     own : me.0 ≡ view_at setup me.0.spare m id
-    own = (was setup slots id me numbered of t r at).is ∙ ap (λ (s : Setup). view_at s me.0.spare m id) of
+    own = (was setup slots id me live of t r at).is ∙ ap (λ (s : Setup). view_at s me.0.spare m id) of
 
     may : (next : Step) → allows_step m.state id next ≡ true → MayStep m id next
     may next allowed = record { lawful = r.lawful; there = there; allowed = allowed }
@@ -176,7 +178,7 @@ module _ (setup : Setup) (slots id : ℕ) (me : Sits) (numbered : is_some me.0.r
 
     happens_by : (next : Step) → MayStep m id next → Happens me.0 [] next (view_at setup me.0.spare (moment_stepped m id next) id)
     happens_by next can = record {
-      was = was setup slots id me numbered of t r at;
+      was = was setup slots id me live of t r at;
       allowed = and_from _ _ there can.allowed;
       is = ap (λ (s : Setup). view_at s me.0.spare (moment_stepped m id next) id) (sym of);
     }
@@ -252,7 +254,7 @@ module _ (setup : Setup) (slots id : ℕ) (me : Sits) (numbered : is_some me.0.r
                 ∙ map_follows (λ i. is_some (held_stripe m.state id i)) (λ i. false) (λ i. is_some (held_stripe now id i)) (λ i. stripe == i) (range_with_len 0 setup.config.stripes) each (stripes_had (λ i. false) had),
           )
 
-      pub take_goes : (told : ℕ → Sits → Type 0) → ((now : Sits) → TakesValue lock me now → told (slice_index t.words place) now) → Goes setup slots id me numbered of t place told (number + 1)
+      pub take_goes : (told : ℕ → Sits → Type 0) → ((now : Sits) → TakesValue lock me now → told (slice_index t.words place) now) → Goes setup slots id me live of t place told (number + 1)
       take_goes told tells =
           let (slot, home, has) = r.means.homes slot_at near free in
           let w : View = view_at setup me.0.spare taken id in (
@@ -343,7 +345,7 @@ module _ (setup : Setup) (slots id : ℕ) (me : Sits) (numbered : is_some me.0.r
                 ∙ map_follows (λ i. is_some (held_stripe m.state id i)) (λ i. stripe == i) (λ i. is_some (held_stripe now id i)) (λ i. false) (range_with_len 0 setup.config.stripes) each (stripes_had (λ i. stripe == i) had),
           )
 
-      pub give_goes : me.1 ≡ (slot_at, slot) ∷ rest me.1 → Goes setup slots id me numbered of t place (λ _. GivesValue lock me) 0
+      pub give_goes : me.1 ≡ (slot_at, slot) ∷ rest me.1 → Goes setup slots id me live of t place (λ _. GivesValue lock me) 0
       give_goes out =
           let w : View = view_at setup me.0.spare given id in
           let back : table.put_back t.homes me.1 ≡ slice_set t.homes slot_at (some slot) = ap (table.put_back t.homes) out in
@@ -373,21 +375,23 @@ module _ (setup : Setup) (slots id : ℕ) (me : Sits) (numbered : is_some me.0.r
           ]
 
   -- the exchange of a try
-  pub tries : (number : ℕ) → me.0.row.ids.number ≡ Some number → Allows (Ruled setup) slots id me place (λ n. either (eqb n 0) (number + 1) n) (Takes lock (table.step slots place 0 (number + 1) none) me)
-  tries number is t r _ at fits =
+  pub tries : (number : ℕ) → me.0.row.ids.number ≡ Some number → Allows (Rule setup) slots id me place (λ n. either (eqb n 0) (number + 1) n) (Takes lock (table.step slots place 0 (number + 1) none) me)
+  tries number is =
       let told : ℕ → Sits → Type 0 = Takes lock (table.step slots place 0 (number + 1) none) me in
+      lifts setup slots id me live.1 place (λ n. either (eqb n 0) (number + 1) n) told
+      (λ t r _ at fits.
       let m : Moment = r.moment in
       let number_is : number_at m.state id ≡ Some number = ap (λ (v : View). v.row.ids.number) (sym (own t r at)) ∙ is in
-      exchanged (slice_index t.words place) 0 (number + 1) (Goes setup slots id me numbered of t place told)
+      exchanged (slice_index t.words place) 0 (number + 1) (Goes setup slots id me live of t place told)
       (λ free. take_goes t r at number number_is free told (λ now takes. ((λ _. takes), λ busy. absurd (busy free))))
       (λ busy.
-      goes setup slots id me numbered of t r at (miss_of lock) (miss_quiet lock) place (slice_index t.words place) (allowed_miss t r at lock near) (miss_words setup r.cuts t.words m.state r.means.words id lock) told
-      (λ out happens. ((λ free. absurd (busy free)), λ _. (out, happens))))
+      goes setup slots id me live of t r at (miss_of lock) (miss_quiet lock) place (slice_index t.words place) (allowed_miss t r at lock near) (miss_words setup r.cuts t.words m.state r.means.words id lock) told
+      (λ out happens. ((λ free. absurd (busy free)), λ _. (out, happens)))))
     where
       allowed_miss : (t : Words) (r : Ruled setup t) (at : get_elem? t.views id ≡ some me.0) (l : Lock) → IsLockOf setup l → allows_step r.moment.state id (miss_of l) ≡ true
       allowed_miss t r at SlabsLock within = refl
       allowed_miss t r at (StripeLock stripe) within = let count = lock_count t r at in lt-ltb stripe (length r.moment.state.stripe_locks) (omega arith)
 
   -- the store of a give
-  pub gives_back : (slot : Slot) → HasValue me.0 lock slot → can_give slot ≡ true → me.1 ≡ (slot_of lock, slot) ∷ rest me.1 → Allows (Ruled setup) slots id me place (λ _. 0) (λ _. GivesValue lock me)
-  gives_back slot value whole out t r _ at fits = give_goes t r at slot value whole out
+  pub gives_back : (slot : Slot) → HasValue me.0 lock slot → can_give slot ≡ true → me.1 ≡ (slot_of lock, slot) ∷ rest me.1 → Allows (Rule setup) slots id me place (λ _. 0) (λ _. GivesValue lock me)
+  gives_back slot value whole out = lifts setup slots id me live.1 place (λ _. 0) (λ _. GivesValue lock me) (λ t r _ at fits. give_goes t r at slot value whole out)

@@ -12,6 +12,7 @@ pub mod Places
 pub mod Fresh
 pub mod Idle
 pub mod Lent
+pub mod Joining
 pub mod Owner
 pub mod Arenas
 pub mod Refused

@@ -24,6 +24,8 @@ pub record View : Type 0 where
   pub slabs : Option SlabState
   -- stripe 0 first
   pub stripes : List (Option ReadyStripe)
+  -- the rows of the two hands that it was made of, until it is told of that
+  pub made_of : Option (Row × Row)
 
 -- of each stripe its value, where the hand has its lock
 abbrev pub held_stripes : Setup → State → ℕ → List (Option ReadyStripe)
@@ -37,6 +39,7 @@ view_at setup spare moment hand = record {
   row = row_at moment hand;
   slabs = held_slabs moment.state hand;
   stripes = held_stripes setup moment.state hand;
+  made_of = None;
 }
 
 -- who saw, said and knows nothing
@@ -58,6 +61,7 @@ new_view setup number spare = record {
   row = record { ids = record { number = Some number; stamps = 0 }; holdings = []; looks = []; knows = new_knowledge setup.config.stripes number };
   slabs = None;
   stripes = map (λ stripe. None) (range_with_len 0 setup.config.stripes);
+  made_of = None;
 }
 
 -- of no arena
@@ -70,8 +74,16 @@ no_setup = record {
 
 -- a hand that another took over: one constant, whatever the arena is
 abbrev pub spent_view : View
-spent_view = record { setup = no_setup; spare = 0; row = record { ids = gone; holdings = []; looks = []; knows = knows_nothing }; slabs = None; stripes = [] }
+spent_view = record { setup = no_setup; spare = 0; row = record { ids = gone; holdings = []; looks = []; knows = knows_nothing }; slabs = None; stripes = []; made_of = None }
 
 -- a hand that took another one over
 abbrev pub both_views : View → View → View
 both_views kept spent = record kept { row = record kept.row { knows = both_know kept.row.knows spent.row.knows } }
+
+-- the same, before it is told of that
+abbrev pub just_made : View → View → View
+just_made kept spent = record (both_views kept spent) { made_of = Some (kept.row, spent.row) }
+
+-- what a hand knows once it is told
+abbrev pub settled : View → View
+settled view = record view { made_of = None }

@@ -8,6 +8,7 @@ pub mod hand;
 pub mod handing;
 mod header;
 pub mod held;
+pub mod joining;
 pub mod locking;
 pub mod locks;
 pub mod looking;

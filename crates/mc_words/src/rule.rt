@@ -1,7 +1,7 @@
 //! The rule of the table: its words, the values at home and what the hands know mean a lawful moment of the core.
 use crate::plan::Plan;
 use crate::slot::Slot;
-use atomic_table::{Play, Seat, Table, TableRule};
+use atomic_table::{Join, Play, Seat, Table, TableRule};
 use std::alloc::Global;
 use std::marker::{Brand, Model};
 
@@ -24,9 +24,9 @@ pub struct LawfulTable;
 impl TableRule<Slot, HandView, Plan> for LawfulTable {
     ghost use Rattle.std.specs.Prelude.{◌-◌};
     ghost use Rattle.mc_words.specs.View.{new_view};
-    ghost use Rattle.mc_words.specs.Meaning.{Ruled};
+    ghost use Rattle.mc_words.specs.Joining.{Rule};
 
-    ghost holds = { Ruled };
+    ghost holds = { Rule };
 
     ghost first = { λ setup. new_view setup 0 (setup.hands - 1) };
 }
@@ -41,4 +41,24 @@ impl Play<Slot, HandView> for Brand {
     ghost use Rattle.std.specs.Prelude.{◌≡◌};
 
     ghost then = { λ step me found now. now ≡ me };
+}
+
+/// One hand of two.
+pub struct BothHands;
+
+impl Join<HandView> for BothHands {
+    ghost use Rattle.mc_words.specs.View.{just_made, spent_view};
+
+    ghost both = { just_made };
+
+    ghost spent = { spent_view };
+}
+
+/// A hand that was made of two is told so.
+pub struct ToldOfBoth;
+
+impl Play<Slot, HandView> for ToldOfBoth {
+    ghost use Rattle.mc_words.specs.Joining.{TellsMade};
+
+    ghost then = { TellsMade };
 }

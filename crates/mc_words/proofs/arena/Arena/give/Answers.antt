@@ -1,7 +1,7 @@
 use Rattle.std.proofs.Common.{◌≡◌, ℕ, ◌+◌, ◌∷◌, refl, sym, ap, subst, ◌∙◌, arith}
 use Rattle.atomic_table.specs.Table.{Allows, rest}
 use Rattle.mc_words.specs.View.{Setup}
-use Rattle.mc_words.specs.Meaning.{Ruled}
+use Rattle.mc_words.specs.Joining.{Rule}
 use Rattle.mc_words.specs.Told.{Sits}
 use Rattle.mc_words.specs.Slots.{slot_of}
 use Rattle.mc_words.specs.Taking.{GivesValue}
@@ -36,6 +36,6 @@ store-requires g c =
     let stripes : a.table.shared.key.config.stripes ≡ a.plan.config.stripes = ap (λ (s : Setup). s.config.stripes) a.planned in (
       c.exchange.ensures.0 ∙ seat.same_table,
       omega arith,
-      subst (λ (p : ℕ × Sits). Allows (Ruled a.table.shared.key) a.table.shared.table_id.slots c.exchange.new.seat.id p.1 (1 + p.0) (λ _. 0) (λ _. GivesValue g.told.0 p.1)) (λ k. (sym i_is k, me_is k))
+      subst (λ (p : ℕ × Sits). Allows (Rule a.table.shared.key) a.table.shared.table_id.slots c.exchange.new.seat.id p.1 (1 + p.0) (λ _. 0) (λ _. GivesValue g.told.0 p.1)) (λ k. (sym i_is k, me_is k))
           (gives_back a.table.shared.key _ _ me (has_number _ seat.lawful) seat.setup g.told.0 near g.told.1 value whole refl),
     )

@@ -21,7 +21,7 @@ split_seat-seat-requires c =
     let near = c.requires.number.1 in (
       c.requires.arena.same_table,
       (let e = arena.words in omega arith),
-      splits setup c.args.first.now.seat.id view (omega arith) (ap (λ (v : View). v.setup) is),
+      splits setup c.args.first.now.seat.id view (omega arith) (ap (λ (v : View). v.setup) is) (ap (λ (v : View). v.made_of) is),
     )
 
 pub invariant_of-result : goal.invariant_of-result

@@ -3,20 +3,20 @@ use Rattle.atomic_table.specs.Table.{opening}
 use Rattle.mc_words.specs.declared.slot.Slot.{Slot}
 use Rattle.mc_words.specs.declared.locks.Locks.TheVariants.{Neither}
 use Rattle.mc_words.specs.View.{Setup, View}
-use Rattle.mc_words.specs.Meaning.{Ruled}
+use Rattle.mc_words.specs.Joining.{Rule}
 use Rattle.mc_words.specs.Happens.{LawfulView}
 use Rattle.mc_words.specs.Opening.{first_view}
 use Rattle.mc_words.specs.Out.{IsNoted}
 use Rattle.mc_words.specs.Told.{Sits}
-use Rattle.mc_words.proofs.Opens.{opens, new_lawful, new_noted}
+use Rattle.mc_words.proofs.Opens.{rule_first, new_lawful, new_noted}
 use Rattle.mc_words.proofs.arena.Arena.open.Goals as goal
 
 pub new-requires : goal.new-requires
 new-requires c =
     let setup : Setup = c.args.plan in
     let told = c.places-places.ensures in
-    subst (λ (p : List ℕ × List Slot). Ruled setup (opening p.0 p.1 (first_view setup))) (λ k. (sym (c.as_slice.ensures.value ∙ c.in_ok-words.ensures.words) k, sym c.in_ok-slots.ensures.slots k))
-    (opens setup c.args.start told.sound told.stripes.0 told.hands.0 told.hands.1 c.requires.start)
+    subst (λ (p : List ℕ × List Slot). Rule setup (opening p.0 p.1 (first_view setup))) (λ k. (sym (c.as_slice.ensures.value ∙ c.in_ok-words.ensures.words) k, sym c.in_ok-slots.ensures.slots k))
+    (rule_first setup c.args.start told.sound told.stripes.0 told.hands.0 told.hands.1 c.requires.start)
 
 pub invariant_of-hand : goal.invariant_of-hand
 invariant_of-hand c = record { noted = subst (λ (me : Sits). IsNoted me 0 0 Neither) (sym c.in-Ok.ensures.ok.4) (let setup : Setup = c.args.plan in new_noted setup 0 (setup.hands - 1) (omega arith)) }

@@ -3,7 +3,7 @@ use mathlib.Core.Option.{none}
 use prog.Atomic.{either}
 use Rattle.atomic_table.specs.Table.{Allows, step}
 use Rattle.mc_words.specs.View.{Setup, View}
-use Rattle.mc_words.specs.Meaning.{Ruled}
+use Rattle.mc_words.specs.Joining.{Rule}
 use Rattle.mc_words.specs.Happens.{Happens, HappensAt}
 use Rattle.mc_words.specs.Slots.{slot_of}
 use Rattle.mc_words.specs.Taking.{take_of, miss_of, Takes}
@@ -28,7 +28,7 @@ compare_exchange-found-requires g c =
     let stripes : a.table.shared.key.config.stripes ≡ a.plan.config.stripes = ap (λ (s : Setup). s.config.stripes) a.planned in (
       seat.same_table,
       omega arith,
-      subst (λ (i : ℕ). Allows (Ruled a.table.shared.key) a.table.shared.table_id.slots c.args.seat.now.id me (1 + i) (λ n. either (eqb n 0) (c.args.number + 1) n) (Takes g.told (step a.table.shared.table_id.slots (1 + i) 0 (c.args.number + 1) none) me)) (sym i_is)
+      subst (λ (i : ℕ). Allows (Rule a.table.shared.key) a.table.shared.table_id.slots c.args.seat.now.id me (1 + i) (λ n. either (eqb n 0) (c.args.number + 1) n) (Takes g.told (step a.table.shared.table_id.slots (1 + i) 0 (c.args.number + 1) none) me)) (sym i_is)
           (tries a.table.shared.key _ _ me (has_number _ seat.lawful) seat.setup g.told near c.args.number number.0),
     )
 

@@ -1,0 +1,12 @@
+use Rattle.mc_words.proofs.Joined.{noted_both, none_out}
+use Rattle.mc_words.proofs.arena.Arena.join_hands.Goals as goal
+
+pub unite-requires-clause-none : goal.unite-requires-clause-none
+unite-requires-clause-none c =
+    let o = c.args.other in
+    none_out o.seat.me o.number o.chunks o.locks o.noted c.requires.idle.1
+
+pub invariant_of-result : goal.invariant_of-result
+invariant_of-result c =
+    let h = c.args.hand in
+    record { noted = noted_both h.seat.me c.unite.new.seat.me c.args.other.seat.me.0 h.number h.chunks h.locks h.noted c.requires.idle.0 c.unite.ensures.out c.unite.ensures.view }

@@ -1,0 +1,40 @@
+-- Two hands that become one.
+use Rattle.std.specs.Prelude.{◌≡◌, ℕ, true, [], map, Some, None}
+use mathlib.Core.Option.{some}
+use lib.ListN.{get_elem?}
+use Rattle.mc_core.specs.declared.event.Step.TheVariants.{Join}
+use Rattle.mc_core.specs.Past.{moment_after}
+use Rattle.mc_core.specs.Run.{is_allowed}
+use Rattle.mc_core.specs.Views.{Row, row_at}
+use Rattle.mc_words.specs.View.{Setup, View, view_at, settled}
+use Rattle.mc_words.specs.Meaning.{Words, Ruled}
+use Rattle.mc_words.specs.Happens.{LawfulView, event_of}
+use Rattle.mc_words.specs.Told.{Sits, At}
+
+-- a hand took over another one, whose row this was: one event of the core, in a lawful moment in which it was allowed; the hand knew
+-- the one view before it, and the other after it
+pub record Joins (view : View) (row : Row) (now : View) : Type 0 where
+  pub was : LawfulView view
+  pub spent : ℕ
+  pub row_is : row ≡ row_at was.moment spent
+  pub allowed : is_allowed was.moment.state (event_of was.hand [] (Join was.hand spent)) ≡ true
+  pub is : now ≡ view_at view.setup view.spare (moment_after was.moment (event_of was.hand [] (Join was.hand spent))) was.hand
+
+-- what was made of two rows was made by a join
+abbrev pub IsMade : View → Type 0
+IsMade view = (kept spent : Row) → view.made_of ≡ Some (kept, spent) → Joins (record view { row = kept; made_of = None }) spent (settled view)
+
+-- the table, where each hand is told of what it was made of
+abbrev pub all_settled : Words → Words
+all_settled t = record t { views = map settled t.views }
+
+-- the rule of the table: it means a lawful moment, and hands that were made of two were made by a join
+pub record Rule (setup : Setup) (t : Words) : Type 0 where
+  pub ruled : Ruled setup (all_settled t)
+  pub made : (hand : ℕ) (view : View) → get_elem? t.views hand ≡ some view → IsMade view
+
+-- the step tells a hand how it was made
+pub record TellsMade (step : At) (me : Sits) (found : ℕ) (now : Sits) : Type 0 where
+  pub is : now ≡ (settled me.0, me.1)
+  pub lawful : LawfulView now.0
+  pub made : IsMade me.0
