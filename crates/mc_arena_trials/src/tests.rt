@@ -1,6 +1,8 @@
 //! The tests, and what they have in common.
 mod calls;
+mod locks;
 mod owner;
+mod threads;
 
 use mc_classes::Config;
 use std::fmt::Debug;

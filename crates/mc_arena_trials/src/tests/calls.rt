@@ -2,6 +2,7 @@
 ghost use Rattle.std.specs.Prelude.{◌≡◌, Some, IfSome, IfOk};
 ghost use Rattle.mc_core.specs.State.{has_chunk, is_class};
 ghost use Rattle.mc_words.specs.Arenas.{IsHandOf, setup_of, view};
+ghost use Rattle.mc_arena_trials.specs.Hands.{AreHandsOf};
 
 use mc_classes::{ClassId, PageId};
 use mc_pages::{ChunkId, Grow};
@@ -169,4 +170,17 @@ pub fn give(arena: &Arena, hand: &mut Hand, held: SlabsHeld) -> bool
     }
     arena.give_slabs(hand, held);
     true
+}
+
+/// The hand of the lowest number that is left.
+pub fn next_hand(arena: &Arena, hands: &mut Vec<Hand>) -> Option<Hand>
+    requires hands { AreHandsOf arena.now hands.old.items }
+    ensures hands { AreHandsOf arena.now hands.new.items }
+    ensures hand { IfSome result (λ hand. IsHandOf arena.now hand) }
+{
+    if hands.is_empty() {
+        None
+    } else {
+        Some(hands.remove(0))
+    }
 }

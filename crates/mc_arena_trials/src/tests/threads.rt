@@ -1,0 +1,215 @@
+//! Several threads at one arena: chunks of one class go out, are filled and given up, and come back.
+ghost use Rattle.std.specs.Prelude.{◌≡◌, IfSome};
+ghost use Rattle.mc_arena_trials.specs.Hands.{AreHandsOf};
+ghost use Rattle.std.specs.Thread.{IsSync};
+ghost use Rattle.mc_words.specs.Arenas.{IsHandOf, setup_of, view};
+ghost use Rattle.mc_words.specs.Fresh.{IsFreshOf};
+ghost use Rattle.mc_core.specs.State.{is_class};
+
+use super::calls::{first_free, give, grow_page, has_chunk, header, is_class, next_hand};
+use super::{FOUR_CLASSES, assert_equal, assert_same};
+use mc_classes::ClassId;
+use mc_pages::ChunkId;
+use mc_words::arena::Arena;
+use mc_words::hand::Hand;
+use mc_words::held::Fresh;
+use std::sync::Wait;
+use std::test::Fail;
+use std::thread::{Threads, join};
+
+/// How often each thread goes round.
+const ROUNDS: u64 = 1000;
+
+/// Writes this word in each place of the chunk.
+fn fill_all(arena: &Arena, hand: &mut Hand, fresh: &mut Fresh, word: u64)
+    requires arena { IsHandOf arena.now hand.old }
+    requires fresh { IsFreshOf (view hand.old) fresh.old.chunk fresh.old.room }
+    ensures arena { IsHandOf arena.now hand.new }
+    ensures fresh { IsFreshOf (view hand.new) fresh.new.chunk fresh.new.room }
+{
+    for place in 0..fresh.room() {
+        arena.fill(hand, fresh, place, word);
+    }
+}
+
+/// The next chunk of the class goes out and is filled, with no lock, and given up. None where that can't be.
+fn take_out<R: Wait>(
+    rt: &R,
+    arena: &Arena,
+    hand: &mut Hand,
+    class: ClassId,
+    word: u64,
+) -> Option<ChunkId>
+    requires arena { IsHandOf arena.now hand.old }
+    ensures arena { IsHandOf arena.now hand.new }
+{
+    if !is_class(arena, class) || !hand.idle() {
+        return None;
+    }
+    let Ok(mut held) = arena.try_slabs(hand) else { return None; };
+    if hand.refs() > 255 {
+        return None;
+    }
+    let popped = arena.pop(hand, &mut held, class);
+    arena.give_slabs(hand, held);
+    let Ok(Some(mut fresh)) = popped else {
+        return None;
+    };
+    fill_all(arena, hand, &mut fresh, word);
+    let chunk = fresh.chunk();
+    arena.discard(hand, fresh);
+    Some(chunk)
+}
+
+/// The dead chunk comes back. False where it isn't dead.
+fn bring_back<R: Wait>(rt: &R, arena: &Arena, hand: &mut Hand, chunk: ChunkId) -> bool
+    requires arena { IsHandOf arena.now hand.old }
+    ensures arena { IsHandOf arena.now hand.new }
+{
+    if !has_chunk(arena, chunk) || !hand.unlocked() {
+        return false;
+    }
+    let Ok(mut held) = arena.try_slabs(hand) else { return false; };
+    let came_back = arena.put_back(hand, &mut held, chunk).is_ok();
+    give(arena, hand, held) && came_back
+}
+
+/// A hand that went so many rounds.
+#[derive(Drop)]
+struct Worked {
+    hand: Hand,
+    rounds: u64,
+}
+
+/// One thread's rounds.
+fn work<R: Wait>(rt: &R, arena: &Arena, hand: Hand) -> Worked
+    requires arena { IsHandOf arena.now hand }
+    ensures arena { IsHandOf arena.now result.hand }
+{
+    let mut hand = hand;
+    let mut rounds = 0;
+    for round in 0..ROUNDS {
+        let Some(chunk) = take_out(rt, arena, &mut hand, 1, round) else {
+            continue;
+        };
+        if bring_back(rt, arena, &mut hand, chunk) {
+            rounds += 1;
+        }
+    }
+    Worked { hand, rounds }
+}
+
+/// Two threads' rounds at once.
+fn work_beside<R: Threads + Wait + Sync>(
+    rt: &R,
+    arena: &Arena,
+    first: Hand,
+    second: Hand,
+) -> (Worked, Worked)
+    requires first { IsHandOf arena.now first }
+    requires second { IsHandOf arena.now second }
+    ensures first { IsHandOf arena.now result.0.hand }
+    ensures second { IsHandOf arena.now result.1.hand }
+{
+    join(
+        rt,
+        move || -> Worked
+            requires { IsSync R.row × IsHandOf arena.now first }
+            ensures { IsHandOf arena.entry.now result.hand }
+        { work(rt, arena, first) },
+        move || -> Worked
+            requires { IsSync R.row × IsHandOf arena.now second }
+            ensures { IsHandOf arena.entry.now result.hand }
+        { work(rt, arena, second) },
+    )
+}
+
+/// Four threads' rounds at once: both pairs.
+fn work_by_four<R: Threads + Wait + Sync>(
+    rt: &R,
+    arena: &Arena,
+    low: (Hand, Hand),
+    high: (Hand, Hand),
+) -> ((Worked, Worked), (Worked, Worked))
+    requires low { IsHandOf arena.now low.0 × IsHandOf arena.now low.1 }
+    requires high { IsHandOf arena.now high.0 × IsHandOf arena.now high.1 }
+    ensures low { IsHandOf arena.now result.0.0.hand × IsHandOf arena.now result.0.1.hand }
+    ensures high { IsHandOf arena.now result.1.0.hand × IsHandOf arena.now result.1.1.hand }
+{
+    join(
+        rt,
+        move || -> (Worked, Worked)
+            requires { IsSync R.row × IsHandOf arena.now low.0 × IsHandOf arena.now low.1 }
+            ensures { IsHandOf arena.entry.now result.0.hand × IsHandOf arena.entry.now result.1.hand }
+        { work_beside(rt, arena, low.0, low.1) },
+        move || -> (Worked, Worked)
+            requires { IsSync R.row × IsHandOf arena.now high.0 × IsHandOf arena.now high.1 }
+            ensures { IsHandOf arena.entry.now result.0.hand × IsHandOf arena.entry.now result.1.hand }
+        { work_beside(rt, arena, high.0, high.1) },
+    )
+}
+
+/// One hand of two that worked, and the rounds of that which went fewer. None where one isn't idle.
+fn both(arena: &Arena, first: Worked, second: Worked) -> Option<Worked>
+    requires first { IsHandOf arena.now first.hand }
+    requires second { IsHandOf arena.now second.hand }
+    ensures hand { IfSome result (λ worked. IsHandOf arena.now worked.hand) }
+{
+    let Worked { hand, rounds } = first;
+    let Worked {
+        hand: other,
+        rounds: more,
+    } = second;
+    if !hand.idle() || !other.idle() {
+        return None;
+    }
+    Some(Worked {
+        hand: arena.join_hands(hand, other),
+        rounds: rounds.min(more),
+    })
+}
+
+/// Two hands of the lowest numbers that are left.
+fn next_two(arena: &Arena, hands: &mut Vec<Hand>) -> Option<(Hand, Hand)>
+    requires hands { AreHandsOf arena.now hands.old.items }
+    ensures hands { AreHandsOf arena.now hands.new.items }
+    ensures two { IfSome result (λ two. IsHandOf arena.now two.0 × IsHandOf arena.now two.1) }
+{
+    let first = next_hand(arena, hands)?;
+    let second = next_hand(arena, hands)?;
+    Some((first, second))
+}
+
+/// All hands work, in pairs, and become one. None where one isn't idle, or some are missing.
+fn work_by_all<R: Threads + Wait + Sync>(
+    rt: &R,
+    arena: &Arena,
+    hands: &mut Vec<Hand>,
+) -> Option<Worked>
+    requires hands { AreHandsOf arena.now hands.old.items }
+    ensures hand { IfSome result (λ worked. IsHandOf arena.now worked.hand) }
+{
+    let low = next_two(arena, hands)?;
+    let high = next_two(arena, hands)?;
+    let (low, high) = work_by_four(rt, arena, low, high);
+    let low = both(arena, low.0, low.1)?;
+    let high = both(arena, high.0, high.1)?;
+    both(arena, low, high)
+}
+
+#[test]
+fn four_threads_share_a_class(rt: HostRuntime) -> Result<(), Fail> {
+    let (arena, mut hands) = Arena::new(rt.alloc(), &FOUR_CLASSES, 5)?;
+    let mut owner = hands.remove(0);
+    let Ok(mut held) = arena.try_slabs(&mut owner) else {
+        return Err(Fail::new("the lock is free"));
+    };
+    let grown = grow_page(&arena, &mut owner, &mut held, 1);
+    assert_equal(&rt, grown, Some(Ok(0)), "grow");
+    assert_same(&rt, give(&arena, &mut owner, held), true, "give_slabs");
+    let Some(worked) = work_by_all(&rt, &arena, &mut hands) else {
+        return Err(Fail::new("the hands are idle"));
+    };
+    assert_same(&rt, worked.rounds, ROUNDS, "rounds");
+    Ok(())
+}
