@@ -17,3 +17,4 @@ pub mod Opens
 pub mod Pages
 pub mod ChangeViews
 pub mod Joined
+pub mod Ends

@@ -12,5 +12,6 @@ pub mod Places
 pub mod Fresh
 pub mod Idle
 pub mod Joining
+pub mod Closing
 pub mod Owner
 pub mod Arenas
