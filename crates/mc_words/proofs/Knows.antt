@@ -1,7 +1,7 @@
 -- What a hand knows after a step, where no stripe's history grew.
-use Rattle.std.proofs.Common.{◌≡◌, ℕ, ◌+◌, ◌==◌, Bool, true, false, List, [], ◌∷◌, ◌++◌, drop, length, Option, Some, None, refl, sym, ap, ap₂, ◌∙◌, if◌then◌else◌, append-nil}
+use Rattle.std.proofs.Common.{◌≡◌, ℕ, ◌+◌, ◌==◌, Bool, true, false, List, [], ◌∷◌, ◌++◌, drop, length, Option, Some, None, refl, sym, ap, ap₂, ◌∙◌, if◌then◌else◌, append-nil, slice_index_or}
 use Rattle.mc_stripe.specs.declared.history.Call.{Call}
-use Rattle.mc_stripe.specs.StripeState.{ReadyStripe}
+use Rattle.mc_stripe.specs.StripeState.{ReadyStripe, new_stripe}
 use Rattle.mc_core.specs.declared.event.Step.{Step}
 use Rattle.mc_core.specs.declared.event.Step.TheVariants as core
 use Rattle.mc_core.specs.State.{State, number_at}
@@ -15,11 +15,10 @@ drop_all : {A : Type 0} (xs : List A) → drop (length xs) xs ≡ []
 drop_all [] = refl
 drop_all (x ∷ xs) = drop_all xs
 
-module _ (before now : State) (same : now.stripes ≡ before.stripes) where
+-- no history grew
+module _ (before now : State) (same : (stripe : ℕ) → history_at now stripe ≡ history_at before stripe) where
   none_new : (stripe : ℕ) → new_calls before now stripe ≡ []
-  none_new stripe =
-      ap (λ (stripes : List ReadyStripe). drop (length (history_at before stripe)) (Rattle.std.specs.Prelude.slice_index_or stripes stripe Rattle.mc_stripe.specs.StripeState.new_stripe).state.history) same
-      ∙ drop_all (history_at before stripe)
+  none_new stripe = ap (λ (history : List Call). drop (length (history_at before stripe)) history) (same stripe) ∙ drop_all (history_at before stripe)
 
   none_told : (place : ℕ) (rows : List (List Call)) → told before now place rows ≡ rows
   none_told place [] = refl
@@ -32,9 +31,13 @@ module _ (before now : State) (same : now.stripes ≡ before.stripes) where
     | false ↦ refl
   ]
 
-  pub mine_same : (hand : ℕ) (mine : List Own) → own_calls_after before now hand mine ≡ mine
-  mine_same hand [] = refl
-  mine_same hand (own ∷ mine) = ap₂ (λ (own : Own) (mine : List Own). own ∷ mine) (own_same (number_at before hand) own) (mine_same hand mine)
+  pub mine_alike : (hand : ℕ) (mine : List Own) → own_calls_after before now hand mine ≡ mine
+  mine_alike hand [] = refl
+  mine_alike hand (own ∷ mine) = ap₂ (λ (own : Own) (mine : List Own). own ∷ mine) (own_same (number_at before hand) own) (mine_alike hand mine)
+
+-- no stripe changed
+pub mine_same : (before now : State) → now.stripes ≡ before.stripes → (hand : ℕ) (mine : List Own) → own_calls_after before now hand mine ≡ mine
+mine_same before now same = mine_alike before now (λ stripe. ap (λ (stripes : List ReadyStripe). (slice_index_or stripes stripe new_stripe).state.history) same)
 
 no_join : (step : Step) → is_join step ≡ false → (kept spent : ℕ) → step ≡ core.Join kept spent → ⊥
 no_join step alone kept spent e = absurd (let both : true ≡ false = ap is_join (sym e) ∙ alone in cc)

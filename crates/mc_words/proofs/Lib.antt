@@ -6,6 +6,7 @@ pub mod TakeAndGive
 pub mod OutFirst
 pub mod Knows
 pub mod LockViews
+pub mod Lent
 pub mod Locked
 pub mod Unlocked
 pub mod Heads
@@ -18,3 +19,4 @@ pub mod Pages
 pub mod ChangeViews
 pub mod Joined
 pub mod Ends
+pub mod StripeChanges

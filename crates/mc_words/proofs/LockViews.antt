@@ -41,7 +41,7 @@ pub rows_there : (view : View) → (was : LawfulView view) → was.hand < length
 rows_there view was = hand_there was.moment.state was.hand was.there
 
 -- of each stripe its value, where one stripe's alone may be another
-stripes_set : (setup : Setup) (before now : State) (id stripe : ℕ) (value : Option ReadyStripe) → stripe < setup.config.stripes → held_stripe now id stripe ≡ value
+pub stripes_set : (setup : Setup) (before now : State) (id stripe : ℕ) (value : Option ReadyStripe) → stripe < setup.config.stripes → held_stripe now id stripe ≡ value
     → ((i : ℕ) → i ≢ stripe → held_stripe now id i ≡ held_stripe before id i) → held_stripes setup now id ≡ slice_set (held_stripes setup before id) stripe value
 stripes_set setup before now id stripe value near here others =
     let old = length-map-range_with_len (held_stripe before id) 0 setup.config.stripes in

@@ -13,5 +13,6 @@ pub mod Fresh
 pub mod Idle
 pub mod Joining
 pub mod Closing
+pub mod Lent
 pub mod Owner
 pub mod Arenas

@@ -1,5 +1,5 @@
-//! Changes of pages and lists that touch no word of theirs. Each is told at once.
-ghost use Rattle.std.specs.Prelude.{◌≡◌, ℕ, ◌+◌, ◌<◌, ◌≤◌, ◌↔◌, [], ◌∷◌, true, None, Some, Err, IfOk, OnErr};
+//! Changes of pages and lists, and of stripes, that write no header. Each is told at once.
+ghost use Rattle.std.specs.Prelude.{◌≡◌, ℕ, ◌+◌, ◌<◌, ◌≤◌, ◌↔◌, [], ◌∷◌, true, slice_index_or, None, Some, Err, IfOk, IsOk, OnOk, OnErr};
 ghost use Rattle.mc_classes.specs.Classes.{pages_of};
 ghost use Rattle.mc_pages.specs.Changes.{after_grow, next_page};
 ghost use Rattle.mc_core.specs.State.{is_class};
@@ -7,15 +7,16 @@ ghost use Rattle.mc_core.specs.declared.event.Change.TheVariants as change;
 ghost use Rattle.mc_core.specs.declared.event.Step.TheVariants as step;
 ghost use Rattle.mc_words.specs.Arenas.{IsHandOf, setup_of, view};
 ghost use Rattle.mc_words.specs.Happens.{Happens};
-ghost use Rattle.mc_words.specs.Views.{slabs_changed};
+ghost use Rattle.mc_words.specs.Views.{slabs_changed, stripe_reserved};
 
 use crate::arena::Arena;
 use crate::hand::Hand;
-use crate::held::SlabsHeld;
+use crate::held::{SlabsHeld, StripeHeld};
 use crate::locks::Lock;
 use mc_classes::{ClassId, PageId};
 use mc_core::{Change, Step};
 use mc_pages::Grow;
+use mc_stripe::NoMemory;
 
 impl Arena {
     /// Sets the automover's mode, which is 0, 1 or 2.
@@ -59,5 +60,25 @@ impl Arena {
         let change = Change::Grow(class);
         self.tell_page(&mut hand.seat, word, class, change, Step::MissSlabs);
         Ok(page)
+    }
+
+    /// Makes room in a stripe for one more call on one of its keys. Where there is room, it takes no memory. (own)
+    pub fn reserve(&self, hand: &mut Hand, held: &mut StripeHeld) -> Result<(), NoMemory>
+        requires arena { IsHandOf self.now hand.old }
+        requires held { slice_index_or (view hand.old).stripes held.old.number None ≡ Some held.old.stripe }
+        ensures arena { IsHandOf self.now hand.new }
+        ensures locks { hand.new.locks ≡ hand.old.locks }
+        ensures reserved { OnOk result (held.new ≡ record held.old { stripe = record held.old.stripe { ready = true } }) }
+        ensures happens { OnOk result (Happens (view hand.old) (change.Reserve held.old.number ∷ []) (step.MissStripe held.old.number) (view hand.new)) }
+        ensures view { OnOk result (view hand.new ≡ stripe_reserved held.old.number held.old.stripe (hand.old.number + 1) (view hand.old)) }
+        ensures succeeds { held.old.stripe.ready ≡ true → IsOk result }
+        ensures refused { OnErr result ((held.new ≡ held.old) × (view hand.new ≡ view hand.old)) }
+    {
+        held.stripe.reserve()?;
+        let stripe = held.number;
+        let word = 1 + Lock::StripeLock(stripe).slot();
+        let change = Change::Reserve(stripe);
+        self.tell(&mut hand.seat, word, change, Step::MissStripe(stripe));
+        Ok(())
     }
 }

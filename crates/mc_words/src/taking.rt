@@ -4,6 +4,7 @@ ghost use Rattle.mc_core.specs.declared.event.Step.TheVariants as step;
 ghost use Rattle.mc_core.specs.Silent.{none_half_cut};
 ghost use Rattle.mc_words.specs.Arenas.{IsHandOf, setup_of, view};
 ghost use Rattle.mc_words.specs.Happens.{Happens};
+ghost use Rattle.mc_words.specs.Lent.{IsLent};
 ghost use Rattle.mc_words.specs.Out.{has_no_stripe, with_slabs, with_stripe, without_slabs, without_stripe};
 ghost use Rattle.mc_words.specs.Views.{slabs_given, slabs_missed, slabs_taken, stripe_given, stripe_missed, stripe_taken};
 
@@ -21,6 +22,7 @@ impl Arena {
         ensures locks { IfOk result (λ held. hand.new.locks ≡ with_slabs hand.old.locks) }
         ensures taken { IfOk result (λ held. Happens (view hand.old) [] step.TakeSlabs (view hand.new)) }
         ensures lent { IfOk result (λ held. view hand.new ≡ slabs_taken held.shared (view hand.old)) }
+        ensures whole { IfOk result (λ held. IsLent (view hand.new) held.shared) }
         ensures same { OnErr result (hand.new.locks ≡ hand.old.locks) }
         ensures missed { OnErr result (Happens (view hand.old) [] step.MissSlabs (view hand.new)) }
         ensures held { OnErr result ((word : ℕ) × (word ≢ 0) × (view hand.new ≡ slabs_missed word (view hand.old))) }

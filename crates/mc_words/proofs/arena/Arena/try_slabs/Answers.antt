@@ -4,6 +4,7 @@ use Rattle.mc_words.specs.View.{View}
 use Rattle.mc_words.specs.Out.{IsNoted}
 use Rattle.mc_words.specs.Taking.{HasValue}
 use Rattle.mc_words.proofs.Locked.{noted_slabs}
+use Rattle.mc_words.proofs.Lent.{lent_slabs}
 use Rattle.mc_words.proofs.LockViews.{taken_slabs, missed_slabs}
 use Rattle.mc_words.proofs.arena.Arena.try_slabs.Goals as goal
 
@@ -20,6 +21,11 @@ pub returns-in-Some-OfSlabs-clause-lent : goal.returns-in-Some-OfSlabs-clause-le
 returns-in-Some-OfSlabs-clause-lent c =
     let told = c.in-Some-OfSlabs.ensures in
     taken_slabs c.args.hand.now.seat.me.0 c.take.new.seat.me.0 told.taken c.in-Some-OfSlabs.shared (subst (HasValue c.take.new.seat.me.0 SlabsLock) c.in-Some-OfSlabs.field-0-is told.value)
+
+pub returns-in-Some-OfSlabs-clause-whole : goal.returns-in-Some-OfSlabs-clause-whole
+returns-in-Some-OfSlabs-clause-whole c =
+    let told = c.in-Some-OfSlabs.ensures in
+    lent_slabs c.args.hand.now.seat.me.0 c.take.new.seat.me.0 c.in-Some-OfSlabs.shared told.taken (subst (HasValue c.take.new.seat.me.0 SlabsLock) c.in-Some-OfSlabs.field-0-is told.value)
 
 pub returns-in-None-clause-missed : goal.returns-in-None-clause-missed
 returns-in-None-clause-missed c = (c.in-None.ensures.missed refl).2.0

@@ -1,0 +1,51 @@
+use Rattle.std.proofs.Common.{◌≡◌, ℕ, suc, ◌+◌, refl, ap, sym, subst, ◌∙◌, length, arith}
+use Rattle.mc_core.specs.declared.event.Change.TheVariants.{Reserve}
+use Rattle.mc_core.specs.declared.event.Step.TheVariants as core
+use Rattle.mc_core.specs.declared.look.Look.TheVariants.{SawStripe}
+use Rattle.mc_core.specs.Past.{stripe_word}
+use Rattle.mc_words.specs.View.{View, Setup}
+use Rattle.mc_words.specs.Layout.{lock_word}
+use Rattle.mc_words.specs.Happens.{MayTell}
+use Rattle.mc_words.specs.Views.{saw}
+use Rattle.mc_words.proofs.Locked.{noted_same}
+use Rattle.mc_words.proofs.LockViews.{look_holds}
+use Rattle.mc_words.proofs.StripeChanges.{stripe_near, may_reserve, made, reserved_stripe}
+use Rattle.mc_words.proofs.arena.Arena.reserve.Goals as goal
+
+pub slot-word-requires : goal.slot-word-requires
+slot-word-requires c =
+    let a = c.args.self.now in
+    let near = stripe_near c.args.hand.now.seat.me.0 c.args.held.now.number c.args.held.now.stripe c.requires.held c.requires.arena.lawful in
+    let setup = ap (λ (s : Setup). s.config.stripes) (c.requires.arena.setup ∙ a.planned) in
+    let few = a.few in
+    record { few = omega arith }
+
+pub overflow_add-word : goal.overflow_add-word
+overflow_add-word c =
+    let a = c.args.self.now in
+    let near = stripe_near c.args.hand.now.seat.me.0 c.args.held.now.number c.args.held.now.stripe c.requires.held c.requires.arena.lawful in
+    let setup = ap (λ (s : Setup). s.config.stripes) (c.requires.arena.setup ∙ a.planned) in
+    let few = a.few in
+    let slot = c.slot-word.ensures.slot in
+    omega arith
+
+pub tell-requires : goal.tell-requires
+tell-requires c =
+    let a = c.args.self.now in
+    let number = c.args.held.now.number in
+    let near = stripe_near c.args.hand.now.seat.me.0 number c.args.held.now.stripe c.requires.held c.requires.arena.lawful in
+    let setup = ap (λ (s : Setup). s.config.stripes) (c.requires.arena.setup ∙ a.planned) in
+    let count = a.words in
+    let place : 1 + c.slot-word.result ≡ lock_word (suc number) = let slot = c.slot-word.ensures.slot in omega arith in
+    (refl, (refl, ((omega arith), (c.requires.arena, subst (λ (n : ℕ). MayTell c.args.hand.now.seat.me.0 (Reserve number) (core.MissStripe number) n (λ found. found)) (sym place) (may_reserve c.args.hand.now.seat.me.0 number c.args.held.now.stripe c.requires.held)))))
+
+pub invariant_of-hand : goal.invariant_of-hand
+invariant_of-hand c =
+    let a = c.args.hand.now in
+    let number = c.args.held.now.number in
+    let is = reserved_stripe a.seat.me.0 number c.args.held.now.stripe c.requires.held c.tell.new.seat.me.0 a.number a.noted.0 c.tell.ensures.happens in
+    let held = ap (λ (v : View). v.row.holdings) is ∙ look_holds (SawStripe number (a.number + 1)) (saw (stripe_word number (a.number + 1)) (made a.seat.me.0 number c.args.held.now.stripe c.requires.held)) in
+    record { noted = noted_same a.seat.me c.tell.new.seat.me a.number a.chunks a.chunks a.locks a.noted c.tell.ensures.out c.tell.ensures.hand (a.noted.2 ∙ ap length (sym held)) }
+
+pub returns-clause-view : goal.returns-clause-view
+returns-clause-view c = reserved_stripe c.args.hand.now.seat.me.0 c.args.held.now.number c.args.held.now.stripe c.requires.held c.tell.new.seat.me.0 c.args.hand.now.number c.args.hand.now.noted.0 c.tell.ensures.happens
