@@ -14,7 +14,13 @@ use Rattle.mc_core.specs.declared.ids.Ids.{Ids}
 use Rattle.mc_core.specs.State.{State, gone, is_held_by, is_hand, number_at, has_slabs, has_stripe, holdings_at, stripe_at}
 use Rattle.mc_core.specs.Hands as hands
 use Rattle.mc_core.specs.Frame.{HasSame}
-use Rattle.mc_core.specs.Past.{Moment, moment_stepped}
+use Rattle.mc_core.specs.Columns.{Each}
+use Rattle.mc_core.specs.Holdings.{stamp_of}
+use Rattle.mc_core.specs.Knowing.{IsSaid}
+use Rattle.mc_core.specs.Lawful.{IsLawful}
+use Rattle.mc_core.specs.Past.{Moment, knowledge_at, moment_stepped}
+use Rattle.mc_core.proofs.MoreRows.{each_contained}
+use Rattle.mc_core.proofs.SaidOnce.{said_one}
 use Rattle.mc_core.specs.Views.{Row, row_at, held_stripe}
 use Rattle.mc_core.specs.Laws.{MayStep}
 use Rattle.mc_core.proofs.Framed.{framed_steps}
@@ -25,6 +31,7 @@ use Rattle.mc_words.specs.declared.slot.Slot.{Slot}
 use Rattle.mc_words.specs.declared.slot.Slot.TheVariants.{Empty, OfSlabs, OfStripe}
 use Rattle.mc_words.specs.View.{Setup, View, view_at, new_view, spent_view, both_views, just_made, settled}
 use Rattle.mc_words.specs.Meaning.{Words, Has, IsViewOf, Ruled}
+use Rattle.mc_words.specs.Happens.{LawfulView}
 use Rattle.mc_words.specs.Idle.{is_unlocked, is_idle}
 use Rattle.mc_words.specs.Told.{Sits}
 use Rattle.mc_words.specs.declared.locks.Locks.{Locks}
@@ -296,3 +303,17 @@ pub noted_both : (me now : Sits) (other : View) (number chunks : ℕ) (locks : L
 noted_both me now other number chunks locks noted idle out view =
     subst (λ (sits : Sits). IsNoted sits number chunks Neither) (λ k. (sym view k, sym out k))
     (subst (λ (l : Locks). IsNoted me number chunks l) (no_lock me number chunks locks noted idle) noted)
+
+-- what the hand of a lawful moment said and knows agrees
+agrees_at : (m : Moment) → IsLawful m → (hand : ℕ) → joining.Agrees (knowledge_at m.past hand)
+agrees_at m l hand = record {
+  said = λ a b in_a in_b same. said_one m.past.said b.stamp a.words b.words (l.known.once b.stamp) (hand, a, in_a, same, refl) (hand, b, in_b, refl, refl);
+  known = λ a b in_a in_b chunk issue.
+      sym (each_contained (λ other. other.chunk ≡ a.chunk → other.issue ≡ a.issue → other.words ≡ a.words) m.past.known hand b
+      (each_contained (λ k. Each (λ other. other.chunk ≡ k.chunk → other.issue ≡ k.issue → other.words ≡ k.words) m.past.known) m.past.known hand a l.known.one in_a) in_b (sym chunk) (sym issue));
+  both = λ s k in_s in_k stamp.
+      each_contained (λ k. (words : List ℕ) → IsSaid m.past.said (stamp_of k.words) words → words ≡ k.words) m.past.known hand k l.known.agree in_k s.words (hand, s, in_s, stamp, refl);
+}
+
+pub agrees : (view : View) → LawfulView view → joining.Agrees view.row.knows
+agrees view was = subst (λ (v : View). joining.Agrees v.row.knows) (sym was.is) (agrees_at was.moment was.lawful was.hand)

@@ -20,3 +20,4 @@ pub mod Pages
 pub mod ChangeViews
 pub mod StripeChanges
 pub mod Joined
+pub mod Ends

@@ -1,9 +1,10 @@
 -- Two hands that become one.
-use Rattle.std.specs.Prelude.{◌≡◌, ℕ, true, [], map, Some, None}
+use Rattle.std.specs.Prelude.{◌≡◌, ℕ, true, [], map, Some, None, Contains}
 use mathlib.Core.Option.{some}
 use lib.ListN.{get_elem?}
 use Rattle.mc_core.specs.declared.event.Step.TheVariants.{Join}
-use Rattle.mc_core.specs.Past.{moment_after}
+use Rattle.mc_core.specs.Holdings.{stamp_of}
+use Rattle.mc_core.specs.Past.{Known, Knowledge, Saying, moment_after}
 use Rattle.mc_core.specs.Run.{is_allowed}
 use Rattle.mc_core.specs.Views.{Row, row_at}
 use Rattle.mc_words.specs.View.{Setup, View, view_at, settled}
@@ -19,6 +20,13 @@ pub record Joins (view : View) (row : Row) (now : View) : Type 0 where
   pub row_is : row ≡ row_at was.moment spent
   pub allowed : is_allowed was.moment.state (event_of was.hand [] (Join was.hand spent)) ≡ true
   pub is : now ≡ view_at view.setup view.spare (moment_after was.moment (event_of was.hand [] (Join was.hand spent))) was.hand
+
+-- what a hand said and knows agrees: words are said with a stamp once, one chunk with one issue has one item, and an item's words are
+-- those that were said with its stamp
+pub record Agrees (knows : Knowledge) : Type 0 where
+  pub said : (a b : Saying) → Contains knows.said a → Contains knows.said b → a.stamp ≡ b.stamp → a.words ≡ b.words
+  pub known : (a b : Known) → Contains knows.known a → Contains knows.known b → a.chunk ≡ b.chunk → a.issue ≡ b.issue → a.words ≡ b.words
+  pub both : (s : Saying) (k : Known) → Contains knows.said s → Contains knows.known k → s.stamp ≡ stamp_of k.words → s.words ≡ k.words
 
 -- what was made of two rows was made by a join
 abbrev pub IsMade : View → Type 0

@@ -13,6 +13,7 @@ pub mod Fresh
 pub mod Idle
 pub mod Lent
 pub mod Joining
+pub mod Closing
 pub mod Owner
 pub mod Arenas
 pub mod Refused

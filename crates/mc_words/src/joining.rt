@@ -3,7 +3,7 @@ ghost use Rattle.std.specs.Prelude.{◌≡◌, true, []};
 ghost use Rattle.mc_words.specs.declared.locks.Locks.TheVariants.{Neither};
 ghost use Rattle.mc_words.specs.Arenas.{IsHandOf, IsOfArena, view};
 ghost use Rattle.mc_words.specs.Idle.{is_idle};
-ghost use Rattle.mc_words.specs.Joining.{Joins};
+ghost use Rattle.mc_words.specs.Joining.{Agrees, Joins};
 ghost use Rattle.mc_words.specs.View.{both_views};
 
 use crate::arena::Arena;
@@ -22,6 +22,7 @@ impl Arena {
         ensures locks { result.locks ≡ Neither }
         ensures joins { Joins (view hand) (view other).row (view result) }
         ensures view { view result ≡ both_views (view hand) (view other) }
+        ensures agree { Agrees (view result).row.knows }
     {
         let Hand {
             mut seat,

@@ -3,6 +3,7 @@
 
 pub mod arena;
 pub mod changing;
+pub mod closing;
 pub mod filling;
 pub mod hand;
 pub mod handing;

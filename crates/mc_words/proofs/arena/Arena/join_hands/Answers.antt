@@ -1,4 +1,4 @@
-use Rattle.mc_words.proofs.Joined.{noted_both, none_out}
+use Rattle.mc_words.proofs.Joined.{agrees, noted_both, none_out}
 use Rattle.mc_words.proofs.arena.Arena.join_hands.Goals as goal
 
 pub unite-requires-clause-none : goal.unite-requires-clause-none
@@ -10,3 +10,6 @@ pub invariant_of-result : goal.invariant_of-result
 invariant_of-result c =
     let h = c.args.hand in
     record { noted = noted_both h.seat.me c.unite.new.seat.me c.args.other.seat.me.0 h.number h.chunks h.locks h.noted c.requires.idle.0 c.unite.ensures.out c.unite.ensures.view }
+
+pub returns-clause-agree : goal.returns-clause-agree
+returns-clause-agree c = agrees c.unite.new.seat.me.0 c.unite.ensures.seat.lawful

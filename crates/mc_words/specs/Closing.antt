@@ -1,0 +1,65 @@
+-- What is left of an arena after its end.
+use Rattle.std.specs.Prelude.{◌≡◌, ℕ, zero, suc, ◌+◌, ◌<◌, ◌^◌, ◌==◌, List, length, map, take, drop, slice_index, slice_index_or, if◌then◌else◌, Option, Some, None, IfSome}
+use Rattle.std.specs.List.{range_with_len}
+use Rattle.mc_classes.specs.Classes.{pages_of}
+use Rattle.mc_pages.specs.SlabState.{SlabState}
+use Rattle.mc_stripe.specs.StripeState.{ReadyStripe}
+use Rattle.mc_core.specs.Head.{decode}
+use Rattle.mc_core.specs.State.{stripe_at}
+use Rattle.mc_words.specs.declared.slot.Slot.{Slot}
+use Rattle.mc_words.specs.declared.slot.Slot.TheVariants.{Empty, OfSlabs, OfStripe}
+use Rattle.mc_words.specs.View.{Setup, View}
+use Rattle.mc_words.specs.Happens.{LawfulView}
+use Rattle.mc_words.specs.Layout.{lock_word, heads_from, head_count, word_count}
+
+-- the words of the headers, page 0 first, and the values behind the locks that no hand has
+pub record Left : Type 0 where
+  pub setup : Setup
+  pub heads : List ℕ
+  pub slabs : Option SlabState
+  -- stripe 0 first
+  pub stripes : List (Option ReadyStripe)
+
+-- the value behind a lock with this word
+abbrev pub at_home : {X : Type 0} → ℕ → X → Option X
+at_home word value = if word == 0 then Some value else None
+
+-- the hand that closed the arena knew this in its last moment, which is lawful, and of which these headers and values are left
+pub record Closes (view : View) (left : Left) : Type 0 where
+  pub was : LawfulView view
+  pub setup : left.setup ≡ view.setup
+  pub heads : map decode left.heads ≡ was.moment.state.heads
+  pub slabs : left.slabs ≡ at_home was.moment.state.slabs_lock was.moment.state.slabs
+  pub stripes : left.stripes ≡ map (λ stripe. at_home (slice_index was.moment.state.stripe_locks stripe) (stripe_at was.moment.state stripe)) (range_with_len 0 view.setup.config.stripes)
+
+-- which value is in a slot
+abbrev pub slabs_in : Slot → Option SlabState
+slabs_in (OfSlabs slabs) = Some slabs
+slabs_in other = None
+
+abbrev pub stripe_in : Slot → Option ReadyStripe
+stripe_in (OfStripe value) = Some value
+stripe_in other = None
+
+-- the value in the slot of a lock, where its word is 0
+abbrev pub slabs_left : List ℕ → List Slot → Option SlabState
+slabs_left words slots = if slice_index words (lock_word zero) == 0 then slabs_in (slice_index_or slots zero Empty) else None
+
+abbrev pub stripe_left : List ℕ → List Slot → ℕ → Option ReadyStripe
+stripe_left words slots stripe = if slice_index words (lock_word (suc stripe)) == 0 then stripe_in (slice_index_or slots (suc stripe) Empty) else None
+
+-- what is left, as words and slots have it
+abbrev pub left_of : Setup → List ℕ → List Slot → Left
+left_of setup words slots = record {
+  setup = setup;
+  heads = take (head_count setup) (drop (heads_from setup) words);
+  slabs = slabs_left words slots;
+  stripes = map (stripe_left words slots) (range_with_len 0 setup.config.stripes);
+}
+
+-- there are as many words and slots as the setup says, and as many owners as pages
+pub record IsLeftOf (setup : Setup) (words : List ℕ) (slots : List Slot) : Type 0 where
+  pub wide : length words ≡ word_count setup
+  pub small : word_count setup < 2 ^ 63
+  pub locks : length slots ≡ 1 + setup.config.stripes
+  pub owners : IfSome (slabs_left words slots) (λ slabs. length slabs.owners ≡ pages_of setup.table)
