@@ -14,7 +14,7 @@ use crate::hand::Hand;
 use crate::plan::Plan;
 use crate::slot::Slot;
 use atomic_table::Closed;
-use mc_classes::PageId;
+use mc_classes::{ClassTable, Config, PageId};
 use mc_pages::{ChunkId, Owner, Slabs};
 use mc_stripe::Stripe;
 use std::alloc::Global;
@@ -69,6 +69,20 @@ impl Arena {
 }
 
 impl Final {
+    /// What the arena was configured with.
+    pub fn config(&self) -> &Config
+        ensures config { result.now ≡ self.now.setup.config }
+    {
+        self.plan.config()
+    }
+
+    /// Its size classes.
+    pub fn classes(&self) -> &ClassTable
+        ensures classes { result.now ≡ self.now.setup.table }
+    {
+        self.plan.classes()
+    }
+
     /// The word of a chunk's header.
     pub fn head(&self, chunk: ChunkId) -> u64
         requires near { has_chunk self.now.setup.table chunk ≡ true }

@@ -1,24 +1,30 @@
 //! The arena that threads share: one table of atomic words, whose rule is the core's law.
 #![tactic(auto)]
 
-pub mod arena;
-pub mod changing;
-pub mod closing;
-pub mod filling;
-pub mod hand;
-pub mod handing;
+mod arena;
+mod changing;
+mod closing;
+mod filling;
+mod hand;
+mod handing;
 mod header;
-pub mod held;
-pub mod joining;
-pub mod locking;
-pub mod locks;
-pub mod looking;
-pub mod making;
-pub mod opening;
-pub mod places;
-pub mod plan;
-pub mod refusal;
-pub mod rule;
-pub mod slot;
-pub mod steps;
-pub mod taking;
+mod held;
+mod joining;
+mod locking;
+mod locks;
+mod looking;
+mod making;
+mod opening;
+mod places;
+mod plan;
+mod refusal;
+mod rule;
+mod slot;
+mod steps;
+mod taking;
+
+pub use arena::Arena;
+pub use closing::Final;
+pub use hand::Hand;
+pub use held::{Fresh, Held, Moved, SlabsHeld, StripeHeld, WornOut};
+pub use refusal::NewError;

@@ -4,11 +4,11 @@ ghost use Rattle.mc_core.specs.State.{has_chunk, is_class};
 ghost use Rattle.mc_words.specs.Arenas.{IsHandOf, setup_of, view};
 ghost use Rattle.mc_arena_trials.specs.Hands.{AreHandsOf};
 
+use super::FOUR_CLASSES;
 use mc_classes::{ClassId, PageId};
 use mc_pages::{ChunkId, Grow};
-use mc_words::arena::Arena;
-use mc_words::hand::Hand;
-use mc_words::held::SlabsHeld;
+use mc_words::{Arena, Final, Hand, NewError, SlabsHeld};
+use std::alloc::Global;
 
 /// Whether the arena has such a chunk.
 pub fn has_chunk(arena: &Arena, chunk: ChunkId) -> bool
@@ -172,6 +172,14 @@ pub fn give(arena: &Arena, hand: &mut Hand, held: SlabsHeld) -> bool
     true
 }
 
+/// An arena of four classes, and its hands.
+#[tactic(auto, using(crate::proofs::Kept::all_hands))]
+pub fn opened(alloc: Global, hands: u64) -> Result<(Arena, Vec<Hand>), NewError>
+    ensures hands { IfOk result (λ made. AreHandsOf made.0 made.1.items) }
+{
+    Arena::new(alloc, &FOUR_CLASSES, hands)
+}
+
 /// The hand of the lowest number that is left.
 pub fn next_hand(arena: &Arena, hands: &mut Vec<Hand>) -> Option<Hand>
     requires hands { AreHandsOf arena.now hands.old.items }
@@ -182,5 +190,15 @@ pub fn next_hand(arena: &Arena, hands: &mut Vec<Hand>) -> Option<Hand>
         None
     } else {
         Some(hands.remove(0))
+    }
+}
+
+/// The header of a chunk of a closed arena. None where there is no such chunk.
+pub fn head(left: &Final, chunk: ChunkId) -> Option<u64> {
+    let classes = left.classes();
+    if chunk.page < classes.pages() && chunk.index < classes.per_page(1) {
+        Some(left.head(chunk))
+    } else {
+        None
     }
 }

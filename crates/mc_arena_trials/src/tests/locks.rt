@@ -1,7 +1,7 @@
 //! Locks: one hand has each, and the others are told so.
 use super::calls::{give, next_hand};
 use super::{FOUR_CLASSES, assert_same};
-use mc_words::arena::Arena;
+use mc_words::Arena;
 use std::test::Fail;
 
 #[test]

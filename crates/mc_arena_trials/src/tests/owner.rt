@@ -3,8 +3,7 @@ use super::calls::{first_free, give, go_round, grow_page, is_worn};
 use super::{FOUR_CLASSES, assert_equal, assert_same};
 use mc_classes::{Config, ConfigError};
 use mc_pages::{ChunkId, Grow};
-use mc_words::arena::Arena;
-use mc_words::refusal::NewError;
+use mc_words::{Arena, NewError};
 use std::test::Fail;
 
 /// The greatest issue number.

@@ -6,13 +6,11 @@ ghost use Rattle.mc_words.specs.Arenas.{IsHandOf, setup_of, view};
 ghost use Rattle.mc_words.specs.Fresh.{IsFreshOf};
 ghost use Rattle.mc_core.specs.State.{is_class};
 
-use super::calls::{first_free, give, grow_page, has_chunk, header, is_class, next_hand};
-use super::{FOUR_CLASSES, assert_equal, assert_same};
+use super::calls::{give, grow_page, has_chunk, head, is_class, next_hand, opened};
+use super::{assert_equal, assert_same};
 use mc_classes::ClassId;
 use mc_pages::ChunkId;
-use mc_words::arena::Arena;
-use mc_words::hand::Hand;
-use mc_words::held::Fresh;
+use mc_words::{Arena, Final, Fresh, Hand};
 use std::sync::Wait;
 use std::test::Fail;
 use std::thread::{Threads, join};
@@ -197,10 +195,26 @@ fn work_by_all<R: Threads + Wait + Sync>(
     both(arena, low, high)
 }
 
+/// What is left of the 21 chunks of page 0: how many are free, as header and free list say, and how often they went out in all.
+fn count_free(left: &Final) -> Option<(u64, u64)> {
+    let listed = left.slabs()?.numbers(1)?.free;
+    let mut rounds = 0;
+    for index in 0..21 {
+        let word = head(left, ChunkId { page: 0, index })?;
+        if word % 262_144 != 65_536 {
+            return None;
+        }
+        rounds += word / 262_144;
+    }
+    Some((listed, rounds))
+}
+
 #[test]
 fn four_threads_share_a_class(rt: HostRuntime) -> Result<(), Fail> {
-    let (arena, mut hands) = Arena::new(rt.alloc(), &FOUR_CLASSES, 5)?;
-    let mut owner = hands.remove(0);
+    let (arena, mut hands) = opened(rt.alloc(), 5)?;
+    let Some(mut owner) = next_hand(&arena, &mut hands) else {
+        return Err(Fail::new("there are five hands"));
+    };
     let Ok(mut held) = arena.try_slabs(&mut owner) else {
         return Err(Fail::new("the lock is free"));
     };
@@ -211,5 +225,7 @@ fn four_threads_share_a_class(rt: HostRuntime) -> Result<(), Fail> {
         return Err(Fail::new("the hands are idle"));
     };
     assert_same(&rt, worked.rounds, ROUNDS, "rounds");
+    let left = arena.close(worked.hand);
+    assert_same(&rt, count_free(&left), Some((21, 4 * ROUNDS)), "what is left");
     Ok(())
 }
