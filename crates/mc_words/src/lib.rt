@@ -18,3 +18,4 @@ pub mod rule;
 pub mod slot;
 pub mod steps;
 pub mod taking;
+pub mod waiting;
