@@ -20,3 +20,4 @@ pub mod rule;
 pub mod slot;
 pub mod steps;
 pub mod taking;
+pub mod waiting;
