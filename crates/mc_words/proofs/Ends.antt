@@ -1,7 +1,7 @@
 -- What is left of an arena is what its last moment has.
-use Rattle.std.proofs.Common.{◌≡◌, ℕ, zero, suc, ◌+◌, ◌<◌, ◌==◌, Bool, true, false, List, [], ◌∷◌, length, map, drop, slice_index, slice_index_or, if◌then◌else◌, Option, Some, None, IfSome, refl, sym, ap, ap₂, subst, ◌∙◌, inl, inr, arith, zero-add, eq-eqb, ne_eqb}
+use Rattle.std.proofs.Common.{◌≡◌, ℕ, zero, suc, ◌+◌, ◌*◌, ◌<◌, ◌==◌, Bool, true, false, List, [], ◌∷◌, length, map, drop, slice_index, slice_index_or, if◌then◌else◌, Option, Some, None, IfSome, refl, sym, ap, ap₂, subst, ◌∙◌, inl, inr, arith, zero-add, eq-eqb, ne_eqb}
 use Rattle.std.proofs.lemmas.Bool.{cases_eq}
-use Rattle.std.proofs.lemmas.List.{get_or-take, get_or-drop}
+use Rattle.std.proofs.lemmas.List.{get_or-take, get_or-drop, get_or-map, length-map}
 use Rattle.std.proofs.lemmas.List.FromFn.{get_or-map-range_with_len}
 use Rattle.std.specs.List.{range_with_len}
 use mathlib.Core.Option as maybe
@@ -9,18 +9,20 @@ use mathlib.Core.Option.{some}
 use lib.ListN.{get_elem?}
 use Rattle.atomic_table.specs.Table.{Final, Seen}
 use Rattle.atomic_table.proofs.Lists.{at_map, at_index}
-use Rattle.mc_classes.specs.Classes.{pages_of}
+use Rattle.mc_classes.specs.Classes.{Classes, pages_of}
 use Rattle.mc_pages.specs.declared.ids.ChunkId.{ChunkId}
 use Rattle.mc_pages.specs.SlabState.{SlabState}
 use Rattle.mc_stripe.specs.StripeState.{ReadyStripe}
-use Rattle.mc_core.specs.State.{State, has_chunk, head_place, stripe_at}
+use Rattle.mc_core.specs.declared.head.Head.{Head}
+use Rattle.mc_core.specs.Head.{decode, never_cut}
+use Rattle.mc_core.specs.State.{State, head_at, most_of, has_chunk, head_place, stripe_at}
 use Rattle.mc_words.specs.declared.slot.Slot.{Slot}
 use Rattle.mc_words.specs.declared.slot.Slot.TheVariants.{Empty, OfSlabs, OfStripe}
 use Rattle.mc_words.specs.View.{Setup, View, settled}
 use Rattle.mc_words.specs.Layout.{lock_word, head_word, heads_from, head_count}
 use Rattle.mc_words.specs.Meaning.{Words, Has, Ruled}
 use Rattle.mc_words.specs.Joining.{Rule, all_settled}
-use Rattle.mc_words.specs.Closing.{Closes, IsLeftOf, at_home, left_of, slabs_in, slabs_left, stripe_in, stripe_left}
+use Rattle.mc_words.specs.Closing.{Closes, IsLeftOf, Left, at_home, left_of, slabs_in, slabs_left, stripe_in, stripe_left}
 use Rattle.mc_words.proofs.Rules.{lawful_view}
 use Rattle.mc_words.proofs.Settled.{IsSettled, settled_same}
 use Rattle.mc_words.proofs.Written.{lock_read, head_near}
@@ -63,16 +65,16 @@ module _ (setup : Setup) (t : Words) (r : Ruled setup t) (slots : List Slot) (la
   slabs_is =
       left_by (slice_index t.words (lock_word zero)) s.slabs_lock (slabs_in (slice_index_or slots zero Empty)) s.slabs r.means.words.slabs_lock
       (λ free.
-          let (slot, home, has) = r.means.homes zero (omega arith) free in
-          ap slabs_in (read slots zero slot Empty (last zero slot home)) ∙ slabs_of s slot has)
+      let (slot, home, has) = r.means.homes zero (omega arith) free in
+      ap slabs_in (read slots zero slot Empty (last zero slot home)) ∙ slabs_of s slot has)
 
   stripe_is : (stripe : ℕ) → stripe < setup.config.stripes → stripe_left t.words slots stripe ≡ at_home (slice_index s.stripe_locks stripe) (stripe_at s stripe)
   stripe_is stripe near =
       left_by (slice_index t.words (lock_word (suc stripe))) (slice_index s.stripe_locks stripe) (stripe_in (slice_index_or slots (suc stripe) Empty)) (stripe_at s stripe)
       (lock_read setup r.cuts t.words s.slabs_lock s.stripe_locks s.heads s.words r.means.words stripe near)
       (λ free.
-          let (slot, home, has) = r.means.homes (suc stripe) (omega arith) free in
-          ap stripe_in (read slots (suc stripe) slot Empty (last (suc stripe) slot home)) ∙ stripe_of s stripe slot has)
+      let (slot, home, has) = r.means.homes (suc stripe) (omega arith) free in
+      ap stripe_in (read slots (suc stripe) slot Empty (last (suc stripe) slot home)) ∙ stripe_of s stripe slot has)
 
   owners_are : IfSome (slabs_left t.words slots) (λ slabs. length slabs.owners ≡ pages_of setup.table)
   owners_are =
@@ -139,3 +141,24 @@ pub no_stripe_in : (slot : Slot) → ((value : ReadyStripe) → slot ≡ OfStrip
 no_stripe_in Empty not = refl
 no_stripe_in (OfSlabs slabs) not = refl
 no_stripe_in (OfStripe value) not = absurd (not value refl)
+
+-- what is read is what the last moment has
+module _ (view : View) (left : Left) (closes : Closes view left) where
+  abbrev ended : State
+  ended = closes.was.moment.state
+
+  pub head_at_end : (chunk : ChunkId) → has_chunk left.setup.table chunk ≡ true → decode (slice_index left.heads (head_place left.setup.table chunk)) ≡ head_at ended chunk
+  head_at_end chunk near =
+      let table : ended.table ≡ left.setup.table = closes.was.same_table ∙ ap (λ (s : Setup). s.table) (sym closes.setup) in
+      let within = head_near left.setup chunk near in
+      let long : length left.heads ≡ head_count left.setup =
+      sym (length-map left.heads decode) ∙ (ap length closes.heads ∙ (closes.was.lawful.sized.headers ∙ ap (λ (t : Classes). pages_of t * most_of t) table)) in
+      sym (ap (λ (t : Classes). slice_index_or ended.heads (head_place t chunk) never_cut) table
+      ∙ (ap (λ (heads : List Head). slice_index_or heads (head_place left.setup.table chunk) never_cut) (sym closes.heads)
+      ∙ get_or-map decode left.heads (head_place left.setup.table chunk) 0 never_cut (omega arith)))
+
+  pub stripe_at_end : (stripe : ℕ) → stripe < left.setup.config.stripes → slice_index_or left.stripes stripe None ≡ at_home (slice_index ended.stripe_locks stripe) (stripe_at ended stripe)
+  stripe_at_end stripe near =
+      let same : left.setup.config.stripes ≡ view.setup.config.stripes = ap (λ (s : Setup). s.config.stripes) closes.setup in
+      ap (λ (stripes : List (Option ReadyStripe)). slice_index_or stripes stripe None) closes.stripes
+      ∙ get_or-map-range_with_len (λ stripe. at_home (slice_index ended.stripe_locks stripe) (stripe_at ended stripe)) 0 view.setup.config.stripes stripe stripe None (omega arith) (zero-add stripe)

@@ -78,8 +78,8 @@ idle_from setup m hand v count is idle =
     sym (list_all-map is_none (held_stripe m.state hand) (range_with_len 0 setup.config.stripes)) ∙ (ap (λ (u : View). list_all is_none u.stripes) (sym is) ∙ locks.1) in
     let stripes = all_from (λ word. not (is_held_by word (number_at m.state hand))) m.state.stripe_locks
     (λ i near.
-        let each = each_in (λ stripe. is_none (held_stripe m.state hand stripe)) 0 setup.config.stripes all i (omega arith) in
-        ap not (none_held (has_stripe m.state hand i) (stripe_at m.state i) (ap (λ j. is_none (held_stripe m.state hand j)) (sym (zero-add i)) ∙ each))) in
+    let each = each_in (λ stripe. is_none (held_stripe m.state hand stripe)) 0 setup.config.stripes all i (omega arith) in
+    ap not (none_held (has_stripe m.state hand i) (stripe_at m.state i) (ap (λ j. is_none (held_stripe m.state hand j)) (sym (zero-add i)) ∙ each))) in
     let none : (length (holdings_at m.state hand) == 0) ≡ true = ap (λ (u : View). length u.row.holdings == 0) (sym is) ∙ parts.1 in
     and_from _ _ (and_from _ _ (ap not slabs) stripes) none
 

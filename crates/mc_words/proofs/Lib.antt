@@ -6,6 +6,7 @@ pub mod TakeAndGive
 pub mod OutFirst
 pub mod Knows
 pub mod LockViews
+pub mod Waits
 pub mod Lent
 pub mod Locked
 pub mod Unlocked

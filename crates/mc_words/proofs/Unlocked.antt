@@ -6,7 +6,7 @@ use Rattle.mc_stripe.specs.StripeState.{ReadyStripe}
 use Rattle.mc_words.specs.declared.locks.Locks.{Locks}
 use Rattle.mc_words.specs.declared.locks.Locks.TheVariants.{Neither, Slabs, Stripe, SlabsLast, StripeLast}
 use Rattle.mc_words.specs.View.{View}
-use Rattle.mc_words.specs.Out.{HasLocks, has_stripe_in, is_neither}
+use Rattle.mc_words.specs.Out.{HasLocks, has_stripe_in, has_no_stripe, is_neither}
 use Rattle.mc_words.specs.Idle.{is_unlocked}
 
 -- where no stripe is among the locks, the view has none
@@ -53,3 +53,11 @@ unlocked_from view Slabs had = sym (slabs_there view had.0)
 unlocked_from view (SlabsLast stripe) had = sym (slabs_there view had.0)
 unlocked_from view (StripeLast stripe) had = sym (slabs_there view had.0)
 unlocked_from view (Stripe stripe) had = sym (ap (λ (b : Bool). is_none view.slabs && b) (there_in view (Stripe stripe) stripe had had.2 (eq-eqb stripe stripe refl)) ∙ and_false (is_none view.slabs))
+
+-- a hand with no lock has no stripe's
+pub no_stripe_unlocked : (locks : Locks) → is_neither locks ≡ true → has_no_stripe locks ≡ true
+no_stripe_unlocked Neither none = refl
+no_stripe_unlocked Slabs none = refl
+no_stripe_unlocked (Stripe stripe) none = absurd (cc)
+no_stripe_unlocked (SlabsLast stripe) none = absurd (cc)
+no_stripe_unlocked (StripeLast stripe) none = absurd (cc)

@@ -7,6 +7,7 @@ pub mod Slots
 pub mod Taking
 pub mod Out
 pub mod Views
+pub mod Waiting
 pub mod Opening
 pub mod Places
 pub mod Fresh

@@ -22,6 +22,7 @@ mod rule;
 mod slot;
 mod steps;
 mod taking;
+mod waiting;
 
 pub use arena::Arena;
 pub use closing::Final;

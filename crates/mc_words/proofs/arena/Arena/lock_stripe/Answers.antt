@@ -1,0 +1,25 @@
+use Rattle.std.proofs.Common.{[], ◌∷◌, ◌++◌, ap, ◌∙◌}
+use Rattle.mc_words.specs.Out.{has_no_stripe}
+use Rattle.mc_words.proofs.Unlocked.{unlocked_from, no_stripe_unlocked}
+use Rattle.mc_words.proofs.Waits.{missed_stripe_again}
+use Rattle.mc_words.proofs.arena.Arena.lock_stripe.Goals as goal
+
+pub try_stripe-requires : goal.try_stripe-requires
+try_stripe-requires g c =
+    let a = c.args.hand.now in
+    record { arena = c.loop.invariant.0; near = c.requires.near; one = ap has_no_stripe c.loop.invariant.1 ∙ no_stripe_unlocked a.locks (unlocked_from a.seat.me.0 a.locks a.noted.4 ∙ c.requires.unlocked) }
+
+pub returns-in-Ok-clause-waits : goal.returns-in-Ok-clause-waits
+returns-in-Ok-clause-waits g c =
+    let (words, misses) = c.loop.invariant.2 in
+    record { words = words; before = c.loop.hand.seat.me.0; misses = misses; taken = c.in-Ok.ensures.taken; is = c.in-Ok.ensures.lent }
+
+pub loop-preserved : goal.loop-preserved
+loop-preserved g c =
+    let (words, misses) = c.loop.invariant.2 in
+    let told = c.in_default.ensures in
+    let (word, busy, is) = told.held in (
+      told.arena,
+      told.same ∙ c.loop.invariant.1,
+      (words ++ word ∷ [], missed_stripe_again c.loop.hand.seat.me.0 c.try_stripe.new.hand.seat.me.0 word busy c.args.stripe words c.args.hand.now.seat.me.0 told.missed is misses),
+    )

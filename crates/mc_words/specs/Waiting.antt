@@ -1,0 +1,35 @@
+-- Waiting for a lock: some tries that miss it, and then one that takes it.
+use Rattle.std.specs.Prelude.{◌≡◌, ◌≢◌, ℕ, List, [], ◌∷◌}
+use Rattle.mc_pages.specs.SlabState.{SlabState}
+use Rattle.mc_stripe.specs.StripeState.{ReadyStripe}
+use Rattle.mc_core.specs.declared.event.Step.TheVariants as step
+use Rattle.mc_words.specs.View.{View}
+use Rattle.mc_words.specs.Happens.{Happens}
+use Rattle.mc_words.specs.Views.{slabs_missed, slabs_taken, stripe_missed, stripe_taken}
+
+-- these words were seen at the lock of the slabs, one after another, and none was 0
+abbrev pub MissesSlabs : List ℕ → View → View → Type 0
+MissesSlabs [] view now = now ≡ view
+MissesSlabs (word ∷ words) view now = (word ≢ 0) × Happens view [] step.MissSlabs (slabs_missed word view) × MissesSlabs words (slabs_missed word view) now
+
+-- after these misses it was taken, and these are its pages and lists
+pub record WaitsForSlabs (view : View) (slabs : SlabState) (now : View) : Type 0 where
+  pub words : List ℕ
+  pub before : View
+  pub misses : MissesSlabs words view before
+  pub taken : Happens before [] step.TakeSlabs now
+  pub is : now ≡ slabs_taken slabs before
+
+-- these words were seen at the lock of a stripe
+abbrev pub MissesStripe : ℕ → List ℕ → View → View → Type 0
+MissesStripe stripe [] view now = now ≡ view
+MissesStripe stripe (word ∷ words) view now =
+    (word ≢ 0) × Happens view [] (step.MissStripe stripe) (stripe_missed stripe word view) × MissesStripe stripe words (stripe_missed stripe word view) now
+
+-- after these misses it was taken, and this is its value
+pub record WaitsForStripe (stripe : ℕ) (view : View) (value : ReadyStripe) (now : View) : Type 0 where
+  pub words : List ℕ
+  pub before : View
+  pub misses : MissesStripe stripe words view before
+  pub taken : Happens before [] (step.TakeStripe stripe) now
+  pub is : now ≡ stripe_taken stripe value before
