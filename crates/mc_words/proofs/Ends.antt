@@ -15,6 +15,7 @@ use Rattle.mc_pages.specs.SlabState.{SlabState}
 use Rattle.mc_stripe.specs.StripeState.{ReadyStripe}
 use Rattle.mc_core.specs.declared.head.Head.{Head}
 use Rattle.mc_core.specs.Head.{decode, never_cut}
+use Rattle.mc_core.specs.InOrder.{IsOfTable}
 use Rattle.mc_core.specs.State.{State, head_at, most_of, has_chunk, head_place, stripe_at}
 use Rattle.mc_words.specs.declared.slot.Slot.{Slot}
 use Rattle.mc_words.specs.declared.slot.Slot.TheVariants.{Empty, OfSlabs, OfStripe}
@@ -76,11 +77,11 @@ module _ (setup : Setup) (t : Words) (r : Ruled setup t) (slots : List Slot) (la
       let (slot, home, has) = r.means.homes (suc stripe) (omega arith) free in
       ap stripe_in (read slots (suc stripe) slot Empty (last (suc stripe) slot home)) ∙ stripe_of s stripe slot has)
 
-  owners_are : IfSome (slabs_left t.words slots) (λ slabs. length slabs.owners ≡ pages_of setup.table)
-  owners_are =
-      subst (λ (o : Option SlabState). IfSome o (λ slabs. length slabs.owners ≡ pages_of setup.table)) (sym slabs_is)
-      (elim (s.slabs_lock == 0) as (λ (b : Bool). IfSome (if b then Some s.slabs else None) (λ slabs. length slabs.owners ≡ pages_of setup.table)) [
-        | true ↦ r.lawful.paged.of_table.owners ∙ ap pages_of r.means.same_table
+  lists_are : IfSome (slabs_left t.words slots) (λ slabs. IsOfTable setup.table slabs)
+  lists_are =
+      subst (λ (o : Option SlabState). IfSome o (λ slabs. IsOfTable setup.table slabs)) (sym slabs_is)
+      (elim (s.slabs_lock == 0) as (λ (b : Bool). IfSome (if b then Some s.slabs else None) (λ slabs. IsOfTable setup.table slabs)) [
+        | true ↦ subst (λ (table : Classes). IsOfTable table s.slabs) r.means.same_table r.lawful.paged.of_table
         | false ↦ tt
       ])
 
@@ -103,10 +104,10 @@ module _ (setup plan : Setup) (planned : setup ≡ plan) (id : ℕ) (view : View
       let at : get_elem? (map settled t.views) id ≡ some view = at_map settled t.views id view seen.1 ∙ ap some (settled_same view live.1) in
       subst (λ (p : Setup × List ℕ). Closes view (left_of p.0 p.1 slots)) (λ k. (planned k, same k)) (left_is setup (all_settled t) seen.0.ruled slots last id view at live of)
 
-  pub owners : IfSome (slabs_left words slots) (λ slabs. length slabs.owners ≡ pages_of plan.table)
-  owners =
+  pub lists : IfSome (slabs_left words slots) (λ slabs. IsOfTable plan.table slabs)
+  lists =
       let (t, seen, same, long, last) = final in
-      subst (λ (p : Setup × List ℕ). IfSome (slabs_left p.1 slots) (λ slabs. length slabs.owners ≡ pages_of p.0.table)) (λ k. (planned k, same k)) (owners_are setup (all_settled t) seen.0.ruled slots last)
+      subst (λ (p : Setup × List ℕ). IfSome (slabs_left p.1 slots) (λ slabs. IsOfTable p.0.table slabs)) (λ k. (planned k, same k)) (lists_are setup (all_settled t) seen.0.ruled slots last)
 
 -- as it is read
 module _ (setup : Setup) (words : List ℕ) (slots : List Slot) (left : IsLeftOf setup words slots) where

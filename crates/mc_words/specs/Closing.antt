@@ -5,6 +5,7 @@ use Rattle.mc_classes.specs.Classes.{pages_of}
 use Rattle.mc_pages.specs.SlabState.{SlabState}
 use Rattle.mc_stripe.specs.StripeState.{ReadyStripe}
 use Rattle.mc_core.specs.Head.{decode}
+use Rattle.mc_core.specs.InOrder.{IsOfTable}
 use Rattle.mc_core.specs.State.{stripe_at}
 use Rattle.mc_words.specs.declared.slot.Slot.{Slot}
 use Rattle.mc_words.specs.declared.slot.Slot.TheVariants.{Empty, OfSlabs, OfStripe}
@@ -57,9 +58,9 @@ left_of setup words slots = record {
   stripes = map (stripe_left words slots) (range_with_len 0 setup.config.stripes);
 }
 
--- there are as many words and slots as the setup says, and as many owners as pages
+-- there are as many words and slots as the setup says, and pages and lists are accounted for
 pub record IsLeftOf (setup : Setup) (words : List ℕ) (slots : List Slot) : Type 0 where
   pub wide : length words ≡ word_count setup
   pub small : word_count setup < 2 ^ 63
   pub locks : length slots ≡ 1 + setup.config.stripes
-  pub owners : IfSome (slabs_left words slots) (λ slabs. length slabs.owners ≡ pages_of setup.table)
+  pub slabs : IfSome (slabs_left words slots) (λ slabs. IsOfTable setup.table slabs)

@@ -5,6 +5,7 @@ ghost use Rattle.std.specs.Slots.{IsFull, slots_items, slots_len};
 ghost use Rattle.mc_classes.specs.Classes.{pages_of};
 ghost use Rattle.mc_pages.specs.Accounted.{IsAccounted};
 ghost use Rattle.mc_pages.specs.Ledger.{owner_at};
+ghost use Rattle.mc_core.specs.InOrder.{IsOfTable};
 ghost use Rattle.mc_core.specs.State.{has_chunk, head_place};
 ghost use Rattle.mc_words.specs.Arenas.{IsHandOf, view};
 ghost use Rattle.mc_words.specs.Closing.{Closes};
@@ -95,7 +96,7 @@ impl Final {
     /// Pages and lists, unless a hand has them.
     pub fn slabs(&self) -> Option<&Slabs>
         ensures slabs { option_map (λ slabs. slabs.now.state) result ≡ self.now.slabs }
-        ensures pages { IfSome result (λ slabs. length slabs.now.state.owners ≡ pages_of self.now.setup.table) }
+        ensures accounted { IfSome result (λ slabs. IsOfTable self.now.setup.table slabs.now.state) }
     {
         if self.closed.word(1) != 0 {
             return None;

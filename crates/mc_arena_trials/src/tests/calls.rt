@@ -202,3 +202,8 @@ pub fn head(left: &Final, chunk: ChunkId) -> Option<u64> {
         None
     }
 }
+
+/// How many chunks its class 1 has in its free list. None where a hand has pages and lists.
+pub fn listed_free(left: &Final) -> Option<u64> {
+    Some(left.slabs()?.numbers(1).free)
+}

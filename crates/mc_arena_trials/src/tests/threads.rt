@@ -44,7 +44,7 @@ fn take_out<R: Wait>(
     if !is_class(arena, class) || !hand.idle() {
         return None;
     }
-    let Ok(mut held) = arena.try_slabs(hand) else { return None; };
+    let mut held = arena.lock_slabs(rt, hand);
     if hand.refs() > 255 {
         return None;
     }
@@ -67,7 +67,7 @@ fn bring_back<R: Wait>(rt: &R, arena: &Arena, hand: &mut Hand, chunk: ChunkId) -
     if !has_chunk(arena, chunk) || !hand.unlocked() {
         return false;
     }
-    let Ok(mut held) = arena.try_slabs(hand) else { return false; };
+    let mut held = arena.lock_slabs(rt, hand);
     let came_back = arena.put_back(hand, &mut held, chunk).is_ok();
     give(arena, hand, held) && came_back
 }
@@ -197,7 +197,7 @@ fn work_by_all<R: Threads + Wait + Sync>(
 
 /// What is left of the 21 chunks of page 0: how many are free, as header and free list say, and how often they went out in all.
 fn count_free(left: &Final) -> Option<(u64, u64)> {
-    let listed = left.slabs()?.numbers(1)?.free;
+    let listed = listed_free(left)?;
     let mut rounds = 0;
     for index in 0..21 {
         let word = head(left, ChunkId { page: 0, index })?;

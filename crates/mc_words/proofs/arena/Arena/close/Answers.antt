@@ -1,7 +1,7 @@
 use Rattle.std.proofs.Common.{sym, ◌∙◌}
 use Rattle.std.specs.Slots.{slots_counts, slots_items}
 use Rattle.mc_words.proofs.Quiet.{has_number}
-use Rattle.mc_words.proofs.Ends.{closes, owners}
+use Rattle.mc_words.proofs.Ends.{closes, lists}
 use Rattle.mc_words.proofs.arena.Arena.close.Goals as goal
 
 pub invariant_of-result : goal.invariant_of-result
@@ -15,7 +15,7 @@ invariant_of-result c =
         wide = sym (slots_counts closed.words).0 ∙ (told.counts.0 ∙ a.words);
         small = a.small;
         locks = sym (slots_counts closed.slots).0 ∙ (told.counts.1 ∙ a.slots);
-        owners = owners a.table.shared.key a.plan a.planned c.args.hand.seat.id c.args.hand.seat.me.0 (slots_items closed.words) (slots_items closed.slots) told.values.2;
+        slabs = lists a.table.shared.key a.plan a.planned c.args.hand.seat.id c.args.hand.seat.me.0 (slots_items closed.words) (slots_items closed.slots) told.values.2;
       },
       a.places.1,
       a.counts.0,
