@@ -41,6 +41,7 @@ lent_slabs view now slabs h mine =
     let held_ones : All (StandsOnce m.state.slabs) (holdings_at m.state id) =
     All-weaker (IsOut m l) (StandsOnce m.state.slabs) (λ holding out. (placed_at m l holding.chunk holding.issue out.0 out.1).1) (holdings_at m.state id) (held_out m l id) in
     record {
+      mine = mine;
       accounted = subst (λ (p : Classes × SlabState). IsOfTable p.0 p.1) (λ k. (table k, same k)) l.paged.of_table;
       whole = ap (λ (s : SlabState). s.uncut) (sym same) ∙ l.paged.whole (eqb-true m.state.slabs_lock 0 (may_step h).allowed);
       kept = subst (λ (p : SlabState × List Holding). All (StandsOnce p.0) p.1) (λ k. (same k, ap (λ (v : View). v.row.holdings) (sym h.is) k)) held_ones;
@@ -64,6 +65,7 @@ lent_stripe view now stripe value h mine =
     let free : slice_get m.state.stripe_locks stripe ≡ Some 0 = slice_get-get_or m.state.stripe_locks stripe 0 near ∙ ap Some (eqb-true (slice_index m.state.stripe_locks stripe) 0 can.1) in
     let stripes : length m.state.stripes ≡ now.setup.config.stripes = h.was.stripes ∙ ap (λ (v : View). v.setup.config.stripes) (sym h.is) in
     record {
+      mine = mine;
       legal = subst (λ (v : ReadyStripe). IsLegal v.state) same (l.legal.legal stripe new_stripe (omega arith));
       whole = l.legal.free stripe value free here;
       keys = λ key place found. subst (λ (n : ℕ). key % n ≡ stripe) stripes (l.indexed.entries stripe key place.1 value place.0 here found).0;

@@ -7,7 +7,7 @@ use Rattle.mc_words.specs.declared.locks.Locks.{Locks}
 use Rattle.mc_words.specs.declared.locks.Locks.TheVariants.{Neither, Slabs, Stripe, SlabsLast, StripeLast}
 use Rattle.mc_words.specs.View.{View}
 use Rattle.mc_words.specs.Out.{HasLocks, has_stripe_in, has_no_stripe, is_neither}
-use Rattle.mc_words.specs.Idle.{is_unlocked}
+use Rattle.mc_words.specs.Idle.{has_no_stripes, is_unlocked}
 
 -- where no stripe is among the locks, the view has none
 none_there : (stripes : List (Option ReadyStripe)) (range : List ℕ) → map is_some stripes ≡ map (λ stripe. false) range → list_all is_none stripes ≡ true
@@ -61,3 +61,18 @@ no_stripe_unlocked Slabs none = refl
 no_stripe_unlocked (Stripe stripe) none = absurd (cc)
 no_stripe_unlocked (SlabsLast stripe) none = absurd (cc)
 no_stripe_unlocked (StripeLast stripe) none = absurd (cc)
+
+-- it has no stripe's lock exactly where it has a note of none
+pub no_stripe_from : (view : View) (locks : Locks) → HasLocks view locks → has_no_stripes view ≡ true → has_no_stripe locks ≡ true
+no_stripe_from view Neither had none = refl
+no_stripe_from view Slabs had none = refl
+no_stripe_from view (Stripe stripe) had none = absurd (let e = there_in view (Stripe stripe) stripe had had.2 (eq-eqb stripe stripe refl) in cc)
+no_stripe_from view (SlabsLast stripe) had none = absurd (let e = there_in view (SlabsLast stripe) stripe had had.2 (eq-eqb stripe stripe refl) in cc)
+no_stripe_from view (StripeLast stripe) had none = absurd (let e = there_in view (StripeLast stripe) stripe had had.2 (eq-eqb stripe stripe refl) in cc)
+
+pub no_stripes_there : (view : View) (locks : Locks) → HasLocks view locks → has_no_stripe locks ≡ true → has_no_stripes view ≡ true
+no_stripes_there view Neither had none = none_there view.stripes (range_with_len 0 view.setup.config.stripes) had.1
+no_stripes_there view Slabs had none = none_there view.stripes (range_with_len 0 view.setup.config.stripes) had.1
+no_stripes_there view (Stripe stripe) had none = absurd (cc)
+no_stripes_there view (SlabsLast stripe) had none = absurd (cc)
+no_stripes_there view (StripeLast stripe) had none = absurd (cc)

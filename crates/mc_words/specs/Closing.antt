@@ -1,7 +1,6 @@
 -- What is left of an arena after its end.
 use Rattle.std.specs.Prelude.{◌≡◌, ℕ, zero, suc, ◌+◌, ◌<◌, ◌^◌, ◌==◌, List, length, map, take, drop, slice_index, slice_index_or, if◌then◌else◌, Option, Some, None, IfSome}
 use Rattle.std.specs.List.{range_with_len}
-use Rattle.mc_classes.specs.Classes.{pages_of}
 use Rattle.mc_pages.specs.SlabState.{SlabState}
 use Rattle.mc_stripe.specs.StripeState.{ReadyStripe}
 use Rattle.mc_core.specs.Head.{decode}

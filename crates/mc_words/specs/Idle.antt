@@ -3,9 +3,13 @@ use Rattle.std.specs.Prelude.{Bool, ◌&&◌, ◌==◌, is_none, length}
 use Rattle.std.specs.List.{list_all}
 use Rattle.mc_words.specs.View.{View}
 
--- the hand has no lock
+-- the hand has no stripe's lock
+abbrev pub has_no_stripes : View → Bool
+has_no_stripes view = list_all is_none view.stripes
+
+-- it has no lock
 abbrev pub is_unlocked : View → Bool
-is_unlocked view = is_none view.slabs && list_all is_none view.stripes
+is_unlocked view = is_none view.slabs && has_no_stripes view
 
 -- it has no lock, and holds no chunk
 abbrev pub is_idle : View → Bool

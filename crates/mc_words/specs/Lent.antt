@@ -1,5 +1,5 @@
 -- What a hand finds behind a lock that it takes.
-use Rattle.std.specs.Prelude.{◌≡◌, ℕ, ◌%◌, Some, None, All}
+use Rattle.std.specs.Prelude.{◌≡◌, ℕ, ◌%◌, slice_index_or, Some, None, All}
 use Rattle.mc_pages.specs.declared.ids.ChunkId.{ChunkId}
 use Rattle.mc_pages.specs.ClassState.{times}
 use Rattle.mc_pages.specs.SlabState.{SlabState, class_of_chunk}
@@ -10,6 +10,7 @@ use Rattle.mc_words.specs.View.{View}
 
 -- pages and lists are whole, and agree with what the hand holds
 pub record IsLent (view : View) (slabs : SlabState) : Type 0 where
+  pub mine : view.slabs ≡ Some slabs
   -- they are of the arena's classes and limit, and every page and every chunk is accounted for
   pub accounted : IsOfTable view.setup.table slabs
   -- no page is half cut
@@ -17,8 +18,9 @@ pub record IsLent (view : View) (slabs : SlabState) : Type 0 where
   -- each chunk that the hand holds stands once in the hand-out order of its class
   pub kept : All (λ holding. times holding.chunk (class_of_chunk slabs holding.chunk).order ≡ 1) view.row.holdings
 
--- a stripe is whole, and has keys of its own alone
+-- a stripe is the hand's, is whole, and has keys of its own alone
 pub record IsLentStripe (view : View) (number : ℕ) (stripe : ReadyStripe) : Type 0 where
+  pub mine : slice_index_or view.stripes number None ≡ Some stripe
   -- its history is legal, and makes its index
   pub legal : IsLegal stripe.state
   -- no entry is aside

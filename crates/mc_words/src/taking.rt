@@ -5,7 +5,8 @@ ghost use Rattle.mc_core.specs.Silent.{none_half_cut};
 ghost use Rattle.mc_words.specs.Arenas.{IsHandOf, setup_of, view};
 ghost use Rattle.mc_words.specs.Happens.{Happens};
 ghost use Rattle.mc_words.specs.Lent.{IsLent, IsLentStripe};
-ghost use Rattle.mc_words.specs.Out.{has_no_stripe, with_slabs, with_stripe, without_slabs, without_stripe};
+ghost use Rattle.mc_words.specs.Idle.{has_no_stripes};
+ghost use Rattle.mc_words.specs.Out.{with_slabs, with_stripe, without_slabs, without_stripe};
 ghost use Rattle.mc_words.specs.Views.{slabs_given, slabs_missed, slabs_taken, stripe_given, stripe_missed, stripe_taken};
 
 use crate::arena::Arena;
@@ -41,7 +42,7 @@ impl Arena {
     pub fn try_stripe(&self, hand: &mut Hand, stripe: u64) -> Result<StripeHeld, Held>
         requires arena { IsHandOf self.now hand.old }
         requires near { stripe < (setup_of self.now).config.stripes }
-        requires one { has_no_stripe hand.old.locks ≡ true }
+        requires one { has_no_stripes (view hand.old) ≡ true }
         ensures arena { IsHandOf self.now hand.new }
         ensures number { IfOk result (λ held. held.number ≡ stripe) }
         ensures locks { IfOk result (λ held. hand.new.locks ≡ with_stripe stripe hand.old.locks) }

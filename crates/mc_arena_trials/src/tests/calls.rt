@@ -6,7 +6,7 @@ ghost use Rattle.mc_arena_trials.specs.Hands.{AreHandsOf};
 
 use super::FOUR_CLASSES;
 use mc_classes::{ClassId, PageId};
-use mc_pages::{ChunkId, Grow};
+use mc_pages::{ChunkId, Grow, Owner};
 use mc_words::{Arena, Final, Hand, NewError, SlabsHeld};
 use std::alloc::Global;
 
@@ -206,4 +206,44 @@ pub fn head(left: &Final, chunk: ChunkId) -> Option<u64> {
 /// How many chunks its class 1 has in its free list. None where a hand has pages and lists.
 pub fn listed_free(left: &Final) -> Option<u64> {
     Some(left.slabs()?.numbers(1).free)
+}
+
+/// Who owns a page of the closed arena. None where there is no such page, or a hand has pages and lists.
+pub fn owner(left: &Final, page: PageId) -> Option<Owner> {
+    if page < left.classes().pages() {
+        left.owner(page)
+    } else {
+        None
+    }
+}
+
+/// Whether the stripe's value is there, in the closed arena.
+pub fn is_stripe_left(left: &Final, stripe: u64) -> bool {
+    stripe < left.config().stripes && left.stripe(stripe).is_some()
+}
+
+/// Whether the stripe's lock was taken, and given back.
+pub fn has_lent_stripe(arena: &Arena, hand: &mut Hand, stripe: u64) -> bool
+    requires arena { IsHandOf arena.now hand.old }
+    ensures arena { IsHandOf arena.now hand.new }
+{
+    if stripe >= arena.config().stripes || !hand.unlocked() {
+        return false;
+    }
+    let Ok(held) = arena.try_stripe(hand, stripe) else {
+        return false;
+    };
+    arena.give_stripe(hand, held);
+    true
+}
+
+/// Whether the stripe's lock was taken. Its value is lost.
+pub fn lose_stripe(arena: &Arena, hand: &mut Hand, stripe: u64) -> bool
+    requires arena { IsHandOf arena.now hand.old }
+    ensures arena { IsHandOf arena.now hand.new }
+{
+    if stripe >= arena.config().stripes || !hand.unlocked() {
+        return false;
+    }
+    arena.try_stripe(hand, stripe).is_ok()
 }

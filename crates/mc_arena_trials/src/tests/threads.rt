@@ -6,7 +6,7 @@ ghost use Rattle.mc_words.specs.Arenas.{IsHandOf, setup_of, view};
 ghost use Rattle.mc_words.specs.Fresh.{IsFreshOf};
 ghost use Rattle.mc_core.specs.State.{is_class};
 
-use super::calls::{give, grow_page, has_chunk, head, is_class, next_hand, opened};
+use super::calls::{give, grow_page, has_chunk, head, is_class, listed_free, next_hand, opened};
 use super::{assert_equal, assert_same};
 use mc_classes::ClassId;
 use mc_pages::ChunkId;
@@ -198,13 +198,13 @@ fn work_by_all<R: Threads + Wait + Sync>(
 /// What is left of the 21 chunks of page 0: how many are free, as header and free list say, and how often they went out in all.
 fn count_free(left: &Final) -> Option<(u64, u64)> {
     let listed = listed_free(left)?;
-    let mut rounds = 0;
+    let mut rounds = 0u64;
     for index in 0..21 {
         let word = head(left, ChunkId { page: 0, index })?;
         if word % 262_144 != 65_536 {
             return None;
         }
-        rounds += word / 262_144;
+        rounds = rounds.saturating_add(word / 262_144);
     }
     Some((listed, rounds))
 }

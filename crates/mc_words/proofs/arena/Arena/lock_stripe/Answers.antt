@@ -1,13 +1,14 @@
 use Rattle.std.proofs.Common.{[], ◌∷◌, ◌++◌, ap, ◌∙◌}
 use Rattle.mc_words.specs.Out.{has_no_stripe}
-use Rattle.mc_words.proofs.Unlocked.{unlocked_from, no_stripe_unlocked}
+use Rattle.mc_words.proofs.Unlocked.{unlocked_from, no_stripe_unlocked, no_stripes_there}
 use Rattle.mc_words.proofs.Waits.{missed_stripe_again}
 use Rattle.mc_words.proofs.arena.Arena.lock_stripe.Goals as goal
 
 pub try_stripe-requires : goal.try_stripe-requires
 try_stripe-requires g c =
     let a = c.args.hand.now in
-    record { arena = c.loop.invariant.0; near = c.requires.near; one = ap has_no_stripe c.loop.invariant.1 ∙ no_stripe_unlocked a.locks (unlocked_from a.seat.me.0 a.locks a.noted.4 ∙ c.requires.unlocked) }
+    let b = c.loop.hand in
+    record { arena = c.loop.invariant.0; near = c.requires.near; one = no_stripes_there b.seat.me.0 b.locks b.noted.4 (ap has_no_stripe c.loop.invariant.1 ∙ no_stripe_unlocked a.locks (unlocked_from a.seat.me.0 a.locks a.noted.4 ∙ c.requires.unlocked)) }
 
 pub returns-in-Ok-clause-waits : goal.returns-in-Ok-clause-waits
 returns-in-Ok-clause-waits g c =

@@ -7,6 +7,7 @@ use Rattle.mc_words.specs.Views.{saw}
 use Rattle.mc_words.specs.Out.{IsNoted}
 use Rattle.mc_words.specs.Taking.{HasValue}
 use Rattle.mc_words.proofs.Lent.{lent_stripe}
+use Rattle.mc_words.proofs.Unlocked.{no_stripe_from}
 use Rattle.mc_words.proofs.Locked.{noted_stripe, noted_same}
 use Rattle.mc_words.proofs.LockViews.{taken_stripe, missed_stripe, look_holds}
 use Rattle.mc_words.proofs.arena.Arena.try_stripe.Goals as goal
@@ -19,7 +20,7 @@ invariant_of-hand c =
     let is = taken_stripe c.args.hand.now.seat.me.0 c.take.new.seat.me.0 c.args.stripe value told.taken has in
     let a = c.args.hand.now in
     let near : c.args.stripe < a.seat.me.0.setup.config.stripes = let same = ap (λ (s : Setup). s.config.stripes) c.requires.arena.setup in let near = c.requires.near in omega arith in
-    let noted = noted_stripe a.seat.me c.take.new.seat.me a.number a.chunks c.args.stripe a.locks c.requires.one (lt-ltb c.args.stripe a.seat.me.0.setup.config.stripes near) a.noted c.take.ensures.hand told.gains told.out (ap (λ (v : View). v.row.holdings) is) in
+    let noted = noted_stripe a.seat.me c.take.new.seat.me a.number a.chunks c.args.stripe a.locks (no_stripe_from a.seat.me.0 a.locks a.noted.4 c.requires.one) (lt-ltb c.args.stripe a.seat.me.0.setup.config.stripes near) a.noted c.take.ensures.hand told.gains told.out (ap (λ (v : View). v.row.holdings) is) in
     record { noted = subst (IsNoted c.take.new.seat.me a.number a.chunks) (sym c.with_stripe-hand.ensures.locks) noted }
 
 pub invariant_of-hand-in-None : goal.invariant_of-hand-in-None
