@@ -40,6 +40,7 @@ use Rattle.mc_words.specs.Out.{slots_out, slots_in, is_neither, IsNoted}
 use Rattle.mc_words.proofs.Unlocked.{unlocked_from}
 use Rattle.mc_words.specs.Joining as joining
 use Rattle.mc_words.proofs.Rules.{there_if, within, lawful_view}
+use Rattle.mc_words.proofs.Reached.{reached_stepped}
 use Rattle.mc_words.proofs.Settled.{IsSettled, settled_same, not_made}
 
 -- a value that is kept from who hasn't its lock
@@ -182,6 +183,7 @@ module _ (setup : Setup) (t : Words) (r : Ruled setup t) (id other : ℕ) (v w :
         moment = after;
         cuts = r.cuts;
         lawful = lawful_steps m id (core.Join id other) may;
+        reached = reached_stepped setup m id (core.Join id other) r.reached here.0 can;
         means = record {
           same_table = means.same_table;
           hands = length-set m.state.ids other gone ∙ means.hands;

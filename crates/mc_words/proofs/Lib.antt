@@ -1,4 +1,5 @@
 pub mod Written
+pub mod Reached
 pub mod Rules
 pub mod Settled
 pub mod Quiet

@@ -15,7 +15,7 @@ use Rattle.mc_stripe.specs.StripeState.{new_stripe}
 use Rattle.mc_core.specs.Head.{code, decode, uncut_from}
 use Rattle.mc_core.specs.State.{gone, is_held_by, number_at, stripe_at}
 use Rattle.mc_core.specs.Chunks.{most_issue}
-use Rattle.mc_core.specs.Past.{Moment, first_moment, no_hold}
+use Rattle.mc_core.specs.Past.{Moment, no_hold}
 use Rattle.mc_core.specs.Views.{held_slabs, held_stripe}
 use Rattle.mc_core.proofs.Codes.{are_one_word}
 use Rattle.mc_core.proofs.Framed.{free_lock}
@@ -23,7 +23,7 @@ use Rattle.mc_core.proofs.LawKept.{lawful_first}
 use Rattle.mc_words.specs.declared.slot.Slot.TheVariants.{OfSlabs, OfStripe}
 use Rattle.mc_words.specs.View.{Setup, View, view_at, new_view}
 use Rattle.mc_words.specs.Layout.{locks_from, pages_from, heads_from, head_count, data_count, config_from, config_words}
-use Rattle.mc_words.specs.Meaning.{AreWords, AreHome, IsViewOf, Ruled}
+use Rattle.mc_words.specs.Meaning.{AreWords, AreHome, IsViewOf, Ruled, beginning_of}
 use Rattle.mc_words.specs.declared.locks.Locks.TheVariants.{Neither}
 use Rattle.mc_words.specs.Out.{IsNoted}
 use Rattle.mc_words.specs.Happens.{LawfulView}
@@ -66,7 +66,10 @@ uncut_word start small =
     let is : code (uncut_from start) ≡ start * 262144 = omega arith in
     ap decode (sym is) ∙ are_one_word.back (uncut_from start) (record { issue = omega arith; count = omega arith })
 
-module _ (setup : Setup) (start : ℕ) (small : start ≤ most_issue) where
+module _ (setup : Setup) (small : setup.start ≤ most_issue) where
+  abbrev start : ℕ
+  start = setup.start
+
   abbrev H : ℕ
   H = heads_from setup
 
@@ -85,10 +88,10 @@ module _ (setup : Setup) (start : ℕ) (small : start ≤ most_issue) where
   abbrev behind_pages : List ℕ
   behind_pages = replicate headers (start * 262144) ++ behind_heads
 
-  pub words_first : AreWords setup (replicate (pages_of setup.table) 0) (first_words setup start) 0 (replicate setup.config.stripes 0) (replicate headers (uncut_from start)) (replicate data_words 0)
+  pub words_first : AreWords setup (replicate (pages_of setup.table) 0) (first_words setup) 0 (replicate setup.config.stripes 0) (replicate headers (uncut_from start)) (replicate data_words 0)
   words_first = record {
     wide =
-        let a : length (first_words setup start) ≡ length (replicate {A = ℕ} H 0) + length behind_pages = length-append (replicate H 0) behind_pages in
+        let a : length (first_words setup) ≡ length (replicate {A = ℕ} H 0) + length behind_pages = length-append (replicate H 0) behind_pages in
         let b : length behind_pages ≡ length (replicate {A = ℕ} headers (start * 262144)) + length behind_heads = length-append (replicate headers (start * 262144)) behind_heads in
         let c : length behind_heads ≡ length (replicate {A = ℕ} data_words 0) + length behind_data = length-append (replicate data_words 0) behind_data in
         let x : length (replicate {A = ℕ} H 0) ≡ H = length-replicate H 0 in
@@ -103,7 +106,7 @@ module _ (setup : Setup) (start : ℕ) (small : start ≤ most_issue) where
     items = ap (take data_words) (past H headers 0 behind_pages ∙ here headers (replicate headers (start * 262144)) behind_heads (length-replicate headers (start * 262144))) ∙ group data_words 0 behind_data;
     configured =
         let e : config_from setup ≡ H + (headers + data_words) = omega arith in
-        ap (λ n. drop n (first_words setup start)) e
+        ap (λ n. drop n (first_words setup)) e
         ∙ (past H (headers + data_words) 0 behind_pages ∙ (past headers data_words (start * 262144) behind_heads ∙ here data_words (replicate data_words 0) behind_data (length-replicate data_words 0)));
   }
 
@@ -121,11 +124,11 @@ no_class (suc pages) (suc page) = no_class pages page
 one_more : (n : ℕ) → suc n ≡ 1 + n
 one_more n = omega arith
 
-module _ (setup : Setup) (start : ℕ) (sound : IsSound setup.table) (stripes : 1 ≤ setup.config.stripes) (hands : 1 ≤ setup.hands) (few : setup.hands ≤ 64) (small : start ≤ most_issue) where
+module _ (setup : Setup) (sound : IsSound setup.table) (stripes : 1 ≤ setup.config.stripes) (hands : 1 ≤ setup.hands) (few : setup.hands ≤ 64) (small : setup.start ≤ most_issue) where
   abbrev first : Moment
-  first = first_moment setup.table setup.config.stripes setup.hands start
+  first = beginning_of setup
 
-  home_first : AreHome setup (first_words setup start) (map some (first_slots setup)) first.state
+  home_first : AreHome setup (first_words setup) (map some (first_slots setup)) first.state
   home_first zero near free = (OfSlabs (fresh_slabs setup.table), refl, refl)
   home_first (suc i) near free = (OfStripe new_stripe, many setup.config.stripes i (OfStripe new_stripe) (omega arith), sym (same_entry setup.config.stripes i new_stripe new_stripe (omega arith)))
 
@@ -169,16 +172,17 @@ module _ (setup : Setup) (start : ℕ) (sound : IsSound setup.table) (stripes : 
     gone = λ none. absurd (let e : true ≡ false = sym (ap (λ (v : View). is_some v.row.ids.number) (view_first hand spare within)) ∙ none in cc);
   }
 
-  opens : Ruled setup (table.opening (first_words setup start) (first_slots setup) (first_view setup))
+  opens : Ruled setup (table.opening (first_words setup) (first_slots setup) (first_view setup))
   opens = record {
     moment = first;
     cuts = replicate (pages_of setup.table) 0;
-    lawful = lawful_first setup.table setup.config.stripes setup.hands start sound stripes hands few small;
+    reached = record { events = []; run = record {}; end = refl };
+    lawful = lawful_first setup.table setup.config.stripes setup.hands setup.start sound stripes hands few small;
     means = record {
       same_table = refl;
       hands = length-map-range_with_len _ 0 setup.hands;
       stripes = length-replicate setup.config.stripes new_stripe;
-      words = words_first setup start small;
+      words = words_first setup small;
       cut = λ page has. absurd (let none = no_class (pages_of setup.table) page in omega arith);
       homes = home_first;
       slots = ap suc (length-map (replicate setup.config.stripes (OfStripe new_stripe)) some ∙ length-replicate setup.config.stripes (OfStripe new_stripe)) ∙ one_more setup.config.stripes;
@@ -197,7 +201,7 @@ module _ (setup : Setup) (start : ℕ) (sound : IsSound setup.table) (stripes : 
       made zero v at more = (refl, (let e : setup.hands - 1 ≡ v.spare = ap (λ (u : View). u.spare) (maybe.some-injective _ v at) in omega arith))
       made (suc id) v at more = absurd (maybe.some-ne-none v (sym at))
 
-  pub rule_first : Rule setup (table.opening (first_words setup start) (first_slots setup) (first_view setup))
+  pub rule_first : Rule setup (table.opening (first_words setup) (first_slots setup) (first_view setup))
   rule_first = record { ruled = opens; made = made }
     where
       made : (id : ℕ) (v : View) → get_elem? (first_view setup ∷ []) id ≡ some v → IsMade v
@@ -209,15 +213,15 @@ module _ (setup : Setup) (start : ℕ) (sound : IsSound setup.table) (stripes : 
   new_lawful hand spare within = record {
     moment = first;
     hand = hand;
-    lawful = lawful_first setup.table setup.config.stripes setup.hands start sound stripes hands few small;
+    lawful = lawful_first setup.table setup.config.stripes setup.hands setup.start sound stripes hands few small;
     same_table = refl;
     hands = length-map-range_with_len _ 0 setup.hands;
     stripes = length-replicate setup.config.stripes new_stripe;
     there = ap (λ (v : View). is_some v.row.ids.number) (view_first hand spare within);
     is = sym (view_first hand spare within);
-    words = first_words setup start;
+    words = first_words setup;
     cuts = replicate (pages_of setup.table) 0;
-    are = words_first setup start small;
+    are = words_first setup small;
     cut = λ page has. absurd (let none = no_class (pages_of setup.table) page in omega arith);
   }
 

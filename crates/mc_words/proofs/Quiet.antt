@@ -25,10 +25,11 @@ use Rattle.mc_pages.specs.Ledger.{owner_at}
 use Rattle.mc_words.specs.declared.slot.Slot.{Slot}
 use Rattle.mc_words.specs.View.{Setup, View, view_at, held_stripes}
 use Rattle.mc_words.specs.Meaning.{Words, WordsOf, AreCut, Ruled}
-use Rattle.mc_words.specs.Happens.{LawfulView, Happens, HappensAt, MayWrite, MayTell, is_quiet}
+use Rattle.mc_words.specs.Happens.{LawfulView, Happens, HappensAt, MayWrite, MayTell, event_of, is_quiet}
 use Rattle.mc_words.specs.Told.{Sits, StaysOut, TellsFound, TellsEvent, TellsChange}
 use Rattle.mc_words.specs.Joining.{Rule}
 use Rattle.mc_words.proofs.Rules.{lawful_view, ruled_quiet}
+use Rattle.mc_words.proofs.Reached.{reached_more, reached_stepped}
 use Rattle.mc_words.proofs.Settled.{IsSettled, lifts}
 
 -- the columns that words have
@@ -189,7 +190,7 @@ module _ (setup : Setup) (slots id : ℕ) (me : Sits) (live : IsSettled me.0) (o
           view_at setup me.0.spare now id,
           keeps,
           tt,
-          ruled_quiet setup t r id me.0 at r.cuts now (slice_set t.words place word) there quiet are cut,
+          ruled_quiet setup t r id me.0 at r.cuts now (slice_set t.words place word) there quiet (reached_stepped setup m id step r.reached there allowed) are cut,
           tells (stays_out now quiet (lawful_after r.cuts now (slice_set t.words place word) quiet are cut)) (happens, refl),
         )
 
@@ -213,7 +214,7 @@ module _ (setup : Setup) (slots id : ℕ) (me : Sits) (live : IsSettled me.0) (o
           view_at setup me.0.spare now id,
           keeps,
           tt,
-          ruled_quiet setup t r id me.0 at write.0 now words there quiet are write.2,
+          ruled_quiet setup t r id me.0 at write.0 now words there quiet (reached_more (event_of id (change ∷ []) step) setup m r.reached happens.allowed) are write.2,
           (stays_out now quiet (lawful_after write.0 now words quiet are write.2), happens),
         )
 

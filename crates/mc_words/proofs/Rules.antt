@@ -14,7 +14,7 @@ use Rattle.mc_words.specs.declared.slot.Slot.{Slot}
 use Rattle.mc_words.specs.declared.slot.Slot.TheVariants.{Empty, OfSlabs, OfStripe}
 use Rattle.mc_words.specs.View.{Setup, View, view_at, new_view}
 use Rattle.mc_words.specs.Layout.{lock_word}
-use Rattle.mc_words.specs.Meaning.{Words, WordsOf, AreCut, Has, AreHome, IsViewOf, Ruled}
+use Rattle.mc_words.specs.Meaning.{Words, WordsOf, AreCut, Has, AreHome, IsViewOf, IsReached, Ruled}
 use Rattle.mc_words.specs.Happens.{LawfulView}
 use Rattle.mc_words.proofs.Written.{lock_read}
 
@@ -78,15 +78,16 @@ module _ (setup : Setup) (t : Words) (r : Ruled setup t) (id : ℕ) (view : View
   m = r.moment
 
   -- the next moment, with its words, its values at home, and what the hand knows of it
-  pub ruled_next : (cuts : List ℕ) (now : Moment) (words : List ℕ) (homes : List (maybe.Option Slot)) (is_now : View) → IsNext m now id → WordsOf setup cuts words now.state → AreCut cuts now.state.slabs → AreHome setup words homes now.state
+  pub ruled_next : (cuts : List ℕ) (now : Moment) (words : List ℕ) (homes : List (maybe.Option Slot)) (is_now : View) → IsNext m now id → IsReached setup now → WordsOf setup cuts words now.state → AreCut cuts now.state.slabs → AreHome setup words homes now.state
       → length homes ≡ length t.homes → IsViewOf setup now id is_now → is_now.spare ≡ view.spare → Ruled setup (record { words = words; homes = homes; views = slice_set t.views id is_now })
-  ruled_next cuts now words homes is_now next are cut home slots is spare =
+  ruled_next cuts now words homes is_now next reached are cut home slots is spare =
       let means = r.means in
       let long = length-set t.views id is_now in
       let first = within t.views id view at in record {
         moment = now;
         cuts = cuts;
         lawful = next.lawful;
+        reached = reached;
         means = record {
           same_table = next.table ∙ means.same_table;
           hands = next.count ∙ means.hands;
@@ -119,10 +120,10 @@ module _ (setup : Setup) (t : Words) (r : Ruled setup t) (id : ℕ) (view : View
   }
 
   -- where no lock is taken or given
-  pub ruled_quiet : (cuts : List ℕ) (now : Moment) (words : List ℕ) → is_hand m.state id ≡ true → IsQuiet m now id → WordsOf setup cuts words now.state → AreCut cuts now.state.slabs
+  pub ruled_quiet : (cuts : List ℕ) (now : Moment) (words : List ℕ) → is_hand m.state id ≡ true → IsQuiet m now id → IsReached setup now → WordsOf setup cuts words now.state → AreCut cuts now.state.slabs
       → Ruled setup (record { words = words; homes = t.homes; views = slice_set t.views id (view_at setup view.spare now id) })
-  ruled_quiet cuts now words there quiet are cut =
-      ruled_next cuts now words t.homes (view_at setup view.spare now id) quiet.next are cut (homes_quiet setup r.cuts cuts t.words words t.homes m now id quiet r.means.words are r.means.homes) refl (is_view_now now quiet.next there) refl
+  ruled_quiet cuts now words there quiet reached are cut =
+      ruled_next cuts now words t.homes (view_at setup view.spare now id) quiet.next reached are cut (homes_quiet setup r.cuts cuts t.words words t.homes m now id quiet r.means.words are r.means.homes) refl (is_view_now now quiet.next there) refl
 
   -- the view is of a lawful moment
   abbrev pub lawful_view : is_some view.row.ids.number ≡ true → view.setup ≡ setup → LawfulView view

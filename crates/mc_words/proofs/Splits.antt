@@ -52,6 +52,7 @@ ruled_splits setup id v more of t r at =
       moment = m;
       cuts = r.cuts;
       lawful = r.lawful;
+      reached = r.reached;
       means = record {
         same_table = means.same_table;
         hands = means.hands;

@@ -37,6 +37,7 @@ use Rattle.mc_words.specs.Taking.{take_of, miss_of, give_of, IsLockOf, HasValue,
 use Rattle.mc_words.specs.Joining.{Rule}
 use Rattle.mc_words.proofs.Settled.{IsSettled, lifts}
 use Rattle.mc_words.proofs.Rules.{ruled_next, is_view_now}
+use Rattle.mc_words.proofs.Reached.{reached_stepped}
 use Rattle.mc_words.proofs.Written.{slabs_lock_written, lock_written, lock_read, unwritten}
 use Rattle.mc_words.proofs.Quiet.{Columns, columns, Goes, goes, was, map_map, has_if}
 
@@ -261,7 +262,7 @@ module _ (setup : Setup) (slots id : ℕ) (me : Sits) (live : IsSettled me.0) (o
             w,
             takes slot_at slot,
             home,
-            ruled_next setup t r id me.0 at r.cuts taken (slice_set t.words place (number + 1)) (slice_set t.homes slot_at none) w take_next written (subst (AreCut r.cuts) (sym (take_slabs m.state id lock)) r.means.cut) (λ k. by_place k)
+            ruled_next setup t r id me.0 at r.cuts taken (slice_set t.words place (number + 1)) (slice_set t.homes slot_at none) w take_next (reached_stepped setup m id (take_of lock) r.reached there can_take.allowed) written (subst (AreCut r.cuts) (sym (take_slabs m.state id lock)) r.means.cut) (λ k. by_place k)
                 (length-set t.homes slot_at none) (is_view_now setup t r id me.0 at taken take_next there) refl,
             tells (w, (slot_at, slot) ∷ me.1) (record {
               slot = slot;
@@ -350,7 +351,7 @@ module _ (setup : Setup) (slots id : ℕ) (me : Sits) (live : IsSettled me.0) (o
           let w : View = view_at setup me.0.spare given id in
           let back : table.put_back t.homes me.1 ≡ slice_set t.homes slot_at (some slot) = ap (table.put_back t.homes) out in
           let rule : Ruled setup (record { words = slice_set t.words place 0; homes = slice_set t.homes slot_at (some slot); views = slice_set t.views id w }) =
-          ruled_next setup t r id me.0 at r.cuts given (slice_set t.words place 0) (slice_set t.homes slot_at (some slot)) w give_next written_back (subst (AreCut r.cuts) (sym (give_slabs m.state id lock)) r.means.cut) (λ k. by_place k)
+          ruled_next setup t r id me.0 at r.cuts given (slice_set t.words place 0) (slice_set t.homes slot_at (some slot)) w give_next (reached_stepped setup m id (give_of lock) r.reached there can_give_it.allowed) written_back (subst (AreCut r.cuts) (sym (give_slabs m.state id lock)) r.means.cut) (λ k. by_place k)
           (length-set t.homes slot_at (some slot)) (is_view_now setup t r id me.0 at given give_next there) refl in (
             w,
             gives,

@@ -7,11 +7,12 @@ use Rattle.mc_words.specs.declared.hand.Hand.{Hand}
 use Rattle.mc_words.specs.View.{Setup, new_view}
 use Rattle.mc_words.specs.Arenas.{IsHandOf, setup_of, view}
 
--- made with this configuration, its classes, and so many hands
-pub record IsMadeWith (config : Config) (hands : ℕ) (setup : Setup) : Type 0 where
+-- made with this configuration, its classes, so many hands, and this issue number at first
+pub record IsMadeWith (config : Config) (hands start : ℕ) (setup : Setup) : Type 0 where
   pub config_is : setup.config ≡ config
   pub table : IsTableOf config setup.table
   pub hands_are : setup.hands ≡ hands
+  pub start_is : setup.start ≡ start
 
 -- these are hands of the arena that did nothing yet, numbered on from here
 abbrev pub AreHandsFrom : Arena → ℕ → List Hand → Type 0

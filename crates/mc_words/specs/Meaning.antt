@@ -8,7 +8,9 @@ use Rattle.mc_pages.specs.SlabState.{SlabState, class_of_page}
 use Rattle.mc_core.specs.declared.head.Head.{Head}
 use Rattle.mc_core.specs.Head.{decode}
 use Rattle.mc_core.specs.State.{State, is_hand, stripe_at}
-use Rattle.mc_core.specs.Past.{Moment}
+use Rattle.mc_core.specs.Past.{Moment, first_moment}
+use Rattle.mc_core.specs.declared.event.Event.{Event}
+use Rattle.mc_core.specs.Laws.{IsRun, moment_at_end}
 use Rattle.mc_core.specs.Lawful.{IsLawful}
 use Rattle.mc_words.specs.declared.slot.Slot.{Slot}
 use Rattle.mc_words.specs.declared.slot.Slot.TheVariants.{Empty, OfSlabs, OfStripe}
@@ -70,10 +72,21 @@ pub record Means (setup : Setup) (cuts : List ℕ) (t : Words) (moment : Moment)
   pub made : (hand : ℕ) (view : View) → get_elem? t.views hand ≡ some view → 1 ≤ view.spare → (hand ≡ 0) × (length t.views + view.spare ≡ setup.hands)
   pub unmade : (hand : ℕ) → length t.views ≤ hand → hand < setup.hands → IsViewOf setup moment hand (new_view setup hand 0)
 
--- the rule of the table: it means a lawful moment
+-- before anything was done in an arena
+abbrev pub beginning_of : Setup → Moment
+beginning_of setup = first_moment setup.table setup.config.stripes setup.hands setup.start
+
+-- the moment comes after events, each of which was allowed, from the beginning on
+pub record IsReached (setup : Setup) (moment : Moment) : Type 0 where
+  pub events : List Event
+  pub run : IsRun (beginning_of setup) events
+  pub end : moment_at_end (beginning_of setup) events ≡ moment
+
+-- the rule of the table: it means a lawful moment, which was reached from the arena's beginning
 pub record Ruled (setup : Setup) (t : Words) : Type 0 where
   pub moment : Moment
   -- what the words of the pages say
   pub cuts : List ℕ
   pub means : Means setup cuts t moment
   pub lawful : IsLawful moment
+  pub reached : IsReached setup moment

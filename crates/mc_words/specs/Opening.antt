@@ -7,9 +7,9 @@ use Rattle.mc_words.specs.declared.slot.Slot.TheVariants.{OfSlabs, OfStripe}
 use Rattle.mc_words.specs.View.{Setup, View, new_view}
 use Rattle.mc_words.specs.Layout.{heads_from, head_count, data_count, config_words}
 
--- all locks are free, no page has a class, each header is out with this issue number, and all data words are 0
-abbrev pub first_words : Setup → ℕ → List ℕ
-first_words setup start = replicate (heads_from setup) 0 ++ (replicate (head_count setup) (start * 262144) ++ (replicate (data_count setup) 0 ++ config_words setup.config))
+-- all locks are free, no page has a class, each header is out with the first issue number, and all data words are 0
+abbrev pub first_words : Setup → List ℕ
+first_words setup = replicate (heads_from setup) 0 ++ (replicate (head_count setup) (setup.start * 262144) ++ (replicate (data_count setup) 0 ++ config_words setup.config))
 
 -- the values at home: untouched pages, and stripes without keys
 abbrev pub first_slots : Setup → List Slot

@@ -10,11 +10,12 @@ use Rattle.mc_core.specs.Past.{Knowledge, Moment, no_hold}
 use Rattle.mc_core.specs.Learns.{both_know, knows_nothing}
 use Rattle.mc_core.specs.Views.{Row, row_at, held_slabs, held_stripe}
 
--- what an arena is made with: its configuration, the table of that, and how many hands there are
+-- what an arena is made with: its configuration, the table of that, how many hands there are, and the issue number of each chunk at first
 pub record Setup : Type 0 where
   pub config : Config
   pub table : Classes
   pub hands : ℕ
+  pub start : ℕ
 
 -- of one hand: the arena's setup, how many hands it may still make, its row, and the values behind the locks that it has
 pub record View : Type 0 where
@@ -70,6 +71,7 @@ no_setup = record {
   config = record { page = 0; limit = 0; first = 0; num = 0; den = 0; max = 0; stripes = 0; bulk = 0 };
   table = record { page = 0; limit = 0; sizes = [] };
   hands = 0;
+  start = 0;
 }
 
 -- a hand that another took over: one constant, whatever the arena is

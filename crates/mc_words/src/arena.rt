@@ -1,6 +1,7 @@
 //! The arena.
 ghost use Rattle.std.specs.Prelude.{◌≡◌, ◌+◌, ◌^◌, ◌<◌, ◌≤◌};
 ghost use Rattle.mc_classes.specs.Classes.{IsSound};
+ghost use Rattle.mc_core.specs.Chunks.{most_issue};
 ghost use Rattle.mc_core.specs.State.{most_of, page_words};
 ghost use Rattle.mc_words.specs.Layout.{data_from, heads_from, pages_from, word_count};
 
@@ -28,6 +29,7 @@ pub struct Arena {
     ghost some: { 1 ≤ plan.config.stripes },
     ghost few: { plan.config.stripes ≤ 64 },
     ghost hands: { (1 ≤ plan.hands) × (plan.hands ≤ 64) },
+    ghost begun: { plan.start ≤ most_issue },
     ghost places: { (first_page ≡ pages_from plan) × (first_head ≡ heads_from plan) × (first_data ≡ data_from plan) },
     ghost counts: { (most ≡ most_of plan.table) × (words_a_page ≡ page_words plan.table) },
     ghost small: { word_count plan < 2 ^ 63 },

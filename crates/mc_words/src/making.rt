@@ -42,7 +42,7 @@ impl Arena {
         hands: u64,
     ) -> Result<(Arena, Vec<Hand>), NewError>
         ensures accepted { IfOk result (λ made. arena_refusal config.now hands 0 ≡ None) }
-        ensures setup { IfOk result (λ made. IsMadeWith config.now hands (setup_of made.0)) }
+        ensures setup { IfOk result (λ made. IsMadeWith config.now hands 0 (setup_of made.0)) }
         ensures hands { IfOk result (λ made. AreNewHands made.0 made.1.items) }
         ensures refused { IfErr result (λ error. error ≡ unwrap_or (arena_refusal config.now hands 0) refused.NoMemory) }
     {
@@ -57,7 +57,7 @@ impl Arena {
         start: u64,
     ) -> Result<(Arena, Vec<Hand>), NewError>
         ensures accepted { IfOk result (λ made. arena_refusal config.now hands start ≡ None) }
-        ensures setup { IfOk result (λ made. IsMadeWith config.now hands (setup_of made.0)) }
+        ensures setup { IfOk result (λ made. IsMadeWith config.now hands start (setup_of made.0)) }
         ensures hands { IfOk result (λ made. AreNewHands made.0 made.1.items) }
         ensures refused { IfErr result (λ error. error ≡ unwrap_or (arena_refusal config.now hands start) refused.NoMemory) }
     {
@@ -65,8 +65,8 @@ impl Arena {
         let Ok(classes) = ClassTable::build(alloc, config) else {
             return Err(NewError::NoMemory);
         };
-        let plan = Plan::new(*config, classes, hands);
-        let Ok((arena, first)) = Arena::open(alloc, plan, start) else {
+        let plan = Plan::new(*config, classes, hands, start);
+        let Ok((arena, first)) = Arena::open(alloc, plan) else {
             return Err(NewError::NoMemory);
         };
         let Ok(all) = arena.all_hands(alloc, first) else {

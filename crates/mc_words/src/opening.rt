@@ -27,15 +27,14 @@ pub(crate) struct Places {
     pub(crate) config: usize,
 }
 
-// The words at first, with this issue number in each header.
-fn words_of(alloc: Global, plan: &Plan, places: Places, start: u64) -> Result<Vec<u64>, AllocError>
+// The words at first.
+fn words_of(alloc: Global, plan: &Plan, places: Places) -> Result<Vec<u64>, AllocError>
     requires places { ArePlaces plan.now places }
-    requires start { start ≤ most_issue }
-    ensures words { IfOk result (λ words. words.items ≡ first_words plan.now start) }
+    ensures words { IfOk result (λ words. words.items ≡ first_words plan.now) }
 {
     let mut words = Vec::new(alloc);
     words.resize(places.heads, 0)?;
-    words.resize(places.data, start * ISSUE_UNIT)?;
+    words.resize(places.data, plan.start() * ISSUE_UNIT)?;
     words.resize(places.config, 0)?;
     let config = plan.config();
     let numbers = [
@@ -78,6 +77,7 @@ impl Plan {
         ensures sound { IsSound self.now.table }
         ensures stripes { (1 ≤ self.now.config.stripes) × (self.now.config.stripes ≤ 64) }
         ensures hands { (1 ≤ self.now.hands) × (self.now.hands ≤ 64) }
+        ensures start { self.now.start ≤ most_issue }
     {
         let classes = self.classes();
         let count = classes.pages();
@@ -96,13 +96,12 @@ impl Plan {
 
 impl Arena {
     // An arena in which nothing was done, and its first hand.
-    pub(crate) fn open(alloc: Global, plan: Plan, start: u64) -> Result<(Arena, Hand), NoMemory>
-        requires start { start ≤ most_issue }
+    pub(crate) fn open(alloc: Global, plan: Plan) -> Result<(Arena, Hand), NoMemory>
         ensures arena { IfOk result (λ opened. IsHandOf opened.0 opened.1 × (setup_of opened.0 ≡ plan)) }
         ensures view { IfOk result (λ opened. view opened.1 ≡ first_view plan) }
     {
         let places = plan.places();
-        let words = words_of(alloc, &plan, places, start)?;
+        let words = words_of(alloc, &plan, places)?;
         let slots = slots_of(alloc, &plan)?;
         let Ok((table, seat)) = Table::new(alloc, words.as_slice(), slots, &plan) else {
             return Err(NoMemory);

@@ -1,5 +1,6 @@
 use Rattle.std.proofs.Common.{◌≡◌, ℕ, ◌-◌, ◌≤◌, [], sym, ap, subst, ◌∙◌, arith}
 use Rattle.mc_classes.specs.Classes.{IsSound}
+use Rattle.mc_core.specs.Chunks.{most_issue}
 use Rattle.mc_words.specs.declared.arena.Arena.{Arena}
 use Rattle.mc_words.specs.declared.locks.Locks.TheVariants.{Neither}
 use Rattle.mc_words.specs.View.{Setup, View, new_view}
@@ -44,6 +45,7 @@ returns-clause-arena c =
     let sound : IsSound setup.table = subst (λ (s : Setup). IsSound s.table) plan arena.sound in
     let some : 1 ≤ setup.config.stripes = subst (λ (s : Setup). 1 ≤ s.config.stripes) plan arena.some in
     let hands : (1 ≤ setup.hands) × (setup.hands ≤ 64) = subst (λ (s : Setup). (1 ≤ s.hands) × (s.hands ≤ 64)) plan arena.hands in
+    let begun : setup.start ≤ most_issue = subst (λ (s : Setup). s.start ≤ most_issue) plan arena.begun in
     let told = c.split_seat-seat.ensures in
     let one = ap (λ (me : Sits). me.0) told.2 in
     let other = ap (λ (me : Sits). me.0) told.4 ∙ (ap next_view c.requires.first ∙ next_is setup number c.requires.number.1) in (
@@ -55,6 +57,6 @@ returns-clause-arena c =
       record {
         same_table = told.3 ∙ c.requires.arena.same_table;
         setup = ap (λ (v : View). v.setup) other;
-        lawful = subst LawfulView (sym other) (new_lawful setup 0 sound some hands.0 hands.1 (omega arith) number 0 c.requires.number.1);
+        lawful = subst LawfulView (sym other) (new_lawful setup sound some hands.0 hands.1 begun number 0 c.requires.number.1);
       },
     )

@@ -16,7 +16,7 @@ new-requires c =
     let setup : Setup = c.args.plan in
     let told = c.places-places.ensures in
     subst (λ (p : List ℕ × List Slot). Rule setup (opening p.0 p.1 (first_view setup))) (λ k. (sym (c.as_slice.ensures.value ∙ c.in_ok-words.ensures.words) k, sym c.in_ok-slots.ensures.slots k))
-    (rule_first setup c.args.start told.sound told.stripes.0 told.hands.0 told.hands.1 c.requires.start)
+    (rule_first setup told.sound told.stripes.0 told.hands.0 told.hands.1 told.start)
 
 pub invariant_of-hand : goal.invariant_of-hand
 invariant_of-hand c = record { noted = subst (λ (me : Sits). IsNoted me 0 0 Neither) (sym c.in-Ok.ensures.ok.4) (let setup : Setup = c.args.plan in new_noted setup 0 (setup.hands - 1) (omega arith)) }
@@ -30,7 +30,7 @@ returns-clause-arena c =
       record {
         same_table = ok.2;
         setup = ap (λ (v : View). v.setup) view ∙ sym ok.5;
-        lawful = subst LawfulView (sym view) (new_lawful setup c.args.start told.sound told.stripes.0 told.hands.0 told.hands.1 c.requires.start 0 (setup.hands - 1) (let some = told.hands.0 in omega arith));
+        lawful = subst LawfulView (sym view) (new_lawful setup told.sound told.stripes.0 told.hands.0 told.hands.1 told.start 0 (setup.hands - 1) (let some = told.hands.0 in omega arith));
       },
       ok.5,
     )
