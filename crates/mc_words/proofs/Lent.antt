@@ -1,27 +1,34 @@
--- What lies behind the lock of the slabs, when a hand takes it.
-use Rattle.std.proofs.Common.{◌≡◌, ℕ, [], Some, sym, ap, subst, ◌∙◌, eqb-true, All, List}
+-- What lies behind a lock, when a hand takes it.
+use Rattle.std.proofs.Common.{◌≡◌, ℕ, ◌<◌, ◌%◌, ◌==◌, [], None, Some, sym, ap, subst, ◌∙◌, arith, zero-add, eqb-true, ltb-true, All, List, length, slice_index, slice_index_or}
+use Rattle.std.specs.List.{slice_get}
+use Rattle.std.proofs.lemmas.Bool.{and_parts}
+use Rattle.std.proofs.lemmas.Option.{slice_get-get_or}
 use Rattle.std.proofs.lemmas.List.Elements.{All-weaker}
+use Rattle.std.proofs.lemmas.List.FromFn.{get_or-map-range_with_len}
 use Rattle.mc_classes.specs.Classes.{Classes}
 use Rattle.mc_pages.specs.ClassState.{times}
 use Rattle.mc_pages.specs.SlabState.{SlabState, class_of_chunk}
+use Rattle.mc_stripe.specs.StripeState.{ReadyStripe, new_stripe}
+use Rattle.mc_stripe.specs.Legal.{IsLegal}
 use Rattle.mc_core.specs.declared.event.Step.TheVariants as core
 use Rattle.mc_core.specs.declared.holding.Holding.{Holding}
 use Rattle.mc_core.specs.InOrder.{IsOfTable}
 use Rattle.mc_core.specs.Past.{Moment, moment_stepped}
-use Rattle.mc_core.specs.State.{has_slabs, holdings_at}
-use Rattle.mc_core.specs.Views.{held_slabs}
+use Rattle.mc_core.specs.State.{has_slabs, has_stripe, stripe_at, holdings_at}
+use Rattle.mc_core.specs.Locks.{has_stripes}
+use Rattle.mc_core.specs.Views.{held_slabs, held_stripe}
 use Rattle.mc_core.proofs.Base.{IsOut, held_out, placed_at}
 use Rattle.mc_words.specs.View.{View}
 use Rattle.mc_words.specs.Happens.{Happens}
-use Rattle.mc_words.specs.Lent.{IsLent}
-use Rattle.mc_words.proofs.LockViews.{may_step}
+use Rattle.mc_words.specs.Lent.{IsLent, IsLentStripe}
+use Rattle.mc_words.proofs.LockViews.{may_step, lock_count}
 use Rattle.mc_words.proofs.TakeAndGive.{held_from}
 
 -- a chunk that stands once in the order of its class
 abbrev StandsOnce : SlabState → Holding → Type 0
 StandsOnce slabs holding = times holding.chunk (class_of_chunk slabs holding.chunk).order ≡ 1
 
--- what is taken is as the law has it
+-- pages and lists that are taken are as the law has them
 pub lent_slabs : (view now : View) (slabs : SlabState) → Happens view [] core.TakeSlabs now → now.slabs ≡ Some slabs → IsLent now slabs
 lent_slabs view now slabs h mine =
     let m : Moment = h.was.moment in
@@ -37,4 +44,27 @@ lent_slabs view now slabs h mine =
       accounted = subst (λ (p : Classes × SlabState). IsOfTable p.0 p.1) (λ k. (table k, same k)) l.paged.of_table;
       whole = ap (λ (s : SlabState). s.uncut) (sym same) ∙ l.paged.whole (eqb-true m.state.slabs_lock 0 (may_step h).allowed);
       kept = subst (λ (p : SlabState × List Holding). All (StandsOnce p.0) p.1) (λ k. (same k, ap (λ (v : View). v.row.holdings) (sym h.is) k)) held_ones;
+    }
+
+-- and so is a stripe
+pub lent_stripe : (view now : View) (stripe : ℕ) (value : ReadyStripe) → Happens view [] (core.TakeStripe stripe) now → slice_index_or now.stripes stripe None ≡ Some value → IsLentStripe now stripe value
+lent_stripe view now stripe value h mine =
+    let m : Moment = h.was.moment in
+    let id : ℕ = h.was.hand in
+    let l = h.was.lawful in
+    let after : Moment = moment_stepped m id (core.TakeStripe stripe) in
+    let can = and_parts (has_stripes m.state stripe) (slice_index m.state.stripe_locks stripe == 0) (may_step h).allowed in
+    let count = lock_count view now h.was in
+    let near : stripe < length m.state.stripe_locks = ltb-true stripe (length m.state.stripe_locks) can.0 in
+    let long = h.was.stripes in
+    let held : held_stripe after.state id stripe ≡ Some value =
+    sym (get_or-map-range_with_len (held_stripe after.state id) 0 view.setup.config.stripes stripe stripe None (omega arith) (zero-add stripe)) ∙ (ap (λ (v : View). slice_index_or v.stripes stripe None) (sym h.is) ∙ mine) in
+    let same : stripe_at m.state stripe ≡ value = (held_from (has_stripe after.state id stripe) (stripe_at m.state stripe) value held).1 in
+    let here : slice_get m.state.stripes stripe ≡ Some value = slice_get-get_or m.state.stripes stripe new_stripe (omega arith) ∙ ap Some same in
+    let free : slice_get m.state.stripe_locks stripe ≡ Some 0 = slice_get-get_or m.state.stripe_locks stripe 0 near ∙ ap Some (eqb-true (slice_index m.state.stripe_locks stripe) 0 can.1) in
+    let stripes : length m.state.stripes ≡ now.setup.config.stripes = h.was.stripes ∙ ap (λ (v : View). v.setup.config.stripes) (sym h.is) in
+    record {
+      legal = subst (λ (v : ReadyStripe). IsLegal v.state) same (l.legal.legal stripe new_stripe (omega arith));
+      whole = l.legal.free stripe value free here;
+      keys = λ key place found. subst (λ (n : ℕ). key % n ≡ stripe) stripes (l.indexed.entries stripe key place.1 value place.0 here found).0;
     }

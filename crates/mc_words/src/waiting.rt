@@ -2,7 +2,7 @@
 ghost use Rattle.std.specs.Prelude.{◌≡◌, ◌<◌, true};
 ghost use Rattle.mc_words.specs.Arenas.{IsHandOf, setup_of, view};
 ghost use Rattle.mc_words.specs.Idle.{is_unlocked};
-ghost use Rattle.mc_words.specs.Lent.{IsLent};
+ghost use Rattle.mc_words.specs.Lent.{IsLent, IsLentStripe};
 ghost use Rattle.mc_words.specs.Out.{with_slabs, with_stripe};
 ghost use Rattle.mc_words.specs.Waiting.{WaitsForSlabs, WaitsForStripe};
 
@@ -41,6 +41,7 @@ impl Arena {
         ensures number { result.number ≡ stripe }
         ensures locks { hand.new.locks ≡ with_stripe stripe hand.old.locks }
         ensures waits { WaitsForStripe stripe (view hand.old) result.stripe (view hand.new) }
+        ensures whole { IsLentStripe (view hand.new) stripe result.stripe }
     {
         let backoff = Backoff::new();
         for _ in rt.forever() {
