@@ -1,1 +1,3 @@
 pub mod KeeperMachine
+pub mod StoredBeside
+pub mod StageSteps

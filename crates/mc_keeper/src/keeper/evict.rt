@@ -1,8 +1,8 @@
 //! How a set comes to a chunk in a full class: an item is evicted.
-ghost use Rattle.std.specs.Prelude.{◌≡◌, true, Contains, IfOk, OnOk, Some};
+ghost use Rattle.std.specs.Prelude.{◌≡◌, true, Contains, IfOk, OnErr, OnOk, Some};
 ghost use Rattle.std.specs.Option.{is_some};
 ghost use Rattle.mc_pages.specs.SlabState.{IsClass, class_at};
-ghost use Rattle.mc_machine.specs.Machine.{is_linked_unheld};
+ghost use Rattle.mc_machine.specs.Machine.{is_linked_unheld, swept};
 ghost use Rattle.mc_machine.specs.Supply.{evicts, victim, with_eviction, supplied};
 
 use super::Keeper;
@@ -20,6 +20,7 @@ impl Keeper {
         requires { IsClass self.old.slabs class }
         ensures evicted { IfOk result (λ evicted. evicted ≡ evicts self.old class) }
         ensures after { OnOk result (self.new ≡ supplied self.old class) }
+        ensures refused { OnErr result (self.new ≡ swept self.old class) }
     {
         self.stock(class)?;
         if self.has_free(class) {

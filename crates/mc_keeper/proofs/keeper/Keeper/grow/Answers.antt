@@ -34,8 +34,8 @@ invariant_of-self c =
       bulk = c.self.invariant.bulk;
     }
 
-pub returns-in-Ok : goal.returns-in-Ok
-returns-in-Ok c =
+pub returns-in-Ok-clause-after : goal.returns-in-Ok-clause-after
+returns-in-Ok-clause-after c =
     let valid : IsClass c.self.inside.slabs.state c.args.class = rw (ap (λ (m : Machine). m.slabs) c.self.view_is) c.requires in
     rw (← c.self.view_is)
     (new_page_view (record {

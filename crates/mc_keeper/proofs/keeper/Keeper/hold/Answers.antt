@@ -9,7 +9,7 @@ use Rattle.mc_keeper.proofs.keeper.Keeper.hold.Goals as goal
 
 pub invariant_of-self-in-Some : goal.invariant_of-self-in-Some
 invariant_of-self-in-Some c =
-    let found : lookup (is_at (nat_cmp c.args.key)) c.self.inside.index ≡ Some c.in-Some.chunk = sym c.in-Some.ensures in
+    let found : lookup (is_at (nat_cmp c.args.key)) c.self.inside.index ≡ Some c.in-Some.chunk = sym c.in-Some.ensures.chunk in
     let leads = (leads_linked _ _ _ _ c.args.key c.in-Some.chunk c.self.invariant.kept found).0 in
     let linked : leads.item.linked ≡ true = grind (arith, nat_tests, leads.linked) in
     record {

@@ -11,9 +11,9 @@ pub invariant_of-result : goal.invariant_of-result
 invariant_of-result c =
     let slabs : c.set_automove.new.self.state ≡ with_mode (fresh_slabs c.args.table) c.args.mode
     = c.set_automove.ensures.mode ∙ ap (λ (s : SlabState). with_mode s c.args.mode) c.in-Ok.ensures.fresh in
-    let dead : c.in_ok-dead.dead ≡ replicate (length c.args.table.sizes) 0 = c.in_ok-dead.ensures ∙ ap (λ (n : ℕ). replicate n 0) c.count.ensures.count in
+    let dead : c.in_ok-dead.dead ≡ replicate (length c.args.table.sizes) 0 = c.in_ok-dead.ensures.fresh ∙ ap (λ (n : ℕ). replicate n 0) c.count.ensures.count in
     record {
-      kept = kept_fresh _ c.args.mode _ _ _ c.requires.sound slabs c.set_automove.ensures.accounted c.in_ok-index.ensures c.new-7.ensures.empty;
+      kept = kept_fresh _ c.args.mode _ _ _ c.requires.sound slabs c.set_automove.ensures.accounted c.in_ok-index.ensures.empty c.new-7.ensures.empty;
       watched = watched_fresh c.args.table c.args.mode _ _ slabs c.in-Ok-new.ensures;
       counted = rw (slabs, c.new-7.ensures.empty, dead) (counted_owned _ _ _ _ _ _ (counted_fresh _ _ _) (length-map _ _));
       bulk = c.requires.bulk;

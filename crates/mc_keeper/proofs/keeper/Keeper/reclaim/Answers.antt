@@ -16,18 +16,18 @@ class_of-class-requires c = rw (ap (λ (m : Machine). m.slabs) c.self.view_is) c
 pub decrement-requires-clause-first : goal.decrement-requires-clause-first
 decrement-requires-clause-first c =
     let class : IsClass c.self.inside.slabs.state (class_of_page c.self.inside.slabs.state c.args.chunk.page) = rw (ap (λ (m : Machine). m.slabs) c.self.view_is) c.requires.class in
-    rw c.class_of-class.ensures class.0
+    rw c.class_of-class.ensures.class class.0
 
 pub decrement-requires-clause-last : goal.decrement-requires-clause-last
 decrement-requires-clause-last c =
     let class : IsClass c.self.inside.slabs.state (class_of_page c.self.inside.slabs.state c.args.chunk.page) = rw (ap (λ (m : Machine). m.slabs) c.self.view_is) c.requires.class in
-    rw (c.class_of-class.ensures, c.self.invariant.counted.of_each) class.1
+    rw (c.class_of-class.ensures.class, c.self.invariant.counted.of_each) class.1
 
 pub decrement-requires-clause-some : goal.decrement-requires-clause-some
 decrement-requires-clause-some c =
     let class : IsClass c.self.inside.slabs.state (class_of_page c.self.inside.slabs.state c.args.chunk.page) = rw (ap (λ (m : Machine). m.slabs) c.self.view_is) c.requires.class in
     let found = dead_here _ _ c.args.chunk c.self.view_is c.requires.dead in
-    rw c.class_of-class.ensures (some_dead _ _ _ _ _ c.args.chunk found.0 c.self.invariant.counted found.1 found.2
+    rw c.class_of-class.ensures.class (some_dead _ _ _ _ _ c.args.chunk found.0 c.self.invariant.counted found.1 found.2
     (dead_unheld _ _ c.args.chunk c.self.view_is c.requires.dead) class.0 class.1)
 
 pub invariant_of-self : goal.invariant_of-self
@@ -41,7 +41,7 @@ invariant_of-self c =
       kept = rw (c.back.ensures.back, c.remove.ensures.entries)
           (kept_reclaim _ _ _ _ c.args.chunk c.self.invariant.kept (rw c.back.ensures.back at c.back.ensures.accounted) unlinked);
       watched = rw c.back.ensures.back (watched-back c.self.inside.slabs.state _ c.self.invariant.watched c.args.chunk);
-      counted = rw (c.back.ensures.back, c.remove.ensures.entries, c.decrement.ensures, c.class_of-class.ensures)
+      counted = rw (c.back.ensures.back, c.remove.ensures.entries, c.decrement.ensures.decremented, c.class_of-class.ensures.class)
           (counted_reclaimed _ _ _ _ _ _ c.args.chunk found.0 c.self.invariant.counted (length-set c.self.inside.slabs.state.classes _ _) found.1 found.2 unheld class.0 class.1);
       bulk = c.self.invariant.bulk;
     }

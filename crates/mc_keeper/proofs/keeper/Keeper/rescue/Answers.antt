@@ -36,7 +36,7 @@ invariant_of-self-2 c =
     let moved : c.relocate.new.self ≡ with_item (without_item c.self.inside.items c.args.old) c.args.new item
     = c.in_ok-key.ensures.moved ∙ ap (λ (o : Option Item). with_found_item c.self.inside.items c.args.old c.args.new o) found.1 in
     record {
-      kept = rw (slabs, c.lead.ensures, key, moved)
+      kept = rw (slabs, c.lead.ensures.led, key, moved)
           (kept_rescued _ _ _ _ c.args.old c.args.new item c.self.invariant.kept found.1 found.2 free (rw slabs at c.clear.ensures.accounted));
       watched = rw slabs (watched-clear (after_replace c.self.inside.slabs.state c.args.new c.args.old) _
           (watched-replace c.self.inside.slabs.state _ c.self.invariant.watched c.args.new c.args.old) c.args.old);

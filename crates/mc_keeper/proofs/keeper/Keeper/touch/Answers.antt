@@ -10,12 +10,12 @@ use Rattle.mc_keeper.proofs.keeper.Keeper.touch.Goals as goal
 
 pub touch-requires : goal.touch-requires
 touch-requires c =
-    let found : lookup (is_at (nat_cmp c.args.key)) c.self.inside.index ≡ Some c.in-Some.chunk = sym c.in-Some.ensures in
+    let found : lookup (is_at (nat_cmp c.args.key)) c.self.inside.index ≡ Some c.in-Some.chunk = sym c.in-Some.ensures.chunk in
     leads_to_handed_out _ _ _ _ c.args.key c.in-Some.chunk c.self.invariant.kept found
 
 pub invariant_of-self : goal.invariant_of-self
 invariant_of-self c =
-    let found : lookup (is_at (nat_cmp c.args.key)) c.self.inside.index ≡ Some c.in-Some.chunk = sym c.in-Some.ensures in
+    let found : lookup (is_at (nat_cmp c.args.key)) c.self.inside.index ≡ Some c.in-Some.chunk = sym c.in-Some.ensures.chunk in
     record {
       kept = rw c.touch.ensures.touched (kept_touch _ _ _ _ c.in-Some.chunk c.self.invariant.kept
           (leads_to_handed_out _ _ _ _ c.args.key c.in-Some.chunk c.self.invariant.kept found)

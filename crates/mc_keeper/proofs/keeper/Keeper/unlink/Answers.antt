@@ -24,7 +24,7 @@ pub invariant_of-self : goal.invariant_of-self
 invariant_of-self c =
     let found : lookup (is_at (nat_cmp c.args.key)) c.self.inside.index ≡ Some c.in-Some.chunk = sym c.in-Some.ensures.chunk in
     let unlinks : c.unlink.new.self ≡ unlinked_items c.self.inside.items c.args.key
-    = rw c.unlink.ensures (unlinks_found _ _ _ _ c.args.key c.in-Some.chunk c.self.invariant.kept found) in
+    = rw c.unlink.ensures.unlinked (unlinks_found _ _ _ _ c.args.key c.in-Some.chunk c.self.invariant.kept found) in
     let there = leads_linked _ _ _ _ c.args.key c.in-Some.chunk c.self.invariant.kept found in
     let leads = there.0 in
     let class = there.1 in
@@ -39,7 +39,7 @@ pub returns-in-Some-clause-unlinked : goal.returns-in-Some-clause-unlinked
 returns-in-Some-clause-unlinked c =
     let found : lookup (is_at (nat_cmp c.args.key)) c.self.inside.index ≡ Some c.in-Some.chunk = sym c.in-Some.ensures.chunk in
     let unlinks : c.unlink.new.self ≡ unlinked_items c.self.inside.items c.args.key
-    = rw c.unlink.ensures (unlinks_found _ _ _ _ c.args.key c.in-Some.chunk c.self.invariant.kept found) in
+    = rw c.unlink.ensures.unlinked (unlinks_found _ _ _ _ c.args.key c.in-Some.chunk c.self.invariant.kept found) in
     rw (← c.self.view_is) (rw unlinks refl)
 
 pub returns-in-None-clause-unlinked : goal.returns-in-None-clause-unlinked
