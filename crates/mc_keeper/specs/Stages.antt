@@ -64,7 +64,7 @@ stages_from (suc count) t = let next = turned t.machine t.counts in
 abbrev pub turns_stages : Machine → ℕ → List Machine
 turns_stages m count = stages_from count (record { machine = m; counts = no_counts; ending = Idle })
 
--- the stages of a command, each of which leaves the key of a set with its old item or its new one, whole
+-- the stages of a command: at the last of them all is done but the reply
 abbrev pub stages : Machine → Command → List Machine
 stages m (command.Set worker key words base) = set_stages m (class_of m.table (item_bytes words)) key (words_from base words)
 stages m (command.Get worker key) = m ∷ []

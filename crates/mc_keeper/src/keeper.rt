@@ -47,7 +47,7 @@ impl Model for Keeper {
 
     ghost Value = { Machine };
 
-    ghost use Rattle.mc_keeper.specs.KeeperKept.{AreKept};
+    ghost use Rattle.mc_keeper.specs.Kept.{AreKept};
 
     ghost view = { λ k. record { table = k.table; bulk = k.bulk; slabs = k.slabs.state; items = k.items; holds = k.holds; turns = k.turns; decider = k.decider } };
 

@@ -14,7 +14,7 @@ use Rattle.mc_pages.specs.ClassState.{is_chunk}
 use Rattle.mc_pages.proofs.Chunks.{is_chunk-same, same_from_is_chunk}
 use Rattle.mc_machine.specs.Item.{Item, is_linked_to, unlinked}
 use Rattle.mc_machine.specs.Items.{Items, chunk_cmp, item_at, with_item, without_item, unlinked_items}
-use Rattle.mc_machine.specs.Kept.{places}
+use Rattle.mc_machine.specs.Consistent.{places}
 use Rattle.mc_machine.proofs.Chunks.{none-places}
 use Rattle.mc_machine.proofs.KeptMoverClear.{places_without}
 use Rattle.mc_machine.proofs.Sweeps.{item_at-without_item}

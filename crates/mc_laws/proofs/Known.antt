@@ -9,7 +9,7 @@ use Rattle.mc_pages.specs.ClassState.{times}
 use Rattle.mc_machine.specs.Item.{Item, is_linked_to}
 use Rattle.mc_machine.specs.Items.{Items, chunk_cmp, item_at, linked_chunk}
 use Rattle.mc_machine.specs.Holds.{held_by}
-use Rattle.mc_machine.specs.Kept.{links}
+use Rattle.mc_machine.specs.Consistent.{links}
 use Rattle.mc_machine.specs.Machine.{Machine}
 use Rattle.mc_pages.proofs.Chunks.{same_from_is_chunk}
 use Rattle.mc_laws.specs.Answered.{Answered}

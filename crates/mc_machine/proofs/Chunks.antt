@@ -9,7 +9,7 @@ use Rattle.mc_pages.specs.ClassState.{is_chunk}
 use Rattle.mc_pages.specs.Accounted.{truth}
 use Rattle.mc_machine.specs.Item.{Item}
 use Rattle.mc_machine.specs.Items.{Items, chunk_cmp, item_at, with_item, without_item, unlinked_items}
-use Rattle.mc_machine.specs.Kept.{places}
+use Rattle.mc_machine.specs.Consistent.{places}
 
 -- a chunk compares equal to itself
 pub chunk_cmp-self : (c : ChunkId) → chunk_cmp c c ≡ Equal

@@ -10,7 +10,7 @@ use Rattle.mc_pages.specs.declared.ids.ChunkId.{ChunkId}
 use Rattle.mc_pages.specs.Accounted.{truth}
 use Rattle.mc_machine.specs.Item.{Item, new_item, is_linked_to, unlinked}
 use Rattle.mc_machine.specs.Items.{Items, chunk_cmp, item_at, with_item, without_item, unlinked_items, linked_chunk}
-use Rattle.mc_machine.specs.Kept.{links, places}
+use Rattle.mc_machine.specs.Consistent.{links, places}
 use Rattle.mc_machine.proofs.Chunks.{chunk_cmp-self}
 
 -- no linked item: the key leads nowhere, and the other way round
@@ -73,37 +73,7 @@ linked_chunk-with_item q key words d [] none unlinked = grind (arith, nat_tests)
 linked_chunk-with_item q key words d (e ∷ items) none unlinked =
     leads_step (chunk_cmp d e.0) q key words d e items refl none unlinked (linked_chunk-with_item q key words d items)
 
--- an item that no key leads to goes: no key leads elsewhere
-pub linked_chunk-without_item : (q : ℕ) (d : ChunkId) (item : Item) (items : Items) → item_at items d ≡ Some item → item.linked ≡ false
-    → linked_chunk (without_item items d) q ≡ linked_chunk items q
-linked_chunk-without_item q d item [] is dead = refl
-linked_chunk-without_item q d item (e ∷ items) is dead = grind (arith, nat_tests, linked_chunk-without_item q d item items)
-
--- a linked item counts among those of its key
-some_links : (d : ChunkId) (item : Item) (items : Items) → item_at items d ≡ Some item → item.linked ≡ true → 1 ≤ links item.key items
-some_links d item [] is linked = cc
-some_links d item (e ∷ items) is linked = grind (arith, nat_tests, some_links d item items)
-
--- the item that its key leads to goes: its key leads nowhere then, and any other where it led
-without_linked_step : (b : Bool) (q : ℕ) (d : ChunkId) (item : Item) (e : ChunkId × Item) (items : Items) → is_at (chunk_cmp d) e.0 ≡ b
-    → item_at (e ∷ items) d ≡ Some item → item.linked ≡ true → links item.key (e ∷ items) ≤ 1
-    → (item_at items d ≡ Some item → links item.key items ≤ 1 → linked_chunk (without_item items d) q ≡ (if item.key == q then None else linked_chunk items q))
-    → linked_chunk (without_item (e ∷ items) d) q ≡ (if item.key == q then None else linked_chunk (e ∷ items) q)
-without_linked_step true q d item e items at is linked one more =
-    let found : Some e.1 ≡ Some item = rw at at is in
-    let here : e.1 ≡ item = cc in
-    rw (at, here) (grind (arith, nat_tests, none-links q items))
-without_linked_step false q d item e items at is linked one more =
-    let below : item_at items d ≡ Some item = rw at at is in
-    rw at (grind (arith, nat_tests, more below, some_links d item items below linked))
-
-pub linked_chunk-without_linked : (q : ℕ) (d : ChunkId) (item : Item) (items : Items) → item_at items d ≡ Some item → item.linked ≡ true
-    → links item.key items ≤ 1 → linked_chunk (without_item items d) q ≡ (if item.key == q then None else linked_chunk items q)
-linked_chunk-without_linked q d item [] is linked one = cc
-linked_chunk-without_linked q d item (e ∷ items) is linked one =
-    without_linked_step (is_at (chunk_cmp d) e.0) q d item e items refl is linked one
-    (λ below fewer. linked_chunk-without_linked q d item items below linked fewer)
-
+-- no key has more links where an item goes
 pub links-without_item-le : (q : ℕ) (d : ChunkId) (items : Items) → links q (without_item items d) ≤ links q items
 links-without_item-le q d [] = omega arith
 links-without_item-le q d (e ∷ items) = grind (arith, nat_tests, links-without_item-le q d items)

@@ -39,7 +39,7 @@ impl Keeper {
     /// Does a command, and adds the bytes of its reply to `text`.
     ///
     /// Where it stops, `text` is as before, and what stands is one of the stages that the command comes through: what it
-    /// did before that step stays, and nothing of the step that was refused. So a key has its old item or its new one.
+    /// did before the step that was refused stays, and nothing of that step.
     pub fn serve(&mut self, command: Command, text: &mut Vec<u8>) -> Result<(), Stop>
         requires { IsValid command }
         ensures served { OnOk result (IsServed self.old command text.old.items text.new.items self.new) }

@@ -5,9 +5,10 @@ use Rattle.mc_pages.specs.SlabState.{IsClass, class_of_page}
 use Rattle.mc_machine.specs.Items.{is_unlinked}
 use Rattle.mc_machine.specs.Machine.{Machine}
 use Rattle.mc_machine.proofs.KeptChanges.{kept_reclaim}
-use Rattle.mc_machine.proofs.Counted.{counted_reclaimed, dead_unheld, some_dead}
+use Rattle.mc_keeper.proofs.Counted.{counted_reclaimed, dead_unheld, some_dead}
 use Rattle.mc_machine.proofs.KeptMoverClear.{dead_here}
-use Rattle.mc_machine.proofs.Watched.{watched-back}
+use Rattle.mc_keeper.proofs.Watched.{watched-back}
+use Rattle.mc_keeper.proofs.Indexed.{indexed_dead}
 use Rattle.mc_keeper.proofs.keeper.Keeper.reclaim.Goals as goal
 
 pub class_of-class-requires : goal.class_of-class-requires
@@ -39,7 +40,8 @@ invariant_of-self c =
     = rw (ap (λ (m : Machine). m.items) c.self.view_is) (and_parts _ _ c.requires.dead).0 in
     record {
       kept = rw (c.back.ensures.back, c.remove.ensures.entries)
-          (kept_reclaim _ _ _ _ c.args.chunk c.self.invariant.kept (rw c.back.ensures.back at c.back.ensures.accounted) unlinked);
+          (kept_reclaim _ _ _ c.args.chunk c.self.invariant.kept (rw c.back.ensures.back at c.back.ensures.accounted) unlinked);
+      indexed = rw c.remove.ensures.entries (indexed_dead _ _ c.args.chunk found.0 c.self.invariant.indexed found.1 found.2);
       watched = rw c.back.ensures.back (watched-back c.self.inside.slabs.state _ c.self.invariant.watched c.args.chunk);
       counted = rw (c.back.ensures.back, c.remove.ensures.entries, c.decrement.ensures.decremented, c.class_of-class.ensures.class)
           (counted_reclaimed _ _ _ _ _ _ c.args.chunk found.0 c.self.invariant.counted (length-set c.self.inside.slabs.state.classes _ _) found.1 found.2 unheld class.0 class.1);

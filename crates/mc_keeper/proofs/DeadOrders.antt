@@ -16,7 +16,8 @@ use Rattle.mc_machine.specs.Holds.{Holds, is_held}
 use Rattle.mc_machine.specs.Item.{Item}
 use Rattle.mc_machine.specs.Items.{Items, chunk_cmp, item_at, is_unlinked}
 use Rattle.mc_machine.specs.Machine.{Machine, dead_chunks, is_dead}
-use Rattle.mc_machine.specs.Kept.{dead_items, places, IsKept}
+use Rattle.mc_machine.specs.Consistent.{places, IsConsistent}
+use Rattle.mc_keeper.specs.Kept.{dead_items}
 use Rattle.mc_machine.proofs.Bounds.{order_short}
 use Rattle.mc_machine.proofs.Chunks.{chunk_cmp-self}
 use Rattle.mc_machine.proofs.KeptChanges.{place_once}
@@ -131,9 +132,9 @@ dead_there : (items : Items) (holds : Holds) (y : ChunkId) (item : Item) → ite
     → (is_unlinked items y && not (is_held holds y)) ≡ (not item.linked && not (is_held holds y))
 dead_there items holds y item there = rw there refl
 
-pub dead_in_order : (m : Machine) (index : List (ℕ × ChunkId)) (class : ℕ) → IsKept m.table m.slabs index m.items → IsClass m.slabs class
+pub dead_in_order : (m : Machine) (class : ℕ) → IsConsistent m.table m.slabs m.items → IsClass m.slabs class
     → dead_items m.slabs.owners m.holds m.items class ≡ length (dead_chunks m class)
-dead_in_order m index class kept valid =
+dead_in_order m class kept valid =
     let owners : List Owner = m.slabs.owners in
     let order : List ChunkId = (class_at m.slabs class).order in
     let as_often : (x : ChunkId) → times x (chunks_in owners class m.items) ≡ times x order = λ x.
@@ -150,20 +151,20 @@ dead_in_order m index class kept valid =
       ]
     ] in
     dead_in_chunks owners m.holds class (is_dead m) m.items (λ y item there. dead_there m.items m.holds y item there)
-    (λ y. place_once m.table m.slabs index m.items y kept)
+    (λ y. place_once m.table m.slabs m.items y kept)
     ∙ count_by-times (is_dead m) (chunks_in owners class m.items) order as_often
     ∙ sym (length-filter (is_dead m) order)
 
 -- they are few
-pub dead_few : (m : Machine) (index : List (ℕ × ChunkId)) (class : ℕ) → IsKept m.table m.slabs index m.items → IsClass m.slabs class
+pub dead_few : (m : Machine) (class : ℕ) → IsConsistent m.table m.slabs m.items → IsClass m.slabs class
     → dead_items m.slabs.owners m.holds m.items class ≤ 16384
-dead_few m index class kept valid =
+dead_few m class kept valid =
     omega (
       arith,
-      dead_in_order m index class kept valid,
+      dead_in_order m class kept valid,
       length-filter (is_dead m) (class_at m.slabs class).order,
       count_by-le-length (is_dead m) (class_at m.slabs class).order,
-      order_short m.table m.slabs index m.items class kept valid,
+      order_short m.table m.slabs m.items class kept valid,
     )
 
 -- ---- a dead chunk is the only one where there is one
@@ -195,7 +196,7 @@ only_one p x (c ∷ chunks) some passes one = elim (cases_Bool (is_chunk c x)) [
       ]
 ]
 
-pub only_dead : (m : Machine) (index : List (ℕ × ChunkId)) (class : ℕ) (x : ChunkId) → IsKept m.table m.slabs index m.items → IsClass m.slabs class
+pub only_dead : (m : Machine) (class : ℕ) (x : ChunkId) → IsConsistent m.table m.slabs m.items → IsClass m.slabs class
     → dead_items m.slabs.owners m.holds m.items class ≡ 1 → is_dead m x ≡ true → 1 ≤ times x (class_at m.slabs class).order → dead_chunks m class ≡ x ∷ []
-only_dead m index class x kept valid one dead some =
-    only_one (is_dead m) x (class_at m.slabs class).order some dead (sym (dead_in_order m index class kept valid) ∙ one)
+only_dead m class x kept valid one dead some =
+    only_one (is_dead m) x (class_at m.slabs class).order some dead (sym (dead_in_order m class kept valid) ∙ one)

@@ -13,7 +13,8 @@ use Rattle.mc_pages.specs.Accounted.{truth}
 use Rattle.mc_machine.specs.Holds.{Holds, is_held}
 use Rattle.mc_machine.specs.Item.{Item}
 use Rattle.mc_machine.specs.Items.{Items, chunk_cmp, item_at, with_item, without_item}
-use Rattle.mc_machine.specs.Kept.{dead_items, is_dead_item, places}
+use Rattle.mc_machine.specs.Consistent.{places}
+use Rattle.mc_keeper.specs.Kept.{dead_items, is_dead_item}
 use Rattle.mc_machine.proofs.Chunks.{chunk_cmp-self}
 use Rattle.mc_machine.proofs.KeptStore.{is_at-tells}
 
