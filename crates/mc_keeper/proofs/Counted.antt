@@ -17,7 +17,7 @@ use Rattle.mc_pages.specs.SlabState.{SlabState, IsClass, class_at, class_of_owne
 use Rattle.mc_pages.specs.Accounted.{truth, IsAccounted}
 use Rattle.mc_machine.specs.Holds.{Holds, held_by, is_held, with_hold, without_hold}
 use Rattle.mc_machine.specs.Item.{Item, unlinked}
-use Rattle.mc_machine.specs.Items.{Items, item_at, is_unlinked, linked_chunk, with_item, without_item, unlinked_items}
+use Rattle.mc_machine.specs.Items.{Items, item_at, is_unlinked, linked_chunk, with_item, without_item, unlinked_items, at_chunk}
 use Rattle.mc_machine.specs.Machine.{Machine, is_dead}
 use Rattle.mc_machine.specs.Consistent.{IsConsistent, places}
 use Rattle.mc_keeper.specs.Kept.{AreCounted, dead_items, is_dead_item}
@@ -111,11 +111,11 @@ module _ (n m : ℕ) (owners : List Owner) (holds now : Holds) (items changed : 
 
 -- a chunk's dead item counts for its class alone
 dead_own : (owners : List Owner) (holds : Holds) (x : ChunkId) (item : Item) → item.linked ≡ false → is_held holds x ≡ false
-    → is_dead_item owners holds (class_of_owner (owner_at owners x.page)) (x, item) ≡ true
+    → is_dead_item owners holds (class_of_owner (owner_at owners x.page)) (at_chunk x item) ≡ true
 dead_own owners holds x item dead unheld = rw (dead, unheld) (grind (arith, nat_tests))
 
 dead_other : (owners : List Owner) (holds : Holds) (class : ℕ) (x : ChunkId) (item : Item) → class ≢ class_of_owner (owner_at owners x.page)
-    → is_dead_item owners holds class (x, item) ≡ false
+    → is_dead_item owners holds class (at_chunk x item) ≡ false
 dead_other owners holds class x item apart =
     let no : (class_of_owner (owner_at owners x.page) == class) ≡ false = grind (arith, nat_tests) in
     rw no (both item.linked (is_held holds x))
@@ -126,7 +126,7 @@ dead_other owners holds class x item apart =
     both false false = refl
 
 held_alive : (owners : List Owner) (holds : Holds) (class : ℕ) (x : ChunkId) (item : Item) → is_held holds x ≡ true
-    → is_dead_item owners holds class (x, item) ≡ false
+    → is_dead_item owners holds class (at_chunk x item) ≡ false
 held_alive owners holds class x item held = rw held (first item.linked (class_of_owner (owner_at owners x.page) == class))
   where
     first : (l b : Bool) → (not l && false && b) ≡ false
@@ -230,8 +230,8 @@ counted_let_go n owners holds items counts worker x item counted there linked on
 -- or of one that no key leads to: where nobody holds it then, it is dead
 given_way : (b : Bool) (n : ℕ) (owners : List Owner) (holds now : Holds) (items : Items) (counts : List ℕ) (x : ChunkId) (item : Item)
     → AreCounted n owners holds items counts
-    → ((class : ℕ) → dead_items owners now items class + truth (is_dead_item owners holds class (x, item))
-    ≡ dead_items owners holds items class + truth (is_dead_item owners now class (x, item)))
+    → ((class : ℕ) → dead_items owners now items class + truth (is_dead_item owners holds class (at_chunk x item))
+    ≡ dead_items owners holds items class + truth (is_dead_item owners now class (at_chunk x item)))
     → item.linked ≡ false → is_held holds x ≡ true
     → 1 ≤ class_of_owner (owner_at owners x.page) → class_of_owner (owner_at owners x.page) ≤ n → is_held now x ≡ b
     → AreCounted n owners now items (if b then counts else

@@ -9,8 +9,7 @@ use Rattle.mc_watch.specs.Decider.{DeciderState, evictions_of, number_of}
 use Rattle.mc_machine.specs.Automove.{eviction_counts}
 use Rattle.mc_machine.specs.Consistent.{IsConsistent}
 use Rattle.mc_machine.specs.Holds.{Holds, is_held}
-use Rattle.mc_machine.specs.Item.{Item}
-use Rattle.mc_machine.specs.Items.{Items, linked_chunk}
+use Rattle.mc_machine.specs.Items.{Items, linked_chunk, PlacedItem}
 use Rattle.mc_parts.specs.Leads.{chunk_of}
 use Rattle.mc_keeper.specs.declared.keeper.Keeper.TheInside.{Inside}
 
@@ -27,14 +26,14 @@ pub record IsWatched (slabs : SlabState) (decider : DeciderState) : Type 0 where
   pub small : (place : ℕ) → slice_index_or (eviction_counts slabs) place 0 < 2 ^ 64
 
 -- a dead item of the class: no key leads to it, and nobody holds its chunk
-abbrev pub is_dead_item : List Owner → Holds → ℕ → ChunkId × Item → Bool
-is_dead_item owners holds class entry =
-    not entry.1.linked && not (is_held holds entry.0) && class_of_owner (owner_at owners entry.0.page) == class
+abbrev pub is_dead_item : List Owner → Holds → ℕ → PlacedItem → Bool
+is_dead_item owners holds class placed =
+    not placed.item.linked && not (is_held holds placed.chunk) && class_of_owner (owner_at owners placed.chunk.page) == class
 
 -- how many dead items the class has
 abbrev pub dead_items : List Owner → Holds → Items → ℕ → ℕ
 dead_items owners holds [] class = 0
-dead_items owners holds (entry ∷ items) class = truth (is_dead_item owners holds class entry) + dead_items owners holds items class
+dead_items owners holds (placed ∷ items) class = truth (is_dead_item owners holds class placed) + dead_items owners holds items class
 
 -- the dead items of each of so many classes are counted
 pub record AreCounted (classes : ℕ) (owners : List Owner) (holds : Holds) (items : Items) (counts : List ℕ) : Type 0 where

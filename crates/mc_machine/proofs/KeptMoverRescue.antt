@@ -16,17 +16,17 @@ use Rattle.mc_pages.proofs.Lists.{times-with_before}
 use Rattle.mc_pages.proofs.HandedOut.{class_of_placed}
 use Rattle.mc_pages.proofs.OneClass.{class_at-with_class_same, length-with_class}
 use Rattle.mc_machine.specs.Item.{Item, is_linked_to}
-use Rattle.mc_machine.specs.Items.{Items, chunk_cmp, item_at, linked_chunk, with_item, without_item}
+use Rattle.mc_machine.specs.Items.{Items, chunk_cmp, item_at, linked_chunk, with_item, without_item, PlacedItem}
 use Rattle.mc_machine.specs.Consistent.{places, links, IsConsistent}
 use Rattle.mc_machine.proofs.KeptMoverChange.{ChangesClass, changes_class, changes_again, kept_changed}
 use Rattle.mc_machine.proofs.KeptMoverClear.{no_item, places_without, links_without, handed_item, class_of_item}
 
 -- an item comes into a chunk without one: at one entry of the list
-places_step : (o : Ordering) (x d : ChunkId) (item : Item) (e : ChunkId × Item) (items : Items) → chunk_cmp d e.0 ≡ o → item_at (e ∷ items) d ≡ None
+places_step : (o : Ordering) (x d : ChunkId) (item : Item) (e : PlacedItem) (items : Items) → chunk_cmp d e.chunk ≡ o → item_at (e ∷ items) d ≡ None
     → (item_at items d ≡ None → places x (with_item items d item) ≡ places x items + truth (is_chunk d x))
     → places x (with_item (e ∷ items) d item) ≡ places x (e ∷ items) + truth (is_chunk d x)
 places_step Less x d item e items is none more = rw is (grind (arith, nat_tests))
-places_step Equal x d item e items is none more = let bad : Some e.1 ≡ None = rw is at none in cc
+places_step Equal x d item e items is none more = let bad : Some e.item ≡ None = rw is at none in cc
 places_step Greater x d item e items is none more =
     let absent : item_at items d ≡ None = rw is at none in
     let here : places x (with_item items d item) ≡ places x items + truth (is_chunk d x) = more absent in
@@ -35,13 +35,13 @@ places_step Greater x d item e items is none more =
 pub places_with : (x d : ChunkId) (item : Item) (items : Items) → item_at items d ≡ None
     → places x (with_item items d item) ≡ places x items + truth (is_chunk d x)
 places_with x d item [] none = grind (arith, nat_tests)
-places_with x d item (e ∷ items) none = places_step (chunk_cmp d e.0) x d item e items refl none (places_with x d item items)
+places_with x d item (e ∷ items) none = places_step (chunk_cmp d e.chunk) x d item e items refl none (places_with x d item items)
 
-links_step : (o : Ordering) (key : ℕ) (d : ChunkId) (item : Item) (e : ChunkId × Item) (items : Items) → chunk_cmp d e.0 ≡ o → item_at (e ∷ items) d ≡ None
+links_step : (o : Ordering) (key : ℕ) (d : ChunkId) (item : Item) (e : PlacedItem) (items : Items) → chunk_cmp d e.chunk ≡ o → item_at (e ∷ items) d ≡ None
     → (item_at items d ≡ None → links key (with_item items d item) ≡ links key items + truth (is_linked_to key item))
     → links key (with_item (e ∷ items) d item) ≡ links key (e ∷ items) + truth (is_linked_to key item)
 links_step Less key d item e items is none more = rw is (omega arith)
-links_step Equal key d item e items is none more = let bad : Some e.1 ≡ None = rw is at none in cc
+links_step Equal key d item e items is none more = let bad : Some e.item ≡ None = rw is at none in cc
 links_step Greater key d item e items is none more =
     let absent : item_at items d ≡ None = rw is at none in
     let here : links key (with_item items d item) ≡ links key items + truth (is_linked_to key item) = more absent in
@@ -50,15 +50,15 @@ links_step Greater key d item e items is none more =
 pub links_with : (key : ℕ) (d : ChunkId) (item : Item) (items : Items) → item_at items d ≡ None
     → links key (with_item items d item) ≡ links key items + truth (is_linked_to key item)
 links_with key d item [] none = omega arith
-links_with key d item (e ∷ items) none = links_step (chunk_cmp d e.0) key d item e items refl none (links_with key d item items)
+links_with key d item (e ∷ items) none = links_step (chunk_cmp d e.chunk) key d item e items refl none (links_with key d item items)
 
 -- a key that led nowhere leads to the item that came in
-to_step : (o : Ordering) (key : ℕ) (d : ChunkId) (item : Item) (e : ChunkId × Item) (items : Items) → chunk_cmp d e.0 ≡ o → item_at (e ∷ items) d ≡ None
+to_step : (o : Ordering) (key : ℕ) (d : ChunkId) (item : Item) (e : PlacedItem) (items : Items) → chunk_cmp d e.chunk ≡ o → item_at (e ∷ items) d ≡ None
     → is_linked_to key item ≡ true → linked_chunk (e ∷ items) key ≡ None
     → (item_at items d ≡ None → linked_chunk items key ≡ None → linked_chunk (with_item items d item) key ≡ Some d)
     → linked_chunk (with_item (e ∷ items) d item) key ≡ Some d
 to_step Less key d item e items is none to nowhere more = rw is (rw to refl)
-to_step Equal key d item e items is none to nowhere more = let bad : Some e.1 ≡ None = rw is at none in cc
+to_step Equal key d item e items is none to nowhere more = let bad : Some e.item ≡ None = rw is at none in cc
 to_step Greater key d item e items is none to nowhere more =
     let absent : item_at items d ≡ None = rw is at none in
     rw is (grind (arith, nat_tests, more absent))
@@ -67,15 +67,15 @@ pub leads_to : (key : ℕ) (d : ChunkId) (item : Item) (items : Items) → item_
     → linked_chunk items key ≡ None → linked_chunk (with_item items d item) key ≡ Some d
 leads_to key d item [] none to nowhere = rw to refl
 leads_to key d item (e ∷ items) none to nowhere =
-    to_step (chunk_cmp d e.0) key d item e items refl none to nowhere (λ absent. leads_to key d item items absent to)
+    to_step (chunk_cmp d e.chunk) key d item e items refl none to nowhere (λ absent. leads_to key d item items absent to)
 
 -- any other key leads where it led
-on_step : (o : Ordering) (key : ℕ) (d : ChunkId) (item : Item) (e : ChunkId × Item) (items : Items) → chunk_cmp d e.0 ≡ o → item_at (e ∷ items) d ≡ None
+on_step : (o : Ordering) (key : ℕ) (d : ChunkId) (item : Item) (e : PlacedItem) (items : Items) → chunk_cmp d e.chunk ≡ o → item_at (e ∷ items) d ≡ None
     → is_linked_to key item ≡ false
     → (item_at items d ≡ None → linked_chunk (with_item items d item) key ≡ linked_chunk items key)
     → linked_chunk (with_item (e ∷ items) d item) key ≡ linked_chunk (e ∷ items) key
 on_step Less key d item e items is none other more = rw is (rw other refl)
-on_step Equal key d item e items is none other more = let bad : Some e.1 ≡ None = rw is at none in cc
+on_step Equal key d item e items is none other more = let bad : Some e.item ≡ None = rw is at none in cc
 on_step Greater key d item e items is none other more =
     let absent : item_at items d ≡ None = rw is at none in
     rw is (grind (arith, nat_tests, more absent))
@@ -84,22 +84,22 @@ pub leads_on : (key : ℕ) (d : ChunkId) (item : Item) (items : Items) → item_
     → linked_chunk (with_item items d item) key ≡ linked_chunk items key
 leads_on key d item [] none other = rw other refl
 leads_on key d item (e ∷ items) none other =
-    on_step (chunk_cmp d e.0) key d item e items refl none other (λ absent. leads_on key d item items absent other)
+    on_step (chunk_cmp d e.chunk) key d item e items refl none other (λ absent. leads_on key d item items absent other)
 
 -- where a key has one item at most, it leads to that item's chunk
-leads_step : (b s : Bool) (key : ℕ) (chunk : ChunkId) (item : Item) (e : ChunkId × Item) (items : Items) → is_linked_to key e.1 ≡ b → is_chunk e.0 chunk ≡ s
+leads_step : (b s : Bool) (key : ℕ) (chunk : ChunkId) (item : Item) (e : PlacedItem) (items : Items) → is_linked_to key e.item ≡ b → is_chunk e.chunk chunk ≡ s
     → item_at (e ∷ items) chunk ≡ Some item → is_linked_to key item ≡ true → links key (e ∷ items) ≤ 1
     → (item_at items chunk ≡ Some item → links key items ≤ 1 → linked_chunk items key ≡ Some chunk)
     → linked_chunk (e ∷ items) key ≡ Some chunk
-leads_step true true key chunk item e items is same at to one more = rw is (ap Some (same_from_is_chunk e.0 chunk same))
+leads_step true true key chunk item e items is same at to one more = rw is (ap Some (same_from_is_chunk e.chunk chunk same))
 leads_step true false key chunk item e items is other at to one more =
     let below : item_at items chunk ≡ Some item = grind (arith, nat_tests) in
     let some : links key (without_item items chunk) + truth (is_linked_to key item) ≡ links key items = links_without key chunk item items below in
     let here : links key (e ∷ items) ≡ 1 + links key items = rw is refl in
     absurd (omega (arith, some, here, ap truth to, one))
 leads_step false true key chunk item e items is same at to one more =
-    let here : e.1 ≡ item = grind (arith, nat_tests) in
-    let bad : is_linked_to key e.1 ≡ true = rw here to in
+    let here : e.item ≡ item = grind (arith, nat_tests) in
+    let bad : is_linked_to key e.item ≡ true = rw here to in
     absurd (false≢true (sym is ∙ bad))
 leads_step false false key chunk item e items is other at to one more =
     let below : item_at items chunk ≡ Some item = grind (arith, nat_tests) in
@@ -110,7 +110,7 @@ pub leads_from : (key : ℕ) (chunk : ChunkId) (item : Item) (items : Items) →
     → links key items ≤ 1 → linked_chunk items key ≡ Some chunk
 leads_from key chunk item [] at to one = cc
 leads_from key chunk item (e ∷ items) at to one =
-    leads_step (is_linked_to key e.1) (is_chunk e.0 chunk) key chunk item e items refl refl at to one
+    leads_step (is_linked_to key e.item) (is_chunk e.chunk chunk) key chunk item e items refl refl at to one
     (λ below few. leads_from key chunk item items below to few)
 
 -- an item comes from one chunk into a free one of the same class, in its place of the hand-out order

@@ -20,10 +20,10 @@ use Rattle.mc_pages.proofs.ClassChanges.{per_pages-with_class}
 -- the chunk that a key leads to has an item
 leads_there : (key : ℕ) (chunk : ChunkId) (items : Items) → linked_chunk items key ≡ Some chunk → 1 ≤ places chunk items
 leads_there key chunk [] leads = cc
-leads_there key chunk (e ∷ items) leads = elim (cases_Bool (is_linked_to key e.1)) [
+leads_there key chunk (e ∷ items) leads = elim (cases_Bool (is_linked_to key e.item)) [
   | inl linked ↦
-      let here : Some e.0 ≡ Some chunk = rw linked at leads in
-      let same : e.0 ≡ chunk = cc in
+      let here : Some e.chunk ≡ Some chunk = rw linked at leads in
+      let same : e.chunk ≡ chunk = cc in
       rw (same, chunk_cmp-self chunk) (omega arith)
   | inr other ↦ omega (arith, leads_there key chunk items (rw other at leads))
 ]

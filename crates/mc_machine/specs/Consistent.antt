@@ -12,12 +12,12 @@ use Rattle.mc_machine.specs.Items.{Items, chunk_cmp}
 -- how often the chunk stands among the items
 abbrev pub places : ChunkId → Items → ℕ
 places chunk [] = 0
-places chunk (entry ∷ items) = truth (is_at (chunk_cmp chunk) entry.0) + places chunk items
+places chunk (placed ∷ items) = truth (is_at (chunk_cmp chunk) placed.chunk) + places chunk items
 
 -- how many items the key leads to
 abbrev pub links : ℕ → Items → ℕ
 links key [] = 0
-links key (entry ∷ items) = truth (is_linked_to key entry.1) + links key items
+links key (placed ∷ items) = truth (is_linked_to key placed.item) + links key items
 
 -- table, pages and items agree
 pub record IsConsistent (table : Classes) (slabs : SlabState) (items : Items) : Type 0 where
