@@ -61,7 +61,7 @@ impl Keeper {
         requires sound { IsSound table }
         requires bulk { bulk ≤ 256 }
         requires mode { mode ≤ 2 }
-        ensures { IfOk result (λ keeper. keeper ≡ fresh_machine table bulk mode) }
+        ensures fresh { IfOk result (λ keeper. keeper ≡ fresh_machine table bulk mode) }
     {
         let mut slabs = match Slabs::new(alloc, &table) {
             Ok(slabs) => slabs,

@@ -48,7 +48,7 @@ impl Keeper {
     /// The chunk of the item to evict.
     fn victim(&self, class: ClassId) -> Option<ChunkId>
         requires { IsClass self.now.slabs class }
-        ensures { result ≡ victim self.now class }
+        ensures victim { result ≡ victim self.now class }
     {
         for place in 0..TRIES {
             let chunk = self.slabs.order_at(class, place)?;
@@ -64,7 +64,7 @@ impl Keeper {
         requires class { IsClass self.old.slabs class }
         requires unheld { is_linked_unheld self.old chunk ≡ true }
         requires listed { Contains (class_at self.old.slabs class).order chunk }
-        ensures { self.new ≡ with_eviction self.old class (Some chunk) }
+        ensures evicted { self.new ≡ with_eviction self.old class (Some chunk) }
     {
         self.slabs.back(chunk);
         self.slabs.evicted(class);

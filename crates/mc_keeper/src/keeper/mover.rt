@@ -98,14 +98,14 @@ impl Keeper {
     /// Whether all chunks of the page were looked at.
     fn is_at_end(&self, moving: Moving) -> bool
         requires { IsClass self.now.slabs moving.src }
-        ensures { result ≡ is_at_end self.now moving }
+        ensures at_end { result ≡ is_at_end self.now moving }
     {
         moving.at >= self.slabs.per_page(moving.src)
     }
 
     /// At the page's end the pass begins anew, or the move ends where nothing held it up.
     fn end_turn(&mut self) -> Ending
-        ensures { (counts : Counts) → with_end (record { machine = self.old; counts = counts }) self.old.slabs.moving ≡ record { machine = self.new; counts = counts; ending = result } }
+        ensures ended { (counts : Counts) → with_end (record { machine = self.old; counts = counts }) self.old.slabs.moving ≡ record { machine = self.new; counts = counts; ending = result } }
     {
         let Some(moving) = self.slabs.moving() else {
             return Ending::Idle;
@@ -124,7 +124,7 @@ impl Keeper {
     /// Ends the move, and cuts the page for its class.
     fn finish(&mut self, moving: Moving)
         requires { CanFinish self.old.slabs moving }
-        ensures { self.new ≡ with_finish self.old moving }
+        ensures finished { self.new ≡ with_finish self.old moving }
     {
         self.slabs.finish_move();
         if moving.dst != 0 {
@@ -215,7 +215,7 @@ impl Keeper {
     /// The class's first free chunk off the page.
     fn target(&self, class: ClassId, page: PageId) -> Option<ChunkId>
         requires { IsClass self.now.slabs class }
-        ensures { result ≡ target self.now class page }
+        ensures target { result ≡ target self.now class page }
     {
         let mut next = self.slabs.first_free(class);
         while let Some(free) = next {

@@ -32,7 +32,7 @@ impl Keeper {
     /// Whether the class has a free chunk.
     pub(super) fn has_free(&self, class: ClassId) -> bool
         requires { IsClass self.now.slabs class }
-        ensures { result ≡ has_free self.now class }
+        ensures free { result ≡ has_free self.now class }
     {
         self.slabs.numbers(class).free > 0
     }

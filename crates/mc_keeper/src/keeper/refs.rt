@@ -123,7 +123,7 @@ impl Keeper {
     /// Where the worker's hold of an item of the key that it took last stands among its holds: the one taken last stands at 0.
     fn place_held(&self, worker: u64, key: u64) -> Option<usize>
         requires { worker < 64 }
-        ensures { result ≡ position (has_key self.now.items key) (held_by self.now.holds worker) }
+        ensures place { result ≡ position (has_key self.now.items key) (held_by self.now.holds worker) }
     {
         self.holds
             .of(worker)
@@ -134,7 +134,7 @@ impl Keeper {
 
     /// Whether the chunk has an item of the key.
     fn has_key(&self, chunk: ChunkId, key: u64) -> bool
-        ensures { result ≡ has_key self.now.items key chunk }
+        ensures found { result ≡ has_key self.now.items key chunk }
     {
         match self.items.get(chunk) {
             Some(item) => item.key() == key,
@@ -146,7 +146,7 @@ impl Keeper {
 /// The chunk behind which so many stand.
 fn hold_at(chunks: &[ChunkId], behind: usize) -> ChunkId
     requires { behind < length chunks.now }
-    ensures { (d : ChunkId) → result ≡ slice_index_or (reverse chunks.now) behind d }
+    ensures chunk { (d : ChunkId) → result ≡ slice_index_or (reverse chunks.now) behind d }
 {
     chunks[chunks.len() - 1 - behind]
 }

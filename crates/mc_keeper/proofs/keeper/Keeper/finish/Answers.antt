@@ -65,14 +65,16 @@ returns-then-moving-ne0 c =
     = c.cut_page.ensures.cut ∙ ap (λ (s : SlabState). fold after_cut s (first_chunks c.args.moving.page c.per_page.result)) after in
     let class : c.args.moving.dst ≢ 0 = c.if-moving-ne0.true in
     let valid : IsClass c.self.inside.slabs.state c.args.moving.dst = (omega (arith, class), is.dst) in
-    rw (← c.self.view_is) (finish_view (record {
-      table = c.self.inside.table;
-      bulk = c.self.inside.bulk;
-      slabs = c.self.inside.slabs.state;
-      items = c.self.inside.items;
-      holds = c.self.inside.holds;
-      turns = c.self.inside.turns;
-      decider = c.self.inside.decider;
-    }) c.cut_page.new.slabs.state c.args.moving c.per_page.result class
-    (per_page_finished c.self.inside.slabs.state c.args.moving c.args.moving.dst
-    ∙ per_page_kept _ _ _ c.args.moving.dst c.self.invariant.kept valid ∙ sym c.per_page.ensures.chunks) cut)
+    record {
+      finished = rw (← c.self.view_is) (finish_view (record {
+        table = c.self.inside.table;
+        bulk = c.self.inside.bulk;
+        slabs = c.self.inside.slabs.state;
+        items = c.self.inside.items;
+        holds = c.self.inside.holds;
+        turns = c.self.inside.turns;
+        decider = c.self.inside.decider;
+      }) c.cut_page.new.slabs.state c.args.moving c.per_page.result class
+          (per_page_finished c.self.inside.slabs.state c.args.moving c.args.moving.dst
+          ∙ per_page_kept _ _ _ c.args.moving.dst c.self.invariant.kept valid ∙ sym c.per_page.ensures.chunks) cut);
+    }

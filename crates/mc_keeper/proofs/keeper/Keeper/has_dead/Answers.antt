@@ -9,6 +9,8 @@ use Rattle.mc_keeper.proofs.keeper.Keeper.has_dead.Goals as goal
 pub returns : goal.returns
 returns c =
     let valid : IsClass c.self.inside.slabs.state c.args.class = rw (ap (λ (m : Machine). m.slabs) c.self.view_is) c.requires in
-    ap (nat_lt 0) (c.of.ensures.count ∙ c.self.invariant.counted.dead c.args.class valid.0 valid.1
-    ∙ dead_in_order (machine_of c.self.inside) c.args.class c.self.invariant.kept valid
-    ∙ ap (λ (m : Machine). length (dead_chunks m c.args.class)) c.self.view_is)
+    record {
+      some = ap (nat_lt 0) (c.of.ensures.count ∙ c.self.invariant.counted.dead c.args.class valid.0 valid.1
+          ∙ dead_in_order (machine_of c.self.inside) c.args.class c.self.invariant.kept valid
+          ∙ ap (λ (m : Machine). length (dead_chunks m c.args.class)) c.self.view_is);
+    }

@@ -10,13 +10,13 @@ use Rattle.mc_keeper.proofs.keeper.Keeper.only_dead.Goals as goal
 
 pub class_of-requires : goal.class_of-requires
 class_of-requires c =
-    let dead : is_dead c.args.self.now c.in_ok-chunk.chunk ≡ true = sym c.is_dead.ensures ∙ c.if-is_dead.true in
+    let dead : is_dead c.args.self.now c.in_ok-chunk.chunk ≡ true = sym c.is_dead.ensures.dead ∙ c.if-is_dead.true in
     let found = dead_here (machine_of c.self.inside) _ c.in_ok-chunk.chunk c.self.view_is dead in
     class_of_item _ _ _ c.in_ok-chunk.chunk found.0 c.self.invariant.kept found.1
 
 pub returns-then-class_of-class : goal.returns-then-class_of-class
 returns-then-class_of-class c =
-    let dead : is_dead c.args.self.now c.in_ok-chunk.chunk ≡ true = sym c.is_dead.ensures ∙ c.if-is_dead.true in
+    let dead : is_dead c.args.self.now c.in_ok-chunk.chunk ≡ true = sym c.is_dead.ensures.dead ∙ c.if-is_dead.true in
     let found = dead_here (machine_of c.self.inside) _ c.in_ok-chunk.chunk c.self.view_is dead in
     let own : class_of_page c.self.inside.slabs.state c.in_ok-chunk.chunk.page ≡ c.args.class = sym c.class_of.ensures.class ∙ c.if-class_of-class.true in
     let some : 1 ≤ times c.in_ok-chunk.chunk (class_at c.self.inside.slabs.state c.args.class).order

@@ -14,4 +14,6 @@ returns c =
     (YieldsList-from_rev_slice c.of.result.now (cc)) (λ x b q k. search (rules, tests)) in
     let held : reverse c.of.result.now ≡ held_by c.args.self.now.holds c.args.worker
     = c.of.ensures.chunks ∙ ap (λ (m : Machine). held_by m.holds c.args.worker) c.self.view_is in
-    found ∙ ap (λ (chunks : List ChunkId). position (has_key c.args.self.now.items c.args.key) chunks) held
+    record {
+      place = found ∙ ap (λ (chunks : List ChunkId). position (has_key c.args.self.now.items c.args.key) chunks) held;
+    }

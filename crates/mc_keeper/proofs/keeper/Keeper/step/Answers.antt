@@ -16,14 +16,14 @@ look-requires-clause-class c = (move_here _ _ c.in-Some.moving c.self.invariant.
 
 pub look-requires-clause-cut : goal.look-requires-clause-cut
 look-requires-clause-cut c =
-    let within : c.in-Some.moving.at < (class_at c.args.self.now.slabs c.in-Some.moving.src).per_page = grind (arith, nat_tests, c.is_at_end.ensures, c.if-is_at_end.false) in
+    let within : c.in-Some.moving.at < (class_at c.args.self.now.slabs c.in-Some.moving.src).per_page = grind (arith, nat_tests, c.is_at_end.ensures.at_end, c.if-is_at_end.false) in
     position_cut c.args.self.now.slabs c.in-Some.moving
     (move_here _ _ c.in-Some.moving c.self.invariant.kept c.self.view_is (sym c.in-Some.ensures.moving))
     (rw (← c.self.view_is) c.self.invariant.kept.whole) within
 
 pub passed-requires : goal.passed-requires
 passed-requires c =
-    let within : c.in-Some.moving.at < (class_at c.args.self.now.slabs c.in-Some.moving.src).per_page = grind (arith, nat_tests, c.is_at_end.ensures, c.if-is_at_end.false) in
+    let within : c.in-Some.moving.at < (class_at c.args.self.now.slabs c.in-Some.moving.src).per_page = grind (arith, nat_tests, c.is_at_end.ensures.at_end, c.if-is_at_end.false) in
     let runs : c.args.self.now.slabs.moving ≡ Some c.in-Some.moving = rw (← c.self.view_is) (sym c.in-Some.ensures.moving) in
     let can : CanPass c.look.new.self.slabs c.in_ok-found.found c.in-Some.moving
     = can_pass c.args.self.now c.look.new.self c.in_ok-found.found c.in-Some.moving c.in_ok-found.ensures.looked runs within c.in_ok-found.ensures.clears in

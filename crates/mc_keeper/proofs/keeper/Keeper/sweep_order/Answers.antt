@@ -62,14 +62,14 @@ loop-next-smaller-then-is_dead c =
     = at_place _ _ _ _ _ c.self-in-Some.invariant.kept c.self-in-Some.view_is c.loop-next.invariant.class (sym c.loop-next.invariant.at ∙ c.in-Some.is) in
     let on : SweepsOn c.loop-next.self c.args.class c.loop-next.invariant.place c.in-Some.chunk
     = sweeps_on _ _ _ _ c.loop-next.invariant.class here.own (here.once c.in-Some.chunk) here.at c.loop-next.invariant.none
-    (sym c.is_dead.ensures ∙ c.if-is_dead.true) in
+    (sym c.is_dead.ensures.dead ∙ c.if-is_dead.true) in
     let next : c.next_out-next.result ≡ slice_get (class_at c.loop-next.self.slabs c.args.class).order (c.loop-next.invariant.place + 1)
     = c.next_out-next.ensures.chunk ∙ ap (λ (m : Machine). behind c.in-Some.chunk (class_of_chunk m.slabs c.in-Some.chunk).order) c.self-in-Some.view_is ∙ here.next in
     let long = ap (λ (n : Option ChunkId). length (rest_from n (class_at c.loop-next.self.slabs c.args.class).order)) c.in-Some.is
     ∙ rest_long (class_at c.loop-next.self.slabs c.args.class).order c.loop-next.invariant.place c.in-Some.chunk here.at (here.once c.in-Some.chunk) in
     let short = rest_short (class_at (after_reclaim c.loop-next.self c.in-Some.chunk).slabs c.args.class).order c.loop-next.invariant.place c.next_out-next.result
     (next ∙ sym on.behind) (λ x. on.once x (here.once x)) in
-    rw c.reclaim.ensures (omega (arith, here.inside, on.shorter, on.within, long, short))
+    rw c.reclaim.ensures.reclaimed (omega (arith, here.inside, on.shorter, on.within, long, short))
 
 pub loop-next-preserved-then-is_dead : goal.loop-next-preserved-then-is_dead
 loop-next-preserved-then-is_dead c =
@@ -77,10 +77,10 @@ loop-next-preserved-then-is_dead c =
     = at_place _ _ _ _ _ c.self-in-Some.invariant.kept c.self-in-Some.view_is c.loop-next.invariant.class (sym c.loop-next.invariant.at ∙ c.in-Some.is) in
     let on : SweepsOn c.loop-next.self c.args.class c.loop-next.invariant.place c.in-Some.chunk
     = sweeps_on _ _ _ _ c.loop-next.invariant.class here.own (here.once c.in-Some.chunk) here.at c.loop-next.invariant.none
-    (sym c.is_dead.ensures ∙ c.if-is_dead.true) in
+    (sym c.is_dead.ensures.dead ∙ c.if-is_dead.true) in
     let next : c.next_out-next.result ≡ slice_get (class_at c.loop-next.self.slabs c.args.class).order (c.loop-next.invariant.place + 1)
     = c.next_out-next.ensures.chunk ∙ ap (λ (m : Machine). behind c.in-Some.chunk (class_of_chunk m.slabs c.in-Some.chunk).order) c.self-in-Some.view_is ∙ here.next in
-    rw c.reclaim.ensures (record {
+    rw c.reclaim.ensures.reclaimed (record {
       place = c.loop-next.invariant.place;
       at = next ∙ sym on.behind;
       class = (c.loop-next.invariant.class.0, rw (length-set c.loop-next.self.slabs.classes _ _) c.loop-next.invariant.class.1);
@@ -111,7 +111,7 @@ loop-next-preserved c =
       at = next;
       class = c.loop-next.invariant.class;
       within = omega (arith, here.inside);
-      none = none_more c.loop-next.self _ _ _ here.at c.loop-next.invariant.none (sym c.is_dead.ensures ∙ c.if-is_dead.false);
+      none = none_more c.loop-next.self _ _ _ here.at c.loop-next.invariant.none (sym c.is_dead.ensures.dead ∙ c.if-is_dead.false);
       rest = c.loop-next.invariant.rest;
     }
 
@@ -119,6 +119,8 @@ pub returns : goal.returns
 returns c =
     let none : slice_get (class_at c.loop-next.self.slabs c.args.class).order c.loop-next.invariant.place ≡ None
     = sym c.loop-next.invariant.at ∙ c.in_default.is in
-    sym (swept_none c.loop-next.self c.args.class c.loop-next.invariant.place c.loop-next.invariant.none
-    (past_none (class_at c.loop-next.self.slabs c.args.class).order c.loop-next.invariant.place none))
-    ∙ c.loop-next.invariant.rest
+    record {
+      swept = sym (swept_none c.loop-next.self c.args.class c.loop-next.invariant.place c.loop-next.invariant.none
+          (past_none (class_at c.loop-next.self.slabs c.args.class).order c.loop-next.invariant.place none))
+          ∙ c.loop-next.invariant.rest;
+    }

@@ -14,7 +14,9 @@ returns-then-free-page c =
     let here : FreeAt c.args.self.now c.args.class c.loop-next.invariant.place c.in-Some.free
     = found_free _ _ _ _ _ c.self.invariant.kept c.self.view_is c.requires (sym c.loop-next.invariant.at ∙ c.in-Some.is) in
     let off : not (c.in-Some.free.page == c.args.page) ≡ true = grind (arith, nat_tests) in
-    sym (find_there (λ chunk. not (chunk.page == c.args.page)) _ c.loop-next.invariant.place c.in-Some.free here.at off) ∙ c.loop-next.invariant.rest
+    record {
+      target = sym (find_there (λ chunk. not (chunk.page == c.args.page)) _ c.loop-next.invariant.place c.in-Some.free here.at off) ∙ c.loop-next.invariant.rest;
+    }
 
 pub next_free-next-requires : goal.next_free-next-requires
 next_free-next-requires c =
@@ -48,4 +50,6 @@ pub returns : goal.returns
 returns c =
     let none : drop c.loop-next.invariant.place (class_at c.args.self.now.slabs c.args.class).free ≡ []
     = drop_past (class_at c.args.self.now.slabs c.args.class).free c.loop-next.invariant.place (sym c.loop-next.invariant.at ∙ c.in_default.is) in
-    sym (ap (λ (chunks : List ChunkId). find (λ chunk. not (chunk.page == c.args.page)) chunks) none) ∙ c.loop-next.invariant.rest
+    record {
+      target = sym (ap (λ (chunks : List ChunkId). find (λ chunk. not (chunk.page == c.args.page)) chunks) none) ∙ c.loop-next.invariant.rest;
+    }
