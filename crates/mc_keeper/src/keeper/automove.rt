@@ -2,7 +2,6 @@
 ghost use Rattle.std.specs.Prelude.{◌≡◌, ◌≤◌, ◌++◌, codes, IfOk, OnErr, OnOk, None, Contains};
 ghost use Rattle.std.specs.Io.{StartsWith};
 ghost use Rattle.mc_pages.specs.Answer.{answer_of};
-ghost use Rattle.mc_watch.specs.Decider.{decision_of};
 ghost use Rattle.mc_watch.specs.Texts.{line};
 ghost use Rattle.mc_machine.specs.Automove.{begun, decision, with_asked_page, with_window};
 ghost use Rattle.mc_machine.specs.Lines.{acted, answer_name, moved, reassigned};

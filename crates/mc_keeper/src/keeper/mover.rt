@@ -1,8 +1,7 @@
 //! The mover: it looks at the chunks of the page on the move, and clears them.
-ghost use Rattle.std.specs.Prelude.{◌≡◌, ◌≢◌, ◌*◌, ◌<◌, ◌≤◌, nat_lt, true, false, IfOk, OnOk, OnErr, Contains, Some, None, Ok, Err};
+ghost use Rattle.std.specs.Prelude.{◌≡◌, ◌≢◌, ◌*◌, ◌<◌, ◌≤◌, true, false, IfOk, OnOk, OnErr, Contains, Some, None, Ok, Err};
 ghost use Rattle.std.specs.Option.{option_map};
-ghost use Rattle.mc_pages.specs.SlabState.{IsClass, class_at, class_of_page, class_of_chunk};
-ghost use Rattle.mc_pages.specs.ClassState.{times};
+ghost use Rattle.mc_pages.specs.SlabState.{IsClass, class_of_page, class_of_chunk};
 ghost use Rattle.mc_pages.specs.Accounted.{is_cleared, is_cut};
 ghost use Rattle.mc_pages.specs.Moves.{CanFinish, is_held_up};
 ghost use Rattle.mc_machine.specs.declared.turn.Counts.{Counts};

@@ -1,9 +1,9 @@
 //! How a class comes to a free chunk.
-ghost use Rattle.std.specs.Prelude.{◌≡◌, ◌≤◌, ◌<◌, None, Some, true, OnErr, OnOk, IfOk, fold};
-ghost use Rattle.mc_pages.specs.SlabState.{IsClass, class_at, class_of_chunk};
+ghost use Rattle.std.specs.Prelude.{◌≡◌, ◌≤◌, ◌<◌, None, Some, OnErr, OnOk, fold};
+ghost use Rattle.mc_pages.specs.SlabState.{IsClass, class_of_chunk};
 ghost use Rattle.mc_pages.specs.Changes.{after_cut, next_page};
 ghost use Rattle.mc_pages.specs.Accounted.{IsAccounted, first_chunks};
-ghost use Rattle.mc_machine.specs.Machine.{has_free, extended, stocked, swept, with_new_page};
+ghost use Rattle.mc_machine.specs.Machine.{has_free, stocked, swept, with_new_page};
 
 use super::Keeper;
 use mc_classes::{ClassId, PageId};
