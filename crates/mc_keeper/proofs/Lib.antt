@@ -1,1 +1,9 @@
 pub mod KeeperMachine
+pub mod StoredBeside
+pub mod StageSteps
+pub mod Counted
+pub mod DeadItems
+pub mod DeadOrders
+pub mod Watched
+pub mod HeldElsewhere
+pub mod Indexed

@@ -1,1 +1,2 @@
-pub mod KeeperKept
+pub mod Kept
+pub mod Stages

@@ -47,7 +47,7 @@ impl Model for Keeper {
 
     ghost Value = { Machine };
 
-    ghost use Rattle.mc_keeper.specs.KeeperKept.{AreKept};
+    ghost use Rattle.mc_keeper.specs.Kept.{AreKept};
 
     ghost view = { λ k. record { table = k.table; bulk = k.bulk; slabs = k.slabs.state; items = k.items; holds = k.holds; turns = k.turns; decider = k.decider } };
 
@@ -61,7 +61,7 @@ impl Keeper {
         requires sound { IsSound table }
         requires bulk { bulk ≤ 256 }
         requires mode { mode ≤ 2 }
-        ensures { IfOk result (λ keeper. keeper ≡ fresh_machine table bulk mode) }
+        ensures fresh { IfOk result (λ keeper. keeper ≡ fresh_machine table bulk mode) }
     {
         let mut slabs = match Slabs::new(alloc, &table) {
             Ok(slabs) => slabs,

@@ -22,7 +22,7 @@ impl<L: Ledger> Reply<L> {
 
     /// The text so far.
     pub(crate) fn into_text(self) -> Vec<u8>
-        ensures { result ≡ self.text }
+        ensures text { result ≡ self.text }
     {
         let Reply { text, refusals: _ } = self;
         text

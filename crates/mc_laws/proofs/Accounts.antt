@@ -28,7 +28,7 @@ accounted_in_mode m lawful most =
 
 pub add_up : (m : Machine) → IsLawful m → AddUp m.table (granted_count m.slabs * m.slabs.page) (slabs_text_of m) (general_text_of m)
 add_up m lawful =
-    let counts : AreCounts m.table (page_counts m.slabs) (free_counts m.slabs) = are_counts m.table (off m.slabs) lawful.index m.items lawful.kept in
+    let counts : AreCounts m.table (page_counts m.slabs) (free_counts m.slabs) = are_counts m.table (off m.slabs) m.items lawful.kept in
     let pages : sum (page_counts m.slabs) ≡ sum_by (λ (c : ClassState). length c.pages) m.slabs.classes
     = sum-map (λ (c : ClassState). length c.pages) m.slabs.classes in
     let all : sum (page_counts m.slabs) + length m.slabs.pool ≡ granted_count m.slabs = omega (arith, pages, pages_add_up (off m.slabs) lawful.kept.accounted) in

@@ -13,8 +13,8 @@ use Rattle.mc_pages.specs.Accounted.{truth}
 use Rattle.mc_pages.specs.ClassState.{is_chunk}
 use Rattle.mc_pages.proofs.Chunks.{is_chunk-same, same_from_is_chunk}
 use Rattle.mc_machine.specs.Item.{Item, is_linked_to, unlinked}
-use Rattle.mc_machine.specs.Items.{Items, chunk_cmp, item_at, with_item, without_item, unlinked_items}
-use Rattle.mc_machine.specs.Kept.{places}
+use Rattle.mc_machine.specs.Items.{Items, chunk_cmp, item_at, with_item, without_item, unlinked_items, PlacedItem}
+use Rattle.mc_machine.specs.Consistent.{places}
 use Rattle.mc_machine.proofs.Chunks.{none-places}
 use Rattle.mc_machine.proofs.KeptMoverClear.{places_without}
 use Rattle.mc_machine.proofs.Sweeps.{item_at-without_item}
@@ -27,21 +27,21 @@ unlinked_from key item = if is_linked_to key item then unlinked item else item
 pub item_at-unlinked_items : (key : ℕ) (items : Items) (chunk : ChunkId)
     → item_at (unlinked_items items key) chunk ≡ option_map (unlinked_from key) (item_at items chunk)
 item_at-unlinked_items key [] chunk = refl
-item_at-unlinked_items key (e ∷ items) chunk = unlinked_step (is_at (chunk_cmp chunk) e.0) refl (item_at-unlinked_items key items chunk)
+item_at-unlinked_items key (e ∷ items) chunk = unlinked_step (is_at (chunk_cmp chunk) e.chunk) refl (item_at-unlinked_items key items chunk)
   where
-    unlinked_step : (b : Bool) → is_at (chunk_cmp chunk) e.0 ≡ b
+    unlinked_step : (b : Bool) → is_at (chunk_cmp chunk) e.chunk ≡ b
         → item_at (unlinked_items items key) chunk ≡ option_map (unlinked_from key) (item_at items chunk)
         → item_at (unlinked_items (e ∷ items) key) chunk ≡ option_map (unlinked_from key) (item_at (e ∷ items) chunk)
     unlinked_step true is more = rw is refl
     unlinked_step false is more = rw is more
 
 -- what comes into a chunk is found there, and in every other what was found before: at one entry of the list
-with_step : (o : Ordering) (d : ChunkId) (item : Item) (c : ChunkId) (e : ChunkId × Item) (items : Items)
-    → chunk_cmp d e.0 ≡ o → item_at (e ∷ items) d ≡ None
+with_step : (o : Ordering) (d : ChunkId) (item : Item) (c : ChunkId) (e : PlacedItem) (items : Items)
+    → chunk_cmp d e.chunk ≡ o → item_at (e ∷ items) d ≡ None
     → (item_at items d ≡ None → item_at (with_item items d item) c ≡ cond (is_at (chunk_cmp c) d) (Some item) (item_at items c))
     → item_at (with_item (e ∷ items) d item) c ≡ cond (is_at (chunk_cmp c) d) (Some item) (item_at (e ∷ items) c)
 with_step Less d item c e items is none more = rw is refl
-with_step Equal d item c e items is none more = let bad : Some e.1 ≡ None = rw is at none in cc
+with_step Equal d item c e items is none more = let bad : Some e.item ≡ None = rw is at none in cc
 with_step Greater d item c e items is none more =
     let absent : item_at items d ≡ None = rw is at none in
     there (is_at (chunk_cmp c) d) refl (more absent)
@@ -57,7 +57,7 @@ with_step Greater d item c e items is none more =
 pub item_at-with_item : (d : ChunkId) (item : Item) (c : ChunkId) (items : Items) → item_at items d ≡ None
     → item_at (with_item items d item) c ≡ cond (is_at (chunk_cmp c) d) (Some item) (item_at items c)
 item_at-with_item d item c [] none = refl
-item_at-with_item d item c (e ∷ items) none = with_step (chunk_cmp d e.0) d item c e items refl none (item_at-with_item d item c items)
+item_at-with_item d item c (e ∷ items) none = with_step (chunk_cmp d e.chunk) d item c e items refl none (item_at-with_item d item c items)
 
 -- a chunk's only item goes: the chunk has none
 pub item_at-gone : (items : Items) (chunk : ChunkId) (item : Item) → item_at items chunk ≡ Some item → places chunk items ≤ 1

@@ -9,7 +9,7 @@ use Rattle.mc_pages.specs.ClassState.{times}
 use Rattle.mc_machine.specs.Item.{Item, is_linked_to}
 use Rattle.mc_machine.specs.Items.{Items, chunk_cmp, item_at, linked_chunk}
 use Rattle.mc_machine.specs.Holds.{held_by}
-use Rattle.mc_machine.specs.Kept.{links}
+use Rattle.mc_machine.specs.Consistent.{links}
 use Rattle.mc_machine.specs.Machine.{Machine}
 use Rattle.mc_pages.proofs.Chunks.{same_from_is_chunk}
 use Rattle.mc_laws.specs.Answered.{Answered}
@@ -43,17 +43,17 @@ pub leads_there : (c : ChunkId) (item : Item) (key : ℕ) (items : Items) → it
     → linked_chunk items key ≡ Some c
 leads_there c item key [] at linked one = cc
 leads_there c item key (e ∷ items) at linked one =
-    leads_step (is_at (chunk_cmp c) e.0) (is_linked_to key e.1) refl refl (leads_there c item key items)
+    leads_step (is_at (chunk_cmp c) e.chunk) (is_linked_to key e.item) refl refl (leads_there c item key items)
   where
-    leads_step : (b d : Bool) → is_at (chunk_cmp c) e.0 ≡ b → is_linked_to key e.1 ≡ d
+    leads_step : (b d : Bool) → is_at (chunk_cmp c) e.chunk ≡ b → is_linked_to key e.item ≡ d
         → (item_at items c ≡ Some item → is_linked_to key item ≡ true → links key items ≤ 1 → linked_chunk items key ≡ Some c)
         → linked_chunk (e ∷ items) key ≡ Some c
     leads_step true true is to more =
-        let same : c ≡ e.0 = same_from_is_chunk c e.0 (grind (arith, nat_tests)) in
+        let same : c ≡ e.chunk = same_from_is_chunk c e.chunk (grind (arith, nat_tests)) in
         rw to (ap (λ (x : ChunkId). Some x) (sym same))
     leads_step true false is to more =
-        let first : Some e.1 ≡ Some item = rw is at at in
-        let bad : is_linked_to key e.1 ≡ true = grind (arith, linked, first) in
+        let first : Some e.item ≡ Some item = rw is at at in
+        let bad : is_linked_to key e.item ≡ true = grind (arith, linked, first) in
         absurd (false≢true (sym to ∙ bad))
     leads_step false true is to more =
         let below : item_at items c ≡ Some item = rw is at at in

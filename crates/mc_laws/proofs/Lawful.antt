@@ -16,7 +16,7 @@ use Rattle.mc_pages.proofs.Owners.{count_by-AreGranted}
 use Rattle.mc_machine.specs.Item.{Item}
 use Rattle.mc_machine.specs.Items.{Items, item_at, without_item}
 use Rattle.mc_machine.specs.Holds.{Holds, held_by, hold_count, is_held}
-use Rattle.mc_machine.specs.Kept.{places, IsKept}
+use Rattle.mc_machine.specs.Consistent.{places, IsConsistent}
 use Rattle.mc_machine.specs.Machine.{Machine, with_mode}
 use Rattle.mc_laws.specs.Answered.{HeldWords}
 use Rattle.mc_machine.proofs.Chunks.{places_none}
@@ -30,9 +30,7 @@ abbrev pub off : SlabState → SlabState
 off slabs = with_mode slabs 0
 
 pub record IsLawful (m : Machine) : Type 0 where
-  -- some index leads where the items' keys lead
-  pub index : List (ℕ × ChunkId)
-  pub kept : IsKept m.table (off m.slabs) index m.items
+  pub kept : IsConsistent m.table (off m.slabs) m.items
   pub granted : ℕ
   pub order : IsInOrder (off m.slabs) granted
   pub workers : length m.holds ≡ 64
@@ -101,12 +99,11 @@ stored_still old new chunk same there = found_new (item_at new chunk) (item_at o
     found_new None None is was = absurd (omega (arith, places_none chunk old was, there))
 
 -- what is lawful after a step in which no held chunk's words change
-pub lawful_from : (old new : Machine) (index : List (ℕ × ChunkId)) (granted : ℕ) → IsLawful old
-    → IsKept new.table (off new.slabs) index new.items → IsInOrder (off new.slabs) granted → new.holds ≡ old.holds
+pub lawful_from : (old new : Machine) (granted : ℕ) → IsLawful old
+    → IsConsistent new.table (off new.slabs) new.items → IsInOrder (off new.slabs) granted → new.holds ≡ old.holds
     → ((worker : ℕ) (chunk : ChunkId) → 1 ≤ times chunk (held_by old.holds worker) → stored_as new.items chunk ≡ stored_as old.items chunk)
     → IsLawful new
-lawful_from old new index granted lawful kept order holds stands = record {
-  index = index;
+lawful_from old new granted lawful kept order holds stands = record {
   kept = kept;
   granted = granted;
   order = order;
@@ -118,14 +115,14 @@ lawful_from old new index granted lawful kept order holds stands = record {
 }
 
 -- a step of the machine, from its parts
-pub proceeds_from : (old new : Machine) (index : List (ℕ × ChunkId)) (granted : ℕ) (lawful : IsLawful old)
-    → IsKept new.table (off new.slabs) index new.items → IsInOrder (off new.slabs) granted → lawful.granted ≤ granted
+pub proceeds_from : (old new : Machine) (granted : ℕ) (lawful : IsLawful old)
+    → IsConsistent new.table (off new.slabs) new.items → IsInOrder (off new.slabs) granted → lawful.granted ≤ granted
     → new.table ≡ old.table → new.slabs.automove ≡ old.slabs.automove → new.holds ≡ old.holds
     → ((worker : ℕ) (chunk : ChunkId) → 1 ≤ times chunk (held_by old.holds worker) → item_at new.items chunk ≡ item_at old.items chunk)
     → ((chunk : ChunkId) (item : Item) → item_at new.items chunk ≡ Some item → item.linked ≡ true → (before : ChunkId) × (item_at old.items before ≡ Some item))
     → Proceeds old new
-proceeds_from old new index granted lawful kept order more table mode holds held linked = record {
-  lawful = lawful_from old new index granted lawful kept order holds (λ worker chunk holding. ap (option_map as_held) (held worker chunk holding));
+proceeds_from old new granted lawful kept order more table mode holds held linked = record {
+  lawful = lawful_from old new granted lawful kept order holds (λ worker chunk holding. ap (option_map as_held) (held worker chunk holding));
   table = table;
   mode = mode;
   grows = omega (arith, more, count_by-AreGranted old.slabs.owners lawful.granted lawful.order.lowest, count_by-AreGranted new.slabs.owners granted order.lowest);
@@ -136,10 +133,10 @@ proceeds_from old new index granted lawful kept order more table mode holds held
 
 -- pages and chunks change, and no item does
 pub proceeds_slabs : (m : Machine) (slabs : SlabState) (granted : ℕ) (lawful : IsLawful m)
-    → IsKept m.table (off slabs) lawful.index m.items → IsInOrder (off slabs) granted → lawful.granted ≤ granted → slabs.automove ≡ m.slabs.automove
+    → IsConsistent m.table (off slabs) m.items → IsInOrder (off slabs) granted → lawful.granted ≤ granted → slabs.automove ≡ m.slabs.automove
     → Proceeds m (record m { slabs = slabs })
 proceeds_slabs m slabs granted lawful kept order more mode =
-    proceeds_from m (record m { slabs = slabs }) lawful.index granted lawful kept order more refl mode refl (λ worker chunk held. refl)
+    proceeds_from m (record m { slabs = slabs }) granted lawful kept order more refl mode refl (λ worker chunk held. refl)
     (λ chunk item at is. (chunk, at))
 
 -- a chunk that nobody holds is in no worker's list
@@ -157,10 +154,10 @@ not_held holds chunk c worker free held = elim (cases_Bool (is_chunk chunk c)) [
 ]
 
 -- the item of a chunk that nobody holds is gone
-pub proceeds_without : (m : Machine) (slabs : SlabState) (index : List (ℕ × ChunkId)) (chunk : ChunkId) (item : Item) (lawful : IsLawful m)
-    → item_at m.items chunk ≡ Some item → is_held m.holds chunk ≡ false → IsKept m.table (off slabs) index (without_item m.items chunk) → IsInOrder (off slabs) lawful.granted
+pub proceeds_without : (m : Machine) (slabs : SlabState) (chunk : ChunkId) (item : Item) (lawful : IsLawful m)
+    → item_at m.items chunk ≡ Some item → is_held m.holds chunk ≡ false → IsConsistent m.table (off slabs) (without_item m.items chunk) → IsInOrder (off slabs) lawful.granted
     → slabs.automove ≡ m.slabs.automove → Proceeds m (record m { slabs = slabs; items = without_item m.items chunk })
-proceeds_without m slabs index chunk item lawful there free kept order mode =
-    proceeds_from m (record m { slabs = slabs; items = without_item m.items chunk }) index lawful.granted lawful kept order (omega arith) refl mode refl
+proceeds_without m slabs chunk item lawful there free kept order mode =
+    proceeds_from m (record m { slabs = slabs; items = without_item m.items chunk }) lawful.granted lawful kept order (omega arith) refl mode refl
     (λ worker c held. item_at-without_item m.items chunk c (not_held m.holds chunk c worker free held))
-    (λ c found at is. (c, found_before m.items chunk item c found there (place_once m.table (off m.slabs) lawful.index m.items chunk lawful.kept) at))
+    (λ c found at is. (c, found_before m.items chunk item c found there (place_once m.table (off m.slabs) m.items chunk lawful.kept) at))

@@ -1,5 +1,4 @@
 pub mod FoundItems
-pub mod Indexes
 pub mod Lawful
 pub mod ProceedSweeps
 pub mod ProceedEvicts

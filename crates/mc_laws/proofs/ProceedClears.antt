@@ -1,9 +1,7 @@
 -- The machine goes on by itself: a chunk of the moving page is cleared, and its item is gone or comes into another chunk.
-use Rattle.std.proofs.Common.{◌≡◌, ℕ, ◌≤◌, List, true, false, cond, Some, None, refl, ap, sym, ◌∙◌, subst, arith, inl, inr, Contains}
+use Rattle.std.proofs.Common.{◌≡◌, ℕ, ◌≤◌, true, false, cond, Some, None, refl, ap, sym, ◌∙◌, subst, arith, inl, inr, Contains}
 use Rattle.std.specs.Option.{option_map}
-use Rattle.std.specs.Ordering.{nat_cmp}
 use Rattle.std.specs.BTreeMap.{is_at}
-use Rattle.std.specs.Map.{lookup, set_value}
 use Rattle.std.proofs.lemmas.Bool.{and_parts, not-true}
 use Rattle.mc_pages.specs.declared.ids.ChunkId.{ChunkId}
 use Rattle.mc_pages.specs.declared.ids.Moving.{Moving}
@@ -14,16 +12,15 @@ use Rattle.mc_pages.specs.Changes.{after_clear, after_replace}
 use Rattle.mc_pages.specs.InOrder.{IsInOrder}
 use Rattle.mc_pages.proofs.Kept.{IsInOrder-after_clear, IsInOrder-after_replace}
 use Rattle.mc_machine.specs.Item.{Item}
-use Rattle.mc_machine.specs.Items.{Items, chunk_cmp, item_at, linked_chunk, is_linked, is_unlinked, with_item, without_item, with_found_item, with_moved_item}
+use Rattle.mc_machine.specs.Items.{Items, chunk_cmp, item_at, is_linked, is_unlinked, with_item, without_item, with_found_item, with_moved_item}
 use Rattle.mc_machine.specs.Holds.{is_held, held_by}
-use Rattle.mc_machine.specs.Kept.{places}
+use Rattle.mc_machine.specs.Consistent.{places}
 use Rattle.mc_machine.specs.Machine.{Machine, is_dead, is_linked_unheld}
 use Rattle.mc_machine.specs.Mover.{with_cleared}
 use Rattle.mc_machine.proofs.Chunks.{none-places, places_none}
 use Rattle.mc_laws.proofs.FoundItems.{found_before, item_at-with_item}
-use Rattle.mc_laws.proofs.Indexes.{index_of, leads_index}
 use Rattle.mc_machine.proofs.KeptChanges.{place_once}
-use Rattle.mc_machine.proofs.KeptMoverClear.{cleared_after, contains_counted, dead_here, handed_item, idle_here, kept_cleared, kept_freed, leads_dead}
+use Rattle.mc_machine.proofs.KeptMoverClear.{cleared_after, contains_counted, dead_here, handed_item, idle_here, kept_cleared, kept_freed}
 use Rattle.mc_machine.proofs.KeptMoverRescue.{kept_rescued, listed_still, vacant}
 use Rattle.mc_machine.proofs.KeptStore.{is_at-tells}
 use Rattle.mc_pages.proofs.ListedChunks.{in_lists_once}
@@ -51,22 +48,21 @@ module _ (m : Machine) (class : ℕ) (chunk : ChunkId) (lawful : IsLawful m) (va
       let order : IsInOrder (off (after_clear m.slabs chunk)) lawful.granted = IsInOrder-after_clear (off m.slabs) lawful.granted chunk lawful.order moving placed in
       record {
         proceeds = proceeds_slabs m (after_clear m.slabs chunk) lawful.granted lawful
-            (kept_freed m.table (off m.slabs) lawful.index m.items chunk lawful.kept (empty_free free) valid_own order.accounted) order (omega arith) refl;
+            (kept_freed m.table (off m.slabs) m.items chunk lawful.kept (empty_free free) valid_own order.accounted) order (omega arith) refl;
         cleared = ap (λ n. is_cleared (after_clear m.slabs chunk) n chunk) (sym own)
             ∙ cleared_after (off m.slabs) chunk lawful.kept.accounted order.accounted placed;
       }
 
   -- a chunk whose item nobody holds
-  clears_item : (item : Item) (index : List (ℕ × ChunkId)) → item_at m.items chunk ≡ Some item → is_held m.holds chunk ≡ false
-      → ((key : ℕ) → lookup (is_at (nat_cmp key)) index ≡ linked_chunk (without_item m.items chunk) key)
+  clears_item : (item : Item) → item_at m.items chunk ≡ Some item → is_held m.holds chunk ≡ false
       → Clears m (with_cleared m chunk) class chunk
-  clears_item item index there free leads =
+  clears_item item there free =
       let placed : 1 ≤ places_in m.slabs (class_of_page m.slabs chunk.page) chunk
-      = omega (arith, handed_item m.table (off m.slabs) lawful.index m.items chunk item lawful.kept there) in
+      = omega (arith, handed_item m.table (off m.slabs) m.items chunk item lawful.kept there) in
       let order : IsInOrder (off (after_clear m.slabs chunk)) lawful.granted = IsInOrder-after_clear (off m.slabs) lawful.granted chunk lawful.order moving placed in
       record {
-        proceeds = proceeds_without m (after_clear m.slabs chunk) index chunk item lawful there free
-            (kept_cleared m.table (off m.slabs) lawful.index index m.items chunk item lawful.kept there order.accounted leads) order refl;
+        proceeds = proceeds_without m (after_clear m.slabs chunk) chunk item lawful there free
+            (kept_cleared m.table (off m.slabs) m.items chunk item lawful.kept there order.accounted) order refl;
         cleared = ap (λ n. is_cleared (after_clear m.slabs chunk) n chunk) (sym own)
             ∙ cleared_after (off m.slabs) chunk lawful.kept.accounted order.accounted placed;
       }
@@ -74,14 +70,13 @@ module _ (m : Machine) (class : ℕ) (chunk : ChunkId) (lawful : IsLawful m) (va
   pub clears_dead : is_dead m chunk ≡ true → Clears m (with_cleared m chunk) class chunk
   clears_dead dead =
       let found = dead_here m m chunk refl dead in
-      clears_item found.0 lawful.index found.1 (not-true (is_held m.holds chunk) (and_parts (is_unlinked m.items chunk) _ dead).1)
-      (leads_dead m.table (off m.slabs) lawful.index m.items chunk found.0 lawful.kept found.1 found.2)
+      clears_item found.0 found.1 (not-true (is_held m.holds chunk) (and_parts (is_unlinked m.items chunk) _ dead).1)
 
   pub clears_idle : is_linked_unheld m chunk ≡ true → Clears m (with_cleared m chunk) class chunk
   clears_idle idle =
       let found = idle_here m m chunk refl idle in
-      clears_item found.0 (index_of (without_item m.items chunk)) found.1
-      (not-true (is_held m.holds chunk) (and_parts (is_linked m.items chunk) _ idle).1) (leads_index (without_item m.items chunk))
+      clears_item found.0 found.1
+      (not-true (is_held m.holds chunk) (and_parts (is_linked m.items chunk) _ idle).1)
 
 -- an idle item comes from a chunk of the moving page into a free one
 module _ (m : Machine) (class : ℕ) (old new : ChunkId) (item : Item) (lawful : IsLawful m) (own : class_of_page m.slabs old.page ≡ class)
@@ -92,7 +87,7 @@ module _ (m : Machine) (class : ℕ) (old new : ChunkId) (item : Item) (lawful :
   items_rescued = with_item (without_item m.items old) new item
 
   none_new : item_at (without_item m.items old) new ≡ None
-  none_new = vacant m.table (off m.slabs) lawful.index m.items old new item lawful.kept there linked free
+  none_new = vacant m.table (off m.slabs) m.items old new item lawful.kept there linked free
 
   found_rescued : (c : ChunkId) → item_at items_rescued c ≡ cond (is_at (chunk_cmp c) new) (Some item) (item_at (without_item m.items old) c)
   unfolding items_rescued
@@ -120,16 +115,16 @@ module _ (m : Machine) (class : ℕ) (old new : ChunkId) (item : Item) (lawful :
     | inr other ↦
         let below : item_at (without_item m.items old) c ≡ Some found
         = sym (found_rescued c ∙ ap (λ b. cond b (Some item) (item_at (without_item m.items old) c)) other.0) ∙ at in
-        (c, found_before m.items old item c found there (place_once m.table (off m.slabs) lawful.index m.items old lawful.kept) below)
+        (c, found_before m.items old item c found there (place_once m.table (off m.slabs) m.items old lawful.kept) below)
   ]
 
   listed_old : 1 ≤ places_in (after_replace m.slabs new old) (class_of_page m.slabs old.page) old
-  listed_old = listed_still m.table (off m.slabs) lawful.index m.items old new item lawful.kept there linked free
+  listed_old = listed_still m.table (off m.slabs) m.items old new item lawful.kept there linked free
 
   order_replaced : IsInOrder (off (after_replace m.slabs new old)) lawful.granted
   order_replaced =
       IsInOrder-after_replace (off m.slabs) lawful.granted new old lawful.order free
-      (contains_counted old (class_of_chunk m.slabs old).order (handed_item m.table (off m.slabs) lawful.index m.items old item lawful.kept there))
+      (contains_counted old (class_of_chunk m.slabs old).order (handed_item m.table (off m.slabs) m.items old item lawful.kept there))
 
   order_rescued : IsInOrder (off (after_clear (after_replace m.slabs new old) old)) lawful.granted
   order_rescued = IsInOrder-after_clear (off (after_replace m.slabs new old)) lawful.granted old order_replaced moving listed_old
@@ -138,8 +133,8 @@ module _ (m : Machine) (class : ℕ) (old new : ChunkId) (item : Item) (lawful :
   unfolding items_rescued
   rescued_to =
       proceeds_from m (record m { slabs = after_clear (after_replace m.slabs new old) old; items = with_item (without_item m.items old) new item })
-      (set_value (is_at (nat_cmp item.key)) lawful.index new) lawful.granted lawful
-      (kept_rescued m.table (off m.slabs) lawful.index m.items old new item lawful.kept there linked free order_rescued.accounted) order_rescued (omega arith) refl refl refl
+      lawful.granted lawful
+      (kept_rescued m.table (off m.slabs) m.items old new item lawful.kept there linked free order_rescued.accounted) order_rescued (omega arith) refl refl refl
       stands_rescued
       (λ c found at is. linked_rescued c found at)
 

@@ -1,12 +1,8 @@
 -- The machine goes on as commands ask it to: an item becomes the youngest, a page begins to move, a key is unlinked.
-use Rattle.std.proofs.Common.{◌≡◌, ℕ, List, Bool, true, false, cond, Option, Some, None, Result, Ok, Err, refl, ap, sym, ◌∙◌, arith, Contains}
+use Rattle.std.proofs.Common.{◌≡◌, ℕ, Bool, true, false, Option, Some, None, Result, Ok, Err, refl, ap, sym, ◌∙◌, arith, Contains}
 use Rattle.std.specs.Prelude.{if◌then◌else◌}
 use Rattle.std.specs.Option.{option_map}
-use Rattle.std.specs.Ordering.{nat_cmp}
-use Rattle.std.specs.BTreeMap.{is_at}
-use Rattle.std.specs.Map.{lookup}
 use Rattle.std.proofs.lemmas.Bool.{false≢true}
-use Rattle.std.proofs.lemmas.Bool.Decides.{nat_tests}
 use Rattle.std.proofs.lemmas.Option.{none-some, same_Some}
 use Rattle.mc_pages.specs.declared.ids.ChunkId.{ChunkId}
 use Rattle.mc_pages.specs.SlabState.{class_of_chunk}
@@ -25,28 +21,26 @@ use Rattle.mc_machine.specs.Lines.{acted}
 use Rattle.mc_laws.proofs.ProceedSweeps.{proceeds_all_swept}
 use Rattle.mc_laws.specs.Answered.{HeldWords}
 use Rattle.mc_laws.proofs.FoundItems.{item_at-unlinked_items, unlinked_from}
-use Rattle.mc_laws.proofs.Indexes.{index_of, leads_index}
 use Rattle.mc_machine.proofs.KeptBegin.{kept_begin}
 use Rattle.mc_machine.proofs.KeptChanges.{kept_unlink}
 use Rattle.mc_machine.proofs.KeptTouch.{kept_touch, leads_to_handed_out}
-use Rattle.mc_machine.proofs.Links.{linked_chunk-unlinked_items}
 use Rattle.mc_laws.proofs.Lawful.{IsLawful, off, Proceeds, as_held, lawful_from, proceeds_from, proceeds_same, proceeds_slabs, proceeds_then, stored_as}
 
 pub proceeds_touched : (m : Machine) (key : ℕ) (chunk : ChunkId) → IsLawful m → linked_chunk m.items key ≡ Some chunk
     → Proceeds m (record m { slabs = after_touch m.slabs chunk })
 proceeds_touched m key chunk lawful leads =
     let handed : Contains (class_of_chunk m.slabs chunk).order chunk
-    = leads_to_handed_out m.table (off m.slabs) lawful.index m.items key chunk lawful.kept (lawful.kept.leads key ∙ leads) in
+    = leads_to_handed_out m.table (off m.slabs) m.items key chunk lawful.kept leads in
     let order : IsInOrder (off (after_touch m.slabs chunk)) lawful.granted = IsInOrder-after_touch (off m.slabs) lawful.granted chunk lawful.order handed in
     proceeds_slabs m (after_touch m.slabs chunk) lawful.granted lawful
-    (kept_touch m.table (off m.slabs) lawful.index m.items chunk lawful.kept handed order.accounted) order (omega arith) refl
+    (kept_touch m.table (off m.slabs) m.items chunk lawful.kept handed order.accounted) order (omega arith) refl
 
 pub proceeds_begun : (m : Machine) (src : Option ℕ) (source dst : ℕ) → IsLawful m → answer_of m.slabs src dst ≡ Ok source
     → Proceeds m (record m { slabs = after_begin m.slabs src source dst })
 proceeds_begun m src source dst lawful answer =
     let order : IsInOrder (off (after_begin m.slabs src source dst)) lawful.granted = IsInOrder-after_begin (off m.slabs) lawful.granted src source dst lawful.order answer in
     proceeds_slabs m (after_begin m.slabs src source dst) lawful.granted lawful
-    (kept_begin m.table (off m.slabs) lawful.index m.items src source dst lawful.kept answer order.accounted) order (omega arith) refl
+    (kept_begin m.table (off m.slabs) m.items src source dst lawful.kept answer order.accounted) order (omega arith) refl
 
 -- a page is asked for
 pub proceeds_asked : (m : Machine) (src : Option ℕ) (dst : ℕ) (answer : Result ℕ Reassign) → IsLawful m → answer_of m.slabs src dst ≡ answer
@@ -57,7 +51,6 @@ proceeds_asked m src dst (Ok source) lawful is = proceeds_begun m src source dst
 -- the automover's mode changes
 pub lawful_automove : (m : Machine) (mode : ℕ) → IsLawful m → IsLawful (record m { slabs = with_mode m.slabs mode })
 lawful_automove m mode lawful = record {
-  index = lawful.index;
   kept = lawful.kept;
   granted = lawful.granted;
   order = lawful.order;
@@ -72,7 +65,7 @@ proceeds_fed m lawful =
     let swept : Machine = all_swept m in
     let first : Proceeds m swept = proceeds_all_swept m lawful in
     proceeds_then m swept (with_window swept) first
-    (proceeds_from swept (with_window swept) first.lawful.index first.lawful.granted first.lawful first.lawful.kept first.lawful.order (omega arith) refl refl refl
+    (proceeds_from swept (with_window swept) first.lawful.granted first.lawful first.lawful.kept first.lawful.order (omega arith) refl refl refl
     (λ worker chunk held. refl) (λ chunk item at is. (chunk, at)))
 
 -- and its decision is acted on
@@ -112,9 +105,6 @@ linked_still key items chunk item at linked = found_in (item_at items chunk) ref
 
 pub lawful_unlinked : (m : Machine) (key : ℕ) → IsLawful m → IsLawful (record m { items = unlinked_items m.items key })
 lawful_unlinked m key lawful =
-    let index : List (ℕ × ChunkId) = index_of (unlinked_items m.items key) in
-    let leads : (q : ℕ) → lookup (is_at (nat_cmp q)) index ≡ cond (is_at (nat_cmp key) q) None (lookup (is_at (nat_cmp q)) lawful.index)
-    = λ q. grind (arith, nat_tests, leads_index (unlinked_items m.items key) q, linked_chunk-unlinked_items q key m.items, lawful.kept.leads q) in
-    lawful_from m (record m { items = unlinked_items m.items key }) index lawful.granted lawful
-    (kept_unlink m.table (off m.slabs) lawful.index index m.items key lawful.kept leads) lawful.order refl
+    lawful_from m (record m { items = unlinked_items m.items key }) lawful.granted lawful
+    (kept_unlink m.table (off m.slabs) m.items key lawful.kept) lawful.order refl
     (λ worker chunk held. stands_unlinked key m.items chunk)

@@ -12,7 +12,6 @@ use Rattle.mc_machine.specs.Items.{is_linked, without_item}
 use Rattle.mc_machine.specs.Holds.{is_held}
 use Rattle.mc_machine.specs.Machine.{Machine, has_free, is_linked_unheld}
 use Rattle.mc_machine.specs.Supply.{eviction_tries, relieved, victim, with_eviction}
-use Rattle.mc_laws.proofs.Indexes.{index_of, leads_index}
 use Rattle.mc_machine.proofs.KeptEvict.{kept_counted}
 use Rattle.mc_machine.proofs.KeptMoverClear.{idle_here, kept_back}
 use Rattle.mc_pages.proofs.FirstFound.{found_holds}
@@ -28,11 +27,10 @@ proceeds_evicted m class chunk lawful valid idle =
     let order : IsInOrder back lawful.granted = order_back m chunk found.0 lawful found.1 in
     let valid_back : IsClass back class = (valid.0, rw (length-set m.slabs.classes _ _) valid.1) in
     let counted : IsInOrder (after_evicted back class) lawful.granted = IsInOrder-after_evicted back lawful.granted class order valid_back in
-    proceeds_without m (after_evicted (after_back m.slabs chunk) class) (index_of (without_item m.items chunk)) chunk found.0 lawful found.1
+    proceeds_without m (after_evicted (after_back m.slabs chunk) class) chunk found.0 lawful found.1
     (not-true (is_held m.holds chunk) parts.1)
-    (kept_counted m.table back (index_of (without_item m.items chunk)) (without_item m.items chunk) class
-    (kept_back m.table (off m.slabs) lawful.index (index_of (without_item m.items chunk)) m.items chunk found.0 lawful.kept found.1 order.accounted
-    (leads_index (without_item m.items chunk))) counted.accounted)
+    (kept_counted m.table back (without_item m.items chunk) class
+    (kept_back m.table (off m.slabs) m.items chunk found.0 lawful.kept found.1 order.accounted) counted.accounted)
     counted refl
 
 -- where there is a victim

@@ -98,7 +98,7 @@ proceeds_looked c move lawful runs inside =
     = IsInOrder-after_passed (off looked.machine.slabs) on.proceeds.lawful.granted looked.found move on.proceeds.lawful.order can_off in
     proceeds_then m looked.machine (record looked.machine { slabs = after_passed looked.machine.slabs looked.found }) on.proceeds
     (proceeds_slabs looked.machine (after_passed looked.machine.slabs looked.found) on.proceeds.lawful.granted on.proceeds.lawful
-    (kept_moved looked.machine.table (off looked.machine.slabs) on.proceeds.lawful.index looked.machine.items _ _ _ _ on.proceeds.lawful.kept order.accounted) order (omega arith) refl)
+    (kept_moved looked.machine.table (off looked.machine.slabs) looked.machine.items _ _ _ _ on.proceeds.lawful.kept order.accounted) order (omega arith) refl)
 
 -- one chunk, and more of them
 proceeds_chunk : (c : Counted) (moving : Option Moving) → IsLawful c.machine → c.machine.slabs.moving ≡ moving → Proceeds c.machine (with_chunk c moving).machine

@@ -9,7 +9,7 @@ use Rattle.mc_pages.specs.Changes.{after_cut, after_grant, after_grow, after_tak
 use Rattle.mc_pages.specs.InOrder.{IsInOrder}
 use Rattle.mc_pages.proofs.Kept.{IsInOrder-after_cut, IsInOrder-after_grant, IsInOrder-after_take}
 use Rattle.mc_pages.proofs.RoomyGrow.{grow_grants, grow_takes, next_granted, next_pooled}
-use Rattle.mc_machine.specs.Kept.{IsKept}
+use Rattle.mc_machine.specs.Consistent.{IsConsistent}
 use Rattle.mc_machine.specs.Machine.{Machine, extended, has_free, stocked, swept, with_cut_page, with_new_page}
 use Rattle.mc_machine.specs.Supply.{supplied}
 use Rattle.mc_pages.proofs.Cuts.{chunk_at, cuts_more, next_after_cut, next_cut}
@@ -91,11 +91,11 @@ proceeds_page m class (Some page) lawful valid next =
     = per_page_given was class page lawful.kept.accounted valid next ∙ sym (per_page_grown was class page valid) in
     let some : 1 ≤ per_page = rw (per_page_grown was class page valid) (lawful.order.per_page class valid) in
     let cut = all_cut grown order.0 page per_page order.1 (uncut_grown (nat_lt 0 (length m.slabs.pool)) was class page) same some in
-    let kept = kept_grow m.table was lawful.index m.items class page (first_chunks page per_page) lawful.kept valid next cut.0.accounted cut.1 in
+    let kept = kept_grow m.table was m.items class page (first_chunks page per_page) lawful.kept valid next cut.0.accounted cut.1 in
     let now : with_cut_page grown class page ≡ off (with_cut_page (after_grow m.slabs class page) class page)
     = ap (λ (s : SlabState). with_cut_page s class page) (off-grow m.slabs class page) ∙ off-cut_page (after_grow m.slabs class page) class page in
     proceeds_slabs m (with_cut_page (after_grow m.slabs class page) class page) order.0 lawful
-    (subst (λ (s : SlabState). IsKept m.table s lawful.index m.items) now kept) (subst (λ (s : SlabState). IsInOrder s order.0) now cut.0)
+    (subst (λ (s : SlabState). IsConsistent m.table s m.items) now kept) (subst (λ (s : SlabState). IsInOrder s order.0) now cut.0)
     order.2 (mode-given m.slabs class page)
 
 proceeds_extended : (m : Machine) (class : ℕ) → IsLawful m → IsClass m.slabs class → Proceeds m (extended m class)

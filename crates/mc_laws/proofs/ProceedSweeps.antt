@@ -27,16 +27,16 @@ pub order_back : (m : Machine) (chunk : ChunkId) (item : Item) (lawful : IsLawfu
     → IsInOrder (off (after_back m.slabs chunk)) lawful.granted
 order_back m chunk item lawful there =
     IsInOrder-after_back (off m.slabs) lawful.granted chunk lawful.order
-    (contains_counted chunk (class_of_chunk m.slabs chunk).order (handed_item m.table (off m.slabs) lawful.index m.items chunk item lawful.kept there))
+    (contains_counted chunk (class_of_chunk m.slabs chunk).order (handed_item m.table (off m.slabs) m.items chunk item lawful.kept there))
 
 pub proceeds_reclaim : (m : Machine) (chunk : ChunkId) → IsLawful m → is_dead m chunk ≡ true → Proceeds m (after_reclaim m chunk)
 proceeds_reclaim m chunk lawful dead =
     let found = dead_here m m chunk refl dead in
     let parts = and_parts (is_unlinked m.items chunk) _ dead in
     let order : IsInOrder (off (after_back m.slabs chunk)) lawful.granted = order_back m chunk found.0 lawful found.1 in
-    proceeds_without m (after_back m.slabs chunk) lawful.index chunk found.0 lawful found.1
+    proceeds_without m (after_back m.slabs chunk) chunk found.0 lawful found.1
     (not-true (is_held m.holds chunk) parts.1)
-    (kept_reclaim m.table (off m.slabs) lawful.index m.items chunk lawful.kept order.accounted parts.0) order refl
+    (kept_reclaim m.table (off m.slabs) m.items chunk lawful.kept order.accounted parts.0) order refl
 
 -- some chunks are dead, each of them once in the list
 pub record AreDead (m : Machine) (chunks : List ChunkId) : Type 0 where
@@ -92,7 +92,7 @@ are_dead_swept m class lawful valid =
     record {
       dead = λ chunk there. passes_filter (is_dead m) chunk order there;
       once = λ chunk.
-          omega (arith, times-filter-le (is_dead m) chunk order, listed_once m.table (off m.slabs) lawful.index m.items class lawful.kept valid chunk);
+          omega (arith, times-filter-le (is_dead m) chunk order, listed_once m.table (off m.slabs) m.items class lawful.kept valid chunk);
     }
 
 pub proceeds_swept : (m : Machine) (class : ℕ) → IsLawful m → IsClass m.slabs class → Proceeds m (swept m class)

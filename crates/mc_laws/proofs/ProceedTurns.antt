@@ -15,7 +15,7 @@ use Rattle.mc_pages.specs.Moves.{CanFinish, CanWrap, after_wrap, finished, relea
 use Rattle.mc_pages.proofs.Kept.{IsInOrder-after_wrap, IsInOrder-finished, all_cleared_at_end}
 use Rattle.mc_machine.specs.declared.turn.Counts.{Counts}
 use Rattle.mc_machine.specs.declared.turn.Ending.TheVariants.{Went, Finished}
-use Rattle.mc_machine.specs.Kept.{IsKept}
+use Rattle.mc_machine.specs.Consistent.{IsConsistent}
 use Rattle.mc_machine.specs.Machine.{Machine, with_cut_page}
 use Rattle.mc_machine.specs.Mover.{Counted, Turned, is_at_end, is_went, most_turns, turned, turns_from, with_chunks, with_end, with_finish}
 use Rattle.mc_machine.proofs.KeptMoverFinish.{kept_pooled, kept_recut, per_page_finished, per_page_there, uncut_finished}
@@ -36,7 +36,7 @@ proceeds_wrapped m move lawful runs at_end busy =
       held_up = ltb-true 0 move.busy busy;
     } in
     let order : IsInOrder (off (after_wrap m.slabs)) lawful.granted = IsInOrder-after_wrap (off m.slabs) lawful.granted move lawful.order can in
-    proceeds_slabs m (after_wrap m.slabs) lawful.granted lawful (kept_moved m.table (off m.slabs) lawful.index m.items _ _ _ _ lawful.kept order.accounted) order (omega arith) refl
+    proceeds_slabs m (after_wrap m.slabs) lawful.granted lawful (kept_moved m.table (off m.slabs) m.items _ _ _ _ lawful.kept order.accounted) order (omega arith) refl
 
 -- where the page has come to
 abbrev arrived_by : SlabState → Moving → Bool → SlabState
@@ -61,10 +61,10 @@ finish_way : (b : Bool) (m : Machine) (move : Moving) → IsLawful m → CanFini
 finish_way true m move lawful can pool =
     let was : SlabState = off m.slabs in
     let order = IsInOrder-finished was lawful.granted move lawful.order lawful.kept.whole can in
-    let kept = kept_pooled m.table was lawful.index m.items move lawful.kept can (eqb-true move.dst 0 pool) order.accounted in
+    let kept = kept_pooled m.table was m.items move lawful.kept can (eqb-true move.dst 0 pool) order.accounted in
     let now = off-finished m.slabs move in
     proceeds_slabs m (finished m.slabs move) lawful.granted lawful
-    (subst (λ (s : SlabState). IsKept m.table s lawful.index m.items) now kept) (subst (λ (s : SlabState). IsInOrder s lawful.granted) now order)
+    (subst (λ (s : SlabState). IsConsistent m.table s m.items) now kept) (subst (λ (s : SlabState). IsInOrder s lawful.granted) now order)
     (omega arith) (mode-finished m.slabs move)
 finish_way false m move lawful can class =
     let was : SlabState = off m.slabs in
@@ -77,11 +77,11 @@ finish_way false m move lawful can class =
     let order : IsInOrder new lawful.granted = IsInOrder-finished was lawful.granted move lawful.order lawful.kept.whole can in
     let some : 1 ≤ per_page = rw same (lawful.order.per_page move.dst valid) in
     let cut = all_cut new lawful.granted move.page per_page order (uncut_finished was move to) (per_page_there was move is to ∙ sym same) some in
-    let kept = kept_recut m.table was lawful.index m.items move (first_chunks move.page per_page) lawful.kept can cut.1 cut.0.accounted in
+    let kept = kept_recut m.table was m.items move (first_chunks move.page per_page) lawful.kept can cut.1 cut.0.accounted in
     let now : with_cut_page new move.dst move.page ≡ off (with_cut_page (finished m.slabs move) move.dst move.page)
     = ap (λ (s : SlabState). with_cut_page s move.dst move.page) (off-finished m.slabs move) ∙ off-cut_page (finished m.slabs move) move.dst move.page in
     proceeds_slabs m (with_cut_page (finished m.slabs move) move.dst move.page) lawful.granted lawful
-    (subst (λ (s : SlabState). IsKept m.table s lawful.index m.items) now kept) (subst (λ (s : SlabState). IsInOrder s lawful.granted) now cut.0)
+    (subst (λ (s : SlabState). IsConsistent m.table s m.items) now kept) (subst (λ (s : SlabState). IsInOrder s lawful.granted) now cut.0)
     (omega arith)
     (mode-cuts (finished m.slabs move) (first_chunks move.page (class_at (finished m.slabs move) move.dst).per_page) ∙ mode-finished m.slabs move)
 
@@ -115,7 +115,7 @@ proceeds_turned m counts lawful =
     let begun : Machine = record m { turns = m.turns + 1 } in
     let c : Counted = with_chunks m.bulk (record { machine = begun; counts = counts }) in
     let first : Proceeds m begun
-    = proceeds_from m begun lawful.index lawful.granted lawful lawful.kept lawful.order (omega arith) refl refl refl (λ worker chunk held. refl)
+    = proceeds_from m begun lawful.granted lawful lawful.kept lawful.order (omega arith) refl refl refl (λ worker chunk held. refl)
     (λ chunk item at is. (chunk, at)) in
     let looked : Proceeds begun c.machine = proceeds_chunks m.bulk (record { machine = begun; counts = counts }) first.lawful in
     proceeds_then m c.machine (turned m counts).machine (proceeds_then m begun c.machine first looked)

@@ -2,9 +2,7 @@
 use Rattle.std.proofs.Common.{◌≡◌, ℕ, ◌≤◌, List, ◌∷◌, true, false, cond, Some, None, ap, sym, ◌∙◌, arith, inl, inr, ◌⊎◌}
 use Rattle.std.specs.Prelude.{◌==◌}
 use Rattle.std.specs.Option.{option_map}
-use Rattle.std.specs.Ordering.{nat_cmp}
 use Rattle.std.specs.BTreeMap.{is_at}
-use Rattle.std.specs.Map.{lookup}
 use Rattle.std.proofs.lemmas.Bool.{and_parts}
 use Rattle.std.proofs.lemmas.Bool.Decides.{nat_tests}
 use Rattle.std.proofs.lemmas.Option.{same_Some}
@@ -21,9 +19,7 @@ use Rattle.mc_machine.specs.Machine.{Machine, with_mode}
 use Rattle.mc_laws.specs.Answered.{Answered, HeldWords, last_words, held_words}
 use Rattle.mc_machine.proofs.Chunks.{places-with_item, places_none}
 use Rattle.mc_laws.proofs.FoundItems.{item_at-with_item}
-use Rattle.mc_laws.proofs.Indexes.{index_of, leads_index}
 use Rattle.mc_machine.proofs.KeptStore.{IsNext, is_at-tells, is_next, kept_store}
-use Rattle.mc_machine.proofs.Links.{linked_chunk-with_item}
 use Rattle.mc_laws.proofs.Lawful.{off, IsLawful, Proceeds, as_held, stands_on, stored_as}
 use Rattle.mc_laws.proofs.ProceedCommands.{lawful_automove, lawful_unlinked, linked_still, stands_unlinked}
 use Rattle.mc_laws.proofs.Stands.{Stand, stand_on}
@@ -95,7 +91,7 @@ module _ (m : Machine) (class key : ℕ) (words : List ℕ) (chunk : ChunkId) (l
 
   none_there : item_at m.items chunk ≡ None
   none_there =
-      let is : IsNext (off m.slabs) m.items class chunk = is_next m.table (off m.slabs) lawful.index m.items class chunk lawful.kept valid next in
+      let is : IsNext (off m.slabs) m.items class chunk = is_next m.table (off m.slabs) m.items class chunk lawful.kept valid next in
       is.empty
 
   found_stored : (c : ChunkId) → item_at after_store.items c ≡ cond (is_at (chunk_cmp c) chunk) (Some (new_item key words)) (item_at m.items c)
@@ -103,19 +99,9 @@ module _ (m : Machine) (class key : ℕ) (words : List ℕ) (chunk : ChunkId) (l
 
   pub lawful_stored : IsLawful after_store
   lawful_stored =
-      let index : List (ℕ × ChunkId) = index_of after_store.items in
       let order : IsInOrder (off (after_pop m.slabs class)) lawful.granted = IsInOrder-after_pop (off m.slabs) lawful.granted class lawful.order valid in
-      let leads : (q : ℕ) → lookup (is_at (nat_cmp q)) index ≡ cond (is_at (nat_cmp key) q) (Some chunk) (lookup (is_at (nat_cmp q)) lawful.index)
-      = λ q. grind (
-        arith,
-        nat_tests,
-        leads_index after_store.items q,
-        linked_chunk-with_item q key words chunk m.items none_there nowhere,
-        lawful.kept.leads q,
-      ) in
       record {
-        index = index;
-        kept = kept_store m.table (off m.slabs) lawful.index index m.items class key words chunk lawful.kept valid next order.accounted nowhere leads;
+        kept = kept_store m.table (off m.slabs) m.items class key words chunk lawful.kept valid next order.accounted nowhere;
         granted = lawful.granted;
         order = order;
         workers = lawful.workers;

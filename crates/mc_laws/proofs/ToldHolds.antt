@@ -13,7 +13,7 @@ use Rattle.mc_script.specs.declared.command.Command.TheVariants.{Hold, Drop}
 use Rattle.mc_machine.specs.Item.{Item}
 use Rattle.mc_machine.specs.Items.{has_key, item_at, linked_chunk}
 use Rattle.mc_machine.specs.Holds.{held_by, is_full}
-use Rattle.mc_machine.specs.Kept.{places}
+use Rattle.mc_machine.specs.Consistent.{places}
 use Rattle.mc_machine.specs.Lines.{Served, dropped, held, last_hold, let_go, told as told_line}
 use Rattle.mc_machine.specs.Machine.{Machine}
 use Rattle.mc_machine.specs.Texts.{key_line}
@@ -39,7 +39,6 @@ module _ (m : Machine) (answers : List Answered) (answered : Answered) (worker :
 
   lawful_now : IsLawful (record m { holds = slice_set m.holds worker chunks })
   lawful_now = record {
-    index = told.lawful.index;
     kept = told.lawful.kept;
     granted = told.lawful.granted;
     order = told.lawful.order;
@@ -79,7 +78,7 @@ told_found m answers worker key None told few room leads =
 told_found m answers worker key (Some chunk) told few room leads =
     let answered : Answered = answered_by (Hold worker key) (held m worker key (Some chunk)) in
     let in_chunk : LinkedIn key chunk m.items
-    = linked_in key chunk m.items leads (place_once m.table (off m.slabs) told.lawful.index m.items chunk told.lawful.kept) (told.lawful.kept.one_link key) in
+    = linked_in key chunk m.items leads (place_once m.table (off m.slabs) m.items chunk told.lawful.kept) (told.lawful.kept.one_link key) in
     let item : Item = in_chunk.item in
     let tests = and_parts item.linked (item.key == key) in_chunk.linked in
     let its : item.key ≡ key = grind (arith, nat_tests) in

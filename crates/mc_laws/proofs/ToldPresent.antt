@@ -90,7 +90,7 @@ module _ (m : Machine) (answers : List Answered) (all : AreTold m answers) where
   -- the item to which a key leads has the key's last words
   pub linked_now : (key : ℕ) (chunk : ChunkId) → linked_chunk m.items key ≡ Some chunk → LinkedIn key chunk m.items
   linked_now key chunk leads =
-      linked_in key chunk m.items leads (place_once m.table (off m.slabs) all.lawful.index m.items chunk all.lawful.kept) (all.lawful.kept.one_link key)
+      linked_in key chunk m.items leads (place_once m.table (off m.slabs) m.items chunk all.lawful.kept) (all.lawful.kept.one_link key)
 
   item_way : (key : ℕ) (chunk : Option ChunkId) → linked_chunk m.items key ≡ chunk
       → (item : Option (List ℕ)) × ((item ≡ None) ⊎ (item ≡ last_words key answers)) × Finds m answers key item

@@ -45,8 +45,7 @@ told_fresh table bulk mode sound =
     let order : IsInOrder (off (fresh_slabs table)) 0 = IsInOrder-fresh table sound in
     record {
       lawful = record {
-        index = [];
-        kept = kept_fresh table 0 (off (fresh_slabs table)) [] [] sound refl order.accounted refl refl;
+        kept = kept_fresh table 0 (off (fresh_slabs table)) [] sound refl order.accounted refl;
         granted = 0;
         order = order;
         workers = refl;

@@ -25,7 +25,7 @@ module _ (m : Machine) (answers : List Answered) (all : AreTold m answers) where
   read_words key None leads = absent refl
   read_words key (Some chunk) leads =
       let there : LinkedIn key chunk m.items
-      = linked_in key chunk m.items leads (place_once m.table (off m.slabs) all.lawful.index m.items chunk all.lawful.kept) (all.lawful.kept.one_link key) in
+      = linked_in key chunk m.items leads (place_once m.table (off m.slabs) m.items chunk all.lawful.kept) (all.lawful.kept.one_link key) in
       let words : last_words key answers ≡ Some there.item.words = all.words key chunk there.item there.there there.linked in
       subst (λ (o : Option Item). IsReplyToGet key (last_words key answers) (read m key o).reply) (sym there.there)
       (found there.item.words words refl)

@@ -1,5 +1,5 @@
 -- How many pages and chunks there can be.
-use Rattle.std.proofs.Common.{◌≡◌, ℕ, ◌-◌, ◌*◌, ◌/◌, ◌≤◌, ◌<◌, List, length, slice_index_or, Some, ◌∙◌, arith}
+use Rattle.std.proofs.Common.{◌≡◌, ℕ, ◌-◌, ◌*◌, ◌/◌, ◌≤◌, ◌<◌, length, slice_index_or, Some, ◌∙◌, arith}
 use Rattle.std.specs.Prelude.{Contains, map, slice_get}
 use Rattle.std.proofs.lemmas.List.{length-map, get_or-map}
 use Rattle.std.proofs.Math.Nat.{mul-le-mul_left}
@@ -11,13 +11,13 @@ use Rattle.mc_pages.specs.SlabState.{SlabState, IsClass, class_at, class_of_page
 use Rattle.mc_pages.proofs.Chunks.{times_from_Contains}
 use Rattle.mc_pages.proofs.GrantedPage.{length-owners, length-pages_le}
 use Rattle.mc_machine.specs.Items.{Items}
-use Rattle.mc_machine.specs.Kept.{IsKept}
+use Rattle.mc_machine.specs.Consistent.{IsConsistent}
 use Rattle.mc_watch.specs.Texts.{AreCounts}
 use Rattle.mc_pages.proofs.ListedChunks.{in_lists_once, page_of_listed}
 use Rattle.mc_machine.proofs.Grown.{per_page_kept}
 
-module _ (table : Classes) (slabs : SlabState) (index : List (ℕ × ChunkId)) (items : Items) (class : ℕ)
-    (kept : IsKept table slabs index items) (valid : IsClass slabs class) where
+module _ (table : Classes) (slabs : SlabState) (items : Items) (class : ℕ)
+    (kept : IsConsistent table slabs items) (valid : IsClass slabs class) where
   -- a class has at most as many pages as there are
   pub pages_few : length (class_at slabs class).pages ≤ 64
   pages_few =
@@ -27,7 +27,7 @@ module _ (table : Classes) (slabs : SlabState) (index : List (ℕ × ChunkId)) (
   chunks_few : (class_at slabs class).per_page ≤ 256
   chunks_few =
       let inside : class ≤ length table.sizes = omega (arith, valid.1, kept.classes) in
-      rw (per_page_kept table slabs index items class kept valid) (kept.sound.chunks class (valid.0, inside)).1
+      rw (per_page_kept table slabs items class kept valid) (kept.sound.chunks class (valid.0, inside)).1
 
   -- free and handed-out chunks are at most what its pages have
   pub free_within : length (class_at slabs class).free ≤ length (class_at slabs class).pages * (class_at slabs class).per_page
@@ -54,7 +54,7 @@ module _ (table : Classes) (slabs : SlabState) (index : List (ℕ × ChunkId)) (
   listed_once x = omega (arith, in_lists_once slabs class x kept.accounted valid)
 
 -- the numbers of all classes are counts for their text
-module _ (table : Classes) (slabs : SlabState) (index : List (ℕ × ChunkId)) (items : Items) (kept : IsKept table slabs index items) where
+module _ (table : Classes) (slabs : SlabState) (items : Items) (kept : IsConsistent table slabs items) where
   count_of_class : (f : ClassState → ℕ) (class : ℕ) → IsTableClass table class
       → slice_index_or (map f slabs.classes) (class - 1) 0 ≡ f (class_at slabs class)
   count_of_class f class valid =
@@ -67,12 +67,12 @@ module _ (table : Classes) (slabs : SlabState) (index : List (ℕ × ChunkId)) (
     free_of_each = length-map slabs.classes (λ (class : ClassState). length class.free) ∙ kept.classes;
     few = λ class valid.
         let there : IsClass slabs class = (valid.0, rw kept.classes valid.1) in
-        rw (count_of_class (λ (c : ClassState). length c.pages) class valid) (omega (arith, pages_few table slabs index items class kept there));
+        rw (count_of_class (λ (c : ClassState). length c.pages) class valid) (omega (arith, pages_few table slabs items class kept there));
     within = λ class valid.
         let there : IsClass slabs class = (valid.0, rw kept.classes valid.1) in
         rw (
           count_of_class (λ (c : ClassState). length c.pages) class valid,
           count_of_class (λ (c : ClassState). length c.free) class valid,
-          ← per_page_kept table slabs index items class kept there,
-        ) (free_within table slabs index items class kept there);
+          ← per_page_kept table slabs items class kept there,
+        ) (free_within table slabs items class kept there);
   }

@@ -8,8 +8,8 @@ use Rattle.mc_pages.specs.declared.ids.ChunkId.{ChunkId}
 use Rattle.mc_pages.specs.ClassState.{is_chunk}
 use Rattle.mc_pages.specs.Accounted.{truth}
 use Rattle.mc_machine.specs.Item.{Item}
-use Rattle.mc_machine.specs.Items.{Items, chunk_cmp, item_at, with_item, without_item, unlinked_items}
-use Rattle.mc_machine.specs.Kept.{places}
+use Rattle.mc_machine.specs.Items.{Items, chunk_cmp, item_at, with_item, without_item, unlinked_items, PlacedItem}
+use Rattle.mc_machine.specs.Consistent.{places}
 
 -- a chunk compares equal to itself
 pub chunk_cmp-self : (c : ChunkId) → chunk_cmp c c ≡ Equal
@@ -26,12 +26,12 @@ none-places c [] h = refl
 none-places c (e ∷ items) h = grind (arith, nat_tests, none-places c items)
 
 -- an item comes in at one entry of the list
-with_item_step : (o : Ordering) (c d : ChunkId) (item : Item) (e : ChunkId × Item) (items : Items)
-    → chunk_cmp d e.0 ≡ o → item_at (e ∷ items) d ≡ None
+with_item_step : (o : Ordering) (c d : ChunkId) (item : Item) (e : PlacedItem) (items : Items)
+    → chunk_cmp d e.chunk ≡ o → item_at (e ∷ items) d ≡ None
     → (item_at items d ≡ None → places c (with_item items d item) ≡ places c items + truth (is_at (chunk_cmp c) d))
     → places c (with_item (e ∷ items) d item) ≡ places c (e ∷ items) + truth (is_at (chunk_cmp c) d)
 with_item_step Less c d item e items is none more = rw is (omega arith)
-with_item_step Equal c d item e items is none more = let bad : Some e.1 ≡ None = rw is at none in cc
+with_item_step Equal c d item e items is none more = let bad : Some e.item ≡ None = rw is at none in cc
 with_item_step Greater c d item e items is none more =
     let absent : item_at items d ≡ None = rw is at none in
     let more_here : places c (with_item items d item) ≡ places c items + truth (is_at (chunk_cmp c) d) = more absent in
@@ -42,7 +42,7 @@ pub places-with_item : (c d : ChunkId) (item : Item) (items : Items) → item_at
     → places c (with_item items d item) ≡ places c items + truth (is_at (chunk_cmp c) d)
 places-with_item c d item [] none = omega arith
 places-with_item c d item (e ∷ items) none =
-    with_item_step (chunk_cmp d e.0) c d item e items refl none (places-with_item c d item items)
+    with_item_step (chunk_cmp d e.chunk) c d item e items refl none (places-with_item c d item items)
 
 -- unlinking leaves every item where it is
 pub places-unlinked_items : (c : ChunkId) (key : ℕ) (items : Items) → places c (unlinked_items items key) ≡ places c items

@@ -3,7 +3,6 @@ use Rattle.std.proofs.Common.{◌≡◌, ℕ, ◌-◌, ◌/◌, ◌<◌, List, l
 use Rattle.std.specs.Prelude.{fold}
 use Rattle.std.proofs.lemmas.List.{get_or-set_same, get_or-map}
 use Rattle.mc_classes.specs.Classes.{Classes, per_page_of}
-use Rattle.mc_pages.specs.declared.ids.ChunkId.{ChunkId}
 use Rattle.mc_pages.specs.declared.ledger.Owner.{Owner}
 use Rattle.mc_pages.specs.declared.ledger.Owner.TheVariants.{Untouched, Class}
 use Rattle.mc_pages.specs.Ledger.{owner_at}
@@ -12,16 +11,16 @@ use Rattle.mc_pages.specs.SlabState.{SlabState, IsClass, class_at, class_of_owne
 use Rattle.mc_pages.specs.Accounted.{IsAccounted, first_chunks}
 use Rattle.mc_pages.specs.Changes.{after_grow, after_cut, next_page}
 use Rattle.mc_machine.specs.Items.{Items}
-use Rattle.mc_machine.specs.Kept.{IsKept}
+use Rattle.mc_machine.specs.Consistent.{IsConsistent}
 use Rattle.mc_machine.specs.Machine.{Machine, with_new_page}
 use Rattle.mc_pages.proofs.OneClass.{class_at-with_class_same}
 use Rattle.mc_pages.proofs.Cuts.{chunk_at}
 use Rattle.mc_pages.proofs.NextPage.{nobody_next, owners-grown, class_at-grown}
 
 -- the chunks of a page are the table's
-pub per_page_kept : (table : Classes) (slabs : SlabState) (index : List (ℕ × ChunkId)) (items : Items) (class : ℕ)
-    → IsKept table slabs index items → IsClass slabs class → (class_at slabs class).per_page ≡ per_page_of table class
-per_page_kept table slabs index items class kept valid =
+pub per_page_kept : (table : Classes) (slabs : SlabState) (items : Items) (class : ℕ)
+    → IsConsistent table slabs items → IsClass slabs class → (class_at slabs class).per_page ≡ per_page_of table class
+per_page_kept table slabs items class kept valid =
     let inside : class - 1 < length slabs.classes = omega (arith, valid.0, valid.1) in
     let inside_too : class - 1 < length table.sizes = omega (arith, kept.classes) in
     sym (get_or-map (λ (c : ClassState). c.per_page) slabs.classes (class - 1) (new_class 0 0) 0 inside)

@@ -1,11 +1,10 @@
--- What the keeper keeps as a page begins to move: its chunks count as its class's, as before.
+-- A machine stays consistent as a page begins to move: its chunks count as its class's, as before.
 use Rattle.std.proofs.Common.{◌≡◌, ◌≢◌, ℕ, ◌≤◌, ◌<◌, ◌==◌, List, [], ◌∷◌, length, count_by, slice_index_or, true, Option, Result, Ok, Err, refl, ap, sym, ◌∙◌, arith, eqb, inl, inr}
 use Rattle.std.specs.Prelude.{OnOk, OnErr, IfOk}
 use Rattle.std.proofs.lemmas.Bool.{cases_Bool}
 use Rattle.std.proofs.lemmas.Bool.Decides.{nat_tests}
 use Rattle.std.proofs.lemmas.List.Sums.{sum_by-cons}
 use Rattle.mc_classes.specs.Classes.{Classes}
-use Rattle.mc_pages.specs.declared.ids.ChunkId.{ChunkId}
 use Rattle.mc_pages.specs.declared.ledger.Owner.TheVariants as owner
 use Rattle.mc_pages.specs.declared.moves.Reassign.{Reassign}
 use Rattle.mc_pages.specs.Ledger.{owner_at}
@@ -17,7 +16,7 @@ use Rattle.mc_pages.specs.Moves.{first_page, after_begin}
 use Rattle.mc_pages.proofs.Owners.{class_of_owner-is_of_class, within_from_is_of_class, owner_at-set_same, owner_at-set_other}
 use Rattle.mc_pages.proofs.Source.{source_is}
 use Rattle.mc_machine.specs.Items.{Items}
-use Rattle.mc_machine.specs.Kept.{IsKept}
+use Rattle.mc_machine.specs.Consistent.{IsConsistent}
 
 -- the first of some pages is one of them
 first_counted : (pages : List ℕ) → 1 ≤ length pages → 1 ≤ count_by (λ p. p == slice_index_or pages 0 0) pages
@@ -52,10 +51,10 @@ class_of_page-begun slabs src source dst p accounted answer =
           ap class_of_owner (owner_at-set_other slabs.owners page p (owner.Moving source dst) apart)
     ]
 
-pub kept_begin : (table : Classes) (slabs : SlabState) (index : List (ℕ × ChunkId)) (items : Items) (src : Option ℕ) (source dst : ℕ)
-    → IsKept table slabs index items → answer_of slabs src dst ≡ Ok source → IsAccounted (after_begin slabs src source dst)
-    → IsKept table (after_begin slabs src source dst) index items
-kept_begin table slabs index items src source dst kept answer accounted = record {
+pub kept_begin : (table : Classes) (slabs : SlabState) (items : Items) (src : Option ℕ) (source dst : ℕ)
+    → IsConsistent table slabs items → answer_of slabs src dst ≡ Ok source → IsAccounted (after_begin slabs src source dst)
+    → IsConsistent table (after_begin slabs src source dst) items
+kept_begin table slabs items src source dst kept answer accounted = record {
   sound = kept.sound;
   classes = kept.classes;
   per_page = kept.per_page;
@@ -63,7 +62,6 @@ kept_begin table slabs index items src source dst kept answer accounted = record
   limit = kept.limit;
   whole = kept.whole;
   accounted = accounted;
-  leads = kept.leads;
   one_link = kept.one_link;
   handed_out = λ x.
       let same : class_of_page (after_begin slabs src source dst) x.page ≡ class_of_page slabs x.page = class_of_page-begun slabs src source dst x.page kept.accounted answer in
@@ -72,15 +70,15 @@ kept_begin table slabs index items src source dst kept answer accounted = record
 }
 
 -- whether a page began to move or not
-module _ (table : Classes) (slabs new : SlabState) (index : List (ℕ × ChunkId)) (items : Items) (src : Option ℕ) (dst : ℕ)
-    (kept : IsKept table slabs index items) (accounted : IsAccounted new) where
+module _ (table : Classes) (slabs new : SlabState) (items : Items) (src : Option ℕ) (dst : ℕ)
+    (kept : IsConsistent table slabs items) (accounted : IsAccounted new) where
   kept_as : (answer : Result ℕ Reassign) (result : Result (Unit {0}) Reassign) → answer_of slabs src dst ≡ answer → MayAnswer answer result
-      → OnOk result (IfOk answer (λ source. new ≡ after_begin slabs src source dst)) → OnErr result (new ≡ slabs) → IsKept table new index items
+      → OnOk result (IfOk answer (λ source. new ≡ after_begin slabs src source dst)) → OnErr result (new ≡ slabs) → IsConsistent table new items
   kept_as answer (Err refusal) is may began same = rw same kept
-  kept_as (Ok source) (Ok unit) is may began same = rw began (kept_begin table slabs index items src source dst kept is (rw began at accounted))
+  kept_as (Ok source) (Ok unit) is may began same = rw began (kept_begin table slabs items src source dst kept is (rw began at accounted))
   kept_as (Err refusal) (Ok unit) is may began same = cc
 
   pub kept_reassign : (result : Result (Unit {0}) Reassign) → MayAnswer (answer_of slabs src dst) result
       → OnOk result (IfOk (answer_of slabs src dst) (λ source. new ≡ after_begin slabs src source dst)) → OnErr result (new ≡ slabs)
-      → IsKept table new index items
+      → IsConsistent table new items
   kept_reassign result may began same = kept_as (answer_of slabs src dst) result refl may began same

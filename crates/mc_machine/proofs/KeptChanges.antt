@@ -1,9 +1,6 @@
--- What the keeper's steps keep.
-use Rattle.std.proofs.Common.{◌≡◌, ◌≢◌, ℕ, ◌+◌, ◌-◌, ◌/◌, ◌≤◌, ◌⊎◌, List, [], ◌∷◌, length, get_or, Bool, true, false, cond, Option, Some, None, suc, zero, inl, inr, refl, ap, sym, ◌∙◌, arith, eqb}
+-- Which changes leave a machine consistent.
+use Rattle.std.proofs.Common.{◌≡◌, ◌≢◌, ℕ, ◌+◌, ◌-◌, ◌/◌, ◌≤◌, ◌⊎◌, List, [], ◌∷◌, length, get_or, Bool, true, false, Option, Some, None, suc, zero, inl, inr, refl, ap, sym, ◌∙◌, arith, eqb}
 use Rattle.std.specs.Prelude.{fold, map, not}
-use Rattle.std.specs.Ordering.{nat_cmp}
-use Rattle.std.specs.BTreeMap.{is_at}
-use Rattle.std.specs.Map.{lookup}
 use Rattle.std.specs.Option.{option_map_or}
 use Rattle.std.proofs.lemmas.Bool.{not-true}
 use Rattle.std.proofs.lemmas.Bool.Decides.{nat_tests, leb_tells}
@@ -20,9 +17,9 @@ use Rattle.mc_pages.specs.Changes.{after_back, after_grow, after_cut, next_page}
 use Rattle.mc_machine.specs.Item.{Item}
 use Rattle.mc_machine.specs.Machine.{with_mode}
 use Rattle.mc_machine.specs.Items.{Items, item_at, is_unlinked, without_item, unlinked_in, unlinked_items, linked_chunk}
-use Rattle.mc_machine.specs.Kept.{places, IsKept}
+use Rattle.mc_machine.specs.Consistent.{places, IsConsistent}
 use Rattle.mc_machine.proofs.Chunks.{places-unlinked_items, places-without_item, places-without_item-le, places-without_item-other}
-use Rattle.mc_machine.proofs.Links.{links-unlinked_items, links-without_item-le, linked_chunk-unlinked_items, linked_chunk-without_item, some_places, LinkedIn, linked_in, unlinked_items_none}
+use Rattle.mc_machine.proofs.Links.{links-unlinked_items, links-without_item-le, some_places, LinkedIn, linked_in, unlinked_items_none}
 use Rattle.mc_pages.proofs.Chunks.{is_chunk-same, times-without, times-cons}
 use Rattle.mc_pages.proofs.ListedChunks.{in_lists_once, page_of_listed}
 use Rattle.mc_pages.proofs.NextPage.{nobody_next, classes-grown, owners-grown, page-grown, limit-grown, class_at-grown}
@@ -69,9 +66,9 @@ no_orders_fresh : (table : Classes) (class : ℕ) (x : ChunkId) → times x (cla
 no_orders_fresh table class x = omega (arith, ap (λ (cs : List ChunkId). times x cs) (order-fresh table.page table.sizes (class - 1)))
 
 -- where nothing is stored yet
-pub kept_fresh : (table : Classes) (mode : ℕ) (slabs : SlabState) (index : List (ℕ × ChunkId)) (items : Items)
-    → IsSound table → slabs ≡ with_mode (fresh_slabs table) mode → IsAccounted slabs → index ≡ [] → items ≡ [] → IsKept table slabs index items
-kept_fresh table mode slabs index items sound slabs_is accounted index_is items_is = rw (index_is, items_is) (record {
+pub kept_fresh : (table : Classes) (mode : ℕ) (slabs : SlabState) (items : Items)
+    → IsSound table → slabs ≡ with_mode (fresh_slabs table) mode → IsAccounted slabs → items ≡ [] → IsConsistent table slabs items
+kept_fresh table mode slabs items sound slabs_is accounted items_is = rw items_is (record {
   sound = sound;
   classes = rw slabs_is (length-map table.sizes (λ size. new_class size (table.page / size)));
   per_page = rw slabs_is (per_pages-fresh table.page table.sizes);
@@ -79,48 +76,44 @@ kept_fresh table mode slabs index items sound slabs_is accounted index_is items_
   limit = rw slabs_is refl;
   whole = rw slabs_is refl;
   accounted = accounted;
-  leads = λ key. refl;
   one_link = λ key. omega arith;
   handed_out = λ chunk. omega arith;
   stored = λ class chunk valid. rw slabs_is (no_orders_fresh table class chunk);
 })
 
 -- an item's chunk stands in the hand-out order of a class that is there
-pub listed : (table : Classes) (slabs : SlabState) (index : List (ℕ × ChunkId)) (items : Items) (x : ChunkId)
-    → IsKept table slabs index items → 1 ≤ places x items → IsClass slabs (class_of_page slabs x.page)
-listed table slabs index items x kept there =
+pub listed : (table : Classes) (slabs : SlabState) (items : Items) (x : ChunkId)
+    → IsConsistent table slabs items → 1 ≤ places x items → IsClass slabs (class_of_page slabs x.page)
+listed table slabs items x kept there =
     class_there (class_of_page slabs x.page) slabs x kept.accounted refl (omega (arith, kept.handed_out x))
 
 -- no chunk stands among the items twice
-pub place_once : (table : Classes) (slabs : SlabState) (index : List (ℕ × ChunkId)) (items : Items) (x : ChunkId)
-    → IsKept table slabs index items → places x items ≤ 1
-place_once table slabs index items x kept = elim (leb_tells 1 (places x items)) [
+pub place_once : (table : Classes) (slabs : SlabState) (items : Items) (x : ChunkId)
+    → IsConsistent table slabs items → places x items ≤ 1
+place_once table slabs items x kept = elim (leb_tells 1 (places x items)) [
   | inl some ↦
-      let there : IsClass slabs (class_of_page slabs x.page) = listed table slabs index items x kept some.1 in
+      let there : IsClass slabs (class_of_page slabs x.page) = listed table slabs items x kept some.1 in
       omega (arith, kept.handed_out x, in_lists_once slabs (class_of_page slabs x.page) x kept.accounted there)
   | inr none ↦ omega (arith, none.1)
 ]
 
--- what the index finds is the chunk of the key's item, and that item is unlinked
-pub unlinks_found : (table : Classes) (slabs : SlabState) (index : List (ℕ × ChunkId)) (items : Items) (key : ℕ) (chunk : ChunkId)
-    → IsKept table slabs index items → lookup (is_at (nat_cmp key)) index ≡ Some chunk
+-- the item that the key leads to is the one that is unlinked
+pub unlinks_found : (table : Classes) (slabs : SlabState) (items : Items) (key : ℕ) (chunk : ChunkId)
+    → IsConsistent table slabs items → linked_chunk items key ≡ Some chunk
     → unlinked_in items chunk (item_at items chunk) ≡ unlinked_items items key
-unlinks_found table slabs index items key chunk kept found =
-    let leads : linked_chunk items key ≡ Some chunk = sym (kept.leads key) ∙ found in
-    let item : LinkedIn key chunk items = linked_in key chunk items leads (place_once table slabs index items chunk kept) (kept.one_link key) in
+unlinks_found table slabs items key chunk kept leads =
+    let item : LinkedIn key chunk items = linked_in key chunk items leads (place_once table slabs items chunk kept) (kept.one_link key) in
     rw item.there item.unlinks
 
--- where it finds none, nothing is to unlink
-pub unlinks_none : (table : Classes) (slabs : SlabState) (index : List (ℕ × ChunkId)) (items : Items) (key : ℕ)
-    → IsKept table slabs index items → lookup (is_at (nat_cmp key)) index ≡ None → unlinked_items items key ≡ items
-unlinks_none table slabs index items key kept none = unlinked_items_none key items (sym (kept.leads key) ∙ none)
+-- where it leads nowhere, nothing is to unlink
+pub unlinks_none : (table : Classes) (slabs : SlabState) (items : Items) (key : ℕ)
+    → IsConsistent table slabs items → linked_chunk items key ≡ None → unlinked_items items key ≡ items
+unlinks_none table slabs items key kept none = unlinked_items_none key items none
 
 -- after a key is unlinked
-pub kept_unlink : (table : Classes) (slabs : SlabState) (index new_index : List (ℕ × ChunkId)) (items : Items) (key : ℕ)
-    → IsKept table slabs index items
-    → ((q : ℕ) → lookup (is_at (nat_cmp q)) new_index ≡ cond (is_at (nat_cmp key) q) None (lookup (is_at (nat_cmp q)) index))
-    → IsKept table slabs new_index (unlinked_items items key)
-kept_unlink table slabs index new_index items key kept index_is = record {
+pub kept_unlink : (table : Classes) (slabs : SlabState) (items : Items) (key : ℕ)
+    → IsConsistent table slabs items → IsConsistent table slabs (unlinked_items items key)
+kept_unlink table slabs items key kept = record {
   sound = kept.sound;
   classes = kept.classes;
   per_page = kept.per_page;
@@ -128,7 +121,6 @@ kept_unlink table slabs index new_index items key kept index_is = record {
   limit = kept.limit;
   whole = kept.whole;
   accounted = kept.accounted;
-  leads = λ q. grind (arith, nat_tests, index_is q, kept.leads q, linked_chunk-unlinked_items q key items);
   one_link = λ q. grind (arith, nat_tests, kept.one_link q, links-unlinked_items q key items);
   handed_out = λ y. rw (places-unlinked_items y key items) (kept.handed_out y);
   stored = λ class y valid. rw (places-unlinked_items y key items) (kept.stored class y valid);
@@ -168,13 +160,12 @@ none_back slabs class x accounted valid valid_new = elim (leb_tells 1 (times x (
   | inr none ↦ omega (arith, none.1)
 ]
 
--- after a chunk is put back and its item is gone, where the index leads to what the keys lead to then
-pub kept_back : (table : Classes) (slabs : SlabState) (index new_index : List (ℕ × ChunkId)) (items : Items) (x : ChunkId)
-    → IsKept table slabs index items → IsAccounted (after_back slabs x) → 1 ≤ places x items
-    → ((q : ℕ) → lookup (is_at (nat_cmp q)) new_index ≡ linked_chunk (without_item items x) q)
-    → IsKept table (after_back slabs x) new_index (without_item items x)
-kept_back table slabs index new_index items x kept accounted there leads =
-    let valid : IsClass slabs (class_of_page slabs x.page) = listed table slabs index items x kept there in
+-- after a chunk is put back and its item is gone
+pub kept_back : (table : Classes) (slabs : SlabState) (items : Items) (x : ChunkId)
+    → IsConsistent table slabs items → IsAccounted (after_back slabs x) → 1 ≤ places x items
+    → IsConsistent table (after_back slabs x) (without_item items x)
+kept_back table slabs items x kept accounted there =
+    let valid : IsClass slabs (class_of_page slabs x.page) = listed table slabs items x kept there in
     let handed : 1 ≤ times x (class_of_chunk slabs x).order = omega (arith, kept.handed_out x) in
     let classes : length (after_back slabs x).classes ≡ length slabs.classes = length-set slabs.classes _ _ in
     record {
@@ -185,7 +176,6 @@ kept_back table slabs index new_index items x kept accounted there leads =
       limit = kept.limit;
       whole = kept.whole;
       accounted = accounted;
-      leads = leads;
       one_link = λ q. omega (arith, kept.one_link q, links-without_item-le q x items);
       handed_out = λ y. elim (is_chunk-tells x y) [
         | inl same ↦
@@ -196,7 +186,7 @@ kept_back table slabs index new_index items x kept accounted there leads =
             rw (← same.1) (rw back (omega (arith, kept.handed_out x, less, places-without_item x items there)))
         | inr other ↦ elim (leb_tells 1 (places y items)) [
           | inl some ↦
-              let there_too : IsClass slabs (class_of_page slabs y.page) = listed table slabs index items y kept some.1 in
+              let there_too : IsClass slabs (class_of_page slabs y.page) = listed table slabs items y kept some.1 in
               omega (
                 arith,
                 kept.handed_out y,
@@ -230,20 +220,19 @@ unlinked_item items x is = found_in (item_at items x) refl is
     found_in (Some item) at holds = (item, at, not-true item.linked holds)
 
 -- after a dead chunk is put back and its item is gone
-pub kept_reclaim : (table : Classes) (slabs : SlabState) (index : List (ℕ × ChunkId)) (items : Items) (x : ChunkId)
-    → IsKept table slabs index items → IsAccounted (after_back slabs x) → is_unlinked items x ≡ true → IsKept table (after_back slabs x) index (without_item items x)
-kept_reclaim table slabs index items x kept accounted unlinked =
+pub kept_reclaim : (table : Classes) (slabs : SlabState) (items : Items) (x : ChunkId)
+    → IsConsistent table slabs items → IsAccounted (after_back slabs x) → is_unlinked items x ≡ true → IsConsistent table (after_back slabs x) (without_item items x)
+kept_reclaim table slabs items x kept accounted unlinked =
     let found = unlinked_item items x unlinked in
-    kept_back table slabs index index items x kept accounted (some_places x found.0 items found.1)
-    (λ q. kept.leads q ∙ sym (linked_chunk-without_item q x found.0 items found.1 found.2))
+    kept_back table slabs items x kept accounted (some_places x found.0 items found.1)
 
 -- after a class got the next page and its chunks were cut
-pub kept_grow : (table : Classes) (slabs : SlabState) (index : List (ℕ × ChunkId)) (items : Items) (class page : ℕ) (chunks : List ChunkId)
-    → IsKept table slabs index items → IsClass slabs class → next_page slabs ≡ Some page
+pub kept_grow : (table : Classes) (slabs : SlabState) (items : Items) (class page : ℕ) (chunks : List ChunkId)
+    → IsConsistent table slabs items → IsClass slabs class → next_page slabs ≡ Some page
     → IsAccounted (fold after_cut (after_grow slabs class page) chunks)
     → (fold after_cut (after_grow slabs class page) chunks).uncut ≡ None
-    → IsKept table (fold after_cut (after_grow slabs class page) chunks) index items
-kept_grow table slabs index items class page chunks kept valid next accounted whole =
+    → IsConsistent table (fold after_cut (after_grow slabs class page) chunks) items
+kept_grow table slabs items class page chunks kept valid next accounted whole =
     let new = after_grow slabs class page in
     let nobody = (nobody_next slabs page kept.accounted next).0 in
     let classes : length new.classes ≡ length slabs.classes = ap length (classes-grown slabs class page) ∙ length-set slabs.classes _ _ in
@@ -261,11 +250,10 @@ kept_grow table slabs index items class page chunks kept valid next accounted wh
       limit = limit-cuts new chunks ∙ limit-grown slabs class page ∙ kept.limit;
       whole = whole;
       accounted = accounted;
-      leads = kept.leads;
       one_link = kept.one_link;
       handed_out = λ y. elim (leb_tells 1 (places y items)) [
         | inl some ↦
-            let there : IsClass slabs (class_of_page slabs y.page) = listed table slabs index items y kept some.1 in
+            let there : IsClass slabs (class_of_page slabs y.page) = listed table slabs items y kept some.1 in
             let apart : y.page ≢ page = λ same.
             let none : class_of_page slabs y.page ≡ 0 = ap (λ (p : ℕ). class_of_page slabs p) same ∙ nobody in
             omega (arith, there.0, none) in

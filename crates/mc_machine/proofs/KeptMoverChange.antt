@@ -1,9 +1,6 @@
--- A step of the mover changes the lists of one class and the items, and what the keeper keeps stays.
+-- A step of the mover changes the lists of one class and the items, and the machine stays consistent.
 use Rattle.std.proofs.Common.{◌≡◌, ◌≢◌, ℕ, ◌+◌, ◌-◌, ◌≤◌, List, length, inl, inr, refl, ap, sym, ◌∙◌, arith}
 use Rattle.std.specs.Prelude.{map, slice_index_or}
-use Rattle.std.specs.Ordering.{nat_cmp}
-use Rattle.std.specs.BTreeMap.{is_at}
-use Rattle.std.specs.Map.{lookup}
 use Rattle.std.proofs.lemmas.Bool.{cases_eq, cases_lt}
 use Rattle.std.proofs.lemmas.List.{get_or-set_other}
 use Rattle.mc_classes.specs.Classes.{Classes}
@@ -16,8 +13,8 @@ use Rattle.mc_pages.specs.Accounted.{IsAccounted}
 use Rattle.mc_pages.specs.Changes.{with_class}
 use Rattle.mc_pages.proofs.HandedOut.{class_of_placed}
 use Rattle.mc_pages.proofs.OneClass.{length-with_class}
-use Rattle.mc_machine.specs.Items.{Items, linked_chunk}
-use Rattle.mc_machine.specs.Kept.{places, links, IsKept}
+use Rattle.mc_machine.specs.Items.{Items}
+use Rattle.mc_machine.specs.Consistent.{places, links, IsConsistent}
 use Rattle.mc_pages.proofs.ClassChanges.{per_pages-with_class}
 
 -- the lists of one class are other ones, and all else of the pages and chunks is as before
@@ -64,8 +61,8 @@ not_listed slabs class x accounted valid apart = elim (cases_lt (times x (class_
 ]
 
 -- a class's hand-out order gains and loses a chunk as often as the items do: all is kept
-module _ (table : Classes) (slabs new : SlabState) (index new_index : List (ℕ × ChunkId)) (items new_items : Items) (class : ℕ)
-    (kept : IsKept table slabs index items) (valid : IsClass slabs class) (changes : ChangesClass slabs new class) (accounted : IsAccounted new)
+module _ (table : Classes) (slabs new : SlabState) (items new_items : Items) (class : ℕ)
+    (kept : IsConsistent table slabs items) (valid : IsClass slabs class) (changes : ChangesClass slabs new class) (accounted : IsAccounted new)
     (balance : (x : ChunkId) → times x (class_at new class).order + places x items ≡ times x (class_at slabs class).order + places x new_items) where
   valid_new : (n : ℕ) → IsClass slabs n → IsClass new n
   valid_new n is = (is.0, omega (arith, is.1, changes.classes))
@@ -124,9 +121,9 @@ module _ (table : Classes) (slabs new : SlabState) (index new_index : List (ℕ 
     ]
   ]
 
-  pub kept_changed : ((key : ℕ) → lookup (is_at (nat_cmp key)) new_index ≡ linked_chunk new_items key) → ((key : ℕ) → links key new_items ≤ 1)
-      → IsKept table new new_index new_items
-  kept_changed leads one_link = record {
+  pub kept_changed : ((key : ℕ) → links key new_items ≤ 1)
+      → IsConsistent table new new_items
+  kept_changed one_link = record {
     sound = kept.sound;
     classes = changes.classes ∙ kept.classes;
     per_page = changes.per_page ∙ kept.per_page;
@@ -134,7 +131,6 @@ module _ (table : Classes) (slabs new : SlabState) (index new_index : List (ℕ 
     limit = changes.limit ∙ kept.limit;
     whole = changes.uncut ∙ kept.whole;
     accounted = accounted;
-    leads = leads;
     one_link = one_link;
     handed_out = handed_now;
     stored = stored_now;

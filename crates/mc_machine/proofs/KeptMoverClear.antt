@@ -1,10 +1,7 @@
--- A chunk of the moving page is cleared with its item: what the keeper keeps stays.
-use Rattle.std.proofs.Common.{◌≡◌, ℕ, ◌+◌, ◌≤◌, List, [], ◌∷◌, suc, Bool, true, false, not, cond, Option, Some, None, inl, inr, refl, ap, sym, ◌∙◌, arith, Contains}
-use Rattle.std.specs.Prelude.{◌==◌, ◌&&◌}
+-- A chunk of the moving page is cleared with its item: the machine stays consistent.
+use Rattle.std.proofs.Common.{◌≡◌, ℕ, ◌+◌, ◌≤◌, List, [], ◌∷◌, suc, Bool, true, false, not, Option, Some, None, inl, inr, refl, ap, ◌∙◌, arith, Contains}
+use Rattle.std.specs.Prelude.{◌&&◌}
 use Rattle.std.specs.Option.{option_map_or}
-use Rattle.std.specs.Ordering.{nat_cmp}
-use Rattle.std.specs.BTreeMap.{is_at}
-use Rattle.std.specs.Map.{lookup}
 use Rattle.std.proofs.lemmas.Bool.{cases_Bool, and_parts}
 use Rattle.std.proofs.lemmas.Bool.Decides.{nat_tests}
 use Rattle.mc_classes.specs.Classes.{Classes}
@@ -25,7 +22,7 @@ use Rattle.mc_machine.specs.Item.{Item, is_linked_to}
 use Rattle.mc_machine.specs.Items.{Items, item_at, is_linked, is_unlinked, linked_chunk, without_item}
 use Rattle.mc_machine.specs.Holds.{is_held}
 use Rattle.mc_machine.specs.Machine.{Machine, is_dead, is_linked_unheld}
-use Rattle.mc_machine.specs.Kept.{places, links, IsKept}
+use Rattle.mc_machine.specs.Consistent.{places, links, IsConsistent}
 use Rattle.mc_machine.proofs.KeptMoverChange.{changes_class, kept_changed}
 
 -- an item is one place of its chunk
@@ -96,14 +93,14 @@ pub idle_here : (m now : Machine) (chunk : ChunkId) → m ≡ now → is_linked_
 idle_here m now chunk same idle = idle_item m.items chunk (is_held m.holds chunk) (rw same idle)
 
 -- the chunk of an item is handed out
-pub handed_item : (table : Classes) (slabs : SlabState) (index : List (ℕ × ChunkId)) (items : Items) (chunk : ChunkId) (item : Item)
-    → IsKept table slabs index items → item_at items chunk ≡ Some item → 1 ≤ times chunk (class_of_chunk slabs chunk).order
-handed_item table slabs index items chunk item kept there = omega (arith, kept.handed_out chunk, one_place chunk item items there)
+pub handed_item : (table : Classes) (slabs : SlabState) (items : Items) (chunk : ChunkId) (item : Item)
+    → IsConsistent table slabs items → item_at items chunk ≡ Some item → 1 ≤ times chunk (class_of_chunk slabs chunk).order
+handed_item table slabs items chunk item kept there = omega (arith, kept.handed_out chunk, one_place chunk item items there)
 
-pub class_of_item : (table : Classes) (slabs : SlabState) (index : List (ℕ × ChunkId)) (items : Items) (chunk : ChunkId) (item : Item)
-    → IsKept table slabs index items → item_at items chunk ≡ Some item → IsClass slabs (class_of_page slabs chunk.page)
-class_of_item table slabs index items chunk item kept there =
-    IsClass-placed slabs chunk kept.accounted (omega (arith, handed_item table slabs index items chunk item kept there))
+pub class_of_item : (table : Classes) (slabs : SlabState) (items : Items) (chunk : ChunkId) (item : Item)
+    → IsConsistent table slabs items → item_at items chunk ≡ Some item → IsClass slabs (class_of_page slabs chunk.page)
+class_of_item table slabs items chunk item kept there =
+    IsClass-placed slabs chunk kept.accounted (omega (arith, handed_item table slabs items chunk item kept there))
 
 -- a chunk that is counted in a list is one of its chunks
 pub contains_counted : (chunk : ChunkId) (chunks : List ChunkId) → 1 ≤ times chunk chunks → Contains chunks chunk
@@ -118,85 +115,58 @@ contains_counted chunk (c ∷ chunks) some = counted_step (is_chunk c chunk) ref
         (suc below.0, omega (arith, below.1), below.2)
 
 -- a chunk leaves its class's hand-out order, and its item is gone
-module _ (table : Classes) (slabs : SlabState) (index new_index : List (ℕ × ChunkId)) (items : Items) (chunk : ChunkId) (item : Item) (state : ClassState)
-    (kept : IsKept table slabs index items) (there : item_at items chunk ≡ Some item)
+module _ (table : Classes) (slabs : SlabState) (items : Items) (chunk : ChunkId) (item : Item) (state : ClassState)
+    (kept : IsConsistent table slabs items) (there : item_at items chunk ≡ Some item)
     (same : state.per_page ≡ (class_of_chunk slabs chunk).per_page) (order : state.order ≡ without chunk (class_of_chunk slabs chunk).order)
     (accounted : IsAccounted (with_class slabs (class_of_page slabs chunk.page) state)) where
   balanced : (x : ChunkId) → times x (class_at (with_class slabs (class_of_page slabs chunk.page) state) (class_of_page slabs chunk.page)).order + places x items
       ≡ times x (class_of_chunk slabs chunk).order + places x (without_item items chunk)
   balanced x =
-      let valid : IsClass slabs (class_of_page slabs chunk.page) = class_of_item table slabs index items chunk item kept there in
+      let valid : IsClass slabs (class_of_page slabs chunk.page) = class_of_item table slabs items chunk item kept there in
       rw (class_at-with_class_same slabs (class_of_page slabs chunk.page) state valid, order)
       (omega (
         arith,
-        times-without x chunk (class_of_chunk slabs chunk).order (handed_item table slabs index items chunk item kept there),
+        times-without x chunk (class_of_chunk slabs chunk).order (handed_item table slabs items chunk item kept there),
         places_without x chunk item items there,
       ))
 
-  pub kept_left : ((key : ℕ) → lookup (is_at (nat_cmp key)) new_index ≡ linked_chunk (without_item items chunk) key)
-      → IsKept table (with_class slabs (class_of_page slabs chunk.page) state) new_index (without_item items chunk)
-  kept_left leads =
-      kept_changed table slabs (with_class slabs (class_of_page slabs chunk.page) state) index new_index items (without_item items chunk)
-      (class_of_page slabs chunk.page) kept (class_of_item table slabs index items chunk item kept there)
-      (changes_class slabs (class_of_page slabs chunk.page) state same) accounted balanced leads
+  pub kept_left : IsConsistent table (with_class slabs (class_of_page slabs chunk.page) state) (without_item items chunk)
+  kept_left =
+      kept_changed table slabs (with_class slabs (class_of_page slabs chunk.page) state) items (without_item items chunk)
+      (class_of_page slabs chunk.page) kept (class_of_item table slabs items chunk item kept there)
+      (changes_class slabs (class_of_page slabs chunk.page) state same) accounted balanced
       (λ key. omega (arith, kept.one_link key, links_without key chunk item items there))
 
 -- a chunk and its item are cleared away
-pub kept_cleared : (table : Classes) (slabs : SlabState) (index new_index : List (ℕ × ChunkId)) (items : Items) (chunk : ChunkId) (item : Item)
-    → IsKept table slabs index items → item_at items chunk ≡ Some item → IsAccounted (after_clear slabs chunk)
-    → ((key : ℕ) → lookup (is_at (nat_cmp key)) new_index ≡ linked_chunk (without_item items chunk) key)
-    → IsKept table (after_clear slabs chunk) new_index (without_item items chunk)
-kept_cleared table slabs index new_index items chunk item kept there accounted leads =
-    kept_left table slabs index new_index items chunk item (cleared (class_of_chunk slabs chunk) chunk) kept there refl refl accounted leads
+pub kept_cleared : (table : Classes) (slabs : SlabState) (items : Items) (chunk : ChunkId) (item : Item)
+    → IsConsistent table slabs items → item_at items chunk ≡ Some item → IsAccounted (after_clear slabs chunk)
+    → IsConsistent table (after_clear slabs chunk) (without_item items chunk)
+kept_cleared table slabs items chunk item kept there accounted =
+    kept_left table slabs items chunk item (cleared (class_of_chunk slabs chunk) chunk) kept there refl refl accounted
 
 -- a chunk is put back, and its item is gone
-pub kept_back : (table : Classes) (slabs : SlabState) (index new_index : List (ℕ × ChunkId)) (items : Items) (chunk : ChunkId) (item : Item)
-    → IsKept table slabs index items → item_at items chunk ≡ Some item → IsAccounted (after_back slabs chunk)
-    → ((key : ℕ) → lookup (is_at (nat_cmp key)) new_index ≡ linked_chunk (without_item items chunk) key)
-    → IsKept table (after_back slabs chunk) new_index (without_item items chunk)
-kept_back table slabs index new_index items chunk item kept there accounted leads =
-    kept_left table slabs index new_index items chunk item (put_back (class_of_chunk slabs chunk) chunk) kept there refl refl accounted leads
-
--- the keys lead on where they led, but for the one whose item is gone
-pub leads_dead : (table : Classes) (slabs : SlabState) (index : List (ℕ × ChunkId)) (items : Items) (chunk : ChunkId) (item : Item)
-    → IsKept table slabs index items → item_at items chunk ≡ Some item → item.linked ≡ false
-    → (key : ℕ) → lookup (is_at (nat_cmp key)) index ≡ linked_chunk (without_item items chunk) key
-leads_dead table slabs index items chunk item kept there dead key =
-    kept.leads key ∙ sym (leads_without key chunk item items there (rw dead refl))
-
-pub leads_gone : (table : Classes) (slabs : SlabState) (index new_index : List (ℕ × ChunkId)) (items : Items) (chunk : ChunkId) (item : Item) (gone : ℕ)
-    → IsKept table slabs index items → item_at items chunk ≡ Some item → item.linked ≡ true → gone ≡ item.key
-    → ((q : ℕ) → lookup (is_at (nat_cmp q)) new_index ≡ cond (is_at (nat_cmp gone) q) None (lookup (is_at (nat_cmp q)) index))
-    → (key : ℕ) → lookup (is_at (nat_cmp key)) new_index ≡ linked_chunk (without_item items chunk) key
-leads_gone table slabs index new_index items chunk item gone kept there linked its index_is key = leads_step (item.key == key) refl
-  where
-    leads_step : (b : Bool) → (item.key == key) ≡ b → lookup (is_at (nat_cmp key)) new_index ≡ linked_chunk (without_item items chunk) key
-    leads_step true same =
-        let to : is_linked_to key item ≡ true = rw (linked, same) refl in
-        let none : links key (without_item items chunk) ≡ 0 = omega (arith, kept.one_link key, links_without key chunk item items there, ap truth to) in
-        let at : is_at (nat_cmp gone) key ≡ true = grind (arith, nat_tests) in
-        index_is key ∙ rw at (sym (leads_nowhere key (without_item items chunk) none))
-    leads_step false other =
-        let to : is_linked_to key item ≡ false = rw (linked, other) refl in
-        let at : is_at (nat_cmp gone) key ≡ false = grind (arith, nat_tests) in
-        index_is key ∙ rw at (kept.leads key ∙ sym (leads_without key chunk item items there to))
+pub kept_back : (table : Classes) (slabs : SlabState) (items : Items) (chunk : ChunkId) (item : Item)
+    → IsConsistent table slabs items → item_at items chunk ≡ Some item → IsAccounted (after_back slabs chunk)
+    → IsConsistent table (after_back slabs chunk) (without_item items chunk)
+kept_back table slabs items chunk item kept there accounted =
+    kept_left table slabs items chunk item (put_back (class_of_chunk slabs chunk) chunk) kept there refl refl accounted
 
 -- a chunk without an item is cleared away
-module _ (table : Classes) (slabs : SlabState) (index : List (ℕ × ChunkId)) (items : Items) (chunk : ChunkId)
-    (kept : IsKept table slabs index items) (empty : item_at items chunk ≡ None) (valid : IsClass slabs (class_of_page slabs chunk.page)) where
+module _ (table : Classes) (slabs : SlabState) (items : Items) (chunk : ChunkId)
+    (kept : IsConsistent table slabs items) (empty : item_at items chunk ≡ None) (valid : IsClass slabs (class_of_page slabs chunk.page)) where
   -- it isn't handed out
   pub not_handed : times chunk (class_of_chunk slabs chunk).order ≡ 0
   not_handed = omega (arith, kept.stored (class_of_page slabs chunk.page) chunk valid, no_place chunk items empty)
 
-  pub kept_freed : IsAccounted (after_clear slabs chunk) → IsKept table (after_clear slabs chunk) index items
+  pub kept_freed : IsAccounted (after_clear slabs chunk) → IsConsistent table (after_clear slabs chunk) items
   kept_freed accounted =
-      kept_changed table slabs (after_clear slabs chunk) index index items items (class_of_page slabs chunk.page) kept valid
+      kept_changed table slabs (after_clear slabs chunk) items items (class_of_page slabs chunk.page) kept valid
       (changes_class slabs (class_of_page slabs chunk.page) (cleared (class_of_chunk slabs chunk) chunk) refl) accounted
       (λ x. rw (
         class_at-with_class_same slabs (class_of_page slabs chunk.page) (cleared (class_of_chunk slabs chunk) chunk) valid,
         without-absent chunk (class_of_chunk slabs chunk).order not_handed,
       ) refl)
-      kept.leads kept.one_link
+      kept.one_link
 
 -- a chunk that was cut for a class and stands in none of its lists is cleared
 pub cleared_there : (slabs : SlabState) (class : ℕ) (chunk : ChunkId) → IsAccounted slabs → IsClass slabs class → is_cut slabs class chunk ≡ true

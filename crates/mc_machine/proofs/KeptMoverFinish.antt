@@ -1,4 +1,4 @@
--- A move ends, and a class cuts the page: what the keeper keeps stays.
+-- A move ends, and a class cuts the page: the machine stays consistent.
 use Rattle.std.proofs.Common.{◌≡◌, ◌≢◌, ℕ, ◌<◌, ◌≤◌, List, length, set, Bool, true, false, Option, Some, None, inl, inr, refl, ap, sym, ◌∙◌, arith, eqb-true, eq-eqb, ne_eqb}
 use Rattle.std.specs.Prelude.{◌==◌, fold, map, nat_lt, if◌then◌else◌}
 use Rattle.std.proofs.lemmas.Bool.{cases_Bool, cases_lt, and_parts, ltb-true}
@@ -18,7 +18,7 @@ use Rattle.mc_pages.proofs.HandedOut.{IsClass-placed}
 use Rattle.mc_pages.proofs.Owners.{owner_at-set_same, owner_at-set_other}
 use Rattle.mc_pages.proofs.ReleasedPage.{within_from_IsMove}
 use Rattle.mc_machine.specs.Items.{Items}
-use Rattle.mc_machine.specs.Kept.{places, IsKept}
+use Rattle.mc_machine.specs.Consistent.{places, IsConsistent}
 use Rattle.mc_machine.specs.Machine.{Machine, with_cut_page}
 use Rattle.mc_machine.specs.Mover.{with_finish}
 use Rattle.mc_pages.proofs.ClassChanges.{order-with_class, per_pages-with_class, classes-cuts, order-cuts, owners-cuts, per_pages-cuts, page-cuts, limit-cuts}
@@ -96,9 +96,9 @@ arrives_cut slabs new page chunks first = record {
 }
 
 -- the move has ended: all is kept
-kept_arrived : (table : Classes) (slabs new : SlabState) (index : List (ℕ × ChunkId)) (items : Items) (move : Moving)
-    → IsKept table slabs index items → CanFinish slabs move → Arrives slabs new move.page → new.uncut ≡ None → IsAccounted new → IsKept table new index items
-kept_arrived table slabs new index items move kept can comes whole accounted = record {
+kept_arrived : (table : Classes) (slabs new : SlabState) (items : Items) (move : Moving)
+    → IsConsistent table slabs items → CanFinish slabs move → Arrives slabs new move.page → new.uncut ≡ None → IsAccounted new → IsConsistent table new items
+kept_arrived table slabs new items move kept can comes whole accounted = record {
   sound = kept.sound;
   classes = comes.classes ∙ kept.classes;
   per_page = comes.per_page ∙ kept.per_page;
@@ -106,7 +106,6 @@ kept_arrived table slabs new index items move kept can comes whole accounted = r
   limit = comes.limit ∙ kept.limit;
   whole = whole;
   accounted = accounted;
-  leads = kept.leads;
   one_link = kept.one_link;
   handed_out = λ x. elim (cases_lt (places x items) 1) [
     | inl none ↦ omega (arith, none)
@@ -127,21 +126,21 @@ kept_arrived table slabs new index items move kept can comes whole accounted = r
 }
 
 -- the move to the pool has ended
-pub kept_pooled : (table : Classes) (slabs : SlabState) (index : List (ℕ × ChunkId)) (items : Items) (move : Moving)
-    → IsKept table slabs index items → CanFinish slabs move → move.dst ≡ 0 → IsAccounted (finished slabs move) → IsKept table (finished slabs move) index items
-kept_pooled table slabs index items move kept can pool accounted =
+pub kept_pooled : (table : Classes) (slabs : SlabState) (items : Items) (move : Moving)
+    → IsConsistent table slabs items → CanFinish slabs move → move.dst ≡ 0 → IsAccounted (finished slabs move) → IsConsistent table (finished slabs move) items
+kept_pooled table slabs items move kept can pool accounted =
     let whole : (finished slabs move).uncut ≡ None
     = ap (λ b. (if b then released slabs move.page move.src else (record (with_given (released slabs move.page move.src) move.dst move.page) { pool = slabs.pool })).uncut)
     (eq-eqb move.dst 0 pool) ∙ kept.whole in
-    kept_arrived table slabs (finished slabs move) index items move kept can (arrives slabs move) whole accounted
+    kept_arrived table slabs (finished slabs move) items move kept can (arrives slabs move) whole accounted
 
 -- the move to a class has ended, and the page's chunks are cut
-pub kept_recut : (table : Classes) (slabs : SlabState) (index : List (ℕ × ChunkId)) (items : Items) (move : Moving) (chunks : List ChunkId)
-    → IsKept table slabs index items → CanFinish slabs move
+pub kept_recut : (table : Classes) (slabs : SlabState) (items : Items) (move : Moving) (chunks : List ChunkId)
+    → IsConsistent table slabs items → CanFinish slabs move
     → (fold after_cut (finished slabs move) chunks).uncut ≡ None → IsAccounted (fold after_cut (finished slabs move) chunks)
-    → IsKept table (fold after_cut (finished slabs move) chunks) index items
-kept_recut table slabs index items move chunks kept can whole accounted =
-    kept_arrived table slabs (fold after_cut (finished slabs move) chunks) index items move kept can
+    → IsConsistent table (fold after_cut (finished slabs move) chunks) items
+kept_recut table slabs items move chunks kept can whole accounted =
+    kept_arrived table slabs (fold after_cut (finished slabs move) chunks) items move kept can
     (arrives_cut slabs (finished slabs move) move.page chunks (arrives slabs move)) whole accounted
 
 -- the page that came to a class: its first chunk is cut next, and it has as many chunks as the class's others

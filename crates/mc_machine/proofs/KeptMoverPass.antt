@@ -1,4 +1,4 @@
--- The mover goes on from a chunk, or begins its pass anew: what the keeper keeps stays. And what a look leaves of the move.
+-- The mover goes on from a chunk, or begins its pass anew: the machine stays consistent. And what a look leaves of the move.
 use Rattle.std.proofs.Common.{◌≡◌, ℕ, ◌<◌, List, [], ◌∷◌, Bool, true, false, Option, Some, None, refl, ap, ◌∙◌, eq-eqb, lt-ltb}
 use Rattle.std.specs.Prelude.{fold, map, if◌then◌else◌}
 use Rattle.std.proofs.lemmas.Bool.{and_from}
@@ -12,7 +12,7 @@ use Rattle.mc_pages.specs.Accounted.{is_cut, is_cleared, IsMove, IsAccounted}
 use Rattle.mc_pages.specs.Changes.{with_class, after_back, after_clear, after_replace}
 use Rattle.mc_pages.specs.Moves.{is_held_up, chunk_at_position, CanPass}
 use Rattle.mc_machine.specs.Items.{Items}
-use Rattle.mc_machine.specs.Kept.{IsKept}
+use Rattle.mc_machine.specs.Consistent.{IsConsistent}
 use Rattle.mc_machine.specs.Machine.{Machine, is_dead, is_linked_unheld, dead_chunks, after_reclaim, swept}
 use Rattle.mc_machine.specs.Mover.{Looked, looked_at, saved, target, with_cleared, with_saved}
 use Rattle.mc_pages.specs.ClassState.{times}
@@ -22,11 +22,11 @@ use Rattle.mc_pages.proofs.ClassChanges.{per_pages-with_class}
 use Rattle.mc_pages.proofs.Cuts.{per_page-map}
 
 -- the position and the counters are other ones
-pub kept_moved : (table : Classes) (slabs : SlabState) (index : List (ℕ × ChunkId)) (items : Items) (moving : Option Moving) (rescues evictions busy : ℕ)
-    → IsKept table slabs index items
+pub kept_moved : (table : Classes) (slabs : SlabState) (items : Items) (moving : Option Moving) (rescues evictions busy : ℕ)
+    → IsConsistent table slabs items
     → IsAccounted (record slabs { moving = moving; rescues = rescues; evictions_nomem = evictions; busy = busy })
-    → IsKept table (record slabs { moving = moving; rescues = rescues; evictions_nomem = evictions; busy = busy }) index items
-kept_moved table slabs index items moving rescues evictions busy kept accounted = record {
+    → IsConsistent table (record slabs { moving = moving; rescues = rescues; evictions_nomem = evictions; busy = busy }) items
+kept_moved table slabs items moving rescues evictions busy kept accounted = record {
   sound = kept.sound;
   classes = kept.classes;
   per_page = kept.per_page;
@@ -34,7 +34,6 @@ kept_moved table slabs index items moving rescues evictions busy kept accounted 
   limit = kept.limit;
   whole = kept.whole;
   accounted = accounted;
-  leads = kept.leads;
   one_link = kept.one_link;
   handed_out = kept.handed_out;
   stored = kept.stored;
@@ -113,6 +112,6 @@ position_cut slabs move is whole within =
     rw (is.owner, whole) (and_from _ _ (eq-eqb move.src move.src refl) (lt-ltb move.at (class_at slabs move.src).per_page within))
 
 -- the move that runs
-pub move_here : (m now : Machine) (index : List (ℕ × ChunkId)) (move : Moving) → IsKept m.table m.slabs index m.items → m ≡ now
+pub move_here : (m now : Machine) (move : Moving) → IsConsistent m.table m.slabs m.items → m ≡ now
     → m.slabs.moving ≡ Some move → IsMove now.slabs move
-move_here m now index move kept same runs = rw (← same) (kept.accounted.move move runs)
+move_here m now move kept same runs = rw (← same) (kept.accounted.move move runs)

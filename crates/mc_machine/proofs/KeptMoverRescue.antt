@@ -1,11 +1,7 @@
--- An item of the moving page comes into another chunk of its class: what the keeper keeps stays.
-use Rattle.std.proofs.Common.{◌≡◌, ℕ, ◌+◌, ◌≤◌, List, [], ◌∷◌, Bool, true, false, Some, None, refl, ap, sym, ◌∙◌, arith, Contains, eq-eqb}
-use Rattle.std.specs.Prelude.{◌==◌, if◌then◌else◌}
-use Rattle.std.specs.Ordering.{nat_cmp}
+-- An item of the moving page comes into another chunk of its class: the machine stays consistent.
+use Rattle.std.proofs.Common.{◌≡◌, ℕ, ◌+◌, ◌≤◌, [], ◌∷◌, Bool, true, false, Some, None, refl, ap, sym, ◌∙◌, arith, Contains}
 use Rattle.std.specs.declared.cmp.Ordering.{Ordering}
 use Rattle.std.specs.declared.cmp.Ordering.TheVariants.{Less, Equal, Greater}
-use Rattle.std.specs.BTreeMap.{is_at}
-use Rattle.std.specs.Map.{lookup, set_value}
 use Rattle.std.proofs.lemmas.Bool.{false≢true}
 use Rattle.std.proofs.lemmas.Bool.Decides.{nat_tests}
 use Rattle.mc_classes.specs.Classes.{Classes}
@@ -20,17 +16,17 @@ use Rattle.mc_pages.proofs.Lists.{times-with_before}
 use Rattle.mc_pages.proofs.HandedOut.{class_of_placed}
 use Rattle.mc_pages.proofs.OneClass.{class_at-with_class_same, length-with_class}
 use Rattle.mc_machine.specs.Item.{Item, is_linked_to}
-use Rattle.mc_machine.specs.Items.{Items, chunk_cmp, item_at, linked_chunk, with_item, without_item}
-use Rattle.mc_machine.specs.Kept.{places, links, IsKept}
+use Rattle.mc_machine.specs.Items.{Items, chunk_cmp, item_at, linked_chunk, with_item, without_item, PlacedItem}
+use Rattle.mc_machine.specs.Consistent.{places, links, IsConsistent}
 use Rattle.mc_machine.proofs.KeptMoverChange.{ChangesClass, changes_class, changes_again, kept_changed}
-use Rattle.mc_machine.proofs.KeptMoverClear.{no_item, places_without, links_without, leads_without, leads_nowhere, handed_item, class_of_item}
+use Rattle.mc_machine.proofs.KeptMoverClear.{no_item, places_without, links_without, handed_item, class_of_item}
 
 -- an item comes into a chunk without one: at one entry of the list
-places_step : (o : Ordering) (x d : ChunkId) (item : Item) (e : ChunkId × Item) (items : Items) → chunk_cmp d e.0 ≡ o → item_at (e ∷ items) d ≡ None
+places_step : (o : Ordering) (x d : ChunkId) (item : Item) (e : PlacedItem) (items : Items) → chunk_cmp d e.chunk ≡ o → item_at (e ∷ items) d ≡ None
     → (item_at items d ≡ None → places x (with_item items d item) ≡ places x items + truth (is_chunk d x))
     → places x (with_item (e ∷ items) d item) ≡ places x (e ∷ items) + truth (is_chunk d x)
 places_step Less x d item e items is none more = rw is (grind (arith, nat_tests))
-places_step Equal x d item e items is none more = let bad : Some e.1 ≡ None = rw is at none in cc
+places_step Equal x d item e items is none more = let bad : Some e.item ≡ None = rw is at none in cc
 places_step Greater x d item e items is none more =
     let absent : item_at items d ≡ None = rw is at none in
     let here : places x (with_item items d item) ≡ places x items + truth (is_chunk d x) = more absent in
@@ -39,13 +35,13 @@ places_step Greater x d item e items is none more =
 pub places_with : (x d : ChunkId) (item : Item) (items : Items) → item_at items d ≡ None
     → places x (with_item items d item) ≡ places x items + truth (is_chunk d x)
 places_with x d item [] none = grind (arith, nat_tests)
-places_with x d item (e ∷ items) none = places_step (chunk_cmp d e.0) x d item e items refl none (places_with x d item items)
+places_with x d item (e ∷ items) none = places_step (chunk_cmp d e.chunk) x d item e items refl none (places_with x d item items)
 
-links_step : (o : Ordering) (key : ℕ) (d : ChunkId) (item : Item) (e : ChunkId × Item) (items : Items) → chunk_cmp d e.0 ≡ o → item_at (e ∷ items) d ≡ None
+links_step : (o : Ordering) (key : ℕ) (d : ChunkId) (item : Item) (e : PlacedItem) (items : Items) → chunk_cmp d e.chunk ≡ o → item_at (e ∷ items) d ≡ None
     → (item_at items d ≡ None → links key (with_item items d item) ≡ links key items + truth (is_linked_to key item))
     → links key (with_item (e ∷ items) d item) ≡ links key (e ∷ items) + truth (is_linked_to key item)
 links_step Less key d item e items is none more = rw is (omega arith)
-links_step Equal key d item e items is none more = let bad : Some e.1 ≡ None = rw is at none in cc
+links_step Equal key d item e items is none more = let bad : Some e.item ≡ None = rw is at none in cc
 links_step Greater key d item e items is none more =
     let absent : item_at items d ≡ None = rw is at none in
     let here : links key (with_item items d item) ≡ links key items + truth (is_linked_to key item) = more absent in
@@ -54,15 +50,15 @@ links_step Greater key d item e items is none more =
 pub links_with : (key : ℕ) (d : ChunkId) (item : Item) (items : Items) → item_at items d ≡ None
     → links key (with_item items d item) ≡ links key items + truth (is_linked_to key item)
 links_with key d item [] none = omega arith
-links_with key d item (e ∷ items) none = links_step (chunk_cmp d e.0) key d item e items refl none (links_with key d item items)
+links_with key d item (e ∷ items) none = links_step (chunk_cmp d e.chunk) key d item e items refl none (links_with key d item items)
 
 -- a key that led nowhere leads to the item that came in
-to_step : (o : Ordering) (key : ℕ) (d : ChunkId) (item : Item) (e : ChunkId × Item) (items : Items) → chunk_cmp d e.0 ≡ o → item_at (e ∷ items) d ≡ None
+to_step : (o : Ordering) (key : ℕ) (d : ChunkId) (item : Item) (e : PlacedItem) (items : Items) → chunk_cmp d e.chunk ≡ o → item_at (e ∷ items) d ≡ None
     → is_linked_to key item ≡ true → linked_chunk (e ∷ items) key ≡ None
     → (item_at items d ≡ None → linked_chunk items key ≡ None → linked_chunk (with_item items d item) key ≡ Some d)
     → linked_chunk (with_item (e ∷ items) d item) key ≡ Some d
 to_step Less key d item e items is none to nowhere more = rw is (rw to refl)
-to_step Equal key d item e items is none to nowhere more = let bad : Some e.1 ≡ None = rw is at none in cc
+to_step Equal key d item e items is none to nowhere more = let bad : Some e.item ≡ None = rw is at none in cc
 to_step Greater key d item e items is none to nowhere more =
     let absent : item_at items d ≡ None = rw is at none in
     rw is (grind (arith, nat_tests, more absent))
@@ -71,15 +67,15 @@ pub leads_to : (key : ℕ) (d : ChunkId) (item : Item) (items : Items) → item_
     → linked_chunk items key ≡ None → linked_chunk (with_item items d item) key ≡ Some d
 leads_to key d item [] none to nowhere = rw to refl
 leads_to key d item (e ∷ items) none to nowhere =
-    to_step (chunk_cmp d e.0) key d item e items refl none to nowhere (λ absent. leads_to key d item items absent to)
+    to_step (chunk_cmp d e.chunk) key d item e items refl none to nowhere (λ absent. leads_to key d item items absent to)
 
 -- any other key leads where it led
-on_step : (o : Ordering) (key : ℕ) (d : ChunkId) (item : Item) (e : ChunkId × Item) (items : Items) → chunk_cmp d e.0 ≡ o → item_at (e ∷ items) d ≡ None
+on_step : (o : Ordering) (key : ℕ) (d : ChunkId) (item : Item) (e : PlacedItem) (items : Items) → chunk_cmp d e.chunk ≡ o → item_at (e ∷ items) d ≡ None
     → is_linked_to key item ≡ false
     → (item_at items d ≡ None → linked_chunk (with_item items d item) key ≡ linked_chunk items key)
     → linked_chunk (with_item (e ∷ items) d item) key ≡ linked_chunk (e ∷ items) key
 on_step Less key d item e items is none other more = rw is (rw other refl)
-on_step Equal key d item e items is none other more = let bad : Some e.1 ≡ None = rw is at none in cc
+on_step Equal key d item e items is none other more = let bad : Some e.item ≡ None = rw is at none in cc
 on_step Greater key d item e items is none other more =
     let absent : item_at items d ≡ None = rw is at none in
     rw is (grind (arith, nat_tests, more absent))
@@ -88,34 +84,22 @@ pub leads_on : (key : ℕ) (d : ChunkId) (item : Item) (items : Items) → item_
     → linked_chunk (with_item items d item) key ≡ linked_chunk items key
 leads_on key d item [] none other = rw other refl
 leads_on key d item (e ∷ items) none other =
-    on_step (chunk_cmp d e.0) key d item e items refl none other (λ absent. leads_on key d item items absent other)
-
--- what a look-up finds after a value was set
-pub found_set : (q key : ℕ) (old new : ChunkId) (index : List (ℕ × ChunkId)) → lookup (is_at (nat_cmp key)) index ≡ Some old
-    → lookup (is_at (nat_cmp q)) (set_value (is_at (nat_cmp key)) index new) ≡ (if key == q then Some new else lookup (is_at (nat_cmp q)) index)
-found_set q key old new [] h = cc
-found_set q key old new (e ∷ index) h = grind (arith, nat_tests, found_set q key old new index)
-
--- a value is set where there is none: nothing changes
-pub set_none : (key : ℕ) (new : ChunkId) (index : List (ℕ × ChunkId)) → lookup (is_at (nat_cmp key)) index ≡ None
-    → set_value (is_at (nat_cmp key)) index new ≡ index
-set_none key new [] h = refl
-set_none key new (e ∷ index) h = grind (arith, nat_tests, set_none key new index)
+    on_step (chunk_cmp d e.chunk) key d item e items refl none other (λ absent. leads_on key d item items absent other)
 
 -- where a key has one item at most, it leads to that item's chunk
-leads_step : (b s : Bool) (key : ℕ) (chunk : ChunkId) (item : Item) (e : ChunkId × Item) (items : Items) → is_linked_to key e.1 ≡ b → is_chunk e.0 chunk ≡ s
+leads_step : (b s : Bool) (key : ℕ) (chunk : ChunkId) (item : Item) (e : PlacedItem) (items : Items) → is_linked_to key e.item ≡ b → is_chunk e.chunk chunk ≡ s
     → item_at (e ∷ items) chunk ≡ Some item → is_linked_to key item ≡ true → links key (e ∷ items) ≤ 1
     → (item_at items chunk ≡ Some item → links key items ≤ 1 → linked_chunk items key ≡ Some chunk)
     → linked_chunk (e ∷ items) key ≡ Some chunk
-leads_step true true key chunk item e items is same at to one more = rw is (ap Some (same_from_is_chunk e.0 chunk same))
+leads_step true true key chunk item e items is same at to one more = rw is (ap Some (same_from_is_chunk e.chunk chunk same))
 leads_step true false key chunk item e items is other at to one more =
     let below : item_at items chunk ≡ Some item = grind (arith, nat_tests) in
     let some : links key (without_item items chunk) + truth (is_linked_to key item) ≡ links key items = links_without key chunk item items below in
     let here : links key (e ∷ items) ≡ 1 + links key items = rw is refl in
     absurd (omega (arith, some, here, ap truth to, one))
 leads_step false true key chunk item e items is same at to one more =
-    let here : e.1 ≡ item = grind (arith, nat_tests) in
-    let bad : is_linked_to key e.1 ≡ true = rw here to in
+    let here : e.item ≡ item = grind (arith, nat_tests) in
+    let bad : is_linked_to key e.item ≡ true = rw here to in
     absurd (false≢true (sym is ∙ bad))
 leads_step false false key chunk item e items is other at to one more =
     let below : item_at items chunk ≡ Some item = grind (arith, nat_tests) in
@@ -126,18 +110,18 @@ pub leads_from : (key : ℕ) (chunk : ChunkId) (item : Item) (items : Items) →
     → links key items ≤ 1 → linked_chunk items key ≡ Some chunk
 leads_from key chunk item [] at to one = cc
 leads_from key chunk item (e ∷ items) at to one =
-    leads_step (is_linked_to key e.1) (is_chunk e.0 chunk) key chunk item e items refl refl at to one
+    leads_step (is_linked_to key e.item) (is_chunk e.chunk chunk) key chunk item e items refl refl at to one
     (λ below few. leads_from key chunk item items below to few)
 
 -- an item comes from one chunk into a free one of the same class, in its place of the hand-out order
-module _ (table : Classes) (slabs : SlabState) (index : List (ℕ × ChunkId)) (items : Items) (old new : ChunkId) (item : Item)
-    (kept : IsKept table slabs index items) (there : item_at items old ≡ Some item) (linked : item.linked ≡ true)
+module _ (table : Classes) (slabs : SlabState) (items : Items) (old new : ChunkId) (item : Item)
+    (kept : IsConsistent table slabs items) (there : item_at items old ≡ Some item) (linked : item.linked ≡ true)
     (free : Contains (class_of_chunk slabs old).free new) where
   valid : IsClass slabs (class_of_page slabs old.page)
-  valid = class_of_item table slabs index items old item kept there
+  valid = class_of_item table slabs items old item kept there
 
   pub handed : 1 ≤ times old (class_of_chunk slabs old).order
-  handed = handed_item table slabs index items old item kept there
+  handed = handed_item table slabs items old item kept there
 
   -- the free chunk isn't handed out, so it has no item
   pub vacant : item_at (without_item items old) new ≡ None
@@ -193,32 +177,9 @@ module _ (table : Classes) (slabs : SlabState) (index : List (ℕ × ChunkId)) (
   links_rescued : (key : ℕ) → links key (with_item (without_item items old) new item) ≡ links key items
   links_rescued key = omega (arith, links_with key new item (without_item items old) vacant, links_without key old item items there)
 
-  -- the item's key leads to the old chunk
-  found : lookup (is_at (nat_cmp item.key)) index ≡ Some old
-  found =
-      let to : is_linked_to item.key item ≡ true = rw (linked, eq-eqb item.key item.key refl) refl in
-      kept.leads item.key ∙ leads_from item.key old item items there to (kept.one_link item.key)
-
-  -- the item's key leads to the new chunk, and each other where it led
-  leads_rescued : (key : ℕ) → lookup (is_at (nat_cmp key)) (set_value (is_at (nat_cmp item.key)) index new)
-      ≡ linked_chunk (with_item (without_item items old) new item) key
-  leads_rescued key = leads_case (item.key == key) refl
-    where
-      leads_case : (b : Bool) → (item.key == key) ≡ b → lookup (is_at (nat_cmp key)) (set_value (is_at (nat_cmp item.key)) index new)
-          ≡ linked_chunk (with_item (without_item items old) new item) key
-      leads_case true same =
-          let to : is_linked_to key item ≡ true = rw (linked, same) refl in
-          let none : links key (without_item items old) ≡ 0 = omega (arith, kept.one_link key, links_without key old item items there, ap truth to) in
-          found_set key item.key old new index found ∙ rw same
-          (sym (leads_to key new item (without_item items old) vacant to (leads_nowhere key (without_item items old) none)))
-      leads_case false other =
-          let to : is_linked_to key item ≡ false = rw (linked, other) refl in
-          found_set key item.key old new index found ∙ rw other
-          (kept.leads key ∙ sym (leads_without key old item items there to) ∙ sym (leads_on key new item (without_item items old) vacant to))
-
   pub kept_rescued : IsAccounted (after_clear (after_replace slabs new old) old)
-      → IsKept table (after_clear (after_replace slabs new old) old) (set_value (is_at (nat_cmp item.key)) index new) (with_item (without_item items old) new item)
+      → IsConsistent table (after_clear (after_replace slabs new old) old) (with_item (without_item items old) new item)
   kept_rescued accounted =
-      kept_changed table slabs (after_clear (after_replace slabs new old) old) index (set_value (is_at (nat_cmp item.key)) index new) items
-      (with_item (without_item items old) new item) (class_of_page slabs old.page) kept valid changes accounted balanced leads_rescued
+      kept_changed table slabs (after_clear (after_replace slabs new old) old) items
+      (with_item (without_item items old) new item) (class_of_page slabs old.page) kept valid changes accounted balanced
       (λ key. omega (arith, links_rescued key, kept.one_link key))

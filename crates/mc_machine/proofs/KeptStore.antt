@@ -1,9 +1,7 @@
--- What storing an item keeps.
-use Rattle.std.proofs.Common.{◌≡◌, ◌≢◌, ℕ, ◌+◌, ◌≤◌, ◌⊎◌, List, [], ◌∷◌, Bool, true, false, cond, Some, None, length, inl, inr, refl, ap, ◌∙◌, arith, eqb}
+-- A machine stays consistent as an item is stored.
+use Rattle.std.proofs.Common.{◌≡◌, ◌≢◌, ℕ, ◌+◌, ◌≤◌, ◌⊎◌, List, [], ◌∷◌, Bool, true, false, Some, None, length, inl, inr, refl, ap, ◌∙◌, arith, eqb}
 use Rattle.std.specs.Prelude.{slice_get}
-use Rattle.std.specs.Ordering.{nat_cmp}
 use Rattle.std.specs.BTreeMap.{is_at}
-use Rattle.std.specs.Map.{lookup}
 use Rattle.std.proofs.lemmas.Bool.Decides.{nat_tests, leb_tells}
 use Rattle.std.proofs.lemmas.List.{length-set}
 use Rattle.mc_classes.specs.Classes.{Classes}
@@ -15,9 +13,9 @@ use Rattle.mc_pages.specs.Changes.{after_pop}
 use Rattle.mc_pages.proofs.Chunks.{is_chunk-same, times-cons, times-push}
 use Rattle.mc_machine.specs.Item.{new_item}
 use Rattle.mc_machine.specs.Items.{Items, chunk_cmp, item_at, with_item, linked_chunk}
-use Rattle.mc_machine.specs.Kept.{places, IsKept}
+use Rattle.mc_machine.specs.Consistent.{places, IsConsistent}
 use Rattle.mc_machine.proofs.Chunks.{places_none, places-with_item, none-places}
-use Rattle.mc_machine.proofs.Links.{links_none, links-with_item, linked_chunk-with_item}
+use Rattle.mc_machine.proofs.Links.{links_none, links-with_item}
 use Rattle.mc_pages.proofs.ListedChunks.{in_lists_once, page_of_listed}
 use Rattle.mc_machine.proofs.KeptChanges.{listed}
 use Rattle.mc_pages.proofs.OneClass.{class_at-with_class_same, class_at-with_class_other}
@@ -61,9 +59,9 @@ pub record IsNext (slabs : SlabState) (items : Items) (class : ℕ) (x : ChunkId
   -- it is handed out then
   pub listed : 1 ≤ times x (class_at (after_pop slabs class) class).order
 
-pub is_next : (table : Classes) (slabs : SlabState) (index : List (ℕ × ChunkId)) (items : Items) (class : ℕ) (x : ChunkId)
-    → IsKept table slabs index items → IsClass slabs class → first_free (class_at slabs class) ≡ Some x → IsNext slabs items class x
-is_next table slabs index items class x kept valid head =
+pub is_next : (table : Classes) (slabs : SlabState) (items : Items) (class : ℕ) (x : ChunkId)
+    → IsConsistent table slabs items → IsClass slabs class → first_free (class_at slabs class) ≡ Some x → IsNext slabs items class x
+is_next table slabs items class x kept valid head =
     let free : 1 ≤ times x (class_at slabs class).free = free_head x (class_at slabs class).free head in
     let own : class_of_page slabs x.page ≡ class = page_of_listed slabs class x kept.accounted valid (omega arith) in
     let once : times x (class_at slabs class).free + times x (class_at slabs class).order ≤ 1 = in_lists_once slabs class x kept.accounted valid in
@@ -78,13 +76,12 @@ is_next table slabs index items class x kept valid head =
     }
 
 -- after an item comes into the next chunk of a class and that chunk is handed out, under a key that led nowhere
-pub kept_store : (table : Classes) (slabs : SlabState) (index new_index : List (ℕ × ChunkId)) (items : Items) (class key : ℕ) (words : List ℕ) (x : ChunkId)
-    → IsKept table slabs index items → IsClass slabs class → first_free (class_at slabs class) ≡ Some x → IsAccounted (after_pop slabs class)
+pub kept_store : (table : Classes) (slabs : SlabState) (items : Items) (class key : ℕ) (words : List ℕ) (x : ChunkId)
+    → IsConsistent table slabs items → IsClass slabs class → first_free (class_at slabs class) ≡ Some x → IsAccounted (after_pop slabs class)
     → linked_chunk items key ≡ None
-    → ((q : ℕ) → lookup (is_at (nat_cmp q)) new_index ≡ cond (is_at (nat_cmp key) q) (Some x) (lookup (is_at (nat_cmp q)) index))
-    → IsKept table (after_pop slabs class) new_index (with_item items x (new_item key words))
-kept_store table slabs index new_index items class key words x kept valid head accounted unlinked index_is =
-    let next : IsNext slabs items class x = is_next table slabs index items class x kept valid head in
+    → IsConsistent table (after_pop slabs class) (with_item items x (new_item key words))
+kept_store table slabs items class key words x kept valid head accounted unlinked =
+    let next : IsNext slabs items class x = is_next table slabs items class x kept valid head in
     let classes : length (after_pop slabs class).classes ≡ length slabs.classes = length-set slabs.classes _ _ in
     let grows = λ (y : ChunkId). places-with_item y x (new_item key words) items next.empty in
     record {
@@ -95,7 +92,6 @@ kept_store table slabs index new_index items class key words x kept valid head a
       limit = kept.limit;
       whole = kept.whole;
       accounted = accounted;
-      leads = λ q. grind (arith, nat_tests, index_is q, kept.leads q, linked_chunk-with_item q key words x items next.empty unlinked);
       one_link = λ q. grind (arith, nat_tests, kept.one_link q, links_none key items unlinked, links-with_item q x (new_item key words) items next.empty);
       handed_out = λ y. elim (is_at-tells y x) [
         | inl same ↦
@@ -103,7 +99,7 @@ kept_store table slabs index new_index items class key words x kept valid head a
             rw same.1 (omega (arith, here, places_none x items next.empty, ap truth (rw same.1 at same.0), grows x))
         | inr other ↦ elim (leb_tells 1 (places y items)) [
           | inl some ↦
-              let there : IsClass slabs (class_of_page slabs y.page) = listed table slabs index items y kept some.1 in
+              let there : IsClass slabs (class_of_page slabs y.page) = listed table slabs items y kept some.1 in
               omega (
                 arith,
                 kept.handed_out y,

@@ -1,8 +1,5 @@
--- What the keeper keeps as a key's item becomes the youngest of its class.
+-- A machine stays consistent as a key's item becomes the youngest of its class.
 use Rattle.std.proofs.Common.{◌≡◌, ◌≢◌, ℕ, ◌-◌, ◌≤◌, ◌<◌, List, [], ◌∷◌, length, Bool, true, false, Some, Contains, refl, ap, sym, ◌∙◌, arith, eqb, inl, inr, suc}
-use Rattle.std.specs.Ordering.{nat_cmp}
-use Rattle.std.specs.BTreeMap.{is_at}
-use Rattle.std.specs.Map.{lookup}
 use Rattle.std.proofs.lemmas.Bool.{cases_Bool}
 use Rattle.std.proofs.lemmas.Bool.Decides.{nat_tests}
 use Rattle.std.proofs.lemmas.List.{get_or-set_same, get_or-set_other, length-set}
@@ -16,17 +13,17 @@ use Rattle.mc_pages.proofs.Chunks.{times-push, times-without, times-tail, times_
 use Rattle.mc_pages.proofs.HandedOut.{IsClass-handed_out}
 use Rattle.mc_machine.specs.Item.{is_linked_to}
 use Rattle.mc_machine.specs.Items.{Items, linked_chunk}
-use Rattle.mc_machine.specs.Kept.{places, IsKept}
+use Rattle.mc_machine.specs.Consistent.{places, IsConsistent}
 use Rattle.mc_machine.proofs.Chunks.{chunk_cmp-self}
 use Rattle.mc_pages.proofs.ClassChanges.{per_pages-with_class}
 
 -- the chunk that a key leads to has an item
 leads_there : (key : ℕ) (chunk : ChunkId) (items : Items) → linked_chunk items key ≡ Some chunk → 1 ≤ places chunk items
 leads_there key chunk [] leads = cc
-leads_there key chunk (e ∷ items) leads = elim (cases_Bool (is_linked_to key e.1)) [
+leads_there key chunk (e ∷ items) leads = elim (cases_Bool (is_linked_to key e.item)) [
   | inl linked ↦
-      let here : Some e.0 ≡ Some chunk = rw linked at leads in
-      let same : e.0 ≡ chunk = cc in
+      let here : Some e.chunk ≡ Some chunk = rw linked at leads in
+      let same : e.chunk ≡ chunk = cc in
       rw (same, chunk_cmp-self chunk) (omega arith)
   | inr other ↦ omega (arith, leads_there key chunk items (rw other at leads))
 ]
@@ -41,11 +38,10 @@ contains_from_times chunk (c ∷ chunks) some = elim (cases_Bool (is_chunk c chu
       (suc rest.0, omega (arith, rest.1), rest.2)
 ]
 
--- what the index finds is handed out
-pub leads_to_handed_out : (table : Classes) (slabs : SlabState) (index : List (ℕ × ChunkId)) (items : Items) (key : ℕ) (chunk : ChunkId)
-    → IsKept table slabs index items → lookup (is_at (nat_cmp key)) index ≡ Some chunk → Contains (class_of_chunk slabs chunk).order chunk
-leads_to_handed_out table slabs index items key chunk kept found =
-    let leads : linked_chunk items key ≡ Some chunk = sym (kept.leads key) ∙ found in
+-- the chunk that a key leads to is handed out
+pub leads_to_handed_out : (table : Classes) (slabs : SlabState) (items : Items) (key : ℕ) (chunk : ChunkId)
+    → IsConsistent table slabs items → linked_chunk items key ≡ Some chunk → Contains (class_of_chunk slabs chunk).order chunk
+leads_to_handed_out table slabs items key chunk kept leads =
     contains_from_times chunk (class_of_chunk slabs chunk).order (omega (arith, leads_there key chunk items leads, kept.handed_out chunk))
 
 -- a class is replaced by one whose hand-out order has a chunk as often
@@ -69,10 +65,10 @@ times-with_class slabs class other state x valid same = times_step (eqb (other -
 times-touched : (x chunk : ChunkId) (class : ClassState) → 1 ≤ times chunk class.order → times x (touched class chunk).order ≡ times x class.order
 times-touched x chunk class some = times-push x chunk (without chunk class.order) ∙ times-without x chunk class.order some
 
-pub kept_touch : (table : Classes) (slabs : SlabState) (index : List (ℕ × ChunkId)) (items : Items) (chunk : ChunkId)
-    → IsKept table slabs index items → Contains (class_of_chunk slabs chunk).order chunk → IsAccounted (after_touch slabs chunk)
-    → IsKept table (after_touch slabs chunk) index items
-kept_touch table slabs index items chunk kept handed accounted =
+pub kept_touch : (table : Classes) (slabs : SlabState) (items : Items) (chunk : ChunkId)
+    → IsConsistent table slabs items → Contains (class_of_chunk slabs chunk).order chunk → IsAccounted (after_touch slabs chunk)
+    → IsConsistent table (after_touch slabs chunk) items
+kept_touch table slabs items chunk kept handed accounted =
     let class : ℕ = class_of_page slabs chunk.page in
     let state : ClassState = touched (class_at slabs class) chunk in
     let valid : IsClass slabs class = IsClass-handed_out slabs chunk kept.accounted handed in
@@ -85,7 +81,6 @@ kept_touch table slabs index items chunk kept handed accounted =
       limit = kept.limit;
       whole = kept.whole;
       accounted = accounted;
-      leads = kept.leads;
       one_link = kept.one_link;
       handed_out = λ x. rw (times-with_class slabs class (class_of_page slabs x.page) state x valid (same x)) (kept.handed_out x);
       stored = λ other x there.

@@ -17,10 +17,5 @@ pub mod MoverSaves
 pub mod KeptMoverPass
 pub mod KeptMoverFinish
 pub mod MoverTurns
-pub mod Watched
 pub mod Modes
 pub mod StoredItems
-pub mod DeadItems
-pub mod DeadOrders
-pub mod HeldElsewhere
-pub mod Counted

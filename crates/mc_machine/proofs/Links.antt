@@ -5,12 +5,11 @@ use Rattle.std.proofs.lemmas.Bool.Decides.{nat_tests}
 use Rattle.std.specs.declared.cmp.Ordering.{Ordering}
 use Rattle.std.specs.declared.cmp.Ordering.TheVariants.{Less, Equal, Greater}
 use Rattle.std.specs.BTreeMap.{is_at}
-use Rattle.std.specs.Map.{set_value}
 use Rattle.mc_pages.specs.declared.ids.ChunkId.{ChunkId}
 use Rattle.mc_pages.specs.Accounted.{truth}
 use Rattle.mc_machine.specs.Item.{Item, new_item, is_linked_to, unlinked}
-use Rattle.mc_machine.specs.Items.{Items, chunk_cmp, item_at, with_item, without_item, unlinked_items, linked_chunk}
-use Rattle.mc_machine.specs.Kept.{links, places}
+use Rattle.mc_machine.specs.Items.{Items, chunk_cmp, item_at, with_item, without_item, unlinked_items, linked_chunk, PlacedItem, with_changed_item}
+use Rattle.mc_machine.specs.Consistent.{links, places}
 use Rattle.mc_machine.proofs.Chunks.{chunk_cmp-self}
 
 -- no linked item: the key leads nowhere, and the other way round
@@ -39,12 +38,12 @@ unlinked_items_none key [] h = refl
 unlinked_items_none key (e ∷ items) h = grind (arith, nat_tests, unlinked_items_none key items)
 
 -- a new item comes in at one entry of the list: who is linked to a key
-links_step : (o : Ordering) (q : ℕ) (d : ChunkId) (item : Item) (e : ChunkId × Item) (items : Items)
-    → chunk_cmp d e.0 ≡ o → item_at (e ∷ items) d ≡ None
+links_step : (o : Ordering) (q : ℕ) (d : ChunkId) (item : Item) (e : PlacedItem) (items : Items)
+    → chunk_cmp d e.chunk ≡ o → item_at (e ∷ items) d ≡ None
     → (item_at items d ≡ None → links q (with_item items d item) ≡ links q items + truth (is_linked_to q item))
     → links q (with_item (e ∷ items) d item) ≡ links q (e ∷ items) + truth (is_linked_to q item)
 links_step Less q d item e items is none more = rw is (omega arith)
-links_step Equal q d item e items is none more = let bad : Some e.1 ≡ None = rw is at none in cc
+links_step Equal q d item e items is none more = let bad : Some e.item ≡ None = rw is at none in cc
 links_step Greater q d item e items is none more =
     let absent : item_at items d ≡ None = rw is at none in
     let more_here : links q (with_item items d item) ≡ links q items + truth (is_linked_to q item) = more absent in
@@ -53,16 +52,16 @@ links_step Greater q d item e items is none more =
 pub links-with_item : (q : ℕ) (d : ChunkId) (item : Item) (items : Items) → item_at items d ≡ None
     → links q (with_item items d item) ≡ links q items + truth (is_linked_to q item)
 links-with_item q d item [] none = omega arith
-links-with_item q d item (e ∷ items) none = links_step (chunk_cmp d e.0) q d item e items refl none (links-with_item q d item items)
+links-with_item q d item (e ∷ items) none = links_step (chunk_cmp d e.chunk) q d item e items refl none (links-with_item q d item items)
 
 -- the same for the chunk that a key leads to: a new item takes its own key's place
-leads_step : (o : Ordering) (q key : ℕ) (words : List ℕ) (d : ChunkId) (e : ChunkId × Item) (items : Items)
-    → chunk_cmp d e.0 ≡ o → item_at (e ∷ items) d ≡ None → linked_chunk (e ∷ items) key ≡ None
+leads_step : (o : Ordering) (q key : ℕ) (words : List ℕ) (d : ChunkId) (e : PlacedItem) (items : Items)
+    → chunk_cmp d e.chunk ≡ o → item_at (e ∷ items) d ≡ None → linked_chunk (e ∷ items) key ≡ None
     → (item_at items d ≡ None → linked_chunk items key ≡ None
     → linked_chunk (with_item items d (new_item key words)) q ≡ (if key == q then Some d else linked_chunk items q))
     → linked_chunk (with_item (e ∷ items) d (new_item key words)) q ≡ (if key == q then Some d else linked_chunk (e ∷ items) q)
 leads_step Less q key words d e items is none unlinked more = rw is (grind (arith, nat_tests))
-leads_step Equal q key words d e items is none unlinked more = let bad : Some e.1 ≡ None = rw is at none in cc
+leads_step Equal q key words d e items is none unlinked more = let bad : Some e.item ≡ None = rw is at none in cc
 leads_step Greater q key words d e items is none unlinked more =
     let absent : item_at items d ≡ None = rw is at none in
     rw is (grind (arith, nat_tests, more absent))
@@ -71,39 +70,9 @@ pub linked_chunk-with_item : (q key : ℕ) (words : List ℕ) (d : ChunkId) (ite
     → linked_chunk (with_item items d (new_item key words)) q ≡ (if key == q then Some d else linked_chunk items q)
 linked_chunk-with_item q key words d [] none unlinked = grind (arith, nat_tests)
 linked_chunk-with_item q key words d (e ∷ items) none unlinked =
-    leads_step (chunk_cmp d e.0) q key words d e items refl none unlinked (linked_chunk-with_item q key words d items)
+    leads_step (chunk_cmp d e.chunk) q key words d e items refl none unlinked (linked_chunk-with_item q key words d items)
 
--- an item that no key leads to goes: no key leads elsewhere
-pub linked_chunk-without_item : (q : ℕ) (d : ChunkId) (item : Item) (items : Items) → item_at items d ≡ Some item → item.linked ≡ false
-    → linked_chunk (without_item items d) q ≡ linked_chunk items q
-linked_chunk-without_item q d item [] is dead = refl
-linked_chunk-without_item q d item (e ∷ items) is dead = grind (arith, nat_tests, linked_chunk-without_item q d item items)
-
--- a linked item counts among those of its key
-some_links : (d : ChunkId) (item : Item) (items : Items) → item_at items d ≡ Some item → item.linked ≡ true → 1 ≤ links item.key items
-some_links d item [] is linked = cc
-some_links d item (e ∷ items) is linked = grind (arith, nat_tests, some_links d item items)
-
--- the item that its key leads to goes: its key leads nowhere then, and any other where it led
-without_linked_step : (b : Bool) (q : ℕ) (d : ChunkId) (item : Item) (e : ChunkId × Item) (items : Items) → is_at (chunk_cmp d) e.0 ≡ b
-    → item_at (e ∷ items) d ≡ Some item → item.linked ≡ true → links item.key (e ∷ items) ≤ 1
-    → (item_at items d ≡ Some item → links item.key items ≤ 1 → linked_chunk (without_item items d) q ≡ (if item.key == q then None else linked_chunk items q))
-    → linked_chunk (without_item (e ∷ items) d) q ≡ (if item.key == q then None else linked_chunk (e ∷ items) q)
-without_linked_step true q d item e items at is linked one more =
-    let found : Some e.1 ≡ Some item = rw at at is in
-    let here : e.1 ≡ item = cc in
-    rw (at, here) (grind (arith, nat_tests, none-links q items))
-without_linked_step false q d item e items at is linked one more =
-    let below : item_at items d ≡ Some item = rw at at is in
-    rw at (grind (arith, nat_tests, more below, some_links d item items below linked))
-
-pub linked_chunk-without_linked : (q : ℕ) (d : ChunkId) (item : Item) (items : Items) → item_at items d ≡ Some item → item.linked ≡ true
-    → links item.key items ≤ 1 → linked_chunk (without_item items d) q ≡ (if item.key == q then None else linked_chunk items q)
-linked_chunk-without_linked q d item [] is linked one = cc
-linked_chunk-without_linked q d item (e ∷ items) is linked one =
-    without_linked_step (is_at (chunk_cmp d) e.0) q d item e items refl is linked one
-    (λ below fewer. linked_chunk-without_linked q d item items below linked fewer)
-
+-- no key has more links where an item goes
 pub links-without_item-le : (q : ℕ) (d : ChunkId) (items : Items) → links q (without_item items d) ≤ links q items
 links-without_item-le q d [] = omega arith
 links-without_item-le q d (e ∷ items) = grind (arith, nat_tests, links-without_item-le q d items)
@@ -118,20 +87,20 @@ pub record LinkedIn (key : ℕ) (chunk : ChunkId) (items : Items) : Type 0 where
   pub item : Item
   pub there : item_at items chunk ≡ Some item
   pub linked : is_linked_to key item ≡ true
-  pub unlinks : set_value (is_at (chunk_cmp chunk)) items (unlinked item) ≡ unlinked_items items key
+  pub unlinks : with_changed_item items chunk (unlinked item) ≡ unlinked_items items key
 
-linked_here : (key : ℕ) (chunk : ChunkId) (e : ChunkId × Item) (items : Items) → e.0 ≡ chunk → is_linked_to key e.1 ≡ true
+linked_here : (key : ℕ) (chunk : ChunkId) (e : PlacedItem) (items : Items) → e.chunk ≡ chunk → is_linked_to key e.item ≡ true
     → unlinked_items items key ≡ items → LinkedIn key chunk (e ∷ items)
 linked_here key chunk e items same linked rest =
-    let self : chunk_cmp chunk e.0 ≡ Equal = rw same (chunk_cmp-self chunk) in
+    let self : chunk_cmp chunk e.chunk ≡ Equal = rw same (chunk_cmp-self chunk) in
     record {
-      item = e.1;
+      item = e.item;
       there = rw self refl;
       linked = linked;
       unlinks = rw (self, linked, rest) refl;
     }
 
-linked_below : (key : ℕ) (chunk : ChunkId) (e : ChunkId × Item) (items : Items) → is_at (chunk_cmp chunk) e.0 ≡ false → is_linked_to key e.1 ≡ false
+linked_below : (key : ℕ) (chunk : ChunkId) (e : PlacedItem) (items : Items) → is_at (chunk_cmp chunk) e.chunk ≡ false → is_linked_to key e.item ≡ false
     → LinkedIn key chunk items → LinkedIn key chunk (e ∷ items)
 linked_below key chunk e items other not_linked below = record {
   item = below.item;
@@ -140,39 +109,39 @@ linked_below key chunk e items other not_linked below = record {
   unlinks = rw (other, not_linked, below.unlinks) refl;
 }
 
-linked_step : (b : Bool) (key : ℕ) (chunk : ChunkId) (e : ChunkId × Item) (items : Items) → is_linked_to key e.1 ≡ b
+linked_step : (b : Bool) (key : ℕ) (chunk : ChunkId) (e : PlacedItem) (items : Items) → is_linked_to key e.item ≡ b
     → linked_chunk (e ∷ items) key ≡ Some chunk → places chunk (e ∷ items) ≤ 1 → links key (e ∷ items) ≤ 1
     → (linked_chunk items key ≡ Some chunk → places chunk items ≤ 1 → links key items ≤ 1 → LinkedIn key chunk items)
     → LinkedIn key chunk (e ∷ items)
 linked_step true key chunk e items is leads once one more =
-    let here : Some e.0 ≡ Some chunk = rw is at leads in
-    let same : e.0 ≡ chunk = cc in
+    let here : Some e.chunk ≡ Some chunk = rw is at leads in
+    let same : e.chunk ≡ chunk = cc in
     let none : links key items ≡ 0 = grind (arith, nat_tests) in
     linked_here key chunk e items same is (unlinked_items_none key items (none-links key items none))
 linked_step false key chunk e items is leads once one more =
     let below : linked_chunk items key ≡ Some chunk = rw is at leads in
     let found : LinkedIn key chunk items = more below (omega arith) (omega arith) in
     let there : 1 ≤ places chunk items = some_places chunk found.item items found.there in
-    let other : is_at (chunk_cmp chunk) e.0 ≡ false = grind (arith, nat_tests) in
+    let other : is_at (chunk_cmp chunk) e.chunk ≡ false = grind (arith, nat_tests) in
     linked_below key chunk e items other is found
 
 pub linked_in : (key : ℕ) (chunk : ChunkId) (items : Items) → linked_chunk items key ≡ Some chunk → places chunk items ≤ 1 → links key items ≤ 1
     → LinkedIn key chunk items
 linked_in key chunk [] leads once one = cc
 linked_in key chunk (e ∷ items) leads once one =
-    linked_step (is_linked_to key e.1) key chunk e items refl leads once one (linked_in key chunk items)
+    linked_step (is_linked_to key e.item) key chunk e items refl leads once one (linked_in key chunk items)
 
 -- what comes into a chunk and goes again leaves the items as they were
-undo_step : (o : Ordering) (d : ChunkId) (item : Item) (e : ChunkId × Item) (items : Items)
-    → chunk_cmp d e.0 ≡ o → item_at (e ∷ items) d ≡ None
+undo_step : (o : Ordering) (d : ChunkId) (item : Item) (e : PlacedItem) (items : Items)
+    → chunk_cmp d e.chunk ≡ o → item_at (e ∷ items) d ≡ None
     → (item_at items d ≡ None → without_item (with_item items d item) d ≡ items)
     → without_item (with_item (e ∷ items) d item) d ≡ e ∷ items
 undo_step Less d item e items is none back = rw (is, chunk_cmp-self d) refl
-undo_step Equal d item e items is none back = let bad : Some e.1 ≡ None = rw is at none in cc
+undo_step Equal d item e items is none back = let bad : Some e.item ≡ None = rw is at none in cc
 undo_step Greater d item e items is none back =
     let absent : item_at items d ≡ None = rw is at none in
     rw (is, is, back absent) refl
 
 pub without_item-with_item : (d : ChunkId) (item : Item) (items : Items) → item_at items d ≡ None → without_item (with_item items d item) d ≡ items
 without_item-with_item d item [] none = rw (chunk_cmp-self d) refl
-without_item-with_item d item (e ∷ items) none = undo_step (chunk_cmp d e.0) d item e items refl none (without_item-with_item d item items)
+without_item-with_item d item (e ∷ items) none = undo_step (chunk_cmp d e.chunk) d item e items refl none (without_item-with_item d item items)

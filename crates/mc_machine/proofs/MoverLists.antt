@@ -7,7 +7,7 @@ use Rattle.mc_pages.specs.declared.ids.ChunkId.{ChunkId}
 use Rattle.mc_pages.specs.ClassState.{behind, times}
 use Rattle.mc_pages.specs.SlabState.{IsClass, class_at, class_of_chunk, class_of_page}
 use Rattle.mc_pages.proofs.Chunks.{times_from_Contains}
-use Rattle.mc_machine.specs.Kept.{IsKept}
+use Rattle.mc_machine.specs.Consistent.{IsConsistent}
 use Rattle.mc_machine.specs.Machine.{Machine}
 use Rattle.mc_pages.proofs.ListedChunks.{in_lists_once, page_of_listed}
 use Rattle.mc_pages.proofs.RestOfList.{behind_there, rest_from, rest_long, rest_short}
@@ -48,10 +48,10 @@ pub record FreeAt (m : Machine) (class place : ℕ) (x : ChunkId) : Type 0 where
   pub smaller : (next : Option ChunkId) → next ≡ slice_get (class_at m.slabs class).free (place + 1)
       → length (rest_from next (class_at m.slabs class).free) + 1 ≤ length (rest_from (Some x) (class_at m.slabs class).free)
 
-pub found_free : (m now : Machine) (class place : ℕ) (x : ChunkId) (index : List (ℕ × ChunkId)) → IsKept m.table m.slabs index m.items → m ≡ now
+pub found_free : (m now : Machine) (class place : ℕ) (x : ChunkId) → IsConsistent m.table m.slabs m.items → m ≡ now
     → IsClass now.slabs class → slice_get (class_at now.slabs class).free place ≡ Some x → FreeAt now class place x
-found_free m now class place x index kept same valid at =
-    let kept_now : IsKept now.table now.slabs index now.items = rw same at kept in
+found_free m now class place x kept same valid at =
+    let kept_now : IsConsistent now.table now.slabs now.items = rw same at kept in
     let free : List ChunkId = (class_at now.slabs class).free in
     let inside : place < length free = slice_get_within free place x at in
     let here : Contains free x = (place, inside, get_or_from_slice_get free place x x at) in

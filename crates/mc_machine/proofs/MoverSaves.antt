@@ -18,7 +18,7 @@ use Rattle.mc_pages.proofs.Chunks.{times-cons, same_from_is_chunk}
 use Rattle.mc_machine.specs.Holds.{is_held}
 use Rattle.mc_machine.specs.Item.{Item}
 use Rattle.mc_machine.specs.Items.{Items, item_at, without_item}
-use Rattle.mc_machine.specs.Kept.{IsKept}
+use Rattle.mc_machine.specs.Consistent.{IsConsistent}
 use Rattle.mc_machine.specs.Machine.{Machine, is_dead, is_linked_unheld, dead_chunks, after_reclaim, swept}
 use Rattle.mc_machine.specs.Mover.{Looked, looked_at, saved, target, with_cleared}
 use Rattle.mc_machine.proofs.KeptMoverClear.{handed_item, own_from_cut}
@@ -109,11 +109,11 @@ target_free m class page x h =
     (found.0, grind (arith, nat_tests, found.1))
 
 -- a chunk with an item is neither cleared nor free
-pub with_item_tests : (table : Classes) (slabs : SlabState) (index : List (ℕ × ChunkId)) (items : Items) (class : ℕ) (chunk : ChunkId) (item : Item)
-    → IsKept table slabs index items → IsClass slabs class → class_of_page slabs chunk.page ≡ class → item_at items chunk ≡ Some item
+pub with_item_tests : (table : Classes) (slabs : SlabState) (items : Items) (class : ℕ) (chunk : ChunkId) (item : Item)
+    → IsConsistent table slabs items → IsClass slabs class → class_of_page slabs chunk.page ≡ class → item_at items chunk ≡ Some item
     → (is_cleared slabs class chunk ≡ false) × (nat_lt 0 (times chunk (class_at slabs class).free) ≡ false)
-with_item_tests table slabs index items class chunk item kept valid own there =
-    let handed : 1 ≤ times chunk (class_at slabs class).order = rw own at (handed_item table slabs index items chunk item kept there) in
+with_item_tests table slabs items class chunk item kept valid own there =
+    let handed : 1 ≤ times chunk (class_at slabs class).order = rw own at (handed_item table slabs items chunk item kept there) in
     let sum = kept.accounted.chunks class chunk valid in
     let most = truth-le_one (is_cut slabs class chunk) in
     let none : truth (is_cleared slabs class chunk) ≡ 0 = omega (arith, sum, most, handed) in
@@ -131,13 +131,13 @@ looked_item m class chunk =
     else if is_linked_unheld m chunk then saved m class chunk
     else record { machine = m; found = Busy }
 
-pub looked_with_item : (m now : Machine) (index : List (ℕ × ChunkId)) (class : ℕ) (chunk : ChunkId) (item : Item) → IsKept m.table m.slabs index m.items → m ≡ now
+pub looked_with_item : (m now : Machine) (class : ℕ) (chunk : ChunkId) (item : Item) → IsConsistent m.table m.slabs m.items → m ≡ now
     → IsClass now.slabs class → is_cut now.slabs class chunk ≡ true → item_at m.items chunk ≡ Some item
     → looked_at now class chunk ≡ looked_item now class chunk
-looked_with_item m now index class chunk item kept same valid cut there =
-    let kept_now : IsKept now.table now.slabs index now.items = rw same at kept in
+looked_with_item m now class chunk item kept same valid cut there =
+    let kept_now : IsConsistent now.table now.slabs now.items = rw same at kept in
     let there_now : item_at now.items chunk ≡ Some item = rw same at there in
-    let tests = with_item_tests now.table now.slabs index now.items class chunk item kept_now valid (own_from_cut now.slabs class chunk cut) there_now in
+    let tests = with_item_tests now.table now.slabs now.items class chunk item kept_now valid (own_from_cut now.slabs class chunk cut) there_now in
     rw (tests.0, tests.1) refl
 
 -- what somebody holds stays

@@ -7,4 +7,4 @@ pub mod Automove
 pub mod Mover
 pub mod Lines
 pub mod Texts
-pub mod Kept
+pub mod Consistent

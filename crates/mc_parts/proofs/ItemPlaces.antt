@@ -5,11 +5,10 @@ use Rattle.std.proofs.lemmas.List.{map-append, map-set, get_or-map, get_or_defau
 use Rattle.std.proofs.lemmas.Bool.Decides.{nat_tests}
 use Rattle.std.specs.declared.cmp.Ordering.TheVariants.{Less, Equal, Greater}
 use Rattle.std.specs.BTreeMap.{is_at}
-use Rattle.std.specs.Map.{set_value}
 use Rattle.mc_pages.specs.declared.ids.ChunkId.{ChunkId}
 use Rattle.std.specs.Option.{option_map}
 use Rattle.mc_machine.specs.Item.{Item, unlinked}
-use Rattle.mc_machine.specs.Items.{Items, chunk_cmp, item_at, unlinked_in, with_item, without_item}
+use Rattle.mc_machine.specs.Items.{Items, chunk_cmp, item_at, unlinked_in, with_item, without_item, PlacedItem, at_chunk, with_changed_item}
 use Rattle.mc_parts.specs.ItemsByPlace.{chunk_at, items_in, items_from, places_of, AreAlike, HasPlace}
 
 -- ---- the order of chunks
@@ -29,21 +28,17 @@ more_index p j i h = grind (arith, nat_tests, h)
 same_place : (p j i : ℕ) → j ≡ i → chunk_cmp (chunk_at p j) (chunk_at p i) ≡ Equal
 same_place p j i is = grind (arith, nat_tests, is)
 
--- an item's new value, where the chunk has one
-abbrev with_value : Items → ChunkId → Item → Items
-with_value items chunk item = set_value (is_at (chunk_cmp chunk)) items item
-
 -- ---- every item comes behind the chunk
 
 record AreBehind (chunk : ChunkId) (items : Items) : Type 0 where
   found : item_at items chunk ≡ None
   gone : without_item items chunk ≡ items
-  come : (item : Item) → with_item items chunk item ≡ (chunk, item) ∷ items
+  come : (item : Item) → with_item items chunk item ≡ at_chunk chunk item ∷ items
 
 behind_nil : (chunk : ChunkId) → AreBehind chunk []
 behind_nil chunk = record { found = refl; gone = refl; come = λ item. refl }
 
-behind_more : (chunk : ChunkId) (e : ChunkId × Item) (items : Items) → chunk_cmp chunk e.0 ≡ Less → AreBehind chunk items → AreBehind chunk (e ∷ items)
+behind_more : (chunk : ChunkId) (e : PlacedItem) (items : Items) → chunk_cmp chunk e.chunk ≡ Less → AreBehind chunk items → AreBehind chunk (e ∷ items)
 behind_more chunk e items less rest = record {
   found = rw less rest.found;
   gone = rw less (ap (λ (es : Items). e ∷ es) rest.gone);
@@ -78,21 +73,21 @@ go_past : (q j p i : ℕ) (places : List (Option Item)) (later : Items) → p < 
 go_past q j p i [] later h = refl
 go_past q j p i (None ∷ places) later h = go_past q j p (i + 1) places later h
 go_past q j p i (Some item ∷ places) later h =
-    rw (more_page q j p i h) (ap (λ (es : Items). (chunk_at p i, item) ∷ es) (go_past q j p (i + 1) places later h))
+    rw (more_page q j p i h) (ap (λ (es : Items). at_chunk (chunk_at p i) item ∷ es) (go_past q j p (i + 1) places later h))
 
 come_past : (q j p i : ℕ) (places : List (Option Item)) (later : Items) (new : Item) → p < q
     → with_item (items_in p i places later) (chunk_at q j) new ≡ items_in p i places (with_item later (chunk_at q j) new)
 come_past q j p i [] later new h = refl
 come_past q j p i (None ∷ places) later new h = come_past q j p (i + 1) places later new h
 come_past q j p i (Some item ∷ places) later new h =
-    rw (more_page q j p i h) (ap (λ (es : Items). (chunk_at p i, item) ∷ es) (come_past q j p (i + 1) places later new h))
+    rw (more_page q j p i h) (ap (λ (es : Items). at_chunk (chunk_at p i) item ∷ es) (come_past q j p (i + 1) places later new h))
 
 set_past : (q j p i : ℕ) (places : List (Option Item)) (later : Items) (new : Item) → p < q
-    → with_value (items_in p i places later) (chunk_at q j) new ≡ items_in p i places (with_value later (chunk_at q j) new)
+    → with_changed_item (items_in p i places later) (chunk_at q j) new ≡ items_in p i places (with_changed_item later (chunk_at q j) new)
 set_past q j p i [] later new h = refl
 set_past q j p i (None ∷ places) later new h = set_past q j p (i + 1) places later new h
 set_past q j p i (Some item ∷ places) later new h =
-    rw (more_page q j p i h) (ap (λ (es : Items). (chunk_at p i, item) ∷ es) (set_past q j p (i + 1) places later new h))
+    rw (more_page q j p i h) (ap (λ (es : Items). at_chunk (chunk_at p i) item ∷ es) (set_past q j p (i + 1) places later new h))
 
 -- ---- at a place of the page itself
 
@@ -112,28 +107,28 @@ go_here p i zero j (None ∷ places) later is rest = (behind_index p j (i + 1) p
 go_here p i zero j (Some item ∷ places) later is rest = rw (same_place p j i (omega (arith, is))) refl
 go_here p i (suc k) j (None ∷ places) later is rest = go_here p (i + 1) k j places later (omega (arith, is)) rest
 go_here p i (suc k) j (Some item ∷ places) later is rest =
-    rw (more_index p j i (omega (arith, is))) (ap (λ (es : Items). (chunk_at p i, item) ∷ es) (go_here p (i + 1) k j places later (omega (arith, is)) rest))
+    rw (more_index p j i (omega (arith, is))) (ap (λ (es : Items). at_chunk (chunk_at p i) item ∷ es) (go_here p (i + 1) k j places later (omega (arith, is)) rest))
 
 come_here : (p i k j : ℕ) (places : List (Option Item)) (later : Items) (new : Item) → j ≡ i + k → k < length places → AreBehind (chunk_at p j) later
     → with_item (items_in p i places later) (chunk_at p j) new ≡ items_in p i (slice_set places k (Some new)) later
 come_here p i k j [] later new is inside rest = absurd (omega (arith, inside))
 come_here p i zero j (None ∷ places) later new is inside rest =
     (behind_index p j (i + 1) places later (omega (arith, is)) rest).come new
-    ∙ ap (λ (n : ℕ). (chunk_at p n, new) ∷ items_in p (i + 1) places later) (omega (arith, is))
+    ∙ ap (λ (n : ℕ). at_chunk (chunk_at p n) new ∷ items_in p (i + 1) places later) (omega (arith, is))
 come_here p i zero j (Some item ∷ places) later new is inside rest = rw (same_place p j i (omega (arith, is))) refl
 come_here p i (suc k) j (None ∷ places) later new is inside rest = come_here p (i + 1) k j places later new (omega (arith, is)) (omega (arith, inside)) rest
 come_here p i (suc k) j (Some item ∷ places) later new is inside rest =
     rw (more_index p j i (omega (arith, is)))
-    (ap (λ (es : Items). (chunk_at p i, item) ∷ es) (come_here p (i + 1) k j places later new (omega (arith, is)) (omega (arith, inside)) rest))
+    (ap (λ (es : Items). at_chunk (chunk_at p i) item ∷ es) (come_here p (i + 1) k j places later new (omega (arith, is)) (omega (arith, inside)) rest))
 
 set_here : (p i k j : ℕ) (places : List (Option Item)) (later : Items) (old new : Item) → j ≡ i + k → slice_index_or places k None ≡ Some old
-    → with_value (items_in p i places later) (chunk_at p j) new ≡ items_in p i (slice_set places k (Some new)) later
+    → with_changed_item (items_in p i places later) (chunk_at p j) new ≡ items_in p i (slice_set places k (Some new)) later
 set_here p i k j [] later old new is found = cc
 set_here p i zero j (None ∷ places) later old new is found = cc
 set_here p i zero j (Some item ∷ places) later old new is found = rw (same_place p j i (omega (arith, is))) refl
 set_here p i (suc k) j (None ∷ places) later old new is found = set_here p (i + 1) k j places later old new (omega (arith, is)) found
 set_here p i (suc k) j (Some item ∷ places) later old new is found =
-    rw (more_index p j i (omega (arith, is))) (ap (λ (es : Items). (chunk_at p i, item) ∷ es) (set_here p (i + 1) k j places later old new (omega (arith, is)) found))
+    rw (more_index p j i (omega (arith, is))) (ap (λ (es : Items). at_chunk (chunk_at p i) item ∷ es) (set_here p (i + 1) k j places later old new (omega (arith, is)) found))
 
 -- ---- at any place of the table
 
@@ -171,7 +166,7 @@ come_from p (suc n) q j (places ∷ pages) new is there inside =
     ∙ ap (λ (later : Items). items_in p 0 places later) (come_from (p + 1) n q j pages new (omega (arith, is)) (omega (arith, there)) inside)
 
 set_from : (p n q j : ℕ) (pages : Pages) (old new : Item) → q ≡ p + n → slice_index_or (row_of pages n) j None ≡ Some old
-    → with_value (items_from p pages) (chunk_at q j) new ≡ items_from p (slice_set pages n (slice_set (row_of pages n) j (Some new)))
+    → with_changed_item (items_from p pages) (chunk_at q j) new ≡ items_from p (slice_set pages n (slice_set (row_of pages n) j (Some new)))
 set_from p n q j [] old new is found = cc
 set_from p zero q j (places ∷ pages) old new is found = rw (← here is) (set_here p 0 j j places (items_from (p + 1) pages) old new (omega arith) found)
 set_from p (suc n) q j (places ∷ pages) old new is found =
@@ -180,8 +175,8 @@ set_from p (suc n) q j (places ∷ pages) old new is found =
 
 gone_none : (chunk : ChunkId) (items : Items) → item_at items chunk ≡ None → without_item items chunk ≡ items
 gone_none chunk [] none = refl
-gone_none chunk (e ∷ items) none = elim (cases_Bool (is_at (chunk_cmp chunk) e.0)) [
-  | inl same ↦ let bad : Some e.1 ≡ None = rw same at none in cc
+gone_none chunk (e ∷ items) none = elim (cases_Bool (is_at (chunk_cmp chunk) e.chunk)) [
+  | inl same ↦ let bad : Some e.item ≡ None = rw same at none in cc
   | inr other ↦ rw other (ap (λ (es : Items). e ∷ es) (gone_none chunk items (rw other at none)))
 ]
 
@@ -197,7 +192,7 @@ pub come_at : (pages : Pages) (c : ChunkId) (new : Item) → c.page < length pag
 come_at pages c new there inside = come_from 0 c.page c.page c.index pages new (omega arith) there inside
 
 pub set_at : (pages : Pages) (c : ChunkId) (old new : Item) → slice_index_or (row_of pages c.page) c.index None ≡ Some old
-    → with_value (items_from 0 pages) c new ≡ items_from 0 (slice_set pages c.page (slice_set (row_of pages c.page) c.index (Some new)))
+    → with_changed_item (items_from 0 pages) c new ≡ items_from 0 (slice_set pages c.page (slice_set (row_of pages c.page) c.index (Some new)))
 set_at pages c old new is = set_from 0 c.page c.page c.index pages old new (omega arith) is
 
 -- ---- a place more, or a page more, holds nothing
@@ -205,7 +200,7 @@ set_at pages c old new is = set_from 0 c.page c.page c.index pages old new (omeg
 more_in : (p i : ℕ) (places : List (Option Item)) (later : Items) → items_in p i (places ++ None ∷ []) later ≡ items_in p i places later
 more_in p i [] later = refl
 more_in p i (None ∷ places) later = more_in p (i + 1) places later
-more_in p i (Some item ∷ places) later = ap (λ (es : Items). (chunk_at p i, item) ∷ es) (more_in p (i + 1) places later)
+more_in p i (Some item ∷ places) later = ap (λ (es : Items). at_chunk (chunk_at p i) item ∷ es) (more_in p (i + 1) places later)
 
 -- one more place
 pub one_place_more : (places : List (Option Item)) → AreAlike places (places ++ None ∷ [])
@@ -260,7 +255,7 @@ module _ (pages : List (Vec (Option Item) Global)) (chunk : ChunkId) (row : Vec 
   go_there new is = ap (items_from 0) (written new None is) ∙ sym (go_at (places_of pages) chunk)
 
   pub value_there : (new : Vec (Option Item) Global) (old item : Item) → item_at (items_from 0 (places_of pages)) chunk ≡ Some old → new.items ≡ slice_set row.items chunk.index (Some item)
-      → items_from 0 (places_of (slice_set pages chunk.page new)) ≡ with_value (items_from 0 (places_of pages)) chunk item
+      → items_from 0 (places_of (slice_set pages chunk.page new)) ≡ with_changed_item (items_from 0 (places_of pages)) chunk item
   value_there new old item found is =
       ap (items_from 0) (written new (Some item) is) ∙ sym (set_at (places_of pages) chunk old item (sym (find_at (places_of pages) chunk) ∙ found))
 

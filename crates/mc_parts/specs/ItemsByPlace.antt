@@ -3,7 +3,7 @@ use Rattle.std.specs.Prelude.{◌≡◌, ℕ, ◌+◌, ◌<◌, List, [], ◌∷
 use Rattle.std.specs.Global.{Global}
 use Rattle.mc_pages.specs.declared.ids.ChunkId.{ChunkId}
 use Rattle.mc_machine.specs.Item.{Item}
-use Rattle.mc_machine.specs.Items.{Items}
+use Rattle.mc_machine.specs.Items.{Items, at_chunk}
 use Rattle.mc_parts.specs.declared.table.ItemTable.TheInside.{Inside}
 
 -- the chunk at this index of the page
@@ -14,7 +14,7 @@ chunk_at page index = record { page = page; index = index }
 abbrev pub items_in : ℕ → ℕ → List (Option Item) → Items → Items
 items_in page index [] later = later
 items_in page index (None ∷ places) later = items_in page (index + 1) places later
-items_in page index (Some item ∷ places) later = (chunk_at page index, item) ∷ items_in page (index + 1) places later
+items_in page index (Some item ∷ places) later = at_chunk (chunk_at page index) item ∷ items_in page (index + 1) places later
 
 -- the items of all pages from this one on
 abbrev pub items_from : ℕ → List (List (Option Item)) → Items

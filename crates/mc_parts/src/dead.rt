@@ -27,7 +27,7 @@ impl Model for DeadCounts {
 impl DeadCounts {
     /// None of so many classes has a dead chunk.
     pub fn new(alloc: Global, classes: u64) -> Result<DeadCounts, AllocError>
-        ensures { IfOk result (λ counts. counts ≡ replicate classes 0) }
+        ensures fresh { IfOk result (λ counts. counts ≡ replicate classes 0) }
     {
         Ok(DeadCounts {
             by_class: vec![in alloc; 0; classes as usize]?,
@@ -38,7 +38,7 @@ impl DeadCounts {
     pub fn of(&self, class: ClassId) -> u64
         requires first { 1 ≤ class }
         requires last { class ≤ length self.now }
-        ensures { result ≡ slice_index_or self.now (class - 1) 0 }
+        ensures count { result ≡ slice_index_or self.now (class - 1) 0 }
     {
         self.by_class[class as usize - 1]
     }
@@ -48,7 +48,7 @@ impl DeadCounts {
         requires first { 1 ≤ class }
         requires last { class ≤ length self.old }
         requires few { slice_index_or self.old (class - 1) 0 < 65536 }
-        ensures { self.new ≡ slice_set self.old (class - 1) (slice_index_or self.old (class - 1) 0 + 1) }
+        ensures incremented { self.new ≡ slice_set self.old (class - 1) (slice_index_or self.old (class - 1) 0 + 1) }
     {
         self.by_class[class as usize - 1] += 1;
     }
@@ -58,7 +58,7 @@ impl DeadCounts {
         requires first { 1 ≤ class }
         requires last { class ≤ length self.old }
         requires some { 1 ≤ slice_index_or self.old (class - 1) 0 }
-        ensures { self.new ≡ slice_set self.old (class - 1) (slice_index_or self.old (class - 1) 0 - 1) }
+        ensures decremented { self.new ≡ slice_set self.old (class - 1) (slice_index_or self.old (class - 1) 0 - 1) }
     {
         self.by_class[class as usize - 1] -= 1;
     }
@@ -82,7 +82,7 @@ impl Model for LastDead {
 impl LastDead {
     /// No chunk of so many classes was counted yet.
     pub fn new(alloc: Global, classes: u64) -> Result<LastDead, AllocError>
-        ensures { IfOk result (λ last. last ≡ replicate classes None) }
+        ensures fresh { IfOk result (λ last. last ≡ replicate classes None) }
     {
         Ok(LastDead {
             by_class: vec![in alloc; None; classes as usize]?,
@@ -92,7 +92,7 @@ impl LastDead {
     /// The class's, none where there is no such class.
     pub fn of(&self, class: ClassId) -> Option<ChunkId>
         requires { 1 ≤ class }
-        ensures { result ≡ slice_index_or self.now (class - 1) None }
+        ensures chunk { result ≡ slice_index_or self.now (class - 1) None }
     {
         *self.by_class.get(class as usize - 1)?
     }
@@ -100,7 +100,7 @@ impl LastDead {
     /// The class's is this chunk now. Where there is no such class nothing changes.
     pub fn set(&mut self, class: ClassId, chunk: ChunkId)
         requires { 1 ≤ class }
-        ensures { self.new ≡ slice_set self.old (class - 1) (Some chunk) }
+        ensures noted { self.new ≡ slice_set self.old (class - 1) (Some chunk) }
     {
         if class <= self.by_class.len() as u64 {
             self.by_class[class as usize - 1] = Some(chunk);
@@ -132,7 +132,7 @@ pub fn count_unheld(
 /// The class that has the chunk.
 pub fn class_of(slabs: &Slabs, chunk: ChunkId) -> ClassId
     requires { IsClass slabs.now.state (class_of_page slabs.now.state chunk.page) }
-    ensures { result ≡ class_of_page slabs.now.state chunk.page }
+    ensures class { result ≡ class_of_page slabs.now.state chunk.page }
 {
     slabs.owner(chunk.page).class()
 }

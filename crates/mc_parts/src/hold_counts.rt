@@ -1,5 +1,5 @@
 //! How many holds there are of each chunk, by place.
-ghost use Rattle.std.specs.Prelude.{◌≡◌, ◌+◌, ◌-◌, ◌^◌, ◌<◌, ◌≤◌, ℕ, [], length, slice_index_or, OnOk};
+ghost use Rattle.std.specs.Prelude.{◌≡◌, ◌+◌, ◌-◌, ◌<◌, ◌≤◌, ℕ, [], length, slice_index_or, OnOk};
 ghost use Rattle.mc_pages.specs.declared.ids.ChunkId.{ChunkId};
 ghost use Rattle.mc_pages.specs.Accounted.{truth};
 ghost use Rattle.mc_pages.specs.ClassState.{is_chunk};
@@ -29,7 +29,7 @@ impl Model for HoldCounts {
 impl HoldCounts {
     /// Nobody holds a chunk.
     pub(crate) fn new(alloc: Global) -> HoldCounts
-        ensures { result ≡ [] }
+        ensures fresh { result ≡ [] }
     {
         HoldCounts {
             alloc,
@@ -39,7 +39,7 @@ impl HoldCounts {
 
     /// The chunk's.
     pub(crate) fn of(&self, chunk: ChunkId) -> u64
-        ensures { result ≡ count_at self.now chunk }
+        ensures count { result ≡ count_at self.now chunk }
     {
         let Some(counts) = self.pages.get(chunk.page as usize) else {
             return 0;
@@ -64,7 +64,7 @@ impl HoldCounts {
     pub(crate) fn increment(&mut self, chunk: ChunkId)
         requires there { IsReached self.old chunk }
         requires few { count_at self.old chunk < 65535 }
-        ensures { (other : ChunkId) → count_at self.new other ≡ count_at self.old other + truth (is_chunk chunk other) }
+        ensures incremented { (other : ChunkId) → count_at self.new other ≡ count_at self.old other + truth (is_chunk chunk other) }
     {
         self.pages[chunk.page as usize][chunk.index as usize] += 1;
     }
@@ -72,7 +72,7 @@ impl HoldCounts {
     /// One hold less.
     pub(crate) fn decrement(&mut self, chunk: ChunkId)
         requires { 1 ≤ count_at self.old chunk }
-        ensures { (other : ChunkId) → count_at self.new other + truth (is_chunk chunk other) ≡ count_at self.old other }
+        ensures decremented { (other : ChunkId) → count_at self.new other + truth (is_chunk chunk other) ≡ count_at self.old other }
     {
         self.pages[chunk.page as usize][chunk.index as usize] -= 1;
     }

@@ -38,7 +38,7 @@ impl Model for Holds {
 impl Holds {
     /// Nobody holds a chunk.
     pub fn new(alloc: Global) -> Result<Holds, AllocError>
-        ensures { IfOk result (λ holds. holds ≡ no_holds) }
+        ensures fresh { IfOk result (λ holds. holds ≡ no_holds) }
     {
         let mut by_worker = Vec::with_capacity(alloc, WORKERS)?;
         for _ in 0..WORKERS {
@@ -53,14 +53,14 @@ impl Holds {
     /// Whether the worker can hold no more.
     pub fn is_full(&self, worker: u64) -> bool
         requires { worker < 64 }
-        ensures { result ≡ is_full self.now worker }
+        ensures full { result ≡ is_full self.now worker }
     {
         self.by_worker[worker as usize].len() >= MAX_HOLDS
     }
 
     /// Whether somebody holds the chunk.
     pub fn is_held(&self, chunk: ChunkId) -> bool
-        ensures { result ≡ is_held self.now chunk }
+        ensures held { result ≡ is_held self.now chunk }
     {
         self.counts.of(chunk) > 0
     }
@@ -68,7 +68,7 @@ impl Holds {
     /// The chunks that the worker holds, the one that it took last standing last.
     pub fn of(&self, worker: u64) -> &[ChunkId]
         requires { worker < 64 }
-        ensures { reverse result.now ≡ held_by self.now worker }
+        ensures chunks { reverse result.now ≡ held_by self.now worker }
     {
         self.by_worker[worker as usize].as_slice()
     }
@@ -91,7 +91,7 @@ impl Holds {
     pub fn give_back(&mut self, worker: u64, chunk: ChunkId, place: usize)
         requires worker { worker < 64 }
         requires first { position (λ c. is_chunk c chunk) (held_by self.old worker) ≡ Some place }
-        ensures { self.new ≡ without_hold self.old worker chunk }
+        ensures given_back { self.new ≡ without_hold self.old worker chunk }
     {
         take_out(&mut self.by_worker[worker as usize], place);
         self.counts.decrement(chunk);
@@ -101,7 +101,7 @@ impl Holds {
 /// Removes the chunk behind which so many stand.
 fn take_out(chunks: &mut Vec<ChunkId>, behind: usize)
     requires { behind < length chunks.old.items }
-    ensures { reverse chunks.new.items ≡ remove (reverse chunks.old.items) behind }
+    ensures removed { reverse chunks.new.items ≡ remove (reverse chunks.old.items) behind }
 {
     chunks.remove(chunks.len() - 1 - behind);
 }

@@ -45,28 +45,28 @@ impl Item {
 
     /// Its key.
     pub fn key(&self) -> u64
-        ensures { result ≡ self.now.key }
+        ensures key { result ≡ self.now.key }
     {
         self.key
     }
 
     /// Its words.
     pub fn words(&self) -> &[u64]
-        ensures { result.now ≡ self.now.words }
+        ensures words { result.now ≡ self.now.words }
     {
         self.words.as_slice()
     }
 
     /// Whether its key leads to it.
     pub fn is_linked(&self) -> bool
-        ensures { result ≡ self.now.linked }
+        ensures linked { result ≡ self.now.linked }
     {
         self.linked
     }
 
     /// Its key leads to it no more.
     pub(crate) fn unlink(&mut self)
-        ensures { self.new ≡ unlinked self.old }
+        ensures unlinked { self.new ≡ unlinked self.old }
     {
         self.linked = false;
     }
@@ -85,7 +85,7 @@ fn write_words(all: &mut Vec<u64>, base: u64, words: u64) -> Result<(), AllocErr
 
 /// Writes base, base + 1 and so on, modulo 2^64.
 fn count_up(all: &mut [u64], base: u64)
-    ensures { all.new ≡ words_from base (length all.old) }
+    ensures words { all.new ≡ words_from base (length all.old) }
 {
     let mut next = base;
     for word in all.iter_mut() {

@@ -28,7 +28,7 @@ impl Model for KeyIndex {
 impl KeyIndex {
     /// No key leads anywhere, and there is room for so many.
     pub fn new(alloc: Global, keys: usize) -> Result<KeyIndex, AllocError>
-        ensures { IfOk result (λ index. index ≡ []) }
+        ensures empty { IfOk result (λ index. index ≡ []) }
     {
         Ok(KeyIndex {
             chunks: HashMap::with_capacity(alloc, keys)?,
@@ -37,7 +37,7 @@ impl KeyIndex {
 
     /// The key's chunk, if it leads to one.
     pub fn get(&self, key: u64) -> Option<ChunkId>
-        ensures { result ≡ chunk_of self.now key }
+        ensures chunk { result ≡ chunk_of self.now key }
     {
         self.chunks.get(&key).copied()
     }
@@ -65,7 +65,7 @@ impl KeyIndex {
 
     /// The key leads to this chunk now, if it led to one.
     pub fn lead(&mut self, key: u64, chunk: ChunkId)
-        ensures { self.new ≡ set_value (is_at (nat_cmp key)) self.old chunk }
+        ensures led { self.new ≡ set_value (is_at (nat_cmp key)) self.old chunk }
     {
         lead_to(&mut self.chunks, key, chunk);
     }
@@ -73,7 +73,7 @@ impl KeyIndex {
 
 /// The key leads to this chunk now, if it led to one.
 fn lead_to(chunks: &mut HashMap<u64, ChunkId>, key: u64, chunk: ChunkId)
-    ensures { chunks.new.entries ≡ set_value (nat_eq key) chunks.old.entries chunk }
+    ensures led { chunks.new.entries ≡ set_value (nat_eq key) chunks.old.entries chunk }
 {
     if let Some(place) = chunks.get_mut(&key) {
         *place = chunk;

@@ -28,7 +28,7 @@ impl Model for Place {
 impl Place {
     /// No item, and no room.
     pub(crate) fn empty(alloc: Global) -> Place
-        ensures { result ≡ None }
+        ensures empty { result ≡ None }
     {
         Place {
             item: Item::empty(alloc),
@@ -38,7 +38,7 @@ impl Place {
 
     /// The item, if there is one.
     pub(crate) fn item(&self) -> Option<&Item>
-        ensures { option_copied result ≡ self.now }
+        ensures item { option_copied result ≡ self.now }
     {
         if self.filled { Some(&self.item) } else { None }
     }
@@ -79,7 +79,7 @@ impl Place {
 
     /// An item that was taken out comes here, in the place of what was here.
     pub(crate) fn put(&mut self, item: Item)
-        ensures { self.new ≡ Some item }
+        ensures put { self.new ≡ Some item }
     {
         self.item = item;
         self.filled = true;
@@ -87,7 +87,7 @@ impl Place {
 
     /// The item, if there is one, is linked no more.
     pub(crate) fn unlink(&mut self)
-        ensures { self.new ≡ option_map unlinked self.old }
+        ensures unlinked { self.new ≡ option_map unlinked self.old }
     {
         self.item.unlink();
     }

@@ -90,7 +90,7 @@ impl ItemTable {
 
     /// The chunk's item, if it has one, is linked no more.
     pub fn unlink(&mut self, chunk: ChunkId)
-        ensures { self.new ≡ unlinked_in self.old chunk (item_at self.old chunk) }
+        ensures unlinked { self.new ≡ unlinked_in self.old chunk (item_at self.old chunk) }
     {
         if !has_place(&self.pages, chunk) {
             return;

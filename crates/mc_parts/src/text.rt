@@ -1,5 +1,8 @@
 //! The lines that a run writes, put together in memory before any of them is written.
+//!
+//! Where memory runs out in a line, the text that stood there stays, and some of the line may follow it.
 ghost use Rattle.std.specs.Prelude.{◌≡◌, ◌++◌, [], ◌∷◌, codes, decimal, OnOk};
+ghost use Rattle.std.specs.Io.{StartsWith};
 ghost use Rattle.mc_watch.specs.Texts.{line};
 ghost use Rattle.mc_machine.specs.Texts.{key_line, spaced, turn_line, word_of, words_line};
 
@@ -9,7 +12,8 @@ use std::alloc::AllocError;
 
 /// Adds a number in decimal digits.
 fn push_number(text: &mut Vec<u8>, number: u64) -> Result<(), AllocError>
-    ensures { OnOk result (text.new.items ≡ text.old.items ++ decimal number) }
+    ensures number { OnOk result (text.new.items ≡ text.old.items ++ decimal number) }
+    ensures kept { StartsWith text.new.items text.old.items }
 {
     let mut digits = Buffer::new();
     text.extend_from_slice(digits.format(number).as_bytes())?;
@@ -18,7 +22,8 @@ fn push_number(text: &mut Vec<u8>, number: u64) -> Result<(), AllocError>
 
 /// Adds a line of these words.
 fn push_line(text: &mut Vec<u8>, words: &[u8]) -> Result<(), AllocError>
-    ensures { OnOk result (text.new.items ≡ text.old.items ++ line words.now) }
+    ensures line { OnOk result (text.new.items ≡ text.old.items ++ line words.now) }
+    ensures kept { StartsWith text.new.items text.old.items }
 {
     text.extend_from_slice(words)?;
     text.extend_from_slice(b"\r\n")?;
@@ -27,14 +32,16 @@ fn push_line(text: &mut Vec<u8>, words: &[u8]) -> Result<(), AllocError>
 
 /// Adds an answer of one word.
 pub fn push_answer(text: &mut Vec<u8>, answer: &[u8]) -> Result<(), AllocError>
-    ensures { OnOk result (text.new.items ≡ text.old.items ++ line answer.now) }
+    ensures line { OnOk result (text.new.items ≡ text.old.items ++ line answer.now) }
+    ensures kept { StartsWith text.new.items text.old.items }
 {
     push_line(text, answer)
 }
 
 /// Adds numbers, a space before each.
 fn push_spaced(text: &mut Vec<u8>, numbers: &[u64]) -> Result<(), AllocError>
-    ensures { OnOk result (text.new.items ≡ text.old.items ++ spaced numbers.now) }
+    ensures numbers { OnOk result (text.new.items ≡ text.old.items ++ spaced numbers.now) }
+    ensures kept { StartsWith text.new.items text.old.items }
 {
     for number in numbers {
         text.extend_from_slice(b" ")?;
@@ -50,7 +57,8 @@ pub fn push_words_line(
     key: u64,
     words: &[u64],
 ) -> Result<(), AllocError>
-    ensures { OnOk result (text.new.items ≡ text.old.items ++ words_line answer.now key words.now) }
+    ensures line { OnOk result (text.new.items ≡ text.old.items ++ words_line answer.now key words.now) }
+    ensures kept { StartsWith text.new.items text.old.items }
 {
     text.extend_from_slice(answer)?;
     text.extend_from_slice(b" ")?;
@@ -64,7 +72,7 @@ pub fn push_words_line(
 
 /// The word for how the last turn ended.
 fn word_of(ending: Ending) -> &'static [u8]
-    ensures { result.now ≡ word_of ending }
+    ensures word { result.now ≡ word_of ending }
 {
     match ending {
         Ending::Idle => b"IDLE",
@@ -75,7 +83,8 @@ fn word_of(ending: Ending) -> &'static [u8]
 
 /// Adds what some turns did.
 pub fn push_turn_line(text: &mut Vec<u8>, ending: Ending, counts: Counts) -> Result<(), AllocError>
-    ensures { OnOk result (text.new.items ≡ text.old.items ++ turn_line ending counts) }
+    ensures line { OnOk result (text.new.items ≡ text.old.items ++ turn_line ending counts) }
+    ensures kept { StartsWith text.new.items text.old.items }
 {
     let Counts {
         cleared,
@@ -98,7 +107,8 @@ pub fn push_window_line(
     dst: u64,
     answer: &[u8],
 ) -> Result<(), AllocError>
-    ensures { OnOk result (text.new.items ≡ text.old.items ++ line (codes "WINDOW" ++ spaced (src ∷ dst ∷ []) ++ codes " " ++ answer.now)) }
+    ensures line { OnOk result (text.new.items ≡ text.old.items ++ line (codes "WINDOW" ++ spaced (src ∷ dst ∷ []) ++ codes " " ++ answer.now)) }
+    ensures kept { StartsWith text.new.items text.old.items }
 {
     text.extend_from_slice(b"WINDOW")?;
     push_spaced(text, &[src, dst])?;
@@ -108,7 +118,8 @@ pub fn push_window_line(
 
 /// Adds the answer about a key.
 pub fn push_key_line(text: &mut Vec<u8>, answer: &[u8], key: u64) -> Result<(), AllocError>
-    ensures { OnOk result (text.new.items ≡ text.old.items ++ key_line answer.now key) }
+    ensures line { OnOk result (text.new.items ≡ text.old.items ++ key_line answer.now key) }
+    ensures kept { StartsWith text.new.items text.old.items }
 {
     text.extend_from_slice(answer)?;
     text.extend_from_slice(b" ")?;

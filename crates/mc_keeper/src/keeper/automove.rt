@@ -1,11 +1,12 @@
 //! Pages that begin to move: as a script asks, as an eviction asks, and as the automover decides at a window's end.
-ghost use Rattle.std.specs.Prelude.{◌≡◌, ◌≤◌, ◌++◌, codes, IfOk, OnOk, None};
+ghost use Rattle.std.specs.Prelude.{◌≡◌, ◌≤◌, ◌++◌, codes, IfOk, OnErr, OnOk, None, Contains};
+ghost use Rattle.std.specs.Io.{StartsWith};
 ghost use Rattle.mc_pages.specs.Answer.{answer_of};
-ghost use Rattle.mc_watch.specs.Decider.{decision_of};
 ghost use Rattle.mc_watch.specs.Texts.{line};
 ghost use Rattle.mc_machine.specs.Automove.{begun, decision, with_asked_page, with_window};
 ghost use Rattle.mc_machine.specs.Lines.{acted, answer_name, moved, reassigned};
 ghost use Rattle.mc_machine.specs.Machine.{all_swept, with_mode};
+ghost use Rattle.mc_keeper.specs.Stages.{reassign_stages, window_stages};
 
 use super::Keeper;
 use mc_classes::ClassId;
@@ -24,6 +25,8 @@ impl Keeper {
     ) -> Result<(), AllocError>
         ensures reply { OnOk result (text.new.items ≡ text.old.items ++ (reassigned self.old src dst (answer_of self.old.slabs src dst)).reply) }
         ensures after { OnOk result (self.new ≡ (reassigned self.old src dst (answer_of self.old.slabs src dst)).machine) }
+        ensures refused { OnErr result (Contains (reassign_stages self.old src dst) self.new) }
+        ensures kept { StartsWith text.new.items text.old.items }
     {
         let answer = self.begin(src, dst)?;
         push_answer(text, answer)
@@ -31,7 +34,8 @@ impl Keeper {
 
     /// Asks for a page for this class, from any other. The answer doesn't matter.
     pub(super) fn ask_for_page(&mut self, class: ClassId) -> Result<(), AllocError>
-        ensures { OnOk result (self.new ≡ with_asked_page self.old class) }
+        ensures after { OnOk result (self.new ≡ with_asked_page self.old class) }
+        ensures refused { OnErr result (self.new ≡ self.old) }
     {
         self.begin(None, class)?;
         Ok(())
@@ -41,7 +45,8 @@ impl Keeper {
     pub(super) fn set_automove(&mut self, mode: u64, text: &mut Vec<u8>) -> Result<(), AllocError>
         requires { mode ≤ 2 }
         ensures reply { OnOk result (text.new.items ≡ text.old.items ++ line (codes "OK")) }
-        ensures after { OnOk result (self.new ≡ record self.old { slabs = with_mode self.old.slabs mode }) }
+        ensures after { self.new ≡ record self.old { slabs = with_mode self.old.slabs mode } }
+        ensures kept { StartsWith text.new.items text.old.items }
     {
         self.slabs.set_automove(mode);
         push_answer(text, b"OK")
@@ -52,6 +57,8 @@ impl Keeper {
     pub(super) fn window(&mut self, text: &mut Vec<u8>) -> Result<(), AllocError>
         ensures reply { OnOk result (text.new.items ≡ text.old.items ++ (acted (with_window (all_swept self.old)) (decision (with_window (all_swept self.old)))).reply) }
         ensures after { OnOk result (self.new ≡ (acted (with_window (all_swept self.old)) (decision (with_window (all_swept self.old)))).machine) }
+        ensures refused { OnErr result (Contains (window_stages self.old) self.new) }
+        ensures kept { StartsWith text.new.items text.old.items }
     {
         self.sweep_all();
         match self.decide()? {
@@ -63,6 +70,7 @@ impl Keeper {
     /// Lets the decider learn the numbers of a window. Gives the decision to act on, if there is one.
     fn decide(&mut self) -> Result<Option<Decision>, AllocError>
         ensures after { OnOk result (self.new ≡ with_window self.old) }
+        ensures refused { OnErr result (self.new ≡ self.old) }
         ensures decided { IfOk result (λ decided. decided ≡ decision self.new) }
     {
         let counts = self.counts()?;
@@ -81,6 +89,8 @@ impl Keeper {
     fn act(&mut self, decision: Decision, text: &mut Vec<u8>) -> Result<(), AllocError>
         ensures reply { OnOk result (text.new.items ≡ text.old.items ++ (moved self.old decision.src decision.dst (answer_of self.old.slabs (Some decision.src) decision.dst)).reply) }
         ensures after { OnOk result (self.new ≡ (moved self.old decision.src decision.dst (answer_of self.old.slabs (Some decision.src) decision.dst)).machine) }
+        ensures refused { OnErr result (Contains (reassign_stages self.old (Some decision.src) decision.dst) self.new) }
+        ensures kept { StartsWith text.new.items text.old.items }
     {
         let Decision { src, dst } = decision;
         let answer = self.begin(Some(src), dst)?;
@@ -91,6 +101,7 @@ impl Keeper {
     fn begin(&mut self, src: Option<u64>, dst: u64) -> Result<&'static [u8], AllocError>
         ensures answer { IfOk result (λ name. name.now ≡ answer_name (answer_of self.old.slabs src dst)) }
         ensures after { OnOk result (self.new ≡ begun self.old src dst (answer_of self.old.slabs src dst)) }
+        ensures refused { OnErr result (self.new ≡ self.old) }
     {
         match self.slabs.begin_move(src, dst) {
             Ok(()) => Ok(b"OK"),

@@ -1,8 +1,8 @@
 //! How a set comes to a chunk in a full class: an item is evicted.
-ghost use Rattle.std.specs.Prelude.{◌≡◌, true, Contains, IfOk, OnOk, Some};
+ghost use Rattle.std.specs.Prelude.{◌≡◌, true, Contains, IfOk, OnErr, OnOk, Some};
 ghost use Rattle.std.specs.Option.{is_some};
 ghost use Rattle.mc_pages.specs.SlabState.{IsClass, class_at};
-ghost use Rattle.mc_machine.specs.Machine.{is_linked_unheld};
+ghost use Rattle.mc_machine.specs.Machine.{is_linked_unheld, swept};
 ghost use Rattle.mc_machine.specs.Supply.{evicts, victim, with_eviction, supplied};
 
 use super::Keeper;
@@ -20,6 +20,7 @@ impl Keeper {
         requires { IsClass self.old.slabs class }
         ensures evicted { IfOk result (λ evicted. evicted ≡ evicts self.old class) }
         ensures after { OnOk result (self.new ≡ supplied self.old class) }
+        ensures refused { OnErr result (self.new ≡ swept self.old class) }
     {
         self.stock(class)?;
         if self.has_free(class) {
@@ -47,7 +48,7 @@ impl Keeper {
     /// The chunk of the item to evict.
     fn victim(&self, class: ClassId) -> Option<ChunkId>
         requires { IsClass self.now.slabs class }
-        ensures { result ≡ victim self.now class }
+        ensures victim { result ≡ victim self.now class }
     {
         for place in 0..TRIES {
             let chunk = self.slabs.order_at(class, place)?;
@@ -63,7 +64,7 @@ impl Keeper {
         requires class { IsClass self.old.slabs class }
         requires unheld { is_linked_unheld self.old chunk ≡ true }
         requires listed { Contains (class_at self.old.slabs class).order chunk }
-        ensures { self.new ≡ with_eviction self.old class (Some chunk) }
+        ensures evicted { self.new ≡ with_eviction self.old class (Some chunk) }
     {
         self.slabs.back(chunk);
         self.slabs.evicted(class);

@@ -1,14 +1,14 @@
 //! The mover: it looks at the chunks of the page on the move, and clears them.
-ghost use Rattle.std.specs.Prelude.{◌≡◌, ◌≢◌, ◌*◌, ◌<◌, ◌≤◌, nat_lt, true, false, IfOk, OnOk, OnErr, Contains, Some, None, Ok, Err};
+ghost use Rattle.std.specs.Prelude.{◌≡◌, ◌≢◌, ◌*◌, ◌<◌, ◌≤◌, true, false, IfOk, OnOk, OnErr, Contains, Some, None, Ok, Err};
 ghost use Rattle.std.specs.Option.{option_map};
-ghost use Rattle.mc_pages.specs.SlabState.{IsClass, class_at, class_of_page, class_of_chunk};
-ghost use Rattle.mc_pages.specs.ClassState.{times};
+ghost use Rattle.mc_pages.specs.SlabState.{IsClass, class_of_page, class_of_chunk};
 ghost use Rattle.mc_pages.specs.Accounted.{is_cleared, is_cut};
 ghost use Rattle.mc_pages.specs.Moves.{CanFinish, is_held_up};
 ghost use Rattle.mc_machine.specs.declared.turn.Counts.{Counts};
 ghost use Rattle.mc_machine.specs.Items.{item_at};
-ghost use Rattle.mc_machine.specs.Machine.{is_dead, is_linked_unheld};
+ghost use Rattle.mc_machine.specs.Machine.{is_dead, is_linked_unheld, swept};
 ghost use Rattle.mc_machine.specs.Mover.{AreAtMost, after_turns, is_at_end, looked_at, saved, target, turned, with_chunk, with_chunks, with_cleared, with_end, with_finish, with_saved};
+ghost use Rattle.mc_keeper.specs.Stages.{look_stages, turn_stages, turns_stages, with_source_swept};
 
 use super::Keeper;
 use super::pages::cut_page;
@@ -28,6 +28,7 @@ impl Keeper {
         requires { count ≤ 1000000 }
         ensures done { IfOk result (λ done. after_turns self.old count ≡ Some (record { machine = self.new; counts = done.1; ending = done.0 })) }
         ensures stopped { result ≡ Err Stop.Turns → after_turns self.old count ≡ None }
+        ensures refused { OnErr result (Contains (turns_stages self.old count) self.new) }
     {
         let mut ending = Ending::Idle;
         let mut counts = Counts::new();
@@ -47,7 +48,8 @@ impl Keeper {
     fn turn(&mut self, counts: &mut Counts) -> Result<Ending, AllocError>
         requires turns { self.old.turns < 1000000 }
         requires counts { AreAtMost (256 * 999999) counts.old }
-        ensures { IfOk result (λ ending. turned self.old counts.old ≡ record { machine = self.new; counts = counts.new; ending = ending }) }
+        ensures refused { OnErr result (Contains (turn_stages self.old counts.old) self.new) }
+        ensures done { IfOk result (λ ending. turned self.old counts.old ≡ record { machine = self.new; counts = counts.new; ending = ending }) }
     {
         self.turns += 1;
         self.steps(counts)?;
@@ -57,7 +59,8 @@ impl Keeper {
     /// Looks at as many chunks as a turn may, or fewer where no page moves or all of it was looked at.
     fn steps(&mut self, counts: &mut Counts) -> Result<(), AllocError>
         requires { AreAtMost (256 * 999999) counts.old }
-        ensures { OnOk result (with_chunks self.old.bulk (record { machine = self.old; counts = counts.old }) ≡ record { machine = self.new; counts = counts.new }) }
+        ensures refused { OnErr result (Contains (look_stages self.old.bulk (record { machine = self.old; counts = counts.old })) self.new) }
+        ensures done { OnOk result (with_chunks self.old.bulk (record { machine = self.old; counts = counts.old }) ≡ record { machine = self.new; counts = counts.new }) }
     {
         for _ in 0..self.bulk {
             if !self.step(counts)? {
@@ -72,6 +75,7 @@ impl Keeper {
     fn step(&mut self, counts: &mut Counts) -> Result<bool, AllocError>
         requires { AreAtMost 256000000 counts.old }
         ensures looked { OnOk result (with_chunk (record { machine = self.old; counts = counts.old }) self.old.slabs.moving ≡ record { machine = self.new; counts = counts.new }) }
+        ensures refused { OnErr result (self.new ≡ with_source_swept self.old self.old.slabs.moving) }
         ensures nothing { result ≡ Ok false → (self.new ≡ self.old) × (counts.new ≡ counts.old) }
     {
         let Some(moving) = self.slabs.moving() else {
@@ -93,14 +97,14 @@ impl Keeper {
     /// Whether all chunks of the page were looked at.
     fn is_at_end(&self, moving: Moving) -> bool
         requires { IsClass self.now.slabs moving.src }
-        ensures { result ≡ is_at_end self.now moving }
+        ensures at_end { result ≡ is_at_end self.now moving }
     {
         moving.at >= self.slabs.per_page(moving.src)
     }
 
     /// At the page's end the pass begins anew, or the move ends where nothing held it up.
     fn end_turn(&mut self) -> Ending
-        ensures { (counts : Counts) → with_end (record { machine = self.old; counts = counts }) self.old.slabs.moving ≡ record { machine = self.new; counts = counts; ending = result } }
+        ensures ended { (counts : Counts) → with_end (record { machine = self.old; counts = counts }) self.old.slabs.moving ≡ record { machine = self.new; counts = counts; ending = result } }
     {
         let Some(moving) = self.slabs.moving() else {
             return Ending::Idle;
@@ -119,7 +123,7 @@ impl Keeper {
     /// Ends the move, and cuts the page for its class.
     fn finish(&mut self, moving: Moving)
         requires { CanFinish self.old.slabs moving }
-        ensures { self.new ≡ with_finish self.old moving }
+        ensures finished { self.new ≡ with_finish self.old moving }
     {
         self.slabs.finish_move();
         if moving.dst != 0 {
@@ -136,6 +140,7 @@ impl Keeper {
         requires class { IsClass self.old.slabs class }
         requires moving { option_map (λ move. move.page) self.old.slabs.moving ≡ Some chunk.page }
         requires cut { is_cut self.old.slabs class chunk ≡ true }
+        ensures refused { OnErr result (self.new ≡ swept self.old class) }
         ensures looked { IfOk result (λ found. looked_at self.old class chunk ≡ record { machine = self.new; found = found }) }
         ensures clears { IfOk result (λ found. is_held_up found ≡ false → is_cleared self.new.slabs class chunk ≡ true) }
     {
@@ -189,6 +194,7 @@ impl Keeper {
         requires moving { option_map (λ move. move.page) self.old.slabs.moving ≡ Some chunk.page }
         requires own { class_of_page self.old.slabs chunk.page ≡ class }
         requires unheld { is_linked_unheld self.old chunk ≡ true }
+        ensures refused { OnErr result (self.new ≡ swept self.old class) }
         ensures saved { IfOk result (λ found. saved self.old class chunk ≡ record { machine = self.new; found = found }) }
         ensures clears { IfOk result (λ found. is_held_up found ≡ false → is_cleared self.new.slabs class chunk ≡ true) }
     {
@@ -208,7 +214,7 @@ impl Keeper {
     /// The class's first free chunk off the page.
     fn target(&self, class: ClassId, page: PageId) -> Option<ChunkId>
         requires { IsClass self.now.slabs class }
-        ensures { result ≡ target self.now class page }
+        ensures target { result ≡ target self.now class page }
     {
         let mut next = self.slabs.first_free(class);
         while let Some(free) = next {

@@ -1,9 +1,9 @@
 //! How a class comes to a free chunk.
-ghost use Rattle.std.specs.Prelude.{◌≡◌, ◌≤◌, ◌<◌, None, Some, true, OnOk, IfOk, fold};
-ghost use Rattle.mc_pages.specs.SlabState.{IsClass, class_at, class_of_chunk};
+ghost use Rattle.std.specs.Prelude.{◌≡◌, ◌≤◌, ◌<◌, None, Some, OnErr, OnOk, fold};
+ghost use Rattle.mc_pages.specs.SlabState.{IsClass, class_of_chunk};
 ghost use Rattle.mc_pages.specs.Changes.{after_cut, next_page};
 ghost use Rattle.mc_pages.specs.Accounted.{IsAccounted, first_chunks};
-ghost use Rattle.mc_machine.specs.Machine.{has_free, extended, stocked, with_new_page};
+ghost use Rattle.mc_machine.specs.Machine.{has_free, stocked, swept, with_new_page};
 
 use super::Keeper;
 use mc_classes::{ClassId, PageId};
@@ -16,7 +16,8 @@ impl Keeper {
     #[tactic(auto, using(mc_machine::proofs::Stocks::class_stays))]
     pub(super) fn stock(&mut self, class: ClassId) -> Result<(), AllocError>
         requires { IsClass self.old.slabs class }
-        ensures { OnOk result (self.new ≡ stocked self.old class) }
+        ensures after { OnOk result (self.new ≡ stocked self.old class) }
+        ensures refused { OnErr result (self.new ≡ swept self.old class) }
     {
         if self.has_free(class) {
             return Ok(());
@@ -31,7 +32,7 @@ impl Keeper {
     /// Whether the class has a free chunk.
     pub(super) fn has_free(&self, class: ClassId) -> bool
         requires { IsClass self.now.slabs class }
-        ensures { result ≡ has_free self.now class }
+        ensures free { result ≡ has_free self.now class }
     {
         self.slabs.numbers(class).free > 0
     }
@@ -39,7 +40,8 @@ impl Keeper {
     /// Gives the class the next page, if there is one, and cuts its chunks.
     fn grow(&mut self, class: ClassId) -> Result<(), AllocError>
         requires { IsClass self.old.slabs class }
-        ensures { OnOk result (self.new ≡ with_new_page self.old class (next_page self.old.slabs)) }
+        ensures after { OnOk result (self.new ≡ with_new_page self.old class (next_page self.old.slabs)) }
+        ensures refused { OnErr result (self.new ≡ self.old) }
     {
         let per_page = self.table.per_page(class);
         match self.slabs.grow(class) {

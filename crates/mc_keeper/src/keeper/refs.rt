@@ -1,5 +1,6 @@
 //! What workers do with items that are there: they read, hold, give back and touch them.
-ghost use Rattle.std.specs.Prelude.{◌≡◌, ◌<◌, ◌++◌, OnOk, IfSome, Some, length, position, reverse, slice_index_or};
+ghost use Rattle.std.specs.Prelude.{◌≡◌, ◌<◌, ◌++◌, OnErr, OnOk, IfSome, Some, length, position, reverse, slice_index_or};
+ghost use Rattle.std.specs.Io.{StartsWith};
 ghost use Rattle.std.specs.Option.{option_map};
 ghost use Rattle.mc_pages.specs.declared.ids.ChunkId.{ChunkId};
 ghost use Rattle.mc_pages.specs.ClassState.{is_chunk};
@@ -16,7 +17,8 @@ impl Keeper {
     /// Tells the words of the key's item.
     pub(super) fn get(&self, worker: u64, key: u64, text: &mut Vec<u8>) -> Result<(), AllocError>
         requires { worker < 64 }
-        ensures { OnOk result (text.new.items ≡ text.old.items ++ (looked_up self.now worker key).reply) }
+        ensures reply { OnOk result (text.new.items ≡ text.old.items ++ (looked_up self.now worker key).reply) }
+        ensures kept { StartsWith text.new.items text.old.items }
     {
         if self.holds.is_full(worker) {
             return push_key_line(text, b"TOO_MANY_REFS", key);
@@ -37,14 +39,17 @@ impl Keeper {
         requires { worker < 64 }
         ensures reply { OnOk result (text.new.items ≡ text.old.items ++ (kept self.old worker key).reply) }
         ensures after { OnOk result (self.new ≡ (kept self.old worker key).machine) }
+        ensures refused { OnErr result (self.new ≡ self.old) }
+        ensures kept { StartsWith text.new.items text.old.items }
     {
         if self.holds.is_full(worker) {
             return push_key_line(text, b"TOO_MANY_REFS", key);
         }
         match self.index.get(key) {
             Some(chunk) => {
+                push_key_line(text, b"HELD", key)?;
                 self.holds.take(worker, chunk)?;
-                push_key_line(text, b"HELD", key)
+                Ok(())
             }
             None => push_key_line(text, b"NOT_FOUND", key),
         }
@@ -60,6 +65,8 @@ impl Keeper {
         requires { worker < 64 }
         ensures reply { OnOk result (text.new.items ≡ text.old.items ++ (dropped self.old worker key (last_hold self.old worker key)).reply) }
         ensures after { OnOk result (self.new ≡ (dropped self.old worker key (last_hold self.old worker key)).machine) }
+        ensures refused { OnErr result (self.new ≡ self.old) }
+        ensures kept { StartsWith text.new.items text.old.items }
     {
         let Some((chunk, place)) = self.last_hold(worker, key) else {
             return push_key_line(text, b"NOT_HELD", key);
@@ -88,11 +95,14 @@ impl Keeper {
     pub(super) fn touch(&mut self, key: u64, text: &mut Vec<u8>) -> Result<(), AllocError>
         ensures reply { OnOk result (text.new.items ≡ text.old.items ++ (made_youngest self.old key (linked_chunk self.old.items key)).reply) }
         ensures after { OnOk result (self.new ≡ (made_youngest self.old key (linked_chunk self.old.items key)).machine) }
+        ensures refused { OnErr result (self.new ≡ self.old) }
+        ensures kept { StartsWith text.new.items text.old.items }
     {
         match self.index.get(key) {
             Some(chunk) => {
+                push_key_line(text, b"TOUCHED", key)?;
                 self.slabs.touch(chunk);
-                push_key_line(text, b"TOUCHED", key)
+                Ok(())
             }
             None => push_key_line(text, b"NOT_FOUND", key),
         }
@@ -113,7 +123,7 @@ impl Keeper {
     /// Where the worker's hold of an item of the key that it took last stands among its holds: the one taken last stands at 0.
     fn place_held(&self, worker: u64, key: u64) -> Option<usize>
         requires { worker < 64 }
-        ensures { result ≡ position (has_key self.now.items key) (held_by self.now.holds worker) }
+        ensures place { result ≡ position (has_key self.now.items key) (held_by self.now.holds worker) }
     {
         self.holds
             .of(worker)
@@ -124,7 +134,7 @@ impl Keeper {
 
     /// Whether the chunk has an item of the key.
     fn has_key(&self, chunk: ChunkId, key: u64) -> bool
-        ensures { result ≡ has_key self.now.items key chunk }
+        ensures found { result ≡ has_key self.now.items key chunk }
     {
         match self.items.get(chunk) {
             Some(item) => item.key() == key,
@@ -136,7 +146,7 @@ impl Keeper {
 /// The chunk behind which so many stand.
 fn hold_at(chunks: &[ChunkId], behind: usize) -> ChunkId
     requires { behind < length chunks.now }
-    ensures { (d : ChunkId) → result ≡ slice_index_or (reverse chunks.now) behind d }
+    ensures chunk { (d : ChunkId) → result ≡ slice_index_or (reverse chunks.now) behind d }
 {
     chunks[chunks.len() - 1 - behind]
 }

@@ -1,10 +1,12 @@
 //! Commands, one after another: each is done, and the bytes of its reply are put together.
-ghost use Rattle.std.specs.Prelude.{◌≡◌, ◌≤◌, ◌++◌, None, Err, OnOk};
+ghost use Rattle.std.specs.Prelude.{◌≡◌, ◌≤◌, ◌++◌, None, Err, OnErr, OnOk, Contains};
+ghost use Rattle.std.specs.Io.{StartsWith};
 ghost use Rattle.mc_classes.specs.Classes.{class_of};
 ghost use Rattle.mc_script.specs.Command.{IsValid};
 ghost use Rattle.mc_machine.specs.Item.{item_bytes, words_from};
 ghost use Rattle.mc_machine.specs.Items.{linked_chunk};
 ghost use Rattle.mc_machine.specs.Lines.{IsServed, serve, set_in, deleted};
+ghost use Rattle.mc_keeper.specs.Stages.{set_stages, stages};
 
 use super::Keeper;
 use mc_parts::{push_key_line, push_turn_line};
@@ -35,10 +37,31 @@ impl From<AllocError> for Stop {
 
 impl Keeper {
     /// Does a command, and adds the bytes of its reply to `text`.
+    ///
+    /// Where it stops, `text` is as before, and what stands is one of the stages that the command comes through: what it
+    /// did before the step that was refused stays, and nothing of that step.
     pub fn serve(&mut self, command: Command, text: &mut Vec<u8>) -> Result<(), Stop>
         requires { IsValid command }
         ensures served { OnOk result (IsServed self.old command text.old.items text.new.items self.new) }
         ensures stopped { result ≡ Err Stop.Turns → serve self.old command ≡ None }
+        ensures left { OnErr result (Contains (stages self.old command) self.new) }
+        ensures unchanged { OnErr result (text.new.items ≡ text.old.items) }
+    {
+        let before = text.len();
+        let done = self.answer(command, text);
+        if done.is_err() {
+            text.truncate(before);
+        }
+        done
+    }
+
+    /// Does a command, and adds the bytes of its reply to `text`, or some of them where memory runs out.
+    fn answer(&mut self, command: Command, text: &mut Vec<u8>) -> Result<(), Stop>
+        requires { IsValid command }
+        ensures served { OnOk result (IsServed self.old command text.old.items text.new.items self.new) }
+        ensures stopped { result ≡ Err Stop.Turns → serve self.old command ≡ None }
+        ensures left { OnErr result (Contains (stages self.old command) self.new) }
+        ensures kept { StartsWith text.new.items text.old.items }
     {
         match command {
             Command::Set {
@@ -70,6 +93,8 @@ impl Keeper {
         requires { words ≤ 4096 }
         ensures reply { OnOk result (text.new.items ≡ text.old.items ++ (set_in self.old (class_of self.old.table (item_bytes words)) key (words_from base words)).reply) }
         ensures after { OnOk result (self.new ≡ (set_in self.old (class_of self.old.table (item_bytes words)) key (words_from base words)).machine) }
+        ensures refused { OnErr result (Contains (set_stages self.old (class_of self.old.table (item_bytes words)) key (words_from base words)) self.new) }
+        ensures kept { StartsWith text.new.items text.old.items }
     {
         match self.table.class_for(24 + 8 * words) {
             Some(class) => {
@@ -83,7 +108,8 @@ impl Keeper {
     /// Unlinks the key's item, and answers whether it had one.
     fn delete(&mut self, key: u64, text: &mut Vec<u8>) -> Result<(), AllocError>
         ensures reply { OnOk result (text.new.items ≡ text.old.items ++ (deleted self.old key (linked_chunk self.old.items key)).reply) }
-        ensures after { OnOk result (self.new ≡ (deleted self.old key (linked_chunk self.old.items key)).machine) }
+        ensures after { self.new ≡ (deleted self.old key (linked_chunk self.old.items key)).machine }
+        ensures kept { StartsWith text.new.items text.old.items }
     {
         let had = self.unlink(key);
         push_key_line(text, if had { b"DELETED" } else { b"NOT_FOUND" }, key)

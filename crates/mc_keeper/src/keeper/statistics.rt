@@ -1,5 +1,6 @@
 //! The numbers of the classes, and the statistics that are told of them.
 ghost use Rattle.std.specs.Prelude.{◌≡◌, ◌<◌, ◌++◌, IfOk, OnOk};
+ghost use Rattle.std.specs.Io.{StartsWith};
 ghost use Rattle.mc_machine.specs.Automove.{eviction_counts, free_counts, page_counts};
 ghost use Rattle.mc_machine.specs.Lines.{general_text_of, slabs_text_of};
 ghost use Rattle.mc_machine.specs.Machine.{all_swept};
@@ -34,7 +35,8 @@ impl Keeper {
         requires parts { refusals.parts ≡ L.parts }
         requires some { 0 < refusals.parts }
         ensures reply { OnOk result (text.new.items ≡ text.old.items ++ slabs_text_of (all_swept self.old)) }
-        ensures after { OnOk result (self.new ≡ all_swept self.old) }
+        ensures after { self.new ≡ all_swept self.old }
+        ensures kept { StartsWith text.new.items text.old.items }
     {
         self.sweep_all();
         self.push_statistics::<L>(refusals, text)
@@ -49,7 +51,8 @@ impl Keeper {
         requires name { refusals.name ≡ L.name }
         requires parts { refusals.parts ≡ L.parts }
         requires some { 0 < refusals.parts }
-        ensures { OnOk result (text.new.items ≡ text.old.items ++ slabs_text_of self.now) }
+        ensures reply { OnOk result (text.new.items ≡ text.old.items ++ slabs_text_of self.now) }
+        ensures kept { StartsWith text.new.items text.old.items }
     {
         let counts = self.counts()?;
         let malloced = self.slabs.totals().granted * self.table.page();
@@ -80,7 +83,8 @@ impl Keeper {
         requires name { refusals.name ≡ L.name }
         requires parts { refusals.parts ≡ L.parts }
         requires some { 0 < refusals.parts }
-        ensures { OnOk result (text.new.items ≡ text.old.items ++ general_text_of self.now) }
+        ensures reply { OnOk result (text.new.items ≡ text.old.items ++ general_text_of self.now) }
+        ensures kept { StartsWith text.new.items text.old.items }
     {
         let totals = self.slabs.totals();
         let running = self.slabs.moving().is_some();

@@ -1,5 +1,5 @@
 //! How items come and go.
-ghost use Rattle.std.specs.Prelude.{◌≡◌, Option, None, Some, IfOk, OnOk};
+ghost use Rattle.std.specs.Prelude.{◌≡◌, Option, None, Some, IfOk, OnErr, OnOk, Contains};
 ghost use Rattle.std.specs.Option.{is_some};
 ghost use Rattle.mc_pages.specs.ClassState.{first_free};
 ghost use Rattle.mc_pages.specs.SlabState.{IsClass, class_at};
@@ -8,6 +8,7 @@ ghost use Rattle.mc_machine.specs.Items.{linked_chunk, unlinked_items, with_item
 ghost use Rattle.mc_machine.specs.Item.{new_item, words_from};
 ghost use Rattle.mc_machine.specs.Lines.{stored};
 ghost use Rattle.mc_machine.specs.Supply.{asks_for_page, supplied, supply};
+ghost use Rattle.mc_keeper.specs.Stages.{store_stages};
 
 use super::Keeper;
 use mc_classes::ClassId;
@@ -30,6 +31,7 @@ impl Keeper {
         requires { IsClass self.old.slabs class }
         ensures stored { IfOk result (λ stored. stored ≡ is_some (supply self.old class)) }
         ensures after { OnOk result (self.new ≡ (stored (supplied self.old class) class key (words_from base words) (asks_for_page self.old class) (supply self.old class)).machine) }
+        ensures refused { OnErr result (Contains (store_stages self.old class key (words_from base words)) self.new) }
     {
         let evicted = self.supply(class)?;
         match self.slabs.first_free(class) {
@@ -66,7 +68,7 @@ impl Keeper {
     }
 
     /// Hands out the class's next free chunk and puts a new item into it, to which the key leads. The key's old item is
-    /// unlinked.
+    /// unlinked. Where memory runs out, nothing is changed.
     fn put(
         &mut self,
         class: ClassId,
@@ -81,8 +83,16 @@ impl Keeper {
           slabs = after_pop self.old.slabs class;
           items = with_item (unlinked_items self.old.items key) chunk (new_item key (words_from base words));
         }) }
+        ensures refused { OnErr result (self.new ≡ self.old) }
     {
-        let before = self.index.insert(key, chunk)?;
+        self.items.store(chunk, key, base, words)?;
+        let before = match self.index.insert(key, chunk) {
+            Ok(before) => before,
+            Err(error) => {
+                self.items.remove(chunk);
+                return Err(error);
+            }
+        };
         if let Some(old) = before {
             self.items.unlink(old);
             count_unheld(
@@ -93,15 +103,7 @@ impl Keeper {
                 old,
             );
         }
-        match self.items.store(chunk, key, base, words) {
-            Ok(()) => {
-                self.slabs.pop(class);
-                Ok(())
-            }
-            Err(error) => {
-                self.index.remove(key);
-                Err(error)
-            }
-        }
+        self.slabs.pop(class);
+        Ok(())
     }
 }

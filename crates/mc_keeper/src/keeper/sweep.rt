@@ -1,5 +1,5 @@
 //! Dead chunks are put back: those that neither a key leads to nor anybody holds.
-ghost use Rattle.std.specs.Prelude.{◌≡◌, ◌≤◌, nat_lt, true, [], ◌∷◌, Contains, IfSome, length};
+ghost use Rattle.std.specs.Prelude.{◌≡◌, nat_lt, true, [], ◌∷◌, Contains, IfSome, length};
 ghost use Rattle.mc_pages.specs.SlabState.{IsClass, class_at, class_of_page, class_of_chunk};
 ghost use Rattle.mc_machine.specs.Machine.{dead_chunks, is_dead, is_linked_unheld, swept, all_swept, after_reclaim};
 
@@ -12,7 +12,7 @@ impl Keeper {
     /// Puts back the dead chunks of a class, the one that was handed out first of all first.
     pub(super) fn sweep(&mut self, class: ClassId)
         requires { IsClass self.old.slabs class }
-        ensures { self.new ≡ swept self.old class }
+        ensures swept { self.new ≡ swept self.old class }
     {
         match self.only_dead(class) {
             Some(chunk) => self.reclaim(chunk),
@@ -41,7 +41,7 @@ impl Keeper {
     /// Puts back the dead chunks of a class, on a walk along the hand-out order as far as the last of them.
     fn sweep_order(&mut self, class: ClassId)
         requires { IsClass self.old.slabs class }
-        ensures { self.new ≡ swept self.old class }
+        ensures swept { self.new ≡ swept self.old class }
     {
         let mut next = self.slabs.first_out(class);
         while let Some(chunk) = next {
@@ -57,7 +57,7 @@ impl Keeper {
 
     /// Puts back the dead chunks of all classes, class 1 first.
     pub(super) fn sweep_all(&mut self)
-        ensures { self.new ≡ all_swept self.old }
+        ensures swept { self.new ≡ all_swept self.old }
     {
         for place in 0..self.table.count() {
             self.sweep(place + 1);
@@ -67,14 +67,14 @@ impl Keeper {
     /// Whether a handed-out chunk of the class is dead.
     fn has_dead(&self, class: ClassId) -> bool
         requires { IsClass self.now.slabs class }
-        ensures { result ≡ nat_lt 0 (length (dead_chunks self.now class)) }
+        ensures some { result ≡ nat_lt 0 (length (dead_chunks self.now class)) }
     {
         self.dead.of(class) > 0
     }
 
     /// Whether neither a key leads to the chunk's item nor anybody holds it.
     pub(super) fn is_dead(&self, chunk: ChunkId) -> bool
-        ensures { result ≡ is_dead self.now chunk }
+        ensures dead { result ≡ is_dead self.now chunk }
     {
         match self.items.get(chunk) {
             Some(item) => !item.is_linked() && !self.holds.is_held(chunk),
@@ -84,7 +84,7 @@ impl Keeper {
 
     /// Whether a key leads to the chunk's item, and nobody holds it.
     pub(super) fn is_linked_unheld(&self, chunk: ChunkId) -> bool
-        ensures { result ≡ is_linked_unheld self.now chunk }
+        ensures unheld { result ≡ is_linked_unheld self.now chunk }
     {
         match self.items.get(chunk) {
             Some(item) => item.is_linked() && !self.holds.is_held(chunk),
@@ -97,7 +97,7 @@ impl Keeper {
         requires dead { is_dead self.old chunk ≡ true }
         requires class { IsClass self.old.slabs (class_of_page self.old.slabs chunk.page) }
         requires listed { Contains (class_of_chunk self.old.slabs chunk).order chunk }
-        ensures { self.new ≡ after_reclaim self.old chunk }
+        ensures reclaimed { self.new ≡ after_reclaim self.old chunk }
     {
         let class = class_of(&self.slabs, chunk);
         self.slabs.back(chunk);

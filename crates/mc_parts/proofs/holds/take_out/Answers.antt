@@ -5,5 +5,7 @@ use Rattle.mc_parts.proofs.holds.take_out.Goals as goal
 
 pub returns : goal.returns
 returns c =
-    ap (λ (l : List ChunkId). reverse l) c.remove.ensures.items
-    ∙ reverse-remove c.args.chunks.now.items _ c.args.behind (omega (arith, c.requires))
+    record {
+      removed = ap (λ (l : List ChunkId). reverse l) c.remove.ensures.items
+          ∙ reverse-remove c.args.chunks.now.items _ c.args.behind (omega (arith, c.requires));
+    }

@@ -19,14 +19,14 @@ pub returns-in-Some-clause-key : goal.returns-in-Some-clause-key
 returns-in-Some-clause-key c =
     let there : HasPlace (places_of c.args.pages.now.items) c.args.old = rw (← c.deref.ensures.value) (c.has_place.ensures.yes c.if-not-has_place.false) in
     let read = read_there c.args.pages.now.items c.args.old c.index_mut.result.now there c.index_mut.ensures.value c.index_mut-2.result.now c.index_mut-2.ensures.value in
-    ap Some c.key-key.ensures ∙ ap (λ (found : Option Item). option_map (λ (item : Item). item.key) found) (c.in-Some.ensures.item ∙ read)
+    ap Some c.key-key.ensures.key ∙ ap (λ (found : Option Item). option_map (λ (item : Item). item.key) found) (c.in-Some.ensures.item ∙ read)
 
 pub returns-in-Some-clause-moved : goal.returns-in-Some-clause-moved
 returns-in-Some-clause-moved c =
     let there : HasPlace (places_of c.args.pages.now.items) c.args.old = rw (← c.deref.ensures.value) (c.has_place.ensures.yes c.if-not-has_place.false) in
     let read = read_there c.args.pages.now.items c.args.old c.index_mut.result.now there c.index_mut.ensures.value c.index_mut-2.result.now c.index_mut-2.ensures.value in
     let found : item_at (items_from 0 (places_of c.args.pages.now.items)) c.args.old ≡ Some c.in-Some.item = sym read ∙ sym c.in-Some.ensures.item in
-    rw (found, c.put.ensures, c.take.ensures.taken)
+    rw (found, c.put.ensures.put, c.take.ensures.taken)
     (come_there _ c.args.new c.index_mut-in-Some.result.now
     (still_there c.args.pages.now.items c.args.old c.index_mut.result.now there c.index_mut.ensures.value (with_item c.index_mut.result.now c.args.old.index None) None refl c.args.new c.requires)
     (rw c.take.ensures.taken at c.index_mut-in-Some.ensures.value) (with_item c.index_mut-in-Some.result.now c.args.new.index (Some c.in-Some.item)) c.in-Some.item refl

@@ -7,9 +7,9 @@ use Rattle.mc_pages.specs.SlabState.{IsClass, class_at, class_of_page}
 use Rattle.mc_machine.specs.Items.{item_at}
 use Rattle.mc_machine.specs.Machine.{Machine}
 use Rattle.mc_machine.proofs.KeptMoverClear.{cleared_after, cleared_there, kept_freed, not_handed, own_from_cut}
-use Rattle.mc_machine.proofs.Watched.{watched-clear}
+use Rattle.mc_keeper.proofs.Watched.{watched-clear}
 use Rattle.std.proofs.lemmas.List.{length-set}
-use Rattle.mc_machine.proofs.Counted.{counted_owned}
+use Rattle.mc_keeper.proofs.Counted.{counted_owned}
 use Rattle.mc_keeper.proofs.keeper.Keeper.clear_free.Goals as goal
 
 pub is_free-requires-clause-class : goal.is_free-requires-clause-class
@@ -34,9 +34,10 @@ invariant_of-self c =
     let valid : IsClass c.self.inside.slabs.state (class_of_page c.self.inside.slabs.state c.args.chunk.page) = rw own (rw slabs c.requires.class) in
     let empty : item_at c.self.inside.items c.args.chunk ≡ None = rw (ap (λ (m : Machine). m.items) c.self.view_is) c.requires.empty in
     record {
-      kept = rw c.clear.ensures.cleared (kept_freed _ _ _ _ c.args.chunk c.self.invariant.kept empty valid (rw c.clear.ensures.cleared at c.clear.ensures.accounted));
+      kept = rw c.clear.ensures.cleared (kept_freed _ _ _ c.args.chunk c.self.invariant.kept empty valid (rw c.clear.ensures.cleared at c.clear.ensures.accounted));
       watched = rw c.clear.ensures.cleared (watched-clear c.self.inside.slabs.state _ c.self.invariant.watched c.args.chunk);
       counted = rw c.clear.ensures.cleared (counted_owned _ _ _ _ _ _ c.self.invariant.counted (length-set c.self.inside.slabs.state.classes _ _));
+      indexed = c.self.invariant.indexed;
       bulk = c.self.invariant.bulk;
     }
 
@@ -48,7 +49,7 @@ returns-else-is_free-clause-looked c =
     let class : IsClass c.self.inside.slabs.state c.args.class = rw slabs c.requires.class in
     let valid : IsClass c.self.inside.slabs.state (class_of_page c.self.inside.slabs.state c.args.chunk.page) = rw own class in
     let empty : item_at c.self.inside.items c.args.chunk ≡ None = rw (ap (λ (m : Machine). m.items) c.self.view_is) c.requires.empty in
-    let order : times c.args.chunk (class_at c.self.inside.slabs.state c.args.class).order ≡ 0 = rw own at (not_handed _ _ _ _ c.args.chunk c.self.invariant.kept empty valid) in
+    let order : times c.args.chunk (class_at c.self.inside.slabs.state c.args.class).order ≡ 0 = rw own at (not_handed _ _ _ c.args.chunk c.self.invariant.kept empty valid) in
     let free : times c.args.chunk (class_at c.self.inside.slabs.state c.args.class).free ≡ 0 = let none = rw own at c.is_free.ensures.free in grind (arith, nat_tests, none, c.if-is_free.false) in
     let cleared : is_cleared c.args.self.now.slabs c.args.class c.args.chunk ≡ true
     = rw (← slabs) (cleared_there _ _ _ c.self.invariant.kept.accounted class cut free order) in
@@ -62,7 +63,7 @@ returns-else-is_free-clause-clears c =
     let class : IsClass c.self.inside.slabs.state c.args.class = rw slabs c.requires.class in
     let valid : IsClass c.self.inside.slabs.state (class_of_page c.self.inside.slabs.state c.args.chunk.page) = rw own class in
     let empty : item_at c.self.inside.items c.args.chunk ≡ None = rw (ap (λ (m : Machine). m.items) c.self.view_is) c.requires.empty in
-    let order : times c.args.chunk (class_at c.self.inside.slabs.state c.args.class).order ≡ 0 = rw own at (not_handed _ _ _ _ c.args.chunk c.self.invariant.kept empty valid) in
+    let order : times c.args.chunk (class_at c.self.inside.slabs.state c.args.class).order ≡ 0 = rw own at (not_handed _ _ _ c.args.chunk c.self.invariant.kept empty valid) in
     let free : times c.args.chunk (class_at c.self.inside.slabs.state c.args.class).free ≡ 0 = let none = rw own at c.is_free.ensures.free in grind (arith, nat_tests, none, c.if-is_free.false) in
     rw (← slabs) (cleared_there _ _ _ c.self.invariant.kept.accounted class cut free order)
 

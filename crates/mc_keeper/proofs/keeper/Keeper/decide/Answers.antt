@@ -6,7 +6,7 @@ use Rattle.mc_watch.specs.declared.decider.Decision.{Decision}
 use Rattle.mc_watch.specs.declared.refusal.Feed.{Feed}
 use Rattle.mc_watch.specs.Decider.{refusal_of}
 use Rattle.mc_machine.specs.Machine.{Machine}
-use Rattle.mc_machine.proofs.Watched.{taken_fed, watched_fed}
+use Rattle.mc_keeper.proofs.Watched.{taken_fed, watched_fed}
 use Rattle.mc_keeper.proofs.keeper.Keeper.decide.Goals as goal
 
 pub invariant_of-self : goal.invariant_of-self
@@ -16,6 +16,7 @@ invariant_of-self c = record {
       (c.deref.ensures.value ∙ c.in_ok-counts.ensures.evictions) (c.deref-2.ensures.value ∙ c.in_ok-counts.ensures.pages) (c.deref-3.ensures.value ∙ c.in_ok-counts.ensures.free)
       (rw c.unwrap-decision.ensures at c.feed.ensures.noted);
   counted = c.self.invariant.counted;
+  indexed = c.self.invariant.indexed;
   bulk = c.self.invariant.bulk;
 }
 
@@ -26,6 +27,7 @@ invariant_of-self-2 c = record {
       (c.deref.ensures.value ∙ c.in_ok-counts.ensures.evictions) (c.deref-2.ensures.value ∙ c.in_ok-counts.ensures.pages) (c.deref-3.ensures.value ∙ c.in_ok-counts.ensures.free)
       (rw c.unwrap-decision.ensures at c.feed.ensures.noted);
   counted = c.self.invariant.counted;
+  indexed = c.self.invariant.indexed;
   bulk = c.self.invariant.bulk;
 }
 

@@ -1,5 +1,4 @@
-use Rattle.std.proofs.Common.{◌≡◌, ℕ, Option, Some, None, Result, Ok, Err, refl, ap, ◌∙◌}
-use Rattle.std.specs.Prelude.{OnOk}
+use Rattle.std.proofs.Common.{◌≡◌, ℕ, Option, Some, None, refl, ap, ◌∙◌}
 use Rattle.mc_pages.specs.declared.ids.ChunkId.{ChunkId}
 use Rattle.mc_machine.specs.Items.{Items, linked_chunk, unlinked_items}
 use Rattle.mc_machine.specs.Lines.{deleted}
@@ -13,11 +12,6 @@ deleted_at : (m : Machine) (key : ℕ) (found : Option ChunkId) → linked_chunk
 deleted_at m key None is = ap (λ (items : Items). record m { items = items }) (unlinked_items_none key m.items is)
 deleted_at m key (Some chunk) is = refl
 
--- what holds whatever the result
-on_ok : {A E : Type 0} (P : Type 0) (result : Result A E) → P → OnOk result P
-on_ok P (Ok value) holds = holds
-on_ok P (Err error) holds = tt
-
 pub returns-clause-after : goal.returns-clause-after
 returns-clause-after c =
-    on_ok _ c.push_key_line.result (c.unlink-had.ensures.unlinked ∙ deleted_at c.args.self.now c.args.key (linked_chunk c.args.self.now.items c.args.key) refl)
+    c.unlink-had.ensures.unlinked ∙ deleted_at c.args.self.now c.args.key (linked_chunk c.args.self.now.items c.args.key) refl

@@ -7,13 +7,13 @@ use Rattle.mc_machine.proofs.KeptMoverPass.{move_here}
 use Rattle.mc_keeper.proofs.keeper.Keeper.end_turn.Goals as goal
 
 pub is_at_end-requires : goal.is_at_end-requires
-is_at_end-requires c = (move_here _ _ _ c.in-Some.moving c.self.invariant.kept c.self.view_is (sym c.in-Some.ensures.moving)).src
+is_at_end-requires c = (move_here _ _ c.in-Some.moving c.self.invariant.kept c.self.view_is (sym c.in-Some.ensures.moving)).src
 
 pub finish-requires : goal.finish-requires
 finish-requires c =
-    let is : IsMove c.args.self.now.slabs c.in-Some.moving = move_here _ _ _ c.in-Some.moving c.self.invariant.kept c.self.view_is (sym c.in-Some.ensures.moving) in
+    let is : IsMove c.args.self.now.slabs c.in-Some.moving = move_here _ _ c.in-Some.moving c.self.invariant.kept c.self.view_is (sym c.in-Some.ensures.moving) in
     let accounted : IsAccounted c.args.self.now.slabs = rw (← c.self.view_is) c.self.invariant.kept.accounted in
     let runs : c.args.self.now.slabs.moving ≡ Some c.in-Some.moving = rw (← c.self.view_is) (sym c.in-Some.ensures.moving) in
     let at_end : c.in-Some.moving.at ≡ (class_at c.args.self.now.slabs c.in-Some.moving.src).per_page
-    = grind (arith, nat_tests, c.is_at_end.ensures, c.if-not-is_at_end.false, is.within) in
+    = grind (arith, nat_tests, c.is_at_end.ensures.at_end, c.if-not-is_at_end.false, is.within) in
     all_cleared_at_end c.args.self.now.slabs c.in-Some.moving accounted runs at_end (omega (arith, c.if-moving-gt0.false))

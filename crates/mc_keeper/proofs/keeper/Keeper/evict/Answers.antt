@@ -10,8 +10,9 @@ use Rattle.mc_pages.proofs.HandedOut.{class_of_handed_out}
 use Rattle.mc_machine.specs.Items.{is_linked}
 use Rattle.mc_machine.specs.Machine.{Machine}
 use Rattle.mc_machine.proofs.KeptEvict.{kept_evict, linked_item}
-use Rattle.mc_machine.proofs.Watched.{watched-back, watched-evicted}
-use Rattle.mc_machine.proofs.Counted.{counted_gone}
+use Rattle.mc_keeper.proofs.Watched.{watched-back, watched-evicted}
+use Rattle.mc_keeper.proofs.Counted.{counted_gone}
+use Rattle.mc_keeper.proofs.Indexed.{indexed_gone}
 use Rattle.mc_keeper.proofs.keeper.Keeper.evict.Goals as goal
 
 pub back-requires : goal.back-requires
@@ -30,9 +31,11 @@ invariant_of-self c =
     = same_Some c.in-Some.key found.0.key (c.in-Some.ensures.key ∙ ap (λ (o : Option Item). option_map (λ (item : Item). item.key) o) found.1) in
     record {
       kept = rw (c.evicted.ensures.evicted, c.back.ensures.back, c.remove.ensures.entries)
-          (kept_evict _ _ _ _ _ c.args.class c.args.chunk found.0 c.self.invariant.kept
+          (kept_evict _ _ _ c.args.class c.args.chunk found.0 c.self.invariant.kept
           (rw c.back.ensures.back at c.back.ensures.accounted) (rw (c.evicted.ensures.evicted, c.back.ensures.back) at c.evicted.ensures.accounted)
-          found.1 found.2 (rw key at c.remove-in-Some.ensures.led));
+          found.1);
+      indexed = rw c.remove.ensures.entries
+          (indexed_gone _ _ _ c.args.chunk found.0 c.in-Some.key c.self.invariant.indexed c.self.invariant.kept.one_link found.1 found.2 key c.remove-in-Some.ensures.led);
       watched = rw (c.evicted.ensures.evicted, c.back.ensures.back) (watched-evicted (after_back c.self.inside.slabs.state c.args.chunk) c.args.class _ (valid.0, rw (length-set c.self.inside.slabs.state.classes _ _) valid.1)
           (watched-back c.self.inside.slabs.state _ c.self.invariant.watched c.args.chunk));
       counted = rw (c.evicted.ensures.evicted, c.back.ensures.back, c.remove.ensures.entries)

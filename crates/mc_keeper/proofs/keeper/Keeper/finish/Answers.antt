@@ -8,8 +8,8 @@ use Rattle.mc_pages.specs.SlabState.{SlabState, IsClass}
 use Rattle.mc_machine.specs.Machine.{Machine}
 use Rattle.mc_machine.proofs.Grown.{per_page_kept}
 use Rattle.mc_machine.proofs.KeptMoverFinish.{Arrives, arrives, arrives_cut, finish_view, kept_pooled, kept_recut, per_page_finished, per_page_there}
-use Rattle.mc_machine.proofs.Watched.{watched-finished, watched-recut}
-use Rattle.mc_machine.proofs.Counted.{counted_moved}
+use Rattle.mc_keeper.proofs.Watched.{watched-finished, watched-recut}
+use Rattle.mc_keeper.proofs.Counted.{counted_moved}
 use Rattle.mc_keeper.proofs.keeper.Keeper.finish.Goals as goal
 
 pub cut_page-requires-clause-chunks : goal.cut_page-requires-clause-chunks
@@ -21,7 +21,7 @@ cut_page-requires-clause-chunks c =
     let class : c.args.moving.dst ≢ 0 = c.if-moving-ne0.true in
     let valid : IsClass c.self.inside.slabs.state c.args.moving.dst = (omega (arith, class), is.dst) in
     rw after (per_page_there c.self.inside.slabs.state c.args.moving is class
-    ∙ per_page_kept _ _ _ _ c.args.moving.dst c.self.invariant.kept valid ∙ sym c.per_page.ensures.chunks)
+    ∙ per_page_kept _ _ _ c.args.moving.dst c.self.invariant.kept valid ∙ sym c.per_page.ensures.chunks)
 
 pub invariant_of-self : goal.invariant_of-self
 invariant_of-self c =
@@ -33,10 +33,11 @@ invariant_of-self c =
     let come : Arrives c.self.inside.slabs.state (fold after_cut (finished c.self.inside.slabs.state c.args.moving) (first_chunks c.args.moving.page c.per_page.result)) c.args.moving.page
     = arrives_cut _ _ _ (first_chunks c.args.moving.page c.per_page.result) (arrives c.self.inside.slabs.state c.args.moving) in
     record {
-      kept = rw cut (kept_recut _ _ _ _ c.args.moving (first_chunks c.args.moving.page c.per_page.result) c.self.invariant.kept can
+      kept = rw cut (kept_recut _ _ _ c.args.moving (first_chunks c.args.moving.page c.per_page.result) c.self.invariant.kept can
           (rw cut at c.cut_page.ensures.whole) (rw cut at c.cut_page.ensures.accounted));
       watched = rw cut (watched-recut c.self.inside.slabs.state _ c.self.invariant.watched c.args.moving (first_chunks c.args.moving.page c.per_page.result));
-      counted = rw cut (counted_moved _ _ _ _ _ _ _ c.self.invariant.kept (rw cut at c.cut_page.ensures.accounted) come.classes come.order c.self.invariant.counted);
+      counted = rw cut (counted_moved _ _ _ _ _ _ c.self.invariant.kept (rw cut at c.cut_page.ensures.accounted) come.classes come.order c.self.invariant.counted);
+      indexed = c.self.invariant.indexed;
       bulk = c.self.invariant.bulk;
     }
 
@@ -46,10 +47,11 @@ invariant_of-self-else-moving-ne0 c =
     let after : c.finish_move.new.self.state ≡ finished c.self.inside.slabs.state c.args.moving
     = c.finish_move.ensures.finished ∙ ap (λ (o : Option Moving). after_finish c.self.inside.slabs.state o) can.runs in
     record {
-      kept = rw after (kept_pooled _ _ _ _ c.args.moving c.self.invariant.kept can c.if-moving-ne0.false (rw after at c.finish_move.ensures.accounted));
+      kept = rw after (kept_pooled _ _ _ c.args.moving c.self.invariant.kept can c.if-moving-ne0.false (rw after at c.finish_move.ensures.accounted));
       watched = rw after (watched-finished c.self.inside.slabs.state _ c.self.invariant.watched c.args.moving);
-      counted = rw after (counted_moved _ _ _ _ _ _ _ c.self.invariant.kept (rw after at c.finish_move.ensures.accounted)
+      counted = rw after (counted_moved _ _ _ _ _ _ c.self.invariant.kept (rw after at c.finish_move.ensures.accounted)
           (arrives c.self.inside.slabs.state c.args.moving).classes (arrives c.self.inside.slabs.state c.args.moving).order c.self.invariant.counted);
+      indexed = c.self.invariant.indexed;
       bulk = c.self.invariant.bulk;
     }
 
@@ -63,14 +65,16 @@ returns-then-moving-ne0 c =
     = c.cut_page.ensures.cut ∙ ap (λ (s : SlabState). fold after_cut s (first_chunks c.args.moving.page c.per_page.result)) after in
     let class : c.args.moving.dst ≢ 0 = c.if-moving-ne0.true in
     let valid : IsClass c.self.inside.slabs.state c.args.moving.dst = (omega (arith, class), is.dst) in
-    rw (← c.self.view_is) (finish_view (record {
-      table = c.self.inside.table;
-      bulk = c.self.inside.bulk;
-      slabs = c.self.inside.slabs.state;
-      items = c.self.inside.items;
-      holds = c.self.inside.holds;
-      turns = c.self.inside.turns;
-      decider = c.self.inside.decider;
-    }) c.cut_page.new.slabs.state c.args.moving c.per_page.result class
-    (per_page_finished c.self.inside.slabs.state c.args.moving c.args.moving.dst
-    ∙ per_page_kept _ _ _ _ c.args.moving.dst c.self.invariant.kept valid ∙ sym c.per_page.ensures.chunks) cut)
+    record {
+      finished = rw (← c.self.view_is) (finish_view (record {
+        table = c.self.inside.table;
+        bulk = c.self.inside.bulk;
+        slabs = c.self.inside.slabs.state;
+        items = c.self.inside.items;
+        holds = c.self.inside.holds;
+        turns = c.self.inside.turns;
+        decider = c.self.inside.decider;
+      }) c.cut_page.new.slabs.state c.args.moving c.per_page.result class
+          (per_page_finished c.self.inside.slabs.state c.args.moving c.args.moving.dst
+          ∙ per_page_kept _ _ _ c.args.moving.dst c.self.invariant.kept valid ∙ sym c.per_page.ensures.chunks) cut);
+    }

@@ -7,22 +7,22 @@ use Rattle.mc_keeper.proofs.keeper.Keeper.look.Goals as goal
 
 pub returns-then-is_held-clause-looked : goal.returns-then-is_held-clause-looked
 returns-then-is_held-clause-looked c =
-    let held : is_held c.args.self.now.holds c.args.chunk ≡ true = ap (λ (m : Machine). is_held m.holds c.args.chunk) (sym c.self.view_is) ∙ sym c.is_held.ensures ∙ c.if-is_held.true in
-    looked_with_item _ _ _ c.args.class c.args.chunk c.in-Some.item.now c.self.invariant.kept c.self.view_is c.requires.class c.requires.cut (sym c.in-Some.ensures.value)
+    let held : is_held c.args.self.now.holds c.args.chunk ≡ true = ap (λ (m : Machine). is_held m.holds c.args.chunk) (sym c.self.view_is) ∙ sym c.is_held.ensures.held ∙ c.if-is_held.true in
+    looked_with_item _ _ c.args.class c.args.chunk c.in-Some.item.now c.self.invariant.kept c.self.view_is c.requires.class c.requires.cut (sym c.in-Some.ensures.value)
     ∙ busy_if_held c.args.self.now c.args.class c.args.chunk held
 
 pub returns-then-is_linked-clause-looked : goal.returns-then-is_linked-clause-looked
 returns-then-is_linked-clause-looked c =
-    let free : is_held c.args.self.now.holds c.args.chunk ≡ false = ap (λ (m : Machine). is_held m.holds c.args.chunk) (sym c.self.view_is) ∙ sym c.is_held.ensures ∙ c.if-is_held.false in
+    let free : is_held c.args.self.now.holds c.args.chunk ≡ false = ap (λ (m : Machine). is_held m.holds c.args.chunk) (sym c.self.view_is) ∙ sym c.is_held.ensures.held ∙ c.if-is_held.false in
     let there : item_at c.args.self.now.items c.args.chunk ≡ Some c.in-Some.item.now = ap (λ (m : Machine). item_at m.items c.args.chunk) (sym c.self.view_is) ∙ sym c.in-Some.ensures.value in
-    let idle : is_linked_unheld c.args.self.now c.args.chunk ≡ true = idle_if_linked c.args.self.now c.args.chunk c.in-Some.item.now there free (sym c.is_linked-is_linked.ensures ∙ c.if-is_linked.true) in
+    let idle : is_linked_unheld c.args.self.now c.args.chunk ≡ true = idle_if_linked c.args.self.now c.args.chunk c.in-Some.item.now there free (sym c.is_linked-is_linked.ensures.linked ∙ c.if-is_linked.true) in
     let alive : is_dead c.args.self.now c.args.chunk ≡ false = not_dead c.args.self.now c.args.chunk idle in
-    rw (looked_with_item _ _ _ c.args.class c.args.chunk c.in-Some.item.now c.self.invariant.kept c.self.view_is c.requires.class c.requires.cut (sym c.in-Some.ensures.value), alive, idle) c.save.ensures.saved
+    rw (looked_with_item _ _ c.args.class c.args.chunk c.in-Some.item.now c.self.invariant.kept c.self.view_is c.requires.class c.requires.cut (sym c.in-Some.ensures.value), alive, idle) c.save.ensures.saved
 
 pub returns-clause-looked : goal.returns-clause-looked
 returns-clause-looked c =
-    let free : is_held c.args.self.now.holds c.args.chunk ≡ false = ap (λ (m : Machine). is_held m.holds c.args.chunk) (sym c.self.view_is) ∙ sym c.is_held.ensures ∙ c.if-is_held.false in
+    let free : is_held c.args.self.now.holds c.args.chunk ≡ false = ap (λ (m : Machine). is_held m.holds c.args.chunk) (sym c.self.view_is) ∙ sym c.is_held.ensures.held ∙ c.if-is_held.false in
     let there : item_at c.args.self.now.items c.args.chunk ≡ Some c.in-Some.item.now = ap (λ (m : Machine). item_at m.items c.args.chunk) (sym c.self.view_is) ∙ sym c.in-Some.ensures.value in
-    let dead : is_dead c.args.self.now c.args.chunk ≡ true = dead_if_unlinked c.args.self.now c.args.chunk c.in-Some.item.now there free (sym c.is_linked-is_linked.ensures ∙ c.if-is_linked.false) in
-    looked_with_item _ _ _ c.args.class c.args.chunk c.in-Some.item.now c.self.invariant.kept c.self.view_is c.requires.class c.requires.cut (sym c.in-Some.ensures.value)
+    let dead : is_dead c.args.self.now c.args.chunk ≡ true = dead_if_unlinked c.args.self.now c.args.chunk c.in-Some.item.now there free (sym c.is_linked-is_linked.ensures.linked ∙ c.if-is_linked.false) in
+    looked_with_item _ _ c.args.class c.args.chunk c.in-Some.item.now c.self.invariant.kept c.self.view_is c.requires.class c.requires.cut (sym c.in-Some.ensures.value)
     ∙ rw (dead, c.clear.ensures.cleared) refl

@@ -13,5 +13,7 @@ returns c =
     let found = position_from_yields_List (has_key c.args.self.now.items c.args.key) _ _ _ c.position.ensures.ran
     (YieldsList-from_rev_slice c.of.result.now (cc)) (λ x b q k. search (rules, tests)) in
     let held : reverse c.of.result.now ≡ held_by c.args.self.now.holds c.args.worker
-    = c.of.ensures ∙ ap (λ (m : Machine). held_by m.holds c.args.worker) c.self.view_is in
-    found ∙ ap (λ (chunks : List ChunkId). position (has_key c.args.self.now.items c.args.key) chunks) held
+    = c.of.ensures.chunks ∙ ap (λ (m : Machine). held_by m.holds c.args.worker) c.self.view_is in
+    record {
+      place = found ∙ ap (λ (chunks : List ChunkId). position (has_key c.args.self.now.items c.args.key) chunks) held;
+    }

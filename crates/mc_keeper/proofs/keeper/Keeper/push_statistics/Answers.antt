@@ -6,12 +6,12 @@ use Rattle.mc_keeper.proofs.keeper.Keeper.push_statistics.Goals as goal
 pub stats_slabs-written-requires : goal.stats_slabs-written-requires
 stats_slabs-written-requires g c =
     rw (c.deref.ensures.value, c.deref-2.ensures.value, c.in_ok-counts.ensures.pages, c.in_ok-counts.ensures.free, ← ap (λ (m : Machine). m.slabs) c.self.view_is)
-    (are_counts _ _ _ _ c.self.invariant.kept)
+    (are_counts _ _ _ c.self.invariant.kept)
 
-pub returns-in-Ok : goal.returns-in-Ok
-returns-in-Ok g c =
+pub returns-in-Ok-clause-reply : goal.returns-in-Ok-clause-reply
+returns-in-Ok-clause-reply g c =
     rw (← c.self.view_is) (rw c.self.invariant.kept.page
-    (ap (λ (v : Vec ℕ Global). v.items) c.into_text.ensures
+    (ap (λ (v : Vec ℕ Global). v.items) c.into_text.ensures.text
     ∙ (rw (
       c.deref.ensures.value,
       c.deref-2.ensures.value,

@@ -7,8 +7,8 @@ use Rattle.mc_keeper.proofs.keeper.Keeper.relieve.Goals as goal
 
 pub evict-requires-clause-unheld : goal.evict-requires-clause-unheld
 evict-requires-clause-unheld c =
-    (found_holds (is_linked_unheld c.args.self.now) (class_at c.args.self.now.slabs c.args.class).order eviction_tries c.in-Some.chunk (sym c.in-Some.ensures)).0
+    (found_holds (is_linked_unheld c.args.self.now) (class_at c.args.self.now.slabs c.args.class).order eviction_tries c.in-Some.chunk (sym c.in-Some.ensures.victim)).0
 
 pub evict-requires-clause-listed : goal.evict-requires-clause-listed
 evict-requires-clause-listed c =
-    (found_holds (is_linked_unheld c.args.self.now) (class_at c.args.self.now.slabs c.args.class).order eviction_tries c.in-Some.chunk (sym c.in-Some.ensures)).1
+    (found_holds (is_linked_unheld c.args.self.now) (class_at c.args.self.now.slabs c.args.class).order eviction_tries c.in-Some.chunk (sym c.in-Some.ensures.victim)).1

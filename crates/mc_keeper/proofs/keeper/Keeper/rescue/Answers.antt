@@ -8,21 +8,22 @@ use Rattle.mc_pages.specs.SlabState.{SlabState, class_of_chunk}
 use Rattle.mc_pages.specs.Changes.{after_clear, after_replace}
 use Rattle.mc_machine.proofs.KeptMoverClear.{cleared_after, idle_here, handed_item, contains_counted}
 use Rattle.mc_machine.proofs.KeptMoverRescue.{kept_rescued, listed_still, vacant}
-use Rattle.mc_machine.proofs.Watched.{watched-clear, watched-replace}
+use Rattle.mc_keeper.proofs.Watched.{watched-clear, watched-replace}
 use Rattle.std.proofs.lemmas.List.{length-set}
-use Rattle.mc_machine.proofs.Counted.{counted_come, counted_gone}
+use Rattle.mc_keeper.proofs.Counted.{counted_come, counted_gone}
+use Rattle.mc_keeper.proofs.Indexed.{indexed_moved}
 use Rattle.mc_keeper.proofs.keeper.Keeper.rescue.Goals as goal
 
 pub replace-requires-clause-handed_out : goal.replace-requires-clause-handed_out
 replace-requires-clause-handed_out c =
     let found = idle_here _ _ c.args.old c.self.view_is c.requires.unheld in
-    contains_counted c.args.old (class_of_chunk c.self.inside.slabs.state c.args.old).order (handed_item _ _ _ _ c.args.old found.0 c.self.invariant.kept found.1)
+    contains_counted c.args.old (class_of_chunk c.self.inside.slabs.state c.args.old).order (handed_item _ _ _ c.args.old found.0 c.self.invariant.kept found.1)
 
 pub clear-requires-clause-listed : goal.clear-requires-clause-listed
 clear-requires-clause-listed c =
     let found = idle_here _ _ c.args.old c.self.view_is c.requires.unheld in
     let free : Contains (class_of_chunk c.self.inside.slabs.state c.args.old).free c.args.new = rw (ap (λ (m : Machine). m.slabs) c.self.view_is) c.requires.free in
-    rw c.replace.ensures.replaced (listed_still _ _ _ _ c.args.old c.args.new found.0 c.self.invariant.kept found.1 found.2 free)
+    rw c.replace.ensures.replaced (listed_still _ _ _ c.args.old c.args.new found.0 c.self.invariant.kept found.1 found.2 free)
 
 pub invariant_of-self-2 : goal.invariant_of-self-2
 invariant_of-self-2 c =
@@ -36,8 +37,11 @@ invariant_of-self-2 c =
     let moved : c.relocate.new.self ≡ with_item (without_item c.self.inside.items c.args.old) c.args.new item
     = c.in_ok-key.ensures.moved ∙ ap (λ (o : Option Item). with_found_item c.self.inside.items c.args.old c.args.new o) found.1 in
     record {
-      kept = rw (slabs, c.lead.ensures, key, moved)
-          (kept_rescued _ _ _ _ c.args.old c.args.new item c.self.invariant.kept found.1 found.2 free (rw slabs at c.clear.ensures.accounted));
+      kept = rw (slabs, moved)
+          (kept_rescued _ _ _ c.args.old c.args.new item c.self.invariant.kept found.1 found.2 free (rw slabs at c.clear.ensures.accounted));
+      indexed = rw (c.lead.ensures.led, key, moved)
+          (indexed_moved _ _ c.args.old c.args.new item c.self.invariant.indexed c.self.invariant.kept.one_link found.1 found.2
+          (vacant _ _ _ c.args.old c.args.new item c.self.invariant.kept found.1 found.2 free));
       watched = rw slabs (watched-clear (after_replace c.self.inside.slabs.state c.args.new c.args.old) _
           (watched-replace c.self.inside.slabs.state _ c.self.invariant.watched c.args.new c.args.old) c.args.old);
       counted = rw (slabs, moved)
@@ -45,7 +49,7 @@ invariant_of-self-2 c =
           (counted_gone _ _ _ _ _ _ c.args.old item c.self.invariant.counted
           (length-set (after_replace c.self.inside.slabs.state c.args.new c.args.old).classes _ _ ∙ length-set c.self.inside.slabs.state.classes _ _)
           found.1 found.2) refl
-          (vacant _ _ _ _ c.args.old c.args.new item c.self.invariant.kept found.1 found.2 free) found.2);
+          (vacant _ _ _ c.args.old c.args.new item c.self.invariant.kept found.1 found.2 free) found.2);
       bulk = c.self.invariant.bulk;
     }
 
@@ -58,4 +62,4 @@ returns-clause-clears c =
     rw (← c.self.view_is, slabs)
     (cleared_after (after_replace c.self.inside.slabs.state c.args.new c.args.old) c.args.old (rw c.replace.ensures.replaced at c.replace.ensures.accounted)
     (rw slabs at c.clear.ensures.accounted)
-    (listed_still _ _ _ _ c.args.old c.args.new found.0 c.self.invariant.kept found.1 found.2 free))
+    (listed_still _ _ _ c.args.old c.args.new found.0 c.self.invariant.kept found.1 found.2 free))

@@ -1,4 +1,5 @@
-use Rattle.std.proofs.Common.{◌≡◌, Some, ap, refl, sym, ◌∙◌}
+use Rattle.std.proofs.Common.{◌≡◌, Some, ap, refl, sym, ◌∙◌, arith}
+use Rattle.std.proofs.lemmas.Result.{err_from_is_err_and}
 use Rattle.mc_machine.specs.Item.{words_from}
 use Rattle.mc_machine.specs.Machine.{Machine}
 use Rattle.mc_machine.specs.Supply.{supply}
@@ -17,7 +18,7 @@ returns-in_ok-ask_for_page-in-Some-clause-after c =
     c.in_ok-evicted.ensures.after refl c.in_ok-put-in-Some.ensures.put head
     c.ask_for_page.new.self (sym c.in_ok-evicted.ensures.evicted ∙ c.if-evicted.true)
     (ap (λ (m : Machine). m.slabs.automove) (sym c.self-then-evicted.view_is) ∙ sym c.automove.ensures.mode ∙ c.if-automove-eq2.true)
-    c.in_ok-ask_for_page-in-Some.ensures
+    c.in_ok-ask_for_page-in-Some.ensures.after
 
 pub returns-else-evicted-clause-after : goal.returns-else-evicted-clause-after
 returns-else-evicted-clause-after c =
@@ -34,3 +35,9 @@ returns-else-evicted-clause-after c =
           c.in_ok-evicted.ensures.after refl c.in_ok-put-in-Some.ensures.put head
           (sym c.in_ok-evicted.ensures.evicted ∙ w.if-evicted.false)
     ]
+
+-- nothing was stored in the chunk
+pub returns-in_err-put-in-Some-clause-refused : goal.returns-in_err-put-in-Some-clause-refused
+returns-in_err-put-in-Some-clause-refused c =
+    let p = err_from_is_err_and c.from_residual-in_err-put-in-Some.result c.from_residual-in_err-put-in-Some.ensures.1 in
+    rw p.1 (1, omega arith, sym (c.in_err-put-in-Some.ensures.refused ∙ c.in_ok-evicted.ensures.after))

@@ -7,4 +7,4 @@ pub reclaim-requires-clause-listed : goal.reclaim-requires-clause-listed
 reclaim-requires-clause-listed c = rw c.in-Some.ensures.own c.in-Some.ensures.listed
 
 pub returns-in-Some : goal.returns-in-Some
-returns-in-Some c = rw (c.in-Some.ensures.only) c.reclaim.ensures
+returns-in-Some c = record { swept = rw (c.in-Some.ensures.only) c.reclaim.ensures.reclaimed }

@@ -14,4 +14,4 @@ sweep-requires c =
     )
 
 pub loop-place-preserved : goal.loop-place-preserved
-loop-place-preserved c = c.sweep.ensures ∙ sweeps_more c.args.self.now c.loop-place.self c.loop-place.place c.loop-place.invariant
+loop-place-preserved c = c.sweep.ensures.swept ∙ sweeps_more c.args.self.now c.loop-place.self c.loop-place.place c.loop-place.invariant

@@ -7,6 +7,8 @@ use Rattle.mc_machine.specs.declared.turn.Ending.TheVariants.{Idle, Went, Finish
 use Rattle.mc_machine.specs.Machine.{Machine}
 use Rattle.mc_machine.specs.Mover.{Turned, is_went}
 use Rattle.mc_machine.proofs.MoverTurns.{at_most_more, most_turned, turns_end, turns_on, turns_out}
+use Rattle.std.proofs.lemmas.Result.{err_from_is_err_and}
+use Rattle.mc_keeper.proofs.StageSteps.{turn_behind, turn_ends, turn_waits}
 use Rattle.mc_keeper.proofs.keeper.Keeper.turns.Goals as goal
 
 -- the test of an ending
@@ -25,7 +27,7 @@ returns-then-ne-clause-done c =
     let left : c.loop.self.turns < 1000000 = rw (← ap (λ (m : Machine). m.turns) c.self.view_is) c.if-self-ge-MAX_TURNS.false in
     let ended : is_went c.in_ok-ending.ending ≡ false = not-true _ (sym (went_same c.in_ok-ending.ending) ∙ sym c.ne.ensures ∙ c.if-ne.true) in
     turns_end c.args.count c.loop.counter (record { machine = c.loop.self; counts = c.loop.counts; ending = c.loop.ending })
-    (record { machine = c.turn.new.self; counts = c.turn.new.counts; ending = c.in_ok-ending.ending }) _ c.loop-test.true left c.in_ok-ending.ensures ended
+    (record { machine = c.turn.new.self; counts = c.turn.new.counts; ending = c.in_ok-ending.ending }) _ c.loop-test.true left c.in_ok-ending.ensures.done ended
     c.loop.invariant.rest
 
 pub loop-preserved : goal.loop-preserved
@@ -35,9 +37,25 @@ loop-preserved c =
     let few : c.loop.self.bulk ≤ 256 = rw (← ap (λ (m : Machine). m.bulk) c.self.view_is) c.self.invariant.bulk in
     record {
       rest = turns_on c.args.count c.loop.counter (record { machine = c.loop.self; counts = c.loop.counts; ending = c.loop.ending })
-          (record { machine = c.turn.new.self; counts = c.turn.new.counts; ending = c.in_ok-ending.ending }) _ c.loop-test.true left c.in_ok-ending.ensures went
+          (record { machine = c.turn.new.self; counts = c.turn.new.counts; ending = c.in_ok-ending.ending }) _ c.loop-test.true left c.in_ok-ending.ensures.done went
           c.loop.invariant.rest;
       most = at_most_more (256 * c.loop.counter + 256) (256 * (c.loop.counter + 1)) c.turn.new.counts
-          (rw (← ap (λ (t : Turned). t.counts) c.in_ok-ending.ensures) (most_turned c.loop.self c.loop.counts (256 * c.loop.counter) few c.loop.invariant.most))
+          (rw (← ap (λ (t : Turned). t.counts) c.in_ok-ending.ensures.done) (most_turned c.loop.self c.loop.counts (256 * c.loop.counter) few c.loop.invariant.most))
           (omega arith);
+      stages = λ m there. c.loop.invariant.stages m
+          (turn_behind c.args.count c.loop.counter (record { machine = c.loop.self; counts = c.loop.counts; ending = c.loop.ending })
+          (record { machine = c.turn.new.self; counts = c.turn.new.counts; ending = c.in_ok-ending.ending }) m c.loop-test.true c.in_ok-ending.ensures.done went there);
     }
+
+pub returns-then-self-ge-MAX_TURNS-clause-refused :
+    goal.returns-then-self-ge-MAX_TURNS-clause-refused
+returns-then-self-ge-MAX_TURNS-clause-refused c =
+    c.loop.invariant.stages c.loop.self
+    (turn_waits c.args.count c.loop.counter (record { machine = c.loop.self; counts = c.loop.counts; ending = c.loop.ending }) c.loop.self c.loop-test.true refl)
+
+pub returns-in_err-ending-clause-refused : goal.returns-in_err-ending-clause-refused
+returns-in_err-ending-clause-refused c =
+    let p = err_from_is_err_and c.from_residual.result c.from_residual.ensures.1 in
+    rw p.1 (c.loop.invariant.stages c.turn.new.self
+    (turn_ends c.args.count c.loop.counter (record { machine = c.loop.self; counts = c.loop.counts; ending = c.loop.ending }) c.turn.new.self c.loop-test.true
+    c.in_err-ending.ensures.refused))

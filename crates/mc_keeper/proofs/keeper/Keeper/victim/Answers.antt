@@ -11,11 +11,15 @@ returns-then-is_linked_unheld c =
     let m : Machine = c.args.self.now in
     let at : slice_get (class_at m.slabs c.args.class).order c.loop-place.place ≡ Some c.in_ok-chunk.chunk
     = rw (← c.self.view_is) (sym c.in_ok-chunk.ensures.chunk) in
-    sym (find_here (is_linked_unheld m) (class_at m.slabs c.args.class).order c.loop-place.place eviction_tries c.in_ok-chunk.chunk at c.loop-place.invariant
-    (sym c.is_linked_unheld.ensures ∙ c.if-is_linked_unheld.true) c.loop-place-test.true)
+    record {
+      victim = sym (find_here (is_linked_unheld m) (class_at m.slabs c.args.class).order c.loop-place.place eviction_tries c.in_ok-chunk.chunk at c.loop-place.invariant
+          (sym c.is_linked_unheld.ensures.unheld ∙ c.if-is_linked_unheld.true) c.loop-place-test.true);
+    }
 
 pub returns : goal.returns
 returns c =
     let m : Machine = c.args.self.now in
     let all : eviction_tries ≡ c.loop-place.place = omega (arith, c.loop-place-test.false, c.loop-place.auto.place-end) in
-    sym (ap (λ (n : ℕ). find (is_linked_unheld m) (take n (class_at m.slabs c.args.class).order)) all ∙ c.loop-place.invariant)
+    record {
+      victim = sym (ap (λ (n : ℕ). find (is_linked_unheld m) (take n (class_at m.slabs c.args.class).order)) all ∙ c.loop-place.invariant);
+    }

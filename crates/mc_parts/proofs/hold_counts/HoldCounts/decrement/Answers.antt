@@ -12,6 +12,8 @@ returns c =
     let new = with_item c.index_mut.result.now c.args.chunk.index (c.index_mut-2.result.now - 1) in
     let was = count_was pages c.args.chunk c.index_mut.result.now new (c.index_mut-2.result.now - 1) there c.index_mut.ensures.value refl c.index_mut-2.result.now c.index_mut-2.ensures.value in
     let written = count_written pages c.args.chunk c.index_mut.result.now new (c.index_mut-2.result.now - 1) there c.index_mut.ensures.value refl in
-    rw (← c.self.view_is) (counted_less (counts_of pages) (counts_of (with_item c.self.inside.pages c.args.chunk.page new).items) c.args.chunk
-    (count_other pages c.args.chunk c.index_mut.result.now new (c.index_mut-2.result.now - 1) there c.index_mut.ensures.value refl)
-    (omega (arith, written, was, some)))
+    rw (← c.self.view_is) (record {
+      decremented = counted_less (counts_of pages) (counts_of (with_item c.self.inside.pages c.args.chunk.page new).items) c.args.chunk
+          (count_other pages c.args.chunk c.index_mut.result.now new (c.index_mut-2.result.now - 1) there c.index_mut.ensures.value refl)
+          (omega (arith, written, was, some));
+    })

@@ -10,6 +10,8 @@ returns c =
     let there : IsReached (counts_of pages) c.args.chunk = rw c.self.view_is c.requires.there in
     let new = with_item c.index_mut.result.now c.args.chunk.index (c.index_mut-2.result.now + 1) in
     let was = count_was pages c.args.chunk c.index_mut.result.now new (c.index_mut-2.result.now + 1) there c.index_mut.ensures.value refl c.index_mut-2.result.now c.index_mut-2.ensures.value in
-    rw (← c.self.view_is) (counted_more (counts_of pages) (counts_of (with_item c.self.inside.pages c.args.chunk.page new).items) c.args.chunk
-    (count_other pages c.args.chunk c.index_mut.result.now new (c.index_mut-2.result.now + 1) there c.index_mut.ensures.value refl)
-    (count_written pages c.args.chunk c.index_mut.result.now new (c.index_mut-2.result.now + 1) there c.index_mut.ensures.value refl ∙ ap (λ (n : ℕ). n + 1) was))
+    rw (← c.self.view_is) (record {
+      incremented = counted_more (counts_of pages) (counts_of (with_item c.self.inside.pages c.args.chunk.page new).items) c.args.chunk
+          (count_other pages c.args.chunk c.index_mut.result.now new (c.index_mut-2.result.now + 1) there c.index_mut.ensures.value refl)
+          (count_written pages c.args.chunk c.index_mut.result.now new (c.index_mut-2.result.now + 1) there c.index_mut.ensures.value refl ∙ ap (λ (n : ℕ). n + 1) was);
+    })

@@ -39,7 +39,7 @@ invariant_of-self c =
     let held : Contains (held_by (holds_of c.self.inside) c.args.worker) c.args.chunk = found_held c.args.chunk (held_by (holds_of c.self.inside) c.args.worker) c.args.place (rw c.self.view_is c.requires.first) in
     let found = stands c.self.inside.by_worker.items c.args.worker c.index_mut.result.now c.args.chunk c.args.place inside c.index_mut.ensures.value (rw c.self.view_is c.requires.first) in
     let taken : reverse c.take_out.new.chunks.items ≡ without c.args.chunk (reverse c.index_mut.result.now.items)
-    = c.take_out.ensures ∙ remove-found c.args.chunk (reverse c.index_mut.result.now.items) c.args.place found in
+    = c.take_out.ensures.removed ∙ remove-found c.args.chunk (reverse c.index_mut.result.now.items) c.args.place found in
     let new : holds_of (record { by_worker = with_item c.self.inside.by_worker c.args.worker c.take_out.new.chunks; counts = c.decrement.new.self })
     ≡ without_hold (holds_of c.self.inside) c.args.worker c.args.chunk
     = view_set (λ (v : Vec ChunkId Global). reverse v.items) c.self.inside.by_worker.items c.args.worker c.index_mut.result.now c.take_out.new.chunks inside
@@ -50,7 +50,7 @@ invariant_of-self c =
       counted = λ chunk.
           rw new (omega (
             arith,
-            c.decrement.ensures chunk,
+            c.decrement.ensures.decremented chunk,
             c.self.invariant.counted chunk,
             counted_without (holds_of c.self.inside) c.args.worker c.args.chunk within held chunk,
           ));
@@ -61,6 +61,8 @@ returns c =
     let inside : c.args.worker < length c.self.inside.by_worker.items = omega (arith, c.self.invariant.of_each, c.requires.worker) in
     let found = stands c.self.inside.by_worker.items c.args.worker c.index_mut.result.now c.args.chunk c.args.place inside c.index_mut.ensures.value (rw c.self.view_is c.requires.first) in
     let taken : reverse c.take_out.new.chunks.items ≡ without c.args.chunk (reverse c.index_mut.result.now.items)
-    = c.take_out.ensures ∙ remove-found c.args.chunk (reverse c.index_mut.result.now.items) c.args.place found in
-    rw (← c.self.view_is) (view_set (λ (v : Vec ChunkId Global). reverse v.items) c.self.inside.by_worker.items c.args.worker c.index_mut.result.now c.take_out.new.chunks inside
-    c.index_mut.ensures.value (λ (l : List ChunkId). without c.args.chunk l) taken)
+    = c.take_out.ensures.removed ∙ remove-found c.args.chunk (reverse c.index_mut.result.now.items) c.args.place found in
+    rw (← c.self.view_is) (record {
+      given_back = view_set (λ (v : Vec ChunkId Global). reverse v.items) c.self.inside.by_worker.items c.args.worker c.index_mut.result.now c.take_out.new.chunks inside
+          c.index_mut.ensures.value (λ (l : List ChunkId). without c.args.chunk l) taken;
+    })

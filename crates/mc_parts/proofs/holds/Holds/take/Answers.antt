@@ -48,7 +48,7 @@ invariant_of-self-2 c =
       counted = λ chunk.
           rw new (omega (
             arith,
-            c.increment.ensures chunk,
+            c.increment.ensures.incremented chunk,
             c.reach.ensures.same chunk,
             c.self.invariant.counted chunk,
             counted_with (holds_of c.self.inside) c.args.worker c.args.chunk within chunk,

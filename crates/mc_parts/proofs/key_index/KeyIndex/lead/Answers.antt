@@ -3,4 +3,4 @@ use Rattle.mc_parts.proofs.LeadsByKey.{same_set}
 use Rattle.mc_parts.proofs.key_index.KeyIndex.lead.Goals as goal
 
 pub returns : goal.returns
-returns c = rw (← c.self.view_is) (c.lead_to.ensures ∙ same_set c.args.key c.self.inside.chunks.entries c.args.chunk)
+returns c = rw (← c.self.view_is) (record { led = c.lead_to.ensures.led ∙ same_set c.args.key c.self.inside.chunks.entries c.args.chunk })

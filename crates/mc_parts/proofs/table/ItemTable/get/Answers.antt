@@ -14,7 +14,7 @@ pub returns : goal.returns
 returns c =
     let there : HasPlace (places_of c.self.inside.pages.items) c.args.chunk = rw (← c.deref.ensures.value) (c.has_place.ensures.yes c.if-not-has_place.false) in
     record {
-      value = c.item.ensures
+      value = c.item.ensures.item
           ∙ read_there c.self.inside.pages.items c.args.chunk c.index.result.now there c.index.ensures c.index-2.result.now c.index-2.ensures
           ∙ ap (λ (items : Items). item_at items c.args.chunk) c.self.view_is;
     }

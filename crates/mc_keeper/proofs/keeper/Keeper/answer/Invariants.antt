@@ -1,4 +1,4 @@
-use Rattle.mc_keeper.proofs.keeper.Keeper.serve.Given as goal
+use Rattle.mc_keeper.proofs.keeper.Keeper.answer.Given as goal
 
 -- each text counts its refusals in the ledger of its blank
 abbrev pub ghosts-general_statistics : goal.ghosts-general_statistics

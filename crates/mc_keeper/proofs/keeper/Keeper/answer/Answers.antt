@@ -1,11 +1,13 @@
 use Rattle.std.proofs.Common.{◌≡◌, Some, refl, codes}
 use Rattle.mc_machine.specs.Texts.{turn_line}
-use Rattle.mc_machine.specs.Mover.{Turned, after_turns}
+use Rattle.mc_machine.specs.declared.turn.Ending.TheVariants.{Idle}
+use Rattle.mc_machine.specs.Mover.{Turned, after_turns, no_counts}
 use Rattle.mc_pages.specs.Answer.{answer_of}
 use Rattle.mc_watch.specs.Texts.{line}
 use Rattle.mc_machine.specs.Machine.{all_swept, with_mode}
 use Rattle.mc_machine.specs.Lines.{slabs_text_of, general_text_of, reassigned}
-use Rattle.mc_keeper.proofs.keeper.Keeper.serve.Goals as goal
+use Rattle.mc_keeper.proofs.StageSteps.{on_err, turns_done}
+use Rattle.mc_keeper.proofs.keeper.Keeper.answer.Goals as goal
 
 pub returns-in_ok-push_turn_line-in-Turn-clause-served :
     goal.returns-in_ok-push_turn_line-in-Turn-clause-served
@@ -15,7 +17,7 @@ returns-in_ok-push_turn_line-in-Turn-clause-served c =
     record {
       served = record { reply = turn_line c.in_ok-ending-in-Turn.ending c.in_ok-ending-in-Turn.counts; machine = c.turns.new.self };
       is = rw (c.in-Turn.is, done) refl;
-      reply = c.in_ok-push_turn_line-in-Turn.ensures;
+      reply = c.in_ok-push_turn_line-in-Turn.ensures.line;
       after = refl;
     }
 
@@ -24,7 +26,7 @@ pub returns-in_ok-general_statistics-in-Stats-clause-served :
 returns-in_ok-general_statistics-in-Stats-clause-served c = record {
   served = record { reply = general_text_of c.args.self.now; machine = c.args.self.now };
   is = rw c.in-Stats.is refl;
-  reply = c.in_ok-general_statistics-in-Stats.ensures;
+  reply = c.in_ok-general_statistics-in-Stats.ensures.reply;
   after = refl;
 }
 
@@ -54,3 +56,12 @@ returns-in_ok-set_automove-in-Automove-clause-served c = record {
   reply = c.in_ok-set_automove-in-Automove.ensures.reply;
   after = c.in_ok-set_automove-in-Automove.ensures.after;
 }
+
+-- all is done but the reply
+pub returns-in_err-push_turn_line-in-Turn-clause-left :
+    goal.returns-in_err-push_turn_line-in-Turn-clause-left
+returns-in_err-push_turn_line-in-Turn-clause-left c =
+    let first : Turned = record { machine = c.args.self.now; counts = no_counts; ending = Idle } in
+    let turned : Turned = record { machine = c.turns.new.self; counts = c.in_ok-ending-in-Turn.counts; ending = c.in_ok-ending-in-Turn.ending } in
+    on_err _ c.from_residual-in_err-push_turn_line-in-Turn.result
+    (rw c.in-Turn.is (turns_done c.in-Turn.turns first turned c.in_ok-ending-in-Turn.ensures.done))

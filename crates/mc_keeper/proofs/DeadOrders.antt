@@ -16,7 +16,8 @@ use Rattle.mc_machine.specs.Holds.{Holds, is_held}
 use Rattle.mc_machine.specs.Item.{Item}
 use Rattle.mc_machine.specs.Items.{Items, chunk_cmp, item_at, is_unlinked}
 use Rattle.mc_machine.specs.Machine.{Machine, dead_chunks, is_dead}
-use Rattle.mc_machine.specs.Kept.{dead_items, places, IsKept}
+use Rattle.mc_machine.specs.Consistent.{places, IsConsistent}
+use Rattle.mc_keeper.specs.Kept.{dead_items}
 use Rattle.mc_machine.proofs.Bounds.{order_short}
 use Rattle.mc_machine.proofs.Chunks.{chunk_cmp-self}
 use Rattle.mc_machine.proofs.KeptChanges.{place_once}
@@ -57,7 +58,7 @@ count_by-times p (x ∷ xs) ys same =
 abbrev chunks_in : List Owner → ℕ → Items → List ChunkId
 chunks_in owners class [] = []
 chunks_in owners class (e ∷ items) =
-    if class_of_owner (owner_at owners e.0.page) == class then e.0 ∷ chunks_in owners class items else chunks_in owners class items
+    if class_of_owner (owner_at owners e.chunk.page) == class then e.chunk ∷ chunks_in owners class items else chunks_in owners class items
 
 place_truth : (x c : ChunkId) → truth (is_at (chunk_cmp x) c) ≡ truth (is_chunk c x)
 place_truth x c = grind (arith, nat_tests)
@@ -65,10 +66,10 @@ place_truth x c = grind (arith, nat_tests)
 times_own : (owners : List Owner) (class : ℕ) (x : ChunkId) (items : Items) → (class_of_owner (owner_at owners x.page) == class) ≡ true
     → times x (chunks_in owners class items) ≡ places x items
 times_own owners class x [] own = refl
-times_own owners class x (e ∷ items) own = elim (cases_Bool (class_of_owner (owner_at owners e.0.page) == class)) [
-  | inl in_class ↦ rw in_class (omega (arith, times-cons x e.0 (chunks_in owners class items), place_truth x e.0, times_own owners class x items own))
-  | inr elsewhere ↦ rw elsewhere (elim (is_at-tells x e.0) [
-    | inl same ↦ let bad : (class_of_owner (owner_at owners e.0.page) == class) ≡ true = rw (← same.1) own in cc
+times_own owners class x (e ∷ items) own = elim (cases_Bool (class_of_owner (owner_at owners e.chunk.page) == class)) [
+  | inl in_class ↦ rw in_class (omega (arith, times-cons x e.chunk (chunks_in owners class items), place_truth x e.chunk, times_own owners class x items own))
+  | inr elsewhere ↦ rw elsewhere (elim (is_at-tells x e.chunk) [
+    | inl same ↦ let bad : (class_of_owner (owner_at owners e.chunk.page) == class) ≡ true = rw (← same.1) own in cc
     | inr other ↦ omega (arith, ap truth other.0, times_own owners class x items own)
   ])
 ]
@@ -76,12 +77,12 @@ times_own owners class x (e ∷ items) own = elim (cases_Bool (class_of_owner (o
 times_other : (owners : List Owner) (class : ℕ) (x : ChunkId) (items : Items) → (class_of_owner (owner_at owners x.page) == class) ≡ false
     → times x (chunks_in owners class items) ≡ 0
 times_other owners class x [] other = refl
-times_other owners class x (e ∷ items) other = elim (cases_Bool (class_of_owner (owner_at owners e.0.page) == class)) [
-  | inl in_class ↦ rw in_class (elim (cases_Bool (is_chunk e.0 x)) [
+times_other owners class x (e ∷ items) other = elim (cases_Bool (class_of_owner (owner_at owners e.chunk.page) == class)) [
+  | inl in_class ↦ rw in_class (elim (cases_Bool (is_chunk e.chunk x)) [
     | inl same ↦
-        let here : e.0 ≡ x = same_from_is_chunk e.0 x same in
+        let here : e.chunk ≡ x = same_from_is_chunk e.chunk x same in
         let bad : (class_of_owner (owner_at owners x.page) == class) ≡ true = rw here at in_class in cc
-    | inr apart ↦ omega (arith, times-cons x e.0 (chunks_in owners class items), ap truth apart, times_other owners class x items other)
+    | inr apart ↦ omega (arith, times-cons x e.chunk (chunks_in owners class items), ap truth apart, times_other owners class x items other)
   ])
   | inr elsewhere ↦ rw elsewhere (times_other owners class x items other)
 ]
@@ -100,30 +101,30 @@ dead_in_chunks : (owners : List Owner) (holds : Holds) (class : ℕ) (p : ChunkI
     → dead_items owners holds items class ≡ count_by p (chunks_in owners class items)
 dead_in_chunks owners holds class p [] is once = refl
 dead_in_chunks owners holds class p (e ∷ items) is once =
-    let here : item_at (e ∷ items) e.0 ≡ Some e.1 = rw (chunk_cmp-self e.0) refl in
-    let none : places e.0 items ≡ 0 = own_once (once e.0) in
+    let here : item_at (e ∷ items) e.chunk ≡ Some e.item = rw (chunk_cmp-self e.chunk) refl in
+    let none : places e.chunk items ≡ 0 = own_once (once e.chunk) in
     let rest : dead_items owners holds items class ≡ count_by p (chunks_in owners class items)
     = dead_in_chunks owners holds class p items
     (λ y item there. is y item (below y item there none)) (λ y. omega (arith, once y)) in
-    parts (not e.1.linked) (not (is_held holds e.0)) (class_of_owner (owner_at owners e.0.page) == class) (is e.0 e.1 here) rest
+    parts (not e.item.linked) (not (is_held holds e.chunk)) (class_of_owner (owner_at owners e.chunk.page) == class) (is e.chunk e.item here) rest
   where
-    own_once : places e.0 (e ∷ items) ≤ 1 → places e.0 items ≡ 0
-    own_once few = let self : is_at (chunk_cmp e.0) e.0 ≡ true = rw (chunk_cmp-self e.0) refl in omega (arith, few, ap truth self)
+    own_once : places e.chunk (e ∷ items) ≤ 1 → places e.chunk items ≡ 0
+    own_once few = let self : is_at (chunk_cmp e.chunk) e.chunk ≡ true = rw (chunk_cmp-self e.chunk) refl in omega (arith, few, ap truth self)
 
-    below : (y : ChunkId) (item : Item) → item_at items y ≡ Some item → places e.0 items ≡ 0 → item_at (e ∷ items) y ≡ Some item
-    below y item there none = elim (is_at-tells y e.0) [
+    below : (y : ChunkId) (item : Item) → item_at items y ≡ Some item → places e.chunk items ≡ 0 → item_at (e ∷ items) y ≡ Some item
+    below y item there none = elim (is_at-tells y e.chunk) [
       | inl same ↦
-          let some : 1 ≤ places e.0 items = rw (← same.1) (some_places y item items there) in
+          let some : 1 ≤ places e.chunk items = rw (← same.1) (some_places y item items there) in
           absurd (omega (arith, some, none))
       | inr other ↦ rw other.0 there
     ]
 
-    parts : (l h b : Bool) → p e.0 ≡ (l && h) → dead_items owners holds items class ≡ count_by p (chunks_in owners class items)
+    parts : (l h b : Bool) → p e.chunk ≡ (l && h) → dead_items owners holds items class ≡ count_by p (chunks_in owners class items)
         → truth (l && h && b) + dead_items owners holds items class
-        ≡ count_by p (if b then e.0 ∷ chunks_in owners class items else chunks_in owners class items)
-    parts true true b tells rest = dead_step b true p e.0 (chunks_in owners class items) _ tells rest
-    parts true false b tells rest = dead_step b false p e.0 (chunks_in owners class items) _ tells rest
-    parts false h b tells rest = dead_step b false p e.0 (chunks_in owners class items) _ tells rest
+        ≡ count_by p (if b then e.chunk ∷ chunks_in owners class items else chunks_in owners class items)
+    parts true true b tells rest = dead_step b true p e.chunk (chunks_in owners class items) _ tells rest
+    parts true false b tells rest = dead_step b false p e.chunk (chunks_in owners class items) _ tells rest
+    parts false h b tells rest = dead_step b false p e.chunk (chunks_in owners class items) _ tells rest
 
 -- ---- the two counts
 
@@ -131,9 +132,9 @@ dead_there : (items : Items) (holds : Holds) (y : ChunkId) (item : Item) → ite
     → (is_unlinked items y && not (is_held holds y)) ≡ (not item.linked && not (is_held holds y))
 dead_there items holds y item there = rw there refl
 
-pub dead_in_order : (m : Machine) (index : List (ℕ × ChunkId)) (class : ℕ) → IsKept m.table m.slabs index m.items → IsClass m.slabs class
+pub dead_in_order : (m : Machine) (class : ℕ) → IsConsistent m.table m.slabs m.items → IsClass m.slabs class
     → dead_items m.slabs.owners m.holds m.items class ≡ length (dead_chunks m class)
-dead_in_order m index class kept valid =
+dead_in_order m class kept valid =
     let owners : List Owner = m.slabs.owners in
     let order : List ChunkId = (class_at m.slabs class).order in
     let as_often : (x : ChunkId) → times x (chunks_in owners class m.items) ≡ times x order = λ x.
@@ -150,20 +151,20 @@ dead_in_order m index class kept valid =
       ]
     ] in
     dead_in_chunks owners m.holds class (is_dead m) m.items (λ y item there. dead_there m.items m.holds y item there)
-    (λ y. place_once m.table m.slabs index m.items y kept)
+    (λ y. place_once m.table m.slabs m.items y kept)
     ∙ count_by-times (is_dead m) (chunks_in owners class m.items) order as_often
     ∙ sym (length-filter (is_dead m) order)
 
 -- they are few
-pub dead_few : (m : Machine) (index : List (ℕ × ChunkId)) (class : ℕ) → IsKept m.table m.slabs index m.items → IsClass m.slabs class
+pub dead_few : (m : Machine) (class : ℕ) → IsConsistent m.table m.slabs m.items → IsClass m.slabs class
     → dead_items m.slabs.owners m.holds m.items class ≤ 16384
-dead_few m index class kept valid =
+dead_few m class kept valid =
     omega (
       arith,
-      dead_in_order m index class kept valid,
+      dead_in_order m class kept valid,
       length-filter (is_dead m) (class_at m.slabs class).order,
       count_by-le-length (is_dead m) (class_at m.slabs class).order,
-      order_short m.table m.slabs index m.items class kept valid,
+      order_short m.table m.slabs m.items class kept valid,
     )
 
 -- ---- a dead chunk is the only one where there is one
@@ -195,7 +196,7 @@ only_one p x (c ∷ chunks) some passes one = elim (cases_Bool (is_chunk c x)) [
       ]
 ]
 
-pub only_dead : (m : Machine) (index : List (ℕ × ChunkId)) (class : ℕ) (x : ChunkId) → IsKept m.table m.slabs index m.items → IsClass m.slabs class
+pub only_dead : (m : Machine) (class : ℕ) (x : ChunkId) → IsConsistent m.table m.slabs m.items → IsClass m.slabs class
     → dead_items m.slabs.owners m.holds m.items class ≡ 1 → is_dead m x ≡ true → 1 ≤ times x (class_at m.slabs class).order → dead_chunks m class ≡ x ∷ []
-only_dead m index class x kept valid one dead some =
-    only_one (is_dead m) x (class_at m.slabs class).order some dead (sym (dead_in_order m index class kept valid) ∙ one)
+only_dead m class x kept valid one dead some =
+    only_one (is_dead m) x (class_at m.slabs class).order some dead (sym (dead_in_order m class kept valid) ∙ one)

@@ -4,9 +4,6 @@ use Rattle.std.specs.Prelude.{◌==◌, ◌&&◌, fold, if◌then◌else◌, sli
 use Rattle.std.proofs.lemmas.Bool.{and_parts}
 use Rattle.std.proofs.lemmas.Bool.Decides.{nat_tests}
 use Rattle.std.proofs.lemmas.List.{get_or-set_same, get_or-set_other, get_or-replicate, length-replicate, length-set}
-use Rattle.std.specs.Ordering.{nat_cmp}
-use Rattle.std.specs.BTreeMap.{is_at}
-use Rattle.std.specs.Map.{lookup}
 use Rattle.mc_classes.specs.Classes.{Classes}
 use Rattle.mc_pages.specs.declared.ids.ChunkId.{ChunkId}
 use Rattle.mc_pages.specs.declared.ledger.Owner.{Owner}
@@ -20,13 +17,14 @@ use Rattle.mc_pages.specs.SlabState.{SlabState, IsClass, class_at, class_of_owne
 use Rattle.mc_pages.specs.Accounted.{truth, IsAccounted}
 use Rattle.mc_machine.specs.Holds.{Holds, held_by, is_held, with_hold, without_hold}
 use Rattle.mc_machine.specs.Item.{Item, unlinked}
-use Rattle.mc_machine.specs.Items.{Items, item_at, is_unlinked, linked_chunk, with_item, without_item, unlinked_items}
+use Rattle.mc_machine.specs.Items.{Items, item_at, is_unlinked, linked_chunk, with_item, without_item, unlinked_items, at_chunk}
 use Rattle.mc_machine.specs.Machine.{Machine, is_dead}
-use Rattle.mc_machine.specs.Kept.{AreCounted, IsKept, dead_items, is_dead_item, places}
-use Rattle.mc_machine.proofs.DeadItems.{linked_lives, dead-without_item, dead-with_item, dead-set_item, dead-held, dead-owned}
-use Rattle.mc_machine.proofs.DeadOrders.{dead_few}
+use Rattle.mc_machine.specs.Consistent.{IsConsistent, places}
+use Rattle.mc_keeper.specs.Kept.{AreCounted, dead_items, is_dead_item}
+use Rattle.mc_keeper.proofs.DeadItems.{linked_lives, dead-without_item, dead-with_item, dead-set_item, dead-held, dead-owned}
+use Rattle.mc_keeper.proofs.DeadOrders.{dead_few}
 use Rattle.mc_pages.proofs.NextPage.{classes-grown, class_at-grown}
-use Rattle.mc_machine.proofs.HeldElsewhere.{held-taken, held-given_back, is_held-Contains}
+use Rattle.mc_keeper.proofs.HeldElsewhere.{held-taken, held-given_back, is_held-Contains}
 use Rattle.mc_machine.proofs.KeptChanges.{listed, place_once}
 use Rattle.mc_machine.proofs.Links.{LinkedIn, linked_in, some_places}
 use Rattle.mc_pages.proofs.ClassChanges.{classes-cuts, order-cuts, order-with_class}
@@ -72,14 +70,14 @@ counted_come n m owners holds items counts x item counted same none linked =
     (λ class. omega (arith, dead-with_item owners holds class x item items none, ap truth (linked_lives owners holds class x item linked)))
 
 -- pages come to other owners, and each hand-out order stays
-pub counted_moved : (table : Classes) (slabs new : SlabState) (index : List (ℕ × ChunkId)) (items : Items) (holds : Holds) (counts : List ℕ)
-    → IsKept table slabs index items → IsAccounted new → length new.classes ≡ length slabs.classes
+pub counted_moved : (table : Classes) (slabs new : SlabState) (items : Items) (holds : Holds) (counts : List ℕ)
+    → IsConsistent table slabs items → IsAccounted new → length new.classes ≡ length slabs.classes
     → ((class : ℕ) → IsClass slabs class → (class_at new class).order ≡ (class_at slabs class).order)
     → AreCounted (length slabs.classes) slabs.owners holds items counts → AreCounted (length new.classes) new.owners holds items counts
-counted_moved table slabs new index items holds counts kept accounted classes orders counted =
+counted_moved table slabs new items holds counts kept accounted classes orders counted =
     counted_same (length slabs.classes) (length new.classes) slabs.owners new.owners holds holds items items counts counted classes
     (λ class. dead-owned slabs.owners new.owners holds class items (λ y some.
-    let valid : IsClass slabs (class_of_page slabs y.page) = listed table slabs index items y kept some in
+    let valid : IsClass slabs (class_of_page slabs y.page) = listed table slabs items y kept some in
     let there : times y (class_at new (class_of_page slabs y.page)).order ≡ times y (class_at slabs (class_of_page slabs y.page)).order
     = ap (λ (cs : List ChunkId). times y cs) (orders (class_of_page slabs y.page) valid) in
     page_of_listed new (class_of_page slabs y.page) y accounted (valid.0, omega (arith, valid.1, classes))
@@ -113,11 +111,11 @@ module _ (n m : ℕ) (owners : List Owner) (holds now : Holds) (items changed : 
 
 -- a chunk's dead item counts for its class alone
 dead_own : (owners : List Owner) (holds : Holds) (x : ChunkId) (item : Item) → item.linked ≡ false → is_held holds x ≡ false
-    → is_dead_item owners holds (class_of_owner (owner_at owners x.page)) (x, item) ≡ true
+    → is_dead_item owners holds (class_of_owner (owner_at owners x.page)) (at_chunk x item) ≡ true
 dead_own owners holds x item dead unheld = rw (dead, unheld) (grind (arith, nat_tests))
 
 dead_other : (owners : List Owner) (holds : Holds) (class : ℕ) (x : ChunkId) (item : Item) → class ≢ class_of_owner (owner_at owners x.page)
-    → is_dead_item owners holds class (x, item) ≡ false
+    → is_dead_item owners holds class (at_chunk x item) ≡ false
 dead_other owners holds class x item apart =
     let no : (class_of_owner (owner_at owners x.page) == class) ≡ false = grind (arith, nat_tests) in
     rw no (both item.linked (is_held holds x))
@@ -128,7 +126,7 @@ dead_other owners holds class x item apart =
     both false false = refl
 
 held_alive : (owners : List Owner) (holds : Holds) (class : ℕ) (x : ChunkId) (item : Item) → is_held holds x ≡ true
-    → is_dead_item owners holds class (x, item) ≡ false
+    → is_dead_item owners holds class (at_chunk x item) ≡ false
 held_alive owners holds class x item held = rw held (first item.linked (class_of_owner (owner_at owners x.page) == class))
   where
     first : (l b : Bool) → (not l && false && b) ≡ false
@@ -232,8 +230,8 @@ counted_let_go n owners holds items counts worker x item counted there linked on
 -- or of one that no key leads to: where nobody holds it then, it is dead
 given_way : (b : Bool) (n : ℕ) (owners : List Owner) (holds now : Holds) (items : Items) (counts : List ℕ) (x : ChunkId) (item : Item)
     → AreCounted n owners holds items counts
-    → ((class : ℕ) → dead_items owners now items class + truth (is_dead_item owners holds class (x, item))
-    ≡ dead_items owners holds items class + truth (is_dead_item owners now class (x, item)))
+    → ((class : ℕ) → dead_items owners now items class + truth (is_dead_item owners holds class (at_chunk x item))
+    ≡ dead_items owners holds items class + truth (is_dead_item owners now class (at_chunk x item)))
     → item.linked ≡ false → is_held holds x ≡ true
     → 1 ≤ class_of_owner (owner_at owners x.page) → class_of_owner (owner_at owners x.page) ≤ n → is_held now x ≡ b
     → AreCounted n owners now items (if b then counts else
@@ -283,10 +281,10 @@ dead_unheld m now chunk same dead = not_true (is_held m.holds chunk) (and_parts 
     not_true false is = refl
 
 -- a class's count is small
-pub few_counted : (m : Machine) (index : List (ℕ × ChunkId)) (counts : List ℕ) (class : ℕ) → IsKept m.table m.slabs index m.items → IsClass m.slabs class
+pub few_counted : (m : Machine) (counts : List ℕ) (class : ℕ) → IsConsistent m.table m.slabs m.items → IsClass m.slabs class
     → AreCounted (length m.slabs.classes) m.slabs.owners m.holds m.items counts → slice_index_or counts (class - 1) 0 < 65536
-few_counted m index counts class kept valid counted =
-    omega (arith, counted.dead class valid.0 valid.1, dead_few m index class kept valid)
+few_counted m counts class kept valid counted =
+    omega (arith, counted.dead class valid.0 valid.1, dead_few m class kept valid)
 
 -- a class that gets a page, and cuts it: the hand-out orders stay
 pub classes_given : (slabs : SlabState) (class page : ℕ) (chunks : List ChunkId)
@@ -304,15 +302,15 @@ orders_given slabs class page chunks n there =
     ∙ order-with_class slabs class n (with_page (class_at slabs class) page) there refl
 
 -- whether a page began to move or not
-module _ (table : Classes) (slabs new : SlabState) (index : List (ℕ × ChunkId)) (items : Items) (holds : Holds) (counts : List ℕ)
-    (src : Option ℕ) (dst : ℕ) (kept : IsKept table slabs index items) (accounted : IsAccounted new)
+module _ (table : Classes) (slabs new : SlabState) (items : Items) (holds : Holds) (counts : List ℕ)
+    (src : Option ℕ) (dst : ℕ) (kept : IsConsistent table slabs items) (accounted : IsAccounted new)
     (counted : AreCounted (length slabs.classes) slabs.owners holds items counts) where
   begun_as : (answer : Result ℕ Reassign) (result : Result (Unit {0}) Reassign) → answer_of slabs src dst ≡ answer → MayAnswer answer result
       → OnOk result (IfOk answer (λ source. new ≡ after_begin slabs src source dst)) → OnErr result (new ≡ slabs)
       → AreCounted (length new.classes) new.owners holds items counts
   begun_as answer (Err refusal) is may began same = rw same counted
   begun_as (Ok source) (Ok unit) is may began same =
-      rw began (counted_moved table slabs (after_begin slabs src source dst) index items holds counts kept (rw began at accounted) refl (λ class valid. refl) counted)
+      rw began (counted_moved table slabs (after_begin slabs src source dst) items holds counts kept (rw began at accounted) refl (λ class valid. refl) counted)
   begun_as (Err refusal) (Ok unit) is may began same = cc
 
   pub counted_begun : (result : Result (Unit {0}) Reassign) → MayAnswer (answer_of slabs src dst) result
@@ -320,11 +318,10 @@ module _ (table : Classes) (slabs new : SlabState) (index : List (ℕ × ChunkId
       → AreCounted (length new.classes) new.owners holds items counts
   counted_begun result may began same = begun_as (answer_of slabs src dst) result refl may began same
 
--- what the index finds is the chunk of the key's linked item, which a class has
-pub leads_linked : (table : Classes) (slabs : SlabState) (index : List (ℕ × ChunkId)) (items : Items) (key : ℕ) (chunk : ChunkId)
-    → IsKept table slabs index items → lookup (is_at (nat_cmp key)) index ≡ Some chunk
+-- the chunk that a key leads to has the key's linked item, and a class has it
+pub leads_linked : (table : Classes) (slabs : SlabState) (items : Items) (key : ℕ) (chunk : ChunkId)
+    → IsConsistent table slabs items → linked_chunk items key ≡ Some chunk
     → LinkedIn key chunk items × IsClass slabs (class_of_page slabs chunk.page)
-leads_linked table slabs index items key chunk kept found =
-    let leads : linked_chunk items key ≡ Some chunk = sym (kept.leads key) ∙ found in
-    let in_chunk : LinkedIn key chunk items = linked_in key chunk items leads (place_once table slabs index items chunk kept) (kept.one_link key) in
-    (in_chunk, listed table slabs index items chunk kept (some_places chunk in_chunk.item items in_chunk.there))
+leads_linked table slabs items key chunk kept leads =
+    let in_chunk : LinkedIn key chunk items = linked_in key chunk items leads (place_once table slabs items chunk kept) (kept.one_link key) in
+    (in_chunk, listed table slabs items chunk kept (some_places chunk in_chunk.item items in_chunk.there))

@@ -1,0 +1,80 @@
+-- The stages of a command: the machines between its steps. Where memory runs out, one of them is what stands.
+use Rattle.std.specs.Prelude.{ℕ, zero, suc, ◌+◌, if◌then◌else◌, List, [], ◌∷◌, ◌++◌, Option, Some, None}
+use Rattle.mc_classes.specs.Classes.{class_of}
+use Rattle.mc_pages.specs.declared.ids.ChunkId.{ChunkId}
+use Rattle.mc_pages.specs.declared.ids.Moving.{Moving}
+use Rattle.mc_pages.specs.Answer.{answer_of}
+use Rattle.mc_script.specs.declared.command.Command.{Command}
+use Rattle.mc_script.specs.declared.command.Command.TheVariants as command
+use Rattle.mc_machine.specs.declared.turn.Counts.{Counts}
+use Rattle.mc_machine.specs.declared.turn.Ending.TheVariants.{Idle}
+use Rattle.mc_machine.specs.Automove.{begun, decision, with_window}
+use Rattle.mc_machine.specs.Item.{item_bytes, words_from}
+use Rattle.mc_machine.specs.Items.{linked_chunk}
+use Rattle.mc_machine.specs.Lines.{acted, deleted, set_in, with_stored}
+use Rattle.mc_machine.specs.Machine.{Machine, all_swept, swept, with_mode}
+use Rattle.mc_machine.specs.Mover.{Counted, Turned, is_went, no_counts, turned, with_chunk}
+use Rattle.mc_machine.specs.Supply.{supplied, supply}
+
+-- the item is in this chunk, if there is one, and no page was asked for yet
+abbrev pub placed : Machine → ℕ → ℕ → List ℕ → Option ChunkId → Machine
+placed m class key words None = m
+placed m class key words (Some chunk) = with_stored m class key words chunk
+
+-- an item is stored: the class's dead are put back, then it has a free chunk where there is a way to one, then the item is in it
+abbrev pub store_stages : Machine → ℕ → ℕ → List ℕ → List Machine
+store_stages m class key words =
+    swept m class ∷ supplied m class ∷ placed (supplied m class) class key words (supply m class) ∷ []
+
+-- a set: nothing is done where the item is too large; else it is stored, and a page is asked for where that is due
+abbrev pub set_stages : Machine → Option ℕ → ℕ → List ℕ → List Machine
+set_stages m None key words = m ∷ []
+set_stages m (Some class) key words = store_stages m class key words ++ (set_in m (Some class) key words).machine ∷ []
+
+-- a reassign: no page begins to move yet, then it does where it can
+abbrev pub reassign_stages : Machine → Option ℕ → ℕ → List Machine
+reassign_stages m src dst = m ∷ begun m src dst (answer_of m.slabs src dst) ∷ []
+
+-- a window: the dead are put back, then the automover is fed, then its decision is acted on
+abbrev pub window_stages : Machine → List Machine
+window_stages m = let fed = with_window (all_swept m) in all_swept m ∷ fed ∷ (acted fed (decision fed)).machine ∷ []
+
+-- the dead of the moving page's class are put back, and its next chunk is as before
+abbrev pub with_source_swept : Machine → Option Moving → Machine
+with_source_swept m None = m
+with_source_swept m (Some move) = swept m move.src
+
+-- at most so many chunks are looked at: each may be where it ends
+abbrev pub look_stages : ℕ → Counted → List Machine
+look_stages zero c = []
+look_stages (suc count) c =
+    with_source_swept c.machine c.machine.slabs.moving ∷ look_stages count (with_chunk c c.machine.slabs.moving)
+
+-- one turn, which is begun
+abbrev pub turn_stages : Machine → Counts → List Machine
+turn_stages m counts = look_stages m.bulk (record { machine = record m { turns = m.turns + 1 }; counts = counts })
+
+-- so many turns after these: each is about to begin, or ends early
+abbrev pub stages_from : ℕ → Turned → List Machine
+stages_from zero t = t.machine ∷ []
+stages_from (suc count) t = let next = turned t.machine t.counts in
+    t.machine ∷ (turn_stages t.machine t.counts ++ (if is_went next.ending then stages_from count next else next.machine ∷ []))
+
+-- so many turns
+abbrev pub turns_stages : Machine → ℕ → List Machine
+turns_stages m count = stages_from count (record { machine = m; counts = no_counts; ending = Idle })
+
+-- the stages of a command: at the last of them all is done but the reply
+abbrev pub stages : Machine → Command → List Machine
+stages m (command.Set worker key words base) = set_stages m (class_of m.table (item_bytes words)) key (words_from base words)
+stages m (command.Get worker key) = m ∷ []
+stages m (command.Hold worker key) = m ∷ []
+stages m (command.Drop worker key) = m ∷ []
+stages m (command.Delete worker key) = (deleted m key (linked_chunk m.items key)).machine ∷ []
+stages m (command.Touch worker key) = m ∷ []
+stages m (command.Reassign src dst) = reassign_stages m src dst
+stages m (command.Automove mode) = record m { slabs = with_mode m.slabs mode } ∷ []
+stages m command.Window = window_stages m
+stages m (command.Turn turns) = turns_stages m turns
+stages m command.Stats = m ∷ []
+stages m command.StatsSlabs = all_swept m ∷ []
