@@ -1,98 +1,185 @@
-//! The same steps in plain Rust: a `Mutex` for each lock, an `AtomicU64` for each header and word, and the same linked rows.
+//! The same steps in plain Rust: a `Mutex` for the lock of the slabs, with its value in a box, an `AtomicU64` for each header and
+//! word, and the same linked rows of four bytes a link. Each step on a header or word is `SeqCst`, as the arena's are.
 use std::hint::black_box;
 use std::sync::atomic::{AtomicU64, Ordering::SeqCst};
 use std::sync::Mutex;
 use std::thread;
 use std::time::Instant;
 
-const CHUNKS: usize = 256;
-const NONE: u32 = u32::MAX;
 const OPERATIONS: u64 = 2_000_000;
+const PAGES: u64 = 4;
+const PAGE: u64 = 16_384;
+const CLASSES: usize = 5;
+/// The most chunks of a page.
+const MOST: u64 = 256;
+const CLASS: usize = 0;
+
+const ISSUE_UNIT: u64 = 262_144;
+const TAG_UNIT: u64 = 65_536;
+const MOST_ISSUE: u64 = 70_368_744_177_663;
+
+#[derive(Clone, Copy)]
+struct ChunkId {
+    page: u64,
+    index: u64,
+}
+
+/// A chunk, or none, in four bytes.
+#[derive(Clone, Copy)]
+struct Link(u32);
+
+const NONE: Link = Link(0);
+
+impl Link {
+    fn to(chunk: ChunkId) -> Link {
+        Link((chunk.page * MOST + chunk.index + 1) as u32)
+    }
+
+    fn chunk(self) -> Option<ChunkId> {
+        let place = u64::from(self.0.checked_sub(1)?);
+        Some(ChunkId { page: place / MOST, index: place % MOST })
+    }
+}
+
+#[derive(Clone, Copy)]
+enum Mark {
+    Unlisted,
+    Free,
+    HandedOut,
+}
 
 /// A chunk's neighbours in its list.
 #[derive(Clone, Copy)]
 struct Row {
-    next: u32,
-    previous: u32,
+    next: Link,
+    previous: Link,
+    /// Written as the arena does. Nothing here reads it.
+    #[allow(dead_code)]
+    mark: Mark,
 }
 
 #[derive(Clone, Copy)]
 struct List {
-    first: u32,
-    last: u32,
+    first: Link,
+    last: Link,
     length: u64,
 }
 
 const EMPTY: List = List { first: NONE, last: NONE, length: 0 };
 
-/// The rows of a class's chunks, its free list and its hand-out order.
-struct Lists {
+/// The rows of all chunks, and each class's free list and hand-out order.
+struct Slabs {
+    most: u64,
     rows: Vec<Row>,
-    free: List,
-    order: List,
+    free: Vec<List>,
+    order: Vec<List>,
+    /// The class of each page.
+    owners: Vec<usize>,
 }
 
-fn push_front(rows: &mut [Row], list: &mut List, chunk: u32) {
-    rows[chunk as usize] = Row { next: list.first, previous: NONE };
-    match list.first {
-        NONE => list.last = chunk,
-        first => rows[first as usize].previous = chunk,
+fn place(most: u64, chunk: ChunkId) -> usize {
+    (chunk.page * most + chunk.index) as usize
+}
+
+fn push_front(most: u64, rows: &mut [Row], list: &mut List, chunk: ChunkId, mark: Mark) {
+    rows[place(most, chunk)] = Row { next: list.first, previous: NONE, mark };
+    match list.first.chunk() {
+        None => list.last = Link::to(chunk),
+        Some(first) => rows[place(most, first)].previous = Link::to(chunk),
     }
-    list.first = chunk;
+    list.first = Link::to(chunk);
     list.length += 1;
 }
 
-fn push_back(rows: &mut [Row], list: &mut List, chunk: u32) {
-    rows[chunk as usize] = Row { next: NONE, previous: list.last };
-    match list.last {
-        NONE => list.first = chunk,
-        last => rows[last as usize].next = chunk,
+fn push_back(most: u64, rows: &mut [Row], list: &mut List, chunk: ChunkId, mark: Mark) {
+    rows[place(most, chunk)] = Row { next: NONE, previous: list.last, mark };
+    match list.last.chunk() {
+        None => list.first = Link::to(chunk),
+        Some(last) => rows[place(most, last)].next = Link::to(chunk),
     }
-    list.last = chunk;
+    list.last = Link::to(chunk);
     list.length += 1;
 }
 
-fn unlink(rows: &mut [Row], list: &mut List, chunk: u32) {
-    let Row { next, previous } = rows[chunk as usize];
-    match previous {
-        NONE => list.first = next,
-        previous => rows[previous as usize].next = next,
+fn unlink(most: u64, rows: &mut [Row], list: &mut List, chunk: ChunkId) {
+    let Row { next, previous, .. } = rows[place(most, chunk)];
+    match previous.chunk() {
+        None => list.first = next,
+        Some(before) => rows[place(most, before)].next = next,
     }
-    match next {
-        NONE => list.last = previous,
-        next => rows[next as usize].previous = previous,
+    match next.chunk() {
+        None => list.last = previous,
+        Some(behind) => rows[place(most, behind)].previous = previous,
     }
     list.length -= 1;
 }
 
-impl Lists {
-    fn new() -> Lists {
-        let mut lists = Lists { rows: vec![Row { next: NONE, previous: NONE }; CHUNKS], free: EMPTY, order: EMPTY };
-        for chunk in 0..CHUNKS as u32 {
-            push_front(&mut lists.rows, &mut lists.free, chunk);
+/// A chunk that was handed out, and how many words it has.
+struct Fresh {
+    chunk: ChunkId,
+    room: u64,
+}
+
+struct Arena {
+    slabs: Mutex<Box<Slabs>>,
+    headers: Vec<AtomicU64>,
+    words: Vec<AtomicU64>,
+    sizes: Vec<u64>,
+    most: u64,
+}
+
+impl Arena {
+    fn new() -> Arena {
+        let rows = vec![Row { next: NONE, previous: NONE, mark: Mark::Unlisted }; (PAGES * MOST) as usize];
+        let owners = vec![CLASS; PAGES as usize];
+        let mut slabs = Slabs { most: MOST, rows, free: vec![EMPTY; CLASSES], order: vec![EMPTY; CLASSES], owners };
+        for index in 0..MOST {
+            push_front(MOST, &mut slabs.rows, &mut slabs.free[CLASS], ChunkId { page: 0, index }, Mark::Free);
         }
-        lists
+        Arena {
+            slabs: Mutex::new(Box::new(slabs)),
+            headers: (0..PAGES * MOST).map(|_| AtomicU64::new(TAG_UNIT)).collect(),
+            words: (0..PAGES * PAGE / 8).map(|_| AtomicU64::new(0)).collect(),
+            sizes: vec![64, 128, 256, 512, PAGE],
+            most: MOST,
+        }
     }
 
-    fn pop(&mut self, headers: &[AtomicU64]) -> Option<u32> {
-        let chunk = self.free.first;
-        if chunk == NONE || headers[chunk as usize].load(SeqCst) / 262_144 >= 70_368_744_177_663 {
+    fn header(&self, chunk: ChunkId) -> &AtomicU64 {
+        &self.headers[place(self.most, chunk)]
+    }
+
+    fn pop(&self, slabs: &mut Slabs, class: usize) -> Option<Fresh> {
+        let chunk = slabs.free[class].first.chunk()?;
+        let header = self.header(chunk);
+        if header.load(SeqCst) / ISSUE_UNIT >= MOST_ISSUE {
             return None;
         }
-        headers[chunk as usize].fetch_add(327_681, SeqCst);
-        unlink(&mut self.rows, &mut self.free, chunk);
-        push_back(&mut self.rows, &mut self.order, chunk);
-        Some(chunk)
+        header.fetch_add(ISSUE_UNIT + TAG_UNIT + 1, SeqCst);
+        unlink(slabs.most, &mut slabs.rows, &mut slabs.free[class], chunk);
+        push_back(slabs.most, &mut slabs.rows, &mut slabs.order[class], chunk, Mark::HandedOut);
+        Some(Fresh { chunk, room: self.sizes[class] / 8 })
     }
 
-    fn put_back(&mut self, headers: &[AtomicU64], chunk: u32) -> bool {
-        if headers[chunk as usize].load(SeqCst) % 262_144 != 131_072 {
+    fn discard(&self, fresh: &Fresh) {
+        self.header(fresh.chunk).fetch_sub(1, SeqCst);
+    }
+
+    fn put_back(&self, slabs: &mut Slabs, chunk: ChunkId) -> bool {
+        let header = self.header(chunk);
+        if header.load(SeqCst) % ISSUE_UNIT != 2 * TAG_UNIT {
             return false;
         }
-        headers[chunk as usize].fetch_sub(65_536, SeqCst);
-        unlink(&mut self.rows, &mut self.order, chunk);
-        push_front(&mut self.rows, &mut self.free, chunk);
+        header.fetch_sub(TAG_UNIT, SeqCst);
+        let class = slabs.owners[chunk.page as usize];
+        unlink(slabs.most, &mut slabs.rows, &mut slabs.order[class], chunk);
+        push_front(slabs.most, &mut slabs.rows, &mut slabs.free[class], chunk, Mark::Free);
         true
+    }
+
+    fn fill(&self, fresh: &Fresh, place: u64, word: u64) {
+        let at = fresh.chunk.page * (PAGE / 8) + fresh.chunk.index * fresh.room + place;
+        self.words[at as usize].store(word, SeqCst);
     }
 }
 
@@ -100,40 +187,58 @@ fn show(name: &str, started: Instant, operations: u64) {
     println!("{name} {} {operations}", started.elapsed().as_nanos());
 }
 
-fn take_and_give(lock: &Mutex<Lists>) {
+fn take_and_give(arena: &Arena) {
     for _ in 0..OPERATIONS {
-        drop(black_box(lock.lock().unwrap()));
+        drop(black_box(arena.slabs.lock().unwrap()));
+    }
+}
+
+fn try_and_give(arena: &Arena) {
+    for _ in 0..OPERATIONS {
+        drop(black_box(arena.slabs.try_lock().unwrap()));
+    }
+}
+
+fn go_round(arena: &Arena, slabs: &mut Slabs) {
+    for _ in 0..OPERATIONS {
+        let fresh = arena.pop(slabs, black_box(CLASS)).unwrap();
+        arena.discard(&fresh);
+        assert!(arena.put_back(slabs, fresh.chunk));
+    }
+}
+
+fn fill_words(arena: &Arena, fresh: &Fresh) {
+    for turn in 0..OPERATIONS / 8 {
+        for place in 0..black_box(fresh.room) {
+            arena.fill(fresh, place, turn);
+        }
     }
 }
 
 fn main() {
-    let lock = Mutex::new(Lists::new());
-    let headers: Vec<AtomicU64> = (0..CHUNKS).map(|_| AtomicU64::new(65_536)).collect();
-    let words: Vec<AtomicU64> = (0..2048).map(|_| AtomicU64::new(0)).collect();
-    for threads in [1, 2, 4] {
+    let arena = Arena::new();
+    let started = Instant::now();
+    take_and_give(&arena);
+    show("lock-1", started, OPERATIONS);
+    let started = Instant::now();
+    try_and_give(&arena);
+    show("try-1", started, OPERATIONS);
+    for threads in [2, 4] {
         let started = Instant::now();
         thread::scope(|scope| {
             for _ in 1..threads {
-                scope.spawn(|| take_and_give(&lock));
+                scope.spawn(|| take_and_give(&arena));
             }
-            take_and_give(&lock);
+            take_and_give(&arena);
         });
         show(&format!("lock-{threads}"), started, OPERATIONS * threads);
     }
-    let mut lists = lock.lock().unwrap();
+    let mut slabs = arena.slabs.lock().unwrap();
     let started = Instant::now();
-    for _ in 0..OPERATIONS {
-        let Some(chunk) = lists.pop(&headers) else { panic!() };
-        headers[chunk as usize].fetch_sub(1, SeqCst);
-        assert!(lists.put_back(&headers, chunk));
-    }
+    go_round(&arena, &mut slabs);
     show("chunk", started, OPERATIONS);
-    let chunk = lists.pop(&headers).unwrap() as usize;
+    let fresh = arena.pop(&mut slabs, CLASS).unwrap();
     let started = Instant::now();
-    for turn in 0..OPERATIONS / 8 {
-        for place in 0..8 {
-            words[chunk * 8 + place].store(turn, SeqCst);
-        }
-    }
+    fill_words(&arena, &fresh);
     show("fill", started, OPERATIONS);
 }

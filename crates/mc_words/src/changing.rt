@@ -76,7 +76,7 @@ impl Arena {
         ensures succeeds { held.old.stripe.ready ≡ true → IsOk result }
         ensures refused { OnErr result ((held.new ≡ held.old) × (view hand.new ≡ view hand.old)) }
     {
-        held.stripe.reserve()?;
+        held.stripe.stripe_mut().reserve()?;
         let stripe = held.number;
         let word = 1 + Lock::StripeLock(stripe).slot();
         let change = Change::Reserve(stripe);

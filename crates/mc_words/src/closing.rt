@@ -118,7 +118,7 @@ impl Final {
             return None;
         }
         match closed.slots.get(lock) {
-            Slot::OfStripe(value) => Some(value),
+            Slot::OfStripe(value) => Some(value.stripe()),
             _ => None,
         }
     }

@@ -1,6 +1,7 @@
 //! Values that are out of their slots, and chunks, each with the hand that took it.
 ghost use Rattle.std.specs.Prelude.{◌≡◌};
 
+use crate::boxed::BoxedStripe;
 use mc_pages::{ChunkId, SharedSlabs, Slabs};
 use mc_stripe::Stripe;
 
@@ -24,7 +25,7 @@ impl SlabsHeld {
 pub struct StripeHeld {
     /// Which stripe it is.
     pub(crate) number: u64,
-    pub(crate) stripe: Stripe,
+    pub(crate) stripe: BoxedStripe,
 }
 
 impl StripeHeld {
@@ -32,7 +33,7 @@ impl StripeHeld {
     pub fn stripe(&self) -> &Stripe
         ensures stripe { result.now ≡ self.now.stripe }
     {
-        &self.stripe
+        self.stripe.stripe()
     }
 }
 

@@ -2,6 +2,7 @@
 #![tactic(auto)]
 
 mod arena;
+mod boxed;
 mod changing;
 mod closing;
 mod filling;

@@ -8,6 +8,7 @@ ghost use Rattle.mc_words.specs.Places.{ArePlaces};
 ghost use Rattle.mc_words.specs.Opening.{first_slots, first_view, first_words};
 
 use crate::arena::Arena;
+use crate::boxed::BoxedStripe;
 use crate::hand::Hand;
 use crate::header::ISSUE_UNIT;
 use crate::locks::Locks;
@@ -64,7 +65,8 @@ fn slots_of(alloc: Global, plan: &Plan) -> Result<Vec<Slot>, AllocError>
     let mut slots = Vec::new(alloc);
     slots.push(Slot::OfSlabs(shared))?;
     for _stripe in 0..plan.config().stripes {
-        slots.push(Slot::OfStripe(Stripe::new(alloc)))?;
+        let stripe = BoxedStripe::new(alloc, Stripe::new(alloc))?;
+        slots.push(Slot::OfStripe(stripe))?;
     }
     Ok(slots)
 }

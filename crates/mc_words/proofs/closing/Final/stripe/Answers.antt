@@ -1,4 +1,4 @@
-use Rattle.std.proofs.Common.{◌<◌, None, slice_index_or, sym, ap, subst, ◌∙◌}
+use Rattle.std.proofs.Common.{◌<◌, None, Some, slice_index_or, sym, ap, subst, ◌∙◌}
 use Rattle.std.specs.Slots.{slots_items}
 use Rattle.mc_words.specs.Closing.{Left, stripe_in}
 use Rattle.mc_words.proofs.Ends.{none_told, stripe_told, no_stripe_in}
@@ -18,9 +18,10 @@ returns-in-OfStripe c =
     let f = c.self.inside in
     let near = subst (λ (l : Left). c.args.stripe < l.setup.config.stripes) (sym c.self.view_is) c.requires.near in
     record {
-      stripe = ap stripe_in (sym c.in-OfStripe.is)
+      stripe = ap Some c.stripe.ensures.stripe
+          ∙ (ap stripe_in (sym c.in-OfStripe.is)
           ∙ (stripe_told f.plan (slots_items f.closed.words) (slots_items f.closed.slots) c.self.invariant.2 c.args.stripe near c.word.result c.word.ensures c.if-word-ne0.false c.get.result.now c.get.ensures
-          ∙ ap (λ (l : Left). slice_index_or l.stripes c.args.stripe None) c.self.view_is);
+          ∙ ap (λ (l : Left). slice_index_or l.stripes c.args.stripe None) c.self.view_is));
     }
 
 pub returns-in_default : goal.returns-in_default

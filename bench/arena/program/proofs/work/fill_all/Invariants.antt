@@ -1,0 +1,7 @@
+use Rattle.std.proofs.Common.{◌≡◌}
+use Rattle.mc_words.specs.Arenas.{IsHandOf, view}
+use Rattle.mc_words.specs.Fresh.{IsFreshOf}
+use Rattle.mc_bench.proofs.work.fill_all.Given as goal
+
+abbrev pub invariant-loop-place : goal.invariant-loop-place
+invariant-loop-place l = IsHandOf l.arena l.hand × IsFreshOf (view l.hand) l.fresh.chunk l.fresh.room × (l.place-end ≡ l.fresh.room)
