@@ -60,7 +60,10 @@ impl Arena {
     {
         let slot = lock.slot();
         let shared = &self.table.shared;
-        drop(shared.exchange(seat, slot, value));
+        match shared.exchange(seat, slot, value) {
+            Slot::Empty => {}
+            lost => drop(lost),
+        }
         shared.store::<Brand>(seat, 1 + slot, 0);
     }
 }

@@ -1,6 +1,7 @@
 //! The arena that the work is done on, and its hands.
 ghost use Rattle.std.specs.Prelude.{◌≡◌, Some, IfSome, IfOk};
-ghost use Rattle.mc_core.specs.State.{has_chunk, is_class};
+ghost use Rattle.mc_classes.specs.Classes.{pages_of};
+ghost use Rattle.mc_core.specs.State.{has_chunk, is_class, most_of};
 ghost use Rattle.mc_words.specs.Arenas.{IsHandOf, setup_of, view};
 ghost use Rattle.mc_bench.specs.Hands.{AreHandsOf};
 
@@ -43,13 +44,33 @@ pub fn next_hand(arena: &Arena, hands: &mut Vec<Hand>) -> Option<Hand>
     }
 }
 
-/// Whether the arena has such a chunk.
-#[inline(always)]
-pub fn has_chunk(arena: &Arena, chunk: ChunkId) -> bool
-    ensures { result ≡ has_chunk (setup_of arena.now).table chunk }
+/// How many pages there are, and how many chunks a page has at most.
+#[derive(Clone, Copy)]
+pub struct Bounds {
+    pub pages: u64,
+    pub most: u64,
+}
+
+/// The arena's.
+pub fn bounds_of(arena: &Arena) -> Bounds
+    ensures pages { result.pages ≡ pages_of (setup_of arena.now).table }
+    ensures most { result.most ≡ most_of (setup_of arena.now).table }
 {
     let classes = arena.classes();
-    chunk.page < classes.pages() && chunk.index < classes.per_page(1)
+    Bounds {
+        pages: classes.pages(),
+        most: classes.per_page(1),
+    }
+}
+
+/// Whether the arena, which has these bounds, has such a chunk.
+#[inline(always)]
+pub fn has_chunk(arena: &Arena, bounds: Bounds, chunk: ChunkId) -> bool
+    requires pages { bounds.pages ≡ pages_of (setup_of arena.now).table }
+    requires most { bounds.most ≡ most_of (setup_of arena.now).table }
+    ensures { result ≡ has_chunk (setup_of arena.now).table chunk }
+{
+    chunk.page < bounds.pages && chunk.index < bounds.most
 }
 
 /// Whether it has such a class.

@@ -3,7 +3,7 @@ ghost use Rattle.std.specs.Prelude.{◌≡◌, Some};
 ghost use Rattle.mc_words.specs.Arenas.{IsHandOf, view};
 ghost use Rattle.mc_words.specs.Fresh.{IsFreshOf};
 
-use crate::setting::{has_chunk, is_class};
+use crate::setting::{bounds_of, has_chunk, is_class};
 use mc_words::{Arena, Fresh, Hand, SlabsHeld};
 use std::sync::Wait;
 
@@ -49,6 +49,7 @@ pub fn go_round(arena: &Arena, hand: &mut Hand, held: &mut SlabsHeld) -> bool
     if !is_class(arena, 1) {
         return false;
     }
+    let bounds = bounds_of(arena);
     for _turn in 0..OPERATIONS {
         if hand.refs() > 255 {
             return false;
@@ -58,7 +59,7 @@ pub fn go_round(arena: &Arena, hand: &mut Hand, held: &mut SlabsHeld) -> bool
         };
         let chunk = fresh.chunk();
         arena.discard(hand, fresh);
-        if !has_chunk(arena, chunk) {
+        if !has_chunk(arena, bounds, chunk) {
             return false;
         }
         if arena.put_back(hand, held, chunk).is_err() {
