@@ -14,6 +14,7 @@ pub mod Unlocked
 pub mod Heads
 pub mod Owners
 pub mod OwnerViews
+pub mod Releases
 pub mod Filled
 pub mod Judging
 pub mod Opens

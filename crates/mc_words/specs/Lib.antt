@@ -11,6 +11,7 @@ pub mod Waiting
 pub mod Opening
 pub mod Places
 pub mod Fresh
+pub mod Refs
 pub mod Idle
 pub mod Lent
 pub mod Joining
