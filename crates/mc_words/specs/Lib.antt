@@ -12,6 +12,7 @@ pub mod Opening
 pub mod Places
 pub mod Fresh
 pub mod Refs
+pub mod Items
 pub mod Idle
 pub mod Lent
 pub mod Joining

@@ -17,6 +17,7 @@ mod making;
 mod opening;
 mod places;
 mod plan;
+mod reading;
 mod refs;
 mod refusal;
 mod releasing;
