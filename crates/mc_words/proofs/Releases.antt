@@ -1,5 +1,5 @@
 -- References that are given up: what the core allows of a hand that has one, and what it has then.
-use Rattle.std.proofs.Common.{◌≡◌, ℕ, ◌≤◌, ◌&&◌, ◌||◌, not, true, false, List, [], Some, refl, sym, ap, subst, ◌∙◌, arith, slice_index, get_or-set_same}
+use Rattle.std.proofs.Common.{◌≡◌, ℕ, ◌≤◌, ◌&&◌, ◌||◌, not, true, false, [], Some, refl, sym, ap, subst, ◌∙◌, arith, slice_index, get_or-set_same}
 use Rattle.mc_pages.specs.declared.ids.ChunkId.{ChunkId}
 use Rattle.mc_core.specs.declared.head.Head.{Head}
 use Rattle.mc_core.specs.declared.holding.Holding.{Holding}

@@ -1,5 +1,5 @@
 -- The words of a reference are read: by the law they are its item's, at the place that its room gives.
-use Rattle.std.proofs.Common.{◌≡◌, ℕ, ◌+◌, ◌*◌, ◌<◌, ◌&&◌, not, true, false, List, [], length, Option, Some, refl, sym, ap, ap₂, subst, ◌∙◌, arith, slice_index, slice_index_or, slice_get, slice_set, lt-ltb, Contains, map}
+use Rattle.std.proofs.Common.{◌≡◌, ℕ, ◌+◌, ◌*◌, ◌<◌, not, false, List, [], length, Option, Some, refl, sym, ap, ap₂, subst, ◌∙◌, arith, slice_index, slice_index_or, slice_get, lt-ltb, Contains}
 use Rattle.std.proofs.lemmas.Bool.{and_from}
 use Rattle.std.proofs.lemmas.List.{length-map}
 use Rattle.std.proofs.lemmas.Option.{slice_get-map, slice_get-get_or}
@@ -12,7 +12,7 @@ use Rattle.mc_core.specs.declared.holding.Holding.{Holding}
 use Rattle.mc_core.specs.declared.holding.Kind.{Kind}
 use Rattle.mc_core.specs.declared.holding.Kind.TheVariants.{Reference, Fresh}
 use Rattle.mc_core.specs.declared.event.Step.TheVariants as core
-use Rattle.mc_core.specs.Holdings.{is_of, is_fresh, is_fresh_kind, holding_of, words_of, words_of_kind, item_of, item_of_kind}
+use Rattle.mc_core.specs.Holdings.{is_of, is_fresh_kind, holding_of, words_of, words_of_kind, item_of, item_of_kind}
 use Rattle.mc_core.specs.State.{State, head_at, holdings_at, room_in, page_words}
 use Rattle.mc_core.specs.Items.{can_read_in}
 use Rattle.mc_core.specs.Columns.{Shows, IsHandedOut, place_in, head_in}
@@ -24,7 +24,7 @@ use Rattle.mc_core.proofs.MoreRows.{each_contained}
 use Rattle.mc_core.proofs.SeenQuiet.{held_near, held_handed_out}
 use Rattle.mc_words.specs.View.{View}
 use Rattle.mc_words.specs.Layout.{data_word, data_from, data_count, config_from}
-use Rattle.mc_words.specs.Happens.{LawfulView, Happens, HappensAt, MayWrite}
+use Rattle.mc_words.specs.Happens.{LawfulView, Happens, MayWrite}
 use Rattle.mc_words.specs.Items.{held_item}
 use Rattle.mc_words.specs.Refs.{IsRefOf}
 use Rattle.mc_words.proofs.Written.{data_read, unwritten}

@@ -1,9 +1,6 @@
 use Rattle.std.proofs.Common.{◌≡◌, ℕ, ◌<◌, refl, ap, sym, subst, length, slice_index, ◌∙◌}
-use Rattle.mc_core.specs.Holdings.{item_of}
-use Rattle.mc_core.specs.declared.event.Step.TheVariants as core
 use Rattle.mc_words.specs.View.{View, Setup}
 use Rattle.mc_words.specs.Layout.{data_word, config_from}
-use Rattle.mc_words.specs.Happens.{MayWrite}
 use Rattle.mc_words.specs.Refs.{IsRefOf}
 use Rattle.mc_words.proofs.WordReads.{item_found, word_near, word_is, may_read, read_word}
 use Rattle.mc_words.proofs.Locked.{noted_same}
