@@ -14,6 +14,8 @@ pub mod Unlocked
 pub mod Heads
 pub mod Owners
 pub mod OwnerViews
+pub mod Releases
+pub mod WordReads
 pub mod Filled
 pub mod Judging
 pub mod Opens

@@ -30,7 +30,7 @@ holding_rows view was = let near = rows_there view was in let count = was.lawful
 
 module _ (view now : View) where
   -- nothing was learned
-  learned_none : (step : Step) (h : Happens view [] step now) → is_join step ≡ false → (after_step h.was.moment.state h.was.hand step).stripes ≡ h.was.moment.state.stripes
+  pub learned_none : (step : Step) (h : Happens view [] step now) → is_join step ≡ false → (after_step h.was.moment.state h.was.hand step).stripes ≡ h.was.moment.state.stripes
       → ((knows : Knowledge) → known_after h.was.moment h.was.hand step knows ≡ more_seen (knows.saw ++ []) knows.hold knows.seen knows)
       → knowledge_at (moment_stepped h.was.moment h.was.hand step).past h.was.hand ≡ view.row.knows
   learned_none step h alone same none =

@@ -64,7 +64,7 @@ module _ (view : View) (was : LawfulView view) where
   needless : AreNeedless was.moment
   needless = are_needless was.moment was.lawful
 
-  fits_here : (chunk : ChunkId) → has_chunk view.setup.table chunk ≡ true → FitsBits (head_at s chunk)
+  pub fits_here : (chunk : ChunkId) → has_chunk view.setup.table chunk ≡ true → FitsBits (head_at s chunk)
   fits_here chunk near = needless.fits chunk (near_here view chunk near was)
 
 -- a fresh chunk is given up

@@ -11,6 +11,8 @@ pub mod Waiting
 pub mod Opening
 pub mod Places
 pub mod Fresh
+pub mod Refs
+pub mod Items
 pub mod Idle
 pub mod Lent
 pub mod Joining

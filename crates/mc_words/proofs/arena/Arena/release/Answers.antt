@@ -1,0 +1,37 @@
+use Rattle.std.proofs.Common.{◌≡◌, ◌-◌, ℕ, true, refl, ap, sym, subst, arith, length, ◌∙◌}
+use Rattle.mc_core.specs.Codes.{minus}
+use Rattle.mc_core.specs.State.{has_chunk}
+use Rattle.mc_core.specs.declared.event.Step.TheVariants as core
+use Rattle.mc_words.specs.View.{View, Setup}
+use Rattle.mc_words.specs.Layout.{head_word}
+use Rattle.mc_words.specs.Happens.{MayWrite}
+use Rattle.mc_words.proofs.Owners.{one_less}
+use Rattle.mc_words.proofs.Releases.{held_is_near, may_release, released_chunk}
+use Rattle.mc_words.proofs.Locked.{noted_same}
+use Rattle.mc_words.proofs.arena.Arena.release.Goals as goal
+
+pub head_word-word-requires : goal.head_word-word-requires
+head_word-word-requires c =
+    let ref = c.requires.reference in
+    let arena = c.requires.arena in
+    record { near = subst (λ (s : Setup). has_chunk s.table c.args.reference.chunk ≡ true) arena.setup (held_is_near c.args.hand.now.seat.me.0 arena.lawful c.args.reference.chunk ref.holding ref.found) }
+
+pub subtract-requires : goal.subtract-requires
+subtract-requires c =
+    let ref = c.requires.reference in
+    let arena = c.requires.arena in
+    let view = c.args.hand.now.seat.me.0 in
+    let near = held_is_near view arena.lawful c.args.reference.chunk ref.holding ref.found in
+    let place : c.head_word-word.result ≡ head_word view.setup c.args.reference.chunk = c.head_word-word.ensures.word ∙ ap (λ (s : Setup). head_word s c.args.reference.chunk) (sym arena.setup) in
+    (refl, (refl, (c.head_word-word.ensures.near, (arena, subst (λ (n : ℕ). MayWrite view (core.Release c.args.reference.chunk) n (minus 1)) (sym place) (may_release view c.args.reference.chunk ref.holding near ref.found ref.linked)))))
+
+pub invariant_of-hand : goal.invariant_of-hand
+invariant_of-hand c =
+    let a = c.args.hand.now in
+    let is = released_chunk a.seat.me.0 c.subtract.new.seat.me.0 c.args.reference.chunk c.subtract.ensures.happens in
+    let less = one_less c.args.reference.chunk a.seat.me.0.row.holdings c.requires.reference.holding c.requires.reference.found in
+    let count = a.noted.2 in
+    record { noted = noted_same a.seat.me c.subtract.new.seat.me a.number a.chunks (a.chunks - 1) a.locks a.noted c.subtract.ensures.out c.subtract.ensures.hand ((omega arith) ∙ ap (λ (v : View). length v.row.holdings) (sym is)) }
+
+pub returns-clause-dropped : goal.returns-clause-dropped
+returns-clause-dropped c = released_chunk c.args.hand.now.seat.me.0 c.subtract.new.seat.me.0 c.args.reference.chunk c.subtract.ensures.happens

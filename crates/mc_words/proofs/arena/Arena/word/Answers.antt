@@ -1,0 +1,55 @@
+use Rattle.std.proofs.Common.{◌≡◌, ℕ, ◌<◌, refl, ap, sym, subst, length, slice_index, ◌∙◌}
+use Rattle.mc_words.specs.View.{View, Setup}
+use Rattle.mc_words.specs.Layout.{data_word, config_from}
+use Rattle.mc_words.specs.Refs.{IsRefOf}
+use Rattle.mc_words.proofs.WordReads.{item_found, word_near, word_is, may_read, read_word}
+use Rattle.mc_words.proofs.Locked.{noted_same}
+use Rattle.mc_words.proofs.arena.Arena.word.Goals as goal
+
+pub data_word-at-requires : goal.data_word-at-requires
+data_word-at-requires c =
+    let ref = c.requires.reference in
+    let arena = c.requires.arena in
+    let view = c.args.hand.now.seat.me.0 in
+    let chunk = c.args.reference.now.chunk in
+    let room = c.args.reference.now.room in
+    let near = subst (λ (n : ℕ). c.args.place < n) (ap length (item_found view chunk ref.holding ref.found)) c.requires.near in
+    record { near = subst (λ (s : Setup). data_word s room chunk c.args.place < config_from s) arena.setup (word_near view chunk room c.args.place ref near arena.lawful) }
+
+pub look-requires : goal.look-requires
+look-requires c =
+    let ref = c.requires.reference in
+    let view = c.args.hand.now.seat.me.0 in
+    let chunk = c.args.reference.now.chunk in
+    let near = subst (λ (n : ℕ). c.args.place < n) (ap length (item_found view chunk ref.holding ref.found)) c.requires.near in
+    (refl, (refl, (c.data_word-at.ensures.near, (c.requires.arena, may_read view chunk c.args.reference.now.room c.args.place ref near c.data_word-at.result))))
+
+pub invariant_of-hand : goal.invariant_of-hand
+invariant_of-hand c =
+    let a = c.args.hand.now in
+    let is = read_word a.seat.me.0 c.look.new.seat.me.0 c.args.reference.now.chunk c.args.place c.look.ensures.happens.0 in
+    record { noted = noted_same a.seat.me c.look.new.seat.me a.number a.chunks a.chunks a.locks a.noted c.look.ensures.out c.look.ensures.hand (a.noted.2 ∙ ap (λ (v : View). length v.row.holdings) (sym is)) }
+
+pub returns-clause-happens : goal.returns-clause-happens
+returns-clause-happens c = c.look.ensures.happens.0
+
+pub returns-clause-word : goal.returns-clause-word
+returns-clause-word c =
+    let ref = c.requires.reference in
+    let arena = c.requires.arena in
+    let view = c.args.hand.now.seat.me.0 in
+    let chunk = c.args.reference.now.chunk in
+    let room = c.args.reference.now.room in
+    let same = item_found view chunk ref.holding ref.found in
+    let near = subst (λ (n : ℕ). c.args.place < n) (ap length same) c.requires.near in
+    let happens = c.look.ensures.happens in
+    let place : c.data_word-at.result ≡ data_word view.setup room chunk c.args.place = c.data_word-at.ensures.word ∙ ap (λ (s : Setup). data_word s room chunk c.args.place) (sym arena.setup) in
+    sym happens.1 ∙ (ap (slice_index happens.0.was.words) place ∙ (word_is view chunk room c.args.place ref near happens.0.was ∙ ap (λ item. slice_index item c.args.place) (sym same)))
+
+pub returns-clause-same : goal.returns-clause-same
+returns-clause-same c = read_word c.args.hand.now.seat.me.0 c.look.new.seat.me.0 c.args.reference.now.chunk c.args.place c.look.ensures.happens.0
+
+pub returns-clause-reference : goal.returns-clause-reference
+returns-clause-reference c =
+    let is = read_word c.args.hand.now.seat.me.0 c.look.new.seat.me.0 c.args.reference.now.chunk c.args.place c.look.ensures.happens.0 in
+    subst (λ (v : View). IsRefOf v c.args.reference.now.chunk c.args.reference.now.room) (sym is) c.requires.reference

@@ -1,0 +1,10 @@
+-- The items of chunks that a hand holds.
+use Rattle.std.specs.Prelude.{ℕ, List, []}
+use Rattle.std.specs.Option.{option_map_or}
+use Rattle.mc_pages.specs.declared.ids.ChunkId.{ChunkId}
+use Rattle.mc_core.specs.Holdings.{holding_of, item_of}
+use Rattle.mc_words.specs.View.{View}
+
+-- the words of the item in this chunk: key, stamp, length, and as many as that says; none where the hand doesn't hold the chunk
+abbrev pub held_item : View → ChunkId → List ℕ
+held_item view chunk = option_map_or item_of (holding_of chunk view.row.holdings) []

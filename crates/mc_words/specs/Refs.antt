@@ -1,0 +1,18 @@
+-- References that a hand holds.
+use Rattle.std.specs.Prelude.{◌≡◌, ℕ, false, List, Contains, Some}
+use Rattle.mc_pages.specs.declared.ids.ChunkId.{ChunkId}
+use Rattle.mc_core.specs.declared.holding.Holding.{Holding}
+use Rattle.mc_core.specs.Holdings.{holding_of, is_fresh}
+use Rattle.mc_core.specs.Past.{Known, known_by}
+use Rattle.mc_words.specs.View.{View}
+
+-- among these holdings is a reference to this chunk, which is known to have room for so many words
+pub record IsRefIn (holdings : List Holding) (known : List Known) (chunk : ChunkId) (room : ℕ) : Type 0 where
+  pub holding : Holding
+  pub found : holding_of chunk holdings ≡ Some holding
+  pub linked : is_fresh holding ≡ false
+  pub knows : Contains known (known_by room holding)
+
+-- the hand has a reference to this chunk, with room for so many words
+abbrev pub IsRefOf : View → ChunkId → ℕ → Type 0
+IsRefOf view chunk room = IsRefIn view.row.holdings view.row.knows.known chunk room
