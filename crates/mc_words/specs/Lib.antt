@@ -13,6 +13,7 @@ pub mod Places
 pub mod Fresh
 pub mod Refs
 pub mod Items
+pub mod Called
 pub mod Idle
 pub mod Lent
 pub mod Joining
