@@ -18,6 +18,7 @@ pub mod Releases
 pub mod WordReads
 pub mod Calls
 pub mod Refers
+pub mod Peeks
 pub mod Filled
 pub mod Judging
 pub mod Opens
