@@ -1,4 +1,4 @@
-use Rattle.std.proofs.Common.{◌≡◌, ◌×◌, ◌<◌, ◌≤◌, ◌/◌, ℕ, true, length, sym, ap, subst, ◌∙◌}
+use Rattle.std.proofs.Common.{◌≡◌, ◌<◌, ◌≤◌, ◌/◌, ℕ, true, length, sym, ap, subst, ◌∙◌}
 use Rattle.mc_classes.specs.Classes.{Classes, pages_of, size_of}
 use Rattle.mc_core.specs.State.{is_class, room_in}
 use Rattle.mc_words.specs.View.{View, Setup}
