@@ -16,6 +16,9 @@ pub mod Owners
 pub mod OwnerViews
 pub mod Releases
 pub mod WordReads
+pub mod Calls
+pub mod Refers
+pub mod Peeks
 pub mod Filled
 pub mod Judging
 pub mod Opens

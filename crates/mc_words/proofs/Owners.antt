@@ -61,7 +61,7 @@ module _ (view : View) (was : LawfulView view) where
   judged : (slabs : SlabState) → view.slabs ≡ Some slabs → IsJudged was.moment id
   judged slabs mine = all_are_judged was.moment was.lawful id (slabs_here slabs mine).0
 
-  needless : AreNeedless was.moment
+  pub needless : AreNeedless was.moment
   needless = are_needless was.moment was.lawful
 
   pub fits_here : (chunk : ChunkId) → has_chunk view.setup.table chunk ≡ true → FitsBits (head_at s chunk)

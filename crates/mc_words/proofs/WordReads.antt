@@ -45,14 +45,14 @@ item_long (Fresh purpose words) old = absurd (cc)
 pub item_found : (view : View) (chunk : ChunkId) (holding : Holding) → holding_of chunk view.row.holdings ≡ Some holding → held_item view chunk ≡ item_of holding
 item_found view chunk holding found = ap (λ (o : Option Holding). option_map_or item_of o []) found
 
-module _ (view : View) (chunk : ChunkId) (room place : ℕ) (ref : IsRefOf view chunk room) (near : place < length (item_of ref.holding)) (was : LawfulView view) where
+module _ (view : View) (chunk : ChunkId) (room : ℕ) (ref : IsRefOf view chunk room) (was : LawfulView view) where
   abbrev m : Moment
   m = was.moment
 
   abbrev holding : Holding
   holding = ref.holding
 
-  found_here : holding_of chunk (holdings_at m.state was.hand) ≡ Some holding
+  pub found_here : holding_of chunk (holdings_at m.state was.hand) ≡ Some holding
   found_here = ap (holding_of chunk) (holdings_here view was) ∙ ref.found
 
   same_chunk : holding.chunk ≡ chunk
@@ -61,18 +61,15 @@ module _ (view : View) (chunk : ChunkId) (room place : ℕ) (ref : IsRefOf view 
   out : IsHandedOut (head_at m.state chunk) holding.issue
   out = held_handed_out m was.lawful was.hand chunk holding found_here
 
-  placed : IsPlaced m.state.slabs chunk
+  pub placed : IsPlaced m.state.slabs chunk
   placed = (placed_at m was.lawful chunk holding.issue (held_near m was.lawful was.hand chunk holding found_here) out).0
 
   shows : Shows m.state.table m.state.slabs m.state.words chunk (words_of holding)
   shows = subst (λ (c : ChunkId). Shows m.state.table m.state.slabs m.state.words c (words_of holding)) same_chunk
       (found_each (λ h. Shows m.state.table m.state.slabs m.state.words h.chunk (words_of h)) m.state.holdings was.hand (is_of chunk) holding found_here was.lawful.held.shows)
 
-  on_page : place < room_in m.state.table (class_of_page m.state.slabs chunk.page)
-  on_page = let fits = shows.fits in let long = item_long holding.kind ref.linked in omega arith
-
   -- how many words the chunk has
-  room_is : room_in m.state.table (class_of_page m.state.slabs chunk.page) ≡ room
+  pub room_is : room_in m.state.table (class_of_page m.state.slabs chunk.page) ≡ room
   room_is =
       let k : Known = known_by room holding in
       let known : Contains (slice_index_or m.past.known was.hand []) k = subst (λ (l : List Known). Contains l k) (ap (λ (v : View). v.row.knows.known) was.is) ref.knows in
@@ -80,27 +77,31 @@ module _ (view : View) (chunk : ChunkId) (room place : ℕ) (ref : IsRefOf view 
       let out' : IsHandedOut (head_in m.state.table m.state.heads holding.chunk) holding.issue = subst (λ (c : ChunkId). IsHandedOut (head_in m.state.table m.state.heads c) holding.issue) (sym same_chunk) out in
       ap (λ (c : ChunkId). room_in m.state.table (class_of_page m.state.slabs c.page)) (sym same_chunk) ∙ still.room out'
 
-  -- where the word stands
-  stands_at : data_word view.setup room chunk place ≡ data_from view.setup + place_in m.state.table m.state.slabs chunk place
-  stands_at = ap₂ (λ (rows room : ℕ). data_from view.setup + (chunk.page * rows + chunk.index * room + place)) (ap page_words (sym was.same_table)) (sym room_is)
+  module _ (place : ℕ) (near : place < length (item_of ref.holding)) where
+    on_page : place < room_in m.state.table (class_of_page m.state.slabs chunk.page)
+    on_page = let fits = shows.fits in let long = item_long holding.kind ref.linked in omega arith
 
-  within : place_in m.state.table m.state.slabs chunk place < data_count view.setup
-  within =
-      let inside = word_within m was.lawful chunk place (held_near m was.lawful was.hand chunk holding found_here) placed on_page in
-      let long = was.lawful.sized.places in
-      let count : pages_of m.state.table * page_words m.state.table ≡ data_count view.setup = ap (λ table. pages_of table * page_words table) was.same_table in
-      omega arith
+    -- where the word stands
+    stands_at : data_word view.setup room chunk place ≡ data_from view.setup + place_in m.state.table m.state.slabs chunk place
+    stands_at = ap₂ (λ (rows room : ℕ). data_from view.setup + (chunk.page * rows + chunk.index * room + place)) (ap page_words (sym was.same_table)) (sym room_is)
 
-  -- it is a data word
-  pub word_near : data_word view.setup room chunk place < config_from view.setup
-  word_near = let is = stands_at in let near = within in omega arith
+    within : place_in m.state.table m.state.slabs chunk place < data_count view.setup
+    within =
+        let inside = word_within m was.lawful chunk place (held_near m was.lawful was.hand chunk holding found_here) placed on_page in
+        let long = was.lawful.sized.places in
+        let count : pages_of m.state.table * page_words m.state.table ≡ data_count view.setup = ap (λ table. pages_of table * page_words table) was.same_table in
+        omega arith
 
-  -- and the item's
-  pub word_is : slice_index was.words (data_word view.setup room chunk place) ≡ slice_index (item_of holding) place
-  word_is =
-      ap (slice_index was.words) stands_at
-      ∙ (data_read view.setup was.cuts was.words m.state.slabs_lock m.state.stripe_locks m.state.heads m.state.words was.are (place_in m.state.table m.state.slabs chunk place) within
-      ∙ shows.known_words place (slice_index (item_of holding) place) (item_known holding.kind place ref.linked near))
+    -- it is a data word
+    pub word_near : data_word view.setup room chunk place < config_from view.setup
+    word_near = let is = stands_at in let near = within in omega arith
+
+    -- and the item's
+    pub word_is : slice_index was.words (data_word view.setup room chunk place) ≡ slice_index (item_of holding) place
+    word_is =
+        ap (slice_index was.words) stands_at
+        ∙ (data_read view.setup was.cuts was.words m.state.slabs_lock m.state.stripe_locks m.state.heads m.state.words was.are (place_in m.state.table m.state.slabs chunk place) within
+        ∙ shows.known_words place (slice_index (item_of holding) place) (item_known holding.kind place ref.linked near))
 
 -- a word of the item is read
 pub may_read : (view : View) (chunk : ChunkId) (room place : ℕ) (ref : IsRefOf view chunk room) → place < length (item_of ref.holding) → (at : ℕ) → MayWrite view (core.Word chunk place) at (λ found. found)

@@ -13,6 +13,8 @@ pub mod Places
 pub mod Fresh
 pub mod Refs
 pub mod Items
+pub mod Called
+pub mod Shown
 pub mod Idle
 pub mod Lent
 pub mod Joining

@@ -22,6 +22,7 @@ mod reading;
 mod refs;
 mod refusal;
 mod releasing;
+mod rooms;
 mod rule;
 mod slot;
 mod steps;

@@ -62,3 +62,12 @@ impl Play<Slot, HandView> for ToldOfBoth {
 
     ghost then = { TellsMade };
 }
+
+/// A load that is no event of the core shows a word.
+pub struct ShownWord;
+
+impl Play<Slot, HandView> for ShownWord {
+    ghost use Rattle.mc_words.specs.Shown.{TellsShown};
+
+    ghost then = { TellsShown };
+}

@@ -14,7 +14,7 @@ data_word-at-requires c =
     let chunk = c.args.reference.now.chunk in
     let room = c.args.reference.now.room in
     let near = subst (λ (n : ℕ). c.args.place < n) (ap length (item_found view chunk ref.holding ref.found)) c.requires.near in
-    record { near = subst (λ (s : Setup). data_word s room chunk c.args.place < config_from s) arena.setup (word_near view chunk room c.args.place ref near arena.lawful) }
+    record { near = subst (λ (s : Setup). data_word s room chunk c.args.place < config_from s) arena.setup (word_near view chunk room ref arena.lawful c.args.place near) }
 
 pub look-requires : goal.look-requires
 look-requires c =
@@ -44,7 +44,7 @@ returns-clause-word c =
     let near = subst (λ (n : ℕ). c.args.place < n) (ap length same) c.requires.near in
     let happens = c.look.ensures.happens in
     let place : c.data_word-at.result ≡ data_word view.setup room chunk c.args.place = c.data_word-at.ensures.word ∙ ap (λ (s : Setup). data_word s room chunk c.args.place) (sym arena.setup) in
-    sym happens.1 ∙ (ap (slice_index happens.0.was.words) place ∙ (word_is view chunk room c.args.place ref near happens.0.was ∙ ap (λ item. slice_index item c.args.place) (sym same)))
+    sym happens.1 ∙ (ap (slice_index happens.0.was.words) place ∙ (word_is view chunk room ref happens.0.was c.args.place near ∙ ap (λ item. slice_index item c.args.place) (sym same)))
 
 pub returns-clause-same : goal.returns-clause-same
 returns-clause-same c = read_word c.args.hand.now.seat.me.0 c.look.new.seat.me.0 c.args.reference.now.chunk c.args.place c.look.ensures.happens.0

@@ -1,0 +1,28 @@
+-- What calls on keys change of a hand's view: all else stays.
+use Rattle.std.specs.Prelude.{ℕ, ◌==◌, [], ◌∷◌, ◌++◌, if◌then◌else◌, map, slice_set, Some}
+use Rattle.mc_stripe.specs.declared.history.Call.{Call}
+use Rattle.mc_stripe.specs.declared.history.Call.TheVariants.{Get}
+use Rattle.mc_stripe.specs.StripeState.{ReadyStripe, stamp_of}
+use Rattle.mc_stripe.specs.Changes.{after_got, used_up}
+use Rattle.mc_core.specs.declared.holding.Holding.{Holding}
+use Rattle.mc_core.specs.Past.{Own, known_by, with_more}
+use Rattle.mc_words.specs.View.{View}
+use Rattle.mc_words.specs.Views.{with_knowledge, with_holdings}
+
+-- the number's own calls on keys of this stripe, with one more
+abbrev pub with_own_call : ℕ → ℕ → Call → Own → Own
+with_own_call number stripe call own = if own.number == number then record own { calls = with_more own.calls stripe (call ∷ []) } else own
+
+-- the hand of this number made a call under the stripe's lock
+abbrev pub called : ℕ → ℕ → Call → View → View
+called number stripe call view = with_knowledge (record view.row.knows { mine = map (with_own_call number stripe call) view.row.knows.mine }) view
+
+-- it looked a key up, whose stripe had this value
+abbrev pub key_got : ℕ → ℕ → ReadyStripe → ℕ → View → View
+key_got number stripe value key view =
+    record (called number stripe (Get number key (stamp_of value.state key)) view) { stripes = slice_set view.stripes stripe (Some (used_up (after_got value.state number key))) }
+
+-- it got this reference, to an item in a chunk with room for so many words
+abbrev pub item_referred : Holding → ℕ → View → View
+item_referred holding room view =
+    with_knowledge (record view.row.knows { known = view.row.knows.known ++ known_by room holding ∷ [] }) (with_holdings (view.row.holdings ++ holding ∷ []) view)
