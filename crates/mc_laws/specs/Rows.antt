@@ -106,6 +106,41 @@ abbrev pub PageToTheLeader : Type 0
 PageToTheLeader = replies (Automove 1 ∷ sets 11 15 20 0 ++ sets 1 3 61 0 ++ Window ∷ Set 1 4 61 0 ∷ Window ∷ Set 1 5 61 0 ∷ Window ∷ Turn 1 ∷ [])
     ≡ codes "OK\r\nSTORED 11\r\nSTORED 12\r\nSTORED 13\r\nSTORED 14\r\nSTORED 15\r\nSTORED 16\r\nSTORED 17\r\nSTORED 18\r\nSTORED 19\r\nSTORED 20\r\nSTORED 21\r\nSTORED 22\r\nSTORED 23\r\nSTORED 24\r\nSTORED 25\r\nSTORED 1\r\nSTORED 2\r\nSTORED 3\r\nWINDOW none\r\nSTORED 4\r\nWINDOW none\r\nSTORED 5\r\nWINDOW 3 4 OK\r\nTURN FINISHED 5 0 5 0 0\r\n"
 
+-- a set takes a free chunk before it puts back what is dead, so the dead item stands until its page moves
+abbrev pub PopsBeforeItSweeps : Type 0
+PopsBeforeItSweeps = replies (sets 1 7 61 0 ++ Delete 1 1 ∷ Set 1 8 61 0 ∷ Reassign (Some 4) 1 ∷ Turn 1 ∷ [])
+    ≡ codes "STORED 1\r\nSTORED 2\r\nSTORED 3\r\nSTORED 4\r\nSTORED 5\r\nSTORED 6\r\nSTORED 7\r\nDELETED 1\r\nSTORED 8\r\nOK\r\nTURN FINISHED 2 0 1 0 0\r\n"
+
+-- a sweep puts the dead back as they were last handed out or touched, and a set takes the one that was put back last
+abbrev pub TouchedDeadIsLast : Type 0
+TouchedDeadIsLast = replies (sets 1 8 61 0 ++ Touch 1 1 ∷ Delete 1 1 ∷ Delete 1 8 ∷ Set 1 9 61 0 ∷ Reassign (Some 4) 1 ∷ Turn 1 ∷ [])
+    ≡ codes "STORED 1\r\nSTORED 2\r\nSTORED 3\r\nSTORED 4\r\nSTORED 5\r\nSTORED 6\r\nSTORED 7\r\nSTORED 8\r\nTOUCHED 1\r\nDELETED 1\r\nDELETED 8\r\nSTORED 9\r\nOK\r\nTURN FINISHED 2 1 1 0 0\r\n"
+
+-- an eviction looks at the five oldest chunks, and a held one whose item was deleted is among them
+abbrev pub UnlinkedIsOneOfTheFive : Type 0
+UnlinkedIsOneOfTheFive = replies (sets 1 8 61 0 ++ Hold 1 1 ∷ Hold 1 2 ∷ Hold 1 3 ∷ Hold 1 4 ∷ Hold 1 5 ∷ Delete 1 1 ∷ Set 1 9 61 0 ∷ Touch 1 6 ∷ [])
+    ≡ codes "STORED 1\r\nSTORED 2\r\nSTORED 3\r\nSTORED 4\r\nSTORED 5\r\nSTORED 6\r\nSTORED 7\r\nSTORED 8\r\nHELD 1\r\nHELD 2\r\nHELD 3\r\nHELD 4\r\nHELD 5\r\nDELETED 1\r\nNO_ROOM 9\r\nTOUCHED 6\r\n"
+
+-- an eviction may take an item of the page that moves
+abbrev pub VictimOnTheMovingPage : Type 0
+VictimOnTheMovingPage = replies (sets 1 8 61 0 ++ Reassign (Some 4) 1 ∷ Set 1 9 61 0 ∷ Touch 1 1 ∷ Touch 1 3 ∷ [])
+    ≡ codes "STORED 1\r\nSTORED 2\r\nSTORED 3\r\nSTORED 4\r\nSTORED 5\r\nSTORED 6\r\nSTORED 7\r\nSTORED 8\r\nOK\r\nSTORED 9\r\nNOT_FOUND 1\r\nTOUCHED 3\r\n"
+
+-- a rescue looks for a free chunk behind those of the moving page too
+abbrev pub RescueLooksBehindTheHead : Type 0
+RescueLooksBehindTheHead = replies (sets 11 10 20 0 ++ Touch 1 11 ∷ Delete 1 11 ∷ Delete 1 16 ∷ Reassign (Some 3) 1 ∷ Turn 1 ∷ [])
+    ≡ codes "STORED 11\r\nSTORED 12\r\nSTORED 13\r\nSTORED 14\r\nSTORED 15\r\nSTORED 16\r\nSTORED 17\r\nSTORED 18\r\nSTORED 19\r\nSTORED 20\r\nTOUCHED 11\r\nDELETED 11\r\nDELETED 16\r\nOK\r\nTURN FINISHED 5 1 3 0 0\r\n"
+
+-- a page that moves away still counts as one of its class, and with more than two a class may be quiet
+abbrev pub MovingPageCountsForQuiet : Type 0
+MovingPageCountsForQuiet = replies_to (fresh_machine four_classes 64 1) (sets 11 15 20 0 ++ sets 1 2 61 0 ++ Hold 1 11 ∷ Reassign (Some 3) 0 ∷ Set 1 3 61 0 ∷ Window ∷ Set 1 4 61 0 ∷ Window ∷ Set 1 5 61 0 ∷ Window ∷ [])
+    ≡ codes "STORED 11\r\nSTORED 12\r\nSTORED 13\r\nSTORED 14\r\nSTORED 15\r\nSTORED 16\r\nSTORED 17\r\nSTORED 18\r\nSTORED 19\r\nSTORED 20\r\nSTORED 21\r\nSTORED 22\r\nSTORED 23\r\nSTORED 24\r\nSTORED 25\r\nSTORED 1\r\nSTORED 2\r\nHELD 11\r\nOK\r\nSTORED 3\r\nWINDOW none\r\nSTORED 4\r\nWINDOW none\r\nSTORED 5\r\nWINDOW 3 4 BUSY\r\n"
+
+-- a set that evicts the old item of its own key counts as an eviction of the class
+abbrev pub OwnOldItemCounts : Type 0
+OwnOldItemCounts = replies_to (fresh_machine four_classes 64 1) (sets 11 15 20 0 ++ sets 1 2 61 0 ++ Set 1 1 61 0 ∷ Window ∷ Set 1 2 61 0 ∷ Window ∷ Set 1 1 61 0 ∷ Window ∷ [])
+    ≡ codes "STORED 11\r\nSTORED 12\r\nSTORED 13\r\nSTORED 14\r\nSTORED 15\r\nSTORED 16\r\nSTORED 17\r\nSTORED 18\r\nSTORED 19\r\nSTORED 20\r\nSTORED 21\r\nSTORED 22\r\nSTORED 23\r\nSTORED 24\r\nSTORED 25\r\nSTORED 1\r\nSTORED 2\r\nSTORED 1\r\nWINDOW none\r\nSTORED 2\r\nWINDOW none\r\nSTORED 1\r\nWINDOW 3 4 OK\r\n"
+
 -- what the answers tell of the words: key 1 was stored anew while it was held, and a third set of it was refused; key 2
 -- was deleted while it was held; the last hold of key 1 was dropped
 abbrev pub WordsFromAnswers : Type 0
