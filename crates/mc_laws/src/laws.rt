@@ -5,7 +5,7 @@ ghost use Rattle.mc_classes.specs.Classes.{Classes, IsSound};
 ghost use Rattle.mc_script.specs.Command.{IsValid};
 ghost use Rattle.mc_script.specs.declared.command.Command.{Command};
 ghost use Rattle.mc_laws.specs.Replies.{IsWhole};
-ghost use Rattle.mc_laws.specs.Rows.{AnswersOfReassign, BusyItem, DeadMakesRoom, EvictionAsksForAPage, FirstPath, FullClassEvicts, HeldIsKept, MovingPageCountsForQuiet, OneChunkATurn, OwnOldItemCounts, PageThroughThePool, PageToAnotherClass, PageToSpare, PageToTheLeader, PopsBeforeItSweeps, RescueIntoDead, RescueLooksBehindTheHead, SeenFromAnswers, ShadowedHold, TooManyHeld, TouchedDeadIsLast, TouchedIsKept, TwoMovesByThePick, UnlinkedIsOneOfTheFive, VictimOnTheMovingPage, WordsFromAnswers};
+ghost use Rattle.mc_laws.specs.Rows.{AnswersOfReassign, BusyItem, DeadMakesRoom, EvictionAsksForAPage, EvictionRuleIsFirst, FirstPath, FullClassEvicts, HeldIsKept, MoverEvictionsAreApart, MovingPageCountsForQuiet, OneChunkATurn, OwnOldItemCounts, PageThroughThePool, PageToAnotherClass, PageToSpare, PageToTheLeader, PopsBeforeItSweeps, RescueIntoDead, RescueLooksBehindTheHead, SeenFromAnswers, SetSweepsItsOwnClass, ShadowedHold, TooManyHeld, TouchedDeadIsLast, TouchedIsKept, TwoMovesByThePick, UnlinkedIsOneOfTheFive, VictimOnTheMovingPage, WordsFromAnswers};
 ghost use Rattle.mc_machine.specs.Machine.{Machine};
 ghost use Rattle.mc_machine.specs.Lines.{Served, serve};
 ghost use Rattle.mc_laws.specs.Accounts.{GrantedStays, IsAccountedAfter, StatisticsAddUp};
@@ -40,6 +40,9 @@ pub fn worked_examples()
     ensures rescue_looks_behind_the_head { RescueLooksBehindTheHead }
     ensures moving_page_counts_for_quiet { MovingPageCountsForQuiet }
     ensures own_old_item_counts { OwnOldItemCounts }
+    ensures set_sweeps_its_own_class { SetSweepsItsOwnClass }
+    ensures eviction_rule_is_first { EvictionRuleIsFirst }
+    ensures mover_evictions_are_apart { MoverEvictionsAreApart }
     ensures words_from_answers { WordsFromAnswers }
     ensures seen_from_answers { SeenFromAnswers }
 {}

@@ -98,6 +98,18 @@ pub returns-clause-own_old_item_counts : goal.returns-clause-own_old_item_counts
 unfolding digits
 returns-clause-own_old_item_counts c = refl
 
+pub returns-clause-set_sweeps_its_own_class : goal.returns-clause-set_sweeps_its_own_class
+unfolding digits
+returns-clause-set_sweeps_its_own_class c = refl
+
+pub returns-clause-eviction_rule_is_first : goal.returns-clause-eviction_rule_is_first
+unfolding digits
+returns-clause-eviction_rule_is_first c = refl
+
+pub returns-clause-mover_evictions_are_apart : goal.returns-clause-mover_evictions_are_apart
+unfolding digits
+returns-clause-mover_evictions_are_apart c = refl
+
 pub returns-clause-words_from_answers : goal.returns-clause-words_from_answers
 unfolding digits
 returns-clause-words_from_answers c = (refl, refl, refl, refl)
