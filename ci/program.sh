@@ -239,6 +239,16 @@ check_streams() {
     esac
 }
 
+# Drawn scripts, always the same, of which the program writes what the plain one does.
+check_drawn() {
+    if python3 bench/compare --scripts 200 --lines 600 --seed 3001 --bytes 60000 --program "$program" --keep "$room/differences" \
+        >"$room/compared" 2>&1; then
+        ok "$build: as the plain program: $(head -n 1 "$room/compared")"
+    else
+        bad "$build: not as the plain program" "$(head -c 600 "$room/compared")"
+    fi
+}
+
 check_program() {
     find_builds mcslab
     for program in $builds; do
@@ -254,5 +264,6 @@ check_program() {
         check_lengths
         check_turns
         check_streams
+        check_drawn
     done
 }

@@ -106,6 +106,58 @@ abbrev pub PageToTheLeader : Type 0
 PageToTheLeader = replies (Automove 1 ∷ sets 11 15 20 0 ++ sets 1 3 61 0 ++ Window ∷ Set 1 4 61 0 ∷ Window ∷ Set 1 5 61 0 ∷ Window ∷ Turn 1 ∷ [])
     ≡ codes "OK\r\nSTORED 11\r\nSTORED 12\r\nSTORED 13\r\nSTORED 14\r\nSTORED 15\r\nSTORED 16\r\nSTORED 17\r\nSTORED 18\r\nSTORED 19\r\nSTORED 20\r\nSTORED 21\r\nSTORED 22\r\nSTORED 23\r\nSTORED 24\r\nSTORED 25\r\nSTORED 1\r\nSTORED 2\r\nSTORED 3\r\nWINDOW none\r\nSTORED 4\r\nWINDOW none\r\nSTORED 5\r\nWINDOW 3 4 OK\r\nTURN FINISHED 5 0 5 0 0\r\n"
 
+-- a set takes a free chunk before it puts back what is dead, so the dead item stands until its page moves
+abbrev pub PopsBeforeItSweeps : Type 0
+PopsBeforeItSweeps = replies (sets 1 7 61 0 ++ Delete 1 1 ∷ Set 1 8 61 0 ∷ Reassign (Some 4) 1 ∷ Turn 1 ∷ [])
+    ≡ codes "STORED 1\r\nSTORED 2\r\nSTORED 3\r\nSTORED 4\r\nSTORED 5\r\nSTORED 6\r\nSTORED 7\r\nDELETED 1\r\nSTORED 8\r\nOK\r\nTURN FINISHED 2 0 1 0 0\r\n"
+
+-- a sweep puts the dead back as they were last handed out or touched, and a set takes the one that was put back last
+abbrev pub TouchedDeadIsLast : Type 0
+TouchedDeadIsLast = replies (sets 1 8 61 0 ++ Touch 1 1 ∷ Delete 1 1 ∷ Delete 1 8 ∷ Set 1 9 61 0 ∷ Reassign (Some 4) 1 ∷ Turn 1 ∷ [])
+    ≡ codes "STORED 1\r\nSTORED 2\r\nSTORED 3\r\nSTORED 4\r\nSTORED 5\r\nSTORED 6\r\nSTORED 7\r\nSTORED 8\r\nTOUCHED 1\r\nDELETED 1\r\nDELETED 8\r\nSTORED 9\r\nOK\r\nTURN FINISHED 2 1 1 0 0\r\n"
+
+-- an eviction looks at the five oldest chunks, and a held one whose item was deleted is among them
+abbrev pub UnlinkedIsOneOfTheFive : Type 0
+UnlinkedIsOneOfTheFive = replies (sets 1 8 61 0 ++ Hold 1 1 ∷ Hold 1 2 ∷ Hold 1 3 ∷ Hold 1 4 ∷ Hold 1 5 ∷ Delete 1 1 ∷ Set 1 9 61 0 ∷ Touch 1 6 ∷ [])
+    ≡ codes "STORED 1\r\nSTORED 2\r\nSTORED 3\r\nSTORED 4\r\nSTORED 5\r\nSTORED 6\r\nSTORED 7\r\nSTORED 8\r\nHELD 1\r\nHELD 2\r\nHELD 3\r\nHELD 4\r\nHELD 5\r\nDELETED 1\r\nNO_ROOM 9\r\nTOUCHED 6\r\n"
+
+-- an eviction may take an item of the page that moves
+abbrev pub VictimOnTheMovingPage : Type 0
+VictimOnTheMovingPage = replies (sets 1 8 61 0 ++ Reassign (Some 4) 1 ∷ Set 1 9 61 0 ∷ Touch 1 1 ∷ Touch 1 3 ∷ [])
+    ≡ codes "STORED 1\r\nSTORED 2\r\nSTORED 3\r\nSTORED 4\r\nSTORED 5\r\nSTORED 6\r\nSTORED 7\r\nSTORED 8\r\nOK\r\nSTORED 9\r\nNOT_FOUND 1\r\nTOUCHED 3\r\n"
+
+-- a rescue looks for a free chunk behind those of the moving page too
+abbrev pub RescueLooksBehindTheHead : Type 0
+RescueLooksBehindTheHead = replies (sets 11 10 20 0 ++ Touch 1 11 ∷ Delete 1 11 ∷ Delete 1 16 ∷ Reassign (Some 3) 1 ∷ Turn 1 ∷ [])
+    ≡ codes "STORED 11\r\nSTORED 12\r\nSTORED 13\r\nSTORED 14\r\nSTORED 15\r\nSTORED 16\r\nSTORED 17\r\nSTORED 18\r\nSTORED 19\r\nSTORED 20\r\nTOUCHED 11\r\nDELETED 11\r\nDELETED 16\r\nOK\r\nTURN FINISHED 5 1 3 0 0\r\n"
+
+-- a page that moves away still counts as one of its class, and with more than two a class may be quiet
+abbrev pub MovingPageCountsForQuiet : Type 0
+MovingPageCountsForQuiet = replies_to (fresh_machine four_classes 64 1) (sets 11 15 20 0 ++ sets 1 2 61 0 ++ Hold 1 11 ∷ Reassign (Some 3) 0 ∷ Set 1 3 61 0 ∷ Window ∷ Set 1 4 61 0 ∷ Window ∷ Set 1 5 61 0 ∷ Window ∷ [])
+    ≡ codes "STORED 11\r\nSTORED 12\r\nSTORED 13\r\nSTORED 14\r\nSTORED 15\r\nSTORED 16\r\nSTORED 17\r\nSTORED 18\r\nSTORED 19\r\nSTORED 20\r\nSTORED 21\r\nSTORED 22\r\nSTORED 23\r\nSTORED 24\r\nSTORED 25\r\nSTORED 1\r\nSTORED 2\r\nHELD 11\r\nOK\r\nSTORED 3\r\nWINDOW none\r\nSTORED 4\r\nWINDOW none\r\nSTORED 5\r\nWINDOW 3 4 BUSY\r\n"
+
+-- a set that evicts the old item of its own key counts as an eviction of the class
+abbrev pub OwnOldItemCounts : Type 0
+OwnOldItemCounts = replies_to (fresh_machine four_classes 64 1) (sets 11 15 20 0 ++ sets 1 2 61 0 ++ Set 1 1 61 0 ∷ Window ∷ Set 1 2 61 0 ∷ Window ∷ Set 1 1 61 0 ∷ Window ∷ [])
+    ≡ codes "STORED 11\r\nSTORED 12\r\nSTORED 13\r\nSTORED 14\r\nSTORED 15\r\nSTORED 16\r\nSTORED 17\r\nSTORED 18\r\nSTORED 19\r\nSTORED 20\r\nSTORED 21\r\nSTORED 22\r\nSTORED 23\r\nSTORED 24\r\nSTORED 25\r\nSTORED 1\r\nSTORED 2\r\nSTORED 1\r\nWINDOW none\r\nSTORED 2\r\nWINDOW none\r\nSTORED 1\r\nWINDOW 3 4 OK\r\n"
+
+-- a set puts back the dead of its own class alone
+abbrev pub SetSweepsItsOwnClass : Type 0
+SetSweepsItsOwnClass = replies (sets 11 10 20 0 ++ sets 1 4 61 0 ++ Delete 1 11 ∷ Set 1 5 61 0 ∷ Delete 1 20 ∷ Set 1 21 20 0 ∷ Reassign (Some 3) 1 ∷ Turn 1 ∷ [])
+    ≡ codes "STORED 11\r\nSTORED 12\r\nSTORED 13\r\nSTORED 14\r\nSTORED 15\r\nSTORED 16\r\nSTORED 17\r\nSTORED 18\r\nSTORED 19\r\nSTORED 20\r\nSTORED 1\r\nSTORED 2\r\nSTORED 3\r\nSTORED 4\r\nDELETED 11\r\nSTORED 5\r\nDELETED 20\r\nSTORED 21\r\nOK\r\nTURN FINISHED 5 0 4 0 0\r\n"
+
+-- of the two rules of a window the one of evictions comes first, where class 1 has a page to spare too
+abbrev pub EvictionRuleIsFirst : Type 0
+EvictionRuleIsFirst = replies_to (fresh_machine (record four_classes { limit = 8192 }) 64 1)
+    (sets 101 63 3 0 ++ sets 11 15 20 0 ++ sets 1 4 61 0 ++ map (λ key. Delete 1 key) (range_with_len 101 59) ++ Automove 0 ∷ Set 1 5 61 0 ∷ Window ∷ Set 1 6 61 0 ∷ Window ∷ Automove 1 ∷ Set 1 7 61 0 ∷ Window ∷ [])
+    ≡ codes "STORED 101\r\nSTORED 102\r\nSTORED 103\r\nSTORED 104\r\nSTORED 105\r\nSTORED 106\r\nSTORED 107\r\nSTORED 108\r\nSTORED 109\r\nSTORED 110\r\nSTORED 111\r\nSTORED 112\r\nSTORED 113\r\nSTORED 114\r\nSTORED 115\r\nSTORED 116\r\nSTORED 117\r\nSTORED 118\r\nSTORED 119\r\nSTORED 120\r\nSTORED 121\r\nSTORED 122\r\nSTORED 123\r\nSTORED 124\r\nSTORED 125\r\nSTORED 126\r\nSTORED 127\r\nSTORED 128\r\nSTORED 129\r\nSTORED 130\r\nSTORED 131\r\nSTORED 132\r\nSTORED 133\r\nSTORED 134\r\nSTORED 135\r\nSTORED 136\r\nSTORED 137\r\nSTORED 138\r\nSTORED 139\r\nSTORED 140\r\nSTORED 141\r\nSTORED 142\r\nSTORED 143\r\nSTORED 144\r\nSTORED 145\r\nSTORED 146\r\nSTORED 147\r\nSTORED 148\r\nSTORED 149\r\nSTORED 150\r\nSTORED 151\r\nSTORED 152\r\nSTORED 153\r\nSTORED 154\r\nSTORED 155\r\nSTORED 156\r\nSTORED 157\r\nSTORED 158\r\nSTORED 159\r\nSTORED 160\r\nSTORED 161\r\nSTORED 162\r\nSTORED 163\r\nSTORED 11\r\nSTORED 12\r\nSTORED 13\r\nSTORED 14\r\nSTORED 15\r\nSTORED 16\r\nSTORED 17\r\nSTORED 18\r\nSTORED 19\r\nSTORED 20\r\nSTORED 21\r\nSTORED 22\r\nSTORED 23\r\nSTORED 24\r\nSTORED 25\r\nSTORED 1\r\nSTORED 2\r\nSTORED 3\r\nSTORED 4\r\nDELETED 101\r\nDELETED 102\r\nDELETED 103\r\nDELETED 104\r\nDELETED 105\r\nDELETED 106\r\nDELETED 107\r\nDELETED 108\r\nDELETED 109\r\nDELETED 110\r\nDELETED 111\r\nDELETED 112\r\nDELETED 113\r\nDELETED 114\r\nDELETED 115\r\nDELETED 116\r\nDELETED 117\r\nDELETED 118\r\nDELETED 119\r\nDELETED 120\r\nDELETED 121\r\nDELETED 122\r\nDELETED 123\r\nDELETED 124\r\nDELETED 125\r\nDELETED 126\r\nDELETED 127\r\nDELETED 128\r\nDELETED 129\r\nDELETED 130\r\nDELETED 131\r\nDELETED 132\r\nDELETED 133\r\nDELETED 134\r\nDELETED 135\r\nDELETED 136\r\nDELETED 137\r\nDELETED 138\r\nDELETED 139\r\nDELETED 140\r\nDELETED 141\r\nDELETED 142\r\nDELETED 143\r\nDELETED 144\r\nDELETED 145\r\nDELETED 146\r\nDELETED 147\r\nDELETED 148\r\nDELETED 149\r\nDELETED 150\r\nDELETED 151\r\nDELETED 152\r\nDELETED 153\r\nDELETED 154\r\nDELETED 155\r\nDELETED 156\r\nDELETED 157\r\nDELETED 158\r\nDELETED 159\r\nOK\r\nSTORED 5\r\nWINDOW none\r\nSTORED 6\r\nWINDOW none\r\nOK\r\nSTORED 7\r\nWINDOW 1 4 OK\r\n"
+
+-- an item that the mover evicts is no eviction of its class, so the class stays quiet
+abbrev pub MoverEvictionsAreApart : Type 0
+MoverEvictionsAreApart = replies_to (fresh_machine (record four_classes { limit = 8192 }) 64 1)
+    (sets 11 20 20 0 ++ sets 1 8 61 0 ++ Reassign (Some 3) 0 ∷ Turn 1 ∷ Set 1 9 3 0 ∷ Set 1 50 61 0 ∷ Window ∷ Set 1 51 61 0 ∷ Window ∷ Set 1 52 61 0 ∷ Window ∷ [])
+    ≡ codes "STORED 11\r\nSTORED 12\r\nSTORED 13\r\nSTORED 14\r\nSTORED 15\r\nSTORED 16\r\nSTORED 17\r\nSTORED 18\r\nSTORED 19\r\nSTORED 20\r\nSTORED 21\r\nSTORED 22\r\nSTORED 23\r\nSTORED 24\r\nSTORED 25\r\nSTORED 26\r\nSTORED 27\r\nSTORED 28\r\nSTORED 29\r\nSTORED 30\r\nSTORED 1\r\nSTORED 2\r\nSTORED 3\r\nSTORED 4\r\nSTORED 5\r\nSTORED 6\r\nSTORED 7\r\nSTORED 8\r\nOK\r\nTURN FINISHED 5 0 5 0 0\r\nSTORED 9\r\nSTORED 50\r\nWINDOW none\r\nSTORED 51\r\nWINDOW none\r\nSTORED 52\r\nWINDOW 3 4 OK\r\n"
+
 -- what the answers tell of the words: key 1 was stored anew while it was held, and a third set of it was refused; key 2
 -- was deleted while it was held; the last hold of key 1 was dropped
 abbrev pub WordsFromAnswers : Type 0

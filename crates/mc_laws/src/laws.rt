@@ -5,7 +5,7 @@ ghost use Rattle.mc_classes.specs.Classes.{Classes, IsSound};
 ghost use Rattle.mc_script.specs.Command.{IsValid};
 ghost use Rattle.mc_script.specs.declared.command.Command.{Command};
 ghost use Rattle.mc_laws.specs.Replies.{IsWhole};
-ghost use Rattle.mc_laws.specs.Rows.{AnswersOfReassign, BusyItem, DeadMakesRoom, EvictionAsksForAPage, FirstPath, FullClassEvicts, HeldIsKept, OneChunkATurn, PageThroughThePool, PageToAnotherClass, PageToSpare, PageToTheLeader, RescueIntoDead, SeenFromAnswers, ShadowedHold, TooManyHeld, TouchedIsKept, TwoMovesByThePick, WordsFromAnswers};
+ghost use Rattle.mc_laws.specs.Rows.{AnswersOfReassign, BusyItem, DeadMakesRoom, EvictionAsksForAPage, EvictionRuleIsFirst, FirstPath, FullClassEvicts, HeldIsKept, MoverEvictionsAreApart, MovingPageCountsForQuiet, OneChunkATurn, OwnOldItemCounts, PageThroughThePool, PageToAnotherClass, PageToSpare, PageToTheLeader, PopsBeforeItSweeps, RescueIntoDead, RescueLooksBehindTheHead, SeenFromAnswers, SetSweepsItsOwnClass, ShadowedHold, TooManyHeld, TouchedDeadIsLast, TouchedIsKept, TwoMovesByThePick, UnlinkedIsOneOfTheFive, VictimOnTheMovingPage, WordsFromAnswers};
 ghost use Rattle.mc_machine.specs.Machine.{Machine};
 ghost use Rattle.mc_machine.specs.Lines.{Served, serve};
 ghost use Rattle.mc_laws.specs.Accounts.{GrantedStays, IsAccountedAfter, StatisticsAddUp};
@@ -33,6 +33,16 @@ pub fn worked_examples()
     ensures eviction_asks_for_a_page { EvictionAsksForAPage }
     ensures page_to_spare { PageToSpare }
     ensures page_to_the_leader { PageToTheLeader }
+    ensures pops_before_it_sweeps { PopsBeforeItSweeps }
+    ensures touched_dead_is_last { TouchedDeadIsLast }
+    ensures unlinked_is_one_of_the_five { UnlinkedIsOneOfTheFive }
+    ensures victim_on_the_moving_page { VictimOnTheMovingPage }
+    ensures rescue_looks_behind_the_head { RescueLooksBehindTheHead }
+    ensures moving_page_counts_for_quiet { MovingPageCountsForQuiet }
+    ensures own_old_item_counts { OwnOldItemCounts }
+    ensures set_sweeps_its_own_class { SetSweepsItsOwnClass }
+    ensures eviction_rule_is_first { EvictionRuleIsFirst }
+    ensures mover_evictions_are_apart { MoverEvictionsAreApart }
     ensures words_from_answers { WordsFromAnswers }
     ensures seen_from_answers { SeenFromAnswers }
 {}

@@ -1,6 +1,7 @@
 //! Worked examples, by name: a script, the replies and how the run ends; and lists of events for the model.
 mod automove;
 mod events;
+mod guards;
 mod holds;
 mod hostile;
 mod moves;

@@ -70,6 +70,46 @@ pub returns-clause-page_to_the_leader : goal.returns-clause-page_to_the_leader
 unfolding digits
 returns-clause-page_to_the_leader c = refl
 
+pub returns-clause-pops_before_it_sweeps : goal.returns-clause-pops_before_it_sweeps
+unfolding digits
+returns-clause-pops_before_it_sweeps c = refl
+
+pub returns-clause-touched_dead_is_last : goal.returns-clause-touched_dead_is_last
+unfolding digits
+returns-clause-touched_dead_is_last c = refl
+
+pub returns-clause-unlinked_is_one_of_the_five : goal.returns-clause-unlinked_is_one_of_the_five
+unfolding digits
+returns-clause-unlinked_is_one_of_the_five c = refl
+
+pub returns-clause-victim_on_the_moving_page : goal.returns-clause-victim_on_the_moving_page
+unfolding digits
+returns-clause-victim_on_the_moving_page c = refl
+
+pub returns-clause-rescue_looks_behind_the_head : goal.returns-clause-rescue_looks_behind_the_head
+unfolding digits
+returns-clause-rescue_looks_behind_the_head c = refl
+
+pub returns-clause-moving_page_counts_for_quiet : goal.returns-clause-moving_page_counts_for_quiet
+unfolding digits
+returns-clause-moving_page_counts_for_quiet c = refl
+
+pub returns-clause-own_old_item_counts : goal.returns-clause-own_old_item_counts
+unfolding digits
+returns-clause-own_old_item_counts c = refl
+
+pub returns-clause-set_sweeps_its_own_class : goal.returns-clause-set_sweeps_its_own_class
+unfolding digits
+returns-clause-set_sweeps_its_own_class c = refl
+
+pub returns-clause-eviction_rule_is_first : goal.returns-clause-eviction_rule_is_first
+unfolding digits
+returns-clause-eviction_rule_is_first c = refl
+
+pub returns-clause-mover_evictions_are_apart : goal.returns-clause-mover_evictions_are_apart
+unfolding digits
+returns-clause-mover_evictions_are_apart c = refl
+
 pub returns-clause-words_from_answers : goal.returns-clause-words_from_answers
 unfolding digits
 returns-clause-words_from_answers c = (refl, refl, refl, refl)
