@@ -37,17 +37,17 @@ ruled_splits setup id v more of t r at =
     let hands : v.setup.hands ≡ setup.hands = ap (λ (s : Setup). s.hands) of in
     let number : v.setup.hands - v.spare ≡ length t.views = let e = sum.1 in omega arith in
     let made : IsViewOf setup m (length t.views) (next_view v) =
-        subst (λ (u : View). IsViewOf setup m (length t.views) u) (λ k. new_view (sym of k) (sym number k) 0) (means.unmade (length t.views) (omega arith) (let e = sum.1 in omega arith)) in
+    subst (λ (u : View). IsViewOf setup m (length t.views) u) (λ k. new_view (sym of k) (sym number k) 0) (means.unmade (length t.views) (omega arith) (let e = sum.1 in omega arith)) in
     let kept : IsViewOf setup m id (one_made v) = record {
       there = λ here. ap one_made (is.there here);
       gone = λ none. absurd (let e : v.spare ≡ 0 = ap (λ (u : View). u.spare) (is.gone none) in omega arith);
     } in
     let which : (other : ℕ) (u : View) → get_elem? (slice_set t.views id (one_made v) ++ next_view v ∷ []) other ≡ some u
-        → ((other ≡ id) × (one_made v ≡ u)) ⊎ (((other ≢ id) × (get_elem? t.views other ≡ some u)) ⊎ ((other ≡ length t.views) × (next_view v ≡ u))) =
-        λ other u at_u. elim (snoc_at (slice_set t.views id (one_made v)) (next_view v) u other at_u) [
-          | inl old ↦ elim (at_set t.views id other (one_made v) u old) [ inl same ↦ inl same | inr differs ↦ inr (inl differs) ]
-          | inr last ↦ inr (inr (last.0 ∙ long, last.1))
-        ] in
+    → ((other ≡ id) × (one_made v ≡ u)) ⊎ (((other ≢ id) × (get_elem? t.views other ≡ some u)) ⊎ ((other ≡ length t.views) × (next_view v ≡ u))) =
+    λ other u at_u. elim (snoc_at (slice_set t.views id (one_made v)) (next_view v) u other at_u) [
+      | inl old ↦ elim (at_set t.views id other (one_made v) u old) [ inl same ↦ inl same | inr differs ↦ inr (inl differs) ]
+      | inr last ↦ inr (inr (last.0 ∙ long, last.1))
+    ] in
     record {
       moment = m;
       cuts = r.cuts;
@@ -85,9 +85,9 @@ pub splits : (setup : Setup) (id : ℕ) (v : View) → 1 ≤ v.spare → v.setup
 splits setup id v more of plain t rule at =
     let at_settled : get_elem? (map settled t.views) id ≡ some v = at_map settled t.views id v at ∙ ap some (settled_same v plain) in
     let left : slice_set (map settled t.views) id (one_made v) ≡ map settled (slice_set t.views id (one_made v)) =
-        ap (slice_set (map settled t.views) id) (sym (settled_same (one_made v) plain)) ∙ sym (map-set settled t.views id (one_made v)) in
+    ap (slice_set (map settled t.views) id) (sym (settled_same (one_made v) plain)) ∙ sym (map-set settled t.views id (one_made v)) in
     let views : slice_set (map settled t.views) id (one_made v) ++ next_view v ∷ [] ≡ map settled (slice_set t.views id (one_made v) ++ next_view v ∷ []) =
-        ap (λ (views : List View). views ++ next_view v ∷ []) left ∙ sym (map-append settled (slice_set t.views id (one_made v)) (next_view v ∷ [])) in
+    ap (λ (views : List View). views ++ next_view v ∷ []) left ∙ sym (map-append settled (slice_set t.views id (one_made v)) (next_view v ∷ [])) in
     record {
       ruled = subst (λ (views : List View). Ruled setup (record { words = t.words; homes = t.homes; views = views })) views (ruled_splits setup id v more of (all_settled t) rule.ruled at_settled);
       made = λ other u at_u. elim (snoc_at (slice_set t.views id (one_made v)) (next_view v) u other at_u) [

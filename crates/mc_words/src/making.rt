@@ -36,11 +36,7 @@ impl Split<HandView> for MakeHand {
 impl Arena {
     /// An arena in which no page was granted, and its hands, that of number 0 first. The configuration is refused by the first
     /// of its tests that it fails, and then come those of `NewError`. (slabs.c's `slabs_init`, without preallocation)
-    pub fn new(
-        alloc: Global,
-        config: &Config,
-        hands: u64,
-    ) -> Result<(Arena, Vec<Hand>), NewError>
+    pub fn new(alloc: Global, config: &Config, hands: u64) -> Result<(Arena, Vec<Hand>), NewError>
         ensures accepted { IfOk result (λ made. arena_refusal config.now hands 0 ≡ None) }
         ensures setup { IfOk result (λ made. IsMadeWith config.now hands 0 (setup_of made.0)) }
         ensures hands { IfOk result (λ made. AreNewHands made.0 made.1.items) }

@@ -124,12 +124,7 @@ pub fn go_round(
 
 /// Whether the chunk at the head of the class's free list is worn out. It is given up where it goes out. None where none is
 /// free, or there is no such class.
-pub fn is_worn(
-    arena: &Arena,
-    hand: &mut Hand,
-    held: &mut SlabsHeld,
-    class: ClassId,
-) -> Option<bool>
+pub fn is_worn(arena: &Arena, hand: &mut Hand, held: &mut SlabsHeld, class: ClassId) -> Option<bool>
     requires arena { IsHandOf arena.now hand.old }
     requires held { (view hand.old).slabs ≡ Some held.old.shared }
     ensures arena { IsHandOf arena.now hand.new }

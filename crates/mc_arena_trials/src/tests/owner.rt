@@ -49,14 +49,23 @@ fn four_pages_are_all(rt: HostRuntime) -> Result<(), Fail> {
         (3, Some(Err(Grow::NoRoom))),
         (5, None),
     ] {
-        assert_equal(&rt, grow_page(&arena, &mut hand, &mut held, class), grown, "grow");
+        assert_equal(
+            &rt,
+            grow_page(&arena, &mut hand, &mut held, class),
+            grown,
+            "grow",
+        );
     }
     Ok(())
 }
 
 #[test]
 fn issue_numbers_begin_where_they_are_told(rt: HostRuntime) -> Result<(), Fail> {
-    for (start, popped) in [(0, 393_217), (6, 1_966_081), (MOST_ISSUE - 1, 18_446_744_073_709_420_545)] {
+    for (start, popped) in [
+        (0, 393_217),
+        (6, 1_966_081),
+        (MOST_ISSUE - 1, 18_446_744_073_709_420_545),
+    ] {
         let (arena, mut hands) = Arena::from_issue(rt.alloc(), &FOUR_CLASSES, 1, start)?;
         let mut hand = hands.remove(0);
         let Ok(mut held) = arena.try_slabs(&mut hand) else {
@@ -81,8 +90,18 @@ fn a_worn_chunk_stays_at_the_head(rt: HostRuntime) -> Result<(), Fail> {
     };
     let grown = grow_page(&arena, &mut hand, &mut held, 1);
     assert_equal(&rt, grown, Some(Ok(0)), "grow");
-    assert_same(&rt, is_worn(&arena, &mut hand, &mut held, 1), Some(true), "pop");
-    assert_equal(&rt, first_free(&arena, &hand, &held, 1), Some(LAST), "the head");
+    assert_same(
+        &rt,
+        is_worn(&arena, &mut hand, &mut held, 1),
+        Some(true),
+        "pop",
+    );
+    assert_equal(
+        &rt,
+        first_free(&arena, &hand, &held, 1),
+        Some(LAST),
+        "the head",
+    );
     Ok(())
 }
 
@@ -107,6 +126,11 @@ fn arenas_are_refused_in_order(rt: HostRuntime) -> Result<(), Fail> {
         assert_same(&rt, found, number, "the refusal's number");
     }
     let refused = NewError::Config(ConfigError::NoMemory);
-    assert_same(&rt, refused.number(), NewError::NoMemory.number(), "want of memory");
+    assert_same(
+        &rt,
+        refused.number(),
+        NewError::NoMemory.number(),
+        "want of memory",
+    );
     Ok(())
 }

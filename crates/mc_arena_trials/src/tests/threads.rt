@@ -226,6 +226,11 @@ fn four_threads_share_a_class(rt: HostRuntime) -> Result<(), Fail> {
     };
     assert_same(&rt, worked.rounds, ROUNDS, "rounds");
     let left = arena.close(worked.hand);
-    assert_same(&rt, count_free(&left), Some((21, 4 * ROUNDS)), "what is left");
+    assert_same(
+        &rt,
+        count_free(&left),
+        Some((21, 4 * ROUNDS)),
+        "what is left",
+    );
     Ok(())
 }

@@ -73,5 +73,5 @@ returns c =
       hands = (
         (let e : length c.insert.new.self.items ≡ suc (length items) = ap length is in omega arith),
         subst (AreHandsFrom arena 0) (sym is) (i.0, i.1 ∙ ap (new_view setup 0) (omega arith), i.6),
-      )
+      );
     }

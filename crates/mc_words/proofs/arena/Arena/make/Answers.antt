@@ -33,7 +33,7 @@ invariant_of-result c =
     let few : setup.hands ≤ 64 = subst (λ (s : Setup). s.hands ≤ 64) (sym arena.planned) arena.hands.1 in
     let near = c.requires.number.1 in
     let me : c.split_seat-seat.result.me ≡ (new_view setup number 0, []) =
-        c.split_seat-seat.ensures.4 ∙ ap (λ (v : View). (v, [])) (ap next_view c.requires.first ∙ next_is setup number near) in
+    c.split_seat-seat.ensures.4 ∙ ap (λ (v : View). (v, [])) (ap next_view c.requires.first ∙ next_is setup number near) in
     record { noted = subst (λ (me : Sits). IsNoted me number 0 Neither) (sym me) (new_noted setup number 0 (omega arith)) }
 
 pub returns-clause-arena : goal.returns-clause-arena
