@@ -33,5 +33,5 @@ pub use arena::Arena;
 pub use closing::Final;
 pub use hand::Hand;
 pub use held::{Fresh, Held, Moved, SlabsHeld, StripeHeld, WornOut};
-pub use refs::Ref;
+pub use refs::{Hint, Ref};
 pub use refusal::NewError;

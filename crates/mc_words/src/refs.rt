@@ -1,4 +1,4 @@
-//! References to items.
+//! References to items, and hints by which they are had again.
 ghost use Rattle.std.specs.Prelude.{◌≡◌};
 
 use mc_pages::ChunkId;
@@ -7,6 +7,8 @@ use mc_pages::ChunkId;
 #[derive(Drop)]
 pub struct Ref {
     pub(crate) chunk: ChunkId,
+    /// The issue number with which its chunk was handed out.
+    pub(crate) issue: u64,
     /// How many words its chunk has.
     pub(crate) room: u64,
 }
@@ -18,4 +20,22 @@ impl Ref {
     {
         self.chunk
     }
+
+    /// A hint of the item, by which a reference to it can be had again without its stripe's lock.
+    pub fn hint(&self) -> Hint
+        ensures chunk { result.chunk ≡ self.now.chunk }
+        ensures issue { result.issue ≡ self.now.issue }
+    {
+        Hint {
+            chunk: self.chunk,
+            issue: self.issue,
+        }
+    }
+}
+
+/// Where an item was, and with which issue number its chunk was handed out for it. It counts nothing, so the item may be gone. (own)
+#[derive(Clone, Copy, PartialEq, Eq)]
+pub struct Hint {
+    pub(crate) chunk: ChunkId,
+    pub(crate) issue: u64,
 }

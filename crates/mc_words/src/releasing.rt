@@ -23,7 +23,11 @@ impl Arena {
         ensures happens { Happens (view hand.old) [] (step.Release reference.chunk) (view hand.new) }
         ensures dropped { view hand.new ≡ chunk_dropped reference.chunk (view hand.old) }
     {
-        let Ref { chunk, room: _ } = reference;
+        let Ref {
+            chunk,
+            issue: _,
+            room: _,
+        } = reference;
         let word = self.head_word(chunk);
         self.subtract(&mut hand.seat, word, 1, Step::Release(chunk));
         hand.chunks -= 1;
