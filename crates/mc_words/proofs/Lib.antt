@@ -4,6 +4,7 @@ pub mod Rules
 pub mod Settled
 pub mod Quiet
 pub mod TakeAndGive
+pub mod Tallies
 pub mod OutFirst
 pub mod Knows
 pub mod LockViews

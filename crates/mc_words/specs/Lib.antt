@@ -5,6 +5,7 @@ pub mod Happens
 pub mod Told
 pub mod Slots
 pub mod Taking
+pub mod Tallies
 pub mod Out
 pub mod Views
 pub mod Waiting

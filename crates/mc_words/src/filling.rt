@@ -44,5 +44,6 @@ impl Arena {
         let word = self.head_word(chunk);
         self.subtract(&mut hand.seat, word, 1, Step::Discard(chunk));
         hand.chunks -= 1;
+        hand.fresh -= 1;
     }
 }

@@ -53,6 +53,7 @@ impl Arena {
         let word = self.head_word(chunk);
         self.add(&mut hand.seat, word, HANDED_OUT, Step::Pop(class));
         hand.chunks += 1;
+        hand.fresh += 1;
         held.shared.slabs_mut().pop(class);
         let room = self.plan.classes().size(class) / 8;
         Ok(Some(Fresh { chunk, room }))
