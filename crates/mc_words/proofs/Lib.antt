@@ -19,6 +19,9 @@ pub mod Releases
 pub mod WordReads
 pub mod Calls
 pub mod Refers
+pub mod References
+pub mod GetsItems
+pub mod NoneTold
 pub mod Peeks
 pub mod Filled
 pub mod Judging

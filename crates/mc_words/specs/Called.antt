@@ -1,5 +1,5 @@
 -- What calls on keys change of a hand's view: all else stays.
-use Rattle.std.specs.Prelude.{ℕ, ◌==◌, [], ◌∷◌, ◌++◌, if◌then◌else◌, map, slice_set, Some}
+use Rattle.std.specs.Prelude.{ℕ, ◌+◌, ◌==◌, [], ◌∷◌, ◌++◌, if◌then◌else◌, map, slice_set, Some}
 use Rattle.mc_stripe.specs.declared.history.Call.{Call}
 use Rattle.mc_stripe.specs.declared.history.Call.TheVariants.{Get}
 use Rattle.mc_stripe.specs.StripeState.{ReadyStripe, stamp_of}
@@ -7,7 +7,7 @@ use Rattle.mc_stripe.specs.Changes.{after_got, used_up}
 use Rattle.mc_core.specs.declared.holding.Holding.{Holding}
 use Rattle.mc_core.specs.Past.{Own, known_by, with_more}
 use Rattle.mc_words.specs.View.{View}
-use Rattle.mc_words.specs.Views.{with_knowledge, with_holdings}
+use Rattle.mc_words.specs.Views.{with_knowledge, with_holdings, stripe_missed}
 
 -- the number's own calls on keys of this stripe, with one more
 abbrev pub with_own_call : ℕ → ℕ → Call → Own → Own
@@ -26,3 +26,7 @@ key_got number stripe value key view =
 abbrev pub item_referred : Holding → ℕ → View → View
 item_referred holding room view =
     with_knowledge (record view.row.knows { known = view.row.knows.known ++ known_by room holding ∷ [] }) (with_holdings (view.row.holdings ++ holding ∷ []) view)
+
+-- it looked a key up that leads nowhere, which was told by a look at the word of the stripe's lock
+abbrev pub key_missed : ℕ → ℕ → ReadyStripe → ℕ → View → View
+key_missed number stripe value key view = stripe_missed stripe (number + 1) (key_got number stripe value key view)

@@ -15,6 +15,7 @@ pub mod Fresh
 pub mod Refs
 pub mod Items
 pub mod Called
+pub mod Referring
 pub mod Shown
 pub mod Idle
 pub mod Lent

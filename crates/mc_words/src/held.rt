@@ -71,3 +71,7 @@ pub struct WornOut;
 /// The header isn't as it was expected.
 #[derive(Clone, Copy, PartialEq, Eq, Drop)]
 pub struct Moved;
+
+/// The hand holds as many chunks as the call lets it hold.
+#[derive(Clone, Copy, PartialEq, Eq, Drop)]
+pub struct TooManyRefs;
