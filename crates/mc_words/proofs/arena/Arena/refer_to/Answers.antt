@@ -9,6 +9,8 @@ use Rattle.mc_words.specs.Referring.{GetsItem}
 use Rattle.mc_words.specs.Happens.{MayWrite, HappensAt}
 use Rattle.mc_words.proofs.GetsItems.{got_ref, got_issue, gets_item}
 use Rattle.mc_words.proofs.Refers.{LeadsTo, entry_near, may_refer, new_one, referred_view}
+use Rattle.mc_words.specs.Tallies.{fresh_count}
+use Rattle.mc_words.proofs.Tallies.{fresh_more, tallied_fresh}
 use Rattle.mc_words.proofs.Locked.{noted_same}
 use Rattle.mc_words.proofs.arena.Arena.refer_to.Goals as goal
 
@@ -49,7 +51,9 @@ invariant_of-hand c =
     let is = referred_view view stripe value c.args.key c.args.chunk c.requires.leads.0 to a.number a.noted.0 now h in
     let more = length-append view.row.holdings (one ∷ []) in
     let count = a.noted.2 in
-    record { noted = noted_same a.seat.me c.fetch_add-found.new.seat.me a.number a.chunks (a.chunks + 1) a.locks a.noted c.fetch_add-found.ensures.out c.fetch_add-found.ensures.hand ((omega arith) ∙ (sym more ∙ ap (λ (v : View). length v.row.holdings) (sym is))) }
+    let fills = a.tallied.1 in
+    let fuller = fresh_more view.row.holdings one in
+    record { noted = noted_same a.seat.me c.fetch_add-found.new.seat.me a.number a.chunks (a.chunks + 1) a.locks a.noted c.fetch_add-found.ensures.out c.fetch_add-found.ensures.hand ((omega arith) ∙ (sym more ∙ ap (λ (v : View). length v.row.holdings) (sym is))); tallied = tallied_fresh a.seat.me c.fetch_add-found.new.seat.me a.stamps a.fresh a.fresh a.tallied (ap (λ (v : View). v.row.ids) is) ((omega arith) ∙ (sym fuller ∙ ap (λ (v : View). fresh_count v.row.holdings) (sym is))) }
 
 pub room-room-requires-clause-reference : goal.room-room-requires-clause-reference
 room-room-requires-clause-reference c =

@@ -4,6 +4,7 @@ use Rattle.mc_core.specs.declared.event.Step.TheVariants as core
 use Rattle.mc_words.specs.View.{View, Setup}
 use Rattle.mc_words.specs.Layout.{lock_word}
 use Rattle.mc_words.specs.Happens.{MayTell}
+use Rattle.mc_words.proofs.Tallies.{tallied_same}
 use Rattle.mc_words.proofs.Locked.{noted_same}
 use Rattle.mc_words.proofs.NoneTold.{LeadsNowhere, may_tell_got, got_none}
 use Rattle.mc_words.proofs.StripeChanges.{stripe_near}
@@ -67,7 +68,7 @@ invariant_of-hand c =
     } in
     let is = got_none view hand.number number value key nowhere c.tell.new.seat.me.0 c.tell.ensures.happens in
     let held = ap (λ (v : View). v.row.holdings) is in
-    record { noted = noted_same hand.seat.me c.tell.new.seat.me hand.number hand.chunks hand.chunks hand.locks hand.noted c.tell.ensures.out c.tell.ensures.hand (hand.noted.2 ∙ ap length (sym held)) }
+    record { noted = noted_same hand.seat.me c.tell.new.seat.me hand.number hand.chunks hand.chunks hand.locks hand.noted c.tell.ensures.out c.tell.ensures.hand (hand.noted.2 ∙ ap length (sym held)); tallied = tallied_same hand.seat.me c.tell.new.seat.me hand.stamps hand.fresh hand.tallied (ap (λ (v : View). v.row.ids) is) held }
 
 pub returns-clause-view : goal.returns-clause-view
 returns-clause-view c =
