@@ -5,6 +5,7 @@ pub mod Settled
 pub mod Quiet
 pub mod TakeAndGive
 pub mod Tallies
+pub mod Links
 pub mod OutFirst
 pub mod Knows
 pub mod LockViews

@@ -2,9 +2,18 @@
 use Rattle.std.specs.Prelude.{ℕ, List, []}
 use Rattle.std.specs.Option.{option_map_or}
 use Rattle.mc_pages.specs.declared.ids.ChunkId.{ChunkId}
-use Rattle.mc_core.specs.Holdings.{holding_of, item_of}
+use Rattle.mc_core.specs.declared.holding.Holding.{Holding}
+use Rattle.mc_core.specs.Holdings.{Words, holding_of, item_of, words_of}
 use Rattle.mc_words.specs.View.{View}
 
 -- the words of the item in this chunk: key, stamp, length, and as many as that says; none where the hand doesn't hold the chunk
 abbrev pub held_item : View → ChunkId → List ℕ
 held_item view chunk = option_map_or item_of (holding_of chunk view.row.holdings) []
+
+-- the words of the chunk that the hand holds, as far as they are known; none where it doesn't
+abbrev pub words_in : View → ChunkId → Words
+words_in view chunk = option_map_or words_of (holding_of chunk view.row.holdings) []
+
+-- the issue number with which that chunk was handed out
+abbrev pub issue_in : View → ChunkId → ℕ
+issue_in view chunk = option_map_or (λ (holding : Holding). holding.issue) (holding_of chunk view.row.holdings) 0

@@ -6,6 +6,7 @@ pub mod Told
 pub mod Slots
 pub mod Taking
 pub mod Tallies
+pub mod Linking
 pub mod Out
 pub mod Views
 pub mod Waiting

@@ -11,6 +11,7 @@ mod handing;
 mod header;
 mod held;
 mod joining;
+mod linking;
 mod locking;
 mod locks;
 mod looking;

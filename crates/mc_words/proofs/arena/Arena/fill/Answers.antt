@@ -1,4 +1,5 @@
 use Rattle.std.proofs.Common.{◌≡◌, ◌<◌, ℕ, refl, ap, sym, subst, length, ◌∙◌}
+use Rattle.mc_pages.specs.declared.ids.ChunkId.{ChunkId}
 use Rattle.mc_core.specs.Holdings.{words_of}
 use Rattle.mc_core.specs.declared.event.Step.TheVariants as core
 use Rattle.mc_words.specs.View.{View, Setup}
@@ -47,4 +48,5 @@ returns-clause-fresh c =
     let view = c.args.hand.now.seat.me.0 in
     let chunk = c.args.fresh.now.chunk in
     let is = filled_word view c.write.new.seat.me.0 chunk c.args.place c.args.word c.write.ensures.happens in
-    subst (λ (v : View). IsFreshOf v chunk c.args.fresh.now.room) (sym is) (still_fresh chunk c.args.place c.args.word view c.args.fresh.now.room c.requires.fresh)
+    let still = subst (λ (v : View). IsFreshOf v chunk c.args.fresh.now.room) (sym is) (still_fresh chunk c.args.place c.args.word view c.args.fresh.now.room c.requires.fresh) in
+    subst (λ (p : ChunkId × ℕ). IsFreshOf c.write.new.seat.me.0 p.0 p.1) (λ k. (sym c.note.ensures.same.0 k, sym c.note.ensures.same.1 k)) still
