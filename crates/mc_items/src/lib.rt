@@ -4,10 +4,10 @@
 //! as they are until it is released, whoever stores, deletes or evicts meanwhile.
 #![tactic(auto)]
 
-
+mod getting;
 mod reading;
 mod refs;
 
-
+pub use getting::{GetError, get};
 pub use reading::{read, release};
 pub use refs::Ref;
