@@ -16,6 +16,7 @@ pub mod Owners
 pub mod OwnerViews
 pub mod Releases
 pub mod WordReads
+pub mod HeldReads
 pub mod Calls
 pub mod Refers
 pub mod Peeks
