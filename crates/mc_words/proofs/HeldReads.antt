@@ -1,5 +1,5 @@
 -- Words of linked chunks are read under the slabs lock: the page's owner tells where they stand.
-use Rattle.std.proofs.Common.{◌≡◌, ℕ, ◌+◌, ◌*◌, ◌/◌, ◌<◌, Bool, true, List, [], ◌∷◌, ◌++◌, length, Some, None, refl, sym, ap, ap₂, ◌∙◌, arith, is_some, slice_index, lt-ltb, get_or-set_same, if◌then◌else◌, inl, inr}
+use Rattle.std.proofs.Common.{◌≡◌, ℕ, ◌+◌, ◌*◌, ◌/◌, ◌<◌, Bool, true, List, [], ◌∷◌, ◌++◌, length, Option, Some, None, IfSome, refl, sym, ap, ap₂, ◌∙◌, arith, is_some, slice_index, lt-ltb, get_or-set_same, if◌then◌else◌, inl, inr}
 use Rattle.std.specs.List.{fold}
 use Rattle.std.proofs.lemmas.Bool.{and_from, cases_Bool}
 use Rattle.mc_classes.specs.Classes.{Classes, pages_of, size_of}
@@ -12,7 +12,7 @@ use Rattle.mc_core.specs.declared.event.Step.TheVariants as core
 use Rattle.mc_core.specs.Columns.{IsHandedOut, place_in}
 use Rattle.mc_core.specs.Looks.{was_linked}
 use Rattle.mc_core.specs.Past.{Moment, moment_stepped}
-use Rattle.mc_core.specs.Seen.{linked_issue}
+use Rattle.mc_core.specs.Seen.{last_read, linked_issue}
 use Rattle.mc_core.specs.State.{State, has_chunk, head_at, is_class, looks_at, page_words, room_in, word_at}
 use Rattle.mc_core.proofs.Base.{IsPlaced, chunk_within, placed_at, word_within}
 use Rattle.mc_core.proofs.SeenAdds.{was_linked_is}
@@ -20,6 +20,7 @@ use Rattle.mc_core.proofs.SeenLooks.{some_is}
 use Rattle.mc_words.specs.View.{Setup, View}
 use Rattle.mc_words.specs.Layout.{data_word, data_from, data_count, config_from}
 use Rattle.mc_words.specs.Happens.{LawfulView, HappensAt, MayWrite}
+use Rattle.mc_words.specs.Items.{word_read}
 use Rattle.mc_words.specs.Views.{looked}
 use Rattle.mc_words.proofs.Written.{data_read, unwritten}
 use Rattle.mc_words.proofs.LockViews.{view_from, holdings_were, looks_were, rows, slabs_were, stripes_were}
@@ -105,6 +106,18 @@ module _ (view : View) (slabs : SlabState) (mine : view.slabs ≡ Some slabs) (c
           and_from _ _ (and_from _ _ (and_from _ _ (slabs_here view was slabs mine).0 (near_there was)) (ap (λ looks. was_linked looks chunk) (looks_here view was) ∙ linked)) (lt-ltb place (room_in s.table (class_of_page s.slabs chunk.page)) (on_page was)),
           unwritten view.setup was.cuts was.words s.slabs_lock s.stripe_locks s.heads s.words was.are at,
         )
+
+    -- a word that was read before is the same again
+    pub read_again : (now : View) (word : ℕ) → HappensAt (data_word view.setup (room_in view.setup.table (class_of_page slabs chunk.page)) chunk place) word view [] (core.WordHeld chunk place) now
+        → IfSome (word_read view chunk place) (λ before. word ≡ before)
+    read_again now word at = if_read (word_read view chunk place) refl
+      where
+        if_read : (o : Option ℕ) → word_read view chunk place ≡ o → IfSome o (λ before. word ≡ before)
+        if_read None is = tt
+        if_read (Some before) is =
+            let was = at.0.was in
+            let still = (was.lawful.seen was.hand (slabs_here view was slabs mine).0).read_words chunk place before (near_there was) (ap (λ (looks : List Look). fold (last_read chunk place) None looks) (looks_here view was) ∙ is) in
+            sym at.1 ∙ (held_word was ∙ still.same)
 
     -- which is a look
     pub read_held : (now : View) (word : ℕ) → HappensAt (data_word view.setup (room_in view.setup.table (class_of_page slabs chunk.page)) chunk place) word view [] (core.WordHeld chunk place) now → now ≡ looked (Read chunk place word) view

@@ -17,6 +17,9 @@ pub mod OwnerViews
 pub mod Releases
 pub mod WordReads
 pub mod HeldReads
+pub mod Reasoned
+pub mod Condemns
+pub mod CondemnCalls
 pub mod Calls
 pub mod Refers
 pub mod Peeks

@@ -20,6 +20,7 @@ pub mod Lent
 pub mod Joining
 pub mod Closing
 pub mod Owner
+pub mod Condemning
 pub mod Arenas
 pub mod Refused
 pub mod Hands

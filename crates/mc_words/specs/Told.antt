@@ -1,5 +1,5 @@
 -- What a step on the table tells the hand that makes it.
-use Rattle.std.specs.Prelude.{◌≡◌, ℕ, [], ◌∷◌}
+use Rattle.std.specs.Prelude.{◌≡◌, ◌≢◌, ℕ, [], ◌∷◌}
 use Rattle.atomic_table.specs.Table as table
 use Rattle.mc_core.specs.declared.event.Change.{Change}
 use Rattle.mc_core.specs.declared.event.Step.{Step}
@@ -25,6 +25,11 @@ TellsFound step at me found now = StaysOut me now × HappensAt at.word found me.
 -- the step was this event
 abbrev pub TellsEvent : Step → At → Sits → ℕ → Sits → Type 0
 TellsEvent step at me written now = StaysOut me now × Happens me.0 [] step now.0
+
+-- the step was the one event where it found the word as expected, and else the other, which looks at it
+abbrev pub TellsExchange : Step → Step → At → Sits → ℕ → Sits → Type 0
+TellsExchange step look at me found now =
+    StaysOut me now × (found ≡ at.first → HappensAt at.word found me.0 [] step now.0) × (found ≢ at.first → HappensAt at.word found me.0 [] look now.0)
 
 -- the step was this event, before which the change was made
 abbrev pub TellsChange : Change → Step → Sits → Sits → Type 0

@@ -1,5 +1,5 @@
 //! Words of items that are read.
-ghost use Rattle.std.specs.Prelude.{◌≡◌, ◌<◌, [], true, length, slice_index, Some};
+ghost use Rattle.std.specs.Prelude.{◌≡◌, ◌<◌, [], true, length, slice_index, Some, IfSome};
 ghost use Rattle.mc_pages.specs.SlabState.{class_of_page};
 ghost use Rattle.mc_core.specs.Looks.{was_linked};
 ghost use Rattle.mc_core.specs.State.{has_chunk, room_in};
@@ -7,7 +7,7 @@ ghost use Rattle.mc_core.specs.declared.event.Step.TheVariants as step;
 ghost use Rattle.mc_core.specs.declared.look.Look.TheVariants as look;
 ghost use Rattle.mc_words.specs.Arenas.{IsHandOf, setup_of, view};
 ghost use Rattle.mc_words.specs.Happens.{Happens};
-ghost use Rattle.mc_words.specs.Items.{held_item};
+ghost use Rattle.mc_words.specs.Items.{held_item, word_read};
 ghost use Rattle.mc_words.specs.Refs.{IsRefOf};
 ghost use Rattle.mc_words.specs.Views.{looked};
 
@@ -49,6 +49,7 @@ impl Arena {
         ensures locks { hand.new.locks ≡ hand.old.locks }
         ensures held { (view hand.new).slabs ≡ Some held.now.shared }
         ensures happens { Happens (view hand.old) [] (step.WordHeld chunk place) (view hand.new) }
+        ensures again { IfSome (word_read (view hand.old) chunk place) (λ before. result ≡ before) }
         ensures view { view hand.new ≡ looked (look.Read chunk place result) (view hand.old) }
     {
         let class = held.slabs().owner(chunk.page).class();

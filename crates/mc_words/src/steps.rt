@@ -1,10 +1,10 @@
 //! One operation on one word, which is one event of the core.
-ghost use Rattle.std.specs.Prelude.{◌≡◌, ◌<◌, ◌∷◌, true, []};
+ghost use Rattle.std.specs.Prelude.{◌≡◌, ◌≢◌, ◌<◌, ◌∷◌, true, []};
 ghost use Rattle.mc_core.specs.declared.event.Change.{Change};
 ghost use Rattle.mc_core.specs.declared.event.Step.{Step};
 ghost use Rattle.mc_core.specs.Codes.{plus, minus};
 ghost use Rattle.mc_words.specs.Arenas.{IsOfArena};
-ghost use Rattle.mc_words.specs.Happens.{Happens, HappensAt, IsSameHand, MayTell, MayWrite, is_quiet};
+ghost use Rattle.mc_words.specs.Happens.{Happens, HappensAt, IsSameHand, MayExchange, MayTell, MayWrite, is_quiet};
 
 use crate::arena::Arena;
 use crate::rule::HandSeat;
@@ -78,6 +78,35 @@ impl Arena {
         ensures happens { Happens seat.old.me.0 [] told seat.new.me.0 }
     {
         self.table.shared.fetch_sub::<Brand>(seat, word, less);
+    }
+
+    // The event exchanges this word where it is as expected. Where it isn't, the event is a look at it. The answer is the word found.
+    #[inline(always)]
+    pub(crate) fn exchange(
+        &self,
+        seat: &mut HandSeat,
+        word: usize,
+        expected: u64,
+        new: u64,
+        step: Step,
+        look: Step,
+    ) -> u64
+        ghost told: { Step × Step }
+        requires is { told ≡ (step, look) }
+        requires still { (is_quiet told.0 ≡ true) × (is_quiet told.1 ≡ true) }
+        requires near { word < self.now.table.shared.table_id.words }
+        requires seat { IsOfArena self.now seat.old.table_id seat.old.me.0 }
+        requires may { MayExchange seat.old.me.0 told.0 word expected new }
+        requires may_look { MayWrite seat.old.me.0 told.1 word (λ found. found) }
+        ensures seat { IsOfArena self.now seat.new.table_id seat.new.me.0 }
+        ensures out { seat.new.me.1 ≡ seat.old.me.1 }
+        ensures hand { IsSameHand seat.old.me.0 seat.new.me.0 }
+        ensures happens { result ≡ expected → HappensAt word result seat.old.me.0 [] told.0 seat.new.me.0 }
+        ensures missed { result ≢ expected → HappensAt word result seat.old.me.0 [] told.1 seat.new.me.0 }
+    {
+        self.table
+            .shared
+            .compare_exchange::<Brand>(seat, word, expected, new)
     }
 
     // The event is a change of a value behind a lock that the hand has, which is told by a look at this word.
