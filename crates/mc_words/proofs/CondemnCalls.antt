@@ -251,12 +251,15 @@ module _ (view read seen : View) (slabs : SlabState) (stripe : ℕ) (value : Rea
 
   -- whether the exchange hits or misses, nothing that is held comes or goes
   pub held_after : (number found : ℕ) (now : View) → seen.row.ids.number ≡ Some number → has_copy view.row.holdings chunk ≡ false → (found ≡ word → HappensAt (head_word seen.setup chunk) found seen [] (core.Condemn chunk) now)
-      → (found ≢ word → HappensAt (head_word seen.setup chunk) found seen [] (core.Head chunk) now) → now.row.holdings ≡ seen.row.holdings
+      → (found ≢ word → HappensAt (head_word seen.setup chunk) found seen [] (core.Head chunk) now) → (now.row.ids ≡ seen.row.ids) × (now.row.holdings ≡ seen.row.holdings)
   held_after number found now numbered none hits misses = elim (cases_eq found word) [
     | inl hit ↦
         let h = (hits hit).0 in
-        ap (λ (v : View). v.row.holdings) (condemned_view seen slabs stripe value chunk key has_still number numbered (none_still none) now (head_at h.was.moment.state chunk) h refl)
-    | inr miss ↦ ap (λ (v : View). v.row.holdings) (seen_views.seen_head seen now chunk found has_still.near (misses miss)) ∙ seen_views.look_holds (Saw chunk (decode found)) (views.saw (header chunk (decode found)) seen)
+        let is = condemned_view seen slabs stripe value chunk key has_still number numbered (none_still none) now (head_at h.was.moment.state chunk) h refl in
+        (ap (λ (v : View). v.row.ids) is, ap (λ (v : View). v.row.holdings) is)
+    | inr miss ↦
+        let is = seen_views.seen_head seen now chunk found has_still.near (misses miss) in
+        (ap (λ (v : View). v.row.ids) is, ap (λ (v : View). v.row.holdings) is)
   ]
 
   -- a miss leaves the values

@@ -4,6 +4,8 @@ pub mod Rules
 pub mod Settled
 pub mod Quiet
 pub mod TakeAndGive
+pub mod Tallies
+pub mod Links
 pub mod OutFirst
 pub mod Knows
 pub mod LockViews
@@ -20,8 +22,12 @@ pub mod HeldReads
 pub mod Reasoned
 pub mod Condemns
 pub mod CondemnCalls
+pub mod Sweeps
 pub mod Calls
 pub mod Refers
+pub mod References
+pub mod GetsItems
+pub mod NoneTold
 pub mod Peeks
 pub mod Filled
 pub mod Judging

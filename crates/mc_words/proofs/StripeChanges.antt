@@ -32,6 +32,10 @@ inside [] i value found = absurd (cc)
 inside (entry ∷ all) zero value found = omega arith
 inside (entry ∷ all) (suc i) value found = let rest = inside all i value found in omega arith
 
+-- and what is set there is found
+pub set_found : (all : List (Option ReadyStripe)) (i : ℕ) (value next : ReadyStripe) → slice_index_or all i None ≡ Some value → slice_index_or (slice_set all i (Some next)) i None ≡ Some next
+set_found all i value next found = get_or-set_same all i (Some next) None (inside all i value found)
+
 -- with room for a call
 abbrev ready : ReadyStripe → ReadyStripe
 ready value = record value { ready = true }

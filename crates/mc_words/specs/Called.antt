@@ -1,5 +1,5 @@
 -- What calls on keys change of a hand's view: all else stays.
-use Rattle.std.specs.Prelude.{ℕ, ◌==◌, [], ◌∷◌, ◌++◌, if◌then◌else◌, map, slice_set, Some}
+use Rattle.std.specs.Prelude.{ℕ, ◌+◌, ◌==◌, [], ◌∷◌, ◌++◌, if◌then◌else◌, map, slice_set, Some}
 use Rattle.mc_pages.specs.declared.ids.ChunkId.{ChunkId}
 use Rattle.mc_stripe.specs.declared.history.Call.{Call}
 use Rattle.mc_stripe.specs.declared.history.Call.TheVariants.{Get, Evict}
@@ -11,7 +11,7 @@ use Rattle.mc_core.specs.declared.look.Look.TheVariants.{Condemned}
 use Rattle.mc_core.specs.Evictions.{condemned}
 use Rattle.mc_core.specs.Past.{Own, known_by, with_more}
 use Rattle.mc_words.specs.View.{View}
-use Rattle.mc_words.specs.Views.{with_knowledge, with_holdings, looked}
+use Rattle.mc_words.specs.Views.{with_knowledge, with_holdings, looked, stripe_missed}
 
 -- the number's own calls on keys of this stripe, with one more
 abbrev pub with_own_call : ℕ → ℕ → Call → Own → Own
@@ -39,3 +39,7 @@ item_condemned number stripe value key chunk head view = looked (Condemned chunk
 abbrev pub item_referred : Holding → ℕ → View → View
 item_referred holding room view =
     with_knowledge (record view.row.knows { known = view.row.knows.known ++ known_by room holding ∷ [] }) (with_holdings (view.row.holdings ++ holding ∷ []) view)
+
+-- it looked a key up that leads nowhere, which was told by a look at the word of the stripe's lock
+abbrev pub key_missed : ℕ → ℕ → ReadyStripe → ℕ → View → View
+key_missed number stripe value key view = stripe_missed stripe (number + 1) (key_got number stripe value key view)

@@ -3,7 +3,8 @@ use Rattle.std.specs.Prelude.{ℕ, List, [], Option, None}
 use Rattle.std.specs.List.{fold}
 use Rattle.std.specs.Option.{option_map_or}
 use Rattle.mc_pages.specs.declared.ids.ChunkId.{ChunkId}
-use Rattle.mc_core.specs.Holdings.{holding_of, item_of}
+use Rattle.mc_core.specs.declared.holding.Holding.{Holding}
+use Rattle.mc_core.specs.Holdings.{Words, holding_of, item_of, words_of}
 use Rattle.mc_core.specs.Seen.{last_read}
 use Rattle.mc_words.specs.View.{View}
 
@@ -14,3 +15,11 @@ held_item view chunk = option_map_or item_of (holding_of chunk view.row.holdings
 -- a word of a chunk, as the hand read it under this hold of the slabs lock
 abbrev pub word_read : View → ChunkId → ℕ → Option ℕ
 word_read view chunk place = fold (last_read chunk place) None view.row.looks
+
+-- the words of the chunk that the hand holds, as far as they are known; none where it doesn't
+abbrev pub words_in : View → ChunkId → Words
+words_in view chunk = option_map_or words_of (holding_of chunk view.row.holdings) []
+
+-- the issue number with which that chunk was handed out
+abbrev pub issue_in : View → ChunkId → ℕ
+issue_in view chunk = option_map_or (λ (holding : Holding). holding.issue) (holding_of chunk view.row.holdings) 0

@@ -5,6 +5,8 @@ pub mod Happens
 pub mod Told
 pub mod Slots
 pub mod Taking
+pub mod Tallies
+pub mod Linking
 pub mod Out
 pub mod Views
 pub mod Waiting
@@ -14,6 +16,7 @@ pub mod Fresh
 pub mod Refs
 pub mod Items
 pub mod Called
+pub mod Referring
 pub mod Shown
 pub mod Idle
 pub mod Lent

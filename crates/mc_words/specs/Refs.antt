@@ -1,5 +1,6 @@
 -- References that a hand holds.
 use Rattle.std.specs.Prelude.{◌≡◌, ℕ, false, List, Contains, Some}
+use Rattle.std.specs.Option.{option_map}
 use Rattle.mc_pages.specs.declared.ids.ChunkId.{ChunkId}
 use Rattle.mc_core.specs.declared.holding.Holding.{Holding}
 use Rattle.mc_core.specs.Holdings.{holding_of, is_fresh}
@@ -16,3 +17,7 @@ pub record IsRefIn (holdings : List Holding) (known : List Known) (chunk : Chunk
 -- the hand has a reference to this chunk, with room for so many words
 abbrev pub IsRefOf : View → ChunkId → ℕ → Type 0
 IsRefOf view chunk room = IsRefIn view.row.holdings view.row.knows.known chunk room
+
+-- the holding that is found of this chunk has this issue number
+abbrev pub IsIssueOf : View → ChunkId → ℕ → Type 0
+IsIssueOf view chunk issue = option_map (λ holding. holding.issue) (holding_of chunk view.row.holdings) ≡ Some issue

@@ -1,5 +1,5 @@
 //! Fresh chunks that are filled and given up.
-ghost use Rattle.std.specs.Prelude.{◌≡◌, ◌<◌, []};
+ghost use Rattle.std.specs.Prelude.{◌≡◌, ◌<◌, ◌==◌, [], if◌then◌else◌};
 ghost use Rattle.mc_core.specs.declared.event.Step.TheVariants as step;
 ghost use Rattle.mc_words.specs.Arenas.{IsHandOf, view};
 ghost use Rattle.mc_words.specs.Fresh.{IsFreshOf};
@@ -20,7 +20,9 @@ impl Arena {
         requires near { place < fresh.old.room }
         ensures arena { IsHandOf self.now hand.new }
         ensures locks { hand.new.locks ≡ hand.old.locks }
-        ensures same { fresh.new ≡ fresh.old }
+        ensures same { (fresh.new.chunk ≡ fresh.old.chunk) × (fresh.new.room ≡ fresh.old.room) }
+        ensures key { fresh.new.key ≡ (if place == 0 then word else fresh.old.key) }
+        ensures stamp { fresh.new.stamp ≡ (if place == 1 then word else fresh.old.stamp) }
         ensures happens { Happens (view hand.old) [] (step.Fill fresh.old.chunk place word) (view hand.new) }
         ensures filled { view hand.new ≡ word_filled fresh.old.chunk place word (view hand.old) }
         ensures fresh { IsFreshOf (view hand.new) fresh.new.chunk fresh.new.room }
@@ -28,6 +30,7 @@ impl Arena {
         let at = self.data_word(fresh.room, fresh.chunk, place);
         let step = Step::Fill(fresh.chunk, place, word);
         self.write(&mut hand.seat, at, word, step);
+        fresh.note(place, word);
     }
 
     /// Gives a fresh chunk up, which is dead then, until somebody puts it back. It takes no lock.
@@ -40,9 +43,15 @@ impl Arena {
         ensures happens { Happens (view hand.old) [] (step.Discard fresh.chunk) (view hand.new) }
         ensures dropped { view hand.new ≡ chunk_dropped fresh.chunk (view hand.old) }
     {
-        let Fresh { chunk, room: _ } = fresh;
+        let Fresh {
+            chunk,
+            room: _,
+            key: _,
+            stamp: _,
+        } = fresh;
         let word = self.head_word(chunk);
         self.subtract(&mut hand.seat, word, 1, Step::Discard(chunk));
         hand.chunks -= 1;
+        hand.fresh -= 1;
     }
 }

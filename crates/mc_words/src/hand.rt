@@ -1,8 +1,15 @@
 //! The hands of an arena.
 ghost use Rattle.mc_words.specs.Out.{IsNoted};
+ghost use Rattle.mc_words.specs.Tallies.{IsTallied};
 
 use crate::locks::{Lock, Locks};
 use crate::rule::HandSeat;
+
+/// A hand's stamps begin at this times its number.
+const STAMP_UNIT: u64 = 281_474_976_710_656;
+
+/// How many stamps a hand has.
+const MOST_STAMPS: u64 = STAMP_UNIT - 1;
 
 /// What a thread acts with: who it is, which locks it has, and how many chunks it holds.
 #[derive(Drop)]
@@ -12,16 +19,23 @@ pub struct Hand {
     /// How many chunks it holds.
     pub(crate) chunks: u64,
     pub(crate) locks: Locks,
+    /// How many stamps it gave out.
+    pub(crate) stamps: u64,
+    /// How many of its chunks it fills.
+    pub(crate) fresh: u64,
     ghost noted: { IsNoted seat.me number chunks locks },
+    ghost tallied: { IsTallied seat.me stamps fresh },
 }
 
 impl Hand {
     ghost use Rattle.std.specs.Prelude.{◌≡◌, ◌≤◌, length};
+    ghost use Rattle.mc_core.specs.Holdings.{has_fresh};
     ghost use Rattle.mc_words.specs.Arenas.{view};
     ghost use Rattle.mc_words.specs.Happens.{LawfulView};
     ghost use Rattle.mc_words.specs.Idle.{is_idle, is_unlocked};
     ghost use Rattle.mc_words.specs.Out.{with_last};
     ghost use Rattle.mc_words.specs.Slots.{slot_of};
+    ghost use Rattle.mc_words.specs.Tallies.{next_stamp};
 
     /// How many chunks it holds, 256 at most: fresh ones, and those that it has references to.
     pub fn refs(&self) -> u64
@@ -43,6 +57,24 @@ impl Hand {
         ensures idle { result ≡ is_idle (view self.now) }
     {
         self.unlocked() && self.refs() == 0
+    }
+
+    /// The stamp of its next item: 2^48 times its number, and one more than it gave out. None where all were given out. (own)
+    pub fn next_stamp(&self) -> Option<u64>
+        ensures stamp { result ≡ next_stamp (view self.now).row.ids }
+    {
+        if self.stamps < MOST_STAMPS {
+            Some(self.number * STAMP_UNIT + (self.stamps + 1))
+        } else {
+            None
+        }
+    }
+
+    /// Whether it fills a chunk.
+    pub fn has_fresh(&self) -> bool
+        ensures fresh { result ≡ has_fresh (view self.now).row.holdings }
+    {
+        self.fresh > 0
     }
 
     // Brings the value behind this lock, which the hand has, before the other.

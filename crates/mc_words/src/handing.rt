@@ -53,9 +53,15 @@ impl Arena {
         let word = self.head_word(chunk);
         self.add(&mut hand.seat, word, HANDED_OUT, Step::Pop(class));
         hand.chunks += 1;
+        hand.fresh += 1;
         held.shared.slabs_mut().pop(class);
         let room = self.plan.classes().size(class) / 8;
-        Ok(Some(Fresh { chunk, room }))
+        Ok(Some(Fresh {
+            chunk,
+            room,
+            key: 0,
+            stamp: 0,
+        }))
     }
 
     /// Puts a dead chunk at the head of its free list. One that isn't dead stays. (slabs.c's `do_slabs_free`)

@@ -12,11 +12,11 @@ pub(crate) const DEAD: u64 = 2 * TAG_UNIT;
 /// What handing a free chunk out adds: the next issue, the next tag, and one holder.
 pub(crate) const HANDED_OUT: u64 = ISSUE_UNIT + TAG_UNIT + 1;
 
+/// What linking an unlinked chunk adds: the next tag, and the link's own count.
+pub(crate) const LINKED: u64 = TAG_UNIT + 1;
+
 /// The greatest issue number, with which a chunk is used up.
 pub(crate) const MOST_ISSUE: u64 = 70_368_744_177_663;
 
 /// The tag and the count of a chunk that is linked and held by nobody: the link counts 1.
 pub(crate) const UNHELD: u64 = 3 * TAG_UNIT + 1;
-
-/// What taking the item of such a chunk away subtracts: the last tag, and the link.
-pub(crate) const LINK: u64 = TAG_UNIT + 1;

@@ -1,5 +1,5 @@
 //! Values that are out of their slots, and chunks, each with the hand that took it.
-ghost use Rattle.std.specs.Prelude.{◌≡◌};
+ghost use Rattle.std.specs.Prelude.{◌≡◌, ◌==◌, if◌then◌else◌};
 
 use crate::boxed::BoxedStripe;
 use mc_pages::{ChunkId, SharedSlabs, Slabs};
@@ -46,6 +46,9 @@ pub struct Fresh {
     pub(crate) chunk: ChunkId,
     /// How many words it has.
     pub(crate) room: u64,
+    /// The words that were written first and second: an item's key and stamp.
+    pub(crate) key: u64,
+    pub(crate) stamp: u64,
 }
 
 impl Fresh {
@@ -62,6 +65,17 @@ impl Fresh {
     {
         self.room
     }
+
+    // Notes a word that was written: an item's key is the first, and its stamp the second.
+    #[inline(always)]
+    pub(crate) fn note(&mut self, place: u64, word: u64)
+        ensures same { (self.new.chunk ≡ self.old.chunk) × (self.new.room ≡ self.old.room) }
+        ensures key { self.new.key ≡ (if place == 0 then word else self.old.key) }
+        ensures stamp { self.new.stamp ≡ (if place == 1 then word else self.old.stamp) }
+    {
+        self.key = if place == 0 { word } else { self.key };
+        self.stamp = if place == 1 { word } else { self.stamp };
+    }
 }
 
 /// The chunk at the head of the free list has the greatest issue number.
@@ -71,3 +85,7 @@ pub struct WornOut;
 /// The header isn't as it was expected.
 #[derive(Clone, Copy, PartialEq, Eq, Drop)]
 pub struct Moved;
+
+/// The hand holds as many chunks as the call lets it hold.
+#[derive(Clone, Copy, PartialEq, Eq, Drop)]
+pub struct TooManyRefs;

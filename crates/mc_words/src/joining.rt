@@ -29,6 +29,8 @@ impl Arena {
             number,
             chunks,
             locks: _,
+            stamps,
+            fresh,
         } = hand;
         let Hand { seat: spent, .. } = other;
         self.unite(&mut seat, spent);
@@ -37,6 +39,8 @@ impl Arena {
             number,
             chunks,
             locks: Locks::Neither,
+            stamps,
+            fresh,
         }
     }
 

@@ -103,6 +103,8 @@ impl Arena {
             number,
             chunks: 0,
             locks: Locks::Neither,
+            stamps: 0,
+            fresh: 0,
         }
     }
 }

@@ -122,6 +122,8 @@ impl Arena {
             number: 0,
             chunks: 0,
             locks: Locks::Neither,
+            stamps: 0,
+            fresh: 0,
         };
         Ok((arena, hand))
     }

@@ -63,6 +63,23 @@ impl Arena {
         self.table.shared.fetch_add::<Brand>(seat, word, more);
     }
 
+    // The event adds to this word, which is found as it was.
+    #[inline(always)]
+    pub(crate) fn fetch_add(&self, seat: &mut HandSeat, word: usize, more: u64, step: Step) -> u64
+        ghost told: { Step }
+        requires is { told ≡ step }
+        requires still { is_quiet told ≡ true }
+        requires near { word < self.now.table.shared.table_id.words }
+        requires seat { IsOfArena self.now seat.old.table_id seat.old.me.0 }
+        requires may { MayWrite seat.old.me.0 told word (plus more) }
+        ensures seat { IsOfArena self.now seat.new.table_id seat.new.me.0 }
+        ensures out { seat.new.me.1 ≡ seat.old.me.1 }
+        ensures hand { IsSameHand seat.old.me.0 seat.new.me.0 }
+        ensures happens { HappensAt word result seat.old.me.0 [] told seat.new.me.0 }
+    {
+        self.table.shared.fetch_add::<Brand>(seat, word, more)
+    }
+
     // The event takes from this word.
     #[inline(always)]
     pub(crate) fn subtract(&self, seat: &mut HandSeat, word: usize, less: u64, step: Step)

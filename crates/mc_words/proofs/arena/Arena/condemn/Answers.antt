@@ -15,6 +15,7 @@ use Rattle.mc_words.proofs.Condemns.{may_condemn}
 use Rattle.mc_words.proofs.CondemnCalls.{asks, condemns, dead_by_condemn, finds_held, has_still, held_after, key_found, led_there, left_by_condemn, left_by_miss, none_still, read_before, reason_still, same_number, sees_held, word_condemned, word_held, word_unheld}
 use Rattle.mc_words.proofs.Heads.{may_look}
 use Rattle.mc_words.proofs.Locked.{noted_same}
+use Rattle.mc_words.proofs.Tallies.{tallied_same}
 use Rattle.mc_words.proofs.arena.Arena.condemn.Goals as goal
 
 pub word_held-key-requires-clause-linked : goal.word_held-key-requires-clause-linked
@@ -119,7 +120,7 @@ invariant_of-hand c =
     let same = held_after view read seen slabs stripe value chunk key word has read_is seen_is a.number found now a.noted.0 ask.none
     (λ hit. subst (λ (n : ℕ). HappensAt n found seen [] (core.Condemn chunk) now) place (c.exchange-found.ensures.happens hit))
     (λ miss. subst (λ (n : ℕ). HappensAt n found seen [] (core.Head chunk) now) place (c.exchange-found.ensures.missed miss)) in
-    record { noted = noted_same a.seat.me c.exchange-found.new.seat.me a.number a.chunks a.chunks a.locks a.noted c.exchange-found.ensures.out c.exchange-found.ensures.hand (a.noted.2 ∙ ap length (sym same)) }
+    record { noted = noted_same a.seat.me c.exchange-found.new.seat.me a.number a.chunks a.chunks a.locks a.noted c.exchange-found.ensures.out c.exchange-found.ensures.hand (a.noted.2 ∙ ap length (sym same.1)); tallied = tallied_same a.seat.me c.exchange-found.new.seat.me a.stamps a.fresh a.tallied same.0 same.1 }
 
 pub returns-then-found-head-clause-slabs : goal.returns-then-found-head-clause-slabs
 returns-then-found-head-clause-slabs c =

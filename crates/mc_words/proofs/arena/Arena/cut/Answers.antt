@@ -9,6 +9,7 @@ use Rattle.mc_words.specs.Happens.{MayWrite}
 use Rattle.mc_words.proofs.Owners.{may_cut, uncut_near}
 use Rattle.mc_words.proofs.Judging.{cuts}
 use Rattle.mc_words.proofs.Locked.{noted_same}
+use Rattle.mc_words.proofs.Tallies.{tallied_same}
 use Rattle.mc_words.proofs.arena.Arena.cut.Goals as goal
 
 pub head_word-word-requires : goal.head_word-word-requires
@@ -31,7 +32,7 @@ pub invariant_of-hand : goal.invariant_of-hand
 invariant_of-hand c =
     let a = c.args.hand.now in
     let cut = cuts a.seat.me.0 c.add.new.seat.me.0 c.args.held.now.shared c.args.page c.args.index c.requires.held c.requires.next c.add.ensures.happens in
-    record { noted = noted_same a.seat.me c.add.new.seat.me a.number a.chunks a.chunks a.locks a.noted c.add.ensures.out c.add.ensures.hand (a.noted.2 ∙ ap (λ (v : View). length v.row.holdings) (sym cut.is)) }
+    record { noted = noted_same a.seat.me c.add.new.seat.me a.number a.chunks a.chunks a.locks a.noted c.add.ensures.out c.add.ensures.hand (a.noted.2 ∙ ap (λ (v : View). length v.row.holdings) (sym cut.is)); tallied = tallied_same a.seat.me c.add.new.seat.me a.stamps a.fresh a.tallied (ap (λ (v : View). v.row.ids) cut.is) (ap (λ (v : View). v.row.holdings) cut.is) }
 
 pub returns-clause-cut : goal.returns-clause-cut
 returns-clause-cut c = cuts c.args.hand.now.seat.me.0 c.add.new.seat.me.0 c.args.held.now.shared c.args.page c.args.index c.requires.held c.requires.next c.add.ensures.happens

@@ -1,13 +1,16 @@
 use Rattle.std.proofs.Common.{◌≡◌, ◌-◌, ℕ, true, refl, ap, sym, subst, arith, length, ◌∙◌}
+use Rattle.mc_pages.specs.Accounted.{truth}
 use Rattle.mc_core.specs.Codes.{minus}
 use Rattle.mc_core.specs.State.{has_chunk}
 use Rattle.mc_core.specs.declared.event.Step.TheVariants as core
 use Rattle.mc_words.specs.View.{View, Setup}
 use Rattle.mc_words.specs.Layout.{head_word}
+use Rattle.mc_words.specs.Tallies.{fresh_count}
 use Rattle.mc_words.specs.Happens.{MayWrite}
 use Rattle.mc_words.proofs.Owners.{may_discard, holding_near, one_less}
 use Rattle.mc_words.proofs.OwnerViews.{discarded_chunk}
 use Rattle.mc_words.proofs.Locked.{noted_same}
+use Rattle.mc_words.proofs.Tallies.{fresh_less, tallied_fresh}
 use Rattle.mc_words.proofs.arena.Arena.discard.Goals as goal
 
 pub head_word-word-requires : goal.head_word-word-requires
@@ -31,7 +34,18 @@ invariant_of-hand c =
     let is = discarded_chunk a.seat.me.0 c.subtract.new.seat.me.0 c.args.fresh.chunk c.subtract.ensures.happens in
     let less = one_less c.args.fresh.chunk a.seat.me.0.row.holdings c.requires.fresh.holding c.requires.fresh.found in
     let count = a.noted.2 in
-    record { noted = noted_same a.seat.me c.subtract.new.seat.me a.number a.chunks (a.chunks - 1) a.locks a.noted c.subtract.ensures.out c.subtract.ensures.hand ((omega arith) ∙ ap (λ (v : View). length v.row.holdings) (sym is)) }
+    let fills = a.tallied.1 in
+    let fewer = fresh_less c.args.fresh.chunk a.seat.me.0.row.holdings c.requires.fresh.holding c.requires.fresh.found in
+    let kind = ap truth c.requires.fresh.fresh in
+    record { noted = noted_same a.seat.me c.subtract.new.seat.me a.number a.chunks (a.chunks - 1) a.locks a.noted c.subtract.ensures.out c.subtract.ensures.hand ((omega arith) ∙ ap (λ (v : View). length v.row.holdings) (sym is)); tallied = tallied_fresh a.seat.me c.subtract.new.seat.me a.stamps a.fresh (a.fresh - 1) a.tallied (ap (λ (v : View). v.row.ids) is) ((omega arith) ∙ ap (λ (v : View). fresh_count v.row.holdings) (sym is)) }
 
 pub returns-clause-dropped : goal.returns-clause-dropped
 returns-clause-dropped c = discarded_chunk c.args.hand.now.seat.me.0 c.subtract.new.seat.me.0 c.args.fresh.chunk c.subtract.ensures.happens
+
+pub overflow_sub-hand-2 : goal.overflow_sub-hand-2
+overflow_sub-hand-2 c =
+    let a = c.args.hand.now in
+    let fills = a.tallied.1 in
+    let fewer = fresh_less c.args.fresh.chunk a.seat.me.0.row.holdings c.requires.fresh.holding c.requires.fresh.found in
+    let kind = ap truth c.requires.fresh.fresh in
+    omega arith

@@ -1,14 +1,17 @@
 use Rattle.std.proofs.Common.{◌≡◌, ◌<◌, ℕ, refl, ap, sym, subst, length, ◌∙◌}
+use Rattle.mc_pages.specs.declared.ids.ChunkId.{ChunkId}
 use Rattle.mc_core.specs.Holdings.{words_of}
 use Rattle.mc_core.specs.declared.event.Step.TheVariants as core
 use Rattle.mc_words.specs.View.{View, Setup}
 use Rattle.mc_words.specs.Layout.{data_word, config_from}
 use Rattle.mc_words.specs.Happens.{MayWrite}
 use Rattle.mc_words.specs.Fresh.{IsFreshOf}
+use Rattle.mc_words.specs.Tallies.{fresh_count}
 use Rattle.mc_words.proofs.Owners.{may_fill, fill_near}
 use Rattle.mc_words.proofs.OwnerViews.{filled_word}
 use Rattle.mc_words.proofs.Filled.{fill_holds, still_fresh}
 use Rattle.mc_words.proofs.Locked.{noted_same}
+use Rattle.mc_words.proofs.Tallies.{fresh_filled, tallied_fresh}
 use Rattle.mc_words.proofs.arena.Arena.fill.Goals as goal
 
 pub data_word-at-requires : goal.data_word-at-requires
@@ -35,7 +38,7 @@ pub invariant_of-hand : goal.invariant_of-hand
 invariant_of-hand c =
     let a = c.args.hand.now in
     let is = filled_word a.seat.me.0 c.write.new.seat.me.0 c.args.fresh.now.chunk c.args.place c.args.word c.write.ensures.happens in
-    record { noted = noted_same a.seat.me c.write.new.seat.me a.number a.chunks a.chunks a.locks a.noted c.write.ensures.out c.write.ensures.hand (a.noted.2 ∙ (sym (fill_holds c.args.fresh.now.chunk c.args.place c.args.word a.seat.me.0.row.holdings) ∙ ap (λ (v : View). length v.row.holdings) (sym is))) }
+    record { noted = noted_same a.seat.me c.write.new.seat.me a.number a.chunks a.chunks a.locks a.noted c.write.ensures.out c.write.ensures.hand (a.noted.2 ∙ (sym (fill_holds c.args.fresh.now.chunk c.args.place c.args.word a.seat.me.0.row.holdings) ∙ ap (λ (v : View). length v.row.holdings) (sym is))); tallied = tallied_fresh a.seat.me c.write.new.seat.me a.stamps a.fresh a.fresh a.tallied (ap (λ (v : View). v.row.ids) is) (a.tallied.1 ∙ (sym (fresh_filled c.args.fresh.now.chunk c.args.place c.args.word a.seat.me.0.row.holdings) ∙ ap (λ (v : View). fresh_count v.row.holdings) (sym is))) }
 
 pub returns-clause-filled : goal.returns-clause-filled
 returns-clause-filled c = filled_word c.args.hand.now.seat.me.0 c.write.new.seat.me.0 c.args.fresh.now.chunk c.args.place c.args.word c.write.ensures.happens
@@ -45,4 +48,5 @@ returns-clause-fresh c =
     let view = c.args.hand.now.seat.me.0 in
     let chunk = c.args.fresh.now.chunk in
     let is = filled_word view c.write.new.seat.me.0 chunk c.args.place c.args.word c.write.ensures.happens in
-    subst (λ (v : View). IsFreshOf v chunk c.args.fresh.now.room) (sym is) (still_fresh chunk c.args.place c.args.word view c.args.fresh.now.room c.requires.fresh)
+    let still = subst (λ (v : View). IsFreshOf v chunk c.args.fresh.now.room) (sym is) (still_fresh chunk c.args.place c.args.word view c.args.fresh.now.room c.requires.fresh) in
+    subst (λ (p : ChunkId × ℕ). IsFreshOf c.write.new.seat.me.0 p.0 p.1) (λ k. (sym c.note.ensures.same.0 k, sym c.note.ensures.same.1 k)) still

@@ -6,6 +6,7 @@ use Rattle.mc_words.specs.Out.{IsNoted, HasLocks, with_last, without_slabs}
 use Rattle.mc_words.specs.Views.{slabs_given}
 use Rattle.mc_words.proofs.Locked.{has_slabs_lock, slabs_last, left_slabs, noted_gave_slabs}
 use Rattle.mc_words.proofs.LockViews.{given_slabs}
+use Rattle.mc_words.proofs.Tallies.{tallied_same}
 use Rattle.mc_words.proofs.arena.Arena.give_slabs.Goals as goal
 
 pub give-requires : goal.give-requires
@@ -29,7 +30,7 @@ invariant_of-hand c =
     let had : HasLocks b.seat.me.0 a.locks = subst (λ (v : View). HasLocks v a.locks) (sym view) a.noted.4 in
     let is = given_slabs b.seat.me.0 c.give.new.seat.me.0 c.give.ensures.given c.args.held.shared (ap (λ (v : View). v.slabs) c.bring_forward.ensures.view ∙ c.requires.held) in
     let left = noted_gave_slabs b.seat.me c.give.new.seat.me b.number b.chunks a.locks c.give.ensures.hand (ap (λ (v : View). v.row.holdings) is) noted had has c.give.ensures.loses c.give.ensures.out in
-    record { noted = subst (IsNoted c.give.new.seat.me b.number b.chunks) (sym (c.without_slabs-hand.ensures.locks ∙ (ap without_slabs c.bring_forward.ensures.locks ∙ left_slabs a.locks))) left }
+    record { noted = subst (IsNoted c.give.new.seat.me b.number b.chunks) (sym (c.without_slabs-hand.ensures.locks ∙ (ap without_slabs c.bring_forward.ensures.locks ∙ left_slabs a.locks))) left; tallied = tallied_same b.seat.me c.give.new.seat.me b.stamps b.fresh b.tallied (ap (λ (v : View). v.row.ids) is) (ap (λ (v : View). v.row.holdings) is) }
 
 pub returns-clause-given : goal.returns-clause-given
 returns-clause-given c = subst (λ (v : View). Happens v [] core.GiveSlabs c.give.new.seat.me.0) c.bring_forward.ensures.view c.give.ensures.given

@@ -13,6 +13,7 @@ use Rattle.mc_words.proofs.Judging.{class_of_slabs}
 use Rattle.mc_words.proofs.Pages.{may_grow, next_near, can_grow_here}
 use Rattle.mc_words.proofs.ChangeViews.{changed_slabs}
 use Rattle.mc_words.proofs.Locked.{noted_same}
+use Rattle.mc_words.proofs.Tallies.{tallied_same}
 use Rattle.mc_words.proofs.arena.Arena.grow.Goals as goal
 
 pub grow-requires : goal.grow-requires
@@ -57,7 +58,7 @@ pub invariant_of-hand : goal.invariant_of-hand
 invariant_of-hand c =
     let a = c.args.hand.now in
     let is = changed_slabs a.seat.me.0 c.tell_page.new.seat.me.0 c.args.held.now.shared (Grow c.args.class) a.number (λ s hand. refl) c.requires.held a.noted.0 c.tell_page.ensures.happens in
-    record { noted = noted_same a.seat.me c.tell_page.new.seat.me a.number a.chunks a.chunks a.locks a.noted c.tell_page.ensures.out c.tell_page.ensures.hand (a.noted.2 ∙ ap (λ (v : View). length v.row.holdings) (sym is)) }
+    record { noted = noted_same a.seat.me c.tell_page.new.seat.me a.number a.chunks a.chunks a.locks a.noted c.tell_page.ensures.out c.tell_page.ensures.hand (a.noted.2 ∙ ap (λ (v : View). length v.row.holdings) (sym is)); tallied = tallied_same a.seat.me c.tell_page.new.seat.me a.stamps a.fresh a.tallied (ap (λ (v : View). v.row.ids) is) (ap (λ (v : View). v.row.holdings) is) }
 
 pub returns-clause-view : goal.returns-clause-view
 returns-clause-view c = changed_slabs c.args.hand.now.seat.me.0 c.tell_page.new.seat.me.0 c.args.held.now.shared (Grow c.args.class) c.args.hand.now.number (λ s hand. refl) c.requires.held c.args.hand.now.noted.0 c.tell_page.ensures.happens

@@ -11,6 +11,7 @@ use Rattle.mc_words.specs.Views.{saw}
 use Rattle.mc_words.proofs.Heads.{may_look}
 use Rattle.mc_words.proofs.Locked.{noted_same}
 use Rattle.mc_words.proofs.LockViews.{seen_head, look_holds}
+use Rattle.mc_words.proofs.Tallies.{tallied_same}
 use Rattle.mc_words.proofs.arena.Arena.head.Goals as goal
 
 pub look-requires : goal.look-requires
@@ -31,7 +32,7 @@ invariant_of-hand c =
     let at = subst (λ (n : ℕ). HappensAt n c.look.result view [] (core.Head c.args.chunk) c.look.new.seat.me.0) place c.look.ensures.happens in
     let is = seen_head view c.look.new.seat.me.0 c.args.chunk c.look.result near at in
     let held = ap (λ (v : View). v.row.holdings) is ∙ look_holds (Saw c.args.chunk (decode c.look.result)) (saw (header c.args.chunk (decode c.look.result)) view) in
-    record { noted = noted_same a.seat.me c.look.new.seat.me a.number a.chunks a.chunks a.locks a.noted c.look.ensures.out c.look.ensures.hand (a.noted.2 ∙ ap length (sym held)) }
+    record { noted = noted_same a.seat.me c.look.new.seat.me a.number a.chunks a.chunks a.locks a.noted c.look.ensures.out c.look.ensures.hand (a.noted.2 ∙ ap length (sym held)); tallied = tallied_same a.seat.me c.look.new.seat.me a.stamps a.fresh a.tallied (ap (λ (v : View). v.row.ids) is) (ap (λ (v : View). v.row.holdings) is) }
 
 pub returns-clause-happens : goal.returns-clause-happens
 returns-clause-happens c = c.look.ensures.happens.0

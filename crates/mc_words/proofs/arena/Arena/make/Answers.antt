@@ -1,4 +1,4 @@
-use Rattle.std.proofs.Common.{◌≡◌, ℕ, ◌-◌, ◌≤◌, [], sym, ap, subst, ◌∙◌, arith}
+use Rattle.std.proofs.Common.{◌≡◌, ℕ, ◌-◌, ◌≤◌, [], sym, ap, subst, ◌∙◌, arith, refl}
 use Rattle.mc_classes.specs.Classes.{IsSound}
 use Rattle.mc_core.specs.Chunks.{most_issue}
 use Rattle.mc_words.specs.declared.arena.Arena.{Arena}
@@ -7,6 +7,7 @@ use Rattle.mc_words.specs.View.{Setup, View, new_view}
 use Rattle.mc_words.specs.Happens.{LawfulView}
 use Rattle.mc_words.specs.Opening.{next_view}
 use Rattle.mc_words.specs.Out.{IsNoted}
+use Rattle.mc_words.specs.Tallies.{IsTallied}
 use Rattle.mc_words.specs.Told.{Sits}
 use Rattle.mc_words.proofs.Opens.{new_lawful, new_noted}
 use Rattle.mc_words.proofs.Splits.{splits, one_lawful, next_is}
@@ -34,7 +35,7 @@ invariant_of-result c =
     let near = c.requires.number.1 in
     let me : c.split_seat-seat.result.me ≡ (new_view setup number 0, []) =
     c.split_seat-seat.ensures.4 ∙ ap (λ (v : View). (v, [])) (ap next_view c.requires.first ∙ next_is setup number near) in
-    record { noted = subst (λ (me : Sits). IsNoted me number 0 Neither) (sym me) (new_noted setup number 0 (omega arith)) }
+    record { noted = subst (λ (me : Sits). IsNoted me number 0 Neither) (sym me) (new_noted setup number 0 (omega arith)); tallied = subst (λ (me : Sits). IsTallied me 0 0) (sym me) (refl, refl) }
 
 pub returns-clause-arena : goal.returns-clause-arena
 returns-clause-arena c =

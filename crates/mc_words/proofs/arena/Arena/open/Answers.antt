@@ -1,4 +1,4 @@
-use Rattle.std.proofs.Common.{List, ℕ, ◌-◌, arith, ap, sym, subst, ◌∙◌}
+use Rattle.std.proofs.Common.{List, ℕ, ◌-◌, arith, ap, sym, subst, ◌∙◌, refl}
 use Rattle.atomic_table.specs.Table.{opening}
 use Rattle.mc_words.specs.declared.slot.Slot.{Slot}
 use Rattle.mc_words.specs.declared.locks.Locks.TheVariants.{Neither}
@@ -7,6 +7,7 @@ use Rattle.mc_words.specs.Joining.{Rule}
 use Rattle.mc_words.specs.Happens.{LawfulView}
 use Rattle.mc_words.specs.Opening.{first_view}
 use Rattle.mc_words.specs.Out.{IsNoted}
+use Rattle.mc_words.specs.Tallies.{IsTallied}
 use Rattle.mc_words.specs.Told.{Sits}
 use Rattle.mc_words.proofs.Opens.{rule_first, new_lawful, new_noted}
 use Rattle.mc_words.proofs.arena.Arena.open.Goals as goal
@@ -19,7 +20,7 @@ new-requires c =
     (rule_first setup told.sound told.stripes.0 told.hands.0 told.hands.1 told.start)
 
 pub invariant_of-hand : goal.invariant_of-hand
-invariant_of-hand c = record { noted = subst (λ (me : Sits). IsNoted me 0 0 Neither) (sym c.in-Ok.ensures.ok.4) (let setup : Setup = c.args.plan in new_noted setup 0 (setup.hands - 1) (omega arith)) }
+invariant_of-hand c = record { noted = subst (λ (me : Sits). IsNoted me 0 0 Neither) (sym c.in-Ok.ensures.ok.4) (let setup : Setup = c.args.plan in new_noted setup 0 (setup.hands - 1) (omega arith)); tallied = subst (λ (me : Sits). IsTallied me 0 0) (sym c.in-Ok.ensures.ok.4) (refl, refl) }
 
 pub returns-clause-arena : goal.returns-clause-arena
 returns-clause-arena c =

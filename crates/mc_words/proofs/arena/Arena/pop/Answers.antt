@@ -10,11 +10,13 @@ use Rattle.mc_core.specs.declared.event.Step.TheVariants as core
 use Rattle.mc_words.specs.View.{View, Setup}
 use Rattle.mc_words.specs.Layout.{head_word}
 use Rattle.mc_words.specs.Fresh.{IsFreshOf}
+use Rattle.mc_words.specs.Tallies.{fresh_count}
 use Rattle.mc_words.specs.Happens.{MayWrite}
 use Rattle.mc_words.specs.Views.{fresh_holding}
 use Rattle.mc_words.proofs.Owners.{may_pop, first_near}
 use Rattle.mc_words.proofs.Judging.{after_slabs, after_last, after_holds, pop_after, pops, is_fresh_of, issue_left, issue_worn, class_of_slabs, class_of_table, room_of}
 use Rattle.mc_words.proofs.Locked.{noted_same}
+use Rattle.mc_words.proofs.Tallies.{fresh_more, fresh_most, tallied_fresh}
 use Rattle.mc_words.proofs.arena.Arena.pop.Goals as goal
 
 pub head-head-requires : goal.head-head-requires
@@ -71,7 +73,9 @@ invariant_of-hand c =
     let popped = pops seen c.add.new.seat.me.0 slabs mine class chunk head seen_class first last c.add.ensures.happens in
     let more = length-append seen.row.holdings (fresh_holding chunk (head.issue + 1) (room_in seen.setup.table class) ∷ []) in
     let count = a.noted.2 in
-    record { noted = noted_same a.seat.me c.add.new.seat.me a.number a.chunks (a.chunks + 1) a.locks a.noted c.add.ensures.out c.add.ensures.hand ((omega arith) ∙ (sym more ∙ ap (λ (v : View). length v.row.holdings) (sym popped))) }
+    let fills = a.tallied.1 in
+    let fuller = fresh_more seen.row.holdings (fresh_holding chunk (head.issue + 1) (room_in seen.setup.table class)) in
+    record { noted = noted_same a.seat.me c.add.new.seat.me a.number a.chunks (a.chunks + 1) a.locks a.noted c.add.ensures.out c.add.ensures.hand ((omega arith) ∙ (sym more ∙ ap (λ (v : View). length v.row.holdings) (sym popped))); tallied = tallied_fresh a.seat.me c.add.new.seat.me a.stamps a.fresh (a.fresh + 1) a.tallied (ap (λ (v : View). v.row.ids) popped) ((omega arith) ∙ (sym fuller ∙ ap (λ (v : View). fresh_count v.row.holdings) (sym popped))) }
 
 pub returns-then-head-ge-MOST_ISSUE-clause-worn : goal.returns-then-head-ge-MOST_ISSUE-clause-worn
 returns-then-head-ge-MOST_ISSUE-clause-worn c =
@@ -174,3 +178,14 @@ returns-clause-fresh c =
       room_is,
       subst (IsFreshOf c.add.new.seat.me.0 chunk) (sym (room_is ∙ ap (λ (s : Setup). room_in s.table class) (sym arena.setup))) (is_fresh_of seen c.add.new.seat.me.0 slabs mine class chunk head seen_class first arena.lawful near popped),
     )
+
+pub overflow_add-hand-2 : goal.overflow_add-hand-2
+overflow_add-hand-2 c =
+    let slabs = c.args.held.now.shared in
+    let view = c.args.hand.now.seat.me.0 in
+    let a = c.head-head.new.hand in
+    let same = ap length (after_holds view a.seat.me.0 a.seat.me.0 slabs c.in-Some.chunk (decode c.head-head.result) c.requires.held c.head-head.ensures.seen c.head-head.ensures.happens) in
+    let few = c.requires.room in
+    let most = fresh_most a.seat.me.0.row.holdings in
+    let fills = a.tallied.1 in
+    omega arith

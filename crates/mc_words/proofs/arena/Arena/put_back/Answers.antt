@@ -12,6 +12,7 @@ use Rattle.mc_words.specs.Happens.{MayWrite}
 use Rattle.mc_words.proofs.Owners.{may_put_back}
 use Rattle.mc_words.proofs.Judging.{after_slabs, after_last, put_back_after, puts_back, stands_out, word_dead, word_alive}
 use Rattle.mc_words.proofs.Locked.{noted_same}
+use Rattle.mc_words.proofs.Tallies.{tallied_same}
 use Rattle.mc_words.proofs.arena.Arena.put_back.Goals as goal
 
 pub subtract-requires : goal.subtract-requires
@@ -41,7 +42,7 @@ invariant_of-hand c =
     let mine = after_slabs view seen seen slabs chunk head c.requires.held c.head-head.ensures.seen c.head-head.ensures.happens in
     let last = after_last view seen seen slabs chunk head c.requires.held c.head-head.ensures.seen c.head-head.ensures.happens in
     let is = puts_back seen c.subtract.new.seat.me.0 slabs mine chunk head near last (word_dead c.head-head.result c.if-head-ne-DEAD.false) c.subtract.ensures.happens in
-    record { noted = noted_same a.seat.me c.subtract.new.seat.me a.number a.chunks a.chunks a.locks a.noted c.subtract.ensures.out c.subtract.ensures.hand (a.noted.2 ∙ ap (λ (v : View). length v.row.holdings) (sym is)) }
+    record { noted = noted_same a.seat.me c.subtract.new.seat.me a.number a.chunks a.chunks a.locks a.noted c.subtract.ensures.out c.subtract.ensures.hand (a.noted.2 ∙ ap (λ (v : View). length v.row.holdings) (sym is)); tallied = tallied_same a.seat.me c.subtract.new.seat.me a.stamps a.fresh a.tallied (ap (λ (v : View). v.row.ids) is) (ap (λ (v : View). v.row.holdings) is) }
 
 pub back-requires : goal.back-requires
 back-requires c =

@@ -10,6 +10,7 @@ use Rattle.mc_words.specs.Views.{saw}
 use Rattle.mc_words.proofs.Locked.{noted_same}
 use Rattle.mc_words.proofs.LockViews.{look_holds}
 use Rattle.mc_words.proofs.StripeChanges.{stripe_near, may_reserve, made, reserved_stripe}
+use Rattle.mc_words.proofs.Tallies.{tallied_same}
 use Rattle.mc_words.proofs.arena.Arena.reserve.Goals as goal
 
 pub slot-word-requires : goal.slot-word-requires
@@ -45,7 +46,7 @@ invariant_of-hand c =
     let number = c.args.held.now.number in
     let is = reserved_stripe a.seat.me.0 number c.args.held.now.stripe c.requires.held c.tell.new.seat.me.0 a.number a.noted.0 c.tell.ensures.happens in
     let held = ap (λ (v : View). v.row.holdings) is ∙ look_holds (SawStripe number (a.number + 1)) (saw (stripe_word number (a.number + 1)) (made a.seat.me.0 number c.args.held.now.stripe c.requires.held)) in
-    record { noted = noted_same a.seat.me c.tell.new.seat.me a.number a.chunks a.chunks a.locks a.noted c.tell.ensures.out c.tell.ensures.hand (a.noted.2 ∙ ap length (sym held)) }
+    record { noted = noted_same a.seat.me c.tell.new.seat.me a.number a.chunks a.chunks a.locks a.noted c.tell.ensures.out c.tell.ensures.hand (a.noted.2 ∙ ap length (sym held)); tallied = tallied_same a.seat.me c.tell.new.seat.me a.stamps a.fresh a.tallied (ap (λ (v : View). v.row.ids) is) (ap (λ (v : View). v.row.holdings) is) }
 
 pub returns-clause-view : goal.returns-clause-view
 returns-clause-view c = reserved_stripe c.args.hand.now.seat.me.0 c.args.held.now.number c.args.held.now.stripe c.requires.held c.tell.new.seat.me.0 c.args.hand.now.number c.args.hand.now.noted.0 c.tell.ensures.happens

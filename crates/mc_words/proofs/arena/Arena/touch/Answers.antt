@@ -7,6 +7,7 @@ use Rattle.mc_words.specs.View.{View}
 use Rattle.mc_words.proofs.Pages.{may_touch}
 use Rattle.mc_words.proofs.ChangeViews.{changed_slabs}
 use Rattle.mc_words.proofs.Locked.{noted_same}
+use Rattle.mc_words.proofs.Tallies.{tallied_same}
 use Rattle.mc_words.proofs.arena.Arena.touch.Goals as goal
 
 pub touch-requires : goal.touch-requires
@@ -22,7 +23,7 @@ pub invariant_of-hand : goal.invariant_of-hand
 invariant_of-hand c =
     let a = c.args.hand.now in
     let is = changed_slabs a.seat.me.0 c.tell.new.seat.me.0 c.args.held.now.shared (Touch c.args.chunk) a.number (λ s hand. refl) c.requires.held a.noted.0 c.tell.ensures.happens in
-    record { noted = noted_same a.seat.me c.tell.new.seat.me a.number a.chunks a.chunks a.locks a.noted c.tell.ensures.out c.tell.ensures.hand (a.noted.2 ∙ ap (λ (v : View). length v.row.holdings) (sym is)) }
+    record { noted = noted_same a.seat.me c.tell.new.seat.me a.number a.chunks a.chunks a.locks a.noted c.tell.ensures.out c.tell.ensures.hand (a.noted.2 ∙ ap (λ (v : View). length v.row.holdings) (sym is)); tallied = tallied_same a.seat.me c.tell.new.seat.me a.stamps a.fresh a.tallied (ap (λ (v : View). v.row.ids) is) (ap (λ (v : View). v.row.holdings) is) }
 
 pub returns-clause-view : goal.returns-clause-view
 returns-clause-view c = changed_slabs c.args.hand.now.seat.me.0 c.tell.new.seat.me.0 c.args.held.now.shared (Touch c.args.chunk) c.args.hand.now.number (λ s hand. refl) c.requires.held c.args.hand.now.noted.0 c.tell.ensures.happens

@@ -6,6 +6,7 @@ use Rattle.mc_words.specs.Taking.{HasValue}
 use Rattle.mc_words.proofs.Locked.{noted_slabs}
 use Rattle.mc_words.proofs.Lent.{lent_slabs}
 use Rattle.mc_words.proofs.LockViews.{taken_slabs, missed_slabs}
+use Rattle.mc_words.proofs.Tallies.{tallied_same}
 use Rattle.mc_words.proofs.arena.Arena.try_slabs.Goals as goal
 
 pub invariant_of-hand : goal.invariant_of-hand
@@ -15,7 +16,7 @@ invariant_of-hand c =
     let is = taken_slabs c.args.hand.now.seat.me.0 c.take.new.seat.me.0 told.taken c.in-Some-OfSlabs.shared has in
     let a = c.args.hand.now in
     let noted = noted_slabs a.seat.me c.take.new.seat.me a.number a.chunks a.locks a.noted c.take.ensures.hand told.gains told.out (ap (λ (v : View). v.row.holdings) is) in
-    record { noted = subst (IsNoted c.take.new.seat.me a.number a.chunks) (sym c.with_slabs-hand.ensures.locks) noted }
+    record { noted = subst (IsNoted c.take.new.seat.me a.number a.chunks) (sym c.with_slabs-hand.ensures.locks) noted; tallied = tallied_same a.seat.me c.take.new.seat.me a.stamps a.fresh a.tallied (ap (λ (v : View). v.row.ids) is) (ap (λ (v : View). v.row.holdings) is) }
 
 pub returns-in-Some-OfSlabs-clause-lent : goal.returns-in-Some-OfSlabs-clause-lent
 returns-in-Some-OfSlabs-clause-lent c =

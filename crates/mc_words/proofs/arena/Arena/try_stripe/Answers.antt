@@ -10,6 +10,7 @@ use Rattle.mc_words.proofs.Lent.{lent_stripe}
 use Rattle.mc_words.proofs.Unlocked.{no_stripe_from}
 use Rattle.mc_words.proofs.Locked.{noted_stripe, noted_same}
 use Rattle.mc_words.proofs.LockViews.{taken_stripe, missed_stripe, look_holds}
+use Rattle.mc_words.proofs.Tallies.{tallied_same}
 use Rattle.mc_words.proofs.arena.Arena.try_stripe.Goals as goal
 
 pub invariant_of-hand : goal.invariant_of-hand
@@ -21,7 +22,7 @@ invariant_of-hand c =
     let a = c.args.hand.now in
     let near : c.args.stripe < a.seat.me.0.setup.config.stripes = let same = ap (λ (s : Setup). s.config.stripes) c.requires.arena.setup in let near = c.requires.near in omega arith in
     let noted = noted_stripe a.seat.me c.take.new.seat.me a.number a.chunks c.args.stripe a.locks (no_stripe_from a.seat.me.0 a.locks a.noted.4 c.requires.one) (lt-ltb c.args.stripe a.seat.me.0.setup.config.stripes near) a.noted c.take.ensures.hand told.gains told.out (ap (λ (v : View). v.row.holdings) is) in
-    record { noted = subst (IsNoted c.take.new.seat.me a.number a.chunks) (sym c.with_stripe-hand.ensures.locks) noted }
+    record { noted = subst (IsNoted c.take.new.seat.me a.number a.chunks) (sym c.with_stripe-hand.ensures.locks) noted; tallied = tallied_same a.seat.me c.take.new.seat.me a.stamps a.fresh a.tallied (ap (λ (v : View). v.row.ids) is) (ap (λ (v : View). v.row.holdings) is) }
 
 pub invariant_of-hand-in-None : goal.invariant_of-hand-in-None
 invariant_of-hand-in-None c =
@@ -30,7 +31,7 @@ invariant_of-hand-in-None c =
     let near : c.args.stripe < a.seat.me.0.setup.config.stripes = let same = ap (λ (s : Setup). s.config.stripes) c.requires.arena.setup in let near = c.requires.near in omega arith in
     let (word, busy, at) = c.in-None.ensures.missed refl in
     let is = missed_stripe a.seat.me.0 c.take.new.seat.me.0 c.args.stripe word near at in
-    record { noted = noted_same a.seat.me c.take.new.seat.me a.number a.chunks a.chunks a.locks a.noted stays.0 stays.1 (a.noted.2 ∙ ap length (sym (ap (λ (v : View). v.row.holdings) is ∙ look_holds (SawStripe c.args.stripe word) (saw (stripe_word c.args.stripe word) a.seat.me.0)))) }
+    record { noted = noted_same a.seat.me c.take.new.seat.me a.number a.chunks a.chunks a.locks a.noted stays.0 stays.1 (a.noted.2 ∙ ap length (sym (ap (λ (v : View). v.row.holdings) is ∙ look_holds (SawStripe c.args.stripe word) (saw (stripe_word c.args.stripe word) a.seat.me.0)))); tallied = tallied_same a.seat.me c.take.new.seat.me a.stamps a.fresh a.tallied (ap (λ (v : View). v.row.ids) is) (ap (λ (v : View). v.row.holdings) is) }
 
 pub returns-in-Some-OfStripe-clause-lent : goal.returns-in-Some-OfStripe-clause-lent
 returns-in-Some-OfStripe-clause-lent c =

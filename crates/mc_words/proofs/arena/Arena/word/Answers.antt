@@ -4,6 +4,7 @@ use Rattle.mc_words.specs.Layout.{data_word, config_from}
 use Rattle.mc_words.specs.Refs.{IsRefOf}
 use Rattle.mc_words.proofs.WordReads.{item_found, word_near, word_is, may_read, read_word}
 use Rattle.mc_words.proofs.Locked.{noted_same}
+use Rattle.mc_words.proofs.Tallies.{tallied_same}
 use Rattle.mc_words.proofs.arena.Arena.word.Goals as goal
 
 pub data_word-at-requires : goal.data_word-at-requires
@@ -28,7 +29,7 @@ pub invariant_of-hand : goal.invariant_of-hand
 invariant_of-hand c =
     let a = c.args.hand.now in
     let is = read_word a.seat.me.0 c.look.new.seat.me.0 c.args.reference.now.chunk c.args.place c.look.ensures.happens.0 in
-    record { noted = noted_same a.seat.me c.look.new.seat.me a.number a.chunks a.chunks a.locks a.noted c.look.ensures.out c.look.ensures.hand (a.noted.2 ∙ ap (λ (v : View). length v.row.holdings) (sym is)) }
+    record { noted = noted_same a.seat.me c.look.new.seat.me a.number a.chunks a.chunks a.locks a.noted c.look.ensures.out c.look.ensures.hand (a.noted.2 ∙ ap (λ (v : View). length v.row.holdings) (sym is)); tallied = tallied_same a.seat.me c.look.new.seat.me a.stamps a.fresh a.tallied (ap (λ (v : View). v.row.ids) is) (ap (λ (v : View). v.row.holdings) is) }
 
 pub returns-clause-happens : goal.returns-clause-happens
 returns-clause-happens c = c.look.ensures.happens.0

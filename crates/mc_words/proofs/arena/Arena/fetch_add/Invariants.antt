@@ -1,0 +1,5 @@
+use Rattle.mc_words.specs.Told.{TellsFound}
+use Rattle.mc_words.proofs.arena.Arena.fetch_add.Given as goal
+
+abbrev pub ghosts-fetch_add : goal.ghosts-fetch_add
+ghosts-fetch_add g a = record { then = TellsFound g.told }
