@@ -1,5 +1,5 @@
 -- Calls on keys: the lock of the key's stripe is taken, the call is made there, and the lock is given back.
-use Rattle.std.specs.Prelude.{◌≡◌, ℕ, ◌+◌, Option, Some, None}
+use Rattle.std.specs.Prelude.{◌≡◌, ℕ, ◌+◌, true, Option, Some, None}
 use Rattle.mc_stripe.specs.StripeState.{ReadyStripe, place_of}
 use Rattle.mc_stripe.specs.Changes.{after_got, used_up}
 use Rattle.mc_words.specs.View.{View}

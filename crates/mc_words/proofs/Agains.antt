@@ -70,7 +70,7 @@ seen_small view now chunk word near h is =
 
 -- the header is as it was seen
 pub may_again : (view : View) (chunk : ChunkId) (issue head : ℕ) → has_chunk view.setup.table chunk ≡ true → length view.row.holdings < 255 → is_there issue (decode head) ≡ true → head + 1 < 2 ^ 64 → MayExchange view (core.Again chunk issue) (head_word view.setup chunk) head (head + 1)
-may_again view chunk issue head near few there small was hit fits =
+may_again view chunk issue head near few there small was fits hit =
     let s : State = was.moment.state in
     let here = near_here view chunk near was in
     let is : head_at s chunk ≡ decode head = head_is view chunk near was ∙ ap decode hit in

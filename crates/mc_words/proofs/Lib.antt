@@ -18,12 +18,16 @@ pub mod Owners
 pub mod OwnerViews
 pub mod Releases
 pub mod WordReads
+pub mod HeldReads
+pub mod Reasoned
+pub mod Condemns
+pub mod CondemnCalls
+pub mod Sweeps
 pub mod Calls
 pub mod Refers
 pub mod References
 pub mod GetsItems
 pub mod NoneTold
-pub mod Exchanges
 pub mod Agains
 pub mod Peeks
 pub mod Filled

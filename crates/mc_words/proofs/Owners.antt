@@ -58,7 +58,7 @@ module _ (view : View) (was : LawfulView view) where
   pub slabs_here : (slabs : SlabState) → view.slabs ≡ Some slabs → (has_slabs s id ≡ true) × (s.slabs ≡ slabs)
   slabs_here slabs mine = held_from (has_slabs s id) s.slabs slabs (ap (λ (v : View). v.slabs) (sym was.is) ∙ mine)
 
-  judged : (slabs : SlabState) → view.slabs ≡ Some slabs → IsJudged was.moment id
+  pub judged : (slabs : SlabState) → view.slabs ≡ Some slabs → IsJudged was.moment id
   judged slabs mine = all_are_judged was.moment was.lawful id (slabs_here slabs mine).0
 
   pub needless : AreNeedless was.moment

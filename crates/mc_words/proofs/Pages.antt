@@ -4,15 +4,16 @@ use Rattle.std.proofs.lemmas.Bool.{cases_eq, and_from}
 use Rattle.mc_classes.specs.Classes.{Classes, pages_of}
 use Rattle.mc_pages.proofs.RoomyGrow.{next_within}
 use Rattle.mc_pages.proofs.GrantedPage.{length-owners}
+use Rattle.mc_pages.specs.declared.ids.ChunkId.{ChunkId}
 use Rattle.mc_pages.specs.SlabState.{SlabState, class_of_owner, class_of_page}
 use Rattle.mc_pages.specs.declared.ledger.Owner.{Owner}
 use Rattle.mc_pages.specs.declared.ledger.Owner.TheVariants.{Untouched, Class}
 use Rattle.mc_pages.specs.Ledger.{owner_at}
 use Rattle.mc_pages.specs.Changes.{next_page, after_grow}
-use Rattle.mc_core.specs.declared.event.Change.TheVariants.{Grow, SetAutomove}
+use Rattle.mc_core.specs.declared.event.Change.TheVariants.{Evicted, Grow, SetAutomove, Touch}
 use Rattle.mc_core.specs.declared.event.Step.TheVariants as core
 use Rattle.mc_core.specs.State.{State, is_class}
-use Rattle.mc_core.specs.Silent.{grown, can_change_slabs}
+use Rattle.mc_core.specs.Silent.{grown, can_change_slabs, is_handed_out}
 use Rattle.mc_core.proofs.SamePages.{grown_owners, grown_pages}
 use Rattle.mc_words.specs.View.{View}
 use Rattle.mc_words.specs.Layout.{lock_word, page_word}
@@ -58,6 +59,22 @@ may_grow view slabs class page mine can next near owned = record {
 pub may_set_automove : (view : View) (slabs : SlabState) (mode : ℕ) → view.slabs ≡ Some slabs → can_change_slabs view.setup.table slabs (SetAutomove mode) ≡ true → MayTell view (SetAutomove mode) core.MissSlabs (lock_word 0) (λ found. found)
 may_set_automove view slabs mode mine can = record {
   allowed = λ was. and_from _ _ (slabs_here view was slabs mine).0 can;
+  step_allowed = λ was. refl;
+  writes = λ was. let s : State = was.moment.state in (was.cuts, unwritten view.setup was.cuts was.words s.slabs_lock s.stripe_locks s.heads s.words was.are (lock_word 0), was.cut);
+}
+
+-- a chunk that is handed out is touched
+pub may_touch : (view : View) (slabs : SlabState) (chunk : ChunkId) → view.slabs ≡ Some slabs → is_handed_out slabs chunk ≡ true → MayTell view (Touch chunk) core.MissSlabs (lock_word 0) (λ found. found)
+may_touch view slabs chunk mine out = record {
+  allowed = λ was. let held = slabs_here view was slabs mine in and_from _ _ held.0 (ap (λ slabs. is_handed_out slabs chunk) held.1 ∙ out);
+  step_allowed = λ was. refl;
+  writes = λ was. let s : State = was.moment.state in (was.cuts, unwritten view.setup was.cuts was.words s.slabs_lock s.stripe_locks s.heads s.words was.are (lock_word 0), was.cut);
+}
+
+-- an eviction is counted
+pub may_evicted : (view : View) (slabs : SlabState) (class : ℕ) → view.slabs ≡ Some slabs → is_class view.setup.table class ≡ true → MayTell view (Evicted class) core.MissSlabs (lock_word 0) (λ found. found)
+may_evicted view slabs class mine is = record {
+  allowed = λ was. and_from _ _ (slabs_here view was slabs mine).0 (ap (λ table. is_class table class) was.same_table ∙ is);
   step_allowed = λ was. refl;
   writes = λ was. let s : State = was.moment.state in (was.cuts, unwritten view.setup was.cuts was.words s.slabs_lock s.stripe_locks s.heads s.words was.are (lock_word 0), was.cut);
 }

@@ -1,11 +1,13 @@
 -- A step that takes and gives no lock keeps the rule, where the core allows it and the word becomes what the core says.
-use Rattle.std.proofs.Common.{◌≡◌, ℕ, Bool, true, false, List, [], ◌∷◌, map, Option, Some, None, refl, sym, ap, ap₂, subst, ◌∙◌, slice_set, slice_index, is_some, if◌then◌else◌, arith}
+use Rattle.std.proofs.Common.{◌≡◌, ℕ, Bool, true, false, List, [], ◌∷◌, map, Option, Some, None, refl, sym, ap, ap₂, subst, ◌∙◌, slice_set, slice_index, is_some, if◌then◌else◌, eqb, arith}
 use Rattle.std.proofs.lemmas.Bool.{and_from}
 use Rattle.std.specs.List.{range_with_len}
 use mathlib.Core.Option.{some, none}
 use lib.ListN.{get_elem?}
+use prog.Atomic.{either}
 use Rattle.atomic_table.specs.Table as table
 use Rattle.atomic_table.specs.Table.{Act, Valid, stepped, keeps, carried_after, Allows}
+use Rattle.atomic_table.proofs.Lists.{exchanged}
 use Rattle.mc_core.specs.declared.head.Head.{Head}
 use Rattle.mc_core.specs.declared.event.Change.{Change}
 use Rattle.mc_core.specs.declared.event.Step.{Step}
@@ -25,8 +27,8 @@ use Rattle.mc_pages.specs.Ledger.{owner_at}
 use Rattle.mc_words.specs.declared.slot.Slot.{Slot}
 use Rattle.mc_words.specs.View.{Setup, View, view_at, held_stripes}
 use Rattle.mc_words.specs.Meaning.{Words, WordsOf, AreCut, Ruled}
-use Rattle.mc_words.specs.Happens.{LawfulView, Happens, HappensAt, MayWrite, MayTell, event_of, is_quiet}
-use Rattle.mc_words.specs.Told.{Sits, StaysOut, TellsFound, TellsEvent, TellsChange}
+use Rattle.mc_words.specs.Happens.{LawfulView, Happens, HappensAt, MayWrite, MayExchange, MayTell, event_of, is_quiet}
+use Rattle.mc_words.specs.Told.{Sits, StaysOut, TellsFound, TellsEvent, TellsChange, TellsExchange}
 use Rattle.mc_words.specs.Joining.{Rule}
 use Rattle.mc_words.proofs.Rules.{lawful_view, ruled_quiet}
 use Rattle.mc_words.proofs.Reached.{reached_more, reached_stepped}
@@ -241,6 +243,25 @@ module _ (setup : Setup) (slots id : ℕ) (me : Sits) (live : IsSettled me.0) (o
     -- a sum
     pub changes : (first second : ℕ) → Allows (Rule setup) slots id me place written (λ found. TellsEvent step (table.step slots place first second none) me found)
     changes first second = may_go (λ found. TellsEvent step (table.step slots place first second none) me found) (λ found now out happens. (out, happens.0))
+
+  -- an exchange, of which a miss looks
+  pub exchanges : (step look : Step) → is_quiet step ≡ true → is_quiet look ≡ true → (place expected word : ℕ) → MayExchange me.0 step place expected word → MayWrite me.0 look place (λ found. found)
+      → Allows (Rule setup) slots id me place (λ n. either (eqb n expected) word n) (TellsExchange step look (table.step slots place expected word none) me)
+  exchanges step look still quiet place expected word may may_look =
+      let told : ℕ → Sits → Type 0 = TellsExchange step look (table.step slots place expected word none) me in
+      lifts setup slots id me live.1 place (λ n. either (eqb n expected) word n) told
+      (λ t r _ at fits.
+      let m : Moment = r.moment in
+      let found : ℕ = slice_index t.words place in
+      exchanged found expected word (Goes t place told)
+      (λ hit.
+      let can = may (was t r at) fits hit in
+      let are = subst (λ (s : Setup). WordsOf s r.cuts (slice_set t.words place word) (after_step m.state id step)) of can.1 in
+      goes t r at step still place word can.0 are told (λ out happens. (out, (λ _. happens), λ miss. absurd (miss hit))))
+      (λ miss.
+      let can = may_look (was t r at) fits in
+      let are = subst (λ (s : Setup). WordsOf s r.cuts (slice_set t.words place found) (after_step m.state id look)) of can.1 in
+      goes t r at look quiet place found can.0 are told (λ out happens. (out, (λ hit. absurd (miss hit)), λ _. happens))))
 
   -- a change that is told by a look or by a store
   pub tells_looking : (change : Change) (step : Step) → is_quiet step ≡ true → (place first second : ℕ) → MayTell me.0 change step place (λ found. found) → Allows (Rule setup) slots id me place (λ n. n) (λ found. TellsChange change step me)

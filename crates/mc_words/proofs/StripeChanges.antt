@@ -27,7 +27,7 @@ use Rattle.mc_words.proofs.TakeAndGive.{held_from}
 use Rattle.mc_words.proofs.Written.{lock_read, unwritten}
 
 -- what is found stands inside
-inside : (all : List (Option ReadyStripe)) (i : ℕ) (value : ReadyStripe) → slice_index_or all i None ≡ Some value → i < length all
+pub inside : (all : List (Option ReadyStripe)) (i : ℕ) (value : ReadyStripe) → slice_index_or all i None ≡ Some value → i < length all
 inside [] i value found = absurd (cc)
 inside (entry ∷ all) zero value found = omega arith
 inside (entry ∷ all) (suc i) value found = let rest = inside all i value found in omega arith

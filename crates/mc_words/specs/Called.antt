@@ -1,13 +1,17 @@
 -- What calls on keys change of a hand's view: all else stays.
 use Rattle.std.specs.Prelude.{ℕ, ◌+◌, ◌==◌, [], ◌∷◌, ◌++◌, if◌then◌else◌, map, slice_set, Some}
+use Rattle.mc_pages.specs.declared.ids.ChunkId.{ChunkId}
 use Rattle.mc_stripe.specs.declared.history.Call.{Call}
-use Rattle.mc_stripe.specs.declared.history.Call.TheVariants.{Get}
+use Rattle.mc_stripe.specs.declared.history.Call.TheVariants.{Get, Evict}
 use Rattle.mc_stripe.specs.StripeState.{ReadyStripe, stamp_of}
-use Rattle.mc_stripe.specs.Changes.{after_got, used_up}
+use Rattle.mc_stripe.specs.Changes.{after_evict, after_got, used_up}
+use Rattle.mc_core.specs.declared.head.Head.{Head}
 use Rattle.mc_core.specs.declared.holding.Holding.{Holding}
+use Rattle.mc_core.specs.declared.look.Look.TheVariants.{Condemned}
+use Rattle.mc_core.specs.Evictions.{condemned}
 use Rattle.mc_core.specs.Past.{Own, known_by, with_more}
 use Rattle.mc_words.specs.View.{View}
-use Rattle.mc_words.specs.Views.{with_knowledge, with_holdings, stripe_missed}
+use Rattle.mc_words.specs.Views.{with_knowledge, with_holdings, looked, stripe_missed}
 
 -- the number's own calls on keys of this stripe, with one more
 abbrev pub with_own_call : ℕ → ℕ → Call → Own → Own
@@ -21,6 +25,15 @@ called number stripe call view = with_knowledge (record view.row.knows { mine = 
 abbrev pub key_got : ℕ → ℕ → ReadyStripe → ℕ → View → View
 key_got number stripe value key view =
     record (called number stripe (Get number key (stamp_of value.state key)) view) { stripes = slice_set view.stripes stripe (Some (used_up (after_got value.state number key))) }
+
+-- it evicted a key, whose stripe had this value
+abbrev pub key_evicted : ℕ → ℕ → ReadyStripe → ℕ → View → View
+key_evicted number stripe value key view =
+    record (called number stripe (Evict number key) view) { stripes = slice_set view.stripes stripe (Some (used_up (after_evict value.state number key))) }
+
+-- and took the key's item away from this chunk, whose header was this
+abbrev pub item_condemned : ℕ → ℕ → ReadyStripe → ℕ → ChunkId → Head → View → View
+item_condemned number stripe value key chunk head view = looked (Condemned chunk (condemned head)) (key_evicted number stripe value key view)
 
 -- it got this reference, to an item in a chunk with room for so many words
 abbrev pub item_referred : Holding → ℕ → View → View

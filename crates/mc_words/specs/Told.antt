@@ -26,9 +26,10 @@ TellsFound step at me found now = StaysOut me now × HappensAt at.word found me.
 abbrev pub TellsEvent : Step → At → Sits → ℕ → Sits → Type 0
 TellsEvent step at me written now = StaysOut me now × Happens me.0 [] step now.0
 
--- the step was this event where the word was found as it was seen before, and otherwise the other event, which found it so
+-- the step was the one event where it found the word as expected, and else the other, which looks at it
 abbrev pub TellsExchange : Step → Step → At → Sits → ℕ → Sits → Type 0
-TellsExchange step miss at me found now = StaysOut me now × (found ≡ at.first → Happens me.0 [] step now.0) × (found ≢ at.first → HappensAt at.word found me.0 [] miss now.0)
+TellsExchange step look at me found now =
+    StaysOut me now × (found ≡ at.first → HappensAt at.word found me.0 [] step now.0) × (found ≢ at.first → HappensAt at.word found me.0 [] look now.0)
 
 -- the step was this event, before which the change was made
 abbrev pub TellsChange : Change → Step → Sits → Sits → Type 0

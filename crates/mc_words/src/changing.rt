@@ -1,7 +1,8 @@
 //! Changes of pages and lists, and of stripes, that write no header. Each is told at once.
 ghost use Rattle.std.specs.Prelude.{◌≡◌, ℕ, ◌+◌, ◌<◌, ◌≤◌, ◌↔◌, [], ◌∷◌, true, slice_index_or, None, Some, Err, IfOk, IsOk, OnOk, OnErr};
 ghost use Rattle.mc_classes.specs.Classes.{pages_of};
-ghost use Rattle.mc_pages.specs.Changes.{after_grow, next_page};
+ghost use Rattle.mc_pages.specs.Changes.{after_evicted, after_grow, after_touch, next_page};
+ghost use Rattle.mc_core.specs.Silent.{is_handed_out};
 ghost use Rattle.mc_core.specs.State.{is_class};
 ghost use Rattle.mc_core.specs.declared.event.Change.TheVariants as change;
 ghost use Rattle.mc_core.specs.declared.event.Step.TheVariants as step;
@@ -15,7 +16,7 @@ use crate::held::{SlabsHeld, StripeHeld};
 use crate::locks::Lock;
 use mc_classes::{ClassId, PageId};
 use mc_core::{Change, Step};
-use mc_pages::Grow;
+use mc_pages::{ChunkId, Grow};
 use mc_stripe::NoMemory;
 
 impl Arena {
@@ -33,6 +34,41 @@ impl Arena {
     {
         held.shared.slabs_mut().set_automove(mode);
         let change = Change::SetAutomove(mode);
+        self.tell(&mut hand.seat, 1, change, Step::MissSlabs);
+    }
+
+    /// A chunk that is handed out goes to the back of its class's hand-out order, as if it had just been handed out. (own,
+    /// for items.c's `do_item_bump`)
+    pub fn touch(&self, hand: &mut Hand, held: &mut SlabsHeld, chunk: ChunkId)
+        requires arena { IsHandOf self.now hand.old }
+        requires out { is_handed_out held.old.shared chunk ≡ true }
+        requires held { (view hand.old).slabs ≡ Some held.old.shared }
+        ensures arena { IsHandOf self.now hand.new }
+        ensures locks { hand.new.locks ≡ hand.old.locks }
+        ensures held { (view hand.new).slabs ≡ Some held.new.shared }
+        ensures touched { held.new.shared ≡ after_touch held.old.shared chunk }
+        ensures happens { Happens (view hand.old) (change.Touch chunk ∷ []) step.MissSlabs (view hand.new) }
+        ensures view { view hand.new ≡ slabs_changed held.old.shared (change.Touch chunk) (hand.old.number + 1) (view hand.old) }
+    {
+        held.shared.slabs_mut().touch(chunk);
+        let change = Change::Touch(chunk);
+        self.tell(&mut hand.seat, 1, change, Step::MissSlabs);
+    }
+
+    /// Counts that an item of the class was evicted. (`evicted` of items.c's `itemstats`)
+    pub fn evicted(&self, hand: &mut Hand, held: &mut SlabsHeld, class: ClassId)
+        requires arena { IsHandOf self.now hand.old }
+        requires class { is_class (setup_of self.now).table class ≡ true }
+        requires held { (view hand.old).slabs ≡ Some held.old.shared }
+        ensures arena { IsHandOf self.now hand.new }
+        ensures locks { hand.new.locks ≡ hand.old.locks }
+        ensures held { (view hand.new).slabs ≡ Some held.new.shared }
+        ensures counted { held.new.shared ≡ after_evicted held.old.shared class }
+        ensures happens { Happens (view hand.old) (change.Evicted class ∷ []) step.MissSlabs (view hand.new) }
+        ensures view { view hand.new ≡ slabs_changed held.old.shared (change.Evicted class) (hand.old.number + 1) (view hand.old) }
+    {
+        held.shared.slabs_mut().evicted(class);
+        let change = Change::Evicted(class);
         self.tell(&mut hand.seat, 1, change, Step::MissSlabs);
     }
 
@@ -70,6 +106,8 @@ impl Arena {
         requires held { slice_index_or (view hand.old).stripes held.old.number None ≡ Some held.old.stripe }
         ensures arena { IsHandOf self.now hand.new }
         ensures locks { hand.new.locks ≡ hand.old.locks }
+        ensures number { held.new.number ≡ held.old.number }
+        ensures held { slice_index_or (view hand.new).stripes held.new.number None ≡ Some held.new.stripe }
         ensures reserved { OnOk result (held.new ≡ record held.old { stripe = record held.old.stripe { ready = true } }) }
         ensures happens { OnOk result (Happens (view hand.old) (change.Reserve held.old.number ∷ []) (step.MissStripe held.old.number) (view hand.new)) }
         ensures view { OnOk result (view hand.new ≡ stripe_reserved held.old.number held.old.stripe (hand.old.number + 1) (view hand.old)) }

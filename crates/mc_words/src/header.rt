@@ -21,6 +21,9 @@ pub(crate) const LINK: u64 = TAG_UNIT + 1;
 /// The greatest issue number, with which a chunk is used up.
 pub(crate) const MOST_ISSUE: u64 = 70_368_744_177_663;
 
+/// The tag and the count of a chunk that is linked and held by nobody: the link counts 1.
+pub(crate) const UNHELD: u64 = 3 * TAG_UNIT + 1;
+
 /// The tag's number of a linked chunk.
 pub(crate) const LINKED: u64 = 3;
 

@@ -5,6 +5,7 @@ mod arena;
 mod boxed;
 mod changing;
 mod closing;
+mod condemning;
 mod filling;
 mod hand;
 mod handing;

@@ -97,33 +97,33 @@ impl Arena {
         self.table.shared.fetch_sub::<Brand>(seat, word, less);
     }
 
-    // The event writes this word if it is as it was seen. Otherwise it is the other event, a look. Either finds the word.
+    // The event exchanges this word where it is as expected. Where it isn't, the event is a look at it. The answer is the word found.
     #[inline(always)]
     pub(crate) fn exchange(
         &self,
         seat: &mut HandSeat,
         word: usize,
-        seen: u64,
+        expected: u64,
         new: u64,
         step: Step,
-        miss: Step,
+        look: Step,
     ) -> u64
         ghost told: { Step × Step }
-        requires is { told ≡ (step, miss) }
+        requires is { told ≡ (step, look) }
         requires still { (is_quiet told.0 ≡ true) × (is_quiet told.1 ≡ true) }
         requires near { word < self.now.table.shared.table_id.words }
         requires seat { IsOfArena self.now seat.old.table_id seat.old.me.0 }
-        requires may { MayExchange seat.old.me.0 told.0 word seen new }
-        requires may_miss { MayWrite seat.old.me.0 told.1 word (λ found. found) }
+        requires may { MayExchange seat.old.me.0 told.0 word expected new }
+        requires may_look { MayWrite seat.old.me.0 told.1 word (λ found. found) }
         ensures seat { IsOfArena self.now seat.new.table_id seat.new.me.0 }
         ensures out { seat.new.me.1 ≡ seat.old.me.1 }
         ensures hand { IsSameHand seat.old.me.0 seat.new.me.0 }
-        ensures happens { result ≡ seen → Happens seat.old.me.0 [] told.0 seat.new.me.0 }
-        ensures missed { result ≢ seen → HappensAt word result seat.old.me.0 [] told.1 seat.new.me.0 }
+        ensures happens { result ≡ expected → HappensAt word result seat.old.me.0 [] told.0 seat.new.me.0 }
+        ensures missed { result ≢ expected → HappensAt word result seat.old.me.0 [] told.1 seat.new.me.0 }
     {
         self.table
             .shared
-            .compare_exchange::<Brand>(seat, word, seen, new)
+            .compare_exchange::<Brand>(seat, word, expected, new)
     }
 
     // The event is a change of a value behind a lock that the hand has, which is told by a look at this word.

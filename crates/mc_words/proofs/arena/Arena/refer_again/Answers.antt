@@ -76,7 +76,7 @@ invariant_of-hand-2 c =
     let chunk = c.args.hint.chunk in
     let issue = c.args.hint.issue in
     let now = c.exchange-found.new.seat.me.0 in
-    let h = c.exchange-found.ensures.happens c.if-found-head.false in
+    let h = (c.exchange-found.ensures.happens c.if-found-head.false).0 in
     let one = again_one view now chunk issue h in
     let is = again_view view now chunk issue h in
     let more = length-append view.row.holdings (one ∷ []) in
@@ -93,7 +93,7 @@ room-room-requires-clause-reference c =
     let chunk = c.args.hint.chunk in
     let issue = c.args.hint.issue in
     let now = c.exchange-found.new.seat.me.0 in
-    (_, again_ref view now chunk issue (c.exchange-found.ensures.happens c.if-found-head.false) c.exchange-found.ensures.seat.lawful)
+    (_, again_ref view now chunk issue (c.exchange-found.ensures.happens c.if-found-head.false).0 c.exchange-found.ensures.seat.lawful)
 
 pub returns-clause-refers : goal.returns-clause-refers
 returns-clause-refers c =
@@ -105,7 +105,7 @@ returns-clause-refers c =
     let now = c.exchange-found.new.seat.me.0 in
     let ref = subst (λ (v : View). IsRefOf v chunk c.room-room.result) c.room-room.ensures.same c.room-room.ensures.room in
     subst (RefersAgain view chunk issue c.room-room.result) (sym c.room-room.ensures.same)
-    (refers_again view now chunk issue (c.exchange-found.ensures.happens c.if-found-head.false) c.exchange-found.ensures.seat.lawful c.room-room.result ref)
+    (refers_again view now chunk issue (c.exchange-found.ensures.happens c.if-found-head.false).0 c.exchange-found.ensures.seat.lawful c.room-room.result ref)
 
 pub returns-clause-reference : goal.returns-clause-reference
 returns-clause-reference c =
@@ -115,7 +115,7 @@ returns-clause-reference c =
     let chunk = c.args.hint.chunk in
     let issue = c.args.hint.issue in
     let now = c.exchange-found.new.seat.me.0 in
-    (c.room-room.ensures.room, subst (λ (v : View). IsIssueOf v chunk issue) (sym c.room-room.ensures.same) (again_issue view now chunk issue (c.exchange-found.ensures.happens c.if-found-head.false) c.exchange-found.ensures.seat.lawful))
+    (c.room-room.ensures.room, subst (λ (v : View). IsIssueOf v chunk issue) (sym c.room-room.ensures.same) (again_issue view now chunk issue (c.exchange-found.ensures.happens c.if-found-head.false).0 c.exchange-found.ensures.seat.lawful))
 
 pub returns-clause-known : goal.returns-clause-known
 returns-clause-known c k among same_chunk same_issue =
@@ -126,4 +126,4 @@ returns-clause-known c k among same_chunk same_issue =
     let issue = c.args.hint.issue in
     let now = c.exchange-found.new.seat.me.0 in
     ap (λ (v : View). held_item v chunk) c.room-room.ensures.same
-    ∙ again_known view now chunk issue (c.exchange-found.ensures.happens c.if-found-head.false) c.exchange-found.ensures.seat.lawful k among same_chunk same_issue
+    ∙ again_known view now chunk issue (c.exchange-found.ensures.happens c.if-found-head.false).0 c.exchange-found.ensures.seat.lawful k among same_chunk same_issue
