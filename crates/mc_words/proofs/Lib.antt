@@ -23,6 +23,8 @@ pub mod Refers
 pub mod References
 pub mod GetsItems
 pub mod NoneTold
+pub mod Exchanges
+pub mod Agains
 pub mod Peeks
 pub mod Filled
 pub mod Judging

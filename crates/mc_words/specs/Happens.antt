@@ -56,6 +56,12 @@ MayWrite view step place written =
     (was : LawfulView view) → slice_index was.words place < 2 ^ 64 →
     (allows_step was.moment.state was.hand step ≡ true) × WordsOf view.setup was.cuts (slice_set was.words place (written (slice_index was.words place))) (after_step was.moment.state was.hand step)
 
+-- wherever a hand knows this view and the word at this place is as it was seen, the core allows the step, by which it becomes another one
+abbrev pub MayExchange : View → Step → ℕ → ℕ → ℕ → Type 0
+MayExchange view step place seen new =
+    (was : LawfulView view) → slice_index was.words place ≡ seen → slice_index was.words place < 2 ^ 64 →
+    (allows_step was.moment.state was.hand step ≡ true) × WordsOf view.setup was.cuts (slice_set was.words place new) (after_step was.moment.state was.hand step)
+
 -- wherever a hand knows this view the core allows this change and then the step, and the word at this place becomes so
 pub record MayTell (view : View) (change : Change) (step : Step) (place : ℕ) (written : ℕ → ℕ) : Type 0 where
   pub allowed : (was : LawfulView view) → allows_change was.moment.state was.hand change ≡ true

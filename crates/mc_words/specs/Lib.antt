@@ -23,6 +23,7 @@ pub mod Lent
 pub mod Joining
 pub mod Closing
 pub mod Owner
+pub mod Hinting
 pub mod Arenas
 pub mod Refused
 pub mod Hands

@@ -1,5 +1,5 @@
 -- What a step on the table tells the hand that makes it.
-use Rattle.std.specs.Prelude.{◌≡◌, ℕ, [], ◌∷◌}
+use Rattle.std.specs.Prelude.{◌≡◌, ◌≢◌, ℕ, [], ◌∷◌}
 use Rattle.atomic_table.specs.Table as table
 use Rattle.mc_core.specs.declared.event.Change.{Change}
 use Rattle.mc_core.specs.declared.event.Step.{Step}
@@ -25,6 +25,10 @@ TellsFound step at me found now = StaysOut me now × HappensAt at.word found me.
 -- the step was this event
 abbrev pub TellsEvent : Step → At → Sits → ℕ → Sits → Type 0
 TellsEvent step at me written now = StaysOut me now × Happens me.0 [] step now.0
+
+-- the step was this event where the word was found as it was seen before, and otherwise the other event, which found it so
+abbrev pub TellsExchange : Step → Step → At → Sits → ℕ → Sits → Type 0
+TellsExchange step miss at me found now = StaysOut me now × (found ≡ at.first → Happens me.0 [] step now.0) × (found ≢ at.first → HappensAt at.word found me.0 [] miss now.0)
 
 -- the step was this event, before which the change was made
 abbrev pub TellsChange : Change → Step → Sits → Sits → Type 0

@@ -1,4 +1,7 @@
 //! The parts of a header's word, which is `issue * 2^18 + tag * 2^16 + count`.
+ghost use Rattle.std.specs.Prelude.{◌≡◌};
+ghost use Rattle.mc_core.specs.Head.{decode};
+ghost use Rattle.mc_words.specs.Hinting.{is_there};
 
 /// What an issue number is multiplied by.
 pub(crate) const ISSUE_UNIT: u64 = 262_144;
@@ -17,3 +20,13 @@ pub(crate) const LINKED: u64 = TAG_UNIT + 1;
 
 /// The greatest issue number, with which a chunk is used up.
 pub(crate) const MOST_ISSUE: u64 = 70_368_744_177_663;
+
+/// The tag's number of a linked chunk.
+pub(crate) const LINKED_TAG: u64 = 3;
+
+/// Whether this is the header of a linked chunk that was handed out with this issue number.
+pub(crate) fn is_there(word: u64, issue: u64) -> bool
+    ensures there { result ≡ is_there issue (decode word) }
+{
+    word / TAG_UNIT % 4 == LINKED_TAG && word / ISSUE_UNIT == issue
+}

@@ -1,10 +1,10 @@
 //! One operation on one word, which is one event of the core.
-ghost use Rattle.std.specs.Prelude.{◌≡◌, ◌<◌, ◌∷◌, true, []};
+ghost use Rattle.std.specs.Prelude.{◌≡◌, ◌≢◌, ◌<◌, ◌∷◌, true, []};
 ghost use Rattle.mc_core.specs.declared.event.Change.{Change};
 ghost use Rattle.mc_core.specs.declared.event.Step.{Step};
 ghost use Rattle.mc_core.specs.Codes.{plus, minus};
 ghost use Rattle.mc_words.specs.Arenas.{IsOfArena};
-ghost use Rattle.mc_words.specs.Happens.{Happens, HappensAt, IsSameHand, MayTell, MayWrite, is_quiet};
+ghost use Rattle.mc_words.specs.Happens.{Happens, HappensAt, IsSameHand, MayExchange, MayTell, MayWrite, is_quiet};
 
 use crate::arena::Arena;
 use crate::rule::HandSeat;
@@ -95,6 +95,35 @@ impl Arena {
         ensures happens { Happens seat.old.me.0 [] told seat.new.me.0 }
     {
         self.table.shared.fetch_sub::<Brand>(seat, word, less);
+    }
+
+    // The event writes this word if it is as it was seen. Otherwise it is the other event, a look. Either finds the word.
+    #[inline(always)]
+    pub(crate) fn exchange(
+        &self,
+        seat: &mut HandSeat,
+        word: usize,
+        seen: u64,
+        new: u64,
+        step: Step,
+        miss: Step,
+    ) -> u64
+        ghost told: { Step × Step }
+        requires is { told ≡ (step, miss) }
+        requires still { (is_quiet told.0 ≡ true) × (is_quiet told.1 ≡ true) }
+        requires near { word < self.now.table.shared.table_id.words }
+        requires seat { IsOfArena self.now seat.old.table_id seat.old.me.0 }
+        requires may { MayExchange seat.old.me.0 told.0 word seen new }
+        requires may_miss { MayWrite seat.old.me.0 told.1 word (λ found. found) }
+        ensures seat { IsOfArena self.now seat.new.table_id seat.new.me.0 }
+        ensures out { seat.new.me.1 ≡ seat.old.me.1 }
+        ensures hand { IsSameHand seat.old.me.0 seat.new.me.0 }
+        ensures happens { result ≡ seen → Happens seat.old.me.0 [] told.0 seat.new.me.0 }
+        ensures missed { result ≢ seen → HappensAt word result seat.old.me.0 [] told.1 seat.new.me.0 }
+    {
+        self.table
+            .shared
+            .compare_exchange::<Brand>(seat, word, seen, new)
     }
 
     // The event is a change of a value behind a lock that the hand has, which is told by a look at this word.
