@@ -25,6 +25,7 @@ pub mod GetsItems
 pub mod NoneTold
 pub mod Exchanges
 pub mod Agains
+pub mod Unlinks
 pub mod Peeks
 pub mod Filled
 pub mod Judging

@@ -15,7 +15,7 @@ pub(crate) const DEAD: u64 = 2 * TAG_UNIT;
 /// What handing a free chunk out adds: the next issue, the next tag, and one holder.
 pub(crate) const HANDED_OUT: u64 = ISSUE_UNIT + TAG_UNIT + 1;
 
-/// What linking an unlinked chunk adds: the next tag, and the link's own count.
+/// What linking an unlinked chunk adds, and unlinking it takes: the next tag, and the link's own count.
 pub(crate) const LINKED: u64 = TAG_UNIT + 1;
 
 /// The greatest issue number, with which a chunk is used up.
