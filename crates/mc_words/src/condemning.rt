@@ -10,7 +10,7 @@ ghost use Rattle.mc_words.specs.Condemning.{Condemns, FindsHeld, knows_reason, s
 
 use crate::arena::Arena;
 use crate::hand::Hand;
-use crate::header::{ISSUE_UNIT, LINK, UNHELD};
+use crate::header::{ISSUE_UNIT, LINKED, UNHELD};
 use crate::held::{Moved, SlabsHeld, StripeHeld};
 use mc_core::Step;
 use mc_pages::ChunkId;
@@ -52,7 +52,7 @@ impl Arena {
         let word = self.head_word(chunk);
         let step = Step::Condemn(chunk);
         let look = Step::Head(chunk);
-        let found = self.exchange(&mut hand.seat, word, head, head - LINK, step, look);
+        let found = self.exchange(&mut hand.seat, word, head, head - LINKED, step, look);
         if found != head {
             return Err(Moved);
         }

@@ -15,8 +15,8 @@ pub(crate) const DEAD: u64 = 2 * TAG_UNIT;
 /// What handing a free chunk out adds: the next issue, the next tag, and one holder.
 pub(crate) const HANDED_OUT: u64 = ISSUE_UNIT + TAG_UNIT + 1;
 
-/// What a link adds to the header of an unlinked chunk: the next tag, and its own count.
-pub(crate) const LINK: u64 = TAG_UNIT + 1;
+/// What linking an unlinked chunk adds, and unlinking it takes: the next tag, and the link's own count.
+pub(crate) const LINKED: u64 = TAG_UNIT + 1;
 
 /// The greatest issue number, with which a chunk is used up.
 pub(crate) const MOST_ISSUE: u64 = 70_368_744_177_663;
@@ -25,11 +25,11 @@ pub(crate) const MOST_ISSUE: u64 = 70_368_744_177_663;
 pub(crate) const UNHELD: u64 = 3 * TAG_UNIT + 1;
 
 /// The tag's number of a linked chunk.
-pub(crate) const LINKED: u64 = 3;
+pub(crate) const LINKED_TAG: u64 = 3;
 
 /// Whether this is the header of a linked chunk that was handed out with this issue number.
 pub(crate) fn is_there(word: u64, issue: u64) -> bool
     ensures there { result ≡ is_there issue (decode word) }
 {
-    word / TAG_UNIT % 4 == LINKED && word / ISSUE_UNIT == issue
+    word / TAG_UNIT % 4 == LINKED_TAG && word / ISSUE_UNIT == issue
 }

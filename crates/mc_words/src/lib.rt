@@ -31,6 +31,7 @@ mod rule;
 mod slot;
 mod steps;
 mod taking;
+mod unlinking;
 mod waiting;
 
 pub use arena::Arena;

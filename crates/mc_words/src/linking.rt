@@ -14,7 +14,7 @@ ghost use Rattle.mc_words.specs.Tallies.{next_stamp};
 
 use crate::arena::Arena;
 use crate::hand::Hand;
-use crate::header::{ISSUE_UNIT, LINK};
+use crate::header::{ISSUE_UNIT, LINKED};
 use crate::held::{Fresh, StripeHeld};
 use crate::refs::Ref;
 use mc_core::Step;
@@ -49,7 +49,7 @@ impl Arena {
             stamp,
         } = fresh;
         let word = self.head_word(chunk);
-        let head = self.fetch_add(&mut hand.seat, word, LINK, Step::Link(chunk));
+        let head = self.fetch_add(&mut hand.seat, word, LINKED, Step::Link(chunk));
         hand.fresh -= 1;
         hand.stamps += 1;
         held.stripe
