@@ -1,1 +1,4 @@
 pub mod Words
+pub mod Hands
+pub mod Locks
+pub mod Gets

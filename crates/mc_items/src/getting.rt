@@ -1,9 +1,6 @@
 //! References to the items of keys, by the locks of their stripes.
-ghost use Rattle.std.specs.Prelude.{◌≡◌, ℕ, ◌<◌, ◌≤◌, ◌%◌, ◌↔◌, true, length, map, Some, None, Err, IfOk, IfSome, OnErr};
-ghost use Rattle.std.specs.Option.{option_map};
-ghost use Rattle.mc_stripe.specs.declared.history.Call.TheVariants as call;
+ghost use Rattle.std.specs.Prelude.{◌≡◌, ◌≢◌, ℕ, ◌<◌, ◌≤◌, ◌%◌, ◌↔◌, true, length, Err, IfOk, IfSome, OnErr};
 ghost use Rattle.mc_words.specs.Arenas.{IsHandOf, setup_of, view};
-ghost use Rattle.mc_words.specs.Called.{with_own_call};
 ghost use Rattle.mc_words.specs.Idle.{is_unlocked};
 ghost use Rattle.mc_words.specs.Lent.{IsLentStripe};
 ghost use Rattle.mc_words.specs.Out.{without_stripe};
@@ -49,6 +46,44 @@ pub fn get<R: Wait>(rt: &R, arena: &Arena, hand: &mut Hand, key: u64) -> Result<
     }
 }
 
+/// Why a get that doesn't wait was refused. It wrote no entry into its stripe's history.
+#[derive(Clone, Copy, Debug, PartialEq, Eq)]
+pub enum TryGetError {
+    /// The hand holds 255 chunks.
+    TooManyRefs,
+    /// The stripe got no room for one more call.
+    NoMemory,
+    /// Another hand has the lock of the key's stripe.
+    Held,
+}
+
+/// The same as `get`, but refused where another hand has the lock of the key's stripe. It doesn't wait. (own, for memcached's
+/// `item_trylock`)
+pub fn try_get(arena: &Arena, hand: &mut Hand, key: u64) -> Result<Option<Ref>, TryGetError>
+    requires arena { IsHandOf arena.now hand.old }
+    requires unlocked { is_unlocked (view hand.old) ≡ true }
+    ensures arena { IsHandOf arena.now hand.new }
+    ensures locks { hand.new.locks ≡ hand.old.locks }
+    ensures gets { IfOk result (λ found. CallsOn hand.old.number (key % (setup_of arena.now).config.stripes) (LooksUp hand.old.number (key % (setup_of arena.now).config.stripes) key found) (view hand.old) (view hand.new)) }
+    ensures item { IfOk result (λ found. IfSome found (λ item. IsItemRef (view hand.new) item × (item.key ≡ key))) }
+    ensures many { (result ≡ Err TryGetError.TooManyRefs) ↔ (255 ≤ length (view hand.old).row.holdings) }
+    ensures same { result ≡ Err TryGetError.TooManyRefs → view hand.new ≡ view hand.old }
+    ensures held { result ≡ Err TryGetError.Held → (word : ℕ) × (word ≢ 0) × (view hand.new ≡ stripe_missed (key % (setup_of arena.now).config.stripes) word (view hand.old)) }
+    ensures no_memory { result ≡ Err TryGetError.NoMemory → OnlyWaits (key % (setup_of arena.now).config.stripes) (view hand.old) (view hand.new) }
+{
+    if hand.refs() >= 255 {
+        return Err(TryGetError::TooManyRefs);
+    }
+    let stripe = key % arena.config().stripes;
+    let Ok(held) = arena.try_stripe(hand, stripe) else {
+        return Err(TryGetError::Held);
+    };
+    match look_up(arena, hand, held, key) {
+        Ok(found) => Ok(found),
+        Err(_) => Err(TryGetError::NoMemory),
+    }
+}
+
 // Looks the key up in its stripe, and gives the stripe's lock back. At want of memory the stripe is as before.
 fn look_up(arena: &Arena, hand: &mut Hand, held: StripeHeld, key: u64) -> Result<Option<Ref>, NoMemory>
     requires arena { IsHandOf arena.now hand.old }
@@ -66,11 +101,12 @@ fn look_up(arena: &Arena, hand: &mut Hand, held: StripeHeld, key: u64) -> Result
         arena.give_stripe(hand, held);
         return Err(error);
     }
-    let found = arena.refer(hand, &mut held, key);
+    let Ok(found) = arena.refer(hand, &mut held, key) else {
+        unreachable!();
+    };
     arena.give_stripe(hand, held);
     match found {
-        Ok(Some(reference)) => Ok(Some(look_at(arena, hand, reference))),
-        Ok(None) => Ok(None),
-        Err(_) => unreachable!(),
+        Some(reference) => Ok(Some(look_at(arena, hand, reference))),
+        None => Ok(None),
     }
 }

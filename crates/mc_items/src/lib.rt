@@ -8,6 +8,6 @@ mod getting;
 mod reading;
 mod refs;
 
-pub use getting::{GetError, get};
+pub use getting::{GetError, TryGetError, get, try_get};
 pub use reading::{read, release};
 pub use refs::Ref;

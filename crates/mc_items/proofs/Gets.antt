@@ -1,0 +1,50 @@
+-- A look-up of a key, from its parts.
+use Rattle.std.proofs.Common.{◌≡◌, ℕ, ◌+◌, true, Option, Some, refl, sym, ap, subst, ◌∙◌, Contains}
+use Rattle.std.proofs.lemmas.List.Elements.{Contains-push}
+use Rattle.mc_pages.specs.declared.ids.ChunkId.{ChunkId}
+use Rattle.mc_stripe.specs.StripeState.{ReadyStripe}
+use Rattle.mc_stripe.specs.Changes.{after_got, used_up}
+use Rattle.mc_core.specs.declared.holding.Holding.{Holding}
+use Rattle.mc_core.specs.Past.{known_by}
+use Rattle.mc_words.specs.View.{View}
+use Rattle.mc_words.specs.Happens.{LawfulView}
+use Rattle.mc_words.specs.Items.{held_item}
+use Rattle.mc_words.specs.Lent.{IsLentStripe}
+use Rattle.mc_words.specs.Waiting.{WaitsForStripe}
+use Rattle.mc_words.specs.Referring.{reference_to, GetsItem}
+use Rattle.mc_words.specs.Views.{stripe_given, stripe_reserved}
+use Rattle.mc_words.proofs.References.{is_item}
+use Rattle.mc_items.specs.declared.refs.Ref.{Ref}
+use Rattle.mc_items.specs.Calls.{CallsOn, IsDone, LooksUp}
+
+-- the item of a reference that was got is the one that the first holding of its chunk has
+pub got_item : (view now : View) (number stripe : ℕ) (value : ReadyStripe) (key : ℕ) (chunk : ChunkId) (issue room : ℕ) → (gets : GetsItem view number stripe value key chunk issue room now) → LawfulView now → held_item now chunk ≡ gets.item
+got_item view now number stripe value key chunk issue room gets was =
+    let one : Holding = reference_to chunk issue gets.item in
+    is_item now was one room refl (subst (λ (v : View). Contains v.row.holdings one) (sym gets.is) (Contains-push view.row.holdings one))
+    (subst (λ (v : View). Contains v.row.knows.known (known_by room one)) (sym gets.is) (Contains-push view.row.knows.known (known_by room one)))
+
+-- a call that found the key's item
+pub found_done : (number stripe : ℕ) (value : ReadyStripe) (key : ℕ) (r : Ref) (view made got now : View) (number' stripe' stripe'' : ℕ) (ready left : ReadyStripe) → number' ≡ number → stripe' ≡ stripe → stripe'' ≡ stripe → ready ≡ record value { ready = true }
+    → made ≡ stripe_reserved stripe value (number + 1) view → left ≡ used_up (after_got ready.state number' key) → GetsItem made number' stripe' ready key r.reference.chunk r.reference.issue r.reference.room got → now ≡ stripe_given stripe'' left got
+    → IsDone number stripe value (LooksUp number stripe key (Some r)) view now
+found_done number stripe value key r view made got now number' stripe' stripe'' ready left numbers stripes stripes' readies mades lefts gets given = record {
+  left = left;
+  last = got;
+  does = (
+    subst (λ (p : View × ℕ × ℕ × ReadyStripe). GetsItem p.0 p.1 p.2 p.3 key r.reference.chunk r.reference.issue r.reference.room got) (λ k. (mades k, numbers k, stripes k, readies k)) gets,
+    lefts ∙ (λ k. used_up (after_got (readies k).state (numbers k) key)),
+  );
+  given = given ∙ ap (λ n. stripe_given n left got) stripes';
+}
+
+-- a call under a lock that was waited for
+pub called_on : (number stripe number' stripe' key : ℕ) (value : ReadyStripe) (found : Option Ref) (view taken now : View) → number' ≡ number → stripe' ≡ stripe → WaitsForStripe stripe view value taken → IsLentStripe taken stripe value
+    → IsDone number' stripe' value (LooksUp number' stripe' key found) taken now → CallsOn number stripe (LooksUp number stripe key found) view now
+called_on number stripe number' stripe' key value found view taken now numbers stripes waits lent done = record {
+  value = value;
+  taken = taken;
+  waits = waits;
+  lent = lent;
+  done = subst (λ (p : ℕ × ℕ). IsDone p.0 p.1 value (LooksUp p.0 p.1 key found) taken now) (λ k. (numbers k, stripes k)) done;
+}

@@ -1,0 +1,33 @@
+-- What a hand keeps while it waits for a stripe's lock, and that its locks are as before once it gave that back.
+use Rattle.std.proofs.Common.{◌≡◌, ℕ, true, List, [], ◌∷◌, refl, sym, ap, ◌∙◌}
+use Rattle.mc_stripe.specs.StripeState.{ReadyStripe}
+use Rattle.mc_words.specs.declared.hand.Hand.{Hand}
+use Rattle.mc_words.specs.declared.locks.Locks.{Locks}
+use Rattle.mc_words.specs.declared.locks.Locks.TheVariants.{Neither, Slabs, Stripe, SlabsLast, StripeLast}
+use Rattle.mc_words.specs.View.{View}
+use Rattle.mc_words.specs.Arenas.{view}
+use Rattle.mc_words.specs.Idle.{is_unlocked}
+use Rattle.mc_words.specs.Out.{is_neither, with_stripe, without_stripe}
+use Rattle.mc_words.specs.Views.{stripe_missed, stripe_taken}
+use Rattle.mc_words.specs.Waiting.{MissesStripe, WaitsForStripe}
+use Rattle.mc_words.proofs.Unlocked.{unlocked_from}
+
+-- whatever misses and takes leave stays
+module _ {X : Type 0} (part : View → X) (stripe : ℕ) (missed : (word : ℕ) (v : View) → part (stripe_missed stripe word v) ≡ part v) (took : (value : ReadyStripe) (v : View) → part (stripe_taken stripe value v) ≡ part v) where
+  misses_keep : (words : List ℕ) (before now : View) → MissesStripe stripe words before now → part now ≡ part before
+  misses_keep [] before now is = ap part is
+  misses_keep (word ∷ words) before now (busy, happens, rest) = misses_keep words (stripe_missed stripe word before) now rest ∙ missed word before
+
+  pub waits_keep : (before : View) (value : ReadyStripe) (now : View) → WaitsForStripe stripe before value now → part now ≡ part before
+  waits_keep before value now waits = ap part waits.is ∙ (took value waits.before ∙ misses_keep waits.words before waits.before waits.misses)
+
+-- a stripe's lock that came and went
+pub locks_back : (hand : Hand) (stripe : ℕ) → is_unlocked (view hand) ≡ true → without_stripe (with_stripe stripe hand.locks) ≡ hand.locks
+locks_back hand stripe unlocked = by hand.locks (unlocked_from hand.seat.me.0 hand.locks hand.noted.4 ∙ unlocked)
+  where
+    by : (locks : Locks) → is_neither locks ≡ true → without_stripe (with_stripe stripe locks) ≡ locks
+    by Neither none = refl
+    by Slabs none = absurd (cc)
+    by (Stripe other) none = absurd (cc)
+    by (SlabsLast other) none = absurd (cc)
+    by (StripeLast other) none = absurd (cc)

@@ -1,0 +1,39 @@
+use Rattle.std.proofs.Common.{◌≡◌, ◌%◌, ◌<◌, ℕ, [], refl, ap, sym, subst, ◌∙◌, arith, length, List}
+use Rattle.mc_classes.specs.declared.config.Config.{Config}
+use Rattle.mc_core.specs.declared.holding.Holding.{Holding}
+use Rattle.mc_words.specs.Arenas.{view}
+use Rattle.mc_words.specs.Lent.{IsLentStripe}
+use Rattle.mc_words.specs.Out.{without_stripe}
+use Rattle.mc_words.specs.View.{View}
+use Rattle.mc_words.specs.Waiting.{WaitsForStripe}
+use Rattle.mc_items.proofs.Gets.{called_on}
+use Rattle.mc_items.proofs.Hands.{number_stays}
+use Rattle.mc_items.proofs.Locks.{locks_back, waits_keep}
+use Rattle.mc_items.proofs.getting.get.Goals as goal
+
+pub look_up-requires-clause-few : goal.look_up-requires-clause-few
+look_up-requires-clause-few g c =
+    let before : View = c.args.hand.now.seat.me.0 in
+    let taken : View = c.lock_stripe-held.new.hand.seat.me.0 in
+    let same = ap (λ (l : List Holding). length l) (waits_keep (λ (v : View). v.row.holdings) (c.args.key % c.config.result.now.stripes) (λ word v. refl) (λ value v. refl) before c.lock_stripe-held.result.stripe taken c.lock_stripe-held.ensures.waits) in
+    let count = c.refs.ensures.count in
+    let few = c.if-refs-ge255.false in
+    omega arith
+
+pub returns-in-Ok-clause-locks : goal.returns-in-Ok-clause-locks
+returns-in-Ok-clause-locks g c = c.look_up.ensures.locks ∙ (ap without_stripe c.lock_stripe-held.ensures.locks ∙ locks_back c.args.hand.now (c.args.key % c.config.result.now.stripes) c.requires.unlocked)
+
+pub returns-in-Err-clause-locks : goal.returns-in-Err-clause-locks
+returns-in-Err-clause-locks g c = c.look_up.ensures.locks ∙ (ap without_stripe c.lock_stripe-held.ensures.locks ∙ locks_back c.args.hand.now (c.args.key % c.config.result.now.stripes) c.requires.unlocked)
+
+pub returns-in-Ok-clause-gets : goal.returns-in-Ok-clause-gets
+returns-in-Ok-clause-gets g c =
+    let hand = c.args.hand.now in
+    let held = c.lock_stripe-held in
+    let before : View = hand.seat.me.0 in
+    let taken : View = held.new.hand.seat.me.0 in
+    let at : c.args.key % c.config.result.now.stripes ≡ c.args.key % c.args.arena.now.table.shared.key.config.stripes = ap (λ (g : Config). c.args.key % g.stripes) c.config.ensures.config in
+    let waits = held.ensures.waits in
+    let number = number_stays hand held.new.hand (waits_keep (λ (v : View). v.row.ids) (c.args.key % c.config.result.now.stripes) (λ word v. refl) (λ value v. refl) before held.result.stripe taken waits) in
+    called_on hand.number _ held.new.hand.number held.result.number c.args.key held.result.stripe c.in-Ok.found before taken c.look_up.new.hand.seat.me.0 number (held.ensures.number ∙ at)
+    (subst (λ (n : ℕ). WaitsForStripe n before held.result.stripe taken) at waits) (subst (λ (n : ℕ). IsLentStripe taken n held.result.stripe) at held.ensures.whole) c.in-Ok.ensures.done
