@@ -15,7 +15,7 @@ use Rattle.mc_words.specs.Referring.{reference_to, GetsItem}
 use Rattle.mc_words.specs.Views.{stripe_given, stripe_reserved}
 use Rattle.mc_words.proofs.References.{is_item}
 use Rattle.mc_items.specs.declared.refs.Ref.{Ref}
-use Rattle.mc_items.specs.Calls.{CallsOn, IsDone, LooksUp}
+use Rattle.mc_items.specs.Calls.{CallsOn, IsDone, LooksUp, OnlyWaits}
 
 -- the item of a reference that was got is the one that the first holding of its chunk has
 pub got_item : (view now : View) (number stripe : ℕ) (value : ReadyStripe) (key : ℕ) (chunk : ChunkId) (issue room : ℕ) → (gets : GetsItem view number stripe value key chunk issue room now) → LawfulView now → held_item now chunk ≡ gets.item
@@ -48,3 +48,7 @@ called_on number stripe number' stripe' key value found view taken now numbers s
   lent = lent;
   done = subst (λ (p : ℕ × ℕ). IsDone p.0 p.1 value (LooksUp p.0 p.1 key found) taken now) (λ k. (numbers k, stripes k)) done;
 }
+
+-- one that ran out of memory
+pub only_waits : (stripe stripe' : ℕ) (value : ReadyStripe) (view taken now : View) → stripe' ≡ stripe → WaitsForStripe stripe view value taken → now ≡ stripe_given stripe' value taken → OnlyWaits stripe view now
+only_waits stripe stripe' value view taken now stripes waits given = record { value = value; taken = taken; waits = waits; given = given ∙ ap (λ n. stripe_given n value taken) stripes }

@@ -6,6 +6,8 @@ use Rattle.mc_words.specs.declared.locks.Locks.{Locks}
 use Rattle.mc_words.specs.declared.locks.Locks.TheVariants.{Neither, Slabs, Stripe, SlabsLast, StripeLast}
 use Rattle.mc_words.specs.View.{View}
 use Rattle.mc_words.specs.Arenas.{view}
+use Rattle.mc_core.specs.declared.event.Step.TheVariants as step
+use Rattle.mc_words.specs.Happens.{Happens}
 use Rattle.mc_words.specs.Idle.{is_unlocked}
 use Rattle.mc_words.specs.Out.{is_neither, with_stripe, without_stripe}
 use Rattle.mc_words.specs.Views.{stripe_missed, stripe_taken}
@@ -31,3 +33,7 @@ locks_back hand stripe unlocked = by hand.locks (unlocked_from hand.seat.me.0 ha
     by (Stripe other) none = absurd (cc)
     by (SlabsLast other) none = absurd (cc)
     by (StripeLast other) none = absurd (cc)
+
+-- a try that took the lock waited for nobody
+pub taken_at_once : (stripe : ℕ) (value : ReadyStripe) (before now : View) → Happens before [] (step.TakeStripe stripe) now → now ≡ stripe_taken stripe value before → WaitsForStripe stripe before value now
+taken_at_once stripe value before now happens is = record { words = []; before = before; misses = refl; taken = happens; is = is }
