@@ -1,5 +1,9 @@
--- Hands that are kept in a list, of which the first leaves.
-use Rattle.std.proofs.Common.{ℕ, ◌+◌, List, [], ◌∷◌}
+-- Hands that are kept in a list, of which the first leaves; and stripes with nothing aside.
+use Rattle.std.proofs.Common.{◌≡◌, ℕ, ◌+◌, ◌==◌, false, List, [], ◌∷◌, Option, None, ap}
+use Rattle.std.specs.Option.{option_map, option_map_or}
+use Rattle.mc_pages.specs.declared.ids.ChunkId.{ChunkId}
+use Rattle.mc_stripe.specs.StripeState.{StripeState}
+use Rattle.mc_core.specs.Silent.{is_aside}
 use Rattle.mc_words.specs.declared.arena.Arena.{Arena}
 use Rattle.mc_words.specs.declared.hand.Hand.{Hand}
 use Rattle.mc_words.specs.Hands.{AreHandsFrom, AreNewHands}
@@ -11,3 +15,6 @@ hands_from arena number (hand ∷ hands) are = (are.0, hands_from arena (1 + num
 
 pub all_hands : (arena : Arena) (hands : List Hand) → AreNewHands arena hands → AreHandsOf arena hands
 all_hands arena hands are = hands_from arena 0 hands are.1
+
+pub not_aside : (stripe : StripeState) (key : ℕ) → stripe.aside ≡ None → is_aside stripe key ≡ false
+not_aside stripe key none = ap (λ (o : Option (ℕ × (ChunkId × ℕ))). option_map_or (λ other. other == key) (option_map (λ entry. entry.0) o) false) none

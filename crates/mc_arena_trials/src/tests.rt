@@ -1,5 +1,6 @@
 //! The tests, and what they have in common.
 mod calls;
+mod keys;
 mod locks;
 mod owner;
 mod threads;

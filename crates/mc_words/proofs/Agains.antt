@@ -184,6 +184,7 @@ module _ (view now : View) (chunk : ChunkId) (issue : ℕ) (h : Happens view [] 
     refers_again found ref =
         let same : again_room ≡ found = one_room now was chunk again_room found again_ref ref in record {
           item = item_at m.state chunk;
+          held = is_item now was again_one again_room refl has knows;
           whole = is_whole now was again_one again_room refl has knows;
           happens = h;
           is = again_view ∙ (λ k. item_referred (reference_to chunk (issue_is k) (item_at m.state chunk)) (same k) view);

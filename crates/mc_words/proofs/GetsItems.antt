@@ -18,7 +18,7 @@ use Rattle.mc_words.specs.Refs.{IsRefOf, IsIssueOf}
 use Rattle.mc_words.specs.Called.{item_referred, key_got}
 use Rattle.mc_words.specs.Referring.{reference_to, GetsItem}
 use Rattle.mc_words.proofs.Heads.{head_is}
-use Rattle.mc_words.proofs.References.{is_ref, is_issue, is_whole, one_room}
+use Rattle.mc_words.proofs.References.{is_ref, is_issue, is_item, is_whole, one_room}
 use Rattle.mc_words.proofs.Refers.{LeadsTo, leads_here, entry_near, new_one, new_room, referred_view}
 
 -- the first words of an item are those of its chunk
@@ -71,6 +71,7 @@ module _ (view : View) (stripe : ℕ) (value : ReadyStripe) (key : ℕ) (chunk :
         stamp = stamp;
         leads = to.leads;
         item = item_at m.state chunk;
+        held = is_item now was one room refl has knows;
         whole = is_whole now was one room refl has knows;
         key_is = item_word m.state chunk 0 (omega arith) entry.fits ∙ entry.same_key;
         stamp_is = item_word m.state chunk 1 (omega arith) entry.fits ∙ entry.same_stamp;

@@ -1,5 +1,5 @@
 -- Items that are unlinked from their keys: what the core allows of a hand that has the key's stripe, and what it knows then.
-use Rattle.std.proofs.Common.{◌≡◌, ◌≢◌, ℕ, ◌+◌, ◌%◌, ◌<◌, ◌≤◌, ◌&&◌, ◌||◌, Bool, not, true, false, is_none, is_some, List, [], ◌∷◌, ◌++◌, length, map, Option, Some, None, refl, sym, ap, subst, unwrap_or, inl, inr, ◌∙◌, arith, slice_set, slice_index, slice_index_or, get_or-set_same, get_or-set_other, if◌then◌else◌, append-nil}
+use Rattle.std.proofs.Common.{◌≡◌, ◌≢◌, ℕ, ◌+◌, ◌≤◌, ◌||◌, Bool, not, true, false, is_none, is_some, List, [], ◌∷◌, ◌++◌, map, Option, Some, None, refl, sym, ap, subst, unwrap_or, inl, inr, ◌∙◌, arith, slice_set, slice_index, get_or-set_same, get_or-set_other, if◌then◌else◌, append-nil}
 use Rattle.std.proofs.lemmas.Bool.{and_from, cases_Bool, cases_eq}
 use Rattle.mc_pages.specs.declared.ids.ChunkId.{ChunkId}
 use Rattle.mc_stripe.specs.declared.history.Call.TheVariants.{Delete}
@@ -7,11 +7,10 @@ use Rattle.mc_stripe.specs.StripeState.{ReadyStripe, new_stripe}
 use Rattle.mc_core.specs.declared.head.Head.{Head}
 use Rattle.mc_core.specs.declared.head.Tag.{Tag}
 use Rattle.mc_core.specs.declared.head.Tag.TheVariants.{Linked}
-use Rattle.mc_core.specs.declared.holding.Holding.{Holding}
 use Rattle.mc_core.specs.declared.event.Step.TheVariants as core
 use Rattle.mc_core.specs.Head.{decode, is_linked}
 use Rattle.mc_core.specs.Holdings.{has_fresh}
-use Rattle.mc_core.specs.State.{State, has_chunk, has_stripe, head_at, head_place, holdings_at, ids_at, looks_at, number_at, stripe_at, stripe_of, with_stripe}
+use Rattle.mc_core.specs.State.{State, has_stripe, head_at, head_place, holdings_at, ids_at, looks_at, number_at, stripe_at, stripe_of, with_stripe}
 use Rattle.mc_core.specs.Silent.{is_aside, writer_of}
 use Rattle.mc_core.specs.Columns.{holders, link_of}
 use Rattle.mc_core.specs.Items.{after_unlink, can_lift, can_look_up, chunk_of, is_linked_at, stripe_unlinked, unlinked, with_unlinked}
@@ -22,7 +21,7 @@ use Rattle.mc_core.proofs.Codes.{all_are_sums}
 use Rattle.mc_core.proofs.Learns.{are_learned}
 use Rattle.mc_words.specs.View.{View, held_stripes}
 use Rattle.mc_words.specs.Layout.{head_word}
-use Rattle.mc_words.specs.Happens.{LawfulView, Happens, MayWrite}
+use Rattle.mc_words.specs.Happens.{Happens, MayWrite}
 use Rattle.mc_words.specs.Called.{key_deleted, key_lifted, key_unlinked, with_own_call}
 use Rattle.mc_words.proofs.Calls.{mine_called}
 use Rattle.mc_words.proofs.Heads.{AreAll, head_is, header_written, near_here}

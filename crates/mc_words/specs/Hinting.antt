@@ -7,6 +7,7 @@ use Rattle.mc_core.specs.Head.{is_linked}
 use Rattle.mc_core.specs.Holdings.{length_of}
 use Rattle.mc_words.specs.View.{View}
 use Rattle.mc_words.specs.Happens.{Happens}
+use Rattle.mc_words.specs.Items.{held_item}
 use Rattle.mc_words.specs.Called.{item_referred}
 use Rattle.mc_words.specs.Owner.{SeesOther}
 use Rattle.mc_words.specs.Referring.{reference_to}
@@ -18,8 +19,10 @@ is_there issue head = is_linked head.tag && head.issue == issue
 
 -- the hand got a reference to the item of this issue, by one exchange
 pub record RefersAgain (view : View) (chunk : ChunkId) (issue room : ℕ) (now : View) : Type 0 where
+  -- the item that the hand finds in the chunk
   pub item : List ℕ
-  -- the item has as many words as it says
+  pub held : held_item now chunk ≡ item
+  -- has as many words as it says
   pub whole : length item ≡ length_of item
   pub happens : Happens view [] (step.Again chunk issue) now
   pub is : now ≡ item_referred (reference_to chunk issue item) room view

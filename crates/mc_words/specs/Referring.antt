@@ -8,6 +8,7 @@ use Rattle.mc_core.specs.declared.event.Step.TheVariants as step
 use Rattle.mc_core.specs.Holdings.{key_of, stamp_of, length_of}
 use Rattle.mc_words.specs.View.{View}
 use Rattle.mc_words.specs.Happens.{Happens}
+use Rattle.mc_words.specs.Items.{held_item}
 use Rattle.mc_words.specs.Called.{item_referred, key_got}
 
 -- a reference to the item with these words, whose chunk was handed out with this issue number
@@ -18,8 +19,10 @@ reference_to chunk issue item = record { chunk = chunk; issue = issue; kind = Re
 pub record GetsItem (view : View) (number stripe : ℕ) (value : ReadyStripe) (key : ℕ) (chunk : ChunkId) (issue room : ℕ) (now : View) : Type 0 where
   pub stamp : ℕ
   pub leads : place_of value.state key ≡ Some (chunk, stamp)
+  -- the item that the hand finds in the chunk
   pub item : List ℕ
-  -- the item has as many words as it says, and is the one that the stripe knows
+  pub held : held_item now chunk ≡ item
+  -- has as many words as it says, and is the one that the stripe knows
   pub whole : length item ≡ length_of item
   pub key_is : key_of item ≡ key
   pub stamp_is : stamp_of item ≡ stamp
