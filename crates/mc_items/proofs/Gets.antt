@@ -15,7 +15,7 @@ use Rattle.mc_words.specs.Referring.{reference_to, GetsItem}
 use Rattle.mc_words.specs.Views.{stripe_given, stripe_reserved}
 use Rattle.mc_words.proofs.References.{is_item}
 use Rattle.mc_items.specs.declared.refs.Ref.{Ref}
-use Rattle.mc_items.specs.Calls.{CallsOn, IsDone, LooksUp, OnlyWaits}
+use Rattle.mc_items.specs.Calls.{CallsOn, Doing, IsDone, LooksUp, OnlyWaits}
 
 -- the item of a reference that was got is the one that the first holding of its chunk has
 pub got_item : (view now : View) (number stripe : ℕ) (value : ReadyStripe) (key : ℕ) (chunk : ChunkId) (issue room : ℕ) → (gets : GetsItem view number stripe value key chunk issue room now) → LawfulView now → held_item now chunk ≡ gets.item
@@ -39,14 +39,14 @@ found_done number stripe value key r view made got now number' stripe' stripe'' 
 }
 
 -- a call under a lock that was waited for
-pub called_on : (number stripe number' stripe' key : ℕ) (value : ReadyStripe) (found : Option Ref) (view taken now : View) → number' ≡ number → stripe' ≡ stripe → WaitsForStripe stripe view value taken → IsLentStripe taken stripe value
-    → IsDone number' stripe' value (LooksUp number' stripe' key found) taken now → CallsOn number stripe (LooksUp number stripe key found) view now
-called_on number stripe number' stripe' key value found view taken now numbers stripes waits lent done = record {
+pub called_on : (Does : ℕ → ℕ → Doing) (number stripe number' stripe' : ℕ) (value : ReadyStripe) (view taken now : View) → number' ≡ number → stripe' ≡ stripe → WaitsForStripe stripe view value taken → IsLentStripe taken stripe value
+    → IsDone number' stripe' value (Does number' stripe') taken now → CallsOn number stripe (Does number stripe) view now
+called_on Does number stripe number' stripe' value view taken now numbers stripes waits lent done = record {
   value = value;
   taken = taken;
   waits = waits;
   lent = lent;
-  done = subst (λ (p : ℕ × ℕ). IsDone p.0 p.1 value (LooksUp p.0 p.1 key found) taken now) (λ k. (numbers k, stripes k)) done;
+  done = subst (λ (p : ℕ × ℕ). IsDone p.0 p.1 value (Does p.0 p.1) taken now) (λ k. (numbers k, stripes k)) done;
 }
 
 -- one that ran out of memory

@@ -1,9 +1,9 @@
 -- Calls on keys: the lock of the key's stripe is taken, the call is made there, and the lock is given back.
-use Rattle.std.specs.Prelude.{◌≡◌, ℕ, ◌+◌, true, Option, Some, None}
+use Rattle.std.specs.Prelude.{◌≡◌, ℕ, ◌+◌, Bool, true, is_some, if◌then◌else◌, Option, Some, None}
 use Rattle.mc_stripe.specs.StripeState.{ReadyStripe, place_of}
-use Rattle.mc_stripe.specs.Changes.{after_got, used_up}
+use Rattle.mc_stripe.specs.Changes.{after_got, after_unlink, used_up}
 use Rattle.mc_words.specs.View.{View}
-use Rattle.mc_words.specs.Called.{key_missed}
+use Rattle.mc_words.specs.Called.{key_deleted, key_missed, key_not_deleted}
 use Rattle.mc_words.specs.Lent.{IsLentStripe}
 use Rattle.mc_words.specs.Referring.{GetsItem}
 use Rattle.mc_words.specs.Views.{stripe_given, stripe_reserved}
@@ -42,3 +42,10 @@ LooksUp number stripe key (Some r) value view left now =
     GetsItem view number stripe value key r.reference.chunk r.reference.issue r.reference.room now × (left ≡ used_up (after_got value.state number key))
 LooksUp number stripe key None value view left now =
     (place_of value.state key ≡ None) × (now ≡ key_missed number stripe value key view) × (left ≡ used_up (after_got value.state number key))
+
+-- the key was deleted, and had an item or none
+abbrev pub Deletes : ℕ → ℕ → ℕ → Bool → Doing
+Deletes number stripe key there value view left now =
+    (there ≡ is_some (place_of value.state key))
+    × (now ≡ (if there then key_deleted number stripe value key true view else key_not_deleted number stripe value key view))
+    × (left ≡ used_up (after_unlink value.state number key))

@@ -4,10 +4,14 @@
 //! as they are until it is released, whoever stores, deletes or evicts meanwhile.
 #![tactic(auto)]
 
+mod deleting;
 mod getting;
+mod hinting;
 mod reading;
 mod refs;
 
+pub use deleting::delete;
 pub use getting::{GetError, TryGetError, get, try_get};
+pub use hinting::{again, hint};
 pub use reading::{read, release};
 pub use refs::Ref;

@@ -1,0 +1,49 @@
+use Rattle.std.proofs.Common.{◌≡◌, ◌%◌, ℕ, Bool, List, [], refl, ap, sym, subst, ◌∙◌}
+use Rattle.mc_classes.specs.declared.config.Config.{Config}
+use Rattle.mc_core.specs.declared.holding.Holding.{Holding}
+use Rattle.mc_core.specs.Holdings.{has_fresh}
+use Rattle.mc_words.specs.Lent.{IsLentStripe}
+use Rattle.mc_words.specs.Out.{without_stripe}
+use Rattle.mc_words.specs.View.{View}
+use Rattle.mc_words.specs.Views.{stripe_given}
+use Rattle.mc_words.specs.Waiting.{WaitsForStripe}
+use Rattle.mc_items.specs.Calls.{CallsOn, Deletes, IsDone, OnlyWaits}
+use Rattle.mc_items.proofs.Deletes.{ok_map, err_map}
+use Rattle.mc_items.proofs.Gets.{called_on, only_waits}
+use Rattle.mc_items.proofs.Hands.{number_stays}
+use Rattle.mc_items.proofs.Locks.{locks_back, waits_keep}
+use Rattle.mc_items.proofs.deleting.delete.Goals as goal
+
+pub delete_at-requires-clause-fresh : goal.delete_at-requires-clause-fresh
+delete_at-requires-clause-fresh g c =
+    let held = c.lock_stripe-held in
+    ap has_fresh (waits_keep (λ (v : View). v.row.holdings) (c.args.key % c.config.result.now.stripes) (λ word v. refl) (λ value v. refl) c.args.hand.now.seat.me.0 held.result.stripe held.new.hand.seat.me.0 held.ensures.waits) ∙ c.requires.fresh
+
+pub returns-clause-locks : goal.returns-clause-locks
+returns-clause-locks g c = c.delete_at.ensures.locks ∙ (ap without_stripe c.lock_stripe-held.ensures.locks ∙ locks_back c.args.hand.now (c.args.key % c.config.result.now.stripes) c.requires.unlocked)
+
+pub returns-clause-deletes : goal.returns-clause-deletes
+returns-clause-deletes g c =
+    let hand = c.args.hand.now in
+    let held = c.lock_stripe-held in
+    let before : View = hand.seat.me.0 in
+    let taken : View = held.new.hand.seat.me.0 in
+    let now : View = c.delete_at.new.hand.seat.me.0 in
+    let at : c.args.key % c.config.result.now.stripes ≡ c.args.key % c.args.arena.now.table.shared.key.config.stripes = ap (λ (f : Config). c.args.key % f.stripes) c.config.ensures.config in
+    let waits = held.ensures.waits in
+    let number = number_stays hand held.new.hand (waits_keep (λ (v : View). v.row.ids) (c.args.key % c.config.result.now.stripes) (λ word v. refl) (λ value v. refl) before held.result.stripe taken waits) in
+    let stripe = c.args.key % c.args.arena.now.table.shared.key.config.stripes in
+    ok_map (λ there. IsDone held.new.hand.number held.result.number held.result.stripe (Deletes held.new.hand.number held.result.number c.args.key there) taken now) (λ there. CallsOn hand.number stripe (Deletes hand.number stripe c.args.key there) before now) c.delete_at.result
+    (λ there. called_on (λ number stripe. Deletes number stripe c.args.key there) hand.number stripe held.new.hand.number held.result.number held.result.stripe before taken now number (held.ensures.number ∙ at)
+    (subst (λ (n : ℕ). WaitsForStripe n before held.result.stripe taken) at waits) (subst (λ (n : ℕ). IsLentStripe taken n held.result.stripe) at held.ensures.whole)) c.delete_at.ensures.done
+
+pub returns-clause-no_memory : goal.returns-clause-no_memory
+returns-clause-no_memory g c =
+    let held = c.lock_stripe-held in
+    let before : View = c.args.hand.now.seat.me.0 in
+    let taken : View = held.new.hand.seat.me.0 in
+    let now : View = c.delete_at.new.hand.seat.me.0 in
+    let at : c.args.key % c.config.result.now.stripes ≡ c.args.key % c.args.arena.now.table.shared.key.config.stripes = ap (λ (f : Config). c.args.key % f.stripes) c.config.ensures.config in
+    let stripe = c.args.key % c.args.arena.now.table.shared.key.config.stripes in
+    err_map (now ≡ stripe_given held.result.number held.result.stripe taken) (OnlyWaits stripe before now) c.delete_at.result
+    (only_waits stripe held.result.number held.result.stripe before taken now (held.ensures.number ∙ at) (subst (λ (n : ℕ). WaitsForStripe n before held.result.stripe taken) at held.ensures.waits)) c.delete_at.ensures.given
