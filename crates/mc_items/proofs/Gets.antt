@@ -1,12 +1,13 @@
 -- A look-up of a key, from its parts.
-use Rattle.std.proofs.Common.{◌≡◌, ℕ, ◌+◌, true, Option, Some, refl, sym, ap, subst, ◌∙◌, Contains}
+use Rattle.std.proofs.Common.{◌≡◌, ℕ, ◌+◌, true, Option, Some, None, IfSome, refl, sym, ap, subst, ◌∙◌, Contains}
 use Rattle.std.proofs.lemmas.List.Elements.{Contains-push}
 use Rattle.mc_pages.specs.declared.ids.ChunkId.{ChunkId}
-use Rattle.mc_stripe.specs.StripeState.{ReadyStripe}
+use Rattle.mc_stripe.specs.StripeState.{ReadyStripe, place_of}
 use Rattle.mc_stripe.specs.Changes.{after_got, used_up}
 use Rattle.mc_core.specs.declared.holding.Holding.{Holding}
 use Rattle.mc_core.specs.Past.{known_by}
 use Rattle.mc_words.specs.View.{View}
+use Rattle.mc_words.specs.Called.{key_missed}
 use Rattle.mc_words.specs.Happens.{LawfulView}
 use Rattle.mc_words.specs.Items.{held_item}
 use Rattle.mc_words.specs.Lent.{IsLentStripe}
@@ -14,7 +15,7 @@ use Rattle.mc_words.specs.Waiting.{WaitsForStripe}
 use Rattle.mc_words.specs.Referring.{reference_to, GetsItem}
 use Rattle.mc_words.specs.Views.{stripe_given, stripe_reserved}
 use Rattle.mc_words.proofs.References.{is_item}
-use Rattle.mc_items.specs.declared.refs.Ref.{Ref}
+use Rattle.mc_words.specs.declared.refs.Ref.{Ref}
 use Rattle.mc_items.specs.Calls.{CallsOn, Doing, IsDone, LooksUp, OnlyWaits}
 
 -- the item of a reference that was got is the one that the first holding of its chunk has
@@ -26,13 +27,13 @@ got_item view now number stripe value key chunk issue room gets was =
 
 -- a call that found the key's item
 pub found_done : (number stripe : ℕ) (value : ReadyStripe) (key : ℕ) (r : Ref) (view made got now : View) (number' stripe' stripe'' : ℕ) (ready left : ReadyStripe) → number' ≡ number → stripe' ≡ stripe → stripe'' ≡ stripe → ready ≡ record value { ready = true }
-    → made ≡ stripe_reserved stripe value (number + 1) view → left ≡ used_up (after_got ready.state number' key) → GetsItem made number' stripe' ready key r.reference.chunk r.reference.issue r.reference.room got → now ≡ stripe_given stripe'' left got
+    → made ≡ stripe_reserved stripe value (number + 1) view → left ≡ used_up (after_got ready.state number' key) → GetsItem made number' stripe' ready key r.chunk r.issue r.room got → now ≡ stripe_given stripe'' left got
     → IsDone number stripe value (LooksUp number stripe key (Some r)) view now
 found_done number stripe value key r view made got now number' stripe' stripe'' ready left numbers stripes stripes' readies mades lefts gets given = record {
   left = left;
   last = got;
   does = (
-    subst (λ (p : View × ℕ × ℕ × ReadyStripe). GetsItem p.0 p.1 p.2 p.3 key r.reference.chunk r.reference.issue r.reference.room got) (λ k. (mades k, numbers k, stripes k, readies k)) gets,
+    subst (λ (p : View × ℕ × ℕ × ReadyStripe). GetsItem p.0 p.1 p.2 p.3 key r.chunk r.issue r.room got) (λ k. (mades k, numbers k, stripes k, readies k)) gets,
     lefts ∙ (λ k. used_up (after_got (readies k).state (numbers k) key)),
   );
   given = given ∙ ap (λ n. stripe_given n left got) stripes';
@@ -52,3 +53,33 @@ called_on Does number stripe number' stripe' value view taken now numbers stripe
 -- one that ran out of memory
 pub only_waits : (stripe stripe' : ℕ) (value : ReadyStripe) (view taken now : View) → stripe' ≡ stripe → WaitsForStripe stripe view value taken → now ≡ stripe_given stripe' value taken → OnlyWaits stripe view now
 only_waits stripe stripe' value view taken now stripes waits given = record { value = value; taken = taken; waits = waits; given = given ∙ ap (λ n. stripe_given n value taken) stripes }
+
+-- one that found none
+none_done : (number stripe : ℕ) (value : ReadyStripe) (key : ℕ) (view made got now : View) (number' stripe' stripe'' : ℕ) (ready left : ReadyStripe) → number' ≡ number → stripe' ≡ stripe → stripe'' ≡ stripe → ready ≡ record value { ready = true }
+    → made ≡ stripe_reserved stripe value (number + 1) view → left ≡ used_up (after_got ready.state number' key) → place_of ready.state key ≡ None → got ≡ key_missed number' stripe' ready key made → now ≡ stripe_given stripe'' left got
+    → IsDone number stripe value (LooksUp number stripe key None) view now
+none_done number stripe value key view made got now number' stripe' stripe'' ready left numbers stripes stripes' readies mades lefts nowhere gots given = record {
+  left = left;
+  last = got;
+  does = (
+    ap (λ (v : ReadyStripe). place_of v.state key) (sym readies) ∙ nowhere,
+    gots ∙ (λ k. key_missed (numbers k) (stripes k) (readies k) key (mades k)),
+    lefts ∙ (λ k. used_up (after_got (readies k).state (numbers k) key)),
+  );
+  given = given ∙ ap (λ n. stripe_given n left got) stripes';
+}
+
+-- one of the two
+pub looked_up : (number stripe : ℕ) (value : ReadyStripe) (key : ℕ) (found : Option Ref) (view made got now : View) (number' stripe' stripe'' : ℕ) (ready left : ReadyStripe) → number' ≡ number → stripe' ≡ stripe → stripe'' ≡ stripe → ready ≡ record value { ready = true }
+    → made ≡ stripe_reserved stripe value (number + 1) view → left ≡ used_up (after_got ready.state number' key) → IfSome found (λ r. GetsItem made number' stripe' ready key r.chunk r.issue r.room got)
+    → (found ≡ None → (place_of ready.state key ≡ None) × (got ≡ key_missed number' stripe' ready key made)) → now ≡ stripe_given stripe'' left got
+    → IsDone number stripe value (LooksUp number stripe key found) view now
+looked_up number stripe value key (Some r) view made got now number' stripe' stripe'' ready left numbers stripes stripes' readies mades lefts gets misses given =
+    found_done number stripe value key r view made got now number' stripe' stripe'' ready left numbers stripes stripes' readies mades lefts gets given
+looked_up number stripe value key None view made got now number' stripe' stripe'' ready left numbers stripes stripes' readies mades lefts gets misses given =
+    none_done number stripe value key view made got now number' stripe' stripe'' ready left numbers stripes stripes' readies mades lefts (misses refl).0 (misses refl).1 given
+
+-- what follows from two facts on what is there
+pub some_both : {A : Type 0} (P Q R : A → Type 0) (o : Option A) → ((a : A) → P a → Q a → R a) → IfSome o P → IfSome o Q → IfSome o R
+some_both P Q R (Some a) next p q = next a p q
+some_both P Q R None next p q = tt

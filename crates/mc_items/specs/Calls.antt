@@ -1,14 +1,17 @@
 -- Calls on keys: the lock of the key's stripe is taken, the call is made there, and the lock is given back.
 use Rattle.std.specs.Prelude.{◌≡◌, ℕ, ◌+◌, Bool, true, is_some, if◌then◌else◌, Option, Some, None}
+use Rattle.mc_pages.specs.SlabState.{SlabState}
+use Rattle.mc_pages.specs.Changes.{after_touch}
+use Rattle.mc_core.specs.declared.event.Change.TheVariants.{Touch}
 use Rattle.mc_stripe.specs.StripeState.{ReadyStripe, place_of}
 use Rattle.mc_stripe.specs.Changes.{after_got, after_unlink, used_up}
 use Rattle.mc_words.specs.View.{View}
 use Rattle.mc_words.specs.Called.{key_deleted, key_missed, key_not_deleted}
 use Rattle.mc_words.specs.Lent.{IsLentStripe}
 use Rattle.mc_words.specs.Referring.{GetsItem}
-use Rattle.mc_words.specs.Views.{stripe_given, stripe_reserved}
-use Rattle.mc_words.specs.Waiting.{WaitsForStripe}
-use Rattle.mc_items.specs.declared.refs.Ref.{Ref}
+use Rattle.mc_words.specs.Views.{chunk_dropped, slabs_changed, slabs_given, stripe_given, stripe_reserved}
+use Rattle.mc_words.specs.Waiting.{WaitsForSlabs, WaitsForStripe}
+use Rattle.mc_words.specs.declared.refs.Ref as words
 
 -- what is done on a stripe, from its value and the hand's view to those that it leaves
 abbrev pub Doing : Type 1
@@ -36,12 +39,30 @@ pub record OnlyWaits (stripe : ℕ) (view now : View) : Type 0 where
   pub waits : WaitsForStripe stripe view value taken
   pub given : now ≡ stripe_given stripe value taken
 
--- the key was looked up: this reference to its item was got, or it has none
-abbrev pub LooksUp : ℕ → ℕ → ℕ → Option Ref → Doing
-LooksUp number stripe key (Some r) value view left now =
-    GetsItem view number stripe value key r.reference.chunk r.reference.issue r.reference.room now × (left ≡ used_up (after_got value.state number key))
-LooksUp number stripe key None value view left now =
+-- the key was looked up, and this reference to its item was got
+abbrev pub Finds : ℕ → ℕ → ℕ → words.Ref → Doing
+Finds number stripe key r value view left now =
+    GetsItem view number stripe value key r.chunk r.issue r.room now × (left ≡ used_up (after_got value.state number key))
+
+-- the key was looked up, and has no item
+abbrev pub FindsNone : ℕ → ℕ → ℕ → Doing
+FindsNone number stripe key value view left now =
     (place_of value.state key ≡ None) × (now ≡ key_missed number stripe value key view) × (left ≡ used_up (after_got value.state number key))
+
+-- the one or the other
+abbrev pub LooksUp : ℕ → ℕ → ℕ → Option words.Ref → Doing
+LooksUp number stripe key (Some r) = Finds number stripe key r
+LooksUp number stripe key None = FindsNone number stripe key
+
+-- the key's item was got; then its chunk went to the back of its hand-out order, under the lock of the slabs, and was released
+pub record Touches (number stripe key : ℕ) (view now : View) : Type 0 where
+  pub reference : words.Ref
+  pub got : View
+  pub gets : CallsOn number stripe (Finds number stripe key reference) view got
+  pub slabs : SlabState
+  pub taken : View
+  pub waits : WaitsForSlabs got slabs taken
+  pub is : now ≡ chunk_dropped reference.chunk (slabs_given (after_touch slabs reference.chunk) (slabs_changed slabs (Touch reference.chunk) (number + 1) taken))
 
 -- the key was deleted, and had an item or none
 abbrev pub Deletes : ℕ → ℕ → ℕ → Bool → Doing

@@ -1,8 +1,12 @@
 //! References to the items of keys, by the locks of their stripes.
 ghost use Rattle.std.specs.Prelude.{◌≡◌, ◌≢◌, ℕ, ◌<◌, ◌≤◌, ◌%◌, ◌↔◌, true, length, Err, IfOk, IfSome, OnErr};
+ghost use Rattle.std.specs.Option.{option_map};
+ghost use Rattle.mc_core.specs.Holdings.{key_of};
 ghost use Rattle.mc_words.specs.Arenas.{IsHandOf, setup_of, view};
 ghost use Rattle.mc_words.specs.Idle.{is_unlocked};
+ghost use Rattle.mc_words.specs.Items.{held_item};
 ghost use Rattle.mc_words.specs.Lent.{IsLentStripe};
+ghost use Rattle.mc_words.specs.Refs.{IsIssueOf, IsRefOf};
 ghost use Rattle.mc_words.specs.Out.{without_stripe};
 ghost use Rattle.mc_words.specs.Views.{stripe_given, stripe_missed};
 ghost use Rattle.mc_items.specs.Calls.{CallsOn, IsDone, LooksUp, OnlyWaits};
@@ -29,7 +33,7 @@ pub fn get<R: Wait>(rt: &R, arena: &Arena, hand: &mut Hand, key: u64) -> Result<
     requires unlocked { is_unlocked (view hand.old) ≡ true }
     ensures arena { IsHandOf arena.now hand.new }
     ensures locks { hand.new.locks ≡ hand.old.locks }
-    ensures gets { IfOk result (λ found. CallsOn hand.old.number (key % (setup_of arena.now).config.stripes) (LooksUp hand.old.number (key % (setup_of arena.now).config.stripes) key found) (view hand.old) (view hand.new)) }
+    ensures gets { IfOk result (λ found. CallsOn hand.old.number (key % (setup_of arena.now).config.stripes) (LooksUp hand.old.number (key % (setup_of arena.now).config.stripes) key (option_map (λ r. r.reference) found)) (view hand.old) (view hand.new)) }
     ensures item { IfOk result (λ found. IfSome found (λ item. IsItemRef (view hand.new) item × (item.key ≡ key))) }
     ensures many { (result ≡ Err GetError.TooManyRefs) ↔ (255 ≤ length (view hand.old).row.holdings) }
     ensures same { result ≡ Err GetError.TooManyRefs → view hand.new ≡ view hand.old }
@@ -64,7 +68,7 @@ pub fn try_get(arena: &Arena, hand: &mut Hand, key: u64) -> Result<Option<Ref>, 
     requires unlocked { is_unlocked (view hand.old) ≡ true }
     ensures arena { IsHandOf arena.now hand.new }
     ensures locks { hand.new.locks ≡ hand.old.locks }
-    ensures gets { IfOk result (λ found. CallsOn hand.old.number (key % (setup_of arena.now).config.stripes) (LooksUp hand.old.number (key % (setup_of arena.now).config.stripes) key found) (view hand.old) (view hand.new)) }
+    ensures gets { IfOk result (λ found. CallsOn hand.old.number (key % (setup_of arena.now).config.stripes) (LooksUp hand.old.number (key % (setup_of arena.now).config.stripes) key (option_map (λ r. r.reference) found)) (view hand.old) (view hand.new)) }
     ensures item { IfOk result (λ found. IfSome found (λ item. IsItemRef (view hand.new) item × (item.key ≡ key))) }
     ensures many { (result ≡ Err TryGetError.TooManyRefs) ↔ (255 ≤ length (view hand.old).row.holdings) }
     ensures same { result ≡ Err TryGetError.TooManyRefs → view hand.new ≡ view hand.old }
@@ -84,7 +88,7 @@ pub fn try_get(arena: &Arena, hand: &mut Hand, key: u64) -> Result<Option<Ref>, 
     }
 }
 
-// Looks the key up in its stripe, and gives the stripe's lock back. At want of memory the stripe is as before.
+// Looks the key up in its stripe, gives the stripe's lock back, and reads what is said of the item.
 fn look_up(arena: &Arena, hand: &mut Hand, held: StripeHeld, key: u64) -> Result<Option<Ref>, NoMemory>
     requires arena { IsHandOf arena.now hand.old }
     requires lent { IsLentStripe (view hand.old) held.number held.stripe }
@@ -92,8 +96,32 @@ fn look_up(arena: &Arena, hand: &mut Hand, held: StripeHeld, key: u64) -> Result
     requires few { length (view hand.old).row.holdings < 256 }
     ensures arena { IsHandOf arena.now hand.new }
     ensures locks { hand.new.locks ≡ without_stripe hand.old.locks }
-    ensures done { IfOk result (λ found. IsDone hand.old.number held.number held.stripe (LooksUp hand.old.number held.number key found) (view hand.old) (view hand.new)) }
+    ensures done { IfOk result (λ found. IsDone hand.old.number held.number held.stripe (LooksUp hand.old.number held.number key (option_map (λ r. r.reference) found)) (view hand.old) (view hand.new)) }
     ensures item { IfOk result (λ found. IfSome found (λ item. IsItemRef (view hand.new) item × (item.key ≡ key))) }
+    ensures given { OnErr result (view hand.new ≡ stripe_given held.number held.stripe (view hand.old)) }
+{
+    match refer_at(arena, hand, held, key) {
+        Ok(Some(reference)) => Ok(Some(look_at(arena, hand, reference))),
+        Ok(None) => Ok(None),
+        Err(error) => Err(error),
+    }
+}
+
+// Looks the key up in its stripe, and gives the stripe's lock back. At want of memory the stripe is as before.
+pub(crate) fn refer_at(
+    arena: &Arena,
+    hand: &mut Hand,
+    held: StripeHeld,
+    key: u64,
+) -> Result<Option<mc_words::Ref>, NoMemory>
+    requires arena { IsHandOf arena.now hand.old }
+    requires lent { IsLentStripe (view hand.old) held.number held.stripe }
+    requires near { held.number ≡ key % (setup_of arena.now).config.stripes }
+    requires few { length (view hand.old).row.holdings < 256 }
+    ensures arena { IsHandOf arena.now hand.new }
+    ensures locks { hand.new.locks ≡ without_stripe hand.old.locks }
+    ensures done { IfOk result (λ found. IsDone hand.old.number held.number held.stripe (LooksUp hand.old.number held.number key found) (view hand.old) (view hand.new)) }
+    ensures reference { IfOk result (λ found. IfSome found (λ r. IsRefOf (view hand.new) r.chunk r.room × IsIssueOf (view hand.new) r.chunk r.issue × (key_of (held_item (view hand.new) r.chunk) ≡ key))) }
     ensures given { OnErr result (view hand.new ≡ stripe_given held.number held.stripe (view hand.old)) }
 {
     let mut held = held;
@@ -105,8 +133,5 @@ fn look_up(arena: &Arena, hand: &mut Hand, held: StripeHeld, key: u64) -> Result
         unreachable!();
     };
     arena.give_stripe(hand, held);
-    match found {
-        Some(reference) => Ok(Some(look_at(arena, hand, reference))),
-        None => Ok(None),
-    }
+    Ok(found)
 }

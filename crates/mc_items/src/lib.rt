@@ -9,9 +9,11 @@ mod getting;
 mod hinting;
 mod reading;
 mod refs;
+mod touching;
 
 pub use deleting::delete;
 pub use getting::{GetError, TryGetError, get, try_get};
 pub use hinting::{again, hint};
 pub use reading::{read, release};
 pub use refs::Ref;
+pub use touching::touch;

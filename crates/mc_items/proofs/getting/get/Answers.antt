@@ -6,6 +6,8 @@ use Rattle.mc_words.specs.Lent.{IsLentStripe}
 use Rattle.mc_words.specs.Out.{without_stripe}
 use Rattle.mc_words.specs.View.{View}
 use Rattle.mc_words.specs.Waiting.{WaitsForStripe}
+use Rattle.std.specs.Option.{option_map}
+use Rattle.mc_items.specs.declared.refs.Ref.{Ref}
 use Rattle.mc_items.specs.Calls.{LooksUp}
 use Rattle.mc_items.proofs.Gets.{called_on}
 use Rattle.mc_items.proofs.Hands.{number_stays}
@@ -36,5 +38,5 @@ returns-in-Ok-clause-gets g c =
     let at : c.args.key % c.config.result.now.stripes ≡ c.args.key % c.args.arena.now.table.shared.key.config.stripes = ap (λ (g : Config). c.args.key % g.stripes) c.config.ensures.config in
     let waits = held.ensures.waits in
     let number = number_stays hand held.new.hand (waits_keep (λ (v : View). v.row.ids) (c.args.key % c.config.result.now.stripes) (λ word v. refl) (λ value v. refl) before held.result.stripe taken waits) in
-    called_on (λ number stripe. LooksUp number stripe c.args.key c.in-Ok.found) hand.number _ held.new.hand.number held.result.number held.result.stripe before taken c.look_up.new.hand.seat.me.0 number (held.ensures.number ∙ at)
+    called_on (λ number stripe. LooksUp number stripe c.args.key (option_map (λ (r : Ref). r.reference) c.in-Ok.found)) hand.number _ held.new.hand.number held.result.number held.result.stripe before taken c.look_up.new.hand.seat.me.0 number (held.ensures.number ∙ at)
     (subst (λ (n : ℕ). WaitsForStripe n before held.result.stripe taken) at waits) (subst (λ (n : ℕ). IsLentStripe taken n held.result.stripe) at held.ensures.whole) c.in-Ok.ensures.done

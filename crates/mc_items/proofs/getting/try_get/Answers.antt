@@ -5,6 +5,8 @@ use Rattle.mc_words.specs.Lent.{IsLentStripe}
 use Rattle.mc_words.specs.Out.{without_stripe}
 use Rattle.mc_words.specs.View.{View}
 use Rattle.mc_words.specs.Waiting.{WaitsForStripe}
+use Rattle.std.specs.Option.{option_map}
+use Rattle.mc_items.specs.declared.refs.Ref.{Ref}
 use Rattle.mc_items.specs.Calls.{LooksUp}
 use Rattle.mc_items.proofs.Gets.{called_on, only_waits}
 use Rattle.mc_items.proofs.Hands.{number_stays}
@@ -25,7 +27,7 @@ returns-in-Ok-look_up-clause-gets c =
     let taken : View = c.try_stripe.new.hand.seat.me.0 in
     let at : c.args.key % c.config.result.now.stripes ≡ c.args.key % c.args.arena.now.table.shared.key.config.stripes = ap (λ (g : Config). c.args.key % g.stripes) c.config.ensures.config in
     let number = number_stays hand c.try_stripe.new.hand (ap (λ (v : View). v.row.ids) c.in-Ok.ensures.lent) in
-    called_on (λ number stripe. LooksUp number stripe c.args.key c.in-Ok-look_up.found) hand.number _ c.try_stripe.new.hand.number held.number held.stripe before taken c.look_up.new.hand.seat.me.0 number (c.in-Ok.ensures.number ∙ at)
+    called_on (λ number stripe. LooksUp number stripe c.args.key (option_map (λ (r : Ref). r.reference) c.in-Ok-look_up.found)) hand.number _ c.try_stripe.new.hand.number held.number held.stripe before taken c.look_up.new.hand.seat.me.0 number (c.in-Ok.ensures.number ∙ at)
     (subst (λ (n : ℕ). WaitsForStripe n before held.stripe taken) at (taken_at_once (c.args.key % c.config.result.now.stripes) held.stripe before taken c.in-Ok.ensures.taken c.in-Ok.ensures.lent))
     (subst (λ (n : ℕ). IsLentStripe taken n held.stripe) at c.in-Ok.ensures.whole) c.in-Ok-look_up.ensures.done
 
