@@ -22,7 +22,9 @@ pub mod HeldReads
 pub mod Reasoned
 pub mod Condemns
 pub mod CondemnCalls
+pub mod DeadAgain
 pub mod Sweeps
+pub mod SweepViews
 pub mod Calls
 pub mod Refers
 pub mod References

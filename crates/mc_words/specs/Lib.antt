@@ -24,6 +24,7 @@ pub mod Joining
 pub mod Closing
 pub mod Owner
 pub mod Condemning
+pub mod Sweeping
 pub mod Arenas
 pub mod Refused
 pub mod Hands

@@ -29,6 +29,7 @@ mod rooms;
 mod rule;
 mod slot;
 mod steps;
+mod sweeping;
 mod taking;
 mod waiting;
 
