@@ -30,6 +30,8 @@ pub mod Refers
 pub mod References
 pub mod GetsItems
 pub mod NoneTold
+pub mod Agains
+pub mod Unlinks
 pub mod Peeks
 pub mod Filled
 pub mod Judging

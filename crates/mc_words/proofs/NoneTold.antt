@@ -1,15 +1,15 @@
 -- A change of a stripe that writes one call: why it may be told, and what a hand's view is afterwards.
-use Rattle.std.proofs.Common.{◌≡◌, ◌≢◌, ℕ, suc, ◌+◌, ◌%◌, true, false, is_none, not, [], ◌∷◌, ◌++◌, List, length, map, Option, Some, None, refl, sym, ap, subst, unwrap_or, ◌∙◌, arith, lt-ltb, slice_index, slice_index_or, slice_set, length-set, get_or-set_same, get_or-set_other, if◌then◌else◌}
+use Rattle.std.proofs.Common.{◌≡◌, ◌≢◌, ℕ, suc, ◌+◌, ◌%◌, Bool, true, false, is_none, is_some, not, [], ◌∷◌, ◌++◌, List, length, map, Option, Some, None, refl, sym, ap, subst, unwrap_or, ◌∙◌, arith, lt-ltb, slice_index, slice_index_or, slice_set, length-set, get_or-set_same, get_or-set_other, if◌then◌else◌}
 use Rattle.std.proofs.lemmas.Bool.{and_from, and_parts}
 use Rattle.mc_stripe.specs.declared.history.Call.{Call}
-use Rattle.mc_stripe.specs.declared.history.Call.TheVariants.{Get}
+use Rattle.mc_stripe.specs.declared.history.Call.TheVariants.{Get, Delete}
 use Rattle.mc_stripe.specs.StripeState.{ReadyStripe, place_of, new_stripe, stamp_of}
-use Rattle.mc_stripe.specs.Changes.{after_got, used_up}
+use Rattle.mc_stripe.specs.Changes.{after_got, after_unlink, used_up}
 use Rattle.mc_core.specs.declared.event.Change.{Change}
-use Rattle.mc_core.specs.declared.event.Change.TheVariants.{GotNone}
+use Rattle.mc_core.specs.declared.event.Change.TheVariants.{GotNone, DeletedNone}
 use Rattle.mc_core.specs.declared.event.Step.TheVariants as core
 use Rattle.mc_core.specs.State.{State, has_stripe, ids_at, holdings_at, looks_at, number_at, stripe_at, stripe_of, with_stripe}
-use Rattle.mc_core.specs.Silent.{allows_change, after_change, is_aside, writer_of}
+use Rattle.mc_core.specs.Silent.{allows_change, after_change, call_of, is_aside, writer_of}
 use Rattle.mc_core.specs.Past.{Moment, Own, history_at, knowledge_at, moment_changed}
 use Rattle.mc_core.specs.Views.{held_slabs}
 use Rattle.mc_core.specs.Laws.{MayChange}
@@ -21,7 +21,7 @@ use Rattle.mc_words.specs.View.{View, held_stripes}
 use Rattle.mc_words.specs.Layout.{lock_word}
 use Rattle.mc_words.specs.Meaning.{AreCut}
 use Rattle.mc_words.specs.Happens.{LawfulView, Happens, MayTell}
-use Rattle.mc_words.specs.Called.{called, key_missed, with_own_call}
+use Rattle.mc_words.specs.Called.{called, key_missed, key_not_deleted, with_own_call}
 use Rattle.mc_words.specs.Views.{stripe_missed}
 use Rattle.mc_words.proofs.Calls.{mine_called}
 use Rattle.mc_words.proofs.Heads.{AreAll}
@@ -186,7 +186,7 @@ module _ (view : View) (number stripe : ℕ) (value : ReadyStripe) (key : ℕ) (
         (ap (λ (v : ReadyStripe). is_none (place_of v.state key)) value_is ∙ ap is_none no_place.none))
 
   -- it was looked up
-  pub got_writes : WritesCall view number stripe value (GotNone key) (used_up (after_got value.state number key)) (Get number key (stamp_of value.state key))
+  got_writes : WritesCall view number stripe value (GotNone key) (used_up (after_got value.state number key)) (Get number key (stamp_of value.state key))
   got_writes = record {
     mine = no_place.mine;
     numbered = no_place.numbered;
@@ -195,8 +195,29 @@ module _ (view : View) (number stripe : ℕ) (value : ReadyStripe) (key : ℕ) (
     more = refl;
   }
 
-  pub may_tell_got : MayTell view (GotNone key) (core.MissStripe stripe) (lock_word (suc stripe)) (λ found. found)
-  may_tell_got = may_write view number stripe value (GotNone key) (used_up (after_got value.state number key)) (Get number key (stamp_of value.state key)) got_writes
+  -- or deleted
+  deleted_writes : WritesCall view number stripe value (DeletedNone key) (used_up (after_unlink value.state number key)) (Delete number key false)
+  deleted_writes = record {
+    mine = no_place.mine;
+    numbered = no_place.numbered;
+    allowed = can_tell;
+    changes = λ was k. with_stripe was.moment.state (stripe_is was k) (used_up (after_unlink (value_is was k).state (writer was k) key));
+    more = ap (λ there. value.state.history ++ Delete number key (is_some there) ∷ []) no_place.none;
+  }
 
-  pub got_none : (now : View) → Happens view (GotNone key ∷ []) (core.MissStripe stripe) now → now ≡ key_missed number stripe value key view
-  got_none now h = call_written view number stripe value (GotNone key) (used_up (after_got value.state number key)) (Get number key (stamp_of value.state key)) got_writes now h
+  pub may_tell_none : (deletes : Bool) → MayTell view (call_of deletes key) (core.MissStripe stripe) (lock_word (suc stripe)) (λ found. found)
+  may_tell_none true = may_write view number stripe value (DeletedNone key) (used_up (after_unlink value.state number key)) (Delete number key false) deleted_writes
+  may_tell_none false = may_write view number stripe value (GotNone key) (used_up (after_got value.state number key)) (Get number key (stamp_of value.state key)) got_writes
+
+  -- what the hand knows then
+  abbrev pub told_view : Bool → View
+  told_view deletes = if deletes then key_not_deleted number stripe value key view else key_missed number stripe value key view
+
+  pub none_told : (deletes : Bool) (now : View) → Happens view (call_of deletes key ∷ []) (core.MissStripe stripe) now → now ≡ told_view deletes
+  none_told true now h = call_written view number stripe value (DeletedNone key) (used_up (after_unlink value.state number key)) (Delete number key false) deleted_writes now h
+  none_told false now h = call_written view number stripe value (GotNone key) (used_up (after_got value.state number key)) (Get number key (stamp_of value.state key)) got_writes now h
+
+  -- who it is and what it holds stays
+  pub told_keeps : (deletes : Bool) → ((told_view deletes).row.ids ≡ view.row.ids) × ((told_view deletes).row.holdings ≡ view.row.holdings)
+  told_keeps true = (refl, refl)
+  told_keeps false = (refl, refl)

@@ -114,3 +114,12 @@ module _ (view : View) (was : LawfulView view) (x : Holding) (room : ℕ) (old :
 -- a reference has one room
 pub one_room : (view : View) → LawfulView view → (chunk : ChunkId) (a b : ℕ) → IsRefOf view chunk a → IsRefOf view chunk b → a ≡ b
 one_room view was chunk a b first second = sym (room_is view chunk a first was) ∙ room_is view chunk b second was
+
+-- the item of a reference is whole: it has as many words as it says
+pub ref_whole : (view : View) → LawfulView view → (chunk : ChunkId) (room : ℕ) → IsRefOf view chunk room → length (held_item view chunk) ≡ length_of (held_item view chunk)
+ref_whole view was chunk room ref =
+    let m : Moment = was.moment in
+    let k : Known = known_by room ref.holding in
+    let known : Contains (row_of m.past.known was.hand) k = subst (λ (l : List Known). Contains l k) (ap (λ (v : View). v.row.knows.known) was.is) ref.knows in
+    let still = each_contained (IsStill m was.lawful) m.past.known was.hand k was.lawful.known.still known in
+    subst (λ (item : List ℕ). length item ≡ length_of item) (sym (item_found view chunk ref.holding ref.found)) still.whole

@@ -1,14 +1,15 @@
 -- What calls on keys change of a hand's view: all else stays.
-use Rattle.std.specs.Prelude.{ℕ, ◌+◌, ◌==◌, [], ◌∷◌, ◌++◌, if◌then◌else◌, map, slice_set, Some}
+use Rattle.std.specs.Prelude.{ℕ, ◌+◌, ◌==◌, Bool, true, false, [], ◌∷◌, ◌++◌, if◌then◌else◌, map, slice_set, Some}
 use Rattle.mc_pages.specs.declared.ids.ChunkId.{ChunkId}
 use Rattle.mc_stripe.specs.declared.history.Call.{Call}
-use Rattle.mc_stripe.specs.declared.history.Call.TheVariants.{Get, Evict}
+use Rattle.mc_stripe.specs.declared.history.Call.TheVariants.{Get, Delete, Evict}
 use Rattle.mc_stripe.specs.StripeState.{ReadyStripe, stamp_of}
-use Rattle.mc_stripe.specs.Changes.{after_evict, after_got, used_up}
+use Rattle.mc_stripe.specs.Changes.{after_evict, after_got, after_lift, after_unlink, used_up}
 use Rattle.mc_core.specs.declared.head.Head.{Head}
 use Rattle.mc_core.specs.declared.holding.Holding.{Holding}
 use Rattle.mc_core.specs.declared.look.Look.TheVariants.{Condemned}
 use Rattle.mc_core.specs.Evictions.{condemned}
+use Rattle.mc_core.specs.Holdings.{has_fresh}
 use Rattle.mc_core.specs.Past.{Own, known_by, with_more}
 use Rattle.mc_words.specs.View.{View}
 use Rattle.mc_words.specs.Views.{with_knowledge, with_holdings, looked, stripe_missed}
@@ -43,3 +44,21 @@ item_referred holding room view =
 -- it looked a key up that leads nowhere, which was told by a look at the word of the stripe's lock
 abbrev pub key_missed : ℕ → ℕ → ReadyStripe → ℕ → View → View
 key_missed number stripe value key view = stripe_missed stripe (number + 1) (key_got number stripe value key view)
+
+-- it deleted a key, which was there or not
+abbrev pub key_deleted : ℕ → ℕ → ReadyStripe → ℕ → Bool → View → View
+key_deleted number stripe value key there view =
+    record (called number stripe (Delete number key there) view) { stripes = slice_set view.stripes stripe (Some (used_up (after_unlink value.state number key))) }
+
+-- it deleted a key that leads nowhere, which was told by a look at the word of the stripe's lock
+abbrev pub key_not_deleted : ℕ → ℕ → ReadyStripe → ℕ → View → View
+key_not_deleted number stripe value key view = stripe_missed stripe (number + 1) (key_deleted number stripe value key false view)
+
+-- it put a key's entry aside, which is no call
+abbrev pub key_lifted : ℕ → ReadyStripe → ℕ → View → View
+key_lifted stripe value key view = record view { stripes = slice_set view.stripes stripe (Some (record value { state = after_lift value.state key })) }
+
+-- it unlinked a key's item: where it fills a chunk the entry is put aside, and otherwise the key is deleted
+abbrev pub key_unlinked : ℕ → ℕ → ReadyStripe → ℕ → View → View
+key_unlinked number stripe value key view =
+    if has_fresh view.row.holdings then key_lifted stripe value key view else key_deleted number stripe value key true view

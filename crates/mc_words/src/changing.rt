@@ -1,12 +1,14 @@
 //! Changes of pages and lists, and of stripes, that write no header. Each is told at once.
-ghost use Rattle.std.specs.Prelude.{◌≡◌, ℕ, ◌+◌, ◌<◌, ◌≤◌, ◌↔◌, [], ◌∷◌, true, slice_index_or, None, Some, Err, IfOk, IsOk, OnOk, OnErr};
+ghost use Rattle.std.specs.Prelude.{◌≡◌, ℕ, ◌+◌, ◌%◌, ◌<◌, ◌≤◌, ◌↔◌, Bool, if◌then◌else◌, [], ◌∷◌, true, false, slice_index_or, None, Some, Err, IfOk, IsOk, OnOk, OnErr};
 ghost use Rattle.mc_classes.specs.Classes.{pages_of};
 ghost use Rattle.mc_pages.specs.Changes.{after_evicted, after_grow, after_touch, next_page};
-ghost use Rattle.mc_core.specs.Silent.{is_handed_out};
+ghost use Rattle.mc_stripe.specs.StripeState.{place_of};
+ghost use Rattle.mc_core.specs.Silent.{call_of, is_aside, is_handed_out};
 ghost use Rattle.mc_core.specs.State.{is_class};
 ghost use Rattle.mc_core.specs.declared.event.Change.TheVariants as change;
 ghost use Rattle.mc_core.specs.declared.event.Step.TheVariants as step;
 ghost use Rattle.mc_words.specs.Arenas.{IsHandOf, setup_of, view};
+ghost use Rattle.mc_words.specs.Called.{key_missed, key_not_deleted};
 ghost use Rattle.mc_words.specs.Happens.{Happens};
 ghost use Rattle.mc_words.specs.Views.{slabs_changed, stripe_reserved};
 
@@ -17,7 +19,7 @@ use crate::locks::Lock;
 use mc_classes::{ClassId, PageId};
 use mc_core::{Change, Step};
 use mc_pages::{ChunkId, Grow};
-use mc_stripe::NoMemory;
+use mc_stripe::{Key, NoMemory};
 
 impl Arena {
     /// Sets the automover's mode, which is 0, 1 or 2.
@@ -106,6 +108,8 @@ impl Arena {
         requires held { slice_index_or (view hand.old).stripes held.old.number None ≡ Some held.old.stripe }
         ensures arena { IsHandOf self.now hand.new }
         ensures locks { hand.new.locks ≡ hand.old.locks }
+        ensures number { held.new.number ≡ held.old.number }
+        ensures held { slice_index_or (view hand.new).stripes held.new.number None ≡ Some held.new.stripe }
         ensures reserved { OnOk result (held.new ≡ record held.old { stripe = record held.old.stripe { ready = true } }) }
         ensures happens { OnOk result (Happens (view hand.old) (change.Reserve held.old.number ∷ []) (step.MissStripe held.old.number) (view hand.new)) }
         ensures view { OnOk result (view hand.new ≡ stripe_reserved held.old.number held.old.stripe (hand.old.number + 1) (view hand.old)) }
@@ -118,5 +122,26 @@ impl Arena {
         let change = Change::Reserve(stripe);
         self.tell(&mut hand.seat, word, change, Step::MissStripe(stripe));
         Ok(())
+    }
+
+    // Tells the stripe of a key that leads nowhere that it was looked up, or deleted.
+    pub(crate) fn tell_none(&self, hand: &mut Hand, held: &StripeHeld, key: Key, change: Change)
+        ghost deletes: { Bool }
+        requires is { change ≡ call_of deletes key }
+        requires arena { IsHandOf self.now hand.old }
+        requires of_key { key % (setup_of self.now).config.stripes ≡ held.now.number }
+        requires held { slice_index_or (view hand.old).stripes held.now.number None ≡ Some held.now.stripe }
+        requires ready { held.now.stripe.ready ≡ true }
+        requires inside { is_aside held.now.stripe.state key ≡ false }
+        requires none { place_of held.now.stripe.state key ≡ None }
+        ensures arena { IsHandOf self.now hand.new }
+        ensures locks { hand.new.locks ≡ hand.old.locks }
+        ensures number { hand.new.number ≡ hand.old.number }
+        ensures happens { Happens (view hand.old) (call_of deletes key ∷ []) (step.MissStripe held.now.number) (view hand.new) }
+        ensures view { view hand.new ≡ (if deletes then key_not_deleted hand.old.number held.now.number held.now.stripe key (view hand.old) else key_missed hand.old.number held.now.number held.now.stripe key (view hand.old)) }
+    {
+        let stripe = held.number;
+        let word = 1 + Lock::StripeLock(stripe).slot();
+        self.tell(&mut hand.seat, word, change, Step::MissStripe(stripe));
     }
 }

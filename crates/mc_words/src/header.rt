@@ -1,4 +1,7 @@
 //! The parts of a header's word, which is `issue * 2^18 + tag * 2^16 + count`.
+ghost use Rattle.std.specs.Prelude.{◌≡◌};
+ghost use Rattle.mc_core.specs.Head.{decode};
+ghost use Rattle.mc_words.specs.Hinting.{is_there};
 
 /// What an issue number is multiplied by.
 pub(crate) const ISSUE_UNIT: u64 = 262_144;
@@ -12,7 +15,7 @@ pub(crate) const DEAD: u64 = 2 * TAG_UNIT;
 /// What handing a free chunk out adds: the next issue, the next tag, and one holder.
 pub(crate) const HANDED_OUT: u64 = ISSUE_UNIT + TAG_UNIT + 1;
 
-/// What linking an unlinked chunk adds: the next tag, and the link's own count.
+/// What linking an unlinked chunk adds, and unlinking it takes: the next tag, and the link's own count.
 pub(crate) const LINKED: u64 = TAG_UNIT + 1;
 
 /// The greatest issue number, with which a chunk is used up.
@@ -20,3 +23,13 @@ pub(crate) const MOST_ISSUE: u64 = 70_368_744_177_663;
 
 /// The tag and the count of a chunk that is linked and held by nobody: the link counts 1.
 pub(crate) const UNHELD: u64 = 3 * TAG_UNIT + 1;
+
+/// The tag's number of a linked chunk.
+pub(crate) const LINKED_TAG: u64 = 3;
+
+/// Whether this is the header of a linked chunk that was handed out with this issue number.
+pub(crate) fn is_there(word: u64, issue: u64) -> bool
+    ensures there { result ≡ is_there issue (decode word) }
+{
+    word / TAG_UNIT % 4 == LINKED_TAG && word / ISSUE_UNIT == issue
+}

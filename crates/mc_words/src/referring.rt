@@ -15,7 +15,6 @@ use crate::arena::Arena;
 use crate::hand::Hand;
 use crate::header::ISSUE_UNIT;
 use crate::held::{StripeHeld, TooManyRefs};
-use crate::locks::Lock;
 use crate::refs::Ref;
 use mc_core::{Change, Step};
 use mc_pages::ChunkId;
@@ -51,7 +50,7 @@ impl Arena {
             return Err(TooManyRefs);
         }
         let Some((chunk, _)) = held.stripe().find(key) else {
-            self.tell_got_none(hand, held, key);
+            self.tell_none(hand, held, key, Change::GotNone(key));
             held.stripe.stripe_mut().got(hand.number, key);
             return Ok(None);
         };
@@ -81,25 +80,5 @@ impl Arena {
         let issue = found / ISSUE_UNIT;
         let room = self.room(hand, chunk);
         Ref { chunk, issue, room }
-    }
-
-    // Tells the stripe of a key that leads nowhere that it was looked up.
-    fn tell_got_none(&self, hand: &mut Hand, held: &StripeHeld, key: Key)
-        requires arena { IsHandOf self.now hand.old }
-        requires of_key { key % (setup_of self.now).config.stripes ≡ held.now.number }
-        requires held { slice_index_or (view hand.old).stripes held.now.number None ≡ Some held.now.stripe }
-        requires ready { held.now.stripe.ready ≡ true }
-        requires inside { is_aside held.now.stripe.state key ≡ false }
-        requires none { place_of held.now.stripe.state key ≡ None }
-        ensures arena { IsHandOf self.now hand.new }
-        ensures locks { hand.new.locks ≡ hand.old.locks }
-        ensures number { hand.new.number ≡ hand.old.number }
-        ensures happens { Happens (view hand.old) (change.GotNone key ∷ []) (step.MissStripe held.now.number) (view hand.new) }
-        ensures view { view hand.new ≡ key_missed hand.old.number held.now.number held.now.stripe key (view hand.old) }
-    {
-        let stripe = held.number;
-        let word = 1 + Lock::StripeLock(stripe).slot();
-        let change = Change::GotNone(key);
-        self.tell(&mut hand.seat, word, change, Step::MissStripe(stripe));
     }
 }

@@ -39,3 +39,14 @@ pub struct Hint {
     pub(crate) chunk: ChunkId,
     pub(crate) issue: u64,
 }
+
+/// Why no reference is had by a hint.
+#[derive(Clone, Copy, PartialEq, Eq, Drop)]
+pub enum Again {
+    /// The item is gone: its chunk isn't linked any more, or was handed out anew.
+    Gone,
+    /// The item was seen, and then its header was changed by another hand. It was there still, so a hand may try again.
+    Contended,
+    /// The hand holds 255 chunks.
+    TooManyRefs,
+}

@@ -1,10 +1,10 @@
-use Rattle.std.proofs.Common.{◌≡◌, ◌-◌, ◌+◌, ◌/◌, ◌%◌, ℕ, true, [], ◌∷◌, Some, None, Option, IfSome, refl, ap, sym, subst, arith, length, length-append, slice_index, slice_index_or, ◌∙◌}
+use Rattle.std.proofs.Common.{◌≡◌, ◌+◌, ◌%◌, ℕ, true, [], ◌∷◌, Some, None, Option, IfSome, refl, ap, sym, subst, arith, length, length-append, slice_index_or, ◌∙◌}
 use Rattle.std.specs.Option.{option_map_or}
 use Rattle.mc_pages.specs.Accounted.{truth}
 use Rattle.mc_stripe.specs.StripeState.{ReadyStripe, key_aside}
 use Rattle.mc_stripe.specs.Changes.{after_link, used_up}
 use Rattle.mc_core.specs.Codes.{plus}
-use Rattle.mc_core.specs.Holdings.{is_fresh, is_of, item_in, lose, numbers, words_of}
+use Rattle.mc_core.specs.Holdings.{is_of, item_in, lose, numbers, words_of}
 use Rattle.mc_core.specs.State.{has_chunk}
 use Rattle.mc_core.specs.declared.holding.Holding.{Holding}
 use Rattle.mc_core.specs.declared.event.Step.TheVariants as core

@@ -1,4 +1,5 @@
-use Rattle.std.proofs.Common.{◌≡◌, ℕ, suc, ◌+◌, refl, ap, sym, subst, ◌∙◌, length, arith}
+use Rattle.std.proofs.Common.{◌≡◌, ℕ, suc, ◌+◌, refl, ap, sym, subst, ◌∙◌, length, arith, slice_index_or, true, None, Some}
+use Rattle.mc_stripe.specs.StripeState.{ReadyStripe}
 use Rattle.mc_core.specs.declared.event.Change.TheVariants.{Reserve}
 use Rattle.mc_core.specs.declared.event.Step.TheVariants as core
 use Rattle.mc_core.specs.declared.look.Look.TheVariants.{SawStripe}
@@ -9,7 +10,7 @@ use Rattle.mc_words.specs.Happens.{MayTell}
 use Rattle.mc_words.specs.Views.{saw}
 use Rattle.mc_words.proofs.Locked.{noted_same}
 use Rattle.mc_words.proofs.LockViews.{look_holds}
-use Rattle.mc_words.proofs.StripeChanges.{stripe_near, may_reserve, made, reserved_stripe}
+use Rattle.mc_words.proofs.StripeChanges.{stripe_near, may_reserve, made, reserved_stripe, set_found}
 use Rattle.mc_words.proofs.Tallies.{tallied_same}
 use Rattle.mc_words.proofs.arena.Arena.reserve.Goals as goal
 
@@ -50,3 +51,12 @@ invariant_of-hand c =
 
 pub returns-clause-view : goal.returns-clause-view
 returns-clause-view c = reserved_stripe c.args.hand.now.seat.me.0 c.args.held.now.number c.args.held.now.stripe c.requires.held c.tell.new.seat.me.0 c.args.hand.now.number c.args.hand.now.noted.0 c.tell.ensures.happens
+
+pub returns-clause-held : goal.returns-clause-held
+returns-clause-held c =
+    let view = c.args.hand.now.seat.me.0 in
+    let number = c.args.held.now.number in
+    let value = c.args.held.now.stripe in
+    ap (λ (v : View). slice_index_or v.stripes number None) (reserved_stripe view number value c.requires.held c.tell.new.seat.me.0 c.args.hand.now.number c.args.hand.now.noted.0 c.tell.ensures.happens)
+    ∙ (set_found view.stripes number value (record value { ready = true }) c.requires.held
+    ∙ ap Some (sym (c.in_ok-reserve.ensures.reserved ∙ ap (λ (v : ReadyStripe). record v { ready = true }) c.stripe_mut.ensures.stripe)))

@@ -1,0 +1,2 @@
+pub mod ItemRefs
+pub mod Calls

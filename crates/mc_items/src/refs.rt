@@ -1,0 +1,63 @@
+//! References to items, with what is read of each at once.
+ghost use Rattle.std.specs.Prelude.{◌≡◌, ◌+◌, length};
+ghost use Rattle.mc_words.specs.Arenas.{IsHandOf, view};
+ghost use Rattle.mc_words.specs.Items.{held_item};
+ghost use Rattle.mc_words.specs.Refs.{IsIssueOf, IsRefOf};
+ghost use Rattle.mc_core.specs.Holdings.{length_of};
+ghost use Rattle.mc_items.specs.ItemRefs.{IsItemRef};
+
+use mc_words::{Arena, Hand};
+
+/// A reference to an item, which counts until it is released. Where it is dropped, it counts for good.
+#[derive(Drop)]
+pub struct Ref {
+    pub(crate) reference: mc_words::Ref,
+    pub(crate) key: u64,
+    pub(crate) stamp: u64,
+    pub(crate) len: u64,
+}
+
+impl Ref {
+    /// The item's key.
+    pub fn key(&self) -> u64
+        ensures key { result ≡ self.now.key }
+    {
+        self.key
+    }
+
+    /// The stamp with which it was stored: `2^48` times the number of the hand that stored it, and a count from 1.
+    pub fn stamp(&self) -> u64
+        ensures stamp { result ≡ self.now.stamp }
+    {
+        self.stamp
+    }
+
+    /// How many words it has.
+    pub fn len(&self) -> u64
+        ensures len { result ≡ self.now.len }
+    {
+        self.len
+    }
+}
+
+// Reads key, stamp and length of the item that is referred to.
+pub(crate) fn look_at(arena: &Arena, hand: &mut Hand, reference: mc_words::Ref) -> Ref
+    requires arena { IsHandOf arena.now hand.old }
+    requires reference { IsRefOf (view hand.old) reference.chunk reference.room }
+    requires issue { IsIssueOf (view hand.old) reference.chunk reference.issue }
+    ensures arena { IsHandOf arena.now hand.new }
+    ensures locks { hand.new.locks ≡ hand.old.locks }
+    ensures same { view hand.new ≡ view hand.old }
+    ensures chunk { result.reference ≡ reference }
+    ensures item { IsItemRef (view hand.new) result }
+{
+    let key = arena.word(hand, &reference, 0);
+    let stamp = arena.word(hand, &reference, 1);
+    let len = arena.word(hand, &reference, 2);
+    Ref {
+        reference,
+        key,
+        stamp,
+        len,
+    }
+}

@@ -1,4 +1,0 @@
-use Rattle.mc_words.proofs.arena.Arena.tell_got_none.Given as goal
-
-abbrev pub ghost-tell : goal.ghost-tell
-ghost-tell a = (a.change, a.step)
