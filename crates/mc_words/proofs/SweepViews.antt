@@ -17,7 +17,7 @@ use Rattle.mc_core.specs.State.{has_chunk, head_at, is_class}
 use Rattle.mc_core.proofs.FreeChunks.{near_placed, placed_in}
 use Rattle.mc_words.specs.View.{View}
 use Rattle.mc_words.specs.Happens.{LawfulView}
-use Rattle.mc_words.specs.Sweeping.{Sweeps, SweepsOne}
+use Rattle.mc_words.specs.Sweeping.{Sweeps, SweepsOne, with_seen}
 use Rattle.mc_words.specs.Views.{head_seen}
 use Rattle.mc_words.proofs.Judging.{class_of_slabs, seen_is}
 use Rattle.mc_words.proofs.Owners.{slabs_here}
@@ -79,6 +79,15 @@ pub swept_again : (chunk : ChunkId) (now next : View) (left between : SlabState)
 swept_again chunk now next left between [] view slabs (at_now, at_left) one =
     (next, between, subst (λ (p : View × SlabState). SweepsOne chunk p.0 p.1 next between) (λ k. (at_now k, at_left k)) one, (refl, refl))
 swept_again chunk now next left between (first ∷ chunks) view slabs (then, middle, did, rest) one = (then, middle, did, swept_again chunk now next left between chunks then middle rest one)
+
+-- all else stays
+sees_one : (chunk : ChunkId) (view : View) (slabs : SlabState) (now : View) (left : SlabState) → SweepsOne chunk view slabs now left → now ≡ with_seen view now
+sees_one chunk view slabs now left (inl (back, is)) = back.is ∙ (λ k. with_seen view (sym back.is k))
+sees_one chunk view slabs now left (inr (other, is)) = other.is ∙ (λ k. with_seen view (sym other.is k))
+
+pub sees_alone : (chunks : List ChunkId) (view : View) (slabs : SlabState) (now : View) (left : SlabState) → Sweeps chunks view slabs now left → now ≡ with_seen view now
+sees_alone [] view slabs now left (same, is) = same ∙ (λ k. with_seen view (sym same k))
+sees_alone (chunk ∷ chunks) view slabs now left (next, between, one, rest) = sees_alone chunks next between now left rest ∙ ap (λ (v : View). with_seen v now) (sees_one chunk view slabs next between one)
 
 -- how far the walk has come then
 module _ (view next : View) (slabs between : SlabState) (mine : view.slabs ≡ Some slabs) (class : ℕ) (chunk : ChunkId) (swept : IsSweptTo slabs view.row.looks class (Some chunk)) (once : (other : ChunkId) → times other (class_at slabs class).order ≤ 1) (is : IsClass slabs class) (own : class_of_page slabs chunk.page ≡ class) where

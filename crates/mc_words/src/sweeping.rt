@@ -5,7 +5,7 @@ ghost use Rattle.mc_pages.specs.SlabState.{class_at};
 ghost use Rattle.mc_core.specs.Looks.{is_found_alive};
 ghost use Rattle.mc_core.specs.State.{is_class};
 ghost use Rattle.mc_words.specs.Arenas.{IsHandOf, setup_of, view};
-ghost use Rattle.mc_words.specs.Sweeping.{Sweeps};
+ghost use Rattle.mc_words.specs.Sweeping.{Sweeps, with_seen};
 
 use crate::arena::Arena;
 use crate::hand::Hand;
@@ -24,6 +24,7 @@ impl Arena {
         ensures locks { hand.new.locks ≡ hand.old.locks }
         ensures held { (view hand.new).slabs ≡ Some held.new.shared }
         ensures swept { Sweeps (class_at held.old.shared class).order (view hand.old) held.old.shared (view hand.new) held.new.shared }
+        ensures view { view hand.new ≡ with_seen (view hand.old) (view hand.new) }
         ensures alive { list_all (is_found_alive (view hand.new).row.looks) (class_at held.new.shared class).order ≡ true }
     {
         let mut next = held.slabs().first_out(class);

@@ -9,7 +9,7 @@ use Rattle.mc_words.specs.View.{Setup, View}
 use Rattle.mc_words.specs.Happens.{LawfulView}
 use Rattle.mc_words.specs.Sweeping.{Sweeps}
 use Rattle.mc_words.proofs.Sweeps.{IsSweptTo, is_empty, stands_there, sweep_ends, sweep_left, swept_at}
-use Rattle.mc_words.proofs.SweepViews.{StandsOut, class_here, order_once, stands_out, swept_again, swept_on, swept_one}
+use Rattle.mc_words.proofs.SweepViews.{StandsOut, class_here, order_once, sees_alone, stands_out, swept_again, swept_on, swept_one}
 use Rattle.mc_words.proofs.arena.Arena.sweep.Goals as goal
 
 -- what holds of the chunk that the walk is at
@@ -105,3 +105,8 @@ pub returns-clause-alive : goal.returns-clause-alive
 returns-clause-alive c =
     let inv = c.loop-next.invariant in
     sweep_ends c.loop-next.held.shared c.loop-next.hand.seat.me.0.row.looks c.args.class (swept_at inv.swept None c.in_default.is)
+
+pub returns-clause-view : goal.returns-clause-view
+returns-clause-view c =
+    let inv = c.loop-next.invariant in
+    sees_alone inv.done c.args.hand.now.seat.me.0 c.args.held.now.shared c.loop-next.hand.seat.me.0 c.loop-next.held.shared inv.so_far
