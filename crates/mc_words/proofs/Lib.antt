@@ -22,7 +22,10 @@ pub mod HeldReads
 pub mod Reasoned
 pub mod Condemns
 pub mod CondemnCalls
+pub mod DeadAgain
+pub mod HeldOut
 pub mod Sweeps
+pub mod SweepViews
 pub mod Calls
 pub mod Refers
 pub mod References

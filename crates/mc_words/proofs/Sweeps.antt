@@ -1,14 +1,14 @@
 -- A walk along a class's hand-out order that looks at each chunk and puts the dead ones back: what it keeps, and what it shows at its end.
-use Rattle.std.proofs.Common.{◌≡◌, ℕ, suc, ◌+◌, ◌<◌, ◌≤◌, ◌&&◌, ◌||◌, Bool, true, false, not, List, [], ◌∷◌, ◌++◌, length, Option, Some, None, refl, sym, ap, ap₂, subst, ◌∙◌, inl, inr, arith, slice_get, if◌then◌else◌, append-nil, append-assoc}
+use Rattle.std.proofs.Common.{◌≡◌, ℕ, ◌≤◌, ◌||◌, Bool, true, false, not, List, [], ◌∷◌, ◌++◌, Option, Some, None, refl, sym, ap, subst, ◌∙◌, inl, inr, arith, slice_get, if◌then◌else◌, append-nil, append_assoc}
 use Rattle.std.specs.List.{list_all}
-use Rattle.std.proofs.lemmas.Bool.{and_from, and_parts, cases_Bool}
-use Rattle.std.proofs.lemmas.List.{length-append}
+use Rattle.std.specs.Prelude.{Contains}
+use Rattle.std.proofs.lemmas.Bool.{and_from, and_parts, cases_Bool, or_right}
 use Rattle.std.proofs.lemmas.List.Sums.{fold-append}
 use Rattle.mc_pages.specs.declared.ids.ChunkId.{ChunkId}
 use Rattle.mc_pages.specs.Accounted.{truth}
-use Rattle.mc_pages.specs.Changes.{after_back}
+use Rattle.mc_pages.specs.Changes.{after_back, with_class}
 use Rattle.mc_pages.specs.ClassState.{ClassState, behind, is_chunk, put_back, times, without}
-use Rattle.mc_pages.specs.SlabState.{SlabState, IsClass, class_at, class_of_chunk, class_of_page}
+use Rattle.mc_pages.specs.SlabState.{SlabState, IsClass, class_at, class_of_page}
 use Rattle.mc_pages.proofs.Chunks.{is_chunk-same, same_from_is_chunk, times-append, times-cons}
 use Rattle.mc_pages.proofs.OneClass.{class_at-with_class_same}
 use Rattle.mc_pages.proofs.RestOfList.{rest_from}
@@ -18,7 +18,8 @@ use Rattle.mc_core.specs.declared.look.Look.TheVariants.{PutBack, Saw}
 use Rattle.mc_core.specs.Evictions.{none_dead}
 use Rattle.mc_core.specs.Head.{is_dead}
 use Rattle.mc_core.specs.Looks.{is_found_alive, stays_alive}
-use Rattle.mc_words.proofs.Reasoned.{alive_after_look}
+use Rattle.mc_core.specs.Silent.{is_among}
+use Rattle.mc_core.proofs.Listed.{Contains_from_among}
 
 -- the walk comes to this chunk of the class's hand-out order, or to its end, and each chunk before it was found alive
 pub record IsSweptTo (slabs : SlabState) (looks : List Look) (class : ℕ) (next : Option ChunkId) : Type 0 where
@@ -37,7 +38,7 @@ begins_with : (rest : List ChunkId) (chunk : ChunkId) → Some chunk ≡ slice_g
 begins_with [] chunk at = absurd (cc)
 begins_with (c ∷ more) chunk at = let same : c ≡ chunk = cc in (more, ap (λ x. x ∷ more) same)
 
-is_empty : (rest : List ChunkId) → None ≡ slice_get rest 0 → rest ≡ []
+pub is_empty : (rest : List ChunkId) → None ≡ slice_get rest 0 → rest ≡ []
 is_empty [] at = refl
 is_empty (c ∷ more) at = absurd (cc)
 
@@ -117,6 +118,14 @@ module _ (looks : List Look) (chunk : ChunkId) where
       let parts = and_parts (is_found_alive looks c) (list_all (is_found_alive looks) chunks) all in
       and_from _ _ (fold-append (stays_alive c) false looks (PutBack chunk head ∷ []) ∙ parts.0) (back_alive head chunks parts.1)
 
+-- where the walk is, by what comes next
+abbrev pub swept_at : {slabs : SlabState} {looks : List Look} {class : ℕ} {next : Option ChunkId} → IsSweptTo slabs looks class next → (at : Option ChunkId) → next ≡ at → IsSweptTo slabs looks class at
+swept_at swept at is = record { before = swept.before; rest = swept.rest; split = swept.split; at = sym is ∙ swept.at; alive = swept.alive }
+
+-- the walk went on behind this chunk
+abbrev pub GoesOn : (slabs : SlabState) (looks : List Look) (class : ℕ) (chunk : ChunkId) → IsSweptTo slabs looks class (Some chunk) → SlabState → List Look → Type 0
+GoesOn slabs looks class chunk swept left more = (now : IsSweptTo left more class (behind chunk (class_at slabs class).order)) × (swept.rest ≡ chunk ∷ now.rest)
+
 -- the walk is at a chunk; no chunk stands twice in the order
 module _ (slabs : SlabState) (looks : List Look) (class : ℕ) (chunk : ChunkId) (swept : IsSweptTo slabs looks class (Some chunk)) (once : (other : ChunkId) → times other (class_at slabs class).order ≤ 1) where
   abbrev more : List ChunkId
@@ -131,29 +140,43 @@ module _ (slabs : SlabState) (looks : List Look) (class : ℕ) (chunk : ChunkId)
   next_is : behind chunk (class_at slabs class).order ≡ slice_get more 0
   next_is = ap (behind chunk) split_here ∙ behind_is chunk more swept.before none_elsewhere.0
 
+  -- it stands there
+  pub stands_there : Contains (class_at slabs class).order chunk
+  stands_there = Contains_from_among (class_at slabs class).order chunk (ap (λ chunks. is_among chunks chunk) split_here ∙ among_here swept.before)
+    where
+      among_here : (before : List ChunkId) → is_among (before ++ chunk ∷ more) chunk ≡ true
+      among_here [] = ap (λ b. b || is_among more chunk) (is_chunk-same chunk)
+      among_here (c ∷ before) = or_right (is_chunk c chunk) (is_among (before ++ chunk ∷ more) chunk) (among_here before)
+
   -- it was found alive
-  pub sweep_passes : (head : Head) → is_dead head ≡ false → IsSweptTo slabs (looks ++ Saw chunk head ∷ []) class (behind chunk (class_at slabs class).order)
-  sweep_passes head alive = record {
-    before = swept.before ++ chunk ∷ [];
-    rest = more;
-    split = split_here ∙ sym (append-assoc swept.before (chunk ∷ []) more);
-    at = next_is;
-    alive = all_append (is_found_alive (looks ++ Saw chunk head ∷ [])) swept.before (chunk ∷ []) (others_alive looks chunk head swept.before none_elsewhere.0 swept.alive) (and_from _ _ (chunk_alive looks chunk head alive) refl);
-  }
+  pub sweep_passes : (head : Head) → is_dead head ≡ false → GoesOn slabs looks class chunk swept slabs (looks ++ Saw chunk head ∷ [])
+  sweep_passes head alive = (
+    record {
+      before = swept.before ++ chunk ∷ [];
+      rest = more;
+      split = split_here ∙ sym (append_assoc swept.before (chunk ∷ []) more);
+      at = next_is;
+      alive = all_append (is_found_alive (looks ++ Saw chunk head ∷ [])) swept.before (chunk ∷ []) (others_alive looks chunk head swept.before none_elsewhere.0 swept.alive) (and_from _ _ (chunk_alive looks chunk head alive) refl);
+    },
+    (begins_with swept.rest chunk swept.at).1,
+  )
 
   -- it was found dead, and put back
   pub sweep_puts_back : (head back : Head) → IsClass slabs class → class_of_page slabs chunk.page ≡ class
-      → IsSweptTo (after_back slabs chunk) ((looks ++ Saw chunk head ∷ []) ++ PutBack chunk back ∷ []) class (behind chunk (class_at slabs class).order)
-  sweep_puts_back head back is own = record {
-    before = swept.before;
-    rest = more;
-    split = ap (λ (c : ClassState). c.order) new_class ∙ (ap (without chunk) split_here ∙ without_is chunk more swept.before none_elsewhere.0);
-    at = next_is;
-    alive = back_alive (looks ++ Saw chunk head ∷ []) chunk back swept.before (others_alive looks chunk head swept.before none_elsewhere.0 swept.alive);
-  }
+      → GoesOn slabs looks class chunk swept (after_back slabs chunk) ((looks ++ Saw chunk head ∷ []) ++ PutBack chunk back ∷ [])
+  sweep_puts_back head back is own = (
+    record {
+      before = swept.before;
+      rest = more;
+      split = ap (λ (c : ClassState). c.order) new_class ∙ (ap (without chunk) split_here ∙ without_is chunk more swept.before none_elsewhere.0);
+      at = next_is;
+      alive = back_alive (looks ++ Saw chunk head ∷ []) chunk back swept.before (others_alive looks chunk head swept.before none_elsewhere.0 swept.alive);
+    },
+    (begins_with swept.rest chunk swept.at).1,
+  )
     where
       new_class : class_at (after_back slabs chunk) class ≡ put_back (class_at slabs class) chunk
-      new_class = ap (λ (n : ℕ). class_at (Rattle.mc_pages.specs.SlabState.with_class slabs n (put_back (class_at slabs n) chunk)) class) own ∙ class_at-with_class_same slabs class (put_back (class_at slabs class) chunk) is
+      new_class = ap (λ (n : ℕ). class_at (with_class slabs n (put_back (class_at slabs n) chunk)) class) own ∙ class_at-with_class_same slabs class (put_back (class_at slabs class) chunk) is
 
 -- at the end each chunk of the class was found alive
 pub sweep_ends : (slabs : SlabState) (looks : List Look) (class : ℕ) → IsSweptTo slabs looks class None → list_all (is_found_alive looks) (class_at slabs class).order ≡ true

@@ -25,6 +25,7 @@ pub mod Closing
 pub mod Owner
 pub mod Hinting
 pub mod Condemning
+pub mod Sweeping
 pub mod Arenas
 pub mod Refused
 pub mod Hands

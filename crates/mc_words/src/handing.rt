@@ -1,10 +1,12 @@
 //! Chunks that are handed out, put back and cut, under the slabs lock.
-ghost use Rattle.std.specs.Prelude.{◌≡◌, ℕ, ◌<◌, ◌≤◌, [], true, false, length, None, Some, Ok, IfOk, IfSome, OnOk, OnErr};
+ghost use Rattle.std.specs.Prelude.{◌≡◌, ℕ, ◌<◌, ◌≤◌, [], true, false, length, None, Some, Ok, IfOk, IfSome, IsOk, OnOk, OnErr};
+ghost use Rattle.std.specs.Option.{option_map};
 ghost use Rattle.mc_pages.specs.ClassState.{first_free};
 ghost use Rattle.mc_pages.specs.SlabState.{class_at, class_of_chunk};
 ghost use Rattle.mc_pages.specs.Changes.{after_back, after_cut, after_pop};
 ghost use Rattle.mc_core.specs.Chunks.{most_issue};
 ghost use Rattle.mc_core.specs.Head.{is_dead};
+ghost use Rattle.mc_core.specs.Seen.{seen_head};
 ghost use Rattle.mc_core.specs.Silent.{is_handed_out};
 ghost use Rattle.mc_core.specs.State.{has_chunk, is_class, room_in};
 ghost use Rattle.mc_core.specs.declared.head.Head.{Head};
@@ -64,7 +66,8 @@ impl Arena {
         }))
     }
 
-    /// Puts a dead chunk at the head of its free list. One that isn't dead stays. (slabs.c's `do_slabs_free`)
+    /// Puts a dead chunk at the head of its free list. One that isn't dead stays; but what the hand last saw dead under this hold
+    /// of the slabs lock is so still. (slabs.c's `do_slabs_free`)
     pub fn put_back(
         &self,
         hand: &mut Hand,
@@ -79,6 +82,7 @@ impl Arena {
         ensures held { (view hand.new).slabs ≡ Some held.new.shared }
         ensures back { OnOk result (PutsBack (view hand.old) held.old.shared chunk (view hand.new) × (held.new.shared ≡ after_back held.old.shared chunk)) }
         ensures moved { OnErr result (SeesOther (view hand.old) (Some chunk) (λ head. is_dead head ≡ false) (view hand.new) × (held.new.shared ≡ held.old.shared)) }
+        ensures succeeds { option_map is_dead (seen_head (view hand.old).row.looks chunk) ≡ Some true → IsOk result }
     {
         let head = self.head(hand, chunk);
         if head % ISSUE_UNIT != DEAD {

@@ -30,6 +30,7 @@ mod rooms;
 mod rule;
 mod slot;
 mod steps;
+mod sweeping;
 mod taking;
 mod unlinking;
 mod waiting;

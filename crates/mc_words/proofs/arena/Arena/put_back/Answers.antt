@@ -1,4 +1,4 @@
-use Rattle.std.proofs.Common.{◌≡◌, ℕ, true, Some, refl, ap, sym, subst, ◌∙◌, length}
+use Rattle.std.proofs.Common.{◌≡◌, ℕ, true, false, Some, refl, ap, sym, subst, ◌∙◌, length}
 use Rattle.std.specs.Prelude.{Contains}
 use Rattle.mc_pages.specs.Changes.{after_back}
 use Rattle.mc_pages.specs.SlabState.{SlabState, class_of_chunk}
@@ -10,6 +10,7 @@ use Rattle.mc_words.specs.View.{View, Setup}
 use Rattle.mc_words.specs.Layout.{head_word}
 use Rattle.mc_words.specs.Happens.{MayWrite}
 use Rattle.mc_words.proofs.Owners.{may_put_back}
+use Rattle.mc_words.proofs.DeadAgain.{found_dead}
 use Rattle.mc_words.proofs.Judging.{after_slabs, after_last, put_back_after, puts_back, stands_out, word_dead, word_alive}
 use Rattle.mc_words.proofs.Locked.{noted_same}
 use Rattle.mc_words.proofs.Tallies.{tallied_same}
@@ -103,3 +104,9 @@ returns-clause-back c =
     let looks = c.head-head.ensures.happens in
     let is = c.head-head.ensures.seen in
     (put_back_after view seen now slabs chunk head c.requires.held is looks near dead c.subtract.ensures.happens, c.back.ensures.back ∙ ap (λ slabs. after_back slabs chunk) c.slabs_mut.ensures.slabs)
+
+pub returns-then-head-ne-DEAD-clause-succeeds : goal.returns-then-head-ne-DEAD-clause-succeeds
+returns-then-head-ne-DEAD-clause-succeeds c dead =
+    let near = subst (λ (s : Setup). has_chunk s.table c.args.chunk ≡ true) (sym c.requires.arena.setup) c.requires.near in
+    let gone = found_dead c.args.hand.now.seat.me.0 c.head-head.new.hand.seat.me.0 c.args.held.now.shared c.args.chunk (decode c.head-head.result) c.requires.held near dead c.head-head.ensures.happens c.head-head.ensures.seen in
+    absurd (let never : true ≡ false = sym gone ∙ word_alive c.head-head.result c.if-head-ne-DEAD.true in cc)
