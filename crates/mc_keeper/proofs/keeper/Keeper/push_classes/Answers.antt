@@ -1,7 +1,7 @@
 use Rattle.std.proofs.Common.{ℕ, Vec, Global, ap, ◌∙◌}
 use Rattle.mc_machine.specs.Machine.{Machine}
 use Rattle.mc_machine.proofs.Bounds.{are_counts}
-use Rattle.mc_keeper.proofs.keeper.Keeper.push_statistics.Goals as goal
+use Rattle.mc_keeper.proofs.keeper.Keeper.push_classes.Goals as goal
 
 pub stats_slabs-written-requires : goal.stats_slabs-written-requires
 stats_slabs-written-requires g c =

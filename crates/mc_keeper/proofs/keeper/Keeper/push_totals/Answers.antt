@@ -1,5 +1,5 @@
 use Rattle.std.proofs.Common.{ℕ, Vec, Global, ap, ◌∙◌}
-use Rattle.mc_keeper.proofs.keeper.Keeper.general_statistics.Goals as goal
+use Rattle.mc_keeper.proofs.keeper.Keeper.push_totals.Goals as goal
 
 pub returns-in-Ok-clause-reply : goal.returns-in-Ok-clause-reply
 returns-in-Ok-clause-reply g c =

@@ -1,7 +1,7 @@
 use Rattle.mc_machine.proofs.KeptBegin.{kept_reassign}
 use Rattle.mc_keeper.proofs.Watched.{watched_begun}
 use Rattle.mc_keeper.proofs.Counted.{counted_begun}
-use Rattle.mc_keeper.proofs.keeper.Keeper.begin.Goals as goal
+use Rattle.mc_keeper.proofs.keeper.Keeper.reassign.Goals as goal
 
 pub invariant_of-self : goal.invariant_of-self
 invariant_of-self c = record {
