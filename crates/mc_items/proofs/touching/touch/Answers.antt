@@ -110,5 +110,5 @@ returns-clause-touches g c _ =
       taken = held_slabs;
       waits = last.ensures.waits;
       is = c.release.ensures.dropped
-      ∙ ap (chunk_dropped r.chunk) (c.give_slabs.ensures.left ∙ (λ k. slabs_given (shared k) ((c.touch.ensures.view ∙ (λ j. slabs_changed slabs (Touch (chunk j)) (number' j + 1) held_slabs)) k)));
+          ∙ ap (chunk_dropped r.chunk) (c.give_slabs.ensures.left ∙ (λ k. slabs_given (shared k) ((c.touch.ensures.view ∙ (λ j. slabs_changed slabs (Touch (chunk j)) (number' j + 1) held_slabs)) k)));
     }
