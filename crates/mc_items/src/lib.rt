@@ -9,6 +9,7 @@ mod getting;
 mod hinting;
 mod reading;
 mod refs;
+mod supplying;
 mod touching;
 
 pub use deleting::delete;
