@@ -4,3 +4,4 @@ pub mod Locks
 pub mod Gets
 pub mod Deletes
 pub mod Supplies
+pub mod Growing
