@@ -58,3 +58,42 @@ grown_uncut slabs class page = by (Rattle.std.specs.Prelude.nat_lt 0 (length sla
     by : (b : Bool) → (Rattle.std.specs.Prelude.if◌then◌else◌ b (Rattle.mc_pages.specs.Changes.after_take slabs class page) (Rattle.mc_pages.specs.Changes.after_grant slabs class page)).uncut ≡ Some (chunk_at page 0)
     by true = refl
     by false = refl
+
+-- a chunk that was cut is free
+cut_is_free : (slabs : SlabState) (class : ℕ) (chunk : ChunkId) → IsClass slabs class → class_of_page slabs chunk.page ≡ class → is_some (first_free (class_at (after_cut slabs chunk) class)) ≡ true
+cut_is_free slabs class chunk is own =
+    ap (λ (n : ℕ). is_some (first_free (class_at (Rattle.mc_pages.specs.Changes.with_class slabs n (with_cut (class_at slabs n) chunk)) class))) own
+    ∙ ap (λ (c : ClassState). is_some (first_free c)) (class_at-with_class_same slabs class (with_cut (class_at slabs class) chunk) is)
+
+-- after a page was cut there is a free chunk
+pub free_after_cuts : (slabs : SlabState) (class page count : ℕ) → IsClass slabs class → class_of_page slabs page ≡ class → 1 ≤ count → is_some (first_free (class_at (fold after_cut slabs (first_chunks page count)) class)) ≡ true
+free_after_cuts slabs class page count is own some =
+    let before = fold after_cut slabs (first_chunks page (count - 1)) in
+    let there : IsClass before class = (is.0, subst (λ n. class ≤ n) (sym (Rattle.mc_pages.proofs.ClassChanges.classes-cuts slabs (first_chunks page (count - 1)))) is.1) in
+    let owned : class_of_page before page ≡ class = ap (λ (owners : List Owner). class_of_owner (owner_at owners page)) (Rattle.mc_pages.proofs.ClassChanges.owners-cuts slabs (first_chunks page (count - 1))) ∙ own in
+    let more : (count - 1) + 1 ≡ count = omega arith in
+    ap (λ (n : ℕ). is_some (first_free (class_at (fold after_cut slabs (first_chunks page n)) class))) (sym more)
+    ∙ (ap (λ (s : SlabState). is_some (first_free (class_at s class))) (sym (Rattle.mc_pages.proofs.Cuts.cuts_more slabs before page (count - 1) refl)) ∙ cut_is_free before class (chunk_at page (count - 1)) there owned)
+
+-- a class stays one where it gets a page
+pub class_grown : (slabs : SlabState) (class page : ℕ) → IsClass slabs class → IsClass (after_grow slabs class page) class
+class_grown slabs class page is =
+    (is.0, subst (λ n. class ≤ n) (sym (ap length (Rattle.mc_pages.proofs.NextPage.classes-grown slabs class page) ∙ Rattle.std.proofs.lemmas.List.length-set slabs.classes (class - 1) (with_page (class_at slabs class) page))) is.1)
+
+-- the change is seen alone
+pub change_seen : (view : View) (slabs : SlabState) (change : Rattle.mc_core.specs.declared.event.Change.Change) (word : ℕ) (now : View) → now ≡ Rattle.mc_words.specs.Views.slabs_changed slabs change word view → now ≡ with_seen view now
+change_seen view slabs change word now is = is ∙ (λ k. with_seen view (sym is k))
+
+-- first the one, then the other
+pub seen_twice : (view next now : View) → next ≡ with_seen view next → now ≡ with_seen next now → now ≡ with_seen view now
+seen_twice view next now first second = second ∙ ap (λ (v : View). with_seen v now) first
+
+-- what is accounted for, and how many chunks a page of the class has
+module _ (view : View) (was : Rattle.mc_words.specs.Happens.LawfulView view) (slabs : SlabState) (mine : view.slabs ≡ Some slabs) where
+  pub accounted_here : IsAccounted slabs
+  accounted_here = subst IsAccounted (Rattle.mc_words.proofs.Owners.slabs_here view was slabs mine).1 was.lawful.paged.of_table.accounted
+
+  pub some_here : (class : ℕ) → IsClass slabs class → 1 ≤ (class_at slabs class).per_page
+  some_here class is =
+      let same = (Rattle.mc_words.proofs.Owners.slabs_here view was slabs mine).1 in
+      subst (λ (s : SlabState). 1 ≤ (class_at s class).per_page) same (was.lawful.paged.order.1.per_page class (subst (λ (s : SlabState). IsClass s class) (sym same) is))
