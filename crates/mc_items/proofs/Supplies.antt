@@ -1,5 +1,5 @@
 -- A chunk for a class, from its parts.
-use Rattle.std.proofs.Common.{◌≡◌, ◌⊎◌, ℕ, ◌+◌, ◌≤◌, true, is_some, List, [], ◌∷◌, ◌++◌, Option, Some, None, Result, Ok, Err, IfOk, IfSome, OnErr, refl, sym, ap, subst, ◌∙◌, inl, inr}
+use Rattle.std.proofs.Common.{◌≡◌, ℕ, ◌+◌, ◌≤◌, true, is_some, [], ◌∷◌, ◌++◌, Option, Some, None, Result, Ok, Err, IfOk, IfSome, OnErr, refl, sym, ap, subst, ◌∙◌, inl, inr}
 use Rattle.std.specs.List.{list_all}
 use Rattle.mc_pages.specs.declared.ids.ChunkId.{ChunkId}
 use Rattle.mc_pages.specs.Changes.{after_pop}
@@ -79,7 +79,7 @@ module _ (class : ℕ) (view tried swept now : View) (slabs before between left 
       worn = subst (λ (s : SlabState). SeesOther swept (first_free (class_at s class)) (λ head. most_issue ≤ head.issue) now) (sym is) sees;
     },
     let last : now ≡ head_seen sees.chunk sees.head (with_seen view swept) = sees.is ∙ ap (head_seen sees.chunk sees.head) seen_here in
-    last ∙ (λ k. with_seen view (sym last k)),
+        last ∙ (λ k. with_seen view (sym last k)),
   )
 
   pub none_by_sweep : list_all (is_found_alive swept.row.looks) (class_at between class).order ≡ true → (first_free (class_at between class) ≡ None) × (left ≡ between) × (now ≡ swept) → FindsNoFree class view slabs now left × (now ≡ with_seen view now)
