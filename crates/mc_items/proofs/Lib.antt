@@ -5,3 +5,4 @@ pub mod Gets
 pub mod Deletes
 pub mod Supplies
 pub mod Growing
+pub mod Evicts

@@ -14,7 +14,9 @@ use Rattle.mc_words.specs.View.{View}
 use Rattle.mc_words.specs.Happens.{Happens}
 use Rattle.mc_words.specs.Owner.{Cuts, PopsFirst, SeesOther}
 use Rattle.mc_words.specs.Sweeping.{Sweeps, with_seen}
+use Rattle.mc_words.specs.Condemning.{Condemns, FindsHeld}
 use Rattle.mc_words.specs.Views.{fresh_holding, slabs_changed, with_holdings}
+use Rattle.mc_items.specs.Calls.{Doing}
 
 -- the class has a free chunk, and nothing was done; or it has none, and its dead chunks were put back
 abbrev pub SweepsEmpty : ℕ → View → SlabState → View → SlabState → Type 0
@@ -60,3 +62,11 @@ pub record Grows (number class : ℕ) (view : View) (slabs : SlabState) (now : V
   pub is_grown : grown ≡ slabs_changed slabs (change.Grow class) (number + 1) view
   pub happens : Happens view (change.Grow class ∷ []) step.MissSlabs grown
   pub cuts : CutsEach (first_chunks page (class_at slabs class).per_page) grown (after_grow slabs class page) now left
+
+-- the chunk's item was taken away under the lock of its key's stripe
+abbrev pub TakesItem : ℕ → ℕ → ChunkId → Doing
+TakesItem number stripe chunk value view left now = Condemns view number stripe value chunk left now
+
+-- it was found unlinked, or held
+abbrev pub FindsItemHeld : ChunkId → Doing
+FindsItemHeld chunk value view left now = FindsHeld view chunk now × (left ≡ value)

@@ -5,6 +5,7 @@
 #![tactic(auto)]
 
 mod deleting;
+mod evicting;
 mod getting;
 mod hinting;
 mod reading;
