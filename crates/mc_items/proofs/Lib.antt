@@ -6,3 +6,4 @@ pub mod Deletes
 pub mod Supplies
 pub mod Growing
 pub mod Evicts
+pub mod Reaches

@@ -1,5 +1,5 @@
 -- How a class comes to a chunk that is handed out.
-use Rattle.std.specs.Prelude.{◌≡◌, ◌⊎◌, ℕ, ◌+◌, ◌≤◌, true, is_some, List, [], ◌∷◌, ◌++◌, Some, None}
+use Rattle.std.specs.Prelude.{◌≡◌, ◌≢◌, ◌⊎◌, ℕ, ◌+◌, ◌%◌, ◌≤◌, true, is_some, List, [], ◌∷◌, ◌++◌, Some, None}
 use Rattle.std.specs.List.{list_all}
 use Rattle.mc_pages.specs.declared.ids.ChunkId.{ChunkId}
 use Rattle.mc_pages.specs.Accounted.{first_chunks}
@@ -8,15 +8,19 @@ use Rattle.mc_pages.specs.ClassState.{first_free}
 use Rattle.mc_pages.specs.SlabState.{SlabState, class_at}
 use Rattle.mc_core.specs.declared.event.Change.TheVariants as change
 use Rattle.mc_core.specs.declared.event.Step.TheVariants as step
+use Rattle.mc_core.specs.declared.head.Head.{Head}
 use Rattle.mc_core.specs.Chunks.{most_issue}
+use Rattle.mc_core.specs.Evictions.{is_linked_unheld}
+use Rattle.mc_stripe.specs.StripeState.{ReadyStripe}
 use Rattle.mc_core.specs.Looks.{is_found_alive}
 use Rattle.mc_words.specs.View.{View}
 use Rattle.mc_words.specs.Happens.{Happens}
 use Rattle.mc_words.specs.Owner.{Cuts, PopsFirst, SeesOther}
 use Rattle.mc_words.specs.Sweeping.{Sweeps, with_seen}
-use Rattle.mc_words.specs.Condemning.{Condemns, FindsHeld}
-use Rattle.mc_words.specs.Views.{fresh_holding, slabs_changed, with_holdings}
-use Rattle.mc_items.specs.Calls.{Doing}
+use Rattle.mc_words.specs.Condemning.{Condemns, FindsHeld, SeesHeld, key_seen}
+use Rattle.mc_words.specs.Lent.{IsLentStripe}
+use Rattle.mc_words.specs.Views.{fresh_holding, head_seen, slabs_changed, stripe_missed, stripe_taken, with_holdings}
+use Rattle.mc_items.specs.Calls.{Doing, IsDone}
 
 -- the class has a free chunk, and nothing was done; or it has none, and its dead chunks were put back
 abbrev pub SweepsEmpty : ℕ → View → SlabState → View → SlabState → Type 0
@@ -70,3 +74,31 @@ TakesItem number stripe chunk value view left now = Condemns view number stripe 
 -- it was found unlinked, or held
 abbrev pub FindsItemHeld : ChunkId → Doing
 FindsItemHeld chunk value view left now = FindsHeld view chunk now × (left ≡ value)
+
+-- the chunk's item was seen linked and held by nobody, its key was read, its key's stripe was taken at once, and this was done there
+pub record ReachesItem (number : ℕ) (chunk : ChunkId) (Does : ℕ → ℕ → Doing) (view now : View) : Type 0 where
+  pub head : Head
+  pub unheld : is_linked_unheld head ≡ true
+  pub key : ℕ
+  pub value : ReadyStripe
+  pub looks : Happens view [] (step.Head chunk) (head_seen chunk head view)
+  pub reads : Happens (head_seen chunk head view) [] (step.WordHeld chunk 0) (key_seen chunk key (head_seen chunk head view))
+  pub taken : View
+  pub takes : Happens (key_seen chunk key (head_seen chunk head view)) [] (step.TakeStripe (key % view.setup.config.stripes)) taken
+  pub is_taken : taken ≡ stripe_taken (key % view.setup.config.stripes) value (key_seen chunk key (head_seen chunk head view))
+  pub lent : IsLentStripe taken (key % view.setup.config.stripes) value
+  pub done : IsDone number (key % view.setup.config.stripes) value (Does number (key % view.setup.config.stripes)) taken now
+
+-- so, but another hand had the lock of its key's stripe
+pub record MissesItem (chunk : ChunkId) (view now : View) : Type 0 where
+  pub head : Head
+  pub unheld : is_linked_unheld head ≡ true
+  pub key : ℕ
+  pub word : ℕ
+  pub busy : word ≢ 0
+  pub is : now ≡ stripe_missed (key % view.setup.config.stripes) word (key_seen chunk key (head_seen chunk head view))
+
+-- why the chunk's item wasn't taken away: it was seen unlinked or held, or its key's stripe was another's, or it was held by then
+abbrev pub PassesItem : ℕ → ChunkId → View → View → Type 0
+PassesItem number chunk view now =
+    SeesHeld view chunk now ⊎ MissesItem chunk view now ⊎ ReachesItem number chunk (λ number stripe. FindsItemHeld chunk) view now

@@ -1,21 +1,35 @@
 //! Items that are evicted, under one hold of the slabs lock.
-ghost use Rattle.std.specs.Prelude.{◌≡◌, ◌<◌, true, false, Ok, Some, OnErr};
+ghost use Rattle.std.specs.Prelude.{◌≡◌, ◌<◌, true, false, Contains, Ok, None, Some, OnErr};
+ghost use Rattle.std.specs.List.{list_all};
+ghost use Rattle.mc_pages.specs.Changes.{next_page};
+ghost use Rattle.mc_pages.specs.ClassState.{first_free};
+ghost use Rattle.mc_pages.specs.SlabState.{class_at};
+ghost use Rattle.mc_core.specs.Holdings.{has_fresh};
+ghost use Rattle.mc_core.specs.Looks.{is_found_alive};
+ghost use Rattle.mc_words.specs.Idle.{has_no_stripes};
 ghost use Rattle.std.specs.Option.{option_map};
 ghost use Rattle.mc_core.specs.Evictions.{has_copy};
 ghost use Rattle.mc_core.specs.Head.{is_dead};
 ghost use Rattle.mc_core.specs.Seen.{seen_head};
-ghost use Rattle.mc_core.specs.State.{has_chunk};
+ghost use Rattle.mc_core.specs.State.{has_chunk, is_class};
 ghost use Rattle.mc_words.specs.Arenas.{IsHandOf, setup_of, view};
 ghost use Rattle.mc_words.specs.Condemning.{knows_reason, stripe_read};
 ghost use Rattle.mc_words.specs.Lent.{IsLentStripe};
 ghost use Rattle.mc_words.specs.Out.{without_stripe};
 ghost use Rattle.mc_words.specs.Views.{stripe_given};
 ghost use Rattle.mc_items.specs.Calls.{IsDone};
-ghost use Rattle.mc_items.specs.Supplying.{FindsItemHeld, TakesItem};
+ghost use Rattle.mc_items.specs.Supplying.{FindsItemHeld, PassesItem, ReachesItem, TakesItem};
 
+use mc_classes::ClassId;
 use mc_pages::ChunkId;
 use mc_stripe::NoMemory;
 use mc_words::{Arena, Hand, SlabsHeld, StripeHeld};
+
+/// What the issue number of a header is multiplied by.
+const ISSUE_UNIT: u64 = 262_144;
+
+/// The tag and the count of a header whose chunk is linked and held by nobody: the link counts 1.
+const UNHELD: u64 = 196_609;
 
 // Takes the chunk's item away where it is linked and nobody holds it, and gives the stripe's lock back. At want of memory the stripe
 // is as before.
@@ -58,4 +72,42 @@ pub(crate) fn condemn_at(
             Ok(false)
         }
     }
+}
+
+// Takes the item of a chunk away that the class handed out, if it is linked and held by nobody, and its key's stripe is free. It
+// waits for no lock.
+pub(crate) fn condemn_if_free(
+    arena: &Arena,
+    hand: &mut Hand,
+    slabs: &mut SlabsHeld,
+    class: ClassId,
+    chunk: ChunkId,
+) -> Result<bool, NoMemory>
+    requires arena { IsHandOf arena.now hand.old }
+    requires class { is_class (setup_of arena.now).table class ≡ true }
+    requires slabs { (view hand.old).slabs ≡ Some slabs.old.shared }
+    requires one { has_no_stripes (view hand.old) ≡ true }
+    requires fresh { has_fresh (view hand.old).row.holdings ≡ false }
+    requires out { Contains (class_at slabs.old.shared class).order chunk }
+    requires empty { first_free (class_at slabs.old.shared class) ≡ None }
+    requires alive { list_all (is_found_alive (view hand.old).row.looks) (class_at slabs.old.shared class).order ≡ true }
+    requires page { next_page slabs.old.shared ≡ None }
+    requires whole { slabs.old.shared.uncut ≡ None }
+    ensures arena { IsHandOf arena.now hand.new }
+    ensures slabs { (view hand.new).slabs ≡ Some slabs.new.shared }
+    ensures same_slabs { slabs.new ≡ slabs.old }
+    ensures taken { result ≡ Ok true → ReachesItem hand.old.number chunk (λ number stripe. TakesItem number stripe chunk) (view hand.old) (view hand.new) }
+    ensures dead { result ≡ Ok true → option_map is_dead (seen_head (view hand.new).row.looks chunk) ≡ Some true }
+    ensures passed { result ≡ Ok false → PassesItem hand.old.number chunk (view hand.old) (view hand.new) }
+{
+    let head = arena.head(hand, chunk);
+    if head % ISSUE_UNIT != UNHELD {
+        return Ok(false);
+    }
+    let key = arena.word_held(hand, slabs, chunk, 0);
+    let stripe = key % arena.config().stripes;
+    let Ok(held) = arena.try_stripe(hand, stripe) else {
+        return Ok(false);
+    };
+    condemn_at(arena, hand, slabs, held, chunk)
 }

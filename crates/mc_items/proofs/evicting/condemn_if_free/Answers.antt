@@ -1,0 +1,93 @@
+use Rattle.std.proofs.Common.{◌≡◌, ◌<◌, ◌%◌, ℕ, true, Some, refl, ap, sym, subst, ◌∙◌, inl, inr}
+use Rattle.mc_classes.specs.declared.config.Config.{Config}
+use Rattle.mc_pages.specs.SlabState.{class_of_page}
+use Rattle.mc_core.specs.Head.{decode}
+use Rattle.mc_core.specs.State.{has_chunk, is_class, room_in}
+use Rattle.mc_words.specs.Condemning.{key_seen, knows_reason}
+use Rattle.mc_words.specs.View.{Setup, View}
+use Rattle.mc_words.specs.Views.{head_seen, stripe_missed}
+use Rattle.mc_words.proofs.CondemnCalls.{word_held, word_unheld}
+use Rattle.mc_words.proofs.SweepViews.{stands_out}
+use Rattle.mc_items.specs.Supplying.{FindsItemHeld, TakesItem}
+use Rattle.mc_items.proofs.Hands.{number_stays}
+use Rattle.mc_items.proofs.Reaches.{found_linked, holdings_stay, no_copies, reached, reason_found, some_room, stripe_found}
+use Rattle.mc_items.proofs.evicting.condemn_if_free.Goals as goal
+
+pub head-head-requires-clause-near : goal.head-head-requires-clause-near
+head-head-requires-clause-near c =
+    let is = ap (λ (s : Setup). is_class s.table c.args.class) c.requires.arena.setup ∙ c.requires.class in
+    subst (λ (s : Setup). has_chunk s.table c.args.chunk ≡ true) c.requires.arena.setup (stands_out c.args.hand.now.seat.me.0 c.requires.arena.lawful c.args.slabs.now.shared c.requires.slabs c.args.class is c.args.chunk c.requires.out).near
+
+pub returns-then-head-ne-UNHELD-clause-passed : goal.returns-then-head-ne-UNHELD-clause-passed
+returns-then-head-ne-UNHELD-clause-passed c _ =
+    inl (record { chunk = c.args.chunk; is_asked = refl; head = decode c.head-head.result; other = word_held c.head-head.result c.if-head-ne-UNHELD.true; happens = c.head-head.ensures.happens; is = c.head-head.ensures.seen })
+
+pub word_held-key-requires-clause-linked : goal.word_held-key-requires-clause-linked
+word_held-key-requires-clause-linked c =
+    found_linked c.args.hand.now.seat.me.0 c.args.slabs.now.shared c.requires.slabs c.args.chunk (decode c.head-head.result) (word_unheld c.head-head.result c.if-head-ne-UNHELD.false) c.head-head.new.hand.seat.me.0 c.head-head.ensures.seen
+
+pub word_held-key-requires-clause-inside : goal.word_held-key-requires-clause-inside
+word_held-key-requires-clause-inside c =
+    let view : View = c.args.hand.now.seat.me.0 in
+    let is = ap (λ (s : Setup). is_class s.table c.args.class) c.requires.arena.setup ∙ c.requires.class in
+    let own = (stands_out view c.requires.arena.lawful c.args.slabs.now.shared c.requires.slabs c.args.class is c.args.chunk c.requires.out).own in
+    subst (λ (p : Setup × ℕ). 0 < room_in p.0.table p.1) (λ k. (c.requires.arena.setup k, sym own k)) (some_room view c.requires.arena.lawful c.args.class is)
+
+pub returns-in_default-clause-passed : goal.returns-in_default-clause-passed
+returns-in_default-clause-passed c _ =
+    let view : View = c.args.hand.now.seat.me.0 in
+    let head = decode c.head-head.result in
+    let key = c.word_held-key.result in
+    let (word, busy, missed) = c.in_default.ensures.held in
+    let at : key % c.config.result.now.stripes ≡ key % view.setup.config.stripes = ap (λ (g : Config). key % g.stripes) (c.config.ensures.config ∙ ap (λ (s : Setup). s.config) (sym c.requires.arena.setup)) in
+    let read = c.word_held-key.ensures.view ∙ ap (key_seen c.args.chunk key) c.head-head.ensures.seen in
+    inr (inl (record { head = head; unheld = word_unheld c.head-head.result c.if-head-ne-UNHELD.false; key = key; word = word; busy = busy; is = missed ∙ (λ k. stripe_missed (at k) word (read k)) }))
+
+pub condemn_at-requires-clause-key : goal.condemn_at-requires-clause-key
+condemn_at-requires-clause-key c =
+    let key = c.word_held-key.result in
+    let seen : View = c.head-head.new.hand.seat.me.0 in
+    let at : key % c.config.result.now.stripes ≡ key % seen.setup.config.stripes = ap (λ (g : Config). key % g.stripes) (c.config.ensures.config ∙ ap (λ (s : Setup). s.config) (sym c.head-head.ensures.arena.setup)) in
+    stripe_found c.args.hand.now.seat.me.0 c.args.slabs.now.shared c.requires.slabs c.args.chunk (decode c.head-head.result) (word_unheld c.head-head.result c.if-head-ne-UNHELD.false) seen c.head-head.ensures.seen
+    key (key % c.config.result.now.stripes) c.in-Ok.held.stripe c.word_held-key.new.hand.seat.me.0 c.try_stripe.new.hand.seat.me.0 c.word_held-key.ensures.view c.in-Ok.ensures.lent
+    ∙ ap (λ n. Some n) (sym (c.in-Ok.ensures.number ∙ at))
+
+pub condemn_at-requires-clause-reason : goal.condemn_at-requires-clause-reason
+condemn_at-requires-clause-reason c =
+    let view : View = c.args.hand.now.seat.me.0 in
+    let key = c.word_held-key.result in
+    let slabs = c.args.slabs.now.shared in
+    let is = ap (λ (s : Setup). is_class s.table c.args.class) c.requires.arena.setup ∙ c.requires.class in
+    let own = (stands_out view c.requires.arena.lawful slabs c.requires.slabs c.args.class is c.args.chunk c.requires.out).own in
+    let taken : View = c.try_stripe.new.hand.seat.me.0 in
+    subst (λ (s : Setup). knows_reason s.table slabs taken.row.looks taken.row.holdings c.args.chunk ≡ true) c.requires.arena.setup
+    (reason_found view slabs c.requires.slabs c.args.chunk (decode c.head-head.result) (word_unheld c.head-head.result c.if-head-ne-UNHELD.false) c.head-head.new.hand.seat.me.0 c.head-head.ensures.seen
+    key (key % c.config.result.now.stripes) c.in-Ok.held.stripe c.word_held-key.new.hand.seat.me.0 taken c.word_held-key.ensures.view c.in-Ok.ensures.lent
+    c.requires.arena.lawful c.args.class own c.requires.empty c.requires.alive c.requires.page c.requires.whole)
+
+pub condemn_at-requires-clause-no_copy : goal.condemn_at-requires-clause-no_copy
+condemn_at-requires-clause-no_copy c =
+    let key = c.word_held-key.result in
+    let same = holdings_stay c.args.hand.now.seat.me.0 c.args.slabs.now.shared c.requires.slabs c.args.chunk (decode c.head-head.result) (word_unheld c.head-head.result c.if-head-ne-UNHELD.false) c.head-head.new.hand.seat.me.0 c.head-head.ensures.seen
+    key (key % c.config.result.now.stripes) c.in-Ok.held.stripe c.word_held-key.new.hand.seat.me.0 c.try_stripe.new.hand.seat.me.0 c.word_held-key.ensures.view c.in-Ok.ensures.lent in
+    no_copies c.try_stripe.new.hand.seat.me.0.row.holdings c.args.chunk (ap Rattle.mc_core.specs.Holdings.has_fresh same ∙ c.requires.fresh)
+
+pub returns-clause-taken : goal.returns-clause-taken
+returns-clause-taken c e =
+    let view : View = c.args.hand.now.seat.me.0 in
+    let key = c.word_held-key.result in
+    let at : key % c.config.result.now.stripes ≡ key % view.setup.config.stripes = ap (λ (g : Config). key % g.stripes) (c.config.ensures.config ∙ ap (λ (s : Setup). s.config) (sym c.requires.arena.setup)) in
+    let ids = ap (λ (v : View). v.row.ids) c.in-Ok.ensures.lent ∙ (ap (λ (v : View). v.row.ids) c.word_held-key.ensures.view ∙ ap (λ (v : View). v.row.ids) c.head-head.ensures.seen) in
+    reached (λ number stripe. TakesItem number stripe c.args.chunk) c.args.hand.now.number c.try_stripe.new.hand.number view c.args.chunk (decode c.head-head.result) c.head-head.new.hand.seat.me.0 c.word_held-key.new.hand.seat.me.0 c.try_stripe.new.hand.seat.me.0 c.condemn_at.new.hand.seat.me.0
+    key (key % c.config.result.now.stripes) c.in-Ok.held.number c.in-Ok.held.stripe (word_unheld c.head-head.result c.if-head-ne-UNHELD.false) c.head-head.ensures.seen c.word_held-key.ensures.view at c.in-Ok.ensures.number (number_stays c.args.hand.now c.try_stripe.new.hand ids)
+    c.head-head.ensures.happens c.word_held-key.ensures.happens c.in-Ok.ensures.taken c.in-Ok.ensures.lent c.in-Ok.ensures.whole (c.condemn_at.ensures.taken e)
+
+pub returns-clause-passed : goal.returns-clause-passed
+returns-clause-passed c e =
+    let view : View = c.args.hand.now.seat.me.0 in
+    let key = c.word_held-key.result in
+    let at : key % c.config.result.now.stripes ≡ key % view.setup.config.stripes = ap (λ (g : Config). key % g.stripes) (c.config.ensures.config ∙ ap (λ (s : Setup). s.config) (sym c.requires.arena.setup)) in
+    let ids = ap (λ (v : View). v.row.ids) c.in-Ok.ensures.lent ∙ (ap (λ (v : View). v.row.ids) c.word_held-key.ensures.view ∙ ap (λ (v : View). v.row.ids) c.head-head.ensures.seen) in
+    inr (inr (reached (λ number stripe. FindsItemHeld c.args.chunk) c.args.hand.now.number c.try_stripe.new.hand.number view c.args.chunk (decode c.head-head.result) c.head-head.new.hand.seat.me.0 c.word_held-key.new.hand.seat.me.0 c.try_stripe.new.hand.seat.me.0 c.condemn_at.new.hand.seat.me.0
+    key (key % c.config.result.now.stripes) c.in-Ok.held.number c.in-Ok.held.stripe (word_unheld c.head-head.result c.if-head-ne-UNHELD.false) c.head-head.ensures.seen c.word_held-key.ensures.view at c.in-Ok.ensures.number (number_stays c.args.hand.now c.try_stripe.new.hand ids)
+    c.head-head.ensures.happens c.word_held-key.ensures.happens c.in-Ok.ensures.taken c.in-Ok.ensures.lent c.in-Ok.ensures.whole (c.condemn_at.ensures.moved e)))
