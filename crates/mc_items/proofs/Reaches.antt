@@ -31,11 +31,17 @@ use Rattle.mc_words.specs.Condemning.{key_seen, knows_reason, stripe_read}
 use Rattle.mc_words.specs.Happens.{Happens, LawfulView}
 use Rattle.mc_words.specs.Items.{word_read}
 use Rattle.mc_words.specs.Lent.{IsLentStripe}
-use Rattle.mc_words.specs.Views.{head_seen, stripe_taken}
+use Rattle.mc_words.specs.Views.{head_seen, stripe_given, stripe_taken}
+use Rattle.mc_words.specs.declared.hand.Hand.{Hand}
+use Rattle.mc_words.specs.declared.locks.Locks.{Locks}
+use Rattle.mc_words.specs.declared.locks.Locks.TheVariants.{Neither, Slabs, Stripe, SlabsLast, StripeLast}
+use Rattle.mc_words.specs.Idle.{has_no_stripes}
+use Rattle.mc_words.specs.Out.{has_no_stripe, with_stripe, without_stripe}
+use Rattle.mc_words.proofs.Unlocked.{no_stripe_from}
 use Rattle.mc_words.proofs.Judging.{class_of_table, room_of, seen_is}
 use Rattle.mc_words.proofs.Reasoned.{alive_after_look, alive_after_read, all_weaker, no_page_left, room_needed}
 use Rattle.mc_items.specs.Calls.{Doing, IsDone}
-use Rattle.mc_items.specs.Supplying.{ReachesItem}
+use Rattle.mc_items.specs.Supplying.{LacksMemory, ReachesItem}
 
 -- a linked chunk isn't dead
 pub not_dead : (head : Head) → is_linked_unheld head ≡ true → is_dead head ≡ false
@@ -121,3 +127,26 @@ reached Does number number' view chunk head seen read taken now key stripe strip
       lent = subst (λ n. IsLentStripe taken n value) at lent;
       done = subst (λ (p : ℕ × ℕ). IsDone p.0 p.1 value (Does p.0 p.1) taken now) (λ k. (numbers k, (same ∙ at) k)) done;
     }
+
+-- without memory for a call
+pub lacked : (view : View) (chunk : ChunkId) (head : Head) (seen read taken now : View) (key stripe stripe' : ℕ) (value : ReadyStripe) → is_linked_unheld head ≡ true → seen ≡ head_seen chunk head view → read ≡ key_seen chunk key seen
+    → stripe ≡ key % view.setup.config.stripes → stripe' ≡ stripe → taken ≡ stripe_taken stripe value read → now ≡ stripe_given stripe' value taken → LacksMemory chunk view now
+lacked view chunk head seen read taken now key stripe stripe' value unheld seen_is read_is at same taken_is given =
+    let all : read ≡ key_seen chunk key (head_seen chunk head view) = read_is ∙ ap (key_seen chunk key) seen_is in record {
+      head = head;
+      unheld = unheld;
+      key = key;
+      value = value;
+      given = given ∙ (λ k. stripe_given ((same ∙ at) k) value ((taken_is ∙ (λ j. stripe_taken (at j) value (all j))) k));
+    }
+
+-- a stripe's lock that came and went
+pub stripe_back : (hand : Hand) (stripe : ℕ) → has_no_stripes hand.seat.me.0 ≡ true → without_stripe (with_stripe stripe hand.locks) ≡ hand.locks
+stripe_back hand stripe none = by hand.locks (no_stripe_from hand.seat.me.0 hand.locks hand.noted.4 none)
+  where
+    by : (locks : Locks) → has_no_stripe locks ≡ true → without_stripe (with_stripe stripe locks) ≡ locks
+    by Neither none = refl
+    by Slabs none = refl
+    by (Stripe other) none = absurd (cc)
+    by (SlabsLast other) none = absurd (cc)
+    by (StripeLast other) none = absurd (cc)

@@ -19,7 +19,7 @@ use Rattle.mc_words.specs.Owner.{Cuts, PopsFirst, SeesOther}
 use Rattle.mc_words.specs.Sweeping.{Sweeps, with_seen}
 use Rattle.mc_words.specs.Condemning.{Condemns, FindsHeld, SeesHeld, key_seen}
 use Rattle.mc_words.specs.Lent.{IsLentStripe}
-use Rattle.mc_words.specs.Views.{fresh_holding, head_seen, slabs_changed, stripe_missed, stripe_taken, with_holdings}
+use Rattle.mc_words.specs.Views.{fresh_holding, head_seen, slabs_changed, stripe_given, stripe_missed, stripe_taken, with_holdings}
 use Rattle.mc_items.specs.Calls.{Doing, IsDone}
 
 -- the class has a free chunk, and nothing was done; or it has none, and its dead chunks were put back
@@ -102,3 +102,11 @@ pub record MissesItem (chunk : ChunkId) (view now : View) : Type 0 where
 abbrev pub PassesItem : ℕ → ChunkId → View → View → Type 0
 PassesItem number chunk view now =
     SeesHeld view chunk now ⊎ MissesItem chunk view now ⊎ ReachesItem number chunk (λ number stripe. FindsItemHeld chunk) view now
+
+-- its key's stripe was taken at once, but there was no memory for a call, and the lock was given back as it was
+pub record LacksMemory (chunk : ChunkId) (view now : View) : Type 0 where
+  pub head : Head
+  pub unheld : is_linked_unheld head ≡ true
+  pub key : ℕ
+  pub value : ReadyStripe
+  pub given : now ≡ stripe_given (key % view.setup.config.stripes) value (stripe_taken (key % view.setup.config.stripes) value (key_seen chunk key (head_seen chunk head view)))

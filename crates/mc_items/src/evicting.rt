@@ -18,7 +18,7 @@ ghost use Rattle.mc_words.specs.Lent.{IsLentStripe};
 ghost use Rattle.mc_words.specs.Out.{without_stripe};
 ghost use Rattle.mc_words.specs.Views.{stripe_given};
 ghost use Rattle.mc_items.specs.Calls.{IsDone};
-ghost use Rattle.mc_items.specs.Supplying.{FindsItemHeld, PassesItem, ReachesItem, TakesItem};
+ghost use Rattle.mc_items.specs.Supplying.{FindsItemHeld, LacksMemory, PassesItem, ReachesItem, TakesItem};
 
 use mc_classes::ClassId;
 use mc_pages::ChunkId;
@@ -94,10 +94,12 @@ pub(crate) fn condemn_if_free(
     requires page { next_page slabs.old.shared ≡ None }
     requires whole { slabs.old.shared.uncut ≡ None }
     ensures arena { IsHandOf arena.now hand.new }
+    ensures locks { hand.new.locks ≡ hand.old.locks }
     ensures slabs { (view hand.new).slabs ≡ Some slabs.new.shared }
     ensures same_slabs { slabs.new ≡ slabs.old }
     ensures taken { result ≡ Ok true → ReachesItem hand.old.number chunk (λ number stripe. TakesItem number stripe chunk) (view hand.old) (view hand.new) }
     ensures dead { result ≡ Ok true → option_map is_dead (seen_head (view hand.new).row.looks chunk) ≡ Some true }
+    ensures no_memory { OnErr result (LacksMemory chunk (view hand.old) (view hand.new)) }
     ensures passed { result ≡ Ok false → PassesItem hand.old.number chunk (view hand.old) (view hand.new) }
 {
     let head = arena.head(hand, chunk);

@@ -5,12 +5,14 @@ use Rattle.mc_core.specs.Head.{decode}
 use Rattle.mc_core.specs.State.{has_chunk, is_class, room_in}
 use Rattle.mc_words.specs.Condemning.{key_seen, knows_reason}
 use Rattle.mc_words.specs.View.{Setup, View}
+use Rattle.mc_words.specs.Out.{with_stripe, without_stripe}
 use Rattle.mc_words.specs.Views.{head_seen, stripe_missed}
 use Rattle.mc_words.proofs.CondemnCalls.{word_held, word_unheld}
 use Rattle.mc_words.proofs.SweepViews.{stands_out}
 use Rattle.mc_items.specs.Supplying.{FindsItemHeld, TakesItem}
 use Rattle.mc_items.proofs.Hands.{number_stays}
-use Rattle.mc_items.proofs.Reaches.{found_linked, holdings_stay, no_copies, reached, reason_found, some_room, stripe_found}
+use Rattle.mc_items.proofs.Reaches.{found_linked, holdings_stay, lacked, no_copies, reached, reason_found, some_room, stripe_back, stripe_found}
+use Rattle.mc_items.proofs.Supplies.{if_error}
 use Rattle.mc_items.proofs.evicting.condemn_if_free.Goals as goal
 
 pub head-head-requires-clause-near : goal.head-head-requires-clause-near
@@ -91,3 +93,18 @@ returns-clause-passed c e =
     inr (inr (reached (λ number stripe. FindsItemHeld c.args.chunk) c.args.hand.now.number c.try_stripe.new.hand.number view c.args.chunk (decode c.head-head.result) c.head-head.new.hand.seat.me.0 c.word_held-key.new.hand.seat.me.0 c.try_stripe.new.hand.seat.me.0 c.condemn_at.new.hand.seat.me.0
     key (key % c.config.result.now.stripes) c.in-Ok.held.number c.in-Ok.held.stripe (word_unheld c.head-head.result c.if-head-ne-UNHELD.false) c.head-head.ensures.seen c.word_held-key.ensures.view at c.in-Ok.ensures.number (number_stays c.args.hand.now c.try_stripe.new.hand ids)
     c.head-head.ensures.happens c.word_held-key.ensures.happens c.in-Ok.ensures.taken c.in-Ok.ensures.lent c.in-Ok.ensures.whole (c.condemn_at.ensures.moved e)))
+
+pub returns-clause-locks : goal.returns-clause-locks
+returns-clause-locks c =
+    let stripe = c.word_held-key.result % c.config.result.now.stripes in
+    c.condemn_at.ensures.locks ∙ (ap without_stripe (c.in-Ok.ensures.locks ∙ ap (with_stripe stripe) (c.word_held-key.ensures.locks ∙ c.head-head.ensures.locks)) ∙ stripe_back c.args.hand.now stripe c.requires.one)
+
+pub returns-clause-no_memory : goal.returns-clause-no_memory
+returns-clause-no_memory c =
+    let view : View = c.args.hand.now.seat.me.0 in
+    let key = c.word_held-key.result in
+    let at : key % c.config.result.now.stripes ≡ key % view.setup.config.stripes = ap (λ (g : Config). key % g.stripes) (c.config.ensures.config ∙ ap (λ (s : Setup). s.config) (sym c.requires.arena.setup)) in
+    if_error c.condemn_at.result
+    (λ given. lacked view c.args.chunk (decode c.head-head.result) c.head-head.new.hand.seat.me.0 c.word_held-key.new.hand.seat.me.0 c.try_stripe.new.hand.seat.me.0 c.condemn_at.new.hand.seat.me.0
+    key (key % c.config.result.now.stripes) c.in-Ok.held.number c.in-Ok.held.stripe (word_unheld c.head-head.result c.if-head-ne-UNHELD.false) c.head-head.ensures.seen c.word_held-key.ensures.view at c.in-Ok.ensures.number c.in-Ok.ensures.lent given)
+    c.condemn_at.ensures.no_memory
