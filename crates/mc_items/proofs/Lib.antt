@@ -7,3 +7,4 @@ pub mod Supplies
 pub mod Growing
 pub mod Evicts
 pub mod Reaches
+pub mod FreesEvicted

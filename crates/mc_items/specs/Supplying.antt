@@ -3,7 +3,7 @@ use Rattle.std.specs.Prelude.{◌≡◌, ◌≢◌, ◌⊎◌, ℕ, ◌+◌, ◌
 use Rattle.std.specs.List.{list_all}
 use Rattle.mc_pages.specs.declared.ids.ChunkId.{ChunkId}
 use Rattle.mc_pages.specs.Accounted.{first_chunks}
-use Rattle.mc_pages.specs.Changes.{after_cut, after_grow, after_pop, next_page}
+use Rattle.mc_pages.specs.Changes.{after_back, after_cut, after_evicted, after_grow, after_pop, next_page}
 use Rattle.mc_pages.specs.ClassState.{first_free}
 use Rattle.mc_pages.specs.SlabState.{SlabState, class_at}
 use Rattle.mc_core.specs.declared.event.Change.TheVariants as change
@@ -15,7 +15,7 @@ use Rattle.mc_stripe.specs.StripeState.{ReadyStripe}
 use Rattle.mc_core.specs.Looks.{is_found_alive}
 use Rattle.mc_words.specs.View.{View}
 use Rattle.mc_words.specs.Happens.{Happens}
-use Rattle.mc_words.specs.Owner.{Cuts, PopsFirst, SeesOther}
+use Rattle.mc_words.specs.Owner.{Cuts, PopsFirst, PutsBack, SeesOther}
 use Rattle.mc_words.specs.Sweeping.{Sweeps, with_seen}
 use Rattle.mc_words.specs.Condemning.{Condemns, FindsHeld, SeesHeld, key_seen}
 use Rattle.mc_words.specs.Lent.{IsLentStripe}
@@ -110,3 +110,11 @@ pub record LacksMemory (chunk : ChunkId) (view now : View) : Type 0 where
   pub key : ℕ
   pub value : ReadyStripe
   pub given : now ≡ stripe_given (key % view.setup.config.stripes) value (stripe_taken (key % view.setup.config.stripes) value (key_seen chunk key (head_seen chunk head view)))
+
+-- the eviction was counted, and the chunk, which is dead, was put back
+pub record FreesEvicted (number class : ℕ) (chunk : ChunkId) (view : View) (slabs : SlabState) (now : View) (left : SlabState) : Type 0 where
+  pub counted : View
+  pub is_counted : counted ≡ slabs_changed slabs (change.Evicted class) (number + 1) view
+  pub happens : Happens view (change.Evicted class ∷ []) step.MissSlabs counted
+  pub back : PutsBack counted (after_evicted slabs class) chunk now
+  pub left_is : left ≡ after_back (after_evicted slabs class) chunk

@@ -18,7 +18,7 @@ ghost use Rattle.mc_words.specs.Lent.{IsLentStripe};
 ghost use Rattle.mc_words.specs.Out.{without_stripe};
 ghost use Rattle.mc_words.specs.Views.{stripe_given};
 ghost use Rattle.mc_items.specs.Calls.{IsDone};
-ghost use Rattle.mc_items.specs.Supplying.{FindsItemHeld, LacksMemory, PassesItem, ReachesItem, TakesItem};
+ghost use Rattle.mc_items.specs.Supplying.{FindsItemHeld, FreesEvicted, LacksMemory, PassesItem, ReachesItem, TakesItem};
 
 use mc_classes::ClassId;
 use mc_pages::ChunkId;
@@ -112,4 +112,26 @@ pub(crate) fn condemn_if_free(
         return Ok(false);
     };
     condemn_at(arena, hand, slabs, held, chunk)
+}
+
+// Counts that an item of the class was evicted, and puts its chunk back, which was seen dead under this hold of the slabs lock.
+pub(crate) fn free_evicted(
+    arena: &Arena,
+    hand: &mut Hand,
+    slabs: &mut SlabsHeld,
+    class: ClassId,
+    chunk: ChunkId,
+)
+    requires arena { IsHandOf arena.now hand.old }
+    requires class { is_class (setup_of arena.now).table class ≡ true }
+    requires near { has_chunk (setup_of arena.now).table chunk ≡ true }
+    requires slabs { (view hand.old).slabs ≡ Some slabs.old.shared }
+    requires dead { option_map is_dead (seen_head (view hand.old).row.looks chunk) ≡ Some true }
+    ensures arena { IsHandOf arena.now hand.new }
+    ensures locks { hand.new.locks ≡ hand.old.locks }
+    ensures slabs { (view hand.new).slabs ≡ Some slabs.new.shared }
+    ensures freed { FreesEvicted hand.old.number class chunk (view hand.old) slabs.old.shared (view hand.new) slabs.new.shared }
+{
+    arena.evicted(hand, slabs, class);
+    let _ = arena.put_back(hand, slabs, chunk);
 }
