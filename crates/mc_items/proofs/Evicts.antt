@@ -10,10 +10,9 @@ use Rattle.mc_core.specs.declared.holding.Holding.{Holding}
 use Rattle.mc_core.specs.declared.look.Look.{Look}
 use Rattle.mc_core.specs.declared.look.Look.TheVariants.{SawStripe}
 use Rattle.mc_core.specs.Chunks.{most_issue}
-use Rattle.mc_core.specs.Judged.{is_seen_unfit}
-use Rattle.mc_core.specs.Seen.{last_head, last_read, seen_head}
+use Rattle.mc_core.specs.Seen.{last_head, last_read}
 use Rattle.mc_words.specs.View.{View}
-use Rattle.mc_words.specs.Condemning.{Condemns, FindsHeld, knows_reason, stripe_read}
+use Rattle.mc_words.specs.Condemning.{knows_reason, stripe_read}
 use Rattle.mc_words.specs.Items.{word_read}
 use Rattle.mc_words.specs.Views.{stripe_given, stripe_reserved}
 use Rattle.mc_words.proofs.Reasoned.{alive_after_other, reason_after}

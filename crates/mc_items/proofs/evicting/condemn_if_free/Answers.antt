@@ -1,12 +1,11 @@
 use Rattle.std.proofs.Common.{◌≡◌, ◌<◌, ◌%◌, ℕ, true, Some, refl, ap, sym, subst, ◌∙◌, inl, inr}
 use Rattle.mc_classes.specs.declared.config.Config.{Config}
-use Rattle.mc_pages.specs.SlabState.{class_of_page}
 use Rattle.mc_core.specs.Head.{decode}
 use Rattle.mc_core.specs.State.{has_chunk, is_class, room_in}
 use Rattle.mc_words.specs.Condemning.{key_seen, knows_reason}
 use Rattle.mc_words.specs.View.{Setup, View}
 use Rattle.mc_words.specs.Out.{with_stripe, without_stripe}
-use Rattle.mc_words.specs.Views.{head_seen, stripe_missed}
+use Rattle.mc_words.specs.Views.{stripe_missed}
 use Rattle.mc_words.proofs.CondemnCalls.{word_held, word_unheld}
 use Rattle.mc_words.proofs.SweepViews.{stands_out}
 use Rattle.mc_items.specs.Supplying.{FindsItemHeld, TakesItem}

@@ -1,4 +1,3 @@
-use Rattle.std.proofs.Common.{◌≡◌}
 use Rattle.mc_items.proofs.FreesEvicted.{dead_still, freed, went_well}
 use Rattle.mc_items.proofs.evicting.free_evicted.Goals as goal
 
