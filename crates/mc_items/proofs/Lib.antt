@@ -3,3 +3,4 @@ pub mod Hands
 pub mod Locks
 pub mod Gets
 pub mod Deletes
+pub mod Tells
