@@ -29,12 +29,7 @@ pub fn delete<R: Wait>(rt: &R, arena: &Arena, hand: &mut Hand, key: u64) -> Resu
 }
 
 // Deletes the key in its stripe, and gives the stripe's lock back.
-fn delete_at(
-    arena: &Arena,
-    hand: &mut Hand,
-    held: StripeHeld,
-    key: u64,
-) -> Result<bool, NoMemory>
+fn delete_at(arena: &Arena, hand: &mut Hand, held: StripeHeld, key: u64) -> Result<bool, NoMemory>
     requires arena { IsHandOf arena.now hand.old }
     requires lent { IsLentStripe (view hand.old) held.number held.stripe }
     requires near { held.number ≡ key % (setup_of arena.now).config.stripes }

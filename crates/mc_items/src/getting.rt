@@ -28,7 +28,12 @@ pub enum GetError {
 
 /// Gets a reference to the key's item, if it has one, and waits for the lock of its stripe. At 255 chunks of the hand it is refused
 /// first, and at want of memory next: no entry is written then. (memcached's `item_get`, whose `do_item_get` counts the reference)
-pub fn get<R: Wait>(rt: &R, arena: &Arena, hand: &mut Hand, key: u64) -> Result<Option<Ref>, GetError>
+pub fn get<R: Wait>(
+    rt: &R,
+    arena: &Arena,
+    hand: &mut Hand,
+    key: u64,
+) -> Result<Option<Ref>, GetError>
     requires arena { IsHandOf arena.now hand.old }
     requires unlocked { is_unlocked (view hand.old) ≡ true }
     ensures arena { IsHandOf arena.now hand.new }
@@ -89,7 +94,12 @@ pub fn try_get(arena: &Arena, hand: &mut Hand, key: u64) -> Result<Option<Ref>, 
 }
 
 // Looks the key up in its stripe, gives the stripe's lock back, and reads what is said of the item.
-fn look_up(arena: &Arena, hand: &mut Hand, held: StripeHeld, key: u64) -> Result<Option<Ref>, NoMemory>
+fn look_up(
+    arena: &Arena,
+    hand: &mut Hand,
+    held: StripeHeld,
+    key: u64,
+) -> Result<Option<Ref>, NoMemory>
     requires arena { IsHandOf arena.now hand.old }
     requires lent { IsLentStripe (view hand.old) held.number held.stripe }
     requires near { held.number ≡ key % (setup_of arena.now).config.stripes }

@@ -11,11 +11,13 @@ use crate::refs::Ref;
 use mc_words::{Arena, Hand};
 use std::alloc::{AllocError, Global};
 
-
-
-
 /// The item's words. It takes no lock, and the reference stays. At want of memory all is as before.
-pub fn read(alloc: Global, arena: &Arena, hand: &mut Hand, item: &Ref) -> Result<Vec<u64>, AllocError>
+pub fn read(
+    alloc: Global,
+    arena: &Arena,
+    hand: &mut Hand,
+    item: &Ref,
+) -> Result<Vec<u64>, AllocError>
     requires arena { IsHandOf arena.now hand.old }
     requires item { IsItemRef (view hand.old) item.now }
     ensures arena { IsHandOf arena.now hand.new }

@@ -1,5 +1,5 @@
 //! Keys that are touched.
-ghost use Rattle.std.specs.Prelude.{◌≡◌, ◌≤◌, ◌%◌, true, length, Ok, OnErr};
+ghost use Rattle.std.specs.Prelude.{◌≡◌, ◌≤◌, ◌%◌, true, false, length, Ok, OnErr};
 ghost use Rattle.mc_words.specs.Arenas.{IsHandOf, setup_of, view};
 ghost use Rattle.mc_words.specs.Idle.{is_unlocked};
 ghost use Rattle.mc_items.specs.Calls.{CallsOn, FindsNone, OnlyWaits, Touches};

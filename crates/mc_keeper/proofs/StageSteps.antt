@@ -3,13 +3,11 @@ use Rattle.std.proofs.Common.{◌≡◌, ℕ, ◌+◌, ◌-◌, ◌<◌, zero, s
 use Rattle.std.specs.Prelude.{OnErr, nat_lt, if◌then◌else◌}
 use Rattle.std.proofs.lemmas.Option.{same_Some}
 use Rattle.std.proofs.lemmas.List.Elements.{Contains-append_left, Contains-append_right}
-use Rattle.mc_pages.specs.Answer.{answer_of}
-use Rattle.mc_watch.specs.declared.decider.Decision.{Decision}
-use Rattle.mc_machine.specs.Automove.{begun, decision, with_window}
+use Rattle.mc_machine.specs.Automove.{decision, with_window}
 use Rattle.mc_machine.specs.Lines.{acted}
 use Rattle.mc_machine.specs.Machine.{Machine, all_swept}
 use Rattle.mc_machine.specs.Mover.{Counted, Turned, is_went, most_turns, turned, turns_from, with_chunk, with_chunks}
-use Rattle.mc_keeper.specs.Stages.{look_stages, reassign_stages, stages_from, turn_stages, window_stages, with_source_swept}
+use Rattle.mc_keeper.specs.Stages.{look_stages, stages_from, turn_stages, window_stages, with_source_swept}
 
 -- what holds whatever the result
 pub on_err : {A E : Type 0} (P : Type 0) (result : Result A E) → P → OnErr result P
@@ -29,24 +27,12 @@ first_stage stage left others same = (0, omega arith, same)
 pub later_stage : (stage left : Machine) (others : List Machine) → Contains others left → Contains (stage ∷ others) left
 later_stage stage left others there = Contains-append_right (stage ∷ []) others left there
 
--- the automover's decision is acted on as far as this
-module _ (m now left : Machine) (ended : now ≡ with_window (all_swept m)) where
-  abbrev fed : Machine
-  fed = with_window (all_swept m)
-
-  abbrev acts : Machine
-  acts = (acted fed (decision fed)).machine
-
-  pub fed_stage : now ≡ left → Contains (window_stages m) left
-  fed_stage same = later_stage (all_swept m) left (fed ∷ acts ∷ []) (first_stage fed left (acts ∷ []) (sym ended ∙ same))
-
-  pub act_stage : (d : Decision) → Some d ≡ decision now → Contains (reassign_stages now (Some d.src) d.dst) left → Contains (window_stages m) left
-  act_stage d decided there =
-      let begins : Machine = begun now (Some d.src) d.dst (answer_of now.slabs (Some d.src) d.dst) in
-      let done : acts ≡ begins
-      = ap (λ (n : Machine). (acted n (decision n)).machine) (sym ended) ∙ ap (λ (o : Option Decision). (acted now o).machine) (sym decided) in
-      let same : now ∷ begins ∷ [] ≡ fed ∷ acts ∷ [] = ap (λ (n : Machine). n ∷ begins ∷ []) ended ∙ ap (λ (n : Machine). fed ∷ n ∷ []) (sym done) in
-      later_stage (all_swept m) left (fed ∷ acts ∷ []) (subst (λ (l : List Machine). Contains l left) same there)
+-- a window was fed, and nothing was done beside
+pub fed_stage : (m now left : Machine) → now ≡ with_window (all_swept m) → now ≡ left → Contains (window_stages m) left
+fed_stage m now left ended same =
+    let fed : Machine = with_window (all_swept m) in
+    let acts : Machine = (acted fed (decision fed)).machine in
+    later_stage (all_swept m) left (fed ∷ acts ∷ []) (first_stage fed left (acts ∷ []) (sym ended ∙ same))
 
 -- some chunks were looked at, and the next one is where the turn ends
 pub look_stage : (done left : ℕ) (c now : Counted) (m : Machine) → now ≡ with_chunks done c

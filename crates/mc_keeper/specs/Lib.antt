@@ -1,2 +1,4 @@
 pub mod Kept
 pub mod Stages
+pub mod Calls
+pub mod Replies

@@ -1,4 +1,4 @@
-//! The plain keeper: what a serial run stores, and how it serves one command after another.
+//! The plain keeper: what one thread stores.
 ghost use Rattle.std.specs.Prelude.{◌≡◌, ◌≤◌, IfOk};
 ghost use Rattle.mc_classes.specs.Classes.{IsSound};
 ghost use Rattle.mc_machine.specs.Machine.{fresh_machine};
@@ -13,15 +13,20 @@ mod statistics;
 mod store;
 mod sweep;
 
+pub use automove::Acted;
 use mc_classes::ClassTable;
 use mc_pages::Slabs;
 use mc_parts::{DeadCounts, Holds, ItemTable, KeyIndex, LastDead};
 use mc_watch::Decider;
+pub use refs::{HoldError, TooManyRefs};
 pub use serve::Stop;
 use std::alloc::{AllocError, Global};
 use std::marker::Model;
+pub use store::Stored;
 
-/// What a serial run stores: pages and chunks, the items in them, where each key leads, and who holds which chunk.
+/// What one thread stores: pages and chunks, the items in them, where each key leads, and who holds which chunk.
+///
+/// Keys are numbers, an item's words numbers of 64 bits. Workers are numbered from 0 to 63; each has holds of its own.
 #[derive(Drop)]
 pub struct Keeper {
     alloc: Global,

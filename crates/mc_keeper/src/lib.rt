@@ -1,12 +1,14 @@
-//! What a serial run stores, and how it serves one command after another.
+//! A cache's memory for one thread.
 //!
-//! [`Keeper`] holds pages, chunks and items as one thread needs them: no lock, no count, no header. What it answers
-//! to a command, and what it is afterwards, is what a plain machine over lists says; that machine is `mc_machine`'s
-//! definition.
+//! [`Keeper`] holds pages, chunks and items as one thread needs them: no lock, no count, no header. A cache is built on its typed
+//! calls; `Keeper::serve` is the text over them, command by command. What a call answers, and what the keeper is afterwards, is
+//! what a plain machine over lists says; that machine is `mc_machine`'s definition.
 #![tactic(auto)]
 
 mod keeper;
 mod reply;
 
-pub use keeper::{Keeper, Stop};
+pub use keeper::{Acted, HoldError, Keeper, Stop, Stored, TooManyRefs};
 pub use mc_machine::{Counts, Ending};
+pub use mc_pages::{Moving, Numbers, Reassign, Totals};
+pub use mc_watch::Decision;

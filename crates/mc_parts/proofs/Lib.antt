@@ -5,3 +5,4 @@ pub mod CountPlaces
 pub mod CountedHolds
 pub mod LeadsByKey
 pub mod Starts
+pub mod NewWordsCount

@@ -3,3 +3,4 @@ pub mod ItemsByPlace
 pub mod CountsByPlace
 pub mod Leads
 pub mod ItemInPlace
+pub mod NewWords

@@ -1,9 +1,31 @@
 //! What is stored under a key.
-ghost use Rattle.std.specs.Prelude.{◌≡◌, length, OnOk, OnErr};
+ghost use Rattle.std.specs.Prelude.{◌≡◌, ◌≤◌, ◌^◌, length, OnOk, OnErr};
 ghost use Rattle.mc_machine.specs.Item.{new_item, unlinked, words_from};
+ghost use Rattle.mc_parts.specs.NewWords.{words_in};
 
 use std::alloc::{AllocError, Global};
 use std::marker::Model;
+
+/// The words of an item that comes.
+#[derive(Clone, Copy)]
+pub enum NewWords<'a> {
+    /// They are copied from these.
+    Copied(&'a [u64]),
+    /// So many that count up: base, base + 1 and so on, modulo 2^64.
+    Counted { base: u64, count: u64 },
+}
+
+impl NewWords<'_> {
+    /// How many they are.
+    pub fn count(&self) -> u64
+        ensures count { result ≡ length (words_in self.now) }
+    {
+        match self {
+            NewWords::Copied(words) => words.len() as u64,
+            NewWords::Counted { base: _, count } => *count,
+        }
+    }
+}
 
 /// A key with its words, and whether the key still leads to it.
 #[derive(Drop)]
@@ -31,13 +53,15 @@ impl Item {
         }
     }
 
-    /// Becomes a new item with so many words, base, base + 1 and so on, modulo 2^64, to which its key leads. The room of the
-    /// old words is used again.
-    pub(crate) fn renew(&mut self, key: u64, base: u64, words: u64) -> Result<(), AllocError>
-        ensures new { OnOk result (self.new ≡ new_item key (words_from base words)) }
+    /// Becomes a new item with these words, to which its key leads. The room of the old words is used again.
+    pub(crate) fn renew(&mut self, key: u64, words: NewWords) -> Result<(), AllocError>
+        ensures new { OnOk result (self.new ≡ new_item key (words_in words.entry)) }
         ensures unchanged { OnErr result (self.new ≡ self.old) }
     {
-        write_words(&mut self.words, base, words)?;
+        match words {
+            NewWords::Copied(words) => copy_words(&mut self.words, words)?,
+            NewWords::Counted { base, count } => write_words(&mut self.words, base, count)?,
+        }
         self.key = key;
         self.linked = true;
         Ok(())
@@ -70,6 +94,17 @@ impl Item {
     {
         self.linked = false;
     }
+}
+
+/// Writes these words in the place of what was there.
+fn copy_words(all: &mut Vec<u64>, words: &[u64]) -> Result<(), AllocError>
+    ensures words { OnOk result (all.new.items ≡ words.now) }
+    ensures unchanged { OnErr result (all.new.items ≡ all.old.items) }
+{
+    all.reserve_exact(words.len().saturating_sub(all.len()))?;
+    all.clear();
+    all.extend_from_slice(words).unwrap();
+    Ok(())
 }
 
 /// Writes so many words, base, base + 1 and so on, modulo 2^64, in the place of what was there.

@@ -12,7 +12,7 @@ mod text;
 
 pub use dead::{DeadCounts, LastDead, class_of, count_unheld};
 pub use holds::Holds;
-pub use item::Item;
+pub use item::{Item, NewWords};
 pub use key_index::KeyIndex;
 pub use table::ItemTable;
 pub use text::{push_answer, push_key_line, push_turn_line, push_window_line, push_words_line};

@@ -1,9 +1,10 @@
 //! The place of one chunk's item.
 ghost use Rattle.std.specs.Prelude.{◌≡◌, None, Some, OnOk, OnErr};
 ghost use Rattle.std.specs.Option.{option_copied, option_map};
-ghost use Rattle.mc_machine.specs.Item.{new_item, unlinked, words_from};
+ghost use Rattle.mc_machine.specs.Item.{new_item, unlinked};
+ghost use Rattle.mc_parts.specs.NewWords.{words_in};
 
-use crate::item::Item;
+use crate::item::{Item, NewWords};
 use std::alloc::{AllocError, Global};
 use std::marker::Model;
 use std::mem;
@@ -44,11 +45,11 @@ impl Place {
     }
 
     /// A new item comes here, in the place of what was here.
-    pub(crate) fn fill(&mut self, key: u64, base: u64, words: u64) -> Result<(), AllocError>
-        ensures filled { OnOk result (self.new ≡ Some (new_item key (words_from base words))) }
+    pub(crate) fn fill(&mut self, key: u64, words: NewWords) -> Result<(), AllocError>
+        ensures filled { OnOk result (self.new ≡ Some (new_item key (words_in words.entry))) }
         ensures unchanged { OnErr result (self.new ≡ self.old) }
     {
-        self.item.renew(key, base, words)?;
+        self.item.renew(key, words)?;
         self.filled = true;
         Ok(())
     }

@@ -1,11 +1,12 @@
 //! The items by place: for each page, an item or none at each index.
 ghost use Rattle.std.specs.Prelude.{◌≡◌, ◌<◌, true, false, [], length, slice_index_or, None, IfOk, OnOk, OnErr};
 ghost use Rattle.std.specs.Option.{option_copied, option_map};
-ghost use Rattle.mc_machine.specs.Item.{new_item, words_from};
+ghost use Rattle.mc_machine.specs.Item.{new_item};
 ghost use Rattle.mc_machine.specs.Items.{item_at, unlinked_in, with_item, with_moved_item, without_item};
 ghost use Rattle.mc_parts.specs.ItemsByPlace.{AreAlike, HasPlace, items_from, places_of};
+ghost use Rattle.mc_parts.specs.NewWords.{words_in};
 
-use crate::item::Item;
+use crate::item::{Item, NewWords};
 use crate::place::Place;
 use mc_pages::ChunkId;
 use std::alloc::{AllocError, Global};
@@ -49,20 +50,14 @@ impl ItemTable {
         self.pages[chunk.page as usize][chunk.index as usize].item()
     }
 
-    /// A new item comes into the chunk, in the place of what was there: a key with so many words, base, base + 1 and so on,
-    /// modulo 2^64.
-    pub fn store(
-        &mut self,
-        chunk: ChunkId,
-        key: u64,
-        base: u64,
-        words: u64,
-    ) -> Result<(), AllocError>
-        ensures entries { OnOk result (self.new ≡ with_item self.old chunk (new_item key (words_from base words))) }
+    /// A new item comes into the chunk, in the place of what was there: a key with these words. They are written where the
+    /// chunk's last item had its words, so that no memory is taken where there is room for them.
+    pub fn store(&mut self, chunk: ChunkId, key: u64, words: NewWords) -> Result<(), AllocError>
+        ensures entries { OnOk result (self.new ≡ with_item self.old chunk (new_item key (words_in words.entry))) }
         ensures unchanged { OnErr result (self.new ≡ self.old) }
     {
         reach(self.alloc, &mut self.pages, chunk)?;
-        self.pages[chunk.page as usize][chunk.index as usize].fill(key, base, words)?;
+        self.pages[chunk.page as usize][chunk.index as usize].fill(key, words)?;
         Ok(())
     }
 

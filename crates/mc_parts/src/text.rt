@@ -1,7 +1,7 @@
 //! The lines that a run writes, put together in memory before any of them is written.
 //!
 //! Where memory runs out in a line, the text that stood there stays, and some of the line may follow it.
-ghost use Rattle.std.specs.Prelude.{◌≡◌, ◌++◌, [], ◌∷◌, codes, decimal, OnOk};
+ghost use Rattle.std.specs.Prelude.{◌≡◌, ◌≤◌, ◌+◌, ◌++◌, [], ◌∷◌, codes, decimal, length, vec_len, vec_capacity, IsOk, OnOk};
 ghost use Rattle.std.specs.Io.{StartsWith};
 ghost use Rattle.mc_watch.specs.Texts.{line};
 ghost use Rattle.mc_machine.specs.Texts.{key_line, spaced, turn_line, word_of, words_line};
@@ -14,6 +14,9 @@ use std::alloc::AllocError;
 fn push_number(text: &mut Vec<u8>, number: u64) -> Result<(), AllocError>
     ensures number { OnOk result (text.new.items ≡ text.old.items ++ decimal number) }
     ensures kept { StartsWith text.new.items text.old.items }
+    ensures len { OnOk result (vec_len text.new ≤ vec_len text.old + 40) }
+    ensures room { vec_capacity text.old ≤ vec_capacity text.new }
+    ensures succeeds { vec_len text.old + 40 ≤ vec_capacity text.old → IsOk result }
 {
     let mut digits = Buffer::new();
     text.extend_from_slice(digits.format(number).as_bytes())?;
@@ -116,10 +119,11 @@ pub fn push_window_line(
     push_line(text, answer)
 }
 
-/// Adds the answer about a key.
+/// Adds the answer about a key. Where there is room for 43 bytes beside the answer's, it doesn't fail.
 pub fn push_key_line(text: &mut Vec<u8>, answer: &[u8], key: u64) -> Result<(), AllocError>
     ensures line { OnOk result (text.new.items ≡ text.old.items ++ key_line answer.now key) }
     ensures kept { StartsWith text.new.items text.old.items }
+    ensures succeeds { vec_len text.old + length answer.now + 43 ≤ vec_capacity text.old → IsOk result }
 {
     text.extend_from_slice(answer)?;
     text.extend_from_slice(b" ")?;

@@ -6,7 +6,7 @@ ghost use Rattle.mc_arena_trials.specs.Hands.{AreHandsOf};
 
 use super::FOUR_CLASSES;
 use mc_classes::{ClassId, PageId};
-use mc_pages::{ChunkId, Grow, Owner};
+use mc_pages::{ChunkId, Grow, Numbers, Owner};
 use mc_words::{Arena, Final, Hand, NewError, SlabsHeld};
 use std::alloc::Global;
 
@@ -152,6 +152,45 @@ pub fn first_free(arena: &Arena, hand: &Hand, held: &SlabsHeld, class: ClassId) 
         return None;
     }
     held.slabs().first_free(class)
+}
+
+/// The numbers of a class. None where there is no such class.
+fn numbers(arena: &Arena, hand: &Hand, held: &SlabsHeld, class: ClassId) -> Option<Numbers>
+    requires arena { IsHandOf arena.now hand.now }
+    requires held { (view hand.now).slabs ≡ Some held.now.shared }
+{
+    if !is_class(arena, class) {
+        return None;
+    }
+    Some(held.slabs().numbers(class))
+}
+
+/// The numbers of a class after a sweep around one of its chunks, which is out, and an eviction that was counted; and after
+/// another sweep, once the chunk was given up. None where there is no such class, or none of its chunks is free.
+pub fn sweep_around(
+    arena: &Arena,
+    hand: &mut Hand,
+    held: &mut SlabsHeld,
+    class: ClassId,
+) -> Option<(Numbers, Numbers)>
+    requires arena { IsHandOf arena.now hand.old }
+    requires held { (view hand.old).slabs ≡ Some held.old.shared }
+    ensures arena { IsHandOf arena.now hand.new }
+    ensures held { (view hand.new).slabs ≡ Some held.new.shared }
+{
+    if !is_class(arena, class) || hand.refs() > 255 {
+        return None;
+    }
+    let Ok(Some(fresh)) = arena.pop(hand, held, class) else {
+        return None;
+    };
+    arena.sweep(hand, held, class);
+    arena.evicted(hand, held, class);
+    let around = numbers(arena, hand, held, class);
+    arena.discard(hand, fresh);
+    arena.sweep(hand, held, class);
+    let behind = numbers(arena, hand, held, class);
+    Some((around?, behind?))
 }
 
 /// Gives the lock of the slabs back. False where a page is half cut: then the lock stays held.

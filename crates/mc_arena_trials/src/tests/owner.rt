@@ -1,8 +1,8 @@
 //! The owner's pass: pages that are granted and cut, and chunks that go out and come back.
-use super::calls::{first_free, give, go_round, grow_page, is_worn};
+use super::calls::{first_free, give, go_round, grow_page, is_worn, sweep_around};
 use super::{FOUR_CLASSES, assert_equal, assert_same};
 use mc_classes::{Config, ConfigError};
-use mc_pages::{ChunkId, Grow};
+use mc_pages::{ChunkId, Grow, Numbers};
 use mc_words::{Arena, NewError};
 use std::test::Fail;
 
@@ -30,6 +30,33 @@ fn headers_tell_issue_tag_and_count(rt: HostRuntime) -> Result<(), Fail> {
         assert_same(&rt, round.discarded, Some(discarded), "discard");
         assert_same(&rt, round.back, Some(back), "put_back");
     }
+    assert_same(&rt, give(&arena, &mut hand, held), true, "give_slabs");
+    Ok(())
+}
+
+/// A class of one page, with so many free chunks and one eviction.
+fn one_page(free: u64) -> Numbers {
+    Numbers {
+        pages: 1,
+        free,
+        evictions: 1,
+    }
+}
+
+#[test]
+fn a_sweep_puts_back_what_is_dead(rt: HostRuntime) -> Result<(), Fail> {
+    let (arena, mut hands) = Arena::new(rt.alloc(), &FOUR_CLASSES, 1)?;
+    let mut hand = hands.remove(0);
+    let Ok(mut held) = arena.try_slabs(&mut hand) else {
+        return Err(Fail::new("the lock is free"));
+    };
+    let grown = grow_page(&arena, &mut hand, &mut held, 1);
+    assert_equal(&rt, grown, Some(Ok(0)), "grow");
+    let first = is_worn(&arena, &mut hand, &mut held, 1);
+    let second = is_worn(&arena, &mut hand, &mut held, 1);
+    assert_equal(&rt, (first, second), (Some(false), Some(false)), "pop");
+    let found = sweep_around(&arena, &mut hand, &mut held, 1);
+    assert_equal(&rt, found, Some((one_page(20), one_page(21))), "sweep");
     assert_same(&rt, give(&arena, &mut hand, held), true, "give_slabs");
     Ok(())
 }

@@ -1,35 +1,39 @@
-//! Pages that begin to move: as a script asks, as an eviction asks, and as the automover decides at a window's end.
-ghost use Rattle.std.specs.Prelude.{◌≡◌, ◌≤◌, ◌++◌, codes, IfOk, OnErr, OnOk, None, Contains};
-ghost use Rattle.std.specs.Io.{StartsWith};
-ghost use Rattle.mc_pages.specs.Answer.{answer_of};
-ghost use Rattle.mc_watch.specs.Texts.{line};
+//! Pages that begin to move: as is asked, as an eviction asks, and as the automover decides at a window's end.
+ghost use Rattle.std.specs.Prelude.{◌≡◌, ◌≤◌, IfOk, OnErr, OnOk, None, Some, Contains};
+ghost use Rattle.mc_pages.specs.Answer.{answer_of, MayAnswer};
 ghost use Rattle.mc_machine.specs.Automove.{begun, decision, with_asked_page, with_window};
-ghost use Rattle.mc_machine.specs.Lines.{acted, answer_name, moved, reassigned};
+ghost use Rattle.mc_machine.specs.Lines.{acted};
 ghost use Rattle.mc_machine.specs.Machine.{all_swept, with_mode};
+ghost use Rattle.mc_keeper.specs.Calls.{acted_answer, told_answer};
 ghost use Rattle.mc_keeper.specs.Stages.{reassign_stages, window_stages};
 
 use super::Keeper;
 use mc_classes::ClassId;
 use mc_pages::Reassign;
-use mc_parts::{push_answer, push_window_line};
 use mc_watch::Decision;
 use std::alloc::AllocError;
 
+/// What became of a decision of the automover.
+#[derive(Clone, Copy, PartialEq, Eq)]
+pub struct Acted {
+    /// From which class a page was to go to which, or to the pool.
+    pub decision: Decision,
+    /// Whether a page of that class began to move, or why not.
+    pub answer: Result<(), Reassign>,
+}
+
 impl Keeper {
-    /// Begins to move a page, or answers why not.
-    pub(super) fn reassign(
-        &mut self,
-        src: Option<u64>,
-        dst: u64,
-        text: &mut Vec<u8>,
-    ) -> Result<(), AllocError>
-        ensures reply { OnOk result (text.new.items ≡ text.old.items ++ (reassigned self.old src dst (answer_of self.old.slabs src dst)).reply) }
-        ensures after { OnOk result (self.new ≡ (reassigned self.old src dst (answer_of self.old.slabs src dst)).machine) }
-        ensures refused { OnErr result (Contains (reassign_stages self.old src dst) self.new) }
-        ensures kept { StartsWith text.new.items text.old.items }
+    /// Begins to move the first page of the class `src` to another class, or to the pool where `dst` is 0. Where no source is named, the
+    /// first class behind the cursor gives it that has more than one page. Turns of the mover take it there. (slabs.c's
+    /// `do_slabs_reassign`; the order of the tests is own.)
+    ///
+    /// Where it is refused, all is as before; memory can run out only where the answer would be `Ok`.
+    pub fn reassign(&mut self, src: Option<u64>, dst: u64) -> Result<(), Reassign>
+        ensures answer { MayAnswer (answer_of self.old.slabs src dst) result }
+        ensures after { OnOk result (self.new ≡ begun self.old src dst (answer_of self.old.slabs src dst)) }
+        ensures refused { OnErr result (self.new ≡ self.old) }
     {
-        let answer = self.begin(src, dst)?;
-        push_answer(text, answer)
+        self.slabs.begin_move(src, dst)
     }
 
     /// Asks for a page for this class, from any other. The answer doesn't matter.
@@ -37,33 +41,32 @@ impl Keeper {
         ensures after { OnOk result (self.new ≡ with_asked_page self.old class) }
         ensures refused { OnErr result (self.new ≡ self.old) }
     {
-        self.begin(None, class)?;
+        let _answer = self.begin(None, class)?;
         Ok(())
     }
 
-    /// Sets the automover's mode.
-    pub(super) fn set_automove(&mut self, mode: u64, text: &mut Vec<u8>) -> Result<(), AllocError>
+    /// Sets the automover's mode: 0 is off, 1 acts on windows, 2 on evictions. It takes no memory. (`slabs automove`)
+    pub fn set_automove(&mut self, mode: u64)
         requires { mode ≤ 2 }
-        ensures reply { OnOk result (text.new.items ≡ text.old.items ++ line (codes "OK")) }
         ensures after { self.new ≡ record self.old { slabs = with_mode self.old.slabs mode } }
-        ensures kept { StartsWith text.new.items text.old.items }
     {
         self.slabs.set_automove(mode);
-        push_answer(text, b"OK")
     }
 
-    /// Ends a window: the dead of all classes are put back, and the decider learns the numbers. In mode 1 its
-    /// decision is acted on.
-    pub(super) fn window(&mut self, text: &mut Vec<u8>) -> Result<(), AllocError>
-        ensures reply { OnOk result (text.new.items ≡ text.old.items ++ (acted (with_window (all_swept self.old)) (decision (with_window (all_swept self.old)))).reply) }
+    /// Ends a window, which is as long as the caller likes: the dead of all classes are put back, and the automover learns each
+    /// class's evictions, pages and free chunks. In mode 1 a page begins to move as it decides then, if it does, and what became
+    /// of that is told. (slabs.c's automover of 1.4, which judges three windows; to the pool after 1.6's page mover.)
+    ///
+    /// Where memory runs out, what was done before stays: the dead that were put back, and then the window.
+    pub fn window(&mut self) -> Result<Option<Acted>, AllocError>
+        ensures answer { IfOk result (λ answer. answer ≡ acted_answer (with_window (all_swept self.old)) (decision (with_window (all_swept self.old)))) }
         ensures after { OnOk result (self.new ≡ (acted (with_window (all_swept self.old)) (decision (with_window (all_swept self.old)))).machine) }
         ensures refused { OnErr result (Contains (window_stages self.old) self.new) }
-        ensures kept { StartsWith text.new.items text.old.items }
     {
-        self.sweep_all();
+        self.sweep();
         match self.decide()? {
-            Some(decision) => self.act(decision, text),
-            None => push_answer(text, b"WINDOW none"),
+            Some(decision) => self.act(decision),
+            None => Ok(None),
         }
     }
 
@@ -85,30 +88,33 @@ impl Keeper {
         }
     }
 
-    /// Begins to move a page as it was decided, or answers why not.
-    fn act(&mut self, decision: Decision, text: &mut Vec<u8>) -> Result<(), AllocError>
-        ensures reply { OnOk result (text.new.items ≡ text.old.items ++ (moved self.old decision.src decision.dst (answer_of self.old.slabs (Some decision.src) decision.dst)).reply) }
-        ensures after { OnOk result (self.new ≡ (moved self.old decision.src decision.dst (answer_of self.old.slabs (Some decision.src) decision.dst)).machine) }
-        ensures refused { OnErr result (Contains (reassign_stages self.old (Some decision.src) decision.dst) self.new) }
-        ensures kept { StartsWith text.new.items text.old.items }
+    /// Begins to move a page as it was decided, and tells what became of that.
+    fn act(&mut self, decision: Decision) -> Result<Option<Acted>, AllocError>
+        ensures answer { IfOk result (λ answer. answer ≡ acted_answer self.old (Some decision)) }
+        ensures after { OnOk result (self.new ≡ (acted self.old (Some decision)).machine) }
+        ensures refused { OnErr result (self.new ≡ self.old) }
     {
         let Decision { src, dst } = decision;
         let answer = self.begin(Some(src), dst)?;
-        push_window_line(text, src, dst, answer)
+        Ok(Some(Acted { decision, answer }))
     }
 
-    /// Begins to move a page, or doesn't, and gives the name of the answer.
-    fn begin(&mut self, src: Option<u64>, dst: u64) -> Result<&'static [u8], AllocError>
-        ensures answer { IfOk result (λ name. name.now ≡ answer_name (answer_of self.old.slabs src dst)) }
+    /// Begins to move a page, or doesn't, and gives the answer.
+    pub(super) fn begin(
+        &mut self,
+        src: Option<u64>,
+        dst: u64,
+    ) -> Result<Result<(), Reassign>, AllocError>
+        ensures answer { IfOk result (λ answer. answer ≡ told_answer (answer_of self.old.slabs src dst)) }
         ensures after { OnOk result (self.new ≡ begun self.old src dst (answer_of self.old.slabs src dst)) }
         ensures refused { OnErr result (self.new ≡ self.old) }
     {
-        match self.slabs.begin_move(src, dst) {
-            Ok(()) => Ok(b"OK"),
-            Err(Reassign::Busy) => Ok(b"BUSY"),
-            Err(Reassign::Same) => Ok(b"SAME"),
-            Err(Reassign::BadClass) => Ok(b"BADCLASS"),
-            Err(Reassign::NoSpare) => Ok(b"NOSPARE"),
+        match self.reassign(src, dst) {
+            Ok(()) => Ok(Ok(())),
+            Err(Reassign::Busy) => Ok(Err(Reassign::Busy)),
+            Err(Reassign::Same) => Ok(Err(Reassign::Same)),
+            Err(Reassign::BadClass) => Ok(Err(Reassign::BadClass)),
+            Err(Reassign::NoSpare) => Ok(Err(Reassign::NoSpare)),
             Err(Reassign::NoMemory) => Err(AllocError),
         }
     }

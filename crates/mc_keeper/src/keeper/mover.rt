@@ -7,7 +7,7 @@ ghost use Rattle.mc_pages.specs.Moves.{CanFinish, is_held_up};
 ghost use Rattle.mc_machine.specs.declared.turn.Counts.{Counts};
 ghost use Rattle.mc_machine.specs.Items.{item_at};
 ghost use Rattle.mc_machine.specs.Machine.{is_dead, is_linked_unheld, swept};
-ghost use Rattle.mc_machine.specs.Mover.{AreAtMost, after_turns, is_at_end, looked_at, saved, target, turned, with_chunk, with_chunks, with_cleared, with_end, with_finish, with_saved};
+ghost use Rattle.mc_machine.specs.Mover.{AreAtMost, after_turns, is_at_end, looked_at, no_counts, saved, target, turned, with_chunk, with_chunks, with_cleared, with_end, with_finish, with_saved};
 ghost use Rattle.mc_keeper.specs.Stages.{look_stages, turn_stages, turns_stages, with_source_swept};
 
 use super::Keeper;
@@ -23,8 +23,31 @@ use std::alloc::AllocError;
 const MAX_TURNS: u64 = 1_000_000;
 
 impl Keeper {
-    /// Does so many turns, or fewer where one finds no move or ends one. Says what they did, and how the last one ended.
-    pub(super) fn turns(&mut self, count: u64) -> Result<(Ending, Counts), Stop>
+    /// One turn of the mover: looks at up to `bulk` chunks of the page on the move, and at the page's end begins anew or ends the move.
+    /// Tells how it ended and how many chunks it cleared, of how many it rescued and evicted the item, and how many somebody holds.
+    /// (slabs.c's `slab_rebalance_move` and `slab_rebalance_finish`; that a rescue keeps an item's age is own.)
+    ///
+    /// A keeper does 1,000,000 turns and no more: then it answers `Turns`, and all is as before (own). Where memory runs out, the turn is
+    /// begun, and each chunk up to one was looked at, the dead of whose class were put back.
+    pub fn turn(&mut self) -> Result<(Ending, Counts), Stop>
+        ensures done { IfOk result (λ done. turned self.old no_counts ≡ record { machine = self.new; counts = done.1; ending = done.0 }) }
+        ensures some { OnOk result (self.old.turns < 1000000) }
+        ensures stopped { result ≡ Err Stop.Turns → (1000000 ≤ self.old.turns) × (self.new ≡ self.old) }
+        ensures refused { result ≡ Err Stop.NoMemory → Contains (turn_stages self.old no_counts) self.new }
+    {
+        if self.turns >= MAX_TURNS {
+            return Err(Stop::Turns);
+        }
+        let mut counts = Counts::new();
+        match self.turn_on(&mut counts) {
+            Ok(ending) => Ok((ending, counts)),
+            Err(_) => Err(Stop::NoMemory),
+        }
+    }
+
+    /// Does so many turns, or fewer where one finds no move or ends one. Tells what they did in all, and how the last one ended; none of
+    /// 0 turns, which end idle. Where the keeper has no turns left for one of them, those before stay done.
+    pub fn turns(&mut self, count: u64) -> Result<(Ending, Counts), Stop>
         requires { count ≤ 1000000 }
         ensures done { IfOk result (λ done. after_turns self.old count ≡ Some (record { machine = self.new; counts = done.1; ending = done.0 })) }
         ensures stopped { result ≡ Err Stop.Turns → after_turns self.old count ≡ None }
@@ -36,7 +59,7 @@ impl Keeper {
             if self.turns >= MAX_TURNS {
                 return Err(Stop::Turns);
             }
-            ending = self.turn(&mut counts)?;
+            ending = self.turn_on(&mut counts)?;
             if ending != Ending::Went {
                 return Ok((ending, counts));
             }
@@ -45,7 +68,7 @@ impl Keeper {
     }
 
     /// One turn, which goes on counting.
-    fn turn(&mut self, counts: &mut Counts) -> Result<Ending, AllocError>
+    fn turn_on(&mut self, counts: &mut Counts) -> Result<Ending, AllocError>
         requires turns { self.old.turns < 1000000 }
         requires counts { AreAtMost (256 * 999999) counts.old }
         ensures refused { OnErr result (Contains (turn_stages self.old counts.old) self.new) }
@@ -198,7 +221,7 @@ impl Keeper {
         ensures saved { IfOk result (λ found. saved self.old class chunk ≡ record { machine = self.new; found = found }) }
         ensures clears { IfOk result (λ found. is_held_up found ≡ false → is_cleared self.new.slabs class chunk ≡ true) }
     {
-        self.sweep(class);
+        self.sweep_class(class);
         match self.target(class, chunk.page) {
             Some(new) => {
                 self.rescue(chunk, new)?;

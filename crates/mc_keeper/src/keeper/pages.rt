@@ -22,7 +22,7 @@ impl Keeper {
         if self.has_free(class) {
             return Ok(());
         }
-        self.sweep(class);
+        self.sweep_class(class);
         if self.has_free(class) {
             return Ok(());
         }

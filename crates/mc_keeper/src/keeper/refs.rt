@@ -1,115 +1,142 @@
 //! What workers do with items that are there: they read, hold, give back and touch them.
-ghost use Rattle.std.specs.Prelude.{◌≡◌, ◌<◌, ◌++◌, OnErr, OnOk, IfSome, Some, length, position, reverse, slice_index_or};
-ghost use Rattle.std.specs.Io.{StartsWith};
-ghost use Rattle.std.specs.Option.{option_map};
+ghost use Rattle.std.specs.Prelude.{◌≡◌, ◌<◌, true, false, IfOk, IfSome, OnErr, OnOk, Some, length, position, reverse, slice_index_or};
+ghost use Rattle.std.specs.Borrow.{sem};
+ghost use Rattle.std.specs.Option.{is_some, option_copied, option_map};
 ghost use Rattle.mc_pages.specs.declared.ids.ChunkId.{ChunkId};
 ghost use Rattle.mc_pages.specs.ClassState.{is_chunk};
-ghost use Rattle.mc_machine.specs.Holds.{held_by};
-ghost use Rattle.mc_machine.specs.Items.{has_key, linked_chunk};
-ghost use Rattle.mc_machine.specs.Lines.{looked_up, kept, dropped, last_hold, made_youngest};
+ghost use Rattle.mc_machine.specs.Holds.{held_by, is_full, without_hold};
+ghost use Rattle.mc_machine.specs.Items.{has_key, item_at, linked_chunk};
+ghost use Rattle.mc_machine.specs.Lines.{dropped, kept, last_hold, made_youngest};
+ghost use Rattle.mc_keeper.specs.Calls.{held_words, hold_answer, words_of, EndsAs, MayHold};
 
 use super::Keeper;
 use mc_pages::ChunkId;
-use mc_parts::{count_unheld, push_key_line, push_words_line};
-use std::alloc::AllocError;
+use mc_parts::count_unheld;
+
+/// The worker has as many holds as it may have, 255 (own; memcached's references have 16 bits).
+#[derive(Clone, Copy, Debug, PartialEq, Eq)]
+pub struct TooManyRefs;
+
+/// Why a worker doesn't hold an item.
+#[derive(Clone, Copy, Debug, PartialEq, Eq)]
+pub enum HoldError {
+    /// It has as many holds as it may have, 255.
+    TooManyRefs,
+    /// Memory ran out.
+    NoMemory,
+}
 
 impl Keeper {
-    /// Tells the words of the key's item.
-    pub(super) fn get(&self, worker: u64, key: u64, text: &mut Vec<u8>) -> Result<(), AllocError>
+    /// The words of the key's item, 8 bytes each, lent. None where the key has no item. A worker with 255 holds is refused
+    /// (own, as a reader of the arena holds what it reads). It takes no memory. (items.c's `do_item_get`, without its count)
+    pub fn get(&self, worker: u64, key: u64) -> Result<Option<&[u64]>, TooManyRefs>
         requires { worker < 64 }
-        ensures reply { OnOk result (text.new.items ≡ text.old.items ++ (looked_up self.now worker key).reply) }
-        ensures kept { StartsWith text.new.items text.old.items }
+        ensures words { IfOk result (λ words. option_copied words ≡ words_of self.now key) }
+        ensures free { OnOk result (is_full self.now.holds worker ≡ false) }
+        ensures full { OnErr result (is_full self.now.holds worker ≡ true) }
     {
         if self.holds.is_full(worker) {
-            return push_key_line(text, b"TOO_MANY_REFS", key);
+            return Err(TooManyRefs);
         }
-        match self.index.get(key).and_then(|chunk| self.items.get(chunk)) {
-            Some(item) => push_words_line(text, b"VALUE", key, item.words()),
-            None => push_key_line(text, b"NOT_FOUND", key),
+        match self.index.get(key) {
+            Some(chunk) => Ok(self.words_at(chunk)),
+            None => Ok(None),
         }
     }
 
-    /// The worker holds the key's item.
-    pub(super) fn hold(
-        &mut self,
-        worker: u64,
-        key: u64,
-        text: &mut Vec<u8>,
-    ) -> Result<(), AllocError>
+    /// The worker holds the key's item, and is told whether the key has one. What is held stays as it is until it is dropped,
+    /// whatever is done to its key, and no set and no move takes its chunk. (items.c's `item_get`, which counts a reference)
+    ///
+    /// Where it is refused, all is as before; memory can run out only where there is an item.
+    pub fn hold(&mut self, worker: u64, key: u64) -> Result<bool, HoldError>
         requires { worker < 64 }
-        ensures reply { OnOk result (text.new.items ≡ text.old.items ++ (kept self.old worker key).reply) }
+        ensures answer { MayHold (hold_answer self.old worker key) result }
         ensures after { OnOk result (self.new ≡ (kept self.old worker key).machine) }
         ensures refused { OnErr result (self.new ≡ self.old) }
-        ensures kept { StartsWith text.new.items text.old.items }
     {
         if self.holds.is_full(worker) {
-            return push_key_line(text, b"TOO_MANY_REFS", key);
+            return Err(HoldError::TooManyRefs);
         }
-        match self.index.get(key) {
-            Some(chunk) => {
-                push_key_line(text, b"HELD", key)?;
-                self.holds.take(worker, chunk)?;
-                Ok(())
-            }
-            None => push_key_line(text, b"NOT_FOUND", key),
-        }
-    }
-
-    /// The worker gives back the hold of an item of the key that it took last, and tells the item's words.
-    pub(super) fn drop(
-        &mut self,
-        worker: u64,
-        key: u64,
-        text: &mut Vec<u8>,
-    ) -> Result<(), AllocError>
-        requires { worker < 64 }
-        ensures reply { OnOk result (text.new.items ≡ text.old.items ++ (dropped self.old worker key (last_hold self.old worker key)).reply) }
-        ensures after { OnOk result (self.new ≡ (dropped self.old worker key (last_hold self.old worker key)).machine) }
-        ensures refused { OnErr result (self.new ≡ self.old) }
-        ensures kept { StartsWith text.new.items text.old.items }
-    {
-        let Some((chunk, place)) = self.last_hold(worker, key) else {
-            return push_key_line(text, b"NOT_HELD", key);
+        let Some(chunk) = self.index.get(key) else {
+            return Ok(false);
         };
-        match self.items.get(chunk) {
-            Some(item) => {
-                push_words_line(text, b"DROPPED", key, item.words())?;
-                let is_linked = item.is_linked();
-                self.holds.give_back(worker, chunk, place);
-                if !is_linked {
-                    count_unheld(
-                        &mut self.dead,
-                        &mut self.last_dead,
-                        &self.holds,
-                        &self.slabs,
-                        chunk,
-                    );
-                }
-                Ok(())
-            }
-            None => push_key_line(text, b"NOT_HELD", key),
+        match self.holds.take(worker, chunk) {
+            Ok(()) => Ok(true),
+            Err(_) => Err(HoldError::NoMemory),
         }
     }
 
-    /// The key's item becomes the youngest of its class.
-    pub(super) fn touch(&mut self, key: u64, text: &mut Vec<u8>) -> Result<(), AllocError>
-        ensures reply { OnOk result (text.new.items ≡ text.old.items ++ (made_youngest self.old key (linked_chunk self.old.items key)).reply) }
-        ensures after { OnOk result (self.new ≡ (made_youngest self.old key (linked_chunk self.old.items key)).machine) }
-        ensures refused { OnErr result (self.new ≡ self.old) }
-        ensures kept { StartsWith text.new.items text.old.items }
+    /// The words of the item that the worker's last hold of the key is of, lent: of that of its holds of items of this key which it
+    /// took last, be it the item that the key leads to now or not. None where it holds none. It takes no memory. (own)
+    pub fn held_words(&self, worker: u64, key: u64) -> Option<&[u64]>
+        requires { worker < 64 }
+        ensures words { option_copied result ≡ held_words self.now worker key }
+    {
+        let (chunk, _) = self.last_hold(worker, key)?;
+        self.words_at(chunk)
+    }
+
+    /// The worker gives back its last hold of the key, that of its holds of items of this key which it took last, and is lent the words of
+    /// the item that it was of. None where it holds none, and then all is as before. A sweep puts the item's chunk back once
+    /// nobody holds it and no key leads to it. It takes no memory. (items.c's `do_item_remove`; the sweep is own.)
+    pub fn drop(&mut self, worker: u64, key: u64) -> Option<&[u64]>
+        requires { worker < 64 }
+        ensures* after { sem 𝓛 (EndsAs self.entry (dropped self.old worker key (last_hold self.old worker key)).machine) }
+        ensures words { option_copied result ≡ held_words self.old worker key }
+    {
+        let (chunk, place) = self.last_hold(worker, key)?;
+        let is_linked = self.items.get(chunk)?.is_linked();
+        self.give_back(worker, chunk, place, is_linked);
+        self.words_at(chunk)
+    }
+
+    /// The key's item becomes the youngest of its class, which is evicted last. Says whether the key has one. It takes no memory.
+    /// (items.c's `do_item_update`, without its 60 seconds.) The worker takes no part.
+    pub fn touch(&mut self, _worker: u64, key: u64) -> bool
+        ensures had { result ≡ is_some (linked_chunk self.old.items key) }
+        ensures after { self.new ≡ (made_youngest self.old key (linked_chunk self.old.items key)).machine }
     {
         match self.index.get(key) {
             Some(chunk) => {
-                push_key_line(text, b"TOUCHED", key)?;
                 self.slabs.touch(chunk);
-                Ok(())
+                true
             }
-            None => push_key_line(text, b"NOT_FOUND", key),
+            None => false,
+        }
+    }
+
+    /// The worker gives back its hold of a chunk, which stands at this place among its holds. Whether a key leads to the
+    /// chunk's item is told.
+    pub(super) fn give_back(&mut self, worker: u64, chunk: ChunkId, place: usize, is_linked: bool)
+        requires worker { worker < 64 }
+        requires first { position (λ c. is_chunk c chunk) (held_by self.old.holds worker) ≡ Some place }
+        requires item { option_map (λ item. item.linked) (item_at self.old.items chunk) ≡ Some is_linked }
+        ensures given_back { self.new ≡ record self.old { holds = without_hold self.old.holds worker chunk } }
+    {
+        self.holds.give_back(worker, chunk, place);
+        if !is_linked {
+            count_unheld(
+                &mut self.dead,
+                &mut self.last_dead,
+                &self.holds,
+                &self.slabs,
+                chunk,
+            );
+        }
+    }
+
+    /// The words of the chunk's item.
+    fn words_at(&self, chunk: ChunkId) -> Option<&[u64]>
+        ensures words { option_copied result ≡ option_map (λ item. item.words) (item_at self.now.items chunk) }
+    {
+        match self.items.get(chunk) {
+            Some(item) => Some(item.words()),
+            None => None,
         }
     }
 
     /// The chunk of the worker's hold of an item of the key that it took last, and where that stands among the worker's holds.
-    fn last_hold(&self, worker: u64, key: u64) -> Option<(ChunkId, usize)>
+    pub(super) fn last_hold(&self, worker: u64, key: u64) -> Option<(ChunkId, usize)>
         requires { worker < 64 }
         ensures hold { option_map (λ hold. hold.0) result ≡ last_hold self.now worker key }
         ensures first { IfSome result (λ hold. position (λ c. is_chunk c hold.0) (held_by self.now.holds worker) ≡ Some hold.1) }

@@ -1,19 +1,36 @@
-//! Commands, one after another: each is done, and the bytes of its reply are put together.
-ghost use Rattle.std.specs.Prelude.{◌≡◌, ◌≤◌, ◌++◌, None, Err, OnErr, OnOk, Contains};
+//! Commands, one after another: each is done by its typed call, and the bytes of its reply are put together.
+ghost use Rattle.std.specs.Prelude.{◌≡◌, ◌≤◌, ◌<◌, ◌++◌, codes, None, Some, Err, OnErr, OnOk, Contains};
 ghost use Rattle.std.specs.Io.{StartsWith};
 ghost use Rattle.mc_classes.specs.Classes.{class_of};
+ghost use Rattle.mc_pages.specs.Answer.{answer_of};
 ghost use Rattle.mc_script.specs.Command.{IsValid};
+ghost use Rattle.mc_watch.specs.Texts.{line};
+ghost use Rattle.mc_machine.specs.Automove.{decision, with_window};
 ghost use Rattle.mc_machine.specs.Item.{item_bytes, words_from};
 ghost use Rattle.mc_machine.specs.Items.{linked_chunk};
-ghost use Rattle.mc_machine.specs.Lines.{IsServed, serve, set_in, deleted};
-ghost use Rattle.mc_keeper.specs.Stages.{set_stages, stages};
+ghost use Rattle.mc_machine.specs.Lines.{acted, deleted, dropped, general_text_of, kept, last_hold, looked_up, made_youngest, reassigned, serve, set_in, slabs_text_of, IsServed};
+ghost use Rattle.mc_machine.specs.Machine.{all_swept, with_mode};
+ghost use Rattle.mc_keeper.specs.Replies.{stored_name, told_name};
+ghost use Rattle.mc_keeper.specs.Stages.{reassign_stages, set_stages, stages, window_stages};
 
 use super::Keeper;
-use mc_parts::{push_key_line, push_turn_line};
+use super::refs::{HoldError, TooManyRefs};
+use super::store::Stored;
+use crate::reply::Reply;
+use mc_classes::{Failures, Fault};
+use mc_pages::Reassign;
+use mc_parts::{
+    NewWords, push_answer, push_key_line, push_turn_line, push_window_line, push_words_line,
+};
 use mc_script::Command;
+use mc_watch::{stats_general, stats_slabs};
 use std::alloc::AllocError;
 use std::marker::Brand;
-use std::sync::ledger::Blank;
+use std::mem;
+use std::sync::ledger::{Blank, Ledger};
+
+/// Room for the longest answer about a key: a word of at most 13 bytes, a space, the key, and the line's end.
+const KEY_LINE: usize = 64;
 
 /// Why a command wasn't done.
 #[derive(Clone, Copy, Debug, PartialEq, Eq)]
@@ -69,49 +86,261 @@ impl Keeper {
                 key,
                 words,
                 base,
-            } => self.set(key, words, base, text)?,
-            Command::Get { worker, key } => self.get(worker, key, text)?,
-            Command::Hold { worker, key } => self.hold(worker, key, text)?,
-            Command::Drop { worker, key } => self.drop(worker, key, text)?,
-            Command::Delete { worker: _, key } => self.delete(key, text)?,
-            Command::Touch { worker: _, key } => self.touch(key, text)?,
-            Command::Reassign { src, dst } => self.reassign(src, dst, text)?,
-            Command::Automove { mode } => self.set_automove(mode, text)?,
-            Command::Window => self.window(text)?,
+            } => self.serve_set(key, words, base, text)?,
+            Command::Get { worker, key } => self.serve_get(worker, key, text)?,
+            Command::Hold { worker, key } => self.serve_hold(worker, key, text)?,
+            Command::Drop { worker, key } => self.serve_drop(worker, key, text)?,
+            Command::Delete { worker, key } => self.serve_delete(worker, key, text)?,
+            Command::Touch { worker, key } => self.serve_touch(worker, key, text)?,
+            Command::Reassign { src, dst } => self.serve_reassign(src, dst, text)?,
+            Command::Automove { mode } => self.serve_automove(mode, text)?,
+            Command::Window => self.serve_window(text)?,
             Command::Turn { turns } => {
                 let (ending, counts) = self.turns(turns)?;
                 push_turn_line(text, ending, counts)?;
             }
-            Command::Stats => self.general_statistics::<Brand>(Blank::new(1), text)?,
-            Command::StatsSlabs => self.statistics::<Brand>(Blank::new(1), text)?,
+            Command::Stats => self.push_totals::<Brand>(Blank::new(1), text)?,
+            Command::StatsSlabs => self.serve_classes::<Brand>(Blank::new(1), text)?,
         }
         Ok(())
     }
 
     /// Stores so many words that count up from `base`, and answers whether there was room for them.
-    fn set(&mut self, key: u64, words: u64, base: u64, text: &mut Vec<u8>) -> Result<(), AllocError>
+    fn serve_set(
+        &mut self,
+        key: u64,
+        words: u64,
+        base: u64,
+        text: &mut Vec<u8>,
+    ) -> Result<(), AllocError>
         requires { words ≤ 4096 }
         ensures reply { OnOk result (text.new.items ≡ text.old.items ++ (set_in self.old (class_of self.old.table (item_bytes words)) key (words_from base words)).reply) }
         ensures after { OnOk result (self.new ≡ (set_in self.old (class_of self.old.table (item_bytes words)) key (words_from base words)).machine) }
         ensures refused { OnErr result (Contains (set_stages self.old (class_of self.old.table (item_bytes words)) key (words_from base words)) self.new) }
         ensures kept { StartsWith text.new.items text.old.items }
     {
-        match self.table.class_for(24 + 8 * words) {
-            Some(class) => {
-                let stored = self.store(class, key, base, words)?;
-                push_key_line(text, if stored { b"STORED" } else { b"NO_ROOM" }, key)
+        let words = NewWords::Counted { base, count: words };
+        let stored = self.set_words(key, words)?;
+        push_key_line(text, name_of_stored(stored), key)
+    }
+
+    /// Tells the words of the key's item.
+    fn serve_get(&self, worker: u64, key: u64, text: &mut Vec<u8>) -> Result<(), AllocError>
+        requires { worker < 64 }
+        ensures reply { OnOk result (text.new.items ≡ text.old.items ++ (looked_up self.now worker key).reply) }
+        ensures kept { StartsWith text.new.items text.old.items }
+    {
+        match self.get(worker, key) {
+            Ok(Some(words)) => push_words_line(text, b"VALUE", key, words),
+            Ok(None) => push_key_line(text, b"NOT_FOUND", key),
+            Err(TooManyRefs) => push_key_line(text, b"TOO_MANY_REFS", key),
+        }
+    }
+
+    /// The worker holds the key's item, once there is room to say so.
+    fn serve_hold(&mut self, worker: u64, key: u64, text: &mut Vec<u8>) -> Result<(), AllocError>
+        requires { worker < 64 }
+        ensures reply { OnOk result (text.new.items ≡ text.old.items ++ (kept self.old worker key).reply) }
+        ensures after { OnOk result (self.new ≡ (kept self.old worker key).machine) }
+        ensures refused { OnErr result (self.new ≡ self.old) }
+        ensures kept { StartsWith text.new.items text.old.items }
+    {
+        text.reserve(KEY_LINE)?;
+        let answer: &[u8] = match self.hold(worker, key) {
+            Ok(true) => b"HELD",
+            Ok(false) => b"NOT_FOUND",
+            Err(HoldError::TooManyRefs) => b"TOO_MANY_REFS",
+            Err(HoldError::NoMemory) => return Err(AllocError),
+        };
+        push_key_line(text, answer, key).unwrap();
+        Ok(())
+    }
+
+    /// Tells the words of the item that the worker's last hold of the key is of, and the worker gives it back.
+    fn serve_drop(&mut self, worker: u64, key: u64, text: &mut Vec<u8>) -> Result<(), AllocError>
+        requires { worker < 64 }
+        ensures reply { OnOk result (text.new.items ≡ text.old.items ++ (dropped self.old worker key (last_hold self.old worker key)).reply) }
+        ensures after { OnOk result (self.new ≡ (dropped self.old worker key (last_hold self.old worker key)).machine) }
+        ensures refused { OnErr result (self.new ≡ self.old) }
+        ensures kept { StartsWith text.new.items text.old.items }
+    {
+        let Some((chunk, place)) = self.last_hold(worker, key) else {
+            return push_key_line(text, b"NOT_HELD", key);
+        };
+        match self.items.get(chunk) {
+            Some(item) => {
+                push_words_line(text, b"DROPPED", key, item.words())?;
+                let is_linked = item.is_linked();
+                self.give_back(worker, chunk, place, is_linked);
+                Ok(())
             }
-            None => push_key_line(text, b"TOO_LARGE", key),
+            None => push_key_line(text, b"NOT_HELD", key),
         }
     }
 
     /// Unlinks the key's item, and answers whether it had one.
-    fn delete(&mut self, key: u64, text: &mut Vec<u8>) -> Result<(), AllocError>
+    fn serve_delete(&mut self, worker: u64, key: u64, text: &mut Vec<u8>) -> Result<(), AllocError>
         ensures reply { OnOk result (text.new.items ≡ text.old.items ++ (deleted self.old key (linked_chunk self.old.items key)).reply) }
         ensures after { self.new ≡ (deleted self.old key (linked_chunk self.old.items key)).machine }
         ensures kept { StartsWith text.new.items text.old.items }
     {
-        let had = self.unlink(key);
+        let had = self.delete(worker, key);
         push_key_line(text, if had { b"DELETED" } else { b"NOT_FOUND" }, key)
+    }
+
+    /// The key's item becomes the youngest of its class, once there is room to say so.
+    fn serve_touch(&mut self, worker: u64, key: u64, text: &mut Vec<u8>) -> Result<(), AllocError>
+        ensures reply { OnOk result (text.new.items ≡ text.old.items ++ (made_youngest self.old key (linked_chunk self.old.items key)).reply) }
+        ensures after { OnOk result (self.new ≡ (made_youngest self.old key (linked_chunk self.old.items key)).machine) }
+        ensures refused { OnErr result (self.new ≡ self.old) }
+        ensures kept { StartsWith text.new.items text.old.items }
+    {
+        text.reserve(KEY_LINE)?;
+        let had = self.touch(worker, key);
+        push_key_line(text, if had { b"TOUCHED" } else { b"NOT_FOUND" }, key).unwrap();
+        Ok(())
+    }
+
+    /// Begins to move a page, or answers why not.
+    fn serve_reassign(
+        &mut self,
+        src: Option<u64>,
+        dst: u64,
+        text: &mut Vec<u8>,
+    ) -> Result<(), AllocError>
+        ensures reply { OnOk result (text.new.items ≡ text.old.items ++ (reassigned self.old src dst (answer_of self.old.slabs src dst)).reply) }
+        ensures after { OnOk result (self.new ≡ (reassigned self.old src dst (answer_of self.old.slabs src dst)).machine) }
+        ensures refused { OnErr result (Contains (reassign_stages self.old src dst) self.new) }
+        ensures kept { StartsWith text.new.items text.old.items }
+    {
+        let answer = self.begin(src, dst)?;
+        push_answer(text, name_of_answer(answer))
+    }
+
+    /// Sets the automover's mode.
+    fn serve_automove(&mut self, mode: u64, text: &mut Vec<u8>) -> Result<(), AllocError>
+        requires { mode ≤ 2 }
+        ensures reply { OnOk result (text.new.items ≡ text.old.items ++ line (codes "OK")) }
+        ensures after { self.new ≡ record self.old { slabs = with_mode self.old.slabs mode } }
+        ensures kept { StartsWith text.new.items text.old.items }
+    {
+        self.set_automove(mode);
+        push_answer(text, b"OK")
+    }
+
+    /// Ends a window, and tells what became of the automover's decision.
+    fn serve_window(&mut self, text: &mut Vec<u8>) -> Result<(), AllocError>
+        ensures reply { OnOk result (text.new.items ≡ text.old.items ++ (acted (with_window (all_swept self.old)) (decision (with_window (all_swept self.old)))).reply) }
+        ensures after { OnOk result (self.new ≡ (acted (with_window (all_swept self.old)) (decision (with_window (all_swept self.old)))).machine) }
+        ensures refused { OnErr result (Contains (window_stages self.old) self.new) }
+        ensures kept { StartsWith text.new.items text.old.items }
+    {
+        match self.window()? {
+            Some(acted) => {
+                let name = name_of_answer(acted.answer);
+                push_window_line(text, acted.decision.src, acted.decision.dst, name)
+            }
+            None => push_answer(text, b"WINDOW none"),
+        }
+    }
+
+    /// Puts back the dead of all classes, and gives their statistics.
+    fn serve_classes<L: Ledger>(
+        &mut self,
+        refusals: Blank,
+        text: &mut Vec<u8>,
+    ) -> Result<(), AllocError>
+        requires name { refusals.name ≡ L.name }
+        requires parts { refusals.parts ≡ L.parts }
+        requires some { 0 < refusals.parts }
+        ensures reply { OnOk result (text.new.items ≡ text.old.items ++ slabs_text_of (all_swept self.old)) }
+        ensures after { self.new ≡ all_swept self.old }
+        ensures kept { StartsWith text.new.items text.old.items }
+    {
+        self.sweep();
+        self.push_classes::<L>(refusals, text)
+    }
+
+    /// Adds the statistics of the classes as they are now.
+    fn push_classes<L: Ledger>(&self, refusals: Blank, text: &mut Vec<u8>) -> Result<(), AllocError>
+        requires name { refusals.name ≡ L.name }
+        requires parts { refusals.parts ≡ L.parts }
+        requires some { 0 < refusals.parts }
+        ensures reply { OnOk result (text.new.items ≡ text.old.items ++ slabs_text_of self.now) }
+        ensures kept { StartsWith text.new.items text.old.items }
+    {
+        let counts = self.counts()?;
+        let malloced = self.slabs.totals().granted * self.table.page();
+        let mut reply = Reply::new(
+            mem::replace(text, Vec::new(self.alloc)),
+            Failures::<L>::new(refusals),
+        );
+        let written = stats_slabs(
+            &self.table,
+            &counts.pages,
+            &counts.free,
+            malloced,
+            &mut reply,
+        );
+        *text = reply.into_text();
+        match written {
+            Ok(()) => Ok(()),
+            Err(Fault) => Err(AllocError),
+        }
+    }
+
+    /// Adds the statistics of all classes together.
+    fn push_totals<L: Ledger>(&self, refusals: Blank, text: &mut Vec<u8>) -> Result<(), AllocError>
+        requires name { refusals.name ≡ L.name }
+        requires parts { refusals.parts ≡ L.parts }
+        requires some { 0 < refusals.parts }
+        ensures reply { OnOk result (text.new.items ≡ text.old.items ++ general_text_of self.now) }
+        ensures kept { StartsWith text.new.items text.old.items }
+    {
+        let totals = self.slabs.totals();
+        let running = self.slabs.moving().is_some();
+        let mut reply = Reply::new(
+            mem::replace(text, Vec::new(self.alloc)),
+            Failures::<L>::new(refusals),
+        );
+        let written = stats_general(
+            totals.pool,
+            running,
+            totals.moved,
+            totals.rescues,
+            totals.evictions_nomem,
+            totals.busy,
+            &mut reply,
+        );
+        *text = reply.into_text();
+        match written {
+            Ok(()) => Ok(()),
+            Err(Fault) => Err(AllocError),
+        }
+    }
+}
+
+/// The word for whether an item was stored.
+fn name_of_stored(stored: Stored) -> &'static [u8]
+    ensures name { result.now ≡ stored_name stored }
+{
+    match stored {
+        Stored::Yes => b"STORED",
+        Stored::TooLarge => b"TOO_LARGE",
+        Stored::NoRoom => b"NO_ROOM",
+    }
+}
+
+/// The word for whether a page began to move.
+fn name_of_answer(answer: Result<(), Reassign>) -> &'static [u8]
+    ensures name { result.now ≡ told_name answer }
+{
+    match answer {
+        Ok(()) => b"OK",
+        Err(Reassign::Busy) => b"BUSY",
+        Err(Reassign::Same) => b"SAME",
+        Err(Reassign::BadClass) => b"BADCLASS",
+        Err(Reassign::NoSpare) => b"NOSPARE",
+        Err(Reassign::NoMemory) => b"",
     }
 }

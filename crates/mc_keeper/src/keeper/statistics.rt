@@ -1,17 +1,13 @@
-//! The numbers of the classes, and the statistics that are told of them.
-ghost use Rattle.std.specs.Prelude.{◌≡◌, ◌<◌, ◌++◌, IfOk, OnOk};
-ghost use Rattle.std.specs.Io.{StartsWith};
+//! What the statistics tell, as numbers.
+ghost use Rattle.std.specs.Prelude.{◌≡◌, length, IfOk};
+ghost use Rattle.mc_pages.specs.ClassState.{numbers_of};
+ghost use Rattle.mc_pages.specs.SlabState.{IsClass, class_at, totals_of};
 ghost use Rattle.mc_machine.specs.Automove.{eviction_counts, free_counts, page_counts};
-ghost use Rattle.mc_machine.specs.Lines.{general_text_of, slabs_text_of};
-ghost use Rattle.mc_machine.specs.Machine.{all_swept};
 
 use super::Keeper;
-use crate::reply::Reply;
-use mc_classes::{Failures, Fault};
-use mc_watch::{stats_general, stats_slabs};
+use mc_classes::{ClassId, ClassTable};
+use mc_pages::{Moving, Numbers, Totals};
 use std::alloc::AllocError;
-use std::mem;
-use std::sync::ledger::{Blank, Ledger};
 
 /// Numbers of all classes, class 1 first.
 #[derive(Drop)]
@@ -25,87 +21,45 @@ pub(super) struct ClassCounts {
 }
 
 impl Keeper {
-    /// Puts back the dead of all classes, and gives their statistics.
-    pub(super) fn statistics<L: Ledger>(
-        &mut self,
-        refusals: Blank,
-        text: &mut Vec<u8>,
-    ) -> Result<(), AllocError>
-        requires name { refusals.name ≡ L.name }
-        requires parts { refusals.parts ≡ L.parts }
-        requires some { 0 < refusals.parts }
-        ensures reply { OnOk result (text.new.items ≡ text.old.items ++ slabs_text_of (all_swept self.old)) }
-        ensures after { self.new ≡ all_swept self.old }
-        ensures kept { StartsWith text.new.items text.old.items }
+    /// The size classes: chunk sizes and bytes of a page, chunks a page, and how many classes there are, which are numbered from
+    /// 1. With `numbers` that is all that `stats slabs` tells of a class: it has `pages * per_page` chunks, of which those that
+    /// aren't free are used.
+    pub fn table(&self) -> &ClassTable
+        ensures table { result.now ≡ self.now.table }
+        ensures classes { length self.now.slabs.classes ≡ length self.now.table.sizes }
     {
-        self.sweep_all();
-        self.push_statistics::<L>(refusals, text)
+        &self.table
     }
 
-    /// Adds the statistics of the classes as they are now.
-    fn push_statistics<L: Ledger>(
-        &self,
-        refusals: Blank,
-        text: &mut Vec<u8>,
-    ) -> Result<(), AllocError>
-        requires name { refusals.name ≡ L.name }
-        requires parts { refusals.parts ≡ L.parts }
-        requires some { 0 < refusals.parts }
-        ensures reply { OnOk result (text.new.items ≡ text.old.items ++ slabs_text_of self.now) }
-        ensures kept { StartsWith text.new.items text.old.items }
+    /// What the class has: its pages, a moving one included, its free chunks, and how many of its items were evicted to make room.
+    /// Dead chunks aren't free until they are swept. (slabs.c's and items.c's statistics of a class)
+    pub fn numbers(&self, class: ClassId) -> Numbers
+        requires { IsClass self.now.slabs class }
+        ensures numbers { result ≡ numbers_of (class_at self.now.slabs class) }
     {
-        let counts = self.counts()?;
-        let malloced = self.slabs.totals().granted * self.table.page();
-        let mut reply = Reply::new(
-            mem::replace(text, Vec::new(self.alloc)),
-            Failures::<L>::new(refusals),
-        );
-        let written = stats_slabs(
-            &self.table,
-            &counts.pages,
-            &counts.free,
-            malloced,
-            &mut reply,
-        );
-        *text = reply.into_text();
-        match written {
-            Ok(()) => Ok(()),
-            Err(Fault) => Err(AllocError),
-        }
+        self.slabs.numbers(class)
     }
 
-    /// Gives the general statistics.
-    pub(super) fn general_statistics<L: Ledger>(
-        &self,
-        refusals: Blank,
-        text: &mut Vec<u8>,
-    ) -> Result<(), AllocError>
-        requires name { refusals.name ≡ L.name }
-        requires parts { refusals.parts ≡ L.parts }
-        requires some { 0 < refusals.parts }
-        ensures reply { OnOk result (text.new.items ≡ text.old.items ++ general_text_of self.now) }
-        ensures kept { StartsWith text.new.items text.old.items }
+    /// What all classes have together: pages granted and in the pool, moves that ended, items that moves rescued and evicted, and
+    /// chunks that held moves up. Granted bytes are `granted * table().page()`. (memcached's `stats`, slabs.c's part)
+    pub fn totals(&self) -> Totals
+        ensures totals { result ≡ totals_of self.now.slabs }
     {
-        let totals = self.slabs.totals();
-        let running = self.slabs.moving().is_some();
-        let mut reply = Reply::new(
-            mem::replace(text, Vec::new(self.alloc)),
-            Failures::<L>::new(refusals),
-        );
-        let written = stats_general(
-            totals.pool,
-            running,
-            totals.moved,
-            totals.rescues,
-            totals.evictions_nomem,
-            totals.busy,
-            &mut reply,
-        );
-        *text = reply.into_text();
-        match written {
-            Ok(()) => Ok(()),
-            Err(Fault) => Err(AllocError),
-        }
+        self.slabs.totals()
+    }
+
+    /// The page on the move, if one is, with its source, its destination, and how far the mover is.
+    pub fn moving(&self) -> Option<Moving>
+        ensures moving { result ≡ self.now.slabs.moving }
+    {
+        self.slabs.moving()
+    }
+
+    /// The automover's mode: 0 is off, 1 acts on windows, 2 on evictions.
+    pub fn automove(&self) -> u64
+        ensures mode { result ≡ self.now.slabs.automove }
+    {
+        self.slabs.automove()
     }
 
     /// The numbers of all classes.

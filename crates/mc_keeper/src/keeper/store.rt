@@ -1,42 +1,84 @@
 //! How items come and go.
-ghost use Rattle.std.specs.Prelude.{◌≡◌, Option, None, Some, IfOk, OnErr, OnOk, Contains};
+ghost use Rattle.std.specs.Prelude.{◌≡◌, ◌≤◌, ◌^◌, Option, None, Some, length, IfOk, OnErr, OnOk, Contains};
 ghost use Rattle.std.specs.Option.{is_some};
+ghost use Rattle.mc_classes.specs.Classes.{class_of};
 ghost use Rattle.mc_pages.specs.ClassState.{first_free};
 ghost use Rattle.mc_pages.specs.SlabState.{IsClass, class_at};
 ghost use Rattle.mc_pages.specs.Changes.{after_pop};
 ghost use Rattle.mc_machine.specs.Items.{linked_chunk, unlinked_items, with_item};
-ghost use Rattle.mc_machine.specs.Item.{new_item, words_from};
-ghost use Rattle.mc_machine.specs.Lines.{stored};
+ghost use Rattle.mc_machine.specs.Item.{item_bytes, new_item};
+ghost use Rattle.mc_machine.specs.Lines.{deleted, set_in, stored};
 ghost use Rattle.mc_machine.specs.Supply.{asks_for_page, supplied, supply};
-ghost use Rattle.mc_keeper.specs.Stages.{store_stages};
+ghost use Rattle.mc_parts.specs.NewWords.{words_in};
+ghost use Rattle.mc_keeper.specs.Calls.{stored_answer};
+ghost use Rattle.mc_keeper.specs.Stages.{set_stages, store_stages};
 
 use super::Keeper;
 use mc_classes::ClassId;
 use mc_pages::ChunkId;
-use mc_parts::count_unheld;
+use mc_parts::{NewWords, count_unheld};
 use std::alloc::AllocError;
 
+/// Whether an item was stored.
+#[derive(Clone, Copy, Debug, PartialEq, Eq)]
+pub enum Stored {
+    /// It was: its key leads to it, and to no other item.
+    Yes,
+    /// It is larger than a chunk of the last class. All is as before.
+    TooLarge,
+    /// Its class has neither a free chunk nor a dead one, no page is left, and somebody holds each of the class's oldest five. No item
+    /// came or went.
+    NoRoom,
+}
+
 impl Keeper {
-    /// Stores an item of so many words, base, base + 1 and so on, in a chunk of the class, in the place of the key's old one,
+    /// Stores an item of these words, 8 bytes each, under the key, in the place of the key's old one, which whoever holds it holds
+    /// still. With key, stamp and length it takes 24 + 8 n bytes, and goes into a chunk of the lowest class that has so many: a
+    /// free one, else a dead one, else one of a new page, else that of the first of the oldest five that nobody holds, whose item
+    /// is evicted. In mode 2 of the automover an eviction asks for a page. (items.c's `do_item_alloc_pull` and
+    /// `do_item_replace`, slabs.c's `slabs automove 2`; that the dead wait for a sweep is own.) The worker takes no part.
+    ///
+    /// The words are copied once, into the room of the chunk's last item where that suffices, and not at all where they are
+    /// too large. Where memory runs out, what was done before stays: dead chunks put back, an item evicted, or the new item
+    /// stored and no page asked for.
+    pub fn set(&mut self, _worker: u64, key: u64, words: &[u64]) -> Result<Stored, AllocError>
+        ensures answer { IfOk result (λ answer. answer ≡ stored_answer self.old (class_of self.old.table (item_bytes (length words.now)))) }
+        ensures after { OnOk result (self.new ≡ (set_in self.old (class_of self.old.table (item_bytes (length words.now))) key words.now).machine) }
+        ensures refused { OnErr result (Contains (set_stages self.old (class_of self.old.table (item_bytes (length words.now))) key words.now) self.new) }
+    {
+        self.set_words(key, NewWords::Copied(words))
+    }
+
+    /// Stores an item of these words under the key, and says whether it did.
+    pub(super) fn set_words(&mut self, key: u64, words: NewWords) -> Result<Stored, AllocError>
+        requires { length (words_in words) ≤ 2 ^ 60 }
+        ensures answer { IfOk result (λ answer. answer ≡ stored_answer self.old (class_of self.old.table (item_bytes (length (words_in words.entry))))) }
+        ensures after { OnOk result (self.new ≡ (set_in self.old (class_of self.old.table (item_bytes (length (words_in words.entry)))) key (words_in words.entry)).machine) }
+        ensures refused { OnErr result (Contains (set_stages self.old (class_of self.old.table (item_bytes (length (words_in words.entry)))) key (words_in words.entry)) self.new) }
+    {
+        match self.table.class_for(24 + 8 * words.count()) {
+            Some(class) => {
+                let stored = self.store(class, key, words)?;
+                Ok(if stored { Stored::Yes } else { Stored::NoRoom })
+            }
+            None => Ok(Stored::TooLarge),
+        }
+    }
+
+    /// Stores an item of these words in a chunk of the class, in the place of the key's old one,
     /// and says whether there was a chunk for it. Where there is none, the old item stays, unless it was the one evicted. In
     /// mode 2 of the automover an eviction asks for a page (after memcached's `slabs automove 2`).
     #[tactic(auto, using(mc_machine::proofs::Stocks::store_steps))]
-    pub(super) fn store(
-        &mut self,
-        class: ClassId,
-        key: u64,
-        base: u64,
-        words: u64,
-    ) -> Result<bool, AllocError>
+    fn store(&mut self, class: ClassId, key: u64, words: NewWords) -> Result<bool, AllocError>
         requires { IsClass self.old.slabs class }
         ensures stored { IfOk result (λ stored. stored ≡ is_some (supply self.old class)) }
-        ensures after { OnOk result (self.new ≡ (stored (supplied self.old class) class key (words_from base words) (asks_for_page self.old class) (supply self.old class)).machine) }
-        ensures refused { OnErr result (Contains (store_stages self.old class key (words_from base words)) self.new) }
+        ensures after { OnOk result (self.new ≡ (stored (supplied self.old class) class key (words_in words.entry) (asks_for_page self.old class) (supply self.old class)).machine) }
+        ensures refused { OnErr result (Contains (store_stages self.old class key (words_in words.entry)) self.new) }
     {
         let evicted = self.supply(class)?;
         match self.slabs.first_free(class) {
             Some(chunk) => {
-                self.put(class, chunk, key, base, words)?;
+                self.put(class, chunk, key, words)?;
                 if evicted && self.slabs.automove() == 2 {
                     self.ask_for_page(class)?;
                 }
@@ -46,10 +88,12 @@ impl Keeper {
         }
     }
 
-    /// Unlinks the key's item, if it has one, and says whether it had.
-    pub(super) fn unlink(&mut self, key: u64) -> bool
+    /// Deletes the key's item, and says whether it had one. The key leads nowhere then. Whoever holds the item holds it still, and a
+    /// sweep puts its chunk back once nobody does. It takes no memory. (items.c's `do_item_unlink`; the sweep is own.) The
+    /// worker takes no part.
+    pub fn delete(&mut self, _worker: u64, key: u64) -> bool
         ensures was { result ≡ is_some (linked_chunk self.old.items key) }
-        ensures unlinked { self.new ≡ record self.old { items = unlinked_items self.old.items key } }
+        ensures after { self.new ≡ (deleted self.old key (linked_chunk self.old.items key)).machine }
     {
         match self.index.remove(key) {
             Some(chunk) => {
@@ -74,18 +118,17 @@ impl Keeper {
         class: ClassId,
         chunk: ChunkId,
         key: u64,
-        base: u64,
-        words: u64,
+        words: NewWords,
     ) -> Result<(), AllocError>
         requires class { IsClass self.old.slabs class }
         requires free { first_free (class_at self.old.slabs class) ≡ Some chunk }
         ensures put { OnOk result (self.new ≡ record self.old {
           slabs = after_pop self.old.slabs class;
-          items = with_item (unlinked_items self.old.items key) chunk (new_item key (words_from base words));
+          items = with_item (unlinked_items self.old.items key) chunk (new_item key (words_in words.entry));
         }) }
         ensures refused { OnErr result (self.new ≡ self.old) }
     {
-        self.items.store(chunk, key, base, words)?;
+        self.items.store(chunk, key, words)?;
         let before = match self.index.insert(key, chunk) {
             Ok(before) => before,
             Err(error) => {

@@ -10,7 +10,7 @@ use mc_parts::class_of;
 
 impl Keeper {
     /// Puts back the dead chunks of a class, the one that was handed out first of all first.
-    pub(super) fn sweep(&mut self, class: ClassId)
+    pub(super) fn sweep_class(&mut self, class: ClassId)
         requires { IsClass self.old.slabs class }
         ensures swept { self.new ≡ swept self.old class }
     {
@@ -55,12 +55,14 @@ impl Keeper {
         }
     }
 
-    /// Puts back the dead chunks of all classes, class 1 first.
-    pub(super) fn sweep_all(&mut self)
+    /// Puts back the dead chunks of all classes, class 1 first, and in each the one handed out first of all first: chunks whose item no
+    /// key leads to and nobody holds. The items are gone then, and the chunks free. It takes no memory. (own: memcached puts a
+    /// chunk back where its last reference goes)
+    pub fn sweep(&mut self)
         ensures swept { self.new ≡ all_swept self.old }
     {
         for place in 0..self.table.count() {
-            self.sweep(place + 1);
+            self.sweep_class(place + 1);
         }
     }
 

@@ -31,5 +31,5 @@ returns-clause-reference c =
       subst (λ (v : View). IsRefOf v r.chunk r.room) (sym left) ref.0,
       subst (λ (v : View). IsIssueOf v r.chunk r.issue) (sym left) ref.1,
       ap (λ (v : View). key_of (held_item v r.chunk)) left
-      ∙ (ap key_of (got_item was.seat.me.0 got was.number stripe value c.args.key r.chunk r.issue r.room gets c.refer.ensures.arena.lawful) ∙ gets.key_is),
+          ∙ (ap key_of (got_item was.seat.me.0 got was.number stripe value c.args.key r.chunk r.issue r.room gets c.refer.ensures.arena.lawful) ∙ gets.key_is),
     )) c.in-Ok.ensures.gets c.in-Ok.ensures.reference

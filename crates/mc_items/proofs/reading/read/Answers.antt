@@ -16,8 +16,8 @@ loop-place-preserved c =
       c.word.ensures.same ∙ same,
       (omega (arith, c.push_reserved.ensures.capacity, room)),
       c.push_reserved.ensures.items
-      ∙ (ap (λ (l : List ℕ). l ++ c.word.result ∷ []) words
-      ∙ one_more (held_item c.args.hand.now.seat.me.0 chunk) c.loop-place.place c.word.result (omega arith) (c.word.ensures.word ∙ ap (λ (i : List ℕ). Rattle.std.proofs.Common.slice_index i (3 + c.loop-place.place)) now)),
+          ∙ (ap (λ (l : List ℕ). l ++ c.word.result ∷ []) words
+          ∙ one_more (held_item c.args.hand.now.seat.me.0 chunk) c.loop-place.place c.word.result (omega arith) (c.word.ensures.word ∙ ap (λ (i : List ℕ). Rattle.std.proofs.Common.slice_index i (3 + c.loop-place.place)) now)),
     )
 
 pub returns-clause-words : goal.returns-clause-words

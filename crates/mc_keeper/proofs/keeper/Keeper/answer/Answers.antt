@@ -21,40 +21,40 @@ returns-in_ok-push_turn_line-in-Turn-clause-served c =
       after = refl;
     }
 
-pub returns-in_ok-general_statistics-in-Stats-clause-served :
-    goal.returns-in_ok-general_statistics-in-Stats-clause-served
-returns-in_ok-general_statistics-in-Stats-clause-served c = record {
+pub returns-in_ok-push_totals-in-Stats-clause-served :
+    goal.returns-in_ok-push_totals-in-Stats-clause-served
+returns-in_ok-push_totals-in-Stats-clause-served c = record {
   served = record { reply = general_text_of c.args.self.now; machine = c.args.self.now };
   is = rw c.in-Stats.is refl;
-  reply = c.in_ok-general_statistics-in-Stats.ensures.reply;
+  reply = c.in_ok-push_totals-in-Stats.ensures.reply;
   after = refl;
 }
 
-pub returns-in_ok-statistics-in-StatsSlabs-clause-served :
-    goal.returns-in_ok-statistics-in-StatsSlabs-clause-served
-returns-in_ok-statistics-in-StatsSlabs-clause-served c = record {
+pub returns-in_ok-serve_classes-in-StatsSlabs-clause-served :
+    goal.returns-in_ok-serve_classes-in-StatsSlabs-clause-served
+returns-in_ok-serve_classes-in-StatsSlabs-clause-served c = record {
   served = record { reply = slabs_text_of (all_swept c.args.self.now); machine = all_swept c.args.self.now };
   is = rw c.in-StatsSlabs.is refl;
-  reply = c.in_ok-statistics-in-StatsSlabs.ensures.reply;
-  after = c.in_ok-statistics-in-StatsSlabs.ensures.after;
+  reply = c.in_ok-serve_classes-in-StatsSlabs.ensures.reply;
+  after = c.in_ok-serve_classes-in-StatsSlabs.ensures.after;
 }
 
-pub returns-in_ok-reassign-in-Reassign-clause-served :
-    goal.returns-in_ok-reassign-in-Reassign-clause-served
-returns-in_ok-reassign-in-Reassign-clause-served c = record {
+pub returns-in_ok-serve_reassign-in-Reassign-clause-served :
+    goal.returns-in_ok-serve_reassign-in-Reassign-clause-served
+returns-in_ok-serve_reassign-in-Reassign-clause-served c = record {
   served = reassigned c.args.self.now c.in-Reassign.src c.in-Reassign.dst (answer_of c.args.self.now.slabs c.in-Reassign.src c.in-Reassign.dst);
   is = rw c.in-Reassign.is refl;
-  reply = c.in_ok-reassign-in-Reassign.ensures.reply;
-  after = c.in_ok-reassign-in-Reassign.ensures.after;
+  reply = c.in_ok-serve_reassign-in-Reassign.ensures.reply;
+  after = c.in_ok-serve_reassign-in-Reassign.ensures.after;
 }
 
-pub returns-in_ok-set_automove-in-Automove-clause-served :
-    goal.returns-in_ok-set_automove-in-Automove-clause-served
-returns-in_ok-set_automove-in-Automove-clause-served c = record {
+pub returns-in_ok-serve_automove-in-Automove-clause-served :
+    goal.returns-in_ok-serve_automove-in-Automove-clause-served
+returns-in_ok-serve_automove-in-Automove-clause-served c = record {
   served = record { reply = line (codes "OK"); machine = record c.args.self.now { slabs = with_mode c.args.self.now.slabs c.in-Automove.mode } };
   is = rw c.in-Automove.is refl;
-  reply = c.in_ok-set_automove-in-Automove.ensures.reply;
-  after = c.in_ok-set_automove-in-Automove.ensures.after;
+  reply = c.in_ok-serve_automove-in-Automove.ensures.reply;
+  after = c.in_ok-serve_automove-in-Automove.ensures.after;
 }
 
 -- all is done but the reply

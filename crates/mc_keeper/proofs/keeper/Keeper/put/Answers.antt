@@ -3,7 +3,8 @@ use Rattle.std.proofs.lemmas.List.{length-set}
 use Rattle.mc_pages.specs.declared.ids.ChunkId.{ChunkId}
 use Rattle.mc_pages.specs.ClassState.{first_free}
 use Rattle.mc_pages.specs.SlabState.{IsClass, class_at}
-use Rattle.mc_machine.specs.Item.{Item, new_item, words_from}
+use Rattle.mc_machine.specs.Item.{Item, new_item}
+use Rattle.mc_parts.specs.NewWords.{words_in}
 use Rattle.mc_pages.specs.Changes.{after_pop}
 use Rattle.mc_machine.specs.Items.{Items, item_at, linked_chunk, unlinked_in, unlinked_items, with_item, without_item}
 use Rattle.mc_machine.specs.Consistent.{IsConsistent}
@@ -53,7 +54,7 @@ invariant_of-self-in-Err c =
     let valid : IsClass c.self.inside.slabs.state c.args.class = rw (ap (λ (m : Machine). m.slabs) c.self.view_is) c.requires.class in
     let head : first_free (class_at c.self.inside.slabs.state c.args.class) ≡ Some c.args.chunk = rw (ap (λ (m : Machine). m.slabs) c.self.view_is) c.requires.free in
     let empty = (is_next _ _ _ c.args.class c.args.chunk c.self.invariant.kept valid head).empty in
-    let item : Item = new_item c.args.key (words_from c.args.base c.args.words) in
+    let item : Item = new_item c.args.key (words_in c.args.words) in
     let back : c.remove.new.self ≡ c.self.inside.items
     = c.remove.ensures.entries ∙ ap (λ (items : Items). without_item items c.args.chunk) c.in_ok-store.ensures.entries
     ∙ without_item-with_item c.args.chunk item c.self.inside.items empty in
@@ -70,7 +71,7 @@ returns-in-Err-clause-refused c =
     let valid : IsClass c.self.inside.slabs.state c.args.class = rw (ap (λ (m : Machine). m.slabs) c.self.view_is) c.requires.class in
     let head : first_free (class_at c.self.inside.slabs.state c.args.class) ≡ Some c.args.chunk = rw (ap (λ (m : Machine). m.slabs) c.self.view_is) c.requires.free in
     let empty = (is_next _ _ _ c.args.class c.args.chunk c.self.invariant.kept valid head).empty in
-    let item : Item = new_item c.args.key (words_from c.args.base c.args.words) in
+    let item : Item = new_item c.args.key (words_in c.args.words) in
     let back : c.remove.new.self ≡ c.self.inside.items
     = c.remove.ensures.entries ∙ ap (λ (items : Items). without_item items c.args.chunk) c.in_ok-store.ensures.entries
     ∙ without_item-with_item c.args.chunk item c.self.inside.items empty in
@@ -81,7 +82,7 @@ invariant_of-self-2 c =
     let valid : IsClass c.self.inside.slabs.state c.args.class = rw (ap (λ (m : Machine). m.slabs) c.self.view_is) c.requires.class in
     let head : first_free (class_at c.self.inside.slabs.state c.args.class) ≡ Some c.args.chunk = rw (ap (λ (m : Machine). m.slabs) c.self.view_is) c.requires.free in
     let empty = (is_next _ _ _ c.args.class c.args.chunk c.self.invariant.kept valid head).empty in
-    let words = words_from c.args.base c.args.words in
+    let words = words_in c.args.words in
     let item : Item = new_item c.args.key words in
     let ready : IsReady c.self.inside c.match-before.self-inside c.insert.new.self c.args.class c.args.key c.args.chunk item = elim c.match-before.branch [
       | in-Some w ↦
@@ -136,7 +137,7 @@ returns-clause-put c =
     let valid : IsClass c.self.inside.slabs.state c.args.class = rw (ap (λ (m : Machine). m.slabs) c.self.view_is) c.requires.class in
     let head : first_free (class_at c.self.inside.slabs.state c.args.class) ≡ Some c.args.chunk = rw (ap (λ (m : Machine). m.slabs) c.self.view_is) c.requires.free in
     let empty = (is_next _ _ _ c.args.class c.args.chunk c.self.invariant.kept valid head).empty in
-    let item : Item = new_item c.args.key (words_from c.args.base c.args.words) in
+    let item : Item = new_item c.args.key (words_in c.args.words) in
     let with_items : Items → Machine = λ items. record (machine_of c.self.inside) { items = items } in
     let popped : Machine → Machine = λ m. record m { slabs = after_pop m.slabs c.args.class } in
     let stored : Machine → Machine = λ m. record m { items = with_item (unlinked_items m.items c.args.key) c.args.chunk item } in

@@ -1,10 +1,17 @@
+use Rattle.std.proofs.Common.{◌≡◌, ap, sym, ◌∙◌, arith, length}
+use Rattle.std.specs.List.{range_with_len}
+use Rattle.mc_machine.specs.Machine.{Machine}
+use Rattle.mc_machine.proofs.Stocks.{classes-sweeps, sweeps_more}
 use Rattle.mc_keeper.proofs.keeper.Keeper.sweep.Goals as goal
 
-pub reclaim-requires-clause-class : goal.reclaim-requires-clause-class
-reclaim-requires-clause-class c = rw c.in-Some.ensures.own c.requires
+pub sweep_class-requires : goal.sweep_class-requires
+sweep_class-requires c =
+    let classes : length c.args.self.now.slabs.classes ≡ length c.self.inside.table.sizes
+    = sym (ap (λ (m : Machine). length m.slabs.classes) c.self.view_is) ∙ c.self.invariant.kept.classes in
+    rw c.loop-place.invariant (
+      omega arith,
+      omega (arith, classes-sweeps c.args.self.now (range_with_len 1 c.loop-place.place), classes, c.count-place-end.ensures.count, c.loop-place-test.true),
+    )
 
-pub reclaim-requires-clause-listed : goal.reclaim-requires-clause-listed
-reclaim-requires-clause-listed c = rw c.in-Some.ensures.own c.in-Some.ensures.listed
-
-pub returns-in-Some : goal.returns-in-Some
-returns-in-Some c = record { swept = rw (c.in-Some.ensures.only) c.reclaim.ensures.reclaimed }
+pub loop-place-preserved : goal.loop-place-preserved
+loop-place-preserved c = c.sweep_class.ensures.swept ∙ sweeps_more c.args.self.now c.loop-place.self c.loop-place.place c.loop-place.invariant

@@ -27,7 +27,7 @@ returns-then-ne-clause-done c =
     let left : c.loop.self.turns < 1000000 = rw (← ap (λ (m : Machine). m.turns) c.self.view_is) c.if-self-ge-MAX_TURNS.false in
     let ended : is_went c.in_ok-ending.ending ≡ false = not-true _ (sym (went_same c.in_ok-ending.ending) ∙ sym c.ne.ensures ∙ c.if-ne.true) in
     turns_end c.args.count c.loop.counter (record { machine = c.loop.self; counts = c.loop.counts; ending = c.loop.ending })
-    (record { machine = c.turn.new.self; counts = c.turn.new.counts; ending = c.in_ok-ending.ending }) _ c.loop-test.true left c.in_ok-ending.ensures.done ended
+    (record { machine = c.turn_on.new.self; counts = c.turn_on.new.counts; ending = c.in_ok-ending.ending }) _ c.loop-test.true left c.in_ok-ending.ensures.done ended
     c.loop.invariant.rest
 
 pub loop-preserved : goal.loop-preserved
@@ -37,14 +37,14 @@ loop-preserved c =
     let few : c.loop.self.bulk ≤ 256 = rw (← ap (λ (m : Machine). m.bulk) c.self.view_is) c.self.invariant.bulk in
     record {
       rest = turns_on c.args.count c.loop.counter (record { machine = c.loop.self; counts = c.loop.counts; ending = c.loop.ending })
-          (record { machine = c.turn.new.self; counts = c.turn.new.counts; ending = c.in_ok-ending.ending }) _ c.loop-test.true left c.in_ok-ending.ensures.done went
+          (record { machine = c.turn_on.new.self; counts = c.turn_on.new.counts; ending = c.in_ok-ending.ending }) _ c.loop-test.true left c.in_ok-ending.ensures.done went
           c.loop.invariant.rest;
-      most = at_most_more (256 * c.loop.counter + 256) (256 * (c.loop.counter + 1)) c.turn.new.counts
+      most = at_most_more (256 * c.loop.counter + 256) (256 * (c.loop.counter + 1)) c.turn_on.new.counts
           (rw (← ap (λ (t : Turned). t.counts) c.in_ok-ending.ensures.done) (most_turned c.loop.self c.loop.counts (256 * c.loop.counter) few c.loop.invariant.most))
           (omega arith);
       stages = λ m there. c.loop.invariant.stages m
           (turn_behind c.args.count c.loop.counter (record { machine = c.loop.self; counts = c.loop.counts; ending = c.loop.ending })
-          (record { machine = c.turn.new.self; counts = c.turn.new.counts; ending = c.in_ok-ending.ending }) m c.loop-test.true c.in_ok-ending.ensures.done went there);
+          (record { machine = c.turn_on.new.self; counts = c.turn_on.new.counts; ending = c.in_ok-ending.ending }) m c.loop-test.true c.in_ok-ending.ensures.done went there);
     }
 
 pub returns-then-self-ge-MAX_TURNS-clause-refused :
@@ -56,6 +56,6 @@ returns-then-self-ge-MAX_TURNS-clause-refused c =
 pub returns-in_err-ending-clause-refused : goal.returns-in_err-ending-clause-refused
 returns-in_err-ending-clause-refused c =
     let p = err_from_is_err_and c.from_residual.result c.from_residual.ensures.1 in
-    rw p.1 (c.loop.invariant.stages c.turn.new.self
-    (turn_ends c.args.count c.loop.counter (record { machine = c.loop.self; counts = c.loop.counts; ending = c.loop.ending }) c.turn.new.self c.loop-test.true
+    rw p.1 (c.loop.invariant.stages c.turn_on.new.self
+    (turn_ends c.args.count c.loop.counter (record { machine = c.loop.self; counts = c.loop.counts; ending = c.loop.ending }) c.turn_on.new.self c.loop-test.true
     c.in_err-ending.ensures.refused))

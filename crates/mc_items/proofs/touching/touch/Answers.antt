@@ -1,0 +1,114 @@
+use Rattle.std.proofs.Common.{◌≡◌, ◌%◌, ◌+◌, ◌<◌, ℕ, List, [], Option, IfSome, refl, ap, sym, subst, ◌∙◌, arith, length}
+use Rattle.mc_classes.specs.declared.config.Config.{Config}
+use Rattle.mc_pages.specs.declared.ids.ChunkId.{ChunkId}
+use Rattle.mc_pages.specs.SlabState.{SlabState}
+use Rattle.mc_pages.specs.Changes.{after_touch}
+use Rattle.mc_core.specs.declared.holding.Holding.{Holding}
+use Rattle.mc_core.specs.declared.event.Change.TheVariants.{Touch}
+use Rattle.mc_core.specs.Silent.{is_handed_out}
+use Rattle.mc_words.specs.Lent.{IsLentStripe}
+use Rattle.mc_words.specs.Out.{with_slabs, without_slabs, without_stripe}
+use Rattle.mc_core.specs.Holdings.{key_of}
+use Rattle.mc_words.specs.declared.refs.Ref.{Ref}
+use Rattle.mc_words.specs.Items.{held_item}
+use Rattle.mc_words.specs.Refs.{IsIssueOf, IsRefOf}
+use Rattle.mc_words.specs.View.{View}
+use Rattle.mc_words.specs.Views.{chunk_dropped, slabs_changed, slabs_given}
+use Rattle.mc_words.specs.Waiting.{WaitsForStripe}
+use Rattle.mc_words.proofs.HeldOut.{held_is_out}
+use Rattle.mc_items.specs.Calls.{Finds, FindsNone, IsDone, LooksUp}
+use Rattle.mc_items.proofs.Gets.{called_on}
+use Rattle.mc_items.proofs.Hands.{number_stays}
+use Rattle.mc_items.proofs.Locks.{locks_back, slabs_back, still_unlocked, waits_keep, waits_slabs_keep}
+use Rattle.mc_items.proofs.touching.touch.Goals as goal
+
+pub refer_at-requires-clause-few : goal.refer_at-requires-clause-few
+refer_at-requires-clause-few g c =
+    let held = c.lock_stripe-held in
+    let same = ap (λ (l : List Holding). length l) (waits_keep (λ (v : View). v.row.holdings) (c.args.key % c.config.result.now.stripes) (λ word v. refl) (λ value v. refl) c.args.hand.now.seat.me.0 held.result.stripe held.new.hand.seat.me.0 held.ensures.waits) in
+    let few = c.requires.few in
+    omega arith
+
+pub returns-in-Ok-None-clause-locks : goal.returns-in-Ok-None-clause-locks
+returns-in-Ok-None-clause-locks g c = c.refer_at.ensures.locks ∙ (ap without_stripe c.lock_stripe-held.ensures.locks ∙ locks_back c.args.hand.now (c.args.key % c.config.result.now.stripes) c.requires.unlocked)
+
+pub returns-in-Err-clause-locks : goal.returns-in-Err-clause-locks
+returns-in-Err-clause-locks g c = c.refer_at.ensures.locks ∙ (ap without_stripe c.lock_stripe-held.ensures.locks ∙ locks_back c.args.hand.now (c.args.key % c.config.result.now.stripes) c.requires.unlocked)
+
+pub returns-in-Ok-None-clause-none : goal.returns-in-Ok-None-clause-none
+returns-in-Ok-None-clause-none g c _ =
+    let hand = c.args.hand.now in
+    let held = c.lock_stripe-held in
+    let before : View = hand.seat.me.0 in
+    let taken : View = held.new.hand.seat.me.0 in
+    let at : c.args.key % c.config.result.now.stripes ≡ c.args.key % c.args.arena.now.table.shared.key.config.stripes = ap (λ (f : Config). c.args.key % f.stripes) c.config.ensures.config in
+    let number = number_stays hand held.new.hand (waits_keep (λ (v : View). v.row.ids) (c.args.key % c.config.result.now.stripes) (λ word v. refl) (λ value v. refl) before held.result.stripe taken held.ensures.waits) in
+    called_on (λ number stripe. FindsNone number stripe c.args.key) hand.number _ held.new.hand.number held.result.number held.result.stripe before taken c.refer_at.new.hand.seat.me.0 number (held.ensures.number ∙ at)
+    (subst (λ (n : ℕ). WaitsForStripe n before held.result.stripe taken) at held.ensures.waits) (subst (λ (n : ℕ). IsLentStripe taken n held.result.stripe) at held.ensures.whole)
+    (subst (λ (o : Option Ref). IsDone held.new.hand.number held.result.number held.result.stripe (LooksUp held.new.hand.number held.result.number c.args.key o) taken c.refer_at.new.hand.seat.me.0) c.in-Ok-None.field-0-is c.in-Ok-None.ensures.done)
+
+pub lock_slabs-slabs-requires-clause-unlocked : goal.lock_slabs-slabs-requires-clause-unlocked
+lock_slabs-slabs-requires-clause-unlocked g c =
+    still_unlocked c.args.hand.now c.refer_at.new.hand c.requires.unlocked (c.refer_at.ensures.locks ∙ (ap without_stripe c.lock_stripe-held.ensures.locks ∙ locks_back c.args.hand.now (c.args.key % c.config.result.now.stripes) c.requires.unlocked))
+
+pub touch-requires-clause-out : goal.touch-requires-clause-out
+touch-requires-clause-out g c =
+    let r = c.in-Ok-Some.reference in
+    let got : View = c.refer_at.new.hand.seat.me.0 in
+    let held = c.lock_slabs-slabs in
+    let taken : View = held.new.hand.seat.me.0 in
+    let slabs = held.result.shared in
+    let holdings = waits_slabs_keep (λ (v : View). v.row.holdings) (λ word v. refl) (λ slabs v. refl) got slabs taken held.ensures.waits in
+    let ref = (subst (λ (o : Option Ref). IfSome o (λ r. IsRefOf got r.chunk r.room × IsIssueOf got r.chunk r.issue × (key_of (held_item got r.chunk) ≡ c.args.key))) c.in-Ok-Some.field-0-is c.in-Ok-Some.ensures.reference).0 in
+    let found = ap (Rattle.mc_core.specs.Holdings.holding_of r.chunk) holdings ∙ ref.found in
+    ap (is_handed_out slabs) c.chunk.ensures.chunk ∙ held_is_out taken held.ensures.arena.lawful slabs held.ensures.whole.mine r.chunk ref.holding found
+
+pub release-requires-clause-reference : goal.release-requires-clause-reference
+release-requires-clause-reference g c =
+    let r = c.in-Ok-Some.reference in
+    let got : View = c.refer_at.new.hand.seat.me.0 in
+    let held = c.lock_slabs-slabs in
+    let taken : View = held.new.hand.seat.me.0 in
+    let slabs = held.result.shared in
+    let ref = (subst (λ (o : Option Ref). IfSome o (λ r. IsRefOf got r.chunk r.room × IsIssueOf got r.chunk r.issue × (key_of (held_item got r.chunk) ≡ c.args.key))) c.in-Ok-Some.field-0-is c.in-Ok-Some.ensures.reference).0 in
+    let first = subst (λ (p : List Holding × List Rattle.mc_core.specs.Past.Known). Rattle.mc_words.specs.Refs.IsRefIn p.0 p.1 r.chunk r.room)
+    (λ k. (sym (waits_slabs_keep (λ (v : View). v.row.holdings) (λ word v. refl) (λ slabs v. refl) got slabs taken held.ensures.waits) k, sym (waits_slabs_keep (λ (v : View). v.row.knows.known) (λ word v. refl) (λ slabs v. refl) got slabs taken held.ensures.waits) k)) ref in
+    subst (λ (v : View). IsRefOf v r.chunk r.room) (sym c.give_slabs.ensures.left) (subst (λ (v : View). IsRefOf v r.chunk r.room) (sym c.touch.ensures.view) first)
+
+pub returns-clause-locks : goal.returns-clause-locks
+returns-clause-locks g c =
+    let mid = c.refer_at.ensures.locks ∙ (ap without_stripe c.lock_stripe-held.ensures.locks ∙ locks_back c.args.hand.now (c.args.key % c.config.result.now.stripes) c.requires.unlocked) in
+    let unlocked = still_unlocked c.args.hand.now c.refer_at.new.hand c.requires.unlocked mid in
+    c.release.ensures.locks ∙ (c.give_slabs.ensures.locks ∙ (ap without_slabs (c.touch.ensures.locks ∙ c.lock_slabs-slabs.ensures.locks) ∙ (slabs_back c.refer_at.new.hand unlocked ∙ mid)))
+
+pub returns-clause-touches : goal.returns-clause-touches
+returns-clause-touches g c _ =
+    let hand = c.args.hand.now in
+    let r = c.in-Ok-Some.reference in
+    let held = c.lock_stripe-held in
+    let before : View = hand.seat.me.0 in
+    let taken : View = held.new.hand.seat.me.0 in
+    let got : View = c.refer_at.new.hand.seat.me.0 in
+    let last = c.lock_slabs-slabs in
+    let slabs = last.result.shared in
+    let held_slabs : View = last.new.hand.seat.me.0 in
+    let at : c.args.key % c.config.result.now.stripes ≡ c.args.key % c.args.arena.now.table.shared.key.config.stripes = ap (λ (f : Config). c.args.key % f.stripes) c.config.ensures.config in
+    let number = number_stays hand held.new.hand (waits_keep (λ (v : View). v.row.ids) (c.args.key % c.config.result.now.stripes) (λ word v. refl) (λ value v. refl) before held.result.stripe taken held.ensures.waits) in
+    let gets = called_on (λ number stripe. Finds number stripe c.args.key r) hand.number _ held.new.hand.number held.result.number held.result.stripe before taken got number (held.ensures.number ∙ at)
+    (subst (λ (n : ℕ). WaitsForStripe n before held.result.stripe taken) at held.ensures.waits) (subst (λ (n : ℕ). IsLentStripe taken n held.result.stripe) at held.ensures.whole)
+    (subst (λ (o : Option Ref). IsDone held.new.hand.number held.result.number held.result.stripe (LooksUp held.new.hand.number held.result.number c.args.key o) taken got) c.in-Ok-Some.field-0-is c.in-Ok-Some.ensures.done) in
+    let ids : held_slabs.row.ids ≡ before.row.ids =
+    waits_slabs_keep (λ (v : View). v.row.ids) (λ word v. refl) (λ slabs v. refl) got slabs held_slabs last.ensures.waits
+    ∙ (ap (λ (v : View). v.row.ids) gets.done.given ∙ (ap (λ (v : View). v.row.ids) gets.done.does.0.is ∙ waits_keep (λ (v : View). v.row.ids) _ (λ word v. refl) (λ value v. refl) before gets.value gets.taken gets.waits)) in
+    let number' = number_stays hand last.new.hand ids in
+    let chunk = c.chunk.ensures.chunk in
+    let shared = c.touch.ensures.touched ∙ ap (after_touch slabs) chunk in record {
+      reference = r;
+      got = got;
+      gets = gets;
+      slabs = slabs;
+      taken = held_slabs;
+      waits = last.ensures.waits;
+      is = c.release.ensures.dropped
+          ∙ ap (chunk_dropped r.chunk) (c.give_slabs.ensures.left ∙ (λ k. slabs_given (shared k) ((c.touch.ensures.view ∙ (λ j. slabs_changed slabs (Touch (chunk j)) (number' j + 1) held_slabs)) k)));
+    }

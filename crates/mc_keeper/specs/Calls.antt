@@ -1,0 +1,56 @@
+-- What the typed calls answer.
+use Rattle.std.specs.Prelude.{◌≡◌, ℕ, Bool, true, false, ◌⊎◌, if◌then◌else◌, List, Option, Some, None, Result, Ok, Err, ⊤}
+use Rattle.std.specs.Borrow.{Fml, MutBor, follows_so}
+use Rattle.std.specs.Option.{is_some, option_and_then, option_map}
+use mathlib.Core.Option.{none}
+use Rattle.mc_pages.specs.declared.moves.Reassign.{Reassign}
+use Rattle.mc_pages.specs.Answer.{answer_of}
+use Rattle.mc_watch.specs.declared.decider.Decision.{Decision}
+use Rattle.mc_machine.specs.Holds.{is_full}
+use Rattle.mc_machine.specs.Items.{item_at, linked_chunk}
+use Rattle.mc_machine.specs.Lines.{last_hold}
+use Rattle.mc_machine.specs.Machine.{Machine}
+use Rattle.mc_machine.specs.Supply.{supply}
+use Rattle.mc_keeper.specs.declared.keeper.store.Stored.{Stored}
+use Rattle.mc_keeper.specs.declared.keeper.store.Stored.TheVariants.{Yes, TooLarge, NoRoom}
+use Rattle.mc_keeper.specs.declared.keeper.refs.HoldError.{HoldError}
+use Rattle.mc_keeper.specs.declared.keeper.refs.HoldError.TheVariants.{TooManyRefs, NoMemory}
+use Rattle.mc_keeper.specs.declared.keeper.automove.Acted.{Acted}
+use Rattle.mc_keeper.specs.contracts.keeper.Keeper.{the_row}
+
+-- whether an item is stored where its class is this one, or none as it is too large
+abbrev pub stored_answer : Machine → Option ℕ → Stored
+stored_answer m None = TooLarge
+stored_answer m (Some class) = if is_some (supply m class) then Yes else NoRoom
+
+-- the words of the key's item
+abbrev pub words_of : Machine → ℕ → Option (List ℕ)
+words_of m key = option_map (λ item. item.words) (option_and_then (item_at m.items) (linked_chunk m.items key))
+
+-- whether the key has an item that the worker holds then, or that the worker can hold no more
+abbrev pub hold_answer : Machine → ℕ → ℕ → Result Bool HoldError
+hold_answer m worker key = if is_full m.holds worker then Err TooManyRefs else Ok (is_some (linked_chunk m.items key))
+
+-- memory may run out only where there is an item to hold
+abbrev pub MayHold : Result Bool HoldError → Result Bool HoldError → Type 0
+MayHold (Err refusal) result = result ≡ Err refusal
+MayHold (Ok false) result = result ≡ Ok false
+MayHold (Ok true) result = (result ≡ Ok true) ⊎ (result ≡ Err NoMemory)
+
+-- the words of the item that the worker's last hold of the key is of
+abbrev pub held_words : Machine → ℕ → ℕ → Option (List ℕ)
+held_words m worker key = option_map (λ item. item.words) (option_and_then (item_at m.items) (last_hold m worker key))
+
+-- a page begins to move, or why it doesn't
+abbrev pub told_answer : Result ℕ Reassign → Result (Unit {0}) Reassign
+told_answer (Err refusal) = Err refusal
+told_answer (Ok source) = Ok tt
+
+-- what became of the decision, if there was one
+abbrev pub acted_answer : Machine → Option Decision → Option Acted
+acted_answer m None = None
+acted_answer m (Some d) = Some (record { decision = d; answer = told_answer (answer_of m.slabs (Some d.src) d.dst) })
+
+-- the keeper is this machine once what it lent is given back
+abbrev pub EndsAs : MutBor Machine → Machine → Fml
+EndsAs keeper m = follows_so the_row the_row keeper.ghost_name none (λ _ _. ⊤) (λ n. n ≡ m)
