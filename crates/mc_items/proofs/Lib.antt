@@ -4,3 +4,6 @@ pub mod Locks
 pub mod Gets
 pub mod Deletes
 pub mod Tells
+pub mod Fills
+pub mod Stores
+pub mod Stored

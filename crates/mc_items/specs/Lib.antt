@@ -1,2 +1,3 @@
 pub mod ItemRefs
 pub mod Calls
+pub mod Storing

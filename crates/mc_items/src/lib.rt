@@ -5,10 +5,12 @@
 #![tactic(auto)]
 
 mod deleting;
+mod filling;
 mod getting;
 mod hinting;
 mod reading;
 mod refs;
+mod storing;
 mod touching;
 
 pub use deleting::delete;
