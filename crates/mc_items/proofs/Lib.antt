@@ -7,3 +7,6 @@ pub mod Tells
 pub mod Fills
 pub mod Stores
 pub mod Stored
+pub mod Supplies
+pub mod Growing
+pub mod Evicts

@@ -5,12 +5,14 @@
 #![tactic(auto)]
 
 mod deleting;
+mod evicting;
 mod filling;
 mod getting;
 mod hinting;
 mod reading;
 mod refs;
 mod storing;
+mod supplying;
 mod touching;
 
 pub use deleting::delete;

@@ -1,0 +1,89 @@
+-- A chunk for a class, from its parts.
+use Rattle.std.proofs.Common.{◌≡◌, ℕ, ◌+◌, ◌≤◌, true, is_some, [], ◌∷◌, ◌++◌, Option, Some, None, Result, Ok, Err, IfOk, IfSome, OnErr, refl, sym, ap, subst, ◌∙◌, inl, inr}
+use Rattle.std.specs.List.{list_all}
+use Rattle.mc_pages.specs.declared.ids.ChunkId.{ChunkId}
+use Rattle.mc_pages.specs.Changes.{after_pop}
+use Rattle.mc_pages.specs.ClassState.{first_free}
+use Rattle.mc_pages.specs.SlabState.{SlabState, class_at}
+use Rattle.mc_core.specs.declared.head.Head.{Head}
+use Rattle.mc_core.specs.Chunks.{most_issue}
+use Rattle.mc_core.specs.Looks.{is_found_alive}
+use Rattle.mc_core.specs.State.{room_in}
+use Rattle.mc_words.specs.View.{View}
+use Rattle.mc_words.specs.Owner.{PopsFirst, SeesOther}
+use Rattle.mc_words.specs.Sweeping.{Sweeps, with_seen}
+use Rattle.mc_words.specs.Views.{chunk_popped, fresh_holding, head_seen, with_holdings}
+use Rattle.mc_items.specs.Supplying.{FindsNoFree, FindsWorn, GainsFresh, SuppliesFree}
+
+-- what follows of a chunk that there may be
+pub if_some : {A E : Type 0} (P Q : A → Type 0) (r : Result (Option A) E) → ((a : A) → P a → Q a) → IfOk r (λ o. IfSome o P) → IfOk r (λ o. IfSome o Q)
+if_some P Q (Ok (Some a)) next p = next a p
+if_some P Q (Ok None) next p = tt
+if_some P Q (Err e) next p = tt
+
+-- both of it
+pub both_if_some : {A E : Type 0} (P Q : A → Type 0) (r : Result (Option A) E) → IfOk r (λ o. IfSome o P) → IfOk r (λ o. IfSome o Q) → IfOk r (λ o. IfSome o (λ a. P a × Q a))
+both_if_some P Q (Ok (Some a)) p q = (p, q)
+both_if_some P Q (Ok None) p q = tt
+both_if_some P Q (Err e) p q = tt
+
+-- and of an error
+pub if_error : {A E P Q : Type 0} (r : Result A E) → (P → Q) → OnErr r P → OnErr r Q
+if_error (Ok a) next p = tt
+if_error (Err e) next p = next p
+
+-- a chunk that was handed out after looks alone
+pub gains_fresh : (class : ℕ) (view swept now : View) (slabs : SlabState) (chunk : ChunkId) (room : ℕ) → swept ≡ with_seen view swept → PopsFirst swept slabs class chunk now → room ≡ room_in view.setup.table class → GainsFresh view chunk room now
+gains_fresh class view swept now slabs chunk room same pops room_is =
+    let by = λ (v : View). chunk_popped slabs class chunk pops.head (head_seen chunk pops.head v) in
+    let is : now ≡ by (with_seen view swept) = pops.is ∙ ap by same in (
+      pops.head.issue + 1,
+      is ∙ (λ k. with_holdings (view.row.holdings ++ fresh_holding chunk (pops.head.issue + 1) (sym room_is k) ∷ []) (with_seen view (sym is k))),
+    )
+
+-- the first free chunk was worn out
+pub worn_seen : (view now : View) (asked : Option ChunkId) (IsOther : Head → Type 0) → SeesOther view asked IsOther now → now ≡ with_seen view now
+worn_seen view now asked IsOther sees = sees.is ∙ (λ k. with_seen view (sym sees.is k))
+
+-- there was a free chunk
+module _ (class : ℕ) (view : View) (slabs : SlabState) (now : View) (left : SlabState) where
+  pub at_once : (chunk : ChunkId) → PopsFirst view slabs class chunk now → left ≡ after_pop slabs class → SuppliesFree class view slabs chunk now left
+  at_once chunk pops is = record { swept = view; between = slabs; sweeps = inl (ap is_some pops.first, refl, refl); pops = pops; left_is = is }
+
+  pub worn_at_once : SeesOther view (first_free (class_at slabs class)) (λ head. most_issue ≤ head.issue) now → left ≡ slabs → FindsWorn class view slabs now left × (now ≡ with_seen view now)
+  worn_at_once sees is = (
+    record {
+      swept = view;
+      sweeps = inl (ap is_some sees.is_asked, refl, is);
+      worn = subst (λ (s : SlabState). SeesOther view (first_free (class_at s class)) (λ head. most_issue ≤ head.issue) now) (sym is) sees;
+    },
+    worn_seen view now _ _ sees,
+  )
+
+-- there was none, and the class was swept
+module _ (class : ℕ) (view tried swept now : View) (slabs before between left : SlabState) (none : (first_free (class_at slabs class) ≡ None) × (before ≡ slabs) × (tried ≡ view)) (sweeps : Sweeps (class_at before class).order tried before swept between) (seen : swept ≡ with_seen tried swept) where
+  sweeps_here : Sweeps (class_at slabs class).order view slabs swept between
+  sweeps_here = subst (λ (p : View × SlabState). Sweeps (class_at p.1 class).order p.0 p.1 swept between) (λ k. (none.2 k, none.1 k)) sweeps
+
+  pub seen_here : swept ≡ with_seen view swept
+  seen_here = seen ∙ ap (λ (v : View). with_seen v swept) none.2
+
+  pub by_sweep : (chunk : ChunkId) → PopsFirst swept between class chunk now → left ≡ after_pop between class → SuppliesFree class view slabs chunk now left
+  by_sweep chunk pops is = record { swept = swept; between = between; sweeps = inr (none.0, sweeps_here); pops = pops; left_is = is }
+
+  pub worn_by_sweep : SeesOther swept (first_free (class_at between class)) (λ head. most_issue ≤ head.issue) now → left ≡ between → FindsWorn class view slabs now left × (now ≡ with_seen view now)
+  worn_by_sweep sees is = (
+    record {
+      swept = swept;
+      sweeps = subst (λ (s : SlabState). Rattle.mc_items.specs.Supplying.SweepsEmpty class view slabs swept s) (sym is) (inr (none.0, sweeps_here));
+      worn = subst (λ (s : SlabState). SeesOther swept (first_free (class_at s class)) (λ head. most_issue ≤ head.issue) now) (sym is) sees;
+    },
+    let last : now ≡ head_seen sees.chunk sees.head (with_seen view swept) = sees.is ∙ ap (head_seen sees.chunk sees.head) seen_here in
+        last ∙ (λ k. with_seen view (sym last k)),
+  )
+
+  pub none_by_sweep : list_all (is_found_alive swept.row.looks) (class_at between class).order ≡ true → (first_free (class_at between class) ≡ None) × (left ≡ between) × (now ≡ swept) → FindsNoFree class view slabs now left × (now ≡ with_seen view now)
+  none_by_sweep alive (still, is, same) = (
+    subst (λ (p : View × SlabState). FindsNoFree class view slabs p.0 p.1) (λ k. (sym same k, sym is k)) (record { empty = none.0; sweeps = sweeps_here; still = still; alive = alive }),
+    same ∙ (seen_here ∙ ap (with_seen view) (sym same)),
+  )

@@ -1,0 +1,72 @@
+-- How a class comes to a chunk that is handed out.
+use Rattle.std.specs.Prelude.{◌≡◌, ◌⊎◌, ℕ, ◌+◌, ◌≤◌, true, is_some, List, [], ◌∷◌, ◌++◌, Some, None}
+use Rattle.std.specs.List.{list_all}
+use Rattle.mc_pages.specs.declared.ids.ChunkId.{ChunkId}
+use Rattle.mc_pages.specs.Accounted.{first_chunks}
+use Rattle.mc_pages.specs.Changes.{after_cut, after_grow, after_pop, next_page}
+use Rattle.mc_pages.specs.ClassState.{first_free}
+use Rattle.mc_pages.specs.SlabState.{SlabState, class_at}
+use Rattle.mc_core.specs.declared.event.Change.TheVariants as change
+use Rattle.mc_core.specs.declared.event.Step.TheVariants as step
+use Rattle.mc_core.specs.Chunks.{most_issue}
+use Rattle.mc_core.specs.Looks.{is_found_alive}
+use Rattle.mc_words.specs.View.{View}
+use Rattle.mc_words.specs.Happens.{Happens}
+use Rattle.mc_words.specs.Owner.{Cuts, PopsFirst, SeesOther}
+use Rattle.mc_words.specs.Sweeping.{Sweeps, with_seen}
+use Rattle.mc_words.specs.Condemning.{Condemns, FindsHeld}
+use Rattle.mc_words.specs.Views.{fresh_holding, slabs_changed, with_holdings}
+use Rattle.mc_items.specs.Calls.{Doing}
+
+-- the class has a free chunk, and nothing was done; or it has none, and its dead chunks were put back
+abbrev pub SweepsEmpty : ℕ → View → SlabState → View → SlabState → Type 0
+SweepsEmpty class view slabs now left =
+    ((is_some (first_free (class_at slabs class)) ≡ true) × (now ≡ view) × (left ≡ slabs))
+    ⊎ ((first_free (class_at slabs class) ≡ None) × Sweeps (class_at slabs class).order view slabs now left)
+
+-- so, and then the first free chunk was handed out
+pub record SuppliesFree (class : ℕ) (view : View) (slabs : SlabState) (chunk : ChunkId) (now : View) (left : SlabState) : Type 0 where
+  pub swept : View
+  pub between : SlabState
+  pub sweeps : SweepsEmpty class view slabs swept between
+  pub pops : PopsFirst swept between class chunk now
+  pub left_is : left ≡ after_pop between class
+
+-- so, and then the first free chunk was seen to be worn out
+pub record FindsWorn (class : ℕ) (view : View) (slabs : SlabState) (now : View) (left : SlabState) : Type 0 where
+  pub swept : View
+  pub sweeps : SweepsEmpty class view slabs swept left
+  pub worn : SeesOther swept (first_free (class_at left class)) (λ head. most_issue ≤ head.issue) now
+
+-- the class has no free chunk, and none came by a sweep: each that it handed out was found alive
+pub record FindsNoFree (class : ℕ) (view : View) (slabs : SlabState) (now : View) (left : SlabState) : Type 0 where
+  pub empty : first_free (class_at slabs class) ≡ None
+  pub sweeps : Sweeps (class_at slabs class).order view slabs now left
+  pub still : first_free (class_at left class) ≡ None
+  pub alive : list_all (is_found_alive now.row.looks) (class_at left class).order ≡ true
+
+-- the hand got this chunk, with room for so many words, and otherwise saw more, and has other pages and lists
+abbrev pub GainsFresh : View → ChunkId → ℕ → View → Type 0
+GainsFresh view chunk room now = (issue : ℕ) × (now ≡ with_holdings (view.row.holdings ++ fresh_holding chunk issue room ∷ []) (with_seen view now))
+
+-- each of these chunks was cut, one after another
+abbrev pub CutsEach : List ChunkId → View → SlabState → View → SlabState → Type 0
+CutsEach [] view slabs now left = (now ≡ view) × (left ≡ slabs)
+CutsEach (chunk ∷ chunks) view slabs now left = (next : View) × Cuts view slabs chunk next × CutsEach chunks next (after_cut slabs chunk) now left
+
+-- the class got the next page, and all its chunks were cut
+pub record Grows (number class : ℕ) (view : View) (slabs : SlabState) (now : View) (left : SlabState) : Type 0 where
+  pub page : ℕ
+  pub is_next : next_page slabs ≡ Some page
+  pub grown : View
+  pub is_grown : grown ≡ slabs_changed slabs (change.Grow class) (number + 1) view
+  pub happens : Happens view (change.Grow class ∷ []) step.MissSlabs grown
+  pub cuts : CutsEach (first_chunks page (class_at slabs class).per_page) grown (after_grow slabs class page) now left
+
+-- the chunk's item was taken away under the lock of its key's stripe
+abbrev pub TakesItem : ℕ → ℕ → ChunkId → Doing
+TakesItem number stripe chunk value view left now = Condemns view number stripe value chunk left now
+
+-- it was found unlinked, or held
+abbrev pub FindsItemHeld : ChunkId → Doing
+FindsItemHeld chunk value view left now = FindsHeld view chunk now × (left ≡ value)

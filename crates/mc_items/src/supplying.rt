@@ -1,0 +1,103 @@
+//! Chunks for items, under one hold of the slabs lock.
+ghost use Rattle.std.specs.Prelude.{◌≡◌, ◌≤◌, true, false, fold, is_some, length, Ok, Some, None, IfOk, IfSome, OnErr};
+ghost use Rattle.mc_pages.specs.Accounted.{first_chunks};
+ghost use Rattle.mc_pages.specs.Changes.{after_cut, next_page};
+ghost use Rattle.mc_pages.specs.ClassState.{first_free};
+ghost use Rattle.mc_pages.specs.SlabState.{class_at, class_of_chunk};
+ghost use Rattle.mc_core.specs.State.{is_class, room_in};
+ghost use Rattle.mc_words.specs.Arenas.{IsHandOf, setup_of, view};
+ghost use Rattle.mc_words.specs.Fresh.{IsFreshOf};
+ghost use Rattle.mc_words.specs.Sweeping.{with_seen};
+ghost use Rattle.mc_items.specs.Supplying.{CutsEach, FindsNoFree, FindsWorn, GainsFresh, Grows, SuppliesFree};
+
+use mc_classes::{ClassId, PageId};
+use mc_pages::Grow;
+use mc_stripe::NoMemory;
+use mc_words::{Arena, Fresh, Hand, SlabsHeld, WornOut};
+
+// Hands out a free chunk of the class; where there is none, the dead chunks of the class are put back first.
+pub(crate) fn pop_or_sweep(
+    arena: &Arena,
+    hand: &mut Hand,
+    held: &mut SlabsHeld,
+    class: ClassId,
+) -> Result<Option<Fresh>, WornOut>
+    requires arena { IsHandOf arena.now hand.old }
+    requires class { is_class (setup_of arena.now).table class ≡ true }
+    requires held { (view hand.old).slabs ≡ Some held.old.shared }
+    requires room { length (view hand.old).row.holdings ≤ 255 }
+    ensures arena { IsHandOf arena.now hand.new }
+    ensures locks { hand.new.locks ≡ hand.old.locks }
+    ensures held { (view hand.new).slabs ≡ Some held.new.shared }
+    ensures supplied { IfOk result (λ popped. IfSome popped (λ fresh. SuppliesFree class (view hand.old) held.old.shared fresh.chunk (view hand.new) held.new.shared)) }
+    ensures fresh { IfOk result (λ popped. IfSome popped (λ fresh. (fresh.room ≡ room_in (setup_of arena.now).table class) × IsFreshOf (view hand.new) fresh.chunk fresh.room)) }
+    ensures gains { IfOk result (λ popped. IfSome popped (λ fresh. GainsFresh (view hand.old) fresh.chunk fresh.room (view hand.new))) }
+    ensures none { result ≡ Ok None → FindsNoFree class (view hand.old) held.old.shared (view hand.new) held.new.shared × (view hand.new ≡ with_seen (view hand.old) (view hand.new)) }
+    ensures worn { OnErr result (FindsWorn class (view hand.old) held.old.shared (view hand.new) held.new.shared × (view hand.new ≡ with_seen (view hand.old) (view hand.new))) }
+{
+    match arena.pop(hand, held, class) {
+        Ok(Some(fresh)) => return Ok(Some(fresh)),
+        Ok(None) => {}
+        Err(error) => return Err(error),
+    }
+    arena.sweep(hand, held, class);
+    arena.pop(hand, held, class)
+}
+
+// Cuts all chunks of a page that was just given to a class.
+pub(crate) fn cut_page(
+    arena: &Arena,
+    hand: &mut Hand,
+    held: &mut SlabsHeld,
+    page: PageId,
+    per_page: u64,
+)
+    requires arena { IsHandOf arena.now hand.old }
+    requires held { (view hand.old).slabs ≡ Some held.old.shared }
+    requires first { held.old.shared.uncut ≡ Some (record { page = page; index = 0 }) }
+    requires chunks { (class_of_chunk held.old.shared (record { page = page; index = 0 })).per_page ≡ per_page }
+    requires some { 1 ≤ per_page }
+    ensures arena { IsHandOf arena.now hand.new }
+    ensures locks { hand.new.locks ≡ hand.old.locks }
+    ensures held { (view hand.new).slabs ≡ Some held.new.shared }
+    ensures cuts { CutsEach (first_chunks page per_page) (view hand.old) held.old.shared (view hand.new) held.new.shared }
+    ensures shared { held.new.shared ≡ fold after_cut held.old.shared (first_chunks page per_page) }
+    ensures whole { held.new.shared.uncut ≡ None }
+    ensures seen { view hand.new ≡ with_seen (view hand.old) (view hand.new) }
+{
+    for index in 0..per_page {
+        arena.cut(hand, held, page, index);
+    }
+}
+
+// Gives the class the next page, if there is one, and cuts all its chunks.
+pub(crate) fn grow_for(
+    arena: &Arena,
+    hand: &mut Hand,
+    held: &mut SlabsHeld,
+    class: ClassId,
+) -> Result<bool, NoMemory>
+    requires arena { IsHandOf arena.now hand.old }
+    requires class { is_class (setup_of arena.now).table class ≡ true }
+    requires held { (view hand.old).slabs ≡ Some held.old.shared }
+    requires whole { held.old.shared.uncut ≡ None }
+    ensures arena { IsHandOf arena.now hand.new }
+    ensures locks { hand.new.locks ≡ hand.old.locks }
+    ensures held { (view hand.new).slabs ≡ Some held.new.shared }
+    ensures grows { result ≡ Ok true → Grows hand.old.number class (view hand.old) held.old.shared (view hand.new) held.new.shared }
+    ensures free { result ≡ Ok true → is_some (first_free (class_at held.new.shared class)) ≡ true }
+    ensures whole { held.new.shared.uncut ≡ None }
+    ensures seen { view hand.new ≡ with_seen (view hand.old) (view hand.new) }
+    ensures none { result ≡ Ok false → (next_page held.old.shared ≡ None) × (held.new.shared ≡ held.old.shared) × (view hand.new ≡ view hand.old) }
+    ensures same { OnErr result ((held.new.shared ≡ held.old.shared) × (view hand.new ≡ view hand.old)) }
+{
+    let per_page = held.slabs().per_page(class);
+    match arena.grow(hand, held, class) {
+        Ok(page) => {
+            cut_page(arena, hand, held, page, per_page);
+            Ok(true)
+        }
+        Err(Grow::NoRoom) => Ok(false),
+        Err(Grow::NoMemory) => Err(NoMemory),
+    }
+}
