@@ -4,7 +4,7 @@ use Rattle.std.specs.Option.{option_map_or}
 use Rattle.mc_pages.specs.declared.ids.ChunkId.{ChunkId}
 use Rattle.mc_stripe.specs.declared.history.Call.TheVariants.{Set}
 use Rattle.mc_core.specs.declared.holding.Holding.{Holding}
-use Rattle.mc_core.specs.Holdings.{Words, holding_of, is_complete, item_in, key_in, numbers, stamp_in, words_of}
+use Rattle.mc_core.specs.Holdings.{Words, all_known, holding_of, is_complete, item_in, key_in, numbers, stamp_in, words_of}
 use Rattle.mc_core.specs.Past.{Own, Saying}
 use Rattle.mc_words.specs.View.{View}
 use Rattle.mc_words.specs.Called.{with_own_call}
@@ -26,6 +26,11 @@ filled_still chunk key stamp view now same filled = record {
   same_key = ap (λ (hs : List Holding). key_in (words_among chunk hs)) same ∙ filled.same_key;
   same_stamp = ap (λ (hs : List Holding). stamp_in (words_among chunk hs)) same ∙ filled.same_stamp;
 }
+
+-- known words as numbers
+pub numbers_known : (item : List ℕ) → numbers (all_known item) ≡ item
+numbers_known [] = refl
+numbers_known (word ∷ item) = ap (λ (l : List ℕ). word ∷ l) (numbers_known item)
 
 module _ (number stripe key : ℕ) (fresh : Fresh) (view now : View) (stored : StoresItem number stripe key fresh view now) where
   -- the hand's own calls have the one more
