@@ -3,6 +3,7 @@ pub mod Hands
 pub mod Locks
 pub mod Gets
 pub mod Deletes
+pub mod Tells
 pub mod Fills
 pub mod Stores
 pub mod Stored
