@@ -7,3 +7,4 @@ pub mod Tells
 pub mod Fills
 pub mod Stores
 pub mod Stored
+pub mod Popped
