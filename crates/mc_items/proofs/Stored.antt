@@ -11,7 +11,9 @@ use Rattle.mc_words.specs.Called.{with_own_call}
 use Rattle.mc_words.specs.Items.{issue_in, words_in}
 use Rattle.mc_words.specs.Linking.{IsItemFilled, own_item}
 use Rattle.mc_words.specs.declared.held.Fresh.{Fresh}
-use Rattle.mc_items.specs.Storing.{StoresItem}
+use Rattle.mc_items.specs.Calls.{TellsNoCall}
+use Rattle.mc_items.specs.Storing.{LeavesDead, StoresItem}
+use Rattle.mc_items.proofs.Tells.{told_none}
 use Rattle.mc_items.proofs.Locks.{waits_keep}
 
 -- the words of the chunk among these holdings
@@ -48,3 +50,7 @@ module _ (number stripe key : ℕ) (fresh : Fresh) (view now : View) (stored : S
       ∙ (ap (λ (v : View). v.row.knows.said) stored.stores.done.given
       ∙ (ap (λ (v : View). v.row.knows.said) stored.stores.done.does.0
       ∙ ap (λ (p : List Saying × List Holding). p.0 ++ record { stamp = fresh.stamp; words = numbers (item_in (words_among fresh.chunk p.1)) } ∷ []) (waits_keep (λ (v : View). (v.row.knows.said, v.row.holdings)) stripe (λ word v. refl) (λ value v. refl) view stored.stores.value stored.stores.taken stored.stores.waits)))
+
+-- who gave its chunk up told nothing
+pub dead_told : (stripe : ℕ) (chunk : ChunkId) (view now : View) → LeavesDead stripe chunk view now → TellsNoCall view now
+dead_told stripe chunk view now dead = ap (λ (v : View). v.row.knows.mine) dead.dropped ∙ told_none stripe view dead.given dead.waits

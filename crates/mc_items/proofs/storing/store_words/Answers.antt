@@ -1,6 +1,6 @@
-use Rattle.std.proofs.Common.{◌≡◌, ◌%◌, ℕ, List, [], ◌∷◌, ◌++◌, OnOk, ap, subst, ◌∙◌}
+use Rattle.std.proofs.Common.{◌≡◌, ◌%◌, ℕ, List, [], ◌∷◌, ◌++◌, OnErr, OnOk, ap, subst, ◌∙◌}
 use Rattle.mc_core.specs.Holdings.{numbers}
-use Rattle.mc_core.specs.Past.{Saying}
+use Rattle.mc_core.specs.Past.{Own, Saying}
 use Rattle.mc_words.specs.View.{View}
 use Rattle.mc_words.specs.declared.held.Fresh.{Fresh}
 use Rattle.mc_items.specs.Storing.{StoresItem, item_with}
@@ -25,3 +25,8 @@ returns-clause-said g c =
     let words = ap numbers fill.ensures.words ∙ numbers_known item in
     let said = ap (λ (v : View). v.row.knows.said) fill.ensures.filled in
     subst (λ (p : List Saying × ℕ × List ℕ). OnOk c.store.result (last.row.knows.said ≡ p.0 ++ record { stamp = p.1; words = p.2 } ∷ [])) (λ k. (said k, fill.ensures.stamp k, words k)) c.store.ensures.said
+
+pub returns-clause-refused : goal.returns-clause-refused
+returns-clause-refused g c =
+    let last : View = c.store.new.hand.seat.me.0 in
+    subst (λ (mine : List Own). OnErr c.store.result (last.row.knows.mine ≡ mine)) (ap (λ (v : View). v.row.knows.mine) c.fill_item.ensures.filled) c.store.ensures.refused
