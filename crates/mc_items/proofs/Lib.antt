@@ -10,3 +10,4 @@ pub mod Stored
 pub mod Supplies
 pub mod Growing
 pub mod Evicts
+pub mod Popped

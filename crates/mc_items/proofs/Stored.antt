@@ -4,14 +4,16 @@ use Rattle.std.specs.Option.{option_map_or}
 use Rattle.mc_pages.specs.declared.ids.ChunkId.{ChunkId}
 use Rattle.mc_stripe.specs.declared.history.Call.TheVariants.{Set}
 use Rattle.mc_core.specs.declared.holding.Holding.{Holding}
-use Rattle.mc_core.specs.Holdings.{Words, holding_of, is_complete, item_in, key_in, numbers, stamp_in, words_of}
+use Rattle.mc_core.specs.Holdings.{Words, all_known, holding_of, is_complete, item_in, key_in, numbers, stamp_in, words_of}
 use Rattle.mc_core.specs.Past.{Own, Saying}
 use Rattle.mc_words.specs.View.{View}
 use Rattle.mc_words.specs.Called.{with_own_call}
 use Rattle.mc_words.specs.Items.{issue_in, words_in}
 use Rattle.mc_words.specs.Linking.{IsItemFilled, own_item}
 use Rattle.mc_words.specs.declared.held.Fresh.{Fresh}
-use Rattle.mc_items.specs.Storing.{StoresItem}
+use Rattle.mc_items.specs.Calls.{TellsNoCall}
+use Rattle.mc_items.specs.Storing.{LeavesDead, StoresItem}
+use Rattle.mc_items.proofs.Tells.{told_none}
 use Rattle.mc_items.proofs.Locks.{waits_keep}
 
 -- the words of the chunk among these holdings
@@ -26,6 +28,11 @@ filled_still chunk key stamp view now same filled = record {
   same_key = ap (λ (hs : List Holding). key_in (words_among chunk hs)) same ∙ filled.same_key;
   same_stamp = ap (λ (hs : List Holding). stamp_in (words_among chunk hs)) same ∙ filled.same_stamp;
 }
+
+-- known words as numbers
+pub numbers_known : (item : List ℕ) → numbers (all_known item) ≡ item
+numbers_known [] = refl
+numbers_known (word ∷ item) = ap (λ (l : List ℕ). word ∷ l) (numbers_known item)
 
 module _ (number stripe key : ℕ) (fresh : Fresh) (view now : View) (stored : StoresItem number stripe key fresh view now) where
   -- the hand's own calls have the one more
@@ -43,3 +50,7 @@ module _ (number stripe key : ℕ) (fresh : Fresh) (view now : View) (stored : S
       ∙ (ap (λ (v : View). v.row.knows.said) stored.stores.done.given
       ∙ (ap (λ (v : View). v.row.knows.said) stored.stores.done.does.0
       ∙ ap (λ (p : List Saying × List Holding). p.0 ++ record { stamp = fresh.stamp; words = numbers (item_in (words_among fresh.chunk p.1)) } ∷ []) (waits_keep (λ (v : View). (v.row.knows.said, v.row.holdings)) stripe (λ word v. refl) (λ value v. refl) view stored.stores.value stored.stores.taken stored.stores.waits)))
+
+-- who gave its chunk up told nothing
+pub dead_told : (stripe : ℕ) (chunk : ChunkId) (view now : View) → LeavesDead stripe chunk view now → TellsNoCall view now
+dead_told stripe chunk view now dead = ap (λ (v : View). v.row.knows.mine) dead.dropped ∙ told_none stripe view dead.given dead.waits

@@ -1,9 +1,9 @@
 //! Items that are linked to their keys, in place of those that were there.
-ghost use Rattle.std.specs.Prelude.{◌≡◌, ◌%◌, ◌++◌, ◌∷◌, [], true, map, slice_index_or, None, Some, IfOk, OnOk, OnErr};
-ghost use Rattle.mc_stripe.specs.declared.history.Call.TheVariants.{Set};
+ghost use Rattle.std.specs.Prelude.{◌≡◌, ◌+◌, ◌≤◌, ◌%◌, ◌++◌, ◌∷◌, [], true, length, slice_index_or, None, Some, IfOk, OnOk, OnErr};
+ghost use Rattle.mc_stripe.specs.declared.history.Call.TheVariants as call;
 ghost use Rattle.mc_core.specs.Holdings.{has_fresh, item_in, numbers};
 ghost use Rattle.mc_words.specs.Arenas.{IsHandOf, setup_of, view};
-ghost use Rattle.mc_words.specs.Called.{key_lifted, with_own_call};
+ghost use Rattle.mc_words.specs.Called.{key_lifted};
 ghost use Rattle.mc_words.specs.Fresh.{IsFreshOf};
 ghost use Rattle.mc_words.specs.Idle.{is_unlocked};
 ghost use Rattle.mc_words.specs.Items.{issue_in, words_in};
@@ -13,17 +13,48 @@ ghost use Rattle.mc_words.specs.Out.{without_stripe};
 ghost use Rattle.mc_words.specs.Refs.{IsRefOf};
 ghost use Rattle.mc_words.specs.Tallies.{next_stamp};
 ghost use Rattle.mc_words.specs.Views.{chunk_dropped, stripe_given};
-ghost use Rattle.mc_items.specs.Calls.{IsDone};
-ghost use Rattle.mc_items.specs.Storing.{LeavesDead, Stores, StoresItem, stripe_lifted};
+ghost use Rattle.mc_items.specs.Calls.{IsDone, TellsCall, TellsNoCall};
+ghost use Rattle.mc_items.specs.Storing.{IsOwnItem, LeavesDead, Stores, StoresItem, item_filled, item_with, stripe_lifted};
 
+use crate::filling::fill_item;
 use mc_stripe::NoMemory;
 use mc_words::{Arena, Fresh, Hand, StripeHeld};
 use std::sync::Wait;
 
+// Writes an item into the fresh chunk, and stores it under its key. No reference is left. At want of memory the key is as before,
+// and the chunk is dead. (items.c's `do_item_alloc` from the chunk on, and then `do_store_item` of a set)
+pub(crate) fn store_words<R: Wait>(
+    rt: &R,
+    arena: &Arena,
+    hand: &mut Hand,
+    fresh: Fresh,
+    key: u64,
+    stamp: u64,
+    words: &[u64],
+) -> Result<(), NoMemory>
+    requires arena { IsHandOf arena.now hand.old }
+    requires unlocked { is_unlocked (view hand.old) ≡ true }
+    requires fresh { IsFreshOf (view hand.old) fresh.chunk fresh.room }
+    requires own { IsOwnItem (view hand.old) fresh.chunk }
+    requires room { 3 + length words.now ≤ fresh.room }
+    requires stamp { next_stamp (view hand.old).row.ids ≡ Some stamp }
+    ensures arena { IsHandOf arena.now hand.new }
+    ensures locks { hand.new.locks ≡ hand.old.locks }
+    ensures stores { OnOk result (StoresItem hand.old.number (key % (setup_of arena.now).config.stripes) key (record fresh { key = key; stamp = stamp }) (item_filled fresh.chunk (item_with key stamp words.now) (view hand.old)) (view hand.new)) }
+    ensures calls { OnOk result (TellsCall hand.old.number (key % (setup_of arena.now).config.stripes) (call.Set hand.old.number key stamp) (view hand.old) (view hand.new)) }
+    ensures said { OnOk result ((view hand.new).row.knows.said ≡ (view hand.old).row.knows.said ++ record { stamp = stamp; words = item_with key stamp words.now } ∷ []) }
+    ensures no_memory { OnErr result (LeavesDead (key % (setup_of arena.now).config.stripes) fresh.chunk (item_filled fresh.chunk (item_with key stamp words.now) (view hand.old)) (view hand.new)) }
+    ensures refused { OnErr result (TellsNoCall (view hand.old) (view hand.new)) }
+{
+    let mut fresh = fresh;
+    fill_item(arena, hand, &mut fresh, key, stamp, words);
+    store(rt, arena, hand, fresh, key)
+}
+
 // Stores the item that the hand filled the chunk with under its key, and waits for the lock of the key's stripe. The item that the
 // key had is unlinked. No reference is left. At want of memory the key is as before, and the chunk is dead. (items.c's
 // `item_replace`, or `do_item_link`, and then `do_item_remove`)
-pub(crate) fn store<R: Wait>(
+fn store<R: Wait>(
     rt: &R,
     arena: &Arena,
     hand: &mut Hand,
@@ -39,9 +70,10 @@ pub(crate) fn store<R: Wait>(
     ensures arena { IsHandOf arena.now hand.new }
     ensures locks { hand.new.locks ≡ hand.old.locks }
     ensures stores { OnOk result (StoresItem hand.old.number (key % (setup_of arena.now).config.stripes) key fresh (view hand.old) (view hand.new)) }
-    ensures mine { OnOk result ((view hand.new).row.knows.mine ≡ map (with_own_call hand.old.number (key % (setup_of arena.now).config.stripes) (Set hand.old.number key fresh.stamp)) (view hand.old).row.knows.mine) }
+    ensures calls { OnOk result (TellsCall hand.old.number (key % (setup_of arena.now).config.stripes) (call.Set hand.old.number key fresh.stamp) (view hand.old) (view hand.new)) }
     ensures said { OnOk result ((view hand.new).row.knows.said ≡ (view hand.old).row.knows.said ++ record { stamp = fresh.stamp; words = numbers (item_in (words_in (view hand.old) fresh.chunk)) } ∷ []) }
     ensures no_memory { OnErr result (LeavesDead (key % (setup_of arena.now).config.stripes) fresh.chunk (view hand.old) (view hand.new)) }
+    ensures refused { OnErr result (TellsNoCall (view hand.old) (view hand.new)) }
 {
     let stripe = key % arena.config().stripes;
     let held = arena.lock_stripe(rt, hand, stripe);

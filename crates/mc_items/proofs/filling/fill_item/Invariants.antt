@@ -1,4 +1,4 @@
-use Rattle.std.proofs.Common.{◌≡◌, ◌≤◌, ℕ, ◌∷◌, length, take}
+use Rattle.std.proofs.Common.{◌≡◌, ◌∷◌, length, take}
 use Rattle.mc_words.specs.Arenas.{IsHandOf, view}
 use Rattle.mc_words.specs.Fresh.{IsFreshOf}
 use Rattle.mc_items.specs.Storing.{item_filled}

@@ -9,11 +9,11 @@ use Rattle.mc_words.specs.Tallies.{next_stamp}
 use Rattle.mc_words.specs.View.{View}
 use Rattle.mc_words.specs.Views.{chunk_dropped, stripe_given}
 use Rattle.mc_words.specs.Waiting.{WaitsForStripe}
-use Rattle.mc_items.specs.Storing.{Stores, StoresItem}
+use Rattle.mc_items.specs.Storing.{LeavesDead, Stores, StoresItem}
 use Rattle.mc_items.proofs.Gets.{called_on, only_waits}
 use Rattle.mc_items.proofs.Hands.{number_stays}
 use Rattle.mc_items.proofs.Locks.{locks_back, waits_keep}
-use Rattle.mc_items.proofs.Stored.{filled_still, stored_mine, stored_said}
+use Rattle.mc_items.proofs.Stored.{dead_told, filled_still, stored_mine, stored_said}
 use Rattle.mc_items.proofs.storing.store.Goals as goal
 
 pub store_at-requires-clause-fresh : goal.store_at-requires-clause-fresh
@@ -66,8 +66,8 @@ returns-in-Ok-clause-stores g c =
     } in
     stored
 
-pub returns-in-Ok-clause-mine : goal.returns-in-Ok-clause-mine
-returns-in-Ok-clause-mine g c =
+pub returns-in-Ok-clause-calls : goal.returns-in-Ok-clause-calls
+returns-in-Ok-clause-calls g c =
     let hand = c.args.hand.now in
     let held = c.lock_stripe-held in
     let before : View = hand.seat.me.0 in
@@ -124,3 +124,19 @@ returns-in-Err-clause-no_memory g c =
       waits = only_waits stripe held.result.number held.result.stripe before taken given (held.ensures.number ∙ at) (subst (λ (n : ℕ). WaitsForStripe n before held.result.stripe taken) at held.ensures.waits) refl;
       dropped = c.in-Err.ensures.given;
     }
+
+pub returns-in-Err-clause-refused : goal.returns-in-Err-clause-refused
+returns-in-Err-clause-refused g c =
+    let hand = c.args.hand.now in
+    let held = c.lock_stripe-held in
+    let before : View = hand.seat.me.0 in
+    let taken : View = held.new.hand.seat.me.0 in
+    let at : c.args.key % c.config.result.now.stripes ≡ c.args.key % c.args.arena.now.table.shared.key.config.stripes = ap (λ (f : Config). c.args.key % f.stripes) c.config.ensures.config in
+    let stripe = c.args.key % c.args.arena.now.table.shared.key.config.stripes in
+    let given : View = stripe_given held.result.number held.result.stripe taken in
+    let dead : LeavesDead stripe c.args.fresh.chunk before c.store_at.new.hand.seat.me.0 = record {
+      given = given;
+      waits = only_waits stripe held.result.number held.result.stripe before taken given (held.ensures.number ∙ at) (subst (λ (n : ℕ). WaitsForStripe n before held.result.stripe taken) at held.ensures.waits) refl;
+      dropped = c.in-Err.ensures.given;
+    } in
+    dead_told stripe c.args.fresh.chunk before c.store_at.new.hand.seat.me.0 dead
