@@ -2,9 +2,11 @@
 use Rattle.std.proofs.Common.{◌≡◌, ℕ, ◌+◌, true, Option, Some, None, IfSome, refl, sym, ap, subst, ◌∙◌, Contains}
 use Rattle.std.proofs.lemmas.List.Elements.{Contains-push}
 use Rattle.mc_pages.specs.declared.ids.ChunkId.{ChunkId}
-use Rattle.mc_stripe.specs.StripeState.{ReadyStripe, place_of}
+use Rattle.mc_stripe.specs.StripeState.{ReadyStripe, place_of, stamp_of}
 use Rattle.mc_stripe.specs.Changes.{after_got, used_up}
 use Rattle.mc_core.specs.declared.holding.Holding.{Holding}
+use Rattle.std.specs.Option.{option_map}
+use Rattle.mc_core.specs.Holdings as items
 use Rattle.mc_core.specs.Past.{known_by}
 use Rattle.mc_words.specs.View.{View}
 use Rattle.mc_words.specs.Called.{key_missed}
@@ -83,3 +85,14 @@ looked_up number stripe value key None view made got now number' stripe' stripe'
 pub some_both : {A : Type 0} (P Q R : A → Type 0) (o : Option A) → ((a : A) → P a → Q a → R a) → IfSome o P → IfSome o Q → IfSome o R
 some_both P Q R (Some a) next p q = next a p q
 some_both P Q R None next p q = tt
+
+-- the stamp that the stripe has is that of the item that was got
+pub stamp_found : (value ready left : ReadyStripe) (key number' stripe' stripe'' : ℕ) (found : Option Ref) (made got last : View) → ready ≡ record value { ready = true } → last ≡ stripe_given stripe'' left got → LawfulView got
+    → IfSome found (λ r. GetsItem made number' stripe' ready key r.chunk r.issue r.room got) → (found ≡ None → place_of ready.state key ≡ None)
+    → stamp_of value.state key ≡ option_map (λ (r : Ref). items.stamp_of (held_item last r.chunk)) found
+stamp_found value ready left key number' stripe' stripe'' (Some r) made got last readies given was gets misses =
+    ap (λ (v : ReadyStripe). stamp_of v.state key) (sym readies)
+    ∙ (ap (λ (o : Option (ChunkId × ℕ)). option_map (λ (p : ChunkId × ℕ). p.1) o) gets.leads
+    ∙ ap Some (sym (ap (λ (v : View). items.stamp_of (held_item v r.chunk)) given ∙ (ap items.stamp_of (got_item made got number' stripe' ready key r.chunk r.issue r.room gets was) ∙ gets.stamp_is))))
+stamp_found value ready left key number' stripe' stripe'' None made got last readies given was gets misses =
+    ap (λ (v : ReadyStripe). stamp_of v.state key) (sym readies) ∙ ap (λ (o : Option (ChunkId × ℕ)). option_map (λ (p : ChunkId × ℕ). p.1) o) (misses refl)

@@ -3,8 +3,13 @@ pub mod Hands
 pub mod Locks
 pub mod Gets
 pub mod Deletes
+pub mod Tells
+pub mod Fills
+pub mod Stores
+pub mod Stored
 pub mod Supplies
 pub mod Growing
 pub mod Evicts
 pub mod Reaches
 pub mod FreesEvicted
+pub mod Popped

@@ -1,12 +1,13 @@
 -- Calls on keys: the lock of the key's stripe is taken, the call is made there, and the lock is given back.
-use Rattle.std.specs.Prelude.{◌≡◌, ℕ, ◌+◌, Bool, true, is_some, if◌then◌else◌, Option, Some, None}
+use Rattle.std.specs.Prelude.{◌≡◌, ℕ, ◌+◌, Bool, true, is_some, if◌then◌else◌, map, Option, Some, None}
 use Rattle.mc_pages.specs.SlabState.{SlabState}
 use Rattle.mc_pages.specs.Changes.{after_touch}
 use Rattle.mc_core.specs.declared.event.Change.TheVariants.{Touch}
+use Rattle.mc_stripe.specs.declared.history.Call.{Call}
 use Rattle.mc_stripe.specs.StripeState.{ReadyStripe, place_of}
 use Rattle.mc_stripe.specs.Changes.{after_got, after_unlink, used_up}
 use Rattle.mc_words.specs.View.{View}
-use Rattle.mc_words.specs.Called.{key_deleted, key_missed, key_not_deleted}
+use Rattle.mc_words.specs.Called.{with_own_call, key_deleted, key_missed, key_not_deleted}
 use Rattle.mc_words.specs.Lent.{IsLentStripe}
 use Rattle.mc_words.specs.Referring.{GetsItem}
 use Rattle.mc_words.specs.Views.{chunk_dropped, slabs_changed, slabs_given, stripe_given, stripe_reserved}
@@ -70,3 +71,11 @@ Deletes number stripe key there value view left now =
     (there ≡ is_some (place_of value.state key))
     × (now ≡ (if there then key_deleted number stripe value key true view else key_not_deleted number stripe value key view))
     × (left ≡ used_up (after_unlink value.state number key))
+
+-- of the hand's own calls on keys of this stripe this one came last, and of no others came any
+abbrev pub TellsCall : ℕ → ℕ → Call → View → View → Type 0
+TellsCall number stripe call view now = now.row.knows.mine ≡ map (with_own_call number stripe call) view.row.knows.mine
+
+-- the hand's own calls are as before
+abbrev pub TellsNoCall : View → View → Type 0
+TellsNoCall view now = now.row.knows.mine ≡ view.row.knows.mine

@@ -1,5 +1,5 @@
 -- References to items, and what is known of each.
-use Rattle.std.specs.Prelude.{◌≡◌, ℕ, ◌+◌, length}
+use Rattle.std.specs.Prelude.{◌≡◌, ◌+◌, length}
 use Rattle.mc_core.specs.Holdings.{key_of, stamp_of}
 use Rattle.mc_words.specs.View.{View}
 use Rattle.mc_words.specs.Items.{held_item}

@@ -1,3 +1,4 @@
 pub mod ItemRefs
 pub mod Calls
+pub mod Storing
 pub mod Supplying

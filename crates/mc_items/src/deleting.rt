@@ -1,12 +1,13 @@
 //! Keys that are deleted.
 ghost use Rattle.std.specs.Prelude.{◌≡◌, ◌%◌, true, false, IfOk, OnErr};
+ghost use Rattle.mc_stripe.specs.declared.history.Call.TheVariants as call;
 ghost use Rattle.mc_core.specs.Holdings.{has_fresh};
 ghost use Rattle.mc_words.specs.Arenas.{IsHandOf, setup_of, view};
 ghost use Rattle.mc_words.specs.Idle.{is_unlocked};
 ghost use Rattle.mc_words.specs.Lent.{IsLentStripe};
 ghost use Rattle.mc_words.specs.Out.{without_stripe};
 ghost use Rattle.mc_words.specs.Views.{stripe_given};
-ghost use Rattle.mc_items.specs.Calls.{CallsOn, Deletes, IsDone, OnlyWaits};
+ghost use Rattle.mc_items.specs.Calls.{CallsOn, Deletes, IsDone, OnlyWaits, TellsCall, TellsNoCall};
 
 use mc_stripe::NoMemory;
 use mc_words::{Arena, Hand, StripeHeld};
@@ -21,6 +22,8 @@ pub fn delete<R: Wait>(rt: &R, arena: &Arena, hand: &mut Hand, key: u64) -> Resu
     ensures arena { IsHandOf arena.now hand.new }
     ensures locks { hand.new.locks ≡ hand.old.locks }
     ensures deletes { IfOk result (λ there. CallsOn hand.old.number (key % (setup_of arena.now).config.stripes) (Deletes hand.old.number (key % (setup_of arena.now).config.stripes) key there) (view hand.old) (view hand.new)) }
+    ensures calls { IfOk result (λ there. TellsCall hand.old.number (key % (setup_of arena.now).config.stripes) (call.Delete hand.old.number key there) (view hand.old) (view hand.new)) }
+    ensures refused { OnErr result (TellsNoCall (view hand.old) (view hand.new)) }
     ensures no_memory { OnErr result (OnlyWaits (key % (setup_of arena.now).config.stripes) (view hand.old) (view hand.new)) }
 {
     let stripe = key % arena.config().stripes;

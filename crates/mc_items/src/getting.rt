@@ -1,7 +1,9 @@
 //! References to the items of keys, by the locks of their stripes.
 ghost use Rattle.std.specs.Prelude.{◌≡◌, ◌≢◌, ℕ, ◌<◌, ◌≤◌, ◌%◌, ◌↔◌, true, length, Err, IfOk, IfSome, OnErr};
 ghost use Rattle.std.specs.Option.{option_map};
-ghost use Rattle.mc_core.specs.Holdings.{key_of};
+ghost use Rattle.mc_core.specs.Holdings.{key_of, stamp_of};
+ghost use Rattle.mc_stripe.specs.StripeState as stripes;
+ghost use Rattle.mc_stripe.specs.declared.history.Call.TheVariants as call;
 ghost use Rattle.mc_words.specs.Arenas.{IsHandOf, setup_of, view};
 ghost use Rattle.mc_words.specs.Idle.{is_unlocked};
 ghost use Rattle.mc_words.specs.Items.{held_item};
@@ -9,7 +11,7 @@ ghost use Rattle.mc_words.specs.Lent.{IsLentStripe};
 ghost use Rattle.mc_words.specs.Refs.{IsIssueOf, IsRefOf};
 ghost use Rattle.mc_words.specs.Out.{without_stripe};
 ghost use Rattle.mc_words.specs.Views.{stripe_given, stripe_missed};
-ghost use Rattle.mc_items.specs.Calls.{CallsOn, IsDone, LooksUp, OnlyWaits};
+ghost use Rattle.mc_items.specs.Calls.{CallsOn, IsDone, LooksUp, OnlyWaits, TellsCall, TellsNoCall};
 ghost use Rattle.mc_items.specs.ItemRefs.{IsItemRef};
 
 use crate::refs::{Ref, look_at};
@@ -40,6 +42,8 @@ pub fn get<R: Wait>(
     ensures locks { hand.new.locks ≡ hand.old.locks }
     ensures gets { IfOk result (λ found. CallsOn hand.old.number (key % (setup_of arena.now).config.stripes) (LooksUp hand.old.number (key % (setup_of arena.now).config.stripes) key (option_map (λ r. r.reference) found)) (view hand.old) (view hand.new)) }
     ensures item { IfOk result (λ found. IfSome found (λ item. IsItemRef (view hand.new) item × (item.key ≡ key))) }
+    ensures calls { IfOk result (λ found. TellsCall hand.old.number (key % (setup_of arena.now).config.stripes) (call.Get hand.old.number key (option_map (λ item. item.stamp) found)) (view hand.old) (view hand.new)) }
+    ensures refused { OnErr result (TellsNoCall (view hand.old) (view hand.new)) }
     ensures many { (result ≡ Err GetError.TooManyRefs) ↔ (255 ≤ length (view hand.old).row.holdings) }
     ensures same { result ≡ Err GetError.TooManyRefs → view hand.new ≡ view hand.old }
     ensures no_memory { result ≡ Err GetError.NoMemory → OnlyWaits (key % (setup_of arena.now).config.stripes) (view hand.old) (view hand.new) }
@@ -75,6 +79,8 @@ pub fn try_get(arena: &Arena, hand: &mut Hand, key: u64) -> Result<Option<Ref>, 
     ensures locks { hand.new.locks ≡ hand.old.locks }
     ensures gets { IfOk result (λ found. CallsOn hand.old.number (key % (setup_of arena.now).config.stripes) (LooksUp hand.old.number (key % (setup_of arena.now).config.stripes) key (option_map (λ r. r.reference) found)) (view hand.old) (view hand.new)) }
     ensures item { IfOk result (λ found. IfSome found (λ item. IsItemRef (view hand.new) item × (item.key ≡ key))) }
+    ensures calls { IfOk result (λ found. TellsCall hand.old.number (key % (setup_of arena.now).config.stripes) (call.Get hand.old.number key (option_map (λ item. item.stamp) found)) (view hand.old) (view hand.new)) }
+    ensures refused { OnErr result (TellsNoCall (view hand.old) (view hand.new)) }
     ensures many { (result ≡ Err TryGetError.TooManyRefs) ↔ (255 ≤ length (view hand.old).row.holdings) }
     ensures same { result ≡ Err TryGetError.TooManyRefs → view hand.new ≡ view hand.old }
     ensures held { result ≡ Err TryGetError.Held → (word : ℕ) × (word ≢ 0) × (view hand.new ≡ stripe_missed (key % (setup_of arena.now).config.stripes) word (view hand.old)) }
@@ -108,6 +114,7 @@ fn look_up(
     ensures locks { hand.new.locks ≡ without_stripe hand.old.locks }
     ensures done { IfOk result (λ found. IsDone hand.old.number held.number held.stripe (LooksUp hand.old.number held.number key (option_map (λ r. r.reference) found)) (view hand.old) (view hand.new)) }
     ensures item { IfOk result (λ found. IfSome found (λ item. IsItemRef (view hand.new) item × (item.key ≡ key))) }
+    ensures calls { IfOk result (λ found. TellsCall hand.old.number held.number (call.Get hand.old.number key (option_map (λ item. item.stamp) found)) (view hand.old) (view hand.new)) }
     ensures given { OnErr result (view hand.new ≡ stripe_given held.number held.stripe (view hand.old)) }
 {
     match refer_at(arena, hand, held, key) {
@@ -131,6 +138,7 @@ pub(crate) fn refer_at(
     ensures arena { IsHandOf arena.now hand.new }
     ensures locks { hand.new.locks ≡ without_stripe hand.old.locks }
     ensures done { IfOk result (λ found. IsDone hand.old.number held.number held.stripe (LooksUp hand.old.number held.number key found) (view hand.old) (view hand.new)) }
+    ensures stamp { IfOk result (λ found. stripes.stamp_of held.stripe.state key ≡ option_map (λ r. stamp_of (held_item (view hand.new) r.chunk)) found) }
     ensures reference { IfOk result (λ found. IfSome found (λ r. IsRefOf (view hand.new) r.chunk r.room × IsIssueOf (view hand.new) r.chunk r.issue × (key_of (held_item (view hand.new) r.chunk) ≡ key))) }
     ensures given { OnErr result (view hand.new ≡ stripe_given held.number held.stripe (view hand.old)) }
 {

@@ -6,10 +6,12 @@
 
 mod deleting;
 mod evicting;
+mod filling;
 mod getting;
 mod hinting;
 mod reading;
 mod refs;
+mod storing;
 mod supplying;
 mod touching;
 

@@ -1,8 +1,9 @@
 //! Keys that are touched.
-ghost use Rattle.std.specs.Prelude.{◌≡◌, ◌≤◌, ◌%◌, true, false, length, Ok, OnErr};
+ghost use Rattle.std.specs.Prelude.{◌≡◌, ℕ, ◌≤◌, ◌%◌, true, false, length, is_some, Option, Ok, IfOk, OnErr};
+ghost use Rattle.mc_stripe.specs.declared.history.Call.TheVariants as call;
 ghost use Rattle.mc_words.specs.Arenas.{IsHandOf, setup_of, view};
 ghost use Rattle.mc_words.specs.Idle.{is_unlocked};
-ghost use Rattle.mc_items.specs.Calls.{CallsOn, FindsNone, OnlyWaits, Touches};
+ghost use Rattle.mc_items.specs.Calls.{CallsOn, FindsNone, OnlyWaits, TellsCall, TellsNoCall, Touches};
 
 use crate::getting::refer_at;
 use mc_stripe::NoMemory;
@@ -20,6 +21,8 @@ pub fn touch<R: Wait>(rt: &R, arena: &Arena, hand: &mut Hand, key: u64) -> Resul
     ensures locks { hand.new.locks ≡ hand.old.locks }
     ensures touches { result ≡ Ok true → Touches hand.old.number (key % (setup_of arena.now).config.stripes) key (view hand.old) (view hand.new) }
     ensures none { result ≡ Ok false → CallsOn hand.old.number (key % (setup_of arena.now).config.stripes) (FindsNone hand.old.number (key % (setup_of arena.now).config.stripes) key) (view hand.old) (view hand.new) }
+    ensures calls { IfOk result (λ there. (stamp : Option ℕ) × (is_some stamp ≡ there) × TellsCall hand.old.number (key % (setup_of arena.now).config.stripes) (call.Get hand.old.number key stamp) (view hand.old) (view hand.new)) }
+    ensures refused { OnErr result (TellsNoCall (view hand.old) (view hand.new)) }
     ensures no_memory { OnErr result (OnlyWaits (key % (setup_of arena.now).config.stripes) (view hand.old) (view hand.new)) }
 {
     let stripe = key % arena.config().stripes;

@@ -7,11 +7,13 @@ use Rattle.mc_words.specs.Out.{without_stripe}
 use Rattle.mc_words.specs.View.{View}
 use Rattle.mc_words.specs.Views.{stripe_given}
 use Rattle.mc_words.specs.Waiting.{WaitsForStripe}
-use Rattle.mc_items.specs.Calls.{CallsOn, Deletes, IsDone, OnlyWaits}
+use Rattle.mc_stripe.specs.declared.history.Call.TheVariants.{Delete}
+use Rattle.mc_items.specs.Calls.{CallsOn, Deletes, IsDone, OnlyWaits, TellsCall, TellsNoCall}
 use Rattle.mc_items.proofs.Deletes.{ok_map, err_map}
 use Rattle.mc_items.proofs.Gets.{called_on, only_waits}
 use Rattle.mc_items.proofs.Hands.{number_stays}
 use Rattle.mc_items.proofs.Locks.{locks_back, waits_keep}
+use Rattle.mc_items.proofs.Tells.{deleted_tells, told_none, told_on}
 use Rattle.mc_items.proofs.deleting.delete.Goals as goal
 
 pub delete_at-requires-clause-fresh : goal.delete_at-requires-clause-fresh
@@ -47,3 +49,28 @@ returns-clause-no_memory g c =
     let stripe = c.args.key % c.args.arena.now.table.shared.key.config.stripes in
     err_map (now ≡ stripe_given held.result.number held.result.stripe taken) (OnlyWaits stripe before now) c.delete_at.result
     (only_waits stripe held.result.number held.result.stripe before taken now (held.ensures.number ∙ at) (subst (λ (n : ℕ). WaitsForStripe n before held.result.stripe taken) at held.ensures.waits)) c.delete_at.ensures.given
+
+pub returns-clause-calls : goal.returns-clause-calls
+returns-clause-calls g c =
+    let hand = c.args.hand.now in
+    let held = c.lock_stripe-held in
+    let before : View = hand.seat.me.0 in
+    let taken : View = held.new.hand.seat.me.0 in
+    let now : View = c.delete_at.new.hand.seat.me.0 in
+    let at : c.args.key % c.config.result.now.stripes ≡ c.args.key % c.args.arena.now.table.shared.key.config.stripes = ap (λ (f : Config). c.args.key % f.stripes) c.config.ensures.config in
+    let number = number_stays hand held.new.hand (waits_keep (λ (v : View). v.row.ids) (c.args.key % c.config.result.now.stripes) (λ word v. refl) (λ value v. refl) before held.result.stripe taken held.ensures.waits) in
+    let stripe = c.args.key % c.args.arena.now.table.shared.key.config.stripes in
+    ok_map (λ there. IsDone held.new.hand.number held.result.number held.result.stripe (Deletes held.new.hand.number held.result.number c.args.key there) taken now) (λ there. TellsCall hand.number stripe (Delete hand.number c.args.key there) before now) c.delete_at.result
+    (λ there done. told_on hand.number stripe held.new.hand.number held.result.number (λ number. Delete number c.args.key there) held.result.stripe before taken now number (held.ensures.number ∙ at)
+    (subst (λ (n : ℕ). WaitsForStripe n before held.result.stripe taken) at held.ensures.waits) (deleted_tells held.new.hand.number held.result.number held.result.stripe c.args.key there taken now done)) c.delete_at.ensures.done
+
+pub returns-clause-refused : goal.returns-clause-refused
+returns-clause-refused g c =
+    let held = c.lock_stripe-held in
+    let before : View = c.args.hand.now.seat.me.0 in
+    let taken : View = held.new.hand.seat.me.0 in
+    let now : View = c.delete_at.new.hand.seat.me.0 in
+    let at : c.args.key % c.config.result.now.stripes ≡ c.args.key % c.args.arena.now.table.shared.key.config.stripes = ap (λ (f : Config). c.args.key % f.stripes) c.config.ensures.config in
+    let stripe = c.args.key % c.args.arena.now.table.shared.key.config.stripes in
+    err_map (now ≡ stripe_given held.result.number held.result.stripe taken) (TellsNoCall before now) c.delete_at.result
+    (λ given. told_none stripe before now (only_waits stripe held.result.number held.result.stripe before taken now (held.ensures.number ∙ at) (subst (λ (n : ℕ). WaitsForStripe n before held.result.stripe taken) at held.ensures.waits) given)) c.delete_at.ensures.given

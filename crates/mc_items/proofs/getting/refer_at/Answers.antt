@@ -6,7 +6,7 @@ use Rattle.mc_words.specs.View.{View}
 use Rattle.mc_words.specs.Items.{held_item}
 use Rattle.mc_words.specs.Referring.{GetsItem}
 use Rattle.mc_words.specs.Refs.{IsIssueOf, IsRefOf}
-use Rattle.mc_items.proofs.Gets.{got_item, looked_up, some_both}
+use Rattle.mc_items.proofs.Gets.{got_item, looked_up, some_both, stamp_found}
 use Rattle.mc_items.proofs.Hands.{number_stays}
 use Rattle.mc_items.proofs.getting.refer_at.Goals as goal
 
@@ -33,3 +33,8 @@ returns-clause-reference c =
       ap (λ (v : View). key_of (held_item v r.chunk)) left
           ∙ (ap key_of (got_item was.seat.me.0 got was.number stripe value c.args.key r.chunk r.issue r.room gets c.refer.ensures.arena.lawful) ∙ gets.key_is),
     )) c.in-Ok.ensures.gets c.in-Ok.ensures.reference
+
+pub returns-clause-stamp : goal.returns-clause-stamp
+returns-clause-stamp c =
+    stamp_found c.args.held.stripe c.reserve.new.held.stripe c.refer.new.held.stripe c.args.key c.reserve.new.hand.number c.reserve.new.held.number c.refer.new.held.number c.in-Ok.found c.reserve.new.hand.seat.me.0 c.refer.new.hand.seat.me.0 c.give_stripe-2.new.hand.seat.me.0
+    (ap (λ (h : StripeHeld). h.stripe) c.in_default.ensures.reserved) c.give_stripe-2.ensures.left c.refer.ensures.arena.lawful c.in-Ok.ensures.gets (λ e. (c.in-Ok.ensures.none (ap (λ o. Ok o) e)).0)

@@ -1,5 +1,4 @@
 use Rattle.std.proofs.Common.{◌≡◌, ◌+◌, ◌<◌, ℕ, length, ap, sym, subst, ◌∙◌, arith}
-use Rattle.mc_core.specs.Holdings.{length_of}
 use Rattle.mc_words.specs.View.{View}
 use Rattle.mc_words.specs.Items.{held_item}
 use Rattle.mc_words.specs.Refs.{IsIssueOf}

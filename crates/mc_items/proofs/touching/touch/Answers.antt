@@ -1,4 +1,4 @@
-use Rattle.std.proofs.Common.{◌≡◌, ◌%◌, ◌+◌, ◌<◌, ℕ, List, [], Option, IfSome, refl, ap, sym, subst, ◌∙◌, arith, length}
+use Rattle.std.proofs.Common.{◌≡◌, ◌%◌, ◌+◌, ◌<◌, ℕ, List, [], Option, IfSome, is_some, refl, ap, sym, subst, ◌∙◌, arith, length}
 use Rattle.mc_classes.specs.declared.config.Config.{Config}
 use Rattle.mc_pages.specs.declared.ids.ChunkId.{ChunkId}
 use Rattle.mc_pages.specs.SlabState.{SlabState}
@@ -8,7 +8,7 @@ use Rattle.mc_core.specs.declared.event.Change.TheVariants.{Touch}
 use Rattle.mc_core.specs.Silent.{is_handed_out}
 use Rattle.mc_words.specs.Lent.{IsLentStripe}
 use Rattle.mc_words.specs.Out.{with_slabs, without_slabs, without_stripe}
-use Rattle.mc_core.specs.Holdings.{key_of}
+use Rattle.mc_core.specs.Holdings.{key_of, stamp_of}
 use Rattle.mc_words.specs.declared.refs.Ref.{Ref}
 use Rattle.mc_words.specs.Items.{held_item}
 use Rattle.mc_words.specs.Refs.{IsIssueOf, IsRefOf}
@@ -17,7 +17,11 @@ use Rattle.mc_words.specs.Views.{chunk_dropped, slabs_changed, slabs_given}
 use Rattle.mc_words.specs.Waiting.{WaitsForStripe}
 use Rattle.mc_words.proofs.HeldOut.{held_is_out}
 use Rattle.mc_items.specs.Calls.{Finds, FindsNone, IsDone, LooksUp}
-use Rattle.mc_items.proofs.Gets.{called_on}
+use Rattle.std.specs.Option.{option_map}
+use Rattle.mc_stripe.specs.declared.history.Call.TheVariants.{Get}
+use Rattle.mc_stripe.specs.StripeState.{stamp_of as stripe_stamp}
+use Rattle.mc_items.proofs.Gets.{called_on, only_waits}
+use Rattle.mc_items.proofs.Tells.{looked_tells, told_none, told_on}
 use Rattle.mc_items.proofs.Hands.{number_stays}
 use Rattle.mc_items.proofs.Locks.{locks_back, slabs_back, still_unlocked, waits_keep, waits_slabs_keep}
 use Rattle.mc_items.proofs.touching.touch.Goals as goal
@@ -112,3 +116,52 @@ returns-clause-touches g c _ =
       is = c.release.ensures.dropped
           ∙ ap (chunk_dropped r.chunk) (c.give_slabs.ensures.left ∙ (λ k. slabs_given (shared k) ((c.touch.ensures.view ∙ (λ j. slabs_changed slabs (Touch (chunk j)) (number' j + 1) held_slabs)) k)));
     }
+
+pub returns-in-Ok-None-clause-calls : goal.returns-in-Ok-None-clause-calls
+returns-in-Ok-None-clause-calls g c =
+    let hand = c.args.hand.now in
+    let held = c.lock_stripe-held in
+    let before : View = hand.seat.me.0 in
+    let taken : View = held.new.hand.seat.me.0 in
+    let got : View = c.refer_at.new.hand.seat.me.0 in
+    let at : c.args.key % c.config.result.now.stripes ≡ c.args.key % c.args.arena.now.table.shared.key.config.stripes = ap (λ (f : Config). c.args.key % f.stripes) c.config.ensures.config in
+    let number = number_stays hand held.new.hand (waits_keep (λ (v : View). v.row.ids) (c.args.key % c.config.result.now.stripes) (λ word v. refl) (λ value v. refl) before held.result.stripe taken held.ensures.waits) in
+    let waits = subst (λ (n : ℕ). WaitsForStripe n before held.result.stripe taken) at held.ensures.waits in
+    let stamp = stripe_stamp held.result.stripe.state c.args.key in
+    let tells = told_on hand.number _ held.new.hand.number held.result.number (λ number. Get number c.args.key stamp) held.result.stripe before taken got number (held.ensures.number ∙ at) waits
+    (looked_tells held.new.hand.number held.result.number held.result.stripe c.args.key c.in-Ok-None.field-0 taken got c.in-Ok-None.ensures.done) in
+    let there = c.in-Ok-None.ensures.stamp ∙ ap (option_map (λ (x : Ref). stamp_of (held_item got x.chunk))) c.in-Ok-None.field-0-is in
+    (stamp, ap is_some there, tells)
+
+pub returns-in-Err-clause-refused : goal.returns-in-Err-clause-refused
+returns-in-Err-clause-refused g c =
+    let hand = c.args.hand.now in
+    let held = c.lock_stripe-held in
+    let before : View = hand.seat.me.0 in
+    let taken : View = held.new.hand.seat.me.0 in
+    let got : View = c.refer_at.new.hand.seat.me.0 in
+    let at : c.args.key % c.config.result.now.stripes ≡ c.args.key % c.args.arena.now.table.shared.key.config.stripes = ap (λ (f : Config). c.args.key % f.stripes) c.config.ensures.config in
+    let waits = subst (λ (n : ℕ). WaitsForStripe n before held.result.stripe taken) at held.ensures.waits in
+    told_none _ before got (only_waits _ held.result.number held.result.stripe before taken got (held.ensures.number ∙ at) waits c.in-Err.ensures.given)
+
+pub returns-clause-calls : goal.returns-clause-calls
+returns-clause-calls g c =
+    let hand = c.args.hand.now in
+    let held = c.lock_stripe-held in
+    let before : View = hand.seat.me.0 in
+    let taken : View = held.new.hand.seat.me.0 in
+    let got : View = c.refer_at.new.hand.seat.me.0 in
+    let at : c.args.key % c.config.result.now.stripes ≡ c.args.key % c.args.arena.now.table.shared.key.config.stripes = ap (λ (f : Config). c.args.key % f.stripes) c.config.ensures.config in
+    let number = number_stays hand held.new.hand (waits_keep (λ (v : View). v.row.ids) (c.args.key % c.config.result.now.stripes) (λ word v. refl) (λ value v. refl) before held.result.stripe taken held.ensures.waits) in
+    let waits = subst (λ (n : ℕ). WaitsForStripe n before held.result.stripe taken) at held.ensures.waits in
+    let stamp = stripe_stamp held.result.stripe.state c.args.key in
+    let tells = told_on hand.number _ held.new.hand.number held.result.number (λ number. Get number c.args.key stamp) held.result.stripe before taken got number (held.ensures.number ∙ at) waits
+    (looked_tells held.new.hand.number held.result.number held.result.stripe c.args.key c.in-Ok-Some.field-0 taken got c.in-Ok-Some.ensures.done) in
+    let there = c.in-Ok-Some.ensures.stamp ∙ ap (option_map (λ (x : Ref). stamp_of (held_item got x.chunk))) c.in-Ok-Some.field-0-is in
+    let last = c.lock_slabs-slabs in
+    let slabs = last.result.shared in
+    let held_slabs : View = last.new.hand.seat.me.0 in
+    let after = ap (λ (v : View). v.row.knows.mine) c.release.ensures.dropped
+    ∙ (ap (λ (v : View). v.row.knows.mine) c.give_slabs.ensures.left
+    ∙ (ap (λ (v : View). v.row.knows.mine) c.touch.ensures.view ∙ waits_slabs_keep (λ (v : View). v.row.knows.mine) (λ word v. refl) (λ slabs v. refl) got slabs held_slabs last.ensures.waits)) in
+    (stamp, ap is_some there, after ∙ tells)

@@ -1,0 +1,16 @@
+use Rattle.std.proofs.Common.{ap, sym, ◌∙◌}
+use Rattle.mc_stripe.specs.StripeState.{ReadyStripe, place_of}
+use Rattle.mc_words.specs.View.{View}
+use Rattle.mc_items.proofs.Stores.{none_from, none_lifted, nothing_lifted}
+use Rattle.mc_items.proofs.storing.put_aside.Goals as goal
+
+pub returns-else-is_some-clause-lifted : goal.returns-else-is_some-clause-lifted
+returns-else-is_some-clause-lifted c =
+    let none = ap (λ (v : ReadyStripe). place_of v.state c.args.key) (sym c.stripe.ensures.stripe) ∙ (sym c.find.ensures ∙ none_from c.find.result (sym c.is_some.ensures ∙ c.if-is_some.false)) in
+    none_lifted c.args.held.now.stripe c.args.key none c.requires.whole
+
+pub returns-else-is_some-clause-view : goal.returns-else-is_some-clause-view
+returns-else-is_some-clause-view c =
+    let view : View = c.args.hand.now.seat.me.0 in
+    let none = ap (λ (v : ReadyStripe). place_of v.state c.args.key) (sym c.stripe.ensures.stripe) ∙ (sym c.find.ensures ∙ none_from c.find.result (sym c.is_some.ensures ∙ c.if-is_some.false)) in
+    nothing_lifted c.args.held.now.number c.args.held.now.stripe c.args.key view c.requires.held none c.requires.whole

@@ -1,0 +1,32 @@
+use Rattle.std.proofs.Common.{◌≡◌, ◌%◌, ℕ, List, [], ◌∷◌, ◌++◌, OnErr, OnOk, ap, subst, ◌∙◌}
+use Rattle.mc_core.specs.Holdings.{numbers}
+use Rattle.mc_core.specs.Past.{Own, Saying}
+use Rattle.mc_words.specs.View.{View}
+use Rattle.mc_words.specs.declared.held.Fresh.{Fresh}
+use Rattle.mc_items.specs.Storing.{StoresItem, item_with}
+use Rattle.mc_items.proofs.Hands.{number_stays}
+use Rattle.mc_items.proofs.Stored.{numbers_known}
+use Rattle.mc_items.proofs.storing.store_words.Goals as goal
+
+pub returns-clause-stores : goal.returns-clause-stores
+returns-clause-stores g c =
+    let fill = c.fill_item in
+    let last : View = c.store.new.hand.seat.me.0 in
+    let stripe = c.args.key % c.args.arena.now.table.shared.key.config.stripes in
+    let number = number_stays c.args.hand.now fill.new.hand (ap (λ (v : View). v.row.ids) fill.ensures.filled) in
+    let freshes : fill.new.fresh ≡ record c.args.fresh { key = c.args.key; stamp = c.args.stamp } = λ k. record { chunk = fill.ensures.same.0 k; room = fill.ensures.same.1 k; key = fill.ensures.key k; stamp = fill.ensures.stamp k } in
+    subst (λ (p : ℕ × Fresh × View). OnOk c.store.result (StoresItem p.0 stripe c.args.key p.1 p.2 last)) (λ k. (number k, freshes k, fill.ensures.filled k)) c.store.ensures.stores
+
+pub returns-clause-said : goal.returns-clause-said
+returns-clause-said g c =
+    let fill = c.fill_item in
+    let last : View = c.store.new.hand.seat.me.0 in
+    let item = item_with c.args.key c.args.stamp c.args.words.now in
+    let words = ap numbers fill.ensures.words ∙ numbers_known item in
+    let said = ap (λ (v : View). v.row.knows.said) fill.ensures.filled in
+    subst (λ (p : List Saying × ℕ × List ℕ). OnOk c.store.result (last.row.knows.said ≡ p.0 ++ record { stamp = p.1; words = p.2 } ∷ [])) (λ k. (said k, fill.ensures.stamp k, words k)) c.store.ensures.said
+
+pub returns-clause-refused : goal.returns-clause-refused
+returns-clause-refused g c =
+    let last : View = c.store.new.hand.seat.me.0 in
+    subst (λ (mine : List Own). OnErr c.store.result (last.row.knows.mine ≡ mine)) (ap (λ (v : View). v.row.knows.mine) c.fill_item.ensures.filled) c.store.ensures.refused
