@@ -2,7 +2,6 @@
 use Rattle.std.proofs.Common.{◌≡◌, ℕ, Some, sym, ap, ◌∙◌}
 use Rattle.mc_core.specs.declared.ids.Ids.{Ids}
 use Rattle.mc_words.specs.declared.hand.Hand.{Hand}
-use Rattle.mc_words.specs.View.{View}
 use Rattle.mc_words.specs.Arenas.{view}
 
 -- its number stands in its view

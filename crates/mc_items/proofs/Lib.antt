@@ -8,8 +8,14 @@ pub mod Fills
 pub mod Stores
 pub mod Stored
 pub mod Supplies
+pub mod Swept
 pub mod Growing
 pub mod Evicts
 pub mod Reaches
 pub mod FreesEvicted
 pub mod Popped
+pub mod Passes
+pub mod Freed
+pub mod FirstFive
+pub mod Made
+pub mod Sets

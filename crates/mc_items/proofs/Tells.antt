@@ -1,10 +1,8 @@
 -- The hand's own calls, after a call on a key.
-use Rattle.std.proofs.Common.{◌≡◌, ℕ, Bool, true, false, map, Option, Some, None, refl, sym, ap, ◌∙◌}
-use Rattle.std.specs.Option.{option_map}
+use Rattle.std.proofs.Common.{◌≡◌, ℕ, Bool, true, false, map, Option, Some, None, refl, ap, ◌∙◌}
 use Rattle.mc_stripe.specs.declared.history.Call.{Call}
 use Rattle.mc_stripe.specs.declared.history.Call.TheVariants.{Delete, Get}
-use Rattle.mc_stripe.specs.StripeState.{ReadyStripe, place_of, stamp_of}
-use Rattle.mc_core.specs.Past.{Own}
+use Rattle.mc_stripe.specs.StripeState.{ReadyStripe, stamp_of}
 use Rattle.mc_words.specs.declared.refs.Ref.{Ref}
 use Rattle.mc_words.specs.View.{View}
 use Rattle.mc_words.specs.Called.{with_own_call}

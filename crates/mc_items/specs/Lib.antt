@@ -2,3 +2,6 @@ pub mod ItemRefs
 pub mod Calls
 pub mod Storing
 pub mod Supplying
+pub mod Evicting
+pub mod Sources
+pub mod Setting

@@ -1,5 +1,5 @@
 //! Items that are evicted, under one hold of the slabs lock.
-ghost use Rattle.std.specs.Prelude.{◌≡◌, ◌<◌, true, false, Contains, Ok, None, Some, OnErr};
+ghost use Rattle.std.specs.Prelude.{◌≡◌, ◌<◌, true, false, is_some, Contains, Ok, None, Some, OnErr};
 ghost use Rattle.std.specs.List.{list_all};
 ghost use Rattle.mc_pages.specs.Changes.{next_page};
 ghost use Rattle.mc_pages.specs.ClassState.{first_free};
@@ -18,6 +18,7 @@ ghost use Rattle.mc_words.specs.Lent.{IsLentStripe};
 ghost use Rattle.mc_words.specs.Out.{without_stripe};
 ghost use Rattle.mc_words.specs.Views.{stripe_given};
 ghost use Rattle.mc_items.specs.Calls.{IsDone};
+ghost use Rattle.mc_items.specs.Evicting.{FreesChunk, FreesOne, LacksEntry, PassesEach, PassesOne, first_five};
 ghost use Rattle.mc_items.specs.Supplying.{FindsItemHeld, FreesEvicted, LacksMemory, PassesItem, ReachesItem, TakesItem};
 
 use mc_classes::ClassId;
@@ -134,4 +135,81 @@ pub(crate) fn free_evicted(
 {
     arena.evicted(hand, slabs, class);
     let _ = arena.put_back(hand, slabs, chunk);
+}
+
+// How many of the oldest chunks of a class are tried for an eviction.
+const TRIES: u64 = 5;
+
+// Frees a chunk for its class: evicts its item, if nobody holds it and its key's stripe is free; or puts it back where it died
+// meanwhile. Says whether it did.
+fn free_one(
+    arena: &Arena,
+    hand: &mut Hand,
+    slabs: &mut SlabsHeld,
+    class: ClassId,
+    chunk: ChunkId,
+) -> Result<bool, NoMemory>
+    requires arena { IsHandOf arena.now hand.old }
+    requires class { is_class (setup_of arena.now).table class ≡ true }
+    requires slabs { (view hand.old).slabs ≡ Some slabs.old.shared }
+    requires one { has_no_stripes (view hand.old) ≡ true }
+    requires fresh { has_fresh (view hand.old).row.holdings ≡ false }
+    requires out { Contains (class_at slabs.old.shared class).order chunk }
+    requires empty { first_free (class_at slabs.old.shared class) ≡ None }
+    requires alive { list_all (is_found_alive (view hand.old).row.looks) (class_at slabs.old.shared class).order ≡ true }
+    requires page { next_page slabs.old.shared ≡ None }
+    requires whole { slabs.old.shared.uncut ≡ None }
+    ensures arena { IsHandOf arena.now hand.new }
+    ensures locks { hand.new.locks ≡ hand.old.locks }
+    ensures slabs { (view hand.new).slabs ≡ Some slabs.new.shared }
+    ensures frees { result ≡ Ok true → FreesChunk hand.old.number class chunk (view hand.old) slabs.old.shared (view hand.new) slabs.new.shared }
+    ensures free { result ≡ Ok true → is_some (first_free (class_at slabs.new.shared class)) ≡ true }
+    ensures passes { result ≡ Ok false → PassesOne hand.old.number chunk (view hand.old) (view hand.new) × (slabs.new.shared ≡ slabs.old.shared) }
+    ensures no_memory { OnErr result (LacksMemory chunk (view hand.old) (view hand.new) × (slabs.new.shared ≡ slabs.old.shared)) }
+{
+    if condemn_if_free(arena, hand, slabs, class, chunk)? {
+        free_evicted(arena, hand, slabs, class, chunk);
+        return Ok(true);
+    }
+    Ok(arena.put_back(hand, slabs, chunk).is_ok())
+}
+
+// Frees the first chunk of the class's oldest five that is to be had. Says whether there was one. (after items.c's `lru_pull_tail`,
+// which tries five)
+pub(crate) fn evict_one(
+    arena: &Arena,
+    hand: &mut Hand,
+    slabs: &mut SlabsHeld,
+    class: ClassId,
+) -> Result<bool, NoMemory>
+    requires arena { IsHandOf arena.now hand.old }
+    requires class { is_class (setup_of arena.now).table class ≡ true }
+    requires slabs { (view hand.old).slabs ≡ Some slabs.old.shared }
+    requires one { has_no_stripes (view hand.old) ≡ true }
+    requires fresh { has_fresh (view hand.old).row.holdings ≡ false }
+    requires empty { first_free (class_at slabs.old.shared class) ≡ None }
+    requires alive { list_all (is_found_alive (view hand.old).row.looks) (class_at slabs.old.shared class).order ≡ true }
+    requires page { next_page slabs.old.shared ≡ None }
+    requires whole { slabs.old.shared.uncut ≡ None }
+    ensures arena { IsHandOf arena.now hand.new }
+    ensures locks { hand.new.locks ≡ hand.old.locks }
+    ensures slabs { (view hand.new).slabs ≡ Some slabs.new.shared }
+    ensures frees { result ≡ Ok true → FreesOne hand.old.number class (first_five slabs.old.shared class) (view hand.old) slabs.old.shared (view hand.new) slabs.new.shared }
+    ensures free { result ≡ Ok true → is_some (first_free (class_at slabs.new.shared class)) ≡ true }
+    ensures none { result ≡ Ok false → PassesEach hand.old.number (first_five slabs.old.shared class) (view hand.old) (view hand.new) × (slabs.new.shared ≡ slabs.old.shared) }
+    ensures alive { result ≡ Ok false → list_all (is_found_alive (view hand.new).row.looks) (class_at slabs.old.shared class).order ≡ true }
+    ensures whole { slabs.new.shared.uncut ≡ None }
+    ensures no_memory { OnErr result (LacksEntry hand.old.number (first_five slabs.old.shared class) (view hand.old) (view hand.new) × (slabs.new.shared ≡ slabs.old.shared)) }
+{
+    let mut next = slabs.slabs().first_out(class);
+    for _ in 0..TRIES {
+        let Some(chunk) = next else {
+            return Ok(false);
+        };
+        next = slabs.slabs().next_out(chunk);
+        if free_one(arena, hand, slabs, class, chunk)? {
+            return Ok(true);
+        }
+    }
+    Ok(false)
 }

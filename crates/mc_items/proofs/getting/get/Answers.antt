@@ -1,7 +1,6 @@
-use Rattle.std.proofs.Common.{◌≡◌, ◌%◌, ◌<◌, ℕ, [], refl, ap, sym, subst, ◌∙◌, arith, length, List}
+use Rattle.std.proofs.Common.{◌≡◌, ◌%◌, ℕ, refl, ap, subst, ◌∙◌, arith, length, List}
 use Rattle.mc_classes.specs.declared.config.Config.{Config}
 use Rattle.mc_core.specs.declared.holding.Holding.{Holding}
-use Rattle.mc_words.specs.Arenas.{view}
 use Rattle.mc_words.specs.Lent.{IsLentStripe}
 use Rattle.mc_words.specs.Out.{without_stripe}
 use Rattle.mc_words.specs.View.{View}

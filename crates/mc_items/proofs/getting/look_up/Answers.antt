@@ -1,4 +1,4 @@
-use Rattle.std.proofs.Common.{◌≡◌, ℕ, map, Option, Some, ap, sym, ◌∙◌}
+use Rattle.std.proofs.Common.{ℕ, map, Option, Some, ap, sym, ◌∙◌}
 use Rattle.std.specs.Option.{option_map}
 use Rattle.mc_stripe.specs.declared.history.Call.TheVariants.{Get}
 use Rattle.mc_core.specs.Holdings.{stamp_of}

@@ -1,7 +1,6 @@
-use Rattle.std.proofs.Common.{◌≡◌, Some, None, Ok, Option, IfSome, ap, sym, subst, ◌∙◌, slice_index}
+use Rattle.std.proofs.Common.{◌≡◌, Ok, ap, sym, subst, ◌∙◌}
 use Rattle.mc_core.specs.Holdings.{key_of}
 use Rattle.mc_words.specs.declared.held.StripeHeld.{StripeHeld}
-use Rattle.mc_words.specs.declared.refs.Ref.{Ref}
 use Rattle.mc_words.specs.View.{View}
 use Rattle.mc_words.specs.Items.{held_item}
 use Rattle.mc_words.specs.Referring.{GetsItem}

@@ -1,4 +1,4 @@
-use Rattle.std.proofs.Common.{◌≡◌, Ok, Err, ap, ◌∙◌}
+use Rattle.std.proofs.Common.{◌≡◌, Err, ap, ◌∙◌}
 use Rattle.mc_words.specs.declared.refs.Again.TheVariants as refused
 use Rattle.mc_words.specs.declared.refs.Ref.{Ref}
 use Rattle.mc_words.specs.View.{View}

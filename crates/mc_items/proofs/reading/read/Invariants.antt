@@ -1,4 +1,4 @@
-use Rattle.std.proofs.Common.{◌≡◌, ◌≤◌, ℕ, drop, take}
+use Rattle.std.proofs.Common.{◌≡◌, ◌≤◌, drop, take}
 use Rattle.mc_words.specs.Arenas.{IsHandOf, view}
 use Rattle.mc_words.specs.Items.{held_item}
 use Rattle.mc_items.proofs.reading.read.Given as goal

@@ -7,6 +7,10 @@ use Rattle.mc_words.specs.View.{Setup, View}
 use Rattle.mc_words.specs.declared.held.Fresh.{Fresh}
 use Rattle.mc_items.specs.Supplying.{GainsFresh, SuppliesFree}
 use Rattle.mc_items.proofs.Supplies.{at_once, by_sweep, gains_fresh, if_error, if_some, none_by_sweep, seen_here, worn_at_once, worn_by_sweep}
+use Rattle.mc_core.specs.State.{is_class}
+use Rattle.mc_items.specs.Storing.{IsOwnItem}
+use Rattle.mc_items.proofs.Popped.{popped_own}
+use Rattle.mc_items.proofs.Swept.{pop_uncut, sweeps_uncut}
 use Rattle.mc_items.proofs.supplying.pop_or_sweep.Goals as goal
 
 pub returns-in-Ok-Some-clause-supplied : goal.returns-in-Ok-Some-clause-supplied
@@ -66,3 +70,33 @@ returns-clause-worn c =
     (λ worn. worn_by_sweep c.args.class c.args.hand.now.seat.me.0 c.pop.new.hand.seat.me.0 c.sweep.new.hand.seat.me.0 c.pop-2.new.hand.seat.me.0 c.args.held.now.shared c.pop.new.held.shared c.sweep.new.held.shared c.pop-2.new.held.shared
     (c.pop.ensures.none (c.in-Ok-None.is ∙ ap (λ o. Ok o) c.in-Ok-None.field-0-is)) c.sweep.ensures.swept c.sweep.ensures.view worn.0 worn.1)
     c.pop-2.ensures.worn
+
+pub returns-in-Ok-Some-clause-own : goal.returns-in-Ok-Some-clause-own
+returns-in-Ok-Some-clause-own c =
+    let view : View = c.args.hand.now.seat.me.0 in
+    let now : View = c.pop.new.hand.seat.me.0 in
+    let slabs = c.args.held.now.shared in
+    let popped = subst (λ (o : Option Fresh). IfSome o (λ fresh. PopsFirst view slabs c.args.class fresh.chunk now × (c.pop.new.held.shared ≡ after_pop slabs c.args.class))) c.in-Ok-Some.field-0-is c.in-Ok-Some.ensures.popped in
+    popped_own view now slabs c.args.class c.in-Ok-Some.fresh.chunk c.requires.arena.lawful c.requires.held (ap (λ (s : Setup). is_class s.table c.args.class) c.requires.arena.setup ∙ c.requires.class) popped.0
+
+pub returns-clause-own : goal.returns-clause-own
+returns-clause-own c =
+    let class = c.args.class in
+    let swept : View = c.sweep.new.hand.seat.me.0 in
+    let now : View = c.pop-2.new.hand.seat.me.0 in
+    let between = c.sweep.new.held.shared in
+    let left = c.pop-2.new.held.shared in
+    if_some (λ (fresh : Fresh). PopsFirst swept between class fresh.chunk now × (left ≡ after_pop between class)) (λ (fresh : Fresh). IsOwnItem now fresh.chunk) c.pop-2.result
+    (λ fresh popped. popped_own swept now between class fresh.chunk c.sweep.ensures.arena.lawful c.sweep.ensures.held (ap (λ (s : Setup). is_class s.table class) c.sweep.ensures.arena.setup ∙ c.requires.class) popped.0) c.pop-2.ensures.popped
+
+pub returns-clause-uncut : goal.returns-clause-uncut
+returns-clause-uncut c =
+    let class = c.args.class in
+    let swept : View = c.sweep.new.hand.seat.me.0 in
+    let now : View = c.pop-2.new.hand.seat.me.0 in
+    let between = c.sweep.new.held.shared in
+    let before = c.pop.new.held.shared in
+    let tried : View = c.pop.new.hand.seat.me.0 in
+    pop_uncut c.pop-2.result (λ (fresh : Fresh). PopsFirst swept between class fresh.chunk now) _ between c.pop-2.new.held.shared class (λ is. (c.pop-2.ensures.none is).1) c.pop-2.ensures.popped c.pop-2.ensures.worn
+    ∙ (sweeps_uncut (Rattle.mc_pages.specs.SlabState.class_at before class).order tried before swept between c.sweep.ensures.swept
+    ∙ ap (λ (s : Rattle.mc_pages.specs.SlabState.SlabState). s.uncut) (c.pop.ensures.none (c.in-Ok-None.is ∙ ap (λ o. Ok o) c.in-Ok-None.field-0-is)).1)

@@ -1,13 +1,11 @@
-use Rattle.std.proofs.Common.{◌≡◌, ◌%◌, ◌+◌, ◌<◌, ℕ, List, [], Option, IfSome, is_some, refl, ap, sym, subst, ◌∙◌, arith, length}
+use Rattle.std.proofs.Common.{◌≡◌, ◌%◌, ◌+◌, ℕ, List, Option, IfSome, is_some, refl, ap, sym, subst, ◌∙◌, arith, length}
 use Rattle.mc_classes.specs.declared.config.Config.{Config}
-use Rattle.mc_pages.specs.declared.ids.ChunkId.{ChunkId}
-use Rattle.mc_pages.specs.SlabState.{SlabState}
 use Rattle.mc_pages.specs.Changes.{after_touch}
 use Rattle.mc_core.specs.declared.holding.Holding.{Holding}
 use Rattle.mc_core.specs.declared.event.Change.TheVariants.{Touch}
 use Rattle.mc_core.specs.Silent.{is_handed_out}
 use Rattle.mc_words.specs.Lent.{IsLentStripe}
-use Rattle.mc_words.specs.Out.{with_slabs, without_slabs, without_stripe}
+use Rattle.mc_words.specs.Out.{without_slabs, without_stripe}
 use Rattle.mc_core.specs.Holdings.{key_of, stamp_of}
 use Rattle.mc_words.specs.declared.refs.Ref.{Ref}
 use Rattle.mc_words.specs.Items.{held_item}

@@ -1,0 +1,181 @@
+-- How a class came to a free chunk, or to none: what that leaves of what the hand has.
+use Rattle.std.proofs.Common.{◌≡◌, ℕ, true, false, is_some, List, [], ◌∷◌, map, Some, None, Option, refl, sym, ap, subst, ◌∙◌, inl, inr, ◌⊎◌}
+use Rattle.std.specs.Prelude.{All, Contains}
+use Rattle.std.proofs.lemmas.List.Elements.{All-contains_itself, All-head, All-tail}
+use Rattle.mc_pages.specs.declared.ids.ChunkId.{ChunkId}
+use Rattle.mc_pages.specs.Changes.{after_back, after_cut, after_pop}
+use Rattle.mc_pages.specs.ClassState.{first_free, put_back}
+use Rattle.mc_pages.specs.SlabState.{SlabState, IsClass, class_at, class_of_chunk, class_of_page}
+use Rattle.mc_pages.proofs.OneClass.{IsClass-with_class}
+use Rattle.mc_core.specs.declared.head.Head.{Head}
+use Rattle.mc_core.specs.declared.ids.Ids.{Ids}
+use Rattle.mc_core.specs.Past.{Own, Saying}
+use Rattle.mc_core.specs.State.{is_class}
+use Rattle.mc_words.specs.View.{View}
+use Rattle.mc_words.specs.Happens.{LawfulView}
+use Rattle.mc_words.specs.Owner.{PopsFirst, SeesOther}
+use Rattle.mc_words.specs.Sweeping.{Sweeps, with_seen}
+use Rattle.mc_words.proofs.SweepViews.{class_here, sees_alone, stands_out}
+use Rattle.mc_items.specs.Evicting.{TellsEvict}
+use Rattle.mc_items.specs.Sources.{ComesToFree, FindsNoRoom, FindsWornOut, HoldsSlabs, LacksMemory, LacksMore, MakesFree, MakesNone, SuppliesChunk, SuppliesNone}
+use Rattle.mc_items.specs.Supplying.{CutsEach, FindsNoFree, Grows, SweepsEmpty}
+use Rattle.mc_items.specs.declared.setting.SetError.{SetError}
+use Rattle.mc_items.specs.declared.setting.SetError.TheVariants.{TooLarge, NoRoom, WornOut, NoMemory}
+use Rattle.mc_words.specs.declared.hand.Hand.{Hand}
+use Rattle.mc_items.proofs.Hands.{number_stays}
+use Rattle.mc_items.proofs.Locks.{waits_slabs_keep}
+use Rattle.mc_items.proofs.Freed.{Evicts, back_is_free, entry_keeps, evicts_after, evicts_before, evicts_none, one_keeps}
+use Rattle.mc_items.proofs.Passes.{each_keeps, own_of}
+
+-- a sweep that left no free chunk put none back
+module _ (class : ℕ) (order : List ChunkId) where
+  free_still : (chunks : List ChunkId) (view : View) (slabs : SlabState) (now : View) (left : SlabState) → IsClass slabs class → ((chunk : ChunkId) → Contains order chunk → class_of_page slabs chunk.page ≡ class) → All (Contains order) chunks
+      → is_some (first_free (class_at slabs class)) ≡ true → Sweeps chunks view slabs now left → is_some (first_free (class_at left class)) ≡ true
+  free_still [] view slabs now left is own all free (same, left_is) = ap (λ (s : SlabState). is_some (first_free (class_at s class))) left_is ∙ free
+  free_still (chunk ∷ chunks) view slabs now left is own all free (next, between, one, rest) =
+      let here = All-head (Contains order) chunk chunks all in
+      let others = All-tail (Contains order) chunk chunks all in elim one [
+        | inl back ↦ free_still chunks next (after_back slabs chunk) now left (IsClass-with_class slabs (class_of_page slabs chunk.page) class (put_back (class_of_chunk slabs chunk) chunk) is) own others
+            (back_is_free slabs class chunk is (own chunk here)) (subst (λ (s : SlabState). Sweeps chunks next s now left) back.1 rest)
+        | inr other ↦ free_still chunks next slabs now left is own others free (subst (λ (s : SlabState). Sweeps chunks next s now left) other.1 rest)
+      ]
+
+  none_swept : (chunks : List ChunkId) (view : View) (slabs : SlabState) (now : View) (left : SlabState) → IsClass slabs class → ((chunk : ChunkId) → Contains order chunk → class_of_page slabs chunk.page ≡ class) → All (Contains order) chunks
+      → first_free (class_at left class) ≡ None → Sweeps chunks view slabs now left → left ≡ slabs
+  none_swept [] view slabs now left is own all none (same, left_is) = left_is
+  none_swept (chunk ∷ chunks) view slabs now left is own all none (next, between, one, rest) =
+      let here = All-head (Contains order) chunk chunks all in
+      let others = All-tail (Contains order) chunk chunks all in elim one [
+        | inl back ↦ absurd (let free = free_still chunks next (after_back slabs chunk) now left (IsClass-with_class slabs (class_of_page slabs chunk.page) class (put_back (class_of_chunk slabs chunk) chunk) is) own others
+            (back_is_free slabs class chunk is (own chunk here)) (subst (λ (s : SlabState). Sweeps chunks next s now left) back.1 rest) in let never : false ≡ true = ap is_some (sym none) ∙ free in cc)
+        | inr other ↦ none_swept chunks next slabs now left is own others none (subst (λ (s : SlabState). Sweeps chunks next s now left) other.1 rest)
+      ]
+
+pub none_changed : (view : View) → LawfulView view → (slabs : SlabState) → view.slabs ≡ Some slabs → (class : ℕ) → is_class view.setup.table class ≡ true → (now : View) (left : SlabState) → FindsNoFree class view slabs now left → left ≡ slabs
+none_changed view was slabs mine class is now left finds =
+    none_swept class (class_at slabs class).order (class_at slabs class).order view slabs now left (class_here view was slabs mine class is) (λ chunk there. (stands_out view was slabs mine class is chunk there).own) (All-contains_itself (class_at slabs class).order) finds.still finds.sweeps
+
+-- a sweep leaves the hand what it has, and so does a page that is cut
+pub sweeps_keep : (chunks : List ChunkId) (view : View) (slabs : SlabState) (now : View) (left : SlabState) → Sweeps chunks view slabs now left → own_of now ≡ own_of view
+sweeps_keep chunks view slabs now left sweeps = ap own_of (sees_alone chunks view slabs now left sweeps)
+
+empty_keeps : (class : ℕ) (view : View) (slabs : SlabState) (now : View) (left : SlabState) → SweepsEmpty class view slabs now left → own_of now ≡ own_of view
+empty_keeps class view slabs now left (inl (some, same, is)) = ap own_of same
+empty_keeps class view slabs now left (inr (none, sweeps)) = sweeps_keep (class_at slabs class).order view slabs now left sweeps
+
+cuts_keep : (chunks : List ChunkId) (view : View) (slabs : SlabState) (now : View) (left : SlabState) → CutsEach chunks view slabs now left → own_of now ≡ own_of view
+cuts_keep [] view slabs now left (same, is) = ap own_of same
+cuts_keep (chunk ∷ chunks) view slabs now left (next, cut, rest) = cuts_keep chunks next (after_cut slabs chunk) now left rest ∙ ap own_of cut.is
+
+grows_keep : (number class : ℕ) (view : View) (slabs : SlabState) (now : View) (left : SlabState) → Grows number class view slabs now left → own_of now ≡ own_of view
+grows_keep number class view slabs now left grows = cuts_keep _ grows.grown _ now left grows.cuts ∙ ap own_of grows.is_grown
+
+pub makes_keep : (number class : ℕ) (view : View) (slabs : SlabState) (now : View) (left : SlabState) → MakesFree number class view slabs now left → Evicts number view now
+makes_keep number class view slabs now left (inl grows) = evicts_none number view now (grows_keep number class view slabs now left grows)
+makes_keep number class view slabs now left (inr (none, frees)) = one_keeps number class _ view slabs now left frees
+
+pub comes_keep : (number class : ℕ) (view : View) (slabs : SlabState) (now : View) (left : SlabState) → ComesToFree number class view slabs now left → Evicts number view now
+comes_keep number class view slabs now left comes =
+    evicts_after number view comes.swept now (sweeps_keep (class_at slabs class).order view slabs comes.swept comes.between comes.finds.sweeps) (makes_keep number class comes.swept comes.between now left comes.makes)
+
+-- so it was, from the parts of the call
+pub comes_so : (before after : Hand) (class : ℕ) (slabs between : SlabState) (made : View) (with : SlabState) → FindsNoFree class before.seat.me.0 slabs after.seat.me.0 between → after.seat.me.0 ≡ with_seen before.seat.me.0 after.seat.me.0
+    → MakesFree after.number class after.seat.me.0 between made with → ComesToFree before.number class before.seat.me.0 slabs made with
+comes_so before after class slabs between made with finds seen makes = record {
+  swept = after.seat.me.0;
+  between = between;
+  finds = finds;
+  makes = subst (λ n. MakesFree n class after.seat.me.0 between made with) (number_stays before after (ap (λ (v : View). v.row.ids) seen)) makes;
+}
+
+-- what was said, the numbers, and at most an eviction among the calls
+pub record Tells (number : ℕ) (view now : View) : Type 0 where
+  pub said : now.row.knows.said ≡ view.row.knows.said
+  pub ids : now.row.ids ≡ view.row.ids
+  pub calls : TellsEvict number view now
+
+pub tells_from : (number : ℕ) (view now : View) → Evicts number view now → Tells number view now
+tells_from number view now evicts = record { said = evicts.said; ids = evicts.ids; calls = evicts.calls }
+
+-- a pop leaves these, too
+abbrev pub TellsTuple : Type 0
+TellsTuple = List Saying × Ids × List Own
+
+abbrev pub told_of : View → TellsTuple
+told_of view = (view.row.knows.said, view.row.ids, view.row.knows.mine)
+
+pub tells_before : (number : ℕ) (view next now : View) → Tells number view next → told_of now ≡ told_of next → Tells number view now
+tells_before number view next now first told = record {
+  said = ap (λ (o : TellsTuple). o.0) told ∙ first.said;
+  ids = ap (λ (o : TellsTuple). o.1) told ∙ first.ids;
+  calls = by first.calls;
+}
+  where
+    mine : now.row.knows.mine ≡ next.row.knows.mine
+    mine = ap (λ (o : TellsTuple). o.2) told
+
+    by : TellsEvict number view next → TellsEvict number view now
+    by (inl none) = inl (mine ∙ none)
+    by (inr (stripe, key, tells)) = inr (stripe, key, mine ∙ tells)
+
+pub tells_after : (number : ℕ) (view next now : View) → told_of next ≡ told_of view → Tells number next now → Tells number view now
+tells_after number view next now told second = record {
+  said = second.said ∙ ap (λ (o : TellsTuple). o.0) told;
+  ids = second.ids ∙ ap (λ (o : TellsTuple). o.1) told;
+  calls = by second.calls;
+}
+  where
+    mine : next.row.knows.mine ≡ view.row.knows.mine
+    mine = ap (λ (o : TellsTuple). o.2) told
+
+    by : TellsEvict number next now → TellsEvict number view now
+    by (inl none) = inl (none ∙ mine)
+    by (inr (stripe, key, tells)) = inr (stripe, key, tells ∙ ap (λ (m : List Own). map (Rattle.mc_words.specs.Called.with_own_call number stripe (Rattle.mc_stripe.specs.declared.history.Call.TheVariants.Evict number key)) m) mine)
+
+pops_tell : (view : View) (slabs : SlabState) (class : ℕ) (chunk : ChunkId) (now : View) → PopsFirst view slabs class chunk now → told_of now ≡ told_of view
+pops_tell view slabs class chunk now pops = ap told_of pops.is
+
+sees_tell : (view : View) (asked : Option ChunkId) (IsOther : Head → Type 0) (now : View) → SeesOther view asked IsOther now → own_of now ≡ own_of view
+sees_tell view asked IsOther now sees = ap own_of sees.is
+
+pub supplies_tell : (number class : ℕ) (chunk : ChunkId) (view : View) (slabs : SlabState) (now : View) (left : SlabState) → SuppliesChunk number class chunk view slabs now left → Tells number view now
+supplies_tell number class chunk view slabs now left (inl free) =
+    tells_before number view free.swept now (tells_from number view free.swept (evicts_none number view free.swept (empty_keeps class view slabs free.swept free.between free.sweeps))) (pops_tell free.swept free.between class chunk now free.pops)
+supplies_tell number class chunk view slabs now left (inr made) =
+    tells_before number view made.made now (tells_from number view made.made (comes_keep number class view slabs made.made made.with made.comes)) (pops_tell made.made made.with class chunk now made.pops)
+
+pub none_tells : (number class : ℕ) (error : SetError) (view : View) (slabs : SlabState) (now : View) (left : SlabState) → SuppliesNone number class error view slabs now left → Evicts number view now
+none_tells number class TooLarge view slabs now left none = absurd none
+none_tells number class NoRoom view slabs now left none =
+    evicts_none number view now (each_keeps number _ none.swept now none.makes.passes ∙ sweeps_keep _ view slabs none.swept slabs none.finds.sweeps)
+none_tells number class WornOut view slabs now left (inl worn) =
+    evicts_none number view now (sees_tell worn.swept _ _ now worn.worn ∙ empty_keeps class view slabs worn.swept left worn.sweeps)
+none_tells number class WornOut view slabs now left (inr made) =
+    evicts_before number view made.made now (comes_keep number class view slabs made.made left made.comes) (sees_tell made.made _ _ now made.worn)
+none_tells number class NoMemory view slabs now left lacks =
+    evicts_none number view now (by lacks.lacks.0 ∙ sweeps_keep _ view slabs lacks.swept lacks.between lacks.finds.sweeps)
+  where
+    by : (now ≡ lacks.swept) ⊎ ((Rattle.mc_pages.specs.Changes.next_page lacks.between ≡ None) × Rattle.mc_items.specs.Evicting.LacksEntry number (Rattle.mc_items.specs.Evicting.first_five lacks.between class) lacks.swept now) → own_of now ≡ own_of lacks.swept
+    by (inl same) = ap own_of same
+    by (inr (page, entry)) = entry_keeps number _ lacks.swept now entry
+
+-- what was done under the lock, from the parts of the call
+pub holds_so : (Does : Rattle.mc_items.specs.Sources.SlabsDoing) (view taken last now : View) (found left : SlabState) → Rattle.mc_words.specs.Waiting.WaitsForSlabs view found taken → Does taken found last left → now ≡ Rattle.mc_words.specs.Views.slabs_given left last → HoldsSlabs Does view now
+holds_so Does view taken last now found left waits does given = record { found = found; taken = taken; waits = waits; left = left; last = last; does = does; given = given }
+
+-- the lock was waited for and given back
+module _ (number : ℕ) (Does : Rattle.mc_items.specs.Sources.SlabsDoing) (view now : View) (holds : HoldsSlabs Does view now) where
+  pub holds_told : told_of holds.taken ≡ told_of view
+  holds_told = waits_slabs_keep told_of (λ word v. refl) (λ slabs v. refl) view holds.found holds.taken holds.waits
+
+  pub hold_tells : Tells number holds.taken holds.last → Tells number view now
+  hold_tells tells = tells_before number view holds.last now (tells_after number view holds.taken holds.last holds_told tells) (ap told_of holds.given)
+
+-- what a hold of the lock that got a chunk, or none, tells
+pub supplied_tells : (number class : ℕ) (chunk : ChunkId) (view now : View) → HoldsSlabs (SuppliesChunk number class chunk) view now → Tells number view now
+supplied_tells number class chunk view now holds =
+    hold_tells number (SuppliesChunk number class chunk) view now holds (supplies_tell number class chunk holds.taken holds.found holds.last holds.left holds.does)
+
+pub refused_tells : (number class : ℕ) (error : SetError) (view now : View) → HoldsSlabs (SuppliesNone number class error) view now → Tells number view now
+refused_tells number class error view now holds =
+    hold_tells number (SuppliesNone number class error) view now holds (tells_from number holds.taken holds.last (none_tells number class error holds.taken holds.found holds.last holds.left holds.does))

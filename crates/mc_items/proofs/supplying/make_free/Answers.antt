@@ -1,0 +1,25 @@
+use Rattle.std.proofs.Common.{ℕ, Ok, ap, subst, ◌∙◌, inl, inr}
+use Rattle.mc_pages.specs.SlabState.{SlabState}
+use Rattle.mc_words.specs.View.{View}
+use Rattle.mc_items.specs.Evicting.{FreesOne, first_five}
+use Rattle.mc_items.specs.Sources.{MakesNone}
+use Rattle.mc_items.proofs.Hands.{number_stays}
+use Rattle.mc_items.proofs.supplying.make_free.Goals as goal
+
+pub returns-in-Ok-true-clause-makes : goal.returns-in-Ok-true-clause-makes
+returns-in-Ok-true-clause-makes c _ = inl (c.grow_for.ensures.grows (c.in-Ok-true.is ∙ ap (λ b. Ok b) c.in-Ok-true.field-0-test))
+
+pub returns-in-Ok-false-clause-makes : goal.returns-in-Ok-false-clause-makes
+returns-in-Ok-false-clause-makes c e =
+    let none = c.grow_for.ensures.none (c.in-Ok-false.is ∙ ap (λ b. Ok b) c.in-Ok-false.field-0-test) in
+    let number = number_stays c.args.hand.now c.grow_for.new.hand (ap (λ (v : View). v.row.ids) none.2) in
+    let frees = c.evict_one.ensures.frees e in
+    inr (none.0, subst (λ (p : ℕ × View × SlabState). FreesOne p.0 c.args.class (first_five p.2 c.args.class) p.1 p.2 c.evict_one.new.hand.seat.me.0 c.evict_one.new.slabs.shared) (λ k. (number k, none.2 k, none.1 k)) frees)
+
+pub returns-in-Ok-false-clause-none : goal.returns-in-Ok-false-clause-none
+returns-in-Ok-false-clause-none c e =
+    let none = c.grow_for.ensures.none (c.in-Ok-false.is ∙ ap (λ b. Ok b) c.in-Ok-false.field-0-test) in
+    let number = number_stays c.args.hand.now c.grow_for.new.hand (ap (λ (v : View). v.row.ids) none.2) in
+    let passes = c.evict_one.ensures.none e in
+    subst (λ (p : ℕ × View × SlabState). MakesNone p.0 c.args.class p.1 p.2 c.evict_one.new.hand.seat.me.0 c.evict_one.new.slabs.shared) (λ k. (number k, none.2 k, none.1 k))
+    (record { page = ap Rattle.mc_pages.specs.Changes.next_page none.1 ∙ none.0; passes = passes.0; alive = c.evict_one.ensures.alive e; same = passes.1 })

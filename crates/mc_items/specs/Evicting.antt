@@ -1,0 +1,57 @@
+-- How an item is evicted: the oldest five chunks of a class are tried, one after another.
+use Rattle.std.specs.Prelude.{◌≡◌, ◌⊎◌, ℕ, false, List, [], ◌∷◌, ◌++◌, take, Some}
+use Rattle.mc_pages.specs.declared.ids.ChunkId.{ChunkId}
+use Rattle.mc_pages.specs.Changes.{after_back}
+use Rattle.mc_pages.specs.SlabState.{SlabState, class_at}
+use Rattle.mc_core.specs.Head.{is_dead}
+use Rattle.mc_stripe.specs.declared.history.Call.TheVariants as call
+use Rattle.mc_words.specs.Owner.{PutsBack, SeesOther}
+use Rattle.mc_words.specs.View.{View}
+use Rattle.mc_items.specs.Calls.{TellsCall, TellsNoCall}
+use Rattle.mc_items.specs.Supplying.{FreesEvicted, LacksMemory, PassesItem, ReachesItem, TakesItem}
+
+-- the oldest five that the class handed out
+abbrev pub first_five : SlabState → ℕ → List ChunkId
+first_five slabs class = take 5 (class_at slabs class).order
+
+-- the chunk was passed: its item couldn't be taken away, and it wasn't dead
+pub record PassesOne (number : ℕ) (chunk : ChunkId) (view now : View) : Type 0 where
+  pub tried : View
+  pub passes : PassesItem number chunk view tried
+  pub alive : SeesOther tried (Some chunk) (λ head. is_dead head ≡ false) now
+
+-- each of these was passed, one after another
+abbrev pub PassesEach : ℕ → List ChunkId → View → View → Type 0
+PassesEach number [] view now = now ≡ view
+PassesEach number (chunk ∷ chunks) view now = (next : View) × PassesOne number chunk view next × PassesEach number chunks next now
+
+-- the chunk's item was evicted, and the chunk put back; or the chunk had died meanwhile, and was put back
+abbrev pub FreesChunk : ℕ → ℕ → ChunkId → View → SlabState → View → SlabState → Type 0
+FreesChunk number class chunk view slabs now left =
+    ((taken : View) × ReachesItem number chunk (λ number stripe. TakesItem number stripe chunk) view taken × FreesEvicted number class chunk taken slabs now left)
+    ⊎ ((tried : View) × PassesItem number chunk view tried × PutsBack tried slabs chunk now × (left ≡ after_back slabs chunk))
+
+-- the first of these chunks that could be had was freed so, and those before it were passed
+pub record FreesOne (number class : ℕ) (chunks : List ChunkId) (view : View) (slabs : SlabState) (now : View) (left : SlabState) : Type 0 where
+  pub before : List ChunkId
+  pub chunk : ChunkId
+  pub after : List ChunkId
+  pub first : chunks ≡ before ++ chunk ∷ after
+  pub passed : View
+  pub passes : PassesEach number before view passed
+  pub frees : FreesChunk number class chunk passed slabs now left
+
+-- some of these were passed, and then there was no memory for the entry of the next one's eviction
+pub record LacksEntry (number : ℕ) (chunks : List ChunkId) (view now : View) : Type 0 where
+  pub before : List ChunkId
+  pub chunk : ChunkId
+  pub after : List ChunkId
+  pub first : chunks ≡ before ++ chunk ∷ after
+  pub passed : View
+  pub passes : PassesEach number before view passed
+  pub lacks : LacksMemory chunk passed now
+
+-- of the hand's own calls at most an eviction came
+abbrev pub TellsEvict : ℕ → View → View → Type 0
+TellsEvict number view now =
+    TellsNoCall view now ⊎ ((stripe : ℕ) × (key : ℕ) × TellsCall number stripe (call.Evict number key) view now)

@@ -1,0 +1,100 @@
+-- How a set comes to a chunk, under one hold of the slabs lock, and why it doesn't.
+use Rattle.std.specs.Prelude.{◌≡◌, ◌⊎◌, ℕ, ◌≤◌, true, None}
+use Rattle.std.specs.List.{list_all}
+use Rattle.mc_pages.specs.declared.ids.ChunkId.{ChunkId}
+use Rattle.mc_pages.specs.Changes.{after_pop, next_page}
+use Rattle.mc_pages.specs.ClassState.{first_free}
+use Rattle.mc_pages.specs.SlabState.{SlabState, class_at}
+use Rattle.mc_core.specs.Chunks.{most_issue}
+use Rattle.mc_core.specs.Looks.{is_found_alive}
+use Rattle.mc_words.specs.Owner.{PopsFirst, SeesOther}
+use Rattle.mc_words.specs.View.{View}
+use Rattle.mc_words.specs.Views.{slabs_given}
+use Rattle.mc_words.specs.Waiting.{WaitsForSlabs}
+use Rattle.mc_items.specs.Evicting.{FreesOne, LacksEntry, PassesEach, first_five}
+use Rattle.mc_items.specs.Supplying.{FindsNoFree, FindsWorn, Grows, SuppliesFree}
+use Rattle.mc_items.specs.declared.setting.SetError.{SetError}
+use Rattle.mc_items.specs.declared.setting.SetError.TheVariants.{TooLarge, NoRoom, WornOut, NoMemory}
+
+-- what is done under the lock of the slabs, from a view and its pages and lists to those that it leaves
+abbrev pub SlabsDoing : Type 1
+SlabsDoing = View → SlabState → View → SlabState → Type 0
+
+-- the lock of the slabs was waited for, this was done, and it was given back
+pub record HoldsSlabs (Does : SlabsDoing) (view now : View) : Type 0 where
+  pub found : SlabState
+  pub taken : View
+  pub waits : WaitsForSlabs view found taken
+  pub left : SlabState
+  pub last : View
+  pub does : Does taken found last left
+  pub given : now ≡ slabs_given left last
+
+-- a class without a free chunk came to one: by the next page; or where there is none left, by one of its oldest five chunks
+abbrev pub MakesFree : ℕ → ℕ → SlabsDoing
+MakesFree number class view slabs now left =
+    Grows number class view slabs now left
+    ⊎ ((next_page slabs ≡ None) × FreesOne number class (first_five slabs class) view slabs now left)
+
+-- the class had no free chunk, its dead ones didn't help, and then it came to one
+pub record ComesToFree (number class : ℕ) (view : View) (slabs : SlabState) (now : View) (left : SlabState) : Type 0 where
+  pub swept : View
+  pub between : SlabState
+  pub finds : FindsNoFree class view slabs swept between
+  pub makes : MakesFree number class swept between now left
+
+-- so, and it was handed out
+pub record SuppliesMade (number class : ℕ) (chunk : ChunkId) (view : View) (slabs : SlabState) (now : View) (left : SlabState) : Type 0 where
+  pub made : View
+  pub with : SlabState
+  pub comes : ComesToFree number class view slabs made with
+  pub pops : PopsFirst made with class chunk now
+  pub left_is : left ≡ after_pop with class
+
+-- a chunk was got: a free or a dead one, or else one of a new page, or else an evicted item's
+abbrev pub SuppliesChunk : ℕ → ℕ → ChunkId → SlabsDoing
+SuppliesChunk number class chunk view slabs now left =
+    SuppliesFree class view slabs chunk now left ⊎ SuppliesMade number class chunk view slabs now left
+
+-- no page was left, none of its oldest five chunks could be had, each that it handed out was found alive, and nothing was changed
+pub record MakesNone (number class : ℕ) (view : View) (slabs : SlabState) (now : View) (left : SlabState) : Type 0 where
+  pub page : next_page slabs ≡ None
+  pub passes : PassesEach number (first_five slabs class) view now
+  pub alive : list_all (is_found_alive now.row.looks) (class_at slabs class).order ≡ true
+  pub same : left ≡ slabs
+
+-- the class had no free chunk, its dead ones didn't help, and it came to none; nothing was changed
+pub record FindsNoRoom (number class : ℕ) (view : View) (slabs : SlabState) (now : View) (left : SlabState) : Type 0 where
+  pub swept : View
+  pub finds : FindsNoFree class view slabs swept slabs
+  pub makes : MakesNone number class swept slabs now left
+
+-- the class came to a free chunk, and that is worn out
+pub record MakesWorn (number class : ℕ) (view : View) (slabs : SlabState) (now : View) (left : SlabState) : Type 0 where
+  pub made : View
+  pub comes : ComesToFree number class view slabs made left
+  pub worn : SeesOther made (first_free (class_at left class)) (λ head. most_issue ≤ head.issue) now
+
+-- the first free chunk is worn out, at once or after the class came to one
+abbrev pub FindsWornOut : ℕ → ℕ → SlabsDoing
+FindsWornOut number class view slabs now left =
+    FindsWorn class view slabs now left ⊎ MakesWorn number class view slabs now left
+
+-- there was no memory for the class's next page, or for the entry of an eviction, and nothing was changed
+abbrev pub LacksMore : ℕ → ℕ → SlabsDoing
+LacksMore number class view slabs now left =
+    ((now ≡ view) ⊎ ((next_page slabs ≡ None) × LacksEntry number (first_five slabs class) view now)) × (left ≡ slabs)
+
+-- the class had no free chunk, its dead ones didn't help, and there was no memory for more
+pub record LacksMemory (number class : ℕ) (view : View) (slabs : SlabState) (now : View) (left : SlabState) : Type 0 where
+  pub swept : View
+  pub between : SlabState
+  pub finds : FindsNoFree class view slabs swept between
+  pub lacks : LacksMore number class swept between now left
+
+-- why no chunk was got
+abbrev pub SuppliesNone : ℕ → ℕ → SetError → SlabsDoing
+SuppliesNone number class TooLarge view slabs now left = ⊥
+SuppliesNone number class NoRoom view slabs now left = FindsNoRoom number class view slabs now left
+SuppliesNone number class WornOut view slabs now left = FindsWornOut number class view slabs now left
+SuppliesNone number class NoMemory view slabs now left = LacksMemory number class view slabs now left

@@ -1,0 +1,97 @@
+//! Items that are set.
+ghost use Rattle.std.specs.Prelude.{◌≡◌, ◌+◌, ◌≤◌, ◌++◌, ◌∷◌, [], true, false, length, IfErr, IfOk, None, Some, Err};
+ghost use Rattle.mc_core.specs.Holdings.{has_fresh};
+ghost use Rattle.mc_core.specs.State.{is_class, room_in};
+ghost use Rattle.mc_words.specs.Arenas.{IsHandOf, setup_of, view};
+ghost use Rattle.mc_words.specs.Fresh.{IsFreshOf};
+ghost use Rattle.mc_words.specs.Idle.{is_unlocked};
+ghost use Rattle.mc_items.specs.Evicting.{TellsEvict};
+ghost use Rattle.mc_items.specs.Setting.{RefusesSet, SetsItem, TellsSet};
+ghost use Rattle.mc_items.specs.Sources.{HoldsSlabs, SuppliesChunk, SuppliesNone};
+ghost use Rattle.mc_items.specs.Storing.{IsOwnItem, item_with};
+
+use crate::storing::store_words;
+use crate::supplying::supply_chunk;
+use mc_classes::ClassId;
+use mc_stripe::Stamp;
+use mc_words::{Arena, Fresh, Hand};
+use std::sync::Wait;
+
+/// Why a set was refused. The key's item is as before, unless it was the one that was evicted, and no stamp is used up.
+#[derive(Clone, Copy, Debug, PartialEq, Eq)]
+pub enum SetError {
+    /// No class has chunks of that size.
+    TooLarge,
+    /// The class has no free chunk and no dead one, no page is left, and none of its oldest five items could be evicted.
+    NoRoom,
+    /// The first free chunk has the greatest issue number, or the hand has no stamp left.
+    WornOut,
+    /// A page's room or the room for a call on the key was refused; the chunk that was got for the item may be dead.
+    NoMemory,
+}
+
+/// Stores an item of these words under the key, in place of the one that it had, and says its stamp. Its chunk is a free one of the
+/// lowest class where key, stamp, length and words fit; else a dead one; else one of a new page; else the oldest item of five that nobody
+/// holds is evicted. It waits for the locks of the slabs and of the key's stripe. (memcached's `process_update_command`, with
+/// items.c's `do_item_alloc` and `do_store_item`)
+pub fn set<R: Wait>(
+    rt: &R,
+    arena: &Arena,
+    hand: &mut Hand,
+    key: u64,
+    words: &[u64],
+) -> Result<Stamp, SetError>
+    requires arena { IsHandOf arena.now hand.old }
+    requires unlocked { is_unlocked (view hand.old) ≡ true }
+    requires fresh { has_fresh (view hand.old).row.holdings ≡ false }
+    requires few { length (view hand.old).row.holdings ≤ 255 }
+    ensures arena { IsHandOf arena.now hand.new }
+    ensures locks { hand.new.locks ≡ hand.old.locks }
+    ensures sets { IfOk result (λ stamp. SetsItem hand.old.number key stamp words.now (view hand.old) (view hand.new)) }
+    ensures calls { IfOk result (λ stamp. TellsSet hand.old.number key stamp (view hand.old) (view hand.new)) }
+    ensures said { IfOk result (λ stamp. (view hand.new).row.knows.said ≡ (view hand.old).row.knows.said ++ record { stamp = stamp; words = item_with key stamp words.now } ∷ []) }
+    ensures refused { IfErr result (λ error. RefusesSet hand.old.number key words.now error (view hand.old) (view hand.new)) }
+    ensures evicts { IfErr result (λ error. TellsEvict hand.old.number (view hand.old) (view hand.new)) }
+    ensures unsaid { IfErr result (λ error. (view hand.new).row.knows.said ≡ (view hand.old).row.knows.said) }
+    ensures stamps { IfErr result (λ error. (view hand.new).row.ids ≡ (view hand.old).row.ids) }
+{
+    let Some(class) = arena.classes().class_for(24 + 8 * words.len() as u64) else {
+        return Err(SetError::TooLarge);
+    };
+    let Some(stamp) = hand.next_stamp() else {
+        return Err(SetError::WornOut);
+    };
+    let fresh = match chunk_of(rt, arena, hand, class) {
+        Ok(fresh) => fresh,
+        Err(error) => return Err(error),
+    };
+    match store_words(rt, arena, hand, fresh, key, stamp, words) {
+        Ok(()) => Ok(stamp),
+        Err(_) => Err(SetError::NoMemory),
+    }
+}
+
+// Gets a chunk of the class under the lock of the slabs, which it waits for.
+fn chunk_of<R: Wait>(
+    rt: &R,
+    arena: &Arena,
+    hand: &mut Hand,
+    class: ClassId,
+) -> Result<Fresh, SetError>
+    requires arena { IsHandOf arena.now hand.old }
+    requires class { is_class (setup_of arena.now).table class ≡ true }
+    requires unlocked { is_unlocked (view hand.old) ≡ true }
+    requires fresh { has_fresh (view hand.old).row.holdings ≡ false }
+    requires few { length (view hand.old).row.holdings ≤ 255 }
+    ensures arena { IsHandOf arena.now hand.new }
+    ensures locks { hand.new.locks ≡ hand.old.locks }
+    ensures supplies { IfOk result (λ fresh. HoldsSlabs (SuppliesChunk hand.old.number class fresh.chunk) (view hand.old) (view hand.new)) }
+    ensures fresh { IfOk result (λ fresh. (fresh.room ≡ room_in (setup_of arena.now).table class) × IsFreshOf (view hand.new) fresh.chunk fresh.room) }
+    ensures own { IfOk result (λ fresh. IsOwnItem (view hand.new) fresh.chunk) }
+    ensures none { IfErr result (λ error. HoldsSlabs (SuppliesNone hand.old.number class error) (view hand.old) (view hand.new)) }
+{
+    let mut slabs = arena.lock_slabs(rt, hand);
+    let supplied = supply_chunk(arena, hand, &mut slabs, class);
+    arena.give_slabs(hand, slabs);
+    supplied
+}
