@@ -1,0 +1,158 @@
+//! Four threads look up a key that leads nowhere: each get is noted in its stripe's history.
+ghost use Rattle.std.specs.Prelude.{◌≡◌, IfSome};
+ghost use Rattle.std.specs.Thread.{IsSync};
+ghost use Rattle.mc_words.specs.Arenas.{IsHandOf};
+
+use super::assert_same;
+use super::calls::{Getter, is_there, next_two, opened};
+use mc_stripe::{Call, Key};
+use mc_words::{Arena, Final, Hand};
+use std::sync::Wait;
+use std::test::Fail;
+use std::thread::{Threads, join};
+
+/// How often each thread gets the key.
+const GETS: u64 = 1000;
+
+/// The key.
+const MISSING: Key = 6;
+
+/// A hand that looked the key up.
+#[derive(Drop)]
+struct Searched {
+    hand: Hand,
+    found: bool,
+}
+
+/// One thread's gets.
+fn get_often<R: Wait>(rt: &R, arena: &Arena, hand: Hand) -> Searched
+    requires arena { IsHandOf arena.now hand }
+    ensures arena { IsHandOf arena.now result.hand }
+{
+    let mut hand = hand;
+    let mut found = false;
+    for _time in 0..GETS {
+        if is_there(rt, arena, &mut hand, MISSING, Getter::Get) {
+            found = true;
+        }
+    }
+    Searched { hand, found }
+}
+
+/// Two threads' gets at once.
+fn get_beside<R: Threads + Wait + Sync>(
+    rt: &R,
+    arena: &Arena,
+    hands: (Hand, Hand),
+) -> (Searched, Searched)
+    requires hands { IsHandOf arena.now hands.0 × IsHandOf arena.now hands.1 }
+    ensures hands { IsHandOf arena.now result.0.hand × IsHandOf arena.now result.1.hand }
+{
+    let (first, second) = hands;
+    join(
+        rt,
+        move || -> Searched
+            requires { IsSync R.row × IsHandOf arena.now first }
+            ensures { IsHandOf arena.entry.now result.hand }
+        { get_often(rt, arena, first) },
+        move || -> Searched
+            requires { IsSync R.row × IsHandOf arena.now second }
+            ensures { IsHandOf arena.entry.now result.hand }
+        { get_often(rt, arena, second) },
+    )
+}
+
+/// Four threads' gets at once: both pairs.
+fn get_by_four<R: Threads + Wait + Sync>(
+    rt: &R,
+    arena: &Arena,
+    low: (Hand, Hand),
+    high: (Hand, Hand),
+) -> ((Searched, Searched), (Searched, Searched))
+    requires low { IsHandOf arena.now low.0 × IsHandOf arena.now low.1 }
+    requires high { IsHandOf arena.now high.0 × IsHandOf arena.now high.1 }
+    ensures low { IsHandOf arena.now result.0.0.hand × IsHandOf arena.now result.0.1.hand }
+    ensures high { IsHandOf arena.now result.1.0.hand × IsHandOf arena.now result.1.1.hand }
+{
+    join(
+        rt,
+        move || -> (Searched, Searched)
+            requires { IsSync R.row × IsHandOf arena.now low.0 × IsHandOf arena.now low.1 }
+            ensures { IsHandOf arena.entry.now result.0.hand × IsHandOf arena.entry.now result.1.hand }
+        { get_beside(rt, arena, low) },
+        move || -> (Searched, Searched)
+            requires { IsSync R.row × IsHandOf arena.now high.0 × IsHandOf arena.now high.1 }
+            ensures { IsHandOf arena.entry.now result.0.hand × IsHandOf arena.entry.now result.1.hand }
+        { get_beside(rt, arena, high) },
+    )
+}
+
+/// One hand of two that searched. None where one isn't idle, or found something.
+fn both(arena: &Arena, pair: (Searched, Searched)) -> Option<Hand>
+    requires pair { IsHandOf arena.now pair.0.hand × IsHandOf arena.now pair.1.hand }
+    ensures hand { IfSome result (λ hand. IsHandOf arena.now hand) }
+{
+    let (first, second) = pair;
+    let Searched { hand, found } = first;
+    let Searched {
+        hand: other,
+        found: more,
+    } = second;
+    if found || more {
+        return None;
+    }
+    one_of(arena, (hand, other))
+}
+
+/// One hand of two. None where one isn't idle.
+pub fn one_of(arena: &Arena, hands: (Hand, Hand)) -> Option<Hand>
+    requires hands { IsHandOf arena.now hands.0 × IsHandOf arena.now hands.1 }
+    ensures hand { IfSome result (λ hand. IsHandOf arena.now hand) }
+{
+    let (hand, other) = hands;
+    if !hand.idle() || !other.idle() {
+        return None;
+    }
+    Some(arena.join_hands(hand, other))
+}
+
+/// How many calls the stripe noted, if all are gets of that key that found nothing.
+fn count_gets(left: &Final, stripe: u64) -> Option<u64> {
+    if stripe >= left.config().stripes {
+        return None;
+    }
+    let mut count = 0u64;
+    for call in left.stripe(stripe)?.history().iter() {
+        if !is_missed(call) {
+            return None;
+        }
+        count = count.saturating_add(1);
+    }
+    Some(count)
+}
+
+/// Whether the call is a get of that key that found nothing.
+fn is_missed(call: &Call) -> bool {
+    matches!(call, Call::Get(_, MISSING, None))
+}
+
+#[test]
+fn each_get_is_noted(rt: HostRuntime) -> Result<(), Fail> {
+    let (arena, mut hands) = opened(rt.alloc(), 4)?;
+    let Some(low) = next_two(&arena, &mut hands) else {
+        return Err(Fail::new("there are four hands"));
+    };
+    let Some(high) = next_two(&arena, &mut hands) else {
+        return Err(Fail::new("there are four hands"));
+    };
+    let (low, high) = get_by_four(&rt, &arena, low, high);
+    let (Some(low), Some(high)) = (both(&arena, low), both(&arena, high)) else {
+        return Err(Fail::new("nothing is found"));
+    };
+    let Some(hand) = one_of(&arena, (low, high)) else {
+        return Err(Fail::new("the hands are idle"));
+    };
+    let left = arena.close(hand);
+    assert_same(&rt, count_gets(&left, 2), Some(4 * GETS), "gets");
+    Ok(())
+}

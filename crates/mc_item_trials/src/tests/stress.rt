@@ -1,0 +1,379 @@
+//! Four threads set, get, read, give up and delete items over forty keys of one class of two pages. Each word of an item tells its
+//! key and stamp, so a word of another item would be seen.
+ghost use Rattle.std.specs.Prelude.{◌≡◌, IfSome};
+ghost use Rattle.std.specs.Thread.{IsSync};
+ghost use Rattle.mc_words.specs.Arenas.{IsHandOf, view};
+ghost use Rattle.mc_items.specs.ItemRefs.{IsItemRef};
+ghost use Rattle.mc_item_trials.specs.Hands.{AreHandsOf};
+
+use super::assert_same;
+use super::calls::{Getter, delete_key, get_by, next_two, opened_with, set_words};
+use super::four::one_of;
+use super::words::{are_from, words_from};
+use mc_classes::{Config, PageId};
+use mc_items::{Ref, read, release};
+use mc_pages::{ChunkId, Owner};
+use mc_stripe::{Key, Stamp};
+use mc_words::{Arena, Final, Hand};
+use std::alloc::{AllocError, Global};
+use std::sync::Wait;
+use std::test::Fail;
+use std::thread::{Threads, join};
+
+/// Two pages; the lowest class has 96 bytes and 10 chunks a page.
+const TWO_PAGES: Config = Config {
+    page: 1024,
+    limit: 2048,
+    first: 96,
+    num: 2,
+    den: 1,
+    max: 512,
+    stripes: 4,
+    bulk: 64,
+};
+
+/// How many chunks a page of that class has.
+const CHUNKS: u64 = 10;
+
+/// How many words each item has: the most that the class has room for.
+const LEN: u64 = 9;
+
+/// How many keys there are.
+const KEYS: u64 = 40;
+
+/// How often each thread acts.
+const ROUNDS: u64 = 2000;
+
+/// The first word of the item that is stored under the key with this stamp. No other item has one of its words.
+fn first_word(key: Key, stamp: Stamp) -> u64 {
+    stamp.wrapping_mul(KEYS).wrapping_add(key).wrapping_mul(LEN)
+}
+
+/// What the thread does in a round.
+#[derive(Clone, Copy)]
+enum Action {
+    Set,
+    Delete,
+    Get(Getter),
+}
+
+/// What a thread does in this round, and with which key. Each thread begins elsewhere.
+fn choose(thread: u64, round: u64) -> (Action, Key) {
+    let drawn = (round + 7919 * thread).wrapping_mul(6_364_136_223_846_793_005) >> 33;
+    let action = match drawn % 8 {
+        0 | 1 | 2 => Action::Set,
+        3 => Action::Delete,
+        4 => Action::Get(Getter::TryGet),
+        _ => Action::Get(Getter::Get),
+    };
+    (action, (drawn >> 8) % KEYS)
+}
+
+/// Stores an item whose words tell its key and stamp, if the hand may.
+fn store<R: Wait>(
+    rt: &R,
+    alloc: Global,
+    arena: &Arena,
+    hand: &mut Hand,
+    key: Key,
+) -> Result<(), AllocError>
+    requires arena { IsHandOf arena.now hand.old }
+    ensures arena { IsHandOf arena.now hand.new }
+{
+    let stamp = hand.next_stamp().unwrap_or(0);
+    let words = words_from(alloc, first_word(key, stamp), LEN)?;
+    let _stored = set_words(rt, arena, hand, key, &words);
+    Ok(())
+}
+
+/// Whether the item has the words of its key and stamp.
+fn is_own(
+    alloc: Global,
+    arena: &Arena,
+    hand: &mut Hand,
+    item: &Ref,
+    key: Key,
+) -> Result<bool, AllocError>
+    requires arena { IsHandOf arena.now hand.old }
+    requires item { IsItemRef (view hand.old) item.now }
+    ensures arena { IsHandOf arena.now hand.new }
+    ensures same { view hand.new ≡ view hand.old }
+{
+    let words = read(alloc, arena, hand, item)?;
+    Ok(item.key() == key && are_from(&words, first_word(key, item.stamp()), LEN))
+}
+
+/// A thread's two hands: with one it holds items, while it changes others with the second. And how many items it found to have
+/// words of others.
+#[derive(Drop)]
+struct Worker {
+    reader: Hand,
+    writer: Hand,
+    wrong: u64,
+}
+
+/// Gets the key's item and reads it, before and behind a set of the next key. True if all words were its own.
+fn read_twice<R: Wait>(
+    rt: &R,
+    alloc: Global,
+    arena: &Arena,
+    reader: &mut Hand,
+    writer: &mut Hand,
+    key: Key,
+    getter: Getter,
+) -> Result<bool, AllocError>
+    requires reader { IsHandOf arena.now reader.old }
+    requires writer { IsHandOf arena.now writer.old }
+    ensures reader { IsHandOf arena.now reader.new }
+    ensures writer { IsHandOf arena.now writer.new }
+{
+    let Some(item) = get_by(rt, arena, reader, key, getter) else {
+        return Ok(true);
+    };
+    let before = is_own(alloc, arena, reader, &item, key)?;
+    store(rt, alloc, arena, writer, (key + 1) % KEYS)?;
+    let behind = is_own(alloc, arena, reader, &item, key)?;
+    release(arena, reader, item);
+    Ok(before && behind)
+}
+
+/// One round of a thread. True if all words that were read were their items' own.
+fn act<R: Wait>(
+    rt: &R,
+    alloc: Global,
+    arena: &Arena,
+    reader: &mut Hand,
+    writer: &mut Hand,
+    chosen: (Action, Key),
+) -> Result<bool, AllocError>
+    requires reader { IsHandOf arena.now reader.old }
+    requires writer { IsHandOf arena.now writer.old }
+    ensures reader { IsHandOf arena.now reader.new }
+    ensures writer { IsHandOf arena.now writer.new }
+{
+    let (action, key) = chosen;
+    match action {
+        Action::Set => {
+            store(rt, alloc, arena, writer, key)?;
+            Ok(true)
+        }
+        Action::Delete => {
+            let _deleted = delete_key(rt, arena, writer, key);
+            Ok(true)
+        }
+        Action::Get(getter) => read_twice(rt, alloc, arena, reader, writer, key, getter),
+    }
+}
+
+/// A thread's rounds.
+fn work<R: Wait>(rt: &R, alloc: Global, arena: &Arena, thread: u64, hands: (Hand, Hand)) -> Worker
+    requires hands { IsHandOf arena.now hands.0 × IsHandOf arena.now hands.1 }
+    ensures hands { IsHandOf arena.now result.reader × IsHandOf arena.now result.writer }
+{
+    let (mut reader, mut writer) = hands;
+    let mut wrong = 0;
+    for round in 0..ROUNDS {
+        let chosen = choose(thread, round);
+        match act(rt, alloc, arena, &mut reader, &mut writer, chosen) {
+            Ok(true) => {}
+            _ => wrong += 1,
+        }
+    }
+    Worker {
+        reader,
+        writer,
+        wrong,
+    }
+}
+
+/// Two threads' rounds at once, of this number and the next.
+fn work_beside<R: Threads + Wait + Sync>(
+    rt: &R,
+    alloc: Global,
+    arena: &Arena,
+    thread: u64,
+    first: (Hand, Hand),
+    second: (Hand, Hand),
+) -> (Worker, Worker)
+    requires first { IsHandOf arena.now first.0 × IsHandOf arena.now first.1 }
+    requires second { IsHandOf arena.now second.0 × IsHandOf arena.now second.1 }
+    ensures first { IsHandOf arena.now result.0.reader × IsHandOf arena.now result.0.writer }
+    ensures second { IsHandOf arena.now result.1.reader × IsHandOf arena.now result.1.writer }
+{
+    join(
+        rt,
+        move || -> Worker
+            requires { IsSync R.row × IsHandOf arena.now first.0 × IsHandOf arena.now first.1 }
+            ensures { IsHandOf arena.entry.now result.reader × IsHandOf arena.entry.now result.writer }
+        { work(rt, alloc, arena, thread, first) },
+        move || -> Worker
+            requires { IsSync R.row × IsHandOf arena.now second.0 × IsHandOf arena.now second.1 }
+            ensures { IsHandOf arena.entry.now result.reader × IsHandOf arena.entry.now result.writer }
+        { work(rt, alloc, arena, thread.wrapping_add(1), second) },
+    )
+}
+
+/// One hand of a worker's two, and how many items were found wrong. None where a hand isn't idle.
+fn done(arena: &Arena, worker: Worker) -> Option<(Hand, u64)>
+    requires reader { IsHandOf arena.now worker.reader }
+    requires writer { IsHandOf arena.now worker.writer }
+    ensures hand { IfSome result (λ found. IsHandOf arena.now found.0) }
+{
+    let Worker {
+        reader,
+        writer,
+        wrong,
+    } = worker;
+    let hand = one_of(arena, (reader, writer))?;
+    Some((hand, wrong))
+}
+
+/// One hand of two workers, and how many items both found wrong. None where a hand isn't idle.
+fn both(arena: &Arena, workers: (Worker, Worker)) -> Option<(Hand, u64)>
+    requires first { IsHandOf arena.now workers.0.reader × IsHandOf arena.now workers.0.writer }
+    requires second { IsHandOf arena.now workers.1.reader × IsHandOf arena.now workers.1.writer }
+    ensures hand { IfSome result (λ found. IsHandOf arena.now found.0) }
+{
+    let (first, second) = workers;
+    let (hand, wrong) = done(arena, first)?;
+    let (other, more) = done(arena, second)?;
+    let hand = one_of(arena, (hand, other))?;
+    Some((hand, wrong.saturating_add(more)))
+}
+
+/// The hands of two workers.
+fn next_pairs(arena: &Arena, hands: &mut Vec<Hand>) -> Option<((Hand, Hand), (Hand, Hand))>
+    requires hands { AreHandsOf arena.now hands.old.items }
+    ensures hands { AreHandsOf arena.now hands.new.items }
+    ensures first { IfSome result (λ pairs. IsHandOf arena.now pairs.0.0 × IsHandOf arena.now pairs.0.1) }
+    ensures second { IfSome result (λ pairs. IsHandOf arena.now pairs.1.0 × IsHandOf arena.now pairs.1.1) }
+{
+    let first = next_two(arena, hands)?;
+    let second = next_two(arena, hands)?;
+    Some((first, second))
+}
+
+/// Four threads' rounds at once: one hand, and how many items were found wrong. None where a hand is missing, or isn't idle.
+fn work_by_four<R: Threads + Wait + Sync>(
+    rt: &R,
+    alloc: Global,
+    arena: &Arena,
+    hands: &mut Vec<Hand>,
+) -> Option<(Hand, u64)>
+    requires hands { AreHandsOf arena.now hands.old.items }
+    ensures hand { IfSome result (λ found. IsHandOf arena.now found.0) }
+{
+    let low = next_pairs(arena, hands)?;
+    let high = next_pairs(arena, hands)?;
+    let (low, high) = join(
+        rt,
+        move || -> (Worker, Worker)
+            requires { IsSync R.row × (IsHandOf arena.now low.0.0 × IsHandOf arena.now low.0.1) × (IsHandOf arena.now low.1.0 × IsHandOf arena.now low.1.1) }
+            ensures { (IsHandOf arena.entry.now result.0.reader × IsHandOf arena.entry.now result.0.writer) × (IsHandOf arena.entry.now result.1.reader × IsHandOf arena.entry.now result.1.writer) }
+        { work_beside(rt, alloc, arena, 1, low.0, low.1) },
+        move || -> (Worker, Worker)
+            requires { IsSync R.row × (IsHandOf arena.now high.0.0 × IsHandOf arena.now high.0.1) × (IsHandOf arena.now high.1.0 × IsHandOf arena.now high.1.1) }
+            ensures { (IsHandOf arena.entry.now result.0.reader × IsHandOf arena.entry.now result.0.writer) × (IsHandOf arena.entry.now result.1.reader × IsHandOf arena.entry.now result.1.writer) }
+        { work_beside(rt, alloc, arena, 3, high.0, high.1) },
+    );
+    let (hand, wrong) = both(arena, low)?;
+    let (other, more) = both(arena, high)?;
+    let hand = one_of(arena, (hand, other))?;
+    Some((hand, wrong.saturating_add(more)))
+}
+
+/// How many chunks of a page, or of several, are free, dead, and of items that nobody holds.
+#[derive(Clone, Copy, Debug, PartialEq, Eq)]
+struct Sums {
+    free: u64,
+    dead: u64,
+    linked: u64,
+}
+
+/// Adds the chunks of a page to these. None where a chunk is in another state.
+fn add_page(left: &Final, page: PageId, sums: Sums) -> Option<Sums> {
+    let Sums {
+        mut free,
+        mut dead,
+        mut linked,
+    } = sums;
+    for index in 0..CHUNKS {
+        match head(left, ChunkId { page, index })? % 262_144 {
+            65_536 => free += 1,
+            131_072 => dead += 1,
+            196_609 => linked += 1,
+            _ => return None,
+        }
+    }
+    Some(Sums { free, dead, linked })
+}
+
+/// The header of a chunk. None where there is no such chunk.
+fn head(left: &Final, chunk: ChunkId) -> Option<u64> {
+    let classes = left.classes();
+    if chunk.page < classes.pages() && chunk.index < classes.per_page(1) {
+        Some(left.head(chunk))
+    } else {
+        None
+    }
+}
+
+/// How many of the keys have an item.
+fn count_keys(left: &Final) -> Option<u64> {
+    let stripes = left.config().stripes;
+    let mut count = 0;
+    for key in 0..KEYS {
+        if stripes == 0 {
+            return None;
+        }
+        if left.stripe(key % stripes)?.find(key).is_some() {
+            count += 1;
+        }
+    }
+    Some(count)
+}
+
+/// How many chunks of the class are free as its list says, and whether both pages are the class's.
+fn listed(left: &Final) -> Option<(u64, bool)> {
+    let mut are_owned = left.classes().pages() == 2;
+    for page in 0..left.classes().pages() {
+        if left.owner(page) != Some(Owner::Class(1)) {
+            are_owned = false;
+        }
+    }
+    Some((left.slabs()?.numbers(1).free, are_owned))
+}
+
+#[test]
+fn no_read_shows_another_item(rt: HostRuntime) -> Result<(), Fail> {
+    let (arena, mut hands) = opened_with(rt.alloc(), &TWO_PAGES, 8)?;
+    let Some((hand, wrong)) = work_by_four(&rt, rt.alloc(), &arena, &mut hands) else {
+        return Err(Fail::new("there are eight hands, and each is idle"));
+    };
+    assert_same(&rt, wrong, 0, "words of other items");
+    let left = arena.close(hand);
+    let none = Sums {
+        free: 0,
+        dead: 0,
+        linked: 0,
+    };
+    let Some(sums) = add_page(&left, 0, none) else {
+        return Err(Fail::new("each chunk is free, dead or linked"));
+    };
+    let Some(sums) = add_page(&left, 1, sums) else {
+        return Err(Fail::new("each chunk is free, dead or linked"));
+    };
+    let Some((free, are_owned)) = listed(&left) else {
+        return Err(Fail::new("pages and lists are there"));
+    };
+    assert_same(&rt, are_owned, true, "pages of the class");
+    assert_same(&rt, free, sums.free, "free chunks");
+    assert_same(&rt, count_keys(&left), Some(sums.linked), "items");
+    assert_same(
+        &rt,
+        sums.free + sums.dead + sums.linked,
+        2 * CHUNKS,
+        "chunks",
+    );
+    Ok(())
+}
