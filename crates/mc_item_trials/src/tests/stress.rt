@@ -374,7 +374,9 @@ fn no_read_shows_another_item(rt: HostRuntime) -> Result<(), Fail> {
     assert_same(&rt, count_keys(&left), Some(sums.linked), "items");
     assert_same(
         &rt,
-        sums.free + sums.dead + sums.linked,
+        sums.free
+            .saturating_add(sums.dead)
+            .saturating_add(sums.linked),
         2 * CHUNKS,
         "chunks",
     );
