@@ -9,6 +9,7 @@ use std::sync::Mutex;
 use std::time::{Duration, Instant};
 
 const OPERATIONS: u64 = 500_000;
+const FEW: u64 = 1_000;
 const BATCH: u64 = 256;
 const BATCHES: u64 = 1_000;
 const EVICTIONS: u64 = 1_000;
@@ -470,15 +471,19 @@ fn show(name: &str, live: u64, took: Duration, operations: u64) {
     println!("{name}-{live} {} {operations}", took.as_nanos());
 }
 
-/// Does the work for keys below the count, so many times.
-fn show_each(name: &str, live: u64, mut work: impl FnMut(u64)) {
+/// Does the work for keys below the count, over and over.
+fn time_each(count: u64, mut work: impl FnMut(u64)) -> Duration {
     let started = Instant::now();
     let mut key = 0;
     for _ in 0..OPERATIONS {
         work(key);
-        key = next_key(key, live);
+        key = next_key(key, count);
     }
-    show(name, live, started.elapsed(), OPERATIONS);
+    started.elapsed()
+}
+
+fn show_each(name: &str, live: u64, work: impl FnMut(u64)) {
+    show(name, live, time_each(live, work), OPERATIONS);
 }
 
 fn show_references(arena: &Arena, hand: &mut Hand, live: u64) {
@@ -486,6 +491,11 @@ fn show_references(arena: &Arena, hand: &mut Hand, live: u64) {
         let item = arena.get(hand, key).unwrap();
         arena.release(hand, item);
     });
+    let took = time_each(FEW, |key| {
+        let item = arena.get(hand, key).unwrap();
+        arena.release(hand, item);
+    });
+    show("get+release-few", live, took, OPERATIONS);
     show_each("try_get+release", live, |key| {
         let item = arena.try_get(hand, key).unwrap();
         arena.release(hand, item);
