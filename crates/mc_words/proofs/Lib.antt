@@ -39,6 +39,7 @@ pub mod Judging
 pub mod Opens
 pub mod Splits
 pub mod Pages
+pub mod MoveChanges
 pub mod ChangeViews
 pub mod StripeChanges
 pub mod Joined

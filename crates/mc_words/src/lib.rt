@@ -18,6 +18,7 @@ mod locking;
 mod locks;
 mod looking;
 mod making;
+mod moving;
 mod opening;
 mod places;
 mod plan;
