@@ -23,6 +23,7 @@ pub mod Reasoned
 pub mod Condemns
 pub mod CondemnCalls
 pub mod DeadAgain
+pub mod Clears
 pub mod HeldOut
 pub mod Sweeps
 pub mod SweepViews

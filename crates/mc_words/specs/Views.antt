@@ -6,16 +6,16 @@ use Rattle.mc_stripe.specs.StripeState.{ReadyStripe}
 use Rattle.mc_core.specs.declared.head.Head.{Head}
 use Rattle.mc_core.specs.declared.holding.Holding.{Holding}
 use Rattle.mc_core.specs.declared.look.Look.{Look}
-use Rattle.mc_core.specs.declared.look.Look.TheVariants.{Saw, SawStripe, Popped, PutBack, Cut, Changed}
+use Rattle.mc_core.specs.declared.look.Look.TheVariants.{Saw, SawStripe, Popped, PutBack, Cleared, Cut, Changed}
 use Rattle.mc_core.specs.declared.event.Change.{Change}
 use Rattle.mc_core.specs.Silent.{slabs_after}
 use Rattle.mc_core.specs.Past.{Sight, Knowledge, header, slabs_word, stripe_word}
 use Rattle.mc_core.specs.Holdings.{is_of, lose, change_each}
-use Rattle.mc_pages.specs.Changes.{after_pop, after_back, after_cut}
+use Rattle.mc_pages.specs.Changes.{after_pop, after_back, after_clear, after_cut}
 use Rattle.mc_core.specs.declared.holding.Kind.TheVariants.{Fresh}
 use Rattle.mc_core.specs.declared.holding.Purpose.TheVariants.{Item}
 use Rattle.mc_core.specs.State.{room_in}
-use Rattle.mc_core.specs.Chunks.{filled, handed_out, with_tag_free}
+use Rattle.mc_core.specs.Chunks.{filled, handed_out, with_tag_free, with_tag_out}
 use Rattle.mc_words.specs.View.{View}
 
 -- the hand knows this
@@ -98,6 +98,10 @@ chunk_popped slabs class chunk head view =
 -- a dead chunk went to its free list, whose header was this
 abbrev pub chunk_put_back : SlabState → ChunkId → Head → View → View
 chunk_put_back slabs chunk head view = looked (PutBack chunk (with_tag_free head)) (with_slabs (after_back slabs chunk) view)
+
+-- a chunk of the moving page left its lists, whose header was this
+abbrev pub chunk_cleared : SlabState → ChunkId → Head → View → View
+chunk_cleared slabs chunk head view = looked (Cleared chunk (with_tag_out head)) (with_slabs (after_clear slabs chunk) view)
 
 -- a chunk was cut, whose header was this
 abbrev pub chunk_cut : SlabState → ChunkId → Head → View → View

@@ -4,6 +4,7 @@
 mod arena;
 mod boxed;
 mod changing;
+mod clearing;
 mod closing;
 mod condemning;
 mod filling;
