@@ -24,6 +24,8 @@ pub mod Condemns
 pub mod CondemnCalls
 pub mod DeadAgain
 pub mod Clears
+pub mod FreeWalks
+pub mod Copies
 pub mod HeldOut
 pub mod Sweeps
 pub mod SweepViews

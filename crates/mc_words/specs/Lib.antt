@@ -23,6 +23,7 @@ pub mod Lent
 pub mod Joining
 pub mod Closing
 pub mod Owner
+pub mod Rescuing
 pub mod Hinting
 pub mod Condemning
 pub mod Sweeping

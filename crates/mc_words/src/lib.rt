@@ -28,6 +28,7 @@ mod referring;
 mod refs;
 mod refusal;
 mod releasing;
+mod rescuing;
 mod rooms;
 mod rule;
 mod slot;
