@@ -6,6 +6,7 @@ pub mod Quiet
 pub mod TakeAndGive
 pub mod Tallies
 pub mod Links
+pub mod CopyLinks
 pub mod OutFirst
 pub mod Knows
 pub mod LockViews

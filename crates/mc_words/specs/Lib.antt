@@ -26,6 +26,7 @@ pub mod Owner
 pub mod Rescuing
 pub mod Hinting
 pub mod Condemning
+pub mod Originals
 pub mod Sweeping
 pub mod Arenas
 pub mod Refused
