@@ -1,5 +1,5 @@
 -- The call that takes an item away: it reads the key, looks at the header, and exchanges it.
-use Rattle.std.proofs.Common.{◌≡◌, ◌≢◌, ℕ, zero, suc, ◌-◌, ◌/◌, ◌%◌, ◌^◌, ◌==◌, ◌<◌, ◌&&◌, ◌||◌, Bool, true, false, [], ◌∷◌, ◌++◌, Option, Some, None, refl, sym, ap, subst, ◌∙◌, inl, inr, arith, IfSome, if◌then◌else◌, slice_index, slice_index_or, eqb-true, eq-eqb, get_or-set_same}
+use Rattle.std.proofs.Common.{◌≡◌, ◌≢◌, ℕ, zero, suc, ◌-◌, ◌/◌, ◌%◌, ◌^◌, ◌==◌, ◌<◌, ◌&&◌, ◌||◌, Bool, true, false, [], ◌∷◌, ◌++◌, Option, Some, None, refl, sym, ap, subst, ◌∙◌, inl, inr, arith, IfSome, if◌then◌else◌, slice_index, slice_index_or, eqb-true, eq-eqb, get_or-set_same, length}
 use Rattle.std.specs.List.{fold}
 use Rattle.std.specs.Option.{option_map}
 use Rattle.std.proofs.lemmas.Bool.{and_from, and_parts, cases_Bool, cases_eq}
@@ -8,7 +8,7 @@ use Rattle.mc_pages.specs.declared.ids.ChunkId.{ChunkId}
 use Rattle.mc_pages.specs.SlabState.{SlabState, class_of_page}
 use Rattle.mc_pages.proofs.Chunks.{is_chunk-same}
 use Rattle.mc_stripe.specs.StripeState.{ReadyStripe, place_of}
-use Rattle.mc_stripe.specs.Changes.{after_evict, used_up}
+use Rattle.mc_stripe.specs.Changes.{after_evict, after_lift, used_up}
 use Rattle.mc_core.specs.declared.head.Head.{Head}
 use Rattle.mc_core.specs.declared.head.Tag.{Tag}
 use Rattle.mc_core.specs.declared.head.Tag.TheVariants.{Linked}
@@ -20,7 +20,7 @@ use Rattle.mc_core.specs.Head.{code, decode, tag_of, is_dead, is_free, is_linked
 use Rattle.mc_core.specs.Looks.{was_linked}
 use Rattle.mc_core.specs.Past.{header}
 use Rattle.mc_core.specs.Seen.{IsStill, last_head, last_read, seen_head}
-use Rattle.mc_core.specs.State.{State, has_chunk, head_at, looks_at, room_in, word_at}
+use Rattle.mc_core.specs.State.{State, has_chunk, head_at, item_at, looks_at, room_in, word_at}
 use Rattle.mc_core.proofs.Codes.{are_one_word}
 use Rattle.mc_core.proofs.Entered.{tag_linked}
 use Rattle.mc_core.proofs.SeenAdds.{was_linked_is}
@@ -30,9 +30,11 @@ use Rattle.mc_words.specs.Happens.{LawfulView, Happens, HappensAt}
 use Rattle.mc_words.specs.Called.{item_condemned}
 use Rattle.mc_words.specs.Condemning.{Condemns, FindsHeld, SeesHeld, key_read, key_seen, knows_reason, stripe_read}
 use Rattle.mc_words.specs.Items.{word_read}
+use Rattle.mc_words.specs.Originals.{CondemnsOriginal, original_condemned}
+use Rattle.mc_words.specs.Tallies.{fresh_count}
 use Rattle.mc_words.specs.Views.{head_seen}
 use Rattle.mc_words.specs.Views as views
-use Rattle.mc_words.proofs.Condemns.{HasBoth, condemned_view, leads_there}
+use Rattle.mc_words.proofs.Condemns.{HasBoth, bound_count, bound_length, condemned_view, item_key, item_read, item_stamp, item_whole, leads_there, original_view}
 use Rattle.mc_words.proofs.Heads.{head_is, near_here}
 use Rattle.mc_words.proofs.Judging.{seen_is}
 use Rattle.mc_words.proofs.LockViews as seen_views
@@ -110,19 +112,17 @@ pub record Asks (view : View) (slabs : SlabState) (stripe : ℕ) (value : ReadyS
   pub ready : value.ready ≡ true
   pub key : stripe_read view chunk ≡ Some stripe
   pub reason : knows_reason view.setup.table slabs view.row.looks view.row.holdings chunk ≡ true
-  pub none : has_copy view.row.holdings chunk ≡ false
 
 -- as it is asked, of the arena's setup
 pub asks : (view : View) (setup : Setup) (slabs : SlabState) (stripe : ℕ) (value : ReadyStripe) (chunk : ChunkId) → view.setup ≡ setup → has_chunk setup.table chunk ≡ true → view.slabs ≡ Some slabs → slice_index_or view.stripes stripe None ≡ Some value
-    → value.ready ≡ true → stripe_read view chunk ≡ Some stripe → knows_reason setup.table slabs view.row.looks view.row.holdings chunk ≡ true → has_copy view.row.holdings chunk ≡ false → Asks view slabs stripe value chunk
-asks view setup slabs stripe value chunk of near mine held ready key reason none = record {
+    → value.ready ≡ true → stripe_read view chunk ≡ Some stripe → knows_reason setup.table slabs view.row.looks view.row.holdings chunk ≡ true → Asks view slabs stripe value chunk
+asks view setup slabs stripe value chunk of near mine held ready key reason = record {
   near = ap (λ (s : Setup). has_chunk s.table chunk) of ∙ near;
   mine = mine;
   held = held;
   ready = ready;
   key = key;
   reason = ap (λ (s : Setup). knows_reason s.table slabs view.row.looks view.row.holdings chunk) of ∙ reason;
-  none = none;
 }
 
 module _ (view : View) (slabs : SlabState) (stripe : ℕ) (value : ReadyStripe) (chunk : ChunkId) (ask : Asks view slabs stripe value chunk) where
@@ -170,6 +170,21 @@ module _ (view read seen : View) (slabs : SlabState) (stripe : ℕ) (value : Rea
 
   pub has_still : HasBoth seen slabs stripe value chunk key
   has_still = subst (λ (v : View). HasBoth v slabs stripe value chunk key) (sym seen_plain) (record { near = has.near; mine = has.mine; held = has.held; read = key_again; of_key = has.of_key })
+
+  pub copy_still : has_copy view.row.holdings chunk ≡ true → has_copy seen.row.holdings chunk ≡ true
+  copy_still copies = ap (λ (v : View). has_copy v.row.holdings chunk) seen_plain ∙ copies
+
+  -- what was read of the chunk before
+  read_still : (place : ℕ) → word_read seen chunk place ≡ word_read view chunk place
+  read_still place =
+      let once = fold (last_read chunk place) None view.row.looks in
+      ap (λ (v : View). word_read v chunk place) seen_plain
+      ∙ (fold-append (last_read chunk place) None (view.row.looks ++ Read chunk 0 key ∷ []) (Saw chunk (decode word) ∷ [])
+      ∙ (fold-append (last_read chunk place) None view.row.looks (Read chunk 0 key ∷ [])
+      ∙ (ap (λ (b : Bool). if b && 0 == place then Some key else once) (is_chunk-same chunk) ∙ elim (cases_Bool (0 == place)) [
+        | inl same ↦ ap (λ (b : Bool). if b then Some key else once) same ∙ (sym has.read ∙ ap (λ (n : ℕ). fold (last_read chunk n) None view.row.looks) (eqb-true 0 place same))
+        | inr apart ↦ ap (λ (b : Bool). if b then Some key else once) apart
+      ])))
 
   pub none_still : has_copy view.row.holdings chunk ≡ false → has_copy seen.row.holdings chunk ≡ false
   none_still none = ap (λ (v : View). has_copy v.row.holdings chunk) seen_plain ∙ none
@@ -219,6 +234,31 @@ module _ (view read seen : View) (slabs : SlabState) (stripe : ℕ) (value : Rea
             left_is = left_is;
           }
 
+      -- or the original was, of which the hand has a copy
+      pub condemns_original : (now : View) (left : ReadyStripe) → has_copy view.row.holdings chunk ≡ true → left ≡ record value { state = after_lift value.state key } → HappensAt (head_word seen.setup chunk) word seen [] (core.Condemn chunk) now
+          → CondemnsOriginal view stripe value chunk left now
+      condemns_original now left copies left_is at =
+          let h = at.0 in
+          let is : head_at h.was.moment.state chunk ≡ decode word = head_is seen chunk has_still.near h.was ∙ ap decode at.1 in
+          let tag : (head_at h.was.moment.state chunk).tag ≡ Linked = ap (λ (h : Head). h.tag) is ∙ tag_linked (decode word).tag (and_parts _ _ unheld).0 in record {
+            key = key;
+            is_key = has.read;
+            stamp = word_at h.was.moment.state chunk 1;
+            led = led_there now at;
+            item = item_at h.was.moment.state chunk;
+            whole = item_whole seen slabs stripe value chunk key has_still h.was tag;
+            key_is = item_key seen slabs stripe value chunk key has_still h.was tag;
+            stamp_is = item_stamp seen slabs stripe value chunk key has_still h.was tag;
+            read_is = λ place found read. item_read seen slabs stripe value chunk key has_still h.was tag place found (read_still place ∙ read);
+            head = decode word;
+            unheld = unheld;
+            reads = subst (Happens view [] (core.WordHeld chunk 0)) read_is reads;
+            looks = subst (λ (p : View × View). Happens p.0 [] (core.Head chunk) p.1) (λ k. (read_is k, seen_whole k)) looks;
+            happens = subst (λ (v : View). Happens v [] (core.Condemn chunk) now) seen_whole h;
+            is = original_view seen slabs stripe value chunk key has_still (copy_still copies) now (decode word) h is ∙ ap (original_condemned stripe value key chunk (item_at h.was.moment.state chunk) (decode word)) seen_whole;
+            left_is = left_is;
+          }
+
       -- it wasn't, as the header isn't so any more
       pub finds_held : (now : View) (found : ℕ) → found ≢ word → HappensAt (head_word seen.setup chunk) found seen [] (core.Head chunk) now → FindsHeld view chunk now
       finds_held now found apart at = record {
@@ -262,6 +302,24 @@ module _ (view read seen : View) (slabs : SlabState) (stripe : ℕ) (value : Rea
         (ap (λ (v : View). v.row.ids) is, ap (λ (v : View). v.row.holdings) is)
   ]
 
+  -- the same, of the original
+  pub counts_after : (found : ℕ) (now : View) → has_copy view.row.holdings chunk ≡ true → (found ≡ word → HappensAt (head_word seen.setup chunk) found seen [] (core.Condemn chunk) now)
+      → (found ≢ word → HappensAt (head_word seen.setup chunk) found seen [] (core.Head chunk) now)
+      → (now.row.ids ≡ seen.row.ids) × (length now.row.holdings ≡ length seen.row.holdings) × (fresh_count now.row.holdings ≡ fresh_count seen.row.holdings)
+  counts_after found now copies hits misses = elim (cases_eq found word) [
+    | inl hit ↦
+        let h = (hits hit).0 in
+        let is = original_view seen slabs stripe value chunk key has_still (copy_still copies) now (head_at h.was.moment.state chunk) h refl in
+        let item = item_at h.was.moment.state chunk in (
+          ap (λ (v : View). v.row.ids) is,
+          ap (λ (v : View). length v.row.holdings) is ∙ bound_length chunk item seen.row.holdings,
+          ap (λ (v : View). fresh_count v.row.holdings) is ∙ bound_count chunk item seen.row.holdings,
+        )
+    | inr miss ↦
+        let is = seen_views.seen_head seen now chunk found has_still.near (misses miss) in
+        (ap (λ (v : View). v.row.ids) is, ap (λ (v : View). length v.row.holdings) is, ap (λ (v : View). fresh_count v.row.holdings) is)
+  ]
+
   -- a miss leaves the values
   pub left_by_miss : (found : ℕ) (now : View) → HappensAt (head_word seen.setup chunk) found seen [] (core.Head chunk) now → (now.slabs ≡ Some slabs) × (slice_index_or now.stripes stripe None ≡ Some value)
   left_by_miss found now at =
@@ -299,3 +357,16 @@ left_by_condemn view number stripe value left chunk now held done =
 pub dead_by_condemn : (view : View) (number stripe : ℕ) (value left : ReadyStripe) (chunk : ChunkId) (now : View) → Condemns view number stripe value chunk left now → option_map is_dead (seen_head now.row.looks chunk) ≡ Some true
 dead_by_condemn view number stripe value left chunk now done =
     ap (λ (v : View). option_map is_dead (seen_head v.row.looks chunk)) done.is ∙ condemned_dead number stripe value done.key chunk done.head (head_seen chunk done.head (key_seen chunk done.key view))
+
+-- and what is left where the original was
+pub left_by_original : (view : View) (stripe : ℕ) (value left : ReadyStripe) (chunk : ChunkId) (now : View) → slice_index_or view.stripes stripe None ≡ Some value → CondemnsOriginal view stripe value chunk left now → slice_index_or now.stripes stripe None ≡ Some left
+left_by_original view stripe value left chunk now held done =
+    ap (λ (v : View). slice_index_or v.stripes stripe None) done.is
+    ∙ (get_or-set_same view.stripes stripe (Some (record value { state = after_lift value.state done.key })) None (inside view.stripes stripe value held) ∙ ap Some (sym done.left_is))
+
+pub dead_by_original : (view : View) (stripe : ℕ) (value left : ReadyStripe) (chunk : ChunkId) (now : View) → CondemnsOriginal view stripe value chunk left now → option_map is_dead (seen_head now.row.looks chunk) ≡ Some true
+dead_by_original view stripe value left chunk now done =
+    let before = (head_seen chunk done.head (key_seen chunk done.key view)).row.looks in
+    ap (λ (v : View). option_map is_dead (seen_head v.row.looks chunk)) done.is
+    ∙ ap (option_map is_dead)
+    (fold-append (last_head chunk) None before (Condemned chunk (condemned done.head) ∷ []) ∙ ap (λ (b : Bool). if b then Some (condemned done.head) else seen_head before chunk) (is_chunk-same chunk))

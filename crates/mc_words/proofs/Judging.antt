@@ -63,7 +63,7 @@ module _ (view : View) (chunk : ChunkId) (head : Head) (slabs : SlabState) (mine
   seen_holds = ap (λ (v : View). v.row.holdings) seen_is
 
 -- a chunk of which nobody has a holding isn't found
-none_found : (chunk : ChunkId) (holdings : List Holding) → All (λ holding. is_of chunk holding ≡ false) holdings → holding_of chunk holdings ≡ None
+pub none_found : (chunk : ChunkId) (holdings : List Holding) → All (λ holding. is_of chunk holding ≡ false) holdings → holding_of chunk holdings ≡ None
 none_found chunk [] none = refl
 none_found chunk (holding ∷ holdings) none = ap (λ (b : Bool). if b then Some holding else holding_of chunk holdings) (All-head (λ (h : Holding). is_of chunk h ≡ false) holding holdings none)
     ∙ none_found chunk holdings (All-tail (λ (h : Holding). is_of chunk h ≡ false) holding holdings none)

@@ -6,6 +6,7 @@ pub mod Quiet
 pub mod TakeAndGive
 pub mod Tallies
 pub mod Links
+pub mod CopyLinks
 pub mod OutFirst
 pub mod Knows
 pub mod LockViews
@@ -23,6 +24,9 @@ pub mod Reasoned
 pub mod Condemns
 pub mod CondemnCalls
 pub mod DeadAgain
+pub mod Clears
+pub mod FreeWalks
+pub mod Copies
 pub mod HeldOut
 pub mod Sweeps
 pub mod SweepViews
@@ -39,6 +43,7 @@ pub mod Judging
 pub mod Opens
 pub mod Splits
 pub mod Pages
+pub mod MoveChanges
 pub mod ChangeViews
 pub mod StripeChanges
 pub mod Joined

@@ -77,10 +77,10 @@ module _ (view : View) (stripe : ℕ) (value : ReadyStripe) (key : ℕ) (may : M
   abbrev s : State
   s = was.moment.state
 
-  stripe_is : stripe_of s key ≡ stripe
+  pub stripe_is : stripe_of s key ≡ stripe
   stripe_is = ap (λ n. key % n) was.stripes ∙ may.of_key
 
-  value_is : stripe_at s (stripe_of s key) ≡ value
+  pub value_is : stripe_at s (stripe_of s key) ≡ value
   value_is = ap (stripe_at s) stripe_is ∙ (stripe_here view stripe value may.mine was).1
 
 -- an item is linked

@@ -34,7 +34,7 @@ pub sweep_begins : (slabs : SlabState) (looks : List Look) (class : ℕ) (next :
 sweep_begins slabs looks class next first = record { before = []; rest = (class_at slabs class).order; split = refl; at = first; alive = refl }
 
 -- a list begins with its first entry
-begins_with : (rest : List ChunkId) (chunk : ChunkId) → Some chunk ≡ slice_get rest 0 → (more : List ChunkId) × (rest ≡ chunk ∷ more)
+pub begins_with : (rest : List ChunkId) (chunk : ChunkId) → Some chunk ≡ slice_get rest 0 → (more : List ChunkId) × (rest ≡ chunk ∷ more)
 begins_with [] chunk at = absurd (cc)
 begins_with (c ∷ more) chunk at = let same : c ≡ chunk = cc in (more, ap (λ x. x ∷ more) same)
 
@@ -44,20 +44,20 @@ is_empty (c ∷ more) at = absurd (cc)
 
 -- a chunk that stands in a list once is nowhere before or behind its place
 module _ (chunk : ChunkId) (more : List ChunkId) where
-  elsewhere : (before : List ChunkId) → times chunk (before ++ chunk ∷ more) ≤ 1 → (times chunk before ≡ 0) × (times chunk more ≡ 0)
+  pub elsewhere : (before : List ChunkId) → times chunk (before ++ chunk ∷ more) ≤ 1 → (times chunk before ≡ 0) × (times chunk more ≡ 0)
   elsewhere before once =
       let sum = times-append chunk before (chunk ∷ more) in
       let here = times-cons chunk chunk more in
       let same = ap truth (is_chunk-same chunk) in
       (omega arith, omega arith)
 
-  other_first : (c : ChunkId) (before : List ChunkId) → times chunk (c ∷ before) ≡ 0 → (is_chunk c chunk ≡ false) × (times chunk before ≡ 0)
+  pub other_first : (c : ChunkId) (before : List ChunkId) → times chunk (c ∷ before) ≡ 0 → (is_chunk c chunk ≡ false) × (times chunk before ≡ 0)
   other_first c before none = let sum = times-cons chunk c before in elim (cases_Bool (is_chunk c chunk)) [
     | inl is ↦ absurd (let one = ap truth is in omega arith)
     | inr isnt ↦ (isnt, (let zero_of = ap truth isnt in omega arith))
   ]
 
-  behind_is : (before : List ChunkId) → times chunk before ≡ 0 → behind chunk (before ++ chunk ∷ more) ≡ slice_get more 0
+  pub behind_is : (before : List ChunkId) → times chunk before ≡ 0 → behind chunk (before ++ chunk ∷ more) ≡ slice_get more 0
   behind_is [] none = ap (λ (b : Bool). if b then slice_get more 0 else behind chunk more) (is_chunk-same chunk)
   behind_is (c ∷ before) none =
       let parts = other_first c before none in
@@ -76,7 +76,7 @@ module _ (chunk : ChunkId) (more : List ChunkId) where
       ap (λ (b : Bool). if b then c ∷ before ++ chunk ∷ more else rest_from (Some chunk) (before ++ chunk ∷ more)) parts.0 ∙ rest_is before parts.1
 
 -- what is left of a walk, as its measure
-left_is : (next : Option ChunkId) (before rest : List ChunkId) → next ≡ slice_get rest 0 → ((chunk : ChunkId) → times chunk (before ++ rest) ≤ 1) → rest_from next (before ++ rest) ≡ rest
+pub left_is : (next : Option ChunkId) (before rest : List ChunkId) → next ≡ slice_get rest 0 → ((chunk : ChunkId) → times chunk (before ++ rest) ≤ 1) → rest_from next (before ++ rest) ≡ rest
 left_is None before rest at once = sym (is_empty rest at)
 left_is (Some chunk) before rest at once =
     let (more, is) = begins_with rest chunk at in
@@ -84,7 +84,7 @@ left_is (Some chunk) before rest at once =
     subst (λ (r : List ChunkId). rest_from (Some chunk) (before ++ r) ≡ r) (sym is) (rest_is chunk more before (elsewhere chunk more before once').0)
 
 -- all of two lists
-all_append : {A : Type 0} (f : A → Bool) (xs ys : List A) → list_all f xs ≡ true → list_all f ys ≡ true → list_all f (xs ++ ys) ≡ true
+pub all_append : {A : Type 0} (f : A → Bool) (xs ys : List A) → list_all f xs ≡ true → list_all f ys ≡ true → list_all f (xs ++ ys) ≡ true
 all_append f [] ys one two = two
 all_append f (x ∷ xs) ys one two = let parts = and_parts (f x) (list_all f xs) one in and_from _ _ parts.0 (all_append f xs ys parts.1 two)
 

@@ -23,8 +23,10 @@ pub mod Lent
 pub mod Joining
 pub mod Closing
 pub mod Owner
+pub mod Rescuing
 pub mod Hinting
 pub mod Condemning
+pub mod Originals
 pub mod Sweeping
 pub mod Arenas
 pub mod Refused

@@ -1,5 +1,5 @@
 -- The owner's pass, as a hand knows it: each call looks first where it has to, and then steps.
-use Rattle.std.specs.Prelude.{◌≡◌, ℕ, ◌<◌, true, [], Option, Some}
+use Rattle.std.specs.Prelude.{◌≡◌, ℕ, ◌<◌, Bool, true, ◌||◌, [], Option, Some}
 use Rattle.mc_pages.specs.declared.ids.ChunkId.{ChunkId}
 use Rattle.mc_pages.specs.ClassState.{first_free}
 use Rattle.mc_pages.specs.SlabState.{SlabState, class_at}
@@ -7,10 +7,10 @@ use Rattle.mc_core.specs.declared.head.Head.{Head}
 use Rattle.mc_core.specs.declared.head.Tag.TheVariants.{Out}
 use Rattle.mc_core.specs.declared.event.Step.TheVariants as step
 use Rattle.mc_core.specs.Chunks.{most_issue}
-use Rattle.mc_core.specs.Head.{is_dead}
+use Rattle.mc_core.specs.Head.{is_dead, is_free}
 use Rattle.mc_words.specs.View.{View}
 use Rattle.mc_words.specs.Happens.{Happens}
-use Rattle.mc_words.specs.Views.{head_seen, chunk_popped, chunk_put_back, chunk_cut}
+use Rattle.mc_words.specs.Views.{head_seen, chunk_popped, chunk_put_back, chunk_cleared, chunk_cut}
 
 -- the hand saw this header, and the first chunk of the free list, which isn't used up, was handed out
 pub record PopsFirst (view : View) (slabs : SlabState) (class : ℕ) (chunk : ChunkId) (now : View) : Type 0 where
@@ -37,6 +37,18 @@ pub record PutsBack (view : View) (slabs : SlabState) (chunk : ChunkId) (now : V
   pub looks : Happens view [] (step.Head chunk) (head_seen chunk head view)
   pub happens : Happens (head_seen chunk head view) [] (step.PutBack chunk) now
   pub is : now ≡ chunk_put_back slabs chunk head (head_seen chunk head view)
+
+-- the chunk of this header has no item: it is free, or dead
+abbrev pub is_unused : Head → Bool
+is_unused head = is_free head.tag || is_dead head
+
+-- it saw that the chunk is free or dead, and cleared it
+pub record Clears (view : View) (slabs : SlabState) (chunk : ChunkId) (now : View) : Type 0 where
+  pub head : Head
+  pub unused : is_unused head ≡ true
+  pub looks : Happens view [] (step.Head chunk) (head_seen chunk head view)
+  pub happens : Happens (head_seen chunk head view) [] (step.Clear chunk) now
+  pub is : now ≡ chunk_cleared slabs chunk head (head_seen chunk head view)
 
 -- the chunk, which was out, was cut
 pub record Cuts (view : View) (slabs : SlabState) (chunk : ChunkId) (now : View) : Type 0 where

@@ -1,21 +1,21 @@
 -- What each call changes of a hand's view: all else stays.
 use Rattle.std.specs.Prelude.{ℕ, ◌+◌, List, [], ◌∷◌, ◌++◌, is_some, if◌then◌else◌, replicate, slice_set, Some, None, true}
 use Rattle.mc_pages.specs.declared.ids.ChunkId.{ChunkId}
-use Rattle.mc_pages.specs.SlabState.{SlabState}
+use Rattle.mc_pages.specs.SlabState.{SlabState, class_of_page}
 use Rattle.mc_stripe.specs.StripeState.{ReadyStripe}
 use Rattle.mc_core.specs.declared.head.Head.{Head}
 use Rattle.mc_core.specs.declared.holding.Holding.{Holding}
 use Rattle.mc_core.specs.declared.look.Look.{Look}
-use Rattle.mc_core.specs.declared.look.Look.TheVariants.{Saw, SawStripe, Popped, PutBack, Cut, Changed}
+use Rattle.mc_core.specs.declared.look.Look.TheVariants.{Saw, SawStripe, Popped, PoppedOff, PutBack, Cleared, Cut, Changed}
 use Rattle.mc_core.specs.declared.event.Change.{Change}
 use Rattle.mc_core.specs.Silent.{slabs_after}
 use Rattle.mc_core.specs.Past.{Sight, Knowledge, header, slabs_word, stripe_word}
 use Rattle.mc_core.specs.Holdings.{is_of, lose, change_each}
-use Rattle.mc_pages.specs.Changes.{after_pop, after_back, after_cut}
+use Rattle.mc_pages.specs.Changes.{after_pop, after_replace, after_back, after_clear, after_cut}
 use Rattle.mc_core.specs.declared.holding.Kind.TheVariants.{Fresh}
-use Rattle.mc_core.specs.declared.holding.Purpose.TheVariants.{Item}
+use Rattle.mc_core.specs.declared.holding.Purpose.TheVariants.{Copy, Item}
 use Rattle.mc_core.specs.State.{room_in}
-use Rattle.mc_core.specs.Chunks.{filled, handed_out, with_tag_free}
+use Rattle.mc_core.specs.Chunks.{filled, handed_out, with_tag_free, with_tag_out}
 use Rattle.mc_words.specs.View.{View}
 
 -- the hand knows this
@@ -95,9 +95,23 @@ abbrev pub chunk_popped : SlabState → ℕ → ChunkId → Head → View → Vi
 chunk_popped slabs class chunk head view =
     looked (Popped chunk (handed_out head)) (with_slabs (after_pop slabs class) (with_holdings (view.row.holdings ++ fresh_holding chunk (head.issue + 1) (room_in view.setup.table class) ∷ []) view))
 
+-- a chunk for a copy of the item in another one, which nobody has filled yet
+abbrev pub copy_holding : ChunkId → ChunkId → ℕ → ℕ → Holding
+copy_holding old chunk issue room = record { chunk = chunk; issue = issue; kind = Fresh (Copy old) (replicate room None) }
+
+-- a free chunk was handed out in another one's place, for a copy of its item; its header was this
+abbrev pub chunk_popped_off : SlabState → ChunkId → ChunkId → Head → View → View
+chunk_popped_off slabs old chunk head view =
+    looked (PoppedOff chunk old (handed_out head)) (with_slabs (after_replace slabs chunk old)
+    (with_holdings (view.row.holdings ++ copy_holding old chunk (head.issue + 1) (room_in view.setup.table (class_of_page slabs old.page)) ∷ []) view))
+
 -- a dead chunk went to its free list, whose header was this
 abbrev pub chunk_put_back : SlabState → ChunkId → Head → View → View
 chunk_put_back slabs chunk head view = looked (PutBack chunk (with_tag_free head)) (with_slabs (after_back slabs chunk) view)
+
+-- a chunk of the moving page left its lists, whose header was this
+abbrev pub chunk_cleared : SlabState → ChunkId → Head → View → View
+chunk_cleared slabs chunk head view = looked (Cleared chunk (with_tag_out head)) (with_slabs (after_clear slabs chunk) view)
 
 -- a chunk was cut, whose header was this
 abbrev pub chunk_cut : SlabState → ChunkId → Head → View → View

@@ -2,6 +2,7 @@
 ghost use Rattle.std.specs.Prelude.{◌≡◌};
 ghost use Rattle.mc_core.specs.Head.{decode};
 ghost use Rattle.mc_words.specs.Hinting.{is_there};
+ghost use Rattle.mc_words.specs.Owner.{is_unused};
 
 /// What an issue number is multiplied by.
 pub(crate) const ISSUE_UNIT: u64 = 262_144;
@@ -27,9 +28,19 @@ pub(crate) const UNHELD: u64 = 3 * TAG_UNIT + 1;
 /// The tag's number of a linked chunk.
 pub(crate) const LINKED_TAG: u64 = 3;
 
+/// The tag's number of a free chunk.
+pub(crate) const FREE_TAG: u64 = 1;
+
 /// Whether this is the header of a linked chunk that was handed out with this issue number.
 pub(crate) fn is_there(word: u64, issue: u64) -> bool
     ensures there { result ≡ is_there issue (decode word) }
 {
     word / TAG_UNIT % 4 == LINKED_TAG && word / ISSUE_UNIT == issue
+}
+
+/// Whether this is the header of a chunk that is free, or dead.
+pub(crate) fn is_unused(word: u64) -> bool
+    ensures unused { result ≡ is_unused (decode word) }
+{
+    word / TAG_UNIT % 4 == FREE_TAG || word % ISSUE_UNIT == DEAD
 }

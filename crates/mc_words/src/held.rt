@@ -2,7 +2,7 @@
 ghost use Rattle.std.specs.Prelude.{◌≡◌, ◌==◌, if◌then◌else◌};
 
 use crate::boxed::BoxedStripe;
-use mc_pages::{ChunkId, SharedSlabs, Slabs};
+use mc_pages::{ChunkId, Moving, SharedSlabs, Slabs};
 use mc_stripe::Stripe;
 
 /// Pages and lists, while a hand has their lock. Where it is dropped, the lock stays held for good.
@@ -17,6 +17,13 @@ impl SlabsHeld {
         ensures slabs { result.now.state ≡ self.now.shared }
     {
         self.shared.slabs()
+    }
+
+    /// The move that runs, if one does.
+    pub fn moving(&self) -> Option<Moving>
+        ensures moving { result ≡ self.now.shared.moving }
+    {
+        self.shared.slabs().moving()
     }
 }
 

@@ -26,7 +26,7 @@ word_held-key-requires-clause-linked c =
     let stripe = c.args.stripe.now.number in
     let value = c.args.stripe.now.stripe in
     let chunk = c.args.chunk in
-    let ask = asks view c.args.self.now.table.shared.key slabs stripe value chunk arena.setup c.requires.near c.requires.slabs c.requires.stripe c.requires.ready c.requires.key c.requires.reason c.requires.no_copy in
+    let ask = asks view c.args.self.now.table.shared.key slabs stripe value chunk arena.setup c.requires.near c.requires.slabs c.requires.stripe c.requires.ready c.requires.key c.requires.reason in
     (read_before view slabs stripe value chunk ask arena.lawful).0
 
 pub word_held-key-requires-clause-inside : goal.word_held-key-requires-clause-inside
@@ -37,7 +37,7 @@ word_held-key-requires-clause-inside c =
     let stripe = c.args.stripe.now.number in
     let value = c.args.stripe.now.stripe in
     let chunk = c.args.chunk in
-    let ask = asks view c.args.self.now.table.shared.key slabs stripe value chunk arena.setup c.requires.near c.requires.slabs c.requires.stripe c.requires.ready c.requires.key c.requires.reason c.requires.no_copy in
+    let ask = asks view c.args.self.now.table.shared.key slabs stripe value chunk arena.setup c.requires.near c.requires.slabs c.requires.stripe c.requires.ready c.requires.key c.requires.reason in
     subst (λ (s : Setup). 0 < room_in s.table (class_of_page slabs chunk.page)) arena.setup (read_before view slabs stripe value chunk ask arena.lawful).1
 
 pub returns-then-head-ne-UNHELD-clause-moved : goal.returns-then-head-ne-UNHELD-clause-moved
@@ -48,7 +48,7 @@ returns-then-head-ne-UNHELD-clause-moved c =
     let stripe = c.args.stripe.now.number in
     let value = c.args.stripe.now.stripe in
     let chunk = c.args.chunk in
-    let ask = asks view c.args.self.now.table.shared.key slabs stripe value chunk arena.setup c.requires.near c.requires.slabs c.requires.stripe c.requires.ready c.requires.key c.requires.reason c.requires.no_copy in
+    let ask = asks view c.args.self.now.table.shared.key slabs stripe value chunk arena.setup c.requires.near c.requires.slabs c.requires.stripe c.requires.ready c.requires.key c.requires.reason in
     let key = c.word_held-key.result in
     let word = c.head-head.result in
     let read = c.word_held-key.new.hand.seat.me.0 in
@@ -66,7 +66,7 @@ exchange-found-requires c =
     let stripe = c.args.stripe.now.number in
     let value = c.args.stripe.now.stripe in
     let chunk = c.args.chunk in
-    let ask = asks view c.args.self.now.table.shared.key slabs stripe value chunk arena.setup c.requires.near c.requires.slabs c.requires.stripe c.requires.ready c.requires.key c.requires.reason c.requires.no_copy in
+    let ask = asks view c.args.self.now.table.shared.key slabs stripe value chunk arena.setup c.requires.near c.requires.slabs c.requires.stripe c.requires.ready c.requires.key c.requires.reason in
     let key = c.word_held-key.result in
     let word = c.head-head.result in
     let read = c.word_held-key.new.hand.seat.me.0 in
@@ -78,7 +78,7 @@ exchange-found-requires c =
     let unheld = word_unheld word c.if-head-ne-UNHELD.false in
     let still = has_still view read seen slabs stripe value chunk key word has read_is seen_is in
     let reason = reason_still view read seen slabs stripe value chunk key word has read_is seen_is unheld ask.reason in
-    let none = none_still view read seen slabs stripe value chunk key word has read_is seen_is ask.none in
+    let none = none_still view read seen slabs stripe value chunk key word has read_is seen_is c.requires.no_copy in
     let less : minus 65537 word ≡ word - 65537 = word_condemned word (omega arith) c.if-head-ne-UNHELD.false in
     let may = may_condemn seen slabs stripe value chunk key still ask.ready none reason word unheld in (
       refl,
@@ -105,7 +105,7 @@ invariant_of-hand c =
     let stripe = c.args.stripe.now.number in
     let value = c.args.stripe.now.stripe in
     let chunk = c.args.chunk in
-    let ask = asks view c.args.self.now.table.shared.key slabs stripe value chunk arena.setup c.requires.near c.requires.slabs c.requires.stripe c.requires.ready c.requires.key c.requires.reason c.requires.no_copy in
+    let ask = asks view c.args.self.now.table.shared.key slabs stripe value chunk arena.setup c.requires.near c.requires.slabs c.requires.stripe c.requires.ready c.requires.key c.requires.reason in
     let key = c.word_held-key.result in
     let word = c.head-head.result in
     let read = c.word_held-key.new.hand.seat.me.0 in
@@ -117,7 +117,7 @@ invariant_of-hand c =
     let a = c.head-head.new.hand in
     let now = c.exchange-found.new.seat.me.0 in
     let found = c.exchange-found.result in
-    let same = held_after view read seen slabs stripe value chunk key word has read_is seen_is a.number found now a.noted.0 ask.none
+    let same = held_after view read seen slabs stripe value chunk key word has read_is seen_is a.number found now a.noted.0 c.requires.no_copy
     (λ hit. subst (λ (n : ℕ). HappensAt n found seen [] (core.Condemn chunk) now) place (c.exchange-found.ensures.happens hit))
     (λ miss. subst (λ (n : ℕ). HappensAt n found seen [] (core.Head chunk) now) place (c.exchange-found.ensures.missed miss)) in
     record { noted = noted_same a.seat.me c.exchange-found.new.seat.me a.number a.chunks a.chunks a.locks a.noted c.exchange-found.ensures.out c.exchange-found.ensures.hand (a.noted.2 ∙ ap length (sym same.1)); tallied = tallied_same a.seat.me c.exchange-found.new.seat.me a.stamps a.fresh a.tallied same.0 same.1 }
@@ -130,7 +130,7 @@ returns-then-found-head-clause-slabs c =
     let stripe = c.args.stripe.now.number in
     let value = c.args.stripe.now.stripe in
     let chunk = c.args.chunk in
-    let ask = asks view c.args.self.now.table.shared.key slabs stripe value chunk arena.setup c.requires.near c.requires.slabs c.requires.stripe c.requires.ready c.requires.key c.requires.reason c.requires.no_copy in
+    let ask = asks view c.args.self.now.table.shared.key slabs stripe value chunk arena.setup c.requires.near c.requires.slabs c.requires.stripe c.requires.ready c.requires.key c.requires.reason in
     let key = c.word_held-key.result in
     let word = c.head-head.result in
     let read = c.word_held-key.new.hand.seat.me.0 in
@@ -152,7 +152,7 @@ returns-then-found-head-clause-stripe c =
     let stripe = c.args.stripe.now.number in
     let value = c.args.stripe.now.stripe in
     let chunk = c.args.chunk in
-    let ask = asks view c.args.self.now.table.shared.key slabs stripe value chunk arena.setup c.requires.near c.requires.slabs c.requires.stripe c.requires.ready c.requires.key c.requires.reason c.requires.no_copy in
+    let ask = asks view c.args.self.now.table.shared.key slabs stripe value chunk arena.setup c.requires.near c.requires.slabs c.requires.stripe c.requires.ready c.requires.key c.requires.reason in
     let key = c.word_held-key.result in
     let word = c.head-head.result in
     let read = c.word_held-key.new.hand.seat.me.0 in
@@ -174,7 +174,7 @@ returns-then-found-head-clause-moved c =
     let stripe = c.args.stripe.now.number in
     let value = c.args.stripe.now.stripe in
     let chunk = c.args.chunk in
-    let ask = asks view c.args.self.now.table.shared.key slabs stripe value chunk arena.setup c.requires.near c.requires.slabs c.requires.stripe c.requires.ready c.requires.key c.requires.reason c.requires.no_copy in
+    let ask = asks view c.args.self.now.table.shared.key slabs stripe value chunk arena.setup c.requires.near c.requires.slabs c.requires.stripe c.requires.ready c.requires.key c.requires.reason in
     let key = c.word_held-key.result in
     let word = c.head-head.result in
     let read = c.word_held-key.new.hand.seat.me.0 in
@@ -196,7 +196,7 @@ evict-requires-clause-there c =
     let stripe = c.args.stripe.now.number in
     let value = c.args.stripe.now.stripe in
     let chunk = c.args.chunk in
-    let ask = asks view c.args.self.now.table.shared.key slabs stripe value chunk arena.setup c.requires.near c.requires.slabs c.requires.stripe c.requires.ready c.requires.key c.requires.reason c.requires.no_copy in
+    let ask = asks view c.args.self.now.table.shared.key slabs stripe value chunk arena.setup c.requires.near c.requires.slabs c.requires.stripe c.requires.ready c.requires.key c.requires.reason in
     let key = c.word_held-key.result in
     let word = c.head-head.result in
     let read = c.word_held-key.new.hand.seat.me.0 in
@@ -218,7 +218,7 @@ returns-clause-stripe c =
     let stripe = c.args.stripe.now.number in
     let value = c.args.stripe.now.stripe in
     let chunk = c.args.chunk in
-    let ask = asks view c.args.self.now.table.shared.key slabs stripe value chunk arena.setup c.requires.near c.requires.slabs c.requires.stripe c.requires.ready c.requires.key c.requires.reason c.requires.no_copy in
+    let ask = asks view c.args.self.now.table.shared.key slabs stripe value chunk arena.setup c.requires.near c.requires.slabs c.requires.stripe c.requires.ready c.requires.key c.requires.reason in
     let key = c.word_held-key.result in
     let word = c.head-head.result in
     let read = c.word_held-key.new.hand.seat.me.0 in
@@ -232,7 +232,7 @@ returns-clause-stripe c =
     let unheld = word_unheld word c.if-head-ne-UNHELD.false in
     let a = c.head-head.new.hand in
     let left = c.evict.ensures.evicted ∙ ap (λ (v : ReadyStripe). used_up (after_evict v.state a.number key)) c.stripe_mut.ensures.stripe in
-    left_by_condemn view a.number stripe value c.evict.new.self chunk now c.requires.stripe (condemns view read seen slabs stripe value chunk key word has read_is seen_is unheld c.word_held-key.ensures.happens c.head-head.ensures.happens a.number now c.evict.new.self a.noted.0 ask.none left hit)
+    left_by_condemn view a.number stripe value c.evict.new.self chunk now c.requires.stripe (condemns view read seen slabs stripe value chunk key word has read_is seen_is unheld c.word_held-key.ensures.happens c.head-head.ensures.happens a.number now c.evict.new.self a.noted.0 c.requires.no_copy left hit)
 
 pub returns-clause-condemned : goal.returns-clause-condemned
 returns-clause-condemned c =
@@ -242,7 +242,7 @@ returns-clause-condemned c =
     let stripe = c.args.stripe.now.number in
     let value = c.args.stripe.now.stripe in
     let chunk = c.args.chunk in
-    let ask = asks view c.args.self.now.table.shared.key slabs stripe value chunk arena.setup c.requires.near c.requires.slabs c.requires.stripe c.requires.ready c.requires.key c.requires.reason c.requires.no_copy in
+    let ask = asks view c.args.self.now.table.shared.key slabs stripe value chunk arena.setup c.requires.near c.requires.slabs c.requires.stripe c.requires.ready c.requires.key c.requires.reason in
     let key = c.word_held-key.result in
     let word = c.head-head.result in
     let read = c.word_held-key.new.hand.seat.me.0 in
@@ -257,7 +257,7 @@ returns-clause-condemned c =
     let a = c.head-head.new.hand in
     let left = c.evict.ensures.evicted ∙ ap (λ (v : ReadyStripe). used_up (after_evict v.state a.number key)) c.stripe_mut.ensures.stripe in
     let same = same_number view read seen slabs stripe value chunk key word has read_is seen_is c.args.hand.now.number a.number c.args.hand.now.noted.0 a.noted.0 in
-    subst (λ (n : ℕ). Condemns view n stripe value chunk c.evict.new.self now) same (condemns view read seen slabs stripe value chunk key word has read_is seen_is unheld c.word_held-key.ensures.happens c.head-head.ensures.happens a.number now c.evict.new.self a.noted.0 ask.none left hit)
+    subst (λ (n : ℕ). Condemns view n stripe value chunk c.evict.new.self now) same (condemns view read seen slabs stripe value chunk key word has read_is seen_is unheld c.word_held-key.ensures.happens c.head-head.ensures.happens a.number now c.evict.new.self a.noted.0 c.requires.no_copy left hit)
 
 pub returns-clause-dead : goal.returns-clause-dead
 returns-clause-dead c =
@@ -267,7 +267,7 @@ returns-clause-dead c =
     let stripe = c.args.stripe.now.number in
     let value = c.args.stripe.now.stripe in
     let chunk = c.args.chunk in
-    let ask = asks view c.args.self.now.table.shared.key slabs stripe value chunk arena.setup c.requires.near c.requires.slabs c.requires.stripe c.requires.ready c.requires.key c.requires.reason c.requires.no_copy in
+    let ask = asks view c.args.self.now.table.shared.key slabs stripe value chunk arena.setup c.requires.near c.requires.slabs c.requires.stripe c.requires.ready c.requires.key c.requires.reason in
     let key = c.word_held-key.result in
     let word = c.head-head.result in
     let read = c.word_held-key.new.hand.seat.me.0 in
@@ -281,4 +281,4 @@ returns-clause-dead c =
     let unheld = word_unheld word c.if-head-ne-UNHELD.false in
     let a = c.head-head.new.hand in
     let left = c.evict.ensures.evicted ∙ ap (λ (v : ReadyStripe). used_up (after_evict v.state a.number key)) c.stripe_mut.ensures.stripe in
-    dead_by_condemn view a.number stripe value c.evict.new.self chunk now (condemns view read seen slabs stripe value chunk key word has read_is seen_is unheld c.word_held-key.ensures.happens c.head-head.ensures.happens a.number now c.evict.new.self a.noted.0 ask.none left hit)
+    dead_by_condemn view a.number stripe value c.evict.new.self chunk now (condemns view read seen slabs stripe value chunk key word has read_is seen_is unheld c.word_held-key.ensures.happens c.head-head.ensures.happens a.number now c.evict.new.self a.noted.0 c.requires.no_copy left hit)
