@@ -1,7 +1,7 @@
 -- A chunk of the moving page that is cleared.
-use Rattle.std.proofs.Common.{◌≡◌, ◌⊎◌, ℕ, zero, suc, ◌+◌, ◌*◌, ◌/◌, ◌%◌, ◌^◌, ◌<◌, ◌≤◌, ◌==◌, ◌||◌, Bool, true, false, [], Option, Some, None, refl, sym, ap, subst, ◌∙◌, inl, inr, arith, slice_index, eqb-true, eq-eqb}
+use Rattle.std.proofs.Common.{◌≡◌, ℕ, zero, suc, ◌*◌, ◌/◌, ◌%◌, ◌^◌, ◌<◌, ◌≤◌, ◌==◌, ◌||◌, Bool, true, false, [], Option, Some, None, refl, sym, ap, subst, ◌∙◌, inl, inr, arith, slice_index}
 use Rattle.std.specs.Option.{option_map}
-use Rattle.std.proofs.lemmas.Bool.{and_from, and_parts, cases_Bool}
+use Rattle.std.proofs.lemmas.Bool.{and_parts, cases_Bool}
 use Rattle.mc_pages.specs.declared.ids.ChunkId.{ChunkId}
 use Rattle.mc_pages.specs.Accounted.{places_in}
 use Rattle.mc_pages.specs.SlabState.{SlabState, class_of_page}
@@ -14,7 +14,7 @@ use Rattle.mc_core.specs.Codes.{FitsBits, minus}
 use Rattle.mc_core.specs.Head.{code, decode, tag_of, is_dead, is_free, is_unlinked}
 use Rattle.mc_core.specs.Seen.{seen_head}
 use Rattle.mc_core.specs.Silent.{is_listed}
-use Rattle.mc_core.specs.State.{has_chunk, head_at, looks_at}
+use Rattle.mc_core.specs.State.{has_chunk, head_at}
 use Rattle.mc_core.proofs.Codes.{are_one_word, all_are_sums}
 use Rattle.mc_core.proofs.Listed.{places_from_listed}
 use Rattle.mc_words.specs.View.{View}

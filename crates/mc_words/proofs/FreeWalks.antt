@@ -6,7 +6,7 @@ use Rattle.std.specs.Option.{option_map_or}
 use Rattle.std.proofs.lemmas.Bool.{and_from, and_parts, cases_Bool, or_right}
 use Rattle.std.proofs.lemmas.List.Sums.{fold-append}
 use Rattle.mc_pages.specs.declared.ids.ChunkId.{ChunkId}
-use Rattle.mc_pages.specs.Accounted.{truth, is_cut}
+use Rattle.mc_pages.specs.Accounted.{is_cut}
 use Rattle.mc_pages.specs.ClassState.{is_chunk, times}
 use Rattle.mc_pages.specs.SlabState.{SlabState, IsClass, class_at, class_of_chunk, class_of_page}
 use Rattle.mc_pages.proofs.Chunks.{is_chunk-same, times_from_Contains}
@@ -14,7 +14,6 @@ use Rattle.mc_pages.proofs.Cleared.{truth-le_one}
 use Rattle.mc_core.specs.declared.head.Head.{Head}
 use Rattle.mc_core.specs.declared.look.Look.{Look}
 use Rattle.mc_core.specs.declared.look.Look.TheVariants.{Saw}
-use Rattle.mc_core.specs.declared.event.Step.TheVariants as core
 use Rattle.mc_core.specs.Chunks.{most_issue}
 use Rattle.mc_core.specs.Head.{is_free}
 use Rattle.mc_core.specs.Judged.{SeesTarget, is_seen_unfit, sees_no_target}
@@ -24,8 +23,8 @@ use Rattle.mc_core.specs.State.{has_chunk, head_at, is_class}
 use Rattle.mc_core.proofs.FreeChunks.{free_placed, near_placed}
 use Rattle.mc_core.proofs.Listed.{Contains_from_among}
 use Rattle.mc_words.specs.View.{View}
-use Rattle.mc_words.specs.Happens.{LawfulView, Happens}
-use Rattle.mc_words.specs.Rescuing.{FindsFit, PassesAll, PassesOver, SeesFit}
+use Rattle.mc_words.specs.Happens.{LawfulView}
+use Rattle.mc_words.specs.Rescuing.{FindsFit, PassesAll, PassesOver}
 use Rattle.mc_words.specs.Views.{head_seen}
 use Rattle.mc_words.proofs.Judging.{class_of_slabs, seen_is, seen_last, seen_slabs}
 use Rattle.mc_words.proofs.Owners.{slabs_here}

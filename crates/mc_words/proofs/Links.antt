@@ -1,5 +1,5 @@
 -- An item that is linked: what the core allows of a hand that filled it and has its key's stripe, and what it knows then.
-use Rattle.std.proofs.Common.{◌≡◌, ◌≢◌, ◌⊎◌, ℕ, ◌+◌, ◌*◌, ◌/◌, ◌%◌, ◌^◌, ◌<◌, ◌≤◌, Bool, true, false, not, ◌&&◌, ◌||◌, List, [], ◌∷◌, ◌++◌, length, Option, Some, None, IfSome, Contains, ◌==◌, eqb-true, leb-true, inl, inr, is_none, refl, sym, ap, subst, ◌∙◌, arith, unwrap_or, nat_lt, nat_eq, eq-eqb, ltb-true, length-set, slice_set, slice_index, slice_index_or, get_or-set_same, get_or-set_other, if◌then◌else◌, append-nil}
+use Rattle.std.proofs.Common.{◌≡◌, ◌≢◌, ℕ, ◌+◌, ◌*◌, ◌/◌, ◌%◌, ◌^◌, ◌<◌, ◌≤◌, true, false, ◌&&◌, ◌||◌, List, [], ◌∷◌, ◌++◌, length, Option, Some, None, IfSome, Contains, ◌==◌, eqb-true, leb-true, inl, inr, is_none, refl, sym, ap, subst, ◌∙◌, arith, unwrap_or, nat_lt, nat_eq, eq-eqb, ltb-true, length-set, slice_set, slice_index, slice_index_or, get_or-set_same, get_or-set_other, if◌then◌else◌, append-nil}
 use Rattle.std.specs.Option.{option_eq, option_map, option_map_or}
 use Rattle.std.proofs.lemmas.List.Elements.{Contains-push}
 use Rattle.std.proofs.lemmas.Bool.{and_from, and_parts, cases_Bool}
@@ -13,18 +13,18 @@ use Rattle.mc_core.specs.declared.holding.Holding.{Holding}
 use Rattle.mc_core.specs.declared.ids.Ids.{Ids}
 use Rattle.mc_core.specs.declared.event.Step.TheVariants as core
 use Rattle.mc_core.specs.Head.{decode, is_unlinked}
-use Rattle.mc_core.specs.Holdings.{Words, fits, holding_of, is_complete, is_of, item_in, key_in, lose, numbers, stamp_in, word_in}
-use Rattle.mc_core.specs.State.{State, gone, is_held_by, has_chunk, has_stripe, head_at, head_place, holdings_at, ids_at, looks_at, number_at, room_at, stripe_at, stripe_of, without_holding, with_stripe}
+use Rattle.mc_core.specs.Holdings.{Words, fits, holding_of, is_of, item_in, key_in, lose, numbers, stamp_in, word_in}
+use Rattle.mc_core.specs.State.{State, gone, is_held_by, has_stripe, head_at, head_place, holdings_at, ids_at, looks_at, number_at, room_at, stripe_at, stripe_of, without_holding}
 use Rattle.mc_core.specs.Silent.{writer_of}
 use Rattle.mc_core.specs.Items as items
 use Rattle.mc_core.specs.Items.{after_link_of, can_link, can_link_holding, is_next_stamp, is_none_else_aside, linked, most_stamps, stamped}
 use Rattle.mc_core.specs.Codes.{plus, FitsBits}
-use Rattle.mc_core.specs.Past.{Moment, Knowledge, Own, history_at, knowledge_at, known_by, known_of, known_of_holding, moment_stepped, own_calls_after, said_by, Saying}
+use Rattle.mc_core.specs.Past.{Moment, Knowledge, Own, history_at, knowledge_at, known_by, known_of_holding, moment_stepped, own_calls_after, said_by}
 use Rattle.mc_core.specs.Views.{held_slabs}
 use Rattle.mc_core.proofs.Codes.{all_are_sums}
 use Rattle.mc_core.proofs.Learns.{are_learned}
 use Rattle.mc_core.proofs.SeenQuiet.{held_handed_out}
-use Rattle.mc_words.specs.View.{View, held_stripes, view_at}
+use Rattle.mc_words.specs.View.{View, held_stripes}
 use Rattle.mc_words.specs.Layout.{head_word}
 use Rattle.mc_words.specs.Happens.{LawfulView, Happens, MayWrite}
 use Rattle.mc_words.specs.Called.{with_own_call}

@@ -1,5 +1,4 @@
-use Rattle.std.proofs.Common.{◌≡◌, ◌*◌, ◌/◌, ◌%◌, ℕ, Bool, true, false, not, Some, refl, ap, sym, subst, ◌∙◌, length, ◌≤◌}
-use Rattle.mc_pages.specs.declared.ids.ChunkId.{ChunkId}
+use Rattle.std.proofs.Common.{◌≡◌, ◌*◌, ◌/◌, ◌%◌, ℕ, true, false, Some, refl, ap, sym, subst, ◌∙◌, length, ◌≤◌}
 use Rattle.mc_pages.specs.Accounted.{places_in}
 use Rattle.mc_pages.specs.Changes.{after_clear}
 use Rattle.mc_pages.specs.SlabState.{SlabState, class_of_page}

@@ -1,4 +1,4 @@
-use Rattle.std.proofs.Common.{◌≡◌, ◌-◌, ◌<◌, ℕ, [], length, Option, refl, ap, sym, subst, ◌∙◌, arith}
+use Rattle.std.proofs.Common.{◌≡◌, ◌-◌, ◌<◌, ℕ, [], Option, refl, ap, sym, subst, ◌∙◌, arith}
 use Rattle.std.specs.Option.{IsSome}
 use Rattle.mc_stripe.specs.StripeState.{ReadyStripe, place_of}
 use Rattle.mc_stripe.specs.Changes.{after_lift}
@@ -10,9 +10,8 @@ use Rattle.mc_pages.specs.SlabState.{class_of_page}
 use Rattle.mc_words.specs.View.{Setup}
 use Rattle.mc_words.specs.Layout.{head_word}
 use Rattle.mc_words.specs.Happens.{HappensAt, MayExchange, MayWrite}
-use Rattle.mc_words.specs.Originals.{CondemnsOriginal}
 use Rattle.mc_words.proofs.Condemns.{may_condemn_original}
-use Rattle.mc_words.proofs.CondemnCalls.{asks, condemns_original, dead_by_original, finds_held, has_still, counts_after, key_found, led_there, left_by_original, left_by_miss, copy_still, read_before, reason_still, same_number, sees_held, word_condemned, word_held, word_unheld}
+use Rattle.mc_words.proofs.CondemnCalls.{asks, condemns_original, dead_by_original, finds_held, has_still, counts_after, key_found, led_there, left_by_original, left_by_miss, copy_still, read_before, reason_still, sees_held, word_condemned, word_held, word_unheld}
 use Rattle.mc_words.proofs.Heads.{may_look}
 use Rattle.mc_words.proofs.Locked.{noted_same}
 use Rattle.mc_words.proofs.Tallies.{tallied_fresh}

@@ -1,11 +1,11 @@
-use Rattle.std.proofs.Common.{◌≡◌, ◌++◌, ◌<◌, ◌≤◌, ℕ, true, List, [], ◌∷◌, length, slice_get, Some, None, refl, sym, ap, subst, ◌∙◌, append-nil, append_assoc, arith}
+use Rattle.std.proofs.Common.{◌≡◌, ◌++◌, ◌<◌, ◌≤◌, ℕ, true, List, [], ◌∷◌, length, slice_get, sym, ap, subst, ◌∙◌, append-nil, append_assoc, arith}
 use Rattle.std.specs.Prelude.{Contains}
 use Rattle.mc_pages.specs.declared.ids.ChunkId.{ChunkId}
 use Rattle.mc_pages.specs.ClassState.{behind, times}
 use Rattle.mc_pages.specs.SlabState.{SlabState, class_at, class_of_chunk}
 use Rattle.mc_pages.proofs.RestOfList.{rest_from}
 use Rattle.mc_core.specs.State.{has_chunk, is_class}
-use Rattle.mc_words.specs.View.{Setup, View}
+use Rattle.mc_words.specs.View.{Setup}
 use Rattle.mc_words.specs.Rescuing.{PassesAll}
 use Rattle.mc_words.proofs.Sweeps.{begins_with, behind_is, elsewhere, is_empty, left_is}
 use Rattle.mc_words.proofs.FreeWalks.{free_once, passes_again, stands_free}

@@ -1,4 +1,4 @@
-use Rattle.std.proofs.Common.{◌≡◌, ℕ, ◌/◌, ◌<◌, ◌≤◌, false, true, refl, inl, inr, ltb-true, ltb-false}
+use Rattle.std.proofs.Common.{◌/◌, refl, inr, ltb-true, ltb-false}
 use Rattle.mc_core.specs.Head.{decode}
 use Rattle.mc_words.proofs.Judging.{issue_left, issue_worn}
 use Rattle.mc_words.proofs.arena.Arena.is_fit.Goals as goal

@@ -1,4 +1,4 @@
-use Rattle.std.proofs.Common.{◌≡◌, ◌+◌, ◌%◌, ℕ, true, [], ◌∷◌, Some, None, Option, IfSome, refl, ap, sym, subst, arith, length, length-append, slice_index_or, ◌∙◌}
+use Rattle.std.proofs.Common.{◌≡◌, ◌%◌, ℕ, true, [], ◌∷◌, Some, None, Option, refl, ap, sym, subst, arith, length, length-append, slice_index_or, ◌∙◌}
 use Rattle.std.specs.Option.{option_map_or}
 use Rattle.mc_pages.specs.Accounted.{truth}
 use Rattle.mc_stripe.specs.StripeState.{ReadyStripe, key_aside}

@@ -1,4 +1,4 @@
-use Rattle.std.proofs.Common.{◌≡◌, ◌+◌, ◌≤◌, ◌<◌, ◌/◌, ℕ, true, [], ◌∷◌, Option, Some, None, IfSome, refl, ap, sym, subst, ◌∙◌, length, length-append, arith}
+use Rattle.std.proofs.Common.{◌≡◌, ◌+◌, ◌≤◌, ◌<◌, ◌/◌, ℕ, true, [], ◌∷◌, Option, Some, IfSome, refl, ap, sym, subst, ◌∙◌, length, length-append, arith}
 use Rattle.std.specs.Prelude.{Contains}
 use Rattle.mc_classes.specs.Classes.{Classes, size_of}
 use Rattle.mc_pages.specs.declared.ids.ChunkId.{ChunkId}
@@ -11,11 +11,11 @@ use Rattle.mc_core.proofs.Listed.{Contains_from_among}
 use Rattle.mc_words.specs.View.{View, Setup}
 use Rattle.mc_words.specs.Layout.{head_word}
 use Rattle.mc_words.specs.Fresh.{IsFreshOf}
-use Rattle.mc_words.specs.Rescuing.{FindsFit, PassesAll, PopsOff}
+use Rattle.mc_words.specs.Rescuing.{FindsFit, PassesAll}
 use Rattle.mc_words.specs.Tallies.{fresh_count}
 use Rattle.mc_words.specs.Happens.{MayWrite}
 use Rattle.mc_words.specs.Views.{copy_holding}
-use Rattle.mc_words.proofs.Copies.{is_fresh_copy, may_pop_off, moving_class, pops_off, target_near}
+use Rattle.mc_words.proofs.Copies.{is_fresh_copy, may_pop_off, moving_class, pops_off}
 use Rattle.mc_words.proofs.FreeWalks.{free_once, passed_holds, sees_none, sees_target, stands_free}
 use Rattle.mc_words.proofs.Judging.{class_of_table, room_of}
 use Rattle.mc_words.proofs.Locked.{noted_same}
