@@ -5,10 +5,13 @@
      REFUSE_ON        is there: all requests behind the Nth are refused too
      REFUSE_TOLD      a file that is to get the number of requests, once the program ends
 
-   A request is a malloc or a realloc, which is all that the program's allocator calls. */
+   A request is a malloc or a realloc, which is all that the program's allocator calls. Threads may make some at once. A program with threads
+   ends by _exit, which runs no destructor, so that is told there. */
+#define _GNU_SOURCE
 #include <fcntl.h>
 #include <stdio.h>
 #include <stdlib.h>
+#include <sys/syscall.h>
 #include <unistd.h>
 
 extern void *__libc_malloc(size_t size);
@@ -26,8 +29,8 @@ __attribute__((constructor)) static void begin(void) {
 }
 
 static int is_refused(void) {
-    requests += 1;
-    return requests == refused || (goes_on && refused && requests > refused);
+    unsigned long number = __atomic_add_fetch(&requests, 1, __ATOMIC_RELAXED);
+    return number == refused || (goes_on && refused && number > refused);
 }
 
 void *malloc(size_t size) {
@@ -46,4 +49,10 @@ __attribute__((destructor)) static void tell(void) {
         dprintf(file, "%lu\n", made);
         close(file);
     }
+}
+
+void _exit(int status) {
+    tell();
+    for (;;)
+        syscall(SYS_exit_group, status);
 }

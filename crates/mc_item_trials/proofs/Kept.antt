@@ -1,5 +1,5 @@
 -- Hands that are kept in a list, of which the first leaves; and chunks that are referred to.
-use Rattle.std.proofs.Common.{◌≡◌, ◌∙◌, ℕ, ◌+◌, true, List, [], ◌∷◌, ap, sym}
+use Rattle.std.proofs.Common.{◌≡◌, ◌∙◌, ℕ, ◌+◌, true, List, [], ◌∷◌, Option, None, Some, IfSome, ap, sym}
 use Rattle.mc_core.specs.State.{has_chunk}
 use Rattle.mc_words.specs.declared.arena.Arena.{Arena}
 use Rattle.mc_words.specs.declared.hand.Hand.{Hand}
@@ -18,6 +18,11 @@ pub all_hands : (arena : Arena) (hands : List Hand) → AreNewHands arena hands 
 all_hands arena hands are = hands_from arena 0 hands are.1
 
 -- what a hand refers to is a chunk of the arena
-pub near : (arena : Arena) (hand : Hand) (item : Ref) → IsHandOf arena hand → IsItemRef (view hand) item → has_chunk (setup_of arena).table item.reference.chunk ≡ true
-near arena hand item is refers =
+item_near : (arena : Arena) (hand : Hand) (item : Ref) → IsHandOf arena hand → IsItemRef (view hand) item → has_chunk (setup_of arena).table item.reference.chunk ≡ true
+item_near arena hand item is refers =
     ap (λ setup. has_chunk setup.table item.reference.chunk) (sym is.setup) ∙ held_is_near (view hand) is.lawful item.reference.chunk refers.reference.holding refers.reference.found
+
+-- the same, where there is one
+pub near : (arena : Arena) (hand : Hand) (found : Option Ref) → IsHandOf arena hand → IfSome found (λ item. IsItemRef (view hand) item) → IfSome found (λ item. has_chunk (setup_of arena).table item.reference.chunk ≡ true)
+near arena hand None is refers = record {}
+near arena hand (Some item) is refers = item_near arena hand item is refers

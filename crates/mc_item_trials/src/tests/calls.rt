@@ -1,7 +1,8 @@
 //! Calls whose conditions are tested when they are made.
-ghost use Rattle.std.specs.Prelude.{◌≡◌, Some, IfSome, IfOk};
+ghost use Rattle.std.specs.Prelude.{◌≡◌, true, Some, IfSome, IfOk};
 ghost use Rattle.mc_core.specs.State.{has_chunk};
 ghost use Rattle.mc_words.specs.Arenas.{IsHandOf, setup_of, view};
+ghost use Rattle.mc_words.specs.Idle.{is_unlocked};
 ghost use Rattle.mc_items.specs.ItemRefs.{IsItemRef};
 ghost use Rattle.mc_item_trials.specs.Hands.{AreHandsOf};
 
@@ -125,6 +126,19 @@ pub enum Getter {
 /// Both ways.
 pub const GETTERS: [Getter; 2] = [Getter::Get, Getter::TryGet];
 
+/// A reference to the key's item, by the call that doesn't wait. None where there is none, or it was refused.
+fn try_item(arena: &Arena, hand: &mut Hand, key: Key) -> Option<Ref>
+    requires arena { IsHandOf arena.now hand.old }
+    requires unlocked { is_unlocked (view hand.old) ≡ true }
+    ensures arena { IsHandOf arena.now hand.new }
+    ensures item { IfSome result (λ item. IsItemRef (view hand.new) item) }
+{
+    match try_get(arena, hand, key) {
+        Ok(Some(item)) => Some(item),
+        _ => None,
+    }
+}
+
 /// A reference to the key's item, if it has one. None, too, where it was refused.
 pub fn get_by<R: Wait>(
     rt: &R,
@@ -142,13 +156,10 @@ pub fn get_by<R: Wait>(
     }
     match getter {
         Getter::Get => match get(rt, arena, hand, key) {
-            Ok(found) => found,
-            Err(_) => None,
+            Ok(Some(item)) => Some(item),
+            _ => None,
         },
-        Getter::TryGet => match try_get(arena, hand, key) {
-            Ok(found) => found,
-            Err(_) => None,
-        },
+        Getter::TryGet => try_item(arena, hand, key),
     }
 }
 

@@ -1,13 +1,27 @@
 //! Which item is evicted: the oldest of five that nobody holds.
+ghost use Rattle.mc_words.specs.Arenas.{IsHandOf};
+
 use super::calls::{Getter, hold_all, is_there, next_two, opened, set_from, store_all, touch_key};
 use super::words::words_from;
 use super::{MOST_WORDS, assert_equal, assert_same};
 use mc_items::SetError;
 use mc_stripe::Key;
+use mc_words::{Arena, Hand};
 use std::alloc::Global;
 use std::process::Abort;
 use std::sync::Wait;
 use std::test::Fail;
+
+/// Touches the key, if one is given. False where it has no item.
+fn touch_any<R: Wait>(rt: &R, arena: &Arena, hand: &mut Hand, touched: Option<Key>) -> bool
+    requires arena { IsHandOf arena.now hand.old }
+    ensures arena { IsHandOf arena.now hand.new }
+{
+    match touched {
+        Some(key) => touch_key(rt, arena, hand, key) == Some(true),
+        None => true,
+    }
+}
 
 /// A ninth item where eight have room, once the key was touched and those before another are held: which key has lost its item.
 fn store_ninth<R: Abort + Wait>(
@@ -25,14 +39,8 @@ fn store_ninth<R: Abort + Wait>(
     let words = words_from(alloc, 0, MOST_WORDS)?;
     let stored = store_all(rt, &arena, &mut hand, (1, 9), &words);
     assert_same(rt, stored, true, "eight sets");
-    if let Some(key) = touched {
-        assert_same(
-            rt,
-            touch_key(rt, &arena, &mut hand, key),
-            Some(true),
-            "touch",
-        );
-    }
+    let was_there = touch_any(rt, &arena, &mut hand, touched);
+    assert_same(rt, was_there, true, "touch");
     let holds = hold_all(rt, &arena, &mut reader, (1, held));
     assert_same(rt, holds, true, "holds");
     let ninth = set_from(rt, alloc, &arena, &mut hand, 9, 0, MOST_WORDS)?;

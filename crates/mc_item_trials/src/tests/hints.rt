@@ -1,25 +1,35 @@
 //! References that are had again by hints.
 ghost use Rattle.std.specs.Prelude.{◌≡◌, true, IfSome};
 ghost use Rattle.mc_core.specs.State.{has_chunk};
-ghost use Rattle.mc_words.specs.Arenas.{IsHandOf, setup_of};
+ghost use Rattle.mc_words.specs.Arenas.{IsHandOf, setup_of, view};
+ghost use Rattle.mc_items.specs.ItemRefs.{IsItemRef};
 
 use super::calls::{Getter, delete_key, get_by, is_there, next_two, opened, set_from, store_all};
 use super::words::words_from;
 use super::{MOST_WORDS, assert_equal, assert_same};
-use mc_items::{again, hint, release};
+use mc_items::{Ref, again, hint, release};
 use mc_stripe::Key;
 use mc_words::{Again, Arena, Hand, Hint};
 use std::sync::Wait;
 use std::test::Fail;
 
+/// A reference to the key's item, whose chunk is one of the arena's.
+fn get_near<R: Wait>(rt: &R, arena: &Arena, hand: &mut Hand, key: Key) -> Option<Ref>
+    requires arena { IsHandOf arena.now hand.old }
+    ensures arena { IsHandOf arena.now hand.new }
+    ensures item { IfSome result (λ item. IsItemRef (view hand.new) item) }
+    ensures near { IfSome result (λ item. has_chunk (setup_of arena.now).table item.reference.chunk ≡ true) }
+{
+    get_by(rt, arena, hand, key, Getter::Get)
+}
+
 /// A hint of the key's item, whose reference is given up.
-#[tactic(auto, using(crate::proofs::Kept::near))]
 pub fn hint_of<R: Wait>(rt: &R, arena: &Arena, hand: &mut Hand, key: Key) -> Option<Hint>
     requires arena { IsHandOf arena.now hand.old }
     ensures arena { IsHandOf arena.now hand.new }
     ensures near { IfSome result (λ hint. has_chunk (setup_of arena.now).table hint.chunk ≡ true) }
 {
-    let item = get_by(rt, arena, hand, key, Getter::Get)?;
+    let item = get_near(rt, arena, hand, key)?;
     let hint = hint(&item);
     release(arena, hand, item);
     Some(hint)

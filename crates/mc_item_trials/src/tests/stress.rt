@@ -59,7 +59,10 @@ enum Action {
 
 /// What a thread does in this round, and with which key. Each thread begins elsewhere.
 fn choose(thread: u64, round: u64) -> (Action, Key) {
-    let drawn = (round + 7919 * thread).wrapping_mul(6_364_136_223_846_793_005) >> 33;
+    let drawn = round
+        .wrapping_add(thread.wrapping_mul(7919))
+        .wrapping_mul(6_364_136_223_846_793_005)
+        >> 33;
     let action = match drawn % 8 {
         0 | 1 | 2 => Action::Set,
         3 => Action::Delete,
@@ -131,7 +134,7 @@ fn read_twice<R: Wait>(
         return Ok(true);
     };
     let before = is_own(alloc, arena, reader, &item, key)?;
-    store(rt, alloc, arena, writer, (key + 1) % KEYS)?;
+    store(rt, alloc, arena, writer, key.wrapping_add(1) % KEYS)?;
     let behind = is_own(alloc, arena, reader, &item, key)?;
     release(arena, reader, item);
     Ok(before && behind)
@@ -299,9 +302,9 @@ fn add_page(left: &Final, page: PageId, sums: Sums) -> Option<Sums> {
     } = sums;
     for index in 0..CHUNKS {
         match head(left, ChunkId { page, index })? % 262_144 {
-            65_536 => free += 1,
-            131_072 => dead += 1,
-            196_609 => linked += 1,
+            65_536 => free = free.saturating_add(1),
+            131_072 => dead = dead.saturating_add(1),
+            196_609 => linked = linked.saturating_add(1),
             _ => return None,
         }
     }
@@ -321,13 +324,13 @@ fn head(left: &Final, chunk: ChunkId) -> Option<u64> {
 /// How many of the keys have an item.
 fn count_keys(left: &Final) -> Option<u64> {
     let stripes = left.config().stripes;
-    let mut count = 0;
+    let mut count = 0u64;
     for key in 0..KEYS {
         if stripes == 0 {
             return None;
         }
         if left.stripe(key % stripes)?.find(key).is_some() {
-            count += 1;
+            count = count.saturating_add(1);
         }
     }
     Some(count)
@@ -371,7 +374,9 @@ fn no_read_shows_another_item(rt: HostRuntime) -> Result<(), Fail> {
     assert_same(&rt, count_keys(&left), Some(sums.linked), "items");
     assert_same(
         &rt,
-        sums.free + sums.dead + sums.linked,
+        sums.free
+            .saturating_add(sums.dead)
+            .saturating_add(sums.linked),
         2 * CHUNKS,
         "chunks",
     );
