@@ -1,5 +1,5 @@
 //! The words of an item, and references that are given up.
-ghost use Rattle.std.specs.Prelude.{◌≡◌, ◌≤◌, [], drop, take, IfOk, OnErr};
+ghost use Rattle.std.specs.Prelude.{◌≡◌, [], drop, IfOk};
 ghost use Rattle.mc_core.specs.declared.event.Step.TheVariants as step;
 ghost use Rattle.mc_words.specs.Arenas.{IsHandOf, view};
 ghost use Rattle.mc_words.specs.Happens.{Happens};

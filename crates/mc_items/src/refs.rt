@@ -1,9 +1,7 @@
 //! References to items, with what is read of each at once.
-ghost use Rattle.std.specs.Prelude.{◌≡◌, ◌+◌, length};
+ghost use Rattle.std.specs.Prelude.{◌≡◌};
 ghost use Rattle.mc_words.specs.Arenas.{IsHandOf, view};
-ghost use Rattle.mc_words.specs.Items.{held_item};
 ghost use Rattle.mc_words.specs.Refs.{IsIssueOf, IsRefOf};
-ghost use Rattle.mc_core.specs.Holdings.{length_of};
 ghost use Rattle.mc_items.specs.ItemRefs.{IsItemRef};
 
 use mc_words::{Arena, Hand};
