@@ -10,9 +10,9 @@ use Rattle.mc_stripe.specs.declared.history.Call.TheVariants.{Evict}
 use Rattle.mc_core.specs.declared.ids.Ids.{Ids}
 use Rattle.mc_core.specs.declared.holding.Holding.{Holding}
 use Rattle.mc_core.specs.Past.{Own, Saying}
+use Rattle.mc_words.specs.Doing.{IsDone}
 use Rattle.mc_words.specs.View.{View}
 use Rattle.mc_words.specs.Called.{with_own_call}
-use Rattle.mc_items.specs.Calls.{IsDone}
 use Rattle.mc_items.specs.Evicting.{FreesChunk, FreesOne, LacksEntry, TellsEvict}
 use Rattle.mc_items.specs.Supplying.{FreesEvicted, ReachesItem, TakesItem}
 use Rattle.mc_items.proofs.Passes.{each_keeps, lacks_spares, own_of, passed_spares, reach_spares}

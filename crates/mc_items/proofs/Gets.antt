@@ -8,6 +8,7 @@ use Rattle.mc_core.specs.declared.holding.Holding.{Holding}
 use Rattle.std.specs.Option.{option_map}
 use Rattle.mc_core.specs.Holdings as items
 use Rattle.mc_core.specs.Past.{known_by}
+use Rattle.mc_words.specs.Doing.{Doing, IsDone}
 use Rattle.mc_words.specs.View.{View}
 use Rattle.mc_words.specs.Called.{key_missed}
 use Rattle.mc_words.specs.Happens.{LawfulView}
@@ -18,7 +19,7 @@ use Rattle.mc_words.specs.Referring.{reference_to, GetsItem}
 use Rattle.mc_words.specs.Views.{stripe_given, stripe_reserved}
 use Rattle.mc_words.proofs.References.{is_item}
 use Rattle.mc_words.specs.declared.refs.Ref.{Ref}
-use Rattle.mc_items.specs.Calls.{CallsOn, Doing, IsDone, LooksUp, OnlyWaits}
+use Rattle.mc_items.specs.Calls.{CallsOn, LooksUp, OnlyWaits}
 
 -- the item of a reference that was got is the one that the first holding of its chunk has
 pub got_item : (view now : View) (number stripe : ℕ) (value : ReadyStripe) (key : ℕ) (chunk : ChunkId) (issue room : ℕ) → (gets : GetsItem view number stripe value key chunk issue room now) → LawfulView now → held_item now chunk ≡ gets.item

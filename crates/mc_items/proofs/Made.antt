@@ -11,14 +11,16 @@ use Rattle.mc_core.specs.declared.head.Head.{Head}
 use Rattle.mc_core.specs.declared.ids.Ids.{Ids}
 use Rattle.mc_core.specs.Past.{Own, Saying}
 use Rattle.mc_core.specs.State.{is_class}
+use Rattle.mc_words.specs.Doing.{HoldsSlabs}
 use Rattle.mc_words.specs.View.{View}
 use Rattle.mc_words.specs.Happens.{LawfulView}
 use Rattle.mc_words.specs.Owner.{PopsFirst, SeesOther}
 use Rattle.mc_words.specs.Sweeping.{Sweeps, with_seen}
 use Rattle.mc_words.proofs.SweepViews.{class_here, sees_alone, stands_out}
 use Rattle.mc_items.specs.Evicting.{TellsEvict}
-use Rattle.mc_items.specs.Sources.{ComesToFree, FindsNoRoom, FindsWornOut, HoldsSlabs, LacksMemory, LacksMore, MakesFree, MakesNone, SuppliesChunk, SuppliesNone}
-use Rattle.mc_items.specs.Supplying.{CutsEach, FindsNoFree, Grows, SweepsEmpty}
+use Rattle.mc_items.specs.Sources.{ComesToFree, FindsNoRoom, FindsWornOut, LacksMemory, LacksMore, MakesFree, MakesNone, SuppliesChunk, SuppliesNone}
+use Rattle.mc_words.specs.Cutting.{CutsEach}
+use Rattle.mc_items.specs.Supplying.{FindsNoFree, Grows, SweepsEmpty}
 use Rattle.mc_items.specs.declared.setting.SetError.{SetError}
 use Rattle.mc_items.specs.declared.setting.SetError.TheVariants.{TooLarge, NoRoom, WornOut, NoMemory}
 use Rattle.mc_words.specs.declared.hand.Hand.{Hand}

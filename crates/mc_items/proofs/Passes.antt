@@ -15,12 +15,12 @@ use Rattle.mc_core.specs.declared.look.Look.TheVariants.{Read, Saw, SawStripe}
 use Rattle.mc_core.specs.Head.{is_dead}
 use Rattle.mc_core.specs.Looks.{is_found_alive, stays_alive}
 use Rattle.mc_core.specs.Past.{Own, Saying}
+use Rattle.mc_words.specs.Doing.{Doing, IsDone}
 use Rattle.mc_words.specs.View.{View}
 use Rattle.mc_words.specs.Condemning.{FindsHeld, key_seen}
 use Rattle.mc_words.specs.Owner.{SeesOther}
 use Rattle.mc_words.specs.Views.{head_seen, stripe_given, stripe_missed, stripe_reserved, stripe_taken}
 use Rattle.mc_words.proofs.Reasoned.{all_weaker}
-use Rattle.mc_items.specs.Calls.{Doing, IsDone}
 use Rattle.mc_items.specs.Evicting.{PassesEach, PassesOne}
 use Rattle.mc_items.specs.Supplying.{FindsItemHeld, LacksMemory, PassesItem, ReachesItem}
 

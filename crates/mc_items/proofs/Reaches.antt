@@ -26,6 +26,7 @@ use Rattle.mc_core.specs.Holdings.{has_fresh, is_copy_kind, is_fresh_kind}
 use Rattle.mc_core.specs.Looks.{is_found_alive, stays_linked, was_linked}
 use Rattle.mc_core.specs.Seen.{last_read}
 use Rattle.mc_core.specs.State.{is_class, room_in}
+use Rattle.mc_words.specs.Doing.{Doing, IsDone}
 use Rattle.mc_words.specs.View.{View}
 use Rattle.mc_words.specs.Condemning.{key_seen, knows_reason, stripe_read}
 use Rattle.mc_words.specs.Happens.{Happens, LawfulView}
@@ -40,7 +41,6 @@ use Rattle.mc_words.specs.Out.{has_no_stripe, with_stripe, without_stripe}
 use Rattle.mc_words.proofs.Unlocked.{no_stripe_from}
 use Rattle.mc_words.proofs.Judging.{class_of_table, room_of, seen_is}
 use Rattle.mc_words.proofs.Reasoned.{alive_after_look, alive_after_read, all_weaker, no_page_left, room_needed}
-use Rattle.mc_items.specs.Calls.{Doing, IsDone}
 use Rattle.mc_items.specs.Supplying.{LacksMemory, ReachesItem}
 
 -- a linked chunk isn't dead

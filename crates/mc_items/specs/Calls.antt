@@ -6,6 +6,7 @@ use Rattle.mc_core.specs.declared.event.Change.TheVariants.{Touch}
 use Rattle.mc_stripe.specs.declared.history.Call.{Call}
 use Rattle.mc_stripe.specs.StripeState.{ReadyStripe, place_of}
 use Rattle.mc_stripe.specs.Changes.{after_got, after_unlink, used_up}
+use Rattle.mc_words.specs.Doing.{Doing, IsDone}
 use Rattle.mc_words.specs.View.{View}
 use Rattle.mc_words.specs.Called.{with_own_call, key_deleted, key_missed, key_not_deleted}
 use Rattle.mc_words.specs.Lent.{IsLentStripe}
@@ -13,17 +14,6 @@ use Rattle.mc_words.specs.Referring.{GetsItem}
 use Rattle.mc_words.specs.Views.{chunk_dropped, slabs_changed, slabs_given, stripe_given, stripe_reserved}
 use Rattle.mc_words.specs.Waiting.{WaitsForSlabs, WaitsForStripe}
 use Rattle.mc_words.specs.declared.refs.Ref as words
-
--- what is done on a stripe, from its value and the hand's view to those that it leaves
-abbrev pub Doing : Type 1
-Doing = ReadyStripe → View → ReadyStripe → View → Type 0
-
--- under the stripe's lock, whose value was this: room was made for a call, this was done, and the lock was given back
-pub record IsDone (number stripe : ℕ) (value : ReadyStripe) (Does : Doing) (view now : View) : Type 0 where
-  pub left : ReadyStripe
-  pub last : View
-  pub does : Does (record value { ready = true }) (stripe_reserved stripe value (number + 1) view) left last
-  pub given : now ≡ stripe_given stripe left last
 
 -- the stripe's lock was waited for, and this was done
 pub record CallsOn (number stripe : ℕ) (Does : Doing) (view now : View) : Type 0 where

@@ -7,6 +7,7 @@ use Rattle.mc_pages.specs.ClassState.{first_free}
 use Rattle.mc_pages.specs.SlabState.{SlabState, class_at}
 use Rattle.mc_core.specs.Chunks.{most_issue}
 use Rattle.mc_core.specs.Looks.{is_found_alive}
+use Rattle.mc_words.specs.Doing.{SlabsDoing}
 use Rattle.mc_words.specs.Owner.{PopsFirst, SeesOther}
 use Rattle.mc_words.specs.View.{View}
 use Rattle.mc_words.specs.Views.{slabs_given}
@@ -15,20 +16,6 @@ use Rattle.mc_items.specs.Evicting.{FreesOne, LacksEntry, PassesEach, first_five
 use Rattle.mc_items.specs.Supplying.{FindsNoFree, FindsWorn, Grows, SuppliesFree}
 use Rattle.mc_items.specs.declared.setting.SetError.{SetError}
 use Rattle.mc_items.specs.declared.setting.SetError.TheVariants.{TooLarge, NoRoom, WornOut, NoMemory}
-
--- what is done under the lock of the slabs, from a view and its pages and lists to those that it leaves
-abbrev pub SlabsDoing : Type 1
-SlabsDoing = View → SlabState → View → SlabState → Type 0
-
--- the lock of the slabs was waited for, this was done, and it was given back
-pub record HoldsSlabs (Does : SlabsDoing) (view now : View) : Type 0 where
-  pub found : SlabState
-  pub taken : View
-  pub waits : WaitsForSlabs view found taken
-  pub left : SlabState
-  pub last : View
-  pub does : Does taken found last left
-  pub given : now ≡ slabs_given left last
 
 -- a class without a free chunk came to one: by the next page; or where there is none left, by one of its oldest five chunks
 abbrev pub MakesFree : ℕ → ℕ → SlabsDoing

@@ -7,13 +7,14 @@ use Rattle.mc_core.specs.declared.holding.Holding.{Holding}
 use Rattle.mc_core.specs.declared.holding.Kind.{Kind}
 use Rattle.mc_core.specs.declared.holding.Kind.TheVariants.{Reference, Fresh}
 use Rattle.mc_core.specs.Holdings.{Words, change_each, holding_of, is_of}
+use Rattle.mc_words.specs.Doing.{Doing}
 use Rattle.mc_words.specs.View.{View}
 use Rattle.mc_words.specs.Called.{key_lifted}
 use Rattle.mc_words.specs.Items.{issue_in, words_in}
 use Rattle.mc_words.specs.Linking.{item_linked, own_item}
 use Rattle.mc_words.specs.Views.{chunk_dropped, with_holdings}
 use Rattle.mc_words.specs.declared.held.Fresh as words
-use Rattle.mc_items.specs.Calls.{CallsOn, Doing, OnlyWaits}
+use Rattle.mc_items.specs.Calls.{CallsOn, OnlyWaits}
 
 -- an item: key, stamp, how many words, and these
 abbrev pub item_with : ℕ → ℕ → List ℕ → List ℕ

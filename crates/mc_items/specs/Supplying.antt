@@ -3,7 +3,7 @@ use Rattle.std.specs.Prelude.{◌≡◌, ◌≢◌, ◌⊎◌, ℕ, ◌+◌, ◌
 use Rattle.std.specs.List.{list_all}
 use Rattle.mc_pages.specs.declared.ids.ChunkId.{ChunkId}
 use Rattle.mc_pages.specs.Accounted.{first_chunks}
-use Rattle.mc_pages.specs.Changes.{after_back, after_cut, after_evicted, after_grow, after_pop, next_page}
+use Rattle.mc_pages.specs.Changes.{after_back, after_evicted, after_grow, after_pop, next_page}
 use Rattle.mc_pages.specs.ClassState.{first_free}
 use Rattle.mc_pages.specs.SlabState.{SlabState, class_at}
 use Rattle.mc_core.specs.declared.event.Change.TheVariants as change
@@ -13,14 +13,15 @@ use Rattle.mc_core.specs.Chunks.{most_issue}
 use Rattle.mc_core.specs.Evictions.{is_linked_unheld}
 use Rattle.mc_stripe.specs.StripeState.{ReadyStripe}
 use Rattle.mc_core.specs.Looks.{is_found_alive}
+use Rattle.mc_words.specs.Doing.{Doing, IsDone}
 use Rattle.mc_words.specs.View.{View}
 use Rattle.mc_words.specs.Happens.{Happens}
-use Rattle.mc_words.specs.Owner.{Cuts, PopsFirst, PutsBack, SeesOther}
+use Rattle.mc_words.specs.Cutting.{CutsEach}
+use Rattle.mc_words.specs.Owner.{PopsFirst, PutsBack, SeesOther}
 use Rattle.mc_words.specs.Sweeping.{Sweeps, with_seen}
 use Rattle.mc_words.specs.Condemning.{Condemns, FindsHeld, SeesHeld, key_seen}
 use Rattle.mc_words.specs.Lent.{IsLentStripe}
 use Rattle.mc_words.specs.Views.{fresh_holding, head_seen, slabs_changed, stripe_given, stripe_missed, stripe_taken, with_holdings}
-use Rattle.mc_items.specs.Calls.{Doing, IsDone}
 
 -- the class has a free chunk, and nothing was done; or it has none, and its dead chunks were put back
 abbrev pub SweepsEmpty : ℕ → View → SlabState → View → SlabState → Type 0
@@ -52,11 +53,6 @@ pub record FindsNoFree (class : ℕ) (view : View) (slabs : SlabState) (now : Vi
 -- the hand got this chunk, with room for so many words, and otherwise saw more, and has other pages and lists
 abbrev pub GainsFresh : View → ChunkId → ℕ → View → Type 0
 GainsFresh view chunk room now = (issue : ℕ) × (now ≡ with_holdings (view.row.holdings ++ fresh_holding chunk issue room ∷ []) (with_seen view now))
-
--- each of these chunks was cut, one after another
-abbrev pub CutsEach : List ChunkId → View → SlabState → View → SlabState → Type 0
-CutsEach [] view slabs now left = (now ≡ view) × (left ≡ slabs)
-CutsEach (chunk ∷ chunks) view slabs now left = (next : View) × Cuts view slabs chunk next × CutsEach chunks next (after_cut slabs chunk) now left
 
 -- the class got the next page, and all its chunks were cut
 pub record Grows (number class : ℕ) (view : View) (slabs : SlabState) (now : View) (left : SlabState) : Type 0 where

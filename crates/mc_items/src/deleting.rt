@@ -2,12 +2,13 @@
 ghost use Rattle.std.specs.Prelude.{◌≡◌, ◌%◌, true, false, IfOk, OnErr};
 ghost use Rattle.mc_stripe.specs.declared.history.Call.TheVariants as call;
 ghost use Rattle.mc_core.specs.Holdings.{has_fresh};
+ghost use Rattle.mc_words.specs.Doing.{IsDone};
 ghost use Rattle.mc_words.specs.Arenas.{IsHandOf, setup_of, view};
 ghost use Rattle.mc_words.specs.Idle.{is_unlocked};
 ghost use Rattle.mc_words.specs.Lent.{IsLentStripe};
 ghost use Rattle.mc_words.specs.Out.{without_stripe};
 ghost use Rattle.mc_words.specs.Views.{stripe_given};
-ghost use Rattle.mc_items.specs.Calls.{CallsOn, Deletes, IsDone, OnlyWaits, TellsCall, TellsNoCall};
+ghost use Rattle.mc_items.specs.Calls.{CallsOn, Deletes, OnlyWaits, TellsCall, TellsNoCall};
 
 use mc_stripe::NoMemory;
 use mc_words::{Arena, Hand, StripeHeld};

@@ -6,6 +6,7 @@ ghost use Rattle.mc_pages.specs.ClassState.{first_free};
 ghost use Rattle.mc_pages.specs.SlabState.{class_at};
 ghost use Rattle.mc_core.specs.Holdings.{has_fresh};
 ghost use Rattle.mc_core.specs.Looks.{is_found_alive};
+ghost use Rattle.mc_words.specs.Doing.{IsDone};
 ghost use Rattle.mc_words.specs.Idle.{has_no_stripes};
 ghost use Rattle.std.specs.Option.{option_map};
 ghost use Rattle.mc_core.specs.Evictions.{has_copy};
@@ -17,7 +18,6 @@ ghost use Rattle.mc_words.specs.Condemning.{knows_reason, stripe_read};
 ghost use Rattle.mc_words.specs.Lent.{IsLentStripe};
 ghost use Rattle.mc_words.specs.Out.{without_stripe};
 ghost use Rattle.mc_words.specs.Views.{stripe_given};
-ghost use Rattle.mc_items.specs.Calls.{IsDone};
 ghost use Rattle.mc_items.specs.Evicting.{FreesChunk, FreesOne, LacksEntry, PassesEach, PassesOne, first_five};
 ghost use Rattle.mc_items.specs.Supplying.{FindsItemHeld, FreesEvicted, LacksMemory, PassesItem, ReachesItem, TakesItem};
 

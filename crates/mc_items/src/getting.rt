@@ -4,6 +4,7 @@ ghost use Rattle.std.specs.Option.{option_map};
 ghost use Rattle.mc_core.specs.Holdings.{key_of, stamp_of};
 ghost use Rattle.mc_stripe.specs.StripeState as stripes;
 ghost use Rattle.mc_stripe.specs.declared.history.Call.TheVariants as call;
+ghost use Rattle.mc_words.specs.Doing.{IsDone};
 ghost use Rattle.mc_words.specs.Arenas.{IsHandOf, setup_of, view};
 ghost use Rattle.mc_words.specs.Idle.{is_unlocked};
 ghost use Rattle.mc_words.specs.Items.{held_item};
@@ -11,7 +12,7 @@ ghost use Rattle.mc_words.specs.Lent.{IsLentStripe};
 ghost use Rattle.mc_words.specs.Refs.{IsIssueOf, IsRefOf};
 ghost use Rattle.mc_words.specs.Out.{without_stripe};
 ghost use Rattle.mc_words.specs.Views.{stripe_given, stripe_missed};
-ghost use Rattle.mc_items.specs.Calls.{CallsOn, IsDone, LooksUp, OnlyWaits, TellsCall, TellsNoCall};
+ghost use Rattle.mc_items.specs.Calls.{CallsOn, LooksUp, OnlyWaits, TellsCall, TellsNoCall};
 ghost use Rattle.mc_items.specs.ItemRefs.{IsItemRef};
 
 use crate::refs::{Ref, look_at};

@@ -2,12 +2,13 @@
 ghost use Rattle.std.specs.Prelude.{◌≡◌, ◌+◌, ◌≤◌, ◌++◌, ◌∷◌, [], true, false, length, IfErr, IfOk};
 ghost use Rattle.mc_core.specs.Holdings.{has_fresh};
 ghost use Rattle.mc_core.specs.State.{is_class, room_in};
+ghost use Rattle.mc_words.specs.Doing.{HoldsSlabs};
 ghost use Rattle.mc_words.specs.Arenas.{IsHandOf, setup_of, view};
 ghost use Rattle.mc_words.specs.Fresh.{IsFreshOf};
 ghost use Rattle.mc_words.specs.Idle.{is_unlocked};
 ghost use Rattle.mc_items.specs.Evicting.{TellsEvict};
 ghost use Rattle.mc_items.specs.Setting.{RefusesSet, SetsItem, TellsSet};
-ghost use Rattle.mc_items.specs.Sources.{HoldsSlabs, SuppliesChunk, SuppliesNone};
+ghost use Rattle.mc_items.specs.Sources.{SuppliesChunk, SuppliesNone};
 ghost use Rattle.mc_items.specs.Storing.{IsOwnItem, item_with};
 
 use crate::storing::store_words;

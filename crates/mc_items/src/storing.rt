@@ -2,6 +2,7 @@
 ghost use Rattle.std.specs.Prelude.{◌≡◌, ◌+◌, ◌≤◌, ◌%◌, ◌++◌, ◌∷◌, [], true, length, slice_index_or, None, Some, IfOk, OnOk, OnErr};
 ghost use Rattle.mc_stripe.specs.declared.history.Call.TheVariants as call;
 ghost use Rattle.mc_core.specs.Holdings.{has_fresh, item_in, numbers};
+ghost use Rattle.mc_words.specs.Doing.{IsDone};
 ghost use Rattle.mc_words.specs.Arenas.{IsHandOf, setup_of, view};
 ghost use Rattle.mc_words.specs.Called.{key_lifted};
 ghost use Rattle.mc_words.specs.Fresh.{IsFreshOf};
@@ -13,7 +14,7 @@ ghost use Rattle.mc_words.specs.Out.{without_stripe};
 ghost use Rattle.mc_words.specs.Refs.{IsRefOf};
 ghost use Rattle.mc_words.specs.Tallies.{next_stamp};
 ghost use Rattle.mc_words.specs.Views.{chunk_dropped, stripe_given};
-ghost use Rattle.mc_items.specs.Calls.{IsDone, TellsCall, TellsNoCall};
+ghost use Rattle.mc_items.specs.Calls.{TellsCall, TellsNoCall};
 ghost use Rattle.mc_items.specs.Storing.{IsOwnItem, LeavesDead, Stores, StoresItem, item_filled, item_with, stripe_lifted};
 
 use crate::filling::fill_item;

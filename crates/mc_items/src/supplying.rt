@@ -14,7 +14,7 @@ ghost use Rattle.mc_words.specs.Idle.{has_no_stripes};
 ghost use Rattle.mc_words.specs.Sweeping.{with_seen};
 ghost use Rattle.mc_items.specs.Sources.{LacksMore, MakesFree, MakesNone, SuppliesChunk, SuppliesNone};
 ghost use Rattle.mc_items.specs.Storing.{IsOwnItem};
-ghost use Rattle.mc_items.specs.Supplying.{CutsEach, FindsNoFree, FindsWorn, GainsFresh, Grows, SuppliesFree};
+ghost use Rattle.mc_items.specs.Supplying.{FindsNoFree, FindsWorn, GainsFresh, Grows, SuppliesFree};
 
 use crate::evicting::evict_one;
 use crate::setting::SetError;
@@ -54,32 +54,6 @@ pub(crate) fn pop_or_sweep(
     arena.pop(hand, held, class)
 }
 
-// Cuts all chunks of a page that was just given to a class.
-pub(crate) fn cut_page(
-    arena: &Arena,
-    hand: &mut Hand,
-    held: &mut SlabsHeld,
-    page: PageId,
-    per_page: u64,
-)
-    requires arena { IsHandOf arena.now hand.old }
-    requires held { (view hand.old).slabs ≡ Some held.old.shared }
-    requires first { held.old.shared.uncut ≡ Some (record { page = page; index = 0 }) }
-    requires chunks { (class_of_chunk held.old.shared (record { page = page; index = 0 })).per_page ≡ per_page }
-    requires some { 1 ≤ per_page }
-    ensures arena { IsHandOf arena.now hand.new }
-    ensures locks { hand.new.locks ≡ hand.old.locks }
-    ensures held { (view hand.new).slabs ≡ Some held.new.shared }
-    ensures cuts { CutsEach (first_chunks page per_page) (view hand.old) held.old.shared (view hand.new) held.new.shared }
-    ensures shared { held.new.shared ≡ fold after_cut held.old.shared (first_chunks page per_page) }
-    ensures whole { held.new.shared.uncut ≡ None }
-    ensures seen { view hand.new ≡ with_seen (view hand.old) (view hand.new) }
-{
-    for index in 0..per_page {
-        arena.cut(hand, held, page, index);
-    }
-}
-
 // Gives the class the next page, if there is one, and cuts all its chunks.
 pub(crate) fn grow_for(
     arena: &Arena,
@@ -104,7 +78,7 @@ pub(crate) fn grow_for(
     let per_page = held.slabs().per_page(class);
     match arena.grow(hand, held, class) {
         Ok(page) => {
-            cut_page(arena, hand, held, page, per_page);
+            arena.cut_page(hand, held, page, per_page);
             Ok(true)
         }
         Err(Grow::NoRoom) => Ok(false),

@@ -31,7 +31,7 @@ use Rattle.mc_words.proofs.OwnerViews.{holding_rows}
 use Rattle.mc_words.proofs.References.{is_ref, is_issue, is_item, is_whole, is_known, one_room}
 
 -- what a header's word tells
-three_linked : (tag : ℕ) → tag < 4 → nat_eq tag 3 ≡ is_linked (tag_of tag)
+pub three_linked : (tag : ℕ) → tag < 4 → nat_eq tag 3 ≡ is_linked (tag_of tag)
 three_linked zero near = refl
 three_linked (suc zero) near = refl
 three_linked (suc (suc zero)) near = refl

@@ -1,5 +1,5 @@
 -- Words of linked chunks are read under the slabs lock: the page's owner tells where they stand.
-use Rattle.std.proofs.Common.{◌≡◌, ℕ, ◌+◌, ◌*◌, ◌/◌, ◌<◌, Bool, true, List, [], ◌∷◌, ◌++◌, length, Option, Some, None, IfSome, refl, sym, ap, ap₂, ◌∙◌, arith, is_some, slice_index, lt-ltb, get_or-set_same, if◌then◌else◌, inl, inr}
+use Rattle.std.proofs.Common.{◌≡◌, ℕ, ◌+◌, ◌*◌, ◌/◌, ◌<◌, ◌≤◌, Bool, true, List, [], ◌∷◌, ◌++◌, length, Option, Some, None, IfSome, refl, sym, subst, ap, ap₂, ◌∙◌, arith, is_some, slice_index, lt-ltb, get_or-set_same, if◌then◌else◌, inl, inr}
 use Rattle.std.specs.List.{fold}
 use Rattle.std.proofs.lemmas.Bool.{and_from, cases_Bool}
 use Rattle.mc_classes.specs.Classes.{Classes, pages_of, size_of}
@@ -9,14 +9,19 @@ use Rattle.mc_pages.proofs.GrantedPage.{length-owners}
 use Rattle.mc_core.specs.declared.look.Look.{Look}
 use Rattle.mc_core.specs.declared.look.Look.TheVariants.{Read}
 use Rattle.mc_core.specs.declared.event.Step.TheVariants as core
-use Rattle.mc_core.specs.Columns.{IsHandedOut, place_in}
+use Rattle.mc_core.specs.Columns.{IsHandedOut, Shows, head_in, place_in}
+use Rattle.mc_core.specs.Holdings.{all_known, word_in}
+use Rattle.mc_core.specs.Knowing.{IsTrueStill}
 use Rattle.mc_core.specs.Looks.{was_linked}
 use Rattle.mc_core.specs.Past.{Moment, moment_stepped}
 use Rattle.mc_core.specs.Seen.{last_read, linked_issue}
 use Rattle.mc_core.specs.State.{State, has_chunk, head_at, is_class, looks_at, page_words, room_in, word_at}
 use Rattle.mc_core.proofs.Base.{IsPlaced, chunk_within, placed_at, word_within}
+use Rattle.mc_core.proofs.MoreRows.{each_contained}
+use Rattle.mc_core.proofs.Numbers.{whole_known}
 use Rattle.mc_core.proofs.SeenAdds.{was_linked_is}
 use Rattle.mc_core.proofs.SeenLooks.{some_is}
+use Rattle.mc_core.proofs.ShownItems.{IsWhole, whole_word}
 use Rattle.mc_words.specs.View.{Setup, View}
 use Rattle.mc_words.specs.Layout.{data_word, data_from, data_count, config_from}
 use Rattle.mc_words.specs.Happens.{LawfulView, HappensAt, MayWrite}
@@ -98,6 +103,33 @@ module _ (view : View) (slabs : SlabState) (mine : view.slabs ≡ Some slabs) (c
       held_word =
           ap (slice_index was.words) stands_at
           ∙ data_read view.setup was.cuts was.words m.state.slabs_lock m.state.stripe_locks m.state.heads m.state.words was.are (place_in m.state.table m.state.slabs chunk place) within
+
+      -- the item that it had then is known, and so says a length that fits
+      length_there : 3 + word_at m.state chunk 2 ≤ room_in view.setup.table (class_of_page slabs chunk.page)
+      length_there =
+          let found : is_some (fold (linked_issue chunk) None (looks_at m.state was.hand)) ≡ true =
+          sym (was_linked_is (looks_at m.state was.hand) chunk) ∙ (ap (λ looks. was_linked looks chunk) (looks_here view was) ∙ linked) in
+          let (issue, is) = some_is (fold (linked_issue chunk) None (looks_at m.state was.hand)) found in
+          let (out, (hand, k, has, same)) = (was.lawful.seen was.hand (slabs_here view was slabs mine).0).linked chunk issue near_there is in
+          let true_still = each_contained (IsTrueStill m.state.table m.state.slabs m.state.heads m.state.words m.state.holdings) m.past.known hand k was.lawful.known.still has in
+          let shown = true_still.shows (subst (λ (c : ChunkId). IsHandedOut (head_in m.state.table m.state.heads c) k.issue) (sym same.0) (out.0, out.1 ∙ sym same.1)) in
+          let here : Shows m.state.table m.state.slabs m.state.words chunk (all_known k.words) = subst (λ (c : ChunkId). Shows m.state.table m.state.slabs m.state.words c (all_known k.words)) same.0 shown in
+          let whole : IsWhole (all_known k.words) = whole_known k.words true_still.whole in
+          let long = whole.long in
+          let third = here.known_words 2 (word_in (all_known k.words) 2) (whole_word (all_known k.words) 2 whole (omega arith)) in
+          let last : word_at m.state chunk 2 ≡ word_in (all_known k.words) 2 = third in
+          let fits : length (all_known k.words) ≤ room_in m.state.table (class_of_page m.state.slabs chunk.page) = here.fits in
+          let same_room = room_is in
+          omega arith
+
+    -- the length that was read fits
+    pub length_fits : (now : View) (word : ℕ) → HappensAt (data_word view.setup (room_in view.setup.table (class_of_page slabs chunk.page)) chunk place) word view [] (core.WordHeld chunk place) now
+        → place ≡ 2 → 3 + word ≤ room_in view.setup.table (class_of_page slabs chunk.page)
+    length_fits now word at third =
+        let was = at.0.was in
+        let is : word_at was.moment.state chunk 2 ≡ word = sym (ap (word_at was.moment.state chunk) third) ∙ (sym (held_word was) ∙ at.1) in
+        let fits = length_there was in
+        omega arith
 
     -- it is read
     pub may_read_held : (at : ℕ) → MayWrite view (core.WordHeld chunk place) at (λ found. found)

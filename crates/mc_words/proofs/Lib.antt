@@ -48,3 +48,4 @@ pub mod ChangeViews
 pub mod StripeChanges
 pub mod Joined
 pub mod Ends
+pub mod WholeCuts

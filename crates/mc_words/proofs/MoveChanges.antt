@@ -1,22 +1,27 @@
 -- Changes of a move: what allows each, and what the words of the pages say then.
-use Rattle.std.proofs.Common.{◌≡◌, ℕ, ◌/◌, ◌<◌, ◌≤◌, ◌==◌, Bool, true, List, length, slice_index, slice_set, Option, Some, refl, sym, ap, subst, ◌∙◌, inl, inr, arith, is_ok, Result, Ok, Err, IfOk, eqb-true, length-set, get_or-set_same, get_or-set_other}
-use Rattle.std.proofs.lemmas.Bool.{and_from, cases_Bool, cases_eq}
-use Rattle.mc_classes.specs.Classes.{Classes, pages_of}
+use Rattle.std.proofs.Common.{false, None, ◌≡◌, ℕ, ◌/◌, ◌<◌, ◌≤◌, ◌==◌, Bool, true, List, length, slice_index, slice_set, Option, Some, refl, sym, ap, subst, ◌∙◌, inl, inr, arith, is_ok, Result, Ok, Err, IfOk, eqb-true, length-set, get_or-set_same, get_or-set_other, not, is_none, nat_lt, ◌&&◌, ◌||◌, lt-ltb, ltb-true, eq-eqb, le-leb, ap₂, [], ◌∷◌}
+use Rattle.std.proofs.lemmas.Bool.{and_parts, or_right, and_from, cases_Bool, cases_eq}
+use Rattle.mc_classes.specs.Classes.{Classes, pages_of, per_page_of}
 use Rattle.mc_pages.specs.declared.ids.Moving.{Moving}
 use Rattle.mc_pages.specs.declared.moves.Found.{Found}
 use Rattle.mc_pages.specs.declared.ledger.Owner.TheVariants.{Untouched, Pool, Class}
-use Rattle.mc_pages.specs.Accounted.{IsMove}
+use Rattle.mc_pages.specs.declared.ids.ChunkId.{ChunkId}
+use Rattle.mc_pages.specs.Ledger.{owner_at}
+use Rattle.mc_pages.specs.Accounted.{IsAccounted, IsMove, cut_count, is_cleared, is_cut, is_moving, is_of_class, places_in, truth}
+use Rattle.mc_pages.specs.ClassState.{times}
+use Rattle.mc_pages.proofs.Chunks.{is_chunk-same, times-cons}
 use Rattle.mc_pages.specs.declared.moves.Reassign.{Reassign}
 use Rattle.mc_pages.specs.Answer.{MayAnswer, answer_of}
-use Rattle.mc_pages.specs.Moves.{after_begin, after_finish, finished}
-use Rattle.mc_pages.specs.SlabState.{SlabState, class_of_owner, class_of_page}
+use Rattle.mc_pages.specs.Moves.{CanFinish, CanPass, CanWrap, after_begin, after_finish, chunk_at_position, finished, is_held_up}
+use Rattle.mc_pages.specs.SlabState.{SlabState, class_at, class_of_owner, class_of_page}
 use Rattle.mc_pages.proofs.GrantedPage.{length-owners}
 use Rattle.mc_pages.proofs.RoomyFinish.{moving_within}
 use Rattle.mc_core.specs.declared.event.Change.TheVariants.{BeginMove, FinishMove, Passed, Wrap}
 use Rattle.mc_core.specs.declared.event.Step.TheVariants as core
 use Rattle.mc_core.specs.InOrder.{IsOfTable}
 use Rattle.mc_core.specs.State.{State}
-use Rattle.mc_core.specs.Silent.{begun, can_finish, can_pass, can_wrap, run_of}
+use Rattle.mc_core.specs.Silent.{begun, can_finish, can_pass, can_wrap, has_page, is_cleared_at, is_listed, run_of}
+use Rattle.mc_core.proofs.Listed.{per_page_is, places_from_listed}
 use Rattle.mc_core.proofs.SamePages.{arrived_if, begun_pages, finished_other}
 use Rattle.mc_words.specs.View.{View}
 use Rattle.mc_words.specs.Layout.{lock_word, page_word}
@@ -124,3 +129,71 @@ answered (Err refusal) result may is = absurd (let never : ◌≡◌ {A = Result
 pub begun_is : (slabs left : SlabState) (src : Option ℕ) (dst : ℕ) (answer : Result ℕ Reassign) → is_ok answer ≡ true → IfOk answer (λ source. left ≡ after_begin slabs src source dst) → begun slabs src dst answer ≡ left
 begun_is slabs left src dst (Ok source) ok is = sym is
 begun_is slabs left src dst (Err refusal) ok is = absurd (cc)
+
+-- the core's tests, from what the calls ask: a chunk may be passed
+pub can_pass_from : (table : Classes) (slabs : SlabState) (found : Found) (move : Moving) → IsOfTable table slabs → CanPass slabs found move → can_pass slabs found (run_of table slabs.moving) ≡ true
+can_pass_from table slabs found move of can =
+    let chunk = chunk_at_position move in
+    let move_is : IsMove slabs move = of.accounted.move move can.runs in
+    let per_page : (class_at slabs move.src).per_page ≡ per_page_of table move.src = per_page_is table slabs move.src of move_is.src in
+    let within = can.within in
+    let below : nat_lt move.at (per_page_of table move.src) ≡ true = lt-ltb move.at (per_page_of table move.src) (omega arith) in
+    let done : (is_held_up found || is_cleared_at slabs (per_page_of table move.src) move) ≡ true = elim (cases_Bool (is_held_up found)) [
+      | inl held ↦ ap (λ (b : Bool). b || is_cleared_at slabs (per_page_of table move.src) move) held
+      | inr free ↦
+          let parts = and_parts (is_moving (owner_at slabs.owners move.page) && is_cut slabs move.src chunk) (places_in slabs move.src chunk == 0) (can.done free) in
+          let cut = and_parts (is_moving (owner_at slabs.owners move.page)) (is_cut slabs move.src chunk) parts.0 in
+          let was_cut = and_parts (is_of_class move.src (owner_at slabs.owners move.page)) (nat_lt move.at (cut_count slabs.uncut move.page (class_at slabs move.src).per_page)) cut.1 in
+          let none : places_in slabs move.src chunk ≡ 0 = eqb-true (places_in slabs move.src chunk) 0 parts.1 in
+          let cleared : is_cleared_at slabs (per_page_of table move.src) move ≡ true =
+          and_from _ _ (ap (λ (n : ℕ). nat_lt move.at (cut_count slabs.uncut move.page n)) (sym per_page) ∙ was_cut.1) (ap not (unlisted slabs move.src chunk none)) in
+          or_right (is_held_up found) (is_cleared_at slabs (per_page_of table move.src) move) cleared
+    ] in
+    ap (λ (moving : Option Moving). can_pass slabs found (run_of table moving)) can.runs ∙ and_from _ _ below done
+  where
+    unlisted : (slabs : SlabState) (class : ℕ) (chunk : ChunkId) → places_in slabs class chunk ≡ 0 → is_listed slabs class chunk ≡ false
+    unlisted slabs class chunk none = elim (cases_Bool (is_listed slabs class chunk)) [
+      | inl listed ↦ absurd (let some = places_from_listed slabs class chunk listed in omega arith)
+      | inr isnt ↦ isnt
+    ]
+
+-- a pass may begin anew
+pub can_wrap_from : (table : Classes) (slabs : SlabState) (move : Moving) → IsOfTable table slabs → CanWrap slabs move → can_wrap (run_of table slabs.moving) ≡ true
+can_wrap_from table slabs move of can =
+    let move_is : IsMove slabs move = of.accounted.move move can.runs in
+    let at : move.at ≡ per_page_of table move.src = can.at_end ∙ per_page_is table slabs move.src of move_is.src in
+    ap (λ (moving : Option Moving). can_wrap (run_of table moving)) can.runs ∙ and_from _ _ (eq-eqb move.at (per_page_of table move.src) at) (le-leb 1 move.busy can.held_up)
+
+-- where a page has a chunk in a list, one stands there
+page_found : (page : ℕ) (chunks : List ChunkId) → has_page chunks page ≡ true → (chunk : ChunkId) × (chunk.page ≡ page) × (1 ≤ times chunk chunks)
+page_found page [] has = absurd (cc)
+page_found page (first ∷ chunks) has = elim (cases_Bool (first.page == page)) [
+  | inl on ↦ (first, eqb-true first.page page on, (let sum = times-cons first first chunks in let one = ap truth (is_chunk-same first) in omega arith))
+  | inr off ↦
+      let (chunk, on, some) = page_found page chunks (ap (λ (b : Bool). b || has_page chunks page) (sym off) ∙ has) in
+      (chunk, on, (let sum = times-cons chunk first chunks in omega arith))
+]
+
+-- a move may end
+pub can_finish_from : (slabs : SlabState) (move : Moving) → IsAccounted slabs → slabs.uncut ≡ None → CanFinish slabs move → can_finish slabs slabs.moving ≡ true
+can_finish_from slabs move accounted whole can =
+    let move_is : IsMove slabs move = accounted.move move can.runs in
+    ap (can_finish slabs) can.runs ∙ and_from _ _ (ap is_none whole) (ap not (ap₂ (λ (a b : Bool). a || b) (none_there (class_at slabs move.src).free (λ chunk some. (let n = some in omega arith))) (none_there (class_at slabs move.src).order (λ chunk some. (let n = some in omega arith)))))
+  where
+    none_there : (chunks : List ChunkId) → ((chunk : ChunkId) → 1 ≤ times chunk chunks → 1 ≤ places_in slabs move.src chunk) → has_page chunks move.page ≡ false
+    none_there chunks listed = elim (cases_Bool (has_page chunks move.page)) [
+      | inl has ↦
+          let (chunk, on, some) = page_found move.page chunks has in
+          let places = listed chunk some in
+          let count = accounted.chunks move.src chunk (accounted.move move can.runs).src in
+          let cut : is_cut slabs move.src chunk ≡ true = elim (cases_Bool (is_cut slabs move.src chunk)) [
+            | inl is ↦ is
+            | inr isnt ↦ absurd (let none = ap truth isnt in omega arith)
+          ] in
+          let within = and_parts (is_of_class move.src (owner_at slabs.owners chunk.page)) (nat_lt chunk.index (cut_count slabs.uncut chunk.page (class_at slabs move.src).per_page)) cut in
+          let below : chunk.index < (class_at slabs move.src).per_page =
+          ltb-true chunk.index (class_at slabs move.src).per_page (ap (λ (o : Option ChunkId). nat_lt chunk.index (cut_count o chunk.page (class_at slabs move.src).per_page)) (sym whole) ∙ within.1) in
+          let cleared : is_cleared slabs move.src chunk ≡ true = ap (λ (p : ℕ). is_cleared slabs move.src (record { page = p; index = chunk.index })) on ∙ can.all_cleared chunk.index below in
+          absurd (let one = ap truth cleared in let two = ap truth cut in omega arith)
+      | inr none ↦ none
+    ]

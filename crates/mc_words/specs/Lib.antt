@@ -23,6 +23,8 @@ pub mod Lent
 pub mod Joining
 pub mod Closing
 pub mod Owner
+pub mod Cutting
+pub mod Doing
 pub mod Rescuing
 pub mod Hinting
 pub mod Condemning

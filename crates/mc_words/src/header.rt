@@ -1,6 +1,7 @@
 //! The parts of a header's word, which is `issue * 2^18 + tag * 2^16 + count`.
 ghost use Rattle.std.specs.Prelude.{◌≡◌};
-ghost use Rattle.mc_core.specs.Head.{decode};
+ghost use Rattle.mc_core.specs.Evictions.{is_linked_unheld};
+ghost use Rattle.mc_core.specs.Head.{decode, is_linked, is_out};
 ghost use Rattle.mc_words.specs.Hinting.{is_there};
 ghost use Rattle.mc_words.specs.Owner.{is_unused};
 
@@ -25,6 +26,9 @@ pub(crate) const MOST_ISSUE: u64 = 70_368_744_177_663;
 /// The tag and the count of a chunk that is linked and held by nobody: the link counts 1.
 pub(crate) const UNHELD: u64 = 3 * TAG_UNIT + 1;
 
+/// The tag's number of a chunk that is out.
+pub(crate) const OUT_TAG: u64 = 0;
+
 /// The tag's number of a linked chunk.
 pub(crate) const LINKED_TAG: u64 = 3;
 
@@ -36,6 +40,27 @@ pub(crate) fn is_there(word: u64, issue: u64) -> bool
     ensures there { result ≡ is_there issue (decode word) }
 {
     word / TAG_UNIT % 4 == LINKED_TAG && word / ISSUE_UNIT == issue
+}
+
+/// Whether this is the header of a chunk that was cleared, or never cut.
+pub fn is_out(word: u64) -> bool
+    ensures out { result ≡ is_out (decode word).tag }
+{
+    word / TAG_UNIT % 4 == OUT_TAG
+}
+
+/// Whether this is the header of a linked chunk.
+pub fn is_linked(word: u64) -> bool
+    ensures linked { result ≡ is_linked (decode word).tag }
+{
+    word / TAG_UNIT % 4 == LINKED_TAG
+}
+
+/// Whether this is the header of a linked chunk that nobody holds: the link counts 1.
+pub fn is_unheld(word: u64) -> bool
+    ensures unheld { result ≡ is_linked_unheld (decode word) }
+{
+    word % ISSUE_UNIT == UNHELD
 }
 
 /// Whether this is the header of a chunk that is free, or dead.

@@ -1,11 +1,11 @@
 //! Pages that move from class to class. Each change of a move is told at once.
 ghost use Rattle.std.specs.Prelude.{◌≡◌, ◌+◌, [], ◌∷◌, true, None, Some, IfOk, OnOk, OnErr};
+ghost use Rattle.mc_pages.specs.declared.ids.Moving.{Moving};
 ghost use Rattle.mc_pages.specs.Answer.{MayAnswer, answer_of};
-ghost use Rattle.mc_pages.specs.Moves.{after_begin, after_finish, after_passed, after_wrap};
-ghost use Rattle.mc_core.specs.Silent.{can_finish, can_pass, can_wrap, run_of};
+ghost use Rattle.mc_pages.specs.Moves.{CanFinish, CanPass, CanWrap, after_begin, after_finish, after_passed, after_wrap};
 ghost use Rattle.mc_core.specs.declared.event.Change.TheVariants as change;
 ghost use Rattle.mc_core.specs.declared.event.Step.TheVariants as step;
-ghost use Rattle.mc_words.specs.Arenas.{IsHandOf, setup_of, view};
+ghost use Rattle.mc_words.specs.Arenas.{IsHandOf, view};
 ghost use Rattle.mc_words.specs.Happens.{Happens};
 ghost use Rattle.mc_words.specs.Views.{slabs_changed};
 
@@ -51,7 +51,7 @@ impl Arena {
     pub fn passed(&self, hand: &mut Hand, held: &mut SlabsHeld, found: Found)
         requires arena { IsHandOf self.now hand.old }
         requires held { (view hand.old).slabs ≡ Some held.old.shared }
-        requires done { can_pass held.old.shared found (run_of (setup_of self.now).table held.old.shared.moving) ≡ true }
+        requires done { (move : Moving) × CanPass held.old.shared found move }
         ensures arena { IsHandOf self.now hand.new }
         ensures locks { hand.new.locks ≡ hand.old.locks }
         ensures held { (view hand.new).slabs ≡ Some held.new.shared }
@@ -69,7 +69,7 @@ impl Arena {
     pub fn wrap(&self, hand: &mut Hand, held: &mut SlabsHeld)
         requires arena { IsHandOf self.now hand.old }
         requires held { (view hand.old).slabs ≡ Some held.old.shared }
-        requires busy { can_wrap (run_of (setup_of self.now).table held.old.shared.moving) ≡ true }
+        requires busy { (move : Moving) × CanWrap held.old.shared move }
         ensures arena { IsHandOf self.now hand.new }
         ensures locks { hand.new.locks ≡ hand.old.locks }
         ensures held { (view hand.new).slabs ≡ Some held.new.shared }
@@ -86,7 +86,8 @@ impl Arena {
     pub fn finish_move(&self, hand: &mut Hand, held: &mut SlabsHeld)
         requires arena { IsHandOf self.now hand.old }
         requires held { (view hand.old).slabs ≡ Some held.old.shared }
-        requires cleared { can_finish held.old.shared held.old.shared.moving ≡ true }
+        requires whole { held.old.shared.uncut ≡ None }
+        requires cleared { (move : Moving) × CanFinish held.old.shared move }
         ensures arena { IsHandOf self.now hand.new }
         ensures locks { hand.new.locks ≡ hand.old.locks }
         ensures held { (view hand.new).slabs ≡ Some held.new.shared }

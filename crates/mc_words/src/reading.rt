@@ -1,5 +1,5 @@
 //! Words of items that are read.
-ghost use Rattle.std.specs.Prelude.{◌≡◌, ◌<◌, [], true, length, slice_index, Some, IfSome};
+ghost use Rattle.std.specs.Prelude.{◌≡◌, ◌+◌, ◌<◌, ◌≤◌, [], true, length, slice_index, Some, IfSome};
 ghost use Rattle.mc_pages.specs.SlabState.{class_of_page};
 ghost use Rattle.mc_core.specs.Looks.{was_linked};
 ghost use Rattle.mc_core.specs.State.{has_chunk, room_in};
@@ -37,8 +37,8 @@ impl Arena {
         self.look(&mut hand.seat, at, step)
     }
 
-    /// A word of a chunk that this hand found linked under this hold of the slabs lock: 0 is the key of its item, 1 its stamp. The
-    /// read counts as a look. (own, for the key that items.c's `do_item_alloc_pull` finds in an item)
+    /// A word of a chunk that this hand found linked under this hold of the slabs lock: 0 is the key of its item, 1 its stamp, and 2 how
+    /// many words come after these three, which fit the chunk. The read counts as a look. (own, for the key that items.c's `do_item_alloc_pull` finds in an item)
     pub fn word_held(&self, hand: &mut Hand, held: &SlabsHeld, chunk: ChunkId, place: u64) -> u64
         requires arena { IsHandOf self.now hand.old }
         requires near { has_chunk (setup_of self.now).table chunk ≡ true }
@@ -49,6 +49,7 @@ impl Arena {
         ensures locks { hand.new.locks ≡ hand.old.locks }
         ensures held { (view hand.new).slabs ≡ Some held.now.shared }
         ensures happens { Happens (view hand.old) [] (step.WordHeld chunk place) (view hand.new) }
+        ensures fits { place ≡ 2 → 3 + result ≤ room_in (setup_of self.now).table (class_of_page held.now.shared chunk.page) }
         ensures again { IfSome (word_read (view hand.old) chunk place) (λ before. result ≡ before) }
         ensures view { view hand.new ≡ looked (look.Read chunk place result) (view hand.old) }
     {

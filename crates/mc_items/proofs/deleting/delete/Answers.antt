@@ -1,13 +1,14 @@
 use Rattle.std.proofs.Common.{◌≡◌, ◌%◌, ℕ, refl, ap, subst, ◌∙◌}
 use Rattle.mc_classes.specs.declared.config.Config.{Config}
 use Rattle.mc_core.specs.Holdings.{has_fresh}
+use Rattle.mc_words.specs.Doing.{IsDone}
 use Rattle.mc_words.specs.Lent.{IsLentStripe}
 use Rattle.mc_words.specs.Out.{without_stripe}
 use Rattle.mc_words.specs.View.{View}
 use Rattle.mc_words.specs.Views.{stripe_given}
 use Rattle.mc_words.specs.Waiting.{WaitsForStripe}
 use Rattle.mc_stripe.specs.declared.history.Call.TheVariants.{Delete}
-use Rattle.mc_items.specs.Calls.{CallsOn, Deletes, IsDone, OnlyWaits, TellsCall, TellsNoCall}
+use Rattle.mc_items.specs.Calls.{CallsOn, Deletes, OnlyWaits, TellsCall, TellsNoCall}
 use Rattle.mc_items.proofs.Deletes.{ok_map, err_map}
 use Rattle.mc_items.proofs.Gets.{called_on, only_waits}
 use Rattle.mc_items.proofs.Hands.{number_stays}

@@ -1,6 +1,7 @@
 use Rattle.std.proofs.Common.{◌≡◌, ◌≤◌, length, List, true, Result, Ok, Err, IfOk, IfErr, refl, ap, sym, subst, ◌∙◌}
 use Rattle.mc_core.specs.declared.holding.Holding.{Holding}
 use Rattle.mc_core.specs.Holdings.{has_fresh}
+use Rattle.mc_words.specs.Doing.{HoldsSlabs}
 use Rattle.mc_words.specs.Out.{has_no_stripe, with_slabs, without_slabs}
 use Rattle.mc_words.specs.View.{View}
 use Rattle.mc_words.specs.declared.held.Fresh.{Fresh}
@@ -10,7 +11,7 @@ use Rattle.mc_words.specs.declared.locks.Locks.TheVariants.{Neither, Slabs, Stri
 use Rattle.mc_words.specs.Idle.{is_unlocked}
 use Rattle.mc_words.specs.Out.{is_neither}
 use Rattle.mc_words.proofs.Unlocked.{no_stripes_there, unlocked_from}
-use Rattle.mc_items.specs.Sources.{HoldsSlabs, SuppliesChunk, SuppliesNone}
+use Rattle.mc_items.specs.Sources.{SuppliesChunk, SuppliesNone}
 use Rattle.mc_items.specs.declared.setting.SetError.{SetError}
 use Rattle.mc_items.proofs.Hands.{number_stays}
 use Rattle.mc_items.proofs.Locks.{slabs_back, waits_slabs_keep}

@@ -2,12 +2,13 @@ use Rattle.std.proofs.Common.{◌≡◌, ◌+◌, ◌*◌, ◌≤◌, ◌%◌, �
 use Rattle.mc_classes.specs.Classes.{Classes, IsClass, class_of, size_of}
 use Rattle.mc_core.specs.Past.{Saying}
 use Rattle.mc_stripe.specs.declared.history.Call.TheVariants.{Set}
+use Rattle.mc_words.specs.Doing.{HoldsSlabs}
 use Rattle.mc_words.specs.View.{Setup, View}
 use Rattle.mc_words.specs.Tallies.{next_stamp}
 use Rattle.mc_items.specs.Calls.{TellsCall}
 use Rattle.mc_pages.specs.declared.ids.ChunkId.{ChunkId}
 use Rattle.mc_items.specs.Setting.{class_for_words}
-use Rattle.mc_items.specs.Sources.{HoldsSlabs, SuppliesChunk}
+use Rattle.mc_items.specs.Sources.{SuppliesChunk}
 use Rattle.mc_items.specs.Storing.{LeavesDead, StoresItem, item_filled, item_with}
 use Rattle.mc_items.proofs.Hands.{number_stays}
 use Rattle.mc_items.proofs.Locks.{still_unlocked}

@@ -4,6 +4,7 @@ use Rattle.mc_pages.specs.Changes.{after_touch}
 use Rattle.mc_core.specs.declared.holding.Holding.{Holding}
 use Rattle.mc_core.specs.declared.event.Change.TheVariants.{Touch}
 use Rattle.mc_core.specs.Silent.{is_handed_out}
+use Rattle.mc_words.specs.Doing.{IsDone}
 use Rattle.mc_words.specs.Lent.{IsLentStripe}
 use Rattle.mc_words.specs.Out.{without_slabs, without_stripe}
 use Rattle.mc_core.specs.Holdings.{key_of, stamp_of}
@@ -14,7 +15,7 @@ use Rattle.mc_words.specs.View.{View}
 use Rattle.mc_words.specs.Views.{chunk_dropped, slabs_changed, slabs_given}
 use Rattle.mc_words.specs.Waiting.{WaitsForStripe}
 use Rattle.mc_words.proofs.HeldOut.{held_is_out}
-use Rattle.mc_items.specs.Calls.{Finds, FindsNone, IsDone, LooksUp}
+use Rattle.mc_items.specs.Calls.{Finds, FindsNone, LooksUp}
 use Rattle.std.specs.Option.{option_map}
 use Rattle.mc_stripe.specs.declared.history.Call.TheVariants.{Get}
 use Rattle.mc_stripe.specs.StripeState.{stamp_of as stripe_stamp}

@@ -1,17 +1,16 @@
-use Rattle.std.proofs.Common.{◌≡◌, ℕ, ◌<◌, true, refl, ap, sym, subst, ◌∙◌, length}
+use Rattle.std.proofs.Common.{◌≡◌, ℕ, ◌<◌, refl, ap, sym, subst, ◌∙◌, length}
 use Rattle.mc_classes.specs.Classes.{pages_of}
+use Rattle.mc_pages.specs.declared.ids.Moving.{Moving}
+use Rattle.mc_pages.specs.Moves.{CanFinish}
 use Rattle.mc_pages.specs.SlabState.{SlabState}
-use Rattle.mc_core.specs.Silent.{can_finish}
 use Rattle.mc_core.specs.declared.event.Change.TheVariants.{FinishMove}
 use Rattle.mc_words.specs.View.{View, Setup}
-use Rattle.mc_words.proofs.MoveChanges.{may_finish, move_near, of_table_here}
+use Rattle.mc_words.proofs.MoveChanges.{can_finish_from, may_finish, move_near, of_table_here}
 use Rattle.mc_words.proofs.ChangeViews.{changed_slabs}
 use Rattle.mc_words.proofs.Locked.{noted_same}
 use Rattle.mc_words.proofs.Tallies.{tallied_same}
 use Rattle.mc_words.proofs.arena.Arena.finish_move.Goals as goal
-use Rattle.mc_core.specs.InOrder.{IsOfTable}
 use Rattle.mc_core.specs.declared.event.Step.TheVariants as core
-use Rattle.mc_core.proofs.Asked.{finish_asked}
 use Rattle.mc_words.specs.Happens.{MayTell}
 use Rattle.mc_words.specs.Layout.{page_word}
 
@@ -22,18 +21,10 @@ page_word-word-requires c =
     record { near = subst (λ (s : Setup). c.in-Some.moving.page < pages_of s.table) c.requires.arena.setup near.0 }
 
 pub finish_move-requires-clause-cleared : goal.finish_move-requires-clause-cleared
-finish_move-requires-clause-cleared c =
-    let slabs : SlabState = c.slabs_mut.result.now.state in
-    let table = c.args.hand.now.seat.me.0.setup.table in
-    let of : IsOfTable table slabs = subst (IsOfTable table) (sym c.slabs_mut.ensures.slabs) (of_table_here c.args.hand.now.seat.me.0 c.requires.arena.lawful c.args.held.now.shared c.requires.held) in
-    (finish_asked table slabs slabs.moving of refl (subst (λ (x : SlabState). can_finish x x.moving ≡ true) (sym c.slabs_mut.ensures.slabs) c.requires.cleared)).1
+finish_move-requires-clause-cleared c = subst (λ (x : SlabState). (move : Moving) × CanFinish x move) (sym c.slabs_mut.ensures.slabs) c.requires.cleared
 
 pub finish_move-requires-clause-whole : goal.finish_move-requires-clause-whole
-finish_move-requires-clause-whole c =
-    let slabs : SlabState = c.slabs_mut.result.now.state in
-    let table = c.args.hand.now.seat.me.0.setup.table in
-    let of : IsOfTable table slabs = subst (IsOfTable table) (sym c.slabs_mut.ensures.slabs) (of_table_here c.args.hand.now.seat.me.0 c.requires.arena.lawful c.args.held.now.shared c.requires.held) in
-    (finish_asked table slabs slabs.moving of refl (subst (λ (x : SlabState). can_finish x x.moving ≡ true) (sym c.slabs_mut.ensures.slabs) c.requires.cleared)).0
+finish_move-requires-clause-whole c = ap (λ (x : SlabState). x.uncut) c.slabs_mut.ensures.slabs ∙ c.requires.whole
 
 pub tell_page-requires : goal.tell_page-requires
 tell_page-requires c =
@@ -43,7 +34,7 @@ tell_page-requires c =
     let runs = sym c.moving.ensures.moving ∙ c.in-Some.is in
     let near = move_near view c.requires.arena.lawful slabs move c.requires.held runs in
     let place : c.page_word-word.result ≡ page_word view.setup move.page = c.page_word-word.ensures.word ∙ ap (λ (s : Setup). page_word s move.page) (sym c.requires.arena.setup) in
-    (refl, (refl, (c.page_word-word.ensures.near, (c.requires.arena, subst (λ (n : ℕ). MayTell view FinishMove core.MissSlabs n (λ found. move.dst)) (sym place) (may_finish view slabs move c.requires.held runs c.requires.cleared near.0 near.1)))))
+    (refl, (refl, (c.page_word-word.ensures.near, (c.requires.arena, subst (λ (n : ℕ). MayTell view FinishMove core.MissSlabs n (λ found. move.dst)) (sym place) (may_finish view slabs move c.requires.held runs (can_finish_from slabs c.requires.cleared.0 (of_table_here view c.requires.arena.lawful slabs c.requires.held).accounted c.requires.whole c.requires.cleared.1) near.0 near.1)))))
 
 pub invariant_of-hand : goal.invariant_of-hand
 invariant_of-hand c =

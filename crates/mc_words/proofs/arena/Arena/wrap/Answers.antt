@@ -1,29 +1,25 @@
-use Rattle.std.proofs.Common.{◌≡◌, true, refl, ap, sym, subst, ◌∙◌, length, arith}
+use Rattle.std.proofs.Common.{refl, ap, sym, subst, ◌∙◌, length, arith}
+use Rattle.mc_pages.specs.declared.ids.Moving.{Moving}
+use Rattle.mc_pages.specs.Moves.{CanWrap}
 use Rattle.mc_pages.specs.SlabState.{SlabState}
-use Rattle.mc_core.specs.Silent.{can_wrap, run_of}
 use Rattle.mc_core.specs.declared.event.Change.TheVariants.{Wrap}
-use Rattle.mc_words.specs.View.{View, Setup}
-use Rattle.mc_words.proofs.MoveChanges.{may_wrap, of_table_here}
+use Rattle.mc_words.specs.View.{View}
+use Rattle.mc_words.proofs.MoveChanges.{can_wrap_from, may_wrap, of_table_here}
 use Rattle.mc_words.proofs.ChangeViews.{changed_slabs}
 use Rattle.mc_words.proofs.Locked.{noted_same}
 use Rattle.mc_words.proofs.Tallies.{tallied_same}
 use Rattle.mc_words.proofs.arena.Arena.wrap.Goals as goal
-use Rattle.mc_core.specs.InOrder.{IsOfTable}
-use Rattle.mc_core.proofs.Asked.{wrap_asked}
 
 pub wrap-requires : goal.wrap-requires
-wrap-requires c =
-    let slabs : SlabState = c.slabs_mut.result.now.state in
-    let table = c.args.hand.now.seat.me.0.setup.table in
-    let of : IsOfTable table slabs = subst (IsOfTable table) (sym c.slabs_mut.ensures.slabs) (of_table_here c.args.hand.now.seat.me.0 c.requires.arena.lawful c.args.held.now.shared c.requires.held) in
-    let can = subst (λ (s : Setup). can_wrap (run_of s.table c.args.held.now.shared.moving) ≡ true) (sym c.requires.arena.setup) c.requires.busy in
-    wrap_asked table slabs slabs.moving of refl (subst (λ (x : SlabState). can_wrap (run_of table x.moving) ≡ true) (sym c.slabs_mut.ensures.slabs) can)
+wrap-requires c = subst (λ (x : SlabState). (move : Moving) × CanWrap x move) (sym c.slabs_mut.ensures.slabs) c.requires.busy
 
 pub tell-requires : goal.tell-requires
 tell-requires c =
     let count = c.args.self.now.words in
-    let can = subst (λ (s : Setup). can_wrap (run_of s.table c.args.held.now.shared.moving) ≡ true) (sym c.requires.arena.setup) c.requires.busy in
-    (refl, (refl, ((omega arith), (c.requires.arena, may_wrap c.args.hand.now.seat.me.0 c.args.held.now.shared c.requires.held can))))
+    let view = c.args.hand.now.seat.me.0 in
+    let slabs = c.args.held.now.shared in
+    let can = can_wrap_from view.setup.table slabs c.requires.busy.0 (of_table_here view c.requires.arena.lawful slabs c.requires.held) c.requires.busy.1 in
+    (refl, (refl, ((omega arith), (c.requires.arena, may_wrap view slabs c.requires.held can))))
 
 pub invariant_of-hand : goal.invariant_of-hand
 invariant_of-hand c =

@@ -5,13 +5,13 @@ use Rattle.mc_pages.specs.Changes.{after_cut}
 use Rattle.mc_pages.proofs.Cuts.{next_cut}
 use Rattle.mc_words.specs.Arenas.{IsHandOf, view}
 use Rattle.mc_words.specs.Sweeping.{with_seen}
-use Rattle.mc_items.specs.Supplying.{CutsEach}
-use Rattle.mc_items.proofs.supplying.cut_page.Given as goal
+use Rattle.mc_words.specs.Cutting.{CutsEach}
+use Rattle.mc_words.proofs.arena.Arena.cut_page.Given as goal
 
 -- the chunks below are cut, and the next one is the lowest that isn't
 abbrev pub invariant-loop-index : goal.invariant-loop-index
 invariant-loop-index l = record {
-  arena : IsHandOf l.arena l.hand;
+  arena : IsHandOf l.self l.hand;
   locks : l.hand.locks ≡ l.fn.hand.locks;
   held : (view l.hand).slabs ≡ Some l.held.shared;
   cuts : CutsEach (first_chunks l.page l.index) (view l.fn.hand) l.fn.held.shared (view l.hand) l.held.shared;

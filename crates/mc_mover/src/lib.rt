@@ -1,0 +1,21 @@
+//! The mover: pages go from class to class while readers go on.
+//!
+//! A move begins by `reassign`. Turns of the mover then look at the chunks of its page, one after another, clear what nobody holds, and
+//! take the items that are there to other chunks of their class. Once all chunks are cleared, the page goes to its destination. All calls
+//! take the arena that threads share and the hand that a thread acts with, which has no lock.
+#![tactic(auto)]
+
+mod copying;
+mod ending;
+mod reassigning;
+mod saving;
+mod sections;
+mod surveying;
+mod turn;
+mod turning;
+mod visiting;
+
+pub use reassigning::{reassign, set_mode};
+pub use surveying::{Survey, survey};
+pub use turn::{Counts, TryTurn, Turn};
+pub use turning::{try_turn, turn};
