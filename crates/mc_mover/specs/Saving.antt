@@ -2,6 +2,8 @@
 -- of the key's stripe.
 use Rattle.std.specs.Prelude.{◌≡◌, ℕ}
 use Rattle.mc_pages.specs.declared.ids.ChunkId.{ChunkId}
+use Rattle.mc_pages.specs.declared.moves.Found.{Found}
+use Rattle.mc_pages.specs.declared.moves.Found.TheVariants.{Busy, Evicted, Rescued}
 use Rattle.mc_pages.specs.Changes.{after_replace}
 use Rattle.mc_pages.specs.SlabState.{SlabState, class_at, class_of_page}
 use Rattle.mc_stripe.specs.StripeState.{ReadyStripe}
@@ -9,12 +11,13 @@ use Rattle.mc_stripe.specs.Changes.{after_rescue, used_up}
 use Rattle.mc_core.specs.State.{room_in}
 use Rattle.mc_words.specs.View.{View}
 use Rattle.mc_words.specs.Condemning.{Condemns, FindsHeld}
+use Rattle.mc_words.specs.Doing.{SlabsDoing}
 use Rattle.mc_words.specs.Items.{issue_in, words_in}
 use Rattle.mc_words.specs.Linking.{copy_linked}
 use Rattle.mc_words.specs.Originals.{CondemnsOriginal}
 use Rattle.mc_words.specs.Rescuing.{PassesAll, PopsOff}
-use Rattle.mc_words.specs.Sweeping.{Sweeps}
-use Rattle.mc_words.specs.Views.{chunk_dropped}
+use Rattle.mc_words.specs.Sweeping.{Sweeps, SweepsOne}
+use Rattle.mc_words.specs.Views.{chunk_dropped, stripe_given}
 use Rattle.mc_mover.specs.Copying.{Copies}
 
 -- what is done under both locks, from pages and lists, the stripe and the hand's view to those that it leaves
@@ -79,3 +82,18 @@ pub record FailsToRescue (chunk copy : ChunkId) (slabs : SlabState) (value : Rea
   pub fails : FailsToMove chunk copy popped now
   pub kept_is : kept ≡ after_replace slabs copy chunk
   pub same : left ≡ value
+
+-- the item was evicted, or found unlinked or held, by what was found; and the stripe's lock was given back
+abbrev pub GivesEvicted : ℕ → ℕ → ReadyStripe → ChunkId → Found → View → View → Type 0
+GivesEvicted number stripe value chunk Evicted view now =
+    (left : ReadyStripe) × (last : View) × Condemns view number stripe value chunk left last × (now ≡ stripe_given stripe left last)
+GivesEvicted number stripe value chunk Busy view now = (last : View) × FindsHeld view chunk last × (now ≡ stripe_given stripe value last)
+GivesEvicted number stripe value chunk found view now = ⊥
+
+-- the item was moved to its copy; or the copy was given up, and then put back, or seen in use
+abbrev pub GivesRescued : ℕ → ℕ → ReadyStripe → ChunkId → ChunkId → ℕ → Found → SlabsDoing
+GivesRescued number stripe value chunk copy room Rescued view slabs now left =
+    (after : ReadyStripe) × (last : View) × MovesItem number stripe chunk copy room value view after last × (now ≡ stripe_given stripe after last) × (left ≡ slabs)
+GivesRescued number stripe value chunk copy room Busy view slabs now left =
+    (last : View) × FailsToMove chunk copy view last × SweepsOne copy (stripe_given stripe value last) slabs now left
+GivesRescued number stripe value chunk copy room found view slabs now left = ⊥

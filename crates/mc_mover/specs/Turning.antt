@@ -14,9 +14,9 @@ use Rattle.mc_words.specs.Cutting.{CutsEach}
 use Rattle.mc_words.specs.Doing.{SlabsDoing}
 use Rattle.mc_words.specs.Happens.{Happens}
 use Rattle.mc_words.specs.Views.{slabs_changed}
-use Rattle.mc_mover.specs.declared.turn.Counts.{Counts}
-use Rattle.mc_mover.specs.declared.turn.Turn.{Turn}
-use Rattle.mc_mover.specs.declared.turn.Turn.TheVariants.{Idle, Went, Finished}
+use Rattle.mc_mover.specs.declared.counts.Counts.{Counts}
+use Rattle.mc_mover.specs.declared.counts.Turn.{Turn}
+use Rattle.mc_mover.specs.declared.counts.Turn.TheVariants.{Idle, Went, Finished}
 use Rattle.mc_mover.specs.Visiting.{LacksCall, Visits}
 
 abbrev pub no_counts : Counts

@@ -1,10 +1,12 @@
 //! Copies of items: the words of a chunk on the moving page are written into another one.
-ghost use Rattle.std.specs.Prelude.{◌≡◌, ◌≤◌, true, Some};
+ghost use Rattle.std.specs.Prelude.{◌≡◌, ◌+◌, ◌<◌, ◌≤◌, ◌==◌, if◌then◌else◌, [], true, Some};
 ghost use Rattle.mc_pages.specs.SlabState.{class_of_page};
 ghost use Rattle.mc_core.specs.Looks.{was_linked};
+ghost use Rattle.mc_core.specs.declared.look.Look.TheVariants as look;
 ghost use Rattle.mc_core.specs.State.{has_chunk, room_in};
 ghost use Rattle.mc_words.specs.Arenas.{IsHandOf, setup_of, view};
 ghost use Rattle.mc_words.specs.Fresh.{IsFreshOf};
+ghost use Rattle.mc_words.specs.Views.{looked, word_filled};
 ghost use Rattle.mc_mover.specs.Copying.{Copies};
 
 use mc_pages::ChunkId;
@@ -38,4 +40,36 @@ pub(crate) fn copy_item(
     for place in 3..3 + words {
         copy_word(arena, hand, held, fresh, chunk, place);
     }
+}
+
+// Copies a word, and gives it.
+fn copy_word(
+    arena: &Arena,
+    hand: &mut Hand,
+    held: &SlabsHeld,
+    fresh: &mut Fresh,
+    chunk: ChunkId,
+    place: u64,
+) -> u64
+    requires arena { IsHandOf arena.now hand.old }
+    requires near { has_chunk (setup_of arena.now).table chunk ≡ true }
+    requires held { (view hand.old).slabs ≡ Some held.now.shared }
+    requires linked { was_linked (view hand.old).row.looks chunk ≡ true }
+    requires fresh { IsFreshOf (view hand.old) fresh.old.chunk fresh.old.room }
+    requires room { fresh.old.room ≡ room_in (setup_of arena.now).table (class_of_page held.now.shared chunk.page) }
+    requires inside { place < fresh.old.room }
+    ensures arena { IsHandOf arena.now hand.new }
+    ensures locks { hand.new.locks ≡ hand.old.locks }
+    ensures held { (view hand.new).slabs ≡ Some held.now.shared }
+    ensures linked { was_linked (view hand.new).row.looks chunk ≡ true }
+    ensures same { (fresh.new.chunk ≡ fresh.old.chunk) × (fresh.new.room ≡ fresh.old.room) }
+    ensures key { fresh.new.key ≡ (if place == 0 then result else fresh.old.key) }
+    ensures stamp { fresh.new.stamp ≡ (if place == 1 then result else fresh.old.stamp) }
+    ensures fits { place ≡ 2 → 3 + result ≤ fresh.old.room }
+    ensures copied { view hand.new ≡ word_filled fresh.old.chunk place result (looked (look.Read chunk place result) (view hand.old)) }
+    ensures fresh { IsFreshOf (view hand.new) fresh.new.chunk fresh.new.room }
+{
+    let word = arena.word_held(hand, held, chunk, place);
+    arena.fill(hand, fresh, place, word);
+    word
 }

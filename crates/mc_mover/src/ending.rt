@@ -3,7 +3,7 @@ ghost use Rattle.std.specs.Prelude.{◌≡◌, is_some, true, None, Some};
 ghost use Rattle.mc_words.specs.Arenas.{IsHandOf, view};
 ghost use Rattle.mc_mover.specs.Turning.{EndsTurn, Finishes, IsAtEnd};
 
-use crate::turn::{Counts, Turn};
+use crate::counts::{Counts, Turn};
 use mc_pages::Moving;
 use mc_words::{Arena, Hand, SlabsHeld};
 

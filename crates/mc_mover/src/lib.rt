@@ -6,16 +6,13 @@
 #![tactic(auto)]
 
 mod copying;
+mod counts;
 mod ending;
-mod reassigning;
+mod linked;
 mod saving;
 mod sections;
-mod surveying;
-mod turn;
 mod turning;
 mod visiting;
 
-pub use reassigning::{reassign, set_mode};
-pub use surveying::{Survey, survey};
-pub use turn::{Counts, TryTurn, Turn};
+pub use counts::{Counts, TryTurn, Turn};
 pub use turning::{try_turn, turn};

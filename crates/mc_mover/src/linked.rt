@@ -1,5 +1,5 @@
 //! Linked chunks of the moving page, whose items are saved under the lock of their key's stripe.
-ghost use Rattle.std.specs.Prelude.{◌≡◌, ◌≢◌, ◌×◌, ◌≤◌, ℕ, Bool, true, false, length, slice_index_or, None, Some, IfOk, OnErr};
+ghost use Rattle.std.specs.Prelude.{◌≡◌, ◌≢◌, ◌≤◌, ℕ, true, false, length, Some, IfOk, OnErr};
 ghost use Rattle.std.specs.Option.{option_map};
 ghost use Rattle.mc_pages.specs.Accounted.{is_cleared, is_cut};
 ghost use Rattle.mc_pages.specs.Moves.{is_held_up};
@@ -16,10 +16,9 @@ ghost use Rattle.mc_words.specs.Condemning.{stripe_read};
 ghost use Rattle.mc_words.specs.Idle.{has_no_stripes};
 ghost use Rattle.mc_words.specs.Lent.{IsLentStripe};
 ghost use Rattle.mc_words.specs.Out.{without_stripe};
-ghost use Rattle.mc_words.specs.Views.{stripe_given};
-ghost use Rattle.mc_mover.specs.Linked.{FailsToSave, SavesAs, VisitsLinked};
+ghost use Rattle.mc_mover.specs.Linked.{LacksCall, OnlyGives, SavesAs, VisitsLinked};
 
-use crate::saving::move_item;
+use crate::saving::{evict, rescue};
 use mc_classes::ClassId;
 use mc_pages::{ChunkId, Found};
 use mc_stripe::{Key, NoMemory};
@@ -115,7 +114,10 @@ fn save(
     ensures saves { IfOk result (λ found. SavesAs hand.old.number class chunk found stripe.number stripe.stripe (view hand.old) slabs.old.shared (view hand.new) slabs.new.shared) }
     ensures dead { IfOk result (λ found. is_held_up found ≡ false → option_map is_dead (seen_head (view hand.new).row.looks chunk) ≡ Some true) }
     ensures lacks { OnErr result (OnlyGives stripe.number stripe.stripe (view hand.old) slabs.old.shared (view hand.new) slabs.new.shared) }
-    ensures stays { StaysMoving class chunk slabs.old.shared slabs.new.shared }
+    ensures moving { slabs.new.shared.moving ≡ slabs.old.shared.moving }
+    ensures owners { slabs.new.shared.owners ≡ slabs.old.shared.owners }
+    ensures uncut { slabs.new.shared.uncut ≡ slabs.old.shared.uncut }
+    ensures per_page { (class_at slabs.new.shared class).per_page ≡ (class_at slabs.old.shared class).per_page }
     ensures holdings { (view hand.new).row.holdings ≡ (view hand.old).row.holdings }
     ensures ids { (view hand.new).row.ids ≡ (view hand.old).row.ids }
 {

@@ -6,7 +6,7 @@ ghost use Rattle.mc_words.specs.Arenas.{IsHandOf, setup_of, view};
 ghost use Rattle.mc_words.specs.Idle.{has_no_stripes};
 ghost use Rattle.mc_mover.specs.Turning.{LacksMemory, LooksFrom, Section};
 
-use crate::turn::Counts;
+use crate::counts::Counts;
 use crate::visiting::visit;
 use mc_pages::{ChunkId, Found, Moving};
 use mc_stripe::NoMemory;

@@ -9,7 +9,7 @@ ghost use Rattle.mc_mover.specs.Turning.{LacksMemory, Turns};
 
 use crate::ending::end_turn;
 use crate::sections::sections;
-use crate::turn::{TryTurn, Turn};
+use crate::counts::{TryTurn, Turn};
 use mc_stripe::NoMemory;
 use mc_words::{Arena, Hand, SlabsHeld};
 use std::sync::Wait;

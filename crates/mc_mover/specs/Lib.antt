@@ -1,0 +1,5 @@
+pub mod Copying
+pub mod Saving
+pub mod Linked
+pub mod Visiting
+pub mod Turning
