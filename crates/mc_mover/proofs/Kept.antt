@@ -1,12 +1,14 @@
 -- What a hand's looks leave of its view.
-use Rattle.std.proofs.Common.{◌≡◌, ◌⊎◌, ℕ, List, [], ◌∷◌, ap, ◌∙◌, inl, inr, refl}
+use Rattle.std.proofs.Common.{◌≡◌, ◌⊎◌, ℕ, List, [], ◌∷◌, ap, ◌∙◌, inl, inr}
 use Rattle.mc_pages.specs.declared.ids.ChunkId.{ChunkId}
+use Rattle.mc_pages.specs.SlabState.{SlabState}
 use Rattle.mc_core.specs.declared.head.Head.{Head}
 use Rattle.mc_core.specs.declared.look.Look.{Look}
 use Rattle.mc_words.specs.View.{View}
 use Rattle.mc_words.specs.Condemning.{FindsHeld, SeesHeld}
 use Rattle.mc_words.specs.Rescuing.{PassesAll, PassesOver}
-use Rattle.mc_words.specs.Views.{head_seen, looked}
+use Rattle.mc_words.specs.Sweeping.{Sweeps, SweepsOne}
+use Rattle.mc_words.specs.Views.{chunk_put_back, head_seen, looked}
 
 -- a part that neither looks nor headers change
 module _ {X : Type 0} (part : View → X) (look : (one : Look) (v : View) → part (looked one v) ≡ part v) (head : (chunk : ChunkId) (one : Head) (v : View) → part (head_seen chunk one v) ≡ part v) where
@@ -31,3 +33,14 @@ module _ {X : Type 0} (part : View → X) (look : (one : Look) (v : View) → pa
   pub passes_keep : (page : ℕ) (chunks : List ChunkId) (view now : View) → PassesAll page chunks view now → part now ≡ part view
   passes_keep page [] view now same = ap part same
   passes_keep page (chunk ∷ chunks) view now (next, over, rest) = passes_keep page chunks next now rest ∙ over_keep page chunk view next over
+
+  module _ (back : (slabs : SlabState) (chunk : ChunkId) (one : Head) (v : View) → part (chunk_put_back slabs chunk one v) ≡ part v) where
+    -- where a chunk is put back, or seen otherwise
+    pub swept_keep : (chunk : ChunkId) (view : View) (slabs : SlabState) (now : View) (left : SlabState) → SweepsOne chunk view slabs now left → part now ≡ part view
+    swept_keep chunk view slabs now left (inl (puts, is)) = ap part puts.is ∙ (back slabs chunk puts.head _ ∙ head chunk puts.head view)
+    swept_keep chunk view slabs now left (inr (sees, is)) = ap part sees.is ∙ head sees.chunk sees.head view
+
+    -- and where each of a class's is
+    pub sweeps_keep : (chunks : List ChunkId) (view : View) (slabs : SlabState) (now : View) (left : SlabState) → Sweeps chunks view slabs now left → part now ≡ part view
+    sweeps_keep [] view slabs now left (same, is) = ap part same
+    sweeps_keep (chunk ∷ chunks) view slabs now left (next, between, one, rest) = sweeps_keep chunks next between now left rest ∙ swept_keep chunk view slabs next between one
