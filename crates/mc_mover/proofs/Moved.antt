@@ -31,7 +31,8 @@ use Rattle.mc_words.specs.Items.{issue_in, word_read, words_in}
 use Rattle.mc_words.specs.Linking.{IsCopyFilled, copied_item, copy_linked}
 use Rattle.mc_words.specs.Originals.{CondemnsOriginal}
 use Rattle.mc_words.specs.Referring.{reference_to}
-use Rattle.mc_words.specs.Views.{chunk_dropped, copy_holding, head_seen}
+use Rattle.mc_words.specs.Sweeping.{SweepsOne}
+use Rattle.mc_words.specs.Views.{chunk_dropped, chunk_put_back, copy_holding, head_seen}
 use Rattle.mc_words.proofs.StripeChanges.{stripe_here, stripe_near}
 use Rattle.mc_mover.specs.Copying.{item_of, words_copied}
 use Rattle.mc_mover.proofs.Copied.{copied_keeps, one_longer, read_copied, word_copied}
@@ -224,3 +225,9 @@ module _ {X : Type 0} (part : View → X) (read : (chunk : ChunkId) (key : ℕ) 
 -- a hand's number stands in its view
 pub number_stays : (before now : Hand) → now.seat.me.0.row.ids ≡ before.seat.me.0.row.ids → now.number ≡ before.number
 number_stays before now ids = some_same (sym now.noted.0 ∙ (ap (λ (i : Ids). i.number) ids ∙ before.noted.0))
+
+-- what looks and a chunk that comes back leave stays
+module _ {X : Type 0} (part : View → X) (looked : (chunk : ChunkId) (head : Head) (v : View) → part (head_seen chunk head v) ≡ part v) (put : (slabs : SlabState) (chunk : ChunkId) (head : Head) (v : View) → part (chunk_put_back slabs chunk head v) ≡ part v) where
+  pub sweep_keeps : (chunk : ChunkId) (view : View) (slabs : SlabState) (now : View) (left : SlabState) → SweepsOne chunk view slabs now left → part now ≡ part view
+  sweep_keeps chunk view slabs now left (inl (back, is)) = ap part back.is ∙ (put slabs chunk back.head (head_seen chunk back.head view) ∙ looked chunk back.head view)
+  sweep_keeps chunk view slabs now left (inr (sees, is)) = ap part sees.is ∙ looked sees.chunk sees.head view
