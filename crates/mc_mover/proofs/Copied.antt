@@ -1,9 +1,9 @@
 -- Words that are copied from one chunk into another: what was read of the one, and that a linked chunk has room for three.
-use Rattle.std.proofs.Common.{◌≡◌, ℕ, ◌+◌, ◌/◌, ◌<◌, ◌≤◌, ◌==◌, ◌&&◌, Bool, true, false, List, [], ◌∷◌, ◌++◌, length, Option, Some, None, IfSome, refl, sym, ap, subst, ◌∙◌, arith, is_some, slice_index, le-leb, if◌then◌else◌, zero, suc}
+use Rattle.std.proofs.Common.{◌≡◌, ℕ, ◌+◌, ◌/◌, ◌<◌, ◌≤◌, ◌==◌, ◌&&◌, Bool, true, false, List, [], ◌∷◌, ◌++◌, length, Some, None, refl, sym, ap, subst, ◌∙◌, arith, is_some, slice_index, le-leb, if◌then◌else◌, zero, suc}
 use Rattle.std.specs.List.{fold}
 use Rattle.std.proofs.lemmas.Bool.{and_from}
 use Rattle.std.proofs.lemmas.List.Sums.{fold-append}
-use Rattle.mc_classes.specs.Classes.{Classes, size_of}
+use Rattle.mc_classes.specs.Classes.{size_of}
 use Rattle.mc_pages.specs.declared.ids.ChunkId.{ChunkId}
 use Rattle.mc_pages.specs.SlabState.{SlabState, class_of_page}
 use Rattle.mc_pages.proofs.Chunks.{is_chunk-same}
@@ -100,6 +100,7 @@ not_first place behind = nat_eq_other place 0 (λ e. let same : place ≡ 0 = e 
 pub not_second : (place : ℕ) → 3 ≤ place → (place == 1) ≡ false
 not_second place behind = nat_eq_other place 1 (λ e. let same : place ≡ 1 = e in omega arith)
 
+-- a list with one more word at its end
 pub one_longer : (words : List ℕ) (word : ℕ) → length (words ++ word ∷ []) ≡ length words + 1
 one_longer [] word = refl
 one_longer (first ∷ words) word = let rest : length (words ++ word ∷ []) ≡ length words + 1 = one_longer words word in omega arith

@@ -8,8 +8,7 @@ use Rattle.mc_pages.specs.ClassState.{is_chunk}
 use Rattle.mc_pages.specs.SlabState.{SlabState}
 use Rattle.mc_pages.proofs.Chunks.{is_chunk-same}
 use Rattle.mc_stripe.specs.Entries.{AreRising, entry_at}
-use Rattle.mc_stripe.specs.StripeState.{ReadyStripe, StripeState, new_stripe, place_of}
-use Rattle.mc_stripe.specs.Changes.{after_lift}
+use Rattle.mc_stripe.specs.StripeState.{ReadyStripe, new_stripe, place_of}
 use Rattle.mc_stripe.proofs.Entries.{at_without_entry, nat_eq_same}
 use Rattle.mc_core.specs.declared.head.Head.{Head}
 use Rattle.mc_core.specs.declared.holding.Holding.{Holding}
@@ -20,7 +19,7 @@ use Rattle.mc_core.specs.declared.event.Step.TheVariants as step
 use Rattle.mc_core.specs.Chunks.{filled, is_moving_page}
 use Rattle.mc_core.specs.Evictions.{as_rescue, has_copy, lacks_room, none_dead}
 use Rattle.mc_core.specs.Holdings.{Words, change_each, holding_of, is_complete, is_copy_of, is_of, item_in, key_in, lose, numbers, stamp_in, stamp_of, words_of}
-use Rattle.mc_core.specs.Items.{are_same, is_entry_aside}
+use Rattle.mc_core.specs.Items.{are_same}
 use Rattle.mc_core.specs.Judged.{sees_no_target}
 use Rattle.mc_words.specs.declared.hand.Hand.{Hand}
 use Rattle.mc_words.specs.View.{View}
@@ -38,6 +37,7 @@ use Rattle.mc_mover.specs.Copying.{item_of, words_copied}
 use Rattle.mc_mover.proofs.Copied.{copied_keeps, one_longer, read_copied, word_copied}
 use Rattle.mc_mover.proofs.Writes.{all_more, found_among, found_changed, holding_with, item_is, lose_changed, lose_last, none_of, none_yet, same_list, same_words, unchanged, whole_with, written_long, written_over}
 
+-- what is found is one
 some_same : {a b : ℕ} → Some a ≡ Some b → a ≡ b
 some_same e = cc
 
@@ -55,12 +55,14 @@ module _ (chunk copy : ChunkId) (key stamp : ℕ) (words : List ℕ) (view fille
   abbrev item : List ℕ
   item = item_of key stamp words
 
+  -- each word that was copied was read
   read_each : (i : ℕ) → i < length item → word_read filled chunk i ≡ Some (slice_index item i)
   read_each i within = ap (λ (v : View). word_read v chunk i) is ∙ read_copied chunk copy i i 0 item view within (omega arith)
 
   key_copied : key_read filled chunk ≡ Some key
   key_copied = read_each 0 (omega arith)
 
+  -- all but looks and the copy's holding stays
   pub setup_stays : filled.setup ≡ view.setup
   setup_stays = ap (λ (v : View). v.setup) is ∙ copied_keeps chunk copy (λ (v : View). v.setup) (λ place word v. refl) 0 item view
 
@@ -84,6 +86,7 @@ module _ (chunk copy : ChunkId) (key stamp : ℕ) (words : List ℕ) (view fille
   pub length_fits : (room : ℕ) → IfSome (word_read filled chunk 2) (λ count. 3 + count ≤ room) → 3 + length words ≤ room
   length_fits room fits = subst (λ (o : Option ℕ). IfSome o (λ count. 3 + count ≤ room)) (read_each 2 (omega arith)) fits
 
+  -- the copy's holding has the words
   holdings_are : filled.row.holdings ≡ change_each (is_of copy) (holding_with item) view.row.holdings
   holdings_are = ap (λ (v : View). v.row.holdings) is ∙ holdings_copied chunk copy [] item 0 view view (sym (none_yet copy view.row.holdings)) refl
 
@@ -104,6 +107,7 @@ module _ (chunk copy : ChunkId) (key stamp : ℕ) (words : List ℕ) (view fille
     abbrev copied : Holding
     copied = record { chunk = copy; issue = issue; kind = Fresh (Copy chunk) own }
 
+    -- so it is found
     found_filled : holding_of copy filled.row.holdings ≡ Some copied
     found_filled =
         ap (holding_of copy) holdings_are
@@ -119,6 +123,7 @@ module _ (chunk copy : ChunkId) (key stamp : ℕ) (words : List ℕ) (view fille
         λ k. moves k && copy_there k || is_moving_page slabs chunk.page && none_dead slabs filled.row.looks chunk && sees_no_target slabs filled.row.looks chunk.page || lacks_room table slabs filled.row.looks chunk
 
     module _ (fits : 3 + length words ≤ room) (stripe : ℕ) (value left : ReadyStripe) (now : View) (took : CondemnsOriginal filled stripe value chunk left now) where
+      -- the key that was read again is the one that was copied
       same_key : took.key ≡ key
       same_key = some_same (sym took.is_key ∙ key_copied)
 
@@ -133,6 +138,7 @@ module _ (chunk copy : ChunkId) (key stamp : ℕ) (words : List ℕ) (view fille
       same_stamp : took.stamp ≡ stamp
       same_stamp = sym took.stamp_is ∙ ap stamp_of same_item
 
+      -- the copy is to have the words of the item that was taken away
       holdings_now : now.row.holdings ≡ change_each (is_copy_of chunk) (as_rescue chunk took.item) filled.row.holdings
       holdings_now = ap (λ (v : View). v.row.holdings) took.is
 
@@ -151,9 +157,11 @@ module _ (chunk copy : ChunkId) (key stamp : ℕ) (words : List ℕ) (view fille
       issue_is : issue_in now copy ≡ issue
       issue_is = ap (λ (o : Option Holding). option_map_or (λ (h : Holding). h.issue) o 0) found_now
 
+      -- the copy is fresh still
       pub fresh_still : IsFreshIn now.row.holdings copy room
       fresh_still = record { holding = copied_item chunk copy issue took.item own; found = found_now; fresh = refl; room_is = long_own }
 
+      -- the key's entry is aside
       aside_is : left.state.aside ≡ Some (key, (chunk, stamp))
       aside_is =
           ap (λ (v : ReadyStripe). v.state.aside) took.left_is
@@ -199,6 +207,7 @@ module _ (chunk copy : ChunkId) (key stamp : ℕ) (words : List ℕ) (view fille
           ∙ (ap (change_each (is_copy_of chunk) (as_rescue chunk took.item)) (others_filled alone)
           ∙ unchanged (is_copy_of chunk) (as_rescue chunk took.item) (lose (is_of copy) view.row.holdings) only))
 
+      -- and it is so still once the copy is linked and let go
       pub dropped_holdings : (number : ℕ) (linked last : View) → linked ≡ copy_linked number stripe left key copy (issue_in now copy) (words_in now copy) room now → last ≡ chunk_dropped copy linked
           → holding_of copy (lose (is_of copy) view.row.holdings) ≡ None → has_copy (lose (is_of copy) view.row.holdings) chunk ≡ false → last.row.holdings ≡ lose (is_of copy) view.row.holdings
       dropped_holdings number linked last linked_is last_is alone only =
@@ -207,6 +216,7 @@ module _ (chunk copy : ChunkId) (key stamp : ℕ) (words : List ℕ) (view fille
           ∙ (ap (λ (hs : List Holding). lose (is_of copy) (hs ++ reference_to copy (issue_in now copy) (numbers (item_in (words_in now copy))) ∷ [])) (others_now alone only)
           ∙ lose_last copy (lose (is_of copy) view.row.holdings) (reference_to copy (issue_in now copy) (numbers (item_in (words_in now copy)))) alone (is_chunk-same copy)))
 
+      -- no stamp was given out
       pub ids_now : now.row.ids ≡ filled.row.ids
       ids_now = ap (λ (v : View). v.row.ids) took.is
 

@@ -1,5 +1,5 @@
 -- Holdings of a hand whose chunk is filled word by word: what is found of it, and what the others are.
-use Rattle.std.proofs.Common.{◌≡◌, ℕ, ◌+◌, ◌≤◌, ◌<◌, Bool, true, false, ◌||◌, List, [], ◌∷◌, ◌++◌, length, take, is_some, Option, Some, None, refl, ap, sym, ◌∙◌, cond, arith, slice_set, slice_index, le-leb, if◌then◌else◌, zero, suc, append-nil}
+use Rattle.std.proofs.Common.{◌≡◌, ℕ, ◌+◌, ◌≤◌, ◌<◌, Bool, true, false, ◌||◌, List, [], ◌∷◌, ◌++◌, length, take, is_some, Option, Some, None, refl, ap, sym, ◌∙◌, cond, arith, slice_set, slice_index, le-leb, if◌then◌else◌, suc}
 use Rattle.std.specs.List.{list_all, list_any}
 use Rattle.std.specs.Option.{option_map}
 use Rattle.std.proofs.lemmas.Bool.{and_from}
@@ -36,16 +36,19 @@ written_more [] (x ∷ words) word = refl
 written_more (a ∷ item) [] word = refl
 written_more (a ∷ item) (x ∷ words) word = ap (λ (w : Words). Some a ∷ w) (written_more item words word)
 
+-- as many words as before
 pub written_long : (item : List ℕ) (words : Words) → length (written_over item words) ≡ length words
 written_long [] words = refl
 written_long (a ∷ item) [] = refl
 written_long (a ∷ item) (x ∷ words) = let rest : length (written_over item words) ≡ length words = written_long item words in omega arith
 
+-- the first are those that were written
 written_first : (item : List ℕ) (words : Words) → length item ≤ length words → take (length item) (written_over item words) ≡ all_known item
 written_first [] words fits = refl
 written_first (a ∷ item) [] fits = absurd (omega arith)
 written_first (a ∷ item) (x ∷ words) fits = ap (λ (w : Words). Some a ∷ w) (written_first item words (omega arith))
 
+-- each of which is known
 all_are_known : (item : List ℕ) → list_all is_some (all_known item) ≡ true
 all_are_known [] = refl
 all_are_known (a ∷ item) = all_are_known item
@@ -87,6 +90,7 @@ same_list (x ∷ xs) (y ∷ ys) long each =
     let rest : xs ≡ ys = same_list xs ys (omega arith) (λ i within. each (suc i) (omega arith)) in
     λ k. each 0 (omega arith) k ∷ rest k
 
+-- so of what a holding is
 kind_more : (item : List ℕ) (word : ℕ) (kind : Kind) → filled_kind (length item) word (kind_with item kind) ≡ kind_with (item ++ word ∷ []) kind
 kind_more item word (Reference own) = refl
 kind_more item word (Fresh purpose words) = ap (λ (w : Words). Fresh purpose w) (written_more item words word)
