@@ -3,3 +3,6 @@ pub mod Leads
 pub mod Saves
 pub mod Saved
 pub mod HandNumbers
+pub mod Copied
+pub mod Writes
+pub mod Moved
