@@ -1,1 +1,4 @@
 pub mod Ends
+pub mod Rounds
+pub mod Refusals
+pub mod Hands
