@@ -6,3 +6,7 @@ pub mod HandNumbers
 pub mod Copied
 pub mod Writes
 pub mod Moved
+pub mod Ends
+pub mod Rounds
+pub mod Refusals
+pub mod Hands

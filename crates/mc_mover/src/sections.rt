@@ -1,5 +1,6 @@
 //! The sections of a turn: one for each chunk that it looks at.
-ghost use Rattle.std.specs.Prelude.{◌≡◌, ◌<◌, ◌≤◌, true, false, is_some, length, Some, IfOk, OnErr};
+ghost use Rattle.std.specs.Prelude.{◌≡◌, ◌<◌, ◌≤◌, true, false, is_some, length, None, Some, IfOk, OnErr};
+ghost use Rattle.mc_pages.specs.Moves.{moved_on};
 ghost use Rattle.mc_pages.specs.SlabState.{class_at};
 ghost use Rattle.mc_core.specs.Holdings.{has_fresh};
 ghost use Rattle.mc_words.specs.Arenas.{IsHandOf, setup_of, view};
@@ -23,6 +24,7 @@ fn section(
     requires held { (view hand.old).slabs ≡ Some held.old.shared }
     requires runs { held.old.shared.moving ≡ Some moving }
     requires within { moving.at < (class_at held.old.shared moving.src).per_page }
+    requires whole { held.old.shared.uncut ≡ None }
     requires one { has_no_stripes (view hand.old) ≡ true }
     requires fresh { has_fresh (view hand.old).row.holdings ≡ false }
     requires few { length (view hand.old).row.holdings ≤ 255 }
@@ -31,6 +33,7 @@ fn section(
     ensures held { (view hand.new).slabs ≡ Some held.new.shared }
     ensures section { IfOk result (λ found. Section hand.old.number found (view hand.old) held.old.shared (view hand.new) held.new.shared) }
     ensures lacks { OnErr result (LacksMemory hand.old.number (view hand.old) held.old.shared (view hand.new) held.new.shared) }
+    ensures moves { IfOk result (λ found. held.new.shared.moving ≡ Some (moved_on moving found)) }
     ensures uncut { held.new.shared.uncut ≡ held.old.shared.uncut }
     ensures holdings { (view hand.new).row.holdings ≡ (view hand.old).row.holdings }
     ensures ids { (view hand.new).row.ids ≡ (view hand.old).row.ids }
@@ -53,6 +56,7 @@ pub(crate) fn sections(
     requires arena { IsHandOf arena.now hand.old }
     requires held { (view hand.old).slabs ≡ Some held.old.shared }
     requires runs { is_some held.old.shared.moving ≡ true }
+    requires whole { held.old.shared.uncut ≡ None }
     requires one { has_no_stripes (view hand.old) ≡ true }
     requires fresh { has_fresh (view hand.old).row.holdings ≡ false }
     requires few { length (view hand.old).row.holdings ≤ 255 }
