@@ -1,0 +1,2 @@
+pub mod HoldsSlabs
+pub mod BegunMoves
