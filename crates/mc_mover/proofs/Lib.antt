@@ -1,2 +1,3 @@
 pub mod HoldsSlabs
 pub mod BegunMoves
+pub mod Surveys
