@@ -10,3 +10,6 @@ pub mod Ends
 pub mod Rounds
 pub mod Refusals
 pub mod Hands
+pub mod HoldsSlabs
+pub mod BegunMoves
+pub mod Surveys
