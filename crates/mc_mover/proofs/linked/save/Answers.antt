@@ -178,6 +178,29 @@ rescue-requires-clause-alone c =
     let none = none_before swept.row.holdings last none_fresh c.in-Some.fresh.room fresh in
     ap (λ (hs : List Holding). holding_of copy (lose (is_of copy) hs)) all ∙ (ap (holding_of copy) (lose_last copy swept.row.holdings last (is_chunk-same copy) none) ∙ none)
 
+pub rescue-requires-clause-only : goal.rescue-requires-clause-only
+rescue-requires-clause-only c =
+    let view : View = c.args.hand.now.seat.me.0 in
+    let made : View = c.reserve.new.hand.seat.me.0 in
+    let swept : View = c.sweep.new.hand.seat.me.0 in
+    let slabs = c.args.slabs.now.shared in
+    let kept = c.sweep.new.held.shared in
+    let chunk = c.args.chunk in
+    let (key, stamp, leads) = c.requires.leads in
+    let number = c.reserve.new.held.number in
+    let value = c.reserve.new.held.stripe in
+    let popped : View = c.pop_off.new.hand.seat.me.0 in
+    let copy = c.in-Some.fresh.chunk in
+    let pops = c.in-Some.ensures.popped.0 in
+    let held : swept.row.holdings ≡ view.row.holdings = ap (λ (v : View). v.row.holdings) c.sweep.ensures.view ∙ ap (λ (v : View). v.row.holdings) c.in_default.ensures.view in
+    let none_fresh : has_fresh swept.row.holdings ≡ false = ap has_fresh held ∙ c.requires.fresh in
+    let issue = pops.finds.fit.head.issue + 1 in
+    let last : Holding = copy_holding chunk copy issue (room_in pops.seen.setup.table (class_of_page kept chunk.page)) in
+    let all : popped.row.holdings ≡ swept.row.holdings ++ last ∷ [] = popped_holds swept popped kept chunk copy pops in
+    let fresh = subst (λ (hs : List Holding). IsFreshIn hs copy c.in-Some.fresh.room) all c.in-Some.ensures.fresh.1 in
+    let none = none_before swept.row.holdings last none_fresh c.in-Some.fresh.room fresh in
+    ap (λ (hs : List Holding). has_copy (lose (is_of copy) hs) chunk) all ∙ (ap (λ (hs : List Holding). has_copy hs chunk) (lose_last copy swept.row.holdings last (is_chunk-same copy) none) ∙ no_copies swept.row.holdings chunk none_fresh)
+
 pub evict-requires-clause-stripe : goal.evict-requires-clause-stripe
 evict-requires-clause-stripe c =
     let view : View = c.args.hand.now.seat.me.0 in
