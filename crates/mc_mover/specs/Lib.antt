@@ -1,2 +1,7 @@
+pub mod Copying
+pub mod Saving
+pub mod Linked
+pub mod Visiting
+pub mod Turning
 pub mod Reassigning
 pub mod Surveying

@@ -1,0 +1,45 @@
+use Rattle.std.proofs.Common.{◌≡◌, ◌+◌, true, ap, sym, subst, ◌∙◌, refl, ℕ}
+use Rattle.std.specs.Prelude.{[]}
+use Rattle.mc_pages.specs.Moves.{chunk_at_position}
+use Rattle.mc_core.specs.declared.event.Change.TheVariants as change
+use Rattle.mc_core.specs.State.{has_chunk}
+use Rattle.mc_words.specs.View.{Setup, View}
+use Rattle.mc_words.specs.Views.{slabs_changed}
+use Rattle.mc_mover.proofs.Hands.{number_stays}
+use Rattle.mc_mover.proofs.Refusals.{as_error, on_error}
+use Rattle.mc_mover.proofs.Rounds.{position_near}
+use Rattle.mc_mover.proofs.sections.section.Goals as goal
+
+pub visit-requires-clause-near : goal.visit-requires-clause-near
+visit-requires-clause-near c =
+    subst (λ (s : Setup). has_chunk s.table (chunk_at_position c.args.moving) ≡ true) c.requires.arena.setup
+    (position_near c.args.hand.now.seat.me.0 c.requires.arena.lawful c.args.held.now.shared c.requires.held c.args.moving c.requires.runs c.requires.within)
+
+pub returns-in_err-found-clause-lacks : goal.returns-in_err-found-clause-lacks
+returns-in_err-found-clause-lacks c =
+    as_error c.from_residual.result (record {
+      found = [];
+      looked = c.args.hand.now.seat.me.0;
+      kept = c.args.held.now.shared;
+      sections = (refl, refl);
+      move = c.args.moving;
+      runs = c.requires.runs;
+      within = c.requires.within;
+      lacks = on_error c.visit.result c.in_err-found.field-0.0 c.in_err-found.was c.visit.ensures.lacks;
+    })
+
+pub returns-clause-section : goal.returns-clause-section
+returns-clause-section c =
+    let seen : View = c.visit.new.hand.seat.me.0 in
+    let number = number_stays c.args.hand.now c.visit.new.hand c.visit.ensures.ids in
+    record {
+      move = c.args.moving;
+      runs = c.requires.runs;
+      within = c.requires.within;
+      visited = seen;
+      kept = c.visit.new.held.shared;
+      visits = c.in_ok-found.ensures.visits;
+      happens = c.passed.ensures.happens;
+      is = c.passed.ensures.view ∙ ap (λ (n : ℕ). slabs_changed c.visit.new.held.shared (change.Passed c.in_ok-found.found) (n + 1) seen) number;
+      left_is = c.passed.ensures.passed;
+    }

@@ -1,0 +1,104 @@
+-- A linked chunk of the moving page, which the mover has looked at: its item is saved under the lock of its key's stripe, or holds up the move.
+use Rattle.std.specs.Prelude.{◌≡◌, ◌≢◌, ◌⊎◌, ℕ, ◌%◌, Bool, true, false, [], Some}
+use Rattle.std.specs.Option.{option_map}
+use Rattle.mc_pages.specs.declared.ids.ChunkId.{ChunkId}
+use Rattle.mc_pages.specs.declared.moves.Found.{Found}
+use Rattle.mc_pages.specs.declared.moves.Found.TheVariants.{Rescued, Evicted, Busy, Locked}
+use Rattle.mc_pages.specs.Changes.{after_clear}
+use Rattle.mc_pages.specs.SlabState.{SlabState}
+use Rattle.mc_stripe.specs.StripeState.{ReadyStripe, place_of}
+use Rattle.mc_core.specs.declared.event.Step.TheVariants as step
+use Rattle.mc_words.specs.View.{View}
+use Rattle.mc_words.specs.Condemning.{key_seen}
+use Rattle.mc_words.specs.Doing.{IsDone, SlabsDoing}
+use Rattle.mc_words.specs.Happens.{Happens}
+use Rattle.mc_words.specs.Lent.{IsLentStripe}
+use Rattle.mc_words.specs.Owner.{Clears}
+use Rattle.mc_words.specs.Sweeping.{SweepsOne}
+use Rattle.mc_words.specs.Views.{stripe_given, stripe_missed, stripe_taken}
+use Rattle.mc_mover.specs.Saving.{BothDoing, Evicts, FailsToEvict, FailsToRescue, Rescues, Sweeping}
+
+-- what is done on a stripe under its lock, whose value was this, until the lock is given back
+abbrev pub StripeDoing : Type 1
+StripeDoing = ℕ → ReadyStripe → View → SlabState → View → SlabState → Type 0
+
+-- the chunk's key was read
+abbrev pub ReadsKey : ChunkId → ℕ → View → View → Type 0
+ReadsKey chunk key view now = Happens view [] (step.WordHeld chunk 0) now × (now ≡ key_seen chunk key view)
+
+-- so, and another hand has the lock of its key's stripe
+pub record FindsLocked (chunk : ChunkId) (view now : View) : Type 0 where
+  pub key : ℕ
+  pub read : View
+  pub reads : ReadsKey chunk key view read
+  pub word : ℕ
+  pub busy : word ≢ 0
+  pub is : now ≡ stripe_missed (key % view.setup.config.stripes) word read
+
+-- so, the lock of its key's stripe was taken at once, and then this was done
+pub record ReachesStripe (chunk : ChunkId) (Does : ℕ → StripeDoing) (view : View) (slabs : SlabState) (now : View) (left : SlabState) : Type 0 where
+  pub key : ℕ
+  pub value : ReadyStripe
+  pub read : View
+  pub reads : ReadsKey chunk key view read
+  pub taken : View
+  pub takes : Happens read [] (step.TakeStripe (key % view.setup.config.stripes)) taken
+  pub is_taken : taken ≡ stripe_taken (key % view.setup.config.stripes) value read
+  pub lent : IsLentStripe taken (key % view.setup.config.stripes) value
+  pub does : Does key (key % view.setup.config.stripes) value taken slabs now left
+
+-- the lock was given back, and nothing was changed
+abbrev pub OnlyGives : StripeDoing
+OnlyGives stripe value taken slabs now left = (now ≡ stripe_given stripe value taken) × (left ≡ slabs)
+
+-- so, since the key leads to another chunk by now, or nowhere
+abbrev pub FindsGone : ChunkId → ℕ → StripeDoing
+FindsGone chunk key stripe value taken slabs now left = (option_map (λ place. place.0) (place_of value.state key) ≢ Some chunk) × OnlyGives stripe value taken slabs now left
+
+-- room was made for a call on the key, the dead of the class were put back, and then this was done
+abbrev pub SavesWith : ℕ → ℕ → (ℕ → BothDoing) → StripeDoing
+SavesWith number class Does stripe value taken slabs now left =
+    IsDone number stripe value (λ ready view last after. Sweeping class (Does stripe) slabs ready view left last after) taken now
+
+-- a copy was given up: then its chunk was put back, or seen in use
+pub record GivesCopyUp (number class : ℕ) (chunk : ChunkId) (stripe : ℕ) (value : ReadyStripe) (taken : View) (slabs : SlabState) (now : View) (left : SlabState) : Type 0 where
+  pub copy : ChunkId
+  pub failed : View
+  pub kept : SlabState
+  pub fails : SavesWith number class (λ stripe. FailsToRescue chunk copy) stripe value taken slabs failed kept
+  pub puts : SweepsOne copy failed kept now left
+
+-- what became of the item, by what was found
+abbrev pub SavesAs : ℕ → ℕ → ChunkId → Found → StripeDoing
+SavesAs number class chunk Rescued stripe value taken slabs now left = SavesWith number class (λ stripe. Rescues number stripe chunk) stripe value taken slabs now left
+SavesAs number class chunk Evicted stripe value taken slabs now left = SavesWith number class (λ stripe. Evicts number stripe chunk) stripe value taken slabs now left
+SavesAs number class chunk Busy stripe value taken slabs now left =
+    SavesWith number class (λ stripe. FailsToEvict chunk) stripe value taken slabs now left ⊎ GivesCopyUp number class chunk stripe value taken slabs now left
+SavesAs number class chunk found stripe value taken slabs now left = ⊥
+
+-- so, and then the chunk, which is dead, was cleared
+pub record SavesAndClears (number class : ℕ) (chunk : ChunkId) (found : Found) (view : View) (slabs : SlabState) (now : View) (left : SlabState) : Type 0 where
+  pub saved : View
+  pub kept : SlabState
+  pub reaches : ReachesStripe chunk (λ key. SavesAs number class chunk found) view slabs saved kept
+  pub clears : Clears saved kept chunk now
+  pub left_is : left ≡ after_clear kept chunk
+
+-- why a linked chunk holds up the move, which was seen unheld or held: it was held; its key leads elsewhere by now; or it was held or
+-- unlinked before its item could be taken away
+abbrev pub HoldsUp : ℕ → ℕ → ChunkId → Bool → SlabsDoing
+HoldsUp number class chunk false view slabs now left = ReachesStripe chunk (λ key. OnlyGives) view slabs now left
+HoldsUp number class chunk true view slabs now left =
+    ReachesStripe chunk (FindsGone chunk) view slabs now left ⊎ ReachesStripe chunk (λ key. SavesAs number class chunk Busy) view slabs now left
+
+-- what was done, by what was found; the chunk was seen unheld or held
+abbrev pub VisitsLinked : ℕ → ℕ → ChunkId → Bool → Found → SlabsDoing
+VisitsLinked number class chunk unheld Rescued view slabs now left = (unheld ≡ true) × SavesAndClears number class chunk Rescued view slabs now left
+VisitsLinked number class chunk unheld Evicted view slabs now left = (unheld ≡ true) × SavesAndClears number class chunk Evicted view slabs now left
+VisitsLinked number class chunk unheld Busy view slabs now left = HoldsUp number class chunk unheld view slabs now left
+VisitsLinked number class chunk unheld Locked view slabs now left = FindsLocked chunk view now × (left ≡ slabs)
+VisitsLinked number class chunk unheld found view slabs now left = ⊥
+
+-- there was no memory for a call on the key, and nothing was changed
+abbrev pub LacksCall : ChunkId → SlabsDoing
+LacksCall chunk view slabs now left = ReachesStripe chunk (λ key. OnlyGives) view slabs now left

@@ -1,0 +1,99 @@
+-- Items of the moving page that are taken to another chunk, or evicted where there is none: what is done under the locks of the slabs and
+-- of the key's stripe.
+use Rattle.std.specs.Prelude.{◌≡◌, ℕ}
+use Rattle.mc_pages.specs.declared.ids.ChunkId.{ChunkId}
+use Rattle.mc_pages.specs.declared.moves.Found.{Found}
+use Rattle.mc_pages.specs.declared.moves.Found.TheVariants.{Busy, Evicted, Rescued}
+use Rattle.mc_pages.specs.Changes.{after_replace}
+use Rattle.mc_pages.specs.SlabState.{SlabState, class_at, class_of_page}
+use Rattle.mc_stripe.specs.StripeState.{ReadyStripe}
+use Rattle.mc_stripe.specs.Changes.{after_rescue, used_up}
+use Rattle.mc_core.specs.State.{room_in}
+use Rattle.mc_words.specs.View.{View}
+use Rattle.mc_words.specs.Condemning.{Condemns, FindsHeld}
+use Rattle.mc_words.specs.Doing.{SlabsDoing}
+use Rattle.mc_words.specs.Items.{issue_in, words_in}
+use Rattle.mc_words.specs.Linking.{copy_linked}
+use Rattle.mc_words.specs.Originals.{CondemnsOriginal}
+use Rattle.mc_words.specs.Rescuing.{PassesAll, PopsOff}
+use Rattle.mc_words.specs.Sweeping.{Sweeps, SweepsOne}
+use Rattle.mc_words.specs.Views.{chunk_dropped, stripe_given}
+use Rattle.mc_mover.specs.Copying.{Copies}
+
+-- what is done under both locks, from pages and lists, the stripe and the hand's view to those that it leaves
+abbrev pub BothDoing : Type 1
+BothDoing = SlabState → ReadyStripe → View → SlabState → ReadyStripe → View → Type 0
+
+-- the dead of the class were put back, and then this was done
+pub record Sweeping (class : ℕ) (Does : BothDoing) (slabs : SlabState) (value : ReadyStripe) (view : View) (kept : SlabState) (left : ReadyStripe) (now : View) : Type 0 where
+  pub swept : View
+  pub between : SlabState
+  pub sweeps : Sweeps (class_at slabs class).order view slabs swept between
+  pub does : Does between value swept kept left now
+
+-- no free chunk could be had for a copy, and the item was evicted
+pub record Evicts (number stripe : ℕ) (chunk : ChunkId) (slabs : SlabState) (value : ReadyStripe) (view : View) (kept : SlabState) (left : ReadyStripe) (now : View) : Type 0 where
+  pub passed : View
+  pub passes : PassesAll chunk.page (class_at slabs (class_of_page slabs chunk.page)).free view passed
+  pub condemns : Condemns passed number stripe value chunk left now
+  pub same : kept ≡ slabs
+
+-- so, but the item was found unlinked or held
+pub record FailsToEvict (chunk : ChunkId) (slabs : SlabState) (value : ReadyStripe) (view : View) (kept : SlabState) (left : ReadyStripe) (now : View) : Type 0 where
+  pub passed : View
+  pub passes : PassesAll chunk.page (class_at slabs (class_of_page slabs chunk.page)).free view passed
+  pub finds : FindsHeld passed chunk now
+  pub same : (kept ≡ slabs) × (left ≡ value)
+
+-- the item was copied, taken away, and linked again in its copy, which was let go
+pub record MovesItem (number stripe : ℕ) (chunk copy : ChunkId) (room : ℕ) (value : ReadyStripe) (view : View) (left : ReadyStripe) (now : View) : Type 0 where
+  pub key : ℕ
+  pub stamp : ℕ
+  pub filled : View
+  pub copies : Copies chunk copy key stamp view filled
+  pub condemned : View
+  pub lifted : ReadyStripe
+  pub condemns : CondemnsOriginal filled stripe value chunk lifted condemned
+  pub is : now ≡ chunk_dropped copy (copy_linked number stripe lifted key copy (issue_in condemned copy) (words_in condemned copy) room condemned)
+  pub left_is : left ≡ used_up (after_rescue lifted.state number key copy)
+
+-- the item was copied, but then found unlinked or held, and the copy was given up
+pub record FailsToMove (chunk copy : ChunkId) (view now : View) : Type 0 where
+  pub key : ℕ
+  pub stamp : ℕ
+  pub filled : View
+  pub copies : Copies chunk copy key stamp view filled
+  pub found : View
+  pub finds : FindsHeld filled chunk found
+  pub dropped : now ≡ chunk_dropped copy found
+
+-- a free chunk was handed out for a copy, in the chunk's place; it has so much room
+pub record Rescues (number stripe : ℕ) (chunk : ChunkId) (slabs : SlabState) (value : ReadyStripe) (view : View) (kept : SlabState) (left : ReadyStripe) (now : View) : Type 0 where
+  pub copy : ChunkId
+  pub popped : View
+  pub pops : PopsOff view slabs chunk copy popped
+  pub moves : MovesItem number stripe chunk copy (room_in view.setup.table (class_of_page slabs chunk.page)) value popped left now
+  pub kept_is : kept ≡ after_replace slabs copy chunk
+
+-- so, but the item couldn't be moved
+pub record FailsToRescue (chunk copy : ChunkId) (slabs : SlabState) (value : ReadyStripe) (view : View) (kept : SlabState) (left : ReadyStripe) (now : View) : Type 0 where
+  pub popped : View
+  pub pops : PopsOff view slabs chunk copy popped
+  pub fails : FailsToMove chunk copy popped now
+  pub kept_is : kept ≡ after_replace slabs copy chunk
+  pub same : left ≡ value
+
+-- the item was evicted, or found unlinked or held, by what was found; and the stripe's lock was given back
+abbrev pub GivesEvicted : ℕ → ℕ → ReadyStripe → ChunkId → Found → View → View → Type 0
+GivesEvicted number stripe value chunk Evicted view now =
+    (left : ReadyStripe) × (last : View) × Condemns view number stripe value chunk left last × (now ≡ stripe_given stripe left last)
+GivesEvicted number stripe value chunk Busy view now = (last : View) × FindsHeld view chunk last × (now ≡ stripe_given stripe value last)
+GivesEvicted number stripe value chunk found view now = ⊥
+
+-- the item was moved to its copy; or the copy was given up, and then put back, or seen in use
+abbrev pub GivesRescued : ℕ → ℕ → ReadyStripe → ChunkId → ChunkId → ℕ → Found → SlabsDoing
+GivesRescued number stripe value chunk copy room Rescued view slabs now left =
+    (after : ReadyStripe) × (last : View) × MovesItem number stripe chunk copy room value view after last × (now ≡ stripe_given stripe after last) × (left ≡ slabs)
+GivesRescued number stripe value chunk copy room Busy view slabs now left =
+    (last : View) × FailsToMove chunk copy view last × SweepsOne copy (stripe_given stripe value last) slabs now left
+GivesRescued number stripe value chunk copy room found view slabs now left = ⊥

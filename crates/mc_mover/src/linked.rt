@@ -1,0 +1,134 @@
+//! Linked chunks of the moving page, whose items are saved under the lock of their key's stripe.
+ghost use Rattle.std.specs.Prelude.{◌≡◌, ◌≢◌, ◌<◌, ◌≤◌, ℕ, true, false, length, Some, IfOk, OnErr};
+ghost use Rattle.std.specs.Option.{option_map};
+ghost use Rattle.mc_pages.specs.Accounted.{is_cleared, is_cut};
+ghost use Rattle.mc_pages.specs.Moves.{is_held_up};
+ghost use Rattle.mc_pages.specs.SlabState.{class_at, class_of_page};
+ghost use Rattle.mc_stripe.specs.StripeState.{place_of};
+ghost use Rattle.mc_core.specs.Chunks.{is_moving_page};
+ghost use Rattle.mc_core.specs.Head.{is_dead};
+ghost use Rattle.mc_core.specs.Holdings.{has_fresh};
+ghost use Rattle.mc_core.specs.Looks.{was_linked};
+ghost use Rattle.mc_core.specs.Seen.{seen_head};
+ghost use Rattle.mc_core.specs.State.{has_chunk, is_class};
+ghost use Rattle.mc_words.specs.Arenas.{IsHandOf, setup_of, view};
+ghost use Rattle.mc_words.specs.Condemning.{stripe_read};
+ghost use Rattle.mc_words.specs.Idle.{has_no_stripes};
+ghost use Rattle.mc_words.specs.Lent.{IsLentStripe};
+ghost use Rattle.mc_words.specs.Out.{without_stripe};
+ghost use Rattle.mc_mover.specs.Linked.{LacksCall, OnlyGives, SavesAs, VisitsLinked};
+
+use crate::saving::{evict, rescue};
+use mc_classes::ClassId;
+use mc_pages::{ChunkId, Found};
+use mc_stripe::{Key, NoMemory};
+use mc_words::{Arena, Hand, SlabsHeld, StripeHeld};
+
+// What becomes of a linked chunk of the moving page, which the hand has just looked at and found held or not. The lock of its key's
+// stripe is tried first. An item that nobody holds is saved, and the chunk cleared. At want of memory nothing is changed. (slabs.c's
+// `slab_rebalance_move`, from `item_trylock` on)
+pub(crate) fn visit_linked(
+    arena: &Arena,
+    hand: &mut Hand,
+    held: &mut SlabsHeld,
+    class: ClassId,
+    chunk: ChunkId,
+    unheld: bool,
+) -> Result<Found, NoMemory>
+    requires arena { IsHandOf arena.now hand.old }
+    requires near { has_chunk (setup_of arena.now).table chunk ≡ true }
+    requires class { is_class (setup_of arena.now).table class ≡ true }
+    requires held { (view hand.old).slabs ≡ Some held.old.shared }
+    requires own { class_of_page held.old.shared chunk.page ≡ class }
+    requires moving { is_moving_page held.old.shared chunk.page ≡ true }
+    requires cut { is_cut held.old.shared class chunk ≡ true }
+    requires linked { was_linked (view hand.old).row.looks chunk ≡ true }
+    requires one { has_no_stripes (view hand.old) ≡ true }
+    requires fresh { has_fresh (view hand.old).row.holdings ≡ false }
+    requires few { length (view hand.old).row.holdings ≤ 255 }
+    ensures arena { IsHandOf arena.now hand.new }
+    ensures locks { hand.new.locks ≡ hand.old.locks }
+    ensures held { (view hand.new).slabs ≡ Some held.new.shared }
+    ensures visits { IfOk result (λ found. VisitsLinked hand.old.number class chunk unheld found (view hand.old) held.old.shared (view hand.new) held.new.shared) }
+    ensures clears { IfOk result (λ found. is_held_up found ≡ false → is_cleared held.new.shared class chunk ≡ true) }
+    ensures lacks { OnErr result (LacksCall chunk (view hand.old) held.old.shared (view hand.new) held.new.shared) }
+    ensures moving { held.new.shared.moving ≡ held.old.shared.moving }
+    ensures uncut { held.new.shared.uncut ≡ held.old.shared.uncut }
+    ensures per_page { (class_at held.new.shared class).per_page ≡ (class_at held.old.shared class).per_page }
+    ensures holdings { (view hand.new).row.holdings ≡ (view hand.old).row.holdings }
+    ensures ids { (view hand.new).row.ids ≡ (view hand.old).row.ids }
+{
+    let key = arena.word_held(hand, held, chunk, 0);
+    let Ok(stripe) = arena.try_stripe(hand, key % arena.config().stripes) else {
+        return Ok(Found::Locked);
+    };
+    if !unheld || !leads_to(&stripe, key, chunk) {
+        arena.give_stripe(hand, stripe);
+        return Ok(Found::Busy);
+    }
+    let found = save(arena, hand, held, stripe, class, chunk)?;
+    if found != Found::Busy {
+        let _ = arena.clear(hand, held, chunk);
+    }
+    Ok(found)
+}
+
+// Whether the key leads to the chunk.
+fn leads_to(held: &StripeHeld, key: Key, chunk: ChunkId) -> bool
+    ensures leads { result ≡ true → (stamp : ℕ) × (place_of held.now.stripe.state key ≡ Some (chunk, stamp)) }
+    ensures other { result ≡ false → option_map (λ place. place.0) (place_of held.now.stripe.state key) ≢ Some chunk }
+{
+    match held.stripe().find(key) {
+        Some((found, _)) => found == chunk,
+        None => false,
+    }
+}
+
+// Saves the item of a chunk under the lock of its key's stripe, and gives that back: the dead of the class are put back, and the item
+// goes to a free chunk off the page, or is evicted where there is none. It holds up the move where it is held by then. At want of memory
+// nothing is changed.
+fn save(
+    arena: &Arena,
+    hand: &mut Hand,
+    slabs: &mut SlabsHeld,
+    stripe: StripeHeld,
+    class: ClassId,
+    chunk: ChunkId,
+) -> Result<Found, NoMemory>
+    requires arena { IsHandOf arena.now hand.old }
+    requires near { has_chunk (setup_of arena.now).table chunk ≡ true }
+    requires class { is_class (setup_of arena.now).table class ≡ true }
+    requires slabs { (view hand.old).slabs ≡ Some slabs.old.shared }
+    requires lent { IsLentStripe (view hand.old) stripe.number stripe.stripe }
+    requires inside { stripe.number < (setup_of arena.now).config.stripes }
+    requires key { stripe_read (view hand.old) chunk ≡ Some stripe.number }
+    requires leads { (key : ℕ) × (stamp : ℕ) × (place_of stripe.stripe.state key ≡ Some (chunk, stamp)) }
+    requires own { class_of_page slabs.old.shared chunk.page ≡ class }
+    requires moving { is_moving_page slabs.old.shared chunk.page ≡ true }
+    requires linked { was_linked (view hand.old).row.looks chunk ≡ true }
+    requires fresh { has_fresh (view hand.old).row.holdings ≡ false }
+    requires few { length (view hand.old).row.holdings ≤ 255 }
+    ensures arena { IsHandOf arena.now hand.new }
+    ensures locks { hand.new.locks ≡ without_stripe hand.old.locks }
+    ensures slabs { (view hand.new).slabs ≡ Some slabs.new.shared }
+    ensures saves { IfOk result (λ found. SavesAs hand.old.number class chunk found stripe.number stripe.stripe (view hand.old) slabs.old.shared (view hand.new) slabs.new.shared) }
+    ensures dead { IfOk result (λ found. is_held_up found ≡ false → option_map is_dead (seen_head (view hand.new).row.looks chunk) ≡ Some true) }
+    ensures lacks { OnErr result (OnlyGives stripe.number stripe.stripe (view hand.old) slabs.old.shared (view hand.new) slabs.new.shared) }
+    ensures moving { slabs.new.shared.moving ≡ slabs.old.shared.moving }
+    ensures owners { slabs.new.shared.owners ≡ slabs.old.shared.owners }
+    ensures uncut { slabs.new.shared.uncut ≡ slabs.old.shared.uncut }
+    ensures per_page { (class_at slabs.new.shared class).per_page ≡ (class_at slabs.old.shared class).per_page }
+    ensures holdings { (view hand.new).row.holdings ≡ (view hand.old).row.holdings }
+    ensures ids { (view hand.new).row.ids ≡ (view hand.old).row.ids }
+{
+    let mut stripe = stripe;
+    if let Err(error) = arena.reserve(hand, &mut stripe) {
+        arena.give_stripe(hand, stripe);
+        return Err(error);
+    }
+    arena.sweep(hand, slabs, class);
+    match arena.pop_off(hand, slabs, chunk) {
+        Some(fresh) => Ok(rescue(arena, hand, slabs, stripe, fresh, chunk)),
+        None => Ok(evict(arena, hand, slabs, stripe, chunk)),
+    }
+}

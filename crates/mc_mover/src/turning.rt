@@ -1,0 +1,86 @@
+//! Turns of the mover.
+ghost use Rattle.std.specs.Prelude.{◌≡◌, ◌≢◌, ℕ, ◌≤◌, true, false, length, None, Some, Err, IfOk, OnErr};
+ghost use Rattle.mc_core.specs.Holdings.{has_fresh};
+ghost use Rattle.mc_words.specs.Arenas.{IsHandOf, view};
+ghost use Rattle.mc_words.specs.Doing.{HoldsSlabs};
+ghost use Rattle.mc_words.specs.Idle.{has_no_stripes, is_unlocked};
+ghost use Rattle.mc_words.specs.Views.{slabs_missed};
+ghost use Rattle.mc_mover.specs.Turning.{LacksMemory, Turns};
+
+use crate::ending::end_turn;
+use crate::sections::sections;
+use crate::counts::{TryTurn, Turn};
+use mc_stripe::NoMemory;
+use mc_words::{Arena, Hand, SlabsHeld};
+use std::sync::Wait;
+
+/// One turn of the mover: looks at up to `bulk` chunks of the page that moves, from where the last turn left off, and clears those that
+/// nobody holds. An item goes to a free chunk of its class off the page, or is evicted where there is none. At the page's end the pass
+/// begins anew if some chunks held it up, and else the page comes to its destination. It waits for the lock of the slabs, and for no
+/// other. (slabs.c's `slab_rebalance_move` and `slab_rebalance_finish`; that a rescue keeps an item's age is own)
+///
+/// `NoMemory` where the room for a call on a key was refused: the chunk at hand is as before, and the move's position is there; what was
+/// done for chunks before it stands.
+pub fn turn<R: Wait>(rt: &R, arena: &Arena, hand: &mut Hand) -> Result<Turn, NoMemory>
+    requires arena { IsHandOf arena.now hand.old }
+    requires unlocked { is_unlocked (view hand.old) ≡ true }
+    requires fresh { has_fresh (view hand.old).row.holdings ≡ false }
+    requires few { length (view hand.old).row.holdings ≤ 255 }
+    ensures arena { IsHandOf arena.now hand.new }
+    ensures locks { hand.new.locks ≡ hand.old.locks }
+    ensures turns { IfOk result (λ turn. HoldsSlabs (Turns hand.old.number turn) (view hand.old) (view hand.new)) }
+    ensures lacks { OnErr result (HoldsSlabs (LacksMemory hand.old.number) (view hand.old) (view hand.new)) }
+    ensures holdings { (view hand.new).row.holdings ≡ (view hand.old).row.holdings }
+{
+    let mut held = arena.lock_slabs(rt, hand);
+    let answer = turn_held(arena, hand, &mut held);
+    arena.give_slabs(hand, held);
+    answer
+}
+
+/// The same, but it waits for nobody: `Held` where another hand has the lock of the slabs.
+pub fn try_turn(arena: &Arena, hand: &mut Hand) -> Result<Turn, TryTurn>
+    requires arena { IsHandOf arena.now hand.old }
+    requires unlocked { is_unlocked (view hand.old) ≡ true }
+    requires fresh { has_fresh (view hand.old).row.holdings ≡ false }
+    requires few { length (view hand.old).row.holdings ≤ 255 }
+    ensures arena { IsHandOf arena.now hand.new }
+    ensures locks { hand.new.locks ≡ hand.old.locks }
+    ensures turns { IfOk result (λ turn. HoldsSlabs (Turns hand.old.number turn) (view hand.old) (view hand.new)) }
+    ensures held { result ≡ Err TryTurn.Held → (word : ℕ) × (word ≢ 0) × (view hand.new ≡ slabs_missed word (view hand.old)) }
+    ensures lacks { result ≡ Err TryTurn.NoMemory → HoldsSlabs (LacksMemory hand.old.number) (view hand.old) (view hand.new) }
+    ensures holdings { (view hand.new).row.holdings ≡ (view hand.old).row.holdings }
+{
+    let Ok(mut held) = arena.try_slabs(hand) else {
+        return Err(TryTurn::Held);
+    };
+    let answer = turn_held(arena, hand, &mut held);
+    arena.give_slabs(hand, held);
+    match answer {
+        Ok(turn) => Ok(turn),
+        Err(_) => Err(TryTurn::NoMemory),
+    }
+}
+
+// A turn, under one hold of the lock of the slabs.
+fn turn_held(arena: &Arena, hand: &mut Hand, held: &mut SlabsHeld) -> Result<Turn, NoMemory>
+    requires arena { IsHandOf arena.now hand.old }
+    requires held { (view hand.old).slabs ≡ Some held.old.shared }
+    requires whole { held.old.shared.uncut ≡ None }
+    requires one { has_no_stripes (view hand.old) ≡ true }
+    requires fresh { has_fresh (view hand.old).row.holdings ≡ false }
+    requires few { length (view hand.old).row.holdings ≤ 255 }
+    ensures arena { IsHandOf arena.now hand.new }
+    ensures locks { hand.new.locks ≡ hand.old.locks }
+    ensures held { (view hand.new).slabs ≡ Some held.new.shared }
+    ensures whole { held.new.shared.uncut ≡ None }
+    ensures turns { IfOk result (λ turn. Turns hand.old.number turn (view hand.old) held.old.shared (view hand.new) held.new.shared) }
+    ensures lacks { OnErr result (LacksMemory hand.old.number (view hand.old) held.old.shared (view hand.new) held.new.shared) }
+    ensures holdings { (view hand.new).row.holdings ≡ (view hand.old).row.holdings }
+{
+    if held.moving().is_none() {
+        return Ok(Turn::Idle);
+    }
+    let counts = sections(arena, hand, held)?;
+    Ok(end_turn(arena, hand, held, counts))
+}

@@ -1,0 +1,63 @@
+//! One chunk of the moving page: what the mover sees there, and what it does.
+ghost use Rattle.std.specs.Prelude.{◌≡◌, ◌≤◌, true, false, length, Some, IfOk, OnErr};
+ghost use Rattle.mc_pages.specs.Accounted.{is_cleared, is_cut};
+ghost use Rattle.mc_pages.specs.Moves.{is_held_up};
+ghost use Rattle.mc_pages.specs.SlabState.{class_at, class_of_page};
+ghost use Rattle.mc_core.specs.Chunks.{is_moving_page};
+ghost use Rattle.mc_core.specs.Holdings.{has_fresh};
+ghost use Rattle.mc_core.specs.State.{has_chunk, is_class};
+ghost use Rattle.mc_words.specs.Arenas.{IsHandOf, setup_of, view};
+ghost use Rattle.mc_words.specs.Idle.{has_no_stripes};
+ghost use Rattle.mc_mover.specs.Visiting.{LacksCall, Visits};
+
+use crate::linked::visit_linked;
+use mc_classes::ClassId;
+use mc_pages::{ChunkId, Found};
+use mc_stripe::NoMemory;
+use mc_words::header;
+use mc_words::{Arena, Hand, SlabsHeld};
+
+// Looks at a chunk of the moving page, and clears it where it can: a free or dead one at once, and a linked one that nobody holds once its
+// item was taken to another chunk of the class, or else evicted. At want of memory the chunk is as before. (slabs.c's
+// `slab_rebalance_move`, for one chunk)
+pub(crate) fn visit(
+    arena: &Arena,
+    hand: &mut Hand,
+    held: &mut SlabsHeld,
+    class: ClassId,
+    chunk: ChunkId,
+) -> Result<Found, NoMemory>
+    requires arena { IsHandOf arena.now hand.old }
+    requires near { has_chunk (setup_of arena.now).table chunk ≡ true }
+    requires class { is_class (setup_of arena.now).table class ≡ true }
+    requires held { (view hand.old).slabs ≡ Some held.old.shared }
+    requires own { class_of_page held.old.shared chunk.page ≡ class }
+    requires moving { is_moving_page held.old.shared chunk.page ≡ true }
+    requires cut { is_cut held.old.shared class chunk ≡ true }
+    requires one { has_no_stripes (view hand.old) ≡ true }
+    requires fresh { has_fresh (view hand.old).row.holdings ≡ false }
+    requires few { length (view hand.old).row.holdings ≤ 255 }
+    ensures arena { IsHandOf arena.now hand.new }
+    ensures locks { hand.new.locks ≡ hand.old.locks }
+    ensures held { (view hand.new).slabs ≡ Some held.new.shared }
+    ensures visits { IfOk result (λ found. Visits hand.old.number class chunk found (view hand.old) held.old.shared (view hand.new) held.new.shared) }
+    ensures clears { IfOk result (λ found. is_held_up found ≡ false → is_cleared held.new.shared class chunk ≡ true) }
+    ensures lacks { OnErr result (LacksCall chunk (view hand.old) held.old.shared (view hand.new) held.new.shared) }
+    ensures moving { held.new.shared.moving ≡ held.old.shared.moving }
+    ensures uncut { held.new.shared.uncut ≡ held.old.shared.uncut }
+    ensures per_page { (class_at held.new.shared class).per_page ≡ (class_at held.old.shared class).per_page }
+    ensures holdings { (view hand.new).row.holdings ≡ (view hand.old).row.holdings }
+    ensures ids { (view hand.new).row.ids ≡ (view hand.old).row.ids }
+{
+    let head = arena.head(hand, chunk);
+    if header::is_linked(head) {
+        return visit_linked(arena, hand, held, class, chunk, header::is_unheld(head));
+    }
+    if header::is_out(head) {
+        return Ok(Found::Already);
+    }
+    match arena.clear(hand, held, chunk) {
+        Ok(()) => Ok(Found::Cleared),
+        Err(_) => Ok(Found::Busy),
+    }
+}
