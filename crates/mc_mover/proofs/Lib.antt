@@ -2,3 +2,4 @@ pub mod Ends
 pub mod Rounds
 pub mod Refusals
 pub mod Hands
+pub mod Locks

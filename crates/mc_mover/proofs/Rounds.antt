@@ -18,7 +18,9 @@ use Rattle.mc_words.specs.Happens.{LawfulView}
 use Rattle.mc_words.proofs.MoveChanges.{of_table_here}
 use Rattle.mc_words.proofs.Owners.{slabs_here}
 use Rattle.mc_mover.specs.declared.counts.Counts.{Counts}
-use Rattle.mc_mover.specs.Turning.{AreBelow, LacksMemory, LooksFrom, Section, Sections, counted, counts_of, no_counts}
+use Rattle.mc_mover.specs.declared.counts.Turn.{Turn}
+use Rattle.mc_mover.specs.declared.counts.Turn.TheVariants.{Idle, Went, Finished}
+use Rattle.mc_mover.specs.Turning.{AreBelow, EndsTurn, LacksMemory, LooksFrom, Section, Sections, Turns, counted, counts_of, no_counts}
 
 -- the chunk at a move's position is one of the arena
 pub position_near : (view : View) → LawfulView view → (slabs : SlabState) → view.slabs ≡ Some slabs → (move : Moving) → slabs.moving ≡ Some move → move.at < (class_at slabs move.src).per_page
@@ -200,3 +202,12 @@ module _ (setup : Setup) (view : View) (was : LawfulView view) (first : view.set
       let same = same_chunks in
       let within = rounds_within in
       looks_through number rounds counts view slabs now left gone (omega (arith))
+
+-- the sections of a turn, and then its end
+pub turns_so : (number : ℕ) (counts : Counts) (turn : Turn) (view : View) (slabs : SlabState) (looked : View) (kept : SlabState) (now : View) (left : SlabState)
+    → LooksFrom number counts view slabs looked kept → EndsTurn number counts turn looked kept now left → Turns number turn view slabs now left
+turns_so number counts Idle view slabs looked kept now left looks ends = absurd ends
+turns_so number counts (Went same) view slabs looked kept now left looks (is, goes_on) =
+    record { looked = looked; kept = kept; looks = subst (λ (n : Counts). LooksFrom number n view slabs looked kept) (sym is) looks; ends = goes_on }
+turns_so number counts (Finished same) view slabs looked kept now left looks (is, finishes) =
+    record { looked = looked; kept = kept; looks = subst (λ (n : Counts). LooksFrom number n view slabs looked kept) (sym is) looks; ends = finishes }
