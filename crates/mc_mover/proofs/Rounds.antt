@@ -2,7 +2,7 @@
 use Rattle.std.proofs.Common.{◌≡◌, ℕ, ◌+◌, ◌-◌, ◌<◌, ◌≤◌, ◌^◌, ◌++◌, true, List, [], ◌∷◌, length, min, is_some, Option, Some, None, refl, sym, ap, subst, ◌∙◌, arith}
 use Rattle.std.proofs.lemmas.List.{length-append}
 use Rattle.std.proofs.lemmas.Option.{same_Some}
-use Rattle.mc_classes.specs.Classes.{Classes, per_page_of}
+use Rattle.mc_classes.specs.Classes.{IsSound, per_page_of}
 use Rattle.mc_pages.specs.declared.ids.Moving.{Moving}
 use Rattle.mc_pages.specs.Accounted.{IsMove}
 use Rattle.mc_pages.specs.declared.moves.Found.{Found}
@@ -47,7 +47,7 @@ module _ (view : View) (was : LawfulView view) (slabs : SlabState) (mine : view.
   pub few_chunks : (class_at slabs move.src).per_page ≤ 256
   few_chunks =
       let of = of_table_here view was slabs mine in
-      let sound = subst Rattle.mc_classes.specs.Classes.IsSound was.same_table was.lawful.sized.sound in
+      let sound = subst IsSound was.same_table was.lawful.sized.sound in
       let chunks = (sound.chunks move.src (source_of_move view.setup.table slabs move of runs)).1 in
       let same = chunks_of in
       omega arith

@@ -1,4 +1,4 @@
-use Rattle.std.proofs.Common.{◌≡◌, ◌+◌, true, ap, sym, subst, ◌∙◌, refl, ℕ}
+use Rattle.std.proofs.Common.{◌≡◌, ◌+◌, true, ap, subst, ◌∙◌, refl, ℕ}
 use Rattle.std.specs.Prelude.{[]}
 use Rattle.mc_pages.specs.Moves.{chunk_at_position}
 use Rattle.mc_core.specs.declared.event.Change.TheVariants as change

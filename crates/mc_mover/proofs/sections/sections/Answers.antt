@@ -1,6 +1,5 @@
-use Rattle.std.proofs.Common.{◌≡◌, ◌≤◌, ◌∙◌, is_some, true, Option, Some, None, ap, sym, subst, refl, arith}
+use Rattle.std.proofs.Common.{◌∙◌, ap, sym, subst, refl, arith}
 use Rattle.mc_classes.specs.declared.config.Config.{Config}
-use Rattle.mc_pages.specs.declared.ids.Moving.{Moving}
 use Rattle.mc_pages.specs.SlabState.{SlabState, IsClass, class_at}
 use Rattle.mc_words.specs.View.{Setup, View}
 use Rattle.mc_words.specs.Arenas.{setup_of}

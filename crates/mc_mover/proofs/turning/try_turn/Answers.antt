@@ -1,4 +1,4 @@
-use Rattle.std.proofs.Common.{◌≡◌, ap, subst, ◌∙◌}
+use Rattle.std.proofs.Common.{ap, subst, ◌∙◌}
 use Rattle.mc_words.specs.Out.{without_slabs}
 use Rattle.mc_words.specs.View.{View}
 use Rattle.mc_mover.specs.Turning.{LacksMemory, Turns}

@@ -1,4 +1,4 @@
-use Rattle.std.proofs.Common.{◌≡◌, ◌≤◌, length, List, ap, sym, subst, ◌∙◌, refl}
+use Rattle.std.proofs.Common.{◌≤◌, length, List, ap, sym, subst, ◌∙◌, refl}
 use Rattle.mc_core.specs.declared.holding.Holding.{Holding}
 use Rattle.mc_core.specs.Holdings.{has_fresh}
 use Rattle.mc_words.specs.Doing.{HoldsSlabs}

@@ -1,4 +1,4 @@
-use Rattle.std.proofs.Common.{◌≡◌, subst}
+use Rattle.std.proofs.Common.{subst}
 use Rattle.mc_words.specs.View.{View}
 use Rattle.mc_mover.specs.Turning.{EndsTurn}
 use Rattle.mc_mover.proofs.Hands.{number_stays}
