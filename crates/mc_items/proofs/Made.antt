@@ -162,11 +162,11 @@ none_tells number class NoMemory view slabs now left lacks =
     by (inr (page, entry)) = entry_keeps number _ lacks.swept now entry
 
 -- what was done under the lock, from the parts of the call
-pub holds_so : (Does : Rattle.mc_items.specs.Sources.SlabsDoing) (view taken last now : View) (found left : SlabState) → Rattle.mc_words.specs.Waiting.WaitsForSlabs view found taken → Does taken found last left → now ≡ Rattle.mc_words.specs.Views.slabs_given left last → HoldsSlabs Does view now
+pub holds_so : (Does : Rattle.mc_words.specs.Doing.SlabsDoing) (view taken last now : View) (found left : SlabState) → Rattle.mc_words.specs.Waiting.WaitsForSlabs view found taken → Does taken found last left → now ≡ Rattle.mc_words.specs.Views.slabs_given left last → HoldsSlabs Does view now
 holds_so Does view taken last now found left waits does given = record { found = found; taken = taken; waits = waits; left = left; last = last; does = does; given = given }
 
 -- the lock was waited for and given back
-module _ (number : ℕ) (Does : Rattle.mc_items.specs.Sources.SlabsDoing) (view now : View) (holds : HoldsSlabs Does view now) where
+module _ (number : ℕ) (Does : Rattle.mc_words.specs.Doing.SlabsDoing) (view now : View) (holds : HoldsSlabs Does view now) where
   pub holds_told : told_of holds.taken ≡ told_of view
   holds_told = waits_slabs_keep told_of (λ word v. refl) (λ slabs v. refl) view holds.found holds.taken holds.waits
 

@@ -1,5 +1,16 @@
+pub mod Kept
+pub mod Leads
+pub mod Saves
+pub mod Saved
+pub mod HandNumbers
+pub mod Copied
+pub mod Writes
+pub mod Moved
 pub mod Ends
 pub mod Rounds
 pub mod Refusals
 pub mod Hands
 pub mod Locks
+pub mod HoldsSlabs
+pub mod BegunMoves
+pub mod Surveys

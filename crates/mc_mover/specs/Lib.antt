@@ -3,3 +3,5 @@ pub mod Saving
 pub mod Linked
 pub mod Visiting
 pub mod Turning
+pub mod Reassigning
+pub mod Surveying

@@ -1,11 +1,13 @@
 //! Copies of items: the words of a chunk on the moving page are written into another one.
-ghost use Rattle.std.specs.Prelude.{◌≡◌, ◌+◌, ◌<◌, ◌≤◌, ◌==◌, if◌then◌else◌, [], true, Some};
+ghost use Rattle.std.specs.Prelude.{◌≡◌, ◌+◌, ◌<◌, ◌≤◌, ◌==◌, if◌then◌else◌, [], true, Some, IfSome};
 ghost use Rattle.mc_pages.specs.SlabState.{class_of_page};
 ghost use Rattle.mc_core.specs.Looks.{was_linked};
 ghost use Rattle.mc_core.specs.declared.look.Look.TheVariants as look;
 ghost use Rattle.mc_core.specs.State.{has_chunk, room_in};
 ghost use Rattle.mc_words.specs.Arenas.{IsHandOf, setup_of, view};
+ghost use Rattle.mc_words.specs.Condemning.{key_read};
 ghost use Rattle.mc_words.specs.Fresh.{IsFreshOf};
+ghost use Rattle.mc_words.specs.Items.{word_read};
 ghost use Rattle.mc_words.specs.Views.{looked, word_filled};
 ghost use Rattle.mc_mover.specs.Copying.{Copies};
 
@@ -32,6 +34,8 @@ pub(crate) fn copy_item(
     ensures held { (view hand.new).slabs ≡ Some held.now.shared }
     ensures same { (fresh.new.chunk ≡ fresh.old.chunk) × (fresh.new.room ≡ fresh.old.room) }
     ensures copied { Copies chunk fresh.old.chunk fresh.new.key fresh.new.stamp (view hand.old) (view hand.new) }
+    ensures key { IfSome (key_read (view hand.old) chunk) (λ before. fresh.new.key ≡ before) }
+    ensures fits { IfSome (word_read (view hand.new) chunk 2) (λ count. 3 + count ≤ fresh.old.room) }
     ensures fresh { IsFreshOf (view hand.new) fresh.new.chunk fresh.new.room }
 {
     copy_word(arena, hand, held, fresh, chunk, 0);
@@ -66,6 +70,7 @@ fn copy_word(
     ensures key { fresh.new.key ≡ (if place == 0 then result else fresh.old.key) }
     ensures stamp { fresh.new.stamp ≡ (if place == 1 then result else fresh.old.stamp) }
     ensures fits { place ≡ 2 → 3 + result ≤ fresh.old.room }
+    ensures again { IfSome (word_read (view hand.old) chunk place) (λ before. result ≡ before) }
     ensures copied { view hand.new ≡ word_filled fresh.old.chunk place result (looked (look.Read chunk place result) (view hand.old)) }
     ensures fresh { IsFreshOf (view hand.new) fresh.new.chunk fresh.new.room }
 {

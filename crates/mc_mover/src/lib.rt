@@ -9,10 +9,14 @@ mod copying;
 mod counts;
 mod ending;
 mod linked;
+mod reassigning;
 mod saving;
 mod sections;
+mod surveying;
 mod turning;
 mod visiting;
 
 pub use counts::{Counts, TryTurn, Turn};
+pub use reassigning::{reassign, set_mode};
+pub use surveying::{take_survey, Survey};
 pub use turning::{try_turn, turn};

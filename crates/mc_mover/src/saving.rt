@@ -82,6 +82,7 @@ pub(crate) fn rescue(
     requires fresh { IsFreshOf (view hand.old) fresh.chunk fresh.room }
     requires copy { (issue : ℕ) × (holding_of fresh.chunk (view hand.old).row.holdings ≡ Some (copy_holding chunk fresh.chunk issue fresh.room)) }
     requires alone { holding_of fresh.chunk (lose (is_of fresh.chunk) (view hand.old).row.holdings) ≡ None }
+    requires only { has_copy (lose (is_of fresh.chunk) (view hand.old).row.holdings) chunk ≡ false }
     requires room { fresh.room ≡ room_in (setup_of arena.now).table (class_of_page slabs.old.shared chunk.page) }
     ensures arena { IsHandOf arena.now hand.new }
     ensures locks { hand.new.locks ≡ without_stripe hand.old.locks }
@@ -127,6 +128,7 @@ pub(crate) fn move_item(
     requires fresh { IsFreshOf (view hand.old) fresh.chunk fresh.room }
     requires copy { (issue : ℕ) × (holding_of fresh.chunk (view hand.old).row.holdings ≡ Some (copy_holding chunk fresh.chunk issue fresh.room)) }
     requires alone { holding_of fresh.chunk (lose (is_of fresh.chunk) (view hand.old).row.holdings) ≡ None }
+    requires only { has_copy (lose (is_of fresh.chunk) (view hand.old).row.holdings) chunk ≡ false }
     requires room { fresh.room ≡ room_in (setup_of arena.now).table (class_of_page slabs.old.shared chunk.page) }
     ensures arena { IsHandOf arena.now hand.new }
     ensures locks { hand.new.locks ≡ hand.old.locks }

@@ -1,0 +1,243 @@
+-- An item that is copied into a fresh chunk, taken away, and linked there: what the hand knows after each of these.
+use Rattle.std.proofs.Common.{◌≡◌, ◌⊎◌, ℕ, ◌+◌, ◌%◌, ◌≤◌, ◌<◌, ◌==◌, ◌&&◌, ◌||◌, Bool, true, false, List, [], ◌∷◌, ◌++◌, length, Option, Some, None, IfSome, refl, sym, ap, subst, ◌∙◌, arith, cond, inl, inr, slice_index, slice_index_or, replicate, if◌then◌else◌, append_assoc, append-nil}
+use Rattle.std.specs.Option.{option_map, option_map_or}
+use Rattle.std.proofs.lemmas.List.{length-replicate}
+use Rattle.mc_classes.specs.Classes.{Classes}
+use Rattle.mc_pages.specs.declared.ids.ChunkId.{ChunkId}
+use Rattle.mc_pages.specs.ClassState.{is_chunk}
+use Rattle.mc_pages.specs.SlabState.{SlabState}
+use Rattle.mc_pages.proofs.Chunks.{is_chunk-same}
+use Rattle.mc_stripe.specs.Entries.{AreRising, entry_at}
+use Rattle.mc_stripe.specs.StripeState.{ReadyStripe, new_stripe, place_of}
+use Rattle.mc_stripe.proofs.Entries.{at_without_entry, nat_eq_same}
+use Rattle.mc_core.specs.declared.head.Head.{Head}
+use Rattle.mc_core.specs.declared.holding.Holding.{Holding}
+use Rattle.mc_core.specs.declared.holding.Kind.TheVariants.{Fresh}
+use Rattle.mc_core.specs.declared.holding.Purpose.TheVariants.{Copy}
+use Rattle.mc_core.specs.declared.ids.Ids.{Ids}
+use Rattle.mc_core.specs.declared.event.Step.TheVariants as step
+use Rattle.mc_core.specs.Chunks.{filled, is_moving_page}
+use Rattle.mc_core.specs.Evictions.{as_rescue, has_copy, lacks_room, none_dead}
+use Rattle.mc_core.specs.Holdings.{Words, change_each, holding_of, is_complete, is_copy_of, is_of, item_in, key_in, lose, numbers, stamp_in, stamp_of, words_of}
+use Rattle.mc_core.specs.Items.{are_same}
+use Rattle.mc_core.specs.Judged.{sees_no_target}
+use Rattle.mc_words.specs.declared.hand.Hand.{Hand}
+use Rattle.mc_words.specs.View.{View}
+use Rattle.mc_words.specs.Condemning.{FindsHeld, SeesHeld, key_read, key_seen, knows_reason, stripe_read}
+use Rattle.mc_words.specs.Fresh.{IsFreshIn}
+use Rattle.mc_words.specs.Happens.{Happens, LawfulView}
+use Rattle.mc_words.specs.Items.{issue_in, word_read, words_in}
+use Rattle.mc_words.specs.Linking.{IsCopyFilled, copied_item, copy_linked}
+use Rattle.mc_words.specs.Originals.{CondemnsOriginal}
+use Rattle.mc_words.specs.Referring.{reference_to}
+use Rattle.mc_words.specs.Sweeping.{SweepsOne}
+use Rattle.mc_words.specs.Views.{chunk_dropped, chunk_put_back, copy_holding, head_seen}
+use Rattle.mc_words.proofs.StripeChanges.{stripe_here, stripe_near}
+use Rattle.mc_mover.specs.Copying.{item_of, words_copied}
+use Rattle.mc_mover.proofs.Copied.{copied_keeps, one_longer, read_copied, word_copied}
+use Rattle.mc_mover.proofs.Writes.{all_more, found_among, found_changed, holding_with, item_is, lose_changed, lose_last, none_of, none_yet, same_list, same_words, unchanged, whole_with, written_long, written_over}
+
+-- what is found is one
+some_same : {a b : ℕ} → Some a ≡ Some b → a ≡ b
+some_same e = cc
+
+-- the copy's chunk has the words that were copied
+holdings_copied : (chunk copy : ChunkId) (done words : List ℕ) (place : ℕ) (view now : View) → now.row.holdings ≡ change_each (is_of copy) (holding_with done) view.row.holdings → place ≡ length done
+    → (words_copied chunk copy place words now).row.holdings ≡ change_each (is_of copy) (holding_with (done ++ words)) view.row.holdings
+holdings_copied chunk copy done [] place view now so at = so ∙ ap (λ (l : List ℕ). change_each (is_of copy) (holding_with l) view.row.holdings) (sym (append-nil done))
+holdings_copied chunk copy done (word ∷ words) place view now so at =
+    let next : (word_copied chunk copy place word now).row.holdings ≡ change_each (is_of copy) (holding_with (done ++ word ∷ [])) view.row.holdings =
+    (λ k. change_each (is_of copy) (filled (at k) word) (so k)) ∙ all_more copy done word view.row.holdings in
+    holdings_copied chunk copy (done ++ word ∷ []) words (place + 1) view (word_copied chunk copy place word now) next (let long = one_longer done word in omega (arith, at, long))
+    ∙ ap (λ (l : List ℕ). change_each (is_of copy) (holding_with l) view.row.holdings) (append_assoc done (word ∷ []) words)
+
+module _ (chunk copy : ChunkId) (key stamp : ℕ) (words : List ℕ) (view filled : View) (is : filled ≡ words_copied chunk copy 0 (item_of key stamp words) view) where
+  abbrev item : List ℕ
+  item = item_of key stamp words
+
+  -- each word that was copied was read
+  read_each : (i : ℕ) → i < length item → word_read filled chunk i ≡ Some (slice_index item i)
+  read_each i within = ap (λ (v : View). word_read v chunk i) is ∙ read_copied chunk copy i i 0 item view within (omega arith)
+
+  key_copied : key_read filled chunk ≡ Some key
+  key_copied = read_each 0 (omega arith)
+
+  -- all but looks and the copy's holding stays
+  pub setup_stays : filled.setup ≡ view.setup
+  setup_stays = ap (λ (v : View). v.setup) is ∙ copied_keeps chunk copy (λ (v : View). v.setup) (λ place word v. refl) 0 item view
+
+  pub stripes_stay : filled.stripes ≡ view.stripes
+  stripes_stay = ap (λ (v : View). v.stripes) is ∙ copied_keeps chunk copy (λ (v : View). v.stripes) (λ place word v. refl) 0 item view
+
+  pub ids_stay : filled.row.ids ≡ view.row.ids
+  ids_stay = ap (λ (v : View). v.row.ids) is ∙ copied_keeps chunk copy (λ (v : View). v.row.ids) (λ place word v. refl) 0 item view
+
+  -- the stripe of the key is still known
+  pub stripe_copied : (stripe : ℕ) → stripe_read view chunk ≡ Some stripe → IfSome (key_read view chunk) (λ before. key ≡ before) → (key % view.setup.config.stripes ≡ stripe) × (stripe_read filled chunk ≡ Some stripe)
+  stripe_copied stripe read again =
+      let of = by (key_read view chunk) read again in
+      (of, (λ k. option_map (λ key. key % (setup_stays k).config.stripes) (key_copied k)) ∙ ap Some of)
+    where
+      by : (o : Option ℕ) → option_map (λ key. key % view.setup.config.stripes) o ≡ Some stripe → IfSome o (λ before. key ≡ before) → key % view.setup.config.stripes ≡ stripe
+      by None read again = absurd (cc)
+      by (Some before) read again = ap (λ (k : ℕ). k % view.setup.config.stripes) again ∙ some_same read
+
+  -- the length that was read fits
+  pub length_fits : (room : ℕ) → IfSome (word_read filled chunk 2) (λ count. 3 + count ≤ room) → 3 + length words ≤ room
+  length_fits room fits = subst (λ (o : Option ℕ). IfSome o (λ count. 3 + count ≤ room)) (read_each 2 (omega arith)) fits
+
+  -- the copy's holding has the words
+  holdings_are : filled.row.holdings ≡ change_each (is_of copy) (holding_with item) view.row.holdings
+  holdings_are = ap (λ (v : View). v.row.holdings) is ∙ holdings_copied chunk copy [] item 0 view view (sym (none_yet copy view.row.holdings)) refl
+
+  -- what the hand holds beside the copy is as before
+  pub others_filled : holding_of copy (lose (is_of copy) view.row.holdings) ≡ None → lose (is_of copy) filled.row.holdings ≡ lose (is_of copy) view.row.holdings
+  others_filled alone =
+      ap (lose (is_of copy)) holdings_are
+      ∙ (lose_changed copy (is_of copy) (holding_with item) (λ h. refl) view.row.holdings
+      ∙ unchanged (is_of copy) (holding_with item) (lose (is_of copy) view.row.holdings) (none_of copy (lose (is_of copy) view.row.holdings) alone))
+
+  module _ (issue room : ℕ) (found : holding_of copy view.row.holdings ≡ Some (copy_holding chunk copy issue room)) where
+    abbrev blank : Words
+    blank = replicate room None
+
+    abbrev own : Words
+    own = written_over item blank
+
+    abbrev copied : Holding
+    copied = record { chunk = copy; issue = issue; kind = Fresh (Copy chunk) own }
+
+    -- so it is found
+    found_filled : holding_of copy filled.row.holdings ≡ Some copied
+    found_filled =
+        ap (holding_of copy) holdings_are
+        ∙ (found_changed copy (is_of copy) (holding_with item) (λ h. refl) view.row.holdings (copy_holding chunk copy issue room) found
+        ∙ ap (λ (b : Bool). Some (if b then copied else copy_holding chunk copy issue room)) (is_chunk-same copy))
+
+    -- the hand has a copy, and so a reason
+    pub copy_there : has_copy filled.row.holdings chunk ≡ true
+    copy_there = found_among copy (is_copy_of chunk) filled.row.holdings copied found_filled (is_chunk-same chunk)
+
+    pub reason_there : (table : Classes) (slabs : SlabState) → is_moving_page slabs chunk.page ≡ true → knows_reason table slabs filled.row.looks filled.row.holdings chunk ≡ true
+    reason_there table slabs moves =
+        λ k. moves k && copy_there k || is_moving_page slabs chunk.page && none_dead slabs filled.row.looks chunk && sees_no_target slabs filled.row.looks chunk.page || lacks_room table slabs filled.row.looks chunk
+
+    module _ (fits : 3 + length words ≤ room) (stripe : ℕ) (value left : ReadyStripe) (now : View) (took : CondemnsOriginal filled stripe value chunk left now) where
+      -- the key that was read again is the one that was copied
+      same_key : took.key ≡ key
+      same_key = some_same (sym took.is_key ∙ key_copied)
+
+      -- the item that was taken away is the one that was copied
+      same_item : took.item ≡ item
+      same_item =
+          let whole : length took.item ≡ 3 + slice_index took.item 2 = took.whole in
+          let third : slice_index took.item 2 ≡ length words = took.read_is 2 (length words) (read_each 2 (omega arith)) (omega (arith, whole)) in
+          let long : length took.item ≡ length item = omega (arith, whole, third) in
+          same_list took.item item long (λ i within. took.read_is i (slice_index item i) (read_each i (omega (arith, within, long))) within)
+
+      same_stamp : took.stamp ≡ stamp
+      same_stamp = sym took.stamp_is ∙ ap stamp_of same_item
+
+      -- the copy is to have the words of the item that was taken away
+      holdings_now : now.row.holdings ≡ change_each (is_copy_of chunk) (as_rescue chunk took.item) filled.row.holdings
+      holdings_now = ap (λ (v : View). v.row.holdings) took.is
+
+      found_now : holding_of copy now.row.holdings ≡ Some (copied_item chunk copy issue took.item own)
+      found_now =
+          ap (holding_of copy) holdings_now
+          ∙ (found_changed copy (is_copy_of chunk) (as_rescue chunk took.item) (λ h. refl) filled.row.holdings copied found_filled
+          ∙ ap (λ (b : Bool). Some (if b then copied_item chunk copy issue took.item own else copied)) (is_chunk-same chunk))
+
+      long_own : length own ≡ room
+      long_own = written_long item blank ∙ length-replicate room None
+
+      words_are : words_in now copy ≡ own
+      words_are = ap (λ (o : Option Holding). option_map_or words_of o []) found_now
+
+      issue_is : issue_in now copy ≡ issue
+      issue_is = ap (λ (o : Option Holding). option_map_or (λ (h : Holding). h.issue) o 0) found_now
+
+      -- the copy is fresh still
+      pub fresh_still : IsFreshIn now.row.holdings copy room
+      fresh_still = record { holding = copied_item chunk copy issue took.item own; found = found_now; fresh = refl; room_is = long_own }
+
+      -- the key's entry is aside
+      aside_is : left.state.aside ≡ Some (key, (chunk, stamp))
+      aside_is =
+          ap (λ (v : ReadyStripe). v.state.aside) took.left_is
+          ∙ (ap (option_map (λ (place : ChunkId × ℕ). (took.key, place))) took.led ∙ (λ k. Some (same_key k, (chunk, same_stamp k))))
+
+      -- so the copy may be linked
+      pub copy_filled : IsCopyFilled now left.state copy (issue_in now copy) (words_in now copy) key stamp
+      copy_filled =
+          let count : length blank ≡ room = length-replicate room None in
+          let enough : 3 + length words ≤ length blank = omega (arith, count, fits) in
+          let whole = whole_with key stamp words blank enough in
+          let known = ap item_in words_are ∙ item_is key stamp words blank enough in record {
+            old = chunk;
+            item = took.item;
+            found = found_now ∙ (λ k. Some (copied_item chunk copy (sym issue_is k) took.item (sym words_are k)));
+            complete = ap is_complete words_are ∙ whole.0;
+            same = (λ k. are_same (known k) (same_item k)) ∙ same_words item;
+            same_key = ap key_in words_are ∙ whole.1;
+            same_stamp = ap stamp_in words_are ∙ whole.2;
+            aside = ap (λ (o : Option (ℕ × (ChunkId × ℕ))). option_map_or (λ entry. entry.0 == key && is_chunk entry.1.0 chunk && entry.1.1 == stamp) o false) aside_is
+                ∙ (λ k. nat_eq_same key key refl k && is_chunk-same chunk k && nat_eq_same stamp stamp refl k);
+          }
+
+      -- its stripe has room for the call still
+      pub ready_still : value.ready ≡ true → left.ready ≡ true
+      ready_still ready = ap (λ (v : ReadyStripe). v.ready) took.left_is ∙ ready
+
+      -- and its key leads nowhere
+      pub leads_nowhere : LawfulView filled → slice_index_or filled.stripes stripe None ≡ Some value → place_of left.state key ≡ None
+      leads_nowhere was mine =
+          let here = stripe_here filled stripe value mine was in
+          let near = stripe_near filled stripe value mine was in
+          let long = was.stripes in
+          let rising : AreRising value.state.index = subst (λ (v : ReadyStripe). AreRising v.state.index) here.1 (was.lawful.legal.legal stripe new_stripe (omega (arith, near, long))).rising in
+          (λ k. place_of (took.left_is k).state (sym same_key k))
+          ∙ (at_without_entry value.state.index took.key took.key rising ∙ ap (λ (b : Bool). cond b None (entry_at value.state.index took.key)) (nat_eq_same took.key took.key refl))
+
+      -- what the hand holds beside the copy is as before
+      pub others_now : holding_of copy (lose (is_of copy) view.row.holdings) ≡ None → has_copy (lose (is_of copy) view.row.holdings) chunk ≡ false → lose (is_of copy) now.row.holdings ≡ lose (is_of copy) view.row.holdings
+      others_now alone only =
+          ap (lose (is_of copy)) holdings_now
+          ∙ (lose_changed copy (is_copy_of chunk) (as_rescue chunk took.item) (λ h. refl) filled.row.holdings
+          ∙ (ap (change_each (is_copy_of chunk) (as_rescue chunk took.item)) (others_filled alone)
+          ∙ unchanged (is_copy_of chunk) (as_rescue chunk took.item) (lose (is_of copy) view.row.holdings) only))
+
+      -- and it is so still once the copy is linked and let go
+      pub dropped_holdings : (number : ℕ) (linked last : View) → linked ≡ copy_linked number stripe left key copy (issue_in now copy) (words_in now copy) room now → last ≡ chunk_dropped copy linked
+          → holding_of copy (lose (is_of copy) view.row.holdings) ≡ None → has_copy (lose (is_of copy) view.row.holdings) chunk ≡ false → last.row.holdings ≡ lose (is_of copy) view.row.holdings
+      dropped_holdings number linked last linked_is last_is alone only =
+          ap (λ (v : View). v.row.holdings) last_is
+          ∙ (ap (λ (v : View). lose (is_of copy) v.row.holdings) linked_is
+          ∙ (ap (λ (hs : List Holding). lose (is_of copy) (hs ++ reference_to copy (issue_in now copy) (numbers (item_in (words_in now copy))) ∷ [])) (others_now alone only)
+          ∙ lose_last copy (lose (is_of copy) view.row.holdings) (reference_to copy (issue_in now copy) (numbers (item_in (words_in now copy)))) alone (is_chunk-same copy)))
+
+      -- no stamp was given out
+      pub ids_now : now.row.ids ≡ filled.row.ids
+      ids_now = ap (λ (v : View). v.row.ids) took.is
+
+-- what looks and reads leave stays
+module _ {X : Type 0} (part : View → X) (read : (chunk : ChunkId) (key : ℕ) (v : View) → part (key_seen chunk key v) ≡ part v) (looked : (chunk : ChunkId) (head : Head) (v : View) → part (head_seen chunk head v) ≡ part v) where
+  pub finds_keep : (chunk : ChunkId) (view now : View) → FindsHeld view chunk now → part now ≡ part view
+  finds_keep chunk view now finds = by finds.finds ∙ read chunk finds.key view
+    where
+      seen : View
+      seen = key_seen chunk finds.key view
+
+      by : SeesHeld seen chunk now ⊎ ((head : Head) × Happens seen [] (step.Head chunk) (head_seen chunk head seen) × SeesHeld (head_seen chunk head seen) chunk now) → part now ≡ part seen
+      by (inl sees) = ap part sees.is ∙ looked sees.chunk sees.head seen
+      by (inr (head, happens, sees)) = ap part sees.is ∙ (looked sees.chunk sees.head (head_seen chunk head seen) ∙ looked chunk head seen)
+
+-- a hand's number stands in its view
+pub number_stays : (before now : Hand) → now.seat.me.0.row.ids ≡ before.seat.me.0.row.ids → now.number ≡ before.number
+number_stays before now ids = some_same (sym now.noted.0 ∙ (ap (λ (i : Ids). i.number) ids ∙ before.noted.0))
+
+-- what looks and a chunk that comes back leave stays
+module _ {X : Type 0} (part : View → X) (looked : (chunk : ChunkId) (head : Head) (v : View) → part (head_seen chunk head v) ≡ part v) (put : (slabs : SlabState) (chunk : ChunkId) (head : Head) (v : View) → part (chunk_put_back slabs chunk head v) ≡ part v) where
+  pub sweep_keeps : (chunk : ChunkId) (view : View) (slabs : SlabState) (now : View) (left : SlabState) → SweepsOne chunk view slabs now left → part now ≡ part view
+  sweep_keeps chunk view slabs now left (inl (back, is)) = ap part back.is ∙ (put slabs chunk back.head (head_seen chunk back.head view) ∙ looked chunk back.head view)
+  sweep_keeps chunk view slabs now left (inr (sees, is)) = ap part sees.is ∙ looked sees.chunk sees.head view

@@ -1,0 +1,53 @@
+//! Moves that begin, and the mode of who begins them.
+ghost use Rattle.std.specs.Prelude.{◌≡◌, ◌≤◌, true};
+ghost use Rattle.mc_words.specs.Arenas.{IsHandOf, view};
+ghost use Rattle.mc_words.specs.Doing.{HoldsSlabs};
+ghost use Rattle.mc_words.specs.Idle.{is_unlocked};
+ghost use Rattle.mc_mover.specs.Reassigning.{Reassigns, SetsMode};
+
+use mc_pages::Reassign;
+use mc_words::{Arena, Hand};
+use std::sync::Wait;
+
+/// Begins to move the first page of the source to the destination, 0 for the pool, and leaves the rest to turns. Where no source is
+/// named, the first class behind the last one so picked that has more than one page is picked. It waits for the lock of the slabs, and
+/// for no other. (slabs.c's `do_slabs_reassign`; the order of the tests is own)
+///
+/// It is refused, by the first of these that applies: `Busy` where a page moves already; `Same` where source and destination are one;
+/// `BadClass` where one of them is no class, or none can be picked; `NoSpare` where the source has one page at most; and `NoMemory` last,
+/// where the room that the move's end needs was refused. What is refused changes nothing: pages, lists, moves and the pick stay.
+pub fn reassign<R: Wait>(
+    rt: &R,
+    arena: &Arena,
+    hand: &mut Hand,
+    src: Option<u64>,
+    dst: u64,
+) -> Result<(), Reassign>
+    requires arena { IsHandOf arena.now hand.old }
+    requires unlocked { is_unlocked (view hand.old) ≡ true }
+    ensures arena { IsHandOf arena.now hand.new }
+    ensures locks { hand.new.locks ≡ hand.old.locks }
+    ensures reassigns { HoldsSlabs (Reassigns hand.old.number src dst result) (view hand.old) (view hand.new) }
+    ensures holdings { (view hand.new).row.holdings ≡ (view hand.old).row.holdings }
+{
+    let mut held = arena.lock_slabs(rt, hand);
+    let answer = arena.begin_move(hand, &mut held, src, dst);
+    arena.give_slabs(hand, held);
+    answer
+}
+
+/// Sets the automover's mode: 0 is off, 1 acts on each window, 2 on each eviction. Nothing else changes, and it takes no memory. It
+/// waits for the lock of the slabs, and for no other.
+pub fn set_mode<R: Wait>(rt: &R, arena: &Arena, hand: &mut Hand, mode: u64)
+    requires arena { IsHandOf arena.now hand.old }
+    requires unlocked { is_unlocked (view hand.old) ≡ true }
+    requires mode { mode ≤ 2 }
+    ensures arena { IsHandOf arena.now hand.new }
+    ensures locks { hand.new.locks ≡ hand.old.locks }
+    ensures sets { HoldsSlabs (SetsMode hand.old.number mode) (view hand.old) (view hand.new) }
+    ensures holdings { (view hand.new).row.holdings ≡ (view hand.old).row.holdings }
+{
+    let mut held = arena.lock_slabs(rt, hand);
+    arena.set_automove(hand, &mut held, mode);
+    arena.give_slabs(hand, held);
+}
