@@ -6,7 +6,7 @@ use Rattle.mc_pages.specs.SlabState.{SlabState, class_at, totals_of}
 use Rattle.mc_words.specs.View.{View}
 use Rattle.mc_words.specs.Doing.{SlabsDoing}
 use Rattle.mc_words.specs.Sweeping.{Sweeps}
-use Rattle.mc_mover.specs.declared.surveying.Survey.{Survey}
+use Rattle.mc_mover.specs.declared.numbers.Survey.{Survey}
 
 -- the dead of these classes were put back, class by class
 abbrev pub SweepsClasses : List ℕ → SlabsDoing

@@ -9,6 +9,7 @@ mod copying;
 mod counts;
 mod ending;
 mod linked;
+mod numbers;
 mod reassigning;
 mod saving;
 mod sections;
@@ -17,6 +18,7 @@ mod turning;
 mod visiting;
 
 pub use counts::{Counts, TryTurn, Turn};
+pub use numbers::Survey;
 pub use reassigning::{reassign, set_mode};
-pub use surveying::{take_survey, Survey};
+pub use surveying::survey;
 pub use turning::{try_turn, turn};

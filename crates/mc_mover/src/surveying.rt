@@ -1,4 +1,4 @@
-//! Surveys: what each class and the whole have, for statistics and for the automover.
+//! Surveys of the slab memory, for statistics and for the automover.
 ghost use Rattle.std.specs.Prelude.{◌≡◌, ◌≤◌, [], true, length, map, vec_capacity, None, Some, IfOk, OnErr};
 ghost use Rattle.mc_pages.specs.ClassState.{numbers_of};
 ghost use Rattle.mc_words.specs.Arenas.{IsHandOf, view};
@@ -7,28 +7,17 @@ ghost use Rattle.mc_words.specs.Idle.{is_unlocked};
 ghost use Rattle.mc_words.specs.Sweeping.{with_seen};
 ghost use Rattle.mc_mover.specs.Surveying.{IsSurvey, Surveys, SweepsClasses, classes_swept};
 
-use mc_pages::{Numbers, Slabs, Totals};
+use crate::numbers::Survey;
+use mc_pages::{Numbers, Slabs};
 use mc_stripe::NoMemory;
 use mc_words::{Arena, Hand, SlabsHeld};
 use std::alloc::Global;
 use std::sync::Wait;
 
-/// What the slab memory has, all at one moment.
-pub struct Survey {
-    /// What each class has, class 1 first.
-    pub classes: Vec<Numbers>,
-    /// What all classes have together.
-    pub totals: Totals,
-    /// Whether a page moves.
-    pub running: bool,
-    /// The automover's mode.
-    pub mode: u64,
-}
-
 /// What the classes and the whole have in one hold of the lock of the slabs, for which it waits. With `sweep` each chunk that is handed
 /// out is looked at first, and the dead ones are put back, so that they count as free; without, nothing is looked at or changed. At want
 /// of memory nothing is done. (memcached's `fill_slab_stats_automove`; the sweep is own)
-pub fn take_survey<R: Wait>(
+pub fn survey<R: Wait>(
     rt: &R,
     alloc: Global,
     arena: &Arena,
@@ -49,9 +38,9 @@ pub fn take_survey<R: Wait>(
     };
     let mut held = arena.lock_slabs(rt, hand);
     sweep_classes(arena, hand, &mut held, sweep);
-    let survey = read_slabs(held.slabs(), count, room);
+    let numbers = read_slabs(held.slabs(), count, room);
     arena.give_slabs(hand, held);
-    Ok(survey)
+    Ok(numbers)
 }
 
 // Puts the dead chunks of all classes back, if that is asked for.

@@ -4,10 +4,10 @@ use Rattle.mc_pages.specs.SlabState.{SlabState}
 use Rattle.mc_words.specs.View.{Setup, View}
 use Rattle.mc_mover.proofs.HoldsSlabs.{held_holdings}
 use Rattle.mc_mover.proofs.Surveys.{classes_here}
-use Rattle.mc_mover.proofs.surveying.take_survey.Goals as goal
+use Rattle.mc_mover.proofs.surveying.survey.Goals as goal
 
-pub read_slabs-survey-requires-clause-count : goal.read_slabs-survey-requires-clause-count
-read_slabs-survey-requires-clause-count g c =
+pub read_slabs-numbers-requires-clause-count : goal.read_slabs-numbers-requires-clause-count
+read_slabs-numbers-requires-clause-count g c =
     let swept = c.sweep_classes in
     let now : View = swept.new.hand.seat.me.0 in
     let here = classes_here now swept.ensures.arena.lawful swept.new.held.shared swept.ensures.held ∙ ap (λ (s : Setup). length s.table.sizes) swept.ensures.arena.setup in
