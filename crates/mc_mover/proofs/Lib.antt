@@ -13,3 +13,5 @@ pub mod Locks
 pub mod HoldsSlabs
 pub mod BegunMoves
 pub mod Surveys
+pub mod Visits
+pub mod ClearedPages
