@@ -15,3 +15,4 @@ pub mod BegunMoves
 pub mod Surveys
 pub mod Visits
 pub mod ClearedPages
+pub mod SeenChunks
