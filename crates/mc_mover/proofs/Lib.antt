@@ -9,7 +9,10 @@ pub mod Moved
 pub mod Ends
 pub mod Rounds
 pub mod Refusals
-pub mod Hands
+pub mod Locks
 pub mod HoldsSlabs
 pub mod BegunMoves
 pub mod Surveys
+pub mod Visits
+pub mod ClearedPages
+pub mod SeenChunks

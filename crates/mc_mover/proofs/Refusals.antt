@@ -1,5 +1,5 @@
--- Want of memory that a call passes on.
-use Rattle.std.proofs.Common.{◌≡◌, Result, Ok, Err, OnErr}
+-- What clauses say of a value, or of want of memory that a call passes on.
+use Rattle.std.proofs.Common.{◌≡◌, Result, Ok, Err, IfOk, OnErr}
 
 -- what a clause says of an error, where there is one
 pub on_error : {T E X : Type 0} (result : Result T E) (error : E) → result ≡ Err error → OnErr result X → X
@@ -10,3 +10,13 @@ on_error (Err other) error is on = on
 pub as_error : {T E X : Type 0} (result : Result T E) → X → OnErr result X
 as_error (Ok value) x = tt
 as_error (Err error) x = x
+
+-- what follows for an error
+pub on_err : {T E X Y : Type 0} (result : Result T E) → (X → Y) → OnErr result X → OnErr result Y
+on_err (Ok value) next x = tt
+on_err (Err error) next x = next x
+
+-- what follows for a value
+pub if_ok : {T E : Type 0} (P Q : T → Type 0) (result : Result T E) → ((value : T) → P value → Q value) → IfOk result P → IfOk result Q
+if_ok P Q (Ok value) next p = next value p
+if_ok P Q (Err error) next p = tt

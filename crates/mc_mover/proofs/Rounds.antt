@@ -1,15 +1,26 @@
 -- Sections of a turn, one after another: what each needs, and what they leave.
-use Rattle.std.proofs.Common.{◌≡◌, ℕ, ◌+◌, ◌<◌, ◌≤◌, true, Some, refl, sym, ap, subst, ◌∙◌, arith}
+use Rattle.std.proofs.Common.{◌≡◌, ℕ, ◌+◌, ◌-◌, ◌<◌, ◌≤◌, ◌^◌, ◌++◌, true, List, [], ◌∷◌, length, min, is_some, Option, Some, None, refl, sym, ap, subst, ◌∙◌, arith}
+use Rattle.std.proofs.lemmas.List.{length-append}
+use Rattle.std.proofs.lemmas.Option.{same_Some}
+use Rattle.mc_classes.specs.Classes.{IsSound, per_page_of}
 use Rattle.mc_pages.specs.declared.ids.Moving.{Moving}
 use Rattle.mc_pages.specs.Accounted.{IsMove}
-use Rattle.mc_pages.specs.Moves.{chunk_at_position}
+use Rattle.mc_pages.specs.declared.moves.Found.{Found}
+use Rattle.mc_pages.specs.declared.moves.Found.TheVariants.{Cleared, Rescued, Evicted, Busy, Locked, Already}
+use Rattle.mc_pages.specs.Moves.{chunk_at_position, moved_on}
 use Rattle.mc_pages.specs.SlabState.{SlabState, IsClass, class_at, class_of_owner, class_of_page}
 use Rattle.mc_core.specs.Past.{Moment}
 use Rattle.mc_core.specs.State.{has_chunk}
 use Rattle.mc_core.proofs.FreeChunks.{near_in}
-use Rattle.mc_words.specs.View.{View}
+use Rattle.mc_core.proofs.Listed.{per_page_is, source_of_move}
+use Rattle.mc_words.specs.View.{Setup, View}
 use Rattle.mc_words.specs.Happens.{LawfulView}
+use Rattle.mc_words.proofs.MoveChanges.{of_table_here}
 use Rattle.mc_words.proofs.Owners.{slabs_here}
+use Rattle.mc_mover.specs.declared.counts.Counts.{Counts}
+use Rattle.mc_mover.specs.declared.counts.Turn.{Turn}
+use Rattle.mc_mover.specs.declared.counts.Turn.TheVariants.{Idle, Went, Finished}
+use Rattle.mc_mover.specs.Turning.{AreBelow, EndsTurn, LacksMemory, LooksFrom, Section, Sections, Turns, counted, counts_of, no_counts}
 
 -- the chunk at a move's position is one of the arena
 pub position_near : (view : View) → LawfulView view → (slabs : SlabState) → view.slabs ≡ Some slabs → (move : Moving) → slabs.moving ≡ Some move → move.at < (class_at slabs move.src).per_page
@@ -23,3 +34,180 @@ position_near view was slabs mine move runs within =
     let chunks : (class_at m.state.slabs (class_of_page m.state.slabs move.page)).per_page ≡ (class_at slabs move.src).per_page =
     ap (λ (n : ℕ). (class_at m.state.slabs n).per_page) own ∙ ap (λ (s : SlabState). (class_at s move.src).per_page) same in
     ap (λ table. has_chunk table (chunk_at_position move)) (sym was.same_table) ∙ near_in m was.lawful (chunk_at_position move) class (omega arith)
+
+-- of the move that runs, in what the hand has
+module _ (view : View) (was : LawfulView view) (slabs : SlabState) (mine : view.slabs ≡ Some slabs) (move : Moving) (runs : slabs.moving ≡ Some move) where
+  -- its class has as many chunks a page as the table says
+  pub chunks_of : (class_at slabs move.src).per_page ≡ per_page_of view.setup.table move.src
+  chunks_of =
+      let of = of_table_here view was slabs mine in
+      per_page_is view.setup.table slabs move.src of (of.accounted.move move runs).src
+
+  -- these are few
+  pub few_chunks : (class_at slabs move.src).per_page ≤ 256
+  few_chunks =
+      let of = of_table_here view was slabs mine in
+      let sound = subst IsSound was.same_table was.lawful.sized.sound in
+      let chunks = (sound.chunks move.src (source_of_move view.setup.table slabs move of runs)).1 in
+      let same = chunks_of in
+      omega arith
+
+  -- and it isn't past the page's end
+  pub position_within : move.at ≤ (class_at slabs move.src).per_page
+  position_within = ((of_table_here view was slabs mine).accounted.move move runs).within
+
+-- sections, and then others
+sections_on : (number : ℕ) (found more : List Found) (view : View) (slabs : SlabState) (between : View) (kept : SlabState) (now : View) (left : SlabState)
+    → Sections number found view slabs between kept → Sections number more between kept now left → Sections number (found ++ more) view slabs now left
+sections_on number [] more view slabs between kept now left (same, same_slabs) rest =
+    subst (λ (p : View × SlabState). Sections number more p.0 p.1 now left) (λ k. (same k, same_slabs k)) rest
+sections_on number (first ∷ found) more view slabs between kept now left (next, mid, begins, others) rest =
+    (next, mid, begins, sections_on number found more next mid between kept now left others rest)
+
+-- and then want of memory
+pub lacks_on : (number : ℕ) (found : List Found) (view : View) (slabs : SlabState) (between : View) (kept : SlabState) (now : View) (left : SlabState)
+    → Sections number found view slabs between kept → LacksMemory number between kept now left → LacksMemory number view slabs now left
+lacks_on number found view slabs between kept now left sections lacks = record {
+  found = found ++ lacks.found;
+  looked = lacks.looked;
+  kept = lacks.kept;
+  sections = sections_on number found lacks.found view slabs between kept lacks.looked lacks.kept sections lacks.sections;
+  move = lacks.move;
+  runs = lacks.runs;
+  within = lacks.within;
+  lacks = lacks.lacks;
+}
+
+-- one more section
+sections_more : (number : ℕ) (found : List Found) (last : Found) (view : View) (slabs : SlabState) (between : View) (kept : SlabState) (now : View) (left : SlabState)
+    → Sections number found view slabs between kept → Section number last between kept now left → Sections number (found ++ last ∷ []) view slabs now left
+sections_more number found last view slabs between kept now left sections section =
+    sections_on number found (last ∷ []) view slabs between kept now left sections (now, left, section, (refl, refl))
+
+counts_more : (found : List Found) (last : Found) (counts : Counts) → counts_of (found ++ last ∷ []) counts ≡ counted last (counts_of found counts)
+counts_more [] last counts = refl
+counts_more (first ∷ found) last counts = counts_more found last (counted first counts)
+
+small_more : (rounds : ℕ) (found : Found) (counts : Counts) → AreBelow (rounds + 1) counts → AreBelow (rounds + 1 + 1) (counted found counts)
+small_more rounds Cleared counts (a, b, c, d, e) = (omega (arith, a), omega (arith, b), omega (arith, c), omega (arith, d), omega (arith, e))
+small_more rounds Rescued counts (a, b, c, d, e) = (omega (arith, a), omega (arith, b), omega (arith, c), omega (arith, d), omega (arith, e))
+small_more rounds Evicted counts (a, b, c, d, e) = (omega (arith, a), omega (arith, b), omega (arith, c), omega (arith, d), omega (arith, e))
+small_more rounds Busy counts (a, b, c, d, e) = (omega (arith, a), omega (arith, b), omega (arith, c), omega (arith, d), omega (arith, e))
+small_more rounds Locked counts (a, b, c, d, e) = (omega (arith, a), omega (arith, b), omega (arith, c), omega (arith, d), omega (arith, e))
+small_more rounds Already counts (a, b, c, d, e) = (omega (arith, a), omega (arith, b), omega (arith, c), omega (arith, d), omega (arith, e))
+
+-- a move that runs is some
+pub some_move : (moving : Option Moving) → is_some moving ≡ true → (move : Moving) × (moving ≡ Some move)
+some_move None runs = absurd (cc)
+some_move (Some move) runs = (move, refl)
+
+-- so many sections were gone through, from where the move was to where it is
+pub record GoneThrough (number rounds : ℕ) (counts : Counts) (view : View) (slabs : SlabState) (now : View) (left : SlabState) : Type 0 where
+  pub found : List Found
+  pub count : length found ≡ rounds
+  pub counts_are : counts ≡ counts_of found no_counts
+  pub small : AreBelow (rounds + 1) counts
+  pub sections : Sections number found view slabs now left
+  pub move : Moving
+  pub runs : slabs.moving ≡ Some move
+  pub next : Moving
+  pub runs_on : left.moving ≡ Some next
+  pub src : next.src ≡ move.src
+  pub at : next.at ≡ move.at + rounds
+
+-- at first
+pub gone_none : (number : ℕ) (view : View) (slabs : SlabState) (move : Moving) → slabs.moving ≡ Some move → (counts : Counts) → counts ≡ no_counts → GoneThrough number 0 counts view slabs view slabs
+gone_none number view slabs move runs counts none = record {
+  found = [];
+  count = refl;
+  counts_are = none;
+  small = subst (AreBelow 1) (sym none) (omega arith, omega arith, omega arith, omega arith, omega arith);
+  sections = (refl, refl);
+  move = move;
+  runs = runs;
+  next = move;
+  runs_on = runs;
+  src = refl;
+  at = omega arith;
+}
+
+-- and after one more
+pub gone_more : (number rounds : ℕ) (counts more : Counts) (found : Found) (next : Moving) (view : View) (slabs : SlabState) (between : View) (kept : SlabState) (now : View) (left : SlabState)
+    → GoneThrough number rounds counts view slabs between kept → kept.moving ≡ Some next → Section number found between kept now left → left.moving ≡ Some (moved_on next found) → more ≡ counted found counts
+    → GoneThrough number (rounds + 1) more view slabs now left
+gone_more number rounds counts more found next view slabs between kept now left gone here section moves is =
+    let same : gone.next ≡ next = same_Some gone.next next (sym gone.runs_on ∙ here) in record {
+      found = gone.found ++ found ∷ [];
+      count = length-append gone.found (found ∷ []) ∙ ap (λ n. n + 1) gone.count;
+      counts_are = is ∙ (ap (counted found) gone.counts_are ∙ sym (counts_more gone.found found no_counts));
+      small = subst (AreBelow (rounds + 1 + 1)) (sym is) (small_more rounds found counts gone.small);
+      sections = sections_more number gone.found found view slabs between kept now left gone.sections section;
+      move = gone.move;
+      runs = gone.runs;
+      next = moved_on next found;
+      runs_on = moves;
+      src = ap (λ (m : Moving). m.src) (sym same) ∙ gone.src;
+      at = let before = gone.at in let at = ap (λ (m : Moving). m.at) same in omega arith;
+    }
+
+-- after as many as a turn has
+pub looks_through : (number rounds : ℕ) (counts : Counts) (view : View) (slabs : SlabState) (now : View) (left : SlabState) (gone : GoneThrough number rounds counts view slabs now left)
+    → rounds ≡ min view.setup.config.bulk ((class_at slabs gone.move.src).per_page - gone.move.at) → LooksFrom number counts view slabs now left
+looks_through number rounds counts view slabs now left gone all = record {
+  move = gone.move;
+  runs = gone.runs;
+  found = gone.found;
+  count = gone.count ∙ all;
+  counts_are = gone.counts_are;
+  sections = gone.sections;
+}
+
+-- with two views of one arena: how many chunks a page has stays, and the counts stay small
+module _ (setup : Setup) (view : View) (was : LawfulView view) (first : view.setup ≡ setup) (slabs : SlabState) (mine : view.slabs ≡ Some slabs)
+    (now : View) (is : LawfulView now) (second : now.setup ≡ setup) (left : SlabState) (mine_now : now.slabs ≡ Some left)
+    (number rounds : ℕ) (counts : Counts) (gone : GoneThrough number rounds counts view slabs now left) where
+  same_chunks : (class_at left gone.next.src).per_page ≡ (class_at slabs gone.move.src).per_page
+  same_chunks =
+      chunks_of now is left mine_now gone.next gone.runs_on
+      ∙ (ap (λ (n : ℕ). per_page_of now.setup.table n) gone.src ∙ (ap (λ (s : Setup). per_page_of s.table gone.move.src) (second ∙ sym first) ∙ sym (chunks_of view was slabs mine gone.move gone.runs)))
+
+  -- the rounds are at most what was left of the page
+  rounds_within : gone.move.at + rounds ≤ (class_at slabs gone.move.src).per_page
+  rounds_within =
+      let at = gone.at in
+      let within = position_within now is left mine_now gone.next gone.runs_on in
+      let same = same_chunks in
+      omega arith
+
+  pub counts_small : AreBelow (2 ^ 32) counts
+  counts_small =
+      let few = few_chunks view was slabs mine gone.move gone.runs in
+      let within = rounds_within in
+      let small = gone.small in
+      (omega (arith, small.0), omega (arith, small.1), omega (arith, small.2), omega (arith, small.3), omega (arith, small.4))
+
+  -- the turn had its bulk
+  pub all_of_bulk : view.setup.config.bulk ≤ rounds → rounds ≤ view.setup.config.bulk → LooksFrom number counts view slabs now left
+  all_of_bulk low high =
+      let within = rounds_within in
+      looks_through number rounds counts view slabs now left gone (omega (arith))
+
+  -- or it came to the page's end
+  pub all_of_page : rounds ≤ view.setup.config.bulk → (next : Moving) → left.moving ≡ Some next → (class_at left next.src).per_page ≤ next.at → LooksFrom number counts view slabs now left
+  all_of_page high next here past =
+      let one : gone.next ≡ next = same_Some gone.next next (sym gone.runs_on ∙ here) in
+      let end = ap (λ (m : Moving). (class_at left m.src).per_page) one in
+      let place = ap (λ (m : Moving). m.at) one in
+      let at = gone.at in
+      let same = same_chunks in
+      let within = rounds_within in
+      looks_through number rounds counts view slabs now left gone (omega (arith))
+
+-- the sections of a turn, and then its end
+pub turns_so : (number : ℕ) (counts : Counts) (turn : Turn) (view : View) (slabs : SlabState) (looked : View) (kept : SlabState) (now : View) (left : SlabState)
+    → LooksFrom number counts view slabs looked kept → EndsTurn number counts turn looked kept now left → Turns number turn view slabs now left
+turns_so number counts Idle view slabs looked kept now left looks ends = absurd ends
+turns_so number counts (Went same) view slabs looked kept now left looks (is, goes_on) =
+    record { looked = looked; kept = kept; looks = subst (λ (n : Counts). LooksFrom number n view slabs looked kept) (sym is) looks; ends = goes_on }
+turns_so number counts (Finished same) view slabs looked kept now left looks (is, finishes) =
+    record { looked = looked; kept = kept; looks = subst (λ (n : Counts). LooksFrom number n view slabs looked kept) (sym is) looks; ends = finishes }

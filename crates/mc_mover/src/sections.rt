@@ -64,6 +64,7 @@ pub(crate) fn sections(
     ensures locks { hand.new.locks ≡ hand.old.locks }
     ensures held { (view hand.new).slabs ≡ Some held.new.shared }
     ensures looks { IfOk result (λ counts. LooksFrom hand.old.number counts (view hand.old) held.old.shared (view hand.new) held.new.shared) }
+    ensures runs { IfOk result (λ counts. is_some held.new.shared.moving ≡ true) }
     ensures lacks { OnErr result (LacksMemory hand.old.number (view hand.old) held.old.shared (view hand.new) held.new.shared) }
     ensures uncut { held.new.shared.uncut ≡ held.old.shared.uncut }
     ensures holdings { (view hand.new).row.holdings ≡ (view hand.old).row.holdings }

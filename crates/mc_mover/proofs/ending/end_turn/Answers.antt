@@ -1,6 +1,5 @@
-use Rattle.std.proofs.Common.{◌≡◌, ◌∙◌, ap, sym, subst, refl, inl, inr, arith, Some}
+use Rattle.std.proofs.Common.{◌≡◌, ◌∙◌, ap, sym, subst, refl, inr, arith, Some}
 use Rattle.mc_pages.specs.SlabState.{SlabState, IsClass, class_at}
-use Rattle.mc_words.specs.View.{View}
 use Rattle.mc_mover.specs.Turning.{IsAtEnd}
 use Rattle.mc_mover.proofs.Ends.{move_here}
 use Rattle.mc_mover.proofs.ending.end_turn.Goals as goal

@@ -1,4 +1,4 @@
-use Rattle.std.proofs.Common.{◌≡◌, ◌≤◌, ◌==◌, Bool, List, ap, sym, subst, ◌∙◌, refl, ne_eqb}
+use Rattle.std.proofs.Common.{◌≡◌, ◌≤◌, ◌==◌, Bool, List, ap, sym, subst, ◌∙◌, ne_eqb}
 use Rattle.std.specs.Prelude.{[], if◌then◌else◌, Option}
 use Rattle.mc_pages.specs.declared.ids.ChunkId.{ChunkId}
 use Rattle.mc_pages.specs.declared.ids.Moving.{Moving}

@@ -1,0 +1,312 @@
+use Rattle.std.proofs.Common.{◌≡◌, ◌≢◌, ◌<◌, ◌%◌, ℕ, Bool, true, false, not, map, Some, refl, sym, ap, subst, ◌∙◌, inl, inr, arith}
+use Rattle.std.specs.Option.{option_map}
+use Rattle.mc_classes.specs.declared.config.Config.{Config}
+use Rattle.mc_pages.specs.declared.moves.Found.{Found}
+use Rattle.mc_pages.specs.declared.moves.Found.TheVariants.{Busy}
+use Rattle.mc_pages.specs.Moves.{is_held_up}
+use Rattle.mc_pages.specs.ClassState.{ClassState}
+use Rattle.mc_pages.specs.SlabState.{SlabState, class_at, class_of_page}
+use Rattle.mc_pages.proofs.ClassChanges.{per_pages-with_class}
+use Rattle.mc_pages.proofs.Cuts.{per_page-map}
+use Rattle.mc_stripe.specs.StripeState.{place_of}
+use Rattle.mc_core.specs.State.{room_in}
+use Rattle.mc_words.specs.View.{Setup, View}
+use Rattle.mc_words.specs.Idle.{has_no_stripes}
+use Rattle.mc_words.specs.Out.{without_stripe}
+use Rattle.mc_words.specs.Owner.{is_unused}
+use Rattle.mc_words.specs.Views.{stripe_given, stripe_missed}
+use Rattle.mc_mover.specs.Linked.{FindsGone, HoldsUp, LacksCall, OnlyGives, ReachesStripe, ReadsKey, SavesAs, VisitsLinked}
+use Rattle.mc_mover.proofs.ClearedPages.{cleared_after_clear}
+use Rattle.mc_mover.proofs.Copied.{three_places}
+use Rattle.mc_mover.proofs.HandNumbers.{number_stays}
+use Rattle.mc_mover.proofs.Refusals.{as_error}
+use Rattle.mc_mover.proofs.Visits.{dead_unused, held_found, held_up, of_ok, reached, saved_found, stripe_back, stripe_found, visited_saved}
+use Rattle.mc_mover.proofs.linked.visit_linked.Goals.{then-not-unheld-via-then-not-unheld, then-not-unheld-via-else-not-unheld+then-not-leads_to}
+use Rattle.mc_mover.proofs.linked.visit_linked.Goals as goal
+
+pub word_held-key-requires-clause-inside : goal.word_held-key-requires-clause-inside
+word_held-key-requires-clause-inside c =
+    let view : View = c.args.hand.now.seat.me.0 in
+    let slabs = c.args.held.now.shared in
+    let setup = c.args.arena.now.table.shared.key in
+    let places = three_places view setup c.requires.arena.lawful c.requires.arena.setup slabs c.requires.held c.args.chunk c.requires.near c.requires.linked (room_in setup.table (class_of_page slabs c.args.chunk.page)) refl in
+    let three = places.0 in omega arith
+
+pub returns-in_default-clause-visits : goal.returns-in_default-clause-visits
+returns-in_default-clause-visits c =
+    let view : View = c.args.hand.now.seat.me.0 in
+    let key = c.word_held-key.result in
+    let read : View = c.word_held-key.new.hand.seat.me.0 in
+    let at : key % c.config.result.now.stripes ≡ key % view.setup.config.stripes = ap (λ (g : Config). key % g.stripes) (c.config.ensures.config ∙ ap (λ (s : Setup). s.config) (sym c.requires.arena.setup)) in
+    let (word, busy, missed) = c.in_default.ensures.held in
+    (record { key = key; read = read; reads = (c.word_held-key.ensures.happens, c.word_held-key.ensures.view); word = word; busy = busy; is = missed ∙ ap (λ n. stripe_missed n word read) at }, refl)
+
+pub returns-then-not-unheld-clause-locks : goal.returns-then-not-unheld-clause-locks
+returns-then-not-unheld-clause-locks c =
+    let back = ap without_stripe c.in-Ok.ensures.locks ∙ (stripe_back c.word_held-key.new.hand (c.word_held-key.result % c.config.result.now.stripes) (ap (λ (v : View). has_no_stripes v) c.word_held-key.ensures.view ∙ c.requires.one) ∙ c.word_held-key.ensures.locks) in
+    c.give_stripe.ensures.locks ∙ back
+
+pub returns-then-not-unheld-clause-visits : goal.returns-then-not-unheld-clause-visits
+returns-then-not-unheld-clause-visits c =
+    let view : View = c.args.hand.now.seat.me.0 in
+    let key = c.word_held-key.result in
+    let read : View = c.word_held-key.new.hand.seat.me.0 in
+    let at : key % c.config.result.now.stripes ≡ key % view.setup.config.stripes = ap (λ (g : Config). key % g.stripes) (c.config.ensures.config ∙ ap (λ (s : Setup). s.config) (sym c.requires.arena.setup)) in
+    let taken : View = c.try_stripe.new.hand.seat.me.0 in
+    let slabs = c.args.held.now.shared in
+    let value = c.in-Ok.stripe.stripe in
+    let stripe = key % c.config.result.now.stripes in
+    let reads : ReadsKey c.args.chunk key view read = (c.word_held-key.ensures.happens, c.word_held-key.ensures.view) in
+    let given = c.give_stripe.ensures.left ∙ ap (λ n. stripe_given n value taken) c.in-Ok.ensures.number in
+    let now : View = c.give_stripe.new.hand.seat.me.0 in
+    held_up c.args.chunk view read taken slabs key stripe value reads at c.in-Ok.ensures.taken c.in-Ok.ensures.lent c.in-Ok.ensures.whole c.args.hand.now.number c.args.class c.args.unheld now given (elim c.then-not-unheld.branch [
+      | then-not-unheld-via-then-not-unheld w ↦ inl w.if-not-unheld.true
+      | then-not-unheld-via-else-not-unheld+then-not-leads_to w ↦ inr (w.if-not-unheld.false, w.if-not-leads_to.ensures.other refl)
+    ])
+
+pub save-requires-clause-key : goal.save-requires-clause-key
+save-requires-clause-key c =
+    let view : View = c.args.hand.now.seat.me.0 in
+    let key = c.word_held-key.result in
+    let read : View = c.word_held-key.new.hand.seat.me.0 in
+    let at : key % c.config.result.now.stripes ≡ key % view.setup.config.stripes = ap (λ (g : Config). key % g.stripes) (c.config.ensures.config ∙ ap (λ (s : Setup). s.config) (sym c.requires.arena.setup)) in
+    let taken : View = c.try_stripe.new.hand.seat.me.0 in
+    let slabs = c.args.held.now.shared in
+    let value = c.in-Ok.stripe.stripe in
+    let stripe = key % c.config.result.now.stripes in
+    let reads : ReadsKey c.args.chunk key view read = (c.word_held-key.ensures.happens, c.word_held-key.ensures.view) in
+    stripe_found c.args.chunk view read taken slabs key stripe value reads at c.in-Ok.ensures.taken c.in-Ok.ensures.lent c.in-Ok.ensures.whole ∙ ap (λ n. Some n) (sym c.in-Ok.ensures.number)
+
+pub save-requires-clause-leads : goal.save-requires-clause-leads
+save-requires-clause-leads c =
+    let (stamp, leads) = c.if-not-leads_to.ensures.leads refl in
+    (c.word_held-key.result, stamp, leads)
+
+pub returns-in_err-found-clause-locks : goal.returns-in_err-found-clause-locks
+returns-in_err-found-clause-locks c =
+    let back = ap without_stripe c.in-Ok.ensures.locks ∙ (stripe_back c.word_held-key.new.hand (c.word_held-key.result % c.config.result.now.stripes) (ap (λ (v : View). has_no_stripes v) c.word_held-key.ensures.view ∙ c.requires.one) ∙ c.word_held-key.ensures.locks) in
+    c.save.ensures.locks ∙ back
+
+pub returns-in_err-found-clause-lacks : goal.returns-in_err-found-clause-lacks
+returns-in_err-found-clause-lacks c =
+    let view : View = c.args.hand.now.seat.me.0 in
+    let key = c.word_held-key.result in
+    let read : View = c.word_held-key.new.hand.seat.me.0 in
+    let at : key % c.config.result.now.stripes ≡ key % view.setup.config.stripes = ap (λ (g : Config). key % g.stripes) (c.config.ensures.config ∙ ap (λ (s : Setup). s.config) (sym c.requires.arena.setup)) in
+    let taken : View = c.try_stripe.new.hand.seat.me.0 in
+    let slabs = c.args.held.now.shared in
+    let value = c.in-Ok.stripe.stripe in
+    let stripe = key % c.config.result.now.stripes in
+    let reads : ReadsKey c.args.chunk key view read = (c.word_held-key.ensures.happens, c.word_held-key.ensures.view) in
+    let now : View = c.save.new.hand.seat.me.0 in
+    let left = c.save.new.slabs.shared in
+    as_error c.from_residual.result (reached c.args.chunk view read taken slabs key stripe value reads at c.in-Ok.ensures.taken c.in-Ok.ensures.lent c.in-Ok.ensures.whole (λ key. OnlyGives) now left (subst (λ n. OnlyGives n value taken slabs now left) c.in-Ok.ensures.number c.in_err-found.ensures.lacks))
+
+pub returns-then-ne-clause-locks : goal.returns-then-ne-clause-locks
+returns-then-ne-clause-locks c =
+    let back = ap without_stripe c.in-Ok.ensures.locks ∙ (stripe_back c.word_held-key.new.hand (c.word_held-key.result % c.config.result.now.stripes) (ap (λ (v : View). has_no_stripes v) c.word_held-key.ensures.view ∙ c.requires.one) ∙ c.word_held-key.ensures.locks) in
+    c.clear.ensures.locks ∙ (c.save.ensures.locks ∙ back)
+
+pub returns-then-ne-clause-visits : goal.returns-then-ne-clause-visits
+returns-then-ne-clause-visits c =
+    let view : View = c.args.hand.now.seat.me.0 in
+    let key = c.word_held-key.result in
+    let read : View = c.word_held-key.new.hand.seat.me.0 in
+    let at : key % c.config.result.now.stripes ≡ key % view.setup.config.stripes = ap (λ (g : Config). key % g.stripes) (c.config.ensures.config ∙ ap (λ (s : Setup). s.config) (sym c.requires.arena.setup)) in
+    let taken : View = c.try_stripe.new.hand.seat.me.0 in
+    let slabs = c.args.held.now.shared in
+    let value = c.in-Ok.stripe.stripe in
+    let stripe = key % c.config.result.now.stripes in
+    let reads : ReadsKey c.args.chunk key view read = (c.word_held-key.ensures.happens, c.word_held-key.ensures.view) in
+    let found = c.in_ok-found.found in
+    let saved : View = c.save.new.hand.seat.me.0 in
+    let kept = c.save.new.slabs.shared in
+    let number = number_stays c.args.hand.now c.try_stripe.new.hand (ap (λ (v : View). v.row.ids) c.in-Ok.ensures.lent ∙ ap (λ (v : View). v.row.ids) c.word_held-key.ensures.view) in
+    let saves : SavesAs c.args.hand.now.number c.args.class c.args.chunk found stripe value taken slabs saved kept =
+    subst (λ (p : ℕ × ℕ). SavesAs p.0 c.args.class c.args.chunk found p.1 value taken slabs saved kept) (λ k. (number k, c.in-Ok.ensures.number k)) c.in_ok-found.ensures.saves in
+    let free = saved_found c.args.hand.now.number c.args.class c.args.chunk found stripe value taken slabs saved kept saves (sym c.ne.ensures ∙ c.if-ne.true) in
+    let dead = c.in_ok-found.ensures.dead free in
+    let clears = of_ok c.clear.result (c.clear.ensures.succeeds (dead_unused _ dead)) c.clear.ensures.cleared in
+    let held : c.args.unheld ≡ true = c.if-not-unheld.false in
+    subst (λ (b : Bool). VisitsLinked c.args.hand.now.number c.args.class c.args.chunk b found view slabs c.clear.new.hand.seat.me.0 c.clear.new.held.shared) (sym held)
+    (visited_saved c.args.hand.now.number c.args.class c.args.chunk found view slabs c.clear.new.hand.seat.me.0 c.clear.new.held.shared free
+    (record { saved = saved; kept = kept; reaches = reached c.args.chunk view read taken slabs key stripe value reads at c.in-Ok.ensures.taken c.in-Ok.ensures.lent c.in-Ok.ensures.whole (λ key. SavesAs c.args.hand.now.number c.args.class c.args.chunk found) saved kept saves; clears = clears.0; left_is = clears.1 }))
+
+pub returns-then-ne-clause-clears : goal.returns-then-ne-clause-clears
+returns-then-ne-clause-clears c =
+    let view : View = c.args.hand.now.seat.me.0 in
+    let key = c.word_held-key.result in
+    let read : View = c.word_held-key.new.hand.seat.me.0 in
+    let at : key % c.config.result.now.stripes ≡ key % view.setup.config.stripes = ap (λ (g : Config). key % g.stripes) (c.config.ensures.config ∙ ap (λ (s : Setup). s.config) (sym c.requires.arena.setup)) in
+    let taken : View = c.try_stripe.new.hand.seat.me.0 in
+    let slabs = c.args.held.now.shared in
+    let value = c.in-Ok.stripe.stripe in
+    let stripe = key % c.config.result.now.stripes in
+    let reads : ReadsKey c.args.chunk key view read = (c.word_held-key.ensures.happens, c.word_held-key.ensures.view) in
+    let found = c.in_ok-found.found in
+    let saved : View = c.save.new.hand.seat.me.0 in
+    let kept = c.save.new.slabs.shared in
+    let number = number_stays c.args.hand.now c.try_stripe.new.hand (ap (λ (v : View). v.row.ids) c.in-Ok.ensures.lent ∙ ap (λ (v : View). v.row.ids) c.word_held-key.ensures.view) in
+    let saves : SavesAs c.args.hand.now.number c.args.class c.args.chunk found stripe value taken slabs saved kept =
+    subst (λ (p : ℕ × ℕ). SavesAs p.0 c.args.class c.args.chunk found p.1 value taken slabs saved kept) (λ k. (number k, c.in-Ok.ensures.number k)) c.in_ok-found.ensures.saves in
+    let free = saved_found c.args.hand.now.number c.args.class c.args.chunk found stripe value taken slabs saved kept saves (sym c.ne.ensures ∙ c.if-ne.true) in
+    let dead = c.in_ok-found.ensures.dead free in
+    let clears = of_ok c.clear.result (c.clear.ensures.succeeds (dead_unused _ dead)) c.clear.ensures.cleared in
+    let owned : class_of_page kept c.args.chunk.page ≡ c.args.class = ap (λ owners. Rattle.mc_pages.specs.SlabState.class_of_owner (Rattle.mc_pages.specs.Ledger.owner_at owners c.args.chunk.page)) c.in_ok-found.ensures.owners ∙ c.requires.own in
+    λ _. cleared_after_clear saved c.clear.new.hand.seat.me.0 kept c.clear.new.held.shared c.args.class c.args.chunk c.save.ensures.slabs c.clear.ensures.held c.clear.ensures.arena.lawful clears.0 clears.1 owned
+
+pub returns-then-ne-clause-moving : goal.returns-then-ne-clause-moving
+returns-then-ne-clause-moving c =
+    let view : View = c.args.hand.now.seat.me.0 in
+    let key = c.word_held-key.result in
+    let read : View = c.word_held-key.new.hand.seat.me.0 in
+    let at : key % c.config.result.now.stripes ≡ key % view.setup.config.stripes = ap (λ (g : Config). key % g.stripes) (c.config.ensures.config ∙ ap (λ (s : Setup). s.config) (sym c.requires.arena.setup)) in
+    let taken : View = c.try_stripe.new.hand.seat.me.0 in
+    let slabs = c.args.held.now.shared in
+    let value = c.in-Ok.stripe.stripe in
+    let stripe = key % c.config.result.now.stripes in
+    let reads : ReadsKey c.args.chunk key view read = (c.word_held-key.ensures.happens, c.word_held-key.ensures.view) in
+    let found = c.in_ok-found.found in
+    let saved : View = c.save.new.hand.seat.me.0 in
+    let kept = c.save.new.slabs.shared in
+    let number = number_stays c.args.hand.now c.try_stripe.new.hand (ap (λ (v : View). v.row.ids) c.in-Ok.ensures.lent ∙ ap (λ (v : View). v.row.ids) c.word_held-key.ensures.view) in
+    let saves : SavesAs c.args.hand.now.number c.args.class c.args.chunk found stripe value taken slabs saved kept =
+    subst (λ (p : ℕ × ℕ). SavesAs p.0 c.args.class c.args.chunk found p.1 value taken slabs saved kept) (λ k. (number k, c.in-Ok.ensures.number k)) c.in_ok-found.ensures.saves in
+    let free = saved_found c.args.hand.now.number c.args.class c.args.chunk found stripe value taken slabs saved kept saves (sym c.ne.ensures ∙ c.if-ne.true) in
+    let dead = c.in_ok-found.ensures.dead free in
+    let clears = of_ok c.clear.result (c.clear.ensures.succeeds (dead_unused _ dead)) c.clear.ensures.cleared in
+    ap (λ (x : SlabState). x.moving) clears.1 ∙ c.in_ok-found.ensures.moving
+
+pub returns-then-ne-clause-uncut : goal.returns-then-ne-clause-uncut
+returns-then-ne-clause-uncut c =
+    let view : View = c.args.hand.now.seat.me.0 in
+    let key = c.word_held-key.result in
+    let read : View = c.word_held-key.new.hand.seat.me.0 in
+    let at : key % c.config.result.now.stripes ≡ key % view.setup.config.stripes = ap (λ (g : Config). key % g.stripes) (c.config.ensures.config ∙ ap (λ (s : Setup). s.config) (sym c.requires.arena.setup)) in
+    let taken : View = c.try_stripe.new.hand.seat.me.0 in
+    let slabs = c.args.held.now.shared in
+    let value = c.in-Ok.stripe.stripe in
+    let stripe = key % c.config.result.now.stripes in
+    let reads : ReadsKey c.args.chunk key view read = (c.word_held-key.ensures.happens, c.word_held-key.ensures.view) in
+    let found = c.in_ok-found.found in
+    let saved : View = c.save.new.hand.seat.me.0 in
+    let kept = c.save.new.slabs.shared in
+    let number = number_stays c.args.hand.now c.try_stripe.new.hand (ap (λ (v : View). v.row.ids) c.in-Ok.ensures.lent ∙ ap (λ (v : View). v.row.ids) c.word_held-key.ensures.view) in
+    let saves : SavesAs c.args.hand.now.number c.args.class c.args.chunk found stripe value taken slabs saved kept =
+    subst (λ (p : ℕ × ℕ). SavesAs p.0 c.args.class c.args.chunk found p.1 value taken slabs saved kept) (λ k. (number k, c.in-Ok.ensures.number k)) c.in_ok-found.ensures.saves in
+    let free = saved_found c.args.hand.now.number c.args.class c.args.chunk found stripe value taken slabs saved kept saves (sym c.ne.ensures ∙ c.if-ne.true) in
+    let dead = c.in_ok-found.ensures.dead free in
+    let clears = of_ok c.clear.result (c.clear.ensures.succeeds (dead_unused _ dead)) c.clear.ensures.cleared in
+    ap (λ (x : SlabState). x.uncut) clears.1 ∙ c.in_ok-found.ensures.uncut
+
+pub returns-then-ne-clause-per_page : goal.returns-then-ne-clause-per_page
+returns-then-ne-clause-per_page c =
+    let view : View = c.args.hand.now.seat.me.0 in
+    let key = c.word_held-key.result in
+    let read : View = c.word_held-key.new.hand.seat.me.0 in
+    let at : key % c.config.result.now.stripes ≡ key % view.setup.config.stripes = ap (λ (g : Config). key % g.stripes) (c.config.ensures.config ∙ ap (λ (s : Setup). s.config) (sym c.requires.arena.setup)) in
+    let taken : View = c.try_stripe.new.hand.seat.me.0 in
+    let slabs = c.args.held.now.shared in
+    let value = c.in-Ok.stripe.stripe in
+    let stripe = key % c.config.result.now.stripes in
+    let reads : ReadsKey c.args.chunk key view read = (c.word_held-key.ensures.happens, c.word_held-key.ensures.view) in
+    let found = c.in_ok-found.found in
+    let saved : View = c.save.new.hand.seat.me.0 in
+    let kept = c.save.new.slabs.shared in
+    let number = number_stays c.args.hand.now c.try_stripe.new.hand (ap (λ (v : View). v.row.ids) c.in-Ok.ensures.lent ∙ ap (λ (v : View). v.row.ids) c.word_held-key.ensures.view) in
+    let saves : SavesAs c.args.hand.now.number c.args.class c.args.chunk found stripe value taken slabs saved kept =
+    subst (λ (p : ℕ × ℕ). SavesAs p.0 c.args.class c.args.chunk found p.1 value taken slabs saved kept) (λ k. (number k, c.in-Ok.ensures.number k)) c.in_ok-found.ensures.saves in
+    let free = saved_found c.args.hand.now.number c.args.class c.args.chunk found stripe value taken slabs saved kept saves (sym c.ne.ensures ∙ c.if-ne.true) in
+    let dead = c.in_ok-found.ensures.dead free in
+    let clears = of_ok c.clear.result (c.clear.ensures.succeeds (dead_unused _ dead)) c.clear.ensures.cleared in
+    per_page-map kept c.clear.new.held.shared c.args.class (ap (λ (s : SlabState). map (λ (x : ClassState). x.per_page) s.classes) clears.1 ∙ per_pages-with_class kept (class_of_page kept c.args.chunk.page) _ refl) ∙ c.in_ok-found.ensures.per_page
+
+pub returns-then-ne-clause-holdings : goal.returns-then-ne-clause-holdings
+returns-then-ne-clause-holdings c =
+    let view : View = c.args.hand.now.seat.me.0 in
+    let key = c.word_held-key.result in
+    let read : View = c.word_held-key.new.hand.seat.me.0 in
+    let at : key % c.config.result.now.stripes ≡ key % view.setup.config.stripes = ap (λ (g : Config). key % g.stripes) (c.config.ensures.config ∙ ap (λ (s : Setup). s.config) (sym c.requires.arena.setup)) in
+    let taken : View = c.try_stripe.new.hand.seat.me.0 in
+    let slabs = c.args.held.now.shared in
+    let value = c.in-Ok.stripe.stripe in
+    let stripe = key % c.config.result.now.stripes in
+    let reads : ReadsKey c.args.chunk key view read = (c.word_held-key.ensures.happens, c.word_held-key.ensures.view) in
+    let found = c.in_ok-found.found in
+    let saved : View = c.save.new.hand.seat.me.0 in
+    let kept = c.save.new.slabs.shared in
+    let number = number_stays c.args.hand.now c.try_stripe.new.hand (ap (λ (v : View). v.row.ids) c.in-Ok.ensures.lent ∙ ap (λ (v : View). v.row.ids) c.word_held-key.ensures.view) in
+    let saves : SavesAs c.args.hand.now.number c.args.class c.args.chunk found stripe value taken slabs saved kept =
+    subst (λ (p : ℕ × ℕ). SavesAs p.0 c.args.class c.args.chunk found p.1 value taken slabs saved kept) (λ k. (number k, c.in-Ok.ensures.number k)) c.in_ok-found.ensures.saves in
+    let free = saved_found c.args.hand.now.number c.args.class c.args.chunk found stripe value taken slabs saved kept saves (sym c.ne.ensures ∙ c.if-ne.true) in
+    let dead = c.in_ok-found.ensures.dead free in
+    let clears = of_ok c.clear.result (c.clear.ensures.succeeds (dead_unused _ dead)) c.clear.ensures.cleared in
+    ap (λ (v : View). v.row.holdings) clears.0.is ∙ (c.save.ensures.holdings ∙ (ap (λ (v : View). v.row.holdings) c.in-Ok.ensures.lent ∙ ap (λ (v : View). v.row.holdings) c.word_held-key.ensures.view))
+
+pub returns-then-ne-clause-ids : goal.returns-then-ne-clause-ids
+returns-then-ne-clause-ids c =
+    let view : View = c.args.hand.now.seat.me.0 in
+    let key = c.word_held-key.result in
+    let read : View = c.word_held-key.new.hand.seat.me.0 in
+    let at : key % c.config.result.now.stripes ≡ key % view.setup.config.stripes = ap (λ (g : Config). key % g.stripes) (c.config.ensures.config ∙ ap (λ (s : Setup). s.config) (sym c.requires.arena.setup)) in
+    let taken : View = c.try_stripe.new.hand.seat.me.0 in
+    let slabs = c.args.held.now.shared in
+    let value = c.in-Ok.stripe.stripe in
+    let stripe = key % c.config.result.now.stripes in
+    let reads : ReadsKey c.args.chunk key view read = (c.word_held-key.ensures.happens, c.word_held-key.ensures.view) in
+    let found = c.in_ok-found.found in
+    let saved : View = c.save.new.hand.seat.me.0 in
+    let kept = c.save.new.slabs.shared in
+    let number = number_stays c.args.hand.now c.try_stripe.new.hand (ap (λ (v : View). v.row.ids) c.in-Ok.ensures.lent ∙ ap (λ (v : View). v.row.ids) c.word_held-key.ensures.view) in
+    let saves : SavesAs c.args.hand.now.number c.args.class c.args.chunk found stripe value taken slabs saved kept =
+    subst (λ (p : ℕ × ℕ). SavesAs p.0 c.args.class c.args.chunk found p.1 value taken slabs saved kept) (λ k. (number k, c.in-Ok.ensures.number k)) c.in_ok-found.ensures.saves in
+    let free = saved_found c.args.hand.now.number c.args.class c.args.chunk found stripe value taken slabs saved kept saves (sym c.ne.ensures ∙ c.if-ne.true) in
+    let dead = c.in_ok-found.ensures.dead free in
+    let clears = of_ok c.clear.result (c.clear.ensures.succeeds (dead_unused _ dead)) c.clear.ensures.cleared in
+    ap (λ (v : View). v.row.ids) clears.0.is ∙ (c.save.ensures.ids ∙ (ap (λ (v : View). v.row.ids) c.in-Ok.ensures.lent ∙ ap (λ (v : View). v.row.ids) c.word_held-key.ensures.view))
+
+pub returns-else-ne-clause-locks : goal.returns-else-ne-clause-locks
+returns-else-ne-clause-locks c =
+    let back = ap without_stripe c.in-Ok.ensures.locks ∙ (stripe_back c.word_held-key.new.hand (c.word_held-key.result % c.config.result.now.stripes) (ap (λ (v : View). has_no_stripes v) c.word_held-key.ensures.view ∙ c.requires.one) ∙ c.word_held-key.ensures.locks) in
+    c.save.ensures.locks ∙ back
+
+pub returns-else-ne-clause-visits : goal.returns-else-ne-clause-visits
+returns-else-ne-clause-visits c =
+    let view : View = c.args.hand.now.seat.me.0 in
+    let key = c.word_held-key.result in
+    let read : View = c.word_held-key.new.hand.seat.me.0 in
+    let at : key % c.config.result.now.stripes ≡ key % view.setup.config.stripes = ap (λ (g : Config). key % g.stripes) (c.config.ensures.config ∙ ap (λ (s : Setup). s.config) (sym c.requires.arena.setup)) in
+    let taken : View = c.try_stripe.new.hand.seat.me.0 in
+    let slabs = c.args.held.now.shared in
+    let value = c.in-Ok.stripe.stripe in
+    let stripe = key % c.config.result.now.stripes in
+    let reads : ReadsKey c.args.chunk key view read = (c.word_held-key.ensures.happens, c.word_held-key.ensures.view) in
+    let found = c.in_ok-found.found in
+    let saved : View = c.save.new.hand.seat.me.0 in
+    let kept = c.save.new.slabs.shared in
+    let number = number_stays c.args.hand.now c.try_stripe.new.hand (ap (λ (v : View). v.row.ids) c.in-Ok.ensures.lent ∙ ap (λ (v : View). v.row.ids) c.word_held-key.ensures.view) in
+    let saves : SavesAs c.args.hand.now.number c.args.class c.args.chunk found stripe value taken slabs saved kept =
+    subst (λ (p : ℕ × ℕ). SavesAs p.0 c.args.class c.args.chunk found p.1 value taken slabs saved kept) (λ k. (number k, c.in-Ok.ensures.number k)) c.in_ok-found.ensures.saves in
+    let busy = held_found c.args.hand.now.number c.args.class c.args.chunk found stripe value taken slabs saved kept saves (sym c.ne.ensures ∙ c.if-ne.false) in
+    subst (λ (p : Bool × Found). VisitsLinked c.args.hand.now.number c.args.class c.args.chunk p.0 p.1 view slabs saved kept) (λ k. (sym c.if-not-unheld.false k, sym busy k))
+    (inr (reached c.args.chunk view read taken slabs key stripe value reads at c.in-Ok.ensures.taken c.in-Ok.ensures.lent c.in-Ok.ensures.whole (λ key. SavesAs c.args.hand.now.number c.args.class c.args.chunk Busy) saved kept (subst (λ (f : Found). SavesAs c.args.hand.now.number c.args.class c.args.chunk f stripe value taken slabs saved kept) busy saves)))
+
+pub returns-else-ne-clause-clears : goal.returns-else-ne-clause-clears
+returns-else-ne-clause-clears c =
+    let view : View = c.args.hand.now.seat.me.0 in
+    let key = c.word_held-key.result in
+    let read : View = c.word_held-key.new.hand.seat.me.0 in
+    let at : key % c.config.result.now.stripes ≡ key % view.setup.config.stripes = ap (λ (g : Config). key % g.stripes) (c.config.ensures.config ∙ ap (λ (s : Setup). s.config) (sym c.requires.arena.setup)) in
+    let taken : View = c.try_stripe.new.hand.seat.me.0 in
+    let slabs = c.args.held.now.shared in
+    let value = c.in-Ok.stripe.stripe in
+    let stripe = key % c.config.result.now.stripes in
+    let reads : ReadsKey c.args.chunk key view read = (c.word_held-key.ensures.happens, c.word_held-key.ensures.view) in
+    let found = c.in_ok-found.found in
+    let saved : View = c.save.new.hand.seat.me.0 in
+    let kept = c.save.new.slabs.shared in
+    let number = number_stays c.args.hand.now c.try_stripe.new.hand (ap (λ (v : View). v.row.ids) c.in-Ok.ensures.lent ∙ ap (λ (v : View). v.row.ids) c.word_held-key.ensures.view) in
+    let saves : SavesAs c.args.hand.now.number c.args.class c.args.chunk found stripe value taken slabs saved kept =
+    subst (λ (p : ℕ × ℕ). SavesAs p.0 c.args.class c.args.chunk found p.1 value taken slabs saved kept) (λ k. (number k, c.in-Ok.ensures.number k)) c.in_ok-found.ensures.saves in
+    let busy = held_found c.args.hand.now.number c.args.class c.args.chunk found stripe value taken slabs saved kept saves (sym c.ne.ensures ∙ c.if-ne.false) in
+    λ free. absurd (let held : is_held_up found ≡ true = ap is_held_up busy in let never : true ≡ false = sym held ∙ free in cc)

@@ -1,0 +1,105 @@
+use Rattle.std.proofs.Common.{◌∙◌, ap, sym, subst, refl, arith}
+use Rattle.mc_classes.specs.declared.config.Config.{Config}
+use Rattle.mc_pages.specs.SlabState.{SlabState, IsClass, class_at}
+use Rattle.mc_words.specs.View.{Setup, View}
+use Rattle.mc_words.specs.Arenas.{setup_of}
+use Rattle.mc_words.specs.Out.{has_no_stripe}
+use Rattle.mc_words.proofs.Unlocked.{no_stripe_from, no_stripes_there}
+use Rattle.mc_mover.specs.Turning.{LacksMemory, Section}
+use Rattle.mc_mover.proofs.Ends.{move_here}
+use Rattle.mc_mover.proofs.HandNumbers.{number_stays}
+use Rattle.mc_mover.proofs.Refusals.{as_error, on_error}
+use Rattle.mc_mover.proofs.Rounds.{all_of_bulk, all_of_page, counts_small, gone_more, gone_none, lacks_on, some_move}
+use Rattle.mc_mover.proofs.sections.sections.Goals as goal
+
+pub loop-init : goal.loop-init
+loop-init c =
+    let slabs = c.args.held.now.shared in
+    let (move, runs) = some_move slabs.moving c.requires.runs in
+    record {
+      arena = c.requires.arena;
+      locks = refl;
+      held = c.requires.held;
+      uncut = refl;
+      holdings = refl;
+      ids = refl;
+      gone = gone_none c.args.hand.now.number c.args.hand.now.seat.me.0 slabs move runs c.new-counts.result c.new-counts.ensures.none;
+    }
+
+pub per_page-requires : goal.per_page-requires
+per_page-requires c =
+    let inv = c.loop.invariant in
+    let move = c.in-Some.moving in
+    subst (λ (s : SlabState). IsClass s move.src) (sym c.slabs.ensures.slabs) (move_here c.loop.hand.seat.me.0 inv.arena.lawful c.loop.held.shared inv.held move (sym c.in-Some.ensures.moving)).src
+
+pub section-requires-clause-one : goal.section-requires-clause-one
+section-requires-clause-one c =
+    let inv = c.loop.invariant in
+    let hand = c.args.hand.now in
+    let now = c.loop.hand in
+    no_stripes_there now.seat.me.0 now.locks now.noted.4 (ap has_no_stripe inv.locks ∙ no_stripe_from hand.seat.me.0 hand.locks hand.noted.4 c.requires.one)
+
+pub returns-in_err-found-clause-lacks : goal.returns-in_err-found-clause-lacks
+returns-in_err-found-clause-lacks c =
+    let inv = c.loop.invariant in
+    let hand = c.args.hand.now in
+    let before : View = c.loop.hand.seat.me.0 in
+    let now : View = c.section.new.hand.seat.me.0 in
+    let left = c.section.new.held.shared in
+    let lacks = on_error c.section.result c.in_err-found.field-0.0 c.in_err-found.was c.section.ensures.lacks in
+    as_error c.from_residual.result
+    (lacks_on hand.number inv.gone.found hand.seat.me.0 c.args.held.now.shared before c.loop.held.shared now left inv.gone.sections
+    (subst (λ n. LacksMemory n before c.loop.held.shared now left) (number_stays hand c.loop.hand inv.ids) lacks))
+
+pub count-requires : goal.count-requires
+count-requires c =
+    let inv = c.loop.invariant in
+    let hand = c.args.hand.now in
+    record {
+      below = counts_small (setup_of c.args.arena.now) hand.seat.me.0 c.requires.arena.lawful c.requires.arena.setup c.args.held.now.shared c.requires.held
+          c.loop.hand.seat.me.0 inv.arena.lawful inv.arena.setup c.loop.held.shared inv.held hand.number c.loop.counter c.loop.counts inv.gone;
+    }
+
+pub loop-preserved : goal.loop-preserved
+loop-preserved c =
+    let inv = c.loop.invariant in
+    let hand = c.args.hand.now in
+    let before : View = c.loop.hand.seat.me.0 in
+    let now : View = c.section.new.hand.seat.me.0 in
+    let left = c.section.new.held.shared in
+    let found = c.in_ok-found.found in
+    record {
+      arena = c.section.ensures.arena;
+      locks = c.section.ensures.locks ∙ inv.locks;
+      held = c.section.ensures.held;
+      uncut = c.section.ensures.uncut ∙ inv.uncut;
+      holdings = c.section.ensures.holdings ∙ inv.holdings;
+      ids = c.section.ensures.ids ∙ inv.ids;
+      gone = gone_more hand.number c.loop.counter c.loop.counts c.count.new.self found c.in-Some.moving hand.seat.me.0 c.args.held.now.shared before c.loop.held.shared now left inv.gone
+          (sym c.in-Some.ensures.moving) (subst (λ n. Section n found before c.loop.held.shared now left) (number_stays hand c.loop.hand inv.ids) c.in_ok-found.ensures.section)
+          c.in_ok-found.ensures.moves c.count.ensures.counted;
+    }
+
+pub returns-after-loop-clause-looks : goal.returns-after-loop-clause-looks
+returns-after-loop-clause-looks c =
+    let inv = c.loop.invariant in
+    let hand = c.args.hand.now in
+    let bulk = ap (λ (f : Config). f.bulk) c.config.ensures.config ∙ ap (λ (s : Setup). s.config.bulk) (sym c.requires.arena.setup) in
+    let most = c.loop.auto.counter-end in
+    let over = c.loop-test.false in
+    all_of_bulk (setup_of c.args.arena.now) hand.seat.me.0 c.requires.arena.lawful c.requires.arena.setup c.args.held.now.shared c.requires.held
+    c.loop.hand.seat.me.0 inv.arena.lawful inv.arena.setup c.loop.held.shared inv.held hand.number c.loop.counter c.loop.counts inv.gone
+    (omega arith) (omega arith)
+
+pub returns-then-moving-per_page-clause-looks : goal.returns-then-moving-per_page-clause-looks
+returns-then-moving-per_page-clause-looks c =
+    let inv = c.loop.invariant in
+    let hand = c.args.hand.now in
+    let move = c.in-Some.moving in
+    let bulk = ap (λ (f : Config). f.bulk) c.config.ensures.config ∙ ap (λ (s : Setup). s.config.bulk) (sym c.requires.arena.setup) in
+    let few = c.loop-test.true in
+    let chunks = c.per_page.ensures.chunks ∙ ap (λ (s : SlabState). (class_at s move.src).per_page) c.slabs.ensures.slabs in
+    let past = c.if-moving-per_page.true in
+    all_of_page (setup_of c.args.arena.now) hand.seat.me.0 c.requires.arena.lawful c.requires.arena.setup c.args.held.now.shared c.requires.held
+    c.loop.hand.seat.me.0 inv.arena.lawful inv.arena.setup c.loop.held.shared inv.held hand.number c.loop.counter c.loop.counts inv.gone
+    (omega arith) move (sym c.in-Some.ensures.moving) (omega arith)

@@ -1,0 +1,64 @@
+use Rattle.std.proofs.Common.{◌≤◌, length, List, ap, sym, subst, ◌∙◌}
+use Rattle.mc_core.specs.declared.holding.Holding.{Holding}
+use Rattle.mc_core.specs.Holdings.{has_fresh}
+use Rattle.mc_words.specs.Doing.{HoldsSlabs}
+use Rattle.mc_words.specs.Out.{has_no_stripe}
+use Rattle.mc_words.specs.View.{View}
+use Rattle.mc_words.proofs.Unlocked.{no_stripes_there}
+use Rattle.mc_mover.specs.declared.counts.Turn.{Turn}
+use Rattle.mc_mover.specs.Turning.{LacksMemory, Turns}
+use Rattle.mc_mover.proofs.HoldsSlabs.{held_for, held_holdings, wait_holdings, wait_number}
+use Rattle.mc_mover.proofs.Locks.{none_with_slabs}
+use Rattle.mc_mover.proofs.Refusals.{if_ok, on_err}
+use Rattle.mc_mover.proofs.turning.turn.Goals as goal
+
+pub turn_held-answer-requires-clause-one : goal.turn_held-answer-requires-clause-one
+turn_held-answer-requires-clause-one g c =
+    let now = c.lock_slabs-held.new.hand in
+    no_stripes_there now.seat.me.0 now.locks now.noted.4 (ap has_no_stripe c.lock_slabs-held.ensures.locks ∙ none_with_slabs c.args.hand.now c.requires.unlocked)
+
+pub turn_held-answer-requires-clause-fresh : goal.turn_held-answer-requires-clause-fresh
+turn_held-answer-requires-clause-fresh g c =
+    let held = c.lock_slabs-held in
+    ap has_fresh (wait_holdings c.args.hand.now.seat.me.0 held.result.shared held.new.hand.seat.me.0 held.ensures.waits) ∙ c.requires.fresh
+
+pub turn_held-answer-requires-clause-few : goal.turn_held-answer-requires-clause-few
+turn_held-answer-requires-clause-few g c =
+    let held = c.lock_slabs-held in
+    subst (λ (hs : List Holding). length hs ≤ 255) (sym (wait_holdings c.args.hand.now.seat.me.0 held.result.shared held.new.hand.seat.me.0 held.ensures.waits)) c.requires.few
+
+pub returns-clause-turns : goal.returns-clause-turns
+returns-clause-turns g c =
+    let hand = c.args.hand.now in
+    let view : View = hand.seat.me.0 in
+    let held = c.lock_slabs-held in
+    let found = held.result.shared in
+    let taken : View = held.new.hand.seat.me.0 in
+    let last : View = c.turn_held-answer.new.hand.seat.me.0 in
+    let left = c.turn_held-answer.new.held.shared in
+    let now : View = c.give_slabs.new.hand.seat.me.0 in
+    let number = wait_number hand held.new.hand found held.ensures.waits in
+    if_ok (λ (turn : Turn). Turns held.new.hand.number turn taken found last left) (λ (turn : Turn). HoldsSlabs (Turns hand.number turn) view now) c.turn_held-answer.result
+    (λ turn does. held_for (Turns hand.number turn) view taken last now found left held.ensures.waits (subst (λ n. Turns n turn taken found last left) number does) c.give_slabs.ensures.left)
+    c.turn_held-answer.ensures.turns
+
+pub returns-clause-lacks : goal.returns-clause-lacks
+returns-clause-lacks g c =
+    let hand = c.args.hand.now in
+    let view : View = hand.seat.me.0 in
+    let held = c.lock_slabs-held in
+    let found = held.result.shared in
+    let taken : View = held.new.hand.seat.me.0 in
+    let last : View = c.turn_held-answer.new.hand.seat.me.0 in
+    let left = c.turn_held-answer.new.held.shared in
+    let now : View = c.give_slabs.new.hand.seat.me.0 in
+    let number = wait_number hand held.new.hand found held.ensures.waits in
+    on_err c.turn_held-answer.result
+    (λ does. held_for (LacksMemory hand.number) view taken last now found left held.ensures.waits (subst (λ n. LacksMemory n taken found last left) number does) c.give_slabs.ensures.left)
+    c.turn_held-answer.ensures.lacks
+
+pub returns-clause-holdings : goal.returns-clause-holdings
+returns-clause-holdings g c =
+    let held = c.lock_slabs-held in
+    held_holdings c.args.hand.now.seat.me.0 held.new.hand.seat.me.0 c.turn_held-answer.new.hand.seat.me.0 c.give_slabs.new.hand.seat.me.0 held.result.shared c.turn_held-answer.new.held.shared
+    held.ensures.waits c.turn_held-answer.ensures.holdings c.give_slabs.ensures.left
