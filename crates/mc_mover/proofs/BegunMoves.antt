@@ -1,12 +1,11 @@
 -- A move that begins, or is refused, from what the call in the arena says.
-use Rattle.std.proofs.Common.{◌≡◌, ◌⊎◌, ◌+◌, ℕ, [], ◌∷◌, Option, Some, None, Result, Ok, Err, IfOk, OnOk, OnErr, is_none, true, refl, sym, ap, subst, ◌∙◌, inl, inr}
+use Rattle.std.proofs.Common.{◌≡◌, ◌+◌, ℕ, [], ◌∷◌, Option, Result, Ok, Err, IfOk, OnOk, OnErr, refl, ap}
 use Rattle.mc_pages.specs.declared.moves.Reassign.{Reassign}
 use Rattle.mc_pages.specs.Answer.{MayAnswer, answer_of}
 use Rattle.mc_pages.specs.Moves.{after_begin}
 use Rattle.mc_pages.specs.SlabState.{SlabState}
 use Rattle.mc_core.specs.declared.event.Change.TheVariants as change
 use Rattle.mc_core.specs.declared.event.Step.TheVariants as step
-use Rattle.mc_core.specs.Silent.{none_half_cut}
 use Rattle.mc_words.specs.View.{View}
 use Rattle.mc_words.specs.Happens.{Happens}
 use Rattle.mc_words.specs.Views.{slabs_changed}

@@ -1,18 +1,17 @@
 -- Chunks of the moving page that have left their class's lists.
 use Rattle.std.proofs.Common.{◌≡◌, ℕ, ◌+◌, ◌≤◌, ◌&&◌, Bool, true, false, not, Some, refl, sym, ap, subst, ◌∙◌, inl, inr, arith}
-use Rattle.std.proofs.lemmas.Bool.{and_from, and_parts, cases_Bool}
+use Rattle.std.proofs.lemmas.Bool.{and_parts, cases_Bool}
 use Rattle.mc_pages.specs.declared.ids.ChunkId.{ChunkId}
 use Rattle.mc_pages.specs.Accounted.{IsAccounted, is_cleared, is_cut, places_in, truth}
 use Rattle.mc_pages.specs.Changes.{after_clear}
 use Rattle.mc_pages.specs.ClassState.{ClassState, cleared, times}
-use Rattle.mc_pages.specs.SlabState.{IsClass, SlabState, class_at, class_of_chunk, class_of_page}
+use Rattle.mc_pages.specs.SlabState.{IsClass, SlabState, class_of_chunk, class_of_page}
 use Rattle.mc_pages.proofs.Chunks.{is_chunk-same}
 use Rattle.mc_pages.proofs.Cleared.{truth-le_one}
 use Rattle.mc_pages.proofs.HandedOut.{IsClass-placed}
 use Rattle.mc_pages.proofs.Lists.{times-without_one}
 use Rattle.mc_pages.proofs.OneClass.{class_at-with_class_same, length-with_class}
 use Rattle.mc_pages.proofs.Redistributed.{is_cut-kept}
-use Rattle.mc_core.specs.declared.head.Head.{Head}
 use Rattle.mc_core.specs.declared.head.Tag.{Tag}
 use Rattle.mc_core.specs.declared.head.Tag.TheVariants.{Free, Linked, Out, Unlinked}
 use Rattle.mc_core.specs.Chunks.{can_clear}

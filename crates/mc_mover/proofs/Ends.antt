@@ -25,8 +25,10 @@ per_page_finished slabs move class = per_page-map slabs (finished slabs move) cl
   where
     pool : SlabState
     pool = released slabs move.page move.src
+
     first : map (λ (c : ClassState). c.per_page) pool.classes ≡ map (λ (c : ClassState). c.per_page) slabs.classes
     first = per_pages-with_class slabs move.src (without_page (class_at slabs move.src) move.page) refl
+
     by : (b : Bool) → map (λ (c : ClassState). c.per_page) (arrived_if slabs move b).classes ≡ map (λ (c : ClassState). c.per_page) slabs.classes
     by true = first
     by false = per_pages-with_class pool move.dst (with_page (class_at pool move.dst) move.page) refl ∙ first

@@ -12,7 +12,7 @@ use Rattle.mc_words.specs.Rescuing.{PassesAll, PopsOff}
 use Rattle.mc_words.specs.Sweeping.{Sweeps, SweepsOne}
 use Rattle.mc_words.specs.Views.{stripe_given, stripe_reserved}
 use Rattle.mc_mover.specs.Linked.{SavesAs, SavesWith}
-use Rattle.mc_mover.specs.Saving.{BothDoing, Evicts, FailsToEvict, FailsToMove, FailsToRescue, GivesEvicted, GivesRescued, MovesItem, Rescues}
+use Rattle.mc_mover.specs.Saving.{BothDoing, Evicts, FailsToEvict, FailsToRescue, GivesEvicted, GivesRescued, MovesItem, Rescues}
 
 module _ (number class : ℕ) (chunk : ChunkId) (stripe : ℕ) (value value' : ReadyStripe) (view made swept : View) (slabs kept : SlabState) (values : value' ≡ record value { ready = true }) (made_is : made ≡ stripe_reserved stripe value (number + 1) view)
     (sweeps : Sweeps (class_at slabs class).order made slabs swept kept) where

@@ -1,6 +1,6 @@
 -- Saving an item: what a sweep and a walk along the free list leave of what is known of the chunk, its class and its page.
-use Rattle.std.proofs.Common.{◌≡◌, ℕ, ◌+◌, ◌≤◌, ◌%◌, ◌||◌, Bool, true, false, not, is_some, if◌then◌else◌, List, [], ◌∷◌, ◌++◌, Option, Some, None, slice_index_or, refl, sym, ap, subst, ◌∙◌, inl, inr, arith, map}
-use Rattle.std.specs.List.{fold, find, list_all, list_any}
+use Rattle.std.proofs.Common.{◌≡◌, ℕ, ◌+◌, ◌≤◌, ◌%◌, ◌||◌, Bool, true, false, not, is_some, if◌then◌else◌, List, [], ◌∷◌, ◌++◌, Option, Some, None, slice_index_or, refl, sym, ap, subst, ◌∙◌, inl, inr, arith}
+use Rattle.std.specs.List.{fold, list_all}
 use Rattle.std.specs.Option.{option_map, option_or}
 use Rattle.std.proofs.lemmas.Bool.{and_from, and_parts, cases_Bool}
 use Rattle.std.proofs.lemmas.List.Folds.{find-append}
@@ -8,7 +8,7 @@ use Rattle.std.proofs.lemmas.List.Sums.{fold-append}
 use Rattle.mc_pages.specs.declared.ids.ChunkId.{ChunkId}
 use Rattle.mc_pages.specs.Accounted.{IsAccounted, is_cut, truth}
 use Rattle.mc_pages.specs.Changes.{after_back, after_replace}
-use Rattle.mc_pages.specs.ClassState.{ClassState, is_chunk, times}
+use Rattle.mc_pages.specs.ClassState.{is_chunk, times}
 use Rattle.mc_pages.specs.SlabState.{IsClass, SlabState, class_at}
 use Rattle.mc_pages.proofs.Chunks.{is_chunk-same, same_from_is_chunk, times-cons}
 use Rattle.mc_pages.proofs.Cleared.{truth-le_one}
@@ -25,7 +25,7 @@ use Rattle.mc_core.specs.Head.{is_dead}
 use Rattle.mc_core.specs.Holdings.{has_fresh, holding_of, is_copy_kind, is_fresh, is_fresh_kind, is_of, lose}
 use Rattle.mc_core.specs.Looks.{is_found_alive, stays_alive, stays_linked, was_linked}
 use Rattle.mc_core.specs.Seen.{last_read}
-use Rattle.mc_words.specs.View.{Setup, View}
+use Rattle.mc_words.specs.View.{View}
 use Rattle.mc_words.specs.Condemning.{stripe_read}
 use Rattle.mc_words.specs.Fresh.{IsFreshIn}
 use Rattle.mc_words.specs.Happens.{LawfulView}
@@ -33,7 +33,7 @@ use Rattle.mc_words.specs.Items.{word_read}
 use Rattle.mc_words.specs.Lent.{IsLentStripe}
 use Rattle.mc_words.specs.Rescuing.{PassesAll, PassesOver, PopsOff}
 use Rattle.mc_words.specs.Sweeping.{Sweeps, SweepsOne}
-use Rattle.mc_words.specs.Views.{chunk_popped_off, copy_holding, head_seen, stripe_reserved}
+use Rattle.mc_words.specs.Views.{copy_holding, stripe_reserved}
 use Rattle.mc_words.proofs.FreeWalks.{passed_holds}
 use Rattle.mc_words.proofs.Judging.{seen_is, seen_slabs}
 use Rattle.mc_words.proofs.Owners.{slabs_here}

@@ -1,5 +1,5 @@
 -- A linked chunk that the mover comes to: the whole, from the parts of the call; and that what was cleared has left its class's lists.
-use Rattle.std.proofs.Common.{◌≡◌, ◌≢◌, ◌⊎◌, ℕ, ◌+◌, ◌≤◌, ◌%◌, ◌==◌, ◌&&◌, ◌||◌, Bool, true, false, not, is_some, if◌then◌else◌, List, [], ◌∷◌, ◌++◌, Option, Some, None, Result, Ok, Err, IsOk, OnOk, refl, sym, ap, subst, ◌∙◌, inl, inr, arith}
+use Rattle.std.proofs.Common.{◌≡◌, ◌≢◌, ◌⊎◌, ℕ, ◌%◌, ◌==◌, ◌&&◌, Bool, true, false, not, if◌then◌else◌, List, [], ◌∷◌, ◌++◌, Option, Some, None, Result, Ok, Err, IsOk, OnOk, refl, sym, ap, subst, ◌∙◌, inl, inr}
 use Rattle.std.specs.List.{fold}
 use Rattle.std.specs.Option.{option_map}
 use Rattle.std.proofs.lemmas.Bool.{or_right}
@@ -8,7 +8,6 @@ use Rattle.mc_pages.specs.declared.ids.ChunkId.{ChunkId}
 use Rattle.mc_pages.specs.declared.moves.Found.{Found}
 use Rattle.mc_pages.specs.declared.moves.Found.TheVariants.{Cleared, Rescued, Evicted, Busy, Locked, Already}
 use Rattle.mc_pages.specs.Moves.{is_held_up}
-use Rattle.mc_pages.specs.ClassState.{is_chunk}
 use Rattle.mc_pages.specs.SlabState.{SlabState}
 use Rattle.mc_pages.proofs.Chunks.{is_chunk-same}
 use Rattle.mc_stripe.specs.StripeState.{ReadyStripe, place_of}
@@ -22,7 +21,7 @@ use Rattle.mc_words.specs.View.{View}
 use Rattle.mc_words.specs.declared.hand.Hand.{Hand}
 use Rattle.mc_words.specs.declared.locks.Locks.{Locks}
 use Rattle.mc_words.specs.declared.locks.Locks.TheVariants.{Neither, Slabs, Stripe, SlabsLast, StripeLast}
-use Rattle.mc_words.specs.Condemning.{key_seen, stripe_read}
+use Rattle.mc_words.specs.Condemning.{stripe_read}
 use Rattle.mc_words.specs.Happens.{Happens}
 use Rattle.mc_words.specs.Idle.{has_no_stripes}
 use Rattle.mc_words.specs.Items.{word_read}

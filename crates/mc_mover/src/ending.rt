@@ -8,12 +8,7 @@ use mc_pages::Moving;
 use mc_words::{Arena, Hand, SlabsHeld};
 
 // At the page's end begins the pass anew, if something held it up, and else ends the move. Before that nothing is done.
-pub(crate) fn end_turn(
-    arena: &Arena,
-    hand: &mut Hand,
-    held: &mut SlabsHeld,
-    counts: Counts,
-) -> Turn
+pub(crate) fn end_turn(arena: &Arena, hand: &mut Hand, held: &mut SlabsHeld, counts: Counts) -> Turn
     requires arena { IsHandOf arena.now hand.old }
     requires held { (view hand.old).slabs ≡ Some held.old.shared }
     requires runs { is_some held.old.shared.moving ≡ true }

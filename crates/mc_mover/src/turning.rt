@@ -7,9 +7,9 @@ ghost use Rattle.mc_words.specs.Idle.{has_no_stripes, is_unlocked};
 ghost use Rattle.mc_words.specs.Views.{slabs_missed};
 ghost use Rattle.mc_mover.specs.Turning.{LacksMemory, Turns};
 
+use crate::counts::{TryTurn, Turn};
 use crate::ending::end_turn;
 use crate::sections::sections;
-use crate::counts::{TryTurn, Turn};
 use mc_stripe::NoMemory;
 use mc_words::{Arena, Hand, SlabsHeld};
 use std::sync::Wait;

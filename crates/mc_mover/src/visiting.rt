@@ -14,8 +14,7 @@ use crate::linked::visit_linked;
 use mc_classes::ClassId;
 use mc_pages::{ChunkId, Found};
 use mc_stripe::NoMemory;
-use mc_words::header;
-use mc_words::{Arena, Hand, SlabsHeld};
+use mc_words::{Arena, Hand, SlabsHeld, header};
 
 // Looks at a chunk of the moving page, and clears it where it can: a free or dead one at once, and a linked one that nobody holds once its
 // item was taken to another chunk of the class, or else evicted. At want of memory the chunk is as before. (slabs.c's

@@ -1,4 +1,4 @@
-use Rattle.std.proofs.Common.{◌≡◌, ℕ, ◌+◌, ◌≤◌, ◌&&◌, ◌||◌, Bool, true, false, List, [], ◌∷◌, ◌++◌, Option, Some, None, map, refl, sym, ap, subst, ◌∙◌}
+use Rattle.std.proofs.Common.{◌≡◌, ℕ, ◌+◌, ◌≤◌, ◌&&◌, ◌||◌, true, false, List, [], ◌∷◌, ◌++◌, Some, map, refl, sym, ap, subst, ◌∙◌}
 use Rattle.std.specs.List.{list_all}
 use Rattle.std.proofs.lemmas.Bool.{and_from, or_left, or_right}
 use Rattle.mc_pages.specs.declared.ids.ChunkId.{ChunkId}
@@ -19,7 +19,7 @@ use Rattle.mc_words.specs.declared.held.SlabsHeld.{SlabsHeld}
 use Rattle.mc_words.specs.declared.held.StripeHeld.{StripeHeld}
 use Rattle.mc_words.specs.Fresh.{IsFreshIn}
 use Rattle.mc_words.specs.Items.{word_read}
-use Rattle.mc_words.specs.Views.{copy_holding, stripe_reserved}
+use Rattle.mc_words.specs.Views.{copy_holding}
 use Rattle.mc_words.proofs.Judging.{class_of_slabs}
 use Rattle.mc_mover.specs.Saving.{GivesEvicted, GivesRescued}
 use Rattle.mc_mover.proofs.HandNumbers.{number_stays}

@@ -1,5 +1,4 @@
-use Rattle.std.proofs.Common.{◌≡◌, ◌≢◌, ◌<◌, ◌%◌, ℕ, Bool, true, false, not, map, Some, refl, sym, ap, subst, ◌∙◌, inl, inr, arith}
-use Rattle.std.specs.Option.{option_map}
+use Rattle.std.proofs.Common.{◌≡◌, ◌%◌, ℕ, Bool, true, false, map, Some, refl, sym, ap, subst, ◌∙◌, inl, inr, arith}
 use Rattle.mc_classes.specs.declared.config.Config.{Config}
 use Rattle.mc_pages.specs.declared.moves.Found.{Found}
 use Rattle.mc_pages.specs.declared.moves.Found.TheVariants.{Busy}
@@ -8,14 +7,12 @@ use Rattle.mc_pages.specs.ClassState.{ClassState}
 use Rattle.mc_pages.specs.SlabState.{SlabState, class_at, class_of_page}
 use Rattle.mc_pages.proofs.ClassChanges.{per_pages-with_class}
 use Rattle.mc_pages.proofs.Cuts.{per_page-map}
-use Rattle.mc_stripe.specs.StripeState.{place_of}
 use Rattle.mc_core.specs.State.{room_in}
 use Rattle.mc_words.specs.View.{Setup, View}
 use Rattle.mc_words.specs.Idle.{has_no_stripes}
 use Rattle.mc_words.specs.Out.{without_stripe}
-use Rattle.mc_words.specs.Owner.{is_unused}
 use Rattle.mc_words.specs.Views.{stripe_given, stripe_missed}
-use Rattle.mc_mover.specs.Linked.{FindsGone, HoldsUp, LacksCall, OnlyGives, ReachesStripe, ReadsKey, SavesAs, VisitsLinked}
+use Rattle.mc_mover.specs.Linked.{OnlyGives, ReadsKey, SavesAs, VisitsLinked}
 use Rattle.mc_mover.proofs.ClearedPages.{cleared_after_clear}
 use Rattle.mc_mover.proofs.Copied.{three_places}
 use Rattle.mc_mover.proofs.HandNumbers.{number_stays}

@@ -1,4 +1,4 @@
-use Rattle.std.proofs.Common.{◌≡◌, ◌+◌, ℕ, refl, ap, sym, subst, ◌∙◌}
+use Rattle.std.proofs.Common.{subst}
 use Rattle.mc_words.specs.View.{View}
 use Rattle.mc_mover.specs.Reassigning.{Reassigns}
 use Rattle.mc_mover.proofs.BegunMoves.{reassigns_from, reassigns_holdings}

@@ -1,4 +1,4 @@
-use Rattle.std.proofs.Common.{◌≡◌, ◌+◌, ℕ, refl, ap, sym, subst, ◌∙◌}
+use Rattle.std.proofs.Common.{ap, subst}
 use Rattle.mc_words.specs.View.{View}
 use Rattle.mc_mover.specs.Reassigning.{SetsMode}
 use Rattle.mc_mover.proofs.HoldsSlabs.{held_for, held_holdings, wait_number}

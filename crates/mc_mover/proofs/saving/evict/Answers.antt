@@ -1,4 +1,4 @@
-use Rattle.std.proofs.Common.{◌≡◌, refl, ap, ◌∙◌}
+use Rattle.std.proofs.Common.{refl, ap, ◌∙◌}
 use Rattle.mc_words.specs.View.{View}
 use Rattle.mc_words.specs.Views.{stripe_given}
 use Rattle.mc_mover.proofs.Kept.{finds_keep}

@@ -234,8 +234,7 @@ returns-in-Err-clause-fails c =
     let words = done.words in
     let now : View = c.condemn_original.new.hand.seat.me.0 in
     let finds = c.in-Err.ensures.moved.0 in
-    let (same, rooms) = c.copy_item.ensures.same in
-    (
+    let (same, rooms) = c.copy_item.ensures.same in (
       record {
         key = key;
         stamp = stamp;

@@ -1,4 +1,4 @@
-use Rattle.std.proofs.Common.{◌≡◌, ℕ, length, refl, ap, sym, ◌∙◌}
+use Rattle.std.proofs.Common.{length, ap, sym, ◌∙◌}
 use Rattle.mc_classes.specs.Classes.{Classes}
 use Rattle.mc_pages.specs.SlabState.{SlabState}
 use Rattle.mc_words.specs.View.{Setup, View}

@@ -1,4 +1,4 @@
-use Rattle.std.proofs.Common.{◌≡◌, List, Some}
+use Rattle.std.proofs.Common.{◌≡◌, Some}
 use Rattle.std.specs.List.{range_with_len}
 use Rattle.mc_words.specs.Arenas.{IsHandOf, view}
 use Rattle.mc_mover.specs.Surveying.{SweepsClasses}

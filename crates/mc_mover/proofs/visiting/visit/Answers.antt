@@ -1,10 +1,9 @@
-use Rattle.std.proofs.Common.{◌≡◌, ℕ, Bool, true, false, not, map, refl, sym, ap, subst, ◌∙◌, inl}
-use Rattle.mc_pages.specs.declared.moves.Found.{Found}
+use Rattle.std.proofs.Common.{ℕ, Bool, not, map, refl, sym, ap, subst, ◌∙◌, inl}
 use Rattle.mc_pages.specs.ClassState.{ClassState}
 use Rattle.mc_pages.specs.SlabState.{SlabState, class_of_page}
 use Rattle.mc_pages.proofs.ClassChanges.{per_pages-with_class}
 use Rattle.mc_pages.proofs.Cuts.{per_page-map}
-use Rattle.mc_core.specs.Head.{decode, is_linked}
+use Rattle.mc_core.specs.Head.{decode}
 use Rattle.mc_core.specs.State.{has_chunk, is_class}
 use Rattle.mc_words.specs.View.{Setup, View}
 use Rattle.mc_words.proofs.Judging.{class_of_slabs, seen_slabs}
@@ -76,8 +75,11 @@ returns-in-Ok-clause-per_page c =
 
 pub returns-in-Err-clause-visits : goal.returns-in-Err-clause-visits
 returns-in-Err-clause-visits c =
-    inl (record {
-      seen = c.head-head.new.hand.seat.me.0;
-      sees = record { head = decode c.head-head.result; so = ap not (sym c.is_linked.ensures.linked ∙ c.if-is_linked.false); looks = c.head-head.ensures.happens; is = c.head-head.ensures.seen };
-      other = c.in-Err.ensures.moved.0;
-    }, c.in-Err.ensures.moved.1)
+    inl (
+      record {
+        seen = c.head-head.new.hand.seat.me.0;
+        sees = record { head = decode c.head-head.result; so = ap not (sym c.is_linked.ensures.linked ∙ c.if-is_linked.false); looks = c.head-head.ensures.happens; is = c.head-head.ensures.seen };
+        other = c.in-Err.ensures.moved.0;
+      },
+      c.in-Err.ensures.moved.1,
+    )
