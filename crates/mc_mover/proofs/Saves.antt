@@ -103,25 +103,25 @@ found_not_fresh chunk (first ∷ holdings) holding found none = by (is_of chunk 
     by false found true is none next = absurd (cc)
 
 module _ (holdings : List Holding) (holding : Holding) (fresh : has_fresh holdings ≡ false) (room : ℕ) (is : IsFreshIn (holdings ++ holding ∷ []) holding.chunk room) where
-  abbrev copy : ChunkId
-  copy = holding.chunk
+  abbrev own_chunk : ChunkId
+  own_chunk = holding.chunk
 
   -- none before it is of that chunk
-  pub none_before : holding_of copy holdings ≡ None
-  none_before = by (holding_of copy holdings) refl
+  pub none_before : holding_of own_chunk holdings ≡ None
+  none_before = by (holding_of own_chunk holdings) refl
     where
-      by : (o : Option Holding) → holding_of copy holdings ≡ o → holding_of copy holdings ≡ None
+      by : (o : Option Holding) → holding_of own_chunk holdings ≡ o → holding_of own_chunk holdings ≡ None
       by None is_none = is_none
       by (Some other) found =
           absurd (
-          let same : Some is.holding ≡ Some other = sym is.found ∙ (find-append (is_of copy) holdings (holding ∷ []) ∙ ap (λ (o : Option Holding). option_or o (holding_of copy (holding ∷ []))) found) in
-          let stale : is_fresh other ≡ false = found_not_fresh copy holdings other found fresh in
+          let same : Some is.holding ≡ Some other = sym is.found ∙ (find-append (is_of own_chunk) holdings (holding ∷ []) ∙ ap (λ (o : Option Holding). option_or o (holding_of own_chunk (holding ∷ []))) found) in
+          let stale : is_fresh other ≡ false = found_not_fresh own_chunk holdings other found fresh in
           let never : true ≡ false = sym is.fresh ∙ (ap is_fresh (same_holding is.holding other same) ∙ stale) in cc)
 
-  pub found_last : holding_of copy (holdings ++ holding ∷ []) ≡ Some holding
+  pub found_last : holding_of own_chunk (holdings ++ holding ∷ []) ≡ Some holding
   found_last =
-      find-append (is_of copy) holdings (holding ∷ [])
-      ∙ (ap (λ (o : Option Holding). option_or o (holding_of copy (holding ∷ []))) none_before ∙ ap (λ (b : Bool). if b then Some holding else None) (is_chunk-same copy))
+      find-append (is_of own_chunk) holdings (holding ∷ [])
+      ∙ (ap (λ (o : Option Holding). option_or o (holding_of own_chunk (holding ∷ []))) none_before ∙ ap (λ (b : Bool). if b then Some holding else None) (is_chunk-same own_chunk))
 
 -- and without it the others are left
 pub lose_last : (copy : ChunkId) (holdings : List Holding) (holding : Holding) → is_of copy holding ≡ true → holding_of copy holdings ≡ None → lose (is_of copy) (holdings ++ holding ∷ []) ≡ holdings
