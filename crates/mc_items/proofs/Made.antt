@@ -18,7 +18,7 @@ use Rattle.mc_words.specs.Owner.{PopsFirst, SeesOther}
 use Rattle.mc_words.specs.Sweeping.{Sweeps, with_seen}
 use Rattle.mc_words.proofs.SweepViews.{class_here, sees_alone, stands_out}
 use Rattle.mc_items.specs.Evicting.{TellsEvict}
-use Rattle.mc_items.specs.Sources.{ComesToFree, FindsNoRoom, FindsWornOut, LacksMemory, LacksMore, MakesFree, MakesNone, SuppliesChunk, SuppliesNone}
+use Rattle.mc_items.specs.Sources.{ComesToFree, MakesFree, SuppliesChunk, SuppliesNone}
 use Rattle.mc_words.specs.Cutting.{CutsEach}
 use Rattle.mc_items.specs.Supplying.{FindsNoFree, Grows, SweepsEmpty}
 use Rattle.mc_items.specs.declared.setting.SetError.{SetError}

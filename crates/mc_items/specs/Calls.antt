@@ -11,7 +11,7 @@ use Rattle.mc_words.specs.View.{View}
 use Rattle.mc_words.specs.Called.{with_own_call, key_deleted, key_missed, key_not_deleted}
 use Rattle.mc_words.specs.Lent.{IsLentStripe}
 use Rattle.mc_words.specs.Referring.{GetsItem}
-use Rattle.mc_words.specs.Views.{chunk_dropped, slabs_changed, slabs_given, stripe_given, stripe_reserved}
+use Rattle.mc_words.specs.Views.{chunk_dropped, slabs_changed, slabs_given, stripe_given}
 use Rattle.mc_words.specs.Waiting.{WaitsForSlabs, WaitsForStripe}
 use Rattle.mc_words.specs.declared.refs.Ref as words
 

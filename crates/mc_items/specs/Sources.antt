@@ -10,8 +10,6 @@ use Rattle.mc_core.specs.Looks.{is_found_alive}
 use Rattle.mc_words.specs.Doing.{SlabsDoing}
 use Rattle.mc_words.specs.Owner.{PopsFirst, SeesOther}
 use Rattle.mc_words.specs.View.{View}
-use Rattle.mc_words.specs.Views.{slabs_given}
-use Rattle.mc_words.specs.Waiting.{WaitsForSlabs}
 use Rattle.mc_items.specs.Evicting.{FreesOne, LacksEntry, PassesEach, first_five}
 use Rattle.mc_items.specs.Supplying.{FindsNoFree, FindsWorn, Grows, SuppliesFree}
 use Rattle.mc_items.specs.declared.setting.SetError.{SetError}
