@@ -1,5 +1,5 @@
 -- An item that is copied into a fresh chunk, taken away, and linked there: what the hand knows after each of these.
-use Rattle.std.proofs.Common.{◌≡◌, ◌⊎◌, ℕ, ◌+◌, ◌%◌, ◌≤◌, ◌<◌, ◌==◌, ◌&&◌, ◌||◌, Bool, true, false, List, [], ◌∷◌, ◌++◌, length, Option, Some, None, IfSome, refl, sym, ap, subst, ◌∙◌, arith, cond, inl, inr, slice_index, slice_index_or, replicate, if◌then◌else◌, append_assoc, append-nil}
+use Rattle.std.proofs.Common.{◌≡◌, ℕ, ◌+◌, ◌%◌, ◌≤◌, ◌<◌, ◌==◌, ◌&&◌, ◌||◌, Bool, true, false, List, [], ◌∷◌, ◌++◌, length, Option, Some, None, IfSome, refl, sym, ap, subst, ◌∙◌, arith, cond, slice_index, slice_index_or, replicate, if◌then◌else◌, append_assoc, append-nil}
 use Rattle.std.specs.Option.{option_map, option_map_or}
 use Rattle.std.proofs.lemmas.List.{length-replicate}
 use Rattle.mc_classes.specs.Classes.{Classes}
@@ -10,28 +10,23 @@ use Rattle.mc_pages.proofs.Chunks.{is_chunk-same}
 use Rattle.mc_stripe.specs.Entries.{AreRising, entry_at}
 use Rattle.mc_stripe.specs.StripeState.{ReadyStripe, new_stripe, place_of}
 use Rattle.mc_stripe.proofs.Entries.{at_without_entry, nat_eq_same}
-use Rattle.mc_core.specs.declared.head.Head.{Head}
 use Rattle.mc_core.specs.declared.holding.Holding.{Holding}
 use Rattle.mc_core.specs.declared.holding.Kind.TheVariants.{Fresh}
 use Rattle.mc_core.specs.declared.holding.Purpose.TheVariants.{Copy}
-use Rattle.mc_core.specs.declared.ids.Ids.{Ids}
-use Rattle.mc_core.specs.declared.event.Step.TheVariants as step
 use Rattle.mc_core.specs.Chunks.{filled, is_moving_page}
 use Rattle.mc_core.specs.Evictions.{as_rescue, has_copy, lacks_room, none_dead}
 use Rattle.mc_core.specs.Holdings.{Words, change_each, holding_of, is_complete, is_copy_of, is_of, item_in, key_in, lose, numbers, stamp_in, stamp_of, words_of}
 use Rattle.mc_core.specs.Items.{are_same}
 use Rattle.mc_core.specs.Judged.{sees_no_target}
-use Rattle.mc_words.specs.declared.hand.Hand.{Hand}
 use Rattle.mc_words.specs.View.{View}
-use Rattle.mc_words.specs.Condemning.{FindsHeld, SeesHeld, key_read, key_seen, knows_reason, stripe_read}
+use Rattle.mc_words.specs.Condemning.{key_read, knows_reason, stripe_read}
 use Rattle.mc_words.specs.Fresh.{IsFreshIn}
-use Rattle.mc_words.specs.Happens.{Happens, LawfulView}
+use Rattle.mc_words.specs.Happens.{LawfulView}
 use Rattle.mc_words.specs.Items.{issue_in, word_read, words_in}
 use Rattle.mc_words.specs.Linking.{IsCopyFilled, copied_item, copy_linked}
 use Rattle.mc_words.specs.Originals.{CondemnsOriginal}
 use Rattle.mc_words.specs.Referring.{reference_to}
-use Rattle.mc_words.specs.Sweeping.{SweepsOne}
-use Rattle.mc_words.specs.Views.{chunk_dropped, chunk_put_back, copy_holding, head_seen}
+use Rattle.mc_words.specs.Views.{chunk_dropped, copy_holding}
 use Rattle.mc_words.proofs.StripeChanges.{stripe_here, stripe_near}
 use Rattle.mc_mover.specs.Copying.{item_of, words_copied}
 use Rattle.mc_mover.proofs.Copied.{copied_keeps, one_longer, read_copied, word_copied}
@@ -219,25 +214,3 @@ module _ (chunk copy : ChunkId) (key stamp : ℕ) (words : List ℕ) (view fille
       -- no stamp was given out
       pub ids_now : now.row.ids ≡ filled.row.ids
       ids_now = ap (λ (v : View). v.row.ids) took.is
-
--- what looks and reads leave stays
-module _ {X : Type 0} (part : View → X) (read : (chunk : ChunkId) (key : ℕ) (v : View) → part (key_seen chunk key v) ≡ part v) (looked : (chunk : ChunkId) (head : Head) (v : View) → part (head_seen chunk head v) ≡ part v) where
-  pub finds_keep : (chunk : ChunkId) (view now : View) → FindsHeld view chunk now → part now ≡ part view
-  finds_keep chunk view now finds = by finds.finds ∙ read chunk finds.key view
-    where
-      seen : View
-      seen = key_seen chunk finds.key view
-
-      by : SeesHeld seen chunk now ⊎ ((head : Head) × Happens seen [] (step.Head chunk) (head_seen chunk head seen) × SeesHeld (head_seen chunk head seen) chunk now) → part now ≡ part seen
-      by (inl sees) = ap part sees.is ∙ looked sees.chunk sees.head seen
-      by (inr (head, happens, sees)) = ap part sees.is ∙ (looked sees.chunk sees.head (head_seen chunk head seen) ∙ looked chunk head seen)
-
--- a hand's number stands in its view
-pub number_stays : (before now : Hand) → now.seat.me.0.row.ids ≡ before.seat.me.0.row.ids → now.number ≡ before.number
-number_stays before now ids = some_same (sym now.noted.0 ∙ (ap (λ (i : Ids). i.number) ids ∙ before.noted.0))
-
--- what looks and a chunk that comes back leave stays
-module _ {X : Type 0} (part : View → X) (looked : (chunk : ChunkId) (head : Head) (v : View) → part (head_seen chunk head v) ≡ part v) (put : (slabs : SlabState) (chunk : ChunkId) (head : Head) (v : View) → part (chunk_put_back slabs chunk head v) ≡ part v) where
-  pub sweep_keeps : (chunk : ChunkId) (view : View) (slabs : SlabState) (now : View) (left : SlabState) → SweepsOne chunk view slabs now left → part now ≡ part view
-  sweep_keeps chunk view slabs now left (inl (back, is)) = ap part back.is ∙ (put slabs chunk back.head (head_seen chunk back.head view) ∙ looked chunk back.head view)
-  sweep_keeps chunk view slabs now left (inr (sees, is)) = ap part sees.is ∙ looked sees.chunk sees.head view

@@ -22,7 +22,7 @@ use Rattle.mc_core.specs.declared.look.Look.TheVariants.{PoppedOff, Saw, SawStri
 use Rattle.mc_core.specs.Chunks.{handed_out}
 use Rattle.mc_core.specs.Evictions.{has_copy}
 use Rattle.mc_core.specs.Head.{is_dead}
-use Rattle.mc_core.specs.Holdings.{has_fresh, holding_of, is_copy_kind, is_fresh, is_fresh_kind, is_of, lose}
+use Rattle.mc_core.specs.Holdings.{has_fresh, holding_of, is_copy_kind, is_fresh, is_fresh_kind, is_of}
 use Rattle.mc_core.specs.Looks.{is_found_alive, stays_alive, stays_linked, was_linked}
 use Rattle.mc_core.specs.Seen.{last_read}
 use Rattle.mc_words.specs.View.{View}
@@ -122,15 +122,6 @@ module _ (holdings : List Holding) (holding : Holding) (fresh : has_fresh holdin
   found_last =
       find-append (is_of own_chunk) holdings (holding ∷ [])
       ∙ (ap (λ (o : Option Holding). option_or o (holding_of own_chunk (holding ∷ []))) none_before ∙ ap (λ (b : Bool). if b then Some holding else None) (is_chunk-same own_chunk))
-
--- and without it the others are left
-pub lose_last : (copy : ChunkId) (holdings : List Holding) (holding : Holding) → is_of copy holding ≡ true → holding_of copy holdings ≡ None → lose (is_of copy) (holdings ++ holding ∷ []) ≡ holdings
-lose_last copy [] holding of none = ap (λ (b : Bool). if b then [] else holding ∷ []) of
-lose_last copy (first ∷ holdings) holding of none = by (is_of copy first) none (lose_last copy holdings holding of)
-  where
-    by : (b : Bool) → (if b then Some first else holding_of copy holdings) ≡ None → (holding_of copy holdings ≡ None → lose (is_of copy) (holdings ++ holding ∷ []) ≡ holdings) → (if b then holdings ++ holding ∷ [] else first ∷ lose (is_of copy) (holdings ++ holding ∷ [])) ≡ first ∷ holdings
-    by true none next = absurd (cc)
-    by false none next = ap (λ (hs : List Holding). first ∷ hs) (next none)
 
 -- what the hand holds then
 pub popped_holds : (view now : View) (slabs : SlabState) (chunk copy : ChunkId) → (pops : PopsOff view slabs chunk copy now) → now.row.holdings ≡ view.row.holdings ++ copy_holding chunk copy (pops.finds.fit.head.issue + 1) (Rattle.mc_core.specs.State.room_in pops.seen.setup.table (Rattle.mc_pages.specs.SlabState.class_of_page slabs chunk.page)) ∷ []

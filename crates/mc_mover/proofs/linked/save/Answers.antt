@@ -26,7 +26,8 @@ use Rattle.mc_mover.proofs.HandNumbers.{number_stays}
 use Rattle.mc_mover.proofs.Kept.{passes_keep}
 use Rattle.mc_mover.proofs.Leads.{out_now, reaches_passed, reaches_swept}
 use Rattle.mc_mover.proofs.Saved.{evicted, rescued, rescued_slabs}
-use Rattle.mc_mover.proofs.Saves.{alive_passed, free_apart, found_last, lose_last, made_reaches, no_copies, none_before, popped_holds, popped_ids, popped_reaches, stripe_reached, sweeps_slabs}
+use Rattle.mc_mover.proofs.Saves.{alive_passed, free_apart, found_last, made_reaches, no_copies, none_before, popped_holds, popped_ids, popped_reaches, stripe_reached, sweeps_slabs}
+use Rattle.mc_mover.proofs.Writes.{lose_last}
 use Rattle.mc_mover.proofs.linked.save.Goals as goal
 
 pub pop_off-requires-clause-moving : goal.pop_off-requires-clause-moving
@@ -176,7 +177,7 @@ rescue-requires-clause-alone c =
     let all : popped.row.holdings ≡ swept.row.holdings ++ last ∷ [] = popped_holds swept popped kept chunk copy pops in
     let fresh = subst (λ (hs : List Holding). IsFreshIn hs copy c.in-Some.fresh.room) all c.in-Some.ensures.fresh.1 in
     let none = none_before swept.row.holdings last none_fresh c.in-Some.fresh.room fresh in
-    ap (λ (hs : List Holding). holding_of copy (lose (is_of copy) hs)) all ∙ (ap (holding_of copy) (lose_last copy swept.row.holdings last (is_chunk-same copy) none) ∙ none)
+    ap (λ (hs : List Holding). holding_of copy (lose (is_of copy) hs)) all ∙ (ap (holding_of copy) (lose_last copy swept.row.holdings last none (is_chunk-same copy)) ∙ none)
 
 pub rescue-requires-clause-only : goal.rescue-requires-clause-only
 rescue-requires-clause-only c =
@@ -199,7 +200,7 @@ rescue-requires-clause-only c =
     let all : popped.row.holdings ≡ swept.row.holdings ++ last ∷ [] = popped_holds swept popped kept chunk copy pops in
     let fresh = subst (λ (hs : List Holding). IsFreshIn hs copy c.in-Some.fresh.room) all c.in-Some.ensures.fresh.1 in
     let none = none_before swept.row.holdings last none_fresh c.in-Some.fresh.room fresh in
-    ap (λ (hs : List Holding). has_copy (lose (is_of copy) hs) chunk) all ∙ (ap (λ (hs : List Holding). has_copy hs chunk) (lose_last copy swept.row.holdings last (is_chunk-same copy) none) ∙ no_copies swept.row.holdings chunk none_fresh)
+    ap (λ (hs : List Holding). has_copy (lose (is_of copy) hs) chunk) all ∙ (ap (λ (hs : List Holding). has_copy hs chunk) (lose_last copy swept.row.holdings last none (is_chunk-same copy)) ∙ no_copies swept.row.holdings chunk none_fresh)
 
 pub evict-requires-clause-stripe : goal.evict-requires-clause-stripe
 evict-requires-clause-stripe c =
@@ -403,7 +404,7 @@ returns-in-Some-clause-holdings c =
     let all : popped.row.holdings ≡ swept.row.holdings ++ last ∷ [] = popped_holds swept popped kept chunk copy pops in
     let fresh = subst (λ (hs : List Holding). IsFreshIn hs copy c.in-Some.fresh.room) all c.in-Some.ensures.fresh.1 in
     let none = none_before swept.row.holdings last none_fresh c.in-Some.fresh.room fresh in
-    c.rescue.ensures.holdings ∙ (ap (lose (is_of copy)) all ∙ (lose_last copy swept.row.holdings last (is_chunk-same copy) none ∙ held))
+    c.rescue.ensures.holdings ∙ (ap (lose (is_of copy)) all ∙ (lose_last copy swept.row.holdings last none (is_chunk-same copy) ∙ held))
 
 pub returns-in-Some-clause-ids : goal.returns-in-Some-clause-ids
 returns-in-Some-clause-ids c =

@@ -9,7 +9,9 @@ use Rattle.mc_words.specs.Items.{issue_in, words_in}
 use Rattle.mc_words.specs.Linking.{IsCopyFilled, copy_linked}
 use Rattle.mc_words.specs.View.{Setup, View}
 use Rattle.mc_words.specs.Views.{chunk_dropped}
-use Rattle.mc_mover.proofs.Moved.{copy_filled, copy_there, dropped_holdings, finds_keep, fresh_still, ids_now, ids_stay, leads_nowhere, length_fits, number_stays, others_filled, reason_there, stripe_copied, stripes_stay}
+use Rattle.mc_mover.proofs.HandNumbers.{number_stays}
+use Rattle.mc_mover.proofs.Kept.{finds_keep}
+use Rattle.mc_mover.proofs.Moved.{copy_filled, copy_there, dropped_holdings, fresh_still, ids_now, ids_stay, leads_nowhere, length_fits, others_filled, reason_there, stripe_copied, stripes_stay}
 use Rattle.mc_mover.proofs.saving.move_item.Goals as goal
 
 pub condemn_original-requires-clause-copy : goal.condemn_original-requires-clause-copy
@@ -138,7 +140,7 @@ discard-requires-clause-fresh c =
     let words = done.words in
     let now : View = c.condemn_original.new.hand.seat.me.0 in
     let finds = c.in-Err.ensures.moved.0 in
-    subst (λ (hs : List Holding). IsFreshIn hs c.copy_item.new.fresh.chunk c.copy_item.new.fresh.room) (sym (finds_keep (λ (v : View). v.row.holdings) (λ chunk key v. refl) (λ chunk head v. refl) chunk filled now finds)) c.copy_item.ensures.fresh
+    subst (λ (hs : List Holding). IsFreshIn hs c.copy_item.new.fresh.chunk c.copy_item.new.fresh.room) (sym (finds_keep (λ (v : View). v.row.holdings) (λ one v. refl) (λ chunk head v. refl) chunk filled now finds)) c.copy_item.ensures.fresh
 
 pub returns-in-Ok-clause-moves : goal.returns-in-Ok-clause-moves
 returns-in-Ok-clause-moves c =
@@ -260,7 +262,7 @@ returns-in-Err-clause-holdings c =
     let now : View = c.condemn_original.new.hand.seat.me.0 in
     let finds = c.in-Err.ensures.moved.0 in
     let (same, rooms) = c.copy_item.ensures.same in
-    let still = finds_keep (λ (v : View). v.row.holdings) (λ chunk key v. refl) (λ chunk head v. refl) chunk filled now finds in
+    let still = finds_keep (λ (v : View). v.row.holdings) (λ one v. refl) (λ chunk head v. refl) chunk filled now finds in
     ap (λ (v : View). v.row.holdings) c.discard.ensures.dropped ∙ ((λ k. lose (is_of (same k)) (still k)) ∙ others_filled chunk copy key stamp words view filled done.is c.requires.alone)
 
 pub returns-in-Err-clause-ids : goal.returns-in-Err-clause-ids
@@ -275,5 +277,5 @@ returns-in-Err-clause-ids c =
     let words = done.words in
     let now : View = c.condemn_original.new.hand.seat.me.0 in
     let finds = c.in-Err.ensures.moved.0 in
-    let still = finds_keep (λ (v : View). v.row.ids) (λ chunk key v. refl) (λ chunk head v. refl) chunk filled now finds in
+    let still = finds_keep (λ (v : View). v.row.ids) (λ one v. refl) (λ chunk head v. refl) chunk filled now finds in
     ap (λ (v : View). v.row.ids) c.discard.ensures.dropped ∙ (still ∙ ids_stay chunk copy key stamp words view filled done.is)

@@ -7,7 +7,7 @@ use Rattle.mc_words.specs.Sweeping.{SweepsOne}
 use Rattle.mc_words.specs.View.{View}
 use Rattle.mc_words.specs.Views.{stripe_given}
 use Rattle.mc_words.proofs.SweepViews.{swept_one}
-use Rattle.mc_mover.proofs.Moved.{sweep_keeps}
+use Rattle.mc_mover.proofs.Kept.{swept_keep}
 use Rattle.mc_mover.proofs.saving.rescue.Goals as goal
 
 pub returns-in-Ok-clause-rescues : goal.returns-in-Ok-clause-rescues
@@ -39,7 +39,7 @@ returns-in-Err-clause-holdings c =
     let left : SlabState = c.put_back.new.held.shared in
     let slabs : SlabState = c.move_item-moved.new.slabs.shared in
     let sweeps : SweepsOne c.chunk-copy.result given slabs now left = swept_one c.put_back.result c.put_back.ensures.back c.put_back.ensures.moved in
-    sweep_keeps (λ (v : View). v.row.holdings) (λ chunk head v. refl) (λ slabs chunk head v. refl) c.chunk-copy.result given slabs now left sweeps
+    swept_keep (λ (v : View). v.row.holdings) (λ one v. refl) (λ chunk head v. refl) (λ slabs chunk head v. refl) c.chunk-copy.result given slabs now left sweeps
     ∙ (ap (λ (v : View). v.row.holdings) c.give_stripe.ensures.left ∙ c.move_item-moved.ensures.holdings)
 
 pub returns-in-Err-clause-ids : goal.returns-in-Err-clause-ids
@@ -50,5 +50,5 @@ returns-in-Err-clause-ids c =
     let left : SlabState = c.put_back.new.held.shared in
     let slabs : SlabState = c.move_item-moved.new.slabs.shared in
     let sweeps : SweepsOne c.chunk-copy.result given slabs now left = swept_one c.put_back.result c.put_back.ensures.back c.put_back.ensures.moved in
-    sweep_keeps (λ (v : View). v.row.ids) (λ chunk head v. refl) (λ slabs chunk head v. refl) c.chunk-copy.result given slabs now left sweeps
+    swept_keep (λ (v : View). v.row.ids) (λ one v. refl) (λ chunk head v. refl) (λ slabs chunk head v. refl) c.chunk-copy.result given slabs now left sweeps
     ∙ (ap (λ (v : View). v.row.ids) c.give_stripe.ensures.left ∙ c.move_item-moved.ensures.ids)
