@@ -99,6 +99,10 @@ VisitsLinked number class chunk unheld Busy view slabs now left = HoldsUp number
 VisitsLinked number class chunk unheld Locked view slabs now left = FindsLocked chunk view now × (left ≡ slabs)
 VisitsLinked number class chunk unheld found view slabs now left = ⊥
 
--- there was no memory for a call on the key, and nothing was changed
-abbrev pub LacksCall : ChunkId → SlabsDoing
-LacksCall chunk view slabs now left = ReachesStripe chunk (λ key. OnlyGives) view slabs now left
+-- the lock was given back, and nothing was changed, though the key leads to the chunk
+abbrev pub GivesThere : ChunkId → ℕ → StripeDoing
+GivesThere chunk key stripe value taken slabs now left = (option_map (λ place. place.0) (place_of value.state key) ≡ Some chunk) × OnlyGives stripe value taken slabs now left
+
+-- the chunk, which was seen unheld, is to be saved, but there was no memory for a call on its key
+abbrev pub LacksCall : ChunkId → Bool → SlabsDoing
+LacksCall chunk unheld view slabs now left = (unheld ≡ true) × ReachesStripe chunk (GivesThere chunk) view slabs now left

@@ -62,6 +62,6 @@ Visits number class chunk Busy view slabs now left =
     (FindsUnlinkedHeld chunk view now × (left ≡ slabs)) ⊎ SeesLinked chunk (λ unheld. VisitsLinked number class chunk unheld Busy) view slabs now left
 Visits number class chunk Locked view slabs now left = SeesLinked chunk (λ unheld. VisitsLinked number class chunk unheld Locked) view slabs now left
 
--- there was no memory for a call on the chunk's key, and nothing was changed
+-- the chunk is to be saved, but there was no memory for a call on its key, and nothing was changed
 abbrev pub LacksCall : ChunkId → SlabsDoing
-LacksCall chunk view slabs now left = SeesLinked chunk (λ unheld. linked.LacksCall chunk) view slabs now left
+LacksCall chunk view slabs now left = SeesLinked chunk (linked.LacksCall chunk) view slabs now left

@@ -51,7 +51,7 @@ pub(crate) fn visit_linked(
     ensures held { (view hand.new).slabs ≡ Some held.new.shared }
     ensures visits { IfOk result (λ found. VisitsLinked hand.old.number class chunk unheld found (view hand.old) held.old.shared (view hand.new) held.new.shared) }
     ensures clears { IfOk result (λ found. is_held_up found ≡ false → is_cleared held.new.shared class chunk ≡ true) }
-    ensures lacks { OnErr result (LacksCall chunk (view hand.old) held.old.shared (view hand.new) held.new.shared) }
+    ensures lacks { OnErr result (LacksCall chunk unheld (view hand.old) held.old.shared (view hand.new) held.new.shared) }
     ensures moving { held.new.shared.moving ≡ held.old.shared.moving }
     ensures uncut { held.new.shared.uncut ≡ held.old.shared.uncut }
     ensures per_page { (class_at held.new.shared class).per_page ≡ (class_at held.old.shared class).per_page }

@@ -1,5 +1,7 @@
 use Rattle.std.proofs.Common.{◌≡◌, ◌%◌, ℕ, Bool, true, false, map, Some, refl, sym, ap, subst, ◌∙◌, inl, inr, arith}
+use Rattle.std.specs.Option.{option_map}
 use Rattle.mc_classes.specs.declared.config.Config.{Config}
+use Rattle.mc_pages.specs.declared.ids.ChunkId.{ChunkId}
 use Rattle.mc_pages.specs.declared.moves.Found.{Found}
 use Rattle.mc_pages.specs.declared.moves.Found.TheVariants.{Busy}
 use Rattle.mc_pages.specs.Moves.{is_held_up}
@@ -12,7 +14,7 @@ use Rattle.mc_words.specs.View.{Setup, View}
 use Rattle.mc_words.specs.Idle.{has_no_stripes}
 use Rattle.mc_words.specs.Out.{without_stripe}
 use Rattle.mc_words.specs.Views.{stripe_given, stripe_missed}
-use Rattle.mc_mover.specs.Linked.{OnlyGives, ReadsKey, SavesAs, VisitsLinked}
+use Rattle.mc_mover.specs.Linked.{GivesThere, OnlyGives, ReadsKey, SavesAs, VisitsLinked}
 use Rattle.mc_mover.proofs.ClearedPages.{cleared_after_clear}
 use Rattle.mc_mover.proofs.Copied.{three_places}
 use Rattle.mc_mover.proofs.HandNumbers.{number_stays}
@@ -97,7 +99,9 @@ returns-in_err-found-clause-lacks c =
     let reads : ReadsKey c.args.chunk key view read = (c.word_held-key.ensures.happens, c.word_held-key.ensures.view) in
     let now : View = c.save.new.hand.seat.me.0 in
     let left = c.save.new.slabs.shared in
-    as_error c.from_residual.result (reached c.args.chunk view read taken slabs key stripe value reads at c.in-Ok.ensures.taken c.in-Ok.ensures.lent c.in-Ok.ensures.whole (λ key. OnlyGives) now left (subst (λ n. OnlyGives n value taken slabs now left) c.in-Ok.ensures.number c.in_err-found.ensures.lacks))
+    let leads = c.if-not-leads_to.ensures.leads refl in
+    as_error c.from_residual.result
+    (c.if-not-unheld.false, reached c.args.chunk view read taken slabs key stripe value reads at c.in-Ok.ensures.taken c.in-Ok.ensures.lent c.in-Ok.ensures.whole (GivesThere c.args.chunk) now left (ap (option_map (λ (place : ChunkId × ℕ). place.0)) leads.1, subst (λ n. OnlyGives n value taken slabs now left) c.in-Ok.ensures.number c.in_err-found.ensures.lacks))
 
 pub returns-then-ne-clause-locks : goal.returns-then-ne-clause-locks
 returns-then-ne-clause-locks c =
