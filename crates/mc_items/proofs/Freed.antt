@@ -13,6 +13,8 @@ use Rattle.mc_core.specs.Past.{Own, Saying}
 use Rattle.mc_words.specs.Doing.{IsDone}
 use Rattle.mc_words.specs.View.{View}
 use Rattle.mc_words.specs.Called.{with_own_call}
+use Rattle.mc_items.specs.declared.evicting.Supply.{Supply}
+use Rattle.mc_items.specs.declared.evicting.Supply.TheVariants.{Page, Dead, Evicted}
 use Rattle.mc_items.specs.Evicting.{FreesChunk, FreesOne, LacksEntry, TellsEvict}
 use Rattle.mc_items.specs.Supplying.{FreesEvicted, ReachesItem, TakesItem}
 use Rattle.mc_items.proofs.Passes.{each_keeps, lacks_spares, own_of, passed_spares, reach_spares}
@@ -82,23 +84,25 @@ takes_keep number chunk view now reaches =
 freed_keeps : (number class : ℕ) (chunk : ChunkId) (view : View) (slabs : SlabState) (now : View) (left : SlabState) → FreesEvicted number class chunk view slabs now left → own_of now ≡ own_of view
 freed_keeps number class chunk view slabs now left frees = ap own_of frees.back.is ∙ ap own_of frees.is_counted
 
-pub frees_keep : (number class : ℕ) (chunk : ChunkId) (view : View) (slabs : SlabState) (now : View) (left : SlabState) → FreesChunk number class chunk view slabs now left → Evicts number view now
-frees_keep number class chunk view slabs now left (inl (taken, reaches, frees)) =
+pub frees_keep : (number class : ℕ) (chunk : ChunkId) (supply : Supply) (view : View) (slabs : SlabState) (now : View) (left : SlabState) → FreesChunk number class chunk supply view slabs now left → Evicts number view now
+frees_keep number class chunk Page view slabs now left frees = absurd frees
+frees_keep number class chunk Evicted view slabs now left (taken, reaches, frees) =
     evicts_before number view taken now (takes_keep number chunk view taken reaches) (freed_keeps number class chunk taken slabs now left frees)
-frees_keep number class chunk view slabs now left (inr (tried, passes, back, is)) =
+frees_keep number class chunk Dead view slabs now left (tried, passes, back, is) =
     evicts_none number view now (ap own_of back.is ∙ (passed_spares number chunk view tried passes).own)
 
-pub one_keeps : (number class : ℕ) (chunks : List ChunkId) (view : View) (slabs : SlabState) (now : View) (left : SlabState) → FreesOne number class chunks view slabs now left → Evicts number view now
-one_keeps number class chunks view slabs now left frees =
-    evicts_after number view frees.passed now (each_keeps number frees.before view frees.passed frees.passes) (frees_keep number class frees.chunk frees.passed slabs now left frees.frees)
+pub one_keeps : (number class : ℕ) (chunks : List ChunkId) (supply : Supply) (view : View) (slabs : SlabState) (now : View) (left : SlabState) → FreesOne number class chunks supply view slabs now left → Evicts number view now
+one_keeps number class chunks supply view slabs now left frees =
+    evicts_after number view frees.passed now (each_keeps number frees.before view frees.passed frees.passes) (frees_keep number class frees.chunk supply frees.passed slabs now left frees.frees)
 
 pub entry_keeps : (number : ℕ) (chunks : List ChunkId) (view now : View) → LacksEntry number chunks view now → own_of now ≡ own_of view
 entry_keeps number chunks view now lacks = (lacks_spares lacks.chunk lacks.passed now lacks.lacks).own ∙ each_keeps number lacks.before view lacks.passed lacks.passes
 
 -- no page is cut, or begun to be
-pub frees_uncut : (number class : ℕ) (chunk : ChunkId) (view : View) (slabs : SlabState) (now : View) (left : SlabState) → FreesChunk number class chunk view slabs now left → left.uncut ≡ slabs.uncut
-frees_uncut number class chunk view slabs now left (inl (taken, reaches, frees)) = ap (λ (s : SlabState). s.uncut) frees.left_is
-frees_uncut number class chunk view slabs now left (inr (tried, passes, back, is)) = ap (λ (s : SlabState). s.uncut) is
+pub frees_uncut : (number class : ℕ) (chunk : ChunkId) (supply : Supply) (view : View) (slabs : SlabState) (now : View) (left : SlabState) → FreesChunk number class chunk supply view slabs now left → left.uncut ≡ slabs.uncut
+frees_uncut number class chunk Page view slabs now left frees = absurd frees
+frees_uncut number class chunk Evicted view slabs now left (taken, reaches, frees) = ap (λ (s : SlabState). s.uncut) frees.left_is
+frees_uncut number class chunk Dead view slabs now left (tried, passes, back, is) = ap (λ (s : SlabState). s.uncut) is
 
 -- a chunk that was put back is free
 pub back_is_free : (slabs : SlabState) (class : ℕ) (chunk : ChunkId) → IsClass slabs class → class_of_page slabs chunk.page ≡ class → is_some (first_free (class_at (after_back slabs chunk) class)) ≡ true
@@ -106,11 +110,12 @@ back_is_free slabs class chunk is own =
     ap (λ (n : ℕ). is_some (first_free (class_at (with_class slabs n (put_back (class_at slabs n) chunk)) class))) own
     ∙ ap (λ (c : ClassState). is_some (first_free c)) (class_at-with_class_same slabs class (put_back (class_at slabs class) chunk) is)
 
-pub frees_free : (number class : ℕ) (chunk : ChunkId) (view : View) (slabs : SlabState) (now : View) (left : SlabState) → IsClass slabs class → class_of_page slabs chunk.page ≡ class → FreesChunk number class chunk view slabs now left → is_some (first_free (class_at left class)) ≡ true
-frees_free number class chunk view slabs now left is own (inl (taken, reaches, frees)) =
+pub frees_free : (number class : ℕ) (chunk : ChunkId) (supply : Supply) (view : View) (slabs : SlabState) (now : View) (left : SlabState) → IsClass slabs class → class_of_page slabs chunk.page ≡ class → FreesChunk number class chunk supply view slabs now left → is_some (first_free (class_at left class)) ≡ true
+frees_free number class chunk Page view slabs now left is own frees = absurd frees
+frees_free number class chunk Evicted view slabs now left is own (taken, reaches, frees) =
     ap (λ (s : SlabState). is_some (first_free (class_at s class))) frees.left_is
     ∙ back_is_free (after_evicted slabs class) class chunk (IsClass-with_class slabs class class (evicted (class_at slabs class)) is) own
-frees_free number class chunk view slabs now left is own (inr (tried, passes, back, left_is)) =
+frees_free number class chunk Dead view slabs now left is own (tried, passes, back, left_is) =
     ap (λ (s : SlabState). is_some (first_free (class_at s class))) left_is ∙ back_is_free slabs class chunk is own
 
 -- what is so where it went well, and where it didn't

@@ -1,5 +1,4 @@
 pub mod Words
-pub mod Hands
 pub mod Locks
 pub mod Gets
 pub mod Deletes

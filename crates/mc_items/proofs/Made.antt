@@ -1,9 +1,9 @@
 -- How a class came to a free chunk, or to none: what that leaves of what the hand has.
-use Rattle.std.proofs.Common.{◌≡◌, ℕ, true, false, is_some, List, [], ◌∷◌, map, Some, None, Option, refl, sym, ap, subst, ◌∙◌, inl, inr, ◌⊎◌}
+use Rattle.std.proofs.Common.{◌≡◌, ℕ, true, false, is_some, List, [], ◌∷◌, map, Some, None, Option, Result, Ok, Err, refl, sym, ap, subst, ◌∙◌, inl, inr, ◌⊎◌}
 use Rattle.std.specs.Prelude.{All, Contains}
 use Rattle.std.proofs.lemmas.List.Elements.{All-contains_itself, All-head, All-tail}
 use Rattle.mc_pages.specs.declared.ids.ChunkId.{ChunkId}
-use Rattle.mc_pages.specs.Changes.{after_back, after_cut, after_pop}
+use Rattle.mc_pages.specs.Changes.{after_back, after_cut, after_pop, next_page}
 use Rattle.mc_pages.specs.ClassState.{first_free, put_back}
 use Rattle.mc_pages.specs.SlabState.{SlabState, IsClass, class_at, class_of_chunk, class_of_page}
 use Rattle.mc_pages.proofs.OneClass.{IsClass-with_class}
@@ -17,14 +17,18 @@ use Rattle.mc_words.specs.Happens.{LawfulView}
 use Rattle.mc_words.specs.Owner.{PopsFirst, SeesOther}
 use Rattle.mc_words.specs.Sweeping.{Sweeps, with_seen}
 use Rattle.mc_words.proofs.SweepViews.{class_here, sees_alone, stands_out}
-use Rattle.mc_items.specs.Evicting.{TellsEvict}
-use Rattle.mc_items.specs.Sources.{ComesToFree, MakesFree, SuppliesChunk, SuppliesNone}
+use Rattle.mc_items.specs.Evicting.{FreesOne, TellsEvict, first_five}
+use Rattle.mc_pages.specs.declared.moves.Reassign.{Reassign}
+use Rattle.mc_words.specs.Reassigning.{Reassigns}
+use Rattle.mc_items.specs.declared.evicting.Supply.{Supply}
+use Rattle.mc_items.specs.declared.evicting.Supply.TheVariants.{Page, Dead, Evicted}
+use Rattle.mc_items.specs.Sources.{AsksMove, ComesToFree, MakesFree, SuppliesChunk, SuppliesNone}
 use Rattle.mc_words.specs.Cutting.{CutsEach}
 use Rattle.mc_items.specs.Supplying.{FindsNoFree, Grows, SweepsEmpty}
 use Rattle.mc_items.specs.declared.setting.SetError.{SetError}
 use Rattle.mc_items.specs.declared.setting.SetError.TheVariants.{TooLarge, NoRoom, WornOut, NoMemory}
 use Rattle.mc_words.specs.declared.hand.Hand.{Hand}
-use Rattle.mc_items.proofs.Hands.{number_stays}
+use Rattle.mc_words.proofs.HandNumbers.{number_stays}
 use Rattle.mc_items.proofs.Locks.{waits_slabs_keep}
 use Rattle.mc_items.proofs.Freed.{Evicts, back_is_free, entry_keeps, evicts_after, evicts_before, evicts_none, one_keeps}
 use Rattle.mc_items.proofs.Passes.{each_keeps, own_of}
@@ -72,22 +76,29 @@ cuts_keep (chunk ∷ chunks) view slabs now left (next, cut, rest) = cuts_keep c
 grows_keep : (number class : ℕ) (view : View) (slabs : SlabState) (now : View) (left : SlabState) → Grows number class view slabs now left → own_of now ≡ own_of view
 grows_keep number class view slabs now left grows = cuts_keep _ grows.grown _ now left grows.cuts ∙ ap own_of grows.is_grown
 
-pub makes_keep : (number class : ℕ) (view : View) (slabs : SlabState) (now : View) (left : SlabState) → MakesFree number class view slabs now left → Evicts number view now
-makes_keep number class view slabs now left (inl grows) = evicts_none number view now (grows_keep number class view slabs now left grows)
-makes_keep number class view slabs now left (inr (none, frees)) = one_keeps number class _ view slabs now left frees
+-- where no page was left, one of the oldest five chunks did
+pub made_by : (number class : ℕ) (supply : Supply) (view : View) (slabs : SlabState) (now : View) (left : SlabState) → next_page slabs ≡ None → FreesOne number class (first_five slabs class) supply view slabs now left → MakesFree number class supply view slabs now left
+made_by number class Page view slabs now left none frees = absurd frees.frees
+made_by number class Dead view slabs now left none frees = (none, frees)
+made_by number class Evicted view slabs now left none frees = (none, frees)
 
-pub comes_keep : (number class : ℕ) (view : View) (slabs : SlabState) (now : View) (left : SlabState) → ComesToFree number class view slabs now left → Evicts number view now
-comes_keep number class view slabs now left comes =
-    evicts_after number view comes.swept now (sweeps_keep (class_at slabs class).order view slabs comes.swept comes.between comes.finds.sweeps) (makes_keep number class comes.swept comes.between now left comes.makes)
+pub makes_keep : (number class : ℕ) (supply : Supply) (view : View) (slabs : SlabState) (now : View) (left : SlabState) → MakesFree number class supply view slabs now left → Evicts number view now
+makes_keep number class Page view slabs now left grows = evicts_none number view now (grows_keep number class view slabs now left grows)
+makes_keep number class Dead view slabs now left (none, frees) = one_keeps number class _ Dead view slabs now left frees
+makes_keep number class Evicted view slabs now left (none, frees) = one_keeps number class _ Evicted view slabs now left frees
+
+pub comes_keep : (number class : ℕ) (supply : Supply) (view : View) (slabs : SlabState) (now : View) (left : SlabState) → ComesToFree number class supply view slabs now left → Evicts number view now
+comes_keep number class supply view slabs now left comes =
+    evicts_after number view comes.swept now (sweeps_keep (class_at slabs class).order view slabs comes.swept comes.between comes.finds.sweeps) (makes_keep number class supply comes.swept comes.between now left comes.makes)
 
 -- so it was, from the parts of the call
-pub comes_so : (before after : Hand) (class : ℕ) (slabs between : SlabState) (made : View) (with : SlabState) → FindsNoFree class before.seat.me.0 slabs after.seat.me.0 between → after.seat.me.0 ≡ with_seen before.seat.me.0 after.seat.me.0
-    → MakesFree after.number class after.seat.me.0 between made with → ComesToFree before.number class before.seat.me.0 slabs made with
-comes_so before after class slabs between made with finds seen makes = record {
+pub comes_so : (before after : Hand) (class : ℕ) (supply : Supply) (slabs between : SlabState) (made : View) (with : SlabState) → FindsNoFree class before.seat.me.0 slabs after.seat.me.0 between → after.seat.me.0 ≡ with_seen before.seat.me.0 after.seat.me.0
+    → MakesFree after.number class supply after.seat.me.0 between made with → ComesToFree before.number class supply before.seat.me.0 slabs made with
+comes_so before after class supply slabs between made with finds seen makes = record {
   swept = after.seat.me.0;
   between = between;
   finds = finds;
-  makes = subst (λ n. MakesFree n class after.seat.me.0 between made with) (number_stays before after (ap (λ (v : View). v.row.ids) seen)) makes;
+  makes = subst (λ n. MakesFree n class supply after.seat.me.0 between made with) (number_stays before after (ap (λ (v : View). v.row.ids) seen)) makes;
 }
 
 -- what was said, the numbers, and at most an eviction among the calls
@@ -140,11 +151,21 @@ pops_tell view slabs class chunk now pops = ap told_of pops.is
 sees_tell : (view : View) (asked : Option ChunkId) (IsOther : Head → Type 0) (now : View) → SeesOther view asked IsOther now → own_of now ≡ own_of view
 sees_tell view asked IsOther now sees = ap own_of sees.is
 
+-- and so does a move that is asked for
+asks_told : (number class : ℕ) (supply : Supply) (view : View) (slabs : SlabState) (now : View) (left : SlabState) → AsksMove number class supply view slabs now left → told_of now ≡ told_of view
+asks_told number class supply view slabs now left (inl (asked, answer, does)) = by answer does
+  where
+    by : (answer : Result (Unit {0}) Reassign) → Reassigns number None class answer view slabs now left → told_of now ≡ told_of view
+    by (Ok done) begun = ap told_of begun.changes.1
+    by (Err refusal) refused = ap told_of refused.1
+asks_told number class supply view slabs now left (inr (never, same, is)) = ap told_of same
+
 pub supplies_tell : (number class : ℕ) (chunk : ChunkId) (view : View) (slabs : SlabState) (now : View) (left : SlabState) → SuppliesChunk number class chunk view slabs now left → Tells number view now
 supplies_tell number class chunk view slabs now left (inl free) =
     tells_before number view free.swept now (tells_from number view free.swept (evicts_none number view free.swept (empty_keeps class view slabs free.swept free.between free.sweeps))) (pops_tell free.swept free.between class chunk now free.pops)
 supplies_tell number class chunk view slabs now left (inr made) =
-    tells_before number view made.made now (tells_from number view made.made (comes_keep number class view slabs made.made made.with made.comes)) (pops_tell made.made made.with class chunk now made.pops)
+    tells_before number view made.made now (tells_from number view made.made (comes_keep number class made.supply view slabs made.made made.with made.comes))
+    (asks_told number class made.supply made.popped (after_pop made.with class) now left made.asks ∙ pops_tell made.made made.with class chunk made.popped made.pops)
 
 pub none_tells : (number class : ℕ) (error : SetError) (view : View) (slabs : SlabState) (now : View) (left : SlabState) → SuppliesNone number class error view slabs now left → Evicts number view now
 none_tells number class TooLarge view slabs now left none = absurd none
@@ -153,11 +174,11 @@ none_tells number class NoRoom view slabs now left none =
 none_tells number class WornOut view slabs now left (inl worn) =
     evicts_none number view now (sees_tell worn.swept _ _ now worn.worn ∙ empty_keeps class view slabs worn.swept left worn.sweeps)
 none_tells number class WornOut view slabs now left (inr made) =
-    evicts_before number view made.made now (comes_keep number class view slabs made.made left made.comes) (sees_tell made.made _ _ now made.worn)
+    evicts_before number view made.made now (comes_keep number class made.supply view slabs made.made left made.comes) (sees_tell made.made _ _ now made.worn)
 none_tells number class NoMemory view slabs now left lacks =
     evicts_none number view now (by lacks.lacks.0 ∙ sweeps_keep _ view slabs lacks.swept lacks.between lacks.finds.sweeps)
   where
-    by : (now ≡ lacks.swept) ⊎ ((Rattle.mc_pages.specs.Changes.next_page lacks.between ≡ None) × Rattle.mc_items.specs.Evicting.LacksEntry number (Rattle.mc_items.specs.Evicting.first_five lacks.between class) lacks.swept now) → own_of now ≡ own_of lacks.swept
+    by : (now ≡ lacks.swept) ⊎ ((next_page lacks.between ≡ None) × Rattle.mc_items.specs.Evicting.LacksEntry number (first_five lacks.between class) lacks.swept now) → own_of now ≡ own_of lacks.swept
     by (inl same) = ap own_of same
     by (inr (page, entry)) = entry_keeps number _ lacks.swept now entry
 

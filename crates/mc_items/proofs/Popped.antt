@@ -1,5 +1,5 @@
 -- A chunk that was just handed out is one that the hand fills with an item of its own.
-use Rattle.std.proofs.Common.{◌≡◌, ℕ, ◌+◌, Bool, true, [], ◌∷◌, Option, Some, None, sym, ap, ◌∙◌, if◌then◌else◌}
+use Rattle.std.proofs.Common.{◌≡◌, ℕ, ◌+◌, Bool, true, List, [], ◌∷◌, Option, Some, None, sym, ap, subst, ◌∙◌, if◌then◌else◌}
 use Rattle.std.specs.Option.{option_map_or, option_or}
 use Rattle.std.proofs.lemmas.List.Folds.{find-append}
 use Rattle.mc_pages.specs.declared.ids.ChunkId.{ChunkId}
@@ -30,3 +30,8 @@ popped_own view now slabs class chunk was mine is pops =
     let issue : issue_in now chunk ≡ holding.issue = ap (λ (o : Option Holding). option_map_or (λ (h : Holding). h.issue) o 0) found in
     let words : words_in now chunk ≡ words_of holding = ap (λ (o : Option Holding). option_map_or words_of o []) found in
     found ∙ (λ k. Some (own_item chunk (sym issue k) (sym words k)))
+
+-- and it is so still while the hand has the same chunks
+pub own_still : (view now : View) (chunk : ChunkId) → now.row.holdings ≡ view.row.holdings → IsOwnItem view chunk → IsOwnItem now chunk
+own_still view now chunk same own =
+    subst (λ (hs : List Holding). holding_of chunk hs ≡ Some (own_item chunk (option_map_or (λ (h : Holding). h.issue) (holding_of chunk hs) 0) (option_map_or words_of (holding_of chunk hs) []))) (sym same) own

@@ -5,8 +5,11 @@ use Rattle.mc_pages.specs.Changes.{after_back}
 use Rattle.mc_pages.specs.SlabState.{SlabState, class_at}
 use Rattle.mc_core.specs.Head.{is_dead}
 use Rattle.mc_stripe.specs.declared.history.Call.TheVariants as call
+use Rattle.mc_words.specs.Doing.{SlabsDoing}
 use Rattle.mc_words.specs.Owner.{PutsBack, SeesOther}
 use Rattle.mc_words.specs.View.{View}
+use Rattle.mc_items.specs.declared.evicting.Supply.{Supply}
+use Rattle.mc_items.specs.declared.evicting.Supply.TheVariants.{Page, Dead, Evicted}
 use Rattle.mc_items.specs.Calls.{TellsCall, TellsNoCall}
 use Rattle.mc_items.specs.Supplying.{FreesEvicted, LacksMemory, PassesItem, ReachesItem, TakesItem}
 
@@ -25,21 +28,23 @@ abbrev pub PassesEach : ℕ → List ChunkId → View → View → Type 0
 PassesEach number [] view now = now ≡ view
 PassesEach number (chunk ∷ chunks) view now = (next : View) × PassesOne number chunk view next × PassesEach number chunks next now
 
--- the chunk's item was evicted, and the chunk put back; or the chunk had died meanwhile, and was put back
-abbrev pub FreesChunk : ℕ → ℕ → ChunkId → View → SlabState → View → SlabState → Type 0
-FreesChunk number class chunk view slabs now left =
-    ((taken : View) × ReachesItem number chunk (λ number stripe. TakesItem number stripe chunk) view taken × FreesEvicted number class chunk taken slabs now left)
-    ⊎ ((tried : View) × PassesItem number chunk view tried × PutsBack tried slabs chunk now × (left ≡ after_back slabs chunk))
+-- a chunk came free: its item was evicted, and the chunk put back; or it had died meanwhile, and was put back
+abbrev pub FreesChunk : ℕ → ℕ → ChunkId → Supply → SlabsDoing
+FreesChunk number class chunk Page view slabs now left = ⊥
+FreesChunk number class chunk Dead view slabs now left =
+    (tried : View) × PassesItem number chunk view tried × PutsBack tried slabs chunk now × (left ≡ after_back slabs chunk)
+FreesChunk number class chunk Evicted view slabs now left =
+    (taken : View) × ReachesItem number chunk (λ number stripe. TakesItem number stripe chunk) view taken × FreesEvicted number class chunk taken slabs now left
 
 -- the first of these chunks that could be had was freed so, and those before it were passed
-pub record FreesOne (number class : ℕ) (chunks : List ChunkId) (view : View) (slabs : SlabState) (now : View) (left : SlabState) : Type 0 where
+pub record FreesOne (number class : ℕ) (chunks : List ChunkId) (supply : Supply) (view : View) (slabs : SlabState) (now : View) (left : SlabState) : Type 0 where
   pub before : List ChunkId
   pub chunk : ChunkId
   pub after : List ChunkId
   pub first : chunks ≡ before ++ chunk ∷ after
   pub passed : View
   pub passes : PassesEach number before view passed
-  pub frees : FreesChunk number class chunk passed slabs now left
+  pub frees : FreesChunk number class chunk supply passed slabs now left
 
 -- some of these were passed, and then there was no memory for the entry of the next one's eviction
 pub record LacksEntry (number : ℕ) (chunks : List ChunkId) (view now : View) : Type 0 where

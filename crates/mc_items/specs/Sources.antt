@@ -1,7 +1,8 @@
 -- How a set comes to a chunk, under one hold of the slabs lock, and why it doesn't.
-use Rattle.std.specs.Prelude.{◌≡◌, ◌⊎◌, ℕ, ◌≤◌, true, None}
+use Rattle.std.specs.Prelude.{◌≡◌, ◌⊎◌, ℕ, ◌≤◌, ◌==◌, Bool, true, false, None, Result}
 use Rattle.std.specs.List.{list_all}
 use Rattle.mc_pages.specs.declared.ids.ChunkId.{ChunkId}
+use Rattle.mc_pages.specs.declared.moves.Reassign.{Reassign}
 use Rattle.mc_pages.specs.Changes.{after_pop, next_page}
 use Rattle.mc_pages.specs.ClassState.{first_free}
 use Rattle.mc_pages.specs.SlabState.{SlabState, class_at}
@@ -9,32 +10,49 @@ use Rattle.mc_core.specs.Chunks.{most_issue}
 use Rattle.mc_core.specs.Looks.{is_found_alive}
 use Rattle.mc_words.specs.Doing.{SlabsDoing}
 use Rattle.mc_words.specs.Owner.{PopsFirst, SeesOther}
+use Rattle.mc_words.specs.Reassigning.{Reassigns}
 use Rattle.mc_words.specs.View.{View}
 use Rattle.mc_items.specs.Evicting.{FreesOne, LacksEntry, PassesEach, first_five}
 use Rattle.mc_items.specs.Supplying.{FindsNoFree, FindsWorn, Grows, SuppliesFree}
+use Rattle.mc_items.specs.declared.evicting.Supply.{Supply}
+use Rattle.mc_items.specs.declared.evicting.Supply.TheVariants.{Page, Dead, Evicted}
 use Rattle.mc_items.specs.declared.setting.SetError.{SetError}
 use Rattle.mc_items.specs.declared.setting.SetError.TheVariants.{TooLarge, NoRoom, WornOut, NoMemory}
 
 -- a class without a free chunk came to one: by the next page; or where there is none left, by one of its oldest five chunks
-abbrev pub MakesFree : ℕ → ℕ → SlabsDoing
-MakesFree number class view slabs now left =
-    Grows number class view slabs now left
-    ⊎ ((next_page slabs ≡ None) × FreesOne number class (first_five slabs class) view slabs now left)
+abbrev pub MakesFree : ℕ → ℕ → Supply → SlabsDoing
+MakesFree number class Page view slabs now left = Grows number class view slabs now left
+MakesFree number class Dead view slabs now left = (next_page slabs ≡ None) × FreesOne number class (first_five slabs class) Dead view slabs now left
+MakesFree number class Evicted view slabs now left = (next_page slabs ≡ None) × FreesOne number class (first_five slabs class) Evicted view slabs now left
 
 -- the class had no free chunk, its dead ones didn't help, and then it came to one
-pub record ComesToFree (number class : ℕ) (view : View) (slabs : SlabState) (now : View) (left : SlabState) : Type 0 where
+pub record ComesToFree (number class : ℕ) (supply : Supply) (view : View) (slabs : SlabState) (now : View) (left : SlabState) : Type 0 where
   pub swept : View
   pub between : SlabState
   pub finds : FindsNoFree class view slabs swept between
-  pub makes : MakesFree number class swept between now left
+  pub makes : MakesFree number class supply swept between now left
 
--- so, and it was handed out
+-- a move is asked for after an eviction in mode 2, and never else
+abbrev pub asks_move : Supply → SlabState → Bool
+asks_move Page slabs = false
+asks_move Dead slabs = false
+asks_move Evicted slabs = slabs.automove == 2
+
+-- a move of any class's page to this one was asked for, whatever its answer; or none is to be, and nothing was done
+abbrev pub AsksMove : ℕ → ℕ → Supply → SlabsDoing
+AsksMove number class supply view slabs now left =
+    ((asks_move supply slabs ≡ true) × (answer : Result (Unit {0}) Reassign) × Reassigns number None class answer view slabs now left)
+    ⊎ ((asks_move supply slabs ≡ false) × (now ≡ view) × (left ≡ slabs))
+
+-- so, and it was handed out, and then a move to the class was asked for in mode 2
 pub record SuppliesMade (number class : ℕ) (chunk : ChunkId) (view : View) (slabs : SlabState) (now : View) (left : SlabState) : Type 0 where
+  pub supply : Supply
   pub made : View
   pub with : SlabState
-  pub comes : ComesToFree number class view slabs made with
-  pub pops : PopsFirst made with class chunk now
-  pub left_is : left ≡ after_pop with class
+  pub comes : ComesToFree number class supply view slabs made with
+  pub popped : View
+  pub pops : PopsFirst made with class chunk popped
+  pub asks : AsksMove number class supply popped (after_pop with class) now left
 
 -- a chunk was got: a free or a dead one, or else one of a new page, or else an evicted item's
 abbrev pub SuppliesChunk : ℕ → ℕ → ChunkId → SlabsDoing
@@ -56,8 +74,9 @@ pub record FindsNoRoom (number class : ℕ) (view : View) (slabs : SlabState) (n
 
 -- the class came to a free chunk, and that is worn out
 pub record MakesWorn (number class : ℕ) (view : View) (slabs : SlabState) (now : View) (left : SlabState) : Type 0 where
+  pub supply : Supply
   pub made : View
-  pub comes : ComesToFree number class view slabs made left
+  pub comes : ComesToFree number class supply view slabs made left
   pub worn : SeesOther made (first_free (class_at left class)) (λ head. most_issue ≤ head.issue) now
 
 -- the first free chunk is worn out, at once or after the class came to one

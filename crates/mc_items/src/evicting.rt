@@ -1,5 +1,5 @@
 //! Items that are evicted, under one hold of the slabs lock.
-ghost use Rattle.std.specs.Prelude.{◌≡◌, ◌<◌, true, false, is_some, Contains, Ok, None, Some, OnErr};
+ghost use Rattle.std.specs.Prelude.{◌≡◌, ◌<◌, true, false, is_some, Contains, Ok, None, Some, IfOk, IfSome, OnErr};
 ghost use Rattle.std.specs.List.{list_all};
 ghost use Rattle.mc_pages.specs.Changes.{next_page};
 ghost use Rattle.mc_pages.specs.ClassState.{first_free};
@@ -24,13 +24,7 @@ ghost use Rattle.mc_items.specs.Supplying.{FindsItemHeld, FreesEvicted, LacksMem
 use mc_classes::ClassId;
 use mc_pages::ChunkId;
 use mc_stripe::NoMemory;
-use mc_words::{Arena, Hand, SlabsHeld, StripeHeld};
-
-/// What the issue number of a header is multiplied by.
-const ISSUE_UNIT: u64 = 262_144;
-
-/// The tag and the count of a header whose chunk is linked and held by nobody: the link counts 1.
-const UNHELD: u64 = 196_609;
+use mc_words::{Arena, Hand, SlabsHeld, StripeHeld, header};
 
 // Takes the chunk's item away where it is linked and nobody holds it, and gives the stripe's lock back. At want of memory the stripe
 // is as before.
@@ -104,7 +98,7 @@ pub(crate) fn condemn_if_free(
     ensures passed { result ≡ Ok false → PassesItem hand.old.number chunk (view hand.old) (view hand.new) }
 {
     let head = arena.head(hand, chunk);
-    if head % ISSUE_UNIT != UNHELD {
+    if !header::is_unheld(head) {
         return Ok(false);
     }
     let key = arena.word_held(hand, slabs, chunk, 0);
@@ -140,15 +134,26 @@ pub(crate) fn free_evicted(
 // How many of the oldest chunks of a class are tried for an eviction.
 const TRIES: u64 = 5;
 
+/// How a class without a free chunk came to one.
+#[derive(Clone, Copy, PartialEq, Eq)]
+pub(crate) enum Supply {
+    /// It was given the next page.
+    Page,
+    /// One of its chunks had died, and was put back.
+    Dead,
+    /// An item was evicted.
+    Evicted,
+}
+
 // Frees a chunk for its class: evicts its item, if nobody holds it and its key's stripe is free; or puts it back where it died
-// meanwhile. Says whether it did.
+// meanwhile. Says which, if it did.
 fn free_one(
     arena: &Arena,
     hand: &mut Hand,
     slabs: &mut SlabsHeld,
     class: ClassId,
     chunk: ChunkId,
-) -> Result<bool, NoMemory>
+) -> Result<Option<Supply>, NoMemory>
     requires arena { IsHandOf arena.now hand.old }
     requires class { is_class (setup_of arena.now).table class ≡ true }
     requires slabs { (view hand.old).slabs ≡ Some slabs.old.shared }
@@ -162,26 +167,29 @@ fn free_one(
     ensures arena { IsHandOf arena.now hand.new }
     ensures locks { hand.new.locks ≡ hand.old.locks }
     ensures slabs { (view hand.new).slabs ≡ Some slabs.new.shared }
-    ensures frees { result ≡ Ok true → FreesChunk hand.old.number class chunk (view hand.old) slabs.old.shared (view hand.new) slabs.new.shared }
-    ensures free { result ≡ Ok true → is_some (first_free (class_at slabs.new.shared class)) ≡ true }
-    ensures passes { result ≡ Ok false → PassesOne hand.old.number chunk (view hand.old) (view hand.new) × (slabs.new.shared ≡ slabs.old.shared) }
+    ensures frees { IfOk result (λ freed. IfSome freed (λ supply. FreesChunk hand.old.number class chunk supply (view hand.old) slabs.old.shared (view hand.new) slabs.new.shared)) }
+    ensures free { IfOk result (λ freed. IfSome freed (λ supply. is_some (first_free (class_at slabs.new.shared class)) ≡ true)) }
+    ensures passes { result ≡ Ok None → PassesOne hand.old.number chunk (view hand.old) (view hand.new) × (slabs.new.shared ≡ slabs.old.shared) }
     ensures no_memory { OnErr result (LacksMemory chunk (view hand.old) (view hand.new) × (slabs.new.shared ≡ slabs.old.shared)) }
 {
     if condemn_if_free(arena, hand, slabs, class, chunk)? {
         free_evicted(arena, hand, slabs, class, chunk);
-        return Ok(true);
+        return Ok(Some(Supply::Evicted));
     }
-    Ok(arena.put_back(hand, slabs, chunk).is_ok())
+    match arena.put_back(hand, slabs, chunk) {
+        Ok(()) => Ok(Some(Supply::Dead)),
+        Err(_) => Ok(None),
+    }
 }
 
-// Frees the first chunk of the class's oldest five that is to be had. Says whether there was one. (after items.c's `lru_pull_tail`,
-// which tries five)
+// Frees the first chunk of the class's oldest five that is to be had, and says how, if there was one. (after items.c's
+// `lru_pull_tail`, which tries five)
 pub(crate) fn evict_one(
     arena: &Arena,
     hand: &mut Hand,
     slabs: &mut SlabsHeld,
     class: ClassId,
-) -> Result<bool, NoMemory>
+) -> Result<Option<Supply>, NoMemory>
     requires arena { IsHandOf arena.now hand.old }
     requires class { is_class (setup_of arena.now).table class ≡ true }
     requires slabs { (view hand.old).slabs ≡ Some slabs.old.shared }
@@ -194,22 +202,22 @@ pub(crate) fn evict_one(
     ensures arena { IsHandOf arena.now hand.new }
     ensures locks { hand.new.locks ≡ hand.old.locks }
     ensures slabs { (view hand.new).slabs ≡ Some slabs.new.shared }
-    ensures frees { result ≡ Ok true → FreesOne hand.old.number class (first_five slabs.old.shared class) (view hand.old) slabs.old.shared (view hand.new) slabs.new.shared }
-    ensures free { result ≡ Ok true → is_some (first_free (class_at slabs.new.shared class)) ≡ true }
-    ensures none { result ≡ Ok false → PassesEach hand.old.number (first_five slabs.old.shared class) (view hand.old) (view hand.new) × (slabs.new.shared ≡ slabs.old.shared) }
-    ensures alive { result ≡ Ok false → list_all (is_found_alive (view hand.new).row.looks) (class_at slabs.old.shared class).order ≡ true }
+    ensures frees { IfOk result (λ freed. IfSome freed (λ supply. FreesOne hand.old.number class (first_five slabs.old.shared class) supply (view hand.old) slabs.old.shared (view hand.new) slabs.new.shared)) }
+    ensures free { IfOk result (λ freed. IfSome freed (λ supply. is_some (first_free (class_at slabs.new.shared class)) ≡ true)) }
+    ensures none { result ≡ Ok None → PassesEach hand.old.number (first_five slabs.old.shared class) (view hand.old) (view hand.new) × (slabs.new.shared ≡ slabs.old.shared) }
+    ensures alive { result ≡ Ok None → list_all (is_found_alive (view hand.new).row.looks) (class_at slabs.old.shared class).order ≡ true }
     ensures whole { slabs.new.shared.uncut ≡ None }
     ensures no_memory { OnErr result (LacksEntry hand.old.number (first_five slabs.old.shared class) (view hand.old) (view hand.new) × (slabs.new.shared ≡ slabs.old.shared)) }
 {
     let mut next = slabs.slabs().first_out(class);
     for _ in 0..TRIES {
         let Some(chunk) = next else {
-            return Ok(false);
+            return Ok(None);
         };
         next = slabs.slabs().next_out(chunk);
-        if free_one(arena, hand, slabs, class, chunk)? {
-            return Ok(true);
+        if let Some(supply) = free_one(arena, hand, slabs, class, chunk)? {
+            return Ok(Some(supply));
         }
     }
-    Ok(false)
+    Ok(None)
 }

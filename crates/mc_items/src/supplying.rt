@@ -12,11 +12,11 @@ ghost use Rattle.mc_words.specs.Arenas.{IsHandOf, setup_of, view};
 ghost use Rattle.mc_words.specs.Fresh.{IsFreshOf};
 ghost use Rattle.mc_words.specs.Idle.{has_no_stripes};
 ghost use Rattle.mc_words.specs.Sweeping.{with_seen};
-ghost use Rattle.mc_items.specs.Sources.{LacksMore, MakesFree, MakesNone, SuppliesChunk, SuppliesNone};
+ghost use Rattle.mc_items.specs.Sources.{AsksMove, LacksMore, MakesFree, MakesNone, SuppliesChunk, SuppliesNone};
 ghost use Rattle.mc_items.specs.Storing.{IsOwnItem};
 ghost use Rattle.mc_items.specs.Supplying.{FindsNoFree, FindsWorn, GainsFresh, Grows, SuppliesFree};
 
-use crate::evicting::evict_one;
+use crate::evicting::{Supply, evict_one};
 use crate::setting::SetError;
 use mc_classes::{ClassId, PageId};
 use mc_pages::Grow;
@@ -86,13 +86,13 @@ pub(crate) fn grow_for(
     }
 }
 
-// Gives a class without a free chunk one: of the next page, or where no page is left, by an eviction.
+// Gives a class without a free chunk one: of the next page, or where no page is left, by an eviction. Says how, if it did.
 fn make_free(
     arena: &Arena,
     hand: &mut Hand,
     held: &mut SlabsHeld,
     class: ClassId,
-) -> Result<bool, NoMemory>
+) -> Result<Option<Supply>, NoMemory>
     requires arena { IsHandOf arena.now hand.old }
     requires class { is_class (setup_of arena.now).table class ≡ true }
     requires held { (view hand.old).slabs ≡ Some held.old.shared }
@@ -104,21 +104,44 @@ fn make_free(
     ensures arena { IsHandOf arena.now hand.new }
     ensures locks { hand.new.locks ≡ hand.old.locks }
     ensures held { (view hand.new).slabs ≡ Some held.new.shared }
-    ensures makes { result ≡ Ok true → MakesFree hand.old.number class (view hand.old) held.old.shared (view hand.new) held.new.shared }
-    ensures free { result ≡ Ok true → is_some (first_free (class_at held.new.shared class)) ≡ true }
-    ensures none { result ≡ Ok false → MakesNone hand.old.number class (view hand.old) held.old.shared (view hand.new) held.new.shared }
+    ensures makes { IfOk result (λ made. IfSome made (λ supply. MakesFree hand.old.number class supply (view hand.old) held.old.shared (view hand.new) held.new.shared)) }
+    ensures free { IfOk result (λ made. IfSome made (λ supply. is_some (first_free (class_at held.new.shared class)) ≡ true)) }
+    ensures none { result ≡ Ok None → MakesNone hand.old.number class (view hand.old) held.old.shared (view hand.new) held.new.shared }
     ensures whole { held.new.shared.uncut ≡ None }
     ensures no_memory { OnErr result (LacksMore hand.old.number class (view hand.old) held.old.shared (view hand.new) held.new.shared) }
 {
     match grow_for(arena, hand, held, class) {
-        Ok(true) => Ok(true),
+        Ok(true) => Ok(Some(Supply::Page)),
         Ok(false) => evict_one(arena, hand, held, class),
         Err(error) => Err(error),
     }
 }
 
+// Asks for a move of any class's page to this one, if an item was evicted and the automover's mode is 2. Its answer is ignored, want of
+// memory too. (after items.c's `lru_pull_tail`)
+fn ask_move(
+    arena: &Arena,
+    hand: &mut Hand,
+    held: &mut SlabsHeld,
+    class: ClassId,
+    supply: Supply,
+)
+    requires arena { IsHandOf arena.now hand.old }
+    requires held { (view hand.old).slabs ≡ Some held.old.shared }
+    ensures arena { IsHandOf arena.now hand.new }
+    ensures locks { hand.new.locks ≡ hand.old.locks }
+    ensures held { (view hand.new).slabs ≡ Some held.new.shared }
+    ensures asks { AsksMove hand.old.number class supply (view hand.old) held.old.shared (view hand.new) held.new.shared }
+    ensures holdings { (view hand.new).row.holdings ≡ (view hand.old).row.holdings }
+    ensures uncut { held.new.shared.uncut ≡ held.old.shared.uncut }
+{
+    if supply == Supply::Evicted && held.slabs().automove() == 2 {
+        let _ = arena.begin_move(hand, held, None, class);
+    }
+}
+
 // Hands out a chunk of the class: a free one; else a dead one; else one of the next page; else one whose item was evicted, the oldest of
-// five. (slabs.c's `do_slabs_alloc`, and then items.c's `lru_pull_tail`)
+// five, after which a move to the class is asked for in mode 2. (slabs.c's `do_slabs_alloc`, and then items.c's `lru_pull_tail`)
 pub(crate) fn supply_chunk(
     arena: &Arena,
     hand: &mut Hand,
@@ -146,13 +169,16 @@ pub(crate) fn supply_chunk(
         Ok(None) => {}
         Err(_) => return Err(SetError::WornOut),
     }
-    match make_free(arena, hand, held, class) {
-        Ok(true) => {}
-        Ok(false) => return Err(SetError::NoRoom),
+    let supply = match make_free(arena, hand, held, class) {
+        Ok(Some(supply)) => supply,
+        Ok(None) => return Err(SetError::NoRoom),
         Err(_) => return Err(SetError::NoMemory),
-    }
+    };
     match arena.pop(hand, held, class) {
-        Ok(Some(fresh)) => Ok(fresh),
+        Ok(Some(fresh)) => {
+            ask_move(arena, hand, held, class, supply);
+            Ok(fresh)
+        }
         Ok(None) => unreachable!(),
         Err(_) => Err(SetError::WornOut),
     }

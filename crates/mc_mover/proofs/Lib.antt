@@ -2,7 +2,6 @@ pub mod Kept
 pub mod Leads
 pub mod Saves
 pub mod Saved
-pub mod HandNumbers
 pub mod Copied
 pub mod Writes
 pub mod Moved
@@ -11,7 +10,6 @@ pub mod Rounds
 pub mod Refusals
 pub mod Locks
 pub mod HoldsSlabs
-pub mod BegunMoves
 pub mod Surveys
 pub mod Visits
 pub mod ClearedPages

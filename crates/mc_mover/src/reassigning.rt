@@ -3,7 +3,8 @@ ghost use Rattle.std.specs.Prelude.{◌≡◌, ◌≤◌, true};
 ghost use Rattle.mc_words.specs.Arenas.{IsHandOf, view};
 ghost use Rattle.mc_words.specs.Doing.{HoldsSlabs};
 ghost use Rattle.mc_words.specs.Idle.{is_unlocked};
-ghost use Rattle.mc_mover.specs.Reassigning.{Reassigns, SetsMode};
+ghost use Rattle.mc_words.specs.Reassigning.{Reassigns};
+ghost use Rattle.mc_mover.specs.Reassigning.{SetsMode};
 
 use mc_pages::Reassign;
 use mc_words::{Arena, Hand};

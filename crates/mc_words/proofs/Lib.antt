@@ -49,3 +49,5 @@ pub mod StripeChanges
 pub mod Joined
 pub mod Ends
 pub mod WholeCuts
+pub mod HandNumbers
+pub mod BegunMoves

@@ -25,6 +25,7 @@ pub mod Closing
 pub mod Owner
 pub mod Cutting
 pub mod Doing
+pub mod Reassigning
 pub mod Rescuing
 pub mod Hinting
 pub mod Condemning

@@ -11,7 +11,7 @@ use Rattle.mc_stripe.specs.declared.history.Call.TheVariants.{Delete}
 use Rattle.mc_items.specs.Calls.{CallsOn, Deletes, OnlyWaits, TellsCall, TellsNoCall}
 use Rattle.mc_items.proofs.Deletes.{ok_map, err_map}
 use Rattle.mc_items.proofs.Gets.{called_on, only_waits}
-use Rattle.mc_items.proofs.Hands.{number_stays}
+use Rattle.mc_words.proofs.HandNumbers.{number_stays}
 use Rattle.mc_items.proofs.Locks.{locks_back, waits_keep}
 use Rattle.mc_items.proofs.Tells.{deleted_tells, told_none, told_on}
 use Rattle.mc_items.proofs.deleting.delete.Goals as goal

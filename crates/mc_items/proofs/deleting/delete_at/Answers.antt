@@ -5,7 +5,7 @@ use Rattle.mc_core.specs.Items.{stripe_unlinked}
 use Rattle.mc_words.specs.declared.held.StripeHeld.{StripeHeld}
 use Rattle.mc_words.specs.View.{View}
 use Rattle.mc_items.proofs.Deletes.{and_false, deleted_done, deleted_is}
-use Rattle.mc_items.proofs.Hands.{number_stays}
+use Rattle.mc_words.proofs.HandNumbers.{number_stays}
 use Rattle.mc_items.proofs.deleting.delete_at.Goals as goal
 
 pub give_stripe-requires-2-clause-empty : goal.give_stripe-requires-2-clause-empty

@@ -3,7 +3,7 @@ use Rattle.mc_words.specs.declared.held.StripeHeld.{StripeHeld}
 use Rattle.mc_words.specs.View.{View}
 use Rattle.mc_items.specs.Supplying.{TakesItem}
 use Rattle.mc_items.proofs.Evicts.{done_so, reason_still, stripe_still}
-use Rattle.mc_items.proofs.Hands.{number_stays}
+use Rattle.mc_words.proofs.HandNumbers.{number_stays}
 use Rattle.mc_items.proofs.evicting.condemn_at.Goals as goal
 
 pub condemn-requires-clause-key : goal.condemn-requires-clause-key

@@ -19,7 +19,7 @@ use Rattle.mc_words.proofs.Unlocked.{no_stripe_from, no_stripes_there}
 use Rattle.mc_items.specs.Evicting.{FreesChunk, PassesEach, PassesOne}
 use Rattle.mc_items.proofs.FirstFive.{five_of_all, five_passed, five_with, rest_begins}
 use Rattle.mc_items.proofs.Freed.{as_error, frees_uncut, on_error}
-use Rattle.mc_items.proofs.Hands.{number_stays}
+use Rattle.mc_words.proofs.HandNumbers.{number_stays}
 use Rattle.mc_items.proofs.Passes.{each_keeps, passed_alive, passes_on}
 use Rattle.mc_items.proofs.evicting.evict_one.Goals as goal
 

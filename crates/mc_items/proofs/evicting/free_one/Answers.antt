@@ -9,7 +9,7 @@ use Rattle.mc_words.proofs.SweepViews.{class_here, stands_out}
 use Rattle.mc_items.specs.Evicting.{FreesChunk}
 use Rattle.mc_items.specs.Supplying.{FreesEvicted}
 use Rattle.mc_items.proofs.Freed.{frees_free, if_ill, if_well, takes_keep}
-use Rattle.mc_items.proofs.Hands.{number_stays}
+use Rattle.mc_words.proofs.HandNumbers.{number_stays}
 use Rattle.mc_items.proofs.evicting.free_one.Goals as goal
 
 -- the item was evicted

@@ -6,7 +6,7 @@ use Rattle.mc_words.specs.Items.{held_item}
 use Rattle.mc_words.specs.Referring.{GetsItem}
 use Rattle.mc_words.specs.Refs.{IsIssueOf, IsRefOf}
 use Rattle.mc_items.proofs.Gets.{got_item, looked_up, some_both, stamp_found}
-use Rattle.mc_items.proofs.Hands.{number_stays}
+use Rattle.mc_words.proofs.HandNumbers.{number_stays}
 use Rattle.mc_items.proofs.getting.refer_at.Goals as goal
 
 pub returns-clause-done : goal.returns-clause-done

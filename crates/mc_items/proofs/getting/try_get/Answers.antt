@@ -9,7 +9,7 @@ use Rattle.mc_items.specs.declared.refs.Ref.{Ref}
 use Rattle.mc_items.specs.Calls.{LooksUp}
 use Rattle.mc_stripe.specs.declared.history.Call.TheVariants.{Get}
 use Rattle.mc_items.proofs.Gets.{called_on, only_waits}
-use Rattle.mc_items.proofs.Hands.{number_stays}
+use Rattle.mc_words.proofs.HandNumbers.{number_stays}
 use Rattle.mc_items.proofs.Locks.{locks_back, taken_at_once}
 use Rattle.mc_items.proofs.Tells.{told_none, told_on}
 use Rattle.mc_items.proofs.getting.try_get.Goals as goal

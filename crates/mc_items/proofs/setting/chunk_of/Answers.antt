@@ -13,7 +13,7 @@ use Rattle.mc_words.specs.Out.{is_neither}
 use Rattle.mc_words.proofs.Unlocked.{no_stripes_there, unlocked_from}
 use Rattle.mc_items.specs.Sources.{SuppliesChunk, SuppliesNone}
 use Rattle.mc_items.specs.declared.setting.SetError.{SetError}
-use Rattle.mc_items.proofs.Hands.{number_stays}
+use Rattle.mc_words.proofs.HandNumbers.{number_stays}
 use Rattle.mc_items.proofs.Locks.{slabs_back, waits_slabs_keep}
 use Rattle.mc_items.proofs.Made.{holds_so}
 use Rattle.mc_items.proofs.setting.chunk_of.Goals as goal

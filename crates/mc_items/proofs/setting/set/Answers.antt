@@ -10,7 +10,7 @@ use Rattle.mc_pages.specs.declared.ids.ChunkId.{ChunkId}
 use Rattle.mc_items.specs.Setting.{class_for_words}
 use Rattle.mc_items.specs.Sources.{SuppliesChunk}
 use Rattle.mc_items.specs.Storing.{LeavesDead, StoresItem, item_filled, item_with}
-use Rattle.mc_items.proofs.Hands.{number_stays}
+use Rattle.mc_words.proofs.HandNumbers.{number_stays}
 use Rattle.mc_items.proofs.Locks.{still_unlocked}
 use Rattle.mc_items.proofs.Made.{Tells, refused_tells, supplied_tells, tells_before}
 use Rattle.mc_items.proofs.Sets.{class_there, dead_tells, refuses_so, words_fit}

@@ -11,7 +11,7 @@ use Rattle.mc_words.specs.Views.{chunk_dropped, stripe_given}
 use Rattle.mc_words.specs.Waiting.{WaitsForStripe}
 use Rattle.mc_items.specs.Storing.{LeavesDead, Stores, StoresItem}
 use Rattle.mc_items.proofs.Gets.{called_on, only_waits}
-use Rattle.mc_items.proofs.Hands.{number_stays}
+use Rattle.mc_words.proofs.HandNumbers.{number_stays}
 use Rattle.mc_items.proofs.Locks.{locks_back, waits_keep}
 use Rattle.mc_items.proofs.Stored.{dead_told, filled_still, stored_mine, stored_said}
 use Rattle.mc_items.proofs.storing.store.Goals as goal

@@ -4,7 +4,7 @@ use Rattle.mc_core.specs.Past.{Own, Saying}
 use Rattle.mc_words.specs.View.{View}
 use Rattle.mc_words.specs.declared.held.Fresh.{Fresh}
 use Rattle.mc_items.specs.Storing.{StoresItem, item_with}
-use Rattle.mc_items.proofs.Hands.{number_stays}
+use Rattle.mc_words.proofs.HandNumbers.{number_stays}
 use Rattle.mc_items.proofs.Stored.{numbers_known}
 use Rattle.mc_items.proofs.storing.store_words.Goals as goal
 

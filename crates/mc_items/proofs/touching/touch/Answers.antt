@@ -21,7 +21,7 @@ use Rattle.mc_stripe.specs.declared.history.Call.TheVariants.{Get}
 use Rattle.mc_stripe.specs.StripeState.{stamp_of as stripe_stamp}
 use Rattle.mc_items.proofs.Gets.{called_on, only_waits}
 use Rattle.mc_items.proofs.Tells.{looked_tells, told_none, told_on}
-use Rattle.mc_items.proofs.Hands.{number_stays}
+use Rattle.mc_words.proofs.HandNumbers.{number_stays}
 use Rattle.mc_items.proofs.Locks.{locks_back, slabs_back, still_unlocked, waits_keep, waits_slabs_keep}
 use Rattle.mc_items.proofs.touching.touch.Goals as goal
 

@@ -22,7 +22,7 @@ use Rattle.mc_words.specs.Items.{word_read}
 use Rattle.mc_words.specs.Views.{copy_holding}
 use Rattle.mc_words.proofs.Judging.{class_of_slabs}
 use Rattle.mc_mover.specs.Saving.{GivesEvicted, GivesRescued}
-use Rattle.mc_mover.proofs.HandNumbers.{number_stays}
+use Rattle.mc_words.proofs.HandNumbers.{number_stays}
 use Rattle.mc_mover.proofs.Kept.{passes_keep}
 use Rattle.mc_mover.proofs.Leads.{out_now, reaches_passed, reaches_swept}
 use Rattle.mc_mover.proofs.Saved.{evicted, rescued, rescued_slabs}

@@ -1,7 +1,7 @@
 use Rattle.std.proofs.Common.{subst}
 use Rattle.mc_words.specs.View.{View}
-use Rattle.mc_mover.specs.Reassigning.{Reassigns}
-use Rattle.mc_mover.proofs.BegunMoves.{reassigns_from, reassigns_holdings}
+use Rattle.mc_words.specs.Reassigning.{Reassigns}
+use Rattle.mc_words.proofs.BegunMoves.{reassigns_from, reassigns_holdings}
 use Rattle.mc_mover.proofs.HoldsSlabs.{held_for, held_holdings, wait_number}
 use Rattle.mc_mover.proofs.reassigning.reassign.Goals as goal
 

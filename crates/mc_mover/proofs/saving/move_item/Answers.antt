@@ -9,7 +9,7 @@ use Rattle.mc_words.specs.Items.{issue_in, words_in}
 use Rattle.mc_words.specs.Linking.{IsCopyFilled, copy_linked}
 use Rattle.mc_words.specs.View.{Setup, View}
 use Rattle.mc_words.specs.Views.{chunk_dropped}
-use Rattle.mc_mover.proofs.HandNumbers.{number_stays}
+use Rattle.mc_words.proofs.HandNumbers.{number_stays}
 use Rattle.mc_mover.proofs.Kept.{finds_keep}
 use Rattle.mc_mover.proofs.Moved.{copy_filled, copy_there, dropped_holdings, fresh_still, ids_now, ids_stay, leads_nowhere, length_fits, others_filled, reason_there, stripe_copied, stripes_stay}
 use Rattle.mc_mover.proofs.saving.move_item.Goals as goal

@@ -5,7 +5,7 @@ use Rattle.mc_core.specs.declared.event.Change.TheVariants as change
 use Rattle.mc_core.specs.State.{has_chunk}
 use Rattle.mc_words.specs.View.{Setup, View}
 use Rattle.mc_words.specs.Views.{slabs_changed}
-use Rattle.mc_mover.proofs.HandNumbers.{number_stays}
+use Rattle.mc_words.proofs.HandNumbers.{number_stays}
 use Rattle.mc_mover.proofs.Refusals.{as_error, on_error}
 use Rattle.mc_mover.proofs.Rounds.{position_near}
 use Rattle.mc_mover.proofs.sections.section.Goals as goal

@@ -7,7 +7,7 @@ use Rattle.mc_words.specs.Out.{has_no_stripe}
 use Rattle.mc_words.proofs.Unlocked.{no_stripe_from, no_stripes_there}
 use Rattle.mc_mover.specs.Turning.{LacksMemory, Section}
 use Rattle.mc_mover.proofs.Ends.{move_here}
-use Rattle.mc_mover.proofs.HandNumbers.{number_stays}
+use Rattle.mc_words.proofs.HandNumbers.{number_stays}
 use Rattle.mc_mover.proofs.Refusals.{as_error, on_error}
 use Rattle.mc_mover.proofs.Rounds.{all_of_bulk, all_of_page, counts_small, gone_more, gone_none, lacks_on, some_move}
 use Rattle.mc_mover.proofs.sections.sections.Goals as goal

@@ -2,7 +2,7 @@ use Rattle.std.proofs.Common.{ap, subst, ◌∙◌}
 use Rattle.mc_words.specs.Out.{without_slabs}
 use Rattle.mc_words.specs.View.{View}
 use Rattle.mc_mover.specs.Turning.{LacksMemory, Turns}
-use Rattle.mc_mover.proofs.HandNumbers.{number_stays}
+use Rattle.mc_words.proofs.HandNumbers.{number_stays}
 use Rattle.mc_mover.proofs.HoldsSlabs.{held_for, lock_back}
 use Rattle.mc_mover.proofs.Locks.{taken_at_once}
 use Rattle.mc_mover.proofs.turning.try_turn.Goals as goal

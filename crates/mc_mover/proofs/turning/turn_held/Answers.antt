@@ -1,7 +1,7 @@
 use Rattle.std.proofs.Common.{subst}
 use Rattle.mc_words.specs.View.{View}
 use Rattle.mc_mover.specs.Turning.{EndsTurn}
-use Rattle.mc_mover.proofs.HandNumbers.{number_stays}
+use Rattle.mc_words.proofs.HandNumbers.{number_stays}
 use Rattle.mc_mover.proofs.Refusals.{as_error, on_error}
 use Rattle.mc_mover.proofs.Rounds.{turns_so}
 use Rattle.mc_mover.proofs.turning.turn_held.Goals as goal

@@ -11,7 +11,7 @@ use Rattle.mc_mover.specs.Linked as linked
 use Rattle.mc_mover.specs.Linked.{VisitsLinked}
 use Rattle.mc_mover.specs.Visiting.{Visits}
 use Rattle.mc_mover.proofs.ClearedPages.{cleared_after_clear}
-use Rattle.mc_mover.proofs.HandNumbers.{number_stays}
+use Rattle.mc_words.proofs.HandNumbers.{number_stays}
 use Rattle.mc_mover.proofs.Refusals.{if_ok, on_err}
 use Rattle.mc_mover.proofs.SeenChunks.{linked_found, out_found, sees_linked, visited}
 use Rattle.mc_mover.proofs.visiting.visit.Goals as goal

@@ -9,7 +9,7 @@ use Rattle.mc_core.specs.declared.event.Step.TheVariants as step
 use Rattle.mc_words.specs.View.{View}
 use Rattle.mc_words.specs.Happens.{Happens}
 use Rattle.mc_words.specs.Views.{slabs_changed}
-use Rattle.mc_mover.specs.Reassigning.{BeginsMove, Reassigns}
+use Rattle.mc_words.specs.Reassigning.{BeginsMove, Reassigns}
 
 module _ (number : ℕ) (src : Option ℕ) (dst : ℕ) (view now : View) (slabs left : SlabState) where
   -- the move of this answer
