@@ -135,7 +135,7 @@ pub(crate) fn free_evicted(
 const TRIES: u64 = 5;
 
 /// How a class without a free chunk came to one.
-#[derive(Clone, Copy, PartialEq, Eq)]
+#[derive(Clone, Copy)]
 pub(crate) enum Supply {
     /// It was given the next page.
     Page,

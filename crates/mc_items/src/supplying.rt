@@ -119,13 +119,7 @@ fn make_free(
 
 // Asks for a move of any class's page to this one, if an item was evicted and the automover's mode is 2. Its answer is ignored, want of
 // memory too. (after items.c's `lru_pull_tail`)
-fn ask_move(
-    arena: &Arena,
-    hand: &mut Hand,
-    held: &mut SlabsHeld,
-    class: ClassId,
-    supply: Supply,
-)
+fn ask_move(arena: &Arena, hand: &mut Hand, held: &mut SlabsHeld, class: ClassId, supply: Supply)
     requires arena { IsHandOf arena.now hand.old }
     requires held { (view hand.old).slabs ≡ Some held.old.shared }
     ensures arena { IsHandOf arena.now hand.new }
@@ -135,8 +129,10 @@ fn ask_move(
     ensures holdings { (view hand.new).row.holdings ≡ (view hand.old).row.holdings }
     ensures uncut { held.new.shared.uncut ≡ held.old.shared.uncut }
 {
-    if supply == Supply::Evicted && held.slabs().automove() == 2 {
-        let _ = arena.begin_move(hand, held, None, class);
+    if let Supply::Evicted = supply {
+        if held.slabs().automove() == 2 {
+            let _ = arena.begin_move(hand, held, None, class);
+        }
     }
 }
 

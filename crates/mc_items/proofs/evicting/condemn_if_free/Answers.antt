@@ -18,13 +18,13 @@ head-head-requires-clause-near c =
     let is = ap (λ (s : Setup). is_class s.table c.args.class) c.requires.arena.setup ∙ c.requires.class in
     subst (λ (s : Setup). has_chunk s.table c.args.chunk ≡ true) c.requires.arena.setup (stands_out c.args.hand.now.seat.me.0 c.requires.arena.lawful c.args.slabs.now.shared c.requires.slabs c.args.class is c.args.chunk c.requires.out).near
 
-pub returns-then-is_unheld-clause-passed : goal.returns-then-is_unheld-clause-passed
-returns-then-is_unheld-clause-passed c _ =
-    inl (record { chunk = c.args.chunk; is_asked = refl; head = decode c.head-head.result; other = sym c.is_unheld.ensures.unheld ∙ c.if-is_unheld.true; happens = c.head-head.ensures.happens; is = c.head-head.ensures.seen })
+pub returns-then-not-is_unheld-clause-passed : goal.returns-then-not-is_unheld-clause-passed
+returns-then-not-is_unheld-clause-passed c _ =
+    inl (record { chunk = c.args.chunk; is_asked = refl; head = decode c.head-head.result; other = sym c.is_unheld.ensures.unheld ∙ c.if-not-is_unheld.true; happens = c.head-head.ensures.happens; is = c.head-head.ensures.seen })
 
 pub word_held-key-requires-clause-linked : goal.word_held-key-requires-clause-linked
 word_held-key-requires-clause-linked c =
-    found_linked c.args.hand.now.seat.me.0 c.args.slabs.now.shared c.requires.slabs c.args.chunk (decode c.head-head.result) (sym c.is_unheld.ensures.unheld ∙ c.if-is_unheld.false) c.head-head.new.hand.seat.me.0 c.head-head.ensures.seen
+    found_linked c.args.hand.now.seat.me.0 c.args.slabs.now.shared c.requires.slabs c.args.chunk (decode c.head-head.result) (sym c.is_unheld.ensures.unheld ∙ c.if-not-is_unheld.false) c.head-head.new.hand.seat.me.0 c.head-head.ensures.seen
 
 pub word_held-key-requires-clause-inside : goal.word_held-key-requires-clause-inside
 word_held-key-requires-clause-inside c =
@@ -41,14 +41,14 @@ returns-in_default-clause-passed c _ =
     let (word, busy, missed) = c.in_default.ensures.held in
     let at : key % c.config.result.now.stripes ≡ key % view.setup.config.stripes = ap (λ (g : Config). key % g.stripes) (c.config.ensures.config ∙ ap (λ (s : Setup). s.config) (sym c.requires.arena.setup)) in
     let read = c.word_held-key.ensures.view ∙ ap (key_seen c.args.chunk key) c.head-head.ensures.seen in
-    inr (inl (record { head = head; unheld = word_unheld c.head-head.result c.if-head-ne-UNHELD.false; key = key; word = word; busy = busy; is = missed ∙ (λ k. stripe_missed (at k) word (read k)) }))
+    inr (inl (record { head = head; unheld = sym c.is_unheld.ensures.unheld ∙ c.if-not-is_unheld.false; key = key; word = word; busy = busy; is = missed ∙ (λ k. stripe_missed (at k) word (read k)) }))
 
 pub condemn_at-requires-clause-key : goal.condemn_at-requires-clause-key
 condemn_at-requires-clause-key c =
     let key = c.word_held-key.result in
     let seen : View = c.head-head.new.hand.seat.me.0 in
     let at : key % c.config.result.now.stripes ≡ key % seen.setup.config.stripes = ap (λ (g : Config). key % g.stripes) (c.config.ensures.config ∙ ap (λ (s : Setup). s.config) (sym c.head-head.ensures.arena.setup)) in
-    stripe_found c.args.hand.now.seat.me.0 c.args.slabs.now.shared c.requires.slabs c.args.chunk (decode c.head-head.result) (sym c.is_unheld.ensures.unheld ∙ c.if-is_unheld.false) seen c.head-head.ensures.seen
+    stripe_found c.args.hand.now.seat.me.0 c.args.slabs.now.shared c.requires.slabs c.args.chunk (decode c.head-head.result) (sym c.is_unheld.ensures.unheld ∙ c.if-not-is_unheld.false) seen c.head-head.ensures.seen
     key (key % c.config.result.now.stripes) c.in-Ok.held.stripe c.word_held-key.new.hand.seat.me.0 c.try_stripe.new.hand.seat.me.0 c.word_held-key.ensures.view c.in-Ok.ensures.lent
     ∙ ap (λ n. Some n) (sym (c.in-Ok.ensures.number ∙ at))
 
@@ -61,14 +61,14 @@ condemn_at-requires-clause-reason c =
     let own = (stands_out view c.requires.arena.lawful slabs c.requires.slabs c.args.class is c.args.chunk c.requires.out).own in
     let taken : View = c.try_stripe.new.hand.seat.me.0 in
     subst (λ (s : Setup). knows_reason s.table slabs taken.row.looks taken.row.holdings c.args.chunk ≡ true) c.requires.arena.setup
-    (reason_found view slabs c.requires.slabs c.args.chunk (decode c.head-head.result) (sym c.is_unheld.ensures.unheld ∙ c.if-is_unheld.false) c.head-head.new.hand.seat.me.0 c.head-head.ensures.seen
+    (reason_found view slabs c.requires.slabs c.args.chunk (decode c.head-head.result) (sym c.is_unheld.ensures.unheld ∙ c.if-not-is_unheld.false) c.head-head.new.hand.seat.me.0 c.head-head.ensures.seen
     key (key % c.config.result.now.stripes) c.in-Ok.held.stripe c.word_held-key.new.hand.seat.me.0 taken c.word_held-key.ensures.view c.in-Ok.ensures.lent
     c.requires.arena.lawful c.args.class own c.requires.empty c.requires.alive c.requires.page c.requires.whole)
 
 pub condemn_at-requires-clause-no_copy : goal.condemn_at-requires-clause-no_copy
 condemn_at-requires-clause-no_copy c =
     let key = c.word_held-key.result in
-    let same = holdings_stay c.args.hand.now.seat.me.0 c.args.slabs.now.shared c.requires.slabs c.args.chunk (decode c.head-head.result) (sym c.is_unheld.ensures.unheld ∙ c.if-is_unheld.false) c.head-head.new.hand.seat.me.0 c.head-head.ensures.seen
+    let same = holdings_stay c.args.hand.now.seat.me.0 c.args.slabs.now.shared c.requires.slabs c.args.chunk (decode c.head-head.result) (sym c.is_unheld.ensures.unheld ∙ c.if-not-is_unheld.false) c.head-head.new.hand.seat.me.0 c.head-head.ensures.seen
     key (key % c.config.result.now.stripes) c.in-Ok.held.stripe c.word_held-key.new.hand.seat.me.0 c.try_stripe.new.hand.seat.me.0 c.word_held-key.ensures.view c.in-Ok.ensures.lent in
     no_copies c.try_stripe.new.hand.seat.me.0.row.holdings c.args.chunk (ap Rattle.mc_core.specs.Holdings.has_fresh same ∙ c.requires.fresh)
 
@@ -79,7 +79,7 @@ returns-clause-taken c e =
     let at : key % c.config.result.now.stripes ≡ key % view.setup.config.stripes = ap (λ (g : Config). key % g.stripes) (c.config.ensures.config ∙ ap (λ (s : Setup). s.config) (sym c.requires.arena.setup)) in
     let ids = ap (λ (v : View). v.row.ids) c.in-Ok.ensures.lent ∙ (ap (λ (v : View). v.row.ids) c.word_held-key.ensures.view ∙ ap (λ (v : View). v.row.ids) c.head-head.ensures.seen) in
     reached (λ number stripe. TakesItem number stripe c.args.chunk) c.args.hand.now.number c.try_stripe.new.hand.number view c.args.chunk (decode c.head-head.result) c.head-head.new.hand.seat.me.0 c.word_held-key.new.hand.seat.me.0 c.try_stripe.new.hand.seat.me.0 c.condemn_at.new.hand.seat.me.0
-    key (key % c.config.result.now.stripes) c.in-Ok.held.number c.in-Ok.held.stripe (sym c.is_unheld.ensures.unheld ∙ c.if-is_unheld.false) c.head-head.ensures.seen c.word_held-key.ensures.view at c.in-Ok.ensures.number (number_stays c.args.hand.now c.try_stripe.new.hand ids)
+    key (key % c.config.result.now.stripes) c.in-Ok.held.number c.in-Ok.held.stripe (sym c.is_unheld.ensures.unheld ∙ c.if-not-is_unheld.false) c.head-head.ensures.seen c.word_held-key.ensures.view at c.in-Ok.ensures.number (number_stays c.args.hand.now c.try_stripe.new.hand ids)
     c.head-head.ensures.happens c.word_held-key.ensures.happens c.in-Ok.ensures.taken c.in-Ok.ensures.lent c.in-Ok.ensures.whole (c.condemn_at.ensures.taken e)
 
 pub returns-clause-passed : goal.returns-clause-passed
@@ -89,7 +89,7 @@ returns-clause-passed c e =
     let at : key % c.config.result.now.stripes ≡ key % view.setup.config.stripes = ap (λ (g : Config). key % g.stripes) (c.config.ensures.config ∙ ap (λ (s : Setup). s.config) (sym c.requires.arena.setup)) in
     let ids = ap (λ (v : View). v.row.ids) c.in-Ok.ensures.lent ∙ (ap (λ (v : View). v.row.ids) c.word_held-key.ensures.view ∙ ap (λ (v : View). v.row.ids) c.head-head.ensures.seen) in
     inr (inr (reached (λ number stripe. FindsItemHeld c.args.chunk) c.args.hand.now.number c.try_stripe.new.hand.number view c.args.chunk (decode c.head-head.result) c.head-head.new.hand.seat.me.0 c.word_held-key.new.hand.seat.me.0 c.try_stripe.new.hand.seat.me.0 c.condemn_at.new.hand.seat.me.0
-    key (key % c.config.result.now.stripes) c.in-Ok.held.number c.in-Ok.held.stripe (sym c.is_unheld.ensures.unheld ∙ c.if-is_unheld.false) c.head-head.ensures.seen c.word_held-key.ensures.view at c.in-Ok.ensures.number (number_stays c.args.hand.now c.try_stripe.new.hand ids)
+    key (key % c.config.result.now.stripes) c.in-Ok.held.number c.in-Ok.held.stripe (sym c.is_unheld.ensures.unheld ∙ c.if-not-is_unheld.false) c.head-head.ensures.seen c.word_held-key.ensures.view at c.in-Ok.ensures.number (number_stays c.args.hand.now c.try_stripe.new.hand ids)
     c.head-head.ensures.happens c.word_held-key.ensures.happens c.in-Ok.ensures.taken c.in-Ok.ensures.lent c.in-Ok.ensures.whole (c.condemn_at.ensures.moved e)))
 
 pub returns-clause-locks : goal.returns-clause-locks
@@ -104,5 +104,5 @@ returns-clause-no_memory c =
     let at : key % c.config.result.now.stripes ≡ key % view.setup.config.stripes = ap (λ (g : Config). key % g.stripes) (c.config.ensures.config ∙ ap (λ (s : Setup). s.config) (sym c.requires.arena.setup)) in
     if_error c.condemn_at.result
     (λ given. lacked view c.args.chunk (decode c.head-head.result) c.head-head.new.hand.seat.me.0 c.word_held-key.new.hand.seat.me.0 c.try_stripe.new.hand.seat.me.0 c.condemn_at.new.hand.seat.me.0
-    key (key % c.config.result.now.stripes) c.in-Ok.held.number c.in-Ok.held.stripe (sym c.is_unheld.ensures.unheld ∙ c.if-is_unheld.false) c.head-head.ensures.seen c.word_held-key.ensures.view at c.in-Ok.ensures.number c.in-Ok.ensures.lent given)
+    key (key % c.config.result.now.stripes) c.in-Ok.held.number c.in-Ok.held.stripe (sym c.is_unheld.ensures.unheld ∙ c.if-not-is_unheld.false) c.head-head.ensures.seen c.word_held-key.ensures.view at c.in-Ok.ensures.number c.in-Ok.ensures.lent given)
     c.condemn_at.ensures.no_memory

@@ -1,4 +1,4 @@
-use Rattle.std.proofs.Common.{◌≡◌, ◌++◌, ◌<◌, ◌≤◌, ◌-◌, ◌+◌, ℕ, List, [], ◌∷◌, length, take, slice_get, Some, Ok, refl, ap, sym, subst, ◌∙◌, arith, append_assoc}
+use Rattle.std.proofs.Common.{◌≡◌, ◌++◌, ◌<◌, ◌≤◌, ◌-◌, ◌+◌, ℕ, List, [], ◌∷◌, length, take, slice_get, Option, Some, Result, Ok, IfOk, IfSome, refl, ap, sym, subst, ◌∙◌, arith, append_assoc}
 use Rattle.std.specs.Prelude.{Contains}
 use Rattle.std.proofs.lemmas.List.{length-append}
 use Rattle.mc_pages.specs.declared.ids.ChunkId.{ChunkId}
@@ -16,6 +16,8 @@ use Rattle.mc_words.specs.declared.hand.Hand.{Hand}
 use Rattle.mc_words.proofs.Sweeps.{is_empty, stands_there, sweep_passes, swept_at}
 use Rattle.mc_words.proofs.SweepViews.{class_here, order_once, stands_out}
 use Rattle.mc_words.proofs.Unlocked.{no_stripe_from, no_stripes_there}
+use Rattle.mc_stripe.specs.declared.refusal.NoMemory.{NoMemory}
+use Rattle.mc_items.specs.declared.evicting.Supply.{Supply}
 use Rattle.mc_items.specs.Evicting.{FreesChunk, PassesEach, PassesOne}
 use Rattle.mc_items.proofs.FirstFive.{five_of_all, five_passed, five_with, rest_begins}
 use Rattle.mc_items.proofs.Freed.{as_error, frees_uncut, on_error}
@@ -92,8 +94,8 @@ free_one-requires-clause-out c =
     let there = stands_there slabs inv.walk.0 c.args.class chunk (swept_at inv.walk.1 (Some chunk) c.in-Some.is) (order_once view c.requires.arena.lawful slabs c.requires.slabs c.args.class is) in
     subst (λ (x : SlabState). Contains (class_at x c.args.class).order chunk) (sym inv.same) there
 
-pub returns-in_err-free_one-clause-no_memory : goal.returns-in_err-free_one-clause-no_memory
-returns-in_err-free_one-clause-no_memory c =
+pub returns-in_err-supply-clause-no_memory : goal.returns-in_err-supply-clause-no_memory
+returns-in_err-supply-clause-no_memory c =
     let inv = c.loop.invariant in
     let chunk = c.in-Some.chunk in
     let hand = c.args.hand.now in
@@ -101,7 +103,7 @@ returns-in_err-free_one-clause-no_memory c =
     let few : c.loop.counter < 5 = c.loop-test.true in
     let short : length inv.done < 5 = subst (λ n. n < 5) (sym inv.count) few in
     let (more, is) = rest_begins inv.walk.1.rest c.loop.next chunk inv.walk.1.at c.in-Some.is in
-    let lacks = on_error c.free_one.result c.in_err-free_one.field-0.0 c.in_err-free_one.was c.free_one.ensures.no_memory in
+    let lacks = on_error c.free_one.result c.in_err-supply.field-0.0 c.in_err-supply.was c.free_one.ensures.no_memory in
     as_error c.from_residual.result (
       record {
         before = inv.done;
@@ -115,8 +117,14 @@ returns-in_err-free_one-clause-no_memory c =
       lacks.1 ∙ inv.same,
     )
 
-pub returns-then-branch-clause-frees : goal.returns-then-branch-clause-frees
-returns-then-branch-clause-frees c _ =
+-- the chunk was freed so
+freed_here : (c : goal.In-Some-2) → FreesChunk c.loop.hand.number c.args.class c.in-Some.chunk c.in-Some-2.supply c.loop.hand.seat.me.0 c.loop.slabs.shared c.free_one.new.hand.seat.me.0 c.free_one.new.slabs.shared
+freed_here c =
+    subst (λ (r : Result (Option Supply) NoMemory). IfOk r (λ freed. IfSome freed (λ supply. FreesChunk c.loop.hand.number c.args.class c.in-Some.chunk supply c.loop.hand.seat.me.0 c.loop.slabs.shared c.free_one.new.hand.seat.me.0 c.free_one.new.slabs.shared)))
+    (c.in_ok-supply.was ∙ ap (λ o. Ok o) c.in-Some-2.is) c.free_one.ensures.frees
+
+pub returns-in-Some-2-clause-frees : goal.returns-in-Some-2-clause-frees
+returns-in-Some-2-clause-frees c =
     let inv = c.loop.invariant in
     let chunk = c.in-Some.chunk in
     let hand = c.args.hand.now in
@@ -124,7 +132,6 @@ returns-then-branch-clause-frees c _ =
     let few : c.loop.counter < 5 = c.loop-test.true in
     let short : length inv.done < 5 = subst (λ n. n < 5) (sym inv.count) few in
     let (more, is) = rest_begins inv.walk.1.rest c.loop.next chunk inv.walk.1.at c.in-Some.is in
-    let frees = c.free_one.ensures.frees (c.in_ok-free_one.was ∙ ap (λ b. Ok b) c.if-branch.true) in
     let number = number_here hand c.loop.hand inv.done inv.passes in record {
       before = inv.done;
       chunk = chunk;
@@ -132,13 +139,12 @@ returns-then-branch-clause-frees c _ =
       first = five_with (class_at slabs c.args.class).order inv.done chunk more (inv.split ∙ ap (λ (rest : List ChunkId). inv.done ++ rest) is) short;
       passed = c.loop.hand.seat.me.0;
       passes = inv.passes;
-      frees = subst (λ (p : ℕ × SlabState). FreesChunk p.0 c.args.class chunk c.loop.hand.seat.me.0 p.1 c.free_one.new.hand.seat.me.0 c.free_one.new.slabs.shared) (λ k. (number k, inv.same k)) frees;
+      frees = subst (λ (p : ℕ × SlabState). FreesChunk p.0 c.args.class chunk c.in-Some-2.supply c.loop.hand.seat.me.0 p.1 c.free_one.new.hand.seat.me.0 c.free_one.new.slabs.shared) (λ k. (number k, inv.same k)) (freed_here c);
     }
 
-pub returns-then-branch-clause-whole : goal.returns-then-branch-clause-whole
-returns-then-branch-clause-whole c =
-    let frees = c.free_one.ensures.frees (c.in_ok-free_one.was ∙ ap (λ b. Ok b) c.if-branch.true) in
-    frees_uncut c.loop.hand.number c.args.class c.in-Some.chunk c.loop.hand.seat.me.0 c.loop.slabs.shared c.free_one.new.hand.seat.me.0 c.free_one.new.slabs.shared frees
+pub returns-in-Some-2-clause-whole : goal.returns-in-Some-2-clause-whole
+returns-in-Some-2-clause-whole c =
+    frees_uncut c.loop.hand.number c.args.class c.in-Some.chunk c.in-Some-2.supply c.loop.hand.seat.me.0 c.loop.slabs.shared c.free_one.new.hand.seat.me.0 c.free_one.new.slabs.shared (freed_here c)
     ∙ (ap (λ (s : SlabState). s.uncut) c.loop.invariant.same ∙ c.requires.whole)
 
 pub loop-preserved : goal.loop-preserved
@@ -155,7 +161,7 @@ loop-preserved c =
     let once = order_once view c.requires.arena.lawful slabs c.requires.slabs class is in
     let swept = swept_at inv.walk.1 (Some chunk) c.in-Some.is in
     let out = stands_out view c.requires.arena.lawful slabs c.requires.slabs class is chunk (stands_there slabs inv.walk.0 class chunk swept once) in
-    let passes = c.free_one.ensures.passes (c.in_ok-free_one.was ∙ ap (λ b. Ok b) c.if-branch.false) in
+    let passes = c.free_one.ensures.passes (c.in_ok-supply.was ∙ ap (λ o. Ok o) c.in_default-2.is) in
     let number = number_here hand c.loop.hand inv.done inv.passes in
     let one = subst (λ n. PassesOne n chunk before now) number passes.0 in
     let on = sweep_passes slabs inv.walk.0 class chunk swept once one.alive.head one.alive.other in

@@ -1,4 +1,4 @@
-use Rattle.std.proofs.Common.{◌≡◌, ℕ, true, false, Ok, ap, sym, subst, ◌∙◌, inl, inr}
+use Rattle.std.proofs.Common.{◌≡◌, ℕ, true, Ok, ap, subst, ◌∙◌}
 use Rattle.mc_pages.specs.SlabState.{SlabState}
 use Rattle.mc_pages.specs.Changes.{after_back}
 use Rattle.mc_core.specs.State.{has_chunk, is_class}
@@ -6,20 +6,20 @@ use Rattle.mc_words.specs.View.{Setup, View}
 use Rattle.mc_words.specs.declared.held.SlabsHeld.{SlabsHeld}
 use Rattle.mc_words.specs.Owner.{PutsBack}
 use Rattle.mc_words.proofs.SweepViews.{class_here, stands_out}
+use Rattle.mc_items.specs.declared.evicting.Supply.TheVariants.{Dead, Evicted}
 use Rattle.mc_items.specs.Evicting.{FreesChunk}
 use Rattle.mc_items.specs.Supplying.{FreesEvicted}
-use Rattle.mc_items.proofs.Freed.{frees_free, if_ill, if_well, takes_keep}
+use Rattle.mc_items.proofs.Freed.{frees_free, takes_keep}
 use Rattle.mc_words.proofs.HandNumbers.{number_stays}
 use Rattle.mc_items.proofs.evicting.free_one.Goals as goal
 
 -- the item was evicted
-evicted_here : (c : goal.After-free_evicted) → FreesChunk c.args.hand.now.number c.args.class c.args.chunk c.args.hand.now.seat.me.0 c.args.slabs.now.shared c.free_evicted.new.hand.seat.me.0 c.free_evicted.new.slabs.shared
+evicted_here : (c : goal.After-free_evicted) → FreesChunk c.args.hand.now.number c.args.class c.args.chunk Evicted c.args.hand.now.seat.me.0 c.args.slabs.now.shared c.free_evicted.new.hand.seat.me.0 c.free_evicted.new.slabs.shared
 evicted_here c =
     let hand = c.args.hand.now in
     let next = c.condemn_if_free.new.hand in
     let took = c.condemn_if_free.ensures.taken (c.in_ok-condemn_if_free.was ∙ ap (λ b. Ok b) c.if-branch.true) in
-    let number = number_stays hand next (takes_keep hand.number c.args.chunk hand.seat.me.0 next.seat.me.0 took).ids in
-    inl (
+    let number = number_stays hand next (takes_keep hand.number c.args.chunk hand.seat.me.0 next.seat.me.0 took).ids in (
       next.seat.me.0,
       took,
       subst (λ (p : ℕ × SlabState). FreesEvicted p.0 c.args.class c.args.chunk next.seat.me.0 p.1 c.free_evicted.new.hand.seat.me.0 c.free_evicted.new.slabs.shared)
@@ -27,14 +27,12 @@ evicted_here c =
     )
 
 -- it had died, and was put back
-back_here : (c : goal.After-is_ok) → c.is_ok.result ≡ true → FreesChunk c.args.hand.now.number c.args.class c.args.chunk c.args.hand.now.seat.me.0 c.args.slabs.now.shared c.put_back.new.hand.seat.me.0 c.put_back.new.held.shared
-back_here c is =
-    let slabs = c.args.slabs.now.shared in
+back_here : (c : goal.In-Ok) → FreesChunk c.args.hand.now.number c.args.class c.args.chunk Dead c.args.hand.now.seat.me.0 c.args.slabs.now.shared c.put_back.new.hand.seat.me.0 c.put_back.new.held.shared
+back_here c =
     let tried : View = c.condemn_if_free.new.hand.seat.me.0 in
     let passes = c.condemn_if_free.ensures.passed (c.in_ok-condemn_if_free.was ∙ ap (λ b. Ok b) c.if-branch.false) in
     let same = ap (λ (s : SlabsHeld). s.shared) c.condemn_if_free.ensures.same_slabs in
-    let back = if_well c.put_back.result (sym c.is_ok.ensures.value ∙ is) c.put_back.ensures.back in
-    inr (
+    let back = c.in-Ok.ensures.back in (
       tried,
       passes,
       subst (λ (s : SlabState). PutsBack tried s c.args.chunk c.put_back.new.hand.seat.me.0) same back.0,
@@ -42,36 +40,35 @@ back_here c is =
     )
 
 pub returns-then-branch-clause-frees : goal.returns-then-branch-clause-frees
-returns-then-branch-clause-frees c _ = evicted_here c
+returns-then-branch-clause-frees c = evicted_here c
 
 pub returns-then-branch-clause-free : goal.returns-then-branch-clause-free
-returns-then-branch-clause-free c _ =
+returns-then-branch-clause-free c =
     let view : View = c.args.hand.now.seat.me.0 in
     let slabs = c.args.slabs.now.shared in
     let is = ap (λ (s : Setup). is_class s.table c.args.class) c.requires.arena.setup ∙ c.requires.class in
     let own = (stands_out view c.requires.arena.lawful slabs c.requires.slabs c.args.class is c.args.chunk c.requires.out).own in
-    frees_free c.args.hand.now.number c.args.class c.args.chunk view slabs c.free_evicted.new.hand.seat.me.0 c.free_evicted.new.slabs.shared (class_here view c.requires.arena.lawful slabs c.requires.slabs c.args.class is) own (evicted_here c)
+    frees_free c.args.hand.now.number c.args.class c.args.chunk Evicted view slabs c.free_evicted.new.hand.seat.me.0 c.free_evicted.new.slabs.shared (class_here view c.requires.arena.lawful slabs c.requires.slabs c.args.class is) own (evicted_here c)
 
 pub put_back-requires-clause-near : goal.put_back-requires-clause-near
 put_back-requires-clause-near c =
     let is = ap (λ (s : Setup). is_class s.table c.args.class) c.requires.arena.setup ∙ c.requires.class in
     subst (λ (s : Setup). has_chunk s.table c.args.chunk ≡ true) c.requires.arena.setup (stands_out c.args.hand.now.seat.me.0 c.requires.arena.lawful c.args.slabs.now.shared c.requires.slabs c.args.class is c.args.chunk c.requires.out).near
 
-pub returns-clause-frees : goal.returns-clause-frees
-returns-clause-frees c e = let is : c.is_ok.result ≡ true = cc in back_here c is
+pub returns-in-Ok-clause-frees : goal.returns-in-Ok-clause-frees
+returns-in-Ok-clause-frees c = back_here c
 
-pub returns-clause-free : goal.returns-clause-free
-returns-clause-free c e =
+pub returns-in-Ok-clause-free : goal.returns-in-Ok-clause-free
+returns-in-Ok-clause-free c =
     let view : View = c.args.hand.now.seat.me.0 in
     let slabs = c.args.slabs.now.shared in
     let is = ap (λ (s : Setup). is_class s.table c.args.class) c.requires.arena.setup ∙ c.requires.class in
     let own = (stands_out view c.requires.arena.lawful slabs c.requires.slabs c.args.class is c.args.chunk c.requires.out).own in
-    frees_free c.args.hand.now.number c.args.class c.args.chunk view slabs c.put_back.new.hand.seat.me.0 c.put_back.new.held.shared (class_here view c.requires.arena.lawful slabs c.requires.slabs c.args.class is) own (let good : c.is_ok.result ≡ true = cc in back_here c good)
+    frees_free c.args.hand.now.number c.args.class c.args.chunk Dead view slabs c.put_back.new.hand.seat.me.0 c.put_back.new.held.shared (class_here view c.requires.arena.lawful slabs c.requires.slabs c.args.class is) own (back_here c)
 
-pub returns-clause-passes : goal.returns-clause-passes
-returns-clause-passes c e =
-    let is : c.is_ok.result ≡ false = cc in
+pub returns-in-Err-clause-passes : goal.returns-in-Err-clause-passes
+returns-in-Err-clause-passes c _ =
     let tried : View = c.condemn_if_free.new.hand.seat.me.0 in
     let passes = c.condemn_if_free.ensures.passed (c.in_ok-condemn_if_free.was ∙ ap (λ b. Ok b) c.if-branch.false) in
-    let other = if_ill c.put_back.result (sym c.is_ok.ensures.value ∙ is) c.put_back.ensures.moved in
+    let other = c.in-Err.ensures.moved in
     (record { tried = tried; passes = passes; alive = other.0 }, other.1 ∙ ap (λ (s : SlabsHeld). s.shared) c.condemn_if_free.ensures.same_slabs)

@@ -1,4 +1,4 @@
-use Rattle.std.proofs.Common.{ℕ, Ok, ap, subst, ◌∙◌, inl, inr}
+use Rattle.std.proofs.Common.{ℕ, Ok, ap, subst, ◌∙◌}
 use Rattle.mc_pages.specs.SlabState.{SlabState}
 use Rattle.mc_words.specs.View.{View}
 use Rattle.mc_items.specs.Evicting.{FreesOne, first_five}

@@ -4,7 +4,8 @@ use Rattle.mc_pages.specs.ClassState.{first_free}
 use Rattle.mc_pages.specs.SlabState.{SlabState, class_at}
 use Rattle.mc_core.specs.declared.holding.Holding.{Holding}
 use Rattle.mc_core.specs.Chunks.{most_issue}
-use Rattle.mc_core.specs.State.{is_class}
+use Rattle.mc_core.specs.State.{is_class, room_in}
+use Rattle.mc_words.specs.Fresh.{IsFreshIn, IsFreshOf}
 use Rattle.mc_words.specs.Owner.{PopsFirst, SeesOther}
 use Rattle.mc_words.specs.View.{Setup, View}
 use Rattle.mc_words.specs.declared.held.Fresh.{Fresh}
@@ -97,7 +98,9 @@ returns-in-Ok-Some-pop-clause-own c =
     own_still c.pop.new.hand.seat.me.0 c.ask_move.new.hand.seat.me.0 c.in-Ok-Some-pop.fresh.chunk c.ask_move.ensures.holdings own
 
 pub returns-in-Ok-Some-pop-clause-fresh : goal.returns-in-Ok-Some-pop-clause-fresh
-returns-in-Ok-Some-pop-clause-fresh c = ?
+returns-in-Ok-Some-pop-clause-fresh c =
+    let fresh = subst (λ (o : Option Fresh). IfSome o (λ fresh. (fresh.room ≡ room_in c.args.arena.now.table.shared.key.table c.args.class) × IsFreshOf c.pop.new.hand.seat.me.0 fresh.chunk fresh.room)) c.in-Ok-Some-pop.field-0-is c.in-Ok-Some-pop.ensures.fresh in
+    (fresh.0, subst (λ (hs : List Holding). IsFreshIn hs c.in-Ok-Some-pop.fresh.chunk c.in-Ok-Some-pop.fresh.room) (sym c.ask_move.ensures.holdings) fresh.1)
 
 pub returns-in-Ok-Some-pop-clause-whole : goal.returns-in-Ok-Some-pop-clause-whole
 returns-in-Ok-Some-pop-clause-whole c = c.ask_move.ensures.uncut ∙ (ap (λ (s : SlabState). s.uncut) (popped_here c).1 ∙ c.make_free.ensures.whole)
