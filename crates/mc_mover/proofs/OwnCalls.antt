@@ -1,5 +1,5 @@
 -- A hand's own calls: with more of them, each on the stripe of its key, there are so many more of each kind.
-use Rattle.std.proofs.Common.{◌≡◌, ℕ, ◌+◌, ◌%◌, ◌<◌, ◌≤◌, ◌==◌, Bool, true, false, List, [], ◌∷◌, ◌++◌, length, map, filter, Some, refl, sym, ap, subst, ◌∙◌, arith, count_by, slice_index_or, slice_set, All, if◌then◌else◌}
+use Rattle.std.proofs.Common.{◌≡◌, ℕ, ◌+◌, ◌%◌, ◌<◌, ◌≤◌, ◌==◌, Bool, true, false, List, [], ◌∷◌, ◌++◌, length, map, filter, Some, refl, sym, ap, subst, ◌∙◌, inl, inr, arith, count_by, slice_index_or, slice_set, All, if◌then◌else◌}
 use Rattle.std.specs.List.{sum_by}
 use Rattle.std.proofs.Math.Nat.{mod-lt}
 use Rattle.std.proofs.lemmas.Bool.{cases_Bool}
@@ -124,5 +124,5 @@ calls_more view now was number own calls come is =
     subst (λ (l : List Own). All (λ (own : Own). length own.calls ≡ view.setup.config.stripes) l) (sym mine)
     (All-weaker (λ (own : Own). own.calls ≡ map (λ (value : ReadyStripe). filter (λ call. hand_of call == own.number) value.state.history) m.state.stripes) (λ (own : Own). length own.calls ≡ view.setup.config.stripes)
     (λ own is. ap (λ (l : List (List Call)). length l) is ∙ (length-map m.state.stripes (λ (value : ReadyStripe). filter (λ call. hand_of call == own.number) value.state.history) ∙ was.stripes)) (slice_index_or m.past.mine was.hand []) rows) in
-    let some : 1 ≤ view.setup.config.stripes = subst (λ n. 1 ≤ n) was.stripes was.lawful.indexed.some in
+    let some : 1 ≤ view.setup.config.stripes = subst (λ n. 1 ≤ n) was.stripes was.lawful.legal.some in
     ap (λ (l : List Own). sum_by (λ (own : Own). sum_by (count_by is) own.calls) l) come ∙ calls_after number view.setup.config.stripes is calls view.row.knows.mine some one long

@@ -5,6 +5,7 @@ use Rattle.std.proofs.lemmas.List.Sums.{sum_by-cons}
 use Rattle.mc_pages.specs.declared.ids.ChunkId.{ChunkId}
 use Rattle.mc_pages.specs.declared.moves.Found.{Found}
 use Rattle.mc_pages.specs.declared.moves.Found.TheVariants.{Cleared, Rescued, Evicted, Busy, Locked, Already}
+use Rattle.mc_pages.specs.Accounted.{truth}
 use Rattle.mc_pages.specs.SlabState.{SlabState}
 use Rattle.mc_stripe.specs.declared.history.Call.{Call}
 use Rattle.mc_stripe.specs.declared.history.Call.TheVariants.{Evict, Rescue}
@@ -68,7 +69,7 @@ pops_told : (view : View) (slabs : SlabState) (old chunk : ChunkId) (now : View)
 pops_told view slabs old chunk now pops = ap told_of pops.is ∙ (ap told_of pops.finds.fit.is ∙ passes_told old.page pops.finds.before view pops.finds.passed pops.finds.passes)
 
 -- a call on a key that leads somewhere was told
-TellsKey : ℕ → ℕ → (ℕ → Call) → ReadyStripe → View → View → Type 0
+abbrev TellsKey : ℕ → ℕ → (ℕ → Call) → ReadyStripe → View → View → Type 0
 TellsKey number stripe call value view now = (key : ℕ) × (place : ChunkId × ℕ) × (place_of value.state key ≡ Some place) × (told_of now ≡ told_call number stripe (call key) (told_of view))
 
 evicts_tell : (number stripe : ℕ) (chunk : ChunkId) (slabs : SlabState) (value : ReadyStripe) (view : View) (kept : SlabState) (left : ReadyStripe) (now : View)
@@ -138,7 +139,7 @@ module _ (chunk : ChunkId) (Does : ℕ → StripeDoing) (view : View) (slabs : S
       (key, tells ∙ (λ k. told_call number (at k) (call key) (taken_told k)))
 
 -- the calls on a chunk's key, by what was found
-calls_for : ℕ → Found → ℕ → List Call
+abbrev calls_for : ℕ → Found → ℕ → List Call
 calls_for number Evicted key = Evict number key ∷ []
 calls_for number Rescued key = Rescue number key ∷ []
 calls_for number Cleared key = []
@@ -146,7 +147,7 @@ calls_for number Busy key = []
 calls_for number Locked key = []
 calls_for number Already key = []
 
-TellsFound : ℕ → Found → View → View → Type 0
+abbrev TellsFound : ℕ → Found → View → View → Type 0
 TellsFound number found view now = (key : ℕ) × (told_of now ≡ told_calls number (calls_for number found key) (told_of view))
 
 rescued_tells : (number class : ℕ) (chunk : ChunkId) (view : View) (slabs : SlabState) (now : View) (left : SlabState) → SavesAndClears number class chunk Rescued view slabs now left → TellsFound number Rescued view now
@@ -202,24 +203,31 @@ quiet_first number first found view next now no_eviction no_rescue same rest = r
   come = rest.come ∙ ap (told_calls number rest.calls) same;
 }
 
+-- a call that isn't counted
+count_other : (is : Call → Bool) (call : Call) (calls : List Call) → is call ≡ false → count_by is (call ∷ calls) ≡ count_by is calls
+count_other is call calls other =
+    let count : count_by is (call ∷ calls) ≡ truth (is call) + count_by is calls = sum_by-cons (λ (c : Call). truth (is c)) call calls in
+    let none : truth (is call) ≡ 0 = ap truth other in
+    omega (arith, count, none)
+
 found_first : (number : ℕ) (first : Found) (found : List Found) (view next now : View) → TellsFound number first view next → TellsAll number found next now → TellsAll number (first ∷ found) view now
 found_first number Evicted found view next now (key, tells) rest = record {
   calls = Evict number key ∷ rest.calls;
   own = All-cons (IsSaving number) (Evict number key) rest.calls refl rest.own;
   evicted = λ counts.
       let more = rest.evicted (counted Evicted counts) in
-      let count : count_by is_eviction (Evict number key ∷ rest.calls) ≡ 1 + count_by is_eviction rest.calls = sum_by-cons _ (Evict number key) rest.calls in
+      let count : count_by is_eviction (Evict number key ∷ rest.calls) ≡ 1 + count_by is_eviction rest.calls = sum_by-cons (λ (call : Call). truth (is_eviction call)) (Evict number key) rest.calls in
       omega (arith, more, count);
-  rescued = λ counts. rest.rescued (counted Evicted counts) ∙ ap (λ n. counts.rescued + n) (sym (sum_by-cons _ (Evict number key) rest.calls));
+  rescued = λ counts. rest.rescued (counted Evicted counts) ∙ ap (λ n. counts.rescued + n) (sym (count_other is_rescue (Evict number key) rest.calls refl));
   come = rest.come ∙ ap (told_calls number rest.calls) tells;
 }
 found_first number Rescued found view next now (key, tells) rest = record {
   calls = Rescue number key ∷ rest.calls;
   own = All-cons (IsSaving number) (Rescue number key) rest.calls refl rest.own;
-  evicted = λ counts. rest.evicted (counted Rescued counts) ∙ ap (λ n. counts.evicted + n) (sym (sum_by-cons _ (Rescue number key) rest.calls));
+  evicted = λ counts. rest.evicted (counted Rescued counts) ∙ ap (λ n. counts.evicted + n) (sym (count_other is_eviction (Rescue number key) rest.calls refl));
   rescued = λ counts.
       let more = rest.rescued (counted Rescued counts) in
-      let count : count_by is_rescue (Rescue number key ∷ rest.calls) ≡ 1 + count_by is_rescue rest.calls = sum_by-cons _ (Rescue number key) rest.calls in
+      let count : count_by is_rescue (Rescue number key ∷ rest.calls) ≡ 1 + count_by is_rescue rest.calls = sum_by-cons (λ (call : Call). truth (is_rescue call)) (Rescue number key) rest.calls in
       omega (arith, more, count);
   come = rest.come ∙ ap (told_calls number rest.calls) tells;
 }
@@ -258,8 +266,8 @@ module _ (number : ℕ) (view : View) (was : LawfulView view) (own : view.row.id
       let come = ap (λ (t : Told). t.3) all in record {
         calls = tells.calls;
         own = tells.own;
-        evicted = sym (ap (λ (c : Counts). c.evicted) are ∙ tells.evicted no_counts);
-        rescued = sym (ap (λ (c : Counts). c.rescued) are ∙ tells.rescued no_counts);
+        evicted = let count = tells.evicted no_counts in let is = ap (λ (c : Counts). c.evicted) are in omega (arith, count, is);
+        rescued = let count = tells.rescued no_counts in let is = ap (λ (c : Counts). c.rescued) are in omega (arith, count, is);
         come = come;
         more = calls_more view now was number own tells.calls come;
         said = ap (λ (t : Told). t.2) all;
