@@ -1,5 +1,5 @@
 -- What a turn leaves of stamps and words, and of the hand's own calls: these have an eviction or a rescue more for each item that was saved.
-use Rattle.std.proofs.Common.{◌≡◌, ◌⊎◌, ℕ, ◌+◌, ◌%◌, ◌<◌, Bool, true, false, List, [], ◌∷◌, length, map, Some, refl, sym, ap, subst, ◌∙◌, inl, inr, arith, count_by, All}
+use Rattle.std.proofs.Common.{◌≡◌, ℕ, ◌+◌, ◌%◌, ◌<◌, Bool, true, false, List, [], ◌∷◌, length, map, Some, refl, sym, ap, subst, ◌∙◌, inl, inr, arith, count_by, All}
 use Rattle.std.proofs.lemmas.List.Elements.{All-cons, All-nil}
 use Rattle.std.proofs.lemmas.List.Sums.{sum_by-cons}
 use Rattle.mc_pages.specs.declared.ids.ChunkId.{ChunkId}
@@ -10,9 +10,7 @@ use Rattle.mc_pages.specs.SlabState.{SlabState}
 use Rattle.mc_stripe.specs.declared.history.Call.{Call}
 use Rattle.mc_stripe.specs.declared.history.Call.TheVariants.{Evict, Rescue}
 use Rattle.mc_stripe.specs.StripeState.{ReadyStripe, place_of}
-use Rattle.mc_core.specs.declared.head.Head.{Head}
 use Rattle.mc_core.specs.declared.ids.Ids.{Ids}
-use Rattle.mc_core.specs.declared.look.Look.{Look}
 use Rattle.mc_core.specs.Past.{Own, Saying}
 use Rattle.mc_words.specs.View.{Setup, View}
 use Rattle.mc_words.specs.Called.{with_own_call}
@@ -27,9 +25,9 @@ use Rattle.mc_mover.specs.declared.counts.Turn.{Turn}
 use Rattle.mc_mover.specs.declared.counts.Turn.TheVariants.{Idle, Went, Finished}
 use Rattle.mc_mover.specs.Copying.{item_of}
 use Rattle.mc_mover.specs.Saving.{BothDoing, Evicts, FailsToEvict, FailsToMove, FailsToRescue, Rescues}
-use Rattle.mc_mover.specs.Linked.{GivesCopyUp, HoldsUp, ReachesStripe, SavesAndClears, SavesAs, SavesWith, StripeDoing}
+use Rattle.mc_mover.specs.Linked.{HoldsUp, ReachesStripe, SavesAndClears, SavesAs, SavesWith, StripeDoing}
 use Rattle.mc_mover.specs.Visiting.{Visits}
-use Rattle.mc_mover.specs.Turning.{GoesOn, Finishes, LacksMemory, LooksFrom, Section, Sections, Turns, counted, counts_of, no_counts}
+use Rattle.mc_mover.specs.Turning.{GoesOn, Finishes, LacksMemory, Section, Sections, Turns, counted, counts_of, no_counts}
 use Rattle.mc_mover.specs.Telling.{IsSaving, TellsAsCounted, TellsOfFewer, called_key, counts_in, is_eviction, is_rescue, with_own_calls}
 use Rattle.mc_mover.proofs.Copied.{copied_keeps}
 use Rattle.mc_mover.proofs.HoldsSlabs.{wait_keeps}
