@@ -1,13 +1,14 @@
 -- A hand's own calls: with more of them, each on the stripe of its key, there are so many more of each kind.
 use Rattle.std.proofs.Common.{◌≡◌, ℕ, ◌+◌, ◌%◌, ◌<◌, ◌≤◌, ◌==◌, Bool, true, false, List, [], ◌∷◌, ◌++◌, length, map, filter, Some, refl, sym, ap, subst, ◌∙◌, inl, inr, arith, count_by, slice_index_or, slice_set, All, if◌then◌else◌}
 use Rattle.std.specs.List.{sum_by}
-use Rattle.std.proofs.Math.Nat.{mod-lt}
+use Rattle.std.proofs.Math.Nat.{add-zero, mod-lt}
 use Rattle.std.proofs.lemmas.Bool.{cases_Bool}
 use Rattle.std.proofs.lemmas.List.{length-map, length-set}
 use Rattle.std.proofs.lemmas.List.Elements.{All-head, All-map, All-tail, All-weaker}
 use Rattle.std.proofs.lemmas.List.Sums.{sum_by-append, sum_by-cons, sum_by-set}
 use Rattle.mc_pages.specs.Accounted.{truth}
 use Rattle.mc_stripe.specs.declared.history.Call.{Call}
+use Rattle.mc_stripe.specs.declared.history.Call.TheVariants.{Set, Get, Delete, Evict, Rescue}
 use Rattle.mc_stripe.specs.StripeState.{ReadyStripe}
 use Rattle.mc_core.specs.Histories.{hand_of}
 use Rattle.mc_core.specs.Identities.{owns}
@@ -16,7 +17,7 @@ use Rattle.mc_core.proofs.Base.{each_row}
 use Rattle.mc_words.specs.View.{View}
 use Rattle.mc_words.specs.Called.{with_own_call}
 use Rattle.mc_words.specs.Happens.{LawfulView}
-use Rattle.mc_mover.specs.Telling.{called_key, calls_told, with_own_calls}
+use Rattle.mc_mover.specs.Telling.{IsSaving, TellingsAreCounted, called_key, calls_told, is_eviction, is_other, is_rescue, with_own_calls}
 
 -- one more
 module _ (number stripe : ℕ) (call : Call) where
@@ -126,3 +127,27 @@ calls_more view now was number own calls come is =
     (λ own is. ap (λ (l : List (List Call)). length l) is ∙ (length-map m.state.stripes (λ (value : ReadyStripe). filter (λ call. hand_of call == own.number) value.state.history) ∙ was.stripes)) (slice_index_or m.past.mine was.hand []) rows) in
     let some : 1 ≤ view.setup.config.stripes = subst (λ n. 1 ≤ n) was.stripes was.lawful.legal.some in
     ap (λ (l : List Own). sum_by (λ (own : Own). sum_by (count_by is) own.calls) l) come ∙ calls_after number view.setup.config.stripes is calls view.row.knows.mine some one long
+
+-- what saves items is nothing else
+saving_alone : (number : ℕ) (call : Call) → IsSaving number call → is_other call ≡ false
+saving_alone number (Evict hand key) saving = refl
+saving_alone number (Rescue hand key) saving = refl
+saving_alone number (Set hand key stamp) saving = absurd saving
+saving_alone number (Get hand key found) saving = absurd saving
+saving_alone number (Delete hand key was_there) saving = absurd saving
+
+no_others : (number : ℕ) (calls : List Call) → All (IsSaving number) calls → count_by is_other calls ≡ 0
+no_others number [] own = refl
+no_others number (call ∷ calls) own =
+    let split : count_by is_other (call ∷ calls) ≡ truth (is_other call) + count_by is_other calls = sum_by-cons (λ (c : Call). truth (is_other c)) call calls in
+    let here : truth (is_other call) ≡ 0 = ap truth (saving_alone number call (All-head (IsSaving number) call calls own)) in
+    let rest : count_by is_other calls ≡ 0 = no_others number calls (All-tail (IsSaving number) call calls own) in
+    omega (arith, split, here, rest)
+
+-- so a hand's calls grow by what is counted
+pub tellings_counted : TellingsAreCounted
+tellings_counted number counts view now tells = (
+  tells.more is_eviction ∙ ap (λ n. calls_told is_eviction view + n) tells.evicted,
+  tells.more is_rescue ∙ ap (λ n. calls_told is_rescue view + n) tells.rescued,
+  tells.more is_other ∙ (ap (λ n. calls_told is_other view + n) (no_others number tells.calls tells.own) ∙ add-zero (calls_told is_other view)),
+)

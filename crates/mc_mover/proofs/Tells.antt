@@ -73,9 +73,12 @@ TellsKey number stripe call value view now = (key : ℕ) × (place : ChunkId × 
 evicts_tell : (number stripe : ℕ) (chunk : ChunkId) (slabs : SlabState) (value : ReadyStripe) (view : View) (kept : SlabState) (left : ReadyStripe) (now : View)
     → Evicts number stripe chunk slabs value view kept left now → TellsKey number stripe (λ key. Evict number key) value view now
 evicts_tell number stripe chunk slabs value view kept left now evicts =
-    let took = evicts.condemns in
-    (took.key, (chunk, took.stamp), took.led,
-    ap told_of took.is ∙ ap (told_call number stripe (Evict number took.key)) (passes_told chunk.page _ view evicts.passed evicts.passes))
+    let took = evicts.condemns in (
+      took.key,
+      (chunk, took.stamp),
+      took.led,
+      ap told_of took.is ∙ ap (told_call number stripe (Evict number took.key)) (passes_told chunk.page _ view evicts.passed evicts.passes),
+    )
 
 rescues_tell : (number stripe : ℕ) (chunk : ChunkId) (slabs : SlabState) (value : ReadyStripe) (view : View) (kept : SlabState) (left : ReadyStripe) (now : View)
     → Rescues number stripe chunk slabs value view kept left now → TellsKey number stripe (λ key. Rescue number key) value view now
@@ -86,9 +89,12 @@ rescues_tell number stripe chunk slabs value view kept left now rescues =
     let read = key_copied chunk rescues.copy moves.key moves.stamp copies.words rescues.popped moves.filled copies.is in
     let same : took.key ≡ moves.key = one (sym took.is_key ∙ read) in
     let filled : told_of moves.filled ≡ told_of rescues.popped =
-    ap told_of copies.is ∙ copied_keeps chunk rescues.copy told_of (λ place word v. refl) 0 (item_of moves.key moves.stamp copies.words) rescues.popped in
-    (moves.key, (chunk, took.stamp), ap (λ k. place_of value.state k) (sym same) ∙ took.led,
-    ap told_of moves.is ∙ ap (told_call number stripe (Rescue number moves.key)) (ap told_of took.is ∙ (filled ∙ pops_told view slabs chunk rescues.copy rescues.popped rescues.pops)))
+    ap told_of copies.is ∙ copied_keeps chunk rescues.copy told_of (λ place word v. refl) 0 (item_of moves.key moves.stamp copies.words) rescues.popped in (
+      moves.key,
+      (chunk, took.stamp),
+      ap (λ k. place_of value.state k) (sym same) ∙ took.led,
+      ap told_of moves.is ∙ ap (told_call number stripe (Rescue number moves.key)) (ap told_of took.is ∙ (filled ∙ pops_told view slabs chunk rescues.copy rescues.popped rescues.pops)),
+    )
   where
     one : {a b : ℕ} → Some a ≡ Some b → a ≡ b
     one e = cc

@@ -1,5 +1,5 @@
 -- What a turn tells: an eviction or a rescue for each item that was saved, and no other call.
-use Rattle.std.specs.Prelude.{◌≡◌, ℕ, ◌+◌, ◌%◌, ◌<◌, Bool, true, false, List, [], ◌∷◌, length, map, count_by, All}
+use Rattle.std.specs.Prelude.{◌≡◌, ℕ, ◌+◌, ◌%◌, ◌<◌, Bool, true, false, not, ◌||◌, List, [], ◌∷◌, length, map, count_by, All}
 use Rattle.std.specs.List.{sum_by}
 use Rattle.mc_pages.specs.declared.moves.Found.{Found}
 use Rattle.mc_stripe.specs.declared.history.Call.{Call}
@@ -22,7 +22,11 @@ abbrev pub is_rescue : Call → Bool
 is_rescue (Rescue hand key) = true
 is_rescue other = false
 
--- it did the one or the other, and the hand of this number made it
+-- or neither
+abbrev pub is_other : Call → Bool
+is_other call = not (is_eviction call || is_rescue call)
+
+-- an eviction or a rescue, by the hand of this number
 abbrev pub IsSaving : ℕ → Call → Type 0
 IsSaving number (Evict hand key) = hand ≡ number
 IsSaving number (Rescue hand key) = hand ≡ number
@@ -58,12 +62,23 @@ pub record TellsAsCounted (number : ℕ) (counts : Counts) (view now : View) : T
   pub said : now.row.knows.said ≡ view.row.knows.said
   pub ids : now.row.ids ≡ view.row.ids
 
+-- so the hand has so many more evictions and rescues among its calls, and as many others as before
+abbrev pub TellingsAreCounted : Type 0
+TellingsAreCounted = (number : ℕ) (counts : Counts) (view now : View) → TellsAsCounted number counts view now →
+    (calls_told is_eviction now ≡ calls_told is_eviction view + counts.evicted)
+    × (calls_told is_rescue now ≡ calls_told is_rescue view + counts.rescued)
+    × (calls_told is_other now ≡ calls_told is_other view)
+
+-- a number's own calls on keys of two stripes
+abbrev pub own_of : ℕ → List Call → List Call → Own
+own_of number even odd = record { number = number; calls = even ∷ odd ∷ [] }
+
 -- what a turn counted
 abbrev pub counts_in : Turn → Counts
 counts_in Idle = no_counts
 counts_in (Went counts) = counts
 counts_in (Finished counts) = counts
 
--- so, of what fewer sections than a turn has found
+-- a turn that stopped early tells so of what it found, in fewer sections than a turn has
 abbrev pub TellsOfFewer : ℕ → View → View → Type 0
 TellsOfFewer number view now = (found : List Found) × (length found < view.setup.config.bulk) × TellsAsCounted number (counts_of found no_counts) view now

@@ -20,6 +20,9 @@ use std::sync::Wait;
 /// begins anew if some chunks held it up, and else the page comes to its destination. It waits for the lock of the slabs, and for no
 /// other. (slabs.c's `slab_rebalance_move` and `slab_rebalance_finish`; that a rescue keeps an item's age is own)
 ///
+/// Of the hand's own calls just the evictions and the rescues that it counts come, each in its key's stripe; it says nothing, and gives out
+/// no stamp.
+///
 /// `NoMemory` where the room for a call on a key was refused: the chunk at hand is as before, and the move's position is there; what was
 /// done for chunks before it stands.
 pub fn turn<R: Wait>(rt: &R, arena: &Arena, hand: &mut Hand) -> Result<Turn, NoMemory>
