@@ -14,3 +14,5 @@ pub mod Surveys
 pub mod Visits
 pub mod ClearedPages
 pub mod SeenChunks
+pub mod OwnCalls
+pub mod Tells

@@ -54,7 +54,7 @@ module _ (chunk copy : ChunkId) (key stamp : ℕ) (words : List ℕ) (view fille
   read_each : (i : ℕ) → i < length item → word_read filled chunk i ≡ Some (slice_index item i)
   read_each i within = ap (λ (v : View). word_read v chunk i) is ∙ read_copied chunk copy i i 0 item view within (omega arith)
 
-  key_copied : key_read filled chunk ≡ Some key
+  pub key_copied : key_read filled chunk ≡ Some key
   key_copied = read_each 0 (omega arith)
 
   -- all but looks and the copy's holding stays

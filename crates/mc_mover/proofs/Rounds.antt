@@ -20,6 +20,7 @@ use Rattle.mc_words.proofs.Owners.{slabs_here}
 use Rattle.mc_mover.specs.declared.counts.Counts.{Counts}
 use Rattle.mc_mover.specs.declared.counts.Turn.{Turn}
 use Rattle.mc_mover.specs.declared.counts.Turn.TheVariants.{Idle, Went, Finished}
+use Rattle.mc_mover.specs.Visiting.{LacksCall}
 use Rattle.mc_mover.specs.Turning.{AreBelow, EndsTurn, LacksMemory, LooksFrom, Section, Sections, Turns, counted, counts_of, no_counts}
 
 -- the chunk at a move's position is one of the arena
@@ -64,20 +65,6 @@ sections_on number [] more view slabs between kept now left (same, same_slabs) r
 sections_on number (first ∷ found) more view slabs between kept now left (next, mid, begins, others) rest =
     (next, mid, begins, sections_on number found more next mid between kept now left others rest)
 
--- and then want of memory
-pub lacks_on : (number : ℕ) (found : List Found) (view : View) (slabs : SlabState) (between : View) (kept : SlabState) (now : View) (left : SlabState)
-    → Sections number found view slabs between kept → LacksMemory number between kept now left → LacksMemory number view slabs now left
-lacks_on number found view slabs between kept now left sections lacks = record {
-  found = found ++ lacks.found;
-  looked = lacks.looked;
-  kept = lacks.kept;
-  sections = sections_on number found lacks.found view slabs between kept lacks.looked lacks.kept sections lacks.sections;
-  move = lacks.move;
-  runs = lacks.runs;
-  within = lacks.within;
-  lacks = lacks.lacks;
-}
-
 -- one more section
 sections_more : (number : ℕ) (found : List Found) (last : Found) (view : View) (slabs : SlabState) (between : View) (kept : SlabState) (now : View) (left : SlabState)
     → Sections number found view slabs between kept → Section number last between kept now left → Sections number (found ++ last ∷ []) view slabs now left
@@ -112,6 +99,7 @@ pub record GoneThrough (number rounds : ℕ) (counts : Counts) (view : View) (sl
   pub runs : slabs.moving ≡ Some move
   pub next : Moving
   pub runs_on : left.moving ≡ Some next
+  pub page : next.page ≡ move.page
   pub src : next.src ≡ move.src
   pub at : next.at ≡ move.at + rounds
 
@@ -127,6 +115,7 @@ gone_none number view slabs move runs counts none = record {
   runs = runs;
   next = move;
   runs_on = runs;
+  page = refl;
   src = refl;
   at = omega arith;
 }
@@ -146,8 +135,34 @@ gone_more number rounds counts more found next view slabs between kept now left 
       runs = gone.runs;
       next = moved_on next found;
       runs_on = moves;
+      page = ap (λ (m : Moving). m.page) (sym same) ∙ gone.page;
       src = ap (λ (m : Moving). m.src) (sym same) ∙ gone.src;
       at = let before = gone.at in let at = ap (λ (m : Moving). m.at) same in omega arith;
+    }
+
+-- and then there was no memory for the next chunk's item
+pub lacks_next : (number rounds : ℕ) (counts : Counts) (move : Moving) (view : View) (slabs : SlabState) (between : View) (kept : SlabState) (now : View) (left : SlabState)
+    → GoneThrough number rounds counts view slabs between kept → rounds < view.setup.config.bulk → kept.moving ≡ Some move → move.at < (class_at kept move.src).per_page
+    → LacksCall (chunk_at_position move) between kept now left → LacksMemory number view slabs now left
+lacks_next number rounds counts move view slabs between kept now left gone few here within lacks =
+    let same : move ≡ gone.next = same_Some move gone.next (sym here ∙ gone.runs_on) in
+    let count : length gone.found ≡ rounds = gone.count in record {
+      first = gone.move;
+      began = gone.runs;
+      found = gone.found;
+      few = omega arith;
+      looked = between;
+      kept = kept;
+      sections = gone.sections;
+      move = move;
+      runs = here;
+      on = (
+        ap (λ (m : Moving). m.page) same ∙ gone.page,
+        ap (λ (m : Moving). m.src) same ∙ gone.src,
+        ap (λ (m : Moving). m.at) same ∙ (gone.at ∙ ap (λ n. gone.move.at + n) (sym count)),
+      );
+      within = within;
+      lacks = lacks;
     }
 
 -- after as many as a turn has

@@ -5,3 +5,4 @@ pub mod Visiting
 pub mod Turning
 pub mod Reassigning
 pub mod Surveying
+pub mod Telling

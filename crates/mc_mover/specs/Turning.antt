@@ -104,13 +104,17 @@ Turns number Idle view slabs now left = (slabs.moving ≡ None) × (now ≡ view
 Turns number (Went counts) view slabs now left = Looks number counts (GoesOn number) view slabs now left
 Turns number (Finished counts) view slabs now left = Looks number counts (Finishes number) view slabs now left
 
--- some sections, and then there was no memory for the item of the next chunk, which is as before
+-- fewer sections than a turn has, from the move's position, and then there was no memory for the item of the next chunk, which is as before
 pub record LacksMemory (number : ℕ) (view : View) (slabs : SlabState) (now : View) (left : SlabState) : Type 0 where
+  pub first : Moving
+  pub began : slabs.moving ≡ Some first
   pub found : List Found
+  pub few : length found < view.setup.config.bulk
   pub looked : View
   pub kept : SlabState
   pub sections : Sections number found view slabs looked kept
   pub move : Moving
   pub runs : kept.moving ≡ Some move
+  pub on : (move.page ≡ first.page) × (move.src ≡ first.src) × (move.at ≡ first.at + length found)
   pub within : move.at < (class_at kept move.src).per_page
   pub lacks : LacksCall (chunk_at_position move) looked kept now left

@@ -8,6 +8,7 @@
 mod copying;
 mod counts;
 mod ending;
+pub mod laws;
 mod linked;
 mod numbers;
 mod reassigning;

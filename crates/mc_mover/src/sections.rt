@@ -1,11 +1,12 @@
 //! The sections of a turn: one for each chunk that it looks at.
 ghost use Rattle.std.specs.Prelude.{◌≡◌, ◌<◌, ◌≤◌, true, false, is_some, length, None, Some, IfOk, OnErr};
-ghost use Rattle.mc_pages.specs.Moves.{moved_on};
+ghost use Rattle.mc_pages.specs.Moves.{chunk_at_position, moved_on};
 ghost use Rattle.mc_pages.specs.SlabState.{class_at};
 ghost use Rattle.mc_core.specs.Holdings.{has_fresh};
 ghost use Rattle.mc_words.specs.Arenas.{IsHandOf, setup_of, view};
 ghost use Rattle.mc_words.specs.Idle.{has_no_stripes};
 ghost use Rattle.mc_mover.specs.Turning.{LacksMemory, LooksFrom, Section};
+ghost use Rattle.mc_mover.specs.Visiting.{LacksCall};
 
 use crate::counts::Counts;
 use crate::visiting::visit;
@@ -32,7 +33,7 @@ fn section(
     ensures locks { hand.new.locks ≡ hand.old.locks }
     ensures held { (view hand.new).slabs ≡ Some held.new.shared }
     ensures section { IfOk result (λ found. Section hand.old.number found (view hand.old) held.old.shared (view hand.new) held.new.shared) }
-    ensures lacks { OnErr result (LacksMemory hand.old.number (view hand.old) held.old.shared (view hand.new) held.new.shared) }
+    ensures lacks { OnErr result (LacksCall (chunk_at_position moving) (view hand.old) held.old.shared (view hand.new) held.new.shared) }
     ensures moves { IfOk result (λ found. held.new.shared.moving ≡ Some (moved_on moving found)) }
     ensures uncut { held.new.shared.uncut ≡ held.old.shared.uncut }
     ensures holdings { (view hand.new).row.holdings ≡ (view hand.old).row.holdings }

@@ -5,6 +5,7 @@ ghost use Rattle.mc_words.specs.Arenas.{IsHandOf, view};
 ghost use Rattle.mc_words.specs.Doing.{HoldsSlabs};
 ghost use Rattle.mc_words.specs.Idle.{has_no_stripes, is_unlocked};
 ghost use Rattle.mc_words.specs.Views.{slabs_missed};
+ghost use Rattle.mc_mover.specs.Telling.{TellsAsCounted, TellsOfFewer, counts_in};
 ghost use Rattle.mc_mover.specs.Turning.{LacksMemory, Turns};
 
 use crate::counts::{TryTurn, Turn};
@@ -19,6 +20,9 @@ use std::sync::Wait;
 /// begins anew if some chunks held it up, and else the page comes to its destination. It waits for the lock of the slabs, and for no
 /// other. (slabs.c's `slab_rebalance_move` and `slab_rebalance_finish`; that a rescue keeps an item's age is own)
 ///
+/// Of the hand's own calls just the evictions and the rescues that it counts come, each in its key's stripe; it says nothing, and gives out
+/// no stamp.
+///
 /// `NoMemory` where the room for a call on a key was refused: the chunk at hand is as before, and the move's position is there; what was
 /// done for chunks before it stands.
 pub fn turn<R: Wait>(rt: &R, arena: &Arena, hand: &mut Hand) -> Result<Turn, NoMemory>
@@ -30,6 +34,8 @@ pub fn turn<R: Wait>(rt: &R, arena: &Arena, hand: &mut Hand) -> Result<Turn, NoM
     ensures locks { hand.new.locks ≡ hand.old.locks }
     ensures turns { IfOk result (λ turn. HoldsSlabs (Turns hand.old.number turn) (view hand.old) (view hand.new)) }
     ensures lacks { OnErr result (HoldsSlabs (LacksMemory hand.old.number) (view hand.old) (view hand.new)) }
+    ensures told { IfOk result (λ turn. TellsAsCounted hand.old.number (counts_in turn) (view hand.old) (view hand.new)) }
+    ensures told_before { OnErr result (TellsOfFewer hand.old.number (view hand.old) (view hand.new)) }
     ensures holdings { (view hand.new).row.holdings ≡ (view hand.old).row.holdings }
 {
     let mut held = arena.lock_slabs(rt, hand);
@@ -49,6 +55,8 @@ pub fn try_turn(arena: &Arena, hand: &mut Hand) -> Result<Turn, TryTurn>
     ensures turns { IfOk result (λ turn. HoldsSlabs (Turns hand.old.number turn) (view hand.old) (view hand.new)) }
     ensures held { result ≡ Err TryTurn.Held → (word : ℕ) × (word ≢ 0) × (view hand.new ≡ slabs_missed word (view hand.old)) }
     ensures lacks { result ≡ Err TryTurn.NoMemory → HoldsSlabs (LacksMemory hand.old.number) (view hand.old) (view hand.new) }
+    ensures told { IfOk result (λ turn. TellsAsCounted hand.old.number (counts_in turn) (view hand.old) (view hand.new)) }
+    ensures told_before { result ≡ Err TryTurn.NoMemory → TellsOfFewer hand.old.number (view hand.old) (view hand.new) }
     ensures holdings { (view hand.new).row.holdings ≡ (view hand.old).row.holdings }
 {
     let Ok(mut held) = arena.try_slabs(hand) else {

@@ -1,5 +1,4 @@
-use Rattle.std.proofs.Common.{◌≡◌, ◌+◌, true, ap, subst, ◌∙◌, refl, ℕ}
-use Rattle.std.specs.Prelude.{[]}
+use Rattle.std.proofs.Common.{◌≡◌, ◌+◌, true, ap, subst, ◌∙◌, ℕ}
 use Rattle.mc_pages.specs.Moves.{chunk_at_position}
 use Rattle.mc_core.specs.declared.event.Change.TheVariants as change
 use Rattle.mc_core.specs.State.{has_chunk}
@@ -16,17 +15,7 @@ visit-requires-clause-near c =
     (position_near c.args.hand.now.seat.me.0 c.requires.arena.lawful c.args.held.now.shared c.requires.held c.args.moving c.requires.runs c.requires.within)
 
 pub returns-in_err-found-clause-lacks : goal.returns-in_err-found-clause-lacks
-returns-in_err-found-clause-lacks c =
-    as_error c.from_residual.result (record {
-      found = [];
-      looked = c.args.hand.now.seat.me.0;
-      kept = c.args.held.now.shared;
-      sections = (refl, refl);
-      move = c.args.moving;
-      runs = c.requires.runs;
-      within = c.requires.within;
-      lacks = on_error c.visit.result c.in_err-found.field-0.0 c.in_err-found.was c.visit.ensures.lacks;
-    })
+returns-in_err-found-clause-lacks c = as_error c.from_residual.result (on_error c.visit.result c.in_err-found.field-0.0 c.in_err-found.was c.visit.ensures.lacks)
 
 pub returns-clause-section : goal.returns-clause-section
 returns-clause-section c =

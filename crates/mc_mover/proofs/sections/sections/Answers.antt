@@ -5,11 +5,11 @@ use Rattle.mc_words.specs.View.{Setup, View}
 use Rattle.mc_words.specs.Arenas.{setup_of}
 use Rattle.mc_words.specs.Out.{has_no_stripe}
 use Rattle.mc_words.proofs.Unlocked.{no_stripe_from, no_stripes_there}
-use Rattle.mc_mover.specs.Turning.{LacksMemory, Section}
+use Rattle.mc_mover.specs.Turning.{Section}
 use Rattle.mc_mover.proofs.Ends.{move_here}
 use Rattle.mc_words.proofs.HandNumbers.{number_stays}
 use Rattle.mc_mover.proofs.Refusals.{as_error, on_error}
-use Rattle.mc_mover.proofs.Rounds.{all_of_bulk, all_of_page, counts_small, gone_more, gone_none, lacks_on, some_move}
+use Rattle.mc_mover.proofs.Rounds.{all_of_bulk, all_of_page, counts_small, gone_more, gone_none, lacks_next, some_move}
 use Rattle.mc_mover.proofs.sections.sections.Goals as goal
 
 pub loop-init : goal.loop-init
@@ -45,11 +45,14 @@ returns-in_err-found-clause-lacks c =
     let hand = c.args.hand.now in
     let before : View = c.loop.hand.seat.me.0 in
     let now : View = c.section.new.hand.seat.me.0 in
-    let left = c.section.new.held.shared in
-    let lacks = on_error c.section.result c.in_err-found.field-0.0 c.in_err-found.was c.section.ensures.lacks in
+    let move = c.in-Some.moving in
+    let bulk = ap (λ (f : Config). f.bulk) c.config.ensures.config ∙ ap (λ (s : Setup). s.config.bulk) (sym c.requires.arena.setup) in
+    let few = c.loop-test.true in
+    let chunks = c.per_page.ensures.chunks ∙ ap (λ (s : SlabState). (class_at s move.src).per_page) c.slabs.ensures.slabs in
+    let inside = c.if-moving-per_page.false in
     as_error c.from_residual.result
-    (lacks_on hand.number inv.gone.found hand.seat.me.0 c.args.held.now.shared before c.loop.held.shared now left inv.gone.sections
-    (subst (λ n. LacksMemory n before c.loop.held.shared now left) (number_stays hand c.loop.hand inv.ids) lacks))
+    (lacks_next hand.number c.loop.counter c.loop.counts move hand.seat.me.0 c.args.held.now.shared before c.loop.held.shared now c.section.new.held.shared inv.gone
+    (omega arith) (sym c.in-Some.ensures.moving) (omega arith) (on_error c.section.result c.in_err-found.field-0.0 c.in_err-found.was c.section.ensures.lacks))
 
 pub count-requires : goal.count-requires
 count-requires c =

@@ -6,10 +6,12 @@ use Rattle.mc_words.specs.Out.{has_no_stripe}
 use Rattle.mc_words.specs.View.{View}
 use Rattle.mc_words.proofs.Unlocked.{no_stripes_there}
 use Rattle.mc_mover.specs.declared.counts.Turn.{Turn}
+use Rattle.mc_mover.specs.Telling.{TellsAsCounted, counts_in}
 use Rattle.mc_mover.specs.Turning.{LacksMemory, Turns}
 use Rattle.mc_mover.proofs.HoldsSlabs.{held_for, held_holdings, wait_holdings, wait_number}
 use Rattle.mc_mover.proofs.Locks.{none_with_slabs}
 use Rattle.mc_mover.proofs.Refusals.{if_ok, on_err}
+use Rattle.mc_mover.proofs.Tells.{fewer_told, turn_told}
 use Rattle.mc_mover.proofs.turning.turn.Goals as goal
 
 pub turn_held-answer-requires-clause-one : goal.turn_held-answer-requires-clause-one
@@ -56,6 +58,19 @@ returns-clause-lacks g c =
     on_err c.turn_held-answer.result
     (λ does. held_for (LacksMemory hand.number) view taken last now found left held.ensures.waits (subst (λ n. LacksMemory n taken found last left) number does) c.give_slabs.ensures.left)
     c.turn_held-answer.ensures.lacks
+
+pub returns-clause-told : goal.returns-clause-told
+returns-clause-told g c =
+    let hand = c.args.hand.now in
+    let view : View = hand.seat.me.0 in
+    let now : View = c.give_slabs.new.hand.seat.me.0 in
+    if_ok (λ (turn : Turn). HoldsSlabs (Turns hand.number turn) view now) (λ (turn : Turn). TellsAsCounted hand.number (counts_in turn) view now) c.turn_held-answer.result
+    (λ turn holds. turn_told hand.number turn view now c.requires.arena.lawful hand.noted.0 holds) (returns-clause-turns g c)
+
+pub returns-clause-told_before : goal.returns-clause-told_before
+returns-clause-told_before g c =
+    let hand = c.args.hand.now in
+    on_err c.turn_held-answer.result (fewer_told hand.number hand.seat.me.0 c.give_slabs.new.hand.seat.me.0 c.requires.arena.lawful hand.noted.0) (returns-clause-lacks g c)
 
 pub returns-clause-holdings : goal.returns-clause-holdings
 returns-clause-holdings g c =

@@ -1,0 +1,84 @@
+-- What a turn tells: an eviction or a rescue for each item that was saved, and no other call.
+use Rattle.std.specs.Prelude.{◌≡◌, ℕ, ◌+◌, ◌%◌, ◌<◌, Bool, true, false, not, ◌||◌, List, [], ◌∷◌, length, map, count_by, All}
+use Rattle.std.specs.List.{sum_by}
+use Rattle.mc_pages.specs.declared.moves.Found.{Found}
+use Rattle.mc_stripe.specs.declared.history.Call.{Call}
+use Rattle.mc_stripe.specs.declared.history.Call.TheVariants.{Set, Get, Delete, Evict, Rescue}
+use Rattle.mc_core.specs.Past.{Own}
+use Rattle.mc_words.specs.View.{View}
+use Rattle.mc_words.specs.Called.{with_own_call}
+use Rattle.mc_mover.specs.declared.counts.Counts.{Counts}
+use Rattle.mc_mover.specs.declared.counts.Turn.{Turn}
+use Rattle.mc_mover.specs.declared.counts.Turn.TheVariants.{Idle, Went, Finished}
+use Rattle.mc_mover.specs.Turning.{counts_of, no_counts}
+
+-- the call evicted a key's item
+abbrev pub is_eviction : Call → Bool
+is_eviction (Evict hand key) = true
+is_eviction other = false
+
+-- or took it to another chunk
+abbrev pub is_rescue : Call → Bool
+is_rescue (Rescue hand key) = true
+is_rescue other = false
+
+-- or neither
+abbrev pub is_other : Call → Bool
+is_other call = not (is_eviction call || is_rescue call)
+
+-- an eviction or a rescue, by the hand of this number
+abbrev pub IsSaving : ℕ → Call → Type 0
+IsSaving number (Evict hand key) = hand ≡ number
+IsSaving number (Rescue hand key) = hand ≡ number
+IsSaving number other = ⊥
+
+-- the key of a call
+abbrev pub called_key : Call → ℕ
+called_key (Set hand key stamp) = key
+called_key (Get hand key found) = key
+called_key (Delete hand key was_there) = key
+called_key (Evict hand key) = key
+called_key (Rescue hand key) = key
+
+-- the number's own calls, with these calls one after another, each behind those of its key's stripe
+abbrev pub with_own_calls : ℕ → ℕ → List Call → List Own → List Own
+with_own_calls number stripes [] mine = mine
+with_own_calls number stripes (call ∷ calls) mine = with_own_calls number stripes calls (map (with_own_call number (called_key call % stripes) call) mine)
+
+-- how many of a hand's own calls are such
+abbrev pub calls_told : (Call → Bool) → View → ℕ
+calls_told is view = sum_by (λ (own : Own). sum_by (count_by is) own.calls) view.row.knows.mine
+
+-- of the hand's own calls as many evictions and rescues came as counted, and no other; it said nothing, and gave out no stamp
+pub record TellsAsCounted (number : ℕ) (counts : Counts) (view now : View) : Type 0 where
+  pub calls : List Call
+  pub own : All (IsSaving number) calls
+  pub evicted : count_by is_eviction calls ≡ counts.evicted
+  pub rescued : count_by is_rescue calls ≡ counts.rescued
+  -- just these came
+  pub come : now.row.knows.mine ≡ with_own_calls number view.setup.config.stripes calls view.row.knows.mine
+  -- so of each kind there are so many more
+  pub more : (is : Call → Bool) → calls_told is now ≡ calls_told is view + count_by is calls
+  pub said : now.row.knows.said ≡ view.row.knows.said
+  pub ids : now.row.ids ≡ view.row.ids
+
+-- so the hand has so many more evictions and rescues among its calls, and as many others as before
+abbrev pub TellingsAreCounted : Type 0
+TellingsAreCounted = (number : ℕ) (counts : Counts) (view now : View) → TellsAsCounted number counts view now →
+    (calls_told is_eviction now ≡ calls_told is_eviction view + counts.evicted)
+    × (calls_told is_rescue now ≡ calls_told is_rescue view + counts.rescued)
+    × (calls_told is_other now ≡ calls_told is_other view)
+
+-- a number's own calls on keys of two stripes
+abbrev pub own_of : ℕ → List Call → List Call → Own
+own_of number even odd = record { number = number; calls = even ∷ odd ∷ [] }
+
+-- what a turn counted
+abbrev pub counts_in : Turn → Counts
+counts_in Idle = no_counts
+counts_in (Went counts) = counts
+counts_in (Finished counts) = counts
+
+-- a turn that stopped early tells so of what it found, in fewer sections than a turn has
+abbrev pub TellsOfFewer : ℕ → View → View → Type 0
+TellsOfFewer number view now = (found : List Found) × (length found < view.setup.config.bulk) × TellsAsCounted number (counts_of found no_counts) view now
