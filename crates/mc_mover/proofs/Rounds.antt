@@ -156,7 +156,7 @@ lacks_next number rounds counts move view slabs between kept now left gone few h
       sections = gone.sections;
       move = move;
       runs = here;
-      on = (
+      further = (
         ap (λ (m : Moving). m.page) same ∙ gone.page,
         ap (λ (m : Moving). m.src) same ∙ gone.src,
         ap (λ (m : Moving). m.at) same ∙ (gone.at ∙ ap (λ n. gone.move.at + n) (sym count)),

@@ -115,6 +115,7 @@ pub record LacksMemory (number : ℕ) (view : View) (slabs : SlabState) (now : V
   pub sections : Sections number found view slabs looked kept
   pub move : Moving
   pub runs : kept.moving ≡ Some move
-  pub on : (move.page ≡ first.page) × (move.src ≡ first.src) × (move.at ≡ first.at + length found)
+  -- it is as many chunks further on the same page
+  pub further : (move.page ≡ first.page) × (move.src ≡ first.src) × (move.at ≡ first.at + length found)
   pub within : move.at < (class_at kept move.src).per_page
   pub lacks : LacksCall (chunk_at_position move) looked kept now left
