@@ -47,6 +47,16 @@ impl Counts {
     }
 }
 
+/// An item on the moving page.
+#[derive(Clone, Copy)]
+struct Item {
+    class: usize,
+    chunk: ChunkId,
+    stamp: u64,
+}
+
+type Locked<'a> = MutexGuard<'a, Box<Stripe>>;
+
 pub enum Turn {
     Idle,
     Went(Counts),
@@ -156,7 +166,7 @@ impl Arena {
             return Found::Busy;
         }
         let found = match stripe.index.get(&key) {
-            Some(&(there, stamp)) if there == chunk => self.save(hand, slabs, stripe, class, chunk, stamp),
+            Some(&(there, stamp)) if there == chunk => self.save(hand, slabs, stripe, Item { class, chunk, stamp }),
             _ => Found::Busy,
         };
         if found != Found::Busy {
@@ -165,21 +175,13 @@ impl Arena {
         found
     }
 
-    fn save(
-        &self,
-        hand: &Hand,
-        slabs: &mut Slabs,
-        mut stripe: MutexGuard<'_, Box<Stripe>>,
-        class: usize,
-        chunk: ChunkId,
-        stamp: u64,
-    ) -> Found {
+    fn save(&self, hand: &Hand, slabs: &mut Slabs, mut stripe: Locked, item: Item) -> Found {
         stripe.index.reserve(1);
         stripe.history.reserve(1);
-        self.sweep(slabs, class);
-        match self.pop_off(slabs, class, chunk) {
-            Some(copy) => self.rescue(hand, slabs, stripe, class, chunk, copy, stamp),
-            None => self.evict(hand, stripe, class, chunk),
+        self.sweep(slabs, item.class);
+        match self.pop_off(slabs, item.class, item.chunk) {
+            Some(copy) => self.rescue(hand, slabs, stripe, item, copy),
+            None => self.evict(hand, stripe, item),
         }
     }
 
@@ -202,26 +204,16 @@ impl Arena {
         None
     }
 
-    #[allow(clippy::too_many_arguments)]
-    fn rescue(
-        &self,
-        hand: &Hand,
-        slabs: &mut Slabs,
-        mut stripe: MutexGuard<'_, Box<Stripe>>,
-        class: usize,
-        chunk: ChunkId,
-        copy: ChunkId,
-        stamp: u64,
-    ) -> Found {
-        let key = self.copy_item(class, chunk, copy);
-        if !self.take_away(chunk) {
+    fn rescue(&self, hand: &Hand, slabs: &mut Slabs, mut stripe: Locked, item: Item, copy: ChunkId) -> Found {
+        let key = self.copy_item(item.class, item.chunk, copy);
+        if !self.take_away(item.chunk) {
             self.header(copy).fetch_sub(1, SeqCst);
             drop(stripe);
             self.put_back(slabs, copy);
             return Found::Busy;
         }
         self.header(copy).fetch_add(LINKED, SeqCst);
-        stripe.index.insert(key, (copy, stamp));
+        stripe.index.insert(key, (copy, item.stamp));
         stripe.history.push(Call::Rescue(hand.number, key));
         self.header(copy).fetch_sub(1, SeqCst);
         Found::Rescued
@@ -243,9 +235,9 @@ impl Arena {
         word
     }
 
-    fn evict(&self, hand: &Hand, mut stripe: MutexGuard<'_, Box<Stripe>>, class: usize, chunk: ChunkId) -> Found {
-        let key = self.word(chunk, self.room_of(class), 0).load(SeqCst);
-        if !self.take_away(chunk) {
+    fn evict(&self, hand: &Hand, mut stripe: Locked, item: Item) -> Found {
+        let key = self.word(item.chunk, self.room_of(item.class), 0).load(SeqCst);
+        if !self.take_away(item.chunk) {
             return Found::Busy;
         }
         stripe.index.remove(&key);
