@@ -1,5 +1,7 @@
 //! The tests, and what they have in common.
+mod accounts;
 mod calls;
+mod driver;
 mod evicting;
 mod hints;
 mod holding;
@@ -9,8 +11,10 @@ mod moves;
 mod refusals;
 mod rescuing;
 mod stats;
+mod stress;
 mod surveys;
 mod words;
+mod workers;
 
 use mc_classes::Config;
 use mc_mover::Counts;

@@ -25,7 +25,7 @@ pub fn opened(alloc: Global, config: &Config, hands: u64) -> Result<(Arena, Vec<
 }
 
 /// The hand of the lowest number that is left.
-fn next_hand(arena: &Arena, hands: &mut Vec<Hand>) -> Option<Hand>
+pub fn next_hand(arena: &Arena, hands: &mut Vec<Hand>) -> Option<Hand>
     requires hands { AreHandsOf arena.now hands.old.items }
     ensures hands { AreHandsOf arena.now hands.new.items }
     ensures hand { IfSome result (λ hand. IsHandOf arena.now hand) }

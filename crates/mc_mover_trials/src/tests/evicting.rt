@@ -98,7 +98,12 @@ fn a_page_of_the_pool_goes_to_the_class_that_needs_one(rt: HostRuntime) -> Resul
         used: 2,
         free: 0,
     };
-    assert_same(&rt, stats.class(&arena, 4), Some(one_page), "class 4");
+    assert_same(
+        &rt,
+        stats.class(arena.classes(), 4),
+        Some(one_page),
+        "class 4",
+    );
     let stored = store_all(&rt, rt.alloc(), &arena, &mut hand, (9, 10), 0, 3)?;
     assert_same(&rt, stored, true, "set");
     let Some(stats) = stats_of(&rt, rt.alloc(), &arena, &mut hand, true) else {
@@ -116,6 +121,6 @@ fn a_page_of_the_pool_goes_to_the_class_that_needs_one(rt: HostRuntime) -> Resul
         used: 1,
         free: 20,
     };
-    assert_same(&rt, stats.class(&arena, 1), Some(first), "class 1");
+    assert_same(&rt, stats.class(arena.classes(), 1), Some(first), "class 1");
     Ok(())
 }

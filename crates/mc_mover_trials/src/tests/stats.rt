@@ -2,7 +2,7 @@
 ghost use Rattle.mc_words.specs.Arenas.{IsHandOf};
 
 use super::assert_same;
-use mc_classes::ClassId;
+use mc_classes::{ClassId, ClassTable};
 use mc_mover::{Survey, survey};
 use mc_pages::{Numbers, Totals};
 use mc_words::{Arena, Hand};
@@ -29,8 +29,7 @@ pub struct Chunks {
 
 impl Stats {
     /// What the class has. None where there is no such class.
-    pub fn class(&self, arena: &Arena, class: ClassId) -> Option<Chunks> {
-        let table = arena.classes();
+    pub fn class(&self, table: &ClassTable, class: ClassId) -> Option<Chunks> {
         if class < 1 || class > table.count() {
             return None;
         }
@@ -85,7 +84,7 @@ pub const NO_CHUNKS: Chunks = Chunks {
 /// The four classes have these.
 pub fn assert_classes<R: Abort>(rt: &R, arena: &Arena, stats: &Stats, wanted: [Chunks; 4]) {
     for place in 0..4 {
-        let found = stats.class(arena, place as u64 + 1);
+        let found = stats.class(arena.classes(), place as u64 + 1);
         assert_same(rt, found, Some(wanted[place]), "what a class has");
     }
 }

@@ -26,7 +26,7 @@ fn a_survey_puts_dead_chunks_back_where_it_is_to(rt: HostRuntime) -> Result<(), 
         let Some(stats) = stats_of(&rt, rt.alloc(), &arena, &mut other, sweep) else {
             return Err(Fail::new("there is memory for a survey"));
         };
-        assert_same(&rt, stats.class(&arena, 4), Some(found), "class 4");
+        assert_same(&rt, stats.class(arena.classes(), 4), Some(found), "class 4");
     }
     Ok(())
 }
