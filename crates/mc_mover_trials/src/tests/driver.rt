@@ -82,6 +82,19 @@ fn begin_next<R: Wait>(rt: &R, arena: &Arena, hand: &mut Hand, round: u64)
     let _answer = reassign_by(rt, arena, hand, src, dst);
 }
 
+/// One turn, and where no page moves behind it, the next move.
+fn turn_on<R: Wait>(rt: &R, arena: &Arena, hand: &mut Hand, tally: &mut Tally, round: u64)
+    requires arena { IsHandOf arena.now hand.old }
+    ensures arena { IsHandOf arena.now hand.new }
+{
+    let Some(turn) = turn_by(rt, arena, hand) else {
+        return;
+    };
+    if tally.note(turn) {
+        begin_next(rt, arena, hand, round);
+    }
+}
+
 /// The mover's turns.
 pub fn drive<R: Wait>(rt: &R, arena: &Arena, hand: Hand) -> Mover
     requires arena { IsHandOf arena.now hand }
@@ -90,18 +103,30 @@ pub fn drive<R: Wait>(rt: &R, arena: &Arena, hand: Hand) -> Mover
     let mut hand = hand;
     let mut tally = NOTHING;
     for round in 0..TURNS {
-        let Some(turn) = turn_by(rt, arena, &mut hand) else {
-            continue;
-        };
-        if tally.note(turn) {
-            begin_next(rt, arena, &mut hand, round);
-        }
+        turn_on(rt, arena, &mut hand, &mut tally, round);
     }
     Mover { hand, tally }
 }
 
+/// Turns until no page moves, if that is asked for. False where that takes too long.
+pub fn end_if<R: Wait>(
+    rt: &R,
+    arena: &Arena,
+    hand: &mut Hand,
+    tally: &mut Tally,
+    ends: bool,
+) -> bool
+    requires arena { IsHandOf arena.now hand.old }
+    ensures arena { IsHandOf arena.now hand.new }
+{
+    if !ends {
+        return true;
+    }
+    end_move(rt, arena, hand, tally)
+}
+
 /// Turns until no page moves. False where that takes too long.
-pub fn end_move<R: Wait>(rt: &R, arena: &Arena, hand: &mut Hand, tally: &mut Tally) -> bool
+fn end_move<R: Wait>(rt: &R, arena: &Arena, hand: &mut Hand, tally: &mut Tally) -> bool
     requires arena { IsHandOf arena.now hand.old }
     ensures arena { IsHandOf arena.now hand.new }
 {

@@ -7,7 +7,7 @@ ghost use Rattle.mc_mover_trials.specs.Hands.{AreHandsOf};
 use super::accounts::{NO_SUMS, Sums, all_sums, class_sums, count_keys, count_pages};
 use super::assert_same;
 use super::calls::{next_hand, next_two, opened};
-use super::driver::{Mover, Tally, drive, end_move};
+use super::driver::{Mover, Tally, drive, end_if};
 use super::moves::set_mode_by;
 use super::stats::{Stats, stats_of};
 use super::workers::{Worker, gather, work};
@@ -215,13 +215,14 @@ fn assert_chunks<R: Abort>(rt: &R, left: &Final, stats: &Stats) -> Result<(), Fa
     Ok(())
 }
 
-/// The statistics of moves are what the turns told.
-fn assert_tally<R: Abort>(rt: &R, stats: &Stats, tally: Tally) {
+/// The statistics of moves are what the turns told. What held up a pass is counted at its end.
+fn assert_tally<R: Abort>(rt: &R, stats: &Stats, tally: Tally, ends: bool) {
     let totals = stats.totals;
     let found = (totals.moved, totals.rescues, totals.evictions_nomem);
     let told = (tally.moved, tally.rescued, tally.evicted);
     assert_same(rt, found, told, "moved, rescues, evictions_nomem");
-    assert_same(rt, totals.busy <= tally.held_up, true, "busy");
+    assert_same(rt, totals.busy <= tally.held_up, true, "busy at most");
+    assert_same(rt, !ends || totals.busy == tally.held_up, true, "busy");
     assert_same(rt, totals.moved > 0, true, "pages move");
 }
 
@@ -242,17 +243,12 @@ fn account<R: Abort + Threads + Wait + Sync>(
         wrong,
     } = done;
     assert_same(rt, wrong, 0, "words of other items");
-    if ends {
-        let ended = end_move(rt, &arena, &mut hand, &mut tally);
-        assert_same(rt, ended, true, "the last move ends");
-    }
+    let ended = end_if(rt, &arena, &mut hand, &mut tally, ends);
+    assert_same(rt, ended, true, "the last move ends");
     let Some(stats) = stats_of(rt, alloc, &arena, &mut hand, true) else {
         return Err(Fail::new("there is memory for a survey"));
     };
-    if ends {
-        assert_same(rt, stats.totals.busy, tally.held_up, "busy, in the end");
-    }
-    assert_tally(rt, &stats, tally);
+    assert_tally(rt, &stats, tally, ends);
     let left = arena.close(hand);
     assert_pages(rt, &left, &stats)?;
     assert_chunks(rt, &left, &stats)
