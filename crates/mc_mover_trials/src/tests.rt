@@ -11,13 +11,13 @@ mod moves;
 mod refusals;
 mod rescuing;
 mod stats;
+mod steps;
 mod stress;
 mod surveys;
 mod words;
 mod workers;
 
 use mc_classes::Config;
-use mc_mover::Counts;
 use std::fmt::Debug;
 use std::process::Abort;
 
@@ -35,15 +35,6 @@ const FOUR_CLASSES: Config = Config {
 
 /// How many words the greatest item has.
 const MOST_WORDS: u64 = 61;
-
-/// What a turn counts that found nothing.
-const NONE: Counts = Counts {
-    cleared: 0,
-    rescued: 0,
-    evicted: 0,
-    busy: 0,
-    locked: 0,
-};
 
 /// What was found is what was wanted. Both are printed where they differ.
 fn assert_same<T: Copy + PartialEq + Debug>(rt: &impl Abort, found: T, wanted: T, what: &str) {

@@ -5,10 +5,10 @@ ghost use Rattle.mc_words.specs.Arenas.{IsHandOf, setup_of, view};
 ghost use Rattle.mc_items.specs.ItemRefs.{IsItemRef};
 ghost use Rattle.mc_mover_trials.specs.Hands.{AreHandsOf};
 
-use super::MOST_WORDS;
-use super::words::words_from;
+use super::words::{are_from, words_from};
+use super::{FOUR_CLASSES, MOST_WORDS};
 use mc_classes::Config;
-use mc_items::{Ref, delete, get, release, set, touch};
+use mc_items::{Ref, delete, get, read, release, set, touch};
 use mc_pages::ChunkId;
 use mc_stripe::Key;
 use mc_words::{Arena, Hand, NewError};
@@ -37,8 +37,8 @@ pub fn next_hand(arena: &Arena, hands: &mut Vec<Hand>) -> Option<Hand>
     }
 }
 
-/// Two hands of the lowest numbers that are left.
-pub fn next_two(arena: &Arena, hands: &mut Vec<Hand>) -> Option<(Hand, Hand)>
+/// The two hands of the lowest numbers that are left.
+pub fn two_of(arena: &Arena, hands: &mut Vec<Hand>) -> Option<(Hand, Hand)>
     requires hands { AreHandsOf arena.now hands.old.items }
     ensures hands { AreHandsOf arena.now hands.new.items }
     ensures two { IfSome result (λ two. IsHandOf arena.now two.0 × IsHandOf arena.now two.1) }
@@ -48,18 +48,13 @@ pub fn next_two(arena: &Arena, hands: &mut Vec<Hand>) -> Option<(Hand, Hand)>
     Some((first, second))
 }
 
-/// An arena of this configuration and its two hands, the first of which stored items of the greatest length for the keys from 1 on,
-/// before this one.
-pub fn filled<R: Wait>(
-    rt: &R,
-    alloc: Global,
-    config: &Config,
-    end: Key,
-) -> Result<(Arena, Hand, Hand), Fail>
+/// An arena of four classes and its two hands, the first of which stored items of the greatest length for the keys from 1 on, before
+/// this one.
+pub fn filled<R: Wait>(rt: &R, alloc: Global, end: Key) -> Result<(Arena, Hand, Hand), Fail>
     ensures hands { IfOk result (λ made. IsHandOf made.0 made.1 × IsHandOf made.0 made.2) }
 {
-    let (arena, mut hands) = opened(alloc, config, 2)?;
-    let Some((mut hand, other)) = next_two(&arena, &mut hands) else {
+    let (arena, mut hands) = opened(alloc, &FOUR_CLASSES, 2)?;
+    let Some((mut hand, other)) = two_of(&arena, &mut hands) else {
         return Err(Fail::new("there are two hands"));
     };
     if !store_all(rt, alloc, &arena, &mut hand, (1, end), 0, MOST_WORDS)? {
@@ -116,16 +111,43 @@ pub fn get_key<R: Wait>(rt: &R, arena: &Arena, hand: &mut Hand, key: Key) -> Opt
     }
 }
 
-/// Whether the key has an item: one gets it, and gives the reference up.
-pub fn is_there<R: Wait>(rt: &R, arena: &Arena, hand: &mut Hand, key: Key) -> bool
+/// Whether the item has so many words, from the first on.
+pub fn has_words(
+    alloc: Global,
+    arena: &Arena,
+    hand: &mut Hand,
+    item: &Ref,
+    first: u64,
+    len: u64,
+) -> Result<bool, AllocError>
+    requires arena { IsHandOf arena.now hand.old }
+    requires item { IsItemRef (view hand.old) item.now }
+    ensures arena { IsHandOf arena.now hand.new }
+    ensures same { view hand.new ≡ view hand.old }
+{
+    let words = read(alloc, arena, hand, item)?;
+    Ok(are_from(&words, first, len))
+}
+
+/// Whether the key has an item of so many words, from the first on.
+pub fn key_has<R: Wait>(
+    rt: &R,
+    alloc: Global,
+    arena: &Arena,
+    hand: &mut Hand,
+    key: Key,
+    first: u64,
+    len: u64,
+) -> Result<bool, AllocError>
     requires arena { IsHandOf arena.now hand.old }
     ensures arena { IsHandOf arena.now hand.new }
 {
     let Some(item) = get_key(rt, arena, hand, key) else {
-        return false;
+        return Ok(false);
     };
+    let own = has_words(alloc, arena, hand, &item, first, len)?;
     release(arena, hand, item);
-    true
+    Ok(own)
 }
 
 /// Whether the key had an item, which is deleted. None where that can't be told.

@@ -4,11 +4,10 @@ ghost use Rattle.mc_core.specs.State.{has_chunk};
 ghost use Rattle.mc_words.specs.Arenas.{IsHandOf, setup_of, view};
 ghost use Rattle.mc_items.specs.ItemRefs.{IsItemRef};
 
-use super::calls::{delete_key, filled, get_key, header, store_all};
-use super::moves::{BEGUN, reassign_by, turn_by};
-use super::{FOUR_CLASSES, NONE, assert_equal, assert_same};
+use super::calls::{filled, get_key, header, store_all};
+use super::steps::{Step, play_all};
+use super::{assert_equal, assert_same};
 use mc_items::{Ref, again, hint, release};
-use mc_mover::{Counts, Turn};
 use mc_pages::ChunkId;
 use mc_stripe::Key;
 use mc_words::{Again, Arena, Hand, Hint};
@@ -88,23 +87,18 @@ fn store_four<R: Abort + Wait>(
 
 #[test]
 fn a_hint_is_gone_once_its_page_has_moved(rt: HostRuntime) -> Result<(), Fail> {
-    let (arena, mut hand, _other) = filled(&rt, rt.alloc(), &FOUR_CLASSES, 5)?;
+    let (arena, mut hand, _other) = filled(&rt, rt.alloc(), 5)?;
     let Some(hint) = hint_of(&rt, &arena, &mut hand, 1) else {
         return Err(Fail::new("the key has an item"));
     };
     assert_same(&rt, head(&arena, &mut hand, 1), Some(458_753), "its chunk");
     assert_equal(&rt, follow(&arena, &mut hand, hint), None, "its own hint");
-    let deleted = delete_key(&rt, &arena, &mut hand, 1);
-    assert_same(&rt, deleted, Some(true), "delete");
-    let begun = reassign_by(&rt, &arena, &mut hand, Some(4), 3);
-    assert_equal(&rt, begun, BEGUN, "reassign");
-    let counts = Counts {
-        cleared: 2,
-        evicted: 1,
-        ..NONE
-    };
-    let done = turn_by(&rt, &arena, &mut hand);
-    assert_equal(&rt, done, Some(Turn::Finished(counts)), "turn");
+    let steps = [
+        Step::Deletes(1),
+        Step::Reassigns(Some(4), 3, Ok(())),
+        Step::Finishes(2, 0, 1, 0, 0),
+    ];
+    play_all(&rt, rt.alloc(), &arena, &mut hand, &steps)?;
     store_four(&rt, rt.alloc(), &arena, &mut hand)?;
     let gone = follow(&arena, &mut hand, hint);
     assert_equal(&rt, gone, Some(Again::Gone), "its hint, in the end");

@@ -1,10 +1,10 @@
 //! Turns beside another hand's locks.
 ghost use Rattle.mc_words.specs.Arenas.{IsHandOf};
 
+use super::assert_equal;
 use super::calls::filled;
-use super::moves::{BEGUN, reassign_by, try_turn_by};
-use super::stats::stats_of;
-use super::{FOUR_CLASSES, NONE, assert_equal, assert_same};
+use super::moves::try_turn_by;
+use super::steps::{Step, play_all};
 use mc_mover::{Counts, TryTurn, Turn};
 use mc_words::{Arena, Hand};
 use std::test::Fail;
@@ -51,51 +51,45 @@ fn turn_beside_slabs(
     found
 }
 
-/// What a turn counts that evicted one item.
-const ONE_EVICTED: Counts = Counts {
-    cleared: 1,
-    evicted: 1,
-    ..NONE
-};
+/// What a turn counts that evicted so many items, and found so many locked.
+fn evicted(count: u64, locked: u64) -> Counts {
+    Counts {
+        cleared: count,
+        rescued: 0,
+        evicted: count,
+        busy: 0,
+        locked,
+    }
+}
 
 #[test]
 fn a_held_stripe_holds_up_the_page(rt: HostRuntime) -> Result<(), Fail> {
-    let (arena, mut hand, mut other) = filled(&rt, rt.alloc(), &FOUR_CLASSES, 9)?;
-    let begun = reassign_by(&rt, &arena, &mut hand, Some(4), 1);
-    assert_equal(&rt, begun, BEGUN, "reassign");
+    let (arena, mut hand, mut other) = filled(&rt, rt.alloc(), 9)?;
+    let steps = [Step::Reassigns(Some(4), 1, Ok(()))];
+    play_all(&rt, rt.alloc(), &arena, &mut hand, &steps)?;
     let went = turn_beside_stripe(&arena, &mut hand, &mut other, 1);
-    let locked = Counts {
-        locked: 1,
-        ..ONE_EVICTED
-    };
-    assert_equal(&rt, went, Some(Ok(Turn::Went(locked))), "beside its stripe");
+    let wanted = Turn::Went(evicted(1, 1));
+    assert_equal(&rt, went, Some(Ok(wanted)), "beside its stripe");
     let done = try_turn_by(&arena, &mut hand);
-    let finished = Turn::Finished(ONE_EVICTED);
-    assert_equal(&rt, done, Some(Ok(finished)), "once it was given");
-    let Some(stats) = stats_of(&rt, rt.alloc(), &arena, &mut hand, true) else {
-        return Err(Fail::new("there is memory for a survey"));
-    };
-    assert_same(&rt, stats.totals.busy, 1, "chunks that held up a move");
+    let wanted = Turn::Finished(evicted(1, 0));
+    assert_equal(&rt, done, Some(Ok(wanted)), "once it was given");
+    let steps = [Step::Moved(1, 0, 2, 1)];
+    play_all(&rt, rt.alloc(), &arena, &mut hand, &steps)?;
     Ok(())
 }
 
 #[test]
 fn who_does_not_wait_is_told_that_the_slabs_are_held(rt: HostRuntime) -> Result<(), Fail> {
-    let (arena, mut hand, mut other) = filled(&rt, rt.alloc(), &FOUR_CLASSES, 9)?;
+    let (arena, mut hand, mut other) = filled(&rt, rt.alloc(), 9)?;
     let refused = turn_beside_slabs(&arena, &mut hand, &mut other);
     assert_equal(&rt, refused, Some(Err(TryTurn::Held)), "no page moves");
-    let begun = reassign_by(&rt, &arena, &mut hand, Some(4), 1);
-    assert_equal(&rt, begun, BEGUN, "reassign");
+    let steps = [Step::Reassigns(Some(4), 1, Ok(()))];
+    play_all(&rt, rt.alloc(), &arena, &mut hand, &steps)?;
     let refused = turn_beside_slabs(&arena, &mut hand, &mut other);
     assert_equal(&rt, refused, Some(Err(TryTurn::Held)), "a page moves");
     let done = try_turn_by(&arena, &mut hand);
-    let counts = Counts {
-        cleared: 2,
-        evicted: 2,
-        ..NONE
-    };
-    let finished = Turn::Finished(counts);
-    assert_equal(&rt, done, Some(Ok(finished)), "once they were given");
+    let wanted = Turn::Finished(evicted(2, 0));
+    assert_equal(&rt, done, Some(Ok(wanted)), "once they were given");
     let idle = try_turn_by(&arena, &mut hand);
     assert_equal(&rt, idle, Some(Ok(Turn::Idle)), "when no page moves");
     Ok(())

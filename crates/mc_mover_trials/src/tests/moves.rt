@@ -7,9 +7,6 @@ use mc_pages::Reassign;
 use mc_words::{Arena, Hand};
 use std::sync::Wait;
 
-/// What `reassign` answers where a move begins.
-pub const BEGUN: Option<Result<(), Reassign>> = Some(Ok(()));
-
 /// What a turn does. None where the hand may not turn, or memory ran out.
 pub fn turn_by<R: Wait>(rt: &R, arena: &Arena, hand: &mut Hand) -> Option<Turn>
     requires arena { IsHandOf arena.now hand.old }

@@ -1,13 +1,11 @@
 //! Surveys, in the words of the statistics.
 ghost use Rattle.mc_words.specs.Arenas.{IsHandOf};
 
-use super::assert_same;
 use mc_classes::{ClassId, ClassTable};
 use mc_mover::{Survey, survey};
 use mc_pages::{Numbers, Totals};
 use mc_words::{Arena, Hand};
 use std::alloc::Global;
-use std::process::Abort;
 use std::sync::Wait;
 
 /// What a survey told.
@@ -72,19 +70,4 @@ pub fn stats_of<R: Wait>(
         running,
         mode,
     })
-}
-
-/// What a class without pages has.
-pub const NO_CHUNKS: Chunks = Chunks {
-    pages: 0,
-    used: 0,
-    free: 0,
-};
-
-/// The four classes have these.
-pub fn assert_classes<R: Abort>(rt: &R, arena: &Arena, stats: &Stats, wanted: [Chunks; 4]) {
-    for place in 0..4 {
-        let found = stats.class(arena.classes(), place as u64 + 1);
-        assert_same(rt, found, Some(wanted[place]), "what a class has");
-    }
 }

@@ -1,9 +1,16 @@
 //! Surveys.
-use super::calls::{delete_key, filled};
-use super::moves::set_mode_by;
-use super::stats::{Chunks, stats_of};
+use super::calls::filled;
+use super::stats::Chunks;
+use super::steps::{Step, has_chunks, play_all, run};
 use super::{FOUR_CLASSES, assert_same};
 use std::test::Fail;
+
+/// A page of two chunks, both of which are used.
+const USED: Chunks = Chunks {
+    pages: 1,
+    used: 2,
+    free: 0,
+};
 
 /// A page of two chunks, one of which is free.
 const HALF_FREE: Chunks = Chunks {
@@ -14,33 +21,22 @@ const HALF_FREE: Chunks = Chunks {
 
 #[test]
 fn a_survey_puts_dead_chunks_back_where_it_is_to(rt: HostRuntime) -> Result<(), Fail> {
-    let (arena, mut hand, mut other) = filled(&rt, rt.alloc(), &FOUR_CLASSES, 3)?;
-    let deleted = delete_key(&rt, &arena, &mut hand, 1);
-    assert_same(&rt, deleted, Some(true), "delete");
-    let used = Chunks {
-        used: 2,
-        free: 0,
-        ..HALF_FREE
-    };
-    for (sweep, found) in [(false, used), (true, HALF_FREE), (false, HALF_FREE)] {
-        let Some(stats) = stats_of(&rt, rt.alloc(), &arena, &mut other, sweep) else {
-            return Err(Fail::new("there is memory for a survey"));
-        };
-        assert_same(&rt, stats.class(arena.classes(), 4), Some(found), "class 4");
+    let (arena, mut hand, mut other) = filled(&rt, rt.alloc(), 3)?;
+    play_all(&rt, rt.alloc(), &arena, &mut hand, &[Step::Deletes(1)])?;
+    for (sweep, chunks) in [(false, USED), (true, HALF_FREE), (false, HALF_FREE)] {
+        let found = has_chunks(&rt, rt.alloc(), &arena, &mut other, sweep, 4, chunks);
+        assert_same(&rt, found, true, "class 4");
     }
     Ok(())
 }
 
 #[test]
 fn a_survey_tells_the_mode(rt: HostRuntime) -> Result<(), Fail> {
-    let (arena, mut hand, mut other) = filled(&rt, rt.alloc(), &FOUR_CLASSES, 1)?;
-    for mode in [0, 2, 1, 0] {
-        let is_set = set_mode_by(&rt, &arena, &mut hand, mode);
-        assert_same(&rt, is_set, true, "the mode is set");
-        let Some(stats) = stats_of(&rt, rt.alloc(), &arena, &mut other, false) else {
-            return Err(Fail::new("there is memory for a survey"));
-        };
-        assert_same(&rt, stats.mode, mode, "the mode");
-    }
-    Ok(())
+    let steps = [
+        Step::Pages(0, 0, false),
+        Step::Modes(2),
+        Step::Modes(1),
+        Step::Modes(0),
+    ];
+    run(&rt, rt.alloc(), &FOUR_CLASSES, &steps)
 }

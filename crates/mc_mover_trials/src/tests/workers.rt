@@ -4,9 +4,9 @@ ghost use Rattle.std.specs.Prelude.{◌≡◌, IfSome};
 ghost use Rattle.mc_words.specs.Arenas.{IsHandOf, view};
 ghost use Rattle.mc_items.specs.ItemRefs.{IsItemRef};
 
-use super::calls::{delete_key, get_key, set_words};
-use super::words::{are_from, words_from};
-use mc_items::{Ref, read, release};
+use super::calls::{delete_key, get_key, has_words, set_words};
+use super::words::words_from;
+use mc_items::{Ref, release};
 use mc_stripe::{Key, Stamp};
 use mc_words::{Arena, Hand};
 use std::alloc::{AllocError, Global};
@@ -72,6 +72,22 @@ fn store<R: Wait>(
     Ok(())
 }
 
+/// Stores an item for each key, while there is room.
+pub fn store_each<R: Wait>(
+    rt: &R,
+    alloc: Global,
+    arena: &Arena,
+    hand: &mut Hand,
+) -> Result<(), AllocError>
+    requires arena { IsHandOf arena.now hand.old }
+    ensures arena { IsHandOf arena.now hand.new }
+{
+    for key in 0..KEYS {
+        store(rt, alloc, arena, hand, key)?;
+    }
+    Ok(())
+}
+
 /// Whether the item has the words of its key and stamp.
 fn is_own(
     alloc: Global,
@@ -85,9 +101,9 @@ fn is_own(
     ensures arena { IsHandOf arena.now hand.new }
     ensures same { view hand.new ≡ view hand.old }
 {
-    let words = read(alloc, arena, hand, item)?;
     let first = first_word(key, item.stamp());
-    Ok(item.key() == key && are_from(&words, first, len_of(key)))
+    let own = has_words(alloc, arena, hand, item, first, len_of(key))?;
+    Ok(own && item.key() == key)
 }
 
 /// Reads the key's item, if it has one. True if all words were its own.
