@@ -1,0 +1,10 @@
+-- Hands that are kept in a list.
+use Rattle.std.specs.Prelude.{List, [], ◌∷◌, ⊤}
+use Rattle.mc_words.specs.declared.arena.Arena.{Arena}
+use Rattle.mc_words.specs.declared.hand.Hand.{Hand}
+use Rattle.mc_words.specs.Arenas.{IsHandOf}
+
+-- all are hands of the arena
+abbrev pub AreHandsOf : Arena → List Hand → Type 0
+AreHandsOf arena [] = ⊤
+AreHandsOf arena (hand ∷ hands) = IsHandOf arena hand × AreHandsOf arena hands

@@ -1,0 +1,142 @@
+//! The mover's thread of the stress: it begins moves between all classes and the pool, and turns without a pause.
+ghost use Rattle.mc_words.specs.Arenas.{IsHandOf};
+
+use super::moves::{reassign_by, turn_by};
+use super::workers::draw;
+use mc_mover::{Counts, Turn};
+use mc_words::{Arena, Hand};
+use std::sync::Wait;
+
+/// How many turns there are.
+const TURNS: u64 = 6000;
+
+/// The most turns that a page needs which nobody holds up.
+const LAST_TURNS: u64 = 32;
+
+/// What turns told, all together.
+#[derive(Clone, Copy, Debug, PartialEq, Eq)]
+pub struct Tally {
+    /// Pages that came to their destination.
+    pub moved: u64,
+    /// Items that were taken to another chunk.
+    pub rescued: u64,
+    /// Items that were evicted, as there was no other chunk.
+    pub evicted: u64,
+    /// Chunks that held up a page.
+    pub held_up: u64,
+}
+
+/// What is told before the first turn.
+const NOTHING: Tally = Tally {
+    moved: 0,
+    rescued: 0,
+    evicted: 0,
+    held_up: 0,
+};
+
+impl Tally {
+    /// Adds what a turn found.
+    fn add(&mut self, counts: Counts) {
+        self.rescued = self.rescued.saturating_add(counts.rescued);
+        self.evicted = self.evicted.saturating_add(counts.evicted);
+        let held_up = counts.busy.saturating_add(counts.locked);
+        self.held_up = self.held_up.saturating_add(held_up);
+    }
+
+    /// Adds what a turn told, and says whether it ended with no page on the move.
+    fn note(&mut self, turn: Turn) -> bool {
+        match turn {
+            Turn::Idle => true,
+            Turn::Went(counts) => {
+                self.add(counts);
+                false
+            }
+            Turn::Finished(counts) => {
+                self.add(counts);
+                self.moved = self.moved.saturating_add(1);
+                true
+            }
+        }
+    }
+}
+
+/// The mover's hand, and what its turns told.
+#[derive(Drop)]
+pub struct Mover {
+    pub hand: Hand,
+    pub tally: Tally,
+}
+
+/// Asks for the next move: to the pool or a class, from any class or a named one. It may be refused.
+fn begin_next<R: Wait>(rt: &R, arena: &Arena, hand: &mut Hand, round: u64)
+    requires arena { IsHandOf arena.now hand.old }
+    ensures arena { IsHandOf arena.now hand.new }
+{
+    let drawn = draw(0, round);
+    let src = if drawn % 2 == 0 {
+        None
+    } else {
+        Some(1 + (drawn >> 8) % 4)
+    };
+    let dst = (drawn >> 16) % 5;
+    let _answer = reassign_by(rt, arena, hand, src, dst);
+}
+
+/// One turn, and where no page moves behind it, the next move.
+fn turn_on<R: Wait>(rt: &R, arena: &Arena, hand: &mut Hand, tally: &mut Tally, round: u64)
+    requires arena { IsHandOf arena.now hand.old }
+    ensures arena { IsHandOf arena.now hand.new }
+{
+    let Some(turn) = turn_by(rt, arena, hand) else {
+        return;
+    };
+    if tally.note(turn) {
+        begin_next(rt, arena, hand, round);
+    }
+}
+
+/// The mover's turns.
+pub fn drive<R: Wait>(rt: &R, arena: &Arena, hand: Hand) -> Mover
+    requires arena { IsHandOf arena.now hand }
+    ensures arena { IsHandOf arena.now result.hand }
+{
+    let mut hand = hand;
+    let mut tally = NOTHING;
+    for round in 0..TURNS {
+        turn_on(rt, arena, &mut hand, &mut tally, round);
+    }
+    Mover { hand, tally }
+}
+
+/// Turns until no page moves, if that is asked for. False where that takes too long.
+pub fn end_if<R: Wait>(
+    rt: &R,
+    arena: &Arena,
+    hand: &mut Hand,
+    tally: &mut Tally,
+    ends: bool,
+) -> bool
+    requires arena { IsHandOf arena.now hand.old }
+    ensures arena { IsHandOf arena.now hand.new }
+{
+    if !ends {
+        return true;
+    }
+    end_move(rt, arena, hand, tally)
+}
+
+/// Turns until no page moves. False where that takes too long.
+fn end_move<R: Wait>(rt: &R, arena: &Arena, hand: &mut Hand, tally: &mut Tally) -> bool
+    requires arena { IsHandOf arena.now hand.old }
+    ensures arena { IsHandOf arena.now hand.new }
+{
+    for _turn in 0..LAST_TURNS {
+        let Some(turn) = turn_by(rt, arena, hand) else {
+            return false;
+        };
+        if tally.note(turn) {
+            return true;
+        }
+    }
+    false
+}

@@ -1,0 +1,59 @@
+//! Pages that move while their class has no other chunk: their items are evicted.
+use super::FOUR_CLASSES;
+use super::steps::{Step, run};
+use mc_classes::Config;
+use std::test::Fail;
+
+/// The same classes; a turn looks at one chunk.
+const ONE_A_TURN: Config = Config {
+    page: 1024,
+    limit: 4096,
+    first: 48,
+    num: 2,
+    den: 1,
+    max: 512,
+    stripes: 4,
+    bulk: 1,
+};
+
+#[test]
+fn a_page_comes_to_another_class(rt: HostRuntime) -> Result<(), Fail> {
+    let steps = [
+        Step::Sets(1, 9, 61),
+        Step::Reassigns(Some(4), 1, Ok(())),
+        Step::Finishes(2, 0, 2, 0, 0),
+        Step::Pages(4, 0, false),
+        Step::Moved(1, 0, 2, 0),
+        Step::Has(1, 1, 0, 21),
+        Step::Has(2, 0, 0, 0),
+        Step::Has(3, 0, 0, 0),
+        Step::Has(4, 3, 6, 0),
+    ];
+    run(&rt, rt.alloc(), &FOUR_CLASSES, &steps)
+}
+
+#[test]
+fn with_bulk_1_a_turn_looks_at_one_chunk(rt: HostRuntime) -> Result<(), Fail> {
+    let steps = [
+        Step::Sets(1, 9, 61),
+        Step::Reassigns(Some(4), 1, Ok(())),
+        Step::Goes(1, 0, 1, 0, 0),
+        Step::Finishes(1, 0, 1, 0, 0),
+    ];
+    run(&rt, rt.alloc(), &ONE_A_TURN, &steps)
+}
+
+#[test]
+fn a_page_of_the_pool_goes_to_the_class_that_needs_one(rt: HostRuntime) -> Result<(), Fail> {
+    let steps = [
+        Step::Sets(1, 5, 61),
+        Step::Reassigns(Some(4), 0, Ok(())),
+        Step::Finishes(2, 0, 2, 0, 0),
+        Step::Pages(2, 1, false),
+        Step::Has(4, 1, 2, 0),
+        Step::Sets(9, 10, 3),
+        Step::Pages(2, 0, false),
+        Step::Has(1, 1, 1, 20),
+    ];
+    run(&rt, rt.alloc(), &FOUR_CLASSES, &steps)
+}

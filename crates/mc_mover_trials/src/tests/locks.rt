@@ -1,0 +1,96 @@
+//! Turns beside another hand's locks.
+ghost use Rattle.mc_words.specs.Arenas.{IsHandOf};
+
+use super::assert_equal;
+use super::calls::filled;
+use super::moves::try_turn_by;
+use super::steps::{Step, play_all};
+use mc_mover::{Counts, TryTurn, Turn};
+use mc_words::{Arena, Hand};
+use std::test::Fail;
+
+/// A turn of one hand, while another has the stripe. None where that hand didn't get it.
+fn turn_beside_stripe(
+    arena: &Arena,
+    hand: &mut Hand,
+    holder: &mut Hand,
+    stripe: u64,
+) -> Option<Result<Turn, TryTurn>>
+    requires arena { IsHandOf arena.now hand.old }
+    requires holder { IsHandOf arena.now holder.old }
+    ensures arena { IsHandOf arena.now hand.new }
+    ensures holder { IsHandOf arena.now holder.new }
+{
+    if stripe >= arena.config().stripes || !holder.unlocked() {
+        return None;
+    }
+    let Ok(held) = arena.try_stripe(holder, stripe) else {
+        return None;
+    };
+    let found = try_turn_by(arena, hand);
+    arena.give_stripe(holder, held);
+    found
+}
+
+/// A turn of one hand, while another has the slabs. None where that hand didn't get them.
+fn turn_beside_slabs(
+    arena: &Arena,
+    hand: &mut Hand,
+    holder: &mut Hand,
+) -> Option<Result<Turn, TryTurn>>
+    requires arena { IsHandOf arena.now hand.old }
+    requires holder { IsHandOf arena.now holder.old }
+    ensures arena { IsHandOf arena.now hand.new }
+    ensures holder { IsHandOf arena.now holder.new }
+{
+    let Ok(slabs) = arena.try_slabs(holder) else {
+        return None;
+    };
+    let found = try_turn_by(arena, hand);
+    arena.give_slabs(holder, slabs);
+    found
+}
+
+/// What a turn counts that evicted so many items, and found so many locked.
+fn evicted(count: u64, locked: u64) -> Counts {
+    Counts {
+        cleared: count,
+        rescued: 0,
+        evicted: count,
+        busy: 0,
+        locked,
+    }
+}
+
+#[test]
+fn a_held_stripe_holds_up_the_page(rt: HostRuntime) -> Result<(), Fail> {
+    let (arena, mut hand, mut other) = filled(&rt, rt.alloc(), 9)?;
+    let steps = [Step::Reassigns(Some(4), 1, Ok(()))];
+    play_all(&rt, rt.alloc(), &arena, &mut hand, &steps)?;
+    let went = turn_beside_stripe(&arena, &mut hand, &mut other, 1);
+    let wanted = Turn::Went(evicted(1, 1));
+    assert_equal(&rt, went, Some(Ok(wanted)), "beside its stripe");
+    let done = try_turn_by(&arena, &mut hand);
+    let wanted = Turn::Finished(evicted(1, 0));
+    assert_equal(&rt, done, Some(Ok(wanted)), "once it was given");
+    let steps = [Step::Moved(1, 0, 2, 1)];
+    play_all(&rt, rt.alloc(), &arena, &mut hand, &steps)?;
+    Ok(())
+}
+
+#[test]
+fn who_does_not_wait_is_told_that_the_slabs_are_held(rt: HostRuntime) -> Result<(), Fail> {
+    let (arena, mut hand, mut other) = filled(&rt, rt.alloc(), 9)?;
+    let refused = turn_beside_slabs(&arena, &mut hand, &mut other);
+    assert_equal(&rt, refused, Some(Err(TryTurn::Held)), "no page moves");
+    let steps = [Step::Reassigns(Some(4), 1, Ok(()))];
+    play_all(&rt, rt.alloc(), &arena, &mut hand, &steps)?;
+    let refused = turn_beside_slabs(&arena, &mut hand, &mut other);
+    assert_equal(&rt, refused, Some(Err(TryTurn::Held)), "a page moves");
+    let done = try_turn_by(&arena, &mut hand);
+    let wanted = Turn::Finished(evicted(2, 0));
+    assert_equal(&rt, done, Some(Ok(wanted)), "once they were given");
+    let idle = try_turn_by(&arena, &mut hand);
+    assert_equal(&rt, idle, Some(Ok(Turn::Idle)), "when no page moves");
+    Ok(())
+}

@@ -1,0 +1,47 @@
+//! Moves that are refused.
+use super::FOUR_CLASSES;
+use super::calls::{filled, get_key};
+use super::steps::{Step, play_all, run};
+use mc_pages::Reassign;
+use std::test::Fail;
+
+#[test]
+fn refusals_come_in_their_order(rt: HostRuntime) -> Result<(), Fail> {
+    let steps = [
+        Step::Sets(1, 2, 61),
+        Step::Reassigns(Some(4), 4, Err(Reassign::Same)),
+        Step::Reassigns(Some(0), 0, Err(Reassign::Same)),
+        Step::Reassigns(Some(9), 9, Err(Reassign::Same)),
+        Step::Reassigns(Some(9), 1, Err(Reassign::BadClass)),
+        Step::Reassigns(Some(0), 1, Err(Reassign::BadClass)),
+        Step::Reassigns(Some(4), 9, Err(Reassign::BadClass)),
+        Step::Reassigns(None, 1, Err(Reassign::BadClass)),
+        Step::Reassigns(Some(4), 1, Err(Reassign::NoSpare)),
+        Step::Reassigns(Some(3), 1, Err(Reassign::NoSpare)),
+        Step::Idles,
+        Step::Pages(1, 0, false),
+        Step::Has(4, 1, 1, 1),
+    ];
+    run(&rt, rt.alloc(), &FOUR_CLASSES, &steps)
+}
+
+#[test]
+fn one_page_moves_at_a_time(rt: HostRuntime) -> Result<(), Fail> {
+    let (arena, mut hand, mut reader) = filled(&rt, rt.alloc(), 9)?;
+    if get_key(&rt, &arena, &mut reader, 1).is_none() {
+        return Err(Fail::new("the key has an item"));
+    }
+    let steps = [
+        Step::Reassigns(Some(4), 1, Ok(())),
+        Step::Reassigns(Some(4), 1, Err(Reassign::Busy)),
+        Step::Reassigns(Some(4), 4, Err(Reassign::Busy)),
+        Step::Reassigns(Some(9), 1, Err(Reassign::Busy)),
+        Step::Reassigns(Some(3), 1, Err(Reassign::Busy)),
+        Step::Goes(1, 0, 1, 1, 0),
+        Step::Reassigns(None, 0, Err(Reassign::Busy)),
+        Step::Goes(0, 0, 0, 1, 0),
+        Step::Moved(0, 0, 1, 2),
+    ];
+    play_all(&rt, rt.alloc(), &arena, &mut hand, &steps)?;
+    Ok(())
+}

@@ -1,0 +1,213 @@
+//! A call with what it is to give. A list of calls is one call of a test, so that it is checked fast.
+ghost use Rattle.mc_words.specs.Arenas.{IsHandOf};
+
+use super::assert_same;
+use super::calls::{delete_key, opened, store_all, touch_key, two_of};
+use super::moves::{reassign_by, set_mode_by, turn_by};
+use super::stats::{Chunks, stats_of};
+use mc_classes::{ClassId, Config};
+use mc_mover::{Counts, Turn};
+use mc_pages::Reassign;
+use mc_stripe::Key;
+use mc_words::{Arena, Hand};
+use std::alloc::{AllocError, Global};
+use std::process::Abort;
+use std::sync::Wait;
+use std::test::Fail;
+
+/// A call, and what it is to give.
+#[derive(Clone, Copy)]
+pub enum Step {
+    /// Items of so many words for the keys from the first on, before the second. Each is stored.
+    Sets(Key, Key, u64),
+    /// The key's item is deleted, which is there.
+    Deletes(Key),
+    /// The key's item is touched, if it is there.
+    Touches(Key, bool),
+    /// A move is asked for, from a class or any to a class or the pool.
+    Reassigns(Option<ClassId>, ClassId, Result<(), Reassign>),
+    /// A turn finds that no page moves.
+    Idles,
+    /// A turn goes on: so many chunks were cleared, rescued, evicted, busy, locked.
+    Goes(u64, u64, u64, u64, u64),
+    /// A turn finishes the move, with the same counts.
+    Finishes(u64, u64, u64, u64, u64),
+    /// The automover's mode is set, and told by a survey.
+    Modes(u64),
+    /// So many pages are granted, and in the pool, and one moves or none does.
+    Pages(u64, u64, bool),
+    /// So many moves ended, items were rescued, and evicted, and chunks held up a move.
+    Moved(u64, u64, u64, u64),
+    /// The class has so many pages, used chunks and free ones.
+    Has(ClassId, u64, u64, u64),
+}
+
+/// What a turn counts.
+fn counts(cleared: u64, rescued: u64, evicted: u64, busy: u64, locked: u64) -> Counts {
+    Counts {
+        cleared,
+        rescued,
+        evicted,
+        busy,
+        locked,
+    }
+}
+
+/// Whether the mode is set, and a survey tells it.
+fn has_mode<R: Wait>(rt: &R, alloc: Global, arena: &Arena, hand: &mut Hand, mode: u64) -> bool
+    requires arena { IsHandOf arena.now hand.old }
+    ensures arena { IsHandOf arena.now hand.new }
+{
+    if !set_mode_by(rt, arena, hand, mode) {
+        return false;
+    }
+    match stats_of(rt, alloc, arena, hand, false) {
+        Some(stats) => stats.mode == mode,
+        None => false,
+    }
+}
+
+/// Whether so many pages are granted, and in the pool, and one moves or none does.
+fn has_pages<R: Wait>(
+    rt: &R,
+    alloc: Global,
+    arena: &Arena,
+    hand: &mut Hand,
+    wanted: (u64, u64, bool),
+) -> bool
+    requires arena { IsHandOf arena.now hand.old }
+    ensures arena { IsHandOf arena.now hand.new }
+{
+    match stats_of(rt, alloc, arena, hand, true) {
+        Some(stats) => (stats.totals.granted, stats.totals.pool, stats.running) == wanted,
+        None => false,
+    }
+}
+
+/// Whether so many moves ended, items were rescued, and evicted, and chunks held up a move.
+fn has_moved<R: Wait>(
+    rt: &R,
+    alloc: Global,
+    arena: &Arena,
+    hand: &mut Hand,
+    wanted: (u64, u64, u64, u64),
+) -> bool
+    requires arena { IsHandOf arena.now hand.old }
+    ensures arena { IsHandOf arena.now hand.new }
+{
+    let Some(stats) = stats_of(rt, alloc, arena, hand, true) else {
+        return false;
+    };
+    let totals = stats.totals;
+    (
+        totals.moved,
+        totals.rescues,
+        totals.evictions_nomem,
+        totals.busy,
+    ) == wanted
+}
+
+/// Whether the class has these chunks, once the dead were put back, where that is asked for.
+pub fn has_chunks<R: Wait>(
+    rt: &R,
+    alloc: Global,
+    arena: &Arena,
+    hand: &mut Hand,
+    sweep: bool,
+    class: ClassId,
+    chunks: Chunks,
+) -> bool
+    requires arena { IsHandOf arena.now hand.old }
+    ensures arena { IsHandOf arena.now hand.new }
+{
+    match stats_of(rt, alloc, arena, hand, sweep) {
+        Some(stats) => stats.class(arena.classes(), class) == Some(chunks),
+        None => false,
+    }
+}
+
+/// Whether the call gives what it is to.
+fn plays<R: Wait>(
+    rt: &R,
+    alloc: Global,
+    arena: &Arena,
+    hand: &mut Hand,
+    step: Step,
+) -> Result<bool, AllocError>
+    requires arena { IsHandOf arena.now hand.old }
+    ensures arena { IsHandOf arena.now hand.new }
+{
+    match step {
+        Step::Sets(first, end, len) => store_all(rt, alloc, arena, hand, (first, end), 0, len),
+        Step::Modes(mode) => Ok(has_mode(rt, alloc, arena, hand, mode)),
+        Step::Pages(granted, pool, running) => {
+            Ok(has_pages(rt, alloc, arena, hand, (granted, pool, running)))
+        }
+        Step::Moved(moved, rescues, evictions_nomem, busy) => {
+            let wanted = (moved, rescues, evictions_nomem, busy);
+            Ok(has_moved(rt, alloc, arena, hand, wanted))
+        }
+        Step::Has(class, pages, used, free) => {
+            let chunks = Chunks { pages, used, free };
+            Ok(has_chunks(rt, alloc, arena, hand, true, class, chunks))
+        }
+        _ => Ok(acts(rt, arena, hand, step)),
+    }
+}
+
+/// Whether a call that takes no memory of its own gives what it is to.
+fn acts<R: Wait>(rt: &R, arena: &Arena, hand: &mut Hand, step: Step) -> bool
+    requires arena { IsHandOf arena.now hand.old }
+    ensures arena { IsHandOf arena.now hand.new }
+{
+    match step {
+        Step::Deletes(key) => delete_key(rt, arena, hand, key) == Some(true),
+        Step::Touches(key, there) => touch_key(rt, arena, hand, key) == Some(there),
+        Step::Reassigns(src, dst, answer) => {
+            reassign_by(rt, arena, hand, src, dst) == Some(answer)
+        }
+        Step::Idles => turn_by(rt, arena, hand) == Some(Turn::Idle),
+        Step::Goes(cleared, rescued, evicted, busy, locked) => {
+            let wanted = counts(cleared, rescued, evicted, busy, locked);
+            turn_by(rt, arena, hand) == Some(Turn::Went(wanted))
+        }
+        Step::Finishes(cleared, rescued, evicted, busy, locked) => {
+            let wanted = counts(cleared, rescued, evicted, busy, locked);
+            turn_by(rt, arena, hand) == Some(Turn::Finished(wanted))
+        }
+        _ => false,
+    }
+}
+
+/// Each call gives what it is to, one after another.
+pub fn play_all<R: Abort + Wait>(
+    rt: &R,
+    alloc: Global,
+    arena: &Arena,
+    hand: &mut Hand,
+    steps: &[Step],
+) -> Result<(), AllocError>
+    requires arena { IsHandOf arena.now hand.old }
+    ensures arena { IsHandOf arena.now hand.new }
+{
+    for place in 0..steps.len() {
+        let done = plays(rt, alloc, arena, hand, steps[place])?;
+        assert_same(rt, (place, done), (place, true), "a step, from 0");
+    }
+    Ok(())
+}
+
+/// Each call gives what it is to, in a new arena of this configuration.
+pub fn run<R: Abort + Wait>(
+    rt: &R,
+    alloc: Global,
+    config: &Config,
+    steps: &[Step],
+) -> Result<(), Fail> {
+    let (arena, mut hands) = opened(alloc, config, 2)?;
+    let Some((mut hand, _other)) = two_of(&arena, &mut hands) else {
+        return Err(Fail::new("there are two hands"));
+    };
+    play_all(rt, alloc, &arena, &mut hand, steps)?;
+    Ok(())
+}
