@@ -33,9 +33,6 @@ const FOUR_CLASSES: Config = Config {
     bulk: 64,
 };
 
-/// How many words the greatest item has.
-const MOST_WORDS: u64 = 61;
-
 /// What was found is what was wanted. Both are printed where they differ.
 fn assert_same<T: Copy + PartialEq + Debug>(rt: &impl Abort, found: T, wanted: T, what: &str) {
     assert_eq!(rt; found, wanted, "{what}");

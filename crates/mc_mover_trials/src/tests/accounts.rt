@@ -5,7 +5,7 @@ use mc_pages::{ChunkId, Owner};
 use mc_words::Final;
 
 /// How many pages each kind of owner has.
-#[derive(Clone, Copy, Debug, PartialEq, Eq)]
+#[derive(Clone, Copy)]
 pub struct Pages {
     pub owned: u64,
     pub moving: u64,
@@ -43,7 +43,7 @@ pub fn count_pages(left: &Final) -> Option<Pages> {
 }
 
 /// How many chunks are free, dead, of items that nobody holds, and cleared or never cut.
-#[derive(Clone, Copy, Debug, PartialEq, Eq)]
+#[derive(Clone, Copy)]
 pub struct Sums {
     pub free: u64,
     pub dead: u64,

@@ -6,7 +6,6 @@ ghost use Rattle.mc_items.specs.ItemRefs.{IsItemRef};
 ghost use Rattle.mc_mover_trials.specs.Hands.{AreHandsOf};
 
 use super::words::{are_from, words_from};
-use super::{FOUR_CLASSES, MOST_WORDS};
 use mc_classes::Config;
 use mc_items::{Ref, delete, get, read, release, set, touch};
 use mc_pages::ChunkId;
@@ -48,18 +47,14 @@ pub fn two_of(arena: &Arena, hands: &mut Vec<Hand>) -> Option<(Hand, Hand)>
     Some((first, second))
 }
 
-/// An arena of four classes and its two hands, the first of which stored items of the greatest length for the keys from 1 on, before
-/// this one.
-pub fn filled<R: Wait>(rt: &R, alloc: Global, end: Key) -> Result<(Arena, Hand, Hand), Fail>
+/// An arena of this configuration, and its two hands.
+pub fn opened_two(alloc: Global, config: &Config) -> Result<(Arena, Hand, Hand), Fail>
     ensures hands { IfOk result (λ made. IsHandOf made.0 made.1 × IsHandOf made.0 made.2) }
 {
-    let (arena, mut hands) = opened(alloc, &FOUR_CLASSES, 2)?;
-    let Some((mut hand, other)) = two_of(&arena, &mut hands) else {
+    let (arena, mut hands) = opened(alloc, config, 2)?;
+    let Some((hand, other)) = two_of(&arena, &mut hands) else {
         return Err(Fail::new("there are two hands"));
     };
-    if !store_all(rt, alloc, &arena, &mut hand, (1, end), 0, MOST_WORDS)? {
-        return Err(Fail::new("each item is stored"));
-    }
     Ok((arena, hand, other))
 }
 

@@ -14,7 +14,7 @@ const TURNS: u64 = 6000;
 const LAST_TURNS: u64 = 32;
 
 /// What turns told, all together.
-#[derive(Clone, Copy, Debug, PartialEq, Eq)]
+#[derive(Clone, Copy)]
 pub struct Tally {
     /// Pages that came to their destination.
     pub moved: u64,

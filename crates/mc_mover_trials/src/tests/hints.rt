@@ -4,9 +4,9 @@ ghost use Rattle.mc_core.specs.State.{has_chunk};
 ghost use Rattle.mc_words.specs.Arenas.{IsHandOf, setup_of, view};
 ghost use Rattle.mc_items.specs.ItemRefs.{IsItemRef};
 
-use super::calls::{filled, get_key, header, store_all};
+use super::calls::{get_key, header, opened_two, store_all};
 use super::steps::{Step, play_all};
-use super::{assert_equal, assert_same};
+use super::{FOUR_CLASSES, assert_equal, assert_same};
 use mc_items::{Ref, again, hint, release};
 use mc_pages::ChunkId;
 use mc_stripe::Key;
@@ -87,7 +87,8 @@ fn store_four<R: Abort + Wait>(
 
 #[test]
 fn a_hint_is_gone_once_its_page_has_moved(rt: HostRuntime) -> Result<(), Fail> {
-    let (arena, mut hand, _other) = filled(&rt, rt.alloc(), 5)?;
+    let (arena, mut hand, _other) = opened_two(rt.alloc(), &FOUR_CLASSES)?;
+    play_all(&rt, rt.alloc(), &arena, &mut hand, &[Step::Sets(1, 5, 61)])?;
     let Some(hint) = hint_of(&rt, &arena, &mut hand, 1) else {
         return Err(Fail::new("the key has an item"));
     };

@@ -1,5 +1,5 @@
 //! Items that are held hold up their page.
-use super::calls::{get_key, has_words, opened, store_all, two_of};
+use super::calls::{get_key, has_words, opened_two, store_all};
 use super::steps::{Step, play_all};
 use super::{FOUR_CLASSES, assert_same};
 use mc_items::release;
@@ -8,10 +8,7 @@ use std::test::Fail;
 
 #[test]
 fn a_held_item_keeps_its_page_and_its_words(rt: HostRuntime) -> Result<(), Fail> {
-    let (arena, mut hands) = opened(rt.alloc(), &FOUR_CLASSES, 2)?;
-    let Some((mut hand, mut reader)) = two_of(&arena, &mut hands) else {
-        return Err(Fail::new("there are two hands"));
-    };
+    let (arena, mut hand, mut reader) = opened_two(rt.alloc(), &FOUR_CLASSES)?;
     let stored = store_all(&rt, rt.alloc(), &arena, &mut hand, (1, 9), 100, 22)?;
     assert_same(&rt, stored, true, "eight sets");
     let Some(item) = get_key(&rt, &arena, &mut reader, 1) else {

@@ -1,10 +1,10 @@
 //! Turns beside another hand's locks.
 ghost use Rattle.mc_words.specs.Arenas.{IsHandOf};
 
-use super::assert_equal;
-use super::calls::filled;
+use super::calls::opened_two;
 use super::moves::try_turn_by;
 use super::steps::{Step, play_all};
+use super::{FOUR_CLASSES, assert_equal};
 use mc_mover::{Counts, TryTurn, Turn};
 use mc_words::{Arena, Hand};
 use std::test::Fail;
@@ -64,8 +64,8 @@ fn evicted(count: u64, locked: u64) -> Counts {
 
 #[test]
 fn a_held_stripe_holds_up_the_page(rt: HostRuntime) -> Result<(), Fail> {
-    let (arena, mut hand, mut other) = filled(&rt, rt.alloc(), 9)?;
-    let steps = [Step::Reassigns(Some(4), 1, Ok(()))];
+    let (arena, mut hand, mut other) = opened_two(rt.alloc(), &FOUR_CLASSES)?;
+    let steps = [Step::Sets(1, 9, 61), Step::Reassigns(Some(4), 1, Ok(()))];
     play_all(&rt, rt.alloc(), &arena, &mut hand, &steps)?;
     let went = turn_beside_stripe(&arena, &mut hand, &mut other, 1);
     let wanted = Turn::Went(evicted(1, 1));
@@ -80,10 +80,10 @@ fn a_held_stripe_holds_up_the_page(rt: HostRuntime) -> Result<(), Fail> {
 
 #[test]
 fn who_does_not_wait_is_told_that_the_slabs_are_held(rt: HostRuntime) -> Result<(), Fail> {
-    let (arena, mut hand, mut other) = filled(&rt, rt.alloc(), 9)?;
+    let (arena, mut hand, mut other) = opened_two(rt.alloc(), &FOUR_CLASSES)?;
     let refused = turn_beside_slabs(&arena, &mut hand, &mut other);
     assert_equal(&rt, refused, Some(Err(TryTurn::Held)), "no page moves");
-    let steps = [Step::Reassigns(Some(4), 1, Ok(()))];
+    let steps = [Step::Sets(1, 9, 61), Step::Reassigns(Some(4), 1, Ok(()))];
     play_all(&rt, rt.alloc(), &arena, &mut hand, &steps)?;
     let refused = turn_beside_slabs(&arena, &mut hand, &mut other);
     assert_equal(&rt, refused, Some(Err(TryTurn::Held)), "a page moves");

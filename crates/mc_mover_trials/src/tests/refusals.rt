@@ -1,6 +1,6 @@
 //! Moves that are refused.
 use super::FOUR_CLASSES;
-use super::calls::{filled, get_key};
+use super::calls::{get_key, opened_two};
 use super::steps::{Step, play_all, run};
 use mc_pages::Reassign;
 use std::test::Fail;
@@ -27,7 +27,8 @@ fn refusals_come_in_their_order(rt: HostRuntime) -> Result<(), Fail> {
 
 #[test]
 fn one_page_moves_at_a_time(rt: HostRuntime) -> Result<(), Fail> {
-    let (arena, mut hand, mut reader) = filled(&rt, rt.alloc(), 9)?;
+    let (arena, mut hand, mut reader) = opened_two(rt.alloc(), &FOUR_CLASSES)?;
+    play_all(&rt, rt.alloc(), &arena, &mut hand, &[Step::Sets(1, 9, 61)])?;
     if get_key(&rt, &arena, &mut reader, 1).is_none() {
         return Err(Fail::new("the key has an item"));
     }

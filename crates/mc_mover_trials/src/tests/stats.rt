@@ -18,7 +18,7 @@ pub struct Stats {
 }
 
 /// What a class has: its pages, how many chunks of them are used, and how many are free.
-#[derive(Clone, Copy, Debug, PartialEq, Eq)]
+#[derive(Clone, Copy, PartialEq, Eq)]
 pub struct Chunks {
     pub pages: u64,
     pub used: u64,

@@ -2,7 +2,7 @@
 ghost use Rattle.mc_words.specs.Arenas.{IsHandOf};
 
 use super::assert_same;
-use super::calls::{delete_key, opened, store_all, touch_key, two_of};
+use super::calls::{delete_key, opened_two, store_all, touch_key};
 use super::moves::{reassign_by, set_mode_by, turn_by};
 use super::stats::{Chunks, stats_of};
 use mc_classes::{ClassId, Config};
@@ -204,10 +204,7 @@ pub fn run<R: Abort + Wait>(
     config: &Config,
     steps: &[Step],
 ) -> Result<(), Fail> {
-    let (arena, mut hands) = opened(alloc, config, 2)?;
-    let Some((mut hand, _other)) = two_of(&arena, &mut hands) else {
-        return Err(Fail::new("there are two hands"));
-    };
+    let (arena, mut hand, _other) = opened_two(alloc, config)?;
     play_all(rt, alloc, &arena, &mut hand, steps)?;
     Ok(())
 }

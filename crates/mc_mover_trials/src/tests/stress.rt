@@ -1,5 +1,5 @@
 //! A mover's thread moves pages between four classes, while three workers store, hold, read and delete items.
-ghost use Rattle.std.specs.Prelude.{◌≡◌, IfSome};
+ghost use Rattle.std.specs.Prelude.{IfSome};
 ghost use Rattle.std.specs.Thread.{IsSync};
 ghost use Rattle.mc_words.specs.Arenas.{IsHandOf};
 ghost use Rattle.mc_mover_trials.specs.Hands.{AreHandsOf};
@@ -228,17 +228,16 @@ fn assert_tally<R: Abort>(rt: &R, stats: &Stats, tally: Tally, ends: bool) {
     assert_same(rt, !ends || totals.busy == tally.held_up, true, "busy");
 }
 
-/// All threads' work in this mode, and then what is left. The move that runs is ended where that is asked for.
-fn account<R: Abort + Threads + Wait + Sync>(
+/// What the threads left is as it is to be. The move that runs is ended first, where that is asked for.
+fn assert_left<R: Abort + Wait>(
     rt: &R,
     alloc: Global,
-    mode: u64,
+    arena: Arena,
+    done: Done,
     ends: bool,
-) -> Result<(), Fail> {
-    let (arena, mut hands) = opened(alloc, &EIGHT_PAGES, 7)?;
-    let Some(done) = stress(rt, alloc, &arena, &mut hands, mode) else {
-        return Err(Fail::new("there are seven hands, and each is idle"));
-    };
+) -> Result<(), Fail>
+    requires hand { IsHandOf arena done.hand }
+{
     let Done {
         mut hand,
         mut tally,
@@ -254,6 +253,20 @@ fn account<R: Abort + Threads + Wait + Sync>(
     let left = arena.close(hand);
     assert_pages(rt, &left, &stats)?;
     assert_chunks(rt, &left, &stats)
+}
+
+/// All threads' work in this mode, and then what is left.
+fn account<R: Abort + Threads + Wait + Sync>(
+    rt: &R,
+    alloc: Global,
+    mode: u64,
+    ends: bool,
+) -> Result<(), Fail> {
+    let (arena, mut hands) = opened(alloc, &EIGHT_PAGES, 7)?;
+    match stress(rt, alloc, &arena, &mut hands, mode) {
+        Some(done) => assert_left(rt, alloc, arena, done, ends),
+        None => Err(Fail::new("there are seven hands, and each is idle")),
+    }
 }
 
 #[test]

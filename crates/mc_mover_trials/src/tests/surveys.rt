@@ -1,5 +1,5 @@
 //! Surveys.
-use super::calls::filled;
+use super::calls::opened_two;
 use super::stats::Chunks;
 use super::steps::{Step, has_chunks, play_all, run};
 use super::{FOUR_CLASSES, assert_same};
@@ -21,8 +21,9 @@ const HALF_FREE: Chunks = Chunks {
 
 #[test]
 fn a_survey_puts_dead_chunks_back_where_it_is_to(rt: HostRuntime) -> Result<(), Fail> {
-    let (arena, mut hand, mut other) = filled(&rt, rt.alloc(), 3)?;
-    play_all(&rt, rt.alloc(), &arena, &mut hand, &[Step::Deletes(1)])?;
+    let (arena, mut hand, mut other) = opened_two(rt.alloc(), &FOUR_CLASSES)?;
+    let steps = [Step::Sets(1, 3, 61), Step::Deletes(1)];
+    play_all(&rt, rt.alloc(), &arena, &mut hand, &steps)?;
     for (sweep, chunks) in [(false, USED), (true, HALF_FREE), (false, HALF_FREE)] {
         let found = has_chunks(&rt, rt.alloc(), &arena, &mut other, sweep, 4, chunks);
         assert_same(&rt, found, true, "class 4");
