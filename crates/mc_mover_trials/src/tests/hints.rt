@@ -17,7 +17,7 @@ use std::sync::Wait;
 use std::test::Fail;
 
 /// A reference to the key's item, whose chunk is one of the arena's.
-fn get_near<R: Wait>(rt: &R, arena: &Arena, hand: &mut Hand, key: Key) -> Option<Ref>
+pub fn get_near<R: Wait>(rt: &R, arena: &Arena, hand: &mut Hand, key: Key) -> Option<Ref>
     requires arena { IsHandOf arena.now hand.old }
     ensures arena { IsHandOf arena.now hand.new }
     ensures item { IfSome result (λ item. IsItemRef (view hand.new) item) }

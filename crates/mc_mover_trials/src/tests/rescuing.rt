@@ -22,13 +22,14 @@ fn an_item_is_taken_to_a_dead_chunk_of_its_class(rt: HostRuntime) -> Result<(), 
 fn a_rescued_item_keeps_its_words_and_its_age(rt: HostRuntime) -> Result<(), Fail> {
     let (arena, mut hand, _other) = opened_two(rt.alloc(), &FOUR_CLASSES)?;
     let steps = [
-        Step::Sets(1, 9, 61),
+        Step::Sets(1, 8, 61),
+        Step::Sets(8, 9, 61),
         Step::Deletes(8),
         Step::Reassigns(Some(4), 1, Ok(())),
         Step::Finishes(2, 1, 1, 0, 0),
     ];
     play_all(&rt, rt.alloc(), &arena, &mut hand, &steps)?;
-    let own = key_has(&rt, rt.alloc(), &arena, &mut hand, 2, 0, 61)?;
+    let own = key_has(&rt, rt.alloc(), &arena, &mut hand, 2, 1, 61)?;
     assert_same(&rt, own, true, "the words of the item that was rescued");
     let steps = [
         Step::Sets(9, 10, 61),

@@ -18,7 +18,7 @@ use std::test::Fail;
 /// A call, and what it is to give.
 #[derive(Clone, Copy)]
 pub enum Step {
-    /// Items of so many words for the keys from the first on, before the second. Each is stored.
+    /// Items of so many words, from the first key's number on, for the keys from the first on, before the second. Each is stored.
     Sets(Key, Key, u64),
     /// The key's item is deleted, which is there.
     Deletes(Key),
@@ -138,7 +138,7 @@ fn plays<R: Wait>(
     ensures arena { IsHandOf arena.now hand.new }
 {
     match step {
-        Step::Sets(first, end, len) => store_all(rt, alloc, arena, hand, (first, end), 0, len),
+        Step::Sets(first, end, len) => store_all(rt, alloc, arena, hand, (first, end), first, len),
         Step::Modes(mode) => Ok(has_mode(rt, alloc, arena, hand, mode)),
         Step::Pages(granted, pool, running) => {
             Ok(has_pages(rt, alloc, arena, hand, (granted, pool, running)))

@@ -1,14 +1,16 @@
 //! Workers of the stress: each holds items with one hand, while it stores, reads and deletes others with a second. Each word of an
 //! item tells its key and stamp, so a word of another item would be seen.
-ghost use Rattle.std.specs.Prelude.{◌≡◌, IfSome};
-ghost use Rattle.mc_words.specs.Arenas.{IsHandOf, view};
+ghost use Rattle.std.specs.Prelude.{◌≡◌, true, IfSome};
+ghost use Rattle.mc_core.specs.State.{has_chunk};
+ghost use Rattle.mc_words.specs.Arenas.{IsHandOf, setup_of, view};
 ghost use Rattle.mc_items.specs.ItemRefs.{IsItemRef};
 
 use super::calls::{delete_key, get_key, has_words, set_words};
+use super::hints::get_near;
 use super::words::words_from;
-use mc_items::{Ref, release};
+use mc_items::{Ref, again, hint, release};
 use mc_stripe::{Key, Stamp};
-use mc_words::{Arena, Hand};
+use mc_words::{Arena, Hand, Hint};
 use std::alloc::{AllocError, Global};
 use std::sync::Wait;
 
@@ -172,7 +174,28 @@ fn do_lines<R: Wait>(
     Ok(own)
 }
 
-/// One round: an item is held over lines, and read before and behind them. True if all words that were read were their items' own.
+/// Reads the key's item once more by its hint, if it is there still. True if all words were its own.
+fn read_again(
+    alloc: Global,
+    arena: &Arena,
+    hand: &mut Hand,
+    hint: Hint,
+    key: Key,
+) -> Result<bool, AllocError>
+    requires arena { IsHandOf arena.now hand.old }
+    requires near { has_chunk (setup_of arena.now).table hint.chunk ≡ true }
+    ensures arena { IsHandOf arena.now hand.new }
+{
+    let Ok(item) = again(arena, hand, hint) else {
+        return Ok(true);
+    };
+    let own = is_own(alloc, arena, hand, &item, key)?;
+    release(arena, hand, item);
+    Ok(own)
+}
+
+/// One round: an item is held over lines, read before and behind them, and once more when it was released. True if all words that
+/// were read were their items' own.
 fn hold_over<R: Wait>(
     rt: &R,
     alloc: Global,
@@ -188,14 +211,16 @@ fn hold_over<R: Wait>(
     ensures writer { IsHandOf arena.now writer.new }
 {
     let key = key_of(draw(thread.wrapping_add(16), round));
-    let Some(item) = get_key(rt, arena, reader, key) else {
+    let Some(item) = get_near(rt, arena, reader, key) else {
         return do_lines(rt, alloc, arena, writer, thread, round);
     };
+    let hint = hint(&item);
     let before = is_own(alloc, arena, reader, &item, key)?;
     let between = do_lines(rt, alloc, arena, writer, thread, round)?;
     let behind = is_own(alloc, arena, reader, &item, key)?;
     release(arena, reader, item);
-    Ok(before && between && behind)
+    let behind_release = read_again(alloc, arena, reader, hint, key)?;
+    Ok(before && between && behind && behind_release)
 }
 
 /// A worker's two hands, and how many of its rounds showed words of other items.
