@@ -2,6 +2,7 @@
 use mc_pages::{Numbers, Totals};
 
 /// What the slab memory has, all at one moment.
+#[derive(Drop)]
 pub struct Survey {
     /// What each class has, class 1 first.
     pub classes: Vec<Numbers>,
