@@ -6,6 +6,7 @@ mod gets;
 mod hints;
 mod holds;
 mod refusals;
+mod steps;
 mod stress;
 mod words;
 

@@ -9,27 +9,17 @@ ghost use Rattle.mc_item_trials.specs.Hands.{AreHandsOf};
 use super::FOUR_CLASSES;
 use super::words::words_from;
 use mc_classes::Config;
-use mc_items::{Ref, SetError, delete, get, set, touch, try_get};
+use mc_items::{Ref, SetError, delete, get, release, set, touch, try_get};
 use mc_pages::ChunkId;
 use mc_stripe::{Key, Stamp};
 use mc_words::{Arena, Hand, NewError};
 use std::alloc::{AllocError, Global};
 use std::sync::Wait;
-
-/// An arena of four classes, and its hands.
-pub fn opened(alloc: Global, hands: u64) -> Result<(Arena, Vec<Hand>), NewError>
-    ensures hands { IfOk result (λ made. AreHandsOf made.0 made.1.items) }
-{
-    opened_with(alloc, &FOUR_CLASSES, hands)
-}
+use std::test::Fail;
 
 /// An arena of this configuration, and its hands.
 #[tactic(auto, using(crate::proofs::Kept::all_hands))]
-pub fn opened_with(
-    alloc: Global,
-    config: &Config,
-    hands: u64,
-) -> Result<(Arena, Vec<Hand>), NewError>
+pub fn opened(alloc: Global, config: &Config, hands: u64) -> Result<(Arena, Vec<Hand>), NewError>
     ensures hands { IfOk result (λ made. AreHandsOf made.0 made.1.items) }
 {
     Arena::new(alloc, config, hands)
@@ -59,8 +49,19 @@ pub fn next_two(arena: &Arena, hands: &mut Vec<Hand>) -> Option<(Hand, Hand)>
     Some((first, second))
 }
 
+/// An arena of four classes, and its two hands.
+pub fn opened_two(alloc: Global) -> Result<(Arena, Hand, Hand), Fail>
+    ensures hands { IfOk result (λ made. IsHandOf made.0 made.1 × IsHandOf made.0 made.2) }
+{
+    let (arena, mut hands) = opened(alloc, &FOUR_CLASSES, 2)?;
+    let Some((hand, other)) = next_two(&arena, &mut hands) else {
+        return Err(Fail::new("there are two hands"));
+    };
+    Ok((arena, hand, other))
+}
+
 /// Whether the arena has such a chunk.
-pub fn has_chunk(arena: &Arena, chunk: ChunkId) -> bool
+fn has_chunk(arena: &Arena, chunk: ChunkId) -> bool
     ensures { result ≡ has_chunk (setup_of arena.now).table chunk }
 {
     let classes = arena.classes();
@@ -95,24 +96,22 @@ pub fn set_words<R: Wait>(
     Some(set(rt, arena, hand, key, words))
 }
 
-/// Stores so many words, from the first on, under the key. None where the hand may not; else the refusal, if there was one.
-pub fn set_from<R: Wait>(
+/// The refusal of a set of so many words from 0 on, if there is one. None where the hand may not.
+pub fn refusal_of_set<R: Wait>(
     rt: &R,
     alloc: Global,
     arena: &Arena,
     hand: &mut Hand,
     key: Key,
-    first: u64,
     len: u64,
-) -> Result<Option<Option<SetError>>, AllocError>
+) -> Result<Option<SetError>, AllocError>
     requires arena { IsHandOf arena.now hand.old }
     ensures arena { IsHandOf arena.now hand.new }
 {
-    let words = words_from(alloc, first, len)?;
+    let words = words_from(alloc, 0, len)?;
     match set_words(rt, arena, hand, key, &words) {
-        Some(Ok(_)) => Ok(Some(None)),
-        Some(Err(error)) => Ok(Some(Some(error))),
-        None => Ok(None),
+        Some(Err(error)) => Ok(Some(error)),
+        _ => Ok(None),
     }
 }
 
@@ -171,55 +170,52 @@ pub fn is_there<R: Wait>(rt: &R, arena: &Arena, hand: &mut Hand, key: Key, gette
     let Some(item) = get_by(rt, arena, hand, key, getter) else {
         return false;
     };
-    mc_items::release(arena, hand, item);
+    release(arena, hand, item);
     true
 }
 
-/// Whether the key had an item, which is deleted. None where that can't be told.
-pub fn delete_key<R: Wait>(rt: &R, arena: &Arena, hand: &mut Hand, key: Key) -> Option<bool>
+/// Whether the key had an item, which is deleted. False, too, where the hand may not.
+pub fn delete_key<R: Wait>(rt: &R, arena: &Arena, hand: &mut Hand, key: Key) -> bool
     requires arena { IsHandOf arena.now hand.old }
     ensures arena { IsHandOf arena.now hand.new }
 {
     if !hand.unlocked() || hand.has_fresh() {
-        return None;
+        return false;
     }
-    match delete(rt, arena, hand, key) {
-        Ok(there) => Some(there),
-        Err(_) => None,
-    }
+    matches!(delete(rt, arena, hand, key), Ok(true))
 }
 
-/// Whether the key has an item, which is touched. None where that can't be told.
-pub fn touch_key<R: Wait>(rt: &R, arena: &Arena, hand: &mut Hand, key: Key) -> Option<bool>
+/// Whether the key has an item, which is touched. False, too, where the hand may not.
+pub fn touch_key<R: Wait>(rt: &R, arena: &Arena, hand: &mut Hand, key: Key) -> bool
     requires arena { IsHandOf arena.now hand.old }
     ensures arena { IsHandOf arena.now hand.new }
 {
     if !hand.unlocked() || hand.refs() > 255 {
-        return None;
+        return false;
     }
-    match touch(rt, arena, hand, key) {
-        Ok(there) => Some(there),
-        Err(_) => None,
-    }
+    matches!(touch(rt, arena, hand, key), Ok(true))
 }
 
-/// Items of the greatest length for the keys from the first on, before the second. True if each was stored.
+/// Items of so many words, from the first on, for the keys from the first on, before the second. True if each was stored.
 pub fn store_all<R: Wait>(
     rt: &R,
+    alloc: Global,
     arena: &Arena,
     hand: &mut Hand,
     keys: (Key, Key),
-    words: &[u64],
-) -> bool
+    first: u64,
+    len: u64,
+) -> Result<bool, AllocError>
     requires arena { IsHandOf arena.now hand.old }
     ensures arena { IsHandOf arena.now hand.new }
 {
+    let words = words_from(alloc, first, len)?;
     for key in keys.0..keys.1 {
-        let Some(Ok(_)) = set_words(rt, arena, hand, key, words) else {
-            return false;
+        let Some(Ok(_)) = set_words(rt, arena, hand, key, &words) else {
+            return Ok(false);
         };
     }
-    true
+    Ok(true)
 }
 
 /// References to the items of the keys from the first on, before the second, which count for good. True if each has one.
@@ -229,6 +225,39 @@ pub fn hold_all<R: Wait>(rt: &R, arena: &Arena, hand: &mut Hand, keys: (Key, Key
 {
     for key in keys.0..keys.1 {
         if get_by(rt, arena, hand, key, Getter::Get).is_none() {
+            return false;
+        }
+    }
+    true
+}
+
+/// So many references to the key's item, which count for good. True if all were had.
+pub fn hold_often<R: Wait>(rt: &R, arena: &Arena, hand: &mut Hand, key: Key, times: u64) -> bool
+    requires arena { IsHandOf arena.now hand.old }
+    ensures arena { IsHandOf arena.now hand.new }
+{
+    for _time in 0..times {
+        if get_by(rt, arena, hand, key, Getter::Get).is_none() {
+            return false;
+        }
+    }
+    true
+}
+
+/// Whether the keys from the first on, before the second, all have items, or none.
+pub fn are_there<R: Wait>(
+    rt: &R,
+    arena: &Arena,
+    hand: &mut Hand,
+    keys: (Key, Key),
+    getter: Getter,
+    there: bool,
+) -> bool
+    requires arena { IsHandOf arena.now hand.old }
+    ensures arena { IsHandOf arena.now hand.new }
+{
+    for key in keys.0..keys.1 {
+        if is_there(rt, arena, hand, key, getter) != there {
             return false;
         }
     }

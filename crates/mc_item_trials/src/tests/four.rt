@@ -3,8 +3,8 @@ ghost use Rattle.std.specs.Prelude.{◌≡◌, IfSome};
 ghost use Rattle.std.specs.Thread.{IsSync};
 ghost use Rattle.mc_words.specs.Arenas.{IsHandOf};
 
-use super::assert_same;
 use super::calls::{Getter, is_there, next_two, opened};
+use super::{FOUR_CLASSES, assert_same};
 use mc_stripe::{Call, Key};
 use mc_words::{Arena, Final, Hand};
 use std::sync::Wait;
@@ -32,9 +32,7 @@ fn get_often<R: Wait>(rt: &R, arena: &Arena, hand: Hand) -> Searched
     let mut hand = hand;
     let mut found = false;
     for _time in 0..GETS {
-        if is_there(rt, arena, &mut hand, MISSING, Getter::Get) {
-            found = true;
-        }
+        found |= is_there(rt, arena, &mut hand, MISSING, Getter::Get);
     }
     Searched { hand, found }
 }
@@ -138,7 +136,7 @@ fn is_missed(call: &Call) -> bool {
 
 #[test]
 fn each_get_is_noted(rt: HostRuntime) -> Result<(), Fail> {
-    let (arena, mut hands) = opened(rt.alloc(), 4)?;
+    let (arena, mut hands) = opened(rt.alloc(), &FOUR_CLASSES, 4)?;
     let Some(low) = next_two(&arena, &mut hands) else {
         return Err(Fail::new("there are four hands"));
     };

@@ -3,11 +3,13 @@ ghost use Rattle.std.specs.Prelude.{◌≡◌};
 ghost use Rattle.mc_words.specs.Arenas.{IsHandOf, view};
 ghost use Rattle.mc_items.specs.ItemRefs.{IsItemRef};
 
-use super::calls::{Getter, get_by, header, next_two, opened, set_from};
+use super::assert_same;
+use super::calls::{GETTERS, Getter, get_by, opened_two};
+use super::steps::{Step, play_all};
 use super::words::are_from;
-use super::{assert_equal, assert_same};
 use mc_items::{Ref, read, release};
 use mc_pages::ChunkId;
+use mc_stripe::{Key, Stamp};
 use mc_words::{Arena, Hand};
 use std::alloc::{AllocError, Global};
 use std::process::Abort;
@@ -35,42 +37,50 @@ fn has_from(
     Ok(are_from(&words, first, len))
 }
 
+/// Whether the item is of that key and stamp, and has three words from this one on.
+fn is_item(
+    alloc: Global,
+    arena: &Arena,
+    hand: &mut Hand,
+    item: &Ref,
+    key: Key,
+    stamp: Stamp,
+    first: u64,
+) -> Result<bool, AllocError>
+    requires arena { IsHandOf arena.now hand.old }
+    requires item { IsItemRef (view hand.old) item.now }
+    ensures arena { IsHandOf arena.now hand.new }
+    ensures same { view hand.new ≡ view hand.old }
+{
+    let is_named = (item.key(), item.stamp(), item.len()) == (key, stamp, 3);
+    Ok(has_from(alloc, arena, hand, item, first, 3)? && is_named)
+}
+
 /// A key is stored over, while its first item is held: each reader has the words of its own.
 fn store_over<R: Abort + Wait>(rt: &R, alloc: Global, getter: Getter) -> Result<(), Fail> {
-    let (arena, mut hands) = opened(alloc, 2)?;
-    let Some((mut hand, mut reader)) = next_two(&arena, &mut hands) else {
-        return Err(Fail::new("there are two hands"));
-    };
-    let stored = set_from(rt, alloc, &arena, &mut hand, 1, 7, 3)?;
-    assert_equal(rt, stored, Some(None), "the first set");
+    let (arena, mut hand, mut reader) = opened_two(alloc)?;
+    play_all(rt, alloc, &arena, &mut hand, &[Step::Sets(1, 2, 7, 3)])?;
     let Some(old) = get_by(rt, &arena, &mut reader, 1, getter) else {
         return Err(Fail::new("the key has an item"));
     };
-    let stored = set_from(rt, alloc, &arena, &mut hand, 1, 50, 3)?;
-    assert_equal(rt, stored, Some(None), "the second set");
+    play_all(rt, alloc, &arena, &mut hand, &[Step::Sets(1, 2, 50, 3)])?;
     let Some(new) = get_by(rt, &arena, &mut hand, 1, getter) else {
         return Err(Fail::new("the key has an item"));
     };
-    assert_same(rt, (old.key(), old.len()), (1, 3), "the old key and length");
-    assert_same(rt, (new.key(), new.len()), (1, 3), "the new key and length");
-    assert_same(rt, (old.stamp(), new.stamp()), (1, 2), "stamps");
-    let own = has_from(alloc, &arena, &mut hand, &new, 50, 3)?;
-    assert_same(rt, own, true, "the new words");
-    let own = has_from(alloc, &arena, &mut reader, &old, 7, 3)?;
-    assert_same(rt, own, true, "the old words");
-    assert_same(rt, header(&arena, &mut hand, FIRST), Some(393_217), "held");
+    let own = is_item(alloc, &arena, &mut hand, &new, 1, 2, 50)?;
+    assert_same(rt, own, true, "the new item");
+    let own = is_item(alloc, &arena, &mut reader, &old, 1, 1, 7)?;
+    assert_same(rt, own, true, "the old item");
+    play_all(rt, alloc, &arena, &mut hand, &[Step::Head(FIRST, 393_217)])?;
     release(&arena, &mut reader, old);
-    assert_same(
-        rt,
-        header(&arena, &mut hand, FIRST),
-        Some(393_216),
-        "released",
-    );
+    play_all(rt, alloc, &arena, &mut hand, &[Step::Head(FIRST, 393_216)])?;
     Ok(())
 }
 
 #[test]
 fn a_held_item_keeps_its_words(rt: HostRuntime) -> Result<(), Fail> {
-    store_over(&rt, rt.alloc(), Getter::Get)?;
-    store_over(&rt, rt.alloc(), Getter::TryGet)
+    for getter in GETTERS {
+        store_over(&rt, rt.alloc(), getter)?;
+    }
+    Ok(())
 }

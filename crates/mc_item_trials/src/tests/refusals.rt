@@ -2,9 +2,10 @@
 ghost use Rattle.std.specs.Prelude.{◌≡◌};
 ghost use Rattle.mc_words.specs.Arenas.{IsHandOf};
 
-use super::calls::{Getter, delete_key, get_by, next_hand, next_two, opened, set_from};
-use super::hints::{follow, hint_of};
-use super::{FOUR_CLASSES, MOST_WORDS, assert_equal, assert_same};
+use super::calls::opened_two;
+use super::hints::{follow, hint_behind};
+use super::steps::{Step, play_all};
+use super::{FOUR_CLASSES, MOST_WORDS, assert_equal};
 use mc_items::{GetError, SetError, TryGetError, get, try_get};
 use mc_stripe::Key;
 use mc_words::{Again, Arena, Hand};
@@ -47,32 +48,13 @@ fn refusal_of_try(arena: &Arena, hand: &mut Hand, key: Key) -> Option<Option<Try
     }
 }
 
-/// So many references to the key's item. True if all were had.
-fn hold_often<R: Wait>(rt: &R, arena: &Arena, hand: &mut Hand, key: Key, times: u64) -> bool
-    requires arena { IsHandOf arena.now hand.old }
-    ensures arena { IsHandOf arena.now hand.new }
-{
-    for _time in 0..times {
-        if get_by(rt, arena, hand, key, Getter::Get).is_none() {
-            return false;
-        }
-    }
-    true
-}
-
 #[test]
 fn a_hand_has_at_most_255_references(rt: HostRuntime) -> Result<(), Fail> {
-    let (arena, mut hands) = opened(rt.alloc(), 1)?;
-    let Some(mut hand) = next_hand(&arena, &mut hands) else {
-        return Err(Fail::new("there is a hand"));
-    };
-    let stored = set_from(&rt, rt.alloc(), &arena, &mut hand, 1, 0, 3)?;
-    assert_equal(&rt, stored, Some(None), "set");
-    let Some(hint) = hint_of(&rt, &arena, &mut hand, 1) else {
-        return Err(Fail::new("the key has an item"));
-    };
-    let held = hold_often(&rt, &arena, &mut hand, 1, 254);
-    assert_same(&rt, held, true, "254 gets");
+    let (arena, mut hand, _other) = opened_two(rt.alloc())?;
+    let one = Step::Sets(1, 2, 0, 3);
+    let hint = hint_behind(&rt, rt.alloc(), &arena, &mut hand, one)?;
+    let most = [Step::HoldsOften(1, 254)];
+    play_all(&rt, rt.alloc(), &arena, &mut hand, &most)?;
     let last = refusal_of_try(&arena, &mut hand, 1);
     assert_equal(&rt, last, Some(None), "the 255th");
     let refused = refusal_of_get(&rt, &arena, &mut hand, 1);
@@ -91,10 +73,7 @@ fn a_hand_has_at_most_255_references(rt: HostRuntime) -> Result<(), Fail> {
 
 #[test]
 fn who_does_not_wait_is_told_of_another_hand(rt: HostRuntime) -> Result<(), Fail> {
-    let (arena, mut hands) = opened(rt.alloc(), 2)?;
-    let Some((mut hand, mut other)) = next_two(&arena, &mut hands) else {
-        return Err(Fail::new("there are two hands"));
-    };
+    let (arena, mut hand, mut other) = opened_two(rt.alloc())?;
     if arena.config().stripes < 2 || !other.unlocked() {
         return Err(Fail::new("there are four stripes"));
     }
@@ -115,13 +94,13 @@ fn who_does_not_wait_is_told_of_another_hand(rt: HostRuntime) -> Result<(), Fail
 fn a_worn_chunk_holds_no_item(rt: HostRuntime) -> Result<(), Fail> {
     let (arena, mut hands) = Arena::from_issue(rt.alloc(), &FOUR_CLASSES, 1, MOST_ISSUE - 1)?;
     let mut hand = hands.remove(0);
-    for key in 1..3 {
-        let stored = set_from(&rt, rt.alloc(), &arena, &mut hand, key, 0, MOST_WORDS)?;
-        assert_equal(&rt, stored, Some(None), "set");
-        let deleted = delete_key(&rt, &arena, &mut hand, key);
-        assert_same(&rt, deleted, Some(true), "delete");
-    }
-    let refused = set_from(&rt, rt.alloc(), &arena, &mut hand, 3, 0, MOST_WORDS)?;
-    assert_equal(&rt, refused, Some(Some(SetError::WornOut)), "the third set");
+    let steps = [
+        Step::Sets(1, 2, 0, MOST_WORDS),
+        Step::Deletes(1),
+        Step::Sets(2, 3, 0, MOST_WORDS),
+        Step::Deletes(2),
+        Step::Refuses(3, MOST_WORDS, SetError::WornOut),
+    ];
+    play_all(&rt, rt.alloc(), &arena, &mut hand, &steps)?;
     Ok(())
 }

@@ -7,7 +7,7 @@ ghost use Rattle.mc_items.specs.ItemRefs.{IsItemRef};
 ghost use Rattle.mc_item_trials.specs.Hands.{AreHandsOf};
 
 use super::assert_same;
-use super::calls::{Getter, delete_key, get_by, next_two, opened_with, set_words};
+use super::calls::{Getter, delete_key, get_by, next_two, opened, set_words};
 use super::four::one_of;
 use super::words::{are_from, words_from};
 use mc_classes::{Config, PageId};
@@ -349,7 +349,7 @@ fn listed(left: &Final) -> Option<(u64, bool)> {
 
 #[test]
 fn no_read_shows_another_item(rt: HostRuntime) -> Result<(), Fail> {
-    let (arena, mut hands) = opened_with(rt.alloc(), &TWO_PAGES, 8)?;
+    let (arena, mut hands) = opened(rt.alloc(), &TWO_PAGES, 8)?;
     let Some((hand, wrong)) = work_by_four(&rt, rt.alloc(), &arena, &mut hands) else {
         return Err(Fail::new("there are eight hands, and each is idle"));
     };

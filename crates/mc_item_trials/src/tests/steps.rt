@@ -1,0 +1,102 @@
+//! A call with what it is to give. A list of calls is one call of a test, so that it is checked fast.
+ghost use Rattle.mc_words.specs.Arenas.{IsHandOf};
+
+use super::assert_same;
+use super::calls::{
+    Getter, are_there, delete_key, header, hold_all, hold_often, opened_two, refusal_of_set,
+    store_all, touch_key,
+};
+use mc_items::SetError;
+use mc_pages::ChunkId;
+use mc_stripe::Key;
+use mc_words::{Arena, Hand};
+use std::alloc::{AllocError, Global};
+use std::process::Abort;
+use std::sync::Wait;
+use std::test::Fail;
+
+/// A call, and what it is to give.
+#[derive(Clone, Copy)]
+pub enum Step {
+    /// Items for the keys from the first on, before the second, each of so many words from a first one on. Each is stored.
+    Sets(Key, Key, u64, u64),
+    /// An item of so many words is refused.
+    Refuses(Key, u64, SetError),
+    /// The key's item is deleted, which is there.
+    Deletes(Key),
+    /// The key's item is touched, which is there.
+    Touches(Key),
+    /// The keys from the first on, before the second, are looked up this way: all have items, or none.
+    Finds(Getter, Key, Key, bool),
+    /// References to the items of the keys from the first on, before the second, which count for good.
+    Holds(Key, Key),
+    /// So many references to the key's item, which count for good.
+    HoldsOften(Key, u64),
+    /// The chunk's header.
+    Head(ChunkId, u64),
+}
+
+/// Whether the call gives what it is to.
+fn plays<R: Wait>(
+    rt: &R,
+    alloc: Global,
+    arena: &Arena,
+    hand: &mut Hand,
+    step: Step,
+) -> Result<bool, AllocError>
+    requires arena { IsHandOf arena.now hand.old }
+    ensures arena { IsHandOf arena.now hand.new }
+{
+    match step {
+        Step::Sets(from, end, first, len) => {
+            store_all(rt, alloc, arena, hand, (from, end), first, len)
+        }
+        Step::Refuses(key, len, error) => {
+            Ok(refusal_of_set(rt, alloc, arena, hand, key, len)? == Some(error))
+        }
+        _ => Ok(acts(rt, arena, hand, step)),
+    }
+}
+
+/// Whether a call that takes no memory gives what it is to.
+fn acts<R: Wait>(rt: &R, arena: &Arena, hand: &mut Hand, step: Step) -> bool
+    requires arena { IsHandOf arena.now hand.old }
+    ensures arena { IsHandOf arena.now hand.new }
+{
+    match step {
+        Step::Deletes(key) => delete_key(rt, arena, hand, key),
+        Step::Touches(key) => touch_key(rt, arena, hand, key),
+        Step::Finds(getter, from, end, there) => {
+            are_there(rt, arena, hand, (from, end), getter, there)
+        }
+        Step::Holds(from, end) => hold_all(rt, arena, hand, (from, end)),
+        Step::HoldsOften(key, times) => hold_often(rt, arena, hand, key, times),
+        Step::Head(chunk, head) => header(arena, hand, chunk) == Some(head),
+        _ => false,
+    }
+}
+
+/// Each call gives what it is to, one after another.
+pub fn play_all<R: Abort + Wait>(
+    rt: &R,
+    alloc: Global,
+    arena: &Arena,
+    hand: &mut Hand,
+    steps: &[Step],
+) -> Result<(), AllocError>
+    requires arena { IsHandOf arena.now hand.old }
+    ensures arena { IsHandOf arena.now hand.new }
+{
+    for place in 0..steps.len() {
+        let done = plays(rt, alloc, arena, hand, steps[place])?;
+        assert_same(rt, (place, done), (place, true), "a step, from 0");
+    }
+    Ok(())
+}
+
+/// Each call gives what it is to, in a new arena of four classes.
+pub fn run<R: Abort + Wait>(rt: &R, alloc: Global, steps: &[Step]) -> Result<(), Fail> {
+    let (arena, mut hand, _other) = opened_two(alloc)?;
+    play_all(rt, alloc, &arena, &mut hand, steps)?;
+    Ok(())
+}
