@@ -96,7 +96,7 @@ pub fn set_words<R: Wait>(
     Some(set(rt, arena, hand, key, words))
 }
 
-/// The refusal of a set of so many words from 0 on, if there is one. None where the hand may not.
+/// The refusal of a set of so many words from 0 on, if there is one. None, too, where the hand may not.
 pub fn refusal_of_set<R: Wait>(
     rt: &R,
     alloc: Global,
