@@ -11,7 +11,7 @@ use Rattle.mc_arena_trials.specs.Hands.{AreHandsOf}
 
 hands_from : (arena : Arena) (number : ℕ) (hands : List Hand) → AreHandsFrom arena number hands → AreHandsOf arena hands
 hands_from arena number [] are = record {}
-hands_from arena number (hand ∷ hands) are = (are.0, hands_from arena (1 + number) hands are.2)
+hands_from arena number (hand ∷ hands) are = (are.0.of_arena, hands_from arena (1 + number) hands are.1)
 
 pub all_hands : (arena : Arena) (hands : List Hand) → AreNewHands arena hands → AreHandsOf arena hands
 all_hands arena hands are = hands_from arena 0 hands are.1

@@ -22,7 +22,7 @@ use Rattle.mc_words.specs.Refs.{IsRefOf, IsIssueOf}
 use Rattle.mc_words.specs.Called.{item_referred}
 use Rattle.mc_words.specs.Hinting.{is_there, RefersAgain, FindsOther}
 use Rattle.mc_words.specs.Referring.{reference_to}
-use Rattle.mc_words.specs.Views.{head_seen}
+use Rattle.mc_words.specs.Views.{head_seen, with_event}
 use Rattle.mc_words.proofs.Heads.{head_is, header_written, near_here}
 use Rattle.mc_words.proofs.Knows.{knows_after}
 use Rattle.mc_words.proofs.LockViews.{may_step, view_from, holdings_were, looks_were, knew, slabs_were, stripes_were}
@@ -133,7 +133,7 @@ module _ (view now : View) (chunk : ChunkId) (issue : ℕ) (h : Happens view [] 
   after = moment_stepped m id (core.Again chunk issue)
 
   abbrev told : View
-  told = item_referred again_one again_room view
+  told = with_event [] (core.Again chunk issue) (item_referred again_one again_room view)
 
   knows_again : knowledge_at after.past id ≡ told.row.knows
   knows_again =
@@ -150,7 +150,7 @@ module _ (view now : View) (chunk : ChunkId) (issue : ℕ) (h : Happens view [] 
   pub again_view : now ≡ told
   again_view =
       h.is
-      ∙ view_from view h.was after refl (view.row.holdings ++ again_one ∷ [])
+      ∙ view_from view h.was _ after refl (view.row.holdings ++ again_one ∷ [])
       (get_or-set_same m.state.holdings id (holdings_at m.state id ++ again_one ∷ []) [] (holding_rows view h.was) ∙ ap (λ (holdings : List Holding). holdings ++ again_one ∷ []) (holdings_were view view h.was))
       view.row.looks (looks_were view view h.was) told.row.knows knows_again view.slabs (slabs_were view view h.was) view.stripes (stripes_were view view h.was)
 
@@ -187,5 +187,5 @@ module _ (view now : View) (chunk : ChunkId) (issue : ℕ) (h : Happens view [] 
           held = is_item now was again_one again_room refl has knows;
           whole = is_whole now was again_one again_room refl has knows;
           happens = h;
-          is = again_view ∙ (λ k. item_referred (reference_to chunk (issue_is k) (item_at m.state chunk)) (same k) view);
+          is = again_view ∙ (λ k. with_event [] (core.Again chunk issue) (item_referred (reference_to chunk (issue_is k) (item_at m.state chunk)) (same k) view));
         }

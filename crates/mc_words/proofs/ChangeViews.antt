@@ -50,7 +50,7 @@ changed_slabs view now slabs change number of mine numbered h =
     ∙ (said_none ((knowledge_at changed.past id).saw ++ slabs_word changed.state.slabs_lock ∷ []) (knowledge_at changed.past id) (knowledge_at changed.past id).hold (knowledge_at changed.past id).seen
     ∙ (λ k. let knows = first k in record knows { saw = knows.saw ++ slabs_word (lock k) ∷ [] })) in
     h.is
-    ∙ view_from view h.was after (ap (λ (s : State). Rattle.mc_core.specs.State.ids_at s id) is) view.row.holdings (ap (λ (s : State). Rattle.mc_core.specs.State.holdings_at s id) is ∙ holdings_were view now h.was)
+    ∙ view_from view h.was _ after (ap (λ (s : State). Rattle.mc_core.specs.State.ids_at s id) is) view.row.holdings (ap (λ (s : State). Rattle.mc_core.specs.State.holdings_at s id) is ∙ holdings_were view now h.was)
     (view.row.looks ++ Changed change ∷ [])
     (ap (λ (s : State). looks_at s id) is ∙ (get_or-set_same m.state.looks id (looks_at m.state id ++ Changed change ∷ []) [] (rows view now h.was) ∙ ap (λ (looks : List Look). looks ++ Changed change ∷ []) (looks_were view now h.was)))
     (record view.row.knows { saw = view.row.knows.saw ++ slabs_word (number + 1) ∷ [] }) knows

@@ -154,7 +154,7 @@ module _ (view : View) (slabs : SlabState) (stripe : ℕ) (value : ReadyStripe) 
 module _ (view read seen : View) (slabs : SlabState) (stripe : ℕ) (value : ReadyStripe) (chunk : ChunkId) (key word : ℕ) (has : HasBoth view slabs stripe value chunk key) (read_is : read ≡ key_seen chunk key view) (seen_so : seen ≡ head_seen chunk (decode word) read) where
   -- as the views after these two
   abbrev plain : View
-  plain = views.looked (Saw chunk (decode word)) (views.saw (header chunk (decode word)) (key_seen chunk key view))
+  plain = views.with_event [] (core.Head chunk) (views.looked (Saw chunk (decode word)) (views.saw (header chunk (decode word)) (key_seen chunk key view)))
 
   seen_plain : seen ≡ plain
   seen_plain = seen_so ∙ (ap (head_seen chunk (decode word)) read_is ∙ seen_is (key_seen chunk key view) chunk (decode word) slabs has.mine)

@@ -203,7 +203,7 @@ module _ (view : View) (slabs : SlabState) (stripe : ℕ) (value : ReadyStripe) 
     pub condemned_view : now ≡ told
     condemned_view =
         h.is
-        ∙ view_from view h.was after refl view.row.holdings holdings_left
+        ∙ view_from view h.was _ after refl view.row.holdings holdings_left
         (view.row.looks ++ Condemned chunk (condemned head) ∷ [])
         (get_or-set_same m.state.looks id (looks_at m.state id ++ Condemned chunk (condemned (head_at m.state chunk)) ∷ []) [] (rows view now h.was)
         ∙ ap₂ (λ (looks : List Look) (head : Head). looks ++ Condemned chunk (condemned head) ∷ []) (looks_were view now h.was) is)
@@ -310,7 +310,7 @@ module _ (view : View) (slabs : SlabState) (stripe : ℕ) (value : ReadyStripe) 
     pub original_view : now ≡ original_condemned stripe value key chunk (item_at mc.state chunk) head view
     original_view =
         h.is
-        ∙ view_from view h.was then_moment refl (change_each (is_copy_of chunk) bound view.row.holdings) holdings_bound
+        ∙ view_from view h.was _ then_moment refl (change_each (is_copy_of chunk) bound view.row.holdings) holdings_bound
         (view.row.looks ++ Condemned chunk (condemned head) ∷ [])
         (get_or-set_same mc.state.looks hand (looks_at mc.state hand ++ Condemned chunk (condemned (head_at mc.state chunk)) ∷ []) [] (rows view now h.was)
         ∙ ap₂ (λ (looks : List Look) (head : Head). looks ++ Condemned chunk (condemned head) ∷ []) (looks_were view now h.was) is)

@@ -21,7 +21,7 @@ use Rattle.mc_words.specs.declared.slot.Slot.{Slot}
 use Rattle.mc_words.specs.declared.slot.Slot.TheVariants.{Empty, OfSlabs, OfStripe}
 use Rattle.mc_words.specs.View.{Setup, View, settled}
 use Rattle.mc_words.specs.Layout.{lock_word, head_word, heads_from, head_count}
-use Rattle.mc_words.specs.Meaning.{Words, Has, IsReached, Ruled}
+use Rattle.mc_words.specs.Meaning.{Words, Has, Ruled}
 use Rattle.mc_words.specs.Joining.{Rule, all_settled}
 use Rattle.mc_words.specs.Closing.{Closes, IsLeftOf, Left, at_home, left_of, slabs_in, slabs_left, stripe_in, stripe_left}
 use Rattle.mc_words.proofs.Rules.{lawful_view}
@@ -88,7 +88,6 @@ module _ (setup : Setup) (t : Words) (r : Ruled setup t) (slots : List Slot) (la
   left_is : (id : ℕ) (view : View) → get_elem? t.views id ≡ some view → IsSettled view → view.setup ≡ setup → Closes view (left_of setup t.words slots)
   left_is id view at live of = record {
     was = lawful_view setup t r id view at live.0 of;
-    reached = subst (λ (s : Setup). IsReached s r.moment) (sym of) r.reached;
     setup = sym of;
     heads = r.means.words.heads;
     slabs = slabs_is;

@@ -16,6 +16,7 @@ use Rattle.mc_words.specs.Layout.{head_word}
 use Rattle.mc_words.specs.Happens.{LawfulView, Happens, HappensAt}
 use Rattle.mc_words.specs.Refs.{IsRefOf, IsIssueOf}
 use Rattle.mc_words.specs.Called.{item_referred, key_got}
+use Rattle.mc_words.specs.Views.{with_event}
 use Rattle.mc_words.specs.Referring.{reference_to, GetsItem}
 use Rattle.mc_words.proofs.Heads.{head_is}
 use Rattle.mc_words.proofs.References.{is_ref, is_issue, is_item, is_whole, one_room}
@@ -44,7 +45,7 @@ module _ (view : View) (stripe : ℕ) (value : ReadyStripe) (key : ℕ) (chunk :
   abbrev room : ℕ
   room = new_room view stripe value key chunk stamp to number numbered now h
 
-  is : now ≡ item_referred one room (key_got number stripe value key view)
+  is : now ≡ with_event [] (core.Refer key) (item_referred one room (key_got number stripe value key view))
   is = referred_view view stripe value key chunk stamp to number numbered now h
 
   has : Contains now.row.holdings one
@@ -76,5 +77,5 @@ module _ (view : View) (stripe : ℕ) (value : ReadyStripe) (key : ℕ) (chunk :
         key_is = item_word m.state chunk 0 (omega arith) entry.fits ∙ entry.same_key;
         stamp_is = item_word m.state chunk 1 (omega arith) entry.fits ∙ entry.same_stamp;
         happens = h;
-        is = is ∙ (λ k. item_referred (reference_to chunk (issue_is k) (item_at m.state chunk)) (same k) (key_got number stripe value key view));
+        is = is ∙ (λ k. with_event [] (core.Refer key) (item_referred (reference_to chunk (issue_is k) (item_at m.state chunk)) (same k) (key_got number stripe value key view)));
       }

@@ -18,7 +18,11 @@ use Rattle.mc_core.specs.Seen.{last_read, linked_issue}
 use Rattle.mc_core.specs.State.{State, has_chunk, head_at, is_class, looks_at, page_words, room_in, word_at}
 use Rattle.mc_core.proofs.Base.{IsPlaced, chunk_within, placed_at, word_within}
 use Rattle.mc_core.proofs.MoreRows.{each_contained}
-use Rattle.mc_core.proofs.Numbers.{whole_known}
+use Rattle.mc_core.specs.Knowing.{IsSaid}
+use Rattle.mc_core.specs.Past.{Known}
+use Rattle.mc_core.specs.Holdings.{stamp_of}
+use Rattle.mc_words.specs.Items.{IsWordOfItem}
+use Rattle.mc_core.proofs.Numbers.{known_at, known_long, whole_known}
 use Rattle.mc_core.proofs.SeenAdds.{was_linked_is}
 use Rattle.mc_core.proofs.SeenLooks.{some_is}
 use Rattle.mc_core.proofs.ShownItems.{IsWhole, whole_word}
@@ -26,7 +30,7 @@ use Rattle.mc_words.specs.View.{Setup, View}
 use Rattle.mc_words.specs.Layout.{data_word, data_from, data_count, config_from}
 use Rattle.mc_words.specs.Happens.{LawfulView, HappensAt, MayWrite}
 use Rattle.mc_words.specs.Items.{word_read}
-use Rattle.mc_words.specs.Views.{looked}
+use Rattle.mc_words.specs.Views.{looked, held_word_seen}
 use Rattle.mc_words.proofs.Written.{data_read, unwritten}
 use Rattle.mc_words.proofs.LockViews.{view_from, holdings_were, looks_were, rows, slabs_were, stripes_were}
 use Rattle.mc_words.proofs.Heads.{near_here}
@@ -122,6 +126,33 @@ module _ (view : View) (slabs : SlabState) (mine : view.slabs ≡ Some slabs) (c
           let same_room = room_is in
           omega arith
 
+    -- the word is that of an item that some hand knows
+    pub known_word : (now : View) (word : ℕ) → HappensAt (data_word view.setup (room_in view.setup.table (class_of_page slabs chunk.page)) chunk place) word view [] (core.WordHeld chunk place) now
+        → (was : LawfulView view) × IsWordOfItem was.moment chunk place word
+    known_word now word at =
+        let was = at.0.was in
+        let s : State = was.moment.state in
+        let found : is_some (fold (linked_issue chunk) None (looks_at s was.hand)) ≡ true =
+        sym (was_linked_is (looks_at s was.hand) chunk) ∙ (ap (λ looks. was_linked looks chunk) (looks_here view was) ∙ linked) in
+        let (issue, is) = some_is (fold (linked_issue chunk) None (looks_at s was.hand)) found in
+        let (out, (hand, k, has, same)) = (was.lawful.seen was.hand (slabs_here view was slabs mine).0).linked chunk issue (near_there was) is in
+        let still = each_contained (IsTrueStill s.table s.slabs s.heads s.words s.holdings) was.moment.past.known hand k was.lawful.known.still has in
+        let shown = still.shows (subst (λ (c : ChunkId). IsHandedOut (head_in s.table s.heads c) k.issue) (sym same.0) (out.0, out.1 ∙ sym same.1)) in
+        let here : Shows s.table s.slabs s.words chunk (all_known k.words) = subst (λ (c : ChunkId). Shows s.table s.slabs s.words c (all_known k.words)) same.0 shown in
+        let whole : IsWhole (all_known k.words) = whole_known k.words still.whole in
+        let count = known_long k.words in (
+          was,
+          record {
+            hand = hand;
+            item = k;
+            known = has;
+            there = same.0;
+            said = each_contained (λ (known : Known). IsSaid was.moment.past.said (stamp_of known.words) known.words) was.moment.past.known hand k was.lawful.known.said_by_some has;
+            is_word = λ within. sym (known_at k.words place)
+                ∙ (sym (here.known_words place (word_in (all_known k.words) place) (whole_word (all_known k.words) place whole (omega arith))) ∙ (sym (held_word was) ∙ at.1));
+          },
+        )
+
     -- the length that was read fits
     pub length_fits : (now : View) (word : ℕ) → HappensAt (data_word view.setup (room_in view.setup.table (class_of_page slabs chunk.page)) chunk place) word view [] (core.WordHeld chunk place) now
         → place ≡ 2 → 3 + word ≤ room_in view.setup.table (class_of_page slabs chunk.page)
@@ -152,14 +183,14 @@ module _ (view : View) (slabs : SlabState) (mine : view.slabs ≡ Some slabs) (c
             sym at.1 ∙ (held_word was ∙ still.same)
 
     -- which is a look
-    pub read_held : (now : View) (word : ℕ) → HappensAt (data_word view.setup (room_in view.setup.table (class_of_page slabs chunk.page)) chunk place) word view [] (core.WordHeld chunk place) now → now ≡ looked (Read chunk place word) view
+    pub read_held : (now : View) (word : ℕ) → HappensAt (data_word view.setup (room_in view.setup.table (class_of_page slabs chunk.page)) chunk place) word view [] (core.WordHeld chunk place) now → now ≡ held_word_seen chunk place word view
     read_held now word at =
         let h = at.0 in
         let m : Moment = h.was.moment in
         let id : ℕ = h.was.hand in
         let after : Moment = moment_stepped m id (core.WordHeld chunk place) in
         let is : word_at m.state chunk place ≡ word = sym (held_word h.was) ∙ at.1 in
-        h.is ∙ view_from view h.was after refl view.row.holdings (holdings_were view now h.was)
+        h.is ∙ view_from view h.was _ after refl view.row.holdings (holdings_were view now h.was)
         (view.row.looks ++ Read chunk place word ∷ [])
         (get_or-set_same m.state.looks id (looks_at m.state id ++ Read chunk place (word_at m.state chunk place) ∷ []) [] (rows view now h.was) ∙ ap₂ (λ (looks : List Look) (word : ℕ). looks ++ Read chunk place word ∷ []) (looks_were view now h.was) is)
         view.row.knows (learned_none view now (core.WordHeld chunk place) h refl refl (λ knows. refl)) view.slabs (slabs_were view now h.was) view.stripes (stripes_were view now h.was)

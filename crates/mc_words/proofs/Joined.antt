@@ -1,5 +1,5 @@
 -- Two idle hands become one: the only event that changes two views.
-use Rattle.std.proofs.Common.{◌≡◌, ◌≢◌, ◌⊎◌, ℕ, zero, suc, ◌+◌, ◌<◌, ◌==◌, not, Bool, true, false, List, [], ◌∷◌, length, map, Option, Some, None, refl, sym, ap, subst, ◌∙◌, inl, inr, arith, zero-add, slice_set, slice_index, slice_index_or, is_some, is_none, if◌then◌else◌, eq-eqb, ne_eqb, length-set, get_or-set_same, get_or-set_other}
+use Rattle.std.proofs.Common.{◌≡◌, ◌≢◌, ◌⊎◌, ℕ, zero, suc, ◌+◌, ◌<◌, ◌==◌, not, Bool, true, false, List, [], ◌∷◌, length, map, Option, Some, None, refl, sym, ap, subst, ◌∙◌, inl, inr, arith, zero-add, slice_set, slice_index, slice_index_or, is_some, is_none, if◌then◌else◌, eq-eqb, ne_eqb, length-set, get_or-set_same, get_or-set_other, ◌++◌}
 use Rattle.std.proofs.lemmas.Bool.{and_from, and_parts}
 use Rattle.std.proofs.lemmas.List.{map-set, set-get_or}
 use Rattle.std.proofs.lemmas.List.Folds.{list_all-map}
@@ -29,9 +29,10 @@ use Rattle.mc_core.proofs.LawKept.{lawful_steps}
 use Rattle.mc_core.proofs.Plays.{hand_there}
 use Rattle.mc_words.specs.declared.slot.Slot.{Slot}
 use Rattle.mc_words.specs.declared.slot.Slot.TheVariants.{Empty, OfSlabs, OfStripe}
-use Rattle.mc_words.specs.View.{Setup, View, view_at, new_view, spent_view, both_views, just_made, settled}
+use Rattle.mc_core.specs.declared.event.Event.{Event}
+use Rattle.mc_words.specs.View.{OwnEvent, Setup, View, events_of, joined, view_at, new_view, spent_view, both_views, just_made, settled}
 use Rattle.mc_words.specs.Meaning.{Words, Has, IsViewOf, Ruled}
-use Rattle.mc_words.specs.Happens.{LawfulView}
+use Rattle.mc_words.specs.Happens.{LawfulView, event_of}
 use Rattle.mc_words.specs.Idle.{is_unlocked, is_idle}
 use Rattle.mc_words.specs.Told.{Sits}
 use Rattle.mc_words.specs.declared.locks.Locks.{Locks}
@@ -39,8 +40,8 @@ use Rattle.mc_words.specs.declared.locks.Locks.TheVariants.{Neither, Slabs, Stri
 use Rattle.mc_words.specs.Out.{slots_out, slots_in, is_neither, IsNoted}
 use Rattle.mc_words.proofs.Unlocked.{unlocked_from}
 use Rattle.mc_words.specs.Joining as joining
-use Rattle.mc_words.proofs.Rules.{there_if, within, lawful_view}
-use Rattle.mc_words.proofs.Reached.{reached_stepped}
+use Rattle.mc_words.proofs.Rules.{there_if, within, lawful_view, others_made, own_made}
+use Rattle.mc_words.proofs.Reached.{leads_stepped}
 use Rattle.mc_words.proofs.Settled.{IsSettled, settled_same, not_made}
 
 -- a value that is kept from who hasn't its lock
@@ -70,8 +71,8 @@ has_same s now slabs stripes (suc i) (OfSlabs value) has = absurd has
 has_same s now slabs stripes (suc i) (OfStripe value) has = has ∙ ap (λ all. slice_index_or all i Rattle.mc_stripe.specs.StripeState.new_stripe) (sym stripes)
 
 -- a hand whose view is idle is idle in the moment
-idle_from : (setup : Setup) (m : Moment) (hand : ℕ) (v : View) → length m.state.stripe_locks ≡ setup.config.stripes → v ≡ view_at setup v.spare m hand → is_idle v ≡ true → hands.is_idle m.state hand ≡ true
-idle_from setup m hand v count is idle =
+idle_from : (setup : Setup) (events : List OwnEvent) (m : Moment) (hand : ℕ) (v : View) → length m.state.stripe_locks ≡ setup.config.stripes → v ≡ view_at setup v.spare events m hand → is_idle v ≡ true → hands.is_idle m.state hand ≡ true
+idle_from setup events m hand v count is idle =
     let parts = and_parts (is_unlocked v) (length v.row.holdings == 0) idle in
     let locks = and_parts (is_none v.slabs) (list_all is_none v.stripes) parts.0 in
     let slabs = none_held (has_slabs m.state hand) m.state.slabs (ap (λ (u : View). is_none u.slabs) (sym is) ∙ locks.0) in
@@ -85,10 +86,11 @@ idle_from setup m hand v count is idle =
     and_from _ _ (and_from _ _ (ap not slabs) stripes) none
 
 -- what a moment has of a hand that has the same
-view_same : (setup : Setup) (spare : ℕ) (m now : Moment) (hand : ℕ) → HasSame m now hand → view_at setup spare now hand ≡ view_at setup spare m hand
-view_same setup spare m now hand same = λ k. record {
+view_same : (setup : Setup) (spare : ℕ) (events : List OwnEvent) (m now : Moment) (hand : ℕ) → HasSame m now hand → view_at setup spare events now hand ≡ view_at setup spare events m hand
+view_same setup spare events m now hand same = λ k. record {
   setup = setup;
   spare = spare;
+  events = events;
   row = same.row k;
   slabs = same.slabs k;
   stripes = map (λ stripe. same.stripes stripe k) (range_with_len 0 setup.config.stripes);
@@ -102,18 +104,18 @@ module _ (setup : Setup) (t : Words) (r : Ruled setup t) (id other : ℕ) (v w :
   abbrev after : Moment
   after = moment_stepped m id (core.Join id other)
 
-  here : (is_hand m.state id ≡ true) × (v ≡ view_at setup v.spare m id)
-  here = there_if setup m id v (r.means.views id v at) numbered
+  here : (is_hand m.state id ≡ true) × (v ≡ view_at setup v.spare (events_of id r.run) m id)
+  here = there_if setup r.run m id v (r.means.views id v at) numbered
 
-  here_too : (is_hand m.state other ≡ true) × (w ≡ view_at setup w.spare m other)
-  here_too = there_if setup m other w (r.means.views other w at_other) numbered_too
+  here_too : (is_hand m.state other ≡ true) × (w ≡ view_at setup w.spare (events_of other r.run) m other)
+  here_too = there_if setup r.run m other w (r.means.views other w at_other) numbered_too
 
   locks : length m.state.stripe_locks ≡ setup.config.stripes
   locks = r.lawful.legal.lock_count ∙ r.means.stripes
 
   can : hands.can_join m.state id id other ≡ true
   can =
-      and_from _ _ (and_from _ _ (and_from _ _ (and_from _ _ (eq-eqb id id refl) (ap not (ne_eqb id other (λ e. apart (sym e))))) here_too.0) (idle_from setup m id v locks here.1 idle)) (idle_from setup m other w locks here_too.1 idle_too)
+      and_from _ _ (and_from _ _ (and_from _ _ (and_from _ _ (eq-eqb id id refl) (ap not (ne_eqb id other (λ e. apart (sym e))))) here_too.0) (idle_from setup (events_of id r.run) m id v locks here.1 idle)) (idle_from setup (events_of other r.run) m other w locks here_too.1 idle_too)
 
   may : MayStep m id (core.Join id other)
   may = record { lawful = r.lawful; there = here.0; allowed = can }
@@ -127,12 +129,20 @@ module _ (setup : Setup) (t : Words) (r : Ruled setup t) (id other : ℕ) (v w :
   ids_kept : Rattle.mc_core.specs.State.ids_at after.state id ≡ Rattle.mc_core.specs.State.ids_at m.state id
   ids_kept = get_or-set_other m.state.ids other id gone gone (λ e. apart (sym e))
 
+  -- the join is an event of the one hand
+  abbrev event : Event
+  event = event_of id [] (core.Join id other)
+
+  made_before : v.events ≡ events_of id r.run
+  made_before = ap (λ (u : View). u.events) here.1
+
   -- what is known of the one hand
-  pub kept_view : view_at setup v.spare after id ≡ both_views v w
+  pub kept_view : view_at setup v.spare (v.events ++ joined ∷ []) after id ≡ both_views v w
   kept_view =
-      let now : view_at setup v.spare after id ≡ record (view_at setup v.spare m id) { row = record (row_at m id) { knows = Rattle.mc_core.specs.Learns.both_know (row_at m id).knows (row_at m other).knows } } = λ k. record {
+      let now : view_at setup v.spare (events_of id r.run ++ joined ∷ []) after id ≡ record (view_at setup v.spare (events_of id r.run) m id) { events = events_of id r.run ++ joined ∷ []; row = record (row_at m id) { knows = Rattle.mc_core.specs.Learns.both_know (row_at m id).knows (row_at m other).knows } } = λ k. record {
         setup = setup;
         spare = v.spare;
+        events = events_of id r.run ++ joined ∷ [];
         row = record {
           ids = ids_kept k;
           holdings = holdings_at m.state id;
@@ -143,28 +153,29 @@ module _ (setup : Setup) (t : Words) (r : Ruled setup t) (id other : ℕ) (v w :
         stripes = map (λ stripe. ap (λ (ids : Ids). if is_held_by (slice_index m.state.stripe_locks stripe) ids.number then Some (stripe_at m.state stripe) else None) ids_kept k) (range_with_len 0 setup.config.stripes);
         made_of = None;
       } in
-      now ∙ (λ k. both_views (sym here.1 k) (sym here_too.1 k))
+      ap (λ (events : List OwnEvent). view_at setup v.spare (events ++ joined ∷ []) after id) made_before ∙ (now ∙ (λ k. both_views (sym here.1 k) (sym here_too.1 k)))
 
   none_left : is_hand after.state other ≡ false
   none_left = ap (λ (ids : Ids). is_some ids.number) (get_or-set_same m.state.ids other gone gone second)
 
-  is_kept : IsViewOf setup after id (both_views v w)
+  is_kept : IsViewOf setup (r.run ++ event ∷ []) after id (both_views v w)
   is_kept = record {
-    there = λ _. sym kept_view;
+    there = λ _. sym kept_view ∙ ap (λ (events : List OwnEvent). view_at setup v.spare events after id) (own_made setup t r id v at event refl made_before);
     gone = λ none. absurd (let e : true ≡ false = sym here.0 ∙ (ap (λ (ids : Ids). is_some ids.number) (sym ids_kept) ∙ none) in cc);
   }
 
-  is_spent : IsViewOf setup after other spent_view
+  is_spent : IsViewOf setup (r.run ++ event ∷ []) after other spent_view
   is_spent = record {
     there = λ there. absurd (let e : true ≡ false = sym there ∙ none_left in cc);
     gone = λ none. refl;
   }
 
-  is_else : (hand : ℕ) (view : View) → hand ≢ id → hand ≢ other → IsViewOf setup m hand view → IsViewOf setup after hand view
+  is_else : (hand : ℕ) (view : View) → hand ≢ id → hand ≢ other → IsViewOf setup r.run m hand view → IsViewOf setup (r.run ++ event ∷ []) after hand view
   is_else hand view a b old =
       let same = (framed_steps m id (core.Join id other) may).others hand (a, ne_eqb other hand (λ e. b (sym e))) in
       let still : is_hand after.state hand ≡ is_hand m.state hand = ap (λ (row : Row). is_some row.ids.number) same.row in record {
-        there = λ there. old.there (sym still ∙ there) ∙ sym (view_same setup view.spare m after hand same);
+        there = λ there. old.there (sym still ∙ there)
+            ∙ (sym (view_same setup view.spare (events_of hand r.run) m after hand same) ∙ ap (λ (events : List OwnEvent). view_at setup view.spare events after hand) (sym (others_made setup t r id v at event refl hand a)));
         gone = λ none. old.gone (sym still ∙ none);
       }
 
@@ -181,9 +192,10 @@ module _ (setup : Setup) (t : Words) (r : Ruled setup t) (id other : ℕ) (v w :
       ] in
       record {
         moment = after;
+        run = r.run ++ event ∷ [];
         cuts = r.cuts;
         lawful = lawful_steps m id (core.Join id other) may;
-        reached = reached_stepped setup m id (core.Join id other) r.reached here.0 can;
+        reached = leads_stepped setup r.run m id (core.Join id other) r.reached here.0 can;
         means = record {
           same_table = means.same_table;
           hands = length-set m.state.ids other gone ∙ means.hands;
@@ -193,9 +205,9 @@ module _ (setup : Setup) (t : Words) (r : Ruled setup t) (id other : ℕ) (v w :
           homes = λ lock near free. let (slot, home, has) = means.homes lock near free in (slot, home, has_same m.state after.state refl refl lock slot has);
           slots = means.slots;
           views = λ hand view at_view. elim (which hand view at_view) [
-            | inl last ↦ subst (λ (p : ℕ × View). IsViewOf setup after p.0 p.1) (λ k. (sym last.0 k, last.1 k)) is_spent
+            | inl last ↦ subst (λ (p : ℕ × View). IsViewOf setup (r.run ++ event ∷ []) after p.0 p.1) (λ k. (sym last.0 k, last.1 k)) is_spent
             | inr rest ↦ elim rest [
-              | inl one ↦ subst (λ (p : ℕ × View). IsViewOf setup after p.0 p.1) (λ k. (sym one.0 k, one.1 k)) is_kept
+              | inl one ↦ subst (λ (p : ℕ × View). IsViewOf setup (r.run ++ event ∷ []) after p.0 p.1) (λ k. (sym one.0 k, one.1 k)) is_kept
               | inr neither ↦ is_else hand view neither.0 neither.1 (means.views hand view neither.2)
             ]
           ];
@@ -215,17 +227,18 @@ module _ (setup : Setup) (t : Words) (r : Ruled setup t) (id other : ℕ) (v w :
       }
 
   -- and it was this event
-  pub joins : joining.Joins v w.row (both_views v w)
+  pub joins : joining.Joins v w.row w.events (both_views v w)
   joins = record {
     was = lawful_view setup t r id v at numbered of;
     spent = other;
     row_is = ap (λ (u : View). u.row) here_too.1;
+    events_are = ap (λ (u : View). u.events) here_too.1;
     allowed = and_from _ _ here.0 can;
-    is = sym kept_view ∙ ap (λ (s : Setup). view_at s v.spare after id) (sym of);
+    is = sym kept_view ∙ ap (λ (s : Setup). view_at s v.spare (v.events ++ joined ∷ []) after id) (sym of);
   }
 
 -- what is in an option of rows
-abbrev rows_in : Option (Row × Row) → Row × Row → Row × Row
+abbrev rows_in : Option (Row × Row × List OwnEvent × List OwnEvent) → Row × Row × List OwnEvent × List OwnEvent → Row × Row × List OwnEvent × List OwnEvent
 rows_in None default = default
 rows_in (Some rows) default = rows
 
@@ -234,11 +247,11 @@ module _ (setup : Setup) (id : ℕ) (v w : View) (live : IsSettled v) (of : v.se
   settled_both : settled (just_made v w) ≡ both_views v w
   settled_both = ap (λ made. record (both_views v w) { made_of = made }) (sym live.1)
 
-  made_both : joining.Joins v w.row (both_views v w) → joining.IsMade (just_made v w)
-  made_both joins kept spent made =
-      let same : (v.row, w.row) ≡ (kept, spent) = ap (λ o. rows_in o (v.row, w.row)) made in
-      subst (λ (p : View × (Row × View)). joining.Joins p.0 p.1.0 p.1.1)
-      (λ k. (record v { row = (same k).0; made_of = live.1 k }, ((same k).1, sym settled_both k))) joins
+  made_both : joining.Joins v w.row w.events (both_views v w) → joining.IsMade (just_made v w)
+  made_both joins kept spent own others made =
+      let same : (v.row, w.row, v.events, w.events) ≡ (kept, spent, own, others) = ap (λ o. rows_in o (v.row, w.row, v.events, w.events)) made in
+      subst (λ (p : View × (Row × (List OwnEvent × View))). joining.Joins p.0 p.1.0 p.1.1.0 p.1.1.1)
+      (λ k. (record v { events = (same k).2; row = (same k).0; made_of = live.1 k }, ((same k).1, ((same k).3, sym settled_both k)))) joins
 
   pub unites : (other : ℕ) → IsSettled w → is_idle v ≡ true → is_idle w ≡ true → Joins (joining.Rule setup) id v other w (just_made v w) spent_view
   unites other live_too idle idle_too t rule at apart at_other =
@@ -246,7 +259,7 @@ module _ (setup : Setup) (id : ℕ) (v w : View) (live : IsSettled v) (of : v.se
       let there : get_elem? t.views other ≡ some w = sym (set_else t.views id other (just_made v w) apart) ∙ at_other in
       let at_spent : get_elem? (map settled t.views) other ≡ some w = at_map settled t.views other w there ∙ ap some (settled_same w live_too.1) in
       let ruled = ruled_joined setup (joining.all_settled t) rule.ruled id other v w at_kept at_spent apart live.0 live_too.0 of idle idle_too in
-      let joined = joins setup (joining.all_settled t) rule.ruled id other v w at_kept at_spent apart live.0 live_too.0 of idle idle_too in
+      let happened = joins setup (joining.all_settled t) rule.ruled id other v w at_kept at_spent apart live.0 live_too.0 of idle idle_too in
       let views : slice_set (slice_set (map settled t.views) id (both_views v w)) other spent_view ≡ map settled (slice_set (slice_set t.views id (just_made v w)) other spent_view) =
       ap (λ (views : List View). slice_set views other spent_view) (ap (slice_set (map settled t.views) id) (sym settled_both) ∙ sym (map-set settled t.views id (just_made v w)))
       ∙ sym (map-set settled (slice_set t.views id (just_made v w)) other spent_view) in
@@ -255,7 +268,7 @@ module _ (setup : Setup) (id : ℕ) (v w : View) (live : IsSettled v) (of : v.se
         made = λ hand view at_view. elim (at_set (slice_set t.views id (just_made v w)) other hand spent_view view at_view) [
           | inl last ↦ subst joining.IsMade last.1 (not_made spent_view refl)
           | inr differs ↦ elim (at_set t.views id hand (just_made v w) view differs.1) [
-            | inl one ↦ subst joining.IsMade one.1 (made_both joined)
+            | inl one ↦ subst joining.IsMade one.1 (made_both happened)
             | inr rest ↦ rule.made hand view rest.1
           ]
         ];

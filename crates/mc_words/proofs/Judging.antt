@@ -48,8 +48,8 @@ module _ (view : View) (chunk : ChunkId) (head : Head) (slabs : SlabState) (mine
   held : is_some view.slabs ≡ true
   held = ap is_some mine
 
-  pub seen_is : seen ≡ views.looked (Saw chunk head) (views.saw (header chunk head) view)
-  seen_is = ap (λ (b : Bool). views.with_looks (if b then view.row.looks ++ Saw chunk head ∷ [] else view.row.looks) (views.saw (header chunk head) view)) held
+  pub seen_is : seen ≡ views.with_event [] (core.Head chunk) (views.looked (Saw chunk head) (views.saw (header chunk head) view))
+  seen_is = ap (λ (b : Bool). views.with_event [] (core.Head chunk) (views.with_looks (if b then view.row.looks ++ Saw chunk head ∷ [] else view.row.looks) (views.saw (header chunk head) view))) held
 
   pub seen_slabs : seen.slabs ≡ Some slabs
   seen_slabs = ap (λ (v : View). v.slabs) seen_is ∙ mine

@@ -47,6 +47,7 @@ pub mod MoveChanges
 pub mod ChangeViews
 pub mod StripeChanges
 pub mod Joined
+pub mod Headlines
 pub mod Ends
 pub mod WholeCuts
 pub mod HandNumbers

@@ -24,7 +24,7 @@ use Rattle.mc_core.specs.Views.{held_slabs}
 use Rattle.mc_core.proofs.Codes.{all_are_sums}
 use Rattle.mc_core.proofs.Learns.{are_learned}
 use Rattle.mc_core.proofs.SeenQuiet.{held_handed_out}
-use Rattle.mc_words.specs.View.{View, held_stripes}
+use Rattle.mc_words.specs.View.{View, held_stripes, made}
 use Rattle.mc_words.specs.Layout.{head_word}
 use Rattle.mc_words.specs.Happens.{LawfulView, Happens, MayWrite}
 use Rattle.mc_words.specs.Called.{with_own_call}
@@ -237,6 +237,7 @@ module _ (view : View) (stripe : ℕ) (value : ReadyStripe) (key stamp number : 
   linked_view = h.is ∙ (λ k. record {
     setup = view.setup;
     spare = view.spare;
+    events = view.events ++ made [] (core.Link chunk) ∷ [];
     row = record {
       ids = ids_linked k;
       holdings = holdings_linked k;

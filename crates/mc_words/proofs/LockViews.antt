@@ -22,7 +22,7 @@ use Rattle.mc_core.specs.Laws.{MayStep}
 use Rattle.mc_core.proofs.Framed.{free_lock}
 use Rattle.mc_core.proofs.Plays.{hand_there}
 use Rattle.mc_core.proofs.SameSlabs.{looked_keeps}
-use Rattle.mc_words.specs.View.{Setup, View, view_at, held_stripes}
+use Rattle.mc_words.specs.View.{Setup, View, view_at, held_stripes, OwnEvent, own_event, events_of}
 use Rattle.mc_words.specs.Layout.{head_word, lock_word}
 use Rattle.mc_words.specs.Happens.{LawfulView, Happens, HappensAt}
 use Rattle.mc_words.specs.Views.{slabs_taken, slabs_given, stripe_taken, stripe_given, slabs_missed, stripe_missed, head_seen, with_looks, looked_if_held}
@@ -57,12 +57,13 @@ stripes_set setup before now id stripe value near here others =
     ])
 
 -- a view from its parts
-pub view_from : (view : View) (was : LawfulView view) (after : Moment) → ids_at after.state was.hand ≡ ids_at was.moment.state was.hand → (holdings : List Holding) → holdings_at after.state was.hand ≡ holdings → (looks : List Look) → looks_at after.state was.hand ≡ looks
+pub view_from : (view : View) (was : LawfulView view) (events : List OwnEvent) (after : Moment) → ids_at after.state was.hand ≡ ids_at was.moment.state was.hand → (holdings : List Holding) → holdings_at after.state was.hand ≡ holdings → (looks : List Look) → looks_at after.state was.hand ≡ looks
     → (knows : Knowledge) → knowledge_at after.past was.hand ≡ knows → (slabs : Option SlabState) → held_slabs after.state was.hand ≡ slabs → (stripes : List (Option ReadyStripe)) → held_stripes view.setup after.state was.hand ≡ stripes
-    → view_at view.setup view.spare after was.hand ≡ record { setup = view.setup; spare = view.spare; row = record { ids = view.row.ids; holdings = holdings; looks = looks; knows = knows }; slabs = slabs; stripes = stripes; made_of = view.made_of }
-view_from view was after ids holdings holdings_are looks looks_are knows knows_is slabs slabs_are stripes stripes_are = λ k. record {
+    → view_at view.setup view.spare events after was.hand ≡ record { setup = view.setup; spare = view.spare; events = events; row = record { ids = view.row.ids; holdings = holdings; looks = looks; knows = knows }; slabs = slabs; stripes = stripes; made_of = view.made_of }
+view_from view was events after ids holdings holdings_are looks looks_are knows knows_is slabs slabs_are stripes stripes_are = λ k. record {
   setup = view.setup;
   spare = view.spare;
+  events = events;
   row = record { ids = (ids ∙ ap (λ (v : View). v.row.ids) (sym was.is)) k; holdings = holdings_are k; looks = looks_are k; knows = knows_is k };
   slabs = slabs_are k;
   stripes = stripes_are k;
@@ -104,7 +105,7 @@ module _ (view now : View) where
       let knows = knows_after m id core.TakeSlabs refl (may_step h) refl
       ∙ (said_none ((knowledge_at m.past id).saw ++ []) (knowledge_at m.past id) (record (knowledge_at m.past id).hold { found = m.state.slabs; count = (knowledge_at m.past id).hold.count + 1 }) (knowledge_at m.past id).seen
       ∙ (λ k. let knows = knew h.was k in record knows { saw = append-nil knows.saw k; hold = record knows.hold { found = same k; count = knows.hold.count + 1 } })) in
-      h.is ∙ view_from view h.was after refl view.row.holdings (holdings_were h.was) [] (get_or-set_same m.state.looks id [] [] (rows h.was)) (slabs_taken slabs view).row.knows knows (Some slabs) held view.stripes (stripes_were h.was)
+      h.is ∙ view_from view h.was _ after refl view.row.holdings (holdings_were h.was) [] (get_or-set_same m.state.looks id [] [] (rows h.was)) (slabs_taken slabs view).row.knows knows (Some slabs) held view.stripes (stripes_were h.was)
 
   -- it was given back, with these
   pub given_slabs : Happens view [] core.GiveSlabs now → (slabs : SlabState) → view.slabs ≡ Some slabs → now ≡ slabs_given slabs view
@@ -117,7 +118,7 @@ module _ (view now : View) where
       let knows = knows_after m id core.GiveSlabs refl (may_step h) refl
       ∙ (said_none ((knowledge_at m.past id).saw ++ []) (knowledge_at m.past id) (record (knowledge_at m.past id).hold { left = m.state.slabs }) (knowledge_at m.past id).seen
       ∙ (λ k. let knows = knew h.was k in record knows { saw = append-nil knows.saw k; hold = record knows.hold { left = same k } })) in
-      h.is ∙ view_from view h.was after refl view.row.holdings (holdings_were h.was) view.row.looks (looks_were h.was) (slabs_given slabs view).row.knows knows None none view.stripes (stripes_were h.was)
+      h.is ∙ view_from view h.was _ after refl view.row.holdings (holdings_were h.was) view.row.looks (looks_were h.was) (slabs_given slabs view).row.knows knows None none view.stripes (stripes_were h.was)
 
   -- its word was seen
   pub missed_slabs : (word : ℕ) → HappensAt (lock_word 0) word view [] core.MissSlabs now → now ≡ slabs_missed word view
@@ -130,7 +131,7 @@ module _ (view now : View) where
       let knows = knows_after m id core.MissSlabs refl (may_step h) refl
       ∙ (said_none ((knowledge_at m.past id).saw ++ slabs_word m.state.slabs_lock ∷ []) (knowledge_at m.past id) (knowledge_at m.past id).hold (knowledge_at m.past id).seen
       ∙ (λ k. let knows = knew h.was k in record knows { saw = knows.saw ++ slabs_word (is k) ∷ [] })) in
-      h.is ∙ view_from view h.was after refl view.row.holdings (holdings_were h.was) view.row.looks (looks_were h.was) (slabs_missed word view).row.knows knows view.slabs (slabs_were h.was) view.stripes (stripes_were h.was)
+      h.is ∙ view_from view h.was _ after refl view.row.holdings (holdings_were h.was) view.row.looks (looks_were h.was) (slabs_missed word view).row.knows knows view.slabs (slabs_were h.was) view.stripes (stripes_were h.was)
 
   module _ (stripe : ℕ) (value : ReadyStripe) where
     -- a stripe's lock was taken, and this is its value
@@ -150,7 +151,7 @@ module _ (view now : View) where
         let knows = knows_after m id (core.TakeStripe stripe) refl (may_step h) refl
         ∙ (said_none ((knowledge_at m.past id).saw ++ []) (knowledge_at m.past id) (knowledge_at m.past id).hold (slice_set (knowledge_at m.past id).seen stripe (history_at m.state stripe))
         ∙ (λ k. let knows = knew h.was k in record knows { saw = append-nil knows.saw k; seen = slice_set knows.seen stripe (same k).state.history })) in
-        h.is ∙ view_from view h.was after refl view.row.holdings (holdings_were h.was) view.row.looks (looks_were h.was) (stripe_taken stripe value view).row.knows knows view.slabs (slabs_were h.was) (slice_set view.stripes stripe (Some value)) stripes
+        h.is ∙ view_from view h.was _ after refl view.row.holdings (holdings_were h.was) view.row.looks (looks_were h.was) (stripe_taken stripe value view).row.knows knows view.slabs (slabs_were h.was) (slice_set view.stripes stripe (Some value)) stripes
 
     -- it was given back, with this
     pub given_stripe : stripe < view.setup.config.stripes → Happens view [] (core.GiveStripe stripe) now → slice_index_or view.stripes stripe None ≡ Some value → now ≡ stripe_given stripe value view
@@ -170,7 +171,7 @@ module _ (view now : View) where
         let knows = knows_after m id (core.GiveStripe stripe) refl (may_step h) refl
         ∙ (said_none ((knowledge_at m.past id).saw ++ []) (knowledge_at m.past id) (knowledge_at m.past id).hold (slice_set (knowledge_at m.past id).seen stripe (history_at m.state stripe))
         ∙ (λ k. let knows = knew h.was k in record knows { saw = append-nil knows.saw k; seen = slice_set knows.seen stripe (same k).state.history })) in
-        h.is ∙ view_from view h.was after refl view.row.holdings (holdings_were h.was) view.row.looks (looks_were h.was) (stripe_given stripe value view).row.knows knows view.slabs (slabs_were h.was) (slice_set view.stripes stripe None) stripes
+        h.is ∙ view_from view h.was _ after refl view.row.holdings (holdings_were h.was) view.row.looks (looks_were h.was) (stripe_given stripe value view).row.knows knows view.slabs (slabs_were h.was) (slice_set view.stripes stripe None) stripes
 
 -- what a look leaves: it counts under the slabs lock alone
 looks_after : (m : Moment) (id : ℕ) (look : Look) → id < length m.state.looks → looks_at (looked m.state id look) id ≡ (if has_slabs m.state id then looks_at m.state id ++ look ∷ [] else looks_at m.state id)
@@ -183,32 +184,54 @@ looks_after m id look within = elim (has_slabs m.state id) as (λ (b : Bool). lo
 pub look_holds : (look : Look) (view : View) → (looked_if_held look view).row.holdings ≡ view.row.holdings
 look_holds look view = refl
 
--- a view after a step that looks
-view_looked : (view now : View) (step : Step) (h : Happens view [] step now) (look : Look) (sight : Sight) → (moment_stepped h.was.moment h.was.hand step).state ≡ looked h.was.moment.state h.was.hand look
-    → knowledge_at (moment_stepped h.was.moment h.was.hand step).past h.was.hand ≡ record view.row.knows { saw = view.row.knows.saw ++ sight ∷ [] } → now ≡ looked_if_held look (views.saw sight view)
-view_looked view now step h look sight state_is knows =
-    let m : Moment = h.was.moment in
-    let id : ℕ = h.was.hand in
-    let after : Moment = moment_stepped m id step in
+-- what a moment that looked has of the hand
+looked_from : (view : View) (m : Moment) (id : ℕ) (events now_made : List OwnEvent) → view ≡ view_at view.setup view.spare events m id → id < length m.state.looks → (after : Moment) (look : Look) (sight : Sight) → after.state ≡ looked m.state id look
+    → knowledge_at after.past id ≡ record view.row.knows { saw = view.row.knows.saw ++ sight ∷ [] } → view_at view.setup view.spare now_made after id ≡ record (looked_if_held look (views.saw sight view)) { events = now_made }
+looked_from view m id events now_made is near after look sight state_is knows =
     let kept : (T : Type 0) (part : State → T) → part (with_look m.state id look) ≡ part m.state → part after.state ≡ part m.state = λ T part same. ap part state_is ∙ looked_keeps part m.state id look same in
     let looks : List Look = if has_slabs m.state id then looks_at m.state id ++ look ∷ [] else looks_at m.state id in
-    h.is
-    ∙ (view_from view h.was after (kept Ids (λ s. ids_at s id) refl) view.row.holdings (kept (List Holding) (λ s. holdings_at s id) refl ∙ holdings_were view now h.was) looks (ap (λ (s : State). looks_at s id) state_is ∙ looks_after m id look (rows view now h.was))
-    (record view.row.knows { saw = view.row.knows.saw ++ sight ∷ [] }) knows view.slabs (kept (Option SlabState) (λ s. held_slabs s id) refl ∙ slabs_were view now h.was) view.stripes (kept (List (Option ReadyStripe)) (λ s. held_stripes view.setup s id) refl ∙ stripes_were view now h.was)
-    ∙ (ap (λ (old : List Look). with_looks (if has_slabs m.state id then old ++ look ∷ [] else old) (views.saw sight view)) (looks_were view now h.was)
-    ∙ ap (λ (b : Bool). with_looks (if b then view.row.looks ++ look ∷ [] else view.row.looks) (views.saw sight view)) (sym (has_if (has_slabs m.state id) m.state.slabs) ∙ ap is_some (slabs_were view now h.was))))
+    let seen : View = record (views.saw sight view) { events = now_made } in
+    let parts : view_at view.setup view.spare now_made after id ≡ with_looks looks seen = λ k. record {
+      setup = view.setup;
+      spare = view.spare;
+      events = now_made;
+      row = record {
+        ids = (kept Ids (λ s. ids_at s id) refl ∙ ap (λ (v : View). v.row.ids) (sym is)) k;
+        holdings = (kept (List Holding) (λ s. holdings_at s id) refl ∙ ap (λ (v : View). v.row.holdings) (sym is)) k;
+        looks = (ap (λ (s : State). looks_at s id) state_is ∙ looks_after m id look near) k;
+        knows = knows k;
+      };
+      slabs = (kept (Option SlabState) (λ s. held_slabs s id) refl ∙ ap (λ (v : View). v.slabs) (sym is)) k;
+      stripes = (kept (List (Option ReadyStripe)) (λ s. held_stripes view.setup s id) refl ∙ ap (λ (v : View). v.stripes) (sym is)) k;
+      made_of = ap (λ (v : View). v.made_of) (sym is) k;
+    } in
+    parts
+    ∙ (ap (λ (old : List Look). with_looks (if has_slabs m.state id then old ++ look ∷ [] else old) seen) (ap (λ (v : View). v.row.looks) (sym is))
+    ∙ ap (λ (b : Bool). with_looks (if b then view.row.looks ++ look ∷ [] else view.row.looks) seen) (sym (has_if (has_slabs m.state id) m.state.slabs) ∙ ap is_some (ap (λ (v : View). v.slabs) (sym is))))
+
+-- a view after a step that looks
+view_looked : (view now : View) (step : Step) (h : Happens view [] step now) (look : Look) (sight : Sight) → (moment_stepped h.was.moment h.was.hand step).state ≡ looked h.was.moment.state h.was.hand look
+    → knowledge_at (moment_stepped h.was.moment h.was.hand step).past h.was.hand ≡ record view.row.knows { saw = view.row.knows.saw ++ sight ∷ [] } → now ≡ record (looked_if_held look (views.saw sight view)) { events = view.events ++ own_event [] step ∷ [] }
+view_looked view now step h look sight state_is knows =
+    h.is ∙ looked_from view h.was.moment h.was.hand (events_of h.was.hand h.was.run) (view.events ++ own_event [] step ∷ []) h.was.is (rows view now h.was) (moment_stepped h.was.moment h.was.hand step) look sight state_is knows
+
+-- the word of a stripe's lock was seen, in a moment that has this of the hand
+pub missed_from : (view : View) (m : Moment) (id : ℕ) (events now_made : List OwnEvent) → view ≡ view_at view.setup view.spare events m id → (stripe word : ℕ) → MayStep m id (core.MissStripe stripe) → slice_index m.state.stripe_locks stripe ≡ word
+    → view_at view.setup view.spare now_made (moment_stepped m id (core.MissStripe stripe)) id ≡ record (looked_if_held (SawStripe stripe word) (views.saw (stripe_word stripe word) view)) { events = now_made }
+missed_from view m id events now_made is stripe word may lock =
+    let near : id < length m.state.looks = let near = hand_there m.state id may.there in let count = may.lawful.hands.look_rows in omega arith in
+    let knows = knows_after m id (core.MissStripe stripe) refl may (looked_keeps (λ s. s.stripes) m.state id _ refl)
+    ∙ (said_none ((knowledge_at m.past id).saw ++ stripe_word stripe (slice_index m.state.stripe_locks stripe) ∷ []) (knowledge_at m.past id) (knowledge_at m.past id).hold (knowledge_at m.past id).seen
+    ∙ (λ k. let knows = ap (λ (v : View). v.row.knows) (sym is) k in record knows { saw = knows.saw ++ stripe_word stripe (lock k) ∷ [] })) in
+    looked_from view m id events now_made is near (moment_stepped m id (core.MissStripe stripe)) (SawStripe stripe word) (stripe_word stripe word) (ap (λ n. looked m.state id (SawStripe stripe n)) lock) knows
 
 -- the word of a stripe's lock was seen
 pub missed_stripe : (view now : View) (stripe word : ℕ) → stripe < view.setup.config.stripes → HappensAt (lock_word (suc stripe)) word view [] (core.MissStripe stripe) now → now ≡ stripe_missed stripe word view
 missed_stripe view now stripe word near at =
     let h = at.0 in
     let m : Moment = h.was.moment in
-    let id : ℕ = h.was.hand in
     let is : slice_index m.state.stripe_locks stripe ≡ word = sym (lock_read view.setup h.was.cuts h.was.words m.state.slabs_lock m.state.stripe_locks m.state.heads m.state.words h.was.are stripe near) ∙ at.1 in
-    let knows = knows_after m id (core.MissStripe stripe) refl (may_step h) (looked_keeps (λ s. s.stripes) m.state id _ refl)
-    ∙ (said_none ((knowledge_at m.past id).saw ++ stripe_word stripe (slice_index m.state.stripe_locks stripe) ∷ []) (knowledge_at m.past id) (knowledge_at m.past id).hold (knowledge_at m.past id).seen
-    ∙ (λ k. let knows = knew view now h.was k in record knows { saw = knows.saw ++ stripe_word stripe (is k) ∷ [] })) in
-    view_looked view now (core.MissStripe stripe) h (SawStripe stripe word) (stripe_word stripe word) (ap (λ n. looked m.state id (SawStripe stripe n)) is) knows
+    h.is ∙ missed_from view m h.was.hand (events_of h.was.hand h.was.run) (view.events ++ own_event [] (core.MissStripe stripe) ∷ []) h.was.is stripe word (may_step h) is
 
 -- a header was seen
 pub seen_head : (view now : View) (chunk : ChunkId) (word : ℕ) → has_chunk view.setup.table chunk ≡ true → HappensAt (head_word view.setup chunk) word view [] (core.Head chunk) now → now ≡ head_seen chunk (decode word) view

@@ -82,12 +82,12 @@ finished_page slabs move near =
 
 -- its word says so
 finished_cut : (cuts : List ℕ) (slabs : SlabState) (move : Moving) → move.page < length cuts → move.page < length slabs.owners → AreCut cuts slabs → AreCut (slice_set cuts move.page move.dst) (finished slabs move)
-finished_cut cuts slabs move within near cut other has = elim (cases_eq other move.page) [
+finished_cut cuts slabs move within near cut other = elim (cases_eq other move.page) [
   | inl same ↦
       subst (λ (p : ℕ). slice_index (slice_set cuts move.page move.dst) p ≡ class_of_page (finished slabs move) p) (sym same) (get_or-set_same cuts move.page move.dst 0 within ∙ sym (finished_page slabs move near))
   | inr apart ↦
       let stays : class_of_page (finished slabs move) other ≡ class_of_page slabs other = ap class_of_owner (finished_other slabs move other apart) in
-      get_or-set_other cuts move.page other move.dst 0 apart ∙ (cut other (subst (λ (n : ℕ). 1 ≤ n) stays has) ∙ sym stays)
+      get_or-set_other cuts move.page other move.dst 0 apart ∙ (cut other ∙ sym stays)
 ]
 
 -- where the page of a move stands

@@ -12,23 +12,24 @@ use Rattle.mc_core.specs.State.{State, has_stripe, ids_at, holdings_at, looks_at
 use Rattle.mc_core.specs.Silent.{allows_change, after_change, call_of, is_aside, writer_of}
 use Rattle.mc_core.specs.Past.{Moment, Own, history_at, knowledge_at, moment_changed}
 use Rattle.mc_core.specs.Views.{held_slabs}
-use Rattle.mc_core.specs.Laws.{MayChange}
+use Rattle.mc_core.specs.Laws.{MayChange, MayStep}
 use Rattle.mc_core.proofs.LawKept.{lawful_changes}
 use Rattle.mc_core.proofs.Learns.{are_learned}
 use Rattle.mc_core.proofs.SameSlabs.{looked_keeps}
 use Rattle.mc_core.proofs.SeenHolder.{held_is}
-use Rattle.mc_words.specs.View.{View, held_stripes}
+use Rattle.mc_words.specs.View.{View, held_stripes, view_at, events_of, own_event}
 use Rattle.mc_words.specs.Layout.{lock_word}
 use Rattle.mc_words.specs.Meaning.{AreCut}
 use Rattle.mc_words.specs.Happens.{LawfulView, Happens, MayTell}
 use Rattle.mc_words.specs.Called.{called, key_missed, key_not_deleted, with_own_call}
-use Rattle.mc_words.specs.Views.{stripe_missed}
+use Rattle.mc_words.specs.Views.{stripe_missed, stripe_told}
 use Rattle.mc_words.proofs.Calls.{mine_called}
 use Rattle.mc_words.proofs.Heads.{AreAll}
-use Rattle.mc_words.proofs.LockViews.{stripes_set, stripes_were, slabs_were, holdings_were, looks_were, knew, lock_count, missed_stripe}
+use Rattle.mc_words.proofs.LockViews.{stripes_set, stripes_were, slabs_were, holdings_were, looks_were, knew, lock_count, missed_stripe, missed_from}
 use Rattle.mc_words.proofs.Quiet.{columns}
 use Rattle.mc_words.proofs.StripeChanges.{stripe_near, stripe_here}
 use Rattle.mc_words.proofs.Written.{lock_read, unwritten}
+use Rattle.mc_core.specs.Lawful.{IsLawful}
 
 same_number : (a b : ℕ) → Some a ≡ Some b → a ≡ b
 same_number a b e = cc
@@ -114,49 +115,38 @@ module _ (view : View) (number stripe : ℕ) (value : ReadyStripe) (change : Cha
         (mine_called s changed.state stripe call history_more (λ i apart. ap (λ (v : ReadyStripe). v.state.history) (made_other i apart)) id number number_is (knowledge_at was.moment.past id).mine)
         ∙ (λ k. let knows = knew view view was k in record knows { mine = map (with_own_call number stripe call) knows.mine }))
 
-    -- it is of a lawful moment
-    lawful_made : LawfulView made
-    lawful_made = record {
-      moment = changed;
-      hand = id;
-      lawful = lawful_changes was.moment id change may;
-      same_table = ap (λ (s : State). s.table) state_is ∙ was.same_table;
-      hands = ap (λ (s : State). length s.ids) state_is ∙ was.hands;
-      stripes = ap (λ (s : State). length s.stripes) state_is ∙ (length-set s.stripes stripe next ∙ was.stripes);
-      there = ap (λ (s : State). Rattle.mc_core.specs.State.is_hand s id) state_is ∙ was.there;
-      is = sym (λ k. record {
-        setup = view.setup;
-        spare = view.spare;
-        row = record {
-          ids = (ap (λ (s : State). ids_at s id) state_is ∙ ap (λ (v : View). v.row.ids) (sym was.is)) k;
-          holdings = (ap (λ (s : State). holdings_at s id) state_is ∙ holdings_were view view was) k;
-          looks = (ap (λ (s : State). looks_at s id) state_is ∙ looks_were view view was) k;
-          knows = knows_made k;
-        };
-        slabs = (ap (λ (s : State). held_slabs s id) state_is ∙ slabs_were view view was) k;
-        stripes = stripes_made k;
-        made_of = ap (λ (v : View). v.made_of) (sym was.is) k;
-      });
-      words = was.words;
-      cuts = was.cuts;
-      are = subst (AreAll view.setup was.cuts was.words) (sym (ap columns state_is)) was.are;
-      cut = subst (AreCut was.cuts) (sym (ap (λ (s : State). s.slabs) state_is)) was.cut;
-    }
+    -- what the changed moment has of the hand
+    made_is : made ≡ view_at view.setup view.spare (events_of id was.run) changed id
+    made_is = sym (λ k. record {
+      setup = view.setup;
+      spare = view.spare;
+      events = ap (λ (v : View). v.events) (sym was.is) k;
+      row = record {
+        ids = (ap (λ (s : State). ids_at s id) state_is ∙ ap (λ (v : View). v.row.ids) (sym was.is)) k;
+        holdings = (ap (λ (s : State). holdings_at s id) state_is ∙ holdings_were view view was) k;
+        looks = (ap (λ (s : State). looks_at s id) state_is ∙ looks_were view view was) k;
+        knows = knows_made k;
+      };
+      slabs = (ap (λ (s : State). held_slabs s id) state_is ∙ slabs_were view view was) k;
+      stripes = stripes_made k;
+      made_of = ap (λ (v : View). v.made_of) (sym was.is) k;
+    })
+
+    lawful_changed : IsLawful changed
+    lawful_changed = lawful_changes was.moment id change may
 
   -- the call was written, which was told by a look at the word of the stripe's lock
-  pub call_written : (now : View) → Happens view (change ∷ []) (core.MissStripe stripe) now → now ≡ stripe_missed stripe (number + 1) made
-  unfolding lawful_made
+  pub call_written : (now : View) → Happens view (change ∷ []) (core.MissStripe stripe) now → now ≡ stripe_told (change ∷ []) stripe (number + 1) made
   call_written now h =
       let was = h.was in
       let held = stripe_here view stripe value w.mine was in
       let parts = and_parts _ _ h.allowed in
       let there : Rattle.mc_core.specs.State.is_hand (changed was).state was.hand ≡ true = ap (λ (s : State). Rattle.mc_core.specs.State.is_hand s was.hand) (state_is was) ∙ was.there in
-      let happens : Happens made [] (core.MissStripe stripe) now = record { was = lawful_made was; allowed = and_from _ _ there (and_parts _ _ parts.1).1; is = h.is } in
+      let then_may : MayStep (changed was) was.hand (core.MissStripe stripe) = record { lawful = lawful_changed was; there = there; allowed = (and_parts _ _ parts.1).1 } in
       let lock : slice_index was.moment.state.stripe_locks stripe ≡ number + 1 =
       (let (n, is_n, word) = held_is (slice_index was.moment.state.stripe_locks stripe) (number_at was.moment.state was.hand) held.0 in word ∙ ap (λ (k : ℕ). k + 1) (same_number n number (sym is_n ∙ number_is was))) in
-      let found : slice_index was.words (lock_word (suc stripe)) ≡ number + 1 =
-      lock_read view.setup was.cuts was.words was.moment.state.slabs_lock was.moment.state.stripe_locks was.moment.state.heads was.moment.state.words was.are stripe (stripe_near view stripe value w.mine was) ∙ lock in
-      missed_stripe made now stripe (number + 1) (stripe_near view stripe value w.mine was) (happens, found)
+      let locked : slice_index (changed was).state.stripe_locks stripe ≡ number + 1 = ap (λ (s : State). slice_index s.stripe_locks stripe) (state_is was) ∙ lock in
+      h.is ∙ missed_from made (changed was) was.hand (events_of was.hand was.run) (view.events ++ own_event (change ∷ []) (core.MissStripe stripe) ∷ []) (made_is was) stripe (number + 1) then_may locked
 
 -- a key of a stripe that the hand has, which leads nowhere and isn't aside
 pub record LeadsNowhere (view : View) (number stripe : ℕ) (value : ReadyStripe) (key : ℕ) : Type 0 where

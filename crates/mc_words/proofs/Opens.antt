@@ -99,6 +99,7 @@ module _ (setup : Setup) (small : setup.start ≤ most_issue) where
         let z : length (replicate {A = ℕ} data_words 0) ≡ data_words = length-replicate data_words 0 in
         let w : length behind_data ≡ 8 = refl in omega arith;
     slabs_lock = let long : length (replicate {A = ℕ} H 0) ≡ H = length-replicate H 0 in get_or_append_left (replicate H 0) behind_pages 0 1 (omega arith) ∙ same_entry H 1 0 0 (omega arith);
+    hands_word = let long : length (replicate {A = ℕ} H 0) ≡ H = length-replicate H 0 in get_or_append_left (replicate H 0) behind_pages 0 0 (omega arith) ∙ same_entry H 0 0 0 (omega arith);
     locks = zeros locks_from setup.config.stripes H behind_pages (omega arith);
     pages = zeros (pages_from setup) (pages_of setup.table) H behind_pages (omega arith);
     heads = ap (λ l. map decode (take headers l)) (here H (replicate H 0) behind_pages (length-replicate H 0))
@@ -109,6 +110,11 @@ module _ (setup : Setup) (small : setup.start ≤ most_issue) where
         ap (λ n. drop n (first_words setup)) e
         ∙ (past H (headers + data_words) 0 behind_pages ∙ (past headers data_words (start * 262144) behind_heads ∙ here data_words (replicate data_words 0) behind_data (length-replicate data_words 0)));
   }
+
+zero_at : (n page : ℕ) → slice_index (replicate n 0) page ≡ 0
+zero_at zero page = refl
+zero_at (suc n) zero = refl
+zero_at (suc n) (suc page) = zero_at n page
 
 many : {A : Type 0} (n i : ℕ) (a : A) → i < n → get_elem? (map some (replicate n a)) i ≡ some (some a)
 many zero i a h = absurd (omega arith)
@@ -144,10 +150,11 @@ module _ (setup : Setup) (sound : IsSound setup.table) (stripes : 1 ≤ setup.co
       all_free (suc n) (suc i) = all_free n i
 
   -- a hand that did nothing
-  pub view_first : (hand spare : ℕ) → hand < setup.hands → view_at setup spare first hand ≡ new_view setup hand spare
+  pub view_first : (hand spare : ℕ) → hand < setup.hands → view_at setup spare [] first hand ≡ new_view setup hand spare
   view_first hand spare within = λ k. record {
     setup = setup;
     spare = spare;
+    events = [];
     row = record {
       ids = get_or-map-range_with_len (λ number. record { number = Some number; stamps = 0 }) 0 setup.hands hand hand gone within (zero-add hand) k;
       holdings = same_entry setup.hands hand [] [] within k;
@@ -166,7 +173,7 @@ module _ (setup : Setup) (sound : IsSound setup.table) (stripes : 1 ≤ setup.co
     made_of = None;
   }
 
-  is_view_first : (hand spare : ℕ) → hand < setup.hands → IsViewOf setup first hand (new_view setup hand spare)
+  is_view_first : (hand spare : ℕ) → hand < setup.hands → IsViewOf setup [] first hand (new_view setup hand spare)
   is_view_first hand spare within = record {
     there = λ here. sym (view_first hand spare within);
     gone = λ none. absurd (let e : true ≡ false = sym (ap (λ (v : View). is_some v.row.ids.number) (view_first hand spare within)) ∙ none in cc);
@@ -176,14 +183,15 @@ module _ (setup : Setup) (sound : IsSound setup.table) (stripes : 1 ≤ setup.co
   opens = record {
     moment = first;
     cuts = replicate (pages_of setup.table) 0;
-    reached = record { events = []; run = record {}; end = refl };
+    run = [];
+    reached = record { is_run = record {}; end = refl };
     lawful = lawful_first setup.table setup.config.stripes setup.hands setup.start sound stripes hands few small;
     means = record {
       same_table = refl;
       hands = length-map-range_with_len _ 0 setup.hands;
       stripes = length-replicate setup.config.stripes new_stripe;
       words = words_first setup small;
-      cut = λ page has. absurd (let none = no_class (pages_of setup.table) page in omega arith);
+      cut = λ page. zero_at (pages_of setup.table) page ∙ sym (no_class (pages_of setup.table) page);
       homes = home_first;
       slots = ap suc (length-map (replicate setup.config.stripes (OfStripe new_stripe)) some ∙ length-replicate setup.config.stripes (OfStripe new_stripe)) ∙ one_more setup.config.stripes;
       views = views;
@@ -193,8 +201,8 @@ module _ (setup : Setup) (sound : IsSound setup.table) (stripes : 1 ≤ setup.co
     };
   }
     where
-      views : (id : ℕ) (v : View) → get_elem? (first_view setup ∷ []) id ≡ some v → IsViewOf setup first id v
-      views zero v at = subst (IsViewOf setup first 0) (maybe.some-injective _ v at) (is_view_first 0 (setup.hands - 1) (omega arith))
+      views : (id : ℕ) (v : View) → get_elem? (first_view setup ∷ []) id ≡ some v → IsViewOf setup [] first id v
+      views zero v at = subst (IsViewOf setup [] first 0) (maybe.some-injective _ v at) (is_view_first 0 (setup.hands - 1) (omega arith))
       views (suc id) v at = absurd (maybe.some-ne-none v (sym at))
 
       made : (id : ℕ) (v : View) → get_elem? (first_view setup ∷ []) id ≡ some v → 1 ≤ v.spare → (id ≡ 0) × (1 + v.spare ≡ setup.hands)
@@ -218,11 +226,13 @@ module _ (setup : Setup) (sound : IsSound setup.table) (stripes : 1 ≤ setup.co
     hands = length-map-range_with_len _ 0 setup.hands;
     stripes = length-replicate setup.config.stripes new_stripe;
     there = ap (λ (v : View). is_some v.row.ids.number) (view_first hand spare within);
+    run = [];
+    reached = record { is_run = record {}; end = refl };
     is = sym (view_first hand spare within);
     words = first_words setup;
     cuts = replicate (pages_of setup.table) 0;
     are = words_first setup small;
-    cut = λ page has. absurd (let none = no_class (pages_of setup.table) page in omega arith);
+    cut = λ page. zero_at (pages_of setup.table) page ∙ sym (no_class (pages_of setup.table) page);
   }
 
 -- and so it notes

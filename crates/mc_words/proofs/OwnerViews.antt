@@ -19,7 +19,7 @@ use Rattle.mc_core.specs.Run.{after_step}
 use Rattle.mc_core.proofs.Learned.{is_join}
 use Rattle.mc_words.specs.View.{View}
 use Rattle.mc_words.specs.Happens.{LawfulView, Happens}
-use Rattle.mc_words.specs.Views.{copy_holding, fresh_holding, word_filled, chunk_dropped, chunk_popped, chunk_popped_off, chunk_put_back, chunk_cleared, chunk_cut}
+use Rattle.mc_words.specs.Views.{copy_holding, fresh_holding, word_filled, chunk_discarded, chunk_popped, chunk_popped_off, chunk_put_back, chunk_cleared, chunk_cut}
 use Rattle.mc_words.proofs.Knows.{known_after, more_seen, knows_after, knows_same}
 use Rattle.mc_words.proofs.LockViews.{may_step, rows_there, view_from, holdings_were, looks_were, knew, slabs_were, stripes_were, rows}
 use Rattle.mc_words.proofs.Owners.{slabs_here}
@@ -44,16 +44,16 @@ module _ (view now : View) where
       let id : ℕ = h.was.hand in
       let after : Moment = moment_stepped m id (core.Fill chunk place word) in
       let change : List Holding → List Holding = λ holdings. change_each (is_of chunk) (filled place word) holdings in
-      h.is ∙ view_from view h.was after refl (change view.row.holdings) (get_or-set_same m.state.holdings id (change (holdings_at m.state id)) [] (holding_rows view h.was) ∙ ap change (holdings_were view now h.was)) view.row.looks (looks_were view now h.was)
+      h.is ∙ view_from view h.was _ after refl (change view.row.holdings) (get_or-set_same m.state.holdings id (change (holdings_at m.state id)) [] (holding_rows view h.was) ∙ ap change (holdings_were view now h.was)) view.row.looks (looks_were view now h.was)
       view.row.knows (learned_none (core.Fill chunk place word) h refl refl (λ knows. refl)) view.slabs (slabs_were view now h.was) view.stripes (stripes_were view now h.was)
 
   -- a fresh chunk was given up
-  pub discarded_chunk : (chunk : ChunkId) → Happens view [] (core.Discard chunk) now → now ≡ chunk_dropped chunk view
+  pub discarded_chunk : (chunk : ChunkId) → Happens view [] (core.Discard chunk) now → now ≡ chunk_discarded chunk view
   discarded_chunk chunk h =
       let m : Moment = h.was.moment in
       let id : ℕ = h.was.hand in
       let after : Moment = moment_stepped m id (core.Discard chunk) in
-      h.is ∙ view_from view h.was after refl (lose (is_of chunk) view.row.holdings) (get_or-set_same m.state.holdings id (lose (is_of chunk) (holdings_at m.state id)) [] (holding_rows view h.was) ∙ ap (lose (is_of chunk)) (holdings_were view now h.was)) view.row.looks (looks_were view now h.was)
+      h.is ∙ view_from view h.was _ after refl (lose (is_of chunk) view.row.holdings) (get_or-set_same m.state.holdings id (lose (is_of chunk) (holdings_at m.state id)) [] (holding_rows view h.was) ∙ ap (lose (is_of chunk)) (holdings_were view now h.was)) view.row.looks (looks_were view now h.was)
       view.row.knows (learned_none (core.Discard chunk) h refl refl (λ knows. refl)) view.slabs (slabs_were view now h.was) view.stripes (stripes_were view now h.was)
 
   module _ (slabs : SlabState) (mine : view.slabs ≡ Some slabs) where
@@ -69,7 +69,7 @@ module _ (view now : View) where
         let id : ℕ = h.was.hand in
         let after : Moment = moment_stepped m id (core.PutBack chunk) in
         let same = (slabs_here view h.was slabs mine).1 in
-        h.is ∙ view_from view h.was after refl view.row.holdings (holdings_were view now h.was)
+        h.is ∙ view_from view h.was _ after refl view.row.holdings (holdings_were view now h.was)
         (view.row.looks ++ PutBack chunk (with_tag_free head) ∷ [])
         (get_or-set_same m.state.looks id (looks_at m.state id ++ PutBack chunk (with_tag_free (head_at m.state chunk)) ∷ []) [] (rows view now h.was) ∙ ap₂ (λ (looks : List Look) (head : Head). looks ++ PutBack chunk (with_tag_free head) ∷ []) (looks_were view now h.was) is)
         view.row.knows (learned_none (core.PutBack chunk) h refl refl (λ knows. refl))
@@ -82,7 +82,7 @@ module _ (view now : View) where
         let id : ℕ = h.was.hand in
         let after : Moment = moment_stepped m id (core.Clear chunk) in
         let same = (slabs_here view h.was slabs mine).1 in
-        h.is ∙ view_from view h.was after refl view.row.holdings (holdings_were view now h.was)
+        h.is ∙ view_from view h.was _ after refl view.row.holdings (holdings_were view now h.was)
         (view.row.looks ++ Cleared chunk (with_tag_out head) ∷ [])
         (get_or-set_same m.state.looks id (looks_at m.state id ++ Cleared chunk (with_tag_out (head_at m.state chunk)) ∷ []) [] (rows view now h.was) ∙ ap₂ (λ (looks : List Look) (head : Head). looks ++ Cleared chunk (with_tag_out head) ∷ []) (looks_were view now h.was) is)
         view.row.knows (learned_none (core.Clear chunk) h refl refl (λ knows. refl))
@@ -96,7 +96,7 @@ module _ (view now : View) where
         let chunk : ChunkId = record { page = page; index = index } in
         let after : Moment = moment_stepped m id (core.Cut page index) in
         let same = (slabs_here view h.was slabs mine).1 in
-        h.is ∙ view_from view h.was after refl view.row.holdings (holdings_were view now h.was)
+        h.is ∙ view_from view h.was _ after refl view.row.holdings (holdings_were view now h.was)
         (view.row.looks ++ Cut chunk (with_tag_free head) ∷ [])
         (get_or-set_same m.state.looks id (looks_at m.state id ++ Cut chunk (with_tag_free (head_at m.state chunk)) ∷ []) [] (rows view now h.was) ∙ ap₂ (λ (looks : List Look) (head : Head). looks ++ Cut chunk (with_tag_free head) ∷ []) (looks_were view now h.was) is)
         view.row.knows (learned_none (core.Cut page index) h refl refl (λ knows. refl))
@@ -117,7 +117,7 @@ module _ (view now : View) where
         let new : Holding = record { chunk = chunk; issue = (head_at m.state chunk).issue + 1; kind = Rattle.mc_core.specs.declared.holding.Kind.TheVariants.Fresh Rattle.mc_core.specs.declared.holding.Purpose.TheVariants.Item (replicate (room_in m.state.table (class_of_page m.state.slabs chunk.page)) None) } in
         let held : held_slabs (popped with id (Some chunk)) id ≡ Some (slabs_changes.after_pop slabs class) =
         (λ k. Rattle.std.specs.Prelude.if◌then◌else◌ ((slabs_here view h.was slabs mine).0 k) (Some (slabs_changes.after_pop (same k) class)) None) in
-        h.is ∙ view_from view h.was after (ap (λ (s : State). Rattle.mc_core.specs.State.ids_at s id) state_is)
+        h.is ∙ view_from view h.was _ after (ap (λ (s : State). Rattle.mc_core.specs.State.ids_at s id) state_is)
         (view.row.holdings ++ fresh_holding chunk (head.issue + 1) (room_in view.setup.table class) ∷ [])
         (ap (λ (s : State). holdings_at s id) state_is
         ∙ (get_or-set_same m.state.holdings id (holdings_at m.state id ++ new ∷ []) [] (holding_rows view h.was)
@@ -144,7 +144,7 @@ module _ (view now : View) where
         let new : Holding = record { chunk = chunk; issue = (head_at m.state chunk).issue + 1; kind = Rattle.mc_core.specs.declared.holding.Kind.TheVariants.Fresh (Rattle.mc_core.specs.declared.holding.Purpose.TheVariants.Copy old) (replicate (room_in m.state.table (class_of_page m.state.slabs chunk.page)) None) } in
         let held : held_slabs (popped_off m.state id old (Some chunk)) id ≡ Some (slabs_changes.after_replace slabs chunk old) =
         (λ k. Rattle.std.specs.Prelude.if◌then◌else◌ ((slabs_here view h.was slabs mine).0 k) (Some (slabs_changes.after_replace (same k) chunk old)) None) in
-        h.is ∙ view_from view h.was after (ap (λ (s : State). Rattle.mc_core.specs.State.ids_at s id) state_is)
+        h.is ∙ view_from view h.was _ after (ap (λ (s : State). Rattle.mc_core.specs.State.ids_at s id) state_is)
         (view.row.holdings ++ copy_holding old chunk (head.issue + 1) (room_in view.setup.table class) ∷ [])
         (ap (λ (s : State). holdings_at s id) state_is
         ∙ (get_or-set_same m.state.holdings id (holdings_at m.state id ++ new ∷ []) [] (holding_rows view h.was)

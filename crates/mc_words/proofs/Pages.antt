@@ -24,7 +24,7 @@ use Rattle.mc_words.proofs.Owners.{slabs_here}
 
 -- the page has this class, and all others keep theirs
 cut_written : (cuts : List ℕ) (x : SlabState) (page class : ℕ) → page < length cuts → page < length x.owners → AreCut cuts x → AreCut (slice_set cuts page class) (after_grow x class page)
-cut_written cuts x page class within owned cut other has = elim (cases_eq other page) [
+cut_written cuts x page class within owned cut other = elim (cases_eq other page) [
   | inl same ↦
       let owners = grown_owners x class page in
       let given : class_of_page (after_grow x class page) page ≡ class =
@@ -32,7 +32,7 @@ cut_written cuts x page class within owned cut other has = elim (cases_eq other 
       subst (λ (p : ℕ). slice_index (slice_set cuts page class) p ≡ class_of_page (after_grow x class page) p) (sym same) (get_or-set_same cuts page class 0 within ∙ sym given)
   | inr apart ↦
       let stays = grown_pages x class page other apart in
-      get_or-set_other cuts page other class 0 apart ∙ (cut other (subst (λ (n : ℕ). 1 ≤ n) stays has) ∙ sym stays)
+      get_or-set_other cuts page other class 0 apart ∙ (cut other ∙ sym stays)
 ]
 
 -- a class gets the next page, whose word tells that

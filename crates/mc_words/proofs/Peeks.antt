@@ -41,7 +41,7 @@ shows setup slots id me live of place first second =
       me.0,
       keeps,
       tt,
-      ruled_next setup t r id me.0 at r.cuts m (slice_set t.words place (slice_index t.words place)) t.homes me.0 (stays m r.lawful id) r.reached
+      ruled_next setup t r id me.0 at r.cuts m r.run (slice_set t.words place (slice_index t.words place)) t.homes me.0 (stays m r.lawful id) r.reached (λ other apart. refl)
           (unwritten setup r.cuts t.words m.state.slabs_lock m.state.stripe_locks m.state.heads m.state.words r.means.words place) r.means.cut
           (subst (λ (words : List ℕ). AreHome setup words t.homes m.state) (sym (set-get_or t.words place 0)) r.means.homes) refl (r.means.views id me.0 at) refl,
       (refl, (was setup slots id me live of t r at, refl)),
@@ -59,7 +59,7 @@ class_shown view chunk room word ref shown =
     let class : ℕ = class_of_page m.state.slabs chunk.page in
     let there = placed view chunk room ref was in
     let is : class ≡ word =
-    sym (page_read view.setup was.cuts was.words m.state.slabs_lock m.state.stripe_locks m.state.heads m.state.words was.are chunk.page (page_near view was chunk room ref) ∙ was.cut chunk.page there.class.0) ∙ shown.1 in
+    sym (page_read view.setup was.cuts was.words m.state.slabs_lock m.state.stripe_locks m.state.heads m.state.words was.are chunk.page (page_near view was chunk room ref) ∙ was.cut chunk.page) ∙ shown.1 in
     let count = class_count m.state.table m.state.slabs was.lawful.paged.of_table in
     let within = there.class in
     let in_classes : is_class m.state.table class ≡ true = and_from _ _ (le-leb 1 class within.0) (le-leb class (length m.state.table.sizes) (omega arith)) in (

@@ -1,5 +1,5 @@
 -- A step that takes and gives no lock keeps the rule, where the core allows it and the word becomes what the core says.
-use Rattle.std.proofs.Common.{◌≡◌, ℕ, Bool, true, false, List, [], ◌∷◌, map, Option, Some, None, refl, sym, ap, ap₂, subst, ◌∙◌, slice_set, slice_index, is_some, if◌then◌else◌, eqb, arith}
+use Rattle.std.proofs.Common.{◌≡◌, ℕ, Bool, true, false, List, [], ◌∷◌, ◌++◌, map, Option, Some, None, refl, sym, ap, ap₂, subst, ◌∙◌, slice_set, slice_index, is_some, if◌then◌else◌, eqb, arith}
 use Rattle.std.proofs.lemmas.Bool.{and_from}
 use Rattle.std.specs.List.{range_with_len}
 use mathlib.Core.Option.{some, none}
@@ -10,6 +10,7 @@ use Rattle.atomic_table.specs.Table.{Act, Valid, stepped, keeps, carried_after, 
 use Rattle.atomic_table.proofs.Lists.{exchanged}
 use Rattle.mc_core.specs.declared.head.Head.{Head}
 use Rattle.mc_core.specs.declared.event.Change.{Change}
+use Rattle.mc_core.specs.declared.event.Event.{Event}
 use Rattle.mc_core.specs.declared.event.Step.{Step}
 use Rattle.mc_core.specs.declared.event.Step.TheVariants as core
 use Rattle.mc_core.specs.State.{State, is_held_by, is_hand, has_slabs, has_stripe, stripe_at}
@@ -25,13 +26,13 @@ use Rattle.mc_core.proofs.Next.{IsQuiet, quiet_step, quiet_change, quiet_then}
 use Rattle.mc_pages.specs.SlabState.{SlabState, class_of_owner, class_of_page}
 use Rattle.mc_pages.specs.Ledger.{owner_at}
 use Rattle.mc_words.specs.declared.slot.Slot.{Slot}
-use Rattle.mc_words.specs.View.{Setup, View, view_at, held_stripes}
-use Rattle.mc_words.specs.Meaning.{Words, WordsOf, AreCut, Ruled}
+use Rattle.mc_words.specs.View.{OwnEvent, Setup, View, events_of, own_event, view_at, held_stripes}
+use Rattle.mc_words.specs.Meaning.{Words, WordsOf, AreCut, LeadsTo, Ruled}
 use Rattle.mc_words.specs.Happens.{LawfulView, Happens, HappensAt, MayWrite, MayExchange, MayTell, event_of, is_quiet}
 use Rattle.mc_words.specs.Told.{Sits, StaysOut, TellsFound, TellsEvent, TellsChange, TellsExchange}
 use Rattle.mc_words.specs.Joining.{Rule}
-use Rattle.mc_words.proofs.Rules.{lawful_view, ruled_quiet}
-use Rattle.mc_words.proofs.Reached.{reached_more, reached_stepped}
+use Rattle.mc_words.proofs.Rules.{lawful_view, own_made, ruled_quiet}
+use Rattle.mc_words.proofs.Reached.{leads_more, leads_stepped}
 use Rattle.mc_words.proofs.Settled.{IsSettled, lifts}
 
 -- the columns that words have
@@ -123,7 +124,7 @@ pub step_pages : (s : State) (hand : ℕ) (step : Step) (page : ℕ) → class_o
 step_pages s hand step page = ap (λ owners. class_of_owner (owner_at owners page)) (owners_stay s hand step)
 
 pub cut_stays : (cuts : List ℕ) (before now : SlabState) → ((page : ℕ) → class_of_page now page ≡ class_of_page before page) → AreCut cuts before → AreCut cuts now
-cut_stays cuts before now same cut page has = let e = same page in cut page (omega arith) ∙ sym e
+cut_stays cuts before now same cut page = cut page ∙ sym (same page)
 
 module _ (setup : Setup) (slots id : ℕ) (me : Sits) (live : IsSettled me.0) (of : me.0.setup ≡ setup) where
   -- the step can be made in this state, where the word becomes so
@@ -140,11 +141,15 @@ module _ (setup : Setup) (slots id : ℕ) (me : Sits) (live : IsSettled me.0) (o
     pub there : is_hand m.state id ≡ true
     there = was.there
 
+    -- the events that the hand made
+    pub made_before : me.0.events ≡ events_of id r.run
+    made_before = ap (λ (v : View). v.events) was.is
+
     -- what stays, of a hand that follows by such a moment
-    pub stays_out : (now : Moment) → IsQuiet m now id → LawfulView (view_at setup me.0.spare now id) → StaysOut me (view_at setup me.0.spare now id, me.1)
-    stays_out now quiet lawful =
-        let is : me.0 ≡ view_at me.0.setup me.0.spare m id = was.is in
-        let is' : me.0 ≡ view_at setup me.0.spare m id = is ∙ ap (λ (s : Setup). view_at s me.0.spare m id) of in (
+    pub stays_out : (now : Moment) (events : List OwnEvent) → IsQuiet m now id → LawfulView (view_at setup me.0.spare events now id) → StaysOut me (view_at setup me.0.spare events now id, me.1)
+    stays_out now events quiet lawful =
+        let is : me.0 ≡ view_at me.0.setup me.0.spare (events_of id r.run) m id = was.is in
+        let is' : me.0 ≡ view_at setup me.0.spare (events_of id r.run) m id = is ∙ ap (λ (s : Setup). view_at s me.0.spare (events_of id r.run) m id) of in (
           refl,
           record {
             setup = sym of;
@@ -157,8 +162,9 @@ module _ (setup : Setup) (slots id : ℕ) (me : Sits) (live : IsSettled me.0) (o
         )
 
     -- a quiet next moment is one of which the hand's view is lawful
-    pub lawful_after : (cuts : List ℕ) (now : Moment) (words : List ℕ) → IsQuiet m now id → WordsOf setup cuts words now.state → AreCut cuts now.state.slabs → LawfulView (view_at setup me.0.spare now id)
-    lawful_after cuts now words quiet are cut = record {
+    pub lawful_after : (cuts : List ℕ) (now : Moment) (run : List Event) (events : List OwnEvent) (words : List ℕ) → LeadsTo setup run now → events ≡ events_of id run → IsQuiet m now id → WordsOf setup cuts words now.state → AreCut cuts now.state.slabs
+        → LawfulView (view_at setup me.0.spare events now id)
+    lawful_after cuts now run events words leads made quiet are cut = record {
       moment = now;
       hand = id;
       lawful = quiet.next.lawful;
@@ -166,34 +172,44 @@ module _ (setup : Setup) (slots id : ℕ) (me : Sits) (live : IsSettled me.0) (o
       hands = quiet.next.count ∙ r.means.hands;
       stripes = quiet.next.stripe_count ∙ r.means.stripes;
       there = ap is_some quiet.next.number ∙ there;
-      is = refl;
+      run = run;
+      reached = leads;
+      is = ap (λ (events : List OwnEvent). view_at setup me.0.spare events now id) made;
       words = words;
       cuts = cuts;
       are = are;
       cut = cut;
     }
 
+    -- what the hand has made with this event
+    abbrev now_made : List Change → Step → List OwnEvent
+    now_made before step = me.0.events ++ own_event before step ∷ []
+
     -- a step that takes and gives no lock
     pub goes : (step : Step) → is_quiet step ≡ true → (place word : ℕ) → allows_step m.state id step ≡ true → WordsOf setup r.cuts (slice_set t.words place word) (after_step m.state id step)
         → (told : ℕ → Sits → Type 0)
-        → (StaysOut me (view_at setup me.0.spare (moment_stepped m id step) id, me.1) → HappensAt place (slice_index t.words place) me.0 [] step (view_at setup me.0.spare (moment_stepped m id step) id)
-        → told (slice_index t.words place) (view_at setup me.0.spare (moment_stepped m id step) id, me.1))
+        → (StaysOut me (view_at setup me.0.spare (now_made [] step) (moment_stepped m id step) id, me.1) → HappensAt place (slice_index t.words place) me.0 [] step (view_at setup me.0.spare (now_made [] step) (moment_stepped m id step) id)
+        → told (slice_index t.words place) (view_at setup me.0.spare (now_made [] step) (moment_stepped m id step) id, me.1))
         → Goes t place told word
     goes step still place word allowed are told tells =
         let may : MayStep m id step = record { lawful = r.lawful; there = there; allowed = allowed } in
         let now : Moment = moment_stepped m id step in
+        let event : Event = event_of id [] step in
+        let events : List OwnEvent = now_made [] step in
+        let leads = leads_stepped setup r.run m id step r.reached there allowed in
+        let made : events ≡ events_of id (r.run ++ event ∷ []) = own_made setup t r id me.0 at event refl made_before in
         let quiet : IsQuiet m now id = quiet_step m id step (plain_if step still) (alone_if step still) may in
         let cut : AreCut r.cuts now.state.slabs = cut_stays r.cuts m.state.slabs now.state.slabs (λ page. step_pages m.state id step page) r.means.cut in
-        let happens : Happens me.0 [] step (view_at setup me.0.spare now id) = record {
+        let happens : Happens me.0 [] step (view_at setup me.0.spare events now id) = record {
           was = was;
           allowed = and_from _ _ there allowed;
-          is = ap (λ (s : Setup). view_at s me.0.spare now id) (sym of);
+          is = ap (λ (s : Setup). view_at s me.0.spare events now id) (sym of);
         } in (
-          view_at setup me.0.spare now id,
+          view_at setup me.0.spare events now id,
           keeps,
           tt,
-          ruled_quiet setup t r id me.0 at r.cuts now (slice_set t.words place word) there quiet (reached_stepped setup m id step r.reached there allowed) are cut,
-          tells (stays_out now quiet (lawful_after r.cuts now (slice_set t.words place word) quiet are cut)) (happens, refl),
+          ruled_quiet setup t r id me.0 at event refl r.cuts now (slice_set t.words place word) there made_before quiet leads are cut,
+          tells (stays_out now events quiet (lawful_after r.cuts now (r.run ++ event ∷ []) events (slice_set t.words place word) leads made quiet are cut)) (happens, refl),
         )
 
     -- a change, and then a step that takes and gives no lock
@@ -204,20 +220,24 @@ module _ (setup : Setup) (slots id : ℕ) (me : Sits) (live : IsSettled me.0) (o
         let first : IsQuiet m changed id = quiet_change m id change before in
         let next_may : MayStep changed id step = record { lawful = lawful_changes m id change before; there = ap is_some first.next.number ∙ there; allowed = may.step_allowed was } in
         let now : Moment = moment_stepped changed id step in
+        let event : Event = event_of id (change ∷ []) step in
+        let events : List OwnEvent = now_made (change ∷ []) step in
         let quiet : IsQuiet m now id = quiet_then m changed now id first (quiet_step changed id step (plain_if step still) (alone_if step still) next_may) in
         let write = may.writes was in
         let words : List ℕ = slice_set t.words place (written (slice_index t.words place)) in
         let are : WordsOf setup write.0 words now.state = subst (λ (s : Setup). WordsOf s write.0 words now.state) of write.1 in
-        let happens : Happens me.0 (change ∷ []) step (view_at setup me.0.spare now id) = record {
+        let happens : Happens me.0 (change ∷ []) step (view_at setup me.0.spare events now id) = record {
           was = was;
           allowed = and_from _ _ there (and_from _ _ (and_from _ _ before.allowed refl) next_may.allowed);
-          is = ap (λ (s : Setup). view_at s me.0.spare now id) (sym of);
-        } in (
-          view_at setup me.0.spare now id,
+          is = ap (λ (s : Setup). view_at s me.0.spare events now id) (sym of);
+        } in
+        let leads = leads_more event setup r.run m r.reached happens.allowed in
+        let made : events ≡ events_of id (r.run ++ event ∷ []) = own_made setup t r id me.0 at event refl made_before in (
+          view_at setup me.0.spare events now id,
           keeps,
           tt,
-          ruled_quiet setup t r id me.0 at write.0 now words there quiet (reached_more (event_of id (change ∷ []) step) setup m r.reached happens.allowed) are write.2,
-          (stays_out now quiet (lawful_after write.0 now words quiet are write.2), happens),
+          ruled_quiet setup t r id me.0 at event refl write.0 now words there made_before quiet leads are write.2,
+          (stays_out now events quiet (lawful_after write.0 now (r.run ++ event ∷ []) events words leads made quiet are write.2), happens),
         )
 
   -- as its callers show it
@@ -230,7 +250,7 @@ module _ (setup : Setup) (slots id : ℕ) (me : Sits) (live : IsSettled me.0) (o
         let can = may (was t r at) fits in
         let are = subst (λ (s : Setup). WordsOf s r.cuts (slice_set t.words place (written (slice_index t.words place))) (after_step m.state id step)) of can.1 in
         goes t r at step still place (written (slice_index t.words place)) can.0 are told
-        (λ out happens. tells (slice_index t.words place) (view_at setup me.0.spare (moment_stepped m id step) id) out happens))
+        (λ out happens. tells (slice_index t.words place) (view_at setup me.0.spare (now_made t r at [] step) (moment_stepped m id step) id) out happens))
 
     -- a look, or a change whose found word is told
     pub finds : (first second : ℕ) → Allows (Rule setup) slots id me place written (TellsFound step (table.step slots place first second none) me)

@@ -29,6 +29,7 @@ use Rattle.mc_words.proofs.Owners.{holdings_here, fits_here, needless, summed}
 use Rattle.mc_words.proofs.OwnerViews.{holding_rows}
 use Rattle.mc_words.proofs.Quiet.{columns}
 use Rattle.mc_words.proofs.StripeChanges.{stripe_near, stripe_here}
+use Rattle.mc_words.specs.Views.{with_event}
 
 -- the hand has the stripe of the key, which leads to this chunk
 pub record LeadsTo (view : View) (stripe : ℕ) (value : ReadyStripe) (key : ℕ) (chunk : ChunkId) (stamp : ℕ) : Type 0 where
@@ -150,7 +151,7 @@ module _ (view : View) (stripe : ℕ) (value : ReadyStripe) (key : ℕ) (chunk :
   after = moment_stepped m id (core.Refer key)
 
   abbrev told : View
-  told = item_referred new_one new_room (key_got number stripe value key view)
+  told = with_event [] (core.Refer key) (item_referred new_one new_room (key_got number stripe value key view))
 
   knows_got : knowledge_at after.past id ≡ told.row.knows
   knows_got =
@@ -168,7 +169,7 @@ module _ (view : View) (stripe : ℕ) (value : ReadyStripe) (key : ℕ) (chunk :
   pub referred_view : now ≡ told
   referred_view =
       h.is
-      ∙ view_from view h.was after (ap (λ (s : State). ids_at s id) next_is) (view.row.holdings ++ new_one ∷ [])
+      ∙ view_from view h.was _ after (ap (λ (s : State). ids_at s id) next_is) (view.row.holdings ++ new_one ∷ [])
       (ap (λ (s : State). holdings_at s id) next_is ∙ (get_or-set_same m.state.holdings id (holdings_at m.state id ++ new_one ∷ []) [] (holding_rows view h.was) ∙ ap (λ (holdings : List Holding). holdings ++ new_one ∷ []) (holdings_were view view h.was)))
       view.row.looks (ap (λ (s : State). looks_at s id) next_is ∙ looks_were view view h.was) told.row.knows knows_got
       view.slabs (ap (λ (s : State). held_slabs s id) next_is ∙ slabs_were view view h.was) (slice_set view.stripes stripe (Some got)) stripes_got

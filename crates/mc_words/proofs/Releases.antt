@@ -15,7 +15,7 @@ use Rattle.mc_core.proofs.SeenQuiet.{held_near, held_count}
 use Rattle.mc_words.specs.View.{View}
 use Rattle.mc_words.specs.Layout.{head_word}
 use Rattle.mc_words.specs.Happens.{LawfulView, Happens, MayWrite}
-use Rattle.mc_words.specs.Views.{chunk_dropped}
+use Rattle.mc_words.specs.Views.{chunk_released}
 use Rattle.mc_words.proofs.Heads.{head_is, header_written}
 use Rattle.mc_words.proofs.LockViews.{view_from, holdings_were, looks_were, slabs_were, stripes_were}
 use Rattle.mc_words.proofs.Owners.{holdings_here, fits_here, summed}
@@ -42,10 +42,10 @@ may_release view chunk holding near found linked was fits =
     )
 
 -- the hand has it no more
-pub released_chunk : (view now : View) (chunk : ChunkId) → Happens view [] (core.Release chunk) now → now ≡ chunk_dropped chunk view
+pub released_chunk : (view now : View) (chunk : ChunkId) → Happens view [] (core.Release chunk) now → now ≡ chunk_released chunk view
 released_chunk view now chunk h =
     let m : Moment = h.was.moment in
     let id : ℕ = h.was.hand in
     let after : Moment = moment_stepped m id (core.Release chunk) in
-    h.is ∙ view_from view h.was after refl (lose (is_of chunk) view.row.holdings) (get_or-set_same m.state.holdings id (lose (is_of chunk) (holdings_at m.state id)) [] (holding_rows view h.was) ∙ ap (lose (is_of chunk)) (holdings_were view now h.was)) view.row.looks (looks_were view now h.was)
+    h.is ∙ view_from view h.was _ after refl (lose (is_of chunk) view.row.holdings) (get_or-set_same m.state.holdings id (lose (is_of chunk) (holdings_at m.state id)) [] (holding_rows view h.was) ∙ ap (lose (is_of chunk)) (holdings_were view now h.was)) view.row.looks (looks_were view now h.was)
     view.row.knows (learned_none view now (core.Release chunk) h refl refl (λ knows. refl)) view.slabs (slabs_were view now h.was) view.stripes (stripes_were view now h.was)

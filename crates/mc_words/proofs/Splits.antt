@@ -1,5 +1,5 @@
 -- A hand that is made changes nothing of the moment.
-use Rattle.std.proofs.Common.{◌≡◌, ◌≢◌, ◌⊎◌, ℕ, zero, suc, ◌+◌, ◌-◌, ◌<◌, ◌≤◌, List, [], ◌∷◌, ◌++◌, map, length, None, length-append, refl, sym, ap, subst, ◌∙◌, inl, inr, arith, slice_set, length-set}
+use Rattle.std.proofs.Common.{◌≡◌, ◌≢◌, ◌⊎◌, ℕ, zero, suc, ◌+◌, ◌-◌, ◌<◌, ◌≤◌, List, [], ◌∷◌, ◌++◌, map, length, Option, None, is_none, true, length-append, refl, sym, ap, subst, ◌∙◌, inl, inr, arith, slice_set, length-set}
 use mathlib.Core.Option.{some}
 use lib.ListN.{get_elem?}
 use Rattle.atomic_table.specs.Table as table
@@ -15,7 +15,10 @@ use Rattle.mc_words.specs.Happens.{LawfulView}
 use Rattle.mc_words.specs.Joining.{IsMade, Rule, all_settled}
 use Rattle.mc_words.specs.Opening.{one_made, next_view}
 use Rattle.mc_words.specs.Arenas.{IsHandOf, setup_of, view}
-use Rattle.mc_words.specs.Hands.{AreHandsFrom}
+use Rattle.mc_words.specs.Hands.{AreHandsFrom, IsNewHand}
+use Rattle.mc_words.specs.Ready.{IsReady}
+use Rattle.mc_stripe.specs.StripeState.{ReadyStripe}
+use Rattle.std.specs.List.{list_all, range_with_len}
 use Rattle.mc_words.proofs.Settled.{settled_same, not_made}
 
 -- one entry more at the end of a list
@@ -36,9 +39,9 @@ ruled_splits setup id v more of t r at =
     let long' : length (slice_set t.views id (one_made v) ++ next_view v ∷ []) ≡ length t.views + 1 = length-append (slice_set t.views id (one_made v)) (next_view v ∷ []) ∙ ap (λ n. n + 1) long in
     let hands : v.setup.hands ≡ setup.hands = ap (λ (s : Setup). s.hands) of in
     let number : v.setup.hands - v.spare ≡ length t.views = let e = sum.1 in omega arith in
-    let made : IsViewOf setup m (length t.views) (next_view v) =
-    subst (λ (u : View). IsViewOf setup m (length t.views) u) (λ k. new_view (sym of k) (sym number k) 0) (means.unmade (length t.views) (omega arith) (let e = sum.1 in omega arith)) in
-    let kept : IsViewOf setup m id (one_made v) = record {
+    let made : IsViewOf setup r.run m (length t.views) (next_view v) =
+    subst (λ (u : View). IsViewOf setup r.run m (length t.views) u) (λ k. new_view (sym of k) (sym number k) 0) (means.unmade (length t.views) (omega arith) (let e = sum.1 in omega arith)) in
+    let kept : IsViewOf setup r.run m id (one_made v) = record {
       there = λ here. ap one_made (is.there here);
       gone = λ none. absurd (let e : v.spare ≡ 0 = ap (λ (u : View). u.spare) (is.gone none) in omega arith);
     } in
@@ -50,6 +53,7 @@ ruled_splits setup id v more of t r at =
     ] in
     record {
       moment = m;
+      run = r.run;
       cuts = r.cuts;
       lawful = r.lawful;
       reached = r.reached;
@@ -62,10 +66,10 @@ ruled_splits setup id v more of t r at =
         homes = means.homes;
         slots = means.slots;
         views = λ other u at_u. elim (which other u at_u) [
-          | inl same ↦ subst (λ (p : ℕ × View). IsViewOf setup m p.0 p.1) (λ k. (sym same.0 k, same.1 k)) kept
+          | inl same ↦ subst (λ (p : ℕ × View). IsViewOf setup r.run m p.0 p.1) (λ k. (sym same.0 k, same.1 k)) kept
           | inr else' ↦ elim else' [
             | inl there ↦ means.views other u there.1
-            | inr last ↦ subst (λ (p : ℕ × View). IsViewOf setup m p.0 p.1) (λ k. (sym last.0 k, last.1 k)) made
+            | inr last ↦ subst (λ (p : ℕ × View). IsViewOf setup r.run m p.0 p.1) (λ k. (sym last.0 k, last.1 k)) made
           ]
         ];
         most = let e = sum.1 in omega arith;
@@ -109,6 +113,8 @@ one_lawful v was = record {
   hands = was.hands;
   stripes = was.stripes;
   there = was.there;
+  run = was.run;
+  reached = was.reached;
   is = ap one_made was.is;
   words = was.words;
   cuts = was.cuts;
@@ -116,12 +122,23 @@ one_lawful v was = record {
   cut = was.cut;
 }
 
+-- a hand that did nothing may make any call
+all_none : (stripes : List ℕ) → list_all is_none (map {B = Option ReadyStripe} (λ stripe. None) stripes) ≡ true
+all_none [] = refl
+all_none (stripe ∷ stripes) = all_none stripes
+
+new_ready : (setup : Setup) (number spare : ℕ) → IsReady (new_view setup number spare)
+new_ready setup number spare = record { unlocked = all_none (range_with_len 0 setup.config.stripes); unfilled = refl; few = omega arith }
+
+pub new_hand : (arena : Arena) (number : ℕ) (hand : Hand) → IsHandOf arena hand → view hand ≡ new_view (setup_of arena) number 0 → IsNewHand arena number hand
+new_hand arena number hand of is = record { of_arena = of; new = is; ready = subst IsReady (sym is) (new_ready (setup_of arena) number 0) }
+
 -- one hand more
 pub hands_more : (arena : Arena) (number : ℕ) (hands : List Hand) (hand : Hand) → AreHandsFrom arena number hands → IsHandOf arena hand → view hand ≡ new_view (setup_of arena) (number + length hands) 0
     → AreHandsFrom arena number (hands ++ hand ∷ [])
-hands_more arena number [] hand are of is = (of, is ∙ ap (λ n. new_view (setup_of arena) n 0) (omega arith), record {})
+hands_more arena number [] hand are of is = (new_hand arena number hand of (is ∙ ap (λ n. new_view (setup_of arena) n 0) (omega arith)), record {})
 hands_more arena number (first ∷ hands) hand are of is =
-    (are.0, are.1, hands_more arena (1 + number) hands hand are.2 of (is ∙ ap (λ n. new_view (setup_of arena) n 0) (omega arith)))
+    (are.0, hands_more arena (1 + number) hands hand are.1 of (is ∙ ap (λ n. new_view (setup_of arena) n 0) (omega arith)))
 
 -- the first hand of a new arena, which made as many hands as come before this number, and makes the one of this number
 pub one_is : (setup : Setup) (number : ℕ) → one_made (new_view setup 0 (setup.hands - number)) ≡ new_view setup 0 (setup.hands - (1 + number))

@@ -1,5 +1,5 @@
 -- Room that is made in a stripe: why it may be told, and what a hand's view is afterwards.
-use Rattle.std.proofs.Common.{◌≡◌, ◌≢◌, ℕ, zero, suc, ◌+◌, ◌<◌, true, List, [], ◌∷◌, length, Option, Some, None, refl, sym, ap, subst, ◌∙◌, inl, inr, arith, zero-add, lt-ltb, slice_index, slice_index_or, slice_set, length-set, get_or-set_same, get_or-set_other, if◌then◌else◌}
+use Rattle.std.proofs.Common.{◌≡◌, ◌≢◌, ℕ, zero, suc, ◌+◌, ◌<◌, true, List, [], ◌∷◌, length, Option, Some, None, refl, sym, ap, subst, ◌∙◌, inl, inr, arith, zero-add, lt-ltb, slice_index, slice_index_or, slice_set, length-set, get_or-set_same, get_or-set_other, if◌then◌else◌, ◌++◌}
 use Rattle.std.proofs.lemmas.Bool.{cases_eq, and_from, and_parts}
 use Rattle.std.proofs.lemmas.List.FromFn.{get_or-map-range_with_len, length-map-range_with_len}
 use Rattle.mc_stripe.specs.StripeState.{ReadyStripe, new_stripe}
@@ -9,22 +9,23 @@ use Rattle.mc_core.specs.State.{State, has_stripe, number_at, stripe_at}
 use Rattle.mc_core.specs.Silent.{after_change}
 use Rattle.mc_core.specs.Past.{Moment, Own, history_at, knowledge_at, moment_changed}
 use Rattle.mc_core.specs.Views.{held_stripe}
-use Rattle.mc_core.specs.Laws.{MayChange}
+use Rattle.mc_core.specs.Laws.{MayChange, MayStep}
 use Rattle.mc_core.proofs.LawKept.{lawful_changes}
 use Rattle.mc_core.proofs.Learns.{are_learned}
 use Rattle.mc_core.proofs.SameSlabs.{looked_keeps}
 use Rattle.mc_core.proofs.SeenHolder.{held_is}
-use Rattle.mc_words.specs.View.{View, held_stripes}
+use Rattle.mc_words.specs.View.{View, held_stripes, view_at, events_of, own_event}
 use Rattle.mc_words.specs.Layout.{lock_word}
 use Rattle.mc_words.specs.Meaning.{AreCut}
 use Rattle.mc_words.specs.Happens.{LawfulView, Happens, MayTell}
 use Rattle.mc_words.specs.Views.{stripe_reserved}
 use Rattle.mc_words.proofs.Heads.{AreAll}
 use Rattle.mc_words.proofs.Knows.{mine_alike}
-use Rattle.mc_words.proofs.LockViews.{stripes_set, stripes_were, knew, lock_count, missed_stripe}
+use Rattle.mc_words.proofs.LockViews.{stripes_set, stripes_were, knew, lock_count, missed_stripe, missed_from}
 use Rattle.mc_words.proofs.Quiet.{columns}
 use Rattle.mc_words.proofs.TakeAndGive.{held_from}
 use Rattle.mc_words.proofs.Written.{lock_read, unwritten}
+use Rattle.mc_core.specs.Lawful.{IsLawful}
 
 -- what is found stands inside
 pub inside : (all : List (Option ReadyStripe)) (i : ℕ) (value : ReadyStripe) → slice_index_or all i None ≡ Some value → i < length all
@@ -119,40 +120,28 @@ module _ (view : View) (stripe : ℕ) (value : ReadyStripe) (mine : slice_index_
         are_learned.changes was.moment id (Reserve stripe) may
         ∙ (ap (λ (mine : List Own). record (knowledge_at was.moment.past id) { mine = mine }) (mine_alike s changed.state told_none id (knowledge_at was.moment.past id).mine) ∙ knew view view was)
 
-    -- it is of a lawful moment
-    lawful_made : LawfulView made
-    lawful_made = record {
-      moment = changed;
-      hand = id;
-      lawful = lawful_changes was.moment id (Reserve stripe) may;
-      same_table = was.same_table;
-      hands = was.hands;
-      stripes = length-set s.stripes stripe (ready (stripe_at s stripe)) ∙ was.stripes;
-      there = was.there;
-      is = λ k. let old = was.is k in record {
-        setup = view.setup;
-        spare = view.spare;
-        row = record { ids = old.row.ids; holdings = old.row.holdings; looks = old.row.looks; knows = sym knows_made k };
-        slabs = old.slabs;
-        stripes = sym stripes_made k;
-        made_of = old.made_of;
-      };
-      words = was.words;
-      cuts = was.cuts;
-      are = was.are;
-      cut = was.cut;
+    -- what the changed moment has of the hand
+    made_is : made ≡ view_at view.setup view.spare (events_of id was.run) changed id
+    made_is = λ k. let old = was.is k in record {
+      setup = view.setup;
+      spare = view.spare;
+      events = old.events;
+      row = record { ids = old.row.ids; holdings = old.row.holdings; looks = old.row.looks; knows = sym knows_made k };
+      slabs = old.slabs;
+      stripes = sym stripes_made k;
+      made_of = old.made_of;
     }
+
+    lawful_changed : IsLawful changed
+    lawful_changed = lawful_changes was.moment id (Reserve stripe) may
 
   -- room was made, which was told by a look at the word of the stripe's lock
   pub reserved_stripe : (now : View) (number : ℕ) → view.row.ids.number ≡ Some number → Happens view (Reserve stripe ∷ []) (core.MissStripe stripe) now → now ≡ stripe_reserved stripe value (number + 1) view
-  unfolding lawful_made
   reserved_stripe now number numbered h =
       let was = h.was in
       let held = stripe_here was in
       let parts = and_parts _ _ h.allowed in
-      let happens : Happens made [] (core.MissStripe stripe) now = record { was = lawful_made was; allowed = and_from _ _ was.there (and_parts _ _ parts.1).1; is = h.is } in
+      let then_may : MayStep (changed was) was.hand (core.MissStripe stripe) = record { lawful = lawful_changed was; there = was.there; allowed = (and_parts _ _ parts.1).1 } in
       let lock : slice_index was.moment.state.stripe_locks stripe ≡ number + 1 =
       (let (n, is_n, word) = held_is (slice_index was.moment.state.stripe_locks stripe) (number_at was.moment.state was.hand) held.0 in word ∙ ap (λ (k : ℕ). k + 1) (same_number n number (sym is_n ∙ (ap (λ (v : View). v.row.ids.number) (sym was.is) ∙ numbered)))) in
-      let found : slice_index was.words (lock_word (suc stripe)) ≡ number + 1 =
-      lock_read view.setup was.cuts was.words was.moment.state.slabs_lock was.moment.state.stripe_locks was.moment.state.heads was.moment.state.words was.are stripe (stripe_near was) ∙ lock in
-      missed_stripe made now stripe (number + 1) (stripe_near was) (happens, found)
+      h.is ∙ missed_from made (changed was) was.hand (events_of was.hand was.run) (view.events ++ own_event (Reserve stripe ∷ []) (core.MissStripe stripe) ∷ []) (made_is was) stripe (number + 1) then_may lock

@@ -1,5 +1,5 @@
 -- A lock is taken and given: its value leaves its slot, and comes back.
-use Rattle.std.proofs.Common.{◌≡◌, ◌≢◌, ℕ, zero, suc, ◌+◌, ◌<◌, ◌≤◌, ◌==◌, eqb, Bool, true, false, List, [], ◌∷◌, map, length, Some, None, refl, sym, ap, ap₂, subst, ◌∙◌, inl, inr, arith, slice_set, slice_index, slice_index_or, is_some, is_none, get_or-set_same, get_or-set_other, eq-eqb, ne_eqb, lt-ltb, length-set, zero-add, if◌then◌else◌}
+use Rattle.std.proofs.Common.{◌≡◌, ◌≢◌, ℕ, zero, suc, ◌+◌, ◌<◌, ◌≤◌, ◌==◌, eqb, Bool, true, false, List, [], ◌∷◌, ◌++◌, map, length, Some, None, refl, sym, ap, ap₂, subst, ◌∙◌, inl, inr, arith, slice_set, slice_index, slice_index_or, is_some, is_none, get_or-set_same, get_or-set_other, eq-eqb, ne_eqb, lt-ltb, length-set, zero-add, if◌then◌else◌}
 use Rattle.std.specs.List.{range_with_len}
 use Rattle.std.specs.Option.{option_map_or}
 use Rattle.std.proofs.lemmas.Bool.{and_from, cases_eq}
@@ -27,17 +27,17 @@ use Rattle.mc_words.specs.declared.slot.Slot.{Slot}
 use Rattle.mc_words.specs.declared.slot.Slot.TheVariants.{Empty, OfSlabs, OfStripe}
 use Rattle.mc_words.specs.declared.locks.Lock.{Lock}
 use Rattle.mc_words.specs.declared.locks.Lock.TheVariants.{SlabsLock, StripeLock}
-use Rattle.mc_words.specs.View.{Setup, View, view_at}
+use Rattle.mc_words.specs.View.{OwnEvent, Setup, View, events_of, own_event, view_at}
 use Rattle.mc_words.specs.Layout.{lock_word, locks_from}
 use Rattle.mc_words.specs.Meaning.{Words, AreWords, WordsOf, AreCut, Has, Ruled}
-use Rattle.mc_words.specs.Happens.{LawfulView, Happens, is_quiet}
+use Rattle.mc_words.specs.Happens.{LawfulView, Happens, event_of, is_quiet}
 use Rattle.mc_words.specs.Told.{Sits}
 use Rattle.mc_words.specs.Slots.{slot_of}
 use Rattle.mc_words.specs.Taking.{take_of, miss_of, give_of, IsLockOf, HasValue, can_give, HasStripes, Gains, Loses, IsOneHand, TakesValue, Takes, GivesValue}
 use Rattle.mc_words.specs.Joining.{Rule}
 use Rattle.mc_words.proofs.Settled.{IsSettled, lifts}
-use Rattle.mc_words.proofs.Rules.{ruled_next, is_view_now}
-use Rattle.mc_words.proofs.Reached.{reached_stepped}
+use Rattle.mc_words.proofs.Rules.{is_view_now, others_made, own_made, ruled_next}
+use Rattle.mc_words.proofs.Reached.{leads_stepped}
 use Rattle.mc_words.proofs.Written.{slabs_lock_written, lock_written, lock_read, unwritten}
 use Rattle.mc_words.proofs.Quiet.{Columns, columns, Goes, goes, was, map_map, has_if}
 
@@ -138,8 +138,15 @@ module _ (setup : Setup) (slots id : ℕ) (me : Sits) (live : IsSettled me.0) (o
     there : is_hand m.state id ≡ true
     there = (was setup slots id me live of t r at).there
 
-    own : me.0 ≡ view_at setup me.0.spare m id
-    own = (was setup slots id me live of t r at).is ∙ ap (λ (s : Setup). view_at s me.0.spare m id) of
+    own : me.0 ≡ view_at setup me.0.spare (events_of id r.run) m id
+    own = (was setup slots id me live of t r at).is ∙ ap (λ (s : Setup). view_at s me.0.spare (events_of id r.run) m id) of
+
+    -- what the hand has made with this step
+    abbrev made_with : Step → List OwnEvent
+    made_with next = me.0.events ++ own_event [] next ∷ []
+
+    made_before : me.0.events ≡ events_of id r.run
+    made_before = ap (λ (v : View). v.events) own
 
     may : (next : Step) → allows_step m.state id next ≡ true → MayStep m id next
     may next allowed = record { lawful = r.lawful; there = there; allowed = allowed }
@@ -158,30 +165,33 @@ module _ (setup : Setup) (slots id : ℕ) (me : Sits) (live : IsSettled me.0) (o
         (slot, same k apart ∙ home, has_same m.state now slabs stripes k slot has)
 
     -- what the hand knows of a next moment is of a lawful one
-    lawful_next : (now : Moment) (words : List ℕ) → IsNext m now id → WordsOf setup r.cuts words now.state → now.state.slabs ≡ m.state.slabs → LawfulView (view_at setup me.0.spare now id)
-    lawful_next now words next are slabs = record {
-      moment = now;
+    lawful_next : (step : Step) → MayStep m id step → (words : List ℕ) → IsNext m (moment_stepped m id step) id → WordsOf setup r.cuts words (moment_stepped m id step).state → (moment_stepped m id step).state.slabs ≡ m.state.slabs
+        → LawfulView (view_at setup me.0.spare (made_with step) (moment_stepped m id step) id)
+    lawful_next step can words next are slabs = record {
+      moment = moment_stepped m id step;
       hand = id;
       lawful = next.lawful;
       same_table = next.table ∙ r.means.same_table;
       hands = next.count ∙ r.means.hands;
       stripes = next.stripe_count ∙ r.means.stripes;
       there = ap is_some next.number ∙ there;
-      is = refl;
+      run = r.run ++ event_of id [] step ∷ [];
+      reached = leads_stepped setup r.run m id step r.reached there can.allowed;
+      is = ap (λ (events : List OwnEvent). view_at setup me.0.spare events (moment_stepped m id step) id) (own_made setup t r id me.0 at (event_of id [] step) refl made_before);
       words = words;
       cuts = r.cuts;
       are = are;
       cut = subst (AreCut r.cuts) (sym slabs) r.means.cut;
     }
 
-    one_hand : (now : Moment) → IsNext m now id → IsOneHand me.0 (view_at setup me.0.spare now id)
-    one_hand now next = (sym of, refl, next.number ∙ ap (λ (v : View). v.row.ids.number) (sym own))
+    one_hand : (events : List OwnEvent) (now : Moment) → IsNext m now id → IsOneHand me.0 (view_at setup me.0.spare events now id)
+    one_hand events now next = (sym of, refl, next.number ∙ ap (λ (v : View). v.row.ids.number) (sym own))
 
-    happens_by : (next : Step) → MayStep m id next → Happens me.0 [] next (view_at setup me.0.spare (moment_stepped m id next) id)
+    happens_by : (next : Step) → MayStep m id next → Happens me.0 [] next (view_at setup me.0.spare (made_with next) (moment_stepped m id next) id)
     happens_by next can = record {
       was = was setup slots id me live of t r at;
       allowed = and_from _ _ there can.allowed;
-      is = ap (λ (s : Setup). view_at s me.0.spare (moment_stepped m id next) id) (sym of);
+      is = ap (λ (s : Setup). view_at s me.0.spare (made_with next) (moment_stepped m id next) id) (sym of);
     }
 
     -- who has which stripe, before
@@ -218,7 +228,7 @@ module _ (setup : Setup) (slots id : ℕ) (me : Sits) (live : IsSettled me.0) (o
       has_it : is_held_by (number + 1) (number_at m.state id) ≡ true
       has_it = ap (is_held_by (number + 1)) number_is ∙ eq-eqb (number + 1) (number + 1) refl
 
-      has_value : (l : Lock) (slot : Slot) → IsLockOf setup l → Has m.state (slot_of l) slot → HasValue (view_at setup me.0.spare (moment_stepped m id (take_of l)) id) l slot
+      has_value : (l : Lock) (slot : Slot) → IsLockOf setup l → Has m.state (slot_of l) slot → HasValue (view_at setup me.0.spare (made_with (take_of l)) (moment_stepped m id (take_of l)) id) l slot
       has_value SlabsLock Empty within has = absurd has
       has_value SlabsLock (OfSlabs value) within has = ap (λ w. if is_held_by w (number_at m.state id) then Some m.state.slabs else None) word_is ∙ (ap (λ b. if b then Some m.state.slabs else None) has_it ∙ ap Some (sym has))
       has_value SlabsLock (OfStripe value) within has = absurd has
@@ -230,7 +240,7 @@ module _ (setup : Setup) (slots id : ℕ) (me : Sits) (live : IsSettled me.0) (o
           ∙ (ap (λ w. if is_held_by w (number_at m.state id) then Some (stripe_at m.state stripe) else None) (get_or-set_same m.state.stripe_locks stripe (core_locks.lock_word m.state id) 0 (omega arith) ∙ word_is)
           ∙ (ap (λ b. if b then Some (stripe_at m.state stripe) else None) has_it ∙ ap Some (sym has)))
 
-      gains : (l : Lock) → IsLockOf setup l → word_of m.state l ≡ 0 → Gains l me.0 (view_at setup me.0.spare (moment_stepped m id (take_of l)) id)
+      gains : (l : Lock) → IsLockOf setup l → word_of m.state l ≡ 0 → Gains l me.0 (view_at setup me.0.spare (made_with (take_of l)) (moment_stepped m id (take_of l)) id)
       gains SlabsLock within zero_is = (
         ap (λ (v : View). is_some v.slabs) own ∙ (has_if (has_slabs m.state id) m.state.slabs ∙ (ap (λ w. is_held_by w (number_at m.state id)) zero_is ∙ free_lock (number_at m.state id))),
         has_if (is_held_by (core_locks.lock_word m.state id) (number_at m.state id)) m.state.slabs ∙ (ap (λ w. is_held_by w (number_at m.state id)) word_is ∙ has_it),
@@ -258,19 +268,19 @@ module _ (setup : Setup) (slots id : ℕ) (me : Sits) (live : IsSettled me.0) (o
       pub take_goes : (told : ℕ → Sits → Type 0) → ((now : Sits) → TakesValue lock me now → told (slice_index t.words place) now) → Goes setup slots id me live of t place told (number + 1)
       take_goes told tells =
           let (slot, home, has) = r.means.homes slot_at near free in
-          let w : View = view_at setup me.0.spare taken id in (
+          let w : View = view_at setup me.0.spare (made_with (take_of lock)) taken id in (
             w,
             takes slot_at slot,
             home,
-            ruled_next setup t r id me.0 at r.cuts taken (slice_set t.words place (number + 1)) (slice_set t.homes slot_at none) w take_next (reached_stepped setup m id (take_of lock) r.reached there can_take.allowed) written (subst (AreCut r.cuts) (sym (take_slabs m.state id lock)) r.means.cut) (λ k. by_place k)
-                (length-set t.homes slot_at none) (is_view_now setup t r id me.0 at taken take_next there) refl,
+            ruled_next setup t r id me.0 at r.cuts taken (r.run ++ event_of id [] (take_of lock) ∷ []) (slice_set t.words place (number + 1)) (slice_set t.homes slot_at none) w take_next (leads_stepped setup r.run m id (take_of lock) r.reached there can_take.allowed) (others_made setup t r id me.0 at (event_of id [] (take_of lock)) refl) written (subst (AreCut r.cuts) (sym (take_slabs m.state id lock)) r.means.cut) (λ k. by_place k)
+                (length-set t.homes slot_at none) (is_view_now setup t r id me.0 at taken (r.run ++ event_of id [] (take_of lock) ∷ []) (made_with (take_of lock)) (own_made setup t r id me.0 at (event_of id [] (take_of lock)) refl made_before) take_next there) refl,
             tells (w, (slot_at, slot) ∷ me.1) (record {
               slot = slot;
               out = refl;
               value = has_value lock slot near has;
               gains = gains lock near word_free;
-              same = one_hand taken take_next;
-              lawful = lawful_next taken (slice_set t.words place (number + 1)) take_next written (take_slabs m.state id lock);
+              same = one_hand (made_with (take_of lock)) taken take_next;
+              lawful = lawful_next (take_of lock) can_take (slice_set t.words place (number + 1)) take_next written (take_slabs m.state id lock);
               happens = happens_by (take_of lock) can_take;
             }),
           )
@@ -287,14 +297,14 @@ module _ (setup : Setup) (slots id : ℕ) (me : Sits) (live : IsSettled me.0) (o
       abbrev given : Moment
       given = moment_stepped m id (give_of lock)
 
-      own_value : HasValue (view_at setup me.0.spare m id) lock slot
+      own_value : HasValue (view_at setup me.0.spare (events_of id r.run) m id) lock slot
       own_value = subst (λ (v : View). HasValue v lock slot) own value
 
       -- the lock is the hand's, and its value is the state's
-      is_held : (l : Lock) → IsLockOf setup l → HasValue (view_at setup me.0.spare m id) l slot → (is_held_by (word_of m.state l) (number_at m.state id) ≡ true) × Has m.state (slot_of l) slot
+      is_held : (l : Lock) → IsLockOf setup l → HasValue (view_at setup me.0.spare (events_of id r.run) m id) l slot → (is_held_by (word_of m.state l) (number_at m.state id) ≡ true) × Has m.state (slot_of l) slot
       is_held l within has = by_slot l slot within has
         where
-          by_slot : (l : Lock) (slot : Slot) → IsLockOf setup l → HasValue (view_at setup me.0.spare m id) l slot → (is_held_by (word_of m.state l) (number_at m.state id) ≡ true) × Has m.state (slot_of l) slot
+          by_slot : (l : Lock) (slot : Slot) → IsLockOf setup l → HasValue (view_at setup me.0.spare (events_of id r.run) m id) l slot → (is_held_by (word_of m.state l) (number_at m.state id) ≡ true) × Has m.state (slot_of l) slot
           by_slot SlabsLock Empty within has = absurd has
           by_slot SlabsLock (OfSlabs value) within has = let both = held_from (has_slabs m.state id) m.state.slabs value has in (both.0, sym both.1)
           by_slot SlabsLock (OfStripe value) within has = absurd has
@@ -322,7 +332,7 @@ module _ (setup : Setup) (slots id : ℕ) (me : Sits) (live : IsSettled me.0) (o
       written_back : WordsOf setup r.cuts (slice_set t.words place 0) given.state
       written_back = give_words setup r.cuts t.words m.state r.means.words id lock near
 
-      loses : (l : Lock) → IsLockOf setup l → Loses l me.0 (view_at setup me.0.spare (moment_stepped m id (give_of l)) id)
+      loses : (l : Lock) → IsLockOf setup l → Loses l me.0 (view_at setup me.0.spare (made_with (give_of l)) (moment_stepped m id (give_of l)) id)
       loses SlabsLock within = (
         has_if (is_held_by 0 (number_at m.state id)) m.state.slabs ∙ free_lock (number_at m.state id),
         ap (λ (v : View). map is_some v.stripes) (sym own),
@@ -348,11 +358,11 @@ module _ (setup : Setup) (slots id : ℕ) (me : Sits) (live : IsSettled me.0) (o
 
       pub give_goes : me.1 ≡ (slot_at, slot) ∷ rest me.1 → Goes setup slots id me live of t place (λ _. GivesValue lock me) 0
       give_goes out =
-          let w : View = view_at setup me.0.spare given id in
+          let w : View = view_at setup me.0.spare (made_with (give_of lock)) given id in
           let back : table.put_back t.homes me.1 ≡ slice_set t.homes slot_at (some slot) = ap (table.put_back t.homes) out in
           let rule : Ruled setup (record { words = slice_set t.words place 0; homes = slice_set t.homes slot_at (some slot); views = slice_set t.views id w }) =
-          ruled_next setup t r id me.0 at r.cuts given (slice_set t.words place 0) (slice_set t.homes slot_at (some slot)) w give_next (reached_stepped setup m id (give_of lock) r.reached there can_give_it.allowed) written_back (subst (AreCut r.cuts) (sym (give_slabs m.state id lock)) r.means.cut) (λ k. by_place k)
-          (length-set t.homes slot_at (some slot)) (is_view_now setup t r id me.0 at given give_next there) refl in (
+          ruled_next setup t r id me.0 at r.cuts given (r.run ++ event_of id [] (give_of lock) ∷ []) (slice_set t.words place 0) (slice_set t.homes slot_at (some slot)) w give_next (leads_stepped setup r.run m id (give_of lock) r.reached there can_give_it.allowed) (others_made setup t r id me.0 at (event_of id [] (give_of lock)) refl) written_back (subst (AreCut r.cuts) (sym (give_slabs m.state id lock)) r.means.cut) (λ k. by_place k)
+          (length-set t.homes slot_at (some slot)) (is_view_now setup t r id me.0 at given (r.run ++ event_of id [] (give_of lock) ∷ []) (made_with (give_of lock)) (own_made setup t r id me.0 at (event_of id [] (give_of lock)) refl made_before) give_next there) refl in (
             w,
             gives,
             tt,
@@ -360,8 +370,8 @@ module _ (setup : Setup) (slots id : ℕ) (me : Sits) (live : IsSettled me.0) (o
             record {
               out = refl;
               loses = loses lock near;
-              same = one_hand given give_next;
-              lawful = lawful_next given (slice_set t.words place 0) give_next written_back (give_slabs m.state id lock);
+              same = one_hand (made_with (give_of lock)) given give_next;
+              lawful = lawful_next (give_of lock) can_give_it (slice_set t.words place 0) give_next written_back (give_slabs m.state id lock);
               happens = happens_by (give_of lock) can_give_it;
             },
           )

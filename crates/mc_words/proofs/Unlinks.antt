@@ -19,7 +19,7 @@ use Rattle.mc_core.specs.Past.{Moment, Knowledge, Own, history_at, knowledge_at,
 use Rattle.mc_core.specs.Views.{held_slabs}
 use Rattle.mc_core.proofs.Codes.{all_are_sums}
 use Rattle.mc_core.proofs.Learns.{are_learned}
-use Rattle.mc_words.specs.View.{View, held_stripes}
+use Rattle.mc_words.specs.View.{View, held_stripes, made}
 use Rattle.mc_words.specs.Layout.{head_word}
 use Rattle.mc_words.specs.Happens.{Happens, MayWrite}
 use Rattle.mc_words.specs.Called.{key_deleted, key_lifted, key_unlinked, with_own_call}
@@ -31,6 +31,7 @@ use Rattle.mc_words.proofs.Owners.{holdings_here, fits_here, needless, summed}
 use Rattle.mc_words.proofs.Quiet.{columns}
 use Rattle.mc_words.proofs.Refers.{LeadsTo, stripe_is, value_is, leads_here, entry_near}
 use Rattle.mc_words.proofs.StripeChanges.{stripe_near, stripe_here}
+use Rattle.mc_words.specs.Views.{with_event}
 
 -- a hand that fills no chunk, or puts the first entry aside
 lifts_if : (fresh none : Bool) → (fresh ≡ true → none ≡ true) → (not fresh || none) ≡ true
@@ -132,15 +133,15 @@ module _ (view : View) (stripe : ℕ) (value : ReadyStripe) (key : ℕ) (chunk :
         })
         ∙ ap (λ (own : List Own). record view.row.knows { mine = own }) are
 
-    view_then : (mine : List Own) → own_calls_after m.state next id view.row.knows.mine ≡ mine → now ≡ record view { row = record view.row { knows = record view.row.knows { mine = mine } }; stripes = slice_set view.stripes stripe (Some then_stripe) }
+    view_then : (mine : List Own) → own_calls_after m.state next id view.row.knows.mine ≡ mine → now ≡ record view { events = view.events ++ made [] (core.Unlink key) ∷ []; row = record view.row { knows = record view.row.knows { mine = mine } }; stripes = slice_set view.stripes stripe (Some then_stripe) }
     view_then mine are =
         h.is
-        ∙ view_from view h.was after (ap (λ (s : State). ids_at s id) next_is) view.row.holdings (ap (λ (s : State). holdings_at s id) next_is ∙ holdings_were view view h.was)
+        ∙ view_from view h.was _ after (ap (λ (s : State). ids_at s id) next_is) view.row.holdings (ap (λ (s : State). holdings_at s id) next_is ∙ holdings_were view view h.was)
         view.row.looks (ap (λ (s : State). looks_at s id) next_is ∙ looks_were view view h.was) (record view.row.knows { mine = mine }) (knows_then mine are)
         view.slabs (ap (λ (s : State). held_slabs s id) next_is ∙ slabs_were view view h.was) (slice_set view.stripes stripe (Some then_stripe)) stripes_then
 
   -- an entry that is put aside is no call
-  lifted_view : has_fresh view.row.holdings ≡ true → now ≡ key_lifted stripe value key view
+  lifted_view : has_fresh view.row.holdings ≡ true → now ≡ with_event [] (core.Unlink key) (key_lifted stripe value key view)
   lifted_view fresh =
       view_then true fresh view.row.knows.mine
       (mine_alike m.state next
@@ -153,7 +154,7 @@ module _ (view : View) (stripe : ℕ) (value : ReadyStripe) (key : ℕ) (chunk :
       id view.row.knows.mine)
 
   -- and otherwise the key was deleted
-  deleted_view : has_fresh view.row.holdings ≡ false → now ≡ key_deleted number stripe value key true view
+  deleted_view : has_fresh view.row.holdings ≡ false → now ≡ with_event [] (core.Unlink key) (key_deleted number stripe value key true view)
   deleted_view fresh =
       let history : history_at next stripe ≡ history_at m.state stripe ++ Delete number key true ∷ [] =
       ap (λ (v : ReadyStripe). v.state.history) (stripe_then false fresh)
@@ -163,8 +164,8 @@ module _ (view : View) (stripe : ℕ) (value : ReadyStripe) (key : ℕ) (chunk :
 
   pub unlinked_view : now ≡ key_unlinked number stripe value key view
   unlinked_view = elim (cases_Bool (has_fresh view.row.holdings)) [
-    | inl fresh ↦ lifted_view fresh ∙ sym (ap (λ (b : Bool). if b then key_lifted stripe value key view else key_deleted number stripe value key true view) fresh)
-    | inr none ↦ deleted_view none ∙ sym (ap (λ (b : Bool). if b then key_lifted stripe value key view else key_deleted number stripe value key true view) none)
+    | inl fresh ↦ lifted_view fresh ∙ sym (ap (λ (b : Bool). with_event [] (core.Unlink key) (if b then key_lifted stripe value key view else key_deleted number stripe value key true view)) fresh)
+    | inr none ↦ deleted_view none ∙ sym (ap (λ (b : Bool). with_event [] (core.Unlink key) (if b then key_lifted stripe value key view else key_deleted number stripe value key true view)) none)
   ]
 
   -- who it is and what it holds stays

@@ -24,3 +24,8 @@ module _ (before now : View) (word : ℕ) (busy : word ≢ 0) where
     is ∙ ap (stripe_missed stripe word) same,
   )
   missed_stripe_again stripe (first ∷ words) view happens is (held, then, misses) = (held, then, missed_stripe_again stripe words (stripe_missed stripe first view) happens is misses)
+
+-- misses leave what was seen of histories
+pub misses_seen : (stripe : ℕ) (words : List ℕ) (view now : View) → MissesStripe stripe words view now → now.row.knows.seen ≡ view.row.knows.seen
+misses_seen stripe [] view now is = ap (λ (v : View). v.row.knows.seen) is
+misses_seen stripe (word ∷ words) view now (busy, happens, rest) = misses_seen stripe words (stripe_missed stripe word view) now rest

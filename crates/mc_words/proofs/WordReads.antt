@@ -26,6 +26,7 @@ use Rattle.mc_words.specs.View.{View}
 use Rattle.mc_words.specs.Layout.{data_word, data_from, data_count, config_from}
 use Rattle.mc_words.specs.Happens.{LawfulView, Happens, MayWrite}
 use Rattle.mc_words.specs.Items.{held_item}
+use Rattle.mc_words.specs.Views.{word_seen}
 use Rattle.mc_words.specs.Refs.{IsRefOf}
 use Rattle.mc_words.proofs.Written.{data_read, unwritten}
 use Rattle.mc_words.proofs.LockViews.{view_from, holdings_were, looks_were, slabs_were, stripes_were}
@@ -111,10 +112,10 @@ may_read view chunk room place ref near at was fits =
       unwritten view.setup was.cuts was.words s.slabs_lock s.stripe_locks s.heads s.words was.are at,
     )
 
--- which changes nothing
-pub read_word : (view now : View) (chunk : ChunkId) (place : ℕ) → Happens view [] (core.Word chunk place) now → now ≡ view
+-- which is an event, and nothing else
+pub read_word : (view now : View) (chunk : ChunkId) (place : ℕ) → Happens view [] (core.Word chunk place) now → now ≡ word_seen chunk place view
 read_word view now chunk place h =
     let m : Moment = h.was.moment in
     let after : Moment = moment_stepped m h.was.hand (core.Word chunk place) in
-    h.is ∙ view_from view h.was after refl view.row.holdings (holdings_were view now h.was) view.row.looks (looks_were view now h.was)
+    h.is ∙ view_from view h.was _ after refl view.row.holdings (holdings_were view now h.was) view.row.looks (looks_were view now h.was)
     view.row.knows (learned_none view now (core.Word chunk place) h refl refl (λ knows. refl)) view.slabs (slabs_were view now h.was) view.stripes (stripes_were view now h.was)

@@ -63,6 +63,7 @@ module _ (setup : Setup) (cuts words : List ℕ) (lock : ℕ) (locks : List ℕ)
     pages = before P pages words 1 word (omega arith) ∙ are.pages;
     heads = ap (map decode) (before H headers words 1 word (omega arith)) ∙ are.heads;
     items = before D words_count words 1 word (omega arith) ∙ are.items;
+    hands_word = get_or-set_other words 1 0 word 0 (λ e. omega arith) ∙ are.hands_word;
     configured = drop-set-lt C words 1 word (omega arith) ∙ are.configured;
   }
 
@@ -75,6 +76,7 @@ module _ (setup : Setup) (cuts words : List ℕ) (lock : ℕ) (locks : List ℕ)
     pages = before P pages words (2 + stripe) word (omega arith) ∙ are.pages;
     heads = ap (map decode) (before H headers words (2 + stripe) word (omega arith)) ∙ are.heads;
     items = before D words_count words (2 + stripe) word (omega arith) ∙ are.items;
+    hands_word = get_or-set_other words (2 + stripe) 0 word 0 (λ e. omega arith) ∙ are.hands_word;
     configured = drop-set-lt C words (2 + stripe) word (omega arith) ∙ are.configured;
   }
 
@@ -87,6 +89,7 @@ module _ (setup : Setup) (cuts words : List ℕ) (lock : ℕ) (locks : List ℕ)
     pages = inside P pages words page word near ∙ ap (λ (l : List ℕ). slice_set l page word) are.pages;
     heads = ap (map decode) (before H headers words (P + page) word (omega arith)) ∙ are.heads;
     items = before D words_count words (P + page) word (omega arith) ∙ are.items;
+    hands_word = get_or-set_other words (P + page) 0 word 0 (λ e. omega arith) ∙ are.hands_word;
     configured = drop-set-lt C words (P + page) word (omega arith) ∙ are.configured;
   }
 
@@ -99,6 +102,7 @@ module _ (setup : Setup) (cuts words : List ℕ) (lock : ℕ) (locks : List ℕ)
     pages = behind P pages words (H + at) (pages + at) word (omega arith) (omega arith) ∙ are.pages;
     heads = ap (map decode) (inside H headers words at word near) ∙ (map-set decode (take headers (drop H words)) at word ∙ ap (λ (l : List Head). slice_set l at (decode word)) are.heads);
     items = before D words_count words (H + at) word (omega arith) ∙ are.items;
+    hands_word = get_or-set_other words (H + at) 0 word 0 (λ e. omega arith) ∙ are.hands_word;
     configured = drop-set-lt C words (H + at) word (omega arith) ∙ are.configured;
   }
 
@@ -111,6 +115,7 @@ module _ (setup : Setup) (cuts words : List ℕ) (lock : ℕ) (locks : List ℕ)
     pages = behind P pages words (D + at) (pages + (headers + at)) word (omega arith) (omega arith) ∙ are.pages;
     heads = ap (map decode) (behind H headers words (D + at) (headers + at) word (omega arith) (omega arith)) ∙ are.heads;
     items = inside D words_count words at word near ∙ ap (λ (l : List ℕ). slice_set l at word) are.items;
+    hands_word = get_or-set_other words (D + at) 0 word 0 (λ e. omega arith) ∙ are.hands_word;
     configured = drop-set-lt C words (D + at) word (omega arith) ∙ are.configured;
   }
 

@@ -12,7 +12,9 @@ use Rattle.mc_core.specs.Evictions.{condemned}
 use Rattle.mc_core.specs.Holdings.{has_fresh}
 use Rattle.mc_core.specs.Past.{Own, known_by, with_more}
 use Rattle.mc_words.specs.View.{View}
-use Rattle.mc_words.specs.Views.{with_knowledge, with_holdings, looked, stripe_missed}
+use Rattle.mc_core.specs.declared.event.Change.TheVariants as change
+use Rattle.mc_core.specs.declared.event.Step.TheVariants as step
+use Rattle.mc_words.specs.Views.{with_event, with_knowledge, with_holdings, looked, stripe_told}
 
 -- the number's own calls on keys of this stripe, with one more
 abbrev pub with_own_call : ℕ → ℕ → Call → Own → Own
@@ -34,7 +36,7 @@ key_evicted number stripe value key view =
 
 -- and took the key's item away from this chunk, whose header was this
 abbrev pub item_condemned : ℕ → ℕ → ReadyStripe → ℕ → ChunkId → Head → View → View
-item_condemned number stripe value key chunk head view = looked (Condemned chunk (condemned head)) (key_evicted number stripe value key view)
+item_condemned number stripe value key chunk head view = with_event [] (step.Condemn chunk) (looked (Condemned chunk (condemned head)) (key_evicted number stripe value key view))
 
 -- it got this reference, to an item in a chunk with room for so many words
 abbrev pub item_referred : Holding → ℕ → View → View
@@ -43,7 +45,7 @@ item_referred holding room view =
 
 -- it looked a key up that leads nowhere, which was told by a look at the word of the stripe's lock
 abbrev pub key_missed : ℕ → ℕ → ReadyStripe → ℕ → View → View
-key_missed number stripe value key view = stripe_missed stripe (number + 1) (key_got number stripe value key view)
+key_missed number stripe value key view = stripe_told (change.GotNone key ∷ []) stripe (number + 1) (key_got number stripe value key view)
 
 -- it deleted a key, which was there or not
 abbrev pub key_deleted : ℕ → ℕ → ReadyStripe → ℕ → Bool → View → View
@@ -52,7 +54,7 @@ key_deleted number stripe value key there view =
 
 -- it deleted a key that leads nowhere, which was told by a look at the word of the stripe's lock
 abbrev pub key_not_deleted : ℕ → ℕ → ReadyStripe → ℕ → View → View
-key_not_deleted number stripe value key view = stripe_missed stripe (number + 1) (key_deleted number stripe value key false view)
+key_not_deleted number stripe value key view = stripe_told (change.DeletedNone key ∷ []) stripe (number + 1) (key_deleted number stripe value key false view)
 
 -- it put a key's entry aside, which is no call
 abbrev pub key_lifted : ℕ → ReadyStripe → ℕ → View → View
@@ -61,4 +63,4 @@ key_lifted stripe value key view = record view { stripes = slice_set view.stripe
 -- it unlinked a key's item: where it fills a chunk the entry is put aside, and otherwise the key is deleted
 abbrev pub key_unlinked : ℕ → ℕ → ReadyStripe → ℕ → View → View
 key_unlinked number stripe value key view =
-    if has_fresh view.row.holdings then key_lifted stripe value key view else key_deleted number stripe value key true view
+    with_event [] (step.Unlink key) (if has_fresh view.row.holdings then key_lifted stripe value key view else key_deleted number stripe value key true view)

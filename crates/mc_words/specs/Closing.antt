@@ -9,7 +9,6 @@ use Rattle.mc_core.specs.State.{stripe_at}
 use Rattle.mc_words.specs.declared.slot.Slot.{Slot}
 use Rattle.mc_words.specs.declared.slot.Slot.TheVariants.{Empty, OfSlabs, OfStripe}
 use Rattle.mc_words.specs.View.{Setup, View}
-use Rattle.mc_words.specs.Meaning.{IsReached}
 use Rattle.mc_words.specs.Happens.{LawfulView}
 use Rattle.mc_words.specs.Layout.{lock_word, heads_from, head_count, word_count}
 
@@ -28,7 +27,6 @@ at_home word value = if word == 0 then Some value else None
 -- the hand that closed the arena knew this in its last moment, which is lawful and was reached from the arena's beginning, and of which these headers and values are left
 pub record Closes (view : View) (left : Left) : Type 0 where
   pub was : LawfulView view
-  pub reached : IsReached view.setup was.moment
   pub setup : left.setup ≡ view.setup
   pub heads : map decode left.heads ≡ was.moment.state.heads
   pub slabs : left.slabs ≡ at_home was.moment.state.slabs_lock was.moment.state.slabs

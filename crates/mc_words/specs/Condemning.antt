@@ -9,7 +9,6 @@ use Rattle.mc_stripe.specs.Changes.{after_evict, used_up}
 use Rattle.mc_core.specs.declared.head.Head.{Head}
 use Rattle.mc_core.specs.declared.holding.Holding.{Holding}
 use Rattle.mc_core.specs.declared.look.Look.{Look}
-use Rattle.mc_core.specs.declared.look.Look.TheVariants.{Read}
 use Rattle.mc_core.specs.declared.event.Step.TheVariants as step
 use Rattle.mc_core.specs.Chunks.{is_moving_page}
 use Rattle.mc_core.specs.Evictions.{has_copy, is_linked_unheld, lacks_room, none_dead}
@@ -17,7 +16,7 @@ use Rattle.mc_core.specs.Judged.{sees_no_target}
 use Rattle.mc_words.specs.View.{View}
 use Rattle.mc_words.specs.Happens.{Happens}
 use Rattle.mc_words.specs.Items.{word_read}
-use Rattle.mc_words.specs.Views.{head_seen, looked}
+use Rattle.mc_words.specs.Views.{head_seen, held_word_seen}
 use Rattle.mc_words.specs.Called.{item_condemned}
 use Rattle.mc_words.specs.Owner.{SeesOther}
 
@@ -39,7 +38,7 @@ knows_reason table slabs looks holdings chunk =
 
 -- the hand read the chunk's key again
 abbrev pub key_seen : ChunkId → ℕ → View → View
-key_seen chunk key view = looked (Read chunk 0 key) view
+key_seen chunk key view = held_word_seen chunk 0 key view
 
 -- the hand saw that the chunk is linked and held by nobody, and took its item away; the key led to it, and leads nowhere any more
 pub record Condemns (view : View) (number stripe : ℕ) (value : ReadyStripe) (chunk : ChunkId) (left : ReadyStripe) (now : View) : Type 0 where

@@ -6,6 +6,7 @@ use Rattle.mc_words.specs.declared.arena.Arena.{Arena}
 use Rattle.mc_words.specs.declared.hand.Hand.{Hand}
 use Rattle.mc_words.specs.View.{Setup, new_view}
 use Rattle.mc_words.specs.Arenas.{IsHandOf, setup_of, view}
+use Rattle.mc_words.specs.Ready.{IsReady}
 
 -- made with this configuration, its classes, so many hands, and this issue number at first
 pub record IsMadeWith (config : Config) (hands start : ℕ) (setup : Setup) : Type 0 where
@@ -14,10 +15,16 @@ pub record IsMadeWith (config : Config) (hands start : ℕ) (setup : Setup) : Ty
   pub hands_are : setup.hands ≡ hands
   pub start_is : setup.start ≡ start
 
--- these are hands of the arena that did nothing yet, numbered on from here
+-- a hand of the arena, of this number, that did nothing yet and may make any call
+pub record IsNewHand (arena : Arena) (number : ℕ) (hand : Hand) : Type 0 where
+  pub of_arena : IsHandOf arena hand
+  pub new : view hand ≡ new_view (setup_of arena) number 0
+  pub ready : IsReady (view hand)
+
+-- these are such hands, numbered on from here
 abbrev pub AreHandsFrom : Arena → ℕ → List Hand → Type 0
 AreHandsFrom arena number [] = ⊤
-AreHandsFrom arena number (hand ∷ hands) = IsHandOf arena hand × (view hand ≡ new_view (setup_of arena) number 0) × AreHandsFrom arena (1 + number) hands
+AreHandsFrom arena number (hand ∷ hands) = IsNewHand arena number hand × AreHandsFrom arena (1 + number) hands
 
 -- all hands of a new arena, numbered from 0
 abbrev pub AreNewHands : Arena → List Hand → Type 0

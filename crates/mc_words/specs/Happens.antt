@@ -1,5 +1,5 @@
 -- Events of the core, as the hand that makes them knows them.
-use Rattle.std.specs.Prelude.{◌≡◌, ℕ, ◌<◌, ◌^◌, Bool, true, false, List, length, is_some, map, slice_index, slice_set}
+use Rattle.std.specs.Prelude.{◌≡◌, ℕ, ◌<◌, ◌^◌, Bool, true, false, List, [], ◌∷◌, ◌++◌, length, is_some, map, slice_index, slice_set}
 use Rattle.mc_core.specs.declared.event.Change.{Change}
 use Rattle.mc_core.specs.declared.event.Event.{Event}
 use Rattle.mc_core.specs.declared.event.Step.{Step}
@@ -9,8 +9,8 @@ use Rattle.mc_core.specs.Past.{Moment, moment_after}
 use Rattle.mc_core.specs.Lawful.{IsLawful}
 use Rattle.mc_core.specs.Silent.{allows_change, after_change}
 use Rattle.mc_core.specs.Run.{allows_step, after_step, is_allowed}
-use Rattle.mc_words.specs.View.{View, view_at}
-use Rattle.mc_words.specs.Meaning.{WordsOf, AreCut}
+use Rattle.mc_words.specs.View.{View, events_of, own_event, view_at}
+use Rattle.mc_words.specs.Meaning.{WordsOf, AreCut, LeadsTo}
 
 -- the view is what a lawful moment has of a hand; with the words that the table had then, and the classes of its pages
 pub record LawfulView (view : View) : Type 0 where
@@ -21,7 +21,10 @@ pub record LawfulView (view : View) : Type 0 where
   pub hands : length moment.state.ids ≡ view.setup.hands
   pub stripes : length moment.state.stripes ≡ view.setup.config.stripes
   pub there : is_hand moment.state hand ≡ true
-  pub is : view ≡ view_at view.setup view.spare moment hand
+  -- it comes after these events, from the arena's beginning on, of which the view has those that the hand made
+  pub run : List Event
+  pub reached : LeadsTo view.setup run moment
+  pub is : view ≡ view_at view.setup view.spare (events_of hand run) moment hand
   pub words : List ℕ
   pub cuts : List ℕ
   pub are : WordsOf view.setup cuts words moment.state
@@ -35,7 +38,7 @@ event_of hand before step = record { hand = hand; before = before; step = step }
 pub record Happens (view : View) (before : List Change) (step : Step) (now : View) : Type 0 where
   pub was : LawfulView view
   pub allowed : is_allowed was.moment.state (event_of was.hand before step) ≡ true
-  pub is : now ≡ view_at view.setup view.spare (moment_after was.moment (event_of was.hand before step)) was.hand
+  pub is : now ≡ view_at view.setup view.spare (view.events ++ own_event before step ∷ []) (moment_after was.moment (event_of was.hand before step)) was.hand
 
 -- and the word was found so
 abbrev pub HappensAt : ℕ → ℕ → View → List Change → Step → View → Type 0

@@ -11,7 +11,7 @@ use Rattle.mc_words.specs.Items.{held_item}
 use Rattle.mc_words.specs.Called.{item_referred}
 use Rattle.mc_words.specs.Owner.{SeesOther}
 use Rattle.mc_words.specs.Referring.{reference_to}
-use Rattle.mc_words.specs.Views.{head_seen}
+use Rattle.mc_words.specs.Views.{head_seen, with_event}
 
 -- the chunk of this header is linked, and was handed out with this issue number
 abbrev pub is_there : ℕ → Head → Bool
@@ -25,7 +25,7 @@ pub record RefersAgain (view : View) (chunk : ChunkId) (issue room : ℕ) (now :
   -- has as many words as it says
   pub whole : length item ≡ length_of item
   pub happens : Happens view [] (step.Again chunk issue) now
-  pub is : now ≡ item_referred (reference_to chunk issue item) room view
+  pub is : now ≡ with_event [] (step.Again chunk issue) (item_referred (reference_to chunk issue item) room view)
 
 -- it saw the item there, and then got the reference
 pub record GetsAgain (view : View) (chunk : ChunkId) (issue room : ℕ) (now : View) : Type 0 where

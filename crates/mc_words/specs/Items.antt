@@ -1,10 +1,12 @@
 -- The items of chunks, as a hand knows them.
-use Rattle.std.specs.Prelude.{ℕ, List, [], Option, None}
+use Rattle.std.specs.Prelude.{◌≡◌, ◌<◌, ℕ, List, [], length, slice_index, slice_index_or, Option, None, Contains}
+use Rattle.mc_core.specs.Knowing.{IsSaid}
+use Rattle.mc_core.specs.Past.{Known, Moment}
 use Rattle.std.specs.List.{fold}
 use Rattle.std.specs.Option.{option_map_or}
 use Rattle.mc_pages.specs.declared.ids.ChunkId.{ChunkId}
 use Rattle.mc_core.specs.declared.holding.Holding.{Holding}
-use Rattle.mc_core.specs.Holdings.{Words, holding_of, item_of, words_of}
+use Rattle.mc_core.specs.Holdings.{Words, holding_of, item_of, stamp_of, words_of}
 use Rattle.mc_core.specs.Seen.{last_read}
 use Rattle.mc_words.specs.View.{View}
 
@@ -23,3 +25,12 @@ words_in view chunk = option_map_or words_of (holding_of chunk view.row.holdings
 -- the issue number with which that chunk was handed out
 abbrev pub issue_in : View → ChunkId → ℕ
 issue_in view chunk = option_map_or (λ (holding : Holding). holding.issue) (holding_of chunk view.row.holdings) 0
+
+-- some hand knows an item of this chunk, whose words it said itself or some other did, and this is its word at the place, if it has so many
+pub record IsWordOfItem (moment : Moment) (chunk : ChunkId) (place word : ℕ) : Type 0 where
+  pub hand : ℕ
+  pub item : Known
+  pub known : Contains (slice_index_or moment.past.known hand []) item
+  pub there : item.chunk ≡ chunk
+  pub said : IsSaid moment.past.said (stamp_of item.words) item.words
+  pub is_word : place < length item.words → slice_index item.words place ≡ word

@@ -1,5 +1,5 @@
 -- Two hands that become one.
-use Rattle.std.specs.Prelude.{◌≡◌, ℕ, true, [], map, Some, None, Contains}
+use Rattle.std.specs.Prelude.{◌≡◌, ℕ, true, List, [], ◌∷◌, ◌++◌, map, Some, None, Contains}
 use mathlib.Core.Option.{some}
 use lib.ListN.{get_elem?}
 use Rattle.mc_core.specs.declared.event.Step.TheVariants.{Join}
@@ -7,19 +7,20 @@ use Rattle.mc_core.specs.Holdings.{stamp_of}
 use Rattle.mc_core.specs.Past.{Known, Knowledge, Saying, moment_after}
 use Rattle.mc_core.specs.Run.{is_allowed}
 use Rattle.mc_core.specs.Views.{Row, row_at}
-use Rattle.mc_words.specs.View.{Setup, View, view_at, settled}
+use Rattle.mc_words.specs.View.{OwnEvent, Setup, View, events_of, joined, view_at, settled}
 use Rattle.mc_words.specs.Meaning.{Words, Ruled}
 use Rattle.mc_words.specs.Happens.{LawfulView, event_of}
 use Rattle.mc_words.specs.Told.{Sits, At}
 
--- a hand took over another one, whose row this was: one event of the core, in a lawful moment in which it was allowed; the hand knew
+-- a hand took over another one, whose row and events these were: one event of the core, in a lawful moment in which it was allowed; the hand knew
 -- the one view before it, and the other after it
-pub record Joins (view : View) (row : Row) (now : View) : Type 0 where
+pub record Joins (view : View) (row : Row) (events : List OwnEvent) (now : View) : Type 0 where
   pub was : LawfulView view
   pub spent : ℕ
   pub row_is : row ≡ row_at was.moment spent
+  pub events_are : events ≡ events_of spent was.run
   pub allowed : is_allowed was.moment.state (event_of was.hand [] (Join was.hand spent)) ≡ true
-  pub is : now ≡ view_at view.setup view.spare (moment_after was.moment (event_of was.hand [] (Join was.hand spent))) was.hand
+  pub is : now ≡ view_at view.setup view.spare (view.events ++ joined ∷ []) (moment_after was.moment (event_of was.hand [] (Join was.hand spent))) was.hand
 
 -- what a hand said and knows agrees: words are said with a stamp once, one chunk with one issue has one item, and an item's words are
 -- those that were said with its stamp
@@ -30,7 +31,7 @@ pub record Agrees (knows : Knowledge) : Type 0 where
 
 -- what was made of two rows was made by a join
 abbrev pub IsMade : View → Type 0
-IsMade view = (kept spent : Row) → view.made_of ≡ Some (kept, spent) → Joins (record view { row = kept; made_of = None }) spent (settled view)
+IsMade view = (kept spent : Row) (own others : List OwnEvent) → view.made_of ≡ Some (kept, spent, own, others) → Joins (record view { events = own; row = kept; made_of = None }) spent others (settled view)
 
 -- the table, where each hand is told of what it was made of
 abbrev pub all_settled : Words → Words

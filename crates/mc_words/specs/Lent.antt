@@ -1,10 +1,13 @@
 -- What a hand finds behind a lock that it takes.
-use Rattle.std.specs.Prelude.{◌≡◌, ℕ, ◌%◌, slice_index_or, Some, None, All}
+use Rattle.std.specs.Prelude.{◌≡◌, ◌==◌, ℕ, ◌%◌, List, [], filter, slice_get, slice_index_or, Some, None, All}
 use Rattle.mc_pages.specs.declared.ids.ChunkId.{ChunkId}
 use Rattle.mc_pages.specs.ClassState.{times}
 use Rattle.mc_pages.specs.SlabState.{SlabState, class_of_chunk}
 use Rattle.mc_stripe.specs.StripeState.{ReadyStripe, place_of}
+use Rattle.mc_stripe.specs.declared.history.Call.{Call}
 use Rattle.mc_stripe.specs.Legal.{IsLegal}
+use Rattle.mc_core.specs.Histories.{IsBeginning, hand_of}
+use Rattle.mc_core.specs.Past.{Own}
 use Rattle.mc_core.specs.InOrder.{IsOfTable}
 use Rattle.mc_words.specs.View.{View}
 
@@ -27,3 +30,9 @@ pub record IsLentStripe (view : View) (number : ℕ) (stripe : ReadyStripe) : Ty
   pub whole : stripe.state.aside ≡ None
   -- each key that leads somewhere is one of the stripe's
   pub keys : (key : ℕ) (place : ChunkId × ℕ) → place_of stripe.state key ≡ Some place → key % view.setup.config.stripes ≡ number
+  -- of each number of the hand its entries are the hand's own calls
+  pub own : All (λ (own : Own). slice_index_or own.calls number [] ≡ filter (λ call. hand_of call == own.number) stripe.state.history) view.row.knows.mine
+
+-- the history that was found begins with all that the hand had seen of it
+abbrev pub BeginsWithSeen : View → ℕ → ReadyStripe → Type 0
+BeginsWithSeen view number stripe = (seen : List Call) → slice_get view.row.knows.seen number ≡ Some seen → IsBeginning seen stripe.state.history

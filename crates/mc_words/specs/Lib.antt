@@ -34,3 +34,6 @@ pub mod Sweeping
 pub mod Arenas
 pub mod Refused
 pub mod Hands
+pub mod Observers
+pub mod Ready
+pub mod Headline

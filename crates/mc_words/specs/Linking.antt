@@ -11,7 +11,8 @@ use Rattle.mc_core.specs.declared.holding.Purpose.TheVariants as purpose
 use Rattle.mc_core.specs.Holdings.{Words, holding_of, is_complete, is_of, item_in, key_in, lose, numbers, stamp_in}
 use Rattle.mc_core.specs.Items.{are_same, is_entry_aside, stamped}
 use Rattle.mc_core.specs.Past.{known_by}
-use Rattle.mc_words.specs.View.{View}
+use Rattle.mc_core.specs.declared.event.Step.TheVariants.{Link}
+use Rattle.mc_words.specs.View.{View, made}
 use Rattle.mc_words.specs.Called.{with_own_call}
 use Rattle.mc_words.specs.Referring.{reference_to}
 
@@ -29,6 +30,7 @@ pub record IsItemFilled (view : View) (chunk : ChunkId) (issue : ℕ) (words : W
 -- the hand of this number linked the item: it refers to it, said its words with its stamp, and told the key's stripe
 abbrev pub item_linked : ℕ → ℕ → ReadyStripe → ℕ → ℕ → ChunkId → ℕ → Words → ℕ → View → View
 item_linked number stripe value key stamp chunk issue words room view = record view {
+  events = view.events ++ made [] (Link chunk) ∷ [];
   row = record {
     ids = stamped view.row.ids;
     holdings = lose (is_of chunk) view.row.holdings ++ reference_to chunk issue (numbers (item_in words)) ∷ [];
@@ -60,6 +62,7 @@ pub record IsCopyFilled (view : View) (stripe : StripeState) (chunk : ChunkId) (
 -- the hand of this number linked the copy: it refers to it, and told the key's stripe; it gave out no stamp and said nothing
 abbrev pub copy_linked : ℕ → ℕ → ReadyStripe → ℕ → ChunkId → ℕ → Words → ℕ → View → View
 copy_linked number stripe value key chunk issue words room view = record view {
+  events = view.events ++ made [] (Link chunk) ∷ [];
   row = record {
     ids = view.row.ids;
     holdings = lose (is_of chunk) view.row.holdings ++ reference_to chunk issue (numbers (item_in words)) ∷ [];

@@ -14,7 +14,7 @@ use Rattle.mc_core.specs.Laws.{IsRun, moment_at_end}
 use Rattle.mc_core.specs.Lawful.{IsLawful}
 use Rattle.mc_words.specs.declared.slot.Slot.{Slot}
 use Rattle.mc_words.specs.declared.slot.Slot.TheVariants.{Empty, OfSlabs, OfStripe}
-use Rattle.mc_words.specs.View.{Setup, View, view_at, new_view, spent_view}
+use Rattle.mc_words.specs.View.{Setup, View, events_of, view_at, new_view, spent_view}
 use Rattle.mc_words.specs.Layout.{slabs_word, locks_from, lock_word, pages_from, heads_from, head_count, data_from, data_count, config_from, config_words, word_count}
 
 -- words of 64 bits, values at home, and views
@@ -24,6 +24,8 @@ Words = table.State Slot View
 -- the words are these columns
 pub record AreWords (setup : Setup) (cuts words : List ℕ) (lock : ℕ) (stripe_locks : List ℕ) (headers : List Head) (stored : List ℕ) : Type 0 where
   pub wide : length words ≡ word_count setup
+  -- nothing is written into the word of the hands
+  pub hands_word : slice_index words 0 ≡ 0
   pub slabs_lock : slice_index words slabs_word ≡ lock
   pub locks : take setup.config.stripes (drop locks_from words) ≡ stripe_locks
   pub pages : take (pages_of setup.table) (drop (pages_from setup) words) ≡ cuts
@@ -48,17 +50,26 @@ Has state (suc stripe) Empty = ⊥
 abbrev pub AreHome : Setup → List ℕ → List (mathlib.Core.Option.Option Slot) → State → Type 0
 AreHome setup words homes state = (lock : ℕ) → lock ≤ setup.config.stripes → slice_index words (lock_word lock) ≡ 0 → (slot : Slot) × (get_elem? homes lock ≡ some (some slot)) × Has state lock slot
 
--- the view is what the moment has of the hand; a hand that is gone has one constant
-pub record IsViewOf (setup : Setup) (moment : Moment) (hand : ℕ) (view : View) : Type 0 where
-  pub there : is_hand moment.state hand ≡ true → view ≡ view_at setup view.spare moment hand
+-- before anything was done in an arena
+abbrev pub beginning_of : Setup → Moment
+beginning_of setup = first_moment setup.table setup.config.stripes setup.hands setup.start
+
+-- the moment comes after these events, each of which was allowed, from the beginning on
+pub record LeadsTo (setup : Setup) (run : List Event) (moment : Moment) : Type 0 where
+  pub is_run : IsRun (beginning_of setup) run
+  pub end : moment_at_end (beginning_of setup) run ≡ moment
+
+-- the view is what the moment has of the hand, with the events that it made of the run; a hand that is gone has one constant
+pub record IsViewOf (setup : Setup) (run : List Event) (moment : Moment) (hand : ℕ) (view : View) : Type 0 where
+  pub there : is_hand moment.state hand ≡ true → view ≡ view_at setup view.spare (events_of hand run) moment hand
   pub gone : is_hand moment.state hand ≡ false → view ≡ spent_view
 
--- the word of each page that a class has is that class
+-- the word of each page is the class that has it, 0 where none has
 abbrev pub AreCut : List ℕ → SlabState → Type 0
-AreCut cuts slabs = (page : ℕ) → 1 ≤ class_of_page slabs page → slice_index cuts page ≡ class_of_page slabs page
+AreCut cuts slabs = (page : ℕ) → slice_index cuts page ≡ class_of_page slabs page
 
 -- the table is the moment; a hand that isn't made yet has done nothing
-pub record Means (setup : Setup) (cuts : List ℕ) (t : Words) (moment : Moment) : Type 0 where
+pub record Means (setup : Setup) (cuts : List ℕ) (run : List Event) (t : Words) (moment : Moment) : Type 0 where
   pub same_table : moment.state.table ≡ setup.table
   pub hands : length moment.state.ids ≡ setup.hands
   pub stripes : length moment.state.stripes ≡ setup.config.stripes
@@ -66,27 +77,18 @@ pub record Means (setup : Setup) (cuts : List ℕ) (t : Words) (moment : Moment)
   pub cut : AreCut cuts moment.state.slabs
   pub homes : AreHome setup t.words t.homes moment.state
   pub slots : length t.homes ≡ 1 + setup.config.stripes
-  pub views : (hand : ℕ) (view : View) → get_elem? t.views hand ≡ some view → IsViewOf setup moment hand view
+  pub views : (hand : ℕ) (view : View) → get_elem? t.views hand ≡ some view → IsViewOf setup run moment hand view
   pub most : length t.views ≤ setup.hands
   -- the first hand makes the others
   pub made : (hand : ℕ) (view : View) → get_elem? t.views hand ≡ some view → 1 ≤ view.spare → (hand ≡ 0) × (length t.views + view.spare ≡ setup.hands)
-  pub unmade : (hand : ℕ) → length t.views ≤ hand → hand < setup.hands → IsViewOf setup moment hand (new_view setup hand 0)
-
--- before anything was done in an arena
-abbrev pub beginning_of : Setup → Moment
-beginning_of setup = first_moment setup.table setup.config.stripes setup.hands setup.start
-
--- the moment comes after events, each of which was allowed, from the beginning on
-pub record IsReached (setup : Setup) (moment : Moment) : Type 0 where
-  pub events : List Event
-  pub run : IsRun (beginning_of setup) events
-  pub end : moment_at_end (beginning_of setup) events ≡ moment
+  pub unmade : (hand : ℕ) → length t.views ≤ hand → hand < setup.hands → IsViewOf setup run moment hand (new_view setup hand 0)
 
 -- the rule of the table: it means a lawful moment, which was reached from the arena's beginning
 pub record Ruled (setup : Setup) (t : Words) : Type 0 where
   pub moment : Moment
+  pub run : List Event
   -- what the words of the pages say
   pub cuts : List ℕ
-  pub means : Means setup cuts t moment
+  pub means : Means setup cuts run t moment
   pub lawful : IsLawful moment
-  pub reached : IsReached setup moment
+  pub reached : LeadsTo setup run moment

@@ -11,14 +11,15 @@ use Rattle.mc_core.specs.Holdings.{change_each, is_copy_of, key_of, length_of, s
 use Rattle.mc_words.specs.View.{View}
 use Rattle.mc_words.specs.Happens.{Happens}
 use Rattle.mc_words.specs.Items.{word_read}
-use Rattle.mc_words.specs.Views.{head_seen, looked, with_holdings}
+use Rattle.mc_words.specs.Views.{head_seen, looked, with_event, with_holdings}
 use Rattle.mc_words.specs.Called.{key_lifted}
 use Rattle.mc_words.specs.Condemning.{key_read, key_seen}
 
 -- the hand took the item with these words away from this chunk, whose header was this: each copy of it that the hand holds is to have them
 abbrev pub original_condemned : ℕ → ReadyStripe → ℕ → ChunkId → List ℕ → Head → View → View
 original_condemned stripe value key chunk item head view =
-    looked (Condemned chunk (condemned head)) (key_lifted stripe value key (with_holdings (change_each (is_copy_of chunk) (as_rescue chunk item) view.row.holdings) view))
+    with_event [] (step.Condemn chunk)
+    (looked (Condemned chunk (condemned head)) (key_lifted stripe value key (with_holdings (change_each (is_copy_of chunk) (as_rescue chunk item) view.row.holdings) view)))
 
 -- the hand saw that the chunk is linked and held by nobody, and took its item away, of which it has a copy; the key led to it, and its entry is aside then
 pub record CondemnsOriginal (view : View) (stripe : ℕ) (value : ReadyStripe) (chunk : ChunkId) (left : ReadyStripe) (now : View) : Type 0 where

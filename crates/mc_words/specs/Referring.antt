@@ -10,6 +10,7 @@ use Rattle.mc_words.specs.View.{View}
 use Rattle.mc_words.specs.Happens.{Happens}
 use Rattle.mc_words.specs.Items.{held_item}
 use Rattle.mc_words.specs.Called.{item_referred, key_got}
+use Rattle.mc_words.specs.Views.{with_event}
 
 -- a reference to the item with these words, whose chunk was handed out with this issue number
 abbrev pub reference_to : ChunkId → ℕ → List ℕ → Holding
@@ -27,4 +28,4 @@ pub record GetsItem (view : View) (number stripe : ℕ) (value : ReadyStripe) (k
   pub key_is : key_of item ≡ key
   pub stamp_is : stamp_of item ≡ stamp
   pub happens : Happens view [] (step.Refer key) now
-  pub is : now ≡ item_referred (reference_to chunk issue item) room (key_got number stripe value key view)
+  pub is : now ≡ with_event [] (step.Refer key) (item_referred (reference_to chunk issue item) room (key_got number stripe value key view))

@@ -1,5 +1,5 @@
 -- References that a hand holds.
-use Rattle.std.specs.Prelude.{◌≡◌, ℕ, false, List, Contains, Some}
+use Rattle.std.specs.Prelude.{◌≡◌, ℕ, true, false, List, Contains, is_some, Some}
 use Rattle.std.specs.Option.{option_map}
 use Rattle.mc_pages.specs.declared.ids.ChunkId.{ChunkId}
 use Rattle.mc_core.specs.declared.holding.Holding.{Holding}
@@ -21,3 +21,14 @@ IsRefOf view chunk room = IsRefIn view.row.holdings view.row.knows.known chunk r
 -- the holding that is found of this chunk has this issue number
 abbrev pub IsIssueOf : View → ChunkId → ℕ → Type 0
 IsIssueOf view chunk issue = option_map (λ holding. holding.issue) (holding_of chunk view.row.holdings) ≡ Some issue
+
+-- each chunk that the hand refers to it refers to still: it finds the same holding of it
+pub record KeepsRefs (view now : View) : Type 0 where
+  pub refers : (chunk : ChunkId) (room : ℕ) → IsRefOf view chunk room → IsRefOf now chunk room
+  pub same : (chunk : ChunkId) (room : ℕ) → IsRefOf view chunk room → holding_of chunk now.row.holdings ≡ holding_of chunk view.row.holdings
+
+-- so of each that it holds still, whatever it gave up
+pub record KeepsHeld (view now : View) : Type 0 where
+  pub refers : (chunk : ChunkId) (room : ℕ) → IsRefOf view chunk room → is_some (holding_of chunk now.row.holdings) ≡ true → IsRefOf now chunk room
+  pub same : (chunk : ChunkId) (room : ℕ) → IsRefOf view chunk room → is_some (holding_of chunk now.row.holdings) ≡ true →
+      holding_of chunk now.row.holdings ≡ holding_of chunk view.row.holdings

@@ -17,6 +17,6 @@ abbrev pub Sweeps : List ChunkId → View → SlabState → View → SlabState �
 Sweeps [] view slabs now left = (now ≡ view) × (left ≡ slabs)
 Sweeps (chunk ∷ chunks) view slabs now left = (next : View) × (between : SlabState) × SweepsOne chunk view slabs next between × Sweeps chunks next between now left
 
--- the one view, but for what was seen by the other, and for its pages and lists
+-- the one view, but for what the other saw and did, and for its pages and lists
 abbrev pub with_seen : View → View → View
-with_seen view now = record view { slabs = now.slabs; row = record view.row { looks = now.row.looks; knows = record view.row.knows { saw = now.row.knows.saw } } }
+with_seen view now = record view { events = now.events; slabs = now.slabs; row = record view.row { looks = now.row.looks; knows = record view.row.knows { saw = now.row.knows.saw } } }

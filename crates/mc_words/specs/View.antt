@@ -1,10 +1,14 @@
--- What a hand knows: its row of the core's moment, and the values behind the locks that it has.
-use Rattle.std.specs.Prelude.{ℕ, List, [], ◌∷◌, map, replicate, Option, Some, None}
+-- What a hand knows: its row of the core's moment, the values behind the locks that it has, and the events that it made.
+use Rattle.std.specs.Prelude.{ℕ, ◌==◌, List, [], ◌∷◌, ◌++◌, if◌then◌else◌, map, replicate, Option, Some, None}
 use Rattle.std.specs.List.{range_with_len}
 use Rattle.mc_classes.specs.declared.config.Config.{Config}
 use Rattle.mc_classes.specs.Classes.{Classes}
 use Rattle.mc_pages.specs.SlabState.{SlabState}
 use Rattle.mc_stripe.specs.StripeState.{ReadyStripe}
+use Rattle.mc_core.specs.declared.event.Change.{Change}
+use Rattle.mc_core.specs.declared.event.Event.{Event}
+use Rattle.mc_core.specs.declared.event.Step.{Step}
+use Rattle.mc_core.specs.declared.event.Step.TheVariants.{Join}
 use Rattle.mc_core.specs.State.{State, gone}
 use Rattle.mc_core.specs.Past.{Knowledge, Moment, no_hold}
 use Rattle.mc_core.specs.Learns.{both_know, knows_nothing}
@@ -17,26 +21,44 @@ pub record Setup : Type 0 where
   pub hands : ℕ
   pub start : ℕ
 
--- of one hand: the arena's setup, how many hands it may still make, its row, and the values behind the locks that it has
+-- an event that a hand made: the changes before its step, and the step; of a join only that it was one
+pub data OwnEvent : Type 0 where
+  made : List Change → Step → OwnEvent
+  joined : OwnEvent
+
+abbrev pub own_event : List Change → Step → OwnEvent
+own_event before (Join kept spent) = joined
+own_event before step = made before step
+
+-- those that this hand made of a run, the first first
+abbrev pub events_of : ℕ → List Event → List OwnEvent
+events_of hand [] = []
+events_of hand (event ∷ run) = if event.hand == hand then own_event event.before event.step ∷ events_of hand run else events_of hand run
+
+-- of one hand: the arena's setup, how many hands it may still make, the events that it made, its row, and the values behind the locks that
+-- it has
 pub record View : Type 0 where
   pub setup : Setup
   pub spare : ℕ
+  -- the first first
+  pub events : List OwnEvent
   pub row : Row
   pub slabs : Option SlabState
   -- stripe 0 first
   pub stripes : List (Option ReadyStripe)
-  -- the rows of the two hands that it was made of, until it is told of that
-  pub made_of : Option (Row × Row)
+  -- the rows of the two hands that it was made of, and the events that each had made, until it is told of that
+  pub made_of : Option (Row × Row × List OwnEvent × List OwnEvent)
 
 -- of each stripe its value, where the hand has its lock
 abbrev pub held_stripes : Setup → State → ℕ → List (Option ReadyStripe)
 held_stripes setup state hand = map (held_stripe state hand) (range_with_len 0 setup.config.stripes)
 
--- all that a moment has of a hand
-abbrev pub view_at : Setup → ℕ → Moment → ℕ → View
-view_at setup spare moment hand = record {
+-- all that a moment has of a hand that made these events
+abbrev pub view_at : Setup → ℕ → List OwnEvent → Moment → ℕ → View
+view_at setup spare events moment hand = record {
   setup = setup;
   spare = spare;
+  events = events;
   row = row_at moment hand;
   slabs = held_slabs moment.state hand;
   stripes = held_stripes setup moment.state hand;
@@ -59,6 +81,7 @@ abbrev pub new_view : Setup → ℕ → ℕ → View
 new_view setup number spare = record {
   setup = setup;
   spare = spare;
+  events = [];
   row = record { ids = record { number = Some number; stamps = 0 }; holdings = []; looks = []; knows = new_knowledge setup.config.stripes number };
   slabs = None;
   stripes = map (λ stripe. None) (range_with_len 0 setup.config.stripes);
@@ -76,15 +99,15 @@ no_setup = record {
 
 -- a hand that another took over: one constant, whatever the arena is
 abbrev pub spent_view : View
-spent_view = record { setup = no_setup; spare = 0; row = record { ids = gone; holdings = []; looks = []; knows = knows_nothing }; slabs = None; stripes = []; made_of = None }
+spent_view = record { setup = no_setup; spare = 0; events = []; row = record { ids = gone; holdings = []; looks = []; knows = knows_nothing }; slabs = None; stripes = []; made_of = None }
 
 -- a hand that took another one over
 abbrev pub both_views : View → View → View
-both_views kept spent = record kept { row = record kept.row { knows = both_know kept.row.knows spent.row.knows } }
+both_views kept spent = record kept { events = kept.events ++ joined ∷ []; row = record kept.row { knows = both_know kept.row.knows spent.row.knows } }
 
 -- the same, before it is told of that
 abbrev pub just_made : View → View → View
-just_made kept spent = record (both_views kept spent) { made_of = Some (kept.row, spent.row) }
+just_made kept spent = record (both_views kept spent) { made_of = Some (kept.row, spent.row, kept.events, spent.events) }
 
 -- what a hand knows once it is told
 abbrev pub settled : View → View

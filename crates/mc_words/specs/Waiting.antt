@@ -5,6 +5,7 @@ use Rattle.mc_stripe.specs.StripeState.{ReadyStripe}
 use Rattle.mc_core.specs.declared.event.Step.TheVariants as step
 use Rattle.mc_words.specs.View.{View}
 use Rattle.mc_words.specs.Happens.{Happens}
+use Rattle.mc_words.specs.Lent.{BeginsWithSeen}
 use Rattle.mc_words.specs.Views.{slabs_missed, slabs_taken, stripe_missed, stripe_taken}
 
 -- these words were seen at the lock of the slabs, one after another, and none was 0
@@ -33,3 +34,4 @@ pub record WaitsForStripe (stripe : ℕ) (view : View) (value : ReadyStripe) (no
   pub misses : MissesStripe stripe words view before
   pub taken : Happens before [] (step.TakeStripe stripe) now
   pub is : now ≡ stripe_taken stripe value before
+  pub begins : BeginsWithSeen view stripe value

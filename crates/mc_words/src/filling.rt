@@ -4,7 +4,7 @@ ghost use Rattle.mc_core.specs.declared.event.Step.TheVariants as step;
 ghost use Rattle.mc_words.specs.Arenas.{IsHandOf, view};
 ghost use Rattle.mc_words.specs.Fresh.{IsFreshOf};
 ghost use Rattle.mc_words.specs.Happens.{Happens};
-ghost use Rattle.mc_words.specs.Views.{chunk_dropped, word_filled};
+ghost use Rattle.mc_words.specs.Views.{chunk_discarded, word_filled};
 
 use crate::arena::Arena;
 use crate::hand::Hand;
@@ -41,7 +41,7 @@ impl Arena {
         ensures arena { IsHandOf self.now hand.new }
         ensures locks { hand.new.locks ≡ hand.old.locks }
         ensures happens { Happens (view hand.old) [] (step.Discard fresh.chunk) (view hand.new) }
-        ensures dropped { view hand.new ≡ chunk_dropped fresh.chunk (view hand.old) }
+        ensures dropped { view hand.new ≡ chunk_discarded fresh.chunk (view hand.old) }
     {
         let Fresh {
             chunk,

@@ -20,7 +20,7 @@ impl Arena {
         requires idle { (is_idle (view hand) ≡ true) × (is_idle (view other) ≡ true) }
         ensures arena { IsHandOf self.now result }
         ensures locks { result.locks ≡ Neither }
-        ensures joins { Joins (view hand) (view other).row (view result) }
+        ensures joins { Joins (view hand) (view other).row (view other).events (view result) }
         ensures view { view result ≡ both_views (view hand) (view other) }
         ensures agree { Agrees (view result).row.knows }
     {
@@ -52,7 +52,7 @@ impl Arena {
         requires none { spent.me.1 ≡ [] }
         ensures seat { IsOfArena self.now seat.new.table_id seat.new.me.0 }
         ensures out { seat.new.me.1 ≡ seat.old.me.1 }
-        ensures joins { Joins seat.old.me.0 spent.me.0.row seat.new.me.0 }
+        ensures joins { Joins seat.old.me.0 spent.me.0.row spent.me.0.events seat.new.me.0 }
         ensures view { seat.new.me.0 ≡ both_views seat.old.me.0 spent.me.0 }
     {
         let shared = &self.table.shared;

@@ -16,6 +16,7 @@ pub mod header;
 mod held;
 mod hinting;
 mod joining;
+pub mod laws;
 mod linking;
 mod locking;
 mod locks;

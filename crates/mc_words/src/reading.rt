@@ -4,12 +4,11 @@ ghost use Rattle.mc_pages.specs.SlabState.{class_of_page};
 ghost use Rattle.mc_core.specs.Looks.{was_linked};
 ghost use Rattle.mc_core.specs.State.{has_chunk, room_in};
 ghost use Rattle.mc_core.specs.declared.event.Step.TheVariants as step;
-ghost use Rattle.mc_core.specs.declared.look.Look.TheVariants as look;
 ghost use Rattle.mc_words.specs.Arenas.{IsHandOf, setup_of, view};
-ghost use Rattle.mc_words.specs.Happens.{Happens};
-ghost use Rattle.mc_words.specs.Items.{held_item, word_read};
+ghost use Rattle.mc_words.specs.Happens.{Happens, LawfulView};
+ghost use Rattle.mc_words.specs.Items.{IsWordOfItem, held_item, word_read};
 ghost use Rattle.mc_words.specs.Refs.{IsRefOf};
-ghost use Rattle.mc_words.specs.Views.{looked};
+ghost use Rattle.mc_words.specs.Views.{held_word_seen, word_seen};
 
 use crate::arena::Arena;
 use crate::hand::Hand;
@@ -29,7 +28,7 @@ impl Arena {
         ensures locks { hand.new.locks ≡ hand.old.locks }
         ensures happens { Happens (view hand.old) [] (step.Word reference.now.chunk place) (view hand.new) }
         ensures word { result ≡ slice_index (held_item (view hand.old) reference.now.chunk) place }
-        ensures same { view hand.new ≡ view hand.old }
+        ensures view { view hand.new ≡ word_seen reference.now.chunk place (view hand.old) }
         ensures reference { IsRefOf (view hand.new) reference.now.chunk reference.now.room }
     {
         let at = self.data_word(reference.room, reference.chunk, place);
@@ -38,7 +37,7 @@ impl Arena {
     }
 
     /// A word of a chunk that this hand found linked under this hold of the slabs lock: 0 is the key of its item, 1 its stamp, and 2 how
-    /// many words come after these three, which fit the chunk. The read counts as a look. (own, for the key that items.c's `do_item_alloc_pull` finds in an item)
+    /// many words come after these three, which fit the chunk. It is a word of an item that some hand knows. The read counts as a look. (own, for the key that items.c's `do_item_alloc_pull` finds in an item)
     pub fn word_held(&self, hand: &mut Hand, held: &SlabsHeld, chunk: ChunkId, place: u64) -> u64
         requires arena { IsHandOf self.now hand.old }
         requires near { has_chunk (setup_of self.now).table chunk ≡ true }
@@ -50,8 +49,9 @@ impl Arena {
         ensures held { (view hand.new).slabs ≡ Some held.now.shared }
         ensures happens { Happens (view hand.old) [] (step.WordHeld chunk place) (view hand.new) }
         ensures fits { place ≡ 2 → 3 + result ≤ room_in (setup_of self.now).table (class_of_page held.now.shared chunk.page) }
+        ensures known { (was : LawfulView (view hand.old)) × IsWordOfItem was.moment chunk place result }
         ensures again { IfSome (word_read (view hand.old) chunk place) (λ before. result ≡ before) }
-        ensures view { view hand.new ≡ looked (look.Read chunk place result) (view hand.old) }
+        ensures view { view hand.new ≡ held_word_seen chunk place result (view hand.old) }
     {
         let class = held.slabs().owner(chunk.page).class();
         let room = self.classes().size(class) / 8;

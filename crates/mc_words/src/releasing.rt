@@ -4,7 +4,7 @@ ghost use Rattle.mc_core.specs.declared.event.Step.TheVariants as step;
 ghost use Rattle.mc_words.specs.Arenas.{IsHandOf, view};
 ghost use Rattle.mc_words.specs.Happens.{Happens};
 ghost use Rattle.mc_words.specs.Refs.{IsRefOf};
-ghost use Rattle.mc_words.specs.Views.{chunk_dropped};
+ghost use Rattle.mc_words.specs.Views.{chunk_released};
 
 use crate::arena::Arena;
 use crate::hand::Hand;
@@ -21,7 +21,7 @@ impl Arena {
         ensures arena { IsHandOf self.now hand.new }
         ensures locks { hand.new.locks ≡ hand.old.locks }
         ensures happens { Happens (view hand.old) [] (step.Release reference.chunk) (view hand.new) }
-        ensures dropped { view hand.new ≡ chunk_dropped reference.chunk (view hand.old) }
+        ensures dropped { view hand.new ≡ chunk_released reference.chunk (view hand.old) }
     {
         let Ref {
             chunk,

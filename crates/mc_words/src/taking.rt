@@ -4,7 +4,7 @@ ghost use Rattle.mc_core.specs.declared.event.Step.TheVariants as step;
 ghost use Rattle.mc_core.specs.Silent.{none_half_cut};
 ghost use Rattle.mc_words.specs.Arenas.{IsHandOf, setup_of, view};
 ghost use Rattle.mc_words.specs.Happens.{Happens};
-ghost use Rattle.mc_words.specs.Lent.{IsLent, IsLentStripe};
+ghost use Rattle.mc_words.specs.Lent.{BeginsWithSeen, IsLent, IsLentStripe};
 ghost use Rattle.mc_words.specs.Idle.{has_no_stripes};
 ghost use Rattle.mc_words.specs.Out.{with_slabs, with_stripe, without_slabs, without_stripe};
 ghost use Rattle.mc_words.specs.Views.{slabs_given, slabs_missed, slabs_taken, stripe_given, stripe_missed, stripe_taken};
@@ -49,6 +49,7 @@ impl Arena {
         ensures taken { IfOk result (λ held. Happens (view hand.old) [] (step.TakeStripe stripe) (view hand.new)) }
         ensures lent { IfOk result (λ held. view hand.new ≡ stripe_taken stripe held.stripe (view hand.old)) }
         ensures whole { IfOk result (λ held. IsLentStripe (view hand.new) stripe held.stripe) }
+        ensures seen { IfOk result (λ held. BeginsWithSeen (view hand.old) stripe held.stripe) }
         ensures same { OnErr result (hand.new.locks ≡ hand.old.locks) }
         ensures missed { OnErr result (Happens (view hand.old) [] (step.MissStripe stripe) (view hand.new)) }
         ensures held { OnErr result ((word : ℕ) × (word ≢ 0) × (view hand.new ≡ stripe_missed stripe word (view hand.old))) }

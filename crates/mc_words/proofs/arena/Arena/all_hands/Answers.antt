@@ -4,7 +4,7 @@ use Rattle.mc_words.specs.declared.hand.Hand.{Hand}
 use Rattle.mc_words.specs.View.{Setup, new_view}
 use Rattle.mc_words.specs.Arenas.{setup_of}
 use Rattle.mc_words.specs.Hands.{AreHandsFrom}
-use Rattle.mc_words.proofs.Splits.{hands_more}
+use Rattle.mc_words.proofs.Splits.{hands_more, new_hand}
 use Rattle.mc_words.proofs.arena.Arena.all_hands.Goals as goal
 
 pub loop-number-init : goal.loop-number-init
@@ -72,6 +72,6 @@ returns c =
     record {
       hands = (
         (let e : length c.insert.new.self.items ≡ suc (length items) = ap length is in omega arith),
-        subst (AreHandsFrom arena 0) (sym is) (i.0, i.1 ∙ ap (new_view setup 0) (omega arith), i.6),
+        subst (AreHandsFrom arena 0) (sym is) (new_hand arena 0 first i.0 (i.1 ∙ ap (new_view setup 0) (omega arith)), i.6),
       );
     }

@@ -1,7 +1,8 @@
-use Rattle.std.proofs.Common.{[], ◌∷◌, ◌++◌, ap, ◌∙◌}
+use Rattle.std.proofs.Common.{[], ◌∷◌, ◌++◌, ap, ◌∙◌, List, slice_get}
 use Rattle.mc_words.specs.Out.{has_no_stripe}
 use Rattle.mc_words.proofs.Unlocked.{unlocked_from, no_stripe_unlocked, no_stripes_there}
-use Rattle.mc_words.proofs.Waits.{missed_stripe_again}
+use Rattle.mc_stripe.specs.declared.history.Call.{Call}
+use Rattle.mc_words.proofs.Waits.{missed_stripe_again, misses_seen}
 use Rattle.mc_words.proofs.arena.Arena.lock_stripe.Goals as goal
 
 pub try_stripe-requires : goal.try_stripe-requires
@@ -13,7 +14,7 @@ try_stripe-requires g c =
 pub returns-in-Ok-clause-waits : goal.returns-in-Ok-clause-waits
 returns-in-Ok-clause-waits g c =
     let (words, misses) = c.loop.invariant.2 in
-    record { words = words; before = c.loop.hand.seat.me.0; misses = misses; taken = c.in-Ok.ensures.taken; is = c.in-Ok.ensures.lent }
+    record { words = words; before = c.loop.hand.seat.me.0; misses = misses; taken = c.in-Ok.ensures.taken; is = c.in-Ok.ensures.lent; begins = λ seen is. c.in-Ok.ensures.seen seen (ap (λ (all : List (List Call)). slice_get all c.args.stripe) (misses_seen c.args.stripe words c.args.hand.now.seat.me.0 c.loop.hand.seat.me.0 misses) ∙ is) }
 
 pub loop-preserved : goal.loop-preserved
 loop-preserved g c =

@@ -6,7 +6,7 @@ use Rattle.mc_words.specs.View.{View, Setup}
 use Rattle.mc_words.specs.Views.{saw}
 use Rattle.mc_words.specs.Out.{IsNoted}
 use Rattle.mc_words.specs.Taking.{HasValue}
-use Rattle.mc_words.proofs.Lent.{lent_stripe}
+use Rattle.mc_words.proofs.Lent.{begins_with_seen, lent_stripe}
 use Rattle.mc_words.proofs.Unlocked.{no_stripe_from}
 use Rattle.mc_words.proofs.Locked.{noted_stripe, noted_same}
 use Rattle.mc_words.proofs.LockViews.{taken_stripe, missed_stripe, look_holds}
@@ -42,6 +42,11 @@ pub returns-in-Some-OfStripe-clause-whole : goal.returns-in-Some-OfStripe-clause
 returns-in-Some-OfStripe-clause-whole c =
     let told = c.in-Some-OfStripe.ensures in
     lent_stripe c.args.hand.now.seat.me.0 c.take.new.seat.me.0 c.args.stripe c.in-Some-OfStripe.value told.taken (subst (HasValue c.take.new.seat.me.0 (StripeLock c.args.stripe)) c.in-Some-OfStripe.field-0-is told.value)
+
+pub returns-in-Some-OfStripe-clause-seen : goal.returns-in-Some-OfStripe-clause-seen
+returns-in-Some-OfStripe-clause-seen c =
+    let told = c.in-Some-OfStripe.ensures in
+    begins_with_seen c.args.hand.now.seat.me.0 c.take.new.seat.me.0 c.args.stripe c.in-Some-OfStripe.value told.taken (subst (HasValue c.take.new.seat.me.0 (StripeLock c.args.stripe)) c.in-Some-OfStripe.field-0-is told.value)
 
 pub returns-in-None-clause-missed : goal.returns-in-None-clause-missed
 returns-in-None-clause-missed c = (c.in-None.ensures.missed refl).2.0

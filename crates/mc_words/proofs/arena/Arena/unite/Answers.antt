@@ -40,4 +40,4 @@ returns-clause-joins c =
     let made : IsMade (just_made v w) = subst IsMade me told.made in
     let plain = (has_number _ c.requires.seat.lawful).1 in
     let now = ap (λ (m : Sits). m.0) told.is in
-    subst (λ (p : View × View). Joins p.0 w.row p.1) (λ k. (record v { made_of = sym plain k }, (ap (λ (m : View). record m { made_of = Rattle.std.proofs.Common.None }) (sym me) ∙ sym now) k)) (made v.row w.row refl)
+    subst (λ (p : View × View). Joins p.0 w.row w.events p.1) (λ k. (record v { made_of = sym plain k }, (ap (λ (m : View). record m { made_of = Rattle.std.proofs.Common.None }) (sym me) ∙ sym now) k)) (made v.row w.row v.events w.events refl)

@@ -47,8 +47,8 @@ returns-clause-word c =
     let place : c.data_word-at.result ≡ data_word view.setup room chunk c.args.place = c.data_word-at.ensures.word ∙ ap (λ (s : Setup). data_word s room chunk c.args.place) (sym arena.setup) in
     sym happens.1 ∙ (ap (slice_index happens.0.was.words) place ∙ (word_is view chunk room ref happens.0.was c.args.place near ∙ ap (λ item. slice_index item c.args.place) (sym same)))
 
-pub returns-clause-same : goal.returns-clause-same
-returns-clause-same c = read_word c.args.hand.now.seat.me.0 c.look.new.seat.me.0 c.args.reference.now.chunk c.args.place c.look.ensures.happens.0
+pub returns-clause-view : goal.returns-clause-view
+returns-clause-view c = read_word c.args.hand.now.seat.me.0 c.look.new.seat.me.0 c.args.reference.now.chunk c.args.place c.look.ensures.happens.0
 
 pub returns-clause-reference : goal.returns-clause-reference
 returns-clause-reference c =

@@ -5,7 +5,7 @@ use Rattle.mc_core.specs.declared.event.Step.TheVariants as core
 use Rattle.mc_words.specs.View.{Setup}
 use Rattle.mc_words.specs.Layout.{data_word, config_from}
 use Rattle.mc_words.specs.Happens.{HappensAt}
-use Rattle.mc_words.proofs.HeldReads.{held_near, held_room, length_fits, may_read_held, owner_near, read_again, read_held}
+use Rattle.mc_words.proofs.HeldReads.{known_word, held_near, held_room, length_fits, may_read_held, owner_near, read_again, read_held}
 use Rattle.mc_words.proofs.Judging.{class_of_table}
 use Rattle.mc_words.proofs.arena.Arena.word_held.Goals as goal
 
@@ -61,6 +61,21 @@ returns-clause-view c =
     let place : c.data_word-at.result ≡ data_word view.setup (room_in view.setup.table (class_of_page slabs chunk.page)) chunk c.args.place =
     c.data_word-at.ensures.word ∙ (λ k. data_word (sym arena.setup k) (room.1 c.size-room.ensures.size k) chunk c.args.place) in
     read_held view slabs c.requires.held chunk near c.requires.linked c.args.place inside c.look.new.seat.me.0 c.look.result
+    (subst (λ (n : ℕ). HappensAt n c.look.result view [] (core.WordHeld chunk c.args.place) c.look.new.seat.me.0) place c.look.ensures.happens)
+
+pub returns-clause-known : goal.returns-clause-known
+returns-clause-known c =
+    let arena = c.requires.arena in
+    let view = c.args.hand.now.seat.me.0 in
+    let slabs = c.args.held.now.shared in
+    let chunk = c.args.chunk in
+    let near = subst (λ (s : Setup). has_chunk s.table chunk ≡ true) (sym arena.setup) c.requires.near in
+    let inside = subst (λ (s : Setup). c.args.place < room_in s.table (class_of_page slabs chunk.page)) (sym arena.setup) c.requires.inside in
+    let class = c.class-class.ensures ∙ (ap class_of_owner c.owner.ensures.owner ∙ ap (λ (x : SlabState). class_of_page x chunk.page) c.slabs.ensures.slabs) in
+    let room = held_room c.args.self.now.table.shared.key view.setup c.classes.result.now slabs chunk.page c.class-class.result c.size-room.result c.args.place arena.setup c.classes.ensures.classes class c.requires.inside in
+    let place : c.data_word-at.result ≡ data_word view.setup (room_in view.setup.table (class_of_page slabs chunk.page)) chunk c.args.place =
+    c.data_word-at.ensures.word ∙ (λ k. data_word (sym arena.setup k) (room.1 c.size-room.ensures.size k) chunk c.args.place) in
+    known_word view slabs c.requires.held chunk near c.requires.linked c.args.place inside c.look.new.seat.me.0 c.look.result
     (subst (λ (n : ℕ). HappensAt n c.look.result view [] (core.WordHeld chunk c.args.place) c.look.new.seat.me.0) place c.look.ensures.happens)
 
 pub returns-clause-again : goal.returns-clause-again

@@ -1,0 +1,5 @@
+use Rattle.mc_words.proofs.Headlines.{held_stays_the_same}
+use Rattle.mc_words.proofs.laws.held_stays_the_same.Goals as goal
+
+pub returns : goal.returns
+returns c = held_stays_the_same

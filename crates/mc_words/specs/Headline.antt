@@ -1,0 +1,118 @@
+-- The promise of the arena, as its table shows it: by the words, the values at home, and what the hands hold.
+use Rattle.std.specs.Prelude.{◌≡◌, ◌⊎◌, ◌≢◌, ℕ, zero, ◌+◌, ◌*◌, ◌<◌, ◌≤◌, ◌==◌, List, [], ◌∷◌, IsTrue, count_by, slice_get, slice_index, Some, Contains, true}
+use mathlib.Core.Option.{some}
+use lib.ListN.{get_elem?}
+use Rattle.mc_classes.specs.Classes.{pages_of}
+use Rattle.mc_pages.specs.declared.ids.ChunkId.{ChunkId}
+use Rattle.mc_pages.specs.Accounted.{is_moving, is_of_class, is_pool, truth}
+use Rattle.mc_pages.specs.ClassState.{times}
+use Rattle.mc_pages.specs.Ledger.{all_untouched, owner_at, replay}
+use Rattle.mc_pages.specs.SlabState.{IsClass, SlabState, class_at, granted_count}
+use Rattle.mc_core.specs.declared.head.Head.{Head}
+use Rattle.mc_core.specs.declared.head.Tag.TheVariants.{Free, Linked, Out, Unlinked}
+use Rattle.mc_core.specs.declared.holding.Holding.{Holding}
+use Rattle.mc_core.specs.Columns.{IsHandedOut, holds, link_of}
+use Rattle.mc_core.specs.Head.{decode}
+use Rattle.mc_core.specs.Holdings.{words_of}
+use Rattle.mc_core.specs.State.{has_chunk, room_in}
+use Rattle.mc_words.specs.declared.slot.Slot.TheVariants.{OfSlabs}
+use Rattle.mc_words.specs.Joining.{Rule}
+use Rattle.mc_words.specs.Layout.{data_word, head_word, page_word, slabs_word}
+use Rattle.mc_words.specs.Meaning.{Words}
+use Rattle.mc_words.specs.View.{Setup, View}
+
+-- a chunk's header, as its word has it
+abbrev pub header_in : Setup → List ℕ → ChunkId → Head
+header_in setup words chunk = decode (slice_index words (head_word setup chunk))
+
+-- the class of a chunk's page, as the page's word has it: 0 where none has the page
+abbrev pub class_in : Setup → List ℕ → ChunkId → ℕ
+class_in setup words chunk = slice_index words (page_word setup chunk.page)
+
+-- a data word of a chunk
+abbrev pub data_in : Setup → List ℕ → ChunkId → ℕ → ℕ
+data_in setup words chunk place = slice_index words (data_word setup (room_in setup.table (class_in setup words chunk)) chunk place)
+
+-- how often all hands together hold the chunk
+abbrev pub holders_among : ChunkId → List View → ℕ
+holders_among chunk [] = 0
+holders_among chunk (view ∷ views) = holds chunk view.row.holdings + holders_among chunk views
+
+-- each page has the one owner that the ledger replays: the untouched rest, the pool, a class or the move; it stands once in the list of its
+-- class, or once in the pool's, and in no other; and no page moves but that of the one move
+pub record ArePagesOwned (setup : Setup) (slabs : SlabState) : Type 0 where
+  pub replays : replay (all_untouched (pages_of setup.table)) slabs.ledger ≡ Some slabs.owners
+  pub classes : (class page : ℕ) → IsClass slabs class → count_by (λ p. p == page) (class_at slabs class).pages ≡ truth (is_of_class class (owner_at slabs.owners page))
+  pub pool : (page : ℕ) → count_by (λ p. p == page) slabs.pool ≡ truth (is_pool (owner_at slabs.owners page))
+  pub move : (a b : ℕ) → IsTrue (is_moving (owner_at slabs.owners a)) → IsTrue (is_moving (owner_at slabs.owners b)) → a ≡ b
+
+-- granted bytes are within the limit
+abbrev pub IsWithinLimit : Setup → SlabState → Type 0
+IsWithinLimit setup slabs = granted_count slabs * setup.table.page ≤ setup.table.limit
+
+-- a chunk of the class stands so often on its free list and in its hand-out order
+abbrev pub Stands : SlabState → ℕ → ChunkId → ℕ → ℕ → Type 0
+Stands slabs class chunk free out = (times chunk (class_at slabs class).free ≡ free) × (times chunk (class_at slabs class).order ≡ out)
+
+-- once on the free list, and free
+abbrev pub IsFreeChunk : SlabState → ℕ → ChunkId → Head → Type 0
+IsFreeChunk slabs class chunk head = (head.tag ≡ Free) × Stands slabs class chunk 1 0
+
+-- cleared: out, and in no list, while its page moves
+abbrev pub IsClearedChunk : SlabState → ℕ → ChunkId → Head → Type 0
+IsClearedChunk slabs class chunk head = (head.tag ≡ Out) × Stands slabs class chunk 0 0 × (is_moving (owner_at slabs.owners chunk.page) ≡ true)
+
+-- once in the hand-out order, and handed out
+abbrev pub IsChunkOut : SlabState → ℕ → ChunkId → Head → Type 0
+IsChunkOut slabs class chunk head = ((head.tag ≡ Unlinked) ⊎ (head.tag ≡ Linked)) × Stands slabs class chunk 0 1
+
+-- a chunk of a page that a class has, which is cut, is in one of these places
+abbrev pub IsInOnePlace : SlabState → ℕ → ChunkId → Head → Type 0
+IsInOnePlace slabs class chunk head = IsFreeChunk slabs class chunk head ⊎ IsClearedChunk slabs class chunk head ⊎ IsChunkOut slabs class chunk head
+
+-- with the slabs lock free: each page has one owner, as the ledger replays; granted bytes are within the limit; each cut chunk is once on a
+-- free list, cleared, or handed out
+pub record IsAccountedFor (setup : Setup) (words : List ℕ) (slabs : SlabState) : Type 0 where
+  pub pages : ArePagesOwned setup slabs
+  pub limit : IsWithinLimit setup slabs
+  pub chunks : (class : ℕ) (chunk : ChunkId) → IsClass slabs class → has_chunk setup.table chunk ≡ true →
+      is_of_class class (owner_at slabs.owners chunk.page) ≡ true → chunk.index < (class_at slabs class).per_page → IsInOnePlace slabs class chunk (header_in setup words chunk)
+
+-- a chunk that somebody holds is handed out with the issue number that it had as it was got, its page is a class's, and each word that its
+-- holder knows of it stands there: so it was neither handed out, cleared nor cut anew
+pub record IsKeptIn (setup : Setup) (words : List ℕ) (holding : Holding) : Type 0 where
+  pub handed_out : IsHandedOut (header_in setup words holding.chunk) holding.issue
+  pub owned : 1 ≤ class_in setup words holding.chunk
+  pub shows : (place word : ℕ) → slice_get (words_of holding) place ≡ Some (Some word) → data_in setup words holding.chunk place ≡ word
+
+-- between any two atomic steps: with the slabs lock free, pages, bytes and chunks are accounted for by the value at home; each header counts
+-- exactly its holders, and one more where a key leads to it; and what anybody holds is kept
+pub record Headline (setup : Setup) (t : Words) : Type 0 where
+  pub free : slice_index t.words slabs_word ≡ 0 → (slabs : SlabState) × (get_elem? t.homes 0 ≡ some (some (OfSlabs slabs))) × IsAccountedFor setup t.words slabs
+  pub counts : (chunk : ChunkId) → has_chunk setup.table chunk ≡ true →
+      (header_in setup t.words chunk).count ≡ link_of (header_in setup t.words chunk).tag + holders_among chunk t.views
+  pub kept : (hand : ℕ) (view : View) (holding : Holding) → get_elem? t.views hand ≡ some view → Contains view.row.holdings holding → IsKeptIn setup t.words holding
+
+-- *the rule of the table gives the headline*
+abbrev pub RuleGivesHeadline : Type 0
+RuleGivesHeadline = (setup : Setup) (t : Words) → Rule setup t → Headline setup t
+
+-- a hand has the holding in both states of the table
+pub record IsHeldInBoth (before now : Words) (hand : ℕ) (holding : Holding) : Type 0 where
+  pub view : View
+  pub at : get_elem? before.views hand ≡ some view
+  pub had : Contains view.row.holdings holding
+  pub after : View
+  pub at_after : get_elem? now.views hand ≡ some after
+  pub has : Contains after.row.holdings holding
+
+-- the chunk has one issue number in both states, and each word that is known of it is the same
+pub record StaysTheSame (setup : Setup) (before now : Words) (holding : Holding) : Type 0 where
+  pub same_issue : (header_in setup now.words holding.chunk).issue ≡ (header_in setup before.words holding.chunk).issue
+  pub kept_before : IsKeptIn setup before.words holding
+  pub kept_now : IsKeptIn setup now.words holding
+  pub same_words : (place word : ℕ) → slice_get (words_of holding) place ≡ Some (Some word) → data_in setup now.words holding.chunk place ≡ data_in setup before.words holding.chunk place
+
+-- *what a hand holds in two states is the same in both*: so between a get and its release the chunk was never handed out, cleared or cut anew
+abbrev pub HeldStaysTheSame : Type 0
+HeldStaysTheSame = (setup : Setup) (before now : Words) (hand : ℕ) (holding : Holding) → Rule setup before → Rule setup now → IsHeldInBoth before now hand holding → StaysTheSame setup before now holding

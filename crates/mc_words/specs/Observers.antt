@@ -1,0 +1,61 @@
+-- What clauses of other crates read of hands, and of what a call of the arena gives.
+use Rattle.std.specs.Prelude.{ℕ}
+use Rattle.mc_pages.specs.declared.ids.ChunkId.{ChunkId}
+use Rattle.mc_pages.specs.SlabState.{SlabState}
+use Rattle.mc_stripe.specs.StripeState.{ReadyStripe}
+use Rattle.mc_words.specs.declared.hand.Hand.{Hand}
+use Rattle.mc_words.specs.declared.held.Fresh.{Fresh}
+use Rattle.mc_words.specs.declared.held.SlabsHeld.{SlabsHeld}
+use Rattle.mc_words.specs.declared.held.StripeHeld.{StripeHeld}
+use Rattle.mc_words.specs.declared.locks.Locks.{Locks}
+use Rattle.mc_words.specs.declared.refs.Hint.{Hint}
+use Rattle.mc_words.specs.declared.refs.Ref.{Ref}
+
+-- which locks the hand has
+abbrev pub locks_of : Hand → Locks
+locks_of hand = hand.locks
+
+-- its number, with which it makes its stamps
+abbrev pub number_of : Hand → ℕ
+number_of hand = hand.number
+
+-- pages and lists, as their holder has them
+abbrev pub slabs_lent : SlabsHeld → SlabState
+slabs_lent held = held.shared
+
+-- which stripe is held, and its value
+abbrev pub stripe_number : StripeHeld → ℕ
+stripe_number held = held.number
+
+abbrev pub stripe_lent : StripeHeld → ReadyStripe
+stripe_lent held = held.stripe
+
+-- a fresh chunk, how many words it has, and the key and the stamp that were written into it
+abbrev pub fresh_chunk : Fresh → ChunkId
+fresh_chunk fresh = fresh.chunk
+
+abbrev pub fresh_room : Fresh → ℕ
+fresh_room fresh = fresh.room
+
+abbrev pub fresh_key : Fresh → ℕ
+fresh_key fresh = fresh.key
+
+abbrev pub fresh_stamp : Fresh → ℕ
+fresh_stamp fresh = fresh.stamp
+
+-- the chunk of a reference, the issue number with which it was handed out, and how many words it has
+abbrev pub ref_chunk : Ref → ChunkId
+ref_chunk reference = reference.chunk
+
+abbrev pub ref_issue : Ref → ℕ
+ref_issue reference = reference.issue
+
+abbrev pub ref_room : Ref → ℕ
+ref_room reference = reference.room
+
+-- the chunk of a hint, and its issue number
+abbrev pub hint_chunk : Hint → ChunkId
+hint_chunk hint = hint.chunk
+
+abbrev pub hint_issue : Hint → ℕ
+hint_issue hint = hint.issue
