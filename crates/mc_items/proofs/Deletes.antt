@@ -1,19 +1,20 @@
 -- A key that is deleted, from the parts of the call.
-use Rattle.std.proofs.Common.{◌≡◌, ℕ, ◌+◌, Bool, true, false, ◌&&◌, if◌then◌else◌, is_some, refl, ap, ◌∙◌, Result, Ok, Err, IfOk, OnErr}
+use Rattle.std.proofs.Common.{◌≡◌, ℕ, [], ◌+◌, Bool, true, false, ◌&&◌, if◌then◌else◌, is_some, refl, ap, ◌∙◌, Result, Ok, Err, IfOk, OnErr}
 use Rattle.mc_stripe.specs.StripeState.{ReadyStripe, place_of}
 use Rattle.mc_stripe.specs.Changes.{after_unlink, used_up}
 use Rattle.mc_core.specs.Holdings.{has_fresh}
 use Rattle.mc_words.specs.Doing.{IsDone}
 use Rattle.mc_words.specs.View.{View}
 use Rattle.mc_words.specs.Called.{key_deleted, key_lifted, key_not_deleted, key_unlinked}
-use Rattle.mc_words.specs.Views.{stripe_given, stripe_reserved}
+use Rattle.mc_core.specs.declared.event.Step.TheVariants as step
+use Rattle.mc_words.specs.Views.{stripe_given, stripe_reserved, with_event}
 use Rattle.mc_items.specs.Calls.{Deletes}
 
 -- a hand that fills no chunk deletes what it unlinks
 pub deleted_is : (number stripe : ℕ) (value : ReadyStripe) (key : ℕ) (there : Bool) (made now : View) → has_fresh made.row.holdings ≡ false
     → (there ≡ true → now ≡ key_unlinked number stripe value key made) → (there ≡ false → now ≡ key_not_deleted number stripe value key made)
-    → now ≡ (if there then key_deleted number stripe value key true made else key_not_deleted number stripe value key made)
-deleted_is number stripe value key true made now fresh hit miss = hit refl ∙ ap (λ (b : Bool). if b then key_lifted stripe value key made else key_deleted number stripe value key true made) fresh
+    → now ≡ (if there then with_event [] (step.Unlink key) (key_deleted number stripe value key true made) else key_not_deleted number stripe value key made)
+deleted_is number stripe value key true made now fresh hit miss = hit refl ∙ ap (λ (b : Bool). with_event [] (step.Unlink key) (if b then key_lifted stripe value key made else key_deleted number stripe value key true made)) fresh
 deleted_is number stripe value key false made now fresh hit miss = miss refl
 
 pub and_false : (b : Bool) → (b && false) ≡ false
@@ -23,14 +24,14 @@ and_false false = refl
 -- the call
 pub deleted_done : (number stripe : ℕ) (value : ReadyStripe) (key : ℕ) (there : Bool) (view made got now : View) (number' stripe' stripe'' : ℕ) (ready left : ReadyStripe) → number' ≡ number → stripe' ≡ stripe → stripe'' ≡ stripe → ready ≡ record value { ready = true }
     → made ≡ stripe_reserved stripe value (number + 1) view → there ≡ is_some (place_of ready.state key)
-    → got ≡ (if there then key_deleted number' stripe' ready key true made else key_not_deleted number' stripe' ready key made) → left ≡ used_up (after_unlink ready.state number' key) → now ≡ stripe_given stripe'' left got
+    → got ≡ (if there then with_event [] (step.Unlink key) (key_deleted number' stripe' ready key true made) else key_not_deleted number' stripe' ready key made) → left ≡ used_up (after_unlink ready.state number' key) → now ≡ stripe_given stripe'' left got
     → IsDone number stripe value (Deletes number stripe key there) view now
 deleted_done number stripe value key there view made got now number' stripe' stripe'' ready left numbers stripes stripes' readies mades was gots lefts given = record {
   left = left;
   last = got;
   does = (
     was ∙ ap (λ (v : ReadyStripe). is_some (place_of v.state key)) readies,
-    gots ∙ (λ k. if there then key_deleted (numbers k) (stripes k) (readies k) key true (mades k) else key_not_deleted (numbers k) (stripes k) (readies k) key (mades k)),
+    gots ∙ (λ k. if there then with_event [] (step.Unlink key) (key_deleted (numbers k) (stripes k) (readies k) key true (mades k)) else key_not_deleted (numbers k) (stripes k) (readies k) key (mades k)),
     lefts ∙ (λ k. used_up (after_unlink (readies k).state (numbers k) key)),
   );
   given = given ∙ ap (λ n. stripe_given n left got) stripes';

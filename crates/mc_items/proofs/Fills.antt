@@ -1,5 +1,8 @@
 -- Words that are written into a fresh chunk, one after the other.
-use Rattle.std.proofs.Common.{◌≡◌, ℕ, ◌+◌, ◌≤◌, ◌==◌, Bool, true, false, List, [], ◌∷◌, ◌++◌, length, take, is_some, Option, Some, refl, ap, sym, ◌∙◌, cond, arith, slice_set, le-leb, if◌then◌else◌}
+use Rattle.std.proofs.Common.{zero-add, ◌≡◌, ℕ, ◌+◌, ◌≤◌, ◌==◌, Bool, true, false, List, [], ◌∷◌, ◌++◌, length, take, is_some, Option, Some, refl, ap, sym, ◌∙◌, cond, arith, slice_set, le-leb, if◌then◌else◌}
+use Rattle.std.proofs.lemmas.List.{append-nil, append_assoc}
+use Rattle.mc_core.specs.declared.event.Step.TheVariants as step
+use Rattle.mc_words.specs.View.{OwnEvent, made}
 use Rattle.std.specs.List.{list_all}
 use Rattle.std.specs.Option.{option_map, option_map_or}
 use Rattle.std.proofs.lemmas.Bool.{and_from}
@@ -16,7 +19,7 @@ use Rattle.mc_words.specs.Fresh.{IsFreshOf}
 use Rattle.mc_words.specs.Items.{issue_in, words_in}
 use Rattle.mc_words.specs.Linking.{IsItemFilled, own_item}
 use Rattle.mc_words.specs.Views.{with_holdings, word_filled}
-use Rattle.mc_items.specs.Storing.{IsOwnItem, holding_with, item_filled, item_with, kind_with, written_over}
+use Rattle.mc_items.specs.Storing.{IsOwnItem, holding_with, item_filled, item_with, kind_with, written_over, fills_of}
 
 -- one word more behind those that were written
 written_more : (item : List ℕ) (words : Words) (word : ℕ) → slice_set (written_over item words) (length item) (Some word) ≡ written_over (item ++ word ∷ []) words
@@ -100,12 +103,22 @@ module _ (chunk : ChunkId) where
 
   -- nothing was written so far
   pub filled_none : (view : View) → view ≡ item_filled chunk [] view
-  filled_none view = ap (λ (holdings : List Holding). with_holdings holdings view) (sym (none_yet view.row.holdings))
+  filled_none view = λ k. record (with_holdings (sym (none_yet view.row.holdings) k) view) { events = sym (append-nil view.events) k }
+
+  -- one event more
+  fills_more : (item : List ℕ) (word place : ℕ) → fills_of chunk place (item ++ word ∷ []) ≡ fills_of chunk place item ++ made [] (step.Fill chunk (place + length item) word) ∷ []
+  fills_more [] word place = ap (λ (at : ℕ). made [] (step.Fill chunk at word) ∷ []) (omega arith)
+  fills_more (first ∷ item) word place =
+      ap (λ (events : List OwnEvent). made [] (step.Fill chunk place first) ∷ events)
+      (fills_more item word (place + 1) ∙ ap (λ (at : ℕ). fills_of chunk (place + 1) item ++ made [] (step.Fill chunk at word) ∷ []) (omega arith))
 
   -- one word more is written
   pub filled_more : (item : List ℕ) (word place : ℕ) (view now next : View) → now ≡ item_filled chunk item view → place ≡ length item → next ≡ word_filled chunk place word now → next ≡ item_filled chunk (item ++ word ∷ []) view
   filled_more item word place view now next was at is =
-      is ∙ ((λ k. word_filled chunk (at k) word (was k)) ∙ ap (λ (holdings : List Holding). with_holdings holdings view) (all_more item word view.row.holdings))
+      let events : (view.events ++ fills_of chunk 0 item) ++ made [] (step.Fill chunk (length item) word) ∷ [] ≡ view.events ++ fills_of chunk 0 (item ++ word ∷ []) =
+      append_assoc view.events (fills_of chunk 0 item) (made [] (step.Fill chunk (length item) word) ∷ [])
+      ∙ sym (ap (λ (more : List OwnEvent). view.events ++ more) (fills_more item word 0 ∙ ap (λ (n : ℕ). fills_of chunk 0 item ++ made [] (step.Fill chunk n word) ∷ []) (zero-add (length item)))) in
+      is ∙ ((λ k. word_filled chunk (at k) word (was k)) ∙ (λ k. record (with_holdings (all_more item word view.row.holdings k) view) { events = events k }))
 
   -- what is found of the chunk has the words
   found_with : (item : List ℕ) (holdings : List Holding) (holding : Holding) → holding_of chunk holdings ≡ Some holding → holding_of chunk (change_each (is_of chunk) (holding_with item) holdings) ≡ Some (holding_with item holding)

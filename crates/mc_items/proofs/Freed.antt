@@ -1,5 +1,5 @@
 -- A chunk that was freed, by an eviction or as it had died: what it leaves of what the hand has, and that it is free.
-use Rattle.std.proofs.Common.{◌≡◌, ℕ, ◌%◌, true, false, is_ok, is_some, Result, Ok, Err, OnOk, OnErr, List, map, ap, ◌∙◌, inl, inr}
+use Rattle.std.proofs.Common.{◌≡◌, ℕ, ◌%◌, Bool, true, false, is_ok, is_some, refl, sym, IsOk, Result, Ok, Err, OnOk, OnErr, List, map, ap, ◌∙◌, inl, inr}
 use Rattle.mc_pages.specs.declared.ids.ChunkId.{ChunkId}
 use Rattle.mc_pages.specs.Changes.{after_back, after_evicted, with_class}
 use Rattle.mc_pages.specs.ClassState.{ClassState, evicted, first_free, put_back}
@@ -17,35 +17,38 @@ use Rattle.mc_items.specs.declared.evicting.Supply.{Supply}
 use Rattle.mc_items.specs.declared.evicting.Supply.TheVariants.{Page, Dead, Evicted}
 use Rattle.mc_items.specs.Evicting.{FreesChunk, FreesOne, LacksEntry, TellsEvict}
 use Rattle.mc_items.specs.Supplying.{FreesEvicted, ReachesItem, TakesItem}
-use Rattle.mc_items.proofs.Passes.{each_keeps, lacks_spares, own_of, passed_spares, reach_spares}
+use Rattle.mc_items.proofs.Passes.{OwnTuple, each_keeps, lacks_spares, own_of, passed_spares, reach_spares}
 
 -- the hand has the chunks, the words said and the numbers that it had, and of its own calls at most an eviction came
 pub record Evicts (number : ℕ) (view now : View) : Type 0 where
   pub holdings : now.row.holdings ≡ view.row.holdings
   pub said : now.row.knows.said ≡ view.row.knows.said
   pub ids : now.row.ids ≡ view.row.ids
+  pub known : now.row.knows.known ≡ view.row.knows.known
   pub calls : TellsEvict number view now
 
 -- it did nothing
 pub evicts_none : (number : ℕ) (view now : View) → own_of now ≡ own_of view → Evicts number view now
 evicts_none number view now own = record {
-  holdings = ap (λ (o : List Holding × List Saying × Ids × List Own). o.0) own;
-  said = ap (λ (o : List Holding × List Saying × Ids × List Own). o.1) own;
-  ids = ap (λ (o : List Holding × List Saying × Ids × List Own). o.2) own;
-  calls = inl (ap (λ (o : List Holding × List Saying × Ids × List Own). o.3) own);
+  holdings = ap (λ (o : OwnTuple). o.0) own;
+  said = ap (λ (o : OwnTuple). o.1) own;
+  ids = ap (λ (o : OwnTuple). o.2) own;
+  known = ap (λ (o : OwnTuple). o.4) own;
+  calls = inl (ap (λ (o : OwnTuple). o.3) own);
 }
 
 -- nothing, and then that
 pub evicts_after : (number : ℕ) (view next now : View) → own_of next ≡ own_of view → Evicts number next now → Evicts number view now
 evicts_after number view next now own then_now = record {
-  holdings = then_now.holdings ∙ ap (λ (o : List Holding × List Saying × Ids × List Own). o.0) own;
-  said = then_now.said ∙ ap (λ (o : List Holding × List Saying × Ids × List Own). o.1) own;
-  ids = then_now.ids ∙ ap (λ (o : List Holding × List Saying × Ids × List Own). o.2) own;
+  holdings = then_now.holdings ∙ ap (λ (o : OwnTuple). o.0) own;
+  said = then_now.said ∙ ap (λ (o : OwnTuple). o.1) own;
+  ids = then_now.ids ∙ ap (λ (o : OwnTuple). o.2) own;
+  known = then_now.known ∙ ap (λ (o : OwnTuple). o.4) own;
   calls = by then_now.calls;
 }
   where
     mine : next.row.knows.mine ≡ view.row.knows.mine
-    mine = ap (λ (o : List Holding × List Saying × Ids × List Own). o.3) own
+    mine = ap (λ (o : OwnTuple). o.3) own
 
     by : TellsEvict number next now → TellsEvict number view now
     by (inl none) = inl (none ∙ mine)
@@ -54,14 +57,15 @@ evicts_after number view next now own then_now = record {
 -- that, and then nothing
 pub evicts_before : (number : ℕ) (view next now : View) → Evicts number view next → own_of now ≡ own_of next → Evicts number view now
 evicts_before number view next now first own = record {
-  holdings = ap (λ (o : List Holding × List Saying × Ids × List Own). o.0) own ∙ first.holdings;
-  said = ap (λ (o : List Holding × List Saying × Ids × List Own). o.1) own ∙ first.said;
-  ids = ap (λ (o : List Holding × List Saying × Ids × List Own). o.2) own ∙ first.ids;
+  holdings = ap (λ (o : OwnTuple). o.0) own ∙ first.holdings;
+  said = ap (λ (o : OwnTuple). o.1) own ∙ first.said;
+  ids = ap (λ (o : OwnTuple). o.2) own ∙ first.ids;
+  known = ap (λ (o : OwnTuple). o.4) own ∙ first.known;
   calls = by first.calls;
 }
   where
     mine : now.row.knows.mine ≡ next.row.knows.mine
-    mine = ap (λ (o : List Holding × List Saying × Ids × List Own). o.3) own
+    mine = ap (λ (o : OwnTuple). o.3) own
 
     by : TellsEvict number view next → TellsEvict number view now
     by (inl none) = inl (mine ∙ none)
@@ -73,6 +77,7 @@ taken_done number stripe chunk value view now done = record {
   holdings = ap (λ (v : View). v.row.holdings) done.given ∙ ap (λ (v : View). v.row.holdings) done.does.is;
   said = ap (λ (v : View). v.row.knows.said) done.given ∙ ap (λ (v : View). v.row.knows.said) done.does.is;
   ids = ap (λ (v : View). v.row.ids) done.given ∙ ap (λ (v : View). v.row.ids) done.does.is;
+  known = ap (λ (v : View). v.row.knows.known) done.given ∙ ap (λ (v : View). v.row.knows.known) done.does.is;
   calls = inr (stripe, done.does.key, ap (λ (v : View). v.row.knows.mine) done.given ∙ ap (λ (v : View). v.row.knows.mine) done.does.is);
 }
 
@@ -135,3 +140,13 @@ on_error (Err d) e is p = p
 pub as_error : {A E P : Type 0} (r : Result A E) → P → OnErr r P
 as_error (Ok a) p = tt
 as_error (Err e) p = p
+
+-- two facts on what went wrong
+pub error_both : {A E : Type 0} (P Q : Type 0) (r : Result A E) → OnErr r P → OnErr r Q → OnErr r (P × Q)
+error_both P Q (Ok a) p q = tt
+error_both P Q (Err e) p q = (p, q)
+
+-- where a stripe's room always suffices, and did not, it had none
+pub full_from : {A E : Type 0} (ready : Bool) (r : Result A E) (e : E) → r ≡ Err e → (ready ≡ true → IsOk r) → ready ≡ false
+full_from true r e is succeeds = absurd (let wrong : false ≡ true = sym (ap is_ok is) ∙ succeeds refl in cc)
+full_from false r e is succeeds = refl

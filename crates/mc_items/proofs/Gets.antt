@@ -1,5 +1,5 @@
 -- A look-up of a key, from its parts.
-use Rattle.std.proofs.Common.{◌≡◌, ℕ, ◌+◌, true, Option, Some, None, IfSome, refl, sym, ap, subst, ◌∙◌, Contains}
+use Rattle.std.proofs.Common.{false, ◌≡◌, ℕ, ◌+◌, true, Option, Some, None, IfSome, refl, sym, ap, subst, ◌∙◌, Contains}
 use Rattle.std.proofs.lemmas.List.Elements.{Contains-push}
 use Rattle.mc_pages.specs.declared.ids.ChunkId.{ChunkId}
 use Rattle.mc_stripe.specs.StripeState.{ReadyStripe, place_of, stamp_of}
@@ -20,6 +20,7 @@ use Rattle.mc_words.specs.Views.{stripe_given, stripe_reserved}
 use Rattle.mc_words.proofs.References.{is_item}
 use Rattle.mc_words.specs.declared.refs.Ref.{Ref}
 use Rattle.mc_items.specs.Calls.{CallsOn, LooksUp, OnlyWaits}
+use Rattle.mc_items.specs.Reading.{AndReads}
 
 -- the item of a reference that was got is the one that the first holding of its chunk has
 pub got_item : (view now : View) (number stripe : ℕ) (value : ReadyStripe) (key : ℕ) (chunk : ChunkId) (issue room : ℕ) → (gets : GetsItem view number stripe value key chunk issue room now) → LawfulView now → held_item now chunk ≡ gets.item
@@ -54,8 +55,8 @@ called_on Does number stripe number' stripe' value view taken now numbers stripe
 }
 
 -- one that ran out of memory
-pub only_waits : (stripe stripe' : ℕ) (value : ReadyStripe) (view taken now : View) → stripe' ≡ stripe → WaitsForStripe stripe view value taken → now ≡ stripe_given stripe' value taken → OnlyWaits stripe view now
-only_waits stripe stripe' value view taken now stripes waits given = record { value = value; taken = taken; waits = waits; given = given ∙ ap (λ n. stripe_given n value taken) stripes }
+pub only_waits : (stripe stripe' : ℕ) (value : ReadyStripe) (view taken now : View) → stripe' ≡ stripe → WaitsForStripe stripe view value taken → IsLentStripe taken stripe value → value.ready ≡ false → now ≡ stripe_given stripe' value taken → OnlyWaits stripe view now
+only_waits stripe stripe' value view taken now stripes waits lent full given = record { value = value; taken = taken; waits = waits; lent = lent; full = full; given = given ∙ ap (λ n. stripe_given n value taken) stripes }
 
 -- one that found none
 none_done : (number stripe : ℕ) (value : ReadyStripe) (key : ℕ) (view made got now : View) (number' stripe' stripe'' : ℕ) (ready left : ReadyStripe) → number' ≡ number → stripe' ≡ stripe → stripe'' ≡ stripe → ready ≡ record value { ready = true }
@@ -97,3 +98,8 @@ stamp_found value ready left key number' stripe' stripe'' (Some r) made got last
     ∙ ap Some (sym (ap (λ (v : View). items.stamp_of (held_item v r.chunk)) given ∙ (ap items.stamp_of (got_item made got number' stripe' ready key r.chunk r.issue r.room gets was) ∙ gets.stamp_is))))
 stamp_found value ready left key number' stripe' stripe'' None made got last readies given was gets misses =
     ap (λ (v : ReadyStripe). stamp_of v.state key) (sym readies) ∙ ap (λ (o : Option (ChunkId × ℕ)). option_map (λ (p : ChunkId × ℕ). p.1) o) (misses refl)
+
+-- what is read afterwards is read still
+pub and_reads : (chunk : Option ChunkId) (P Q : View → View → Type 0) (taken view now : View) → ((got : View) → P taken got → Q view got) → AndReads chunk P taken now → AndReads chunk Q view now
+and_reads None P Q taken view now to did = to now did
+and_reads (Some chunk) P Q taken view now to (got, did, is) = (got, to got did, is)

@@ -18,3 +18,8 @@ pub mod Freed
 pub mod FirstFive
 pub mod Made
 pub mod Sets
+pub mod Rows
+pub mod Left
+pub mod Chains
+pub mod StoredRows
+pub mod GetLeaves

@@ -12,6 +12,7 @@ use Rattle.mc_words.specs.Happens.{Happens}
 use Rattle.mc_words.specs.Idle.{is_unlocked}
 use Rattle.mc_words.specs.Out.{is_neither, with_slabs, with_stripe, without_slabs, without_stripe}
 use Rattle.mc_words.specs.Views.{slabs_missed, slabs_taken, stripe_missed, stripe_taken}
+use Rattle.mc_words.specs.Lent.{BeginsWithSeen}
 use Rattle.mc_words.specs.Waiting.{MissesSlabs, MissesStripe, WaitsForSlabs, WaitsForStripe}
 use Rattle.mc_words.proofs.Unlocked.{unlocked_from}
 
@@ -36,8 +37,8 @@ locks_back hand stripe unlocked = by hand.locks (unlocked_from hand.seat.me.0 ha
     by (StripeLast other) none = absurd (cc)
 
 -- a try that took the lock waited for nobody
-pub taken_at_once : (stripe : ℕ) (value : ReadyStripe) (before now : View) → Happens before [] (step.TakeStripe stripe) now → now ≡ stripe_taken stripe value before → WaitsForStripe stripe before value now
-taken_at_once stripe value before now happens is = record { words = []; before = before; misses = refl; taken = happens; is = is }
+pub taken_at_once : (stripe : ℕ) (value : ReadyStripe) (before now : View) → Happens before [] (step.TakeStripe stripe) now → now ≡ stripe_taken stripe value before → BeginsWithSeen before stripe value → WaitsForStripe stripe before value now
+taken_at_once stripe value before now happens is begins = record { words = []; before = before; misses = refl; taken = happens; is = is; begins = begins }
 
 -- the same of the lock of the slabs
 module _ {X : Type 0} (part : View → X) (missed : (word : ℕ) (v : View) → part (slabs_missed word v) ≡ part v) (took : (slabs : SlabState) (v : View) → part (slabs_taken slabs v) ≡ part v) where

@@ -1,5 +1,5 @@
 -- How a class came to a free chunk, or to none: what that leaves of what the hand has.
-use Rattle.std.proofs.Common.{◌≡◌, ℕ, true, false, is_some, List, [], ◌∷◌, map, Some, None, Option, Result, Ok, Err, refl, sym, ap, subst, ◌∙◌, inl, inr, ◌⊎◌}
+use Rattle.std.proofs.Common.{◌≡◌, ℕ, ◌+◌, true, false, is_some, List, [], ◌∷◌, ◌++◌, map, Some, None, Option, Result, Ok, Err, refl, sym, ap, subst, ◌∙◌, inl, inr, ◌⊎◌}
 use Rattle.std.specs.Prelude.{All, Contains}
 use Rattle.std.proofs.lemmas.List.Elements.{All-contains_itself, All-head, All-tail}
 use Rattle.mc_pages.specs.declared.ids.ChunkId.{ChunkId}
@@ -9,8 +9,10 @@ use Rattle.mc_pages.specs.SlabState.{SlabState, IsClass, class_at, class_of_chun
 use Rattle.mc_pages.proofs.OneClass.{IsClass-with_class}
 use Rattle.mc_core.specs.declared.head.Head.{Head}
 use Rattle.mc_core.specs.declared.ids.Ids.{Ids}
-use Rattle.mc_core.specs.Past.{Own, Saying}
-use Rattle.mc_core.specs.State.{is_class}
+use Rattle.mc_core.specs.declared.holding.Holding.{Holding}
+use Rattle.mc_core.specs.Past.{Known, Own, Saying}
+use Rattle.mc_core.specs.State.{is_class, room_in}
+use Rattle.mc_words.specs.Views.{fresh_holding}
 use Rattle.mc_words.specs.Doing.{HoldsSlabs}
 use Rattle.mc_words.specs.View.{View}
 use Rattle.mc_words.specs.Happens.{LawfulView}
@@ -31,7 +33,7 @@ use Rattle.mc_words.specs.declared.hand.Hand.{Hand}
 use Rattle.mc_words.proofs.HandNumbers.{number_stays}
 use Rattle.mc_items.proofs.Locks.{waits_slabs_keep}
 use Rattle.mc_items.proofs.Freed.{Evicts, back_is_free, entry_keeps, evicts_after, evicts_before, evicts_none, one_keeps}
-use Rattle.mc_items.proofs.Passes.{each_keeps, own_of}
+use Rattle.mc_items.proofs.Passes.{OwnTuple, each_keeps, own_of}
 
 -- a sweep that left no free chunk put none back
 module _ (class : ℕ) (order : List ChunkId) where
@@ -101,26 +103,28 @@ comes_so before after class supply slabs between made with finds seen makes = re
   makes = subst (λ n. MakesFree n class supply after.seat.me.0 between made with) (number_stays before after (ap (λ (v : View). v.row.ids) seen)) makes;
 }
 
--- what was said, the numbers, and at most an eviction among the calls
+-- what was said, the numbers, what is known, and at most an eviction among the calls
 pub record Tells (number : ℕ) (view now : View) : Type 0 where
   pub said : now.row.knows.said ≡ view.row.knows.said
   pub ids : now.row.ids ≡ view.row.ids
+  pub known : now.row.knows.known ≡ view.row.knows.known
   pub calls : TellsEvict number view now
 
 pub tells_from : (number : ℕ) (view now : View) → Evicts number view now → Tells number view now
-tells_from number view now evicts = record { said = evicts.said; ids = evicts.ids; calls = evicts.calls }
+tells_from number view now evicts = record { said = evicts.said; ids = evicts.ids; known = evicts.known; calls = evicts.calls }
 
 -- a pop leaves these, too
 abbrev pub TellsTuple : Type 0
-TellsTuple = List Saying × Ids × List Own
+TellsTuple = List Saying × Ids × List Own × List Known
 
 abbrev pub told_of : View → TellsTuple
-told_of view = (view.row.knows.said, view.row.ids, view.row.knows.mine)
+told_of view = (view.row.knows.said, view.row.ids, view.row.knows.mine, view.row.knows.known)
 
 pub tells_before : (number : ℕ) (view next now : View) → Tells number view next → told_of now ≡ told_of next → Tells number view now
 tells_before number view next now first told = record {
   said = ap (λ (o : TellsTuple). o.0) told ∙ first.said;
   ids = ap (λ (o : TellsTuple). o.1) told ∙ first.ids;
+  known = ap (λ (o : TellsTuple). o.3) told ∙ first.known;
   calls = by first.calls;
 }
   where
@@ -135,6 +139,7 @@ pub tells_after : (number : ℕ) (view next now : View) → told_of next ≡ tol
 tells_after number view next now told second = record {
   said = second.said ∙ ap (λ (o : TellsTuple). o.0) told;
   ids = second.ids ∙ ap (λ (o : TellsTuple). o.1) told;
+  known = second.known ∙ ap (λ (o : TellsTuple). o.3) told;
   calls = by second.calls;
 }
   where
@@ -167,6 +172,33 @@ supplies_tell number class chunk view slabs now left (inr made) =
     tells_before number view made.made now (tells_from number view made.made (comes_keep number class made.supply view slabs made.made made.with made.comes))
     (asks_told number class made.supply made.popped (after_pop made.with class) now left made.asks ∙ pops_tell made.made made.with class chunk made.popped made.pops)
 
+-- the hand holds what it held
+asks_hold : (number class : ℕ) (supply : Supply) (view : View) (slabs : SlabState) (now : View) (left : SlabState) → AsksMove number class supply view slabs now left → now.row.holdings ≡ view.row.holdings
+asks_hold number class supply view slabs now left (inl (asked, answer, does)) = by answer does
+  where
+    by : (answer : Result (Unit {0}) Reassign) → Reassigns number None class answer view slabs now left → now.row.holdings ≡ view.row.holdings
+    by (Ok done) begun = ap (λ (v : View). v.row.holdings) begun.changes.1
+    by (Err refusal) refused = ap (λ (v : View). v.row.holdings) refused.1
+asks_hold number class supply view slabs now left (inr (never, same, is)) = ap (λ (v : View). v.row.holdings) same
+
+-- it got a chunk more
+pub record Gains (chunk : ChunkId) (view now : View) : Type 0 where
+  pub fresh : Holding
+  pub of : fresh.chunk ≡ chunk
+  pub holdings : now.row.holdings ≡ view.row.holdings ++ fresh ∷ []
+
+pops_gain : (view swept : View) (slabs : SlabState) (class : ℕ) (chunk : ChunkId) (now : View) → swept.row.holdings ≡ view.row.holdings → PopsFirst swept slabs class chunk now → Gains chunk view now
+pops_gain view swept slabs class chunk now same pops =
+    let fresh : Holding = fresh_holding chunk (pops.head.issue + 1) (room_in swept.setup.table class) in
+    record { fresh = fresh; of = refl; holdings = ap (λ (v : View). v.row.holdings) pops.is ∙ ap (λ (hs : List Holding). hs ++ fresh ∷ []) same }
+
+supplies_gain : (number class : ℕ) (chunk : ChunkId) (view : View) (slabs : SlabState) (now : View) (left : SlabState) → SuppliesChunk number class chunk view slabs now left → Gains chunk view now
+supplies_gain number class chunk view slabs now left (inl free) =
+    pops_gain view free.swept free.between class chunk now (ap (λ (o : OwnTuple). o.0) (empty_keeps class view slabs free.swept free.between free.sweeps)) free.pops
+supplies_gain number class chunk view slabs now left (inr made) =
+    let gained = pops_gain view made.made made.with class chunk made.popped (comes_keep number class made.supply view slabs made.made made.with made.comes).holdings made.pops in
+    record { fresh = gained.fresh; of = gained.of; holdings = asks_hold number class made.supply made.popped (after_pop made.with class) now left made.asks ∙ gained.holdings }
+
 pub none_tells : (number class : ℕ) (error : SetError) (view : View) (slabs : SlabState) (now : View) (left : SlabState) → SuppliesNone number class error view slabs now left → Evicts number view now
 none_tells number class TooLarge view slabs now left none = absurd none
 none_tells number class NoRoom view slabs now left none =
@@ -178,8 +210,8 @@ none_tells number class WornOut view slabs now left (inr made) =
 none_tells number class NoMemory view slabs now left lacks =
     evicts_none number view now (by lacks.lacks.0 ∙ sweeps_keep _ view slabs lacks.swept lacks.between lacks.finds.sweeps)
   where
-    by : (now ≡ lacks.swept) ⊎ ((next_page lacks.between ≡ None) × Rattle.mc_items.specs.Evicting.LacksEntry number (first_five lacks.between class) lacks.swept now) → own_of now ≡ own_of lacks.swept
-    by (inl same) = ap own_of same
+    by : ((is_some (next_page lacks.between) ≡ true) × (now ≡ lacks.swept)) ⊎ ((next_page lacks.between ≡ None) × Rattle.mc_items.specs.Evicting.LacksEntry number (first_five lacks.between class) lacks.swept now) → own_of now ≡ own_of lacks.swept
+    by (inl (page, same)) = ap own_of same
     by (inr (page, entry)) = entry_keeps number _ lacks.swept now entry
 
 -- what was done under the lock, from the parts of the call
@@ -202,3 +234,15 @@ supplied_tells number class chunk view now holds =
 pub refused_tells : (number class : ℕ) (error : SetError) (view now : View) → HoldsSlabs (SuppliesNone number class error) view now → Tells number view now
 refused_tells number class error view now holds =
     hold_tells number (SuppliesNone number class error) view now holds (tells_from number holds.taken holds.last (none_tells number class error holds.taken holds.found holds.last holds.left holds.does))
+
+-- what the hand holds then
+pub supplied_gains : (number class : ℕ) (chunk : ChunkId) (view now : View) → HoldsSlabs (SuppliesChunk number class chunk) view now → Gains chunk view now
+supplied_gains number class chunk view now holds =
+    let gained = supplies_gain number class chunk holds.taken holds.found holds.last holds.left holds.does in
+    let waited = waits_slabs_keep (λ (v : View). v.row.holdings) (λ word v. refl) (λ slabs v. refl) view holds.found holds.taken holds.waits in
+    record { fresh = gained.fresh; of = gained.of; holdings = ap (λ (v : View). v.row.holdings) holds.given ∙ (gained.holdings ∙ ap (λ (hs : List Holding). hs ++ gained.fresh ∷ []) waited) }
+
+pub refused_holds : (number class : ℕ) (error : SetError) (view now : View) → HoldsSlabs (SuppliesNone number class error) view now → now.row.holdings ≡ view.row.holdings
+refused_holds number class error view now holds =
+    let waited = waits_slabs_keep (λ (v : View). v.row.holdings) (λ word v. refl) (λ slabs v. refl) view holds.found holds.taken holds.waits in
+    ap (λ (v : View). v.row.holdings) holds.given ∙ ((none_tells number class error holds.taken holds.found holds.last holds.left holds.does).holdings ∙ waited)

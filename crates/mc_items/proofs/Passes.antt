@@ -14,7 +14,7 @@ use Rattle.mc_core.specs.declared.look.Look.{Look}
 use Rattle.mc_core.specs.declared.look.Look.TheVariants.{Read, Saw, SawStripe}
 use Rattle.mc_core.specs.Head.{is_dead}
 use Rattle.mc_core.specs.Looks.{is_found_alive, stays_alive}
-use Rattle.mc_core.specs.Past.{Own, Saying}
+use Rattle.mc_core.specs.Past.{Known, Own, Saying}
 use Rattle.mc_words.specs.Doing.{Doing, IsDone}
 use Rattle.mc_words.specs.View.{View}
 use Rattle.mc_words.specs.Condemning.{FindsHeld, key_seen}
@@ -22,11 +22,14 @@ use Rattle.mc_words.specs.Owner.{SeesOther}
 use Rattle.mc_words.specs.Views.{head_seen, stripe_given, stripe_missed, stripe_reserved, stripe_taken}
 use Rattle.mc_words.proofs.Reasoned.{all_weaker}
 use Rattle.mc_items.specs.Evicting.{PassesEach, PassesOne}
-use Rattle.mc_items.specs.Supplying.{FindsItemHeld, LacksMemory, PassesItem, ReachesItem}
+use Rattle.mc_items.specs.Supplying.{FindsItemHeld, LacksCall, PassesItem, ReachesItem}
 
--- what a hand has of its own: its chunks, what it said, its numbers and its calls
-abbrev pub own_of : View → List Holding × List Saying × Ids × List Own
-own_of view = (view.row.holdings, view.row.knows.said, view.row.ids, view.row.knows.mine)
+-- what a hand has of its own: its chunks, what it said, its numbers, its calls and what it knows
+abbrev pub OwnTuple : Type 0
+OwnTuple = List Holding × List Saying × Ids × List Own × List Known
+
+abbrev pub own_of : View → OwnTuple
+own_of view = (view.row.holdings, view.row.knows.said, view.row.ids, view.row.knows.mine, view.row.knows.known)
 
 -- this stayed, and so did what was found alive of other chunks than this
 pub record Spares (chunk : ChunkId) (view now : View) : Type 0 where
@@ -127,12 +130,12 @@ passed_spares number chunk view now (inr (inr reaches)) =
     spares_on chunk view reaches.taken now (reach_spares number chunk (λ number stripe. FindsItemHeld chunk) view now reaches)
     (held_spares number (reaches.key % view.setup.config.stripes) chunk reaches.value reaches.taken now reaches.done)
 
-pub lacks_spares : (chunk : ChunkId) (view now : View) → LacksMemory chunk view now → Spares chunk view now
+pub lacks_spares : (chunk : ChunkId) (view now : View) → LacksCall chunk view now → Spares chunk view now
 lacks_spares chunk view now lacks =
     let key = key_seen chunk lacks.key (head_seen chunk lacks.head view) in
     let stripe = lacks.key % view.setup.config.stripes in
     let taken = stripe_taken stripe lacks.value key in
-    spares_at chunk view (stripe_given stripe lacks.value taken) now lacks.given
+    spares_at chunk view (stripe_given stripe lacks.value taken) now (lacks.given ∙ ap (stripe_given stripe lacks.value) lacks.is_taken)
     (spares_on chunk view taken (stripe_given stripe lacks.value taken)
     (spares_on chunk view key taken (key_spares chunk lacks.head lacks.key view) (taken_spares chunk stripe lacks.value key)) (given_spares chunk stripe lacks.value taken))
 

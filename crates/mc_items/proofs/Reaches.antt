@@ -31,7 +31,7 @@ use Rattle.mc_words.specs.View.{View}
 use Rattle.mc_words.specs.Condemning.{key_seen, knows_reason, stripe_read}
 use Rattle.mc_words.specs.Happens.{Happens, LawfulView}
 use Rattle.mc_words.specs.Items.{word_read}
-use Rattle.mc_words.specs.Lent.{IsLentStripe}
+use Rattle.mc_words.specs.Lent.{BeginsWithSeen, IsLentStripe}
 use Rattle.mc_words.specs.Views.{head_seen, stripe_given, stripe_taken}
 use Rattle.mc_words.specs.declared.hand.Hand.{Hand}
 use Rattle.mc_words.specs.declared.locks.Locks.{Locks}
@@ -41,7 +41,7 @@ use Rattle.mc_words.specs.Out.{has_no_stripe, with_stripe, without_stripe}
 use Rattle.mc_words.proofs.Unlocked.{no_stripe_from}
 use Rattle.mc_words.proofs.Judging.{class_of_table, room_of, seen_is}
 use Rattle.mc_words.proofs.Reasoned.{alive_after_look, alive_after_read, all_weaker, no_page_left, room_needed}
-use Rattle.mc_items.specs.Supplying.{LacksMemory, ReachesItem}
+use Rattle.mc_items.specs.Supplying.{LacksCall, ReachesItem}
 
 -- a linked chunk isn't dead
 pub not_dead : (head : Head) → is_linked_unheld head ≡ true → is_dead head ≡ false
@@ -112,8 +112,8 @@ module _ (view : View) (slabs : SlabState) (mine : view.slabs ≡ Some slabs) (c
 -- the whole, from its parts
 pub reached : (Does : ℕ → ℕ → Doing) (number number' : ℕ) (view : View) (chunk : ChunkId) (head : Head) (seen read taken now : View) (key stripe stripe' : ℕ) (value : ReadyStripe) → is_linked_unheld head ≡ true → seen ≡ head_seen chunk head view → read ≡ key_seen chunk key seen
     → stripe ≡ key % view.setup.config.stripes → stripe' ≡ stripe → number' ≡ number → Happens view [] (step.Head chunk) seen → Happens seen [] (step.WordHeld chunk 0) read → Happens read [] (step.TakeStripe stripe) taken → taken ≡ stripe_taken stripe value read
-    → IsLentStripe taken stripe value → IsDone number' stripe' value (Does number' stripe') taken now → ReachesItem number chunk Does view now
-reached Does number number' view chunk head seen read taken now key stripe stripe' value unheld seen_is read_is at same numbers looks reads takes taken_is lent done =
+    → IsLentStripe taken stripe value → BeginsWithSeen read stripe value → IsDone number' stripe' value (Does number' stripe') taken now → ReachesItem number chunk Does view now
+reached Does number number' view chunk head seen read taken now key stripe stripe' value unheld seen_is read_is at same numbers looks reads takes taken_is lent begins done =
     let all : read ≡ key_seen chunk key (head_seen chunk head view) = read_is ∙ ap (key_seen chunk key) seen_is in record {
       head = head;
       unheld = unheld;
@@ -125,19 +125,28 @@ reached Does number number' view chunk head seen read taken now key stripe strip
       takes = subst (λ (p : View × ℕ). Happens p.0 [] (step.TakeStripe p.1) taken) (λ k. (all k, at k)) takes;
       is_taken = taken_is ∙ (λ k. stripe_taken (at k) value (all k));
       lent = subst (λ n. IsLentStripe taken n value) at lent;
+      begins = subst (λ (p : View × ℕ). BeginsWithSeen p.0 p.1 value) (λ k. (all k, at k)) begins;
       done = subst (λ (p : ℕ × ℕ). IsDone p.0 p.1 value (Does p.0 p.1) taken now) (λ k. (numbers k, (same ∙ at) k)) done;
     }
 
 -- without memory for a call
 pub lacked : (view : View) (chunk : ChunkId) (head : Head) (seen read taken now : View) (key stripe stripe' : ℕ) (value : ReadyStripe) → is_linked_unheld head ≡ true → seen ≡ head_seen chunk head view → read ≡ key_seen chunk key seen
-    → stripe ≡ key % view.setup.config.stripes → stripe' ≡ stripe → taken ≡ stripe_taken stripe value read → now ≡ stripe_given stripe' value taken → LacksMemory chunk view now
-lacked view chunk head seen read taken now key stripe stripe' value unheld seen_is read_is at same taken_is given =
+    → stripe ≡ key % view.setup.config.stripes → stripe' ≡ stripe → Happens view [] (step.Head chunk) seen → Happens seen [] (step.WordHeld chunk 0) read → Happens read [] (step.TakeStripe stripe) taken → taken ≡ stripe_taken stripe value read → IsLentStripe taken stripe value → BeginsWithSeen read stripe value → value.ready ≡ false → now ≡ stripe_given stripe' value taken → LacksCall chunk view now
+lacked view chunk head seen read taken now key stripe stripe' value unheld seen_is read_is at same looks reads takes taken_is lent begins full given =
     let all : read ≡ key_seen chunk key (head_seen chunk head view) = read_is ∙ ap (key_seen chunk key) seen_is in record {
       head = head;
       unheld = unheld;
       key = key;
       value = value;
-      given = given ∙ (λ k. stripe_given ((same ∙ at) k) value ((taken_is ∙ (λ j. stripe_taken (at j) value (all j))) k));
+      looks = subst (λ (v : View). Happens view [] (step.Head chunk) v) seen_is looks;
+      reads = subst (λ (p : View × View). Happens p.0 [] (step.WordHeld chunk 0) p.1) (λ k. (seen_is k, all k)) reads;
+      taken = taken;
+      takes = subst (λ (p : View × ℕ). Happens p.0 [] (step.TakeStripe p.1) taken) (λ k. (all k, at k)) takes;
+      is_taken = taken_is ∙ (λ k. stripe_taken (at k) value (all k));
+      lent = subst (λ n. IsLentStripe taken n value) at lent;
+      begins = subst (λ (p : View × ℕ). BeginsWithSeen p.0 p.1 value) (λ k. (all k, at k)) begins;
+      full = full;
+      given = given ∙ (λ k. stripe_given ((same ∙ at) k) value taken);
     }
 
 -- a stripe's lock that came and went

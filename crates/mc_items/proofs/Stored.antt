@@ -10,7 +10,6 @@ use Rattle.mc_words.specs.View.{View}
 use Rattle.mc_words.specs.Called.{with_own_call}
 use Rattle.mc_words.specs.Items.{issue_in, words_in}
 use Rattle.mc_words.specs.Linking.{IsItemFilled, own_item}
-use Rattle.mc_words.specs.declared.held.Fresh.{Fresh}
 use Rattle.mc_items.specs.Calls.{TellsNoCall}
 use Rattle.mc_items.specs.Storing.{LeavesDead, StoresItem}
 use Rattle.mc_items.proofs.Tells.{told_none}
@@ -34,22 +33,22 @@ pub numbers_known : (item : List ℕ) → numbers (all_known item) ≡ item
 numbers_known [] = refl
 numbers_known (word ∷ item) = ap (λ (l : List ℕ). word ∷ l) (numbers_known item)
 
-module _ (number stripe key : ℕ) (fresh : Fresh) (view now : View) (stored : StoresItem number stripe key fresh view now) where
+module _ (number stripe key stamp : ℕ) (chunk : ChunkId) (room : ℕ) (view now : View) (stored : StoresItem number stripe key stamp chunk room view now) where
   -- the hand's own calls have the one more
-  pub stored_mine : now.row.knows.mine ≡ map (with_own_call number stripe (Set number key fresh.stamp)) view.row.knows.mine
+  pub stored_mine : now.row.knows.mine ≡ map (with_own_call number stripe (Set number key stamp)) view.row.knows.mine
   stored_mine =
       ap (λ (v : View). v.row.knows.mine) stored.dropped
       ∙ (ap (λ (v : View). v.row.knows.mine) stored.stores.done.given
       ∙ (ap (λ (v : View). v.row.knows.mine) stored.stores.done.does.0
-      ∙ ap (λ (mine : List Own). map (with_own_call number stripe (Set number key fresh.stamp)) mine) (waits_keep (λ (v : View). v.row.knows.mine) stripe (λ word v. refl) (λ value v. refl) view stored.stores.value stored.stores.taken stored.stores.waits)))
+      ∙ ap (λ (mine : List Own). map (with_own_call number stripe (Set number key stamp)) mine) (waits_keep (λ (v : View). v.row.knows.mine) stripe (λ word v. refl) (λ value v. refl) view stored.stores.value stored.stores.taken stored.stores.waits)))
 
   -- and it said the item with its stamp
-  pub stored_said : now.row.knows.said ≡ view.row.knows.said ++ record { stamp = fresh.stamp; words = numbers (item_in (words_in view fresh.chunk)) } ∷ []
+  pub stored_said : now.row.knows.said ≡ view.row.knows.said ++ record { stamp = stamp; words = numbers (item_in (words_in view chunk)) } ∷ []
   stored_said =
       ap (λ (v : View). v.row.knows.said) stored.dropped
       ∙ (ap (λ (v : View). v.row.knows.said) stored.stores.done.given
       ∙ (ap (λ (v : View). v.row.knows.said) stored.stores.done.does.0
-      ∙ ap (λ (p : List Saying × List Holding). p.0 ++ record { stamp = fresh.stamp; words = numbers (item_in (words_among fresh.chunk p.1)) } ∷ []) (waits_keep (λ (v : View). (v.row.knows.said, v.row.holdings)) stripe (λ word v. refl) (λ value v. refl) view stored.stores.value stored.stores.taken stored.stores.waits)))
+      ∙ ap (λ (p : List Saying × List Holding). p.0 ++ record { stamp = stamp; words = numbers (item_in (words_among chunk p.1)) } ∷ []) (waits_keep (λ (v : View). (v.row.knows.said, v.row.holdings)) stripe (λ word v. refl) (λ value v. refl) view stored.stores.value stored.stores.taken stored.stores.waits)))
 
 -- who gave its chunk up told nothing
 pub dead_told : (stripe : ℕ) (chunk : ChunkId) (view now : View) → LeavesDead stripe chunk view now → TellsNoCall view now

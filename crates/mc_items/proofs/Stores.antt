@@ -1,5 +1,5 @@
 -- An item that is linked in place of the one that its key had.
-use Rattle.std.proofs.Common.{◌≡◌, ℕ, Bool, true, false, ◌||◌, List, [], ◌∷◌, Option, Some, None, refl, ap, sym, ◌∙◌, cond, nat_eq, slice_index_or, slice_set, is_some}
+use Rattle.std.proofs.Common.{◌≡◌, ℕ, Bool, true, false, ◌||◌, List, [], ◌∷◌, Option, Some, None, refl, ap, sym, ◌∙◌, cond, nat_eq, slice_index_or, slice_set, is_some, if◌then◌else◌, ◌++◌}
 use Rattle.std.specs.Option.{option_map}
 use Rattle.std.proofs.lemmas.Option.{none-some}
 use Rattle.std.proofs.lemmas.List.{set-get_or}
@@ -11,8 +11,12 @@ use Rattle.mc_stripe.specs.StripeState.{Index, ReadyStripe, place_of}
 use Rattle.mc_core.specs.declared.holding.Holding.{Holding}
 use Rattle.mc_core.specs.Holdings.{has_fresh, holding_of, is_fresh, is_of}
 use Rattle.mc_words.specs.View.{View}
-use Rattle.mc_words.specs.Called.{key_lifted}
-use Rattle.mc_items.specs.Storing.{stripe_lifted}
+use Rattle.mc_core.specs.Holdings.{has_fresh}
+use Rattle.mc_core.specs.declared.event.Step.TheVariants as step
+use Rattle.mc_words.specs.Called.{key_deleted, key_lifted, key_unlinked}
+use Rattle.mc_words.specs.Views.{with_event}
+use Rattle.mc_words.specs.View.{made}
+use Rattle.mc_items.specs.Storing.{key_put_aside, stripe_lifted}
 
 or_true : (b : Bool) → (b || true) ≡ true
 or_true true = refl
@@ -46,6 +50,18 @@ none_lifted value key none whole =
 pub nothing_lifted : (stripe : ℕ) (value : ReadyStripe) (key : ℕ) (view : View) → slice_index_or view.stripes stripe None ≡ Some value → place_of value.state key ≡ None → value.state.aside ≡ None → view ≡ key_lifted stripe value key view
 nothing_lifted stripe value key view mine none whole =
     ap (λ (all : List (Option ReadyStripe)). record view { stripes = all }) (sym (set-get_or view.stripes stripe None) ∙ ap (λ (o : Option ReadyStripe). slice_set view.stripes stripe o) (mine ∙ ap Some (none_lifted value key none whole)))
+
+-- nothing is put aside, and nothing is done
+pub nothing_aside : (stripe : ℕ) (value : ReadyStripe) (key : ℕ) (view : View) → slice_index_or view.stripes stripe None ≡ Some value → place_of value.state key ≡ None → value.state.aside ≡ None → view ≡ key_put_aside stripe value key view
+nothing_aside stripe value key view mine none whole =
+    nothing_lifted stripe value key view mine none whole
+    ∙ ap (λ (o : Option (ChunkId × ℕ)). record (key_lifted stripe value key view) { events = if is_some o then view.events ++ made [] (step.Unlink key) ∷ [] else view.events }) (sym none)
+
+-- an entry that is there is put aside by one event
+pub some_aside : (number stripe : ℕ) (value : ReadyStripe) (key : ℕ) (view now : View) → has_fresh view.row.holdings ≡ true → is_some (place_of value.state key) ≡ true → now ≡ key_unlinked number stripe value key view → now ≡ key_put_aside stripe value key view
+some_aside number stripe value key view now fresh there is =
+    is ∙ (ap (λ (b : Bool). with_event [] (step.Unlink key) (if b then key_lifted stripe value key view else key_deleted number stripe value key true view)) fresh
+    ∙ ap (λ (b : Bool). record (key_lifted stripe value key view) { events = if b then view.events ++ made [] (step.Unlink key) ∷ [] else view.events }) (sym there))
 
 pub none_from : {A : Type 0} (o : Option A) → is_some o ≡ false → o ≡ None
 none_from None none = refl

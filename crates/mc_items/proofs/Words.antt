@@ -1,6 +1,11 @@
 -- The words of an item behind its key, stamp and length.
-use Rattle.std.proofs.Common.{◌≡◌, ℕ, ◌+◌, ◌<◌, ◌≤◌, List, [], ◌∷◌, ◌++◌, drop, take, length, slice_index, ap, sym, ◌∙◌, arith}
-use Rattle.std.proofs.lemmas.List.{take_more, take_all, get_or-drop, length-drop}
+use Rattle.std.proofs.Common.{◌≡◌, ℕ, zero, suc, ◌+◌, ◌<◌, ◌≤◌, List, [], ◌∷◌, ◌++◌, drop, take, length, slice_index, ap, sym, ◌∙◌, arith}
+use Rattle.std.proofs.lemmas.List.{append_assoc, take_more, take_all, get_or-drop, length-drop}
+use Rattle.mc_pages.specs.declared.ids.ChunkId.{ChunkId}
+use Rattle.mc_core.specs.declared.event.Step.TheVariants as step
+use Rattle.mc_words.specs.View.{OwnEvent, View, made}
+use Rattle.mc_words.specs.Views.{word_seen}
+use Rattle.mc_items.specs.Reading.{reads_of, words_seen}
 
 -- one word more is read
 pub one_more : (item : List ℕ) (place word : ℕ) → 3 + place < length item → word ≡ slice_index item (3 + place) → take place (drop 3 item) ++ word ∷ [] ≡ take (place + 1) (drop 3 item)
@@ -11,3 +16,15 @@ one_more item place word near is =
 -- all are
 pub all_read : (item : List ℕ) (count : ℕ) → length item ≤ 3 + count → take count (drop 3 item) ≡ drop 3 item
 all_read item count most = let long = length-drop 3 item in take_all count (drop 3 item) (omega arith)
+
+-- one read more
+reads_more : (chunk : ChunkId) (place count : ℕ) → reads_of chunk place count ++ made [] (step.Word chunk (place + count)) ∷ [] ≡ reads_of chunk place (count + 1)
+reads_more chunk place zero = ap (λ (at : ℕ). made [] (step.Word chunk at) ∷ []) (omega arith)
+reads_more chunk place (suc count) =
+    let next : place + suc count ≡ (place + 1) + count = omega arith in
+    let more : suc (count + 1) ≡ suc count + 1 = omega arith in
+    ap (λ (events : List OwnEvent). made [] (step.Word chunk place) ∷ events) (ap (λ (at : ℕ). reads_of chunk (place + 1) count ++ made [] (step.Word chunk at) ∷ []) next ∙ reads_more chunk (place + 1) count)
+    ∙ ap (reads_of chunk place) more
+
+pub one_read : (chunk : ChunkId) (place count : ℕ) (view : View) → word_seen chunk (place + count) (words_seen chunk place count view) ≡ words_seen chunk place (count + 1) view
+one_read chunk place count view = ap (λ (events : List OwnEvent). record view { events = events }) (append_assoc view.events (reads_of chunk place count) (made [] (step.Word chunk (place + count)) ∷ []) ∙ ap (λ (more : List OwnEvent). view.events ++ more) (reads_more chunk place count))

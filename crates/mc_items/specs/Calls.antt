@@ -1,8 +1,9 @@
 -- Calls on keys: the lock of the key's stripe is taken, the call is made there, and the lock is given back.
-use Rattle.std.specs.Prelude.{◌≡◌, ℕ, ◌+◌, Bool, true, is_some, if◌then◌else◌, map, Option, Some, None}
+use Rattle.std.specs.Prelude.{◌≡◌, ℕ, ◌+◌, Bool, true, false, is_some, if◌then◌else◌, map, Option, Some, None, []}
 use Rattle.mc_pages.specs.SlabState.{SlabState}
 use Rattle.mc_pages.specs.Changes.{after_touch}
 use Rattle.mc_core.specs.declared.event.Change.TheVariants.{Touch}
+use Rattle.mc_core.specs.declared.event.Step.TheVariants as step
 use Rattle.mc_stripe.specs.declared.history.Call.{Call}
 use Rattle.mc_stripe.specs.StripeState.{ReadyStripe, place_of}
 use Rattle.mc_stripe.specs.Changes.{after_got, after_unlink, used_up}
@@ -11,9 +12,10 @@ use Rattle.mc_words.specs.View.{View}
 use Rattle.mc_words.specs.Called.{with_own_call, key_deleted, key_missed, key_not_deleted}
 use Rattle.mc_words.specs.Lent.{IsLentStripe}
 use Rattle.mc_words.specs.Referring.{GetsItem}
-use Rattle.mc_words.specs.Views.{chunk_dropped, slabs_changed, slabs_given, stripe_given}
+use Rattle.mc_words.specs.Views.{chunk_released, with_event, slabs_changed, slabs_given, stripe_given}
 use Rattle.mc_words.specs.Waiting.{WaitsForSlabs, WaitsForStripe}
 use Rattle.mc_words.specs.declared.refs.Ref as words
+use Rattle.mc_words.specs.Observers.{ref_chunk, ref_issue, ref_room}
 
 -- the stripe's lock was waited for, and this was done
 pub record CallsOn (number stripe : ℕ) (Does : Doing) (view now : View) : Type 0 where
@@ -23,17 +25,19 @@ pub record CallsOn (number stripe : ℕ) (Does : Doing) (view now : View) : Type
   pub lent : IsLentStripe taken stripe value
   pub done : IsDone number stripe value Does taken now
 
--- the stripe's lock was waited for, and given back as it was
+-- the stripe's lock was waited for, the stripe had no room for a call, and the lock was given back as it was
 pub record OnlyWaits (stripe : ℕ) (view now : View) : Type 0 where
   pub value : ReadyStripe
   pub taken : View
   pub waits : WaitsForStripe stripe view value taken
+  pub lent : IsLentStripe taken stripe value
+  pub full : value.ready ≡ false
   pub given : now ≡ stripe_given stripe value taken
 
 -- the key was looked up, and this reference to its item was got
 abbrev pub Finds : ℕ → ℕ → ℕ → words.Ref → Doing
 Finds number stripe key r value view left now =
-    GetsItem view number stripe value key r.chunk r.issue r.room now × (left ≡ used_up (after_got value.state number key))
+    GetsItem view number stripe value key (ref_chunk r) (ref_issue r) (ref_room r) now × (left ≡ used_up (after_got value.state number key))
 
 -- the key was looked up, and has no item
 abbrev pub FindsNone : ℕ → ℕ → ℕ → Doing
@@ -53,13 +57,13 @@ pub record Touches (number stripe key : ℕ) (view now : View) : Type 0 where
   pub slabs : SlabState
   pub taken : View
   pub waits : WaitsForSlabs got slabs taken
-  pub is : now ≡ chunk_dropped reference.chunk (slabs_given (after_touch slabs reference.chunk) (slabs_changed slabs (Touch reference.chunk) (number + 1) taken))
+  pub is : now ≡ chunk_released (ref_chunk reference) (slabs_given (after_touch slabs (ref_chunk reference)) (slabs_changed slabs (Touch (ref_chunk reference)) (number + 1) taken))
 
 -- the key was deleted, and had an item or none
 abbrev pub Deletes : ℕ → ℕ → ℕ → Bool → Doing
 Deletes number stripe key there value view left now =
     (there ≡ is_some (place_of value.state key))
-    × (now ≡ (if there then key_deleted number stripe value key true view else key_not_deleted number stripe value key view))
+    × (now ≡ (if there then with_event [] (step.Unlink key) (key_deleted number stripe value key true view) else key_not_deleted number stripe value key view))
     × (left ≡ used_up (after_unlink value.state number key))
 
 -- of the hand's own calls on keys of this stripe this one came last, and of no others came any

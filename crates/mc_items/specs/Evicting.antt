@@ -11,7 +11,7 @@ use Rattle.mc_words.specs.View.{View}
 use Rattle.mc_items.specs.declared.evicting.Supply.{Supply}
 use Rattle.mc_items.specs.declared.evicting.Supply.TheVariants.{Page, Dead, Evicted}
 use Rattle.mc_items.specs.Calls.{TellsCall, TellsNoCall}
-use Rattle.mc_items.specs.Supplying.{FreesEvicted, LacksMemory, PassesItem, ReachesItem, TakesItem}
+use Rattle.mc_items.specs.Supplying.{FreesEvicted, LacksCall, PassesItem, ReachesItem, TakesItem}
 
 -- the oldest five that the class handed out
 abbrev pub first_five : SlabState → ℕ → List ChunkId
@@ -54,7 +54,17 @@ pub record LacksEntry (number : ℕ) (chunks : List ChunkId) (view now : View) :
   pub first : chunks ≡ before ++ chunk ∷ after
   pub passed : View
   pub passes : PassesEach number before view passed
-  pub lacks : LacksMemory chunk passed now
+  pub lacks : LacksCall chunk passed now
+
+-- of its oldest five, and pages and lists are as they were where none was freed
+abbrev pub FreesOneOfFive : ℕ → ℕ → Supply → SlabsDoing
+FreesOneOfFive number class supply view slabs now left = FreesOne number class (first_five slabs class) supply view slabs now left
+
+abbrev pub PassesFive : ℕ → ℕ → SlabsDoing
+PassesFive number class view slabs now left = PassesEach number (first_five slabs class) view now × (left ≡ slabs)
+
+abbrev pub LacksEntryOfFive : ℕ → ℕ → SlabsDoing
+LacksEntryOfFive number class view slabs now left = LacksEntry number (first_five slabs class) view now × (left ≡ slabs)
 
 -- of the hand's own calls at most an eviction came
 abbrev pub TellsEvict : ℕ → View → View → Type 0

@@ -1,15 +1,43 @@
 -- References to items, and what is known of each.
-use Rattle.std.specs.Prelude.{◌≡◌, ◌+◌, length}
+use Rattle.std.specs.Prelude.{◌≡◌, ℕ, ◌+◌, List, drop, length}
+use Rattle.mc_pages.specs.declared.ids.ChunkId.{ChunkId}
 use Rattle.mc_core.specs.Holdings.{key_of, stamp_of}
 use Rattle.mc_words.specs.View.{View}
 use Rattle.mc_words.specs.Items.{held_item}
 use Rattle.mc_words.specs.Refs.{IsIssueOf, IsRefOf}
+use Rattle.mc_words.specs.declared.refs.Ref as words
 use Rattle.mc_items.specs.declared.refs.Ref.{Ref}
+use Rattle.mc_words.specs.Observers.{ref_chunk, ref_issue, ref_room}
+
+-- the reference to its chunk, and that chunk
+abbrev pub item_reference : Ref → words.Ref
+item_reference item = item.reference
+
+abbrev pub item_chunk : Ref → ChunkId
+item_chunk item = ref_chunk (item_reference item)
+
+-- the issue number with which the chunk was handed out
+abbrev pub item_issue : Ref → ℕ
+item_issue item = ref_issue (item_reference item)
+
+-- its key, its stamp, and how many words it has
+abbrev pub item_key : Ref → ℕ
+item_key item = item.key
+
+abbrev pub item_stamp : Ref → ℕ
+item_stamp item = item.stamp
+
+abbrev pub item_len : Ref → ℕ
+item_len item = item.len
+
+-- the words behind key, stamp and length, as the hand knows them
+abbrev pub item_words : View → Ref → List ℕ
+item_words view item = drop 3 (held_item view (item_chunk item))
 
 -- the hand refers to an item of this key, stamp and length
-pub record IsItemRef (view : View) (ref : Ref) : Type 0 where
-  pub reference : IsRefOf view ref.reference.chunk ref.reference.room
-  pub issue : IsIssueOf view ref.reference.chunk ref.reference.issue
-  pub key : key_of (held_item view ref.reference.chunk) ≡ ref.key
-  pub stamp : stamp_of (held_item view ref.reference.chunk) ≡ ref.stamp
-  pub len : length (held_item view ref.reference.chunk) ≡ 3 + ref.len
+pub record IsItemRef (view : View) (item : Ref) : Type 0 where
+  pub reference : IsRefOf view (item_chunk item) (ref_room (item_reference item))
+  pub issue : IsIssueOf view (item_chunk item) (ref_issue (item_reference item))
+  pub key : key_of (held_item view (item_chunk item)) ≡ item_key item
+  pub stamp : stamp_of (held_item view (item_chunk item)) ≡ item_stamp item
+  pub len : length (held_item view (item_chunk item)) ≡ 3 + item_len item

@@ -1,6 +1,10 @@
 pub mod ItemRefs
+pub mod Reading
 pub mod Calls
+pub mod OnKeys
+pub mod Keeping
 pub mod Storing
+pub mod FreshChunks
 pub mod Supplying
 pub mod Evicting
 pub mod Sources

@@ -1,5 +1,5 @@
 -- Sets: what they do, what they tell, and why they are refused.
-use Rattle.std.specs.Prelude.{◌≡◌, ◌⊎◌, ℕ, ◌+◌, ◌*◌, ◌%◌, List, length, Option, Some, None}
+use Rattle.std.specs.Prelude.{◌≡◌, ◌⊎◌, ℕ, ◌+◌, ◌*◌, List, length, Option, Some, None}
 use Rattle.mc_classes.specs.Classes.{class_of}
 use Rattle.mc_pages.specs.declared.ids.ChunkId.{ChunkId}
 use Rattle.mc_stripe.specs.declared.history.Call.TheVariants as call
@@ -7,6 +7,7 @@ use Rattle.mc_words.specs.Doing.{HoldsSlabs}
 use Rattle.mc_words.specs.View.{View}
 use Rattle.mc_words.specs.Tallies.{next_stamp}
 use Rattle.mc_items.specs.Calls.{TellsCall}
+use Rattle.mc_items.specs.OnKeys.{stripe_of_key}
 use Rattle.mc_items.specs.Evicting.{TellsEvict}
 use Rattle.mc_items.specs.Sources.{SuppliesChunk, SuppliesNone}
 use Rattle.mc_items.specs.Storing.{LeavesDead, StoresItem, item_filled, item_with}
@@ -17,10 +18,6 @@ use Rattle.mc_items.specs.declared.setting.SetError.TheVariants.{TooLarge, NoRoo
 abbrev pub class_for_words : View → List ℕ → Option ℕ
 class_for_words view words = class_of view.setup.table (24 + 8 * length words)
 
--- the stripe of a key
-abbrev pub stripe_for : View → ℕ → ℕ
-stripe_for view key = key % view.setup.config.stripes
-
 -- under one hold of the slabs lock a chunk of the words' class was got; then the item was written into it, and stored under its key
 pub record SetsItem (number key stamp : ℕ) (words : List ℕ) (view now : View) : Type 0 where
   pub class : ℕ
@@ -30,7 +27,7 @@ pub record SetsItem (number key stamp : ℕ) (words : List ℕ) (view now : View
   pub room : ℕ
   pub between : View
   pub supplies : HoldsSlabs (SuppliesChunk number class chunk) view between
-  pub stores : StoresItem number (stripe_for view key) key (record { chunk = chunk; room = room; key = key; stamp = stamp }) (item_filled chunk (item_with key stamp words) between) now
+  pub stores : StoresItem number (stripe_of_key view.setup key) key stamp chunk room (item_filled chunk (item_with key stamp words) between) now
 
 -- under one hold of the slabs lock no chunk of the words' class was got
 pub record FindsNoChunk (number : ℕ) (words : List ℕ) (error : SetError) (view now : View) : Type 0 where
@@ -42,9 +39,9 @@ pub record FindsNoChunk (number : ℕ) (words : List ℕ) (error : SetError) (vi
 abbrev pub IsTooLarge : List ℕ → View → View → Type 0
 IsTooLarge words view now = (class_for_words view words ≡ None) × (now ≡ view)
 
--- the hand has no stamp left
-abbrev pub HasNoStamp : View → View → Type 0
-HasNoStamp view now = (next_stamp view.row.ids ≡ None) × (now ≡ view)
+-- the words fit a class, and the hand has no stamp left
+abbrev pub HasNoStamp : List ℕ → View → View → Type 0
+HasNoStamp words view now = (class : ℕ) × (class_for_words view words ≡ Some class) × (next_stamp view.row.ids ≡ None) × (now ≡ view)
 
 -- a chunk was got, but there was no memory for a call on the key, and the chunk was given up
 pub record StoresNone (number key : ℕ) (words : List ℕ) (view now : View) : Type 0 where
@@ -55,17 +52,17 @@ pub record StoresNone (number key : ℕ) (words : List ℕ) (view now : View) : 
   pub chunk : ChunkId
   pub between : View
   pub supplies : HoldsSlabs (SuppliesChunk number class chunk) view between
-  pub dead : LeavesDead (stripe_for view key) chunk (item_filled chunk (item_with key stamp words) between) now
+  pub dead : LeavesDead (stripe_of_key view.setup key) chunk (item_filled chunk (item_with key stamp words) between) now
 
 -- why a set was refused
 abbrev pub RefusesSet : ℕ → ℕ → List ℕ → SetError → View → View → Type 0
 RefusesSet number key words TooLarge view now = IsTooLarge words view now
 RefusesSet number key words NoRoom view now = FindsNoChunk number words NoRoom view now
-RefusesSet number key words WornOut view now = HasNoStamp view now ⊎ FindsNoChunk number words WornOut view now
+RefusesSet number key words WornOut view now = HasNoStamp words view now ⊎ FindsNoChunk number words WornOut view now
 RefusesSet number key words NoMemory view now = FindsNoChunk number words NoMemory view now ⊎ StoresNone number key words view now
 
 -- of the hand's own calls at most an eviction came, and then the set
 pub record TellsSet (number key stamp : ℕ) (view now : View) : Type 0 where
   pub between : View
   pub evicts : TellsEvict number view between
-  pub sets : TellsCall number (stripe_for view key) (call.Set number key stamp) between now
+  pub sets : TellsCall number (stripe_of_key view.setup key) (call.Set number key stamp) between now

@@ -1,5 +1,5 @@
 -- How a set comes to a chunk, under one hold of the slabs lock, and why it doesn't.
-use Rattle.std.specs.Prelude.{◌≡◌, ◌⊎◌, ℕ, ◌≤◌, ◌==◌, Bool, true, false, None, Result}
+use Rattle.std.specs.Prelude.{◌≡◌, ◌⊎◌, ℕ, ◌≤◌, ◌==◌, Bool, true, false, is_some, None, Result}
 use Rattle.std.specs.List.{list_all}
 use Rattle.mc_pages.specs.declared.ids.ChunkId.{ChunkId}
 use Rattle.mc_pages.specs.declared.moves.Reassign.{Reassign}
@@ -87,7 +87,7 @@ FindsWornOut number class view slabs now left =
 -- there was no memory for the class's next page, or for the entry of an eviction, and nothing was changed
 abbrev pub LacksMore : ℕ → ℕ → SlabsDoing
 LacksMore number class view slabs now left =
-    ((now ≡ view) ⊎ ((next_page slabs ≡ None) × LacksEntry number (first_five slabs class) view now)) × (left ≡ slabs)
+    (((is_some (next_page slabs) ≡ true) × (now ≡ view)) ⊎ ((next_page slabs ≡ None) × LacksEntry number (first_five slabs class) view now)) × (left ≡ slabs)
 
 -- the class had no free chunk, its dead ones didn't help, and there was no memory for more
 pub record LacksMemory (number class : ℕ) (view : View) (slabs : SlabState) (now : View) (left : SlabState) : Type 0 where

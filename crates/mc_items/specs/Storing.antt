@@ -1,19 +1,19 @@
 -- Items that are stored: what the hand writes into its fresh chunk, and how that comes to its key.
-use Rattle.std.specs.Prelude.{◌≡◌, ℕ, List, [], ◌∷◌, length, Some}
+use Rattle.std.specs.Prelude.{◌≡◌, ℕ, ◌+◌, List, [], ◌∷◌, ◌++◌, if◌then◌else◌, is_some, length, Some}
 use Rattle.mc_pages.specs.declared.ids.ChunkId.{ChunkId}
-use Rattle.mc_stripe.specs.StripeState.{ReadyStripe}
+use Rattle.mc_stripe.specs.StripeState.{ReadyStripe, place_of}
 use Rattle.mc_stripe.specs.Changes.{after_lift, after_link, used_up}
 use Rattle.mc_core.specs.declared.holding.Holding.{Holding}
 use Rattle.mc_core.specs.declared.holding.Kind.{Kind}
 use Rattle.mc_core.specs.declared.holding.Kind.TheVariants.{Reference, Fresh}
 use Rattle.mc_core.specs.Holdings.{Words, change_each, holding_of, is_of}
 use Rattle.mc_words.specs.Doing.{Doing}
-use Rattle.mc_words.specs.View.{View}
+use Rattle.mc_words.specs.View.{OwnEvent, View, made}
+use Rattle.mc_core.specs.declared.event.Step.TheVariants as step
 use Rattle.mc_words.specs.Called.{key_lifted}
 use Rattle.mc_words.specs.Items.{issue_in, words_in}
 use Rattle.mc_words.specs.Linking.{item_linked, own_item}
-use Rattle.mc_words.specs.Views.{chunk_dropped, with_holdings}
-use Rattle.mc_words.specs.declared.held.Fresh as words
+use Rattle.mc_words.specs.Views.{chunk_discarded, chunk_released, with_holdings}
 use Rattle.mc_items.specs.Calls.{CallsOn, OnlyWaits}
 
 -- an item: key, stamp, how many words, and these
@@ -34,9 +34,14 @@ kind_with item (Fresh purpose words) = Fresh purpose (written_over item words)
 abbrev pub holding_with : List ℕ → Holding → Holding
 holding_with item holding = record holding { kind = kind_with item holding.kind }
 
+-- each of these was written, from this place on
+abbrev pub fills_of : ChunkId → ℕ → List ℕ → List OwnEvent
+fills_of chunk place [] = []
+fills_of chunk place (word ∷ item) = made [] (step.Fill chunk place word) ∷ fills_of chunk (place + 1) item
+
 -- the hand wrote these into the chunk, from its first word on
 abbrev pub item_filled : ChunkId → List ℕ → View → View
-item_filled chunk item view = with_holdings (change_each (is_of chunk) (holding_with item) view.row.holdings) view
+item_filled chunk item view = record (with_holdings (change_each (is_of chunk) (holding_with item) view.row.holdings) view) { events = view.events ++ fills_of chunk 0 item }
 
 -- the hand fills the chunk with an item of its own
 abbrev pub IsOwnItem : View → ChunkId → Type 0
@@ -46,20 +51,25 @@ IsOwnItem view chunk = holding_of chunk view.row.holdings ≡ Some (own_item chu
 abbrev pub stripe_lifted : ReadyStripe → ℕ → ReadyStripe
 stripe_lifted value key = record value { state = after_lift value.state key }
 
+-- the hand put the key's entry aside, if there was one
+abbrev pub key_put_aside : ℕ → ReadyStripe → ℕ → View → View
+key_put_aside stripe value key view =
+    record (key_lifted stripe value key view) { events = if is_some (place_of value.state key) then view.events ++ made [] (step.Unlink key) ∷ [] else view.events }
+
 -- the key's entry was put aside, if there was one; then the item in the chunk was linked to the key
-abbrev pub Stores : ℕ → ℕ → ℕ → words.Fresh → Doing
-Stores number stripe key fresh value view left now =
-    (now ≡ item_linked number stripe (stripe_lifted value key) key fresh.stamp fresh.chunk (issue_in view fresh.chunk) (words_in view fresh.chunk) fresh.room (key_lifted stripe value key view))
-    × (left ≡ used_up (after_link (stripe_lifted value key).state number key fresh.chunk fresh.stamp))
+abbrev pub Stores : ℕ → ℕ → ℕ → ℕ → ChunkId → ℕ → Doing
+Stores number stripe key stamp chunk room value view left now =
+    (now ≡ item_linked number stripe (stripe_lifted value key) key stamp chunk (issue_in view chunk) (words_in view chunk) room (key_put_aside stripe value key view))
+    × (left ≡ used_up (after_link (stripe_lifted value key).state number key chunk stamp))
 
 -- the item was stored, and the reference to it given up: it counts its link alone
-pub record StoresItem (number stripe key : ℕ) (fresh : words.Fresh) (view now : View) : Type 0 where
+pub record StoresItem (number stripe key stamp : ℕ) (chunk : ChunkId) (room : ℕ) (view now : View) : Type 0 where
   pub linked : View
-  pub stores : CallsOn number stripe (Stores number stripe key fresh) view linked
-  pub dropped : now ≡ chunk_dropped fresh.chunk linked
+  pub stores : CallsOn number stripe (Stores number stripe key stamp chunk room) view linked
+  pub dropped : now ≡ chunk_released chunk linked
 
 -- the stripe got no room for the call, and the chunk was given up
 pub record LeavesDead (stripe : ℕ) (chunk : ChunkId) (view now : View) : Type 0 where
   pub given : View
   pub waits : OnlyWaits stripe view given
-  pub dropped : now ≡ chunk_dropped chunk given
+  pub dropped : now ≡ chunk_discarded chunk given

@@ -1,5 +1,5 @@
 -- How a class comes to a chunk that is handed out.
-use Rattle.std.specs.Prelude.{◌≡◌, ◌≢◌, ◌⊎◌, ℕ, ◌+◌, ◌%◌, ◌≤◌, true, is_some, [], ◌∷◌, ◌++◌, Some, None}
+use Rattle.std.specs.Prelude.{◌≡◌, ◌≢◌, ◌⊎◌, ℕ, ◌+◌, ◌%◌, ◌≤◌, true, false, is_some, [], ◌∷◌, ◌++◌, Some, None}
 use Rattle.std.specs.List.{list_all}
 use Rattle.mc_pages.specs.declared.ids.ChunkId.{ChunkId}
 use Rattle.mc_pages.specs.Accounted.{first_chunks}
@@ -13,14 +13,14 @@ use Rattle.mc_core.specs.Chunks.{most_issue}
 use Rattle.mc_core.specs.Evictions.{is_linked_unheld}
 use Rattle.mc_stripe.specs.StripeState.{ReadyStripe}
 use Rattle.mc_core.specs.Looks.{is_found_alive}
-use Rattle.mc_words.specs.Doing.{Doing, IsDone}
+use Rattle.mc_words.specs.Doing.{Doing, IsDone, SlabsDoing}
 use Rattle.mc_words.specs.View.{View}
 use Rattle.mc_words.specs.Happens.{Happens}
 use Rattle.mc_words.specs.Cutting.{CutsEach}
 use Rattle.mc_words.specs.Owner.{PopsFirst, PutsBack, SeesOther}
 use Rattle.mc_words.specs.Sweeping.{Sweeps, with_seen}
 use Rattle.mc_words.specs.Condemning.{Condemns, FindsHeld, SeesHeld, key_seen}
-use Rattle.mc_words.specs.Lent.{IsLentStripe}
+use Rattle.mc_words.specs.Lent.{BeginsWithSeen, IsLentStripe}
 use Rattle.mc_words.specs.Views.{fresh_holding, head_seen, slabs_changed, stripe_given, stripe_missed, stripe_taken, with_holdings}
 
 -- the class has a free chunk, and nothing was done; or it has none, and its dead chunks were put back
@@ -36,6 +36,9 @@ pub record SuppliesFree (class : ℕ) (view : View) (slabs : SlabState) (chunk :
   pub sweeps : SweepsEmpty class view slabs swept between
   pub pops : PopsFirst swept between class chunk now
   pub left_is : left ≡ after_pop between class
+
+abbrev pub HandsOutFree : ℕ → ChunkId → SlabsDoing
+HandsOutFree class chunk view slabs now left = SuppliesFree class view slabs chunk now left
 
 -- so, and then the first free chunk was seen to be worn out
 pub record FindsWorn (class : ℕ) (view : View) (slabs : SlabState) (now : View) (left : SlabState) : Type 0 where
@@ -83,7 +86,12 @@ pub record ReachesItem (number : ℕ) (chunk : ChunkId) (Does : ℕ → ℕ → 
   pub takes : Happens (key_seen chunk key (head_seen chunk head view)) [] (step.TakeStripe (key % view.setup.config.stripes)) taken
   pub is_taken : taken ≡ stripe_taken (key % view.setup.config.stripes) value (key_seen chunk key (head_seen chunk head view))
   pub lent : IsLentStripe taken (key % view.setup.config.stripes) value
+  pub begins : BeginsWithSeen view (key % view.setup.config.stripes) value
   pub done : IsDone number (key % view.setup.config.stripes) value (Does number (key % view.setup.config.stripes)) taken now
+
+-- its item was taken away so
+abbrev pub TakesAtOnce : ℕ → ChunkId → View → View → Type 0
+TakesAtOnce number chunk view now = ReachesItem number chunk (λ number stripe. TakesItem number stripe chunk) view now
 
 -- so, but another hand had the lock of its key's stripe
 pub record MissesItem (chunk : ChunkId) (view now : View) : Type 0 where
@@ -92,6 +100,9 @@ pub record MissesItem (chunk : ChunkId) (view now : View) : Type 0 where
   pub key : ℕ
   pub word : ℕ
   pub busy : word ≢ 0
+  pub looks : Happens view [] (step.Head chunk) (head_seen chunk head view)
+  pub reads : Happens (head_seen chunk head view) [] (step.WordHeld chunk 0) (key_seen chunk key (head_seen chunk head view))
+  pub misses : Happens (key_seen chunk key (head_seen chunk head view)) [] (step.MissStripe (key % view.setup.config.stripes)) now
   pub is : now ≡ stripe_missed (key % view.setup.config.stripes) word (key_seen chunk key (head_seen chunk head view))
 
 -- why the chunk's item wasn't taken away: it was seen unlinked or held, or its key's stripe was another's, or it was held by then
@@ -99,13 +110,21 @@ abbrev pub PassesItem : ℕ → ChunkId → View → View → Type 0
 PassesItem number chunk view now =
     SeesHeld view chunk now ⊎ MissesItem chunk view now ⊎ ReachesItem number chunk (λ number stripe. FindsItemHeld chunk) view now
 
--- its key's stripe was taken at once, but there was no memory for a call, and the lock was given back as it was
-pub record LacksMemory (chunk : ChunkId) (view now : View) : Type 0 where
+-- so, and its key's stripe was taken at once, but had no room for a call, and the lock was given back as it was
+pub record LacksCall (chunk : ChunkId) (view now : View) : Type 0 where
   pub head : Head
   pub unheld : is_linked_unheld head ≡ true
   pub key : ℕ
   pub value : ReadyStripe
-  pub given : now ≡ stripe_given (key % view.setup.config.stripes) value (stripe_taken (key % view.setup.config.stripes) value (key_seen chunk key (head_seen chunk head view)))
+  pub looks : Happens view [] (step.Head chunk) (head_seen chunk head view)
+  pub reads : Happens (head_seen chunk head view) [] (step.WordHeld chunk 0) (key_seen chunk key (head_seen chunk head view))
+  pub taken : View
+  pub takes : Happens (key_seen chunk key (head_seen chunk head view)) [] (step.TakeStripe (key % view.setup.config.stripes)) taken
+  pub is_taken : taken ≡ stripe_taken (key % view.setup.config.stripes) value (key_seen chunk key (head_seen chunk head view))
+  pub lent : IsLentStripe taken (key % view.setup.config.stripes) value
+  pub begins : BeginsWithSeen view (key % view.setup.config.stripes) value
+  pub full : value.ready ≡ false
+  pub given : now ≡ stripe_given (key % view.setup.config.stripes) value taken
 
 -- the eviction was counted, and the chunk, which is dead, was put back
 pub record FreesEvicted (number class : ℕ) (chunk : ChunkId) (view : View) (slabs : SlabState) (now : View) (left : SlabState) : Type 0 where

@@ -1,14 +1,16 @@
 //! Keys that are deleted.
-ghost use Rattle.std.specs.Prelude.{◌≡◌, ◌%◌, true, false, IfOk, OnErr};
-ghost use Rattle.mc_stripe.specs.declared.history.Call.TheVariants as call;
+ghost use Rattle.std.specs.Prelude.{◌≡◌, IfOk, OnErr, false};
 ghost use Rattle.mc_core.specs.Holdings.{has_fresh};
-ghost use Rattle.mc_words.specs.Doing.{IsDone};
 ghost use Rattle.mc_words.specs.Arenas.{IsHandOf, setup_of, view};
-ghost use Rattle.mc_words.specs.Idle.{is_unlocked};
 ghost use Rattle.mc_words.specs.Lent.{IsLentStripe};
+ghost use Rattle.mc_words.specs.Observers.{locks_of, number_of, stripe_lent, stripe_number};
 ghost use Rattle.mc_words.specs.Out.{without_stripe};
-ghost use Rattle.mc_words.specs.Views.{stripe_given};
-ghost use Rattle.mc_items.specs.Calls.{CallsOn, Deletes, OnlyWaits, TellsCall, TellsNoCall};
+ghost use Rattle.mc_words.specs.Ready.{IsReady};
+ghost use Rattle.mc_words.specs.Refs.{KeepsRefs};
+ghost use Rattle.mc_items.specs.Calls.{Deletes, TellsNoCall};
+ghost use Rattle.mc_items.specs.Keeping.{HoldsTheSame, SaysNothing};
+ghost use Rattle.mc_items.specs.OnKeys.{ActsOn, DoesOn, FindsNoRoomFor, GivesBack, TellsOn, stripe_of_key};
+ghost use Rattle.mc_stripe.specs.declared.history.Call.TheVariants as call;
 
 use mc_stripe::NoMemory;
 use mc_words::{Arena, Hand, StripeHeld};
@@ -18,14 +20,18 @@ use std::sync::Wait;
 /// it is released. At want of memory the key is as before, and no entry is written. (memcached's `item_unlink`)
 pub fn delete<R: Wait>(rt: &R, arena: &Arena, hand: &mut Hand, key: u64) -> Result<bool, NoMemory>
     requires arena { IsHandOf arena.now hand.old }
-    requires unlocked { is_unlocked (view hand.old) ≡ true }
-    requires fresh { has_fresh (view hand.old).row.holdings ≡ false }
+    requires ready { IsReady (view hand.old) }
     ensures arena { IsHandOf arena.now hand.new }
-    ensures locks { hand.new.locks ≡ hand.old.locks }
-    ensures deletes { IfOk result (λ there. CallsOn hand.old.number (key % (setup_of arena.now).config.stripes) (Deletes hand.old.number (key % (setup_of arena.now).config.stripes) key there) (view hand.old) (view hand.new)) }
-    ensures calls { IfOk result (λ there. TellsCall hand.old.number (key % (setup_of arena.now).config.stripes) (call.Delete hand.old.number key there) (view hand.old) (view hand.new)) }
+    ensures ready { IsReady (view hand.new) }
+    ensures locks { locks_of hand.new ≡ locks_of hand.old }
+    ensures number { number_of hand.new ≡ number_of hand.old }
+    ensures deletes { IfOk result (λ there. ActsOn (setup_of arena.now) key (λ number stripe. Deletes number stripe key there) hand.old hand.new) }
+    ensures calls { IfOk result (λ there. TellsOn (setup_of arena.now) key (λ number. call.Delete number key there) hand.old hand.new) }
     ensures refused { OnErr result (TellsNoCall (view hand.old) (view hand.new)) }
-    ensures no_memory { OnErr result (OnlyWaits (key % (setup_of arena.now).config.stripes) (view hand.old) (view hand.new)) }
+    ensures no_memory { OnErr result (FindsNoRoomFor (setup_of arena.now) key hand.old hand.new) }
+    ensures holdings { HoldsTheSame (view hand.old) (view hand.new) }
+    ensures keeps { KeepsRefs (view hand.old) (view hand.new) }
+    ensures unsaid { SaysNothing (view hand.old) (view hand.new) }
 {
     let stripe = key % arena.config().stripes;
     let held = arena.lock_stripe(rt, hand, stripe);
@@ -35,13 +41,14 @@ pub fn delete<R: Wait>(rt: &R, arena: &Arena, hand: &mut Hand, key: u64) -> Resu
 // Deletes the key in its stripe, and gives the stripe's lock back.
 fn delete_at(arena: &Arena, hand: &mut Hand, held: StripeHeld, key: u64) -> Result<bool, NoMemory>
     requires arena { IsHandOf arena.now hand.old }
-    requires lent { IsLentStripe (view hand.old) held.number held.stripe }
-    requires near { held.number ≡ key % (setup_of arena.now).config.stripes }
+    requires lent { IsLentStripe (view hand.old) (stripe_number held) (stripe_lent held) }
+    requires near { stripe_number held ≡ stripe_of_key (setup_of arena.now) key }
     requires fresh { has_fresh (view hand.old).row.holdings ≡ false }
     ensures arena { IsHandOf arena.now hand.new }
-    ensures locks { hand.new.locks ≡ without_stripe hand.old.locks }
-    ensures done { IfOk result (λ there. IsDone hand.old.number held.number held.stripe (Deletes hand.old.number held.number key there) (view hand.old) (view hand.new)) }
-    ensures given { OnErr result (view hand.new ≡ stripe_given held.number held.stripe (view hand.old)) }
+    ensures locks { locks_of hand.new ≡ without_stripe (locks_of hand.old) }
+    ensures done { IfOk result (λ there. DoesOn (λ number stripe. Deletes number stripe key there) hand.old held hand.new) }
+    ensures given { OnErr result (GivesBack hand.old held hand.new) }
+    ensures full { OnErr result ((stripe_lent held).ready ≡ false) }
 {
     let mut held = held;
     if let Err(error) = arena.reserve(hand, &mut held) {

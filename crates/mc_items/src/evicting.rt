@@ -1,25 +1,25 @@
 //! Items that are evicted, under one hold of the slabs lock.
-ghost use Rattle.std.specs.Prelude.{◌≡◌, ◌<◌, true, false, is_some, Contains, Ok, None, Some, IfOk, IfSome, OnErr};
 ghost use Rattle.std.specs.List.{list_all};
+ghost use Rattle.std.specs.Option.{option_map};
+ghost use Rattle.std.specs.Prelude.{◌<◌, ◌≡◌, Contains, IfOk, IfSome, None, Ok, OnErr, Some, false, is_some, true};
 ghost use Rattle.mc_pages.specs.Changes.{next_page};
 ghost use Rattle.mc_pages.specs.ClassState.{first_free};
 ghost use Rattle.mc_pages.specs.SlabState.{class_at};
-ghost use Rattle.mc_core.specs.Holdings.{has_fresh};
-ghost use Rattle.mc_core.specs.Looks.{is_found_alive};
-ghost use Rattle.mc_words.specs.Doing.{IsDone};
-ghost use Rattle.mc_words.specs.Idle.{has_no_stripes};
-ghost use Rattle.std.specs.Option.{option_map};
 ghost use Rattle.mc_core.specs.Evictions.{has_copy};
 ghost use Rattle.mc_core.specs.Head.{is_dead};
+ghost use Rattle.mc_core.specs.Holdings.{has_fresh};
+ghost use Rattle.mc_core.specs.Looks.{is_found_alive};
 ghost use Rattle.mc_core.specs.Seen.{seen_head};
 ghost use Rattle.mc_core.specs.State.{has_chunk, is_class};
 ghost use Rattle.mc_words.specs.Arenas.{IsHandOf, setup_of, view};
 ghost use Rattle.mc_words.specs.Condemning.{knows_reason, stripe_read};
+ghost use Rattle.mc_words.specs.Idle.{has_no_stripes};
 ghost use Rattle.mc_words.specs.Lent.{IsLentStripe};
+ghost use Rattle.mc_words.specs.Observers.{locks_of, number_of, slabs_lent, stripe_lent, stripe_number};
 ghost use Rattle.mc_words.specs.Out.{without_stripe};
-ghost use Rattle.mc_words.specs.Views.{stripe_given};
-ghost use Rattle.mc_items.specs.Evicting.{FreesChunk, FreesOne, LacksEntry, PassesEach, PassesOne, first_five};
-ghost use Rattle.mc_items.specs.Supplying.{FindsItemHeld, FreesEvicted, LacksMemory, PassesItem, ReachesItem, TakesItem};
+ghost use Rattle.mc_items.specs.Evicting.{FreesChunk, FreesOneOfFive, LacksEntryOfFive, PassesFive, PassesOne};
+ghost use Rattle.mc_items.specs.OnKeys.{Acts, AreUnchanged, DoesOn, GivesBack, HasSlabs};
+ghost use Rattle.mc_items.specs.Supplying.{FindsItemHeld, FreesEvicted, LacksCall, PassesItem, TakesAtOnce, TakesItem};
 
 use mc_classes::ClassId;
 use mc_pages::ChunkId;
@@ -37,20 +37,21 @@ pub(crate) fn condemn_at(
 ) -> Result<bool, NoMemory>
     requires arena { IsHandOf arena.now hand.old }
     requires near { has_chunk (setup_of arena.now).table chunk ≡ true }
-    requires slabs { (view hand.old).slabs ≡ Some slabs.old.shared }
-    requires lent { IsLentStripe (view hand.old) held.number held.stripe }
-    requires inside { held.number < (setup_of arena.now).config.stripes }
-    requires key { stripe_read (view hand.old) chunk ≡ Some held.number }
-    requires reason { knows_reason (setup_of arena.now).table slabs.old.shared (view hand.old).row.looks (view hand.old).row.holdings chunk ≡ true }
+    requires slabs { HasSlabs hand.old slabs.old }
+    requires lent { IsLentStripe (view hand.old) (stripe_number held) (stripe_lent held) }
+    requires inside { (stripe_number held) < (setup_of arena.now).config.stripes }
+    requires key { stripe_read (view hand.old) chunk ≡ Some (stripe_number held) }
+    requires reason { knows_reason (setup_of arena.now).table (slabs_lent slabs.old) (view hand.old).row.looks (view hand.old).row.holdings chunk ≡ true }
     requires no_copy { has_copy (view hand.old).row.holdings chunk ≡ false }
     ensures arena { IsHandOf arena.now hand.new }
-    ensures locks { hand.new.locks ≡ without_stripe hand.old.locks }
-    ensures slabs { (view hand.new).slabs ≡ Some slabs.new.shared }
+    ensures locks { locks_of hand.new ≡ without_stripe (locks_of hand.old) }
+    ensures slabs { HasSlabs hand.new slabs.new }
     ensures same_slabs { slabs.new ≡ slabs.old }
-    ensures taken { result ≡ Ok true → IsDone hand.old.number held.number held.stripe (TakesItem hand.old.number held.number chunk) (view hand.old) (view hand.new) }
+    ensures taken { result ≡ Ok true → DoesOn (λ number stripe. TakesItem number stripe chunk) hand.old held hand.new }
     ensures dead { result ≡ Ok true → option_map is_dead (seen_head (view hand.new).row.looks chunk) ≡ Some true }
-    ensures moved { result ≡ Ok false → IsDone hand.old.number held.number held.stripe (FindsItemHeld chunk) (view hand.old) (view hand.new) }
-    ensures no_memory { OnErr result (view hand.new ≡ stripe_given held.number held.stripe (view hand.old)) }
+    ensures moved { result ≡ Ok false → DoesOn (λ number stripe. FindsItemHeld chunk) hand.old held hand.new }
+    ensures no_memory { OnErr result (GivesBack hand.old held hand.new) }
+    ensures full { OnErr result ((stripe_lent held).ready ≡ false) }
 {
     let mut held = held;
     if let Err(error) = arena.reserve(hand, &mut held) {
@@ -80,22 +81,22 @@ pub(crate) fn condemn_if_free(
 ) -> Result<bool, NoMemory>
     requires arena { IsHandOf arena.now hand.old }
     requires class { is_class (setup_of arena.now).table class ≡ true }
-    requires slabs { (view hand.old).slabs ≡ Some slabs.old.shared }
+    requires slabs { HasSlabs hand.old slabs.old }
     requires one { has_no_stripes (view hand.old) ≡ true }
     requires fresh { has_fresh (view hand.old).row.holdings ≡ false }
-    requires out { Contains (class_at slabs.old.shared class).order chunk }
-    requires empty { first_free (class_at slabs.old.shared class) ≡ None }
-    requires alive { list_all (is_found_alive (view hand.old).row.looks) (class_at slabs.old.shared class).order ≡ true }
-    requires page { next_page slabs.old.shared ≡ None }
-    requires whole { slabs.old.shared.uncut ≡ None }
+    requires out { Contains (class_at (slabs_lent slabs.old) class).order chunk }
+    requires empty { first_free (class_at (slabs_lent slabs.old) class) ≡ None }
+    requires alive { list_all (is_found_alive (view hand.old).row.looks) (class_at (slabs_lent slabs.old) class).order ≡ true }
+    requires page { next_page (slabs_lent slabs.old) ≡ None }
+    requires whole { (slabs_lent slabs.old).uncut ≡ None }
     ensures arena { IsHandOf arena.now hand.new }
-    ensures locks { hand.new.locks ≡ hand.old.locks }
-    ensures slabs { (view hand.new).slabs ≡ Some slabs.new.shared }
+    ensures locks { locks_of hand.new ≡ locks_of hand.old }
+    ensures slabs { HasSlabs hand.new slabs.new }
     ensures same_slabs { slabs.new ≡ slabs.old }
-    ensures taken { result ≡ Ok true → ReachesItem hand.old.number chunk (λ number stripe. TakesItem number stripe chunk) (view hand.old) (view hand.new) }
+    ensures taken { result ≡ Ok true → TakesAtOnce (number_of hand.old) chunk (view hand.old) (view hand.new) }
     ensures dead { result ≡ Ok true → option_map is_dead (seen_head (view hand.new).row.looks chunk) ≡ Some true }
-    ensures no_memory { OnErr result (LacksMemory chunk (view hand.old) (view hand.new)) }
-    ensures passed { result ≡ Ok false → PassesItem hand.old.number chunk (view hand.old) (view hand.new) }
+    ensures no_memory { OnErr result (LacksCall chunk (view hand.old) (view hand.new)) }
+    ensures passed { result ≡ Ok false → PassesItem (number_of hand.old) chunk (view hand.old) (view hand.new) }
 {
     let head = arena.head(hand, chunk);
     if !header::is_unheld(head) {
@@ -120,12 +121,12 @@ pub(crate) fn free_evicted(
     requires arena { IsHandOf arena.now hand.old }
     requires class { is_class (setup_of arena.now).table class ≡ true }
     requires near { has_chunk (setup_of arena.now).table chunk ≡ true }
-    requires slabs { (view hand.old).slabs ≡ Some slabs.old.shared }
+    requires slabs { HasSlabs hand.old slabs.old }
     requires dead { option_map is_dead (seen_head (view hand.old).row.looks chunk) ≡ Some true }
     ensures arena { IsHandOf arena.now hand.new }
-    ensures locks { hand.new.locks ≡ hand.old.locks }
-    ensures slabs { (view hand.new).slabs ≡ Some slabs.new.shared }
-    ensures freed { FreesEvicted hand.old.number class chunk (view hand.old) slabs.old.shared (view hand.new) slabs.new.shared }
+    ensures locks { locks_of hand.new ≡ locks_of hand.old }
+    ensures slabs { HasSlabs hand.new slabs.new }
+    ensures freed { Acts (FreesEvicted (number_of hand.old) class chunk) hand.old slabs.old hand.new slabs.new }
 {
     arena.evicted(hand, slabs, class);
     let _ = arena.put_back(hand, slabs, chunk);
@@ -136,7 +137,7 @@ const TRIES: u64 = 5;
 
 /// How a class without a free chunk came to one.
 #[derive(Clone, Copy)]
-pub(crate) enum Supply {
+pub enum Supply {
     /// It was given the next page.
     Page,
     /// One of its chunks had died, and was put back.
@@ -156,21 +157,21 @@ fn free_one(
 ) -> Result<Option<Supply>, NoMemory>
     requires arena { IsHandOf arena.now hand.old }
     requires class { is_class (setup_of arena.now).table class ≡ true }
-    requires slabs { (view hand.old).slabs ≡ Some slabs.old.shared }
+    requires slabs { HasSlabs hand.old slabs.old }
     requires one { has_no_stripes (view hand.old) ≡ true }
     requires fresh { has_fresh (view hand.old).row.holdings ≡ false }
-    requires out { Contains (class_at slabs.old.shared class).order chunk }
-    requires empty { first_free (class_at slabs.old.shared class) ≡ None }
-    requires alive { list_all (is_found_alive (view hand.old).row.looks) (class_at slabs.old.shared class).order ≡ true }
-    requires page { next_page slabs.old.shared ≡ None }
-    requires whole { slabs.old.shared.uncut ≡ None }
+    requires out { Contains (class_at (slabs_lent slabs.old) class).order chunk }
+    requires empty { first_free (class_at (slabs_lent slabs.old) class) ≡ None }
+    requires alive { list_all (is_found_alive (view hand.old).row.looks) (class_at (slabs_lent slabs.old) class).order ≡ true }
+    requires page { next_page (slabs_lent slabs.old) ≡ None }
+    requires whole { (slabs_lent slabs.old).uncut ≡ None }
     ensures arena { IsHandOf arena.now hand.new }
-    ensures locks { hand.new.locks ≡ hand.old.locks }
-    ensures slabs { (view hand.new).slabs ≡ Some slabs.new.shared }
-    ensures frees { IfOk result (λ freed. IfSome freed (λ supply. FreesChunk hand.old.number class chunk supply (view hand.old) slabs.old.shared (view hand.new) slabs.new.shared)) }
-    ensures free { IfOk result (λ freed. IfSome freed (λ supply. is_some (first_free (class_at slabs.new.shared class)) ≡ true)) }
-    ensures passes { result ≡ Ok None → PassesOne hand.old.number chunk (view hand.old) (view hand.new) × (slabs.new.shared ≡ slabs.old.shared) }
-    ensures no_memory { OnErr result (LacksMemory chunk (view hand.old) (view hand.new) × (slabs.new.shared ≡ slabs.old.shared)) }
+    ensures locks { locks_of hand.new ≡ locks_of hand.old }
+    ensures slabs { HasSlabs hand.new slabs.new }
+    ensures frees { IfOk result (λ freed. IfSome freed (λ supply. Acts (FreesChunk (number_of hand.old) class chunk supply) hand.old slabs.old hand.new slabs.new)) }
+    ensures free { IfOk result (λ freed. IfSome freed (λ supply. is_some (first_free (class_at (slabs_lent slabs.new) class)) ≡ true)) }
+    ensures passes { result ≡ Ok None → PassesOne (number_of hand.old) chunk (view hand.old) (view hand.new) × AreUnchanged slabs.old slabs.new }
+    ensures no_memory { OnErr result (LacksCall chunk (view hand.old) (view hand.new) × AreUnchanged slabs.old slabs.new) }
 {
     if condemn_if_free(arena, hand, slabs, class, chunk)? {
         free_evicted(arena, hand, slabs, class, chunk);
@@ -192,22 +193,22 @@ pub(crate) fn evict_one(
 ) -> Result<Option<Supply>, NoMemory>
     requires arena { IsHandOf arena.now hand.old }
     requires class { is_class (setup_of arena.now).table class ≡ true }
-    requires slabs { (view hand.old).slabs ≡ Some slabs.old.shared }
+    requires slabs { HasSlabs hand.old slabs.old }
     requires one { has_no_stripes (view hand.old) ≡ true }
     requires fresh { has_fresh (view hand.old).row.holdings ≡ false }
-    requires empty { first_free (class_at slabs.old.shared class) ≡ None }
-    requires alive { list_all (is_found_alive (view hand.old).row.looks) (class_at slabs.old.shared class).order ≡ true }
-    requires page { next_page slabs.old.shared ≡ None }
-    requires whole { slabs.old.shared.uncut ≡ None }
+    requires empty { first_free (class_at (slabs_lent slabs.old) class) ≡ None }
+    requires alive { list_all (is_found_alive (view hand.old).row.looks) (class_at (slabs_lent slabs.old) class).order ≡ true }
+    requires page { next_page (slabs_lent slabs.old) ≡ None }
+    requires whole { (slabs_lent slabs.old).uncut ≡ None }
     ensures arena { IsHandOf arena.now hand.new }
-    ensures locks { hand.new.locks ≡ hand.old.locks }
-    ensures slabs { (view hand.new).slabs ≡ Some slabs.new.shared }
-    ensures frees { IfOk result (λ freed. IfSome freed (λ supply. FreesOne hand.old.number class (first_five slabs.old.shared class) supply (view hand.old) slabs.old.shared (view hand.new) slabs.new.shared)) }
-    ensures free { IfOk result (λ freed. IfSome freed (λ supply. is_some (first_free (class_at slabs.new.shared class)) ≡ true)) }
-    ensures none { result ≡ Ok None → PassesEach hand.old.number (first_five slabs.old.shared class) (view hand.old) (view hand.new) × (slabs.new.shared ≡ slabs.old.shared) }
-    ensures alive { result ≡ Ok None → list_all (is_found_alive (view hand.new).row.looks) (class_at slabs.old.shared class).order ≡ true }
-    ensures whole { slabs.new.shared.uncut ≡ None }
-    ensures no_memory { OnErr result (LacksEntry hand.old.number (first_five slabs.old.shared class) (view hand.old) (view hand.new) × (slabs.new.shared ≡ slabs.old.shared)) }
+    ensures locks { locks_of hand.new ≡ locks_of hand.old }
+    ensures slabs { HasSlabs hand.new slabs.new }
+    ensures frees { IfOk result (λ freed. IfSome freed (λ supply. Acts (FreesOneOfFive (number_of hand.old) class supply) hand.old slabs.old hand.new slabs.new)) }
+    ensures free { IfOk result (λ freed. IfSome freed (λ supply. is_some (first_free (class_at (slabs_lent slabs.new) class)) ≡ true)) }
+    ensures none { result ≡ Ok None → Acts (PassesFive (number_of hand.old) class) hand.old slabs.old hand.new slabs.new }
+    ensures alive { result ≡ Ok None → list_all (is_found_alive (view hand.new).row.looks) (class_at (slabs_lent slabs.old) class).order ≡ true }
+    ensures whole { (slabs_lent slabs.new).uncut ≡ None }
+    ensures no_memory { OnErr result (Acts (LacksEntryOfFive (number_of hand.old) class) hand.old slabs.old hand.new slabs.new) }
 {
     let mut next = slabs.slabs().first_out(class);
     for _ in 0..TRIES {

@@ -1,11 +1,12 @@
 //! Fresh chunks that are filled with items.
-ghost use Rattle.std.specs.Prelude.{◌≡◌, ◌+◌, ◌≤◌, length};
+ghost use Rattle.std.specs.Prelude.{◌+◌, ◌≡◌, ◌≤◌, length};
 ghost use Rattle.mc_core.specs.Holdings.{all_known, item_in};
 ghost use Rattle.mc_words.specs.Arenas.{IsHandOf, view};
 ghost use Rattle.mc_words.specs.Fresh.{IsFreshOf};
-ghost use Rattle.mc_words.specs.Items.{issue_in, words_in};
-ghost use Rattle.mc_words.specs.Linking.{IsItemFilled};
-ghost use Rattle.mc_items.specs.Storing.{IsOwnItem, item_filled, item_with};
+ghost use Rattle.mc_words.specs.Items.{words_in};
+ghost use Rattle.mc_words.specs.Observers.{fresh_chunk, fresh_key, fresh_room, fresh_stamp, locks_of};
+ghost use Rattle.mc_items.specs.FreshChunks.{IsFilledWith, filled_with};
+ghost use Rattle.mc_items.specs.Storing.{IsOwnItem, item_with};
 
 use mc_words::{Arena, Fresh, Hand};
 
@@ -20,18 +21,18 @@ pub(crate) fn fill_item(
     words: &[u64],
 )
     requires arena { IsHandOf arena.now hand.old }
-    requires fresh { IsFreshOf (view hand.old) fresh.old.chunk fresh.old.room }
-    requires own { IsOwnItem (view hand.old) fresh.old.chunk }
-    requires room { 3 + length words.now ≤ fresh.old.room }
+    requires fresh { IsFreshOf (view hand.old) (fresh_chunk fresh.old) (fresh_room fresh.old) }
+    requires own { IsOwnItem (view hand.old) (fresh_chunk fresh.old) }
+    requires room { 3 + length words.now ≤ (fresh_room fresh.old) }
     ensures arena { IsHandOf arena.now hand.new }
-    ensures locks { hand.new.locks ≡ hand.old.locks }
-    ensures same { (fresh.new.chunk ≡ fresh.old.chunk) × (fresh.new.room ≡ fresh.old.room) }
-    ensures key { fresh.new.key ≡ key }
-    ensures stamp { fresh.new.stamp ≡ stamp }
-    ensures filled { view hand.new ≡ item_filled fresh.old.chunk (item_with key stamp words.now) (view hand.old) }
-    ensures fresh { IsFreshOf (view hand.new) fresh.new.chunk fresh.new.room }
-    ensures item { IsItemFilled (view hand.new) fresh.new.chunk (issue_in (view hand.new) fresh.new.chunk) (words_in (view hand.new) fresh.new.chunk) key stamp }
-    ensures words { item_in (words_in (view hand.new) fresh.new.chunk) ≡ all_known (item_with key stamp words.now) }
+    ensures locks { locks_of hand.new ≡ locks_of hand.old }
+    ensures same { (fresh_chunk fresh.new ≡ fresh_chunk fresh.old) × (fresh_room fresh.new ≡ fresh_room fresh.old) }
+    ensures key { fresh_key fresh.new ≡ key }
+    ensures stamp { fresh_stamp fresh.new ≡ stamp }
+    ensures filled { view hand.new ≡ filled_with fresh.old key stamp words.now (view hand.old) }
+    ensures fresh { IsFreshOf (view hand.new) (fresh_chunk fresh.new) (fresh_room fresh.new) }
+    ensures item { IsFilledWith (view hand.new) fresh.new key stamp }
+    ensures words { item_in (words_in (view hand.new) (fresh_chunk fresh.new)) ≡ all_known (item_with key stamp words.now) }
 {
     arena.fill(hand, fresh, 0, key);
     arena.fill(hand, fresh, 1, stamp);

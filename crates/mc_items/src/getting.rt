@@ -1,19 +1,20 @@
 //! References to the items of keys, by the locks of their stripes.
-ghost use Rattle.std.specs.Prelude.{◌≡◌, ◌≢◌, ℕ, ◌<◌, ◌≤◌, ◌%◌, ◌↔◌, true, length, Err, IfOk, IfSome, OnErr};
 ghost use Rattle.std.specs.Option.{option_map};
-ghost use Rattle.mc_core.specs.Holdings.{key_of, stamp_of};
+ghost use Rattle.std.specs.Prelude.{◌<◌, ◌↔◌, ◌≡◌, ◌≤◌, Err, IfOk, IfSome, OnErr, false, length, true};
+ghost use Rattle.mc_core.specs.State.{has_chunk};
+ghost use Rattle.mc_words.specs.Arenas.{IsHandOf, setup_of, view};
+ghost use Rattle.mc_words.specs.Lent.{IsLentStripe};
+ghost use Rattle.mc_words.specs.Observers.{locks_of, number_of, stripe_lent, stripe_number};
+ghost use Rattle.mc_words.specs.Out.{without_stripe};
+ghost use Rattle.mc_words.specs.Ready.{IsReady};
+ghost use Rattle.mc_words.specs.Refs.{KeepsRefs};
+ghost use Rattle.mc_items.specs.Calls.{LooksUp, TellsNoCall};
+ghost use Rattle.mc_items.specs.ItemRefs.{IsItemRef, item_chunk, item_key, item_stamp};
+ghost use Rattle.mc_items.specs.Keeping.{HoldsTheSame, HoldsToo, IsAsSaid, SaysNothing};
+ghost use Rattle.mc_items.specs.OnKeys.{DoesOn, FindsNoRoomFor, FindsStripeHeld, Gets, GetsAt, GivesBack, IsRefToKey, TellsAt, TellsOn, stamp_there};
+ghost use Rattle.mc_items.specs.OnKeys.{stripe_of_key};
 ghost use Rattle.mc_stripe.specs.StripeState as stripes;
 ghost use Rattle.mc_stripe.specs.declared.history.Call.TheVariants as call;
-ghost use Rattle.mc_words.specs.Doing.{IsDone};
-ghost use Rattle.mc_words.specs.Arenas.{IsHandOf, setup_of, view};
-ghost use Rattle.mc_words.specs.Idle.{is_unlocked};
-ghost use Rattle.mc_words.specs.Items.{held_item};
-ghost use Rattle.mc_words.specs.Lent.{IsLentStripe};
-ghost use Rattle.mc_words.specs.Refs.{IsIssueOf, IsRefOf};
-ghost use Rattle.mc_words.specs.Out.{without_stripe};
-ghost use Rattle.mc_words.specs.Views.{stripe_given, stripe_missed};
-ghost use Rattle.mc_items.specs.Calls.{CallsOn, LooksUp, OnlyWaits, TellsCall, TellsNoCall};
-ghost use Rattle.mc_items.specs.ItemRefs.{IsItemRef};
 
 use crate::refs::{Ref, look_at};
 use mc_stripe::NoMemory;
@@ -38,16 +39,24 @@ pub fn get<R: Wait>(
     key: u64,
 ) -> Result<Option<Ref>, GetError>
     requires arena { IsHandOf arena.now hand.old }
-    requires unlocked { is_unlocked (view hand.old) ≡ true }
+    requires ready { IsReady (view hand.old) }
     ensures arena { IsHandOf arena.now hand.new }
-    ensures locks { hand.new.locks ≡ hand.old.locks }
-    ensures gets { IfOk result (λ found. CallsOn hand.old.number (key % (setup_of arena.now).config.stripes) (LooksUp hand.old.number (key % (setup_of arena.now).config.stripes) key (option_map (λ r. r.reference) found)) (view hand.old) (view hand.new)) }
-    ensures item { IfOk result (λ found. IfSome found (λ item. IsItemRef (view hand.new) item × (item.key ≡ key))) }
-    ensures calls { IfOk result (λ found. TellsCall hand.old.number (key % (setup_of arena.now).config.stripes) (call.Get hand.old.number key (option_map (λ item. item.stamp) found)) (view hand.old) (view hand.new)) }
+    ensures ready { IsReady (view hand.new) }
+    ensures locks { locks_of hand.new ≡ locks_of hand.old }
+    ensures number { number_of hand.new ≡ number_of hand.old }
+    ensures gets { IfOk result (λ found. Gets (setup_of arena.now) key found hand.old hand.new) }
+    ensures item { IfOk result (λ found. IfSome found (λ item. IsItemRef (view hand.new) item × (item_key item ≡ key))) }
+    ensures near { IfOk result (λ found. IfSome found (λ item. has_chunk (setup_of arena.now).table (item_chunk item) ≡ true)) }
+    ensures said { IfOk result (λ found. IfSome found (IsAsSaid (view hand.new))) }
+    ensures calls { IfOk result (λ found. TellsOn (setup_of arena.now) key (λ number. call.Get number key (option_map item_stamp found)) hand.old hand.new) }
     ensures refused { OnErr result (TellsNoCall (view hand.old) (view hand.new)) }
     ensures many { (result ≡ Err GetError.TooManyRefs) ↔ (255 ≤ length (view hand.old).row.holdings) }
     ensures same { result ≡ Err GetError.TooManyRefs → view hand.new ≡ view hand.old }
-    ensures no_memory { result ≡ Err GetError.NoMemory → OnlyWaits (key % (setup_of arena.now).config.stripes) (view hand.old) (view hand.new) }
+    ensures no_memory { result ≡ Err GetError.NoMemory → FindsNoRoomFor (setup_of arena.now) key hand.old hand.new }
+    ensures holdings { IfOk result (λ found. HoldsToo found (view hand.old) (view hand.new)) }
+    ensures no_more { OnErr result (HoldsTheSame (view hand.old) (view hand.new)) }
+    ensures keeps { KeepsRefs (view hand.old) (view hand.new) }
+    ensures unsaid { SaysNothing (view hand.old) (view hand.new) }
 {
     if hand.refs() >= 255 {
         return Err(GetError::TooManyRefs);
@@ -75,17 +84,25 @@ pub enum TryGetError {
 /// `item_trylock`)
 pub fn try_get(arena: &Arena, hand: &mut Hand, key: u64) -> Result<Option<Ref>, TryGetError>
     requires arena { IsHandOf arena.now hand.old }
-    requires unlocked { is_unlocked (view hand.old) ≡ true }
+    requires ready { IsReady (view hand.old) }
     ensures arena { IsHandOf arena.now hand.new }
-    ensures locks { hand.new.locks ≡ hand.old.locks }
-    ensures gets { IfOk result (λ found. CallsOn hand.old.number (key % (setup_of arena.now).config.stripes) (LooksUp hand.old.number (key % (setup_of arena.now).config.stripes) key (option_map (λ r. r.reference) found)) (view hand.old) (view hand.new)) }
-    ensures item { IfOk result (λ found. IfSome found (λ item. IsItemRef (view hand.new) item × (item.key ≡ key))) }
-    ensures calls { IfOk result (λ found. TellsCall hand.old.number (key % (setup_of arena.now).config.stripes) (call.Get hand.old.number key (option_map (λ item. item.stamp) found)) (view hand.old) (view hand.new)) }
+    ensures ready { IsReady (view hand.new) }
+    ensures locks { locks_of hand.new ≡ locks_of hand.old }
+    ensures number { number_of hand.new ≡ number_of hand.old }
+    ensures gets { IfOk result (λ found. Gets (setup_of arena.now) key found hand.old hand.new) }
+    ensures item { IfOk result (λ found. IfSome found (λ item. IsItemRef (view hand.new) item × (item_key item ≡ key))) }
+    ensures near { IfOk result (λ found. IfSome found (λ item. has_chunk (setup_of arena.now).table (item_chunk item) ≡ true)) }
+    ensures said { IfOk result (λ found. IfSome found (IsAsSaid (view hand.new))) }
+    ensures calls { IfOk result (λ found. TellsOn (setup_of arena.now) key (λ number. call.Get number key (option_map item_stamp found)) hand.old hand.new) }
     ensures refused { OnErr result (TellsNoCall (view hand.old) (view hand.new)) }
     ensures many { (result ≡ Err TryGetError.TooManyRefs) ↔ (255 ≤ length (view hand.old).row.holdings) }
     ensures same { result ≡ Err TryGetError.TooManyRefs → view hand.new ≡ view hand.old }
-    ensures held { result ≡ Err TryGetError.Held → (word : ℕ) × (word ≢ 0) × (view hand.new ≡ stripe_missed (key % (setup_of arena.now).config.stripes) word (view hand.old)) }
-    ensures no_memory { result ≡ Err TryGetError.NoMemory → OnlyWaits (key % (setup_of arena.now).config.stripes) (view hand.old) (view hand.new) }
+    ensures held { result ≡ Err TryGetError.Held → FindsStripeHeld (setup_of arena.now) key hand.old hand.new }
+    ensures no_memory { result ≡ Err TryGetError.NoMemory → FindsNoRoomFor (setup_of arena.now) key hand.old hand.new }
+    ensures holdings { IfOk result (λ found. HoldsToo found (view hand.old) (view hand.new)) }
+    ensures no_more { OnErr result (HoldsTheSame (view hand.old) (view hand.new)) }
+    ensures keeps { KeepsRefs (view hand.old) (view hand.new) }
+    ensures unsaid { SaysNothing (view hand.old) (view hand.new) }
 {
     if hand.refs() >= 255 {
         return Err(TryGetError::TooManyRefs);
@@ -108,15 +125,16 @@ fn look_up(
     key: u64,
 ) -> Result<Option<Ref>, NoMemory>
     requires arena { IsHandOf arena.now hand.old }
-    requires lent { IsLentStripe (view hand.old) held.number held.stripe }
-    requires near { held.number ≡ key % (setup_of arena.now).config.stripes }
+    requires lent { IsLentStripe (view hand.old) (stripe_number held) (stripe_lent held) }
+    requires near { stripe_number held ≡ stripe_of_key (setup_of arena.now) key }
     requires few { length (view hand.old).row.holdings < 256 }
     ensures arena { IsHandOf arena.now hand.new }
-    ensures locks { hand.new.locks ≡ without_stripe hand.old.locks }
-    ensures done { IfOk result (λ found. IsDone hand.old.number held.number held.stripe (LooksUp hand.old.number held.number key (option_map (λ r. r.reference) found)) (view hand.old) (view hand.new)) }
-    ensures item { IfOk result (λ found. IfSome found (λ item. IsItemRef (view hand.new) item × (item.key ≡ key))) }
-    ensures calls { IfOk result (λ found. TellsCall hand.old.number held.number (call.Get hand.old.number key (option_map (λ item. item.stamp) found)) (view hand.old) (view hand.new)) }
-    ensures given { OnErr result (view hand.new ≡ stripe_given held.number held.stripe (view hand.old)) }
+    ensures locks { locks_of hand.new ≡ without_stripe (locks_of hand.old) }
+    ensures done { IfOk result (λ found. GetsAt held key found hand.old hand.new) }
+    ensures item { IfOk result (λ found. IfSome found (λ item. IsItemRef (view hand.new) item × (item_key item ≡ key))) }
+    ensures calls { IfOk result (λ found. TellsAt held (λ number. call.Get number key (option_map item_stamp found)) hand.old hand.new) }
+    ensures given { OnErr result (GivesBack hand.old held hand.new) }
+    ensures full { OnErr result ((stripe_lent held).ready ≡ false) }
 {
     match refer_at(arena, hand, held, key) {
         Ok(Some(reference)) => Ok(Some(look_at(arena, hand, reference))),
@@ -133,15 +151,16 @@ pub(crate) fn refer_at(
     key: u64,
 ) -> Result<Option<mc_words::Ref>, NoMemory>
     requires arena { IsHandOf arena.now hand.old }
-    requires lent { IsLentStripe (view hand.old) held.number held.stripe }
-    requires near { held.number ≡ key % (setup_of arena.now).config.stripes }
+    requires lent { IsLentStripe (view hand.old) (stripe_number held) (stripe_lent held) }
+    requires near { stripe_number held ≡ stripe_of_key (setup_of arena.now) key }
     requires few { length (view hand.old).row.holdings < 256 }
     ensures arena { IsHandOf arena.now hand.new }
-    ensures locks { hand.new.locks ≡ without_stripe hand.old.locks }
-    ensures done { IfOk result (λ found. IsDone hand.old.number held.number held.stripe (LooksUp hand.old.number held.number key found) (view hand.old) (view hand.new)) }
-    ensures stamp { IfOk result (λ found. stripes.stamp_of held.stripe.state key ≡ option_map (λ r. stamp_of (held_item (view hand.new) r.chunk)) found) }
-    ensures reference { IfOk result (λ found. IfSome found (λ r. IsRefOf (view hand.new) r.chunk r.room × IsIssueOf (view hand.new) r.chunk r.issue × (key_of (held_item (view hand.new) r.chunk) ≡ key))) }
-    ensures given { OnErr result (view hand.new ≡ stripe_given held.number held.stripe (view hand.old)) }
+    ensures locks { locks_of hand.new ≡ without_stripe (locks_of hand.old) }
+    ensures done { IfOk result (λ found. DoesOn (λ number stripe. LooksUp number stripe key found) hand.old held hand.new) }
+    ensures stamp { IfOk result (λ found. stripes.stamp_of (stripe_lent held).state key ≡ option_map (stamp_there (view hand.new)) found) }
+    ensures reference { IfOk result (λ found. IfSome found (IsRefToKey (view hand.new) key)) }
+    ensures given { OnErr result (GivesBack hand.old held hand.new) }
+    ensures full { OnErr result ((stripe_lent held).ready ≡ false) }
 {
     let mut held = held;
     if let Err(error) = arena.reserve(hand, &mut held) {

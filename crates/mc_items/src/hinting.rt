@@ -1,11 +1,15 @@
 //! References to items that are had again by hints, with no lock.
-ghost use Rattle.std.specs.Prelude.{◌≡◌, ◌≤◌, ◌↔◌, true, length, Contains, Err, IfOk};
-ghost use Rattle.mc_core.specs.Past.{Known};
+ghost use Rattle.std.specs.Prelude.{◌↔◌, ◌≡◌, ◌≤◌, Err, IfOk, OnErr, Some, length, true};
 ghost use Rattle.mc_core.specs.State.{has_chunk};
 ghost use Rattle.mc_words.specs.Arenas.{IsHandOf, setup_of, view};
-ghost use Rattle.mc_words.specs.Hinting.{FindsContended, FindsGone, GetsAgain};
+ghost use Rattle.mc_words.specs.Hinting.{FindsContended, FindsGone};
 ghost use Rattle.mc_words.specs.Items.{held_item};
-ghost use Rattle.mc_items.specs.ItemRefs.{IsItemRef};
+ghost use Rattle.mc_words.specs.Observers.{hint_chunk, hint_issue, locks_of, number_of};
+ghost use Rattle.mc_words.specs.Ready.{IsReady};
+ghost use Rattle.mc_words.specs.Refs.{KeepsRefs};
+ghost use Rattle.mc_items.specs.ItemRefs.{IsItemRef, item_chunk, item_issue};
+ghost use Rattle.mc_items.specs.Keeping.{HoldsTheSame, HoldsToo, IsAsSaid, SaysNothing};
+ghost use Rattle.mc_items.specs.OnKeys.{GetsByHint, IsAsKnown};
 
 use crate::refs::{Ref, look_at};
 use mc_words::{Again, Arena, Hand, Hint};
@@ -13,8 +17,8 @@ use mc_words::{Again, Arena, Hand, Hint};
 /// A hint of the item, by which it can be had again after the reference was released: its chunk, and the number of times that it
 /// was handed out. (own)
 pub fn hint(item: &Ref) -> Hint
-    ensures chunk { result.chunk ≡ item.now.reference.chunk }
-    ensures issue { result.issue ≡ item.now.reference.issue }
+    ensures chunk { hint_chunk result ≡ item_chunk item.now }
+    ensures issue { hint_issue result ≡ item_issue item.now }
 {
     item.reference.hint()
 }
@@ -24,17 +28,25 @@ pub fn hint(item: &Ref) -> Hint
 /// 255 chunks of the hand, which is tested first. Nothing is changed then. (own)
 pub fn again(arena: &Arena, hand: &mut Hand, hint: Hint) -> Result<Ref, Again>
     requires arena { IsHandOf arena.now hand.old }
-    requires near { has_chunk (setup_of arena.now).table hint.chunk ≡ true }
+    requires ready { IsReady (view hand.old) }
+    requires near { has_chunk (setup_of arena.now).table (hint_chunk hint) ≡ true }
     ensures arena { IsHandOf arena.now hand.new }
-    ensures locks { hand.new.locks ≡ hand.old.locks }
-    ensures hinted { IfOk result (λ item. (item.reference.chunk ≡ hint.chunk) × (item.reference.issue ≡ hint.issue)) }
-    ensures gets { IfOk result (λ item. GetsAgain (view hand.old) hint.chunk hint.issue item.reference.room (view hand.new)) }
+    ensures ready { IsReady (view hand.new) }
+    ensures locks { locks_of hand.new ≡ locks_of hand.old }
+    ensures number { number_of hand.new ≡ number_of hand.old }
+    ensures hinted { IfOk result (λ item. (item_chunk item ≡ hint_chunk hint) × (item_issue item ≡ hint_issue hint)) }
+    ensures gets { IfOk result (λ item. GetsByHint hint item (view hand.old) (view hand.new)) }
     ensures item { IfOk result (λ item. IsItemRef (view hand.new) item) }
-    ensures known { IfOk result (λ item. (k : Known) → Contains (view hand.old).row.knows.known k → k.chunk ≡ hint.chunk → k.issue ≡ hint.issue → held_item (view hand.new) item.reference.chunk ≡ k.words) }
-    ensures gone { result ≡ Err Again.Gone → FindsGone (view hand.old) hint.chunk hint.issue (view hand.new) }
-    ensures contended { result ≡ Err Again.Contended → FindsContended (view hand.old) hint.chunk hint.issue (view hand.new) }
+    ensures said { IfOk result (IsAsSaid (view hand.new)) }
+    ensures known { IfOk result (λ item. IsAsKnown (view hand.old) hint (held_item (view hand.new) (item_chunk item))) }
+    ensures gone { result ≡ Err Again.Gone → FindsGone (view hand.old) (hint_chunk hint) (hint_issue hint) (view hand.new) }
+    ensures contended { result ≡ Err Again.Contended → FindsContended (view hand.old) (hint_chunk hint) (hint_issue hint) (view hand.new) }
     ensures many { (result ≡ Err Again.TooManyRefs) ↔ (255 ≤ length (view hand.old).row.holdings) }
     ensures refused { result ≡ Err Again.TooManyRefs → view hand.new ≡ view hand.old }
+    ensures holdings { IfOk result (λ item. HoldsToo (Some item) (view hand.old) (view hand.new)) }
+    ensures no_more { OnErr result (HoldsTheSame (view hand.old) (view hand.new)) }
+    ensures keeps { KeepsRefs (view hand.old) (view hand.new) }
+    ensures unsaid { SaysNothing (view hand.old) (view hand.new) }
 {
     match arena.again(hand, hint) {
         Ok(reference) => Ok(look_at(arena, hand, reference)),

@@ -9,6 +9,7 @@ mod evicting;
 mod filling;
 mod getting;
 mod hinting;
+pub mod laws;
 mod reading;
 mod refs;
 mod setting;
@@ -17,6 +18,7 @@ mod supplying;
 mod touching;
 
 pub use deleting::delete;
+pub use evicting::Supply;
 pub use getting::{GetError, TryGetError, get, try_get};
 pub use hinting::{again, hint};
 pub use reading::{read, release};

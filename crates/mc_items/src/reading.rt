@@ -1,11 +1,16 @@
 //! The words of an item, and references that are given up.
-ghost use Rattle.std.specs.Prelude.{◌≡◌, [], drop, IfOk};
-ghost use Rattle.mc_core.specs.declared.event.Step.TheVariants as step;
+ghost use Rattle.std.specs.Prelude.{◌≡◌, [], IfOk, OnErr};
 ghost use Rattle.mc_words.specs.Arenas.{IsHandOf, view};
 ghost use Rattle.mc_words.specs.Happens.{Happens};
-ghost use Rattle.mc_words.specs.Items.{held_item};
-ghost use Rattle.mc_words.specs.Views.{chunk_dropped};
-ghost use Rattle.mc_items.specs.ItemRefs.{IsItemRef};
+ghost use Rattle.mc_words.specs.Observers.{locks_of, number_of};
+ghost use Rattle.mc_words.specs.Ready.{IsReady};
+ghost use Rattle.mc_words.specs.Refs.{KeepsHeld, KeepsRefs};
+ghost use Rattle.mc_words.specs.Views.{chunk_released};
+ghost use Rattle.mc_items.specs.ItemRefs.{IsItemRef, item_chunk, item_key, item_len, item_stamp, item_words};
+ghost use Rattle.mc_items.specs.Keeping.{AreSaid, HoldsLess, HoldsTheSame, SaysNothing};
+ghost use Rattle.mc_items.specs.Reading.{words_seen};
+ghost use Rattle.mc_items.specs.Storing.{item_with};
+ghost use Rattle.mc_core.specs.declared.event.Step.TheVariants as step;
 
 use crate::refs::Ref;
 use mc_words::{Arena, Hand};
@@ -19,11 +24,20 @@ pub fn read(
     item: &Ref,
 ) -> Result<Vec<u64>, AllocError>
     requires arena { IsHandOf arena.now hand.old }
+    requires ready { IsReady (view hand.old) }
     requires item { IsItemRef (view hand.old) item.now }
     ensures arena { IsHandOf arena.now hand.new }
-    ensures locks { hand.new.locks ≡ hand.old.locks }
-    ensures same { view hand.new ≡ view hand.old }
-    ensures words { IfOk result (λ words. words.items ≡ drop 3 (held_item (view hand.old) item.now.reference.chunk)) }
+    ensures ready { IsReady (view hand.new) }
+    ensures locks { locks_of hand.new ≡ locks_of hand.old }
+    ensures number { number_of hand.new ≡ number_of hand.old }
+    ensures item { IsItemRef (view hand.new) item.now }
+    ensures view { IfOk result (λ words. view hand.new ≡ words_seen (item_chunk item.now) 3 (item_len item.now) (view hand.old)) }
+    ensures same { OnErr result (view hand.new ≡ view hand.old) }
+    ensures words { IfOk result (λ words. words.items ≡ item_words (view hand.old) item.now) }
+    ensures said { IfOk result (λ words. AreSaid (view hand.new) (item_stamp item.now) (item_with (item_key item.now) (item_stamp item.now) words.items)) }
+    ensures holdings { HoldsTheSame (view hand.old) (view hand.new) }
+    ensures keeps { KeepsRefs (view hand.old) (view hand.new) }
+    ensures unsaid { SaysNothing (view hand.old) (view hand.new) }
 {
     let mut words = Vec::with_capacity(alloc, item.len as usize)?;
     for place in 0..item.len {
@@ -37,11 +51,17 @@ pub fn read(
 #[inline(always)]
 pub fn release(arena: &Arena, hand: &mut Hand, item: Ref)
     requires arena { IsHandOf arena.now hand.old }
+    requires ready { IsReady (view hand.old) }
     requires item { IsItemRef (view hand.old) item }
     ensures arena { IsHandOf arena.now hand.new }
-    ensures locks { hand.new.locks ≡ hand.old.locks }
-    ensures happens { Happens (view hand.old) [] (step.Release item.reference.chunk) (view hand.new) }
-    ensures dropped { view hand.new ≡ chunk_dropped item.reference.chunk (view hand.old) }
+    ensures ready { IsReady (view hand.new) }
+    ensures locks { locks_of hand.new ≡ locks_of hand.old }
+    ensures number { number_of hand.new ≡ number_of hand.old }
+    ensures happens { Happens (view hand.old) [] (step.Release (item_chunk item)) (view hand.new) }
+    ensures dropped { view hand.new ≡ chunk_released (item_chunk item) (view hand.old) }
+    ensures holdings { HoldsLess item (view hand.old) (view hand.new) }
+    ensures keeps { KeepsHeld (view hand.old) (view hand.new) }
+    ensures unsaid { SaysNothing (view hand.old) (view hand.new) }
 {
     let Ref { reference, .. } = item;
     arena.release(hand, reference);

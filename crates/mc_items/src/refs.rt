@@ -1,8 +1,10 @@
 //! References to items, with what is read of each at once.
 ghost use Rattle.std.specs.Prelude.{◌≡◌};
 ghost use Rattle.mc_words.specs.Arenas.{IsHandOf, view};
+ghost use Rattle.mc_words.specs.Observers.{locks_of, ref_chunk, ref_issue, ref_room};
 ghost use Rattle.mc_words.specs.Refs.{IsIssueOf, IsRefOf};
-ghost use Rattle.mc_items.specs.ItemRefs.{IsItemRef};
+ghost use Rattle.mc_items.specs.ItemRefs.{IsItemRef, item_key, item_len, item_stamp};
+ghost use Rattle.mc_items.specs.Reading.{item_seen};
 
 use mc_words::{Arena, Hand};
 
@@ -18,21 +20,21 @@ pub struct Ref {
 impl Ref {
     /// The item's key.
     pub fn key(&self) -> u64
-        ensures key { result ≡ self.now.key }
+        ensures key { result ≡ item_key self.now }
     {
         self.key
     }
 
     /// The stamp with which it was stored: `2^48` times the number of the hand that stored it, and a count from 1.
     pub fn stamp(&self) -> u64
-        ensures stamp { result ≡ self.now.stamp }
+        ensures stamp { result ≡ item_stamp self.now }
     {
         self.stamp
     }
 
     /// How many words it has.
     pub fn len(&self) -> u64
-        ensures len { result ≡ self.now.len }
+        ensures len { result ≡ item_len self.now }
     {
         self.len
     }
@@ -41,11 +43,11 @@ impl Ref {
 // Reads key, stamp and length of the item that is referred to.
 pub(crate) fn look_at(arena: &Arena, hand: &mut Hand, reference: mc_words::Ref) -> Ref
     requires arena { IsHandOf arena.now hand.old }
-    requires reference { IsRefOf (view hand.old) reference.chunk reference.room }
-    requires issue { IsIssueOf (view hand.old) reference.chunk reference.issue }
+    requires reference { IsRefOf (view hand.old) (ref_chunk reference) (ref_room reference) }
+    requires issue { IsIssueOf (view hand.old) (ref_chunk reference) (ref_issue reference) }
     ensures arena { IsHandOf arena.now hand.new }
-    ensures locks { hand.new.locks ≡ hand.old.locks }
-    ensures same { view hand.new ≡ view hand.old }
+    ensures locks { locks_of hand.new ≡ locks_of hand.old }
+    ensures view { view hand.new ≡ item_seen (ref_chunk reference) (view hand.old) }
     ensures chunk { result.reference ≡ reference }
     ensures item { IsItemRef (view hand.new) result }
 {

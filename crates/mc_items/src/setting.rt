@@ -1,12 +1,16 @@
 //! Items that are set.
-ghost use Rattle.std.specs.Prelude.{◌≡◌, ◌+◌, ◌≤◌, ◌++◌, ◌∷◌, [], true, false, length, IfErr, IfOk};
+ghost use Rattle.std.specs.Prelude.{◌≡◌, ◌≤◌, IfErr, IfOk, OnErr, false, length, true};
 ghost use Rattle.mc_core.specs.Holdings.{has_fresh};
-ghost use Rattle.mc_core.specs.State.{is_class, room_in};
-ghost use Rattle.mc_words.specs.Doing.{HoldsSlabs};
+ghost use Rattle.mc_core.specs.State.{is_class};
 ghost use Rattle.mc_words.specs.Arenas.{IsHandOf, setup_of, view};
-ghost use Rattle.mc_words.specs.Fresh.{IsFreshOf};
 ghost use Rattle.mc_words.specs.Idle.{is_unlocked};
+ghost use Rattle.mc_words.specs.Observers.{fresh_chunk, locks_of, number_of};
+ghost use Rattle.mc_words.specs.Ready.{IsReady};
+ghost use Rattle.mc_words.specs.Refs.{KeepsRefs};
 ghost use Rattle.mc_items.specs.Evicting.{TellsEvict};
+ghost use Rattle.mc_items.specs.FreshChunks.{IsFreshFor};
+ghost use Rattle.mc_items.specs.Keeping.{HoldsTheSame, Says, SaysNothing};
+ghost use Rattle.mc_items.specs.OnKeys.{ActsOnce};
 ghost use Rattle.mc_items.specs.Setting.{RefusesSet, SetsItem, TellsSet};
 ghost use Rattle.mc_items.specs.Sources.{SuppliesChunk, SuppliesNone};
 ghost use Rattle.mc_items.specs.Storing.{IsOwnItem, item_with};
@@ -43,18 +47,20 @@ pub fn set<R: Wait>(
     words: &[u64],
 ) -> Result<Stamp, SetError>
     requires arena { IsHandOf arena.now hand.old }
-    requires unlocked { is_unlocked (view hand.old) ≡ true }
-    requires fresh { has_fresh (view hand.old).row.holdings ≡ false }
-    requires few { length (view hand.old).row.holdings ≤ 255 }
+    requires ready { IsReady (view hand.old) }
     ensures arena { IsHandOf arena.now hand.new }
-    ensures locks { hand.new.locks ≡ hand.old.locks }
-    ensures sets { IfOk result (λ stamp. SetsItem hand.old.number key stamp words.now (view hand.old) (view hand.new)) }
-    ensures calls { IfOk result (λ stamp. TellsSet hand.old.number key stamp (view hand.old) (view hand.new)) }
-    ensures said { IfOk result (λ stamp. (view hand.new).row.knows.said ≡ (view hand.old).row.knows.said ++ record { stamp = stamp; words = item_with key stamp words.now } ∷ []) }
-    ensures refused { IfErr result (λ error. RefusesSet hand.old.number key words.now error (view hand.old) (view hand.new)) }
-    ensures evicts { IfErr result (λ error. TellsEvict hand.old.number (view hand.old) (view hand.new)) }
-    ensures unsaid { IfErr result (λ error. (view hand.new).row.knows.said ≡ (view hand.old).row.knows.said) }
-    ensures stamps { IfErr result (λ error. (view hand.new).row.ids ≡ (view hand.old).row.ids) }
+    ensures ready { IsReady (view hand.new) }
+    ensures locks { locks_of hand.new ≡ locks_of hand.old }
+    ensures number { number_of hand.new ≡ number_of hand.old }
+    ensures sets { IfOk result (λ stamp. SetsItem (number_of hand.old) key stamp words.now (view hand.old) (view hand.new)) }
+    ensures calls { IfOk result (λ stamp. TellsSet (number_of hand.old) key stamp (view hand.old) (view hand.new)) }
+    ensures said { IfOk result (λ stamp. Says (item_with key stamp words.now) stamp (view hand.old) (view hand.new)) }
+    ensures refused { IfErr result (λ error. RefusesSet (number_of hand.old) key words.now error (view hand.old) (view hand.new)) }
+    ensures evicts { OnErr result (TellsEvict (number_of hand.old) (view hand.old) (view hand.new)) }
+    ensures unsaid { OnErr result (SaysNothing (view hand.old) (view hand.new)) }
+    ensures stamps { OnErr result ((view hand.new).row.ids ≡ (view hand.old).row.ids) }
+    ensures holdings { HoldsTheSame (view hand.old) (view hand.new) }
+    ensures keeps { KeepsRefs (view hand.old) (view hand.new) }
 {
     let Some(class) = arena.classes().class_for(24 + 8 * words.len() as u64) else {
         return Err(SetError::TooLarge);
@@ -85,11 +91,11 @@ fn chunk_of<R: Wait>(
     requires fresh { has_fresh (view hand.old).row.holdings ≡ false }
     requires few { length (view hand.old).row.holdings ≤ 255 }
     ensures arena { IsHandOf arena.now hand.new }
-    ensures locks { hand.new.locks ≡ hand.old.locks }
-    ensures supplies { IfOk result (λ fresh. HoldsSlabs (SuppliesChunk hand.old.number class fresh.chunk) (view hand.old) (view hand.new)) }
-    ensures fresh { IfOk result (λ fresh. (fresh.room ≡ room_in (setup_of arena.now).table class) × IsFreshOf (view hand.new) fresh.chunk fresh.room) }
-    ensures own { IfOk result (λ fresh. IsOwnItem (view hand.new) fresh.chunk) }
-    ensures none { IfErr result (λ error. HoldsSlabs (SuppliesNone hand.old.number class error) (view hand.old) (view hand.new)) }
+    ensures locks { locks_of hand.new ≡ locks_of hand.old }
+    ensures supplies { IfOk result (λ fresh. ActsOnce (SuppliesChunk (number_of hand.old) class (fresh_chunk fresh)) hand.old hand.new) }
+    ensures fresh { IfOk result (IsFreshFor (setup_of arena.now) class (view hand.new)) }
+    ensures own { IfOk result (λ fresh. IsOwnItem (view hand.new) (fresh_chunk fresh)) }
+    ensures none { IfErr result (λ error. ActsOnce (SuppliesNone (number_of hand.old) class error) hand.old hand.new) }
 {
     let mut slabs = arena.lock_slabs(rt, hand);
     let supplied = supply_chunk(arena, hand, &mut slabs, class);

@@ -1,21 +1,22 @@
 //! Items that are linked to their keys, in place of those that were there.
-ghost use Rattle.std.specs.Prelude.{◌≡◌, ◌+◌, ◌≤◌, ◌%◌, ◌++◌, ◌∷◌, [], true, length, slice_index_or, None, Some, IfOk, OnOk, OnErr};
-ghost use Rattle.mc_stripe.specs.declared.history.Call.TheVariants as call;
+ghost use Rattle.std.specs.Prelude.{◌+◌, ◌≡◌, ◌≤◌, IfOk, None, OnErr, OnOk, Some, false, length, true};
 ghost use Rattle.mc_core.specs.Holdings.{has_fresh, item_in, numbers};
-ghost use Rattle.mc_words.specs.Doing.{IsDone};
 ghost use Rattle.mc_words.specs.Arenas.{IsHandOf, setup_of, view};
-ghost use Rattle.mc_words.specs.Called.{key_lifted};
 ghost use Rattle.mc_words.specs.Fresh.{IsFreshOf};
 ghost use Rattle.mc_words.specs.Idle.{is_unlocked};
-ghost use Rattle.mc_words.specs.Items.{issue_in, words_in};
+ghost use Rattle.mc_words.specs.Items.{words_in};
 ghost use Rattle.mc_words.specs.Lent.{IsLentStripe};
-ghost use Rattle.mc_words.specs.Linking.{IsItemFilled};
+ghost use Rattle.mc_words.specs.Observers.{fresh_chunk, fresh_key, fresh_room, fresh_stamp, locks_of, number_of, ref_chunk, ref_room, stripe_lent};
+ghost use Rattle.mc_words.specs.Observers.{stripe_number};
 ghost use Rattle.mc_words.specs.Out.{without_stripe};
 ghost use Rattle.mc_words.specs.Refs.{IsRefOf};
 ghost use Rattle.mc_words.specs.Tallies.{next_stamp};
-ghost use Rattle.mc_words.specs.Views.{chunk_dropped, stripe_given};
-ghost use Rattle.mc_items.specs.Calls.{TellsCall, TellsNoCall};
-ghost use Rattle.mc_items.specs.Storing.{IsOwnItem, LeavesDead, Stores, StoresItem, item_filled, item_with, stripe_lifted};
+ghost use Rattle.mc_items.specs.Calls.{TellsNoCall};
+ghost use Rattle.mc_items.specs.FreshChunks.{GivesBackBoth, IsFilledWith, IsRefInto, LosesFresh, StoresFresh, filled_with};
+ghost use Rattle.mc_items.specs.Keeping.{Says};
+ghost use Rattle.mc_items.specs.OnKeys.{DoesOn, HasStripe, TellsOn, stripe_of_key};
+ghost use Rattle.mc_items.specs.Storing.{IsOwnItem, Stores, item_with, key_put_aside, stripe_lifted};
+ghost use Rattle.mc_stripe.specs.declared.history.Call.TheVariants as call;
 
 use crate::filling::fill_item;
 use mc_stripe::NoMemory;
@@ -35,16 +36,16 @@ pub(crate) fn store_words<R: Wait>(
 ) -> Result<(), NoMemory>
     requires arena { IsHandOf arena.now hand.old }
     requires unlocked { is_unlocked (view hand.old) ≡ true }
-    requires fresh { IsFreshOf (view hand.old) fresh.chunk fresh.room }
-    requires own { IsOwnItem (view hand.old) fresh.chunk }
-    requires room { 3 + length words.now ≤ fresh.room }
+    requires fresh { IsFreshOf (view hand.old) (fresh_chunk fresh) (fresh_room fresh) }
+    requires own { IsOwnItem (view hand.old) (fresh_chunk fresh) }
+    requires room { 3 + length words.now ≤ (fresh_room fresh) }
     requires stamp { next_stamp (view hand.old).row.ids ≡ Some stamp }
     ensures arena { IsHandOf arena.now hand.new }
-    ensures locks { hand.new.locks ≡ hand.old.locks }
-    ensures stores { OnOk result (StoresItem hand.old.number (key % (setup_of arena.now).config.stripes) key (record fresh { key = key; stamp = stamp }) (item_filled fresh.chunk (item_with key stamp words.now) (view hand.old)) (view hand.new)) }
-    ensures calls { OnOk result (TellsCall hand.old.number (key % (setup_of arena.now).config.stripes) (call.Set hand.old.number key stamp) (view hand.old) (view hand.new)) }
-    ensures said { OnOk result ((view hand.new).row.knows.said ≡ (view hand.old).row.knows.said ++ record { stamp = stamp; words = item_with key stamp words.now } ∷ []) }
-    ensures no_memory { OnErr result (LeavesDead (key % (setup_of arena.now).config.stripes) fresh.chunk (item_filled fresh.chunk (item_with key stamp words.now) (view hand.old)) (view hand.new)) }
+    ensures locks { locks_of hand.new ≡ locks_of hand.old }
+    ensures stores { OnOk result (StoresFresh (setup_of arena.now) key stamp fresh (number_of hand.old) (filled_with fresh key stamp words.now (view hand.old)) (view hand.new)) }
+    ensures calls { OnOk result (TellsOn (setup_of arena.now) key (λ number. call.Set number key stamp) hand.old hand.new) }
+    ensures said { OnOk result (Says (item_with key stamp words.now) stamp (view hand.old) (view hand.new)) }
+    ensures no_memory { OnErr result (LosesFresh (setup_of arena.now) key fresh (filled_with fresh key stamp words.now (view hand.old)) (view hand.new)) }
     ensures refused { OnErr result (TellsNoCall (view hand.old) (view hand.new)) }
 {
     let mut fresh = fresh;
@@ -64,16 +65,16 @@ fn store<R: Wait>(
 ) -> Result<(), NoMemory>
     requires arena { IsHandOf arena.now hand.old }
     requires unlocked { is_unlocked (view hand.old) ≡ true }
-    requires fresh { IsFreshOf (view hand.old) fresh.chunk fresh.room }
-    requires item { IsItemFilled (view hand.old) fresh.chunk (issue_in (view hand.old) fresh.chunk) (words_in (view hand.old) fresh.chunk) key fresh.stamp }
-    requires key { fresh.key ≡ key }
-    requires stamp { next_stamp (view hand.old).row.ids ≡ Some fresh.stamp }
+    requires fresh { IsFreshOf (view hand.old) (fresh_chunk fresh) (fresh_room fresh) }
+    requires item { IsFilledWith (view hand.old) fresh key (fresh_stamp fresh) }
+    requires key { fresh_key fresh ≡ key }
+    requires stamp { next_stamp (view hand.old).row.ids ≡ Some (fresh_stamp fresh) }
     ensures arena { IsHandOf arena.now hand.new }
-    ensures locks { hand.new.locks ≡ hand.old.locks }
-    ensures stores { OnOk result (StoresItem hand.old.number (key % (setup_of arena.now).config.stripes) key fresh (view hand.old) (view hand.new)) }
-    ensures calls { OnOk result (TellsCall hand.old.number (key % (setup_of arena.now).config.stripes) (call.Set hand.old.number key fresh.stamp) (view hand.old) (view hand.new)) }
-    ensures said { OnOk result ((view hand.new).row.knows.said ≡ (view hand.old).row.knows.said ++ record { stamp = fresh.stamp; words = numbers (item_in (words_in (view hand.old) fresh.chunk)) } ∷ []) }
-    ensures no_memory { OnErr result (LeavesDead (key % (setup_of arena.now).config.stripes) fresh.chunk (view hand.old) (view hand.new)) }
+    ensures locks { locks_of hand.new ≡ locks_of hand.old }
+    ensures stores { OnOk result (StoresFresh (setup_of arena.now) key (fresh_stamp fresh) fresh (number_of hand.old) (view hand.old) (view hand.new)) }
+    ensures calls { OnOk result (TellsOn (setup_of arena.now) key (λ number. call.Set number key (fresh_stamp fresh)) hand.old hand.new) }
+    ensures said { OnOk result (Says (numbers (item_in (words_in (view hand.old) (fresh_chunk fresh)))) (fresh_stamp fresh) (view hand.old) (view hand.new)) }
+    ensures no_memory { OnErr result (LosesFresh (setup_of arena.now) key fresh (view hand.old) (view hand.new)) }
     ensures refused { OnErr result (TellsNoCall (view hand.old) (view hand.new)) }
 {
     let stripe = key % arena.config().stripes;
@@ -97,18 +98,19 @@ fn store_at(
     key: u64,
 ) -> Result<mc_words::Ref, NoMemory>
     requires arena { IsHandOf arena.now hand.old }
-    requires lent { IsLentStripe (view hand.old) held.number held.stripe }
-    requires near { held.number ≡ key % (setup_of arena.now).config.stripes }
-    requires fresh { IsFreshOf (view hand.old) fresh.chunk fresh.room }
-    requires item { IsItemFilled (view hand.old) fresh.chunk (issue_in (view hand.old) fresh.chunk) (words_in (view hand.old) fresh.chunk) key fresh.stamp }
-    requires key { fresh.key ≡ key }
-    requires stamp { next_stamp (view hand.old).row.ids ≡ Some fresh.stamp }
+    requires lent { IsLentStripe (view hand.old) (stripe_number held) (stripe_lent held) }
+    requires near { stripe_number held ≡ stripe_of_key (setup_of arena.now) key }
+    requires fresh { IsFreshOf (view hand.old) (fresh_chunk fresh) (fresh_room fresh) }
+    requires item { IsFilledWith (view hand.old) fresh key (fresh_stamp fresh) }
+    requires key { fresh_key fresh ≡ key }
+    requires stamp { next_stamp (view hand.old).row.ids ≡ Some (fresh_stamp fresh) }
     ensures arena { IsHandOf arena.now hand.new }
-    ensures locks { hand.new.locks ≡ without_stripe hand.old.locks }
-    ensures done { OnOk result (IsDone hand.old.number held.number held.stripe (Stores hand.old.number held.number key fresh) (view hand.old) (view hand.new)) }
-    ensures same { IfOk result (λ r. (r.chunk ≡ fresh.chunk) × (r.issue ≡ issue_in (view hand.old) fresh.chunk) × (r.room ≡ fresh.room)) }
-    ensures reference { IfOk result (λ r. IsRefOf (view hand.new) r.chunk r.room) }
-    ensures given { OnErr result (view hand.new ≡ chunk_dropped fresh.chunk (stripe_given held.number held.stripe (view hand.old))) }
+    ensures locks { locks_of hand.new ≡ without_stripe (locks_of hand.old) }
+    ensures done { OnOk result (DoesOn (λ number stripe. Stores number stripe key (fresh_stamp fresh) (fresh_chunk fresh) (fresh_room fresh)) hand.old held hand.new) }
+    ensures same { IfOk result (IsRefInto (view hand.old) fresh) }
+    ensures reference { IfOk result (λ r. IsRefOf (view hand.new) (ref_chunk r) (ref_room r)) }
+    ensures given { OnErr result (GivesBackBoth hand.old held fresh hand.new) }
+    ensures full { OnErr result ((stripe_lent held).ready ≡ false) }
 {
     let mut held = held;
     if let Err(error) = arena.reserve(hand, &mut held) {
@@ -125,17 +127,17 @@ fn store_at(
 // Unlinks the key's item, if it has one, and puts the key's entry aside, until the hand links the chunk that it fills.
 fn put_aside(arena: &Arena, hand: &mut Hand, held: &mut StripeHeld, key: u64)
     requires arena { IsHandOf arena.now hand.old }
-    requires near { key % (setup_of arena.now).config.stripes ≡ held.old.number }
-    requires held { slice_index_or (view hand.old).stripes held.old.number None ≡ Some held.old.stripe }
-    requires ready { held.old.stripe.ready ≡ true }
-    requires whole { held.old.stripe.state.aside ≡ None }
+    requires near { stripe_of_key (setup_of arena.now) key ≡ stripe_number held.old }
+    requires held { HasStripe hand.old held.old }
+    requires ready { (stripe_lent held.old).ready ≡ true }
+    requires whole { (stripe_lent held.old).state.aside ≡ None }
     requires fresh { has_fresh (view hand.old).row.holdings ≡ true }
     ensures arena { IsHandOf arena.now hand.new }
-    ensures locks { hand.new.locks ≡ hand.old.locks }
-    ensures number { held.new.number ≡ held.old.number }
-    ensures held { slice_index_or (view hand.new).stripes held.new.number None ≡ Some held.new.stripe }
-    ensures lifted { held.new.stripe ≡ stripe_lifted held.old.stripe key }
-    ensures view { view hand.new ≡ key_lifted held.old.number held.old.stripe key (view hand.old) }
+    ensures locks { locks_of hand.new ≡ locks_of hand.old }
+    ensures number { stripe_number held.new ≡ stripe_number held.old }
+    ensures held { HasStripe hand.new held.new }
+    ensures lifted { stripe_lent held.new ≡ stripe_lifted (stripe_lent held.old) key }
+    ensures view { view hand.new ≡ key_put_aside (stripe_number held.old) (stripe_lent held.old) key (view hand.old) }
 {
     if held.stripe().find(key).is_some() {
         arena.unlink(hand, held, key);

@@ -1,20 +1,20 @@
 //! Chunks for items, under one hold of the slabs lock.
-ghost use Rattle.std.specs.Prelude.{◌≡◌, ◌≤◌, true, false, fold, is_some, length, Ok, Some, None, IfErr, IfOk, IfSome, OnErr};
 ghost use Rattle.std.specs.List.{list_all};
-ghost use Rattle.mc_pages.specs.Accounted.{first_chunks};
-ghost use Rattle.mc_pages.specs.Changes.{after_cut, next_page};
-ghost use Rattle.mc_pages.specs.ClassState.{first_free};
-ghost use Rattle.mc_pages.specs.SlabState.{class_at, class_of_chunk};
+ghost use Rattle.std.specs.Prelude.{◌≡◌, ◌≤◌, IfErr, IfOk, IfSome, None, Ok, OnErr, false, is_some, length, true};
+ghost use Rattle.mc_pages.specs.Changes.{next_page};
+ghost use Rattle.mc_pages.specs.ClassState.{first_free, popped};
+ghost use Rattle.mc_pages.specs.SlabState.{class_at};
 ghost use Rattle.mc_core.specs.Holdings.{has_fresh};
 ghost use Rattle.mc_core.specs.Looks.{is_found_alive};
-ghost use Rattle.mc_core.specs.State.{is_class, room_in};
+ghost use Rattle.mc_core.specs.State.{is_class};
 ghost use Rattle.mc_words.specs.Arenas.{IsHandOf, setup_of, view};
-ghost use Rattle.mc_words.specs.Fresh.{IsFreshOf};
 ghost use Rattle.mc_words.specs.Idle.{has_no_stripes};
-ghost use Rattle.mc_words.specs.Sweeping.{with_seen};
+ghost use Rattle.mc_words.specs.Observers.{fresh_chunk, fresh_room, locks_of, number_of, slabs_lent};
+ghost use Rattle.mc_items.specs.FreshChunks.{IsFreshFor};
+ghost use Rattle.mc_items.specs.OnKeys.{Acts, AreUnchanged, HasSlabs, SeesMore};
 ghost use Rattle.mc_items.specs.Sources.{AsksMove, LacksMore, MakesFree, MakesNone, SuppliesChunk, SuppliesNone};
 ghost use Rattle.mc_items.specs.Storing.{IsOwnItem};
-ghost use Rattle.mc_items.specs.Supplying.{FindsNoFree, FindsWorn, GainsFresh, Grows, SuppliesFree};
+ghost use Rattle.mc_items.specs.Supplying.{FindsNoFree, FindsWorn, GainsFresh, Grows, HandsOutFree};
 
 use crate::evicting::{Supply, evict_one};
 use crate::setting::SetError;
@@ -32,18 +32,18 @@ pub(crate) fn pop_or_sweep(
 ) -> Result<Option<Fresh>, WornOut>
     requires arena { IsHandOf arena.now hand.old }
     requires class { is_class (setup_of arena.now).table class ≡ true }
-    requires held { (view hand.old).slabs ≡ Some held.old.shared }
+    requires held { HasSlabs hand.old held.old }
     requires room { length (view hand.old).row.holdings ≤ 255 }
     ensures arena { IsHandOf arena.now hand.new }
-    ensures locks { hand.new.locks ≡ hand.old.locks }
-    ensures held { (view hand.new).slabs ≡ Some held.new.shared }
-    ensures supplied { IfOk result (λ popped. IfSome popped (λ fresh. SuppliesFree class (view hand.old) held.old.shared fresh.chunk (view hand.new) held.new.shared)) }
-    ensures fresh { IfOk result (λ popped. IfSome popped (λ fresh. (fresh.room ≡ room_in (setup_of arena.now).table class) × IsFreshOf (view hand.new) fresh.chunk fresh.room)) }
-    ensures gains { IfOk result (λ popped. IfSome popped (λ fresh. GainsFresh (view hand.old) fresh.chunk fresh.room (view hand.new))) }
-    ensures none { result ≡ Ok None → FindsNoFree class (view hand.old) held.old.shared (view hand.new) held.new.shared × (view hand.new ≡ with_seen (view hand.old) (view hand.new)) }
-    ensures worn { OnErr result (FindsWorn class (view hand.old) held.old.shared (view hand.new) held.new.shared × (view hand.new ≡ with_seen (view hand.old) (view hand.new))) }
-    ensures own { IfOk result (λ popped. IfSome popped (λ fresh. IsOwnItem (view hand.new) fresh.chunk)) }
-    ensures uncut { held.new.shared.uncut ≡ held.old.shared.uncut }
+    ensures locks { locks_of hand.new ≡ locks_of hand.old }
+    ensures held { HasSlabs hand.new held.new }
+    ensures supplied { IfOk result (λ popped. IfSome popped (λ fresh. Acts (HandsOutFree class (fresh_chunk fresh)) hand.old held.old hand.new held.new)) }
+    ensures fresh { IfOk result (λ popped. IfSome popped (IsFreshFor (setup_of arena.now) class (view hand.new))) }
+    ensures gains { IfOk result (λ popped. IfSome popped (λ fresh. GainsFresh (view hand.old) (fresh_chunk fresh) (fresh_room fresh) (view hand.new))) }
+    ensures none { result ≡ Ok None → Acts (FindsNoFree class) hand.old held.old hand.new held.new × SeesMore hand.old hand.new }
+    ensures worn { OnErr result (Acts (FindsWorn class) hand.old held.old hand.new held.new × SeesMore hand.old hand.new) }
+    ensures own { IfOk result (λ popped. IfSome popped (λ fresh. IsOwnItem (view hand.new) (fresh_chunk fresh))) }
+    ensures uncut { (slabs_lent held.new).uncut ≡ (slabs_lent held.old).uncut }
 {
     match arena.pop(hand, held, class) {
         Ok(Some(fresh)) => return Ok(Some(fresh)),
@@ -63,17 +63,18 @@ pub(crate) fn grow_for(
 ) -> Result<bool, NoMemory>
     requires arena { IsHandOf arena.now hand.old }
     requires class { is_class (setup_of arena.now).table class ≡ true }
-    requires held { (view hand.old).slabs ≡ Some held.old.shared }
-    requires whole { held.old.shared.uncut ≡ None }
+    requires held { HasSlabs hand.old held.old }
+    requires whole { (slabs_lent held.old).uncut ≡ None }
     ensures arena { IsHandOf arena.now hand.new }
-    ensures locks { hand.new.locks ≡ hand.old.locks }
-    ensures held { (view hand.new).slabs ≡ Some held.new.shared }
-    ensures grows { result ≡ Ok true → Grows hand.old.number class (view hand.old) held.old.shared (view hand.new) held.new.shared }
-    ensures free { result ≡ Ok true → is_some (first_free (class_at held.new.shared class)) ≡ true }
-    ensures whole { held.new.shared.uncut ≡ None }
-    ensures seen { view hand.new ≡ with_seen (view hand.old) (view hand.new) }
-    ensures none { result ≡ Ok false → (next_page held.old.shared ≡ None) × (held.new.shared ≡ held.old.shared) × (view hand.new ≡ view hand.old) }
-    ensures same { OnErr result ((held.new.shared ≡ held.old.shared) × (view hand.new ≡ view hand.old)) }
+    ensures locks { locks_of hand.new ≡ locks_of hand.old }
+    ensures held { HasSlabs hand.new held.new }
+    ensures grows { result ≡ Ok true → Acts (Grows (number_of hand.old) class) hand.old held.old hand.new held.new }
+    ensures free { result ≡ Ok true → is_some (first_free (class_at (slabs_lent held.new) class)) ≡ true }
+    ensures whole { (slabs_lent held.new).uncut ≡ None }
+    ensures seen { SeesMore hand.old hand.new }
+    ensures none { result ≡ Ok false → (next_page (slabs_lent held.old) ≡ None) × AreUnchanged held.old held.new × (view hand.new ≡ view hand.old) }
+    ensures same { OnErr result (AreUnchanged held.old held.new × (view hand.new ≡ view hand.old)) }
+    ensures page { OnErr result (is_some (next_page (slabs_lent held.old)) ≡ true) }
 {
     let per_page = held.slabs().per_page(class);
     match arena.grow(hand, held, class) {
@@ -95,20 +96,20 @@ fn make_free(
 ) -> Result<Option<Supply>, NoMemory>
     requires arena { IsHandOf arena.now hand.old }
     requires class { is_class (setup_of arena.now).table class ≡ true }
-    requires held { (view hand.old).slabs ≡ Some held.old.shared }
+    requires held { HasSlabs hand.old held.old }
     requires one { has_no_stripes (view hand.old) ≡ true }
     requires fresh { has_fresh (view hand.old).row.holdings ≡ false }
-    requires empty { first_free (class_at held.old.shared class) ≡ None }
-    requires alive { list_all (is_found_alive (view hand.old).row.looks) (class_at held.old.shared class).order ≡ true }
-    requires whole { held.old.shared.uncut ≡ None }
+    requires empty { first_free (class_at (slabs_lent held.old) class) ≡ None }
+    requires alive { list_all (is_found_alive (view hand.old).row.looks) (class_at (slabs_lent held.old) class).order ≡ true }
+    requires whole { (slabs_lent held.old).uncut ≡ None }
     ensures arena { IsHandOf arena.now hand.new }
-    ensures locks { hand.new.locks ≡ hand.old.locks }
-    ensures held { (view hand.new).slabs ≡ Some held.new.shared }
-    ensures makes { IfOk result (λ made. IfSome made (λ supply. MakesFree hand.old.number class supply (view hand.old) held.old.shared (view hand.new) held.new.shared)) }
-    ensures free { IfOk result (λ made. IfSome made (λ supply. is_some (first_free (class_at held.new.shared class)) ≡ true)) }
-    ensures none { result ≡ Ok None → MakesNone hand.old.number class (view hand.old) held.old.shared (view hand.new) held.new.shared }
-    ensures whole { held.new.shared.uncut ≡ None }
-    ensures no_memory { OnErr result (LacksMore hand.old.number class (view hand.old) held.old.shared (view hand.new) held.new.shared) }
+    ensures locks { locks_of hand.new ≡ locks_of hand.old }
+    ensures held { HasSlabs hand.new held.new }
+    ensures makes { IfOk result (λ made. IfSome made (λ supply. Acts (MakesFree (number_of hand.old) class supply) hand.old held.old hand.new held.new)) }
+    ensures free { IfOk result (λ made. IfSome made (λ supply. is_some (first_free (class_at (slabs_lent held.new) class)) ≡ true)) }
+    ensures none { result ≡ Ok None → Acts (MakesNone (number_of hand.old) class) hand.old held.old hand.new held.new }
+    ensures whole { (slabs_lent held.new).uncut ≡ None }
+    ensures no_memory { OnErr result (Acts (LacksMore (number_of hand.old) class) hand.old held.old hand.new held.new) }
 {
     match grow_for(arena, hand, held, class) {
         Ok(true) => Ok(Some(Supply::Page)),
@@ -121,13 +122,13 @@ fn make_free(
 // memory too. (after items.c's `lru_pull_tail`)
 fn ask_move(arena: &Arena, hand: &mut Hand, held: &mut SlabsHeld, class: ClassId, supply: Supply)
     requires arena { IsHandOf arena.now hand.old }
-    requires held { (view hand.old).slabs ≡ Some held.old.shared }
+    requires held { HasSlabs hand.old held.old }
     ensures arena { IsHandOf arena.now hand.new }
-    ensures locks { hand.new.locks ≡ hand.old.locks }
-    ensures held { (view hand.new).slabs ≡ Some held.new.shared }
-    ensures asks { AsksMove hand.old.number class supply (view hand.old) held.old.shared (view hand.new) held.new.shared }
+    ensures locks { locks_of hand.new ≡ locks_of hand.old }
+    ensures held { HasSlabs hand.new held.new }
+    ensures asks { Acts (AsksMove (number_of hand.old) class supply) hand.old held.old hand.new held.new }
     ensures holdings { (view hand.new).row.holdings ≡ (view hand.old).row.holdings }
-    ensures uncut { held.new.shared.uncut ≡ held.old.shared.uncut }
+    ensures uncut { (slabs_lent held.new).uncut ≡ (slabs_lent held.old).uncut }
 {
     if let Supply::Evicted = supply {
         if held.slabs().automove() == 2 {
@@ -146,19 +147,19 @@ pub(crate) fn supply_chunk(
 ) -> Result<Fresh, SetError>
     requires arena { IsHandOf arena.now hand.old }
     requires class { is_class (setup_of arena.now).table class ≡ true }
-    requires held { (view hand.old).slabs ≡ Some held.old.shared }
+    requires held { HasSlabs hand.old held.old }
     requires one { has_no_stripes (view hand.old) ≡ true }
     requires fresh { has_fresh (view hand.old).row.holdings ≡ false }
     requires few { length (view hand.old).row.holdings ≤ 255 }
-    requires whole { held.old.shared.uncut ≡ None }
+    requires whole { (slabs_lent held.old).uncut ≡ None }
     ensures arena { IsHandOf arena.now hand.new }
-    ensures locks { hand.new.locks ≡ hand.old.locks }
-    ensures held { (view hand.new).slabs ≡ Some held.new.shared }
-    ensures supplies { IfOk result (λ fresh. SuppliesChunk hand.old.number class fresh.chunk (view hand.old) held.old.shared (view hand.new) held.new.shared) }
-    ensures fresh { IfOk result (λ fresh. (fresh.room ≡ room_in (setup_of arena.now).table class) × IsFreshOf (view hand.new) fresh.chunk fresh.room) }
-    ensures own { IfOk result (λ fresh. IsOwnItem (view hand.new) fresh.chunk) }
-    ensures none { IfErr result (λ error. SuppliesNone hand.old.number class error (view hand.old) held.old.shared (view hand.new) held.new.shared) }
-    ensures whole { held.new.shared.uncut ≡ None }
+    ensures locks { locks_of hand.new ≡ locks_of hand.old }
+    ensures held { HasSlabs hand.new held.new }
+    ensures supplies { IfOk result (λ fresh. Acts (SuppliesChunk (number_of hand.old) class (fresh_chunk fresh)) hand.old held.old hand.new held.new) }
+    ensures fresh { IfOk result (IsFreshFor (setup_of arena.now) class (view hand.new)) }
+    ensures own { IfOk result (λ fresh. IsOwnItem (view hand.new) (fresh_chunk fresh)) }
+    ensures none { IfErr result (λ error. Acts (SuppliesNone (number_of hand.old) class error) hand.old held.old hand.new held.new) }
+    ensures whole { (slabs_lent held.new).uncut ≡ None }
 {
     match pop_or_sweep(arena, hand, held, class) {
         Ok(Some(fresh)) => return Ok(fresh),

@@ -1,9 +1,12 @@
 //! Keys that are touched.
-ghost use Rattle.std.specs.Prelude.{◌≡◌, ℕ, ◌≤◌, ◌%◌, true, false, length, is_some, Option, Ok, IfOk, OnErr};
-ghost use Rattle.mc_stripe.specs.declared.history.Call.TheVariants as call;
+ghost use Rattle.std.specs.Prelude.{◌≡◌, IfOk, Ok, OnErr, false, true};
 ghost use Rattle.mc_words.specs.Arenas.{IsHandOf, setup_of, view};
-ghost use Rattle.mc_words.specs.Idle.{is_unlocked};
-ghost use Rattle.mc_items.specs.Calls.{CallsOn, FindsNone, OnlyWaits, TellsCall, TellsNoCall, Touches};
+ghost use Rattle.mc_words.specs.Observers.{locks_of, number_of};
+ghost use Rattle.mc_words.specs.Ready.{IsReady};
+ghost use Rattle.mc_words.specs.Refs.{KeepsRefs};
+ghost use Rattle.mc_items.specs.Calls.{FindsNone, TellsNoCall, Touches};
+ghost use Rattle.mc_items.specs.Keeping.{HoldsAsOften, SaysNothing};
+ghost use Rattle.mc_items.specs.OnKeys.{ActsOn, FindsNoRoomFor, TellsOfGet, stripe_of_key};
 
 use crate::getting::refer_at;
 use mc_stripe::NoMemory;
@@ -15,15 +18,19 @@ use std::sync::Wait;
 /// the move is its `do_item_bump`)
 pub fn touch<R: Wait>(rt: &R, arena: &Arena, hand: &mut Hand, key: u64) -> Result<bool, NoMemory>
     requires arena { IsHandOf arena.now hand.old }
-    requires unlocked { is_unlocked (view hand.old) ≡ true }
-    requires few { length (view hand.old).row.holdings ≤ 255 }
+    requires ready { IsReady (view hand.old) }
     ensures arena { IsHandOf arena.now hand.new }
-    ensures locks { hand.new.locks ≡ hand.old.locks }
-    ensures touches { result ≡ Ok true → Touches hand.old.number (key % (setup_of arena.now).config.stripes) key (view hand.old) (view hand.new) }
-    ensures none { result ≡ Ok false → CallsOn hand.old.number (key % (setup_of arena.now).config.stripes) (FindsNone hand.old.number (key % (setup_of arena.now).config.stripes) key) (view hand.old) (view hand.new) }
-    ensures calls { IfOk result (λ there. (stamp : Option ℕ) × (is_some stamp ≡ there) × TellsCall hand.old.number (key % (setup_of arena.now).config.stripes) (call.Get hand.old.number key stamp) (view hand.old) (view hand.new)) }
+    ensures ready { IsReady (view hand.new) }
+    ensures locks { locks_of hand.new ≡ locks_of hand.old }
+    ensures number { number_of hand.new ≡ number_of hand.old }
+    ensures touches { result ≡ Ok true → Touches (number_of hand.old) (stripe_of_key (setup_of arena.now) key) key (view hand.old) (view hand.new) }
+    ensures none { result ≡ Ok false → ActsOn (setup_of arena.now) key (λ number stripe. FindsNone number stripe key) hand.old hand.new }
+    ensures calls { IfOk result (λ there. TellsOfGet (setup_of arena.now) key there hand.old hand.new) }
     ensures refused { OnErr result (TellsNoCall (view hand.old) (view hand.new)) }
-    ensures no_memory { OnErr result (OnlyWaits (key % (setup_of arena.now).config.stripes) (view hand.old) (view hand.new)) }
+    ensures no_memory { OnErr result (FindsNoRoomFor (setup_of arena.now) key hand.old hand.new) }
+    ensures holdings { HoldsAsOften (view hand.old) (view hand.new) }
+    ensures keeps { KeepsRefs (view hand.old) (view hand.new) }
+    ensures unsaid { SaysNothing (view hand.old) (view hand.new) }
 {
     let stripe = key % arena.config().stripes;
     let held = arena.lock_stripe(rt, hand, stripe);

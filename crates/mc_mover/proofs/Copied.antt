@@ -20,7 +20,7 @@ use Rattle.mc_core.proofs.SeenLooks.{some_is}
 use Rattle.mc_words.specs.Happens.{LawfulView}
 use Rattle.mc_words.specs.Items.{word_read}
 use Rattle.mc_words.specs.View.{Setup, View}
-use Rattle.mc_words.specs.Views.{looked, word_filled}
+use Rattle.mc_words.specs.Views.{held_word_seen, word_filled}
 use Rattle.mc_words.proofs.Heads.{near_here}
 use Rattle.mc_words.proofs.Judging.{room_of}
 use Rattle.mc_words.proofs.Owners.{looks_here, slabs_here}
@@ -60,7 +60,7 @@ three_places view setup was of slabs mine chunk near linked room is =
 module _ (chunk copy : ChunkId) where
   -- one word that is read and written
   abbrev pub word_copied : ℕ → ℕ → View → View
-  word_copied place word view = word_filled copy place word (looked (Read chunk place word) view)
+  word_copied place word view = word_filled copy place word (held_word_seen chunk place word view)
 
   -- one word more behind those that were copied
   pub copied_more : (word at place : ℕ) (words : List ℕ) (view : View) → at ≡ place + length words → words_copied chunk copy place (words ++ word ∷ []) view ≡ word_copied at word (words_copied chunk copy place words view)

@@ -29,7 +29,8 @@ use Rattle.mc_words.specs.Items.{word_read}
 use Rattle.mc_words.specs.Owner.{PutsBack}
 use Rattle.mc_words.specs.Rescuing.{PassesAll, PassesOver}
 use Rattle.mc_words.specs.Sweeping.{Sweeps, SweepsOne}
-use Rattle.mc_words.specs.Views.{head_seen, looked, saw}
+use Rattle.mc_words.specs.Views.{head_seen, looked, saw, with_event}
+use Rattle.mc_core.specs.declared.event.Step.TheVariants as core
 use Rattle.mc_words.proofs.Heads.{near_here}
 use Rattle.mc_words.proofs.Judging.{seen_is}
 use Rattle.mc_words.proofs.LockViews.{may_step}
@@ -88,7 +89,7 @@ module _ (stripe : ℕ) (value : ReadyStripe) (key : ℕ) (chunk : ChunkId) (sta
   -- so it is after a look at any header
   pub reaches_seen : (view now : View) (slabs : SlabState) (other : ChunkId) (head : Head) → now ≡ head_seen other head view → Reaches view slabs stripe value key chunk stamp read → Reaches now slabs stripe value key chunk stamp read
   reaches_seen view now slabs other head is at =
-      let all : now ≡ looked (Saw other head) (saw (header other head) view) = is ∙ seen_is view other head slabs at.mine in record {
+      let all : now ≡ with_event [] (core.Head other) (looked (Saw other head) (saw (header other head) view)) = is ∙ seen_is view other head slabs at.mine in record {
         mine = ap (λ (v : View). v.slabs) all ∙ at.mine;
         leads = subst (λ (v : View). LeadsTo v stripe value key chunk stamp) (sym all) (record { mine = at.leads.mine; of_key = at.leads.of_key; leads = at.leads.leads });
         linked = ap (λ (v : View). was_linked v.row.looks chunk) all ∙ linked_seen view.row.looks other head chunk at.linked;

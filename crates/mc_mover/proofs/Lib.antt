@@ -16,3 +16,8 @@ pub mod ClearedPages
 pub mod SeenChunks
 pub mod OwnCalls
 pub mod Tells
+pub mod Answered
+pub mod Grows
+pub mod Chains
+pub mod Nobodys
+pub mod SameItems

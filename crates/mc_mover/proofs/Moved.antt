@@ -1,5 +1,5 @@
 -- An item that is copied into a fresh chunk, taken away, and linked there: what the hand knows after each of these.
-use Rattle.std.proofs.Common.{◌≡◌, ℕ, ◌+◌, ◌%◌, ◌≤◌, ◌<◌, ◌==◌, ◌&&◌, ◌||◌, Bool, true, false, List, [], ◌∷◌, ◌++◌, length, Option, Some, None, IfSome, refl, sym, ap, subst, ◌∙◌, arith, cond, slice_index, slice_index_or, replicate, if◌then◌else◌, append_assoc, append-nil}
+use Rattle.std.proofs.Common.{◌≡◌, ℕ, ◌+◌, ◌%◌, ◌≤◌, ◌<◌, ◌==◌, ◌&&◌, ◌||◌, Bool, true, false, List, [], ◌∷◌, ◌++◌, length, Option, Some, None, IfSome, refl, sym, ap, subst, ◌∙◌, arith, cond, slice_index, slice_index_or, get_or-set_same, replicate, if◌then◌else◌, append_assoc, append-nil}
 use Rattle.std.specs.Option.{option_map, option_map_or}
 use Rattle.std.proofs.lemmas.List.{length-replicate}
 use Rattle.mc_classes.specs.Classes.{Classes}
@@ -9,24 +9,28 @@ use Rattle.mc_pages.specs.SlabState.{SlabState}
 use Rattle.mc_pages.proofs.Chunks.{is_chunk-same}
 use Rattle.mc_stripe.specs.Entries.{AreRising, entry_at}
 use Rattle.mc_stripe.specs.StripeState.{ReadyStripe, new_stripe, place_of}
-use Rattle.mc_stripe.proofs.Entries.{at_without_entry, nat_eq_same}
+use Rattle.mc_stripe.specs.Changes.{after_rescue, stamp_aside}
+use Rattle.mc_stripe.proofs.Entries.{at_with_entry, at_without_entry, nat_eq_same}
 use Rattle.mc_core.specs.declared.holding.Holding.{Holding}
-use Rattle.mc_core.specs.declared.holding.Kind.TheVariants.{Fresh}
-use Rattle.mc_core.specs.declared.holding.Purpose.TheVariants.{Copy}
+use Rattle.mc_core.specs.declared.holding.Kind.TheVariants.{Fresh, Reference}
+use Rattle.mc_core.specs.declared.holding.Purpose.TheVariants.{Copy, Rescue}
 use Rattle.mc_core.specs.Chunks.{filled, is_moving_page}
 use Rattle.mc_core.specs.Evictions.{as_rescue, has_copy, lacks_room, none_dead}
-use Rattle.mc_core.specs.Holdings.{Words, change_each, holding_of, is_complete, is_copy_of, is_of, item_in, key_in, lose, numbers, stamp_in, stamp_of, words_of}
+use Rattle.mc_core.specs.Holdings.{Words, all_known, change_each, holding_of, is_complete, is_copy_of, is_of, item_in, key_in, lose, numbers, stamp_in, stamp_of, words_of}
 use Rattle.mc_core.specs.Items.{are_same}
 use Rattle.mc_core.specs.Judged.{sees_no_target}
+use Rattle.mc_core.specs.State.{State, holdings_at, item_at}
 use Rattle.mc_words.specs.View.{View}
-use Rattle.mc_words.specs.Condemning.{key_read, knows_reason, stripe_read}
+use Rattle.mc_words.specs.Condemning.{key_read, key_seen, knows_reason, stripe_read}
 use Rattle.mc_words.specs.Fresh.{IsFreshIn}
 use Rattle.mc_words.specs.Happens.{LawfulView}
 use Rattle.mc_words.specs.Items.{issue_in, word_read, words_in}
 use Rattle.mc_words.specs.Linking.{IsCopyFilled, copied_item, copy_linked}
 use Rattle.mc_words.specs.Originals.{CondemnsOriginal}
 use Rattle.mc_words.specs.Referring.{reference_to}
-use Rattle.mc_words.specs.Views.{chunk_dropped, copy_holding}
+use Rattle.mc_words.specs.Views.{chunk_released, copy_holding, head_seen}
+use Rattle.mc_words.proofs.LockViews.{holdings_were}
+use Rattle.mc_words.proofs.OwnerViews.{holding_rows}
 use Rattle.mc_words.proofs.StripeChanges.{stripe_here, stripe_near}
 use Rattle.mc_mover.specs.Copying.{item_of, words_copied}
 use Rattle.mc_mover.proofs.Copied.{copied_keeps, one_longer, read_copied, word_copied}
@@ -35,6 +39,14 @@ use Rattle.mc_mover.proofs.Writes.{all_more, found_among, found_changed, holding
 -- what is found is one
 some_same : {a b : ℕ} → Some a ≡ Some b → a ≡ b
 some_same e = cc
+
+one_item : (old chunk : ChunkId) (issue : ℕ) (words : Words) (a b : List ℕ) → Some (copied_item old chunk issue a words) ≡ Some (copied_item old chunk issue b words) → a ≡ b
+one_item old chunk issue words a b e = let kinds : Fresh (Rescue old a) words ≡ Fresh (Rescue old b) words = ap (λ (o : Option Holding). option_map_or (λ (h : Holding). h.kind) o (Reference [])) e in cc
+
+-- words that are known, as numbers
+numbers_known : (item : List ℕ) → numbers (all_known item) ≡ item
+numbers_known [] = refl
+numbers_known (word ∷ item) = ap (λ (l : List ℕ). word ∷ l) (numbers_known item)
 
 -- the copy's chunk has the words that were copied
 holdings_copied : (chunk copy : ChunkId) (done words : List ℕ) (place : ℕ) (view now : View) → now.row.holdings ≡ change_each (is_of copy) (holding_with done) view.row.holdings → place ≡ length done
@@ -203,13 +215,48 @@ module _ (chunk copy : ChunkId) (key stamp : ℕ) (words : List ℕ) (view fille
           ∙ unchanged (is_copy_of chunk) (as_rescue chunk took.item) (lose (is_of copy) view.row.holdings) only))
 
       -- and it is so still once the copy is linked and let go
-      pub dropped_holdings : (number : ℕ) (linked last : View) → linked ≡ copy_linked number stripe left key copy (issue_in now copy) (words_in now copy) room now → last ≡ chunk_dropped copy linked
+      pub dropped_holdings : (number : ℕ) (linked last : View) → linked ≡ copy_linked number stripe left key copy (issue_in now copy) (words_in now copy) room now → last ≡ chunk_released copy linked
           → holding_of copy (lose (is_of copy) view.row.holdings) ≡ None → has_copy (lose (is_of copy) view.row.holdings) chunk ≡ false → last.row.holdings ≡ lose (is_of copy) view.row.holdings
       dropped_holdings number linked last linked_is last_is alone only =
           ap (λ (v : View). v.row.holdings) last_is
           ∙ (ap (λ (v : View). lose (is_of copy) v.row.holdings) linked_is
           ∙ (ap (λ (hs : List Holding). lose (is_of copy) (hs ++ reference_to copy (issue_in now copy) (numbers (item_in (words_in now copy))) ∷ [])) (others_now alone only)
           ∙ lose_last copy (lose (is_of copy) view.row.holdings) (reference_to copy (issue_in now copy) (numbers (item_in (words_in now copy)))) alone (is_chunk-same copy)))
+
+      -- memory had the words that were copied as the item was taken away
+      item_bound : (words : List ℕ) → now.row.holdings ≡ change_each (is_copy_of chunk) (as_rescue chunk words) filled.row.holdings → holding_of copy now.row.holdings ≡ Some (copied_item chunk copy issue words own)
+      item_bound words changed =
+          ap (holding_of copy) changed
+          ∙ (found_changed copy (is_copy_of chunk) (as_rescue chunk words) (λ h. refl) filled.row.holdings copied found_filled
+          ∙ ap (λ (b : Bool). Some (if b then copied_item chunk copy issue words own else copied)) (is_chunk-same chunk))
+
+      abbrev then_state : State
+      then_state = took.happens.was.moment.state
+
+      bound_there : now.row.holdings ≡ change_each (is_copy_of chunk) (as_rescue chunk (item_at then_state chunk)) filled.row.holdings
+      bound_there =
+          let seen : View = head_seen chunk took.head (key_seen chunk took.key filled) in
+          let hand : ℕ = took.happens.was.hand in
+          ap (λ (v : View). v.row.holdings) took.happens.is
+          ∙ (get_or-set_same then_state.holdings hand (change_each (is_copy_of chunk) (as_rescue chunk (item_at then_state chunk)) (holdings_at then_state hand)) [] (holding_rows seen took.happens.was)
+          ∙ ap (change_each (is_copy_of chunk) (as_rescue chunk (item_at then_state chunk))) (holdings_were seen seen took.happens.was))
+
+      pub item_there : item_at then_state chunk ≡ item
+      item_there = one_item chunk copy issue own (item_at then_state chunk) took.item (sym (item_bound (item_at then_state chunk) bound_there) ∙ item_bound took.item holdings_now) ∙ same_item
+
+      -- so the copy has just these
+      pub words_known : numbers (item_in (words_in now copy)) ≡ item
+      words_known = ap numbers (ap item_in words_are ∙ item_is key stamp words blank (let count : length blank ≡ room = length-replicate room None in omega (arith, count, fits))) ∙ numbers_known item
+
+      -- the key led to the original, and leads to the copy
+      pub led_before : place_of value.state key ≡ Some (chunk, stamp)
+      led_before = ap (place_of value.state) (sym same_key) ∙ (took.led ∙ (λ k. Some (chunk, same_stamp k)))
+
+      pub leads_after : (number : ℕ) → place_of (after_rescue left.state number key copy) key ≡ Some (copy, stamp)
+      leads_after number =
+          at_with_entry left.state.index key (copy, stamp_aside left.state) key
+          ∙ (ap (λ (b : Bool). cond b (Some (copy, stamp_aside left.state)) (entry_at left.state.index key)) (nat_eq_same key key refl)
+          ∙ ap (λ (o : Option (ℕ × (ChunkId × ℕ))). Some (copy, option_map_or (λ entry. entry.1.1) o 0)) aside_is)
 
       -- no stamp was given out
       pub ids_now : now.row.ids ≡ filled.row.ids

@@ -20,3 +20,8 @@ on_err (Err error) next x = next x
 pub if_ok : {T E : Type 0} (P Q : T → Type 0) (result : Result T E) → ((value : T) → P value → Q value) → IfOk result P → IfOk result Q
 if_ok P Q (Ok value) next p = next value p
 if_ok P Q (Err error) next p = tt
+
+-- and where two things follow, both do
+pub both_ok : {T E : Type 0} (P Q : T → Type 0) (result : Result T E) → IfOk result P → IfOk result Q → IfOk result (λ value. P value × Q value)
+both_ok P Q (Ok value) p q = (p, q)
+both_ok P Q (Err error) p q = tt

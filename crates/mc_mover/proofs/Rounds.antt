@@ -20,6 +20,7 @@ use Rattle.mc_words.proofs.Owners.{slabs_here}
 use Rattle.mc_mover.specs.declared.counts.Counts.{Counts}
 use Rattle.mc_mover.specs.declared.counts.Turn.{Turn}
 use Rattle.mc_mover.specs.declared.counts.Turn.TheVariants.{Idle, Went, Finished}
+use Rattle.mc_mover.specs.Answering.{RunsStill}
 use Rattle.mc_mover.specs.Visiting.{LacksCall}
 use Rattle.mc_mover.specs.Turning.{AreBelow, EndsTurn, LacksMemory, LooksFrom, Section, Sections, Turns, counted, counts_of, no_counts}
 
@@ -101,6 +102,7 @@ pub record GoneThrough (number rounds : ℕ) (counts : Counts) (view : View) (sl
   pub runs_on : left.moving ≡ Some next
   pub page : next.page ≡ move.page
   pub src : next.src ≡ move.src
+  pub dst : next.dst ≡ move.dst
   pub at : next.at ≡ move.at + rounds
 
 -- at first
@@ -117,8 +119,13 @@ gone_none number view slabs move runs counts none = record {
   runs_on = runs;
   page = refl;
   src = refl;
+  dst = refl;
   at = omega arith;
 }
+
+-- the move runs still
+pub gone_runs : (number rounds : ℕ) (counts : Counts) (view : View) (slabs : SlabState) (now : View) (left : SlabState) → GoneThrough number rounds counts view slabs now left → RunsStill slabs.moving left.moving
+gone_runs number rounds counts view slabs now left gone = (gone.move, gone.next, gone.runs, gone.runs_on, (gone.page, gone.src, gone.dst))
 
 -- and after one more
 pub gone_more : (number rounds : ℕ) (counts more : Counts) (found : Found) (next : Moving) (view : View) (slabs : SlabState) (between : View) (kept : SlabState) (now : View) (left : SlabState)
@@ -137,6 +144,7 @@ gone_more number rounds counts more found next view slabs between kept now left 
       runs_on = moves;
       page = ap (λ (m : Moving). m.page) (sym same) ∙ gone.page;
       src = ap (λ (m : Moving). m.src) (sym same) ∙ gone.src;
+      dst = ap (λ (m : Moving). m.dst) (sym same) ∙ gone.dst;
       at = let before = gone.at in let at = ap (λ (m : Moving). m.at) same in omega arith;
     }
 

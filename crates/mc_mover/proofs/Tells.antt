@@ -290,7 +290,7 @@ module _ (number : ℕ) (view : View) (was : LawfulView view) (own : view.row.id
   tells_fewer : (slabs left : SlabState) → LacksMemory number taken slabs last left → TellsOfFewer number view now
   tells_fewer slabs left lacks =
       let few : length lacks.found < view.setup.config.bulk = subst (λ (t : Told). length lacks.found < t.0.config.bulk) before lacks.few in
-      let given : told_of last ≡ told_of lacks.looked = ap told_of lacks.lacks.does.1.does.1.0 ∙ taken_told _ _ _ lacks.kept last left lacks.lacks.does.1 in
+      let given : told_of last ≡ told_of lacks.looked = ap told_of lacks.lacks.does.1.does.2.0 ∙ taken_told _ _ _ lacks.kept last left lacks.lacks.does.1 in
       (lacks.found, few, tells_found lacks.found lacks.looked (sections_tell number lacks.found taken slabs lacks.looked lacks.kept lacks.sections) given (counts_of lacks.found no_counts) refl)
 
 -- a turn tells as many evictions and rescues as it counts

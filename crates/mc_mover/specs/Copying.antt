@@ -1,14 +1,13 @@
 -- Copies of items: each word of the one chunk is read once, and written into the other at its place.
 use Rattle.std.specs.Prelude.{◌≡◌, ℕ, ◌+◌, List, [], ◌∷◌, length}
 use Rattle.mc_pages.specs.declared.ids.ChunkId.{ChunkId}
-use Rattle.mc_core.specs.declared.look.Look.TheVariants.{Read}
 use Rattle.mc_words.specs.View.{View}
-use Rattle.mc_words.specs.Views.{looked, word_filled}
+use Rattle.mc_words.specs.Views.{held_word_seen, word_filled}
 
 -- these words were read of the one chunk, from this place on, and each was written into the copy
 abbrev pub words_copied : ChunkId → ChunkId → ℕ → List ℕ → View → View
 words_copied chunk copy place [] view = view
-words_copied chunk copy place (word ∷ words) view = words_copied chunk copy (place + 1) words (word_filled copy place word (looked (Read chunk place word) view))
+words_copied chunk copy place (word ∷ words) view = words_copied chunk copy (place + 1) words (word_filled copy place word (held_word_seen chunk place word view))
 
 -- an item: key, stamp, how many words, and these
 abbrev pub item_of : ℕ → ℕ → List ℕ → List ℕ

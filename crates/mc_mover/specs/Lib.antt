@@ -3,6 +3,10 @@ pub mod Saving
 pub mod Linked
 pub mod Visiting
 pub mod Turning
+pub mod Answering
+pub mod Unheld
+pub mod SameItems
 pub mod Reassigning
 pub mod Surveying
 pub mod Telling
+pub mod Acting

@@ -101,7 +101,7 @@ VisitsLinked number class chunk unheld found view slabs now left = ⊥
 
 -- the lock was given back, and nothing was changed, though the key leads to the chunk
 abbrev pub GivesThere : ChunkId → ℕ → StripeDoing
-GivesThere chunk key stripe value taken slabs now left = (option_map (λ place. place.0) (place_of value.state key) ≡ Some chunk) × OnlyGives stripe value taken slabs now left
+GivesThere chunk key stripe value taken slabs now left = (option_map (λ place. place.0) (place_of value.state key) ≡ Some chunk) × (value.ready ≡ false) × OnlyGives stripe value taken slabs now left
 
 -- the chunk, which was seen unheld, is to be saved, but there was no memory for a call on its key
 abbrev pub LacksCall : ChunkId → Bool → SlabsDoing

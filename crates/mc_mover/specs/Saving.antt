@@ -1,6 +1,6 @@
 -- Items of the moving page that are taken to another chunk, or evicted where there is none: what is done under the locks of the slabs and
 -- of the key's stripe.
-use Rattle.std.specs.Prelude.{◌≡◌, ℕ}
+use Rattle.std.specs.Prelude.{◌≡◌, ℕ, ◌+◌, ◌≤◌, length}
 use Rattle.mc_pages.specs.declared.ids.ChunkId.{ChunkId}
 use Rattle.mc_pages.specs.declared.moves.Found.{Found}
 use Rattle.mc_pages.specs.declared.moves.Found.TheVariants.{Busy, Evicted, Rescued}
@@ -17,7 +17,7 @@ use Rattle.mc_words.specs.Linking.{copy_linked}
 use Rattle.mc_words.specs.Originals.{CondemnsOriginal}
 use Rattle.mc_words.specs.Rescuing.{PassesAll, PopsOff}
 use Rattle.mc_words.specs.Sweeping.{Sweeps, SweepsOne}
-use Rattle.mc_words.specs.Views.{chunk_dropped, stripe_given}
+use Rattle.mc_words.specs.Views.{chunk_discarded, chunk_released, stripe_given}
 use Rattle.mc_mover.specs.Copying.{Copies}
 
 -- what is done under both locks, from pages and lists, the stripe and the hand's view to those that it leaves
@@ -51,10 +51,12 @@ pub record MovesItem (number stripe : ℕ) (chunk copy : ChunkId) (room : ℕ) (
   pub stamp : ℕ
   pub filled : View
   pub copies : Copies chunk copy key stamp view filled
+  -- it fits there
+  pub fits : 3 + length copies.words ≤ room
   pub condemned : View
   pub lifted : ReadyStripe
   pub condemns : CondemnsOriginal filled stripe value chunk lifted condemned
-  pub is : now ≡ chunk_dropped copy (copy_linked number stripe lifted key copy (issue_in condemned copy) (words_in condemned copy) room condemned)
+  pub is : now ≡ chunk_released copy (copy_linked number stripe lifted key copy (issue_in condemned copy) (words_in condemned copy) room condemned)
   pub left_is : left ≡ used_up (after_rescue lifted.state number key copy)
 
 -- the item was copied, but then found unlinked or held, and the copy was given up
@@ -65,7 +67,7 @@ pub record FailsToMove (chunk copy : ChunkId) (view now : View) : Type 0 where
   pub copies : Copies chunk copy key stamp view filled
   pub found : View
   pub finds : FindsHeld filled chunk found
-  pub dropped : now ≡ chunk_dropped copy found
+  pub dropped : now ≡ chunk_discarded copy found
 
 -- a free chunk was handed out for a copy, in the chunk's place; it has so much room
 pub record Rescues (number stripe : ℕ) (chunk : ChunkId) (slabs : SlabState) (value : ReadyStripe) (view : View) (kept : SlabState) (left : ReadyStripe) (now : View) : Type 0 where

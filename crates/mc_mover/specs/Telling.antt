@@ -73,6 +73,12 @@ TellingsAreCounted = (number : ℕ) (counts : Counts) (view now : View) → Tell
 abbrev pub own_of : ℕ → List Call → List Call → Own
 own_of number even odd = record { number = number; calls = even ∷ odd ∷ [] }
 
+-- a hand of number 7 that took number 5 over: each call comes behind those on keys of the same stripe, under its own number
+abbrev pub OwnCallsComeApart : Type 0
+OwnCallsComeApart =
+    with_own_calls 7 2 (Evict 7 4 ∷ Rescue 7 9 ∷ Evict 7 2 ∷ []) (own_of 5 [] (Evict 5 3 ∷ []) ∷ own_of 7 (Set 7 4 1 ∷ []) [] ∷ []) ≡
+    own_of 5 [] (Evict 5 3 ∷ []) ∷ own_of 7 (Set 7 4 1 ∷ Evict 7 4 ∷ Evict 7 2 ∷ []) (Rescue 7 9 ∷ []) ∷ []
+
 -- what a turn counted
 abbrev pub counts_in : Turn → Counts
 counts_in Idle = no_counts

@@ -1,5 +1,5 @@
 -- A chunk of the moving page: what the mover sees there, and what it does.
-use Rattle.std.specs.Prelude.{◌≡◌, ◌⊎◌, ℕ, Bool, true, false, not, [], Some}
+use Rattle.std.specs.Prelude.{◌≡◌, ◌⊎◌, ℕ, Bool, true, false, not, ◌&&◌, [], Some}
 use Rattle.mc_pages.specs.declared.ids.ChunkId.{ChunkId}
 use Rattle.mc_pages.specs.declared.moves.Found.{Found}
 use Rattle.mc_pages.specs.declared.moves.Found.TheVariants.{Cleared, Rescued, Evicted, Busy, Locked, Already}
@@ -30,7 +30,7 @@ SeesCleared chunk view now = SeesHead chunk (λ head. is_out head.tag) view now
 
 -- the chunk was seen unlinked or free
 abbrev pub SeesUnlinked : ChunkId → View → View → Type 0
-SeesUnlinked chunk view now = SeesHead chunk (λ head. not (is_linked head.tag)) view now
+SeesUnlinked chunk view now = SeesHead chunk (λ head. not (is_linked head.tag) && not (is_out head.tag)) view now
 
 -- so, and it is free or dead, and was cleared
 pub record ClearsUnused (chunk : ChunkId) (view : View) (slabs : SlabState) (now : View) (left : SlabState) : Type 0 where

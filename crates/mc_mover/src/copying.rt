@@ -1,14 +1,15 @@
 //! Copies of items: the words of a chunk on the moving page are written into another one.
-ghost use Rattle.std.specs.Prelude.{◌≡◌, ◌+◌, ◌<◌, ◌≤◌, ◌==◌, if◌then◌else◌, [], true, Some, IfSome};
+ghost use Rattle.std.specs.Prelude.{◌≡◌, ◌+◌, ◌<◌, ◌≤◌, ◌==◌, if◌then◌else◌, true, IfSome};
 ghost use Rattle.mc_pages.specs.SlabState.{class_of_page};
 ghost use Rattle.mc_core.specs.Looks.{was_linked};
-ghost use Rattle.mc_core.specs.declared.look.Look.TheVariants as look;
 ghost use Rattle.mc_core.specs.State.{has_chunk, room_in};
 ghost use Rattle.mc_words.specs.Arenas.{IsHandOf, setup_of, view};
 ghost use Rattle.mc_words.specs.Condemning.{key_read};
 ghost use Rattle.mc_words.specs.Fresh.{IsFreshOf};
 ghost use Rattle.mc_words.specs.Items.{word_read};
-ghost use Rattle.mc_words.specs.Views.{looked, word_filled};
+ghost use Rattle.mc_words.specs.Observers.{fresh_chunk, fresh_key, fresh_room, fresh_stamp, locks_of, slabs_lent};
+ghost use Rattle.mc_words.specs.Views.{held_word_seen, word_filled};
+ghost use Rattle.mc_mover.specs.Acting.{HasSlabs};
 ghost use Rattle.mc_mover.specs.Copying.{Copies};
 
 use mc_pages::ChunkId;
@@ -25,18 +26,18 @@ pub(crate) fn copy_item(
 )
     requires arena { IsHandOf arena.now hand.old }
     requires near { has_chunk (setup_of arena.now).table chunk ≡ true }
-    requires held { (view hand.old).slabs ≡ Some held.now.shared }
+    requires held { HasSlabs hand.old held.now }
     requires linked { was_linked (view hand.old).row.looks chunk ≡ true }
-    requires fresh { IsFreshOf (view hand.old) fresh.old.chunk fresh.old.room }
-    requires room { fresh.old.room ≡ room_in (setup_of arena.now).table (class_of_page held.now.shared chunk.page) }
+    requires fresh { IsFreshOf (view hand.old) (fresh_chunk fresh.old) (fresh_room fresh.old) }
+    requires room { fresh_room fresh.old ≡ room_in (setup_of arena.now).table (class_of_page (slabs_lent held.now) chunk.page) }
     ensures arena { IsHandOf arena.now hand.new }
-    ensures locks { hand.new.locks ≡ hand.old.locks }
-    ensures held { (view hand.new).slabs ≡ Some held.now.shared }
-    ensures same { (fresh.new.chunk ≡ fresh.old.chunk) × (fresh.new.room ≡ fresh.old.room) }
-    ensures copied { Copies chunk fresh.old.chunk fresh.new.key fresh.new.stamp (view hand.old) (view hand.new) }
-    ensures key { IfSome (key_read (view hand.old) chunk) (λ before. fresh.new.key ≡ before) }
-    ensures fits { IfSome (word_read (view hand.new) chunk 2) (λ count. 3 + count ≤ fresh.old.room) }
-    ensures fresh { IsFreshOf (view hand.new) fresh.new.chunk fresh.new.room }
+    ensures locks { locks_of hand.new ≡ locks_of hand.old }
+    ensures held { HasSlabs hand.new held.now }
+    ensures same { (fresh_chunk fresh.new ≡ fresh_chunk fresh.old) × (fresh_room fresh.new ≡ fresh_room fresh.old) }
+    ensures copied { Copies chunk (fresh_chunk fresh.old) (fresh_key fresh.new) (fresh_stamp fresh.new) (view hand.old) (view hand.new) }
+    ensures key { IfSome (key_read (view hand.old) chunk) (λ before. (fresh_key fresh.new) ≡ before) }
+    ensures fits { IfSome (word_read (view hand.new) chunk 2) (λ count. 3 + count ≤ fresh_room fresh.old) }
+    ensures fresh { IsFreshOf (view hand.new) (fresh_chunk fresh.new) (fresh_room fresh.new) }
 {
     copy_word(arena, hand, held, fresh, chunk, 0);
     copy_word(arena, hand, held, fresh, chunk, 1);
@@ -57,22 +58,22 @@ fn copy_word(
 ) -> u64
     requires arena { IsHandOf arena.now hand.old }
     requires near { has_chunk (setup_of arena.now).table chunk ≡ true }
-    requires held { (view hand.old).slabs ≡ Some held.now.shared }
+    requires held { HasSlabs hand.old held.now }
     requires linked { was_linked (view hand.old).row.looks chunk ≡ true }
-    requires fresh { IsFreshOf (view hand.old) fresh.old.chunk fresh.old.room }
-    requires room { fresh.old.room ≡ room_in (setup_of arena.now).table (class_of_page held.now.shared chunk.page) }
-    requires inside { place < fresh.old.room }
+    requires fresh { IsFreshOf (view hand.old) (fresh_chunk fresh.old) (fresh_room fresh.old) }
+    requires room { fresh_room fresh.old ≡ room_in (setup_of arena.now).table (class_of_page (slabs_lent held.now) chunk.page) }
+    requires inside { place < fresh_room fresh.old }
     ensures arena { IsHandOf arena.now hand.new }
-    ensures locks { hand.new.locks ≡ hand.old.locks }
-    ensures held { (view hand.new).slabs ≡ Some held.now.shared }
+    ensures locks { locks_of hand.new ≡ locks_of hand.old }
+    ensures held { HasSlabs hand.new held.now }
     ensures linked { was_linked (view hand.new).row.looks chunk ≡ true }
-    ensures same { (fresh.new.chunk ≡ fresh.old.chunk) × (fresh.new.room ≡ fresh.old.room) }
-    ensures key { fresh.new.key ≡ (if place == 0 then result else fresh.old.key) }
-    ensures stamp { fresh.new.stamp ≡ (if place == 1 then result else fresh.old.stamp) }
-    ensures fits { place ≡ 2 → 3 + result ≤ fresh.old.room }
+    ensures same { (fresh_chunk fresh.new ≡ fresh_chunk fresh.old) × (fresh_room fresh.new ≡ fresh_room fresh.old) }
+    ensures key { fresh_key fresh.new ≡ (if place == 0 then result else (fresh_key fresh.old)) }
+    ensures stamp { fresh_stamp fresh.new ≡ (if place == 1 then result else (fresh_stamp fresh.old)) }
+    ensures fits { place ≡ 2 → 3 + result ≤ fresh_room fresh.old }
     ensures again { IfSome (word_read (view hand.old) chunk place) (λ before. result ≡ before) }
-    ensures copied { view hand.new ≡ word_filled fresh.old.chunk place result (looked (look.Read chunk place result) (view hand.old)) }
-    ensures fresh { IsFreshOf (view hand.new) fresh.new.chunk fresh.new.room }
+    ensures copied { view hand.new ≡ word_filled (fresh_chunk fresh.old) place result (held_word_seen chunk place result (view hand.old)) }
+    ensures fresh { IsFreshOf (view hand.new) (fresh_chunk fresh.new) (fresh_room fresh.new) }
 {
     let word = arena.word_held(hand, held, chunk, place);
     arena.fill(hand, fresh, place, word);

@@ -1,5 +1,5 @@
 //! What a turn of the mover answers.
-ghost use Rattle.std.specs.Prelude.{◌≡◌, ◌<◌, ◌^◌};
+ghost use Rattle.std.specs.Prelude.{◌≡◌, ◌^◌};
 ghost use Rattle.mc_mover.specs.Turning.{AreBelow, counted, no_counts};
 
 use mc_pages::Found;

@@ -1,6 +1,8 @@
 //! The end of a turn: at the page's end the pass begins anew, or the move ends.
 ghost use Rattle.std.specs.Prelude.{◌≡◌, is_some, true, None, Some};
 ghost use Rattle.mc_words.specs.Arenas.{IsHandOf, view};
+ghost use Rattle.mc_words.specs.Observers.{locks_of, slabs_lent};
+ghost use Rattle.mc_mover.specs.Acting.{Acts, HasSlabs};
 ghost use Rattle.mc_mover.specs.Turning.{EndsTurn, Finishes, IsAtEnd};
 
 use crate::counts::{Counts, Turn};
@@ -10,14 +12,14 @@ use mc_words::{Arena, Hand, SlabsHeld};
 // At the page's end begins the pass anew, if something held it up, and else ends the move. Before that nothing is done.
 pub(crate) fn end_turn(arena: &Arena, hand: &mut Hand, held: &mut SlabsHeld, counts: Counts) -> Turn
     requires arena { IsHandOf arena.now hand.old }
-    requires held { (view hand.old).slabs ≡ Some held.old.shared }
-    requires runs { is_some held.old.shared.moving ≡ true }
-    requires whole { held.old.shared.uncut ≡ None }
+    requires held { HasSlabs hand.old held.old }
+    requires runs { is_some (slabs_lent held.old).moving ≡ true }
+    requires whole { (slabs_lent held.old).uncut ≡ None }
     ensures arena { IsHandOf arena.now hand.new }
-    ensures locks { hand.new.locks ≡ hand.old.locks }
-    ensures held { (view hand.new).slabs ≡ Some held.new.shared }
-    ensures ends { EndsTurn hand.old.number counts result (view hand.old) held.old.shared (view hand.new) held.new.shared }
-    ensures whole { held.new.shared.uncut ≡ None }
+    ensures locks { locks_of hand.new ≡ locks_of hand.old }
+    ensures held { HasSlabs hand.new held.new }
+    ensures ends { Acts (λ number. EndsTurn number counts result) hand.old held.old hand.new held.new }
+    ensures whole { (slabs_lent held.new).uncut ≡ None }
     ensures holdings { (view hand.new).row.holdings ≡ (view hand.old).row.holdings }
     ensures ids { (view hand.new).row.ids ≡ (view hand.old).row.ids }
 {
@@ -38,15 +40,15 @@ pub(crate) fn end_turn(arena: &Arena, hand: &mut Hand, held: &mut SlabsHeld, cou
 // Ends the move, and cuts the page for its class, if it has one. (slabs.c's `slab_rebalance_finish`)
 fn finish(arena: &Arena, hand: &mut Hand, held: &mut SlabsHeld, moving: Moving)
     requires arena { IsHandOf arena.now hand.old }
-    requires held { (view hand.old).slabs ≡ Some held.old.shared }
-    requires at_end { IsAtEnd held.old.shared moving }
+    requires held { HasSlabs hand.old held.old }
+    requires at_end { IsAtEnd (slabs_lent held.old) moving }
     requires none { moving.busy ≡ 0 }
-    requires whole { held.old.shared.uncut ≡ None }
+    requires whole { (slabs_lent held.old).uncut ≡ None }
     ensures arena { IsHandOf arena.now hand.new }
-    ensures locks { hand.new.locks ≡ hand.old.locks }
-    ensures held { (view hand.new).slabs ≡ Some held.new.shared }
-    ensures finishes { Finishes hand.old.number (view hand.old) held.old.shared (view hand.new) held.new.shared }
-    ensures whole { held.new.shared.uncut ≡ None }
+    ensures locks { locks_of hand.new ≡ locks_of hand.old }
+    ensures held { HasSlabs hand.new held.new }
+    ensures finishes { Acts Finishes hand.old held.old hand.new held.new }
+    ensures whole { (slabs_lent held.new).uncut ≡ None }
     ensures holdings { (view hand.new).row.holdings ≡ (view hand.old).row.holdings }
     ensures ids { (view hand.new).row.ids ≡ (view hand.old).row.ids }
 {

@@ -1,15 +1,37 @@
-//! Laws of what a turn tells, each the contract of a function with nothing to do.
-ghost use Rattle.std.specs.Prelude.{◌≡◌, [], ◌∷◌};
-ghost use Rattle.mc_stripe.specs.declared.history.Call.TheVariants.{Set, Evict, Rescue};
-ghost use Rattle.mc_mover.specs.Telling.{TellingsAreCounted, own_of, with_own_calls};
+//! Laws of what a turn does and tells, each the contract of a function with nothing to do.
+ghost use Rattle.mc_mover.specs.Answering.{FinishesExactly};
+ghost use Rattle.mc_mover.specs.SameItems.{RescuesKeepItems};
+ghost use Rattle.mc_mover.specs.Telling.{OwnCallsComeApart, TellingsAreCounted};
+ghost use Rattle.mc_mover.specs.Unheld.{BusyIsUncleared, ClearsUnheld};
 
 /// A hand of number 7 that took number 5 over: each call comes behind those on keys of the same stripe, in their order, under its own
 /// number alone.
 pub fn worked_tellings()
-    ensures come { with_own_calls 7 2 (Evict 7 4 ∷ Rescue 7 9 ∷ Evict 7 2 ∷ []) (own_of 5 [] (Evict 5 3 ∷ []) ∷ own_of 7 (Set 7 4 1 ∷ []) [] ∷ []) ≡ own_of 5 [] (Evict 5 3 ∷ []) ∷ own_of 7 (Set 7 4 1 ∷ Evict 7 4 ∷ Evict 7 2 ∷ []) (Rescue 7 9 ∷ []) ∷ [] }
+    ensures { OwnCallsComeApart }
 {}
 
 /// After a turn the hand's own calls have as many more evictions and rescues as it counted, and no other call more.
 pub fn tellings_are_counted()
     ensures { TellingsAreCounted }
+{}
+
+/// A turn says that the page came to its destination exactly where a page moved as the turn began, and none moves any more.
+pub fn turns_finish_exactly()
+    ensures { FinishesExactly }
+{}
+
+/// Nobody holds what a turn clears: no hand has a holding of the chunk as its item is taken away, nor as the chunk is cleared.
+pub fn turns_clear_what_nobody_holds()
+    ensures { ClearsUnheld }
+{}
+
+/// A chunk that counts as busy wasn't cleared before: so a pass over a page of cleared chunks ends the move.
+pub fn busy_chunks_were_not_cleared()
+    ensures { BusyIsUncleared }
+{}
+
+/// A rescue changes neither stamp nor words: the item that memory had in the original goes to the copy, and its key leads there with the
+/// stamp with which it led to the original.
+pub fn rescues_keep_items()
+    ensures { RescuesKeepItems }
 {}

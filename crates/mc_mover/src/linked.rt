@@ -6,16 +6,16 @@ ghost use Rattle.mc_pages.specs.Moves.{is_held_up};
 ghost use Rattle.mc_pages.specs.SlabState.{class_at, class_of_page};
 ghost use Rattle.mc_stripe.specs.StripeState.{place_of};
 ghost use Rattle.mc_core.specs.Chunks.{is_moving_page};
-ghost use Rattle.mc_core.specs.Head.{is_dead};
 ghost use Rattle.mc_core.specs.Holdings.{has_fresh};
 ghost use Rattle.mc_core.specs.Looks.{was_linked};
-ghost use Rattle.mc_core.specs.Seen.{seen_head};
 ghost use Rattle.mc_core.specs.State.{has_chunk, is_class};
 ghost use Rattle.mc_words.specs.Arenas.{IsHandOf, setup_of, view};
 ghost use Rattle.mc_words.specs.Condemning.{stripe_read};
 ghost use Rattle.mc_words.specs.Idle.{has_no_stripes};
 ghost use Rattle.mc_words.specs.Lent.{IsLentStripe};
+ghost use Rattle.mc_words.specs.Observers.{locks_of, slabs_lent, stripe_lent, stripe_number};
 ghost use Rattle.mc_words.specs.Out.{without_stripe};
+ghost use Rattle.mc_mover.specs.Acting.{Acts, ActsOnStripe, HasSlabs, SeesDead};
 ghost use Rattle.mc_mover.specs.Linked.{LacksCall, OnlyGives, SavesAs, VisitsLinked};
 
 use crate::saving::{evict, rescue};
@@ -38,23 +38,23 @@ pub(crate) fn visit_linked(
     requires arena { IsHandOf arena.now hand.old }
     requires near { has_chunk (setup_of arena.now).table chunk ≡ true }
     requires class { is_class (setup_of arena.now).table class ≡ true }
-    requires held { (view hand.old).slabs ≡ Some held.old.shared }
-    requires own { class_of_page held.old.shared chunk.page ≡ class }
-    requires moving { is_moving_page held.old.shared chunk.page ≡ true }
-    requires cut { is_cut held.old.shared class chunk ≡ true }
+    requires held { HasSlabs hand.old held.old }
+    requires own { class_of_page (slabs_lent held.old) chunk.page ≡ class }
+    requires moving { is_moving_page (slabs_lent held.old) chunk.page ≡ true }
+    requires cut { is_cut (slabs_lent held.old) class chunk ≡ true }
     requires linked { was_linked (view hand.old).row.looks chunk ≡ true }
     requires one { has_no_stripes (view hand.old) ≡ true }
     requires fresh { has_fresh (view hand.old).row.holdings ≡ false }
     requires few { length (view hand.old).row.holdings ≤ 255 }
     ensures arena { IsHandOf arena.now hand.new }
-    ensures locks { hand.new.locks ≡ hand.old.locks }
-    ensures held { (view hand.new).slabs ≡ Some held.new.shared }
-    ensures visits { IfOk result (λ found. VisitsLinked hand.old.number class chunk unheld found (view hand.old) held.old.shared (view hand.new) held.new.shared) }
-    ensures clears { IfOk result (λ found. is_held_up found ≡ false → is_cleared held.new.shared class chunk ≡ true) }
-    ensures lacks { OnErr result (LacksCall chunk unheld (view hand.old) held.old.shared (view hand.new) held.new.shared) }
-    ensures moving { held.new.shared.moving ≡ held.old.shared.moving }
-    ensures uncut { held.new.shared.uncut ≡ held.old.shared.uncut }
-    ensures per_page { (class_at held.new.shared class).per_page ≡ (class_at held.old.shared class).per_page }
+    ensures locks { locks_of hand.new ≡ locks_of hand.old }
+    ensures held { HasSlabs hand.new held.new }
+    ensures visits { IfOk result (λ found. Acts (λ number. VisitsLinked number class chunk unheld found) hand.old held.old hand.new held.new) }
+    ensures clears { IfOk result (λ found. is_held_up found ≡ false → is_cleared (slabs_lent held.new) class chunk ≡ true) }
+    ensures lacks { OnErr result (Acts (λ number. LacksCall chunk unheld) hand.old held.old hand.new held.new) }
+    ensures moving { (slabs_lent held.new).moving ≡ (slabs_lent held.old).moving }
+    ensures uncut { (slabs_lent held.new).uncut ≡ (slabs_lent held.old).uncut }
+    ensures per_page { (class_at (slabs_lent held.new) class).per_page ≡ (class_at (slabs_lent held.old) class).per_page }
     ensures holdings { (view hand.new).row.holdings ≡ (view hand.old).row.holdings }
     ensures ids { (view hand.new).row.ids ≡ (view hand.old).row.ids }
 {
@@ -75,8 +75,8 @@ pub(crate) fn visit_linked(
 
 // Whether the key leads to the chunk.
 fn leads_to(held: &StripeHeld, key: Key, chunk: ChunkId) -> bool
-    ensures leads { result ≡ true → (stamp : ℕ) × (place_of held.now.stripe.state key ≡ Some (chunk, stamp)) }
-    ensures other { result ≡ false → option_map (λ place. place.0) (place_of held.now.stripe.state key) ≢ Some chunk }
+    ensures leads { result ≡ true → (stamp : ℕ) × (place_of (stripe_lent held.now).state key ≡ Some (chunk, stamp)) }
+    ensures other { result ≡ false → option_map (λ place. place.0) (place_of (stripe_lent held.now).state key) ≢ Some chunk }
 {
     match held.stripe().find(key) {
         Some((found, _)) => found == chunk,
@@ -98,26 +98,27 @@ fn save(
     requires arena { IsHandOf arena.now hand.old }
     requires near { has_chunk (setup_of arena.now).table chunk ≡ true }
     requires class { is_class (setup_of arena.now).table class ≡ true }
-    requires slabs { (view hand.old).slabs ≡ Some slabs.old.shared }
-    requires lent { IsLentStripe (view hand.old) stripe.number stripe.stripe }
-    requires inside { stripe.number < (setup_of arena.now).config.stripes }
-    requires key { stripe_read (view hand.old) chunk ≡ Some stripe.number }
-    requires leads { (key : ℕ) × (stamp : ℕ) × (place_of stripe.stripe.state key ≡ Some (chunk, stamp)) }
-    requires own { class_of_page slabs.old.shared chunk.page ≡ class }
-    requires moving { is_moving_page slabs.old.shared chunk.page ≡ true }
+    requires slabs { HasSlabs hand.old slabs.old }
+    requires lent { IsLentStripe (view hand.old) (stripe_number stripe) (stripe_lent stripe) }
+    requires inside { stripe_number stripe < (setup_of arena.now).config.stripes }
+    requires key { stripe_read (view hand.old) chunk ≡ Some (stripe_number stripe) }
+    requires leads { (key : ℕ) × (stamp : ℕ) × (place_of (stripe_lent stripe).state key ≡ Some (chunk, stamp)) }
+    requires own { class_of_page (slabs_lent slabs.old) chunk.page ≡ class }
+    requires moving { is_moving_page (slabs_lent slabs.old) chunk.page ≡ true }
     requires linked { was_linked (view hand.old).row.looks chunk ≡ true }
     requires fresh { has_fresh (view hand.old).row.holdings ≡ false }
     requires few { length (view hand.old).row.holdings ≤ 255 }
     ensures arena { IsHandOf arena.now hand.new }
-    ensures locks { hand.new.locks ≡ without_stripe hand.old.locks }
-    ensures slabs { (view hand.new).slabs ≡ Some slabs.new.shared }
-    ensures saves { IfOk result (λ found. SavesAs hand.old.number class chunk found stripe.number stripe.stripe (view hand.old) slabs.old.shared (view hand.new) slabs.new.shared) }
-    ensures dead { IfOk result (λ found. is_held_up found ≡ false → option_map is_dead (seen_head (view hand.new).row.looks chunk) ≡ Some true) }
-    ensures lacks { OnErr result (OnlyGives stripe.number stripe.stripe (view hand.old) slabs.old.shared (view hand.new) slabs.new.shared) }
-    ensures moving { slabs.new.shared.moving ≡ slabs.old.shared.moving }
-    ensures owners { slabs.new.shared.owners ≡ slabs.old.shared.owners }
-    ensures uncut { slabs.new.shared.uncut ≡ slabs.old.shared.uncut }
-    ensures per_page { (class_at slabs.new.shared class).per_page ≡ (class_at slabs.old.shared class).per_page }
+    ensures locks { locks_of hand.new ≡ without_stripe (locks_of hand.old) }
+    ensures slabs { HasSlabs hand.new slabs.new }
+    ensures saves { IfOk result (λ found. ActsOnStripe (λ number. SavesAs number class chunk found) hand.old stripe slabs.old hand.new slabs.new) }
+    ensures dead { IfOk result (λ found. is_held_up found ≡ false → SeesDead hand.new chunk) }
+    ensures lacks { OnErr result (ActsOnStripe (λ number. OnlyGives) hand.old stripe slabs.old hand.new slabs.new) }
+    ensures unready { OnErr result ((stripe_lent stripe).ready ≡ false) }
+    ensures moving { (slabs_lent slabs.new).moving ≡ (slabs_lent slabs.old).moving }
+    ensures owners { (slabs_lent slabs.new).owners ≡ (slabs_lent slabs.old).owners }
+    ensures uncut { (slabs_lent slabs.new).uncut ≡ (slabs_lent slabs.old).uncut }
+    ensures per_page { (class_at (slabs_lent slabs.new) class).per_page ≡ (class_at (slabs_lent slabs.old) class).per_page }
     ensures holdings { (view hand.new).row.holdings ≡ (view hand.old).row.holdings }
     ensures ids { (view hand.new).row.ids ≡ (view hand.old).row.ids }
 {

@@ -1,9 +1,11 @@
 //! Moves that begin, and the mode of who begins them.
-ghost use Rattle.std.specs.Prelude.{◌≡◌, ◌≤◌, true};
+ghost use Rattle.std.specs.Prelude.{◌≡◌, ◌≤◌};
 ghost use Rattle.mc_words.specs.Arenas.{IsHandOf, view};
-ghost use Rattle.mc_words.specs.Doing.{HoldsSlabs};
-ghost use Rattle.mc_words.specs.Idle.{is_unlocked};
+ghost use Rattle.mc_words.specs.Observers.{locks_of, number_of};
+ghost use Rattle.mc_words.specs.Ready.{IsReady};
 ghost use Rattle.mc_words.specs.Reassigning.{Reassigns};
+ghost use Rattle.mc_words.specs.Refs.{KeepsRefs};
+ghost use Rattle.mc_mover.specs.Acting.{ActsOnce};
 ghost use Rattle.mc_mover.specs.Reassigning.{SetsMode};
 
 use mc_pages::Reassign;
@@ -25,11 +27,15 @@ pub fn reassign<R: Wait>(
     dst: u64,
 ) -> Result<(), Reassign>
     requires arena { IsHandOf arena.now hand.old }
-    requires unlocked { is_unlocked (view hand.old) ≡ true }
+    requires ready { IsReady (view hand.old) }
     ensures arena { IsHandOf arena.now hand.new }
-    ensures locks { hand.new.locks ≡ hand.old.locks }
-    ensures reassigns { HoldsSlabs (Reassigns hand.old.number src dst result) (view hand.old) (view hand.new) }
+    ensures ready { IsReady (view hand.new) }
+    ensures locks { locks_of hand.new ≡ locks_of hand.old }
+    ensures number { number_of hand.new ≡ number_of hand.old }
+    ensures reassigns { ActsOnce (λ number. Reassigns number src dst result) hand.old hand.new }
     ensures holdings { (view hand.new).row.holdings ≡ (view hand.old).row.holdings }
+    ensures keeps { KeepsRefs (view hand.old) (view hand.new) }
+    ensures unsaid { (view hand.new).row.knows.said ≡ (view hand.old).row.knows.said }
 {
     let mut held = arena.lock_slabs(rt, hand);
     let answer = arena.begin_move(hand, &mut held, src, dst);
@@ -41,12 +47,16 @@ pub fn reassign<R: Wait>(
 /// waits for the lock of the slabs, and for no other.
 pub fn set_mode<R: Wait>(rt: &R, arena: &Arena, hand: &mut Hand, mode: u64)
     requires arena { IsHandOf arena.now hand.old }
-    requires unlocked { is_unlocked (view hand.old) ≡ true }
+    requires ready { IsReady (view hand.old) }
     requires mode { mode ≤ 2 }
     ensures arena { IsHandOf arena.now hand.new }
-    ensures locks { hand.new.locks ≡ hand.old.locks }
-    ensures sets { HoldsSlabs (SetsMode hand.old.number mode) (view hand.old) (view hand.new) }
+    ensures ready { IsReady (view hand.new) }
+    ensures locks { locks_of hand.new ≡ locks_of hand.old }
+    ensures number { number_of hand.new ≡ number_of hand.old }
+    ensures sets { ActsOnce (λ number. SetsMode number mode) hand.old hand.new }
     ensures holdings { (view hand.new).row.holdings ≡ (view hand.old).row.holdings }
+    ensures keeps { KeepsRefs (view hand.old) (view hand.new) }
+    ensures unsaid { (view hand.new).row.knows.said ≡ (view hand.old).row.knows.said }
 {
     let mut held = arena.lock_slabs(rt, hand);
     arena.set_automove(hand, &mut held, mode);

@@ -1,21 +1,19 @@
 //! Items of the moving page that are taken to another chunk of their class, or evicted where there is none.
-ghost use Rattle.std.specs.Prelude.{◌≡◌, ◌<◌, ℕ, true, false, slice_index_or, None, Some, OnOk, OnErr};
-ghost use Rattle.std.specs.Option.{option_map};
+ghost use Rattle.std.specs.Prelude.{◌≡◌, ◌<◌, true, false, None, Some, OnOk, OnErr};
 ghost use Rattle.mc_pages.specs.Moves.{is_held_up};
 ghost use Rattle.mc_pages.specs.SlabState.{class_of_page};
 ghost use Rattle.mc_core.specs.Chunks.{is_moving_page};
 ghost use Rattle.mc_core.specs.Evictions.{has_copy};
-ghost use Rattle.mc_core.specs.Head.{is_dead};
 ghost use Rattle.mc_core.specs.Holdings.{holding_of, is_of, lose};
 ghost use Rattle.mc_core.specs.Looks.{was_linked};
-ghost use Rattle.mc_core.specs.Seen.{seen_head};
 ghost use Rattle.mc_core.specs.State.{has_chunk, room_in};
 ghost use Rattle.mc_words.specs.Arenas.{IsHandOf, setup_of, view};
-ghost use Rattle.mc_words.specs.Condemning.{knows_reason, stripe_read};
+ghost use Rattle.mc_words.specs.Condemning.{stripe_read};
 ghost use Rattle.mc_words.specs.Fresh.{IsFreshOf};
+ghost use Rattle.mc_words.specs.Observers.{fresh_chunk, fresh_room, locks_of, slabs_lent, stripe_lent, stripe_number};
 ghost use Rattle.mc_words.specs.Out.{without_stripe};
-ghost use Rattle.mc_words.specs.Views.{copy_holding};
-ghost use Rattle.mc_mover.specs.Saving.{FailsToMove, GivesEvicted, GivesRescued, MovesItem};
+ghost use Rattle.mc_mover.specs.Acting.{ActsOnStripe, EvictsAs, HasBlankCopy, HasSlabs, HasStripe, KnowsReason, MovesInto, RescuesAs, SeesDead};
+ghost use Rattle.mc_mover.specs.Saving.{FailsToMove};
 
 use crate::copying::copy_item;
 use mc_pages::{ChunkId, Found};
@@ -32,20 +30,20 @@ pub(crate) fn evict(
 ) -> Found
     requires arena { IsHandOf arena.now hand.old }
     requires near { has_chunk (setup_of arena.now).table chunk ≡ true }
-    requires slabs { (view hand.old).slabs ≡ Some slabs.old.shared }
-    requires inside { stripe.number < (setup_of arena.now).config.stripes }
-    requires stripe { slice_index_or (view hand.old).stripes stripe.number None ≡ Some stripe.stripe }
-    requires ready { stripe.stripe.ready ≡ true }
-    requires empty { stripe.stripe.state.aside ≡ None }
-    requires key { stripe_read (view hand.old) chunk ≡ Some stripe.number }
-    requires reason { knows_reason (setup_of arena.now).table slabs.old.shared (view hand.old).row.looks (view hand.old).row.holdings chunk ≡ true }
+    requires slabs { HasSlabs hand.old slabs.old }
+    requires inside { stripe_number stripe < (setup_of arena.now).config.stripes }
+    requires stripe { HasStripe hand.old stripe }
+    requires ready { (stripe_lent stripe).ready ≡ true }
+    requires empty { (stripe_lent stripe).state.aside ≡ None }
+    requires key { stripe_read (view hand.old) chunk ≡ Some (stripe_number stripe) }
+    requires reason { KnowsReason (setup_of arena.now) hand.old slabs.old chunk }
     requires no_copy { has_copy (view hand.old).row.holdings chunk ≡ false }
     ensures arena { IsHandOf arena.now hand.new }
-    ensures locks { hand.new.locks ≡ without_stripe hand.old.locks }
-    ensures slabs { (view hand.new).slabs ≡ Some slabs.new.shared }
+    ensures locks { locks_of hand.new ≡ without_stripe (locks_of hand.old) }
+    ensures slabs { HasSlabs hand.new slabs.new }
     ensures same_slabs { slabs.new ≡ slabs.old }
-    ensures evicts { GivesEvicted hand.old.number stripe.number stripe.stripe chunk result (view hand.old) (view hand.new) }
-    ensures dead { is_held_up result ≡ false → option_map is_dead (seen_head (view hand.new).row.looks chunk) ≡ Some true }
+    ensures evicts { ActsOnStripe (EvictsAs chunk result) hand.old stripe slabs.old hand.new slabs.new }
+    ensures dead { is_held_up result ≡ false → SeesDead hand.new chunk }
     ensures holdings { (view hand.new).row.holdings ≡ (view hand.old).row.holdings }
     ensures ids { (view hand.new).row.ids ≡ (view hand.old).row.ids }
 {
@@ -70,26 +68,26 @@ pub(crate) fn rescue(
 ) -> Found
     requires arena { IsHandOf arena.now hand.old }
     requires near { has_chunk (setup_of arena.now).table chunk ≡ true }
-    requires near_copy { has_chunk (setup_of arena.now).table fresh.chunk ≡ true }
-    requires slabs { (view hand.old).slabs ≡ Some slabs.old.shared }
-    requires inside { stripe.number < (setup_of arena.now).config.stripes }
-    requires stripe { slice_index_or (view hand.old).stripes stripe.number None ≡ Some stripe.stripe }
-    requires ready { stripe.stripe.ready ≡ true }
-    requires empty { stripe.stripe.state.aside ≡ None }
-    requires key { stripe_read (view hand.old) chunk ≡ Some stripe.number }
-    requires moving { is_moving_page slabs.old.shared chunk.page ≡ true }
+    requires near_copy { has_chunk (setup_of arena.now).table (fresh_chunk fresh) ≡ true }
+    requires slabs { HasSlabs hand.old slabs.old }
+    requires inside { stripe_number stripe < (setup_of arena.now).config.stripes }
+    requires stripe { HasStripe hand.old stripe }
+    requires ready { (stripe_lent stripe).ready ≡ true }
+    requires empty { (stripe_lent stripe).state.aside ≡ None }
+    requires key { stripe_read (view hand.old) chunk ≡ Some (stripe_number stripe) }
+    requires moving { is_moving_page (slabs_lent slabs.old) chunk.page ≡ true }
     requires linked { was_linked (view hand.old).row.looks chunk ≡ true }
-    requires fresh { IsFreshOf (view hand.old) fresh.chunk fresh.room }
-    requires copy { (issue : ℕ) × (holding_of fresh.chunk (view hand.old).row.holdings ≡ Some (copy_holding chunk fresh.chunk issue fresh.room)) }
-    requires alone { holding_of fresh.chunk (lose (is_of fresh.chunk) (view hand.old).row.holdings) ≡ None }
-    requires only { has_copy (lose (is_of fresh.chunk) (view hand.old).row.holdings) chunk ≡ false }
-    requires room { fresh.room ≡ room_in (setup_of arena.now).table (class_of_page slabs.old.shared chunk.page) }
+    requires fresh { IsFreshOf (view hand.old) (fresh_chunk fresh) (fresh_room fresh) }
+    requires copy { HasBlankCopy hand.old chunk fresh }
+    requires alone { holding_of (fresh_chunk fresh) (lose (is_of (fresh_chunk fresh)) (view hand.old).row.holdings) ≡ None }
+    requires only { has_copy (lose (is_of (fresh_chunk fresh)) (view hand.old).row.holdings) chunk ≡ false }
+    requires room { fresh_room fresh ≡ room_in (setup_of arena.now).table (class_of_page (slabs_lent slabs.old) chunk.page) }
     ensures arena { IsHandOf arena.now hand.new }
-    ensures locks { hand.new.locks ≡ without_stripe hand.old.locks }
-    ensures slabs { (view hand.new).slabs ≡ Some slabs.new.shared }
-    ensures rescues { GivesRescued hand.old.number stripe.number stripe.stripe chunk fresh.chunk fresh.room result (view hand.old) slabs.old.shared (view hand.new) slabs.new.shared }
-    ensures dead { is_held_up result ≡ false → option_map is_dead (seen_head (view hand.new).row.looks chunk) ≡ Some true }
-    ensures holdings { (view hand.new).row.holdings ≡ lose (is_of fresh.chunk) (view hand.old).row.holdings }
+    ensures locks { locks_of hand.new ≡ without_stripe (locks_of hand.old) }
+    ensures slabs { HasSlabs hand.new slabs.new }
+    ensures rescues { ActsOnStripe (RescuesAs chunk fresh result) hand.old stripe slabs.old hand.new slabs.new }
+    ensures dead { is_held_up result ≡ false → SeesDead hand.new chunk }
+    ensures holdings { (view hand.new).row.holdings ≡ lose (is_of (fresh_chunk fresh)) (view hand.old).row.holdings }
     ensures ids { (view hand.new).row.ids ≡ (view hand.old).row.ids }
 {
     let copy = fresh.chunk();
@@ -118,29 +116,29 @@ pub(crate) fn move_item(
 ) -> Result<(), Moved>
     requires arena { IsHandOf arena.now hand.old }
     requires near { has_chunk (setup_of arena.now).table chunk ≡ true }
-    requires slabs { (view hand.old).slabs ≡ Some slabs.old.shared }
-    requires stripe { slice_index_or (view hand.old).stripes stripe.old.number None ≡ Some stripe.old.stripe }
-    requires ready { stripe.old.stripe.ready ≡ true }
-    requires empty { stripe.old.stripe.state.aside ≡ None }
-    requires key { stripe_read (view hand.old) chunk ≡ Some stripe.old.number }
-    requires moving { is_moving_page slabs.old.shared chunk.page ≡ true }
+    requires slabs { HasSlabs hand.old slabs.old }
+    requires stripe { HasStripe hand.old stripe.old }
+    requires ready { (stripe_lent stripe.old).ready ≡ true }
+    requires empty { (stripe_lent stripe.old).state.aside ≡ None }
+    requires key { stripe_read (view hand.old) chunk ≡ Some (stripe_number stripe.old) }
+    requires moving { is_moving_page (slabs_lent slabs.old) chunk.page ≡ true }
     requires linked { was_linked (view hand.old).row.looks chunk ≡ true }
-    requires fresh { IsFreshOf (view hand.old) fresh.chunk fresh.room }
-    requires copy { (issue : ℕ) × (holding_of fresh.chunk (view hand.old).row.holdings ≡ Some (copy_holding chunk fresh.chunk issue fresh.room)) }
-    requires alone { holding_of fresh.chunk (lose (is_of fresh.chunk) (view hand.old).row.holdings) ≡ None }
-    requires only { has_copy (lose (is_of fresh.chunk) (view hand.old).row.holdings) chunk ≡ false }
-    requires room { fresh.room ≡ room_in (setup_of arena.now).table (class_of_page slabs.old.shared chunk.page) }
+    requires fresh { IsFreshOf (view hand.old) (fresh_chunk fresh) (fresh_room fresh) }
+    requires copy { HasBlankCopy hand.old chunk fresh }
+    requires alone { holding_of (fresh_chunk fresh) (lose (is_of (fresh_chunk fresh)) (view hand.old).row.holdings) ≡ None }
+    requires only { has_copy (lose (is_of (fresh_chunk fresh)) (view hand.old).row.holdings) chunk ≡ false }
+    requires room { fresh_room fresh ≡ room_in (setup_of arena.now).table (class_of_page (slabs_lent slabs.old) chunk.page) }
     ensures arena { IsHandOf arena.now hand.new }
-    ensures locks { hand.new.locks ≡ hand.old.locks }
-    ensures slabs { (view hand.new).slabs ≡ Some slabs.new.shared }
+    ensures locks { locks_of hand.new ≡ locks_of hand.old }
+    ensures slabs { HasSlabs hand.new slabs.new }
     ensures same_slabs { slabs.new ≡ slabs.old }
-    ensures stripe { slice_index_or (view hand.new).stripes stripe.new.number None ≡ Some stripe.new.stripe }
-    ensures number { stripe.new.number ≡ stripe.old.number }
-    ensures empty { stripe.new.stripe.state.aside ≡ None }
-    ensures moves { OnOk result (MovesItem hand.old.number stripe.old.number chunk fresh.chunk fresh.room stripe.old.stripe (view hand.old) stripe.new.stripe (view hand.new)) }
-    ensures dead { OnOk result (option_map is_dead (seen_head (view hand.new).row.looks chunk) ≡ Some true) }
-    ensures fails { OnErr result (FailsToMove chunk fresh.chunk (view hand.old) (view hand.new) × (stripe.new ≡ stripe.old)) }
-    ensures holdings { (view hand.new).row.holdings ≡ lose (is_of fresh.chunk) (view hand.old).row.holdings }
+    ensures stripe { HasStripe hand.new stripe.new }
+    ensures number { stripe_number stripe.new ≡ stripe_number stripe.old }
+    ensures empty { (stripe_lent stripe.new).state.aside ≡ None }
+    ensures moves { OnOk result (MovesInto chunk fresh hand.old stripe.old hand.new stripe.new) }
+    ensures dead { OnOk result (SeesDead hand.new chunk) }
+    ensures fails { OnErr result (FailsToMove chunk (fresh_chunk fresh) (view hand.old) (view hand.new) × (stripe.new ≡ stripe.old)) }
+    ensures holdings { (view hand.new).row.holdings ≡ lose (is_of (fresh_chunk fresh)) (view hand.old).row.holdings }
     ensures ids { (view hand.new).row.ids ≡ (view hand.old).row.ids }
 {
     let mut fresh = fresh;

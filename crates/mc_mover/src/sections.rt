@@ -3,8 +3,11 @@ ghost use Rattle.std.specs.Prelude.{◌≡◌, ◌<◌, ◌≤◌, true, false, 
 ghost use Rattle.mc_pages.specs.Moves.{chunk_at_position, moved_on};
 ghost use Rattle.mc_pages.specs.SlabState.{class_at};
 ghost use Rattle.mc_core.specs.Holdings.{has_fresh};
-ghost use Rattle.mc_words.specs.Arenas.{IsHandOf, setup_of, view};
+ghost use Rattle.mc_words.specs.Arenas.{IsHandOf, view};
 ghost use Rattle.mc_words.specs.Idle.{has_no_stripes};
+ghost use Rattle.mc_words.specs.Observers.{locks_of, slabs_lent};
+ghost use Rattle.mc_mover.specs.Acting.{Acts, HasSlabs};
+ghost use Rattle.mc_mover.specs.Answering.{RunsStill};
 ghost use Rattle.mc_mover.specs.Turning.{LacksMemory, LooksFrom, Section};
 ghost use Rattle.mc_mover.specs.Visiting.{LacksCall};
 
@@ -22,20 +25,20 @@ fn section(
     moving: Moving,
 ) -> Result<Found, NoMemory>
     requires arena { IsHandOf arena.now hand.old }
-    requires held { (view hand.old).slabs ≡ Some held.old.shared }
-    requires runs { held.old.shared.moving ≡ Some moving }
-    requires within { moving.at < (class_at held.old.shared moving.src).per_page }
-    requires whole { held.old.shared.uncut ≡ None }
+    requires held { HasSlabs hand.old held.old }
+    requires runs { (slabs_lent held.old).moving ≡ Some moving }
+    requires within { moving.at < (class_at (slabs_lent held.old) moving.src).per_page }
+    requires whole { (slabs_lent held.old).uncut ≡ None }
     requires one { has_no_stripes (view hand.old) ≡ true }
     requires fresh { has_fresh (view hand.old).row.holdings ≡ false }
     requires few { length (view hand.old).row.holdings ≤ 255 }
     ensures arena { IsHandOf arena.now hand.new }
-    ensures locks { hand.new.locks ≡ hand.old.locks }
-    ensures held { (view hand.new).slabs ≡ Some held.new.shared }
-    ensures section { IfOk result (λ found. Section hand.old.number found (view hand.old) held.old.shared (view hand.new) held.new.shared) }
-    ensures lacks { OnErr result (LacksCall (chunk_at_position moving) (view hand.old) held.old.shared (view hand.new) held.new.shared) }
-    ensures moves { IfOk result (λ found. held.new.shared.moving ≡ Some (moved_on moving found)) }
-    ensures uncut { held.new.shared.uncut ≡ held.old.shared.uncut }
+    ensures locks { locks_of hand.new ≡ locks_of hand.old }
+    ensures held { HasSlabs hand.new held.new }
+    ensures section { IfOk result (λ found. Acts (λ number. Section number found) hand.old held.old hand.new held.new) }
+    ensures lacks { OnErr result (Acts (λ number. LacksCall (chunk_at_position moving)) hand.old held.old hand.new held.new) }
+    ensures moves { IfOk result (λ found. (slabs_lent held.new).moving ≡ Some (moved_on moving found)) }
+    ensures uncut { (slabs_lent held.new).uncut ≡ (slabs_lent held.old).uncut }
     ensures holdings { (view hand.new).row.holdings ≡ (view hand.old).row.holdings }
     ensures ids { (view hand.new).row.ids ≡ (view hand.old).row.ids }
 {
@@ -55,19 +58,20 @@ pub(crate) fn sections(
     held: &mut SlabsHeld,
 ) -> Result<Counts, NoMemory>
     requires arena { IsHandOf arena.now hand.old }
-    requires held { (view hand.old).slabs ≡ Some held.old.shared }
-    requires runs { is_some held.old.shared.moving ≡ true }
-    requires whole { held.old.shared.uncut ≡ None }
+    requires held { HasSlabs hand.old held.old }
+    requires runs { is_some (slabs_lent held.old).moving ≡ true }
+    requires whole { (slabs_lent held.old).uncut ≡ None }
     requires one { has_no_stripes (view hand.old) ≡ true }
     requires fresh { has_fresh (view hand.old).row.holdings ≡ false }
     requires few { length (view hand.old).row.holdings ≤ 255 }
     ensures arena { IsHandOf arena.now hand.new }
-    ensures locks { hand.new.locks ≡ hand.old.locks }
-    ensures held { (view hand.new).slabs ≡ Some held.new.shared }
-    ensures looks { IfOk result (λ counts. LooksFrom hand.old.number counts (view hand.old) held.old.shared (view hand.new) held.new.shared) }
-    ensures runs { IfOk result (λ counts. is_some held.new.shared.moving ≡ true) }
-    ensures lacks { OnErr result (LacksMemory hand.old.number (view hand.old) held.old.shared (view hand.new) held.new.shared) }
-    ensures uncut { held.new.shared.uncut ≡ held.old.shared.uncut }
+    ensures locks { locks_of hand.new ≡ locks_of hand.old }
+    ensures held { HasSlabs hand.new held.new }
+    ensures looks { IfOk result (λ counts. Acts (λ number. LooksFrom number counts) hand.old held.old hand.new held.new) }
+    ensures runs { IfOk result (λ counts. is_some (slabs_lent held.new).moving ≡ true) }
+    ensures same_move { IfOk result (λ counts. RunsStill (slabs_lent held.old).moving (slabs_lent held.new).moving) }
+    ensures lacks { OnErr result (Acts LacksMemory hand.old held.old hand.new held.new) }
+    ensures uncut { (slabs_lent held.new).uncut ≡ (slabs_lent held.old).uncut }
     ensures holdings { (view hand.new).row.holdings ≡ (view hand.old).row.holdings }
     ensures ids { (view hand.new).row.ids ≡ (view hand.old).row.ids }
 {

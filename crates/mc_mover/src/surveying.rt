@@ -1,10 +1,12 @@
 //! Surveys of the slab memory, for statistics and for the automover.
-ghost use Rattle.std.specs.Prelude.{◌≡◌, ◌≤◌, [], true, length, map, vec_capacity, None, Some, IfOk, OnErr};
+ghost use Rattle.std.specs.Prelude.{◌≡◌, ◌≤◌, [], length, map, vec_capacity, IfOk, OnErr};
 ghost use Rattle.mc_pages.specs.ClassState.{numbers_of};
 ghost use Rattle.mc_words.specs.Arenas.{IsHandOf, view};
-ghost use Rattle.mc_words.specs.Doing.{HoldsSlabs};
-ghost use Rattle.mc_words.specs.Idle.{is_unlocked};
+ghost use Rattle.mc_words.specs.Observers.{locks_of, number_of, slabs_lent};
+ghost use Rattle.mc_words.specs.Ready.{IsReady};
+ghost use Rattle.mc_words.specs.Refs.{KeepsRefs};
 ghost use Rattle.mc_words.specs.Sweeping.{with_seen};
+ghost use Rattle.mc_mover.specs.Acting.{Acts, ActsOnce, HasSlabs};
 ghost use Rattle.mc_mover.specs.Surveying.{IsSurvey, Surveys, SweepsClasses, classes_swept};
 
 use crate::numbers::Survey;
@@ -25,12 +27,16 @@ pub fn survey<R: Wait>(
     sweep: bool,
 ) -> Result<Survey, NoMemory>
     requires arena { IsHandOf arena.now hand.old }
-    requires unlocked { is_unlocked (view hand.old) ≡ true }
+    requires ready { IsReady (view hand.old) }
     ensures arena { IsHandOf arena.now hand.new }
-    ensures locks { hand.new.locks ≡ hand.old.locks }
-    ensures surveys { IfOk result (λ survey. HoldsSlabs (Surveys sweep survey) (view hand.old) (view hand.new)) }
+    ensures ready { IsReady (view hand.new) }
+    ensures locks { locks_of hand.new ≡ locks_of hand.old }
+    ensures number { number_of hand.new ≡ number_of hand.old }
+    ensures surveys { IfOk result (λ survey. ActsOnce (λ number. Surveys sweep survey) hand.old hand.new) }
     ensures no_memory { OnErr result (view hand.new ≡ view hand.old) }
     ensures holdings { (view hand.new).row.holdings ≡ (view hand.old).row.holdings }
+    ensures keeps { KeepsRefs (view hand.old) (view hand.new) }
+    ensures unsaid { (view hand.new).row.knows.said ≡ (view hand.old).row.knows.said }
 {
     let count = arena.classes().count();
     let Ok(room) = Vec::with_capacity(alloc, count as usize) else {
@@ -46,13 +52,13 @@ pub fn survey<R: Wait>(
 // Puts the dead chunks of all classes back, if that is asked for.
 fn sweep_classes(arena: &Arena, hand: &mut Hand, held: &mut SlabsHeld, sweep: bool)
     requires arena { IsHandOf arena.now hand.old }
-    requires held { (view hand.old).slabs ≡ Some held.old.shared }
+    requires held { HasSlabs hand.old held.old }
     ensures arena { IsHandOf arena.now hand.new }
-    ensures locks { hand.new.locks ≡ hand.old.locks }
-    ensures held { (view hand.new).slabs ≡ Some held.new.shared }
-    ensures swept { SweepsClasses (classes_swept sweep held.old.shared) (view hand.old) held.old.shared (view hand.new) held.new.shared }
+    ensures locks { locks_of hand.new ≡ locks_of hand.old }
+    ensures held { HasSlabs hand.new held.new }
+    ensures swept { Acts (λ number. SweepsClasses (classes_swept sweep (slabs_lent held.old))) hand.old held.old hand.new held.new }
     ensures view { view hand.new ≡ with_seen (view hand.old) (view hand.new) }
-    ensures whole { held.new.shared.uncut ≡ held.old.shared.uncut }
+    ensures whole { (slabs_lent held.new).uncut ≡ (slabs_lent held.old).uncut }
 {
     let count = arena.classes().count();
     let most = if sweep { count } else { 0 };

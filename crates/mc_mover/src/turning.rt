@@ -1,11 +1,13 @@
 //! Turns of the mover.
-ghost use Rattle.std.specs.Prelude.{◌≡◌, ◌≢◌, ℕ, ◌≤◌, true, false, length, None, Some, Err, IfOk, OnErr};
+ghost use Rattle.std.specs.Prelude.{◌≡◌, ◌≤◌, true, false, length, None, Err, IfOk, OnErr};
 ghost use Rattle.mc_core.specs.Holdings.{has_fresh};
 ghost use Rattle.mc_words.specs.Arenas.{IsHandOf, view};
-ghost use Rattle.mc_words.specs.Doing.{HoldsSlabs};
-ghost use Rattle.mc_words.specs.Idle.{has_no_stripes, is_unlocked};
-ghost use Rattle.mc_words.specs.Views.{slabs_missed};
-ghost use Rattle.mc_mover.specs.Telling.{TellsAsCounted, TellsOfFewer, counts_in};
+ghost use Rattle.mc_words.specs.Idle.{has_no_stripes};
+ghost use Rattle.mc_words.specs.Observers.{locks_of, number_of, slabs_lent};
+ghost use Rattle.mc_words.specs.Ready.{IsReady};
+ghost use Rattle.mc_words.specs.Refs.{KeepsRefs};
+ghost use Rattle.mc_mover.specs.Acting.{Acts, ActsOnce, FindsSlabsHeld, HasSlabs, TellsTurn, TellsUntilStopped};
+ghost use Rattle.mc_mover.specs.Answering.{AnswersMove, IsAnswerOf};
 ghost use Rattle.mc_mover.specs.Turning.{LacksMemory, Turns};
 
 use crate::counts::{TryTurn, Turn};
@@ -27,16 +29,19 @@ use std::sync::Wait;
 /// done for chunks before it stands.
 pub fn turn<R: Wait>(rt: &R, arena: &Arena, hand: &mut Hand) -> Result<Turn, NoMemory>
     requires arena { IsHandOf arena.now hand.old }
-    requires unlocked { is_unlocked (view hand.old) ≡ true }
-    requires fresh { has_fresh (view hand.old).row.holdings ≡ false }
-    requires few { length (view hand.old).row.holdings ≤ 255 }
+    requires ready { IsReady (view hand.old) }
     ensures arena { IsHandOf arena.now hand.new }
-    ensures locks { hand.new.locks ≡ hand.old.locks }
-    ensures turns { IfOk result (λ turn. HoldsSlabs (Turns hand.old.number turn) (view hand.old) (view hand.new)) }
-    ensures lacks { OnErr result (HoldsSlabs (LacksMemory hand.old.number) (view hand.old) (view hand.new)) }
-    ensures told { IfOk result (λ turn. TellsAsCounted hand.old.number (counts_in turn) (view hand.old) (view hand.new)) }
-    ensures told_before { OnErr result (TellsOfFewer hand.old.number (view hand.old) (view hand.new)) }
+    ensures ready { IsReady (view hand.new) }
+    ensures locks { locks_of hand.new ≡ locks_of hand.old }
+    ensures number { number_of hand.new ≡ number_of hand.old }
+    ensures turns { IfOk result (λ turn. ActsOnce (λ number. Turns number turn) hand.old hand.new) }
+    ensures lacks { OnErr result (ActsOnce LacksMemory hand.old hand.new) }
+    ensures answers { IfOk result (AnswersMove (view hand.new)) }
+    ensures told { IfOk result (TellsTurn hand.old hand.new) }
+    ensures told_before { OnErr result (TellsUntilStopped hand.old hand.new) }
     ensures holdings { (view hand.new).row.holdings ≡ (view hand.old).row.holdings }
+    ensures keeps { KeepsRefs (view hand.old) (view hand.new) }
+    ensures unsaid { (view hand.new).row.knows.said ≡ (view hand.old).row.knows.said }
 {
     let mut held = arena.lock_slabs(rt, hand);
     let answer = turn_held(arena, hand, &mut held);
@@ -47,17 +52,20 @@ pub fn turn<R: Wait>(rt: &R, arena: &Arena, hand: &mut Hand) -> Result<Turn, NoM
 /// The same, but it waits for nobody: `Held` where another hand has the lock of the slabs.
 pub fn try_turn(arena: &Arena, hand: &mut Hand) -> Result<Turn, TryTurn>
     requires arena { IsHandOf arena.now hand.old }
-    requires unlocked { is_unlocked (view hand.old) ≡ true }
-    requires fresh { has_fresh (view hand.old).row.holdings ≡ false }
-    requires few { length (view hand.old).row.holdings ≤ 255 }
+    requires ready { IsReady (view hand.old) }
     ensures arena { IsHandOf arena.now hand.new }
-    ensures locks { hand.new.locks ≡ hand.old.locks }
-    ensures turns { IfOk result (λ turn. HoldsSlabs (Turns hand.old.number turn) (view hand.old) (view hand.new)) }
-    ensures held { result ≡ Err TryTurn.Held → (word : ℕ) × (word ≢ 0) × (view hand.new ≡ slabs_missed word (view hand.old)) }
-    ensures lacks { result ≡ Err TryTurn.NoMemory → HoldsSlabs (LacksMemory hand.old.number) (view hand.old) (view hand.new) }
-    ensures told { IfOk result (λ turn. TellsAsCounted hand.old.number (counts_in turn) (view hand.old) (view hand.new)) }
-    ensures told_before { result ≡ Err TryTurn.NoMemory → TellsOfFewer hand.old.number (view hand.old) (view hand.new) }
+    ensures ready { IsReady (view hand.new) }
+    ensures locks { locks_of hand.new ≡ locks_of hand.old }
+    ensures number { number_of hand.new ≡ number_of hand.old }
+    ensures turns { IfOk result (λ turn. ActsOnce (λ number. Turns number turn) hand.old hand.new) }
+    ensures held { result ≡ Err TryTurn.Held → FindsSlabsHeld hand.old hand.new }
+    ensures lacks { result ≡ Err TryTurn.NoMemory → ActsOnce LacksMemory hand.old hand.new }
+    ensures answers { IfOk result (AnswersMove (view hand.new)) }
+    ensures told { IfOk result (TellsTurn hand.old hand.new) }
+    ensures told_before { result ≡ Err TryTurn.NoMemory → TellsUntilStopped hand.old hand.new }
     ensures holdings { (view hand.new).row.holdings ≡ (view hand.old).row.holdings }
+    ensures keeps { KeepsRefs (view hand.old) (view hand.new) }
+    ensures unsaid { (view hand.new).row.knows.said ≡ (view hand.old).row.knows.said }
 {
     let Ok(mut held) = arena.try_slabs(hand) else {
         return Err(TryTurn::Held);
@@ -73,17 +81,18 @@ pub fn try_turn(arena: &Arena, hand: &mut Hand) -> Result<Turn, TryTurn>
 // A turn, under one hold of the lock of the slabs.
 fn turn_held(arena: &Arena, hand: &mut Hand, held: &mut SlabsHeld) -> Result<Turn, NoMemory>
     requires arena { IsHandOf arena.now hand.old }
-    requires held { (view hand.old).slabs ≡ Some held.old.shared }
-    requires whole { held.old.shared.uncut ≡ None }
+    requires held { HasSlabs hand.old held.old }
+    requires whole { (slabs_lent held.old).uncut ≡ None }
     requires one { has_no_stripes (view hand.old) ≡ true }
     requires fresh { has_fresh (view hand.old).row.holdings ≡ false }
     requires few { length (view hand.old).row.holdings ≤ 255 }
     ensures arena { IsHandOf arena.now hand.new }
-    ensures locks { hand.new.locks ≡ hand.old.locks }
-    ensures held { (view hand.new).slabs ≡ Some held.new.shared }
-    ensures whole { held.new.shared.uncut ≡ None }
-    ensures turns { IfOk result (λ turn. Turns hand.old.number turn (view hand.old) held.old.shared (view hand.new) held.new.shared) }
-    ensures lacks { OnErr result (LacksMemory hand.old.number (view hand.old) held.old.shared (view hand.new) held.new.shared) }
+    ensures locks { locks_of hand.new ≡ locks_of hand.old }
+    ensures held { HasSlabs hand.new held.new }
+    ensures whole { (slabs_lent held.new).uncut ≡ None }
+    ensures turns { IfOk result (λ turn. Acts (λ number. Turns number turn) hand.old held.old hand.new held.new) }
+    ensures answers { IfOk result (λ turn. IsAnswerOf turn (slabs_lent held.old).moving (slabs_lent held.new).moving) }
+    ensures lacks { OnErr result (Acts LacksMemory hand.old held.old hand.new held.new) }
     ensures holdings { (view hand.new).row.holdings ≡ (view hand.old).row.holdings }
 {
     if held.moving().is_none() {

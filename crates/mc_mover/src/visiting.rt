@@ -1,5 +1,5 @@
 //! One chunk of the moving page: what the mover sees there, and what it does.
-ghost use Rattle.std.specs.Prelude.{◌≡◌, ◌≤◌, true, false, length, Some, IfOk, OnErr};
+ghost use Rattle.std.specs.Prelude.{◌≡◌, ◌≤◌, true, false, length, IfOk, OnErr};
 ghost use Rattle.mc_pages.specs.Accounted.{is_cleared, is_cut};
 ghost use Rattle.mc_pages.specs.Moves.{is_held_up};
 ghost use Rattle.mc_pages.specs.SlabState.{class_at, class_of_page};
@@ -8,6 +8,8 @@ ghost use Rattle.mc_core.specs.Holdings.{has_fresh};
 ghost use Rattle.mc_core.specs.State.{has_chunk, is_class};
 ghost use Rattle.mc_words.specs.Arenas.{IsHandOf, setup_of, view};
 ghost use Rattle.mc_words.specs.Idle.{has_no_stripes};
+ghost use Rattle.mc_words.specs.Observers.{locks_of, slabs_lent};
+ghost use Rattle.mc_mover.specs.Acting.{Acts, HasSlabs};
 ghost use Rattle.mc_mover.specs.Visiting.{LacksCall, Visits};
 
 use crate::linked::visit_linked;
@@ -29,22 +31,22 @@ pub(crate) fn visit(
     requires arena { IsHandOf arena.now hand.old }
     requires near { has_chunk (setup_of arena.now).table chunk ≡ true }
     requires class { is_class (setup_of arena.now).table class ≡ true }
-    requires held { (view hand.old).slabs ≡ Some held.old.shared }
-    requires own { class_of_page held.old.shared chunk.page ≡ class }
-    requires moving { is_moving_page held.old.shared chunk.page ≡ true }
-    requires cut { is_cut held.old.shared class chunk ≡ true }
+    requires held { HasSlabs hand.old held.old }
+    requires own { class_of_page (slabs_lent held.old) chunk.page ≡ class }
+    requires moving { is_moving_page (slabs_lent held.old) chunk.page ≡ true }
+    requires cut { is_cut (slabs_lent held.old) class chunk ≡ true }
     requires one { has_no_stripes (view hand.old) ≡ true }
     requires fresh { has_fresh (view hand.old).row.holdings ≡ false }
     requires few { length (view hand.old).row.holdings ≤ 255 }
     ensures arena { IsHandOf arena.now hand.new }
-    ensures locks { hand.new.locks ≡ hand.old.locks }
-    ensures held { (view hand.new).slabs ≡ Some held.new.shared }
-    ensures visits { IfOk result (λ found. Visits hand.old.number class chunk found (view hand.old) held.old.shared (view hand.new) held.new.shared) }
-    ensures clears { IfOk result (λ found. is_held_up found ≡ false → is_cleared held.new.shared class chunk ≡ true) }
-    ensures lacks { OnErr result (LacksCall chunk (view hand.old) held.old.shared (view hand.new) held.new.shared) }
-    ensures moving { held.new.shared.moving ≡ held.old.shared.moving }
-    ensures uncut { held.new.shared.uncut ≡ held.old.shared.uncut }
-    ensures per_page { (class_at held.new.shared class).per_page ≡ (class_at held.old.shared class).per_page }
+    ensures locks { locks_of hand.new ≡ locks_of hand.old }
+    ensures held { HasSlabs hand.new held.new }
+    ensures visits { IfOk result (λ found. Acts (λ number. Visits number class chunk found) hand.old held.old hand.new held.new) }
+    ensures clears { IfOk result (λ found. is_held_up found ≡ false → is_cleared (slabs_lent held.new) class chunk ≡ true) }
+    ensures lacks { OnErr result (Acts (λ number. LacksCall chunk) hand.old held.old hand.new held.new) }
+    ensures moving { (slabs_lent held.new).moving ≡ (slabs_lent held.old).moving }
+    ensures uncut { (slabs_lent held.new).uncut ≡ (slabs_lent held.old).uncut }
+    ensures per_page { (class_at (slabs_lent held.new) class).per_page ≡ (class_at (slabs_lent held.old) class).per_page }
     ensures holdings { (view hand.new).row.holdings ≡ (view hand.old).row.holdings }
     ensures ids { (view hand.new).row.ids ≡ (view hand.old).row.ids }
 {

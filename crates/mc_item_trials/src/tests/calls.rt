@@ -1,10 +1,10 @@
-//! Calls whose conditions are tested when they are made.
-ghost use Rattle.std.specs.Prelude.{◌≡◌, true, Some, IfSome, IfOk};
+//! Calls of hands that may make any.
+ghost use Rattle.std.specs.Prelude.{◌≡◌, true, IfSome, IfOk};
 ghost use Rattle.mc_core.specs.State.{has_chunk};
-ghost use Rattle.mc_words.specs.Arenas.{IsHandOf, setup_of, view};
-ghost use Rattle.mc_words.specs.Idle.{is_unlocked};
-ghost use Rattle.mc_items.specs.ItemRefs.{IsItemRef};
-ghost use Rattle.mc_item_trials.specs.Hands.{AreHandsOf};
+ghost use Rattle.mc_words.specs.Arenas.{setup_of, view};
+ghost use Rattle.mc_items.specs.ItemRefs.{IsItemRef, item_chunk};
+ghost use Rattle.mc_items.specs.Keeping.{HoldsTheSame, HoldsToo};
+ghost use Rattle.mc_item_trials.specs.Hands.{AreHandsOf, HoldsNothing, IsIdleHandOf, IsReadyHandOf};
 
 use super::FOUR_CLASSES;
 use super::words::words_from;
@@ -29,7 +29,7 @@ pub fn opened(alloc: Global, config: &Config, hands: u64) -> Result<(Arena, Vec<
 pub fn next_hand(arena: &Arena, hands: &mut Vec<Hand>) -> Option<Hand>
     requires hands { AreHandsOf arena.now hands.old.items }
     ensures hands { AreHandsOf arena.now hands.new.items }
-    ensures hand { IfSome result (λ hand. IsHandOf arena.now hand) }
+    ensures hand { IfSome result (λ hand. IsIdleHandOf arena.now hand) }
 {
     if hands.is_empty() {
         None
@@ -42,7 +42,7 @@ pub fn next_hand(arena: &Arena, hands: &mut Vec<Hand>) -> Option<Hand>
 pub fn next_two(arena: &Arena, hands: &mut Vec<Hand>) -> Option<(Hand, Hand)>
     requires hands { AreHandsOf arena.now hands.old.items }
     ensures hands { AreHandsOf arena.now hands.new.items }
-    ensures two { IfSome result (λ two. IsHandOf arena.now two.0 × IsHandOf arena.now two.1) }
+    ensures two { IfSome result (λ two. IsIdleHandOf arena.now two.0 × IsIdleHandOf arena.now two.1) }
 {
     let first = next_hand(arena, hands)?;
     let second = next_hand(arena, hands)?;
@@ -51,7 +51,7 @@ pub fn next_two(arena: &Arena, hands: &mut Vec<Hand>) -> Option<(Hand, Hand)>
 
 /// An arena of four classes, and its two hands.
 pub fn opened_two(alloc: Global) -> Result<(Arena, Hand, Hand), Fail>
-    ensures hands { IfOk result (λ made. IsHandOf made.0 made.1 × IsHandOf made.0 made.2) }
+    ensures hands { IfOk result (λ made. IsReadyHandOf made.0 made.1 × IsReadyHandOf made.0 made.2) }
 {
     let (arena, mut hands) = opened(alloc, &FOUR_CLASSES, 2)?;
     let Some((hand, other)) = next_two(&arena, &mut hands) else {
@@ -69,9 +69,10 @@ fn has_chunk(arena: &Arena, chunk: ChunkId) -> bool
 }
 
 /// The header of the chunk. None where there is no such chunk.
+#[tactic(auto, using(crate::proofs::Kept::ready_behind_head))]
 pub fn header(arena: &Arena, hand: &mut Hand, chunk: ChunkId) -> Option<u64>
-    requires arena { IsHandOf arena.now hand.old }
-    ensures arena { IsHandOf arena.now hand.new }
+    requires arena { IsReadyHandOf arena.now hand.old }
+    ensures arena { IsReadyHandOf arena.now hand.new }
 {
     if !has_chunk(arena, chunk) {
         return None;
@@ -79,24 +80,22 @@ pub fn header(arena: &Arena, hand: &mut Hand, chunk: ChunkId) -> Option<u64>
     Some(arena.head(hand, chunk))
 }
 
-/// Stores these words under the key. None where the hand may not.
+/// Stores these words under the key.
 pub fn set_words<R: Wait>(
     rt: &R,
     arena: &Arena,
     hand: &mut Hand,
     key: Key,
     words: &[u64],
-) -> Option<Result<Stamp, SetError>>
-    requires arena { IsHandOf arena.now hand.old }
-    ensures arena { IsHandOf arena.now hand.new }
+) -> Result<Stamp, SetError>
+    requires arena { IsReadyHandOf arena.now hand.old }
+    ensures arena { IsReadyHandOf arena.now hand.new }
+    ensures holdings { HoldsTheSame (view hand.old) (view hand.new) }
 {
-    if !hand.unlocked() || hand.has_fresh() || hand.refs() > 255 {
-        return None;
-    }
-    Some(set(rt, arena, hand, key, words))
+    set(rt, arena, hand, key, words)
 }
 
-/// The refusal of a set of so many words from 0 on, if there is one. None, too, where the hand may not.
+/// The refusal of a set of so many words from 0 on, if there is one.
 pub fn refusal_of_set<R: Wait>(
     rt: &R,
     alloc: Global,
@@ -105,14 +104,11 @@ pub fn refusal_of_set<R: Wait>(
     key: Key,
     len: u64,
 ) -> Result<Option<SetError>, AllocError>
-    requires arena { IsHandOf arena.now hand.old }
-    ensures arena { IsHandOf arena.now hand.new }
+    requires arena { IsReadyHandOf arena.now hand.old }
+    ensures arena { IsReadyHandOf arena.now hand.new }
 {
     let words = words_from(alloc, 0, len)?;
-    match set_words(rt, arena, hand, key, &words) {
-        Some(Err(error)) => Ok(Some(error)),
-        _ => Ok(None),
-    }
+    Ok(set_words(rt, arena, hand, key, &words).err())
 }
 
 /// How a key is looked up: by the call that waits, or by that which doesn't.
@@ -127,14 +123,15 @@ pub const GETTERS: [Getter; 2] = [Getter::Get, Getter::TryGet];
 
 /// A reference to the key's item, by the call that doesn't wait. None where there is none, or it was refused.
 fn try_item(arena: &Arena, hand: &mut Hand, key: Key) -> Option<Ref>
-    requires arena { IsHandOf arena.now hand.old }
-    requires unlocked { is_unlocked (view hand.old) ≡ true }
-    ensures arena { IsHandOf arena.now hand.new }
+    requires arena { IsReadyHandOf arena.now hand.old }
+    ensures arena { IsReadyHandOf arena.now hand.new }
     ensures item { IfSome result (λ item. IsItemRef (view hand.new) item) }
+    ensures near { IfSome result (λ item. has_chunk (setup_of arena.now).table (item_chunk item) ≡ true) }
+    ensures holdings { HoldsToo result (view hand.old) (view hand.new) }
 {
     match try_get(arena, hand, key) {
-        Ok(Some(item)) => Some(item),
-        _ => None,
+        Ok(found) => found,
+        Err(_) => None,
     }
 }
 
@@ -146,26 +143,27 @@ pub fn get_by<R: Wait>(
     key: Key,
     getter: Getter,
 ) -> Option<Ref>
-    requires arena { IsHandOf arena.now hand.old }
-    ensures arena { IsHandOf arena.now hand.new }
+    requires arena { IsReadyHandOf arena.now hand.old }
+    ensures arena { IsReadyHandOf arena.now hand.new }
     ensures item { IfSome result (λ item. IsItemRef (view hand.new) item) }
+    ensures near { IfSome result (λ item. has_chunk (setup_of arena.now).table (item_chunk item) ≡ true) }
+    ensures holdings { HoldsToo result (view hand.old) (view hand.new) }
 {
-    if !hand.unlocked() {
-        return None;
-    }
     match getter {
         Getter::Get => match get(rt, arena, hand, key) {
-            Ok(Some(item)) => Some(item),
-            _ => None,
+            Ok(found) => found,
+            Err(_) => None,
         },
         Getter::TryGet => try_item(arena, hand, key),
     }
 }
 
 /// Whether the key has an item: one gets it, and gives the reference up.
+#[tactic(auto, using(crate::proofs::Kept::nothing_left))]
 pub fn is_there<R: Wait>(rt: &R, arena: &Arena, hand: &mut Hand, key: Key, getter: Getter) -> bool
-    requires arena { IsHandOf arena.now hand.old }
-    ensures arena { IsHandOf arena.now hand.new }
+    requires arena { IsReadyHandOf arena.now hand.old }
+    ensures arena { IsReadyHandOf arena.now hand.new }
+    ensures nothing { HoldsNothing (view hand.old) → HoldsNothing (view hand.new) }
 {
     let Some(item) = get_by(rt, arena, hand, key, getter) else {
         return false;
@@ -174,25 +172,20 @@ pub fn is_there<R: Wait>(rt: &R, arena: &Arena, hand: &mut Hand, key: Key, gette
     true
 }
 
-/// Whether the key had an item, which is deleted. False, too, where the hand may not.
+/// Whether the key had an item, which is deleted. False, too, at want of memory.
 pub fn delete_key<R: Wait>(rt: &R, arena: &Arena, hand: &mut Hand, key: Key) -> bool
-    requires arena { IsHandOf arena.now hand.old }
-    ensures arena { IsHandOf arena.now hand.new }
+    requires arena { IsReadyHandOf arena.now hand.old }
+    ensures arena { IsReadyHandOf arena.now hand.new }
+    ensures holdings { HoldsTheSame (view hand.old) (view hand.new) }
 {
-    if !hand.unlocked() || hand.has_fresh() {
-        return false;
-    }
     matches!(delete(rt, arena, hand, key), Ok(true))
 }
 
-/// Whether the key has an item, which is touched. False, too, where the hand may not.
+/// Whether the key has an item, which is touched. False, too, at want of memory.
 pub fn touch_key<R: Wait>(rt: &R, arena: &Arena, hand: &mut Hand, key: Key) -> bool
-    requires arena { IsHandOf arena.now hand.old }
-    ensures arena { IsHandOf arena.now hand.new }
+    requires arena { IsReadyHandOf arena.now hand.old }
+    ensures arena { IsReadyHandOf arena.now hand.new }
 {
-    if !hand.unlocked() || hand.refs() > 255 {
-        return false;
-    }
     matches!(touch(rt, arena, hand, key), Ok(true))
 }
 
@@ -206,22 +199,22 @@ pub fn store_all<R: Wait>(
     first: u64,
     len: u64,
 ) -> Result<bool, AllocError>
-    requires arena { IsHandOf arena.now hand.old }
-    ensures arena { IsHandOf arena.now hand.new }
+    requires arena { IsReadyHandOf arena.now hand.old }
+    ensures arena { IsReadyHandOf arena.now hand.new }
 {
     let words = words_from(alloc, first, len)?;
     for key in keys.0..keys.1 {
-        let Some(Ok(_)) = set_words(rt, arena, hand, key, &words) else {
+        if set_words(rt, arena, hand, key, &words).is_err() {
             return Ok(false);
-        };
+        }
     }
     Ok(true)
 }
 
 /// References to the items of the keys from the first on, before the second, which count for good. True if each has one.
 pub fn hold_all<R: Wait>(rt: &R, arena: &Arena, hand: &mut Hand, keys: (Key, Key)) -> bool
-    requires arena { IsHandOf arena.now hand.old }
-    ensures arena { IsHandOf arena.now hand.new }
+    requires arena { IsReadyHandOf arena.now hand.old }
+    ensures arena { IsReadyHandOf arena.now hand.new }
 {
     for key in keys.0..keys.1 {
         if get_by(rt, arena, hand, key, Getter::Get).is_none() {
@@ -233,8 +226,8 @@ pub fn hold_all<R: Wait>(rt: &R, arena: &Arena, hand: &mut Hand, keys: (Key, Key
 
 /// So many references to the key's item, which count for good. True if all were had.
 pub fn hold_often<R: Wait>(rt: &R, arena: &Arena, hand: &mut Hand, key: Key, times: u64) -> bool
-    requires arena { IsHandOf arena.now hand.old }
-    ensures arena { IsHandOf arena.now hand.new }
+    requires arena { IsReadyHandOf arena.now hand.old }
+    ensures arena { IsReadyHandOf arena.now hand.new }
 {
     for _time in 0..times {
         if get_by(rt, arena, hand, key, Getter::Get).is_none() {
@@ -253,8 +246,8 @@ pub fn are_there<R: Wait>(
     getter: Getter,
     there: bool,
 ) -> bool
-    requires arena { IsHandOf arena.now hand.old }
-    ensures arena { IsHandOf arena.now hand.new }
+    requires arena { IsReadyHandOf arena.now hand.old }
+    ensures arena { IsReadyHandOf arena.now hand.new }
 {
     for key in keys.0..keys.1 {
         if is_there(rt, arena, hand, key, getter) != there {

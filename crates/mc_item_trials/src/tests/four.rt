@@ -1,7 +1,7 @@
 //! Four threads look up a key that leads nowhere: each get is noted in its stripe's history.
-ghost use Rattle.std.specs.Prelude.{◌≡◌, IfSome};
+ghost use Rattle.std.specs.Prelude.{IfSome};
 ghost use Rattle.std.specs.Thread.{IsSync};
-ghost use Rattle.mc_words.specs.Arenas.{IsHandOf};
+ghost use Rattle.mc_item_trials.specs.Hands.{IsIdleHandOf};
 
 use super::calls::{Getter, is_there, next_two, opened};
 use super::{FOUR_CLASSES, assert_same};
@@ -26,8 +26,8 @@ struct Searched {
 
 /// One thread's gets.
 fn get_often<R: Wait>(rt: &R, arena: &Arena, hand: Hand) -> Searched
-    requires arena { IsHandOf arena.now hand }
-    ensures arena { IsHandOf arena.now result.hand }
+    requires arena { IsIdleHandOf arena.now hand }
+    ensures arena { IsIdleHandOf arena.now result.hand }
 {
     let mut hand = hand;
     let mut found = false;
@@ -43,19 +43,19 @@ fn get_beside<R: Threads + Wait + Sync>(
     arena: &Arena,
     hands: (Hand, Hand),
 ) -> (Searched, Searched)
-    requires hands { IsHandOf arena.now hands.0 × IsHandOf arena.now hands.1 }
-    ensures hands { IsHandOf arena.now result.0.hand × IsHandOf arena.now result.1.hand }
+    requires hands { IsIdleHandOf arena.now hands.0 × IsIdleHandOf arena.now hands.1 }
+    ensures hands { IsIdleHandOf arena.now result.0.hand × IsIdleHandOf arena.now result.1.hand }
 {
     let (first, second) = hands;
     join(
         rt,
         move || -> Searched
-            requires { IsSync R.row × IsHandOf arena.now first }
-            ensures { IsHandOf arena.entry.now result.hand }
+            requires { IsSync R.row × IsIdleHandOf arena.now first }
+            ensures { IsIdleHandOf arena.entry.now result.hand }
         { get_often(rt, arena, first) },
         move || -> Searched
-            requires { IsSync R.row × IsHandOf arena.now second }
-            ensures { IsHandOf arena.entry.now result.hand }
+            requires { IsSync R.row × IsIdleHandOf arena.now second }
+            ensures { IsIdleHandOf arena.entry.now result.hand }
         { get_often(rt, arena, second) },
     )
 }
@@ -67,28 +67,28 @@ fn get_by_four<R: Threads + Wait + Sync>(
     low: (Hand, Hand),
     high: (Hand, Hand),
 ) -> ((Searched, Searched), (Searched, Searched))
-    requires low { IsHandOf arena.now low.0 × IsHandOf arena.now low.1 }
-    requires high { IsHandOf arena.now high.0 × IsHandOf arena.now high.1 }
-    ensures low { IsHandOf arena.now result.0.0.hand × IsHandOf arena.now result.0.1.hand }
-    ensures high { IsHandOf arena.now result.1.0.hand × IsHandOf arena.now result.1.1.hand }
+    requires low { IsIdleHandOf arena.now low.0 × IsIdleHandOf arena.now low.1 }
+    requires high { IsIdleHandOf arena.now high.0 × IsIdleHandOf arena.now high.1 }
+    ensures low { IsIdleHandOf arena.now result.0.0.hand × IsIdleHandOf arena.now result.0.1.hand }
+    ensures high { IsIdleHandOf arena.now result.1.0.hand × IsIdleHandOf arena.now result.1.1.hand }
 {
     join(
         rt,
         move || -> (Searched, Searched)
-            requires { IsSync R.row × IsHandOf arena.now low.0 × IsHandOf arena.now low.1 }
-            ensures { IsHandOf arena.entry.now result.0.hand × IsHandOf arena.entry.now result.1.hand }
+            requires { IsSync R.row × IsIdleHandOf arena.now low.0 × IsIdleHandOf arena.now low.1 }
+            ensures { IsIdleHandOf arena.entry.now result.0.hand × IsIdleHandOf arena.entry.now result.1.hand }
         { get_beside(rt, arena, low) },
         move || -> (Searched, Searched)
-            requires { IsSync R.row × IsHandOf arena.now high.0 × IsHandOf arena.now high.1 }
-            ensures { IsHandOf arena.entry.now result.0.hand × IsHandOf arena.entry.now result.1.hand }
+            requires { IsSync R.row × IsIdleHandOf arena.now high.0 × IsIdleHandOf arena.now high.1 }
+            ensures { IsIdleHandOf arena.entry.now result.0.hand × IsIdleHandOf arena.entry.now result.1.hand }
         { get_beside(rt, arena, high) },
     )
 }
 
-/// One hand of two that searched. None where one isn't idle, or found something.
+/// One hand of two that searched. None where one found something.
 fn both(arena: &Arena, pair: (Searched, Searched)) -> Option<Hand>
-    requires pair { IsHandOf arena.now pair.0.hand × IsHandOf arena.now pair.1.hand }
-    ensures hand { IfSome result (λ hand. IsHandOf arena.now hand) }
+    requires pair { IsIdleHandOf arena.now pair.0.hand × IsIdleHandOf arena.now pair.1.hand }
+    ensures hand { IfSome result (λ hand. IsIdleHandOf arena.now hand) }
 {
     let (first, second) = pair;
     let Searched { hand, found } = first;
@@ -99,19 +99,17 @@ fn both(arena: &Arena, pair: (Searched, Searched)) -> Option<Hand>
     if found || more {
         return None;
     }
-    one_of(arena, (hand, other))
+    Some(one_of(arena, (hand, other)))
 }
 
-/// One hand of two. None where one isn't idle.
-pub fn one_of(arena: &Arena, hands: (Hand, Hand)) -> Option<Hand>
-    requires hands { IsHandOf arena.now hands.0 × IsHandOf arena.now hands.1 }
-    ensures hand { IfSome result (λ hand. IsHandOf arena.now hand) }
+/// One hand of two.
+#[tactic(auto, using(crate::proofs::Kept::idle, crate::proofs::Kept::ready_of_both, crate::proofs::Kept::nothing_of_both))]
+pub fn one_of(arena: &Arena, hands: (Hand, Hand)) -> Hand
+    requires hands { IsIdleHandOf arena.now hands.0 × IsIdleHandOf arena.now hands.1 }
+    ensures hand { IsIdleHandOf arena.now result }
 {
     let (hand, other) = hands;
-    if !hand.idle() || !other.idle() {
-        return None;
-    }
-    Some(arena.join_hands(hand, other))
+    arena.join_hands(hand, other)
 }
 
 /// How many calls the stripe noted, if all are gets of that key that found nothing.
@@ -147,9 +145,7 @@ fn each_get_is_noted(rt: HostRuntime) -> Result<(), Fail> {
     let (Some(low), Some(high)) = (both(&arena, low), both(&arena, high)) else {
         return Err(Fail::new("nothing is found"));
     };
-    let Some(hand) = one_of(&arena, (low, high)) else {
-        return Err(Fail::new("the hands are idle"));
-    };
+    let hand = one_of(&arena, (low, high));
     let left = arena.close(hand);
     assert_same(&rt, count_gets(&left, 2), Some(4 * GETS), "gets");
     Ok(())

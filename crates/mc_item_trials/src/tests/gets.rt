@@ -1,7 +1,7 @@
 //! Items that are set, looked up and given up, and what their headers are meanwhile.
-ghost use Rattle.std.specs.Prelude.{◌≡◌};
 ghost use Rattle.mc_words.specs.Arenas.{IsHandOf, view};
 ghost use Rattle.mc_items.specs.ItemRefs.{IsItemRef};
+ghost use Rattle.mc_item_trials.specs.Hands.{IsReadyHandOf};
 
 use super::calls::{GETTERS, Getter, get_by, header, opened_two};
 use super::steps::{Step, play_all, run};
@@ -23,13 +23,13 @@ fn release_beside(
     holder: &mut Hand,
     stripe: u64,
 ) -> Option<u64>
-    requires arena { IsHandOf arena.now hand.old }
+    requires arena { IsReadyHandOf arena.now hand.old }
     requires item { IsItemRef (view hand.old) item }
-    requires holder { IsHandOf arena.now holder.old }
-    ensures arena { IsHandOf arena.now hand.new }
+    requires holder { IsReadyHandOf arena.now holder.old }
+    ensures arena { IsReadyHandOf arena.now hand.new }
     ensures holder { IsHandOf arena.now holder.new }
 {
-    if stripe >= arena.config().stripes || !holder.unlocked() {
+    if stripe >= arena.config().stripes {
         return None;
     }
     let Ok(held) = arena.try_stripe(holder, stripe) else {

@@ -1,13 +1,14 @@
 //! References that are had again by hints.
 ghost use Rattle.std.specs.Prelude.{◌≡◌, true, IfSome, IfOk};
 ghost use Rattle.mc_core.specs.State.{has_chunk};
-ghost use Rattle.mc_words.specs.Arenas.{IsHandOf, setup_of, view};
-ghost use Rattle.mc_items.specs.ItemRefs.{IsItemRef};
+ghost use Rattle.mc_words.specs.Arenas.{setup_of};
+ghost use Rattle.mc_words.specs.Observers.{hint_chunk};
+ghost use Rattle.mc_item_trials.specs.Hands.{IsReadyHandOf};
 
 use super::calls::{Getter, get_by, opened_two};
 use super::steps::{Step, play_all};
 use super::{MOST_WORDS, assert_equal, assert_same};
-use mc_items::{Ref, again, hint, release};
+use mc_items::{again, hint, release};
 use mc_stripe::Key;
 use mc_words::{Again, Arena, Hand, Hint};
 use std::alloc::Global;
@@ -15,23 +16,13 @@ use std::process::Abort;
 use std::sync::Wait;
 use std::test::Fail;
 
-/// A reference to the key's item, whose chunk is one of the arena's.
-fn get_near<R: Wait>(rt: &R, arena: &Arena, hand: &mut Hand, key: Key) -> Option<Ref>
-    requires arena { IsHandOf arena.now hand.old }
-    ensures arena { IsHandOf arena.now hand.new }
-    ensures item { IfSome result (λ item. IsItemRef (view hand.new) item) }
-    ensures near { IfSome result (λ item. has_chunk (setup_of arena.now).table item.reference.chunk ≡ true) }
-{
-    get_by(rt, arena, hand, key, Getter::Get)
-}
-
 /// A hint of the key's item, whose reference is given up.
 fn hint_of<R: Wait>(rt: &R, arena: &Arena, hand: &mut Hand, key: Key) -> Option<Hint>
-    requires arena { IsHandOf arena.now hand.old }
-    ensures arena { IsHandOf arena.now hand.new }
-    ensures near { IfSome result (λ hint. has_chunk (setup_of arena.now).table hint.chunk ≡ true) }
+    requires arena { IsReadyHandOf arena.now hand.old }
+    ensures arena { IsReadyHandOf arena.now hand.new }
+    ensures near { IfSome result (λ hint. has_chunk (setup_of arena.now).table (hint_chunk hint) ≡ true) }
 {
-    let item = get_near(rt, arena, hand, key)?;
+    let item = get_by(rt, arena, hand, key, Getter::Get)?;
     let hint = hint(&item);
     release(arena, hand, item);
     Some(hint)
@@ -39,9 +30,9 @@ fn hint_of<R: Wait>(rt: &R, arena: &Arena, hand: &mut Hand, key: Key) -> Option<
 
 /// The hint's refusal, if there is one; else its item is had again, and the reference given up.
 pub fn follow(arena: &Arena, hand: &mut Hand, hint: Hint) -> Option<Again>
-    requires arena { IsHandOf arena.now hand.old }
-    requires near { has_chunk (setup_of arena.now).table hint.chunk ≡ true }
-    ensures arena { IsHandOf arena.now hand.new }
+    requires arena { IsReadyHandOf arena.now hand.old }
+    requires near { has_chunk (setup_of arena.now).table (hint_chunk hint) ≡ true }
+    ensures arena { IsReadyHandOf arena.now hand.new }
 {
     match again(arena, hand, hint) {
         Ok(item) => {
@@ -60,9 +51,9 @@ pub fn hint_behind<R: Abort + Wait>(
     hand: &mut Hand,
     first: Step,
 ) -> Result<Hint, Fail>
-    requires arena { IsHandOf arena.now hand.old }
-    ensures arena { IsHandOf arena.now hand.new }
-    ensures near { IfOk result (λ hint. has_chunk (setup_of arena.now).table hint.chunk ≡ true) }
+    requires arena { IsReadyHandOf arena.now hand.old }
+    ensures arena { IsReadyHandOf arena.now hand.new }
+    ensures near { IfOk result (λ hint. has_chunk (setup_of arena.now).table (hint_chunk hint) ≡ true) }
 {
     play_all(rt, alloc, arena, hand, &[first])?;
     let Some(hint) = hint_of(rt, arena, hand, 1) else {

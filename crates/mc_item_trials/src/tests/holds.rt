@@ -1,7 +1,7 @@
 //! A reference keeps the words of its item, whatever is stored meanwhile.
-ghost use Rattle.std.specs.Prelude.{◌≡◌};
-ghost use Rattle.mc_words.specs.Arenas.{IsHandOf, view};
+ghost use Rattle.mc_words.specs.Arenas.{view};
 ghost use Rattle.mc_items.specs.ItemRefs.{IsItemRef};
+ghost use Rattle.mc_item_trials.specs.Hands.{IsReadyHandOf};
 
 use super::assert_same;
 use super::calls::{GETTERS, Getter, get_by, opened_two};
@@ -28,10 +28,10 @@ fn has_from(
     first: u64,
     len: u64,
 ) -> Result<bool, AllocError>
-    requires arena { IsHandOf arena.now hand.old }
+    requires arena { IsReadyHandOf arena.now hand.old }
     requires item { IsItemRef (view hand.old) item.now }
-    ensures arena { IsHandOf arena.now hand.new }
-    ensures same { view hand.new ≡ view hand.old }
+    ensures arena { IsReadyHandOf arena.now hand.new }
+    ensures item { IsItemRef (view hand.new) item.now }
 {
     let words = read(alloc, arena, hand, item)?;
     Ok(are_from(&words, first, len))
@@ -47,10 +47,10 @@ fn is_item(
     stamp: Stamp,
     first: u64,
 ) -> Result<bool, AllocError>
-    requires arena { IsHandOf arena.now hand.old }
+    requires arena { IsReadyHandOf arena.now hand.old }
     requires item { IsItemRef (view hand.old) item.now }
-    ensures arena { IsHandOf arena.now hand.new }
-    ensures same { view hand.new ≡ view hand.old }
+    ensures arena { IsReadyHandOf arena.now hand.new }
+    ensures item { IsItemRef (view hand.new) item.now }
 {
     let is_named = (item.key(), item.stamp(), item.len()) == (key, stamp, 3);
     Ok(has_from(alloc, arena, hand, item, first, 3)? && is_named)

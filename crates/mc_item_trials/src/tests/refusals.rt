@@ -1,6 +1,5 @@
 //! Refusals of calls on items.
-ghost use Rattle.std.specs.Prelude.{◌≡◌};
-ghost use Rattle.mc_words.specs.Arenas.{IsHandOf};
+ghost use Rattle.mc_item_trials.specs.Hands.{IsReadyHandOf};
 
 use super::calls::opened_two;
 use super::hints::{follow, hint_behind};
@@ -15,37 +14,20 @@ use std::test::Fail;
 /// The greatest issue number.
 const MOST_ISSUE: u64 = 70_368_744_177_663;
 
-/// The refusal of a get, if there is one. None where the hand has a lock.
-fn refusal_of_get<R: Wait>(
-    rt: &R,
-    arena: &Arena,
-    hand: &mut Hand,
-    key: Key,
-) -> Option<Option<GetError>>
-    requires arena { IsHandOf arena.now hand.old }
-    ensures arena { IsHandOf arena.now hand.new }
+/// The refusal of a get, if there is one.
+fn refusal_of_get<R: Wait>(rt: &R, arena: &Arena, hand: &mut Hand, key: Key) -> Option<GetError>
+    requires arena { IsReadyHandOf arena.now hand.old }
+    ensures arena { IsReadyHandOf arena.now hand.new }
 {
-    if !hand.unlocked() {
-        return None;
-    }
-    match get(rt, arena, hand, key) {
-        Ok(_) => Some(None),
-        Err(error) => Some(Some(error)),
-    }
+    get(rt, arena, hand, key).err()
 }
 
-/// The refusal of a get that doesn't wait, if there is one. None where the hand has a lock.
-fn refusal_of_try(arena: &Arena, hand: &mut Hand, key: Key) -> Option<Option<TryGetError>>
-    requires arena { IsHandOf arena.now hand.old }
-    ensures arena { IsHandOf arena.now hand.new }
+/// The refusal of a get that doesn't wait, if there is one.
+fn refusal_of_try(arena: &Arena, hand: &mut Hand, key: Key) -> Option<TryGetError>
+    requires arena { IsReadyHandOf arena.now hand.old }
+    ensures arena { IsReadyHandOf arena.now hand.new }
 {
-    if !hand.unlocked() {
-        return None;
-    }
-    match try_get(arena, hand, key) {
-        Ok(_) => Some(None),
-        Err(error) => Some(Some(error)),
-    }
+    try_get(arena, hand, key).err()
 }
 
 #[test]
@@ -56,16 +38,11 @@ fn a_hand_has_at_most_255_references(rt: HostRuntime) -> Result<(), Fail> {
     let most = [Step::HoldsOften(1, 254)];
     play_all(&rt, rt.alloc(), &arena, &mut hand, &most)?;
     let last = refusal_of_try(&arena, &mut hand, 1);
-    assert_equal(&rt, last, Some(None), "the 255th");
+    assert_equal(&rt, last, None, "the 255th");
     let refused = refusal_of_get(&rt, &arena, &mut hand, 1);
-    assert_equal(&rt, refused, Some(Some(GetError::TooManyRefs)), "get");
+    assert_equal(&rt, refused, Some(GetError::TooManyRefs), "get");
     let refused = refusal_of_try(&arena, &mut hand, 1);
-    assert_equal(
-        &rt,
-        refused,
-        Some(Some(TryGetError::TooManyRefs)),
-        "try_get",
-    );
+    assert_equal(&rt, refused, Some(TryGetError::TooManyRefs), "try_get");
     let refused = follow(&arena, &mut hand, hint);
     assert_equal(&rt, refused, Some(Again::TooManyRefs), "again");
     Ok(())
@@ -74,19 +51,19 @@ fn a_hand_has_at_most_255_references(rt: HostRuntime) -> Result<(), Fail> {
 #[test]
 fn who_does_not_wait_is_told_of_another_hand(rt: HostRuntime) -> Result<(), Fail> {
     let (arena, mut hand, mut other) = opened_two(rt.alloc())?;
-    if arena.config().stripes < 2 || !other.unlocked() {
+    if arena.config().stripes < 2 {
         return Err(Fail::new("there are four stripes"));
     }
     let Ok(held) = arena.try_stripe(&mut other, 1) else {
         return Err(Fail::new("the stripe is free"));
     };
     let refused = refusal_of_try(&arena, &mut hand, 5);
-    assert_equal(&rt, refused, Some(Some(TryGetError::Held)), "its stripe");
+    assert_equal(&rt, refused, Some(TryGetError::Held), "its stripe");
     let found = refusal_of_try(&arena, &mut hand, 4);
-    assert_equal(&rt, found, Some(None), "another stripe");
+    assert_equal(&rt, found, None, "another stripe");
     arena.give_stripe(&mut other, held);
     let found = refusal_of_try(&arena, &mut hand, 5);
-    assert_equal(&rt, found, Some(None), "its stripe, given back");
+    assert_equal(&rt, found, None, "its stripe, given back");
     Ok(())
 }
 

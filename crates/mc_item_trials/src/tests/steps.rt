@@ -1,5 +1,5 @@
 //! A call with what it is to give. A list of calls is one call of a test, so that it is checked fast.
-ghost use Rattle.mc_words.specs.Arenas.{IsHandOf};
+ghost use Rattle.mc_item_trials.specs.Hands.{IsReadyHandOf};
 
 use super::assert_same;
 use super::calls::{
@@ -44,8 +44,8 @@ fn plays<R: Wait>(
     hand: &mut Hand,
     step: Step,
 ) -> Result<bool, AllocError>
-    requires arena { IsHandOf arena.now hand.old }
-    ensures arena { IsHandOf arena.now hand.new }
+    requires arena { IsReadyHandOf arena.now hand.old }
+    ensures arena { IsReadyHandOf arena.now hand.new }
 {
     match step {
         Step::Sets(from, end, first, len) => {
@@ -60,8 +60,8 @@ fn plays<R: Wait>(
 
 /// Whether a call that takes no memory gives what it is to.
 fn acts<R: Wait>(rt: &R, arena: &Arena, hand: &mut Hand, step: Step) -> bool
-    requires arena { IsHandOf arena.now hand.old }
-    ensures arena { IsHandOf arena.now hand.new }
+    requires arena { IsReadyHandOf arena.now hand.old }
+    ensures arena { IsReadyHandOf arena.now hand.new }
 {
     match step {
         Step::Deletes(key) => delete_key(rt, arena, hand, key),
@@ -84,8 +84,8 @@ pub fn play_all<R: Abort + Wait>(
     hand: &mut Hand,
     steps: &[Step],
 ) -> Result<(), AllocError>
-    requires arena { IsHandOf arena.now hand.old }
-    ensures arena { IsHandOf arena.now hand.new }
+    requires arena { IsReadyHandOf arena.now hand.old }
+    ensures arena { IsReadyHandOf arena.now hand.new }
 {
     for place in 0..steps.len() {
         let done = plays(rt, alloc, arena, hand, steps[place])?;

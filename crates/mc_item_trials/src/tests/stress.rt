@@ -1,10 +1,11 @@
 //! Four threads set, get, read, give up and delete items over forty keys of one class of two pages. Each word of an item tells its
 //! key and stamp, so a word of another item would be seen.
-ghost use Rattle.std.specs.Prelude.{◌≡◌, IfSome};
+ghost use Rattle.std.specs.Prelude.{IfSome};
 ghost use Rattle.std.specs.Thread.{IsSync};
-ghost use Rattle.mc_words.specs.Arenas.{IsHandOf, view};
+ghost use Rattle.mc_words.specs.Arenas.{view};
 ghost use Rattle.mc_items.specs.ItemRefs.{IsItemRef};
-ghost use Rattle.mc_item_trials.specs.Hands.{AreHandsOf};
+ghost use Rattle.mc_items.specs.Keeping.{HoldsTheSame};
+ghost use Rattle.mc_item_trials.specs.Hands.{AreHandsOf, IsIdleHandOf, IsReadyHandOf};
 
 use super::assert_same;
 use super::calls::{Getter, delete_key, get_by, next_two, opened, set_words};
@@ -72,7 +73,7 @@ fn choose(thread: u64, round: u64) -> (Action, Key) {
     (action, (drawn >> 8) % KEYS)
 }
 
-/// Stores an item whose words tell its key and stamp, if the hand may.
+/// Stores an item whose words tell its key and stamp, if there is room.
 fn store<R: Wait>(
     rt: &R,
     alloc: Global,
@@ -80,8 +81,8 @@ fn store<R: Wait>(
     hand: &mut Hand,
     key: Key,
 ) -> Result<(), AllocError>
-    requires arena { IsHandOf arena.now hand.old }
-    ensures arena { IsHandOf arena.now hand.new }
+    requires arena { IsIdleHandOf arena.now hand.old }
+    ensures arena { IsIdleHandOf arena.now hand.new }
 {
     let stamp = hand.next_stamp().unwrap_or(0);
     let words = words_from(alloc, first_word(key, stamp), LEN)?;
@@ -97,10 +98,11 @@ fn is_own(
     item: &Ref,
     key: Key,
 ) -> Result<bool, AllocError>
-    requires arena { IsHandOf arena.now hand.old }
+    requires arena { IsReadyHandOf arena.now hand.old }
     requires item { IsItemRef (view hand.old) item.now }
-    ensures arena { IsHandOf arena.now hand.new }
-    ensures same { view hand.new ≡ view hand.old }
+    ensures arena { IsReadyHandOf arena.now hand.new }
+    ensures item { IsItemRef (view hand.new) item.now }
+    ensures holdings { HoldsTheSame (view hand.old) (view hand.new) }
 {
     let words = read(alloc, arena, hand, item)?;
     Ok(item.key() == key && are_from(&words, first_word(key, item.stamp()), LEN))
@@ -115,7 +117,33 @@ struct Worker {
     wrong: u64,
 }
 
-/// Gets the key's item and reads it, before and behind a set of the next key. True if all words were its own.
+/// Reads an item that is held, before and behind a set of the next key. True if all words were its own.
+fn reads_own<R: Wait>(
+    rt: &R,
+    alloc: Global,
+    arena: &Arena,
+    reader: &mut Hand,
+    writer: &mut Hand,
+    item: &Ref,
+    key: Key,
+) -> Result<bool, AllocError>
+    requires reader { IsReadyHandOf arena.now reader.old }
+    requires item { IsItemRef (view reader.old) item.now }
+    requires writer { IsIdleHandOf arena.now writer.old }
+    ensures reader { IsReadyHandOf arena.now reader.new }
+    ensures item { IsItemRef (view reader.new) item.now }
+    ensures holdings { HoldsTheSame (view reader.old) (view reader.new) }
+    ensures writer { IsIdleHandOf arena.now writer.new }
+{
+    let before = is_own(alloc, arena, reader, item, key)?;
+    store(rt, alloc, arena, writer, key.wrapping_add(1) % KEYS)?;
+    let behind = is_own(alloc, arena, reader, item, key)?;
+    Ok(before && behind)
+}
+
+/// Gets the key's item, reads it before and behind a set of the next key, and gives the reference up, also where memory ran out.
+/// True if all words were its own.
+#[tactic(auto, using(crate::proofs::Kept::nothing_left_later))]
 fn read_twice<R: Wait>(
     rt: &R,
     alloc: Global,
@@ -125,19 +153,17 @@ fn read_twice<R: Wait>(
     key: Key,
     getter: Getter,
 ) -> Result<bool, AllocError>
-    requires reader { IsHandOf arena.now reader.old }
-    requires writer { IsHandOf arena.now writer.old }
-    ensures reader { IsHandOf arena.now reader.new }
-    ensures writer { IsHandOf arena.now writer.new }
+    requires reader { IsIdleHandOf arena.now reader.old }
+    requires writer { IsIdleHandOf arena.now writer.old }
+    ensures reader { IsIdleHandOf arena.now reader.new }
+    ensures writer { IsIdleHandOf arena.now writer.new }
 {
     let Some(item) = get_by(rt, arena, reader, key, getter) else {
         return Ok(true);
     };
-    let before = is_own(alloc, arena, reader, &item, key)?;
-    store(rt, alloc, arena, writer, key.wrapping_add(1) % KEYS)?;
-    let behind = is_own(alloc, arena, reader, &item, key)?;
+    let own = reads_own(rt, alloc, arena, reader, writer, &item, key);
     release(arena, reader, item);
-    Ok(before && behind)
+    own
 }
 
 /// One round of a thread. True if all words that were read were their items' own.
@@ -149,10 +175,10 @@ fn act<R: Wait>(
     writer: &mut Hand,
     chosen: (Action, Key),
 ) -> Result<bool, AllocError>
-    requires reader { IsHandOf arena.now reader.old }
-    requires writer { IsHandOf arena.now writer.old }
-    ensures reader { IsHandOf arena.now reader.new }
-    ensures writer { IsHandOf arena.now writer.new }
+    requires reader { IsIdleHandOf arena.now reader.old }
+    requires writer { IsIdleHandOf arena.now writer.old }
+    ensures reader { IsIdleHandOf arena.now reader.new }
+    ensures writer { IsIdleHandOf arena.now writer.new }
 {
     let (action, key) = chosen;
     match action {
@@ -170,8 +196,8 @@ fn act<R: Wait>(
 
 /// A thread's rounds.
 fn work<R: Wait>(rt: &R, alloc: Global, arena: &Arena, thread: u64, hands: (Hand, Hand)) -> Worker
-    requires hands { IsHandOf arena.now hands.0 × IsHandOf arena.now hands.1 }
-    ensures hands { IsHandOf arena.now result.reader × IsHandOf arena.now result.writer }
+    requires hands { IsIdleHandOf arena.now hands.0 × IsIdleHandOf arena.now hands.1 }
+    ensures hands { IsIdleHandOf arena.now result.reader × IsIdleHandOf arena.now result.writer }
 {
     let (mut reader, mut writer) = hands;
     let mut wrong = 0;
@@ -198,65 +224,64 @@ fn work_beside<R: Threads + Wait + Sync>(
     first: (Hand, Hand),
     second: (Hand, Hand),
 ) -> (Worker, Worker)
-    requires first { IsHandOf arena.now first.0 × IsHandOf arena.now first.1 }
-    requires second { IsHandOf arena.now second.0 × IsHandOf arena.now second.1 }
-    ensures first { IsHandOf arena.now result.0.reader × IsHandOf arena.now result.0.writer }
-    ensures second { IsHandOf arena.now result.1.reader × IsHandOf arena.now result.1.writer }
+    requires first { IsIdleHandOf arena.now first.0 × IsIdleHandOf arena.now first.1 }
+    requires second { IsIdleHandOf arena.now second.0 × IsIdleHandOf arena.now second.1 }
+    ensures first { IsIdleHandOf arena.now result.0.reader × IsIdleHandOf arena.now result.0.writer }
+    ensures second { IsIdleHandOf arena.now result.1.reader × IsIdleHandOf arena.now result.1.writer }
 {
     join(
         rt,
         move || -> Worker
-            requires { IsSync R.row × IsHandOf arena.now first.0 × IsHandOf arena.now first.1 }
-            ensures { IsHandOf arena.entry.now result.reader × IsHandOf arena.entry.now result.writer }
+            requires { IsSync R.row × IsIdleHandOf arena.now first.0 × IsIdleHandOf arena.now first.1 }
+            ensures { IsIdleHandOf arena.entry.now result.reader × IsIdleHandOf arena.entry.now result.writer }
         { work(rt, alloc, arena, thread, first) },
         move || -> Worker
-            requires { IsSync R.row × IsHandOf arena.now second.0 × IsHandOf arena.now second.1 }
-            ensures { IsHandOf arena.entry.now result.reader × IsHandOf arena.entry.now result.writer }
+            requires { IsSync R.row × IsIdleHandOf arena.now second.0 × IsIdleHandOf arena.now second.1 }
+            ensures { IsIdleHandOf arena.entry.now result.reader × IsIdleHandOf arena.entry.now result.writer }
         { work(rt, alloc, arena, thread.wrapping_add(1), second) },
     )
 }
 
-/// One hand of a worker's two, and how many items were found wrong. None where a hand isn't idle.
-fn done(arena: &Arena, worker: Worker) -> Option<(Hand, u64)>
-    requires reader { IsHandOf arena.now worker.reader }
-    requires writer { IsHandOf arena.now worker.writer }
-    ensures hand { IfSome result (λ found. IsHandOf arena.now found.0) }
+/// One hand of a worker's two, and how many items were found wrong.
+fn done(arena: &Arena, worker: Worker) -> (Hand, u64)
+    requires reader { IsIdleHandOf arena.now worker.reader }
+    requires writer { IsIdleHandOf arena.now worker.writer }
+    ensures hand { IsIdleHandOf arena.now result.0 }
 {
     let Worker {
         reader,
         writer,
         wrong,
     } = worker;
-    let hand = one_of(arena, (reader, writer))?;
-    Some((hand, wrong))
+    (one_of(arena, (reader, writer)), wrong)
 }
 
-/// One hand of two workers, and how many items both found wrong. None where a hand isn't idle.
-fn both(arena: &Arena, workers: (Worker, Worker)) -> Option<(Hand, u64)>
-    requires first { IsHandOf arena.now workers.0.reader × IsHandOf arena.now workers.0.writer }
-    requires second { IsHandOf arena.now workers.1.reader × IsHandOf arena.now workers.1.writer }
-    ensures hand { IfSome result (λ found. IsHandOf arena.now found.0) }
+/// One hand of two workers, and how many items both found wrong.
+fn both(arena: &Arena, workers: (Worker, Worker)) -> (Hand, u64)
+    requires first { IsIdleHandOf arena.now workers.0.reader × IsIdleHandOf arena.now workers.0.writer }
+    requires second { IsIdleHandOf arena.now workers.1.reader × IsIdleHandOf arena.now workers.1.writer }
+    ensures hand { IsIdleHandOf arena.now result.0 }
 {
     let (first, second) = workers;
-    let (hand, wrong) = done(arena, first)?;
-    let (other, more) = done(arena, second)?;
-    let hand = one_of(arena, (hand, other))?;
-    Some((hand, wrong.saturating_add(more)))
+    let (hand, wrong) = done(arena, first);
+    let (other, more) = done(arena, second);
+    let hand = one_of(arena, (hand, other));
+    (hand, wrong.saturating_add(more))
 }
 
 /// The hands of two workers.
 fn next_pairs(arena: &Arena, hands: &mut Vec<Hand>) -> Option<((Hand, Hand), (Hand, Hand))>
     requires hands { AreHandsOf arena.now hands.old.items }
     ensures hands { AreHandsOf arena.now hands.new.items }
-    ensures first { IfSome result (λ pairs. IsHandOf arena.now pairs.0.0 × IsHandOf arena.now pairs.0.1) }
-    ensures second { IfSome result (λ pairs. IsHandOf arena.now pairs.1.0 × IsHandOf arena.now pairs.1.1) }
+    ensures first { IfSome result (λ pairs. IsIdleHandOf arena.now pairs.0.0 × IsIdleHandOf arena.now pairs.0.1) }
+    ensures second { IfSome result (λ pairs. IsIdleHandOf arena.now pairs.1.0 × IsIdleHandOf arena.now pairs.1.1) }
 {
     let first = next_two(arena, hands)?;
     let second = next_two(arena, hands)?;
     Some((first, second))
 }
 
-/// Four threads' rounds at once: one hand, and how many items were found wrong. None where a hand is missing, or isn't idle.
+/// Four threads' rounds at once: one hand, and how many items were found wrong. None where a hand is missing.
 fn work_by_four<R: Threads + Wait + Sync>(
     rt: &R,
     alloc: Global,
@@ -264,24 +289,24 @@ fn work_by_four<R: Threads + Wait + Sync>(
     hands: &mut Vec<Hand>,
 ) -> Option<(Hand, u64)>
     requires hands { AreHandsOf arena.now hands.old.items }
-    ensures hand { IfSome result (λ found. IsHandOf arena.now found.0) }
+    ensures hand { IfSome result (λ found. IsIdleHandOf arena.now found.0) }
 {
     let low = next_pairs(arena, hands)?;
     let high = next_pairs(arena, hands)?;
     let (low, high) = join(
         rt,
         move || -> (Worker, Worker)
-            requires { IsSync R.row × (IsHandOf arena.now low.0.0 × IsHandOf arena.now low.0.1) × (IsHandOf arena.now low.1.0 × IsHandOf arena.now low.1.1) }
-            ensures { (IsHandOf arena.entry.now result.0.reader × IsHandOf arena.entry.now result.0.writer) × (IsHandOf arena.entry.now result.1.reader × IsHandOf arena.entry.now result.1.writer) }
+            requires { IsSync R.row × (IsIdleHandOf arena.now low.0.0 × IsIdleHandOf arena.now low.0.1) × (IsIdleHandOf arena.now low.1.0 × IsIdleHandOf arena.now low.1.1) }
+            ensures { (IsIdleHandOf arena.entry.now result.0.reader × IsIdleHandOf arena.entry.now result.0.writer) × (IsIdleHandOf arena.entry.now result.1.reader × IsIdleHandOf arena.entry.now result.1.writer) }
         { work_beside(rt, alloc, arena, 1, low.0, low.1) },
         move || -> (Worker, Worker)
-            requires { IsSync R.row × (IsHandOf arena.now high.0.0 × IsHandOf arena.now high.0.1) × (IsHandOf arena.now high.1.0 × IsHandOf arena.now high.1.1) }
-            ensures { (IsHandOf arena.entry.now result.0.reader × IsHandOf arena.entry.now result.0.writer) × (IsHandOf arena.entry.now result.1.reader × IsHandOf arena.entry.now result.1.writer) }
+            requires { IsSync R.row × (IsIdleHandOf arena.now high.0.0 × IsIdleHandOf arena.now high.0.1) × (IsIdleHandOf arena.now high.1.0 × IsIdleHandOf arena.now high.1.1) }
+            ensures { (IsIdleHandOf arena.entry.now result.0.reader × IsIdleHandOf arena.entry.now result.0.writer) × (IsIdleHandOf arena.entry.now result.1.reader × IsIdleHandOf arena.entry.now result.1.writer) }
         { work_beside(rt, alloc, arena, 3, high.0, high.1) },
     );
-    let (hand, wrong) = both(arena, low)?;
-    let (other, more) = both(arena, high)?;
-    let hand = one_of(arena, (hand, other))?;
+    let (hand, wrong) = both(arena, low);
+    let (other, more) = both(arena, high);
+    let hand = one_of(arena, (hand, other));
     Some((hand, wrong.saturating_add(more)))
 }
 
@@ -351,7 +376,7 @@ fn listed(left: &Final) -> Option<(u64, bool)> {
 fn no_read_shows_another_item(rt: HostRuntime) -> Result<(), Fail> {
     let (arena, mut hands) = opened(rt.alloc(), &TWO_PAGES, 8)?;
     let Some((hand, wrong)) = work_by_four(&rt, rt.alloc(), &arena, &mut hands) else {
-        return Err(Fail::new("there are eight hands, and each is idle"));
+        return Err(Fail::new("there are eight hands"));
     };
     assert_same(&rt, wrong, 0, "words of other items");
     let left = arena.close(hand);

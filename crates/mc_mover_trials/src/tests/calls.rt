@@ -1,9 +1,10 @@
-//! Calls on items whose conditions are tested when they are made.
-ghost use Rattle.std.specs.Prelude.{◌≡◌, IfSome, IfOk};
+//! Calls on items, of hands that may make any.
+ghost use Rattle.std.specs.Prelude.{◌≡◌, true, IfSome, IfOk};
 ghost use Rattle.mc_core.specs.State.{has_chunk};
-ghost use Rattle.mc_words.specs.Arenas.{IsHandOf, setup_of, view};
-ghost use Rattle.mc_items.specs.ItemRefs.{IsItemRef};
-ghost use Rattle.mc_mover_trials.specs.Hands.{AreHandsOf};
+ghost use Rattle.mc_words.specs.Arenas.{setup_of, view};
+ghost use Rattle.mc_items.specs.ItemRefs.{IsItemRef, item_chunk};
+ghost use Rattle.mc_items.specs.Keeping.{HoldsTheSame, HoldsToo};
+ghost use Rattle.mc_mover_trials.specs.Hands.{AreHandsOf, IsIdleHandOf, IsReadyHandOf};
 
 use super::words::{are_from, words_from};
 use mc_classes::Config;
@@ -27,7 +28,7 @@ pub fn opened(alloc: Global, config: &Config, hands: u64) -> Result<(Arena, Vec<
 pub fn next_hand(arena: &Arena, hands: &mut Vec<Hand>) -> Option<Hand>
     requires hands { AreHandsOf arena.now hands.old.items }
     ensures hands { AreHandsOf arena.now hands.new.items }
-    ensures hand { IfSome result (λ hand. IsHandOf arena.now hand) }
+    ensures hand { IfSome result (λ hand. IsIdleHandOf arena.now hand) }
 {
     if hands.is_empty() {
         None
@@ -40,7 +41,7 @@ pub fn next_hand(arena: &Arena, hands: &mut Vec<Hand>) -> Option<Hand>
 pub fn two_of(arena: &Arena, hands: &mut Vec<Hand>) -> Option<(Hand, Hand)>
     requires hands { AreHandsOf arena.now hands.old.items }
     ensures hands { AreHandsOf arena.now hands.new.items }
-    ensures two { IfSome result (λ two. IsHandOf arena.now two.0 × IsHandOf arena.now two.1) }
+    ensures two { IfSome result (λ two. IsIdleHandOf arena.now two.0 × IsIdleHandOf arena.now two.1) }
 {
     let first = next_hand(arena, hands)?;
     let second = next_hand(arena, hands)?;
@@ -49,7 +50,7 @@ pub fn two_of(arena: &Arena, hands: &mut Vec<Hand>) -> Option<(Hand, Hand)>
 
 /// An arena of this configuration, and its two hands.
 pub fn opened_two(alloc: Global, config: &Config) -> Result<(Arena, Hand, Hand), Fail>
-    ensures hands { IfOk result (λ made. IsHandOf made.0 made.1 × IsHandOf made.0 made.2) }
+    ensures hands { IfOk result (λ made. IsReadyHandOf made.0 made.1 × IsReadyHandOf made.0 made.2) }
 {
     let (arena, mut hands) = opened(alloc, config, 2)?;
     let Some((hand, other)) = two_of(&arena, &mut hands) else {
@@ -58,14 +59,12 @@ pub fn opened_two(alloc: Global, config: &Config) -> Result<(Arena, Hand, Hand),
     Ok((arena, hand, other))
 }
 
-/// Stores these words under the key. False where the hand may not, or that is refused.
+/// Stores these words under the key. False where that is refused.
 pub fn set_words<R: Wait>(rt: &R, arena: &Arena, hand: &mut Hand, key: Key, words: &[u64]) -> bool
-    requires arena { IsHandOf arena.now hand.old }
-    ensures arena { IsHandOf arena.now hand.new }
+    requires arena { IsReadyHandOf arena.now hand.old }
+    ensures arena { IsReadyHandOf arena.now hand.new }
+    ensures holdings { HoldsTheSame (view hand.old) (view hand.new) }
 {
-    if !hand.unlocked() || hand.has_fresh() || hand.refs() > 255 {
-        return false;
-    }
     set(rt, arena, hand, key, words).is_ok()
 }
 
@@ -79,8 +78,8 @@ pub fn store_all<R: Wait>(
     first: u64,
     len: u64,
 ) -> Result<bool, AllocError>
-    requires arena { IsHandOf arena.now hand.old }
-    ensures arena { IsHandOf arena.now hand.new }
+    requires arena { IsReadyHandOf arena.now hand.old }
+    ensures arena { IsReadyHandOf arena.now hand.new }
 {
     let words = words_from(alloc, first, len)?;
     for key in keys.0..keys.1 {
@@ -93,16 +92,15 @@ pub fn store_all<R: Wait>(
 
 /// A reference to the key's item, if it has one. None, too, where it was refused.
 pub fn get_key<R: Wait>(rt: &R, arena: &Arena, hand: &mut Hand, key: Key) -> Option<Ref>
-    requires arena { IsHandOf arena.now hand.old }
-    ensures arena { IsHandOf arena.now hand.new }
+    requires arena { IsReadyHandOf arena.now hand.old }
+    ensures arena { IsReadyHandOf arena.now hand.new }
     ensures item { IfSome result (λ item. IsItemRef (view hand.new) item) }
+    ensures near { IfSome result (λ item. has_chunk (setup_of arena.now).table (item_chunk item) ≡ true) }
+    ensures holdings { HoldsToo result (view hand.old) (view hand.new) }
 {
-    if !hand.unlocked() {
-        return None;
-    }
     match get(rt, arena, hand, key) {
-        Ok(Some(item)) => Some(item),
-        _ => None,
+        Ok(found) => found,
+        Err(_) => None,
     }
 }
 
@@ -115,10 +113,11 @@ pub fn has_words(
     first: u64,
     len: u64,
 ) -> Result<bool, AllocError>
-    requires arena { IsHandOf arena.now hand.old }
+    requires arena { IsReadyHandOf arena.now hand.old }
     requires item { IsItemRef (view hand.old) item.now }
-    ensures arena { IsHandOf arena.now hand.new }
-    ensures same { view hand.new ≡ view hand.old }
+    ensures arena { IsReadyHandOf arena.now hand.new }
+    ensures item { IsItemRef (view hand.new) item.now }
+    ensures holdings { HoldsTheSame (view hand.old) (view hand.new) }
 {
     let words = read(alloc, arena, hand, item)?;
     Ok(are_from(&words, first, len))
@@ -134,8 +133,8 @@ pub fn key_has<R: Wait>(
     first: u64,
     len: u64,
 ) -> Result<bool, AllocError>
-    requires arena { IsHandOf arena.now hand.old }
-    ensures arena { IsHandOf arena.now hand.new }
+    requires arena { IsReadyHandOf arena.now hand.old }
+    ensures arena { IsReadyHandOf arena.now hand.new }
 {
     let Some(item) = get_key(rt, arena, hand, key) else {
         return Ok(false);
@@ -145,32 +144,21 @@ pub fn key_has<R: Wait>(
     Ok(own)
 }
 
-/// Whether the key had an item, which is deleted. None where that can't be told.
+/// Whether the key had an item, which is deleted. None at want of memory.
 pub fn delete_key<R: Wait>(rt: &R, arena: &Arena, hand: &mut Hand, key: Key) -> Option<bool>
-    requires arena { IsHandOf arena.now hand.old }
-    ensures arena { IsHandOf arena.now hand.new }
+    requires arena { IsReadyHandOf arena.now hand.old }
+    ensures arena { IsReadyHandOf arena.now hand.new }
+    ensures holdings { HoldsTheSame (view hand.old) (view hand.new) }
 {
-    if !hand.unlocked() || hand.has_fresh() {
-        return None;
-    }
-    match delete(rt, arena, hand, key) {
-        Ok(there) => Some(there),
-        Err(_) => None,
-    }
+    delete(rt, arena, hand, key).ok()
 }
 
-/// Whether the key has an item, which is touched. None where that can't be told.
+/// Whether the key has an item, which is touched. None at want of memory.
 pub fn touch_key<R: Wait>(rt: &R, arena: &Arena, hand: &mut Hand, key: Key) -> Option<bool>
-    requires arena { IsHandOf arena.now hand.old }
-    ensures arena { IsHandOf arena.now hand.new }
+    requires arena { IsReadyHandOf arena.now hand.old }
+    ensures arena { IsReadyHandOf arena.now hand.new }
 {
-    if !hand.unlocked() || hand.refs() > 255 {
-        return None;
-    }
-    match touch(rt, arena, hand, key) {
-        Ok(there) => Some(there),
-        Err(_) => None,
-    }
+    touch(rt, arena, hand, key).ok()
 }
 
 /// Whether the arena has such a chunk.
@@ -182,9 +170,10 @@ fn has_chunk(arena: &Arena, chunk: ChunkId) -> bool
 }
 
 /// The header of the chunk. None where there is no such chunk.
+#[tactic(auto, using(crate::proofs::Kept::ready_behind_head))]
 pub fn header(arena: &Arena, hand: &mut Hand, chunk: ChunkId) -> Option<u64>
-    requires arena { IsHandOf arena.now hand.old }
-    ensures arena { IsHandOf arena.now hand.new }
+    requires arena { IsReadyHandOf arena.now hand.old }
+    ensures arena { IsReadyHandOf arena.now hand.new }
 {
     if !has_chunk(arena, chunk) {
         return None;

@@ -1,5 +1,5 @@
 //! The mover's thread of the stress: it begins moves between all classes and the pool, and turns without a pause.
-ghost use Rattle.mc_words.specs.Arenas.{IsHandOf};
+ghost use Rattle.mc_mover_trials.specs.Hands.{IsIdleHandOf, IsReadyHandOf};
 
 use super::moves::{reassign_by, turn_by};
 use super::workers::draw;
@@ -69,8 +69,8 @@ pub struct Mover {
 
 /// Asks for the next move: to the pool or a class, from any class or a named one. It may be refused.
 fn begin_next<R: Wait>(rt: &R, arena: &Arena, hand: &mut Hand, round: u64)
-    requires arena { IsHandOf arena.now hand.old }
-    ensures arena { IsHandOf arena.now hand.new }
+    requires arena { IsIdleHandOf arena.now hand.old }
+    ensures arena { IsIdleHandOf arena.now hand.new }
 {
     let drawn = draw(0, round);
     let src = if drawn % 2 == 0 {
@@ -84,8 +84,8 @@ fn begin_next<R: Wait>(rt: &R, arena: &Arena, hand: &mut Hand, round: u64)
 
 /// One turn, and where no page moves behind it, the next move.
 fn turn_on<R: Wait>(rt: &R, arena: &Arena, hand: &mut Hand, tally: &mut Tally, round: u64)
-    requires arena { IsHandOf arena.now hand.old }
-    ensures arena { IsHandOf arena.now hand.new }
+    requires arena { IsIdleHandOf arena.now hand.old }
+    ensures arena { IsIdleHandOf arena.now hand.new }
 {
     let Some(turn) = turn_by(rt, arena, hand) else {
         return;
@@ -97,8 +97,8 @@ fn turn_on<R: Wait>(rt: &R, arena: &Arena, hand: &mut Hand, tally: &mut Tally, r
 
 /// The mover's turns.
 pub fn drive<R: Wait>(rt: &R, arena: &Arena, hand: Hand) -> Mover
-    requires arena { IsHandOf arena.now hand }
-    ensures arena { IsHandOf arena.now result.hand }
+    requires arena { IsIdleHandOf arena.now hand }
+    ensures arena { IsIdleHandOf arena.now result.hand }
 {
     let mut hand = hand;
     let mut tally = NOTHING;
@@ -116,8 +116,8 @@ pub fn end_if<R: Wait>(
     tally: &mut Tally,
     ends: bool,
 ) -> bool
-    requires arena { IsHandOf arena.now hand.old }
-    ensures arena { IsHandOf arena.now hand.new }
+    requires arena { IsReadyHandOf arena.now hand.old }
+    ensures arena { IsReadyHandOf arena.now hand.new }
 {
     if !ends {
         return true;
@@ -127,8 +127,8 @@ pub fn end_if<R: Wait>(
 
 /// Turns until no page moves. False where that takes too long.
 fn end_move<R: Wait>(rt: &R, arena: &Arena, hand: &mut Hand, tally: &mut Tally) -> bool
-    requires arena { IsHandOf arena.now hand.old }
-    ensures arena { IsHandOf arena.now hand.new }
+    requires arena { IsReadyHandOf arena.now hand.old }
+    ensures arena { IsReadyHandOf arena.now hand.new }
 {
     for _turn in 0..LAST_TURNS {
         let Some(turn) = turn_by(rt, arena, hand) else {

@@ -1,13 +1,14 @@
 //! Hints of items whose page has moved.
 ghost use Rattle.std.specs.Prelude.{◌≡◌, true, IfSome};
 ghost use Rattle.mc_core.specs.State.{has_chunk};
-ghost use Rattle.mc_words.specs.Arenas.{IsHandOf, setup_of, view};
-ghost use Rattle.mc_items.specs.ItemRefs.{IsItemRef};
+ghost use Rattle.mc_words.specs.Arenas.{setup_of};
+ghost use Rattle.mc_words.specs.Observers.{hint_chunk};
+ghost use Rattle.mc_mover_trials.specs.Hands.{IsReadyHandOf};
 
 use super::calls::{get_key, header, opened_two, store_all};
 use super::steps::{Step, play_all};
 use super::{FOUR_CLASSES, assert_equal, assert_same};
-use mc_items::{Ref, again, hint, release};
+use mc_items::{again, hint, release};
 use mc_pages::ChunkId;
 use mc_stripe::Key;
 use mc_words::{Again, Arena, Hand, Hint};
@@ -16,23 +17,13 @@ use std::process::Abort;
 use std::sync::Wait;
 use std::test::Fail;
 
-/// A reference to the key's item, whose chunk is one of the arena's.
-pub fn get_near<R: Wait>(rt: &R, arena: &Arena, hand: &mut Hand, key: Key) -> Option<Ref>
-    requires arena { IsHandOf arena.now hand.old }
-    ensures arena { IsHandOf arena.now hand.new }
-    ensures item { IfSome result (λ item. IsItemRef (view hand.new) item) }
-    ensures near { IfSome result (λ item. has_chunk (setup_of arena.now).table item.reference.chunk ≡ true) }
-{
-    get_key(rt, arena, hand, key)
-}
-
 /// A hint of the key's item, whose reference is given up.
 fn hint_of<R: Wait>(rt: &R, arena: &Arena, hand: &mut Hand, key: Key) -> Option<Hint>
-    requires arena { IsHandOf arena.now hand.old }
-    ensures arena { IsHandOf arena.now hand.new }
-    ensures near { IfSome result (λ hint. has_chunk (setup_of arena.now).table hint.chunk ≡ true) }
+    requires arena { IsReadyHandOf arena.now hand.old }
+    ensures arena { IsReadyHandOf arena.now hand.new }
+    ensures near { IfSome result (λ hint. has_chunk (setup_of arena.now).table (hint_chunk hint) ≡ true) }
 {
-    let item = get_near(rt, arena, hand, key)?;
+    let item = get_key(rt, arena, hand, key)?;
     let hint = hint(&item);
     release(arena, hand, item);
     Some(hint)
@@ -40,9 +31,9 @@ fn hint_of<R: Wait>(rt: &R, arena: &Arena, hand: &mut Hand, key: Key) -> Option<
 
 /// The hint's refusal, if there is one; else its item is had again, and the reference given up.
 fn follow(arena: &Arena, hand: &mut Hand, hint: Hint) -> Option<Again>
-    requires arena { IsHandOf arena.now hand.old }
-    requires near { has_chunk (setup_of arena.now).table hint.chunk ≡ true }
-    ensures arena { IsHandOf arena.now hand.new }
+    requires arena { IsReadyHandOf arena.now hand.old }
+    requires near { has_chunk (setup_of arena.now).table (hint_chunk hint) ≡ true }
+    ensures arena { IsReadyHandOf arena.now hand.new }
 {
     match again(arena, hand, hint) {
         Ok(item) => {
@@ -55,8 +46,8 @@ fn follow(arena: &Arena, hand: &mut Hand, hint: Hint) -> Option<Again>
 
 /// The header of a chunk of the first page.
 fn head(arena: &Arena, hand: &mut Hand, index: u64) -> Option<u64>
-    requires arena { IsHandOf arena.now hand.old }
-    ensures arena { IsHandOf arena.now hand.new }
+    requires arena { IsReadyHandOf arena.now hand.old }
+    ensures arena { IsReadyHandOf arena.now hand.new }
 {
     header(arena, hand, ChunkId { page: 0, index })
 }
@@ -68,8 +59,8 @@ fn store_four<R: Abort + Wait>(
     arena: &Arena,
     hand: &mut Hand,
 ) -> Result<(), Fail>
-    requires arena { IsHandOf arena.now hand.old }
-    ensures arena { IsHandOf arena.now hand.new }
+    requires arena { IsReadyHandOf arena.now hand.old }
+    ensures arena { IsReadyHandOf arena.now hand.new }
 {
     for (index, free, linked) in [
         (4, 65_536, 458_753),

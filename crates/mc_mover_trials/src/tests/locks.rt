@@ -1,5 +1,6 @@
 //! Turns beside another hand's locks.
 ghost use Rattle.mc_words.specs.Arenas.{IsHandOf};
+ghost use Rattle.mc_mover_trials.specs.Hands.{IsReadyHandOf};
 
 use super::calls::opened_two;
 use super::moves::try_turn_by;
@@ -16,12 +17,12 @@ fn turn_beside_stripe(
     holder: &mut Hand,
     stripe: u64,
 ) -> Option<Result<Turn, TryTurn>>
-    requires arena { IsHandOf arena.now hand.old }
-    requires holder { IsHandOf arena.now holder.old }
-    ensures arena { IsHandOf arena.now hand.new }
+    requires arena { IsReadyHandOf arena.now hand.old }
+    requires holder { IsReadyHandOf arena.now holder.old }
+    ensures arena { IsReadyHandOf arena.now hand.new }
     ensures holder { IsHandOf arena.now holder.new }
 {
-    if stripe >= arena.config().stripes || !holder.unlocked() {
+    if stripe >= arena.config().stripes {
         return None;
     }
     let Ok(held) = arena.try_stripe(holder, stripe) else {
@@ -29,7 +30,7 @@ fn turn_beside_stripe(
     };
     let found = try_turn_by(arena, hand);
     arena.give_stripe(holder, held);
-    found
+    Some(found)
 }
 
 /// A turn of one hand, while another has the slabs. None where that hand didn't get them.
@@ -38,9 +39,9 @@ fn turn_beside_slabs(
     hand: &mut Hand,
     holder: &mut Hand,
 ) -> Option<Result<Turn, TryTurn>>
-    requires arena { IsHandOf arena.now hand.old }
+    requires arena { IsReadyHandOf arena.now hand.old }
     requires holder { IsHandOf arena.now holder.old }
-    ensures arena { IsHandOf arena.now hand.new }
+    ensures arena { IsReadyHandOf arena.now hand.new }
     ensures holder { IsHandOf arena.now holder.new }
 {
     let Ok(slabs) = arena.try_slabs(holder) else {
@@ -48,7 +49,7 @@ fn turn_beside_slabs(
     };
     let found = try_turn_by(arena, hand);
     arena.give_slabs(holder, slabs);
-    found
+    Some(found)
 }
 
 /// What a turn counts that evicted so many items, and found so many locked.
@@ -72,7 +73,7 @@ fn a_held_stripe_holds_up_the_page(rt: HostRuntime) -> Result<(), Fail> {
     assert_equal(&rt, went, Some(Ok(wanted)), "beside its stripe");
     let done = try_turn_by(&arena, &mut hand);
     let wanted = Turn::Finished(evicted(1, 0));
-    assert_equal(&rt, done, Some(Ok(wanted)), "once it was given");
+    assert_equal(&rt, done, Ok(wanted), "once it was given");
     let steps = [Step::Moved(1, 0, 2, 1)];
     play_all(&rt, rt.alloc(), &arena, &mut hand, &steps)?;
     Ok(())
@@ -89,8 +90,8 @@ fn who_does_not_wait_is_told_that_the_slabs_are_held(rt: HostRuntime) -> Result<
     assert_equal(&rt, refused, Some(Err(TryTurn::Held)), "a page moves");
     let done = try_turn_by(&arena, &mut hand);
     let wanted = Turn::Finished(evicted(2, 0));
-    assert_equal(&rt, done, Some(Ok(wanted)), "once they were given");
+    assert_equal(&rt, done, Ok(wanted), "once they were given");
     let idle = try_turn_by(&arena, &mut hand);
-    assert_equal(&rt, idle, Some(Ok(Turn::Idle)), "when no page moves");
+    assert_equal(&rt, idle, Ok(Turn::Idle), "when no page moves");
     Ok(())
 }

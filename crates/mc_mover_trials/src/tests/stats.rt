@@ -1,5 +1,5 @@
 //! Surveys, in the words of the statistics.
-ghost use Rattle.mc_words.specs.Arenas.{IsHandOf};
+ghost use Rattle.mc_mover_trials.specs.Hands.{IsReadyHandOf};
 
 use mc_classes::{ClassId, ClassTable};
 use mc_mover::{Survey, survey};
@@ -41,7 +41,7 @@ impl Stats {
     }
 }
 
-/// Surveys the arena. None where the hand may not, or memory ran out.
+/// Surveys the arena. None where memory ran out.
 pub fn stats_of<R: Wait>(
     rt: &R,
     alloc: Global,
@@ -49,12 +49,9 @@ pub fn stats_of<R: Wait>(
     hand: &mut Hand,
     sweep: bool,
 ) -> Option<Stats>
-    requires arena { IsHandOf arena.now hand.old }
-    ensures arena { IsHandOf arena.now hand.new }
+    requires arena { IsReadyHandOf arena.now hand.old }
+    ensures arena { IsReadyHandOf arena.now hand.new }
 {
-    if !hand.unlocked() {
-        return None;
-    }
     let Ok(found) = survey(rt, alloc, arena, hand, sweep) else {
         return None;
     };

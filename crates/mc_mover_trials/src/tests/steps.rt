@@ -1,5 +1,5 @@
 //! A call with what it is to give. A list of calls is one call of a test, so that it is checked fast.
-ghost use Rattle.mc_words.specs.Arenas.{IsHandOf};
+ghost use Rattle.mc_mover_trials.specs.Hands.{IsReadyHandOf};
 
 use super::assert_same;
 use super::calls::{delete_key, opened_two, store_all, touch_key};
@@ -55,8 +55,8 @@ fn counts(cleared: u64, rescued: u64, evicted: u64, busy: u64, locked: u64) -> C
 
 /// Whether the mode is set, and a survey tells it.
 fn has_mode<R: Wait>(rt: &R, alloc: Global, arena: &Arena, hand: &mut Hand, mode: u64) -> bool
-    requires arena { IsHandOf arena.now hand.old }
-    ensures arena { IsHandOf arena.now hand.new }
+    requires arena { IsReadyHandOf arena.now hand.old }
+    ensures arena { IsReadyHandOf arena.now hand.new }
 {
     if !set_mode_by(rt, arena, hand, mode) {
         return false;
@@ -75,8 +75,8 @@ fn has_pages<R: Wait>(
     hand: &mut Hand,
     wanted: (u64, u64, bool),
 ) -> bool
-    requires arena { IsHandOf arena.now hand.old }
-    ensures arena { IsHandOf arena.now hand.new }
+    requires arena { IsReadyHandOf arena.now hand.old }
+    ensures arena { IsReadyHandOf arena.now hand.new }
 {
     match stats_of(rt, alloc, arena, hand, true) {
         Some(stats) => (stats.totals.granted, stats.totals.pool, stats.running) == wanted,
@@ -92,8 +92,8 @@ fn has_moved<R: Wait>(
     hand: &mut Hand,
     wanted: (u64, u64, u64, u64),
 ) -> bool
-    requires arena { IsHandOf arena.now hand.old }
-    ensures arena { IsHandOf arena.now hand.new }
+    requires arena { IsReadyHandOf arena.now hand.old }
+    ensures arena { IsReadyHandOf arena.now hand.new }
 {
     let Some(stats) = stats_of(rt, alloc, arena, hand, true) else {
         return false;
@@ -117,8 +117,8 @@ pub fn has_chunks<R: Wait>(
     class: ClassId,
     chunks: Chunks,
 ) -> bool
-    requires arena { IsHandOf arena.now hand.old }
-    ensures arena { IsHandOf arena.now hand.new }
+    requires arena { IsReadyHandOf arena.now hand.old }
+    ensures arena { IsReadyHandOf arena.now hand.new }
 {
     match stats_of(rt, alloc, arena, hand, sweep) {
         Some(stats) => stats.class(arena.classes(), class) == Some(chunks),
@@ -134,8 +134,8 @@ fn plays<R: Wait>(
     hand: &mut Hand,
     step: Step,
 ) -> Result<bool, AllocError>
-    requires arena { IsHandOf arena.now hand.old }
-    ensures arena { IsHandOf arena.now hand.new }
+    requires arena { IsReadyHandOf arena.now hand.old }
+    ensures arena { IsReadyHandOf arena.now hand.new }
 {
     match step {
         Step::Sets(first, end, len) => store_all(rt, alloc, arena, hand, (first, end), first, len),
@@ -157,15 +157,13 @@ fn plays<R: Wait>(
 
 /// Whether a call that takes no memory of its own gives what it is to.
 fn acts<R: Wait>(rt: &R, arena: &Arena, hand: &mut Hand, step: Step) -> bool
-    requires arena { IsHandOf arena.now hand.old }
-    ensures arena { IsHandOf arena.now hand.new }
+    requires arena { IsReadyHandOf arena.now hand.old }
+    ensures arena { IsReadyHandOf arena.now hand.new }
 {
     match step {
         Step::Deletes(key) => delete_key(rt, arena, hand, key) == Some(true),
         Step::Touches(key, there) => touch_key(rt, arena, hand, key) == Some(there),
-        Step::Reassigns(src, dst, answer) => {
-            reassign_by(rt, arena, hand, src, dst) == Some(answer)
-        }
+        Step::Reassigns(src, dst, answer) => { reassign_by(rt, arena, hand, src, dst) == answer }
         Step::Idles => turn_by(rt, arena, hand) == Some(Turn::Idle),
         Step::Goes(cleared, rescued, evicted, busy, locked) => {
             let wanted = counts(cleared, rescued, evicted, busy, locked);
@@ -187,8 +185,8 @@ pub fn play_all<R: Abort + Wait>(
     hand: &mut Hand,
     steps: &[Step],
 ) -> Result<(), AllocError>
-    requires arena { IsHandOf arena.now hand.old }
-    ensures arena { IsHandOf arena.now hand.new }
+    requires arena { IsReadyHandOf arena.now hand.old }
+    ensures arena { IsReadyHandOf arena.now hand.new }
 {
     for place in 0..steps.len() {
         let done = plays(rt, alloc, arena, hand, steps[place])?;

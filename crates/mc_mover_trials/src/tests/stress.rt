@@ -1,8 +1,7 @@
 //! A mover's thread moves pages between four classes, while three workers store, hold, read and delete items.
 ghost use Rattle.std.specs.Prelude.{IfSome};
 ghost use Rattle.std.specs.Thread.{IsSync};
-ghost use Rattle.mc_words.specs.Arenas.{IsHandOf};
-ghost use Rattle.mc_mover_trials.specs.Hands.{AreHandsOf};
+ghost use Rattle.mc_mover_trials.specs.Hands.{AreHandsOf, IsIdleHandOf};
 
 use super::accounts::{NO_SUMS, Sums, all_sums, class_sums, count_keys, count_pages};
 use super::assert_same;
@@ -39,20 +38,20 @@ fn drive_beside<R: Threads + Wait + Sync>(
     mover: Hand,
     hands: (Hand, Hand),
 ) -> (Mover, Worker)
-    requires mover { IsHandOf arena.now mover }
-    requires hands { IsHandOf arena.now hands.0 × IsHandOf arena.now hands.1 }
-    ensures mover { IsHandOf arena.now result.0.hand }
-    ensures hands { IsHandOf arena.now result.1.reader × IsHandOf arena.now result.1.writer }
+    requires mover { IsIdleHandOf arena.now mover }
+    requires hands { IsIdleHandOf arena.now hands.0 × IsIdleHandOf arena.now hands.1 }
+    ensures mover { IsIdleHandOf arena.now result.0.hand }
+    ensures hands { IsIdleHandOf arena.now result.1.reader × IsIdleHandOf arena.now result.1.writer }
 {
     join(
         rt,
         move || -> Mover
-            requires { IsSync R.row × IsHandOf arena.now mover }
-            ensures { IsHandOf arena.entry.now result.hand }
+            requires { IsSync R.row × IsIdleHandOf arena.now mover }
+            ensures { IsIdleHandOf arena.entry.now result.hand }
         { drive(rt, arena, mover) },
         move || -> Worker
-            requires { IsSync R.row × IsHandOf arena.now hands.0 × IsHandOf arena.now hands.1 }
-            ensures { IsHandOf arena.entry.now result.reader × IsHandOf arena.entry.now result.writer }
+            requires { IsSync R.row × IsIdleHandOf arena.now hands.0 × IsIdleHandOf arena.now hands.1 }
+            ensures { IsIdleHandOf arena.entry.now result.reader × IsIdleHandOf arena.entry.now result.writer }
         { work(rt, alloc, arena, 1, hands) },
     )
 }
@@ -65,20 +64,20 @@ fn work_beside<R: Threads + Wait + Sync>(
     first: (Hand, Hand),
     second: (Hand, Hand),
 ) -> (Worker, Worker)
-    requires first { IsHandOf arena.now first.0 × IsHandOf arena.now first.1 }
-    requires second { IsHandOf arena.now second.0 × IsHandOf arena.now second.1 }
-    ensures first { IsHandOf arena.now result.0.reader × IsHandOf arena.now result.0.writer }
-    ensures second { IsHandOf arena.now result.1.reader × IsHandOf arena.now result.1.writer }
+    requires first { IsIdleHandOf arena.now first.0 × IsIdleHandOf arena.now first.1 }
+    requires second { IsIdleHandOf arena.now second.0 × IsIdleHandOf arena.now second.1 }
+    ensures first { IsIdleHandOf arena.now result.0.reader × IsIdleHandOf arena.now result.0.writer }
+    ensures second { IsIdleHandOf arena.now result.1.reader × IsIdleHandOf arena.now result.1.writer }
 {
     join(
         rt,
         move || -> Worker
-            requires { IsSync R.row × IsHandOf arena.now first.0 × IsHandOf arena.now first.1 }
-            ensures { IsHandOf arena.entry.now result.reader × IsHandOf arena.entry.now result.writer }
+            requires { IsSync R.row × IsIdleHandOf arena.now first.0 × IsIdleHandOf arena.now first.1 }
+            ensures { IsIdleHandOf arena.entry.now result.reader × IsIdleHandOf arena.entry.now result.writer }
         { work(rt, alloc, arena, 2, first) },
         move || -> Worker
-            requires { IsSync R.row × IsHandOf arena.now second.0 × IsHandOf arena.now second.1 }
-            ensures { IsHandOf arena.entry.now result.reader × IsHandOf arena.entry.now result.writer }
+            requires { IsSync R.row × IsIdleHandOf arena.now second.0 × IsIdleHandOf arena.now second.1 }
+            ensures { IsIdleHandOf arena.entry.now result.reader × IsIdleHandOf arena.entry.now result.writer }
         { work(rt, alloc, arena, 3, second) },
     )
 }
@@ -93,24 +92,24 @@ fn run_all<R: Threads + Wait + Sync>(
     second: (Hand, Hand),
     third: (Hand, Hand),
 ) -> ((Mover, Worker), (Worker, Worker))
-    requires mover { IsHandOf arena.now mover }
-    requires first { IsHandOf arena.now first.0 × IsHandOf arena.now first.1 }
-    requires second { IsHandOf arena.now second.0 × IsHandOf arena.now second.1 }
-    requires third { IsHandOf arena.now third.0 × IsHandOf arena.now third.1 }
-    ensures mover { IsHandOf arena.now result.0.0.hand }
-    ensures first { IsHandOf arena.now result.0.1.reader × IsHandOf arena.now result.0.1.writer }
-    ensures second { IsHandOf arena.now result.1.0.reader × IsHandOf arena.now result.1.0.writer }
-    ensures third { IsHandOf arena.now result.1.1.reader × IsHandOf arena.now result.1.1.writer }
+    requires mover { IsIdleHandOf arena.now mover }
+    requires first { IsIdleHandOf arena.now first.0 × IsIdleHandOf arena.now first.1 }
+    requires second { IsIdleHandOf arena.now second.0 × IsIdleHandOf arena.now second.1 }
+    requires third { IsIdleHandOf arena.now third.0 × IsIdleHandOf arena.now third.1 }
+    ensures mover { IsIdleHandOf arena.now result.0.0.hand }
+    ensures first { IsIdleHandOf arena.now result.0.1.reader × IsIdleHandOf arena.now result.0.1.writer }
+    ensures second { IsIdleHandOf arena.now result.1.0.reader × IsIdleHandOf arena.now result.1.0.writer }
+    ensures third { IsIdleHandOf arena.now result.1.1.reader × IsIdleHandOf arena.now result.1.1.writer }
 {
     join(
         rt,
         move || -> (Mover, Worker)
-            requires { IsSync R.row × IsHandOf arena.now mover × IsHandOf arena.now first.0 × IsHandOf arena.now first.1 }
-            ensures { IsHandOf arena.entry.now result.0.hand × IsHandOf arena.entry.now result.1.reader × IsHandOf arena.entry.now result.1.writer }
+            requires { IsSync R.row × IsIdleHandOf arena.now mover × IsIdleHandOf arena.now first.0 × IsIdleHandOf arena.now first.1 }
+            ensures { IsIdleHandOf arena.entry.now result.0.hand × IsIdleHandOf arena.entry.now result.1.reader × IsIdleHandOf arena.entry.now result.1.writer }
         { drive_beside(rt, alloc, arena, mover, first) },
         move || -> (Worker, Worker)
-            requires { IsSync R.row × (IsHandOf arena.now second.0 × IsHandOf arena.now second.1) × (IsHandOf arena.now third.0 × IsHandOf arena.now third.1) }
-            ensures { (IsHandOf arena.entry.now result.0.reader × IsHandOf arena.entry.now result.0.writer) × (IsHandOf arena.entry.now result.1.reader × IsHandOf arena.entry.now result.1.writer) }
+            requires { IsSync R.row × (IsIdleHandOf arena.now second.0 × IsIdleHandOf arena.now second.1) × (IsIdleHandOf arena.now third.0 × IsIdleHandOf arena.now third.1) }
+            ensures { (IsIdleHandOf arena.entry.now result.0.reader × IsIdleHandOf arena.entry.now result.0.writer) × (IsIdleHandOf arena.entry.now result.1.reader × IsIdleHandOf arena.entry.now result.1.writer) }
         { work_beside(rt, alloc, arena, second, third) },
     )
 }
@@ -123,29 +122,23 @@ struct Done {
     wrong: u64,
 }
 
-/// One hand of all. None where one isn't idle.
-fn gather_all(
-    arena: &Arena,
-    mover: Mover,
-    first: Worker,
-    second: Worker,
-    third: Worker,
-) -> Option<Done>
-    requires mover { IsHandOf arena.now mover.hand }
-    requires first { IsHandOf arena.now first.reader × IsHandOf arena.now first.writer }
-    requires second { IsHandOf arena.now second.reader × IsHandOf arena.now second.writer }
-    requires third { IsHandOf arena.now third.reader × IsHandOf arena.now third.writer }
-    ensures hand { IfSome result (λ done. IsHandOf arena.now done.hand) }
+/// One hand of all.
+fn gather_all(arena: &Arena, mover: Mover, first: Worker, second: Worker, third: Worker) -> Done
+    requires mover { IsIdleHandOf arena.now mover.hand }
+    requires first { IsIdleHandOf arena.now first.reader × IsIdleHandOf arena.now first.writer }
+    requires second { IsIdleHandOf arena.now second.reader × IsIdleHandOf arena.now second.writer }
+    requires third { IsIdleHandOf arena.now third.reader × IsIdleHandOf arena.now third.writer }
+    ensures hand { IsIdleHandOf arena.now result.hand }
 {
     let Mover { hand, tally } = mover;
-    let (hand, first) = gather(arena, hand, first)?;
-    let (hand, second) = gather(arena, hand, second)?;
-    let (hand, third) = gather(arena, hand, third)?;
+    let (hand, first) = gather(arena, hand, first);
+    let (hand, second) = gather(arena, hand, second);
+    let (hand, third) = gather(arena, hand, third);
     let wrong = first.saturating_add(second).saturating_add(third);
-    Some(Done { hand, tally, wrong })
+    Done { hand, tally, wrong }
 }
 
-/// All threads' work in this mode, once items were stored. None where a hand is missing, or isn't idle in the end.
+/// All threads' work in this mode, once items were stored. None where a hand is missing, or memory ran out.
 fn stress<R: Threads + Wait + Sync>(
     rt: &R,
     alloc: Global,
@@ -154,7 +147,7 @@ fn stress<R: Threads + Wait + Sync>(
     mode: u64,
 ) -> Option<Done>
     requires hands { AreHandsOf arena.now hands.old.items }
-    ensures hand { IfSome result (λ done. IsHandOf arena.now done.hand) }
+    ensures hand { IfSome result (λ done. IsIdleHandOf arena.now done.hand) }
 {
     let mut mover = next_hand(arena, hands)?;
     let first = two_of(arena, hands)?;
@@ -169,7 +162,7 @@ fn stress<R: Threads + Wait + Sync>(
     let (low, high) = run_all(rt, alloc, arena, mover, first, second, third);
     let (mover, first) = low;
     let (second, third) = high;
-    gather_all(arena, mover, first, second, third)
+    Some(gather_all(arena, mover, first, second, third))
 }
 
 /// The class's chunks are those of its pages, and what is used is linked, or cleared on a moving page.
@@ -236,7 +229,7 @@ fn assert_left<R: Abort + Wait>(
     done: Done,
     ends: bool,
 ) -> Result<(), Fail>
-    requires hand { IsHandOf arena done.hand }
+    requires hand { IsIdleHandOf arena done.hand }
 {
     let Done {
         mut hand,
@@ -265,7 +258,7 @@ fn account<R: Abort + Threads + Wait + Sync>(
     let (arena, mut hands) = opened(alloc, &EIGHT_PAGES, 7)?;
     match stress(rt, alloc, &arena, &mut hands, mode) {
         Some(done) => assert_left(rt, alloc, arena, done, ends),
-        None => Err(Fail::new("there are seven hands, and each is idle")),
+        None => Err(Fail::new("there are seven hands, and memory for items")),
     }
 }
 

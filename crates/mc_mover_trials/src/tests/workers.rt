@@ -1,12 +1,14 @@
 //! Workers of the stress: each holds items with one hand, while it stores, reads and deletes others with a second. Each word of an
 //! item tells its key and stamp, so a word of another item would be seen.
-ghost use Rattle.std.specs.Prelude.{◌≡◌, true, IfSome};
+ghost use Rattle.std.specs.Prelude.{◌≡◌, true};
 ghost use Rattle.mc_core.specs.State.{has_chunk};
-ghost use Rattle.mc_words.specs.Arenas.{IsHandOf, setup_of, view};
+ghost use Rattle.mc_words.specs.Arenas.{setup_of, view};
+ghost use Rattle.mc_words.specs.Observers.{hint_chunk};
 ghost use Rattle.mc_items.specs.ItemRefs.{IsItemRef};
+ghost use Rattle.mc_items.specs.Keeping.{HoldsTheSame};
+ghost use Rattle.mc_mover_trials.specs.Hands.{IsIdleHandOf, IsReadyHandOf};
 
 use super::calls::{delete_key, get_key, has_words, set_words};
-use super::hints::get_near;
 use super::words::words_from;
 use mc_items::{Ref, again, hint, release};
 use mc_stripe::{Key, Stamp};
@@ -57,6 +59,11 @@ fn key_of(drawn: u64) -> Key {
     (drawn >> 8) % KEYS
 }
 
+/// The key whose item a thread holds in a round.
+fn held_key(thread: u64, round: u64) -> Key {
+    key_of(draw(thread.wrapping_add(16), round))
+}
+
 /// Stores an item whose words tell its key and stamp, if there is room.
 fn store<R: Wait>(
     rt: &R,
@@ -65,8 +72,8 @@ fn store<R: Wait>(
     hand: &mut Hand,
     key: Key,
 ) -> Result<(), AllocError>
-    requires arena { IsHandOf arena.now hand.old }
-    ensures arena { IsHandOf arena.now hand.new }
+    requires arena { IsIdleHandOf arena.now hand.old }
+    ensures arena { IsIdleHandOf arena.now hand.new }
 {
     let stamp = hand.next_stamp().unwrap_or(0);
     let words = words_from(alloc, first_word(key, stamp), len_of(key))?;
@@ -81,8 +88,8 @@ pub fn store_each<R: Wait>(
     arena: &Arena,
     hand: &mut Hand,
 ) -> Result<(), AllocError>
-    requires arena { IsHandOf arena.now hand.old }
-    ensures arena { IsHandOf arena.now hand.new }
+    requires arena { IsIdleHandOf arena.now hand.old }
+    ensures arena { IsIdleHandOf arena.now hand.new }
 {
     for key in 0..KEYS {
         store(rt, alloc, arena, hand, key)?;
@@ -98,17 +105,19 @@ fn is_own(
     item: &Ref,
     key: Key,
 ) -> Result<bool, AllocError>
-    requires arena { IsHandOf arena.now hand.old }
+    requires arena { IsReadyHandOf arena.now hand.old }
     requires item { IsItemRef (view hand.old) item.now }
-    ensures arena { IsHandOf arena.now hand.new }
-    ensures same { view hand.new ≡ view hand.old }
+    ensures arena { IsReadyHandOf arena.now hand.new }
+    ensures item { IsItemRef (view hand.new) item.now }
+    ensures holdings { HoldsTheSame (view hand.old) (view hand.new) }
 {
     let first = first_word(key, item.stamp());
     let own = has_words(alloc, arena, hand, item, first, len_of(key))?;
     Ok(own && item.key() == key)
 }
 
-/// Reads the key's item, if it has one. True if all words were its own.
+/// Reads the key's item, if it has one. True if all words were its own. The reference is given up, also where memory ran out.
+#[tactic(auto, using(crate::proofs::Kept::nothing_left_later))]
 fn read_once<R: Wait>(
     rt: &R,
     alloc: Global,
@@ -116,15 +125,15 @@ fn read_once<R: Wait>(
     hand: &mut Hand,
     key: Key,
 ) -> Result<bool, AllocError>
-    requires arena { IsHandOf arena.now hand.old }
-    ensures arena { IsHandOf arena.now hand.new }
+    requires arena { IsIdleHandOf arena.now hand.old }
+    ensures arena { IsIdleHandOf arena.now hand.new }
 {
     let Some(item) = get_key(rt, arena, hand, key) else {
         return Ok(true);
     };
-    let own = is_own(alloc, arena, hand, &item, key)?;
+    let own = is_own(alloc, arena, hand, &item, key);
     release(arena, hand, item);
-    Ok(own)
+    own
 }
 
 /// One line: a set, a get or a delete. True if all words that were read were their item's own.
@@ -135,8 +144,8 @@ fn do_line<R: Wait>(
     hand: &mut Hand,
     drawn: u64,
 ) -> Result<bool, AllocError>
-    requires arena { IsHandOf arena.now hand.old }
-    ensures arena { IsHandOf arena.now hand.new }
+    requires arena { IsIdleHandOf arena.now hand.old }
+    ensures arena { IsIdleHandOf arena.now hand.new }
 {
     let key = key_of(drawn);
     match drawn % 8 {
@@ -161,8 +170,8 @@ fn do_lines<R: Wait>(
     thread: u64,
     round: u64,
 ) -> Result<bool, AllocError>
-    requires arena { IsHandOf arena.now hand.old }
-    ensures arena { IsHandOf arena.now hand.new }
+    requires arena { IsIdleHandOf arena.now hand.old }
+    ensures arena { IsIdleHandOf arena.now hand.new }
 {
     let mut own = true;
     for line in 0..LINES {
@@ -182,20 +191,48 @@ fn read_again(
     hint: Hint,
     key: Key,
 ) -> Result<bool, AllocError>
-    requires arena { IsHandOf arena.now hand.old }
-    requires near { has_chunk (setup_of arena.now).table hint.chunk ≡ true }
-    ensures arena { IsHandOf arena.now hand.new }
+    requires arena { IsIdleHandOf arena.now hand.old }
+    requires near { has_chunk (setup_of arena.now).table (hint_chunk hint) ≡ true }
+    ensures arena { IsIdleHandOf arena.now hand.new }
 {
     let Ok(item) = again(arena, hand, hint) else {
         return Ok(true);
     };
-    let own = is_own(alloc, arena, hand, &item, key)?;
+    let own = is_own(alloc, arena, hand, &item, key);
     release(arena, hand, item);
-    Ok(own)
+    own
 }
 
-/// One round: an item is held over lines, read before and behind them, and once more when it was released. True if all words that
-/// were read were their items' own.
+/// Reads the item that a thread holds in a round, before and behind its lines. True if all words that were read were their items'
+/// own.
+fn reads_own<R: Wait>(
+    rt: &R,
+    alloc: Global,
+    arena: &Arena,
+    reader: &mut Hand,
+    writer: &mut Hand,
+    item: &Ref,
+    place: (u64, u64),
+) -> Result<bool, AllocError>
+    requires reader { IsReadyHandOf arena.now reader.old }
+    requires item { IsItemRef (view reader.old) item.now }
+    requires writer { IsIdleHandOf arena.now writer.old }
+    ensures reader { IsReadyHandOf arena.now reader.new }
+    ensures item { IsItemRef (view reader.new) item.now }
+    ensures holdings { HoldsTheSame (view reader.old) (view reader.new) }
+    ensures writer { IsIdleHandOf arena.now writer.new }
+{
+    let (thread, round) = place;
+    let key = held_key(thread, round);
+    let before = is_own(alloc, arena, reader, item, key)?;
+    let between = do_lines(rt, alloc, arena, writer, thread, round)?;
+    let behind = is_own(alloc, arena, reader, item, key)?;
+    Ok(before && between && behind)
+}
+
+/// One round: an item is held over lines, read before and behind them, and once more when it was released, which it is also where
+/// memory ran out. True if all words that were read were their items' own.
+#[tactic(auto, using(crate::proofs::Kept::nothing_left_later))]
 fn hold_over<R: Wait>(
     rt: &R,
     alloc: Global,
@@ -205,22 +242,20 @@ fn hold_over<R: Wait>(
     thread: u64,
     round: u64,
 ) -> Result<bool, AllocError>
-    requires reader { IsHandOf arena.now reader.old }
-    requires writer { IsHandOf arena.now writer.old }
-    ensures reader { IsHandOf arena.now reader.new }
-    ensures writer { IsHandOf arena.now writer.new }
+    requires reader { IsIdleHandOf arena.now reader.old }
+    requires writer { IsIdleHandOf arena.now writer.old }
+    ensures reader { IsIdleHandOf arena.now reader.new }
+    ensures writer { IsIdleHandOf arena.now writer.new }
 {
-    let key = key_of(draw(thread.wrapping_add(16), round));
-    let Some(item) = get_near(rt, arena, reader, key) else {
+    let key = held_key(thread, round);
+    let Some(item) = get_key(rt, arena, reader, key) else {
         return do_lines(rt, alloc, arena, writer, thread, round);
     };
     let hint = hint(&item);
-    let before = is_own(alloc, arena, reader, &item, key)?;
-    let between = do_lines(rt, alloc, arena, writer, thread, round)?;
-    let behind = is_own(alloc, arena, reader, &item, key)?;
+    let own = reads_own(rt, alloc, arena, reader, writer, &item, (thread, round));
     release(arena, reader, item);
     let behind_release = read_again(alloc, arena, reader, hint, key)?;
-    Ok(before && between && behind && behind_release)
+    Ok(own? && behind_release)
 }
 
 /// A worker's two hands, and how many of its rounds showed words of other items.
@@ -239,8 +274,8 @@ pub fn work<R: Wait>(
     thread: u64,
     hands: (Hand, Hand),
 ) -> Worker
-    requires hands { IsHandOf arena.now hands.0 × IsHandOf arena.now hands.1 }
-    ensures hands { IsHandOf arena.now result.reader × IsHandOf arena.now result.writer }
+    requires hands { IsIdleHandOf arena.now hands.0 × IsIdleHandOf arena.now hands.1 }
+    ensures hands { IsIdleHandOf arena.now result.reader × IsIdleHandOf arena.now result.writer }
 {
     let (mut reader, mut writer) = hands;
     let mut wrong = 0u64;
@@ -257,31 +292,28 @@ pub fn work<R: Wait>(
     }
 }
 
-/// One hand of two. None where one isn't idle.
-pub fn one_of(arena: &Arena, hand: Hand, other: Hand) -> Option<Hand>
-    requires hand { IsHandOf arena.now hand }
-    requires other { IsHandOf arena.now other }
-    ensures hand { IfSome result (λ hand. IsHandOf arena.now hand) }
+/// One hand of two.
+#[tactic(auto, using(crate::proofs::Kept::idle, crate::proofs::Kept::ready_of_both, crate::proofs::Kept::nothing_of_both))]
+pub fn one_of(arena: &Arena, hand: Hand, other: Hand) -> Hand
+    requires hand { IsIdleHandOf arena.now hand }
+    requires other { IsIdleHandOf arena.now other }
+    ensures hand { IsIdleHandOf arena.now result }
 {
-    if !hand.idle() || !other.idle() {
-        return None;
-    }
-    Some(arena.join_hands(hand, other))
+    arena.join_hands(hand, other)
 }
 
-/// One hand of all that is given here and the worker's two, and how many rounds were wrong. None where a hand isn't idle.
-pub fn gather(arena: &Arena, hand: Hand, worker: Worker) -> Option<(Hand, u64)>
-    requires hand { IsHandOf arena.now hand }
-    requires reader { IsHandOf arena.now worker.reader }
-    requires writer { IsHandOf arena.now worker.writer }
-    ensures hand { IfSome result (λ found. IsHandOf arena.now found.0) }
+/// One hand of all that is given here and the worker's two, and how many rounds were wrong.
+pub fn gather(arena: &Arena, hand: Hand, worker: Worker) -> (Hand, u64)
+    requires hand { IsIdleHandOf arena.now hand }
+    requires reader { IsIdleHandOf arena.now worker.reader }
+    requires writer { IsIdleHandOf arena.now worker.writer }
+    ensures hand { IsIdleHandOf arena.now result.0 }
 {
     let Worker {
         reader,
         writer,
         wrong,
     } = worker;
-    let both = one_of(arena, reader, writer)?;
-    let all = one_of(arena, hand, both)?;
-    Some((all, wrong))
+    let both = one_of(arena, reader, writer);
+    (one_of(arena, hand, both), wrong)
 }

@@ -1,4 +1,4 @@
-use Rattle.std.proofs.Common.{◌≡◌, ◌%◌, ℕ, refl, ap, subst, ◌∙◌}
+use Rattle.std.proofs.Common.{◌≡◌, ◌%◌, ℕ, false, refl, ap, subst, ◌∙◌}
 use Rattle.mc_classes.specs.declared.config.Config.{Config}
 use Rattle.mc_core.specs.Holdings.{has_fresh}
 use Rattle.mc_words.specs.Doing.{IsDone}
@@ -9,7 +9,11 @@ use Rattle.mc_words.specs.Views.{stripe_given}
 use Rattle.mc_words.specs.Waiting.{WaitsForStripe}
 use Rattle.mc_stripe.specs.declared.history.Call.TheVariants.{Delete}
 use Rattle.mc_items.specs.Calls.{CallsOn, Deletes, OnlyWaits, TellsCall, TellsNoCall}
+use Rattle.mc_items.proofs.Chains.{ready_still, refs_stay}
+use Rattle.mc_items.proofs.Left.{Kept, kept_of}
+use Rattle.mc_items.proofs.GetLeaves.{delete_kept}
 use Rattle.mc_items.proofs.Deletes.{ok_map, err_map}
+use Rattle.mc_items.proofs.Freed.{error_both}
 use Rattle.mc_items.proofs.Gets.{called_on, only_waits}
 use Rattle.mc_words.proofs.HandNumbers.{number_stays}
 use Rattle.mc_items.proofs.Locks.{locks_back, waits_keep}
@@ -19,10 +23,10 @@ use Rattle.mc_items.proofs.deleting.delete.Goals as goal
 pub delete_at-requires-clause-fresh : goal.delete_at-requires-clause-fresh
 delete_at-requires-clause-fresh g c =
     let held = c.lock_stripe-held in
-    ap has_fresh (waits_keep (λ (v : View). v.row.holdings) (c.args.key % c.config.result.now.stripes) (λ word v. refl) (λ value v. refl) c.args.hand.now.seat.me.0 held.result.stripe held.new.hand.seat.me.0 held.ensures.waits) ∙ c.requires.fresh
+    ap has_fresh (waits_keep (λ (v : View). v.row.holdings) (c.args.key % c.config.result.now.stripes) (λ word v. refl) (λ value v. refl) c.args.hand.now.seat.me.0 held.result.stripe held.new.hand.seat.me.0 held.ensures.waits) ∙ c.requires.ready.unfilled
 
 pub returns-clause-locks : goal.returns-clause-locks
-returns-clause-locks g c = c.delete_at.ensures.locks ∙ (ap without_stripe c.lock_stripe-held.ensures.locks ∙ locks_back c.args.hand.now (c.args.key % c.config.result.now.stripes) c.requires.unlocked)
+returns-clause-locks g c = c.delete_at.ensures.locks ∙ (ap without_stripe c.lock_stripe-held.ensures.locks ∙ locks_back c.args.hand.now (c.args.key % c.config.result.now.stripes) c.requires.ready.unlocked)
 
 pub returns-clause-deletes : goal.returns-clause-deletes
 returns-clause-deletes g c =
@@ -47,8 +51,8 @@ returns-clause-no_memory g c =
     let now : View = c.delete_at.new.hand.seat.me.0 in
     let at : c.args.key % c.config.result.now.stripes ≡ c.args.key % c.args.arena.now.table.shared.key.config.stripes = ap (λ (f : Config). c.args.key % f.stripes) c.config.ensures.config in
     let stripe = c.args.key % c.args.arena.now.table.shared.key.config.stripes in
-    err_map (now ≡ stripe_given held.result.number held.result.stripe taken) (OnlyWaits stripe before now) c.delete_at.result
-    (only_waits stripe held.result.number held.result.stripe before taken now (held.ensures.number ∙ at) (subst (λ (n : ℕ). WaitsForStripe n before held.result.stripe taken) at held.ensures.waits)) c.delete_at.ensures.given
+    err_map ((now ≡ stripe_given held.result.number held.result.stripe taken) × (held.result.stripe.ready ≡ false)) (OnlyWaits stripe before now) c.delete_at.result
+    (λ both. only_waits stripe held.result.number held.result.stripe before taken now (held.ensures.number ∙ at) (subst (λ (n : ℕ). WaitsForStripe n before held.result.stripe taken) at held.ensures.waits) (subst (λ (n : ℕ). IsLentStripe taken n held.result.stripe) at held.ensures.whole) both.1 both.0) (error_both (now ≡ stripe_given held.result.number held.result.stripe taken) (held.result.stripe.ready ≡ false) c.delete_at.result c.delete_at.ensures.given c.delete_at.ensures.full)
 
 pub returns-clause-calls : goal.returns-clause-calls
 returns-clause-calls g c =
@@ -72,5 +76,36 @@ returns-clause-refused g c =
     let now : View = c.delete_at.new.hand.seat.me.0 in
     let at : c.args.key % c.config.result.now.stripes ≡ c.args.key % c.args.arena.now.table.shared.key.config.stripes = ap (λ (f : Config). c.args.key % f.stripes) c.config.ensures.config in
     let stripe = c.args.key % c.args.arena.now.table.shared.key.config.stripes in
-    err_map (now ≡ stripe_given held.result.number held.result.stripe taken) (TellsNoCall before now) c.delete_at.result
-    (λ given. told_none stripe before now (only_waits stripe held.result.number held.result.stripe before taken now (held.ensures.number ∙ at) (subst (λ (n : ℕ). WaitsForStripe n before held.result.stripe taken) at held.ensures.waits) given)) c.delete_at.ensures.given
+    err_map ((now ≡ stripe_given held.result.number held.result.stripe taken) × (held.result.stripe.ready ≡ false)) (TellsNoCall before now) c.delete_at.result
+    (λ both. told_none stripe before now (only_waits stripe held.result.number held.result.stripe before taken now (held.ensures.number ∙ at) (subst (λ (n : ℕ). WaitsForStripe n before held.result.stripe taken) at held.ensures.waits) (subst (λ (n : ℕ). IsLentStripe taken n held.result.stripe) at held.ensures.whole) both.1 both.0)) (error_both (now ≡ stripe_given held.result.number held.result.stripe taken) (held.result.stripe.ready ≡ false) c.delete_at.result c.delete_at.ensures.given c.delete_at.ensures.full)
+
+pub returns-clause-holdings : goal.returns-clause-holdings
+returns-clause-holdings g c =
+    let hand = c.args.hand.now in
+    let now = c.delete_at.new.hand in
+    let kept = delete_kept c.delete_at.result hand.number (c.args.key % c.args.arena.now.table.shared.key.config.stripes) c.args.key hand.seat.me.0 now.seat.me.0 (returns-clause-deletes g c) (returns-clause-no_memory g c) in
+    ap (λ (k : Kept). k.0) kept
+
+pub returns-clause-ready : goal.returns-clause-ready
+returns-clause-ready g c = ready_still c.args.hand.now c.delete_at.new.hand (returns-clause-locks g c) (returns-clause-holdings g c) c.requires.ready
+
+pub returns-clause-number : goal.returns-clause-number
+returns-clause-number g c =
+    let hand = c.args.hand.now in
+    let now = c.delete_at.new.hand in
+    let kept = delete_kept c.delete_at.result hand.number (c.args.key % c.args.arena.now.table.shared.key.config.stripes) c.args.key hand.seat.me.0 now.seat.me.0 (returns-clause-deletes g c) (returns-clause-no_memory g c) in
+    number_stays hand now (ap (λ (k : Kept). k.3) kept)
+
+pub returns-clause-keeps : goal.returns-clause-keeps
+returns-clause-keeps g c =
+    let hand = c.args.hand.now in
+    let now = c.delete_at.new.hand in
+    let kept = delete_kept c.delete_at.result hand.number (c.args.key % c.args.arena.now.table.shared.key.config.stripes) c.args.key hand.seat.me.0 now.seat.me.0 (returns-clause-deletes g c) (returns-clause-no_memory g c) in
+    refs_stay hand.seat.me.0 now.seat.me.0 (ap (λ (k : Kept). k.0) kept) (ap (λ (k : Kept). k.1) kept)
+
+pub returns-clause-unsaid : goal.returns-clause-unsaid
+returns-clause-unsaid g c =
+    let hand = c.args.hand.now in
+    let now = c.delete_at.new.hand in
+    let kept = delete_kept c.delete_at.result hand.number (c.args.key % c.args.arena.now.table.shared.key.config.stripes) c.args.key hand.seat.me.0 now.seat.me.0 (returns-clause-deletes g c) (returns-clause-no_memory g c) in
+    ap (λ (k : Kept). k.2) kept

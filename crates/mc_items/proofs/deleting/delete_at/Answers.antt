@@ -6,6 +6,7 @@ use Rattle.mc_words.specs.declared.held.StripeHeld.{StripeHeld}
 use Rattle.mc_words.specs.View.{View}
 use Rattle.mc_items.proofs.Deletes.{and_false, deleted_done, deleted_is}
 use Rattle.mc_words.proofs.HandNumbers.{number_stays}
+use Rattle.mc_items.proofs.Freed.{full_from}
 use Rattle.mc_items.proofs.deleting.delete_at.Goals as goal
 
 pub give_stripe-requires-2-clause-empty : goal.give_stripe-requires-2-clause-empty
@@ -28,3 +29,6 @@ returns-clause-done c =
     deleted_done c.args.hand.now.number c.args.held.number c.args.held.stripe c.args.key c.unlink-there.result view made got c.give_stripe-2.new.hand.seat.me.0 c.reserve.new.hand.number c.reserve.new.held.number c.unlink-there.new.held.number st c.unlink-there.new.held.stripe
     number c.reserve.ensures.number (c.unlink-there.ensures.number ∙ c.reserve.ensures.number) (ap (λ (h : StripeHeld). h.stripe) c.in_default.ensures.reserved) c.in_default.ensures.view c.unlink-there.ensures.there
     (deleted_is c.reserve.new.hand.number c.reserve.new.held.number st c.args.key c.unlink-there.result made got none c.unlink-there.ensures.unlinked c.unlink-there.ensures.view) kept c.give_stripe-2.ensures.left
+
+pub returns-in-Err-clause-full : goal.returns-in-Err-clause-full
+returns-in-Err-clause-full c = full_from c.args.held.stripe.ready c.reserve.result c.in-Err.error c.in-Err.is c.reserve.ensures.succeeds

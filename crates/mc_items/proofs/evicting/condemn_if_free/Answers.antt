@@ -1,15 +1,18 @@
-use Rattle.std.proofs.Common.{◌≡◌, ◌<◌, ◌%◌, ℕ, true, Some, refl, ap, sym, subst, ◌∙◌, inl, inr}
+use Rattle.std.proofs.Common.{◌≡◌, ◌<◌, ◌%◌, ℕ, true, false, Some, [], refl, ap, sym, subst, ◌∙◌, inl, inr}
 use Rattle.mc_classes.specs.declared.config.Config.{Config}
 use Rattle.mc_core.specs.Head.{decode}
 use Rattle.mc_core.specs.State.{has_chunk, is_class, room_in}
 use Rattle.mc_words.specs.Condemning.{key_seen, knows_reason}
+use Rattle.mc_core.specs.declared.event.Step.TheVariants as step
+use Rattle.mc_words.specs.Happens.{Happens}
 use Rattle.mc_words.specs.View.{Setup, View}
 use Rattle.mc_words.specs.Out.{with_stripe, without_stripe}
-use Rattle.mc_words.specs.Views.{stripe_missed}
+use Rattle.mc_words.specs.Views.{stripe_given, stripe_missed}
 use Rattle.mc_words.proofs.SweepViews.{stands_out}
 use Rattle.mc_items.specs.Supplying.{FindsItemHeld, TakesItem}
 use Rattle.mc_words.proofs.HandNumbers.{number_stays}
 use Rattle.mc_items.proofs.Reaches.{found_linked, holdings_stay, lacked, no_copies, reached, reason_found, some_room, stripe_back, stripe_found}
+use Rattle.mc_items.proofs.Freed.{error_both}
 use Rattle.mc_items.proofs.Supplies.{if_error}
 use Rattle.mc_items.proofs.evicting.condemn_if_free.Goals as goal
 
@@ -41,7 +44,17 @@ returns-in_default-clause-passed c _ =
     let (word, busy, missed) = c.in_default.ensures.held in
     let at : key % c.config.result.now.stripes ≡ key % view.setup.config.stripes = ap (λ (g : Config). key % g.stripes) (c.config.ensures.config ∙ ap (λ (s : Setup). s.config) (sym c.requires.arena.setup)) in
     let read = c.word_held-key.ensures.view ∙ ap (key_seen c.args.chunk key) c.head-head.ensures.seen in
-    inr (inl (record { head = head; unheld = sym c.is_unheld.ensures.unheld ∙ c.if-not-is_unheld.false; key = key; word = word; busy = busy; is = missed ∙ (λ k. stripe_missed (at k) word (read k)) }))
+    inr (inl (record {
+      head = head;
+      unheld = sym c.is_unheld.ensures.unheld ∙ c.if-not-is_unheld.false;
+      key = key;
+      word = word;
+      busy = busy;
+      looks = subst (λ (v : View). Happens view [] (step.Head c.args.chunk) v) c.head-head.ensures.seen c.head-head.ensures.happens;
+      reads = subst (λ (p : View × View). Happens p.0 [] (step.WordHeld c.args.chunk 0) p.1) (λ k. (c.head-head.ensures.seen k, read k)) c.word_held-key.ensures.happens;
+      misses = subst (λ (p : View × ℕ). Happens p.0 [] (step.MissStripe p.1) c.try_stripe.new.hand.seat.me.0) (λ k. (read k, at k)) c.in_default.ensures.missed;
+      is = missed ∙ (λ k. stripe_missed (at k) word (read k));
+    }))
 
 pub condemn_at-requires-clause-key : goal.condemn_at-requires-clause-key
 condemn_at-requires-clause-key c =
@@ -80,7 +93,7 @@ returns-clause-taken c e =
     let ids = ap (λ (v : View). v.row.ids) c.in-Ok.ensures.lent ∙ (ap (λ (v : View). v.row.ids) c.word_held-key.ensures.view ∙ ap (λ (v : View). v.row.ids) c.head-head.ensures.seen) in
     reached (λ number stripe. TakesItem number stripe c.args.chunk) c.args.hand.now.number c.try_stripe.new.hand.number view c.args.chunk (decode c.head-head.result) c.head-head.new.hand.seat.me.0 c.word_held-key.new.hand.seat.me.0 c.try_stripe.new.hand.seat.me.0 c.condemn_at.new.hand.seat.me.0
     key (key % c.config.result.now.stripes) c.in-Ok.held.number c.in-Ok.held.stripe (sym c.is_unheld.ensures.unheld ∙ c.if-not-is_unheld.false) c.head-head.ensures.seen c.word_held-key.ensures.view at c.in-Ok.ensures.number (number_stays c.args.hand.now c.try_stripe.new.hand ids)
-    c.head-head.ensures.happens c.word_held-key.ensures.happens c.in-Ok.ensures.taken c.in-Ok.ensures.lent c.in-Ok.ensures.whole (c.condemn_at.ensures.taken e)
+    c.head-head.ensures.happens c.word_held-key.ensures.happens c.in-Ok.ensures.taken c.in-Ok.ensures.lent c.in-Ok.ensures.whole c.in-Ok.ensures.seen (c.condemn_at.ensures.taken e)
 
 pub returns-clause-passed : goal.returns-clause-passed
 returns-clause-passed c e =
@@ -90,7 +103,7 @@ returns-clause-passed c e =
     let ids = ap (λ (v : View). v.row.ids) c.in-Ok.ensures.lent ∙ (ap (λ (v : View). v.row.ids) c.word_held-key.ensures.view ∙ ap (λ (v : View). v.row.ids) c.head-head.ensures.seen) in
     inr (inr (reached (λ number stripe. FindsItemHeld c.args.chunk) c.args.hand.now.number c.try_stripe.new.hand.number view c.args.chunk (decode c.head-head.result) c.head-head.new.hand.seat.me.0 c.word_held-key.new.hand.seat.me.0 c.try_stripe.new.hand.seat.me.0 c.condemn_at.new.hand.seat.me.0
     key (key % c.config.result.now.stripes) c.in-Ok.held.number c.in-Ok.held.stripe (sym c.is_unheld.ensures.unheld ∙ c.if-not-is_unheld.false) c.head-head.ensures.seen c.word_held-key.ensures.view at c.in-Ok.ensures.number (number_stays c.args.hand.now c.try_stripe.new.hand ids)
-    c.head-head.ensures.happens c.word_held-key.ensures.happens c.in-Ok.ensures.taken c.in-Ok.ensures.lent c.in-Ok.ensures.whole (c.condemn_at.ensures.moved e)))
+    c.head-head.ensures.happens c.word_held-key.ensures.happens c.in-Ok.ensures.taken c.in-Ok.ensures.lent c.in-Ok.ensures.whole c.in-Ok.ensures.seen (c.condemn_at.ensures.moved e)))
 
 pub returns-clause-locks : goal.returns-clause-locks
 returns-clause-locks c =
@@ -103,6 +116,7 @@ returns-clause-no_memory c =
     let key = c.word_held-key.result in
     let at : key % c.config.result.now.stripes ≡ key % view.setup.config.stripes = ap (λ (g : Config). key % g.stripes) (c.config.ensures.config ∙ ap (λ (s : Setup). s.config) (sym c.requires.arena.setup)) in
     if_error c.condemn_at.result
-    (λ given. lacked view c.args.chunk (decode c.head-head.result) c.head-head.new.hand.seat.me.0 c.word_held-key.new.hand.seat.me.0 c.try_stripe.new.hand.seat.me.0 c.condemn_at.new.hand.seat.me.0
-    key (key % c.config.result.now.stripes) c.in-Ok.held.number c.in-Ok.held.stripe (sym c.is_unheld.ensures.unheld ∙ c.if-not-is_unheld.false) c.head-head.ensures.seen c.word_held-key.ensures.view at c.in-Ok.ensures.number c.in-Ok.ensures.lent given)
-    c.condemn_at.ensures.no_memory
+    (λ both. lacked view c.args.chunk (decode c.head-head.result) c.head-head.new.hand.seat.me.0 c.word_held-key.new.hand.seat.me.0 c.try_stripe.new.hand.seat.me.0 c.condemn_at.new.hand.seat.me.0
+    key (key % c.config.result.now.stripes) c.in-Ok.held.number c.in-Ok.held.stripe (sym c.is_unheld.ensures.unheld ∙ c.if-not-is_unheld.false) c.head-head.ensures.seen c.word_held-key.ensures.view at c.in-Ok.ensures.number
+    c.head-head.ensures.happens c.word_held-key.ensures.happens c.in-Ok.ensures.taken c.in-Ok.ensures.lent c.in-Ok.ensures.whole c.in-Ok.ensures.seen both.1 both.0)
+    (error_both (c.condemn_at.new.hand.seat.me.0 ≡ stripe_given c.in-Ok.held.number c.in-Ok.held.stripe c.try_stripe.new.hand.seat.me.0) (c.in-Ok.held.stripe.ready ≡ false) c.condemn_at.result c.condemn_at.ensures.no_memory c.condemn_at.ensures.full)

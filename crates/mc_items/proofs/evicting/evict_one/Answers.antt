@@ -22,13 +22,13 @@ use Rattle.mc_items.specs.Evicting.{FreesChunk, PassesEach, PassesOne}
 use Rattle.mc_items.proofs.FirstFive.{five_of_all, five_passed, five_with, rest_begins}
 use Rattle.mc_items.proofs.Freed.{as_error, frees_uncut, on_error}
 use Rattle.mc_words.proofs.HandNumbers.{number_stays}
-use Rattle.mc_items.proofs.Passes.{each_keeps, passed_alive, passes_on}
+use Rattle.mc_items.proofs.Passes.{OwnTuple, each_keeps, passed_alive, passes_on}
 use Rattle.mc_items.proofs.evicting.evict_one.Goals as goal
 
 -- a hand that passed some chunks has the number that it had
 number_here : (before now : Hand) (chunks : List ChunkId) → PassesEach before.number chunks before.seat.me.0 now.seat.me.0 → now.number ≡ before.number
 number_here before now chunks passes =
-    number_stays before now (ap (λ (o : List Holding × List Saying × Ids × List Own). o.2) (each_keeps before.number chunks before.seat.me.0 now.seat.me.0 passes))
+    number_stays before now (ap (λ (o : OwnTuple). o.2) (each_keeps before.number chunks before.seat.me.0 now.seat.me.0 passes))
 
 pub first_out-next-requires : goal.first_out-next-requires
 first_out-next-requires c =
@@ -82,7 +82,7 @@ free_one-requires-clause-one c =
 pub free_one-requires-clause-fresh : goal.free_one-requires-clause-fresh
 free_one-requires-clause-fresh c =
     let inv = c.loop.invariant in
-    ap (λ (o : List Holding × List Saying × Ids × List Own). has_fresh o.0) (each_keeps c.args.hand.now.number inv.done c.args.hand.now.seat.me.0 c.loop.hand.seat.me.0 inv.passes) ∙ c.requires.fresh
+    ap (λ (o : OwnTuple). has_fresh o.0) (each_keeps c.args.hand.now.number inv.done c.args.hand.now.seat.me.0 c.loop.hand.seat.me.0 inv.passes) ∙ c.requires.fresh
 
 pub free_one-requires-clause-out : goal.free_one-requires-clause-out
 free_one-requires-clause-out c =

@@ -1,4 +1,4 @@
-use Rattle.std.proofs.Common.{◌≡◌, ◌%◌, ℕ, refl, ap, subst, ◌∙◌, arith, length, List}
+use Rattle.std.proofs.Common.{◌<◌, ◌≡◌, ◌%◌, ℕ, refl, ap, subst, ◌∙◌, arith, length, List}
 use Rattle.mc_classes.specs.declared.config.Config.{Config}
 use Rattle.mc_core.specs.declared.holding.Holding.{Holding}
 use Rattle.mc_words.specs.Lent.{IsLentStripe}
@@ -7,9 +7,14 @@ use Rattle.mc_words.specs.View.{View}
 use Rattle.mc_words.specs.Waiting.{WaitsForStripe}
 use Rattle.std.specs.Option.{option_map}
 use Rattle.mc_items.specs.declared.refs.Ref.{Ref}
-use Rattle.mc_items.specs.Calls.{LooksUp}
+use Rattle.mc_words.specs.Doing.{IsDone}
+use Rattle.mc_items.specs.Calls.{CallsOn, LooksUp}
+use Rattle.mc_items.specs.ItemRefs.{item_chunk}
 use Rattle.mc_stripe.specs.declared.history.Call.TheVariants.{Get}
-use Rattle.mc_items.proofs.Gets.{called_on, only_waits}
+use Rattle.mc_items.proofs.Chains.{ready_still, refs_stay}
+use Rattle.mc_items.proofs.Left.{Kept, only_keeps}
+use Rattle.mc_items.proofs.GetLeaves.{get_leaves, get_near, get_ready, get_said}
+use Rattle.mc_items.proofs.Gets.{and_reads, called_on, only_waits}
 use Rattle.mc_words.proofs.HandNumbers.{number_stays}
 use Rattle.mc_items.proofs.Locks.{locks_back, waits_keep}
 use Rattle.mc_items.proofs.Tells.{told_none, told_on}
@@ -25,10 +30,10 @@ look_up-requires-clause-few g c =
     omega arith
 
 pub returns-in-Ok-clause-locks : goal.returns-in-Ok-clause-locks
-returns-in-Ok-clause-locks g c = c.look_up.ensures.locks ∙ (ap without_stripe c.lock_stripe-held.ensures.locks ∙ locks_back c.args.hand.now (c.args.key % c.config.result.now.stripes) c.requires.unlocked)
+returns-in-Ok-clause-locks g c = c.look_up.ensures.locks ∙ (ap without_stripe c.lock_stripe-held.ensures.locks ∙ locks_back c.args.hand.now (c.args.key % c.config.result.now.stripes) c.requires.ready.unlocked)
 
 pub returns-in-Err-clause-locks : goal.returns-in-Err-clause-locks
-returns-in-Err-clause-locks g c = c.look_up.ensures.locks ∙ (ap without_stripe c.lock_stripe-held.ensures.locks ∙ locks_back c.args.hand.now (c.args.key % c.config.result.now.stripes) c.requires.unlocked)
+returns-in-Err-clause-locks g c = c.look_up.ensures.locks ∙ (ap without_stripe c.lock_stripe-held.ensures.locks ∙ locks_back c.args.hand.now (c.args.key % c.config.result.now.stripes) c.requires.ready.unlocked)
 
 pub returns-in-Ok-clause-gets : goal.returns-in-Ok-clause-gets
 returns-in-Ok-clause-gets g c =
@@ -39,8 +44,11 @@ returns-in-Ok-clause-gets g c =
     let at : c.args.key % c.config.result.now.stripes ≡ c.args.key % c.args.arena.now.table.shared.key.config.stripes = ap (λ (g : Config). c.args.key % g.stripes) c.config.ensures.config in
     let waits = held.ensures.waits in
     let number = number_stays hand held.new.hand (waits_keep (λ (v : View). v.row.ids) (c.args.key % c.config.result.now.stripes) (λ word v. refl) (λ value v. refl) before held.result.stripe taken waits) in
-    called_on (λ number stripe. LooksUp number stripe c.args.key (option_map (λ (r : Ref). r.reference) c.in-Ok.found)) hand.number _ held.new.hand.number held.result.number held.result.stripe before taken c.look_up.new.hand.seat.me.0 number (held.ensures.number ∙ at)
-    (subst (λ (n : ℕ). WaitsForStripe n before held.result.stripe taken) at waits) (subst (λ (n : ℕ). IsLentStripe taken n held.result.stripe) at held.ensures.whole) c.in-Ok.ensures.done
+    let found = option_map (λ (r : Ref). r.reference) c.in-Ok.found in
+    let stripe : ℕ = c.args.key % c.args.arena.now.table.shared.key.config.stripes in
+    and_reads (option_map item_chunk c.in-Ok.found) (IsDone held.new.hand.number held.result.number held.result.stripe (LooksUp held.new.hand.number held.result.number c.args.key found)) (CallsOn hand.number stripe (LooksUp hand.number stripe c.args.key found)) taken before c.look_up.new.hand.seat.me.0
+    (λ got done. called_on (λ number stripe. LooksUp number stripe c.args.key found) hand.number stripe held.new.hand.number held.result.number held.result.stripe before taken got number (held.ensures.number ∙ at)
+    (subst (λ (n : ℕ). WaitsForStripe n before held.result.stripe taken) at waits) (subst (λ (n : ℕ). IsLentStripe taken n held.result.stripe) at held.ensures.whole) done) c.in-Ok.ensures.done
 
 pub returns-in-Ok-clause-calls : goal.returns-in-Ok-clause-calls
 returns-in-Ok-clause-calls g c =
@@ -53,10 +61,77 @@ returns-in-Ok-clause-calls g c =
     told_on hand.number _ held.new.hand.number held.result.number (λ number. Get number c.args.key (option_map (λ (r : Ref). r.stamp) c.in-Ok.found)) held.result.stripe before taken c.look_up.new.hand.seat.me.0 number (held.ensures.number ∙ at)
     (subst (λ (n : ℕ). WaitsForStripe n before held.result.stripe taken) at held.ensures.waits) c.in-Ok.ensures.calls
 
-pub returns-in-Err-clause-refused : goal.returns-in-Err-clause-refused
-returns-in-Err-clause-refused g c =
+pub returns-in-Ok-clause-holdings : goal.returns-in-Ok-clause-holdings
+returns-in-Ok-clause-holdings g c =
+    let hand = c.args.hand.now in
+    let now = c.look_up.new.hand in
+    (get_leaves hand.number (c.args.key % c.args.arena.now.table.shared.key.config.stripes) c.args.key c.in-Ok.found hand.seat.me.0 now.seat.me.0 (returns-in-Ok-clause-gets g c)).holds
+
+pub returns-in-Ok-clause-keeps : goal.returns-in-Ok-clause-keeps
+returns-in-Ok-clause-keeps g c =
+    let hand = c.args.hand.now in
+    let now = c.look_up.new.hand in
+    (get_leaves hand.number (c.args.key % c.args.arena.now.table.shared.key.config.stripes) c.args.key c.in-Ok.found hand.seat.me.0 now.seat.me.0 (returns-in-Ok-clause-gets g c)).keeps
+
+pub returns-in-Ok-clause-unsaid : goal.returns-in-Ok-clause-unsaid
+returns-in-Ok-clause-unsaid g c =
+    let hand = c.args.hand.now in
+    let now = c.look_up.new.hand in
+    (get_leaves hand.number (c.args.key % c.args.arena.now.table.shared.key.config.stripes) c.args.key c.in-Ok.found hand.seat.me.0 now.seat.me.0 (returns-in-Ok-clause-gets g c)).said
+
+pub returns-in-Ok-clause-number : goal.returns-in-Ok-clause-number
+returns-in-Ok-clause-number g c =
+    let hand = c.args.hand.now in
+    let now = c.look_up.new.hand in
+    number_stays hand now (get_leaves hand.number (c.args.key % c.args.arena.now.table.shared.key.config.stripes) c.args.key c.in-Ok.found hand.seat.me.0 now.seat.me.0 (returns-in-Ok-clause-gets g c)).ids
+
+pub returns-in-Ok-clause-ready : goal.returns-in-Ok-clause-ready
+returns-in-Ok-clause-ready g c =
+    let count = c.refs.ensures.count in
+    let few = c.if-refs-ge255.false in
+    get_ready c.args.hand.now c.look_up.new.hand c.in-Ok.found (returns-in-Ok-clause-locks g c) (returns-in-Ok-clause-holdings g c) (omega arith) c.requires.ready
+
+pub returns-in-Ok-clause-near : goal.returns-in-Ok-clause-near
+returns-in-Ok-clause-near g c =
+    get_near c.args.arena.now.table.shared.key c.look_up.new.hand.seat.me.0 c.in-Ok.found c.args.key c.look_up.ensures.arena.lawful c.look_up.ensures.arena.setup c.in-Ok.ensures.item
+
+pub returns-in-Ok-clause-said : goal.returns-in-Ok-clause-said
+returns-in-Ok-clause-said g c = get_said c.look_up.new.hand.seat.me.0 c.in-Ok.found c.args.key c.look_up.ensures.arena.lawful c.in-Ok.ensures.item
+
+pub returns-in-Err-clause-no_memory : goal.returns-in-Err-clause-no_memory
+returns-in-Err-clause-no_memory g c _ =
     let held = c.lock_stripe-held in
     let before : View = c.args.hand.now.seat.me.0 in
     let taken : View = held.new.hand.seat.me.0 in
     let at : c.args.key % c.config.result.now.stripes ≡ c.args.key % c.args.arena.now.table.shared.key.config.stripes = ap (λ (f : Config). c.args.key % f.stripes) c.config.ensures.config in
-    told_none _ before c.look_up.new.hand.seat.me.0 (only_waits _ held.result.number held.result.stripe before taken c.look_up.new.hand.seat.me.0 (held.ensures.number ∙ at) (subst (λ (n : ℕ). WaitsForStripe n before held.result.stripe taken) at held.ensures.waits) c.in-Err.ensures.given)
+    only_waits _ held.result.number held.result.stripe before taken c.look_up.new.hand.seat.me.0 (held.ensures.number ∙ at) (subst (λ (n : ℕ). WaitsForStripe n before held.result.stripe taken) at held.ensures.waits) (subst (λ (n : ℕ). IsLentStripe taken n held.result.stripe) at held.ensures.whole) c.in-Err.ensures.full c.in-Err.ensures.given
+
+pub returns-in-Err-clause-no_more : goal.returns-in-Err-clause-no_more
+returns-in-Err-clause-no_more g c =
+    let hand = c.args.hand.now in
+    let now = c.look_up.new.hand in
+    ap (λ (k : Kept). k.0) (only_keeps (c.args.key % c.args.arena.now.table.shared.key.config.stripes) hand.seat.me.0 now.seat.me.0 (returns-in-Err-clause-no_memory g c refl))
+
+pub returns-in-Err-clause-ready : goal.returns-in-Err-clause-ready
+returns-in-Err-clause-ready g c = ready_still c.args.hand.now c.look_up.new.hand (returns-in-Err-clause-locks g c) (returns-in-Err-clause-no_more g c) c.requires.ready
+
+pub returns-in-Err-clause-number : goal.returns-in-Err-clause-number
+returns-in-Err-clause-number g c =
+    let hand = c.args.hand.now in
+    let now = c.look_up.new.hand in
+    number_stays hand now (ap (λ (k : Kept). k.3) (only_keeps (c.args.key % c.args.arena.now.table.shared.key.config.stripes) hand.seat.me.0 now.seat.me.0 (returns-in-Err-clause-no_memory g c refl)))
+
+pub returns-in-Err-clause-keeps : goal.returns-in-Err-clause-keeps
+returns-in-Err-clause-keeps g c =
+    let hand = c.args.hand.now in
+    let now = c.look_up.new.hand in
+    refs_stay hand.seat.me.0 now.seat.me.0 (ap (λ (k : Kept). k.0) (only_keeps (c.args.key % c.args.arena.now.table.shared.key.config.stripes) hand.seat.me.0 now.seat.me.0 (returns-in-Err-clause-no_memory g c refl))) (ap (λ (k : Kept). k.1) (only_keeps (c.args.key % c.args.arena.now.table.shared.key.config.stripes) hand.seat.me.0 now.seat.me.0 (returns-in-Err-clause-no_memory g c refl)))
+
+pub returns-in-Err-clause-unsaid : goal.returns-in-Err-clause-unsaid
+returns-in-Err-clause-unsaid g c =
+    let hand = c.args.hand.now in
+    let now = c.look_up.new.hand in
+    ap (λ (k : Kept). k.2) (only_keeps (c.args.key % c.args.arena.now.table.shared.key.config.stripes) hand.seat.me.0 now.seat.me.0 (returns-in-Err-clause-no_memory g c refl))
+
+pub returns-in-Err-clause-refused : goal.returns-in-Err-clause-refused
+returns-in-Err-clause-refused g c = told_none _ c.args.hand.now.seat.me.0 c.look_up.new.hand.seat.me.0 (returns-in-Err-clause-no_memory g c refl)

@@ -1,7 +1,10 @@
 use Rattle.std.proofs.Common.{ℕ, map, Option, Some, ap, sym, ◌∙◌}
 use Rattle.std.specs.Option.{option_map}
 use Rattle.mc_stripe.specs.declared.history.Call.TheVariants.{Get}
-use Rattle.mc_core.specs.Holdings.{stamp_of}
+use Rattle.std.proofs.Common.{[]}
+use Rattle.std.specs.Option.{option_map_or}
+use Rattle.mc_core.specs.Views.{Row}
+use Rattle.mc_core.specs.Holdings.{holding_of, item_of, stamp_of}
 use Rattle.mc_words.specs.declared.refs.Ref.{Ref}
 use Rattle.mc_words.specs.View.{View}
 use Rattle.mc_words.specs.Called.{with_own_call}
@@ -17,11 +20,11 @@ returns-in-Ok-Some-clause-calls c =
     let last : View = c.look_at.new.hand.seat.me.0 in
     let number = c.args.hand.now.number in
     let stripe = c.args.held.number in
-    let same = c.look_at.ensures.same in
+    let same = ap (λ (v : View). v.row) c.look_at.ensures.view in
     let tells = looked_tells number stripe c.args.held.stripe c.args.key c.in-Ok-Some.field-0 before got c.in-Ok-Some.ensures.done in
-    let read = sym (ap (λ (v : View). stamp_of (held_item v r.chunk)) same) ∙ (sym (ap (λ (x : Ref). stamp_of (held_item last x.chunk)) c.look_at.ensures.chunk) ∙ c.look_at.ensures.item.stamp) in
+    let read = sym (ap (λ (row : Row). stamp_of (option_map_or item_of (holding_of r.chunk row.holdings) [])) same) ∙ (sym (ap (λ (x : Ref). stamp_of (held_item last x.chunk)) c.look_at.ensures.chunk) ∙ c.look_at.ensures.item.stamp) in
     let stamp = c.in-Ok-Some.ensures.stamp ∙ (ap (option_map (λ (x : Ref). stamp_of (held_item got x.chunk))) c.in-Ok-Some.field-0-is ∙ ap Some read) in
-    ap (λ (v : View). v.row.knows.mine) same ∙ (tells ∙ ap (λ (o : Option ℕ). map (with_own_call number stripe (Get number c.args.key o)) before.row.knows.mine) stamp)
+    ap (λ (row : Row). row.knows.mine) same ∙ (tells ∙ ap (λ (o : Option ℕ). map (with_own_call number stripe (Get number c.args.key o)) before.row.knows.mine) stamp)
 
 pub returns-in-Ok-None-clause-calls : goal.returns-in-Ok-None-clause-calls
 returns-in-Ok-None-clause-calls c =

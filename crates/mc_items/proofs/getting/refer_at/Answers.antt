@@ -7,6 +7,7 @@ use Rattle.mc_words.specs.Referring.{GetsItem}
 use Rattle.mc_words.specs.Refs.{IsIssueOf, IsRefOf}
 use Rattle.mc_items.proofs.Gets.{got_item, looked_up, some_both, stamp_found}
 use Rattle.mc_words.proofs.HandNumbers.{number_stays}
+use Rattle.mc_items.proofs.Freed.{full_from}
 use Rattle.mc_items.proofs.getting.refer_at.Goals as goal
 
 pub returns-clause-done : goal.returns-clause-done
@@ -37,3 +38,6 @@ pub returns-clause-stamp : goal.returns-clause-stamp
 returns-clause-stamp c =
     stamp_found c.args.held.stripe c.reserve.new.held.stripe c.refer.new.held.stripe c.args.key c.reserve.new.hand.number c.reserve.new.held.number c.refer.new.held.number c.in-Ok.found c.reserve.new.hand.seat.me.0 c.refer.new.hand.seat.me.0 c.give_stripe-2.new.hand.seat.me.0
     (ap (λ (h : StripeHeld). h.stripe) c.in_default.ensures.reserved) c.give_stripe-2.ensures.left c.refer.ensures.arena.lawful c.in-Ok.ensures.gets (λ e. (c.in-Ok.ensures.none (ap (λ o. Ok o) e)).0)
+
+pub returns-in-Err-clause-full : goal.returns-in-Err-clause-full
+returns-in-Err-clause-full c = full_from c.args.held.stripe.ready c.reserve.result c.in-Err.error c.in-Err.is c.reserve.ensures.succeeds

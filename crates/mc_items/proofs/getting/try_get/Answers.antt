@@ -1,4 +1,4 @@
-use Rattle.std.proofs.Common.{◌≡◌, ◌%◌, ℕ, ap, subst, ◌∙◌}
+use Rattle.std.proofs.Common.{◌<◌, arith, refl, ◌≡◌, ◌%◌, ℕ, ap, subst, ◌∙◌}
 use Rattle.mc_classes.specs.declared.config.Config.{Config}
 use Rattle.mc_words.specs.Lent.{IsLentStripe}
 use Rattle.mc_words.specs.Out.{without_stripe}
@@ -6,19 +6,24 @@ use Rattle.mc_words.specs.View.{View}
 use Rattle.mc_words.specs.Waiting.{WaitsForStripe}
 use Rattle.std.specs.Option.{option_map}
 use Rattle.mc_items.specs.declared.refs.Ref.{Ref}
-use Rattle.mc_items.specs.Calls.{LooksUp}
+use Rattle.mc_words.specs.Doing.{IsDone}
+use Rattle.mc_items.specs.Calls.{CallsOn, LooksUp}
+use Rattle.mc_items.specs.ItemRefs.{item_chunk}
 use Rattle.mc_stripe.specs.declared.history.Call.TheVariants.{Get}
-use Rattle.mc_items.proofs.Gets.{called_on, only_waits}
+use Rattle.mc_items.proofs.Chains.{ready_still, refs_stay}
+use Rattle.mc_items.proofs.Left.{Kept, only_keeps}
+use Rattle.mc_items.proofs.GetLeaves.{get_leaves, get_near, get_ready, get_said}
+use Rattle.mc_items.proofs.Gets.{and_reads, called_on, only_waits}
 use Rattle.mc_words.proofs.HandNumbers.{number_stays}
 use Rattle.mc_items.proofs.Locks.{locks_back, taken_at_once}
 use Rattle.mc_items.proofs.Tells.{told_none, told_on}
 use Rattle.mc_items.proofs.getting.try_get.Goals as goal
 
 pub returns-in-Ok-look_up-clause-locks : goal.returns-in-Ok-look_up-clause-locks
-returns-in-Ok-look_up-clause-locks c = c.look_up.ensures.locks ∙ (ap without_stripe c.in-Ok.ensures.locks ∙ locks_back c.args.hand.now (c.args.key % c.config.result.now.stripes) c.requires.unlocked)
+returns-in-Ok-look_up-clause-locks c = c.look_up.ensures.locks ∙ (ap without_stripe c.in-Ok.ensures.locks ∙ locks_back c.args.hand.now (c.args.key % c.config.result.now.stripes) c.requires.ready.unlocked)
 
 pub returns-in-Err-clause-locks : goal.returns-in-Err-clause-locks
-returns-in-Err-clause-locks c = c.look_up.ensures.locks ∙ (ap without_stripe c.in-Ok.ensures.locks ∙ locks_back c.args.hand.now (c.args.key % c.config.result.now.stripes) c.requires.unlocked)
+returns-in-Err-clause-locks c = c.look_up.ensures.locks ∙ (ap without_stripe c.in-Ok.ensures.locks ∙ locks_back c.args.hand.now (c.args.key % c.config.result.now.stripes) c.requires.ready.unlocked)
 
 pub returns-in-Ok-look_up-clause-gets : goal.returns-in-Ok-look_up-clause-gets
 returns-in-Ok-look_up-clause-gets c =
@@ -28,9 +33,12 @@ returns-in-Ok-look_up-clause-gets c =
     let taken : View = c.try_stripe.new.hand.seat.me.0 in
     let at : c.args.key % c.config.result.now.stripes ≡ c.args.key % c.args.arena.now.table.shared.key.config.stripes = ap (λ (g : Config). c.args.key % g.stripes) c.config.ensures.config in
     let number = number_stays hand c.try_stripe.new.hand (ap (λ (v : View). v.row.ids) c.in-Ok.ensures.lent) in
-    called_on (λ number stripe. LooksUp number stripe c.args.key (option_map (λ (r : Ref). r.reference) c.in-Ok-look_up.found)) hand.number _ c.try_stripe.new.hand.number held.number held.stripe before taken c.look_up.new.hand.seat.me.0 number (c.in-Ok.ensures.number ∙ at)
-    (subst (λ (n : ℕ). WaitsForStripe n before held.stripe taken) at (taken_at_once (c.args.key % c.config.result.now.stripes) held.stripe before taken c.in-Ok.ensures.taken c.in-Ok.ensures.lent))
-    (subst (λ (n : ℕ). IsLentStripe taken n held.stripe) at c.in-Ok.ensures.whole) c.in-Ok-look_up.ensures.done
+    let found = option_map (λ (r : Ref). r.reference) c.in-Ok-look_up.found in
+    let stripe : ℕ = c.args.key % c.args.arena.now.table.shared.key.config.stripes in
+    and_reads (option_map item_chunk c.in-Ok-look_up.found) (IsDone c.try_stripe.new.hand.number held.number held.stripe (LooksUp c.try_stripe.new.hand.number held.number c.args.key found)) (CallsOn hand.number stripe (LooksUp hand.number stripe c.args.key found)) taken before c.look_up.new.hand.seat.me.0
+    (λ got done. called_on (λ number stripe. LooksUp number stripe c.args.key found) hand.number stripe c.try_stripe.new.hand.number held.number held.stripe before taken got number (c.in-Ok.ensures.number ∙ at)
+    (subst (λ (n : ℕ). WaitsForStripe n before held.stripe taken) at (taken_at_once (c.args.key % c.config.result.now.stripes) held.stripe before taken c.in-Ok.ensures.taken c.in-Ok.ensures.lent c.in-Ok.ensures.seen))
+    (subst (λ (n : ℕ). IsLentStripe taken n held.stripe) at c.in-Ok.ensures.whole) done) c.in-Ok-look_up.ensures.done
 
 pub returns-in-Err-clause-no_memory : goal.returns-in-Err-clause-no_memory
 returns-in-Err-clause-no_memory c _ =
@@ -39,7 +47,7 @@ returns-in-Err-clause-no_memory c _ =
     let taken : View = c.try_stripe.new.hand.seat.me.0 in
     let at : c.args.key % c.config.result.now.stripes ≡ c.args.key % c.args.arena.now.table.shared.key.config.stripes = ap (λ (g : Config). c.args.key % g.stripes) c.config.ensures.config in
     only_waits _ held.number held.stripe before taken c.look_up.new.hand.seat.me.0 (c.in-Ok.ensures.number ∙ at)
-    (subst (λ (n : ℕ). WaitsForStripe n before held.stripe taken) at (taken_at_once (c.args.key % c.config.result.now.stripes) held.stripe before taken c.in-Ok.ensures.taken c.in-Ok.ensures.lent)) c.in-Err.ensures.given
+    (subst (λ (n : ℕ). WaitsForStripe n before held.stripe taken) at (taken_at_once (c.args.key % c.config.result.now.stripes) held.stripe before taken c.in-Ok.ensures.taken c.in-Ok.ensures.lent c.in-Ok.ensures.seen)) (subst (λ (n : ℕ). IsLentStripe taken n held.stripe) at c.in-Ok.ensures.whole) c.in-Err.ensures.full c.in-Err.ensures.given
 
 pub returns-in-Ok-look_up-clause-calls : goal.returns-in-Ok-look_up-clause-calls
 returns-in-Ok-look_up-clause-calls c =
@@ -50,7 +58,7 @@ returns-in-Ok-look_up-clause-calls c =
     let at : c.args.key % c.config.result.now.stripes ≡ c.args.key % c.args.arena.now.table.shared.key.config.stripes = ap (λ (f : Config). c.args.key % f.stripes) c.config.ensures.config in
     let number = number_stays hand c.try_stripe.new.hand (ap (λ (v : View). v.row.ids) c.in-Ok.ensures.lent) in
     told_on hand.number _ c.try_stripe.new.hand.number held.number (λ number. Get number c.args.key (option_map (λ (r : Ref). r.stamp) c.in-Ok-look_up.found)) held.stripe before taken c.look_up.new.hand.seat.me.0 number (c.in-Ok.ensures.number ∙ at)
-    (subst (λ (n : ℕ). WaitsForStripe n before held.stripe taken) at (taken_at_once (c.args.key % c.config.result.now.stripes) held.stripe before taken c.in-Ok.ensures.taken c.in-Ok.ensures.lent)) c.in-Ok-look_up.ensures.calls
+    (subst (λ (n : ℕ). WaitsForStripe n before held.stripe taken) at (taken_at_once (c.args.key % c.config.result.now.stripes) held.stripe before taken c.in-Ok.ensures.taken c.in-Ok.ensures.lent c.in-Ok.ensures.seen)) c.in-Ok-look_up.ensures.calls
 
 pub returns-in-Err-clause-refused : goal.returns-in-Err-clause-refused
 returns-in-Err-clause-refused c =
@@ -59,4 +67,54 @@ returns-in-Err-clause-refused c =
     let taken : View = c.try_stripe.new.hand.seat.me.0 in
     let at : c.args.key % c.config.result.now.stripes ≡ c.args.key % c.args.arena.now.table.shared.key.config.stripes = ap (λ (f : Config). c.args.key % f.stripes) c.config.ensures.config in
     told_none _ before c.look_up.new.hand.seat.me.0 (only_waits _ held.number held.stripe before taken c.look_up.new.hand.seat.me.0 (c.in-Ok.ensures.number ∙ at)
-    (subst (λ (n : ℕ). WaitsForStripe n before held.stripe taken) at (taken_at_once (c.args.key % c.config.result.now.stripes) held.stripe before taken c.in-Ok.ensures.taken c.in-Ok.ensures.lent)) c.in-Err.ensures.given)
+    (subst (λ (n : ℕ). WaitsForStripe n before held.stripe taken) at (taken_at_once (c.args.key % c.config.result.now.stripes) held.stripe before taken c.in-Ok.ensures.taken c.in-Ok.ensures.lent c.in-Ok.ensures.seen)) (subst (λ (n : ℕ). IsLentStripe taken n held.stripe) at c.in-Ok.ensures.whole) c.in-Err.ensures.full c.in-Err.ensures.given)
+
+pub returns-in-Ok-look_up-clause-holdings : goal.returns-in-Ok-look_up-clause-holdings
+returns-in-Ok-look_up-clause-holdings c =
+    let hand = c.args.hand.now in
+    let now = c.look_up.new.hand in
+    (get_leaves hand.number (c.args.key % c.args.arena.now.table.shared.key.config.stripes) c.args.key c.in-Ok-look_up.found hand.seat.me.0 now.seat.me.0 (returns-in-Ok-look_up-clause-gets c)).holds
+
+pub returns-in-Ok-look_up-clause-keeps : goal.returns-in-Ok-look_up-clause-keeps
+returns-in-Ok-look_up-clause-keeps c =
+    let hand = c.args.hand.now in
+    let now = c.look_up.new.hand in
+    (get_leaves hand.number (c.args.key % c.args.arena.now.table.shared.key.config.stripes) c.args.key c.in-Ok-look_up.found hand.seat.me.0 now.seat.me.0 (returns-in-Ok-look_up-clause-gets c)).keeps
+
+pub returns-in-Ok-look_up-clause-unsaid : goal.returns-in-Ok-look_up-clause-unsaid
+returns-in-Ok-look_up-clause-unsaid c =
+    let hand = c.args.hand.now in
+    let now = c.look_up.new.hand in
+    (get_leaves hand.number (c.args.key % c.args.arena.now.table.shared.key.config.stripes) c.args.key c.in-Ok-look_up.found hand.seat.me.0 now.seat.me.0 (returns-in-Ok-look_up-clause-gets c)).said
+
+pub returns-in-Ok-look_up-clause-number : goal.returns-in-Ok-look_up-clause-number
+returns-in-Ok-look_up-clause-number c =
+    let hand = c.args.hand.now in
+    let now = c.look_up.new.hand in
+    number_stays hand now (get_leaves hand.number (c.args.key % c.args.arena.now.table.shared.key.config.stripes) c.args.key c.in-Ok-look_up.found hand.seat.me.0 now.seat.me.0 (returns-in-Ok-look_up-clause-gets c)).ids
+
+pub returns-in-Ok-look_up-clause-ready : goal.returns-in-Ok-look_up-clause-ready
+returns-in-Ok-look_up-clause-ready c =
+    let count = c.refs.ensures.count in
+    let few = c.if-refs-ge255.false in
+    get_ready c.args.hand.now c.look_up.new.hand c.in-Ok-look_up.found (returns-in-Ok-look_up-clause-locks c) (returns-in-Ok-look_up-clause-holdings c) (omega arith) c.requires.ready
+
+pub returns-in-Ok-look_up-clause-near : goal.returns-in-Ok-look_up-clause-near
+returns-in-Ok-look_up-clause-near c =
+    get_near c.args.arena.now.table.shared.key c.look_up.new.hand.seat.me.0 c.in-Ok-look_up.found c.args.key c.look_up.ensures.arena.lawful c.look_up.ensures.arena.setup c.in-Ok-look_up.ensures.item
+
+pub returns-in-Ok-look_up-clause-said : goal.returns-in-Ok-look_up-clause-said
+returns-in-Ok-look_up-clause-said c =
+    get_said c.look_up.new.hand.seat.me.0 c.in-Ok-look_up.found c.args.key c.look_up.ensures.arena.lawful c.in-Ok-look_up.ensures.item
+
+pub returns-in-Err-clause-ready : goal.returns-in-Err-clause-ready
+returns-in-Err-clause-ready c =
+    let hand = c.args.hand.now in
+    let now = c.look_up.new.hand in
+    ready_still hand now (returns-in-Err-clause-locks c) (ap (λ (k : Kept). k.0) (only_keeps (c.args.key % c.args.arena.now.table.shared.key.config.stripes) hand.seat.me.0 now.seat.me.0 (returns-in-Err-clause-no_memory c refl))) c.requires.ready
+
+pub returns-in-Err-clause-keeps : goal.returns-in-Err-clause-keeps
+returns-in-Err-clause-keeps c =
+    let hand = c.args.hand.now in
+    let now = c.look_up.new.hand in
+    refs_stay hand.seat.me.0 now.seat.me.0 (ap (λ (k : Kept). k.0) (only_keeps (c.args.key % c.args.arena.now.table.shared.key.config.stripes) hand.seat.me.0 now.seat.me.0 (returns-in-Err-clause-no_memory c refl))) (ap (λ (k : Kept). k.1) (only_keeps (c.args.key % c.args.arena.now.table.shared.key.config.stripes) hand.seat.me.0 now.seat.me.0 (returns-in-Err-clause-no_memory c refl)))

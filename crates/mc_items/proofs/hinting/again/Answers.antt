@@ -1,14 +1,26 @@
-use Rattle.std.proofs.Common.{◌≡◌, Err, ap, ◌∙◌}
+use Rattle.std.proofs.Common.{◌≡◌, ◌∷◌, Err, ap, refl, ◌∙◌}
 use Rattle.mc_words.specs.declared.refs.Again.TheVariants as refused
 use Rattle.mc_words.specs.declared.refs.Ref.{Ref}
 use Rattle.mc_words.specs.View.{View}
+use Rattle.std.proofs.Common.{[]}
+use Rattle.std.specs.Option.{option_map_or}
+use Rattle.mc_core.specs.Holdings.{holding_of, item_of}
+use Rattle.mc_core.specs.Views.{Row}
 use Rattle.mc_words.specs.Items.{held_item}
+use Rattle.mc_pages.specs.declared.ids.ChunkId.{ChunkId}
+use Rattle.mc_core.specs.Past.{known_by}
+use Rattle.mc_words.specs.Referring.{reference_to}
+use Rattle.mc_items.specs.Reading.{item_seen}
+use Rattle.std.proofs.Math.Nat.{lt_of_not-le}
+use Rattle.mc_items.proofs.Chains.{item_said, ready_more, refs_and_more, refs_stay}
+use Rattle.mc_items.proofs.Left.{GotOne, Kept, again_one, read_one}
+use Rattle.mc_items.proofs.GetLeaves.{again_kept}
 use Rattle.mc_items.proofs.hinting.again.Goals as goal
 
 pub returns-in-Ok-clause-known : goal.returns-in-Ok-clause-known
 returns-in-Ok-clause-known c k among chunk issue =
     let last : View = c.look_at.new.hand.seat.me.0 in
-    ap (λ (r : Ref). held_item last r.chunk) c.look_at.ensures.chunk ∙ (ap (λ (v : View). held_item v c.in-Ok.reference.chunk) c.look_at.ensures.same ∙ c.in-Ok.ensures.known k among chunk issue)
+    ap (λ (r : Ref). held_item last r.chunk) c.look_at.ensures.chunk ∙ (ap (λ (row : Row). option_map_or item_of (holding_of c.in-Ok.reference.chunk row.holdings) []) (ap (λ (v : View). v.row) c.look_at.ensures.view) ∙ c.in-Ok.ensures.known k among chunk issue)
 
 pub returns-in-Ok-clause-many : goal.returns-in-Ok-clause-many
 returns-in-Ok-clause-many c = (λ e. absurd (cc), λ many. let e = c.in-Ok.ensures.many.1 many in absurd (cc))
@@ -17,3 +29,38 @@ pub returns-in-Err-clause-contended : goal.returns-in-Err-clause-contended
 returns-in-Err-clause-contended c e =
     let same : c.in-Err.error ≡ refused.Contended = cc in
     c.in-Err.ensures.contended (ap (λ x. Err x) same)
+
+pub returns-in-Ok-clause-keeps : goal.returns-in-Ok-clause-keeps
+returns-in-Ok-clause-keeps c =
+    let view : View = c.args.hand.now.seat.me.0 in
+    let got : View = c.again.new.hand.seat.me.0 in
+    let now : View = c.look_at.new.hand.seat.me.0 in
+    let hint = c.args.hint in
+    let room = c.in-Ok.reference.room in
+    let is = c.look_at.ensures.view ∙ ap (λ (chunk : ChunkId). item_seen chunk got) c.in-Ok.ensures.hinted.0 in
+    let one : GotOne hint.chunk hint.issue room view now = read_one hint.chunk hint.issue room view got now is (again_one hint.chunk hint.issue room view got c.in-Ok.ensures.gets) in
+    let holding = reference_to hint.chunk hint.issue one.item in
+    refs_and_more view now holding (known_by room holding ∷ []) (ap (λ (k : Kept). k.0) one.kept) (ap (λ (k : Kept). k.1) one.kept)
+
+pub returns-in-Ok-clause-ready : goal.returns-in-Ok-clause-ready
+returns-in-Ok-clause-ready c =
+    let view : View = c.args.hand.now.seat.me.0 in
+    let got : View = c.again.new.hand.seat.me.0 in
+    let now : View = c.look_at.new.hand.seat.me.0 in
+    let hint = c.args.hint in
+    let room = c.in-Ok.reference.room in
+    let is = c.look_at.ensures.view ∙ ap (λ (chunk : ChunkId). item_seen chunk got) c.in-Ok.ensures.hinted.0 in
+    let one : GotOne hint.chunk hint.issue room view now = read_one hint.chunk hint.issue room view got now is (again_one hint.chunk hint.issue room view got c.in-Ok.ensures.gets) in
+    let holding = reference_to hint.chunk hint.issue one.item in
+    ready_more c.args.hand.now c.look_at.new.hand holding (c.look_at.ensures.locks ∙ c.again.ensures.locks) (ap (λ (k : Kept). k.0) one.kept) refl (lt_of_not-le (λ many. let e = c.in-Ok.ensures.many.1 many in absurd (cc))) c.requires.ready
+
+pub returns-in-Ok-clause-said : goal.returns-in-Ok-clause-said
+returns-in-Ok-clause-said c =
+    item_said c.look_at.new.hand.seat.me.0 c.look_at.ensures.arena.lawful c.look_at.result c.look_at.ensures.item
+
+pub returns-in-Err-clause-keeps : goal.returns-in-Err-clause-keeps
+returns-in-Err-clause-keeps c =
+    let view : View = c.args.hand.now.seat.me.0 in
+    let now : View = c.again.new.hand.seat.me.0 in
+    let kept = again_kept c.in-Err.error view c.args.hint.chunk c.args.hint.issue now c.in-Err.ensures.gone c.in-Err.ensures.contended c.in-Err.ensures.refused in
+    refs_stay view now (ap (λ (k : Kept). k.0) kept) (ap (λ (k : Kept). k.1) kept)

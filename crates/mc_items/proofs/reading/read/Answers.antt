@@ -1,7 +1,11 @@
 use Rattle.std.proofs.Common.{◌≡◌, ◌+◌, ◌<◌, ◌≤◌, ℕ, List, [], ◌∷◌, ◌++◌, ap, sym, subst, ◌∙◌, arith, length}
 use Rattle.mc_words.specs.View.{View}
 use Rattle.mc_words.specs.Items.{held_item}
-use Rattle.mc_items.proofs.Words.{one_more, all_read}
+use Rattle.mc_words.specs.Views.{word_seen}
+use Rattle.mc_items.specs.Keeping.{AreSaid}
+use Rattle.mc_items.specs.Storing.{item_with}
+use Rattle.mc_items.proofs.Chains.{kept_refs_keep_items, refs_stay, words_said}
+use Rattle.mc_items.proofs.Words.{one_more, one_read, all_read}
 use Rattle.mc_items.proofs.reading.read.Goals as goal
 
 pub loop-place-preserved : goal.loop-place-preserved
@@ -10,10 +14,10 @@ loop-place-preserved c =
     let (arena, locks, same, room, words) = c.loop-place.invariant in
     let len = c.requires.item.len in
     let below = c.loop-place-test.true in
-    let now = ap (λ (v : View). held_item v chunk) same in (
+    let now : held_item c.loop-place.hand.seat.me.0 chunk ≡ held_item c.args.hand.now.seat.me.0 chunk = ap (λ (v : View). held_item v chunk) same in (
       c.word.ensures.arena,
       c.word.ensures.locks ∙ locks,
-      c.word.ensures.same ∙ same,
+      c.word.ensures.view ∙ (ap (word_seen chunk (3 + c.loop-place.place)) same ∙ one_read chunk 3 c.loop-place.place c.args.hand.now.seat.me.0),
       (omega (arith, c.push_reserved.ensures.capacity, room)),
       c.push_reserved.ensures.items
           ∙ (ap (λ (l : List ℕ). l ++ c.word.result ∷ []) words
@@ -27,3 +31,19 @@ returns-clause-words c =
     let len = c.requires.item.len in
     let past = c.loop-place-test.false in
     words ∙ all_read (held_item c.args.hand.now.seat.me.0 chunk) c.loop-place.place (omega arith)
+
+pub returns-clause-keeps : goal.returns-clause-keeps
+returns-clause-keeps c =
+    let (arena, locks, same, room, words) = c.loop-place.invariant in
+    refs_stay c.args.hand.now.seat.me.0 c.loop-place.hand.seat.me.0 (ap (λ (v : View). v.row.holdings) same) (ap (λ (v : View). v.row.knows.known) same)
+
+pub returns-clause-said : goal.returns-clause-said
+returns-clause-said c =
+    let item = c.args.item.now in
+    let now : View = c.loop-place.hand.seat.me.0 in
+    let (arena, locks, same, room, words) = c.loop-place.invariant in
+    let stays = kept_refs_keep_items c.args.hand.now.seat.me.0 now item (returns-clause-keeps c) c.requires.item in
+    subst (λ (l : List ℕ). AreSaid now item.stamp (item_with item.key item.stamp l)) (stays.words ∙ sym (returns-clause-words c)) (words_said now arena.lawful item stays.refers)
+
+pub returns-clause-item : goal.returns-clause-item
+returns-clause-item c = (kept_refs_keep_items c.args.hand.now.seat.me.0 c.loop-place.hand.seat.me.0 c.args.item.now (returns-clause-keeps c) c.requires.item).refers

@@ -11,8 +11,12 @@ use Rattle.mc_items.specs.Setting.{class_for_words}
 use Rattle.mc_items.specs.Sources.{SuppliesChunk}
 use Rattle.mc_items.specs.Storing.{LeavesDead, StoresItem, item_filled, item_with}
 use Rattle.mc_words.proofs.HandNumbers.{number_stays}
+use Rattle.mc_core.specs.declared.ids.Ids.{Ids}
+use Rattle.mc_core.specs.Items.{stamped}
+use Rattle.mc_items.proofs.Chains.{number_kept, ready_still, refs_stay}
+use Rattle.mc_items.proofs.StoredRows.{dead_holds, dead_keeps, stored_holds, stored_ids, stored_keeps}
 use Rattle.mc_items.proofs.Locks.{still_unlocked}
-use Rattle.mc_items.proofs.Made.{Tells, refused_tells, supplied_tells, tells_before}
+use Rattle.mc_items.proofs.Made.{Tells, refused_tells, supplied_tells, tells_before, refused_holds, supplied_gains}
 use Rattle.mc_items.proofs.Sets.{class_there, dead_tells, refuses_so, words_fit}
 use Rattle.mc_items.proofs.setting.set.Goals as goal
 
@@ -39,7 +43,7 @@ returns-in-Err-clause-stamps g c =
     (refused_tells c.args.hand.now.number c.in-Some.class c.in-Err.error c.args.hand.now.seat.me.0 c.chunk_of.new.hand.seat.me.0 c.in-Err.ensures.none).ids
 
 pub store_words-requires-clause-unlocked : goal.store_words-requires-clause-unlocked
-store_words-requires-clause-unlocked g c = still_unlocked c.args.hand.now c.chunk_of.new.hand c.requires.unlocked c.chunk_of.ensures.locks
+store_words-requires-clause-unlocked g c = still_unlocked c.args.hand.now c.chunk_of.new.hand c.requires.ready.unlocked c.chunk_of.ensures.locks
 
 pub store_words-requires-clause-room : goal.store_words-requires-clause-room
 store_words-requires-clause-room g c =
@@ -69,7 +73,7 @@ returns-in-Ok-store_words-clause-sets g c =
       room = fresh.room;
       between = between;
       supplies = c.in-Ok.ensures.supplies;
-      stores = subst (λ (p : ℕ × Setup). StoresItem p.0 (c.args.key % p.1.config.stripes) c.args.key (record { chunk = fresh.chunk; room = fresh.room; key = c.args.key; stamp = c.in-Some-next_stamp.stamp }) (item_filled fresh.chunk (item_with c.args.key c.in-Some-next_stamp.stamp c.args.words.now) between) now)
+      stores = subst (λ (p : ℕ × Setup). StoresItem p.0 (c.args.key % p.1.config.stripes) c.args.key c.in-Some-next_stamp.stamp fresh.chunk fresh.room (item_filled fresh.chunk (item_with c.args.key c.in-Some-next_stamp.stamp c.args.words.now) between) now)
           (λ k. (number k, sym setup k)) c.in-Ok-store_words.ensures.stores;
     }
 
@@ -124,3 +128,104 @@ returns-in-Err-store_words-clause-unsaid g c =
 pub returns-in-Err-store_words-clause-stamps : goal.returns-in-Err-store_words-clause-stamps
 returns-in-Err-store_words-clause-stamps g c =
     (told_here c.args.hand.now.number c.in-Some.class c.args.key c.in-Some-next_stamp.stamp _ c.in-Ok.fresh.chunk c.args.words.now c.args.hand.now.seat.me.0 c.chunk_of.new.hand.seat.me.0 c.store_words.new.hand.seat.me.0 c.in-Ok.ensures.supplies c.in-Err-store_words.ensures.no_memory).ids
+
+pub returns-in-Err-clause-holdings : goal.returns-in-Err-clause-holdings
+returns-in-Err-clause-holdings g c =
+    refused_holds c.args.hand.now.number c.in-Some.class c.in-Err.error c.args.hand.now.seat.me.0 c.chunk_of.new.hand.seat.me.0 c.in-Err.ensures.none
+
+pub returns-in-Err-clause-number : goal.returns-in-Err-clause-number
+returns-in-Err-clause-number g c =
+    let hand = c.args.hand.now in
+    let now = c.chunk_of.new.hand in
+    let none = c.in-Err.ensures.none in
+    let told = refused_tells hand.number c.in-Some.class c.in-Err.error hand.seat.me.0 now.seat.me.0 none in
+    number_stays hand now told.ids
+
+pub returns-in-Err-clause-keeps : goal.returns-in-Err-clause-keeps
+returns-in-Err-clause-keeps g c =
+    let hand = c.args.hand.now in
+    let now = c.chunk_of.new.hand in
+    let none = c.in-Err.ensures.none in
+    let told = refused_tells hand.number c.in-Some.class c.in-Err.error hand.seat.me.0 now.seat.me.0 none in
+    refs_stay hand.seat.me.0 now.seat.me.0 (returns-in-Err-clause-holdings g c) told.known
+
+pub returns-in-Err-clause-ready : goal.returns-in-Err-clause-ready
+returns-in-Err-clause-ready g c =
+    ready_still c.args.hand.now c.chunk_of.new.hand c.chunk_of.ensures.locks (returns-in-Err-clause-holdings g c) c.requires.ready
+
+pub returns-in-Ok-store_words-clause-holdings : goal.returns-in-Ok-store_words-clause-holdings
+returns-in-Ok-store_words-clause-holdings g c =
+    let hand = c.args.hand.now in
+    let view : View = hand.seat.me.0 in
+    let between : View = c.chunk_of.new.hand.seat.me.0 in
+    let now = c.store_words.new.hand in
+    let fresh = c.in-Ok.fresh in
+    let stamp = c.in-Some-next_stamp.stamp in
+    let words = item_with c.args.key stamp c.args.words.now in
+    let gains = supplied_gains hand.number c.in-Some.class fresh.chunk view between c.in-Ok.ensures.supplies in
+    let told = supplied_tells hand.number c.in-Some.class fresh.chunk view between c.in-Ok.ensures.supplies in
+    stored_holds fresh.chunk words view between c.requires.ready.unfilled gains c.in-Ok.ensures.own c.chunk_of.new.hand.number _ c.args.key stamp fresh.room now.seat.me.0 c.in-Ok-store_words.ensures.stores
+
+pub returns-in-Ok-store_words-clause-keeps : goal.returns-in-Ok-store_words-clause-keeps
+returns-in-Ok-store_words-clause-keeps g c =
+    let hand = c.args.hand.now in
+    let view : View = hand.seat.me.0 in
+    let between : View = c.chunk_of.new.hand.seat.me.0 in
+    let now = c.store_words.new.hand in
+    let fresh = c.in-Ok.fresh in
+    let stamp = c.in-Some-next_stamp.stamp in
+    let words = item_with c.args.key stamp c.args.words.now in
+    let gains = supplied_gains hand.number c.in-Some.class fresh.chunk view between c.in-Ok.ensures.supplies in
+    let told = supplied_tells hand.number c.in-Some.class fresh.chunk view between c.in-Ok.ensures.supplies in
+    stored_keeps fresh.chunk words view between c.requires.ready.unfilled gains c.in-Ok.ensures.own c.chunk_of.new.hand.number _ c.args.key stamp fresh.room now.seat.me.0 c.in-Ok-store_words.ensures.stores told.known
+
+pub returns-in-Ok-store_words-clause-number : goal.returns-in-Ok-store_words-clause-number
+returns-in-Ok-store_words-clause-number g c =
+    let hand = c.args.hand.now in
+    let view : View = hand.seat.me.0 in
+    let between : View = c.chunk_of.new.hand.seat.me.0 in
+    let now = c.store_words.new.hand in
+    let fresh = c.in-Ok.fresh in
+    let stamp = c.in-Some-next_stamp.stamp in
+    let words = item_with c.args.key stamp c.args.words.now in
+    let gains = supplied_gains hand.number c.in-Some.class fresh.chunk view between c.in-Ok.ensures.supplies in
+    let told = supplied_tells hand.number c.in-Some.class fresh.chunk view between c.in-Ok.ensures.supplies in
+    number_kept hand now (ap (λ (i : Ids). i.number) (stored_ids fresh.chunk words view between c.requires.ready.unfilled gains c.in-Ok.ensures.own c.chunk_of.new.hand.number _ c.args.key stamp fresh.room now.seat.me.0 c.in-Ok-store_words.ensures.stores ∙ ap stamped told.ids))
+
+pub returns-in-Ok-store_words-clause-ready : goal.returns-in-Ok-store_words-clause-ready
+returns-in-Ok-store_words-clause-ready g c =
+    ready_still c.args.hand.now c.store_words.new.hand (c.store_words.ensures.locks ∙ c.chunk_of.ensures.locks) (returns-in-Ok-store_words-clause-holdings g c) c.requires.ready
+
+pub returns-in-Err-store_words-clause-holdings : goal.returns-in-Err-store_words-clause-holdings
+returns-in-Err-store_words-clause-holdings g c =
+    let hand = c.args.hand.now in
+    let view : View = hand.seat.me.0 in
+    let between : View = c.chunk_of.new.hand.seat.me.0 in
+    let now = c.store_words.new.hand in
+    let fresh = c.in-Ok.fresh in
+    let stamp = c.in-Some-next_stamp.stamp in
+    let words = item_with c.args.key stamp c.args.words.now in
+    let gains = supplied_gains hand.number c.in-Some.class fresh.chunk view between c.in-Ok.ensures.supplies in
+    let told = supplied_tells hand.number c.in-Some.class fresh.chunk view between c.in-Ok.ensures.supplies in
+    dead_holds fresh.chunk words view between c.requires.ready.unfilled gains c.in-Ok.ensures.own _ now.seat.me.0 c.in-Err-store_words.ensures.no_memory
+
+pub returns-in-Err-store_words-clause-keeps : goal.returns-in-Err-store_words-clause-keeps
+returns-in-Err-store_words-clause-keeps g c =
+    let hand = c.args.hand.now in
+    let view : View = hand.seat.me.0 in
+    let between : View = c.chunk_of.new.hand.seat.me.0 in
+    let now = c.store_words.new.hand in
+    let fresh = c.in-Ok.fresh in
+    let stamp = c.in-Some-next_stamp.stamp in
+    let words = item_with c.args.key stamp c.args.words.now in
+    let gains = supplied_gains hand.number c.in-Some.class fresh.chunk view between c.in-Ok.ensures.supplies in
+    let told = supplied_tells hand.number c.in-Some.class fresh.chunk view between c.in-Ok.ensures.supplies in
+    dead_keeps fresh.chunk words view between c.requires.ready.unfilled gains c.in-Ok.ensures.own _ now.seat.me.0 c.in-Err-store_words.ensures.no_memory told.known
+
+pub returns-in-Err-store_words-clause-number : goal.returns-in-Err-store_words-clause-number
+returns-in-Err-store_words-clause-number g c =
+    number_stays c.args.hand.now c.store_words.new.hand (returns-in-Err-store_words-clause-stamps g c)
+
+pub returns-in-Err-store_words-clause-ready : goal.returns-in-Err-store_words-clause-ready
+returns-in-Err-store_words-clause-ready g c =
+    ready_still c.args.hand.now c.store_words.new.hand (c.store_words.ensures.locks ∙ c.chunk_of.ensures.locks) (returns-in-Err-store_words-clause-holdings g c) c.requires.ready

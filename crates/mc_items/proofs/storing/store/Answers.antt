@@ -7,7 +7,7 @@ use Rattle.mc_words.specs.Lent.{IsLentStripe}
 use Rattle.mc_words.specs.Out.{without_stripe}
 use Rattle.mc_words.specs.Tallies.{next_stamp}
 use Rattle.mc_words.specs.View.{View}
-use Rattle.mc_words.specs.Views.{chunk_dropped, stripe_given}
+use Rattle.mc_words.specs.Views.{chunk_released, stripe_given}
 use Rattle.mc_words.specs.Waiting.{WaitsForStripe}
 use Rattle.mc_items.specs.Storing.{LeavesDead, Stores, StoresItem}
 use Rattle.mc_items.proofs.Gets.{called_on, only_waits}
@@ -59,10 +59,10 @@ returns-in-Ok-clause-stores g c =
     let number = number_stays hand held.new.hand (waits_keep (λ (v : View). v.row.ids) (c.args.key % c.config.result.now.stripes) (λ word v. refl) (λ value v. refl) before held.result.stripe taken held.ensures.waits) in
     let waits = subst (λ (n : ℕ). WaitsForStripe n before held.result.stripe taken) at held.ensures.waits in
     let lent = subst (λ (n : ℕ). IsLentStripe taken n held.result.stripe) at held.ensures.whole in
-    let stored : StoresItem hand.number stripe c.args.key c.args.fresh before now = record {
+    let stored : StoresItem hand.number stripe c.args.key c.args.fresh.stamp c.args.fresh.chunk c.args.fresh.room before now = record {
       linked = linked;
-      stores = called_on (λ number stripe. Stores number stripe c.args.key c.args.fresh) hand.number stripe held.new.hand.number held.result.number held.result.stripe before taken linked number (held.ensures.number ∙ at) waits lent c.in-Ok.ensures.done;
-      dropped = c.release.ensures.dropped ∙ ap (λ (chunk : ChunkId). chunk_dropped chunk linked) c.in-Ok.ensures.same.0;
+      stores = called_on (λ number stripe. Stores number stripe c.args.key c.args.fresh.stamp c.args.fresh.chunk c.args.fresh.room) hand.number stripe held.new.hand.number held.result.number held.result.stripe before taken linked number (held.ensures.number ∙ at) waits lent c.in-Ok.ensures.done;
+      dropped = c.release.ensures.dropped ∙ ap (λ (chunk : ChunkId). chunk_released chunk linked) c.in-Ok.ensures.same.0;
     } in
     stored
 
@@ -79,12 +79,12 @@ returns-in-Ok-clause-calls g c =
     let number = number_stays hand held.new.hand (waits_keep (λ (v : View). v.row.ids) (c.args.key % c.config.result.now.stripes) (λ word v. refl) (λ value v. refl) before held.result.stripe taken held.ensures.waits) in
     let waits = subst (λ (n : ℕ). WaitsForStripe n before held.result.stripe taken) at held.ensures.waits in
     let lent = subst (λ (n : ℕ). IsLentStripe taken n held.result.stripe) at held.ensures.whole in
-    let stored : StoresItem hand.number stripe c.args.key c.args.fresh before now = record {
+    let stored : StoresItem hand.number stripe c.args.key c.args.fresh.stamp c.args.fresh.chunk c.args.fresh.room before now = record {
       linked = linked;
-      stores = called_on (λ number stripe. Stores number stripe c.args.key c.args.fresh) hand.number stripe held.new.hand.number held.result.number held.result.stripe before taken linked number (held.ensures.number ∙ at) waits lent c.in-Ok.ensures.done;
-      dropped = c.release.ensures.dropped ∙ ap (λ (chunk : ChunkId). chunk_dropped chunk linked) c.in-Ok.ensures.same.0;
+      stores = called_on (λ number stripe. Stores number stripe c.args.key c.args.fresh.stamp c.args.fresh.chunk c.args.fresh.room) hand.number stripe held.new.hand.number held.result.number held.result.stripe before taken linked number (held.ensures.number ∙ at) waits lent c.in-Ok.ensures.done;
+      dropped = c.release.ensures.dropped ∙ ap (λ (chunk : ChunkId). chunk_released chunk linked) c.in-Ok.ensures.same.0;
     } in
-    stored_mine hand.number stripe c.args.key c.args.fresh before now stored
+    stored_mine hand.number stripe c.args.key c.args.fresh.stamp c.args.fresh.chunk c.args.fresh.room before now stored
 
 pub returns-in-Ok-clause-said : goal.returns-in-Ok-clause-said
 returns-in-Ok-clause-said g c =
@@ -99,12 +99,12 @@ returns-in-Ok-clause-said g c =
     let number = number_stays hand held.new.hand (waits_keep (λ (v : View). v.row.ids) (c.args.key % c.config.result.now.stripes) (λ word v. refl) (λ value v. refl) before held.result.stripe taken held.ensures.waits) in
     let waits = subst (λ (n : ℕ). WaitsForStripe n before held.result.stripe taken) at held.ensures.waits in
     let lent = subst (λ (n : ℕ). IsLentStripe taken n held.result.stripe) at held.ensures.whole in
-    let stored : StoresItem hand.number stripe c.args.key c.args.fresh before now = record {
+    let stored : StoresItem hand.number stripe c.args.key c.args.fresh.stamp c.args.fresh.chunk c.args.fresh.room before now = record {
       linked = linked;
-      stores = called_on (λ number stripe. Stores number stripe c.args.key c.args.fresh) hand.number stripe held.new.hand.number held.result.number held.result.stripe before taken linked number (held.ensures.number ∙ at) waits lent c.in-Ok.ensures.done;
-      dropped = c.release.ensures.dropped ∙ ap (λ (chunk : ChunkId). chunk_dropped chunk linked) c.in-Ok.ensures.same.0;
+      stores = called_on (λ number stripe. Stores number stripe c.args.key c.args.fresh.stamp c.args.fresh.chunk c.args.fresh.room) hand.number stripe held.new.hand.number held.result.number held.result.stripe before taken linked number (held.ensures.number ∙ at) waits lent c.in-Ok.ensures.done;
+      dropped = c.release.ensures.dropped ∙ ap (λ (chunk : ChunkId). chunk_released chunk linked) c.in-Ok.ensures.same.0;
     } in
-    stored_said hand.number stripe c.args.key c.args.fresh before now stored
+    stored_said hand.number stripe c.args.key c.args.fresh.stamp c.args.fresh.chunk c.args.fresh.room before now stored
 
 pub returns-in-Err-clause-locks : goal.returns-in-Err-clause-locks
 returns-in-Err-clause-locks g c =
@@ -121,7 +121,7 @@ returns-in-Err-clause-no_memory g c =
     let given : View = stripe_given held.result.number held.result.stripe taken in
     record {
       given = given;
-      waits = only_waits stripe held.result.number held.result.stripe before taken given (held.ensures.number ∙ at) (subst (λ (n : ℕ). WaitsForStripe n before held.result.stripe taken) at held.ensures.waits) refl;
+      waits = only_waits stripe held.result.number held.result.stripe before taken given (held.ensures.number ∙ at) (subst (λ (n : ℕ). WaitsForStripe n before held.result.stripe taken) at held.ensures.waits) (subst (λ (n : ℕ). IsLentStripe taken n held.result.stripe) at held.ensures.whole) c.in-Err.ensures.full refl;
       dropped = c.in-Err.ensures.given;
     }
 
@@ -136,7 +136,7 @@ returns-in-Err-clause-refused g c =
     let given : View = stripe_given held.result.number held.result.stripe taken in
     let dead : LeavesDead stripe c.args.fresh.chunk before c.store_at.new.hand.seat.me.0 = record {
       given = given;
-      waits = only_waits stripe held.result.number held.result.stripe before taken given (held.ensures.number ∙ at) (subst (λ (n : ℕ). WaitsForStripe n before held.result.stripe taken) at held.ensures.waits) refl;
+      waits = only_waits stripe held.result.number held.result.stripe before taken given (held.ensures.number ∙ at) (subst (λ (n : ℕ). WaitsForStripe n before held.result.stripe taken) at held.ensures.waits) (subst (λ (n : ℕ). IsLentStripe taken n held.result.stripe) at held.ensures.whole) c.in-Err.ensures.full refl;
       dropped = c.in-Err.ensures.given;
     } in
     dead_told stripe c.args.fresh.chunk before c.store_at.new.hand.seat.me.0 dead

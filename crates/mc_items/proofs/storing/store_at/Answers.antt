@@ -6,6 +6,7 @@ use Rattle.mc_core.specs.Items.{is_none_else_aside}
 use Rattle.mc_words.specs.View.{View}
 use Rattle.mc_words.specs.declared.held.StripeHeld.{StripeHeld}
 use Rattle.mc_items.proofs.Stores.{fresh_among, lifted_alone, lifted_nowhere}
+use Rattle.mc_items.proofs.Freed.{full_from}
 use Rattle.mc_items.proofs.storing.store_at.Goals as goal
 
 pub put_aside-requires-clause-fresh : goal.put_aside-requires-clause-fresh
@@ -25,3 +26,6 @@ link-reference-requires-clause-aside c =
     let key : ℕ = c.args.key in
     let value : ReadyStripe = c.reserve.new.held.stripe in
     ap (is_none_else_aside c.put_aside.new.held.stripe.state) c.requires.key ∙ (ap (λ (v : ReadyStripe). is_none_else_aside v.state key) c.put_aside.ensures.lifted ∙ lifted_alone value key)
+
+pub returns-in-Err-clause-full : goal.returns-in-Err-clause-full
+returns-in-Err-clause-full c = full_from c.args.held.stripe.ready c.reserve.result c.in-Err.error c.in-Err.is c.reserve.ensures.succeeds

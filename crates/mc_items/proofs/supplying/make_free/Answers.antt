@@ -1,11 +1,11 @@
-use Rattle.std.proofs.Common.{ℕ, Ok, ap, subst, ◌∙◌}
+use Rattle.std.proofs.Common.{ℕ, Ok, ap, subst, ◌∙◌, inr}
 use Rattle.mc_pages.specs.SlabState.{SlabState}
 use Rattle.mc_words.specs.View.{View}
-use Rattle.mc_items.specs.Evicting.{FreesOne, first_five}
+use Rattle.mc_items.specs.Evicting.{FreesOne, LacksEntry, first_five}
 use Rattle.mc_items.specs.Sources.{MakesFree, MakesNone}
 use Rattle.mc_words.proofs.HandNumbers.{number_stays}
 use Rattle.mc_items.proofs.Made.{made_by}
-use Rattle.mc_items.proofs.Supplies.{if_some}
+use Rattle.mc_items.proofs.Supplies.{if_error, if_some}
 use Rattle.mc_items.proofs.supplying.make_free.Goals as goal
 
 pub returns-in-Ok-true-clause-makes : goal.returns-in-Ok-true-clause-makes
@@ -32,3 +32,11 @@ returns-in-Ok-false-clause-none c e =
     let passes = c.evict_one.ensures.none e in
     subst (λ (p : ℕ × View × SlabState). MakesNone p.0 c.args.class p.1 p.2 c.evict_one.new.hand.seat.me.0 c.evict_one.new.slabs.shared) (λ k. (number k, none.2 k, none.1 k))
     (record { page = ap Rattle.mc_pages.specs.Changes.next_page none.1 ∙ none.0; passes = passes.0; alive = c.evict_one.ensures.alive e; same = passes.1 })
+
+pub returns-in-Ok-false-clause-no_memory : goal.returns-in-Ok-false-clause-no_memory
+returns-in-Ok-false-clause-no_memory c =
+    let none = c.grow_for.ensures.none (c.in-Ok-false.is ∙ ap (λ b. Ok b) c.in-Ok-false.field-0-test) in
+    let number = number_stays c.args.hand.now c.grow_for.new.hand (ap (λ (v : View). v.row.ids) none.2) in
+    if_error c.evict_one.result
+    (λ lacks. (inr (none.0, subst (λ (p : ℕ × View × SlabState). LacksEntry p.0 (first_five p.2 c.args.class) p.1 c.evict_one.new.hand.seat.me.0) (λ k. (number k, none.2 k, none.1 k)) lacks.0), lacks.1 ∙ none.1))
+    c.evict_one.ensures.no_memory

@@ -101,7 +101,7 @@ returns-in_err-found-clause-lacks c =
     let left = c.save.new.slabs.shared in
     let leads = c.if-not-leads_to.ensures.leads refl in
     as_error c.from_residual.result
-    (c.if-not-unheld.false, reached c.args.chunk view read taken slabs key stripe value reads at c.in-Ok.ensures.taken c.in-Ok.ensures.lent c.in-Ok.ensures.whole (GivesThere c.args.chunk) now left (ap (option_map (λ (place : ChunkId × ℕ). place.0)) leads.1, subst (λ n. OnlyGives n value taken slabs now left) c.in-Ok.ensures.number c.in_err-found.ensures.lacks))
+    (c.if-not-unheld.false, reached c.args.chunk view read taken slabs key stripe value reads at c.in-Ok.ensures.taken c.in-Ok.ensures.lent c.in-Ok.ensures.whole (GivesThere c.args.chunk) now left (ap (option_map (λ (place : ChunkId × ℕ). place.0)) leads.1, c.in_err-found.ensures.unready, subst (λ n. OnlyGives n value taken slabs now left) c.in-Ok.ensures.number c.in_err-found.ensures.lacks))
 
 pub returns-then-ne-clause-locks : goal.returns-then-ne-clause-locks
 returns-then-ne-clause-locks c =

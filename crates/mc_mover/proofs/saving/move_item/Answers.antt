@@ -8,7 +8,7 @@ use Rattle.mc_words.specs.Fresh.{IsFreshIn}
 use Rattle.mc_words.specs.Items.{issue_in, words_in}
 use Rattle.mc_words.specs.Linking.{IsCopyFilled, copy_linked}
 use Rattle.mc_words.specs.View.{Setup, View}
-use Rattle.mc_words.specs.Views.{chunk_dropped}
+use Rattle.mc_words.specs.Views.{chunk_discarded, chunk_released}
 use Rattle.mc_words.proofs.HandNumbers.{number_stays}
 use Rattle.mc_mover.proofs.Kept.{finds_keep}
 use Rattle.mc_mover.proofs.Moved.{copy_filled, copy_there, dropped_holdings, fresh_still, ids_now, ids_stay, leads_nowhere, length_fits, others_filled, reason_there, stripe_copied, stripes_stay}
@@ -163,16 +163,17 @@ returns-in-Ok-clause-moves c =
     let numbers : c.condemn_original.new.hand.number ≡ c.args.hand.now.number = number_stays c.args.hand.now c.condemn_original.new.hand (ids_now chunk copy key stamp words view filled done.is c.requires.copy.0 c.args.fresh.room c.requires.copy.1 fits number c.args.stripe.now.stripe left now took ∙ ids_stay chunk copy key stamp words view filled done.is) in
     let linked_is : linked ≡ copy_linked c.args.hand.now.number number left key copy (issue_in now copy) (words_in now copy) c.args.fresh.room now =
     c.link_copy-reference.ensures.linked ∙ (λ k. copy_linked (numbers k) (c.condemn_original.ensures.number k) left key (same k) (issue_in now (same k)) (words_in now (same k)) (rooms k) now) in
-    let last_is : last ≡ chunk_dropped copy linked = c.release.ensures.dropped ∙ ap (λ (at : ChunkId). chunk_dropped at linked) (c.link_copy-reference.ensures.same.0 ∙ same) in
+    let last_is : last ≡ chunk_released copy linked = c.release.ensures.dropped ∙ ap (λ (at : ChunkId). chunk_released at linked) (c.link_copy-reference.ensures.same.0 ∙ same) in
     record {
       key = key;
       stamp = stamp;
       filled = filled;
       copies = done;
+      fits = fits;
       condemned = now;
       lifted = left;
       condemns = took;
-      is = last_is ∙ ap (chunk_dropped copy) linked_is;
+      is = last_is ∙ ap (chunk_released copy) linked_is;
       left_is = c.link_copy-reference.ensures.stored ∙ (λ k. used_up (after_rescue left.state (numbers k) key (same k)));
     }
 
@@ -197,7 +198,7 @@ returns-in-Ok-clause-holdings c =
     let numbers : c.condemn_original.new.hand.number ≡ c.args.hand.now.number = number_stays c.args.hand.now c.condemn_original.new.hand (ids_now chunk copy key stamp words view filled done.is c.requires.copy.0 c.args.fresh.room c.requires.copy.1 fits number c.args.stripe.now.stripe left now took ∙ ids_stay chunk copy key stamp words view filled done.is) in
     let linked_is : linked ≡ copy_linked c.args.hand.now.number number left key copy (issue_in now copy) (words_in now copy) c.args.fresh.room now =
     c.link_copy-reference.ensures.linked ∙ (λ k. copy_linked (numbers k) (c.condemn_original.ensures.number k) left key (same k) (issue_in now (same k)) (words_in now (same k)) (rooms k) now) in
-    let last_is : last ≡ chunk_dropped copy linked = c.release.ensures.dropped ∙ ap (λ (at : ChunkId). chunk_dropped at linked) (c.link_copy-reference.ensures.same.0 ∙ same) in
+    let last_is : last ≡ chunk_released copy linked = c.release.ensures.dropped ∙ ap (λ (at : ChunkId). chunk_released at linked) (c.link_copy-reference.ensures.same.0 ∙ same) in
     dropped_holdings chunk copy key stamp words view filled done.is c.requires.copy.0 c.args.fresh.room c.requires.copy.1 fits number c.args.stripe.now.stripe left now took c.args.hand.now.number linked last linked_is last_is c.requires.alone c.requires.only
 
 pub returns-in-Ok-clause-ids : goal.returns-in-Ok-clause-ids
@@ -221,7 +222,7 @@ returns-in-Ok-clause-ids c =
     let numbers : c.condemn_original.new.hand.number ≡ c.args.hand.now.number = number_stays c.args.hand.now c.condemn_original.new.hand (ids_now chunk copy key stamp words view filled done.is c.requires.copy.0 c.args.fresh.room c.requires.copy.1 fits number c.args.stripe.now.stripe left now took ∙ ids_stay chunk copy key stamp words view filled done.is) in
     let linked_is : linked ≡ copy_linked c.args.hand.now.number number left key copy (issue_in now copy) (words_in now copy) c.args.fresh.room now =
     c.link_copy-reference.ensures.linked ∙ (λ k. copy_linked (numbers k) (c.condemn_original.ensures.number k) left key (same k) (issue_in now (same k)) (words_in now (same k)) (rooms k) now) in
-    let last_is : last ≡ chunk_dropped copy linked = c.release.ensures.dropped ∙ ap (λ (at : ChunkId). chunk_dropped at linked) (c.link_copy-reference.ensures.same.0 ∙ same) in
+    let last_is : last ≡ chunk_released copy linked = c.release.ensures.dropped ∙ ap (λ (at : ChunkId). chunk_released at linked) (c.link_copy-reference.ensures.same.0 ∙ same) in
     ap (λ (v : View). v.row.ids) last_is ∙ (ap (λ (v : View). v.row.ids) linked_is ∙ (ids_now chunk copy key stamp words view filled done.is c.requires.copy.0 c.args.fresh.room c.requires.copy.1 fits number c.args.stripe.now.stripe left now took ∙ ids_stay chunk copy key stamp words view filled done.is))
 
 pub returns-in-Err-clause-fails : goal.returns-in-Err-clause-fails
@@ -244,7 +245,7 @@ returns-in-Err-clause-fails c =
         copies = done;
         found = now;
         finds = finds;
-        dropped = c.discard.ensures.dropped ∙ ap (λ (at : ChunkId). chunk_dropped at now) same;
+        dropped = c.discard.ensures.dropped ∙ ap (λ (at : ChunkId). chunk_discarded at now) same;
       },
       c.in-Err.ensures.moved.1,
     )

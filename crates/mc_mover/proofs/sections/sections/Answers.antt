@@ -9,7 +9,7 @@ use Rattle.mc_mover.specs.Turning.{Section}
 use Rattle.mc_mover.proofs.Ends.{move_here}
 use Rattle.mc_words.proofs.HandNumbers.{number_stays}
 use Rattle.mc_mover.proofs.Refusals.{as_error, on_error}
-use Rattle.mc_mover.proofs.Rounds.{all_of_bulk, all_of_page, counts_small, gone_more, gone_none, lacks_next, some_move}
+use Rattle.mc_mover.proofs.Rounds.{all_of_bulk, all_of_page, counts_small, gone_more, gone_none, gone_runs, lacks_next, some_move}
 use Rattle.mc_mover.proofs.sections.sections.Goals as goal
 
 pub loop-init : goal.loop-init
@@ -106,3 +106,13 @@ returns-then-moving-per_page-clause-looks c =
     all_of_page (setup_of c.args.arena.now) hand.seat.me.0 c.requires.arena.lawful c.requires.arena.setup c.args.held.now.shared c.requires.held
     c.loop.hand.seat.me.0 inv.arena.lawful inv.arena.setup c.loop.held.shared inv.held hand.number c.loop.counter c.loop.counts inv.gone
     (omega arith) move (sym c.in-Some.ensures.moving) (omega arith)
+
+pub returns-after-loop-clause-same_move : goal.returns-after-loop-clause-same_move
+returns-after-loop-clause-same_move c =
+    let hand = c.args.hand.now in
+    gone_runs hand.number c.loop.counter c.loop.counts hand.seat.me.0 c.args.held.now.shared c.loop.hand.seat.me.0 c.loop.held.shared c.loop.invariant.gone
+
+pub returns-then-moving-per_page-clause-same_move : goal.returns-then-moving-per_page-clause-same_move
+returns-then-moving-per_page-clause-same_move c =
+    let hand = c.args.hand.now in
+    gone_runs hand.number c.loop.counter c.loop.counts hand.seat.me.0 c.args.held.now.shared c.loop.hand.seat.me.0 c.loop.held.shared c.loop.invariant.gone

@@ -1,8 +1,10 @@
-use Rattle.std.proofs.Common.{ap, subst, ◌∙◌}
+use Rattle.std.proofs.Common.{ap, refl, subst, ◌∙◌}
 use Rattle.mc_words.specs.Out.{without_slabs}
 use Rattle.mc_words.specs.View.{View}
 use Rattle.mc_mover.specs.Turning.{LacksMemory, Turns}
 use Rattle.mc_words.proofs.HandNumbers.{number_stays}
+use Rattle.mc_mover.proofs.Chains.{held_answer, lacks_leaves, ready_still, refs_kept, turn_leaves}
+use Rattle.mc_mover.proofs.Grows.{turns_grow}
 use Rattle.mc_mover.proofs.HoldsSlabs.{held_for, lock_back}
 use Rattle.mc_mover.proofs.Locks.{taken_at_once}
 use Rattle.mc_mover.proofs.Tells.{fewer_told, turn_told}
@@ -10,11 +12,11 @@ use Rattle.mc_mover.proofs.turning.try_turn.Goals as goal
 
 pub returns-in-Ok-answer-clause-locks : goal.returns-in-Ok-answer-clause-locks
 returns-in-Ok-answer-clause-locks c =
-    c.give_slabs.ensures.locks ∙ (ap without_slabs (c.turn_held-answer.ensures.locks ∙ c.in-Ok.ensures.locks) ∙ lock_back c.args.hand.now c.requires.unlocked)
+    c.give_slabs.ensures.locks ∙ (ap without_slabs (c.turn_held-answer.ensures.locks ∙ c.in-Ok.ensures.locks) ∙ lock_back c.args.hand.now c.requires.ready.unlocked)
 
 pub returns-in-Err-clause-locks : goal.returns-in-Err-clause-locks
 returns-in-Err-clause-locks c =
-    c.give_slabs.ensures.locks ∙ (ap without_slabs (c.turn_held-answer.ensures.locks ∙ c.in-Ok.ensures.locks) ∙ lock_back c.args.hand.now c.requires.unlocked)
+    c.give_slabs.ensures.locks ∙ (ap without_slabs (c.turn_held-answer.ensures.locks ∙ c.in-Ok.ensures.locks) ∙ lock_back c.args.hand.now c.requires.ready.unlocked)
 
 pub returns-in-Ok-answer-clause-turns : goal.returns-in-Ok-answer-clause-turns
 returns-in-Ok-answer-clause-turns c =
@@ -49,3 +51,66 @@ pub returns-in-Err-clause-told_before : goal.returns-in-Err-clause-told_before
 returns-in-Err-clause-told_before c is =
     let hand = c.args.hand.now in
     fewer_told hand.number hand.seat.me.0 c.give_slabs.new.hand.seat.me.0 c.requires.arena.lawful hand.noted.0 (returns-in-Err-clause-lacks c is)
+
+pub returns-in-Ok-answer-clause-holdings : goal.returns-in-Ok-answer-clause-holdings
+returns-in-Ok-answer-clause-holdings c =
+    ap (λ (v : View). v.row.holdings) c.give_slabs.ensures.left ∙ (c.turn_held-answer.ensures.holdings ∙ ap (λ (v : View). v.row.holdings) c.in-Ok.ensures.lent)
+
+pub returns-in-Ok-answer-clause-ready : goal.returns-in-Ok-answer-clause-ready
+returns-in-Ok-answer-clause-ready c = ready_still c.args.hand.now c.give_slabs.new.hand (returns-in-Ok-answer-clause-locks c) (returns-in-Ok-answer-clause-holdings c) c.requires.ready
+
+pub returns-in-Ok-answer-clause-number : goal.returns-in-Ok-answer-clause-number
+returns-in-Ok-answer-clause-number c =
+    let hand = c.args.hand.now in
+    let now = c.give_slabs.new.hand in
+    number_stays hand now (turn_leaves hand.number c.in-Ok-answer.turn hand.seat.me.0 now.seat.me.0 (returns-in-Ok-answer-clause-turns c)).ids
+
+pub returns-in-Ok-answer-clause-keeps : goal.returns-in-Ok-answer-clause-keeps
+returns-in-Ok-answer-clause-keeps c =
+    let hand = c.args.hand.now in
+    let now = c.give_slabs.new.hand in
+    let leaves = (turn_leaves hand.number c.in-Ok-answer.turn hand.seat.me.0 now.seat.me.0 (returns-in-Ok-answer-clause-turns c)) in
+    refs_kept hand.seat.me.0 now.seat.me.0 leaves.more (returns-in-Ok-answer-clause-holdings c) leaves.known
+
+pub returns-in-Ok-answer-clause-unsaid : goal.returns-in-Ok-answer-clause-unsaid
+returns-in-Ok-answer-clause-unsaid c =
+    let hand = c.args.hand.now in
+    let now = c.give_slabs.new.hand in
+    (turn_leaves hand.number c.in-Ok-answer.turn hand.seat.me.0 now.seat.me.0 (returns-in-Ok-answer-clause-turns c)).said
+
+pub returns-in-Err-clause-holdings : goal.returns-in-Err-clause-holdings
+returns-in-Err-clause-holdings c =
+    ap (λ (v : View). v.row.holdings) c.give_slabs.ensures.left ∙ (c.turn_held-answer.ensures.holdings ∙ ap (λ (v : View). v.row.holdings) c.in-Ok.ensures.lent)
+
+pub returns-in-Err-clause-ready : goal.returns-in-Err-clause-ready
+returns-in-Err-clause-ready c = ready_still c.args.hand.now c.give_slabs.new.hand (returns-in-Err-clause-locks c) (returns-in-Err-clause-holdings c) c.requires.ready
+
+pub returns-in-Err-clause-number : goal.returns-in-Err-clause-number
+returns-in-Err-clause-number c =
+    let hand = c.args.hand.now in
+    let now = c.give_slabs.new.hand in
+    number_stays hand now (lacks_leaves hand.number hand.seat.me.0 now.seat.me.0 (returns-in-Err-clause-lacks c refl)).ids
+
+pub returns-in-Err-clause-keeps : goal.returns-in-Err-clause-keeps
+returns-in-Err-clause-keeps c =
+    let hand = c.args.hand.now in
+    let now = c.give_slabs.new.hand in
+    let leaves = (lacks_leaves hand.number hand.seat.me.0 now.seat.me.0 (returns-in-Err-clause-lacks c refl)) in
+    refs_kept hand.seat.me.0 now.seat.me.0 leaves.more (returns-in-Err-clause-holdings c) leaves.known
+
+pub returns-in-Err-clause-unsaid : goal.returns-in-Err-clause-unsaid
+returns-in-Err-clause-unsaid c =
+    let hand = c.args.hand.now in
+    let now = c.give_slabs.new.hand in
+    (lacks_leaves hand.number hand.seat.me.0 now.seat.me.0 (returns-in-Err-clause-lacks c refl)).said
+
+pub returns-in-Ok-answer-clause-answers : goal.returns-in-Ok-answer-clause-answers
+returns-in-Ok-answer-clause-answers c =
+    let hand = c.args.hand.now in
+    let view : View = hand.seat.me.0 in
+    let found = c.in-Ok.held.shared in
+    let taken : View = c.try_slabs.new.hand.seat.me.0 in
+    let last : View = c.turn_held-answer.new.hand.seat.me.0 in
+    let left = c.turn_held-answer.new.held.shared in
+    held_answer view taken last c.give_slabs.new.hand.seat.me.0 found left (taken_at_once found view taken c.in-Ok.ensures.taken c.in-Ok.ensures.lent) c.give_slabs.ensures.left c.in-Ok-answer.turn
+    (turns_grow c.try_slabs.new.hand.number c.in-Ok-answer.turn taken found last left c.in-Ok-answer.ensures.turns) c.in-Ok-answer.ensures.answers

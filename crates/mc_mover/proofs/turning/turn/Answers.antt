@@ -2,32 +2,36 @@ use Rattle.std.proofs.Common.{◌≤◌, length, List, ap, sym, subst, ◌∙◌
 use Rattle.mc_core.specs.declared.holding.Holding.{Holding}
 use Rattle.mc_core.specs.Holdings.{has_fresh}
 use Rattle.mc_words.specs.Doing.{HoldsSlabs}
-use Rattle.mc_words.specs.Out.{has_no_stripe}
+use Rattle.mc_words.specs.Out.{has_no_stripe, without_slabs}
 use Rattle.mc_words.specs.View.{View}
+use Rattle.mc_words.proofs.HandNumbers.{number_stays}
 use Rattle.mc_words.proofs.Unlocked.{no_stripes_there}
 use Rattle.mc_mover.specs.declared.counts.Turn.{Turn}
+use Rattle.mc_mover.specs.Answering.{AnswersMove, IsAnswerOf}
 use Rattle.mc_mover.specs.Telling.{TellsAsCounted, counts_in}
 use Rattle.mc_mover.specs.Turning.{LacksMemory, Turns}
-use Rattle.mc_mover.proofs.HoldsSlabs.{held_for, held_holdings, wait_holdings, wait_number}
+use Rattle.mc_mover.proofs.Chains.{answer_leaves, held_answer, ready_still, refs_kept}
+use Rattle.mc_mover.proofs.Grows.{turns_grow}
+use Rattle.mc_mover.proofs.HoldsSlabs.{held_for, held_holdings, lock_back, wait_holdings, wait_number}
 use Rattle.mc_mover.proofs.Locks.{none_with_slabs}
-use Rattle.mc_mover.proofs.Refusals.{if_ok, on_err}
+use Rattle.mc_mover.proofs.Refusals.{both_ok, if_ok, on_err}
 use Rattle.mc_mover.proofs.Tells.{fewer_told, turn_told}
 use Rattle.mc_mover.proofs.turning.turn.Goals as goal
 
 pub turn_held-answer-requires-clause-one : goal.turn_held-answer-requires-clause-one
 turn_held-answer-requires-clause-one g c =
     let now = c.lock_slabs-held.new.hand in
-    no_stripes_there now.seat.me.0 now.locks now.noted.4 (ap has_no_stripe c.lock_slabs-held.ensures.locks ∙ none_with_slabs c.args.hand.now c.requires.unlocked)
+    no_stripes_there now.seat.me.0 now.locks now.noted.4 (ap has_no_stripe c.lock_slabs-held.ensures.locks ∙ none_with_slabs c.args.hand.now c.requires.ready.unlocked)
 
 pub turn_held-answer-requires-clause-fresh : goal.turn_held-answer-requires-clause-fresh
 turn_held-answer-requires-clause-fresh g c =
     let held = c.lock_slabs-held in
-    ap has_fresh (wait_holdings c.args.hand.now.seat.me.0 held.result.shared held.new.hand.seat.me.0 held.ensures.waits) ∙ c.requires.fresh
+    ap has_fresh (wait_holdings c.args.hand.now.seat.me.0 held.result.shared held.new.hand.seat.me.0 held.ensures.waits) ∙ c.requires.ready.unfilled
 
 pub turn_held-answer-requires-clause-few : goal.turn_held-answer-requires-clause-few
 turn_held-answer-requires-clause-few g c =
     let held = c.lock_slabs-held in
-    subst (λ (hs : List Holding). length hs ≤ 255) (sym (wait_holdings c.args.hand.now.seat.me.0 held.result.shared held.new.hand.seat.me.0 held.ensures.waits)) c.requires.few
+    subst (λ (hs : List Holding). length hs ≤ 255) (sym (wait_holdings c.args.hand.now.seat.me.0 held.result.shared held.new.hand.seat.me.0 held.ensures.waits)) c.requires.ready.few
 
 pub returns-clause-turns : goal.returns-clause-turns
 returns-clause-turns g c =
@@ -77,3 +81,41 @@ returns-clause-holdings g c =
     let held = c.lock_slabs-held in
     held_holdings c.args.hand.now.seat.me.0 held.new.hand.seat.me.0 c.turn_held-answer.new.hand.seat.me.0 c.give_slabs.new.hand.seat.me.0 held.result.shared c.turn_held-answer.new.held.shared
     held.ensures.waits c.turn_held-answer.ensures.holdings c.give_slabs.ensures.left
+
+pub returns-clause-locks : goal.returns-clause-locks
+returns-clause-locks g c =
+    c.give_slabs.ensures.locks ∙ (ap without_slabs (c.turn_held-answer.ensures.locks ∙ c.lock_slabs-held.ensures.locks) ∙ lock_back c.args.hand.now c.requires.ready.unlocked)
+
+pub returns-clause-ready : goal.returns-clause-ready
+returns-clause-ready g c = ready_still c.args.hand.now c.give_slabs.new.hand (returns-clause-locks g c) (returns-clause-holdings g c) c.requires.ready
+
+pub returns-clause-number : goal.returns-clause-number
+returns-clause-number g c =
+    let hand = c.args.hand.now in
+    let now = c.give_slabs.new.hand in
+    number_stays hand now (answer_leaves hand.number c.turn_held-answer.result hand.seat.me.0 now.seat.me.0 (returns-clause-turns g c) (returns-clause-lacks g c)).ids
+
+pub returns-clause-answers : goal.returns-clause-answers
+returns-clause-answers g c =
+    let hand = c.args.hand.now in
+    let held = c.lock_slabs-held in
+    let found = held.result.shared in
+    let taken : View = held.new.hand.seat.me.0 in
+    let last : View = c.turn_held-answer.new.hand.seat.me.0 in
+    let left = c.turn_held-answer.new.held.shared in
+    let now : View = c.give_slabs.new.hand.seat.me.0 in
+    if_ok (λ (turn : Turn). Turns held.new.hand.number turn taken found last left × IsAnswerOf turn found.moving left.moving) (λ (turn : Turn). AnswersMove now turn) c.turn_held-answer.result
+    (λ turn does. held_answer hand.seat.me.0 taken last now found left held.ensures.waits c.give_slabs.ensures.left turn (turns_grow held.new.hand.number turn taken found last left does.0) does.1)
+    (both_ok _ _ c.turn_held-answer.result c.turn_held-answer.ensures.turns c.turn_held-answer.ensures.answers)
+
+pub returns-clause-keeps : goal.returns-clause-keeps
+returns-clause-keeps g c =
+    let hand = c.args.hand.now in
+    let view : View = hand.seat.me.0 in
+    let now : View = c.give_slabs.new.hand.seat.me.0 in
+    let leaves = answer_leaves hand.number c.turn_held-answer.result view now (returns-clause-turns g c) (returns-clause-lacks g c) in
+    refs_kept view now leaves.more (returns-clause-holdings g c) leaves.known
+
+pub returns-clause-unsaid : goal.returns-clause-unsaid
+returns-clause-unsaid g c =
+    (answer_leaves c.args.hand.now.number c.turn_held-answer.result c.args.hand.now.seat.me.0 c.give_slabs.new.hand.seat.me.0 (returns-clause-turns g c) (returns-clause-lacks g c)).said

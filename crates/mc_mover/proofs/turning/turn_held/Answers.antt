@@ -2,6 +2,7 @@ use Rattle.std.proofs.Common.{subst}
 use Rattle.mc_words.specs.View.{View}
 use Rattle.mc_mover.specs.Turning.{EndsTurn}
 use Rattle.mc_words.proofs.HandNumbers.{number_stays}
+use Rattle.mc_mover.proofs.Answered.{answers_end}
 use Rattle.mc_mover.proofs.Refusals.{as_error, on_error}
 use Rattle.mc_mover.proofs.Rounds.{turns_so}
 use Rattle.mc_mover.proofs.turning.turn_held.Goals as goal
@@ -17,3 +18,8 @@ returns-clause-turns c =
     let number = number_stays hand c.sections.new.hand c.sections.ensures.ids in
     turns_so hand.number c.in_ok-counts.counts c.end_turn.result hand.seat.me.0 c.args.held.now.shared looked c.sections.new.held.shared now c.end_turn.new.held.shared c.in_ok-counts.ensures.looks
     (subst (λ n. EndsTurn n c.in_ok-counts.counts c.end_turn.result looked c.sections.new.held.shared now c.end_turn.new.held.shared) number c.end_turn.ensures.ends)
+
+pub returns-clause-answers : goal.returns-clause-answers
+returns-clause-answers c =
+    answers_end c.sections.new.hand.number c.in_ok-counts.counts c.end_turn.result c.sections.new.hand.seat.me.0 c.sections.new.held.shared c.end_turn.new.hand.seat.me.0 c.end_turn.new.held.shared c.args.held.now.shared.moving
+    c.end_turn.ensures.ends c.in_ok-counts.ensures.same_move

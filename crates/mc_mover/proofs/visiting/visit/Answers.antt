@@ -1,4 +1,5 @@
 use Rattle.std.proofs.Common.{ℕ, Bool, not, map, refl, sym, ap, subst, ◌∙◌, inl}
+use Rattle.std.proofs.lemmas.Bool.{and_from}
 use Rattle.mc_pages.specs.ClassState.{ClassState}
 use Rattle.mc_pages.specs.SlabState.{SlabState, class_of_page}
 use Rattle.mc_pages.proofs.ClassChanges.{per_pages-with_class}
@@ -57,7 +58,7 @@ returns-then-is_out-clause-clears c =
 pub returns-in-Ok-clause-visits : goal.returns-in-Ok-clause-visits
 returns-in-Ok-clause-visits c = record {
   seen = c.head-head.new.hand.seat.me.0;
-  sees = record { head = decode c.head-head.result; so = ap not (sym c.is_linked.ensures.linked ∙ c.if-is_linked.false); looks = c.head-head.ensures.happens; is = c.head-head.ensures.seen };
+  sees = record { head = decode c.head-head.result; so = and_from _ _ (ap not (sym c.is_linked.ensures.linked ∙ c.if-is_linked.false)) (ap not (sym c.is_out.ensures.out ∙ c.if-is_out.false)); looks = c.head-head.ensures.happens; is = c.head-head.ensures.seen };
   clears = c.in-Ok.ensures.cleared.0;
   left_is = c.in-Ok.ensures.cleared.1;
 }
@@ -79,7 +80,7 @@ returns-in-Err-clause-visits c =
     inl (
       record {
         seen = c.head-head.new.hand.seat.me.0;
-        sees = record { head = decode c.head-head.result; so = ap not (sym c.is_linked.ensures.linked ∙ c.if-is_linked.false); looks = c.head-head.ensures.happens; is = c.head-head.ensures.seen };
+        sees = record { head = decode c.head-head.result; so = and_from _ _ (ap not (sym c.is_linked.ensures.linked ∙ c.if-is_linked.false)) (ap not (sym c.is_out.ensures.out ∙ c.if-is_out.false)); looks = c.head-head.ensures.happens; is = c.head-head.ensures.seen };
         other = c.in-Err.ensures.moved.0;
       },
       c.in-Err.ensures.moved.1,

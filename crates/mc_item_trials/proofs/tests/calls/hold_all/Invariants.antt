@@ -1,5 +1,5 @@
-use Rattle.mc_words.specs.Arenas.{IsHandOf}
+use Rattle.mc_item_trials.specs.Hands.{IsReadyHandOf}
 use Rattle.mc_item_trials.proofs.tests.calls.hold_all.Given as goal
 
 abbrev pub invariant-loop-key : goal.invariant-loop-key
-invariant-loop-key g l = IsHandOf l.arena l.hand
+invariant-loop-key g l = IsReadyHandOf l.arena l.hand

@@ -1,6 +1,6 @@
 use Rattle.std.proofs.Common.{◌≤◌}
-use Rattle.mc_words.specs.Arenas.{IsHandOf}
+use Rattle.mc_item_trials.specs.Hands.{IsIdleHandOf}
 use Rattle.mc_item_trials.proofs.tests.stress.work.Given as goal
 
 abbrev pub invariant-loop-round : goal.invariant-loop-round
-invariant-loop-round g l = IsHandOf l.arena l.reader × IsHandOf l.arena l.writer × (l.wrong ≤ l.round)
+invariant-loop-round g l = IsIdleHandOf l.arena l.reader × IsIdleHandOf l.arena l.writer × (l.wrong ≤ l.round)

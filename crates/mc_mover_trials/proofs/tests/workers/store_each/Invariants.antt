@@ -1,5 +1,5 @@
-use Rattle.mc_words.specs.Arenas.{IsHandOf}
+use Rattle.mc_mover_trials.specs.Hands.{IsIdleHandOf}
 use Rattle.mc_mover_trials.proofs.tests.workers.store_each.Given as goal
 
 abbrev pub invariant-loop-key : goal.invariant-loop-key
-invariant-loop-key g l = IsHandOf l.arena l.hand
+invariant-loop-key g l = IsIdleHandOf l.arena l.hand

@@ -1,5 +1,5 @@
-use Rattle.mc_words.specs.Arenas.{IsHandOf}
+use Rattle.mc_mover_trials.specs.Hands.{IsIdleHandOf}
 use Rattle.mc_mover_trials.proofs.tests.workers.work.Given as goal
 
 abbrev pub invariant-loop-round : goal.invariant-loop-round
-invariant-loop-round g l = IsHandOf l.arena l.reader × IsHandOf l.arena l.writer
+invariant-loop-round g l = IsIdleHandOf l.arena l.reader × IsIdleHandOf l.arena l.writer

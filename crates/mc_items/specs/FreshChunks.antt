@@ -1,0 +1,44 @@
+-- What clauses say of a fresh chunk of the hand: what it is for, and how it is stored.
+use Rattle.std.specs.Prelude.{◌≡◌, ℕ, List}
+use Rattle.mc_core.specs.State.{room_in}
+use Rattle.mc_words.specs.declared.hand.Hand.{Hand}
+use Rattle.mc_words.specs.declared.held.Fresh.{Fresh}
+use Rattle.mc_words.specs.declared.held.StripeHeld.{StripeHeld}
+use Rattle.mc_words.specs.declared.refs.Ref as words
+use Rattle.mc_words.specs.Arenas.{view}
+use Rattle.mc_words.specs.Fresh.{IsFreshOf}
+use Rattle.mc_words.specs.Items.{issue_in, words_in}
+use Rattle.mc_words.specs.Linking.{IsItemFilled}
+use Rattle.mc_words.specs.Observers.{fresh_chunk, fresh_room, fresh_stamp, number_of, ref_chunk, ref_issue, ref_room, stripe_lent, stripe_number}
+use Rattle.mc_words.specs.View.{Setup, View}
+use Rattle.mc_words.specs.Views.{chunk_discarded, stripe_given}
+use Rattle.mc_items.specs.OnKeys.{stripe_of_key}
+use Rattle.mc_items.specs.Storing.{LeavesDead, StoresItem, item_filled, item_with}
+
+-- it is the hand's, and has the room of chunks of the class
+abbrev pub IsFreshFor : Setup → ℕ → View → Fresh → Type 0
+IsFreshFor setup class view fresh = (fresh_room fresh ≡ room_in setup.table class) × IsFreshOf view (fresh_chunk fresh) (fresh_room fresh)
+
+-- the hand filled it with a whole item of this key and stamp
+abbrev pub IsFilledWith : View → Fresh → ℕ → ℕ → Type 0
+IsFilledWith view fresh key stamp = IsItemFilled view (fresh_chunk fresh) (issue_in view (fresh_chunk fresh)) (words_in view (fresh_chunk fresh)) key stamp
+
+-- the hand wrote the item of these words into it
+abbrev pub filled_with : Fresh → ℕ → ℕ → List ℕ → View → View
+filled_with fresh key stamp words view = item_filled (fresh_chunk fresh) (item_with key stamp words) view
+
+-- the item that was filled in was stored under its key
+abbrev pub StoresFresh : Setup → ℕ → ℕ → Fresh → ℕ → View → View → Type 0
+StoresFresh setup key stamp fresh number filled now = StoresItem number (stripe_of_key setup key) key stamp (fresh_chunk fresh) (fresh_room fresh) filled now
+
+-- there was no room for a call, and the chunk was given up
+abbrev pub LosesFresh : Setup → ℕ → Fresh → View → View → Type 0
+LosesFresh setup key fresh filled now = LeavesDead (stripe_of_key setup key) (fresh_chunk fresh) filled now
+
+-- the reference is to this chunk
+abbrev pub IsRefInto : View → Fresh → words.Ref → Type 0
+IsRefInto view fresh r = (ref_chunk r ≡ fresh_chunk fresh) × (ref_issue r ≡ issue_in view (fresh_chunk fresh)) × (ref_room r ≡ fresh_room fresh)
+
+-- the stripe's lock was given back, and the chunk given up
+abbrev pub GivesBackBoth : Hand → StripeHeld → Fresh → Hand → Type 0
+GivesBackBoth before held fresh now = view now ≡ chunk_discarded (fresh_chunk fresh) (stripe_given (stripe_number held) (stripe_lent held) (view before))

@@ -1,0 +1,74 @@
+-- What calls leave of the references that a hand has, and of what it said.
+use Rattle.std.specs.Prelude.{◌≡◌, ℕ, ◌++◌, [], ◌∷◌, true, List, Option, Some, None, is_some, Contains}
+use Rattle.mc_pages.specs.declared.ids.ChunkId.{ChunkId}
+use Rattle.mc_core.specs.declared.holding.Holding.{Holding}
+use Rattle.mc_core.specs.Columns.{holds}
+use Rattle.mc_core.specs.Holdings.{holding_of, is_of, lose}
+use Rattle.mc_core.specs.Knowing.{IsSaid}
+use Rattle.mc_core.specs.Past.{Saying}
+use Rattle.mc_words.specs.View.{View}
+use Rattle.mc_words.specs.Happens.{LawfulView}
+use Rattle.mc_words.specs.Items.{held_item}
+use Rattle.mc_words.specs.Referring.{reference_to}
+use Rattle.mc_words.specs.Refs.{KeepsHeld, KeepsRefs}
+use Rattle.mc_items.specs.declared.refs.Ref.{Ref}
+use Rattle.mc_items.specs.ItemRefs.{IsItemRef, item_chunk, item_issue, item_stamp, item_words}
+
+-- the hand holds what it held
+abbrev pub HoldsTheSame : View → View → Type 0
+HoldsTheSame view now = now.row.holdings ≡ view.row.holdings
+
+-- it holds each chunk as often as it did
+abbrev pub HoldsAsOften : View → View → Type 0
+HoldsAsOften view now = (chunk : ChunkId) → holds chunk now.row.holdings ≡ holds chunk view.row.holdings
+
+-- the holding that a reference to an item is
+abbrev pub holding_by : View → Ref → Holding
+holding_by view item = reference_to (item_chunk item) (item_issue item) (held_item view (item_chunk item))
+
+-- it holds one more by the reference that it got, if it got one
+abbrev pub HoldsToo : Option Ref → View → View → Type 0
+HoldsToo None view now = HoldsTheSame view now
+HoldsToo (Some item) view now = now.row.holdings ≡ view.row.holdings ++ holding_by now item ∷ []
+
+-- it holds one less, by the reference that it gave up
+abbrev pub HoldsLess : Ref → View → View → Type 0
+HoldsLess item view now = now.row.holdings ≡ lose (is_of (item_chunk item)) view.row.holdings
+
+-- the hand said nothing
+abbrev pub SaysNothing : View → View → Type 0
+SaysNothing view now = now.row.knows.said ≡ view.row.knows.said
+
+-- it said these words with this stamp
+abbrev pub Says : List ℕ → ℕ → View → View → Type 0
+Says words stamp view now = now.row.knows.said ≡ view.row.knows.said ++ record { stamp = stamp; words = words } ∷ []
+
+-- these words were said with the stamp: by some hand, and where this hand said words with it itself, by that
+pub record AreSaid (view : View) (stamp : ℕ) (words : List ℕ) : Type 0 where
+  pub by_some : (was : LawfulView view) → IsSaid was.moment.past.said stamp words
+  pub own : (saying : Saying) → Contains view.row.knows.said saying → saying.stamp ≡ stamp → saying.words ≡ words
+
+-- and they are those of the item that is referred to: key, stamp and length, and then the others
+abbrev pub IsAsSaid : View → Ref → Type 0
+IsAsSaid view item = AreSaid view (item_stamp item) (held_item view (item_chunk item))
+
+-- a reference to an item is one still, and the item's words are the same
+pub record StaysItemRef (view now : View) (item : Ref) : Type 0 where
+  pub refers : IsItemRef now item
+  pub words : item_words now item ≡ item_words view item
+
+-- *a call that keeps references keeps items*
+abbrev pub KeptRefsKeepItems : Type 0
+KeptRefsKeepItems = (view now : View) (item : Ref) → KeepsRefs view now → IsItemRef view item → StaysItemRef view now item
+
+-- *a release keeps each item that is held still*
+abbrev pub HeldRefsKeepItems : Type 0
+HeldRefsKeepItems = (view now : View) (item : Ref) → KeepsHeld view now → IsItemRef view item → is_some (holding_of (item_chunk item) now.row.holdings) ≡ true → StaysItemRef view now item
+
+-- *calls that keep references, one after another, keep them*
+abbrev pub KeepingGoesOn : Type 0
+KeepingGoesOn = (view next now : View) → KeepsRefs view next → KeepsRefs next now → KeepsRefs view now
+
+-- *what a hand got and released leaves it what it referred to before*, whatever calls that keep references came between
+abbrev pub ReleasingKeepsOthers : Type 0
+ReleasingKeepsOthers = (view got next now : View) (item : Ref) → KeepsRefs view next → HoldsToo (Some item) view got → HoldsTheSame got next → KeepsHeld next now → HoldsLess item next now → KeepsRefs view now

@@ -1,0 +1,118 @@
+-- What clauses say of a call on a key: of the hand, and of what was lent to it, before and after.
+use Rattle.std.specs.Prelude.{◌≡◌, ◌≢◌, ℕ, ◌%◌, Bool, slice_index_or, is_some, List, Option, Some, None, Contains}
+use Rattle.std.specs.Option.{option_map}
+use Rattle.mc_stripe.specs.declared.history.Call.{Call}
+use Rattle.mc_stripe.specs.declared.history.Call.TheVariants as call
+use Rattle.mc_core.specs.Holdings.{key_of, stamp_of}
+use Rattle.mc_core.specs.Past.{Known}
+use Rattle.mc_words.specs.declared.hand.Hand.{Hand}
+use Rattle.mc_words.specs.declared.held.SlabsHeld.{SlabsHeld}
+use Rattle.mc_words.specs.declared.held.StripeHeld.{StripeHeld}
+use Rattle.mc_words.specs.declared.refs.Hint.{Hint}
+use Rattle.mc_words.specs.declared.refs.Ref as words
+use Rattle.mc_words.specs.Arenas.{view}
+use Rattle.mc_words.specs.Doing.{Doing, IsDone, SlabsDoing, HoldsSlabs}
+use Rattle.mc_words.specs.Hinting.{GetsAgain}
+use Rattle.mc_words.specs.Items.{held_item}
+use Rattle.mc_words.specs.Observers.{hint_chunk, hint_issue, number_of, ref_chunk, ref_issue, ref_room, slabs_lent, stripe_lent, stripe_number}
+use Rattle.mc_words.specs.Refs.{IsIssueOf, IsRefOf}
+use Rattle.mc_words.specs.Sweeping.{with_seen}
+use Rattle.mc_words.specs.View.{Setup, View}
+use Rattle.mc_words.specs.Views.{stripe_given, stripe_missed}
+use Rattle.mc_items.specs.declared.refs.Ref.{Ref}
+use Rattle.mc_items.specs.Calls.{CallsOn, LooksUp, OnlyWaits, TellsCall}
+use Rattle.mc_items.specs.ItemRefs.{item_chunk, item_reference}
+use Rattle.mc_items.specs.Reading.{AndReads}
+
+-- the stripe of a key
+abbrev pub stripe_of_key : Setup → ℕ → ℕ
+stripe_of_key setup key = key % setup.config.stripes
+
+-- what the hand of a number does on a stripe
+abbrev pub KeyDoing : Type 1
+KeyDoing = ℕ → ℕ → Doing
+
+-- the hand waited for the lock of the key's stripe, did this there, and gave the lock back
+abbrev pub ActsOn : Setup → ℕ → KeyDoing → Hand → Hand → Type 0
+ActsOn setup key Does before now = CallsOn (number_of before) (stripe_of_key setup key) (Does (number_of before) (stripe_of_key setup key)) (view before) (view now)
+
+-- it looked the key up there, and read key, stamp and length of the item that it got, if it got one
+abbrev pub Gets : Setup → ℕ → Option Ref → Hand → Hand → Type 0
+Gets setup key found before now =
+    let number = number_of before in
+    let stripe = stripe_of_key setup key in
+    AndReads (option_map item_chunk found) (CallsOn number stripe (LooksUp number stripe key (option_map item_reference found))) (view before) (view now)
+
+-- it waited for that lock, found no room for a call, and gave the lock back
+abbrev pub FindsNoRoomFor : Setup → ℕ → Hand → Hand → Type 0
+FindsNoRoomFor setup key before now = OnlyWaits (stripe_of_key setup key) (view before) (view now)
+
+-- it found that lock with another hand, and did nothing
+abbrev pub FindsStripeHeld : Setup → ℕ → Hand → Hand → Type 0
+FindsStripeHeld setup key before now = (word : ℕ) × (word ≢ 0) × (view now ≡ stripe_missed (stripe_of_key setup key) word (view before))
+
+-- of its own calls on keys of that stripe this one came last, and of no others came any
+abbrev pub TellsOn : Setup → ℕ → (ℕ → Call) → Hand → Hand → Type 0
+TellsOn setup key call before now = TellsCall (number_of before) (stripe_of_key setup key) (call (number_of before)) (view before) (view now)
+
+-- with a stripe's lock it made room for a call, did this, and gave the lock back
+abbrev pub DoesOn : KeyDoing → Hand → StripeHeld → Hand → Type 0
+DoesOn doing before held now = IsDone (number_of before) (stripe_number held) (stripe_lent held) (doing (number_of before) (stripe_number held)) (view before) (view now)
+
+-- it gave the lock back, and did nothing
+abbrev pub GivesBack : Hand → StripeHeld → Hand → Type 0
+GivesBack before held now = view now ≡ stripe_given (stripe_number held) (stripe_lent held) (view before)
+
+-- it looked the key up there, and read what is said of the item that it got
+abbrev pub GetsAt : StripeHeld → ℕ → Option Ref → Hand → Hand → Type 0
+GetsAt held key found before now =
+    let number = number_of before in
+    let stripe = stripe_number held in
+    AndReads (option_map item_chunk found) (IsDone number stripe (stripe_lent held) (LooksUp number stripe key (option_map item_reference found))) (view before) (view now)
+
+-- of its own calls there this one came last, and of no others came any
+abbrev pub TellsAt : StripeHeld → (ℕ → Call) → Hand → Hand → Type 0
+TellsAt held call before now = TellsCall (number_of before) (stripe_number held) (call (number_of before)) (view before) (view now)
+
+-- it told a get, which found a stamp or none
+abbrev pub TellsOfGet : Setup → ℕ → Bool → Hand → Hand → Type 0
+TellsOfGet setup key there before now = (stamp : Option ℕ) × (is_some stamp ≡ there) × TellsOn setup key (λ number. call.Get number key stamp) before now
+
+-- the hand refers to an item of this key
+abbrev pub IsRefToKey : View → ℕ → words.Ref → Type 0
+IsRefToKey view key r = IsRefOf view (ref_chunk r) (ref_room r) × IsIssueOf view (ref_chunk r) (ref_issue r) × (key_of (held_item view (ref_chunk r)) ≡ key)
+
+-- the stamp of the item that is referred to
+abbrev pub stamp_there : View → words.Ref → ℕ
+stamp_there view r = stamp_of (held_item view (ref_chunk r))
+
+-- the item of a hint was got by it, and what is said of it was read
+abbrev pub GetsByHint : Hint → Ref → View → View → Type 0
+GetsByHint hint item view now = AndReads (Some (hint_chunk hint)) (λ view now. GetsAgain view (hint_chunk hint) (hint_issue hint) (ref_room (item_reference item)) now) view now
+
+-- where the hand knew an item of the hint, its words are these
+abbrev pub IsAsKnown : View → Hint → List ℕ → Type 0
+IsAsKnown view hint words = (k : Known) → Contains view.row.knows.known k → k.chunk ≡ hint_chunk hint → k.issue ≡ hint_issue hint → words ≡ k.words
+
+-- the hand has these pages and lists, and this stripe
+abbrev pub HasSlabs : Hand → SlabsHeld → Type 0
+HasSlabs hand held = (view hand).slabs ≡ Some (slabs_lent held)
+
+abbrev pub HasStripe : Hand → StripeHeld → Type 0
+HasStripe hand held = slice_index_or (view hand).stripes (stripe_number held) None ≡ Some (stripe_lent held)
+
+-- with the lock of the slabs the hand did this
+abbrev pub Acts : SlabsDoing → Hand → SlabsHeld → Hand → SlabsHeld → Type 0
+Acts doing before found now left = doing (view before) (slabs_lent found) (view now) (slabs_lent left)
+
+-- it took that lock, did this, and gave it back, once
+abbrev pub ActsOnce : SlabsDoing → Hand → Hand → Type 0
+ActsOnce doing before now = HoldsSlabs doing (view before) (view now)
+
+-- pages and lists are as they were
+abbrev pub AreUnchanged : SlabsHeld → SlabsHeld → Type 0
+AreUnchanged found left = slabs_lent left ≡ slabs_lent found
+
+-- the hand saw more, and has other pages and lists; else all is as before
+abbrev pub SeesMore : Hand → Hand → Type 0
+SeesMore before now = view now ≡ with_seen (view before) (view now)

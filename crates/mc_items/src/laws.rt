@@ -1,0 +1,22 @@
+//! Laws of references to items over several calls, each the contract of a function with nothing to do.
+ghost use Rattle.mc_items.specs.Keeping.{HeldRefsKeepItems, KeepingGoesOn, KeptRefsKeepItems, ReleasingKeepsOthers};
+
+/// After a call that keeps the hand's references each reference to an item is one still, and the item's words are the same.
+pub fn kept_refs_keep_items()
+    ensures { KeptRefsKeepItems }
+{}
+
+/// So it is after a release, of each item that the hand holds still.
+pub fn held_refs_keep_items()
+    ensures { HeldRefsKeepItems }
+{}
+
+/// Two calls that keep the hand's references keep them one after the other.
+pub fn keeping_goes_on()
+    ensures { KeepingGoesOn }
+{}
+
+/// A reference that was got and released again leaves the hand the references that it had before, whatever it is to.
+pub fn releasing_keeps_others()
+    ensures { ReleasingKeepsOthers }
+{}

@@ -1,0 +1,77 @@
+-- What clauses say of a call: of the hand, and of what was lent to it, before and after.
+use Rattle.std.specs.Prelude.{◌≡◌, ◌≢◌, ℕ, true, slice_index_or, Some, None}
+use Rattle.std.specs.Option.{option_map}
+use Rattle.mc_pages.specs.declared.ids.ChunkId.{ChunkId}
+use Rattle.mc_pages.specs.declared.moves.Found.{Found}
+use Rattle.mc_core.specs.Head.{is_dead}
+use Rattle.mc_core.specs.Holdings.{holding_of}
+use Rattle.mc_core.specs.Seen.{seen_head}
+use Rattle.mc_words.specs.declared.hand.Hand.{Hand}
+use Rattle.mc_words.specs.declared.held.Fresh.{Fresh}
+use Rattle.mc_words.specs.declared.held.SlabsHeld.{SlabsHeld}
+use Rattle.mc_words.specs.declared.held.StripeHeld.{StripeHeld}
+use Rattle.mc_words.specs.View.{Setup}
+use Rattle.mc_words.specs.Arenas.{view}
+use Rattle.mc_words.specs.Condemning.{knows_reason}
+use Rattle.mc_words.specs.Doing.{HoldsSlabs, SlabsDoing}
+use Rattle.mc_words.specs.Observers.{fresh_chunk, fresh_room, number_of, slabs_lent, stripe_lent, stripe_number}
+use Rattle.mc_words.specs.Views.{copy_holding, slabs_missed}
+use Rattle.mc_mover.specs.declared.counts.Turn.{Turn}
+use Rattle.mc_mover.specs.Linked.{StripeDoing}
+use Rattle.mc_mover.specs.Saving.{GivesEvicted, GivesRescued, MovesItem}
+use Rattle.mc_mover.specs.Telling.{TellsAsCounted, TellsOfFewer, counts_in}
+
+-- the hand has these pages and lists, and this stripe
+abbrev pub HasSlabs : Hand → SlabsHeld → Type 0
+HasSlabs hand held = (view hand).slabs ≡ Some (slabs_lent held)
+
+abbrev pub HasStripe : Hand → StripeHeld → Type 0
+HasStripe hand held = slice_index_or (view hand).stripes (stripe_number held) None ≡ Some (stripe_lent held)
+
+-- with the lock of the slabs the hand did this, by its number
+abbrev pub Acts : (ℕ → SlabsDoing) → Hand → SlabsHeld → Hand → SlabsHeld → Type 0
+Acts Does before found now left = Does (number_of before) (view before) (slabs_lent found) (view now) (slabs_lent left)
+
+-- and so with a stripe's lock, too, until that was given back
+abbrev pub ActsOnStripe : (ℕ → StripeDoing) → Hand → StripeHeld → SlabsHeld → Hand → SlabsHeld → Type 0
+ActsOnStripe Does before stripe found now left = Does (number_of before) (stripe_number stripe) (stripe_lent stripe) (view before) (slabs_lent found) (view now) (slabs_lent left)
+
+-- it took the lock of the slabs, did this, and gave it back, once
+abbrev pub ActsOnce : (ℕ → SlabsDoing) → Hand → Hand → Type 0
+ActsOnce Does before now = HoldsSlabs (Does (number_of before)) (view before) (view now)
+
+-- it found the lock of the slabs with another hand, and did nothing
+abbrev pub FindsSlabsHeld : Hand → Hand → Type 0
+FindsSlabsHeld before now = (word : ℕ) × (word ≢ 0) × (view now ≡ slabs_missed word (view before))
+
+-- its own calls are more by what the turn counted
+abbrev pub TellsTurn : Hand → Hand → Turn → Type 0
+TellsTurn before now turn = TellsAsCounted (number_of before) (counts_in turn) (view before) (view now)
+
+-- and by what a turn found that stopped early
+abbrev pub TellsUntilStopped : Hand → Hand → Type 0
+TellsUntilStopped before now = TellsOfFewer (number_of before) (view before) (view now)
+
+-- the hand saw last that the chunk is dead
+abbrev pub SeesDead : Hand → ChunkId → Type 0
+SeesDead hand chunk = option_map is_dead (seen_head (view hand).row.looks chunk) ≡ Some true
+
+-- it knows why the chunk's item may be taken away
+abbrev pub KnowsReason : Setup → Hand → SlabsHeld → ChunkId → Type 0
+KnowsReason setup hand held chunk = knows_reason setup.table (slabs_lent held) (view hand).row.looks (view hand).row.holdings chunk ≡ true
+
+-- its fresh chunk is for a copy of the item in this one, and nothing was written there
+abbrev pub HasBlankCopy : Hand → ChunkId → Fresh → Type 0
+HasBlankCopy hand chunk fresh = (issue : ℕ) × (holding_of (fresh_chunk fresh) (view hand).row.holdings ≡ Some (copy_holding chunk (fresh_chunk fresh) issue (fresh_room fresh)))
+
+-- the item was evicted, or moved to the fresh chunk, by what was found
+abbrev pub EvictsAs : ChunkId → Found → ℕ → StripeDoing
+EvictsAs chunk found number stripe value view slabs now left = GivesEvicted number stripe value chunk found view now
+
+abbrev pub RescuesAs : ChunkId → Fresh → Found → ℕ → StripeDoing
+RescuesAs chunk fresh found number stripe value = GivesRescued number stripe value chunk (fresh_chunk fresh) (fresh_room fresh) found
+
+-- the item was moved to the fresh chunk
+abbrev pub MovesInto : ChunkId → Fresh → Hand → StripeHeld → Hand → StripeHeld → Type 0
+MovesInto chunk fresh before stripe now left =
+    MovesItem (number_of before) (stripe_number stripe) chunk (fresh_chunk fresh) (fresh_room fresh) (stripe_lent stripe) (view before) (stripe_lent left) (view now)

@@ -1,0 +1,43 @@
+-- Nobody holds what a turn clears: in the moment before the item is taken away, and in the one before the chunk is cleared.
+use Rattle.std.specs.Prelude.{◌≡◌, ℕ, false, []}
+use Rattle.mc_pages.specs.declared.ids.ChunkId.{ChunkId}
+use Rattle.mc_pages.specs.declared.moves.Found.{Found}
+use Rattle.mc_pages.specs.declared.moves.Found.TheVariants.{Cleared, Rescued, Evicted, Busy}
+use Rattle.mc_pages.specs.Moves.{chunk_at_position}
+use Rattle.mc_pages.specs.SlabState.{SlabState}
+use Rattle.mc_core.specs.declared.event.Step.{Step}
+use Rattle.mc_core.specs.declared.event.Step.TheVariants as step
+use Rattle.mc_core.specs.declared.head.Head.{Head}
+use Rattle.mc_core.specs.Columns.{holders}
+use Rattle.mc_core.specs.Head.{is_out}
+use Rattle.mc_words.specs.View.{View}
+use Rattle.mc_words.specs.Happens.{Happens}
+use Rattle.mc_words.specs.Views.{head_seen}
+use Rattle.mc_mover.specs.Turning.{Section}
+use Rattle.mc_mover.specs.Visiting.{Visits}
+
+-- in the lawful moment in which this step was made no hand had a holding of the chunk
+abbrev pub IsUnheldAt : (chunk : ChunkId) (view : View) (step : Step) (now : View) → Happens view [] step now → Type 0
+IsUnheldAt chunk view step now happens = holders chunk happens.was.moment.state.holdings ≡ 0
+
+-- so it is where a chunk is cleared, and where the item of one is taken away before
+abbrev pub NobodyHolds : (number class : ℕ) (chunk : ChunkId) (found : Found) (view : View) (slabs : SlabState) (now : View) (left : SlabState) → Visits number class chunk found view slabs now left → Type 0
+NobodyHolds number class chunk Cleared view slabs now left visits = IsUnheldAt chunk _ _ _ visits.clears.happens
+NobodyHolds number class chunk Rescued view slabs now left visits =
+    IsUnheldAt chunk _ _ _ visits.does.1.reaches.does.does.does.moves.condemns.happens × IsUnheldAt chunk _ _ _ visits.does.1.clears.happens
+NobodyHolds number class chunk Evicted view slabs now left visits =
+    IsUnheldAt chunk _ _ _ visits.does.1.reaches.does.does.does.condemns.happens × IsUnheldAt chunk _ _ _ visits.does.1.clears.happens
+NobodyHolds number class chunk found view slabs now left visits = Unit {0}
+
+-- whatever a section found
+abbrev pub ClearsUnheld : Type 0
+ClearsUnheld = (number : ℕ) (found : Found) (view : View) (slabs : SlabState) (now : View) (left : SlabState) → (section : Section number found view slabs now left) →
+    NobodyHolds number section.move.src (chunk_at_position section.move) found view slabs section.visited section.kept section.visits
+
+-- the chunk's header was seen first, and it isn't that of a cleared chunk
+abbrev pub SeesUncleared : ChunkId → View → Type 0
+SeesUncleared chunk view = (head : Head) × Happens view [] (step.Head chunk) (head_seen chunk head view) × (is_out head.tag ≡ false)
+
+-- so it is of each chunk that counts as busy
+abbrev pub BusyIsUncleared : Type 0
+BusyIsUncleared = (number : ℕ) (view : View) (slabs : SlabState) (now : View) (left : SlabState) → (section : Section number Busy view slabs now left) → SeesUncleared (chunk_at_position section.move) view

@@ -1,0 +1,13 @@
+use Rattle.mc_words.specs.Arenas.{view}
+use Rattle.mc_mover_trials.proofs.Kept.{nothing_left_later}
+use Rattle.mc_mover_trials.proofs.tests.workers.read_again.Goals as goal
+
+-- src/tests/workers.rt
+pub returns : goal.returns
+returns c = record {
+  arena = (
+    (c.release.ensures.arena, c.release.ensures.ready),
+    nothing_left_later (view c.args.hand.now) (view c.again.new.hand) (view c.is_own-own.new.hand) (view c.release.new.hand) c.in-Ok.item
+        c.requires.arena.1 c.in-Ok.ensures.holdings c.is_own-own.ensures.holdings c.release.ensures.holdings,
+  );
+}
