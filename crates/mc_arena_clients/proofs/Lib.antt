@@ -1,0 +1,5 @@
+pub mod Alone
+pub mod Begun
+pub mod Granted
+pub mod Popped
+pub mod Rising

@@ -1,0 +1,52 @@
+//! A reference that is held over other calls.
+ghost use Rattle.std.specs.Prelude.{◌≡◌, IfOk};
+ghost use Rattle.mc_words.specs.Arenas.{IsHandOf, view};
+ghost use Rattle.mc_words.specs.Ready.{IsReady};
+ghost use Rattle.mc_words.specs.Refs.{KeepsRefs};
+ghost use Rattle.mc_items.specs.ItemRefs.{IsItemRef, item_words};
+
+use mc_items::{Ref, delete, get, read, release, set, touch};
+use mc_mover::turn;
+use mc_words::{Arena, Hand};
+use std::alloc::{AllocError, Global};
+use std::sync::Wait;
+
+/// Sets, gets, touches and deletes a key, whatever it is, and makes a turn of the mover, while an item is held; and then reads that item:
+/// its words are those that it had before.
+pub fn read_after_all<R: Wait>(
+    rt: &R,
+    alloc: Global,
+    arena: &Arena,
+    hand: &mut Hand,
+    item: &Ref,
+    key: u64,
+    words: &[u64],
+) -> Result<Vec<u64>, AllocError>
+    requires arena { IsHandOf arena.now hand.old }
+    requires ready { IsReady (view hand.old) }
+    requires item { IsItemRef (view hand.old) item.now }
+    ensures arena { IsHandOf arena.now hand.new }
+    ensures ready { IsReady (view hand.new) }
+    ensures item { IsItemRef (view hand.new) item.now }
+    ensures words { IfOk result (λ read. read.items ≡ item_words (view hand.old) item.now) }
+{
+    let _ = set(rt, arena, hand, key, words);
+    get_and_release(rt, arena, hand, key);
+    let _ = touch(rt, arena, hand, key);
+    let _ = delete(rt, arena, hand, key);
+    let _ = turn(rt, arena, hand);
+    read(alloc, arena, hand, item)
+}
+
+// Gets the key's item, if it has one, and releases it.
+fn get_and_release<R: Wait>(rt: &R, arena: &Arena, hand: &mut Hand, key: u64)
+    requires arena { IsHandOf arena.now hand.old }
+    requires ready { IsReady (view hand.old) }
+    ensures arena { IsHandOf arena.now hand.new }
+    ensures ready { IsReady (view hand.new) }
+    ensures keeps { KeepsRefs (view hand.old) (view hand.new) }
+{
+    if let Ok(Some(other)) = get(rt, arena, hand, key) {
+        release(arena, hand, other);
+    }
+}

@@ -1,0 +1,10 @@
+//! Callers of the arena's items, proved from the contracts of its calls alone: how a cache would use them.
+#![tactic(auto)]
+
+mod chained;
+mod held;
+mod own;
+
+pub use chained::call_twice;
+pub use held::read_after_all;
+pub use own::{Refused, set_and_read};
