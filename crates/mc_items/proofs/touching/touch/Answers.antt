@@ -260,8 +260,8 @@ returns-clause-holdings g c =
     let at : c.args.key % c.config.result.now.stripes ≡ c.args.key % c.args.arena.now.table.shared.key.config.stripes = ap (λ (f : Config). c.args.key % f.stripes) c.config.ensures.config in
     let number = number_stays hand held.new.hand (waits_keep (λ (v : View). v.row.ids) (c.args.key % c.config.result.now.stripes) (λ word v. refl) (λ value v. refl) before held.result.stripe taken held.ensures.waits) in
     let one = finds_one hand.number _ c.args.key r view got (called_on (λ number stripe. Finds number stripe c.args.key r) hand.number _ held.new.hand.number held.result.number held.result.stripe before taken got number (held.ensures.number ∙ at)
-        (subst (λ (n : ℕ). WaitsForStripe n before held.result.stripe taken) at held.ensures.waits) (subst (λ (n : ℕ). IsLentStripe taken n held.result.stripe) at held.ensures.whole)
-        (subst (λ (o : Option Ref). IsDone held.new.hand.number held.result.number held.result.stripe (LooksUp held.new.hand.number held.result.number c.args.key o) taken got) c.in-Ok-Some.field-0-is c.in-Ok-Some.ensures.done)) in
+    (subst (λ (n : ℕ). WaitsForStripe n before held.result.stripe taken) at held.ensures.waits) (subst (λ (n : ℕ). IsLentStripe taken n held.result.stripe) at held.ensures.whole)
+    (subst (λ (o : Option Ref). IsDone held.new.hand.number held.result.number held.result.stripe (LooksUp held.new.hand.number held.result.number c.args.key o) taken got) c.in-Ok-Some.field-0-is c.in-Ok-Some.ensures.done)) in
     let holding = reference_to r.chunk r.issue one.item in
     let gained : got.row.holdings ≡ view.row.holdings ++ holding ∷ [] = ap (λ (k : Kept). k.0) one.kept in
     let stayed = ap kept_of c.give_slabs.ensures.left ∙ (ap kept_of c.touch.ensures.view ∙ waited_for_slabs got last.result.shared last.new.hand.seat.me.0 last.ensures.waits) in
@@ -283,8 +283,8 @@ returns-clause-number g c =
     let at : c.args.key % c.config.result.now.stripes ≡ c.args.key % c.args.arena.now.table.shared.key.config.stripes = ap (λ (f : Config). c.args.key % f.stripes) c.config.ensures.config in
     let number = number_stays hand held.new.hand (waits_keep (λ (v : View). v.row.ids) (c.args.key % c.config.result.now.stripes) (λ word v. refl) (λ value v. refl) before held.result.stripe taken held.ensures.waits) in
     let one = finds_one hand.number _ c.args.key r view got (called_on (λ number stripe. Finds number stripe c.args.key r) hand.number _ held.new.hand.number held.result.number held.result.stripe before taken got number (held.ensures.number ∙ at)
-        (subst (λ (n : ℕ). WaitsForStripe n before held.result.stripe taken) at held.ensures.waits) (subst (λ (n : ℕ). IsLentStripe taken n held.result.stripe) at held.ensures.whole)
-        (subst (λ (o : Option Ref). IsDone held.new.hand.number held.result.number held.result.stripe (LooksUp held.new.hand.number held.result.number c.args.key o) taken got) c.in-Ok-Some.field-0-is c.in-Ok-Some.ensures.done)) in
+    (subst (λ (n : ℕ). WaitsForStripe n before held.result.stripe taken) at held.ensures.waits) (subst (λ (n : ℕ). IsLentStripe taken n held.result.stripe) at held.ensures.whole)
+    (subst (λ (o : Option Ref). IsDone held.new.hand.number held.result.number held.result.stripe (LooksUp held.new.hand.number held.result.number c.args.key o) taken got) c.in-Ok-Some.field-0-is c.in-Ok-Some.ensures.done)) in
     let holding = reference_to r.chunk r.issue one.item in
     let gained : got.row.holdings ≡ view.row.holdings ++ holding ∷ [] = ap (λ (k : Kept). k.0) one.kept in
     let stayed = ap kept_of c.give_slabs.ensures.left ∙ (ap kept_of c.touch.ensures.view ∙ waited_for_slabs got last.result.shared last.new.hand.seat.me.0 last.ensures.waits) in
@@ -306,8 +306,8 @@ returns-clause-unsaid g c =
     let at : c.args.key % c.config.result.now.stripes ≡ c.args.key % c.args.arena.now.table.shared.key.config.stripes = ap (λ (f : Config). c.args.key % f.stripes) c.config.ensures.config in
     let number = number_stays hand held.new.hand (waits_keep (λ (v : View). v.row.ids) (c.args.key % c.config.result.now.stripes) (λ word v. refl) (λ value v. refl) before held.result.stripe taken held.ensures.waits) in
     let one = finds_one hand.number _ c.args.key r view got (called_on (λ number stripe. Finds number stripe c.args.key r) hand.number _ held.new.hand.number held.result.number held.result.stripe before taken got number (held.ensures.number ∙ at)
-        (subst (λ (n : ℕ). WaitsForStripe n before held.result.stripe taken) at held.ensures.waits) (subst (λ (n : ℕ). IsLentStripe taken n held.result.stripe) at held.ensures.whole)
-        (subst (λ (o : Option Ref). IsDone held.new.hand.number held.result.number held.result.stripe (LooksUp held.new.hand.number held.result.number c.args.key o) taken got) c.in-Ok-Some.field-0-is c.in-Ok-Some.ensures.done)) in
+    (subst (λ (n : ℕ). WaitsForStripe n before held.result.stripe taken) at held.ensures.waits) (subst (λ (n : ℕ). IsLentStripe taken n held.result.stripe) at held.ensures.whole)
+    (subst (λ (o : Option Ref). IsDone held.new.hand.number held.result.number held.result.stripe (LooksUp held.new.hand.number held.result.number c.args.key o) taken got) c.in-Ok-Some.field-0-is c.in-Ok-Some.ensures.done)) in
     let holding = reference_to r.chunk r.issue one.item in
     let gained : got.row.holdings ≡ view.row.holdings ++ holding ∷ [] = ap (λ (k : Kept). k.0) one.kept in
     let stayed = ap kept_of c.give_slabs.ensures.left ∙ (ap kept_of c.touch.ensures.view ∙ waited_for_slabs got last.result.shared last.new.hand.seat.me.0 last.ensures.waits) in
@@ -329,8 +329,8 @@ returns-clause-keeps g c =
     let at : c.args.key % c.config.result.now.stripes ≡ c.args.key % c.args.arena.now.table.shared.key.config.stripes = ap (λ (f : Config). c.args.key % f.stripes) c.config.ensures.config in
     let number = number_stays hand held.new.hand (waits_keep (λ (v : View). v.row.ids) (c.args.key % c.config.result.now.stripes) (λ word v. refl) (λ value v. refl) before held.result.stripe taken held.ensures.waits) in
     let one = finds_one hand.number _ c.args.key r view got (called_on (λ number stripe. Finds number stripe c.args.key r) hand.number _ held.new.hand.number held.result.number held.result.stripe before taken got number (held.ensures.number ∙ at)
-        (subst (λ (n : ℕ). WaitsForStripe n before held.result.stripe taken) at held.ensures.waits) (subst (λ (n : ℕ). IsLentStripe taken n held.result.stripe) at held.ensures.whole)
-        (subst (λ (o : Option Ref). IsDone held.new.hand.number held.result.number held.result.stripe (LooksUp held.new.hand.number held.result.number c.args.key o) taken got) c.in-Ok-Some.field-0-is c.in-Ok-Some.ensures.done)) in
+    (subst (λ (n : ℕ). WaitsForStripe n before held.result.stripe taken) at held.ensures.waits) (subst (λ (n : ℕ). IsLentStripe taken n held.result.stripe) at held.ensures.whole)
+    (subst (λ (o : Option Ref). IsDone held.new.hand.number held.result.number held.result.stripe (LooksUp held.new.hand.number held.result.number c.args.key o) taken got) c.in-Ok-Some.field-0-is c.in-Ok-Some.ensures.done)) in
     let holding = reference_to r.chunk r.issue one.item in
     let gained : got.row.holdings ≡ view.row.holdings ++ holding ∷ [] = ap (λ (k : Kept). k.0) one.kept in
     let stayed = ap kept_of c.give_slabs.ensures.left ∙ (ap kept_of c.touch.ensures.view ∙ waited_for_slabs got last.result.shared last.new.hand.seat.me.0 last.ensures.waits) in
@@ -354,8 +354,8 @@ returns-clause-ready g c =
     let at : c.args.key % c.config.result.now.stripes ≡ c.args.key % c.args.arena.now.table.shared.key.config.stripes = ap (λ (f : Config). c.args.key % f.stripes) c.config.ensures.config in
     let number = number_stays hand held.new.hand (waits_keep (λ (v : View). v.row.ids) (c.args.key % c.config.result.now.stripes) (λ word v. refl) (λ value v. refl) before held.result.stripe taken held.ensures.waits) in
     let one = finds_one hand.number _ c.args.key r view got (called_on (λ number stripe. Finds number stripe c.args.key r) hand.number _ held.new.hand.number held.result.number held.result.stripe before taken got number (held.ensures.number ∙ at)
-        (subst (λ (n : ℕ). WaitsForStripe n before held.result.stripe taken) at held.ensures.waits) (subst (λ (n : ℕ). IsLentStripe taken n held.result.stripe) at held.ensures.whole)
-        (subst (λ (o : Option Ref). IsDone held.new.hand.number held.result.number held.result.stripe (LooksUp held.new.hand.number held.result.number c.args.key o) taken got) c.in-Ok-Some.field-0-is c.in-Ok-Some.ensures.done)) in
+    (subst (λ (n : ℕ). WaitsForStripe n before held.result.stripe taken) at held.ensures.waits) (subst (λ (n : ℕ). IsLentStripe taken n held.result.stripe) at held.ensures.whole)
+    (subst (λ (o : Option Ref). IsDone held.new.hand.number held.result.number held.result.stripe (LooksUp held.new.hand.number held.result.number c.args.key o) taken got) c.in-Ok-Some.field-0-is c.in-Ok-Some.ensures.done)) in
     let holding = reference_to r.chunk r.issue one.item in
     let gained : got.row.holdings ≡ view.row.holdings ++ holding ∷ [] = ap (λ (k : Kept). k.0) one.kept in
     let stayed = ap kept_of c.give_slabs.ensures.left ∙ (ap kept_of c.touch.ensures.view ∙ waited_for_slabs got last.result.shared last.new.hand.seat.me.0 last.ensures.waits) in
