@@ -1,0 +1,3 @@
+pub mod KeptRefs
+pub mod LastKept
+pub mod ServedLines

@@ -1,0 +1,35 @@
+use Rattle.std.proofs.Common.{Option, ap, subst, ◌∙◌}
+use Rattle.mc_words.specs.Arenas.{setup_of, view}
+use Rattle.mc_words.specs.Views.{chunk_released}
+use Rattle.mc_items.specs.declared.refs.Ref.{Ref}
+use Rattle.mc_items.specs.ItemRefs.{item_chunk}
+use Rattle.mc_workers.specs.Serving.{Finds}
+use Rattle.mc_workers.proofs.KeptRefs.{as_often_again, gained, kept_again}
+use Rattle.mc_workers.proofs.getting.get_words.Goals as goal
+
+-- what was got was read and released
+pub returns-in-Ok-clause-answers : goal.returns-in-Ok-clause-answers
+returns-in-Ok-clause-answers g c = record {
+  item = c.in-Ok-Some.item;
+  got = c.get.new.hand;
+  finds = subst (λ (o : Option Ref). Finds (setup_of c.args.arena.now) c.args.key o c.args.hand.now c.get.new.hand) c.in-Ok-Some.field-0-is (c.in-Ok-Some.ensures.gets, c.in-Ok-Some.ensures.calls);
+  are = c.in-Ok.ensures.words;
+  released = c.release.ensures.dropped ∙ ap (chunk_released (item_chunk c.in-Ok-Some.item)) c.in-Ok.ensures.view;
+}
+
+pub returns-in-Ok-clause-holdings : goal.returns-in-Ok-clause-holdings
+returns-in-Ok-clause-holdings g c = as_often_again (view c.args.hand.now) (view c.get.new.hand) (view c.read-words.new.hand) (view c.release.new.hand) c.in-Ok-Some.item
+    (gained (view c.args.hand.now) (view c.get.new.hand) c.in-Ok-Some.field-0 c.in-Ok-Some.item c.in-Ok-Some.field-0-is c.in-Ok-Some.ensures.holdings) c.read-words.ensures.holdings c.release.ensures.holdings
+
+pub returns-in-Ok-clause-keeps : goal.returns-in-Ok-clause-keeps
+returns-in-Ok-clause-keeps g c = kept_again (view c.args.hand.now) (view c.get.new.hand) (view c.read-words.new.hand) (view c.release.new.hand) c.in-Ok-Some.item
+    c.get.ensures.keeps c.read-words.ensures.keeps (gained (view c.args.hand.now) (view c.get.new.hand) c.in-Ok-Some.field-0 c.in-Ok-Some.item c.in-Ok-Some.field-0-is c.in-Ok-Some.ensures.holdings) c.read-words.ensures.holdings c.release.ensures.keeps c.release.ensures.holdings
+
+-- it was released after a read that failed, too
+pub returns-in-Err-clause-holdings : goal.returns-in-Err-clause-holdings
+returns-in-Err-clause-holdings g c = as_often_again (view c.args.hand.now) (view c.get.new.hand) (view c.read-words.new.hand) (view c.release.new.hand) c.in-Ok-Some.item
+    (gained (view c.args.hand.now) (view c.get.new.hand) c.in-Ok-Some.field-0 c.in-Ok-Some.item c.in-Ok-Some.field-0-is c.in-Ok-Some.ensures.holdings) c.read-words.ensures.holdings c.release.ensures.holdings
+
+pub returns-in-Err-clause-keeps : goal.returns-in-Err-clause-keeps
+returns-in-Err-clause-keeps g c = kept_again (view c.args.hand.now) (view c.get.new.hand) (view c.read-words.new.hand) (view c.release.new.hand) c.in-Ok-Some.item
+    c.get.ensures.keeps c.read-words.ensures.keeps (gained (view c.args.hand.now) (view c.get.new.hand) c.in-Ok-Some.field-0 c.in-Ok-Some.item c.in-Ok-Some.field-0-is c.in-Ok-Some.ensures.holdings) c.read-words.ensures.holdings c.release.ensures.keeps c.release.ensures.holdings

@@ -1,0 +1,44 @@
+use Rattle.std.proofs.Common.{◌≡◌, ℕ, ◌+◌, suc, List, ◌∷◌, ◌++◌, length, take, drop, get_or, All, ap, refl, sym, subst, ◌∙◌, arith}
+use Rattle.std.proofs.lemmas.List.{get_or_default}
+use Rattle.mc_words.specs.Arenas.{view}
+use Rattle.mc_words.specs.Views.{chunk_released}
+use Rattle.mc_words.specs.Refs.{KeepsHeld, KeepsRefs}
+use Rattle.mc_items.specs.declared.refs.Ref.{Ref}
+use Rattle.mc_items.specs.ItemRefs.{item_chunk, item_len, item_words}
+use Rattle.mc_items.specs.Reading.{words_seen}
+use Rattle.mc_items.specs.Keeping.{HoldsLess, HoldsTheSame}
+use Rattle.mc_workers.specs.Kept.{AreKept, IsLastAt, IsLastOf, IsToOther, hold_of, holds_of}
+use Rattle.mc_workers.specs.Serving.{DropsLast, read_and_released}
+use Rattle.mc_workers.proofs.LastKept.{last_held, none_held}
+use Rattle.mc_workers.proofs.KeptRefs.{holds_without, kept_without}
+use Rattle.mc_workers.proofs.keeping.drop_last.Goals as goal
+
+pub returns-in_default-clause-answers : goal.returns-in_default-clause-answers
+returns-in_default-clause-answers c =
+    (none_held c.args.key (view c.args.hand.now) c.args.kept.now.items (subst (All (IsToOther c.args.key)) c.deref.ensures.value (c.place_of_last.ensures.none c.in_default.is)), refl, refl)
+
+pub returns-clause-kept : goal.returns-clause-kept
+returns-clause-kept c =
+    let there : IsLastAt c.args.key c.args.kept.now.items c.in-Some.place = subst (λ (l : List Ref). IsLastAt c.args.key l c.in-Some.place) c.deref.ensures.value c.in-Some.ensures.last in
+    subst (AreKept (view c.release.new.hand)) (sym c.remove-item.ensures.items)
+    (kept_without (view c.args.hand.now) (view c.read.new.hand) (view c.release.new.hand) c.args.kept.now.items c.in-Some.place c.remove-item.result there.there c.remove-item.ensures.value
+    c.requires.kept c.in_ok-words.ensures.keeps c.in_ok-words.ensures.holdings c.release.ensures.keeps c.release.ensures.holdings)
+
+pub returns-clause-answers : goal.returns-clause-answers
+returns-clause-answers c =
+    let before = view c.args.hand.now in
+    let kept = c.args.kept.now.items in
+    let item = c.remove-item.result in
+    let there : IsLastAt c.args.key kept c.in-Some.place = subst (λ (l : List Ref). IsLastAt c.args.key l c.in-Some.place) c.deref.ensures.value c.in-Some.ensures.last in
+    let index : c.index.result.now ≡ item = c.index.ensures ∙ (get_or_default kept c.in-Some.place c.index.result.now item there.there ∙ sym c.remove-item.ensures.value) in
+    let left = ap (holds_of (view c.release.new.hand)) c.remove-item.ensures.items
+    ∙ holds_without before (view c.read.new.hand) (view c.release.new.hand) kept c.in-Some.place item there.there c.remove-item.ensures.value
+    c.requires.kept c.in_ok-words.ensures.keeps c.in_ok-words.ensures.holdings c.release.ensures.keeps c.release.ensures.holdings in
+    record {
+      last = hold_of before item;
+      is = subst (IsLastOf c.args.key (holds_of before kept) (hold_of before item)) (sym left)
+          (subst (λ (r : Ref). IsLastOf c.args.key (holds_of before kept) (hold_of before r) (holds_of before (take c.in-Some.place kept ++ drop (suc c.in-Some.place) kept))) (sym c.remove-item.ensures.value)
+          (last_held c.args.key before kept c.in-Some.place item there));
+      are = c.in_ok-words.ensures.words ∙ ap (item_words before) index;
+      released = c.release.ensures.dropped ∙ (ap (chunk_released (item_chunk item)) c.in_ok-words.ensures.view ∙ ap (λ (r : Ref). chunk_released (item_chunk item) (words_seen (item_chunk r) 3 (item_len r) before)) index);
+    }

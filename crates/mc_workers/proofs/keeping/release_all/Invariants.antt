@@ -1,0 +1,20 @@
+use Rattle.std.proofs.Common.{◌≡◌, vec_len}
+use Rattle.mc_words.specs.Arenas.{IsHandOf, view}
+use Rattle.mc_words.specs.Observers.{number_of}
+use Rattle.mc_words.specs.Ready.{IsReady}
+use Rattle.mc_workers.specs.Kept.{AreKept}
+use Rattle.mc_workers.specs.Lines.{all_released}
+use Rattle.mc_workers.proofs.keeping.release_all.Given as goal
+
+-- what is still kept, and that what was given back were the last ones
+abbrev pub invariant-loop-item : goal.invariant-loop-item
+invariant-loop-item l = record {
+  arena : IsHandOf l.arena l.hand;
+  ready : IsReady (view l.hand);
+  kept : AreKept (view l.hand) l.kept.items;
+  number : number_of l.hand ≡ number_of l.initial.hand;
+  released : all_released l.initial.kept.items (view l.initial.hand) ≡ all_released l.kept.items (view l.hand);
+}
+
+abbrev pub decreases-loop-item : goal.decreases-loop-item
+decreases-loop-item l = vec_len l.kept

@@ -1,0 +1,67 @@
+use Rattle.std.proofs.Common.{◌≡◌, IfOk, sym, subst}
+use Rattle.std.proofs.lemmas.Result.{IfOk-weaker}
+use Rattle.mc_words.specs.Arenas.{setup_of, view}
+use Rattle.mc_machine.specs.Item.{words_from}
+use Rattle.mc_script.specs.declared.command.Command.{Command}
+use Rattle.mc_script.specs.declared.command.Command.TheVariants.{Delete, Get, Set, Touch}
+use Rattle.mc_workers.specs.declared.reply.Reply.{Reply}
+use Rattle.mc_workers.specs.Kept.{holds_of}
+use Rattle.mc_workers.specs.Serving.{AnswersDelete, AnswersGet, AnswersSet, AnswersTouch, Serves}
+use Rattle.mc_workers.proofs.KeptRefs.{as_often, holds_stay, kept_stay}
+use Rattle.mc_workers.proofs.line.serve_line.Goals as goal
+
+pub returns-in-Set-clause-kept : goal.returns-in-Set-clause-kept
+returns-in-Set-clause-kept g c =
+    kept_stay (view c.args.hand.now) (view c.set_words.new.hand) c.args.kept.now.items c.requires.kept c.set_words.ensures.keeps (as_often (view c.args.hand.now) (view c.set_words.new.hand) c.set_words.ensures.holdings)
+
+pub returns-in-Set-clause-serves : goal.returns-in-Set-clause-serves
+returns-in-Set-clause-serves g c =
+    let setup = setup_of c.args.arena.now in
+    let kept = c.args.kept.now.items in
+    let old = c.args.hand.now in
+    let new = c.set_words.new.hand in
+    subst (λ (m : Command). IfOk c.set_words.result (λ reply. Serves setup m reply (holds_of (view old) kept) old (holds_of (view new) kept) new)) (sym c.in-Set.is)
+    (IfOk-weaker c.set_words.result (λ (reply : Reply). AnswersSet c.in-Set.key (words_from c.in-Set.base c.in-Set.words) reply old new) (λ (reply : Reply). Serves setup (Set c.in-Set.worker c.in-Set.key c.in-Set.words c.in-Set.base) reply (holds_of (view old) kept) old (holds_of (view new) kept) new)
+    (λ reply answers. (answers, holds_stay (view old) (view new) kept c.set_words.ensures.keeps c.requires.kept.items)) c.set_words.ensures.answers)
+
+pub returns-in-Get-clause-kept : goal.returns-in-Get-clause-kept
+returns-in-Get-clause-kept g c =
+    kept_stay (view c.args.hand.now) (view c.get_words.new.hand) c.args.kept.now.items c.requires.kept c.get_words.ensures.keeps c.get_words.ensures.holdings
+
+pub returns-in-Get-clause-serves : goal.returns-in-Get-clause-serves
+returns-in-Get-clause-serves g c =
+    let setup = setup_of c.args.arena.now in
+    let kept = c.args.kept.now.items in
+    let old = c.args.hand.now in
+    let new = c.get_words.new.hand in
+    subst (λ (m : Command). IfOk c.get_words.result (λ reply. Serves setup m reply (holds_of (view old) kept) old (holds_of (view new) kept) new)) (sym c.in-Get.is)
+    (IfOk-weaker c.get_words.result (λ (reply : Reply). AnswersGet setup c.in-Get.key reply old new) (λ (reply : Reply). Serves setup (Get c.in-Get.worker c.in-Get.key) reply (holds_of (view old) kept) old (holds_of (view new) kept) new)
+    (λ reply answers. (answers, holds_stay (view old) (view new) kept c.get_words.ensures.keeps c.requires.kept.items)) c.get_words.ensures.answers)
+
+pub returns-in-Delete-clause-kept : goal.returns-in-Delete-clause-kept
+returns-in-Delete-clause-kept g c =
+    kept_stay (view c.args.hand.now) (view c.delete_key.new.hand) c.args.kept.now.items c.requires.kept c.delete_key.ensures.keeps (as_often (view c.args.hand.now) (view c.delete_key.new.hand) c.delete_key.ensures.holdings)
+
+pub returns-in-Delete-clause-serves : goal.returns-in-Delete-clause-serves
+returns-in-Delete-clause-serves g c =
+    let setup = setup_of c.args.arena.now in
+    let kept = c.args.kept.now.items in
+    let old = c.args.hand.now in
+    let new = c.delete_key.new.hand in
+    subst (λ (m : Command). IfOk c.delete_key.result (λ reply. Serves setup m reply (holds_of (view old) kept) old (holds_of (view new) kept) new)) (sym c.in-Delete.is)
+    (IfOk-weaker c.delete_key.result (λ (reply : Reply). AnswersDelete setup c.in-Delete.key reply old new) (λ (reply : Reply). Serves setup (Delete c.in-Delete.worker c.in-Delete.key) reply (holds_of (view old) kept) old (holds_of (view new) kept) new)
+    (λ reply answers. (answers, holds_stay (view old) (view new) kept c.delete_key.ensures.keeps c.requires.kept.items)) c.delete_key.ensures.answers)
+
+pub returns-in-Touch-clause-kept : goal.returns-in-Touch-clause-kept
+returns-in-Touch-clause-kept g c =
+    kept_stay (view c.args.hand.now) (view c.touch_key.new.hand) c.args.kept.now.items c.requires.kept c.touch_key.ensures.keeps c.touch_key.ensures.holdings
+
+pub returns-in-Touch-clause-serves : goal.returns-in-Touch-clause-serves
+returns-in-Touch-clause-serves g c =
+    let setup = setup_of c.args.arena.now in
+    let kept = c.args.kept.now.items in
+    let old = c.args.hand.now in
+    let new = c.touch_key.new.hand in
+    subst (λ (m : Command). IfOk c.touch_key.result (λ reply. Serves setup m reply (holds_of (view old) kept) old (holds_of (view new) kept) new)) (sym c.in-Touch.is)
+    (IfOk-weaker c.touch_key.result (λ (reply : Reply). AnswersTouch setup c.in-Touch.key reply old new) (λ (reply : Reply). Serves setup (Touch c.in-Touch.worker c.in-Touch.key) reply (holds_of (view old) kept) old (holds_of (view new) kept) new)
+    (λ reply answers. (answers, holds_stay (view old) (view new) kept c.touch_key.ensures.keeps c.requires.kept.items)) c.touch_key.ensures.answers)

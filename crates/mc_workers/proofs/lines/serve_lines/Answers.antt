@@ -1,0 +1,23 @@
+use Rattle.std.proofs.Common.{◌≡◌, ℕ, List, [], ◌++◌, ap, sym, subst, ◌∙◌}
+use Rattle.mc_words.specs.Arenas.{setup_of, view}
+use Rattle.mc_items.specs.declared.refs.Ref.{Ref}
+use Rattle.mc_workers.specs.Kept.{Hold, holds_of}
+use Rattle.mc_workers.specs.Lines.{ServesEach, all_released, lines_of, replies_to}
+use Rattle.mc_workers.proofs.KeptRefs.{items_held}
+use Rattle.mc_workers.proofs.lines.serve_lines.Goals as goal
+
+pub returns-clause-does : goal.returns-clause-does
+returns-clause-does g c =
+    let setup = setup_of c.args.shared.now.arena.now in
+    let lines = lines_of c.args.worker c.args.shared.now.commands.now in
+    let did = c.in_ok-serve_each.ensures.serves in
+    let served = c.serve_each.new.hand in
+    let left = c.serve_each.new.kept.items in
+    record {
+      replies = did.replies;
+      left = holds_of (view served) left;
+      served = served;
+      serves = subst (λ (held : List Hold). ServesEach setup lines did.replies held c.args.hand.now (holds_of (view served) left) served) (ap (holds_of (view c.args.hand.now)) c.new-kept.ensures.items) did.serves;
+      told = did.added ∙ ap (λ (l : List ℕ). l ++ replies_to lines did.replies) c.requires.empty;
+      released = c.release_all.ensures.released ∙ ap (λ (l : List Ref). all_released l (view served)) (sym (items_held (view served) left));
+    }

@@ -1,0 +1,52 @@
+-- The references that a worker keeps by `hold`, until its `drop`.
+use Rattle.std.specs.Prelude.{◌≡◌, ◌≢◌, ◌<◌, ℕ, ◌+◌, List, ◌∷◌, ◌++◌, Bool, drop, length, map, count_by, slice_index_or, All}
+use Rattle.mc_pages.specs.declared.ids.ChunkId.{ChunkId}
+use Rattle.mc_pages.specs.ClassState.{is_chunk}
+use Rattle.mc_core.specs.Columns.{holds}
+use Rattle.mc_words.specs.View.{View}
+use Rattle.mc_items.specs.declared.refs.Ref.{Ref}
+use Rattle.mc_items.specs.ItemRefs.{IsItemRef, item_chunk, item_key, item_words}
+
+-- a reference that is kept, and the words of its item
+pub record Hold : Type 0 where
+  pub item : Ref
+  pub words : List ℕ
+
+-- the holds by these references, with the words that the hand knows of each
+abbrev pub hold_of : View → Ref → Hold
+hold_of view item = record { item = item; words = item_words view item }
+
+abbrev pub holds_of : View → List Ref → List Hold
+holds_of view kept = map (hold_of view) kept
+
+-- the reference is to the chunk
+abbrev pub refers_to : ChunkId → Ref → Bool
+refers_to chunk item = is_chunk (item_chunk item) chunk
+
+-- the hand refers to the item of each, and holds each chunk as often as references to it are kept
+pub record AreKept (view : View) (kept : List Ref) : Type 0 where
+  pub items : All (IsItemRef view) kept
+  pub counts : (chunk : ChunkId) → holds chunk view.row.holdings ≡ count_by (refers_to chunk) kept
+
+-- the reference is to an item of another key
+abbrev pub IsToOther : ℕ → Ref → Type 0
+IsToOther key item = item_key item ≢ key
+
+-- the hold is of an item of another key
+abbrev pub IsOfOther : ℕ → Hold → Type 0
+IsOfOther key hold = IsToOther key hold.item
+
+-- of the references to items of the key the one at this place came last
+pub record IsLastAt (key : ℕ) (kept : List Ref) (place : ℕ) : Type 0 where
+  pub there : place < length kept
+  pub of_key : (d : Ref) → item_key (slice_index_or kept place d) ≡ key
+  pub later : All (IsToOther key) (drop (place + 1) kept)
+
+-- of the holds of the key this one came last, and these are left without it
+pub record IsLastOf (key : ℕ) (holds : List Hold) (last : Hold) (left : List Hold) : Type 0 where
+  pub before : List Hold
+  pub behind : List Hold
+  pub all : holds ≡ before ++ last ∷ behind
+  pub of_key : item_key last.item ≡ key
+  pub later : All (IsOfOther key) behind
+  pub rest : left ≡ before ++ behind

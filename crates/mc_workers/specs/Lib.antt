@@ -1,0 +1,5 @@
+pub mod Kept
+pub mod Replies
+pub mod Serving
+pub mod Lines
+pub mod Threads

@@ -1,0 +1,83 @@
+-- The lines of one worker, in order.
+use Rattle.std.specs.Prelude.{◌≡◌, ℕ, ◌==◌, Bool, false, List, [], ◌∷◌, ◌++◌, filter, map, Option, Some, None, is_some}
+use Rattle.std.specs.Option.{option_map_or}
+use Rattle.mc_words.specs.declared.hand.Hand.{Hand}
+use Rattle.mc_words.specs.Arenas.{view}
+use Rattle.mc_words.specs.View.{Setup, View}
+use Rattle.mc_words.specs.Views.{chunk_released}
+use Rattle.mc_items.specs.declared.refs.Ref.{Ref}
+use Rattle.mc_items.specs.ItemRefs.{item_chunk}
+use Rattle.mc_script.specs.declared.command.Command.{Command}
+use Rattle.mc_script.specs.declared.command.Command.TheVariants.{Set, Delete, Get, Hold, Drop, Touch}
+use Rattle.mc_workers.specs.declared.reply.Reply.{Reply}
+use Rattle.mc_workers.specs.Kept as kept
+use Rattle.mc_workers.specs.Replies.{reply_text}
+use Rattle.mc_workers.specs.Serving.{Serves}
+
+-- whose line it is, and about which key, if it is a worker's
+pub record Asked : Type 0 where
+  pub worker : ℕ
+  pub key : ℕ
+
+abbrev pub asked_by : Command → Option Asked
+asked_by (Set worker key words base) = Some (record { worker = worker; key = key })
+asked_by (Delete worker key) = Some (record { worker = worker; key = key })
+asked_by (Get worker key) = Some (record { worker = worker; key = key })
+asked_by (Hold worker key) = Some (record { worker = worker; key = key })
+asked_by (Drop worker key) = Some (record { worker = worker; key = key })
+asked_by (Touch worker key) = Some (record { worker = worker; key = key })
+asked_by other = None
+
+-- the line is this worker's
+abbrev pub is_asked_by : ℕ → Command → Bool
+is_asked_by worker command = option_map_or (λ asked. asked.worker == worker) (asked_by command) false
+
+-- the line is a worker's
+abbrev pub is_workers : Command → Bool
+is_workers command = is_some (asked_by command)
+
+-- the lines of the worker
+abbrev pub lines_of : ℕ → List Command → List Command
+lines_of worker commands = filter (is_asked_by worker) commands
+
+-- the line that tells a reply to a command
+abbrev pub reply_to : Command → Reply → List ℕ
+reply_to command reply = option_map_or (λ asked. reply_text asked.key reply) (asked_by command) []
+
+-- lines that were done one after another, each with its reply, from these holds on to those; and what was told
+abbrev pub ServesEach : Setup → List Command → List Reply → List kept.Hold → Hand → List kept.Hold → Hand → Type 0
+ServesEach setup [] [] held before left now = (left ≡ held) × (now ≡ before)
+ServesEach setup (command ∷ commands) (reply ∷ replies) held before left now =
+    (next : Hand) × (between : List kept.Hold) × Serves setup command reply held before between next × ServesEach setup commands replies between next left now
+ServesEach setup commands replies held before left now = ⊥
+
+-- the text of the replies to these lines
+abbrev pub replies_to : List Command → List Reply → List ℕ
+replies_to (command ∷ commands) (reply ∷ replies) = reply_to command reply ++ replies_to commands replies
+replies_to commands replies = []
+
+-- a line was done, and the line that tells its reply was added to the text
+pub record AddsReply (setup : Setup) (command : Command) (held : List kept.Hold) (before : Hand) (text : List ℕ) (left : List kept.Hold) (now : Hand) (longer : List ℕ) : Type 0 where
+  pub reply : Reply
+  pub serves : Serves setup command reply held before left now
+  pub added : longer ≡ text ++ reply_to command reply
+
+-- so were all lines of the worker, in order
+pub record ServesLines (setup : Setup) (worker : ℕ) (commands : List Command) (held : List kept.Hold) (before : Hand) (text : List ℕ) (left : List kept.Hold) (now : Hand) (longer : List ℕ) : Type 0 where
+  pub replies : List Reply
+  pub serves : ServesEach setup (lines_of worker commands) replies held before left now
+  pub added : longer ≡ text ++ replies_to (lines_of worker commands) replies
+
+-- each of these references was given back, the last one first
+abbrev pub all_released : List Ref → View → View
+all_released [] view = view
+all_released (item ∷ items) view = chunk_released (item_chunk item) (all_released items view)
+
+-- the worker's lines were done in order from no holds on, this was told, and what it still held was given back
+pub record DoesLines (setup : Setup) (worker : ℕ) (commands : List Command) (before : Hand) (text : List ℕ) (now : Hand) : Type 0 where
+  pub replies : List Reply
+  pub left : List kept.Hold
+  pub served : Hand
+  pub serves : ServesEach setup (lines_of worker commands) replies [] before left served
+  pub told : text ≡ replies_to (lines_of worker commands) replies
+  pub released : view now ≡ all_released (map (λ hold. hold.item) left) (view served)

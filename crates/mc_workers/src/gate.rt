@@ -1,0 +1,36 @@
+//! What a thread passes before and after each of its lines.
+
+/// Where a thread stands at a line.
+#[derive(Clone, Copy, PartialEq, Eq)]
+pub enum Point {
+    /// The line isn't begun.
+    Before,
+    /// The line's work is done, and its reply is in memory.
+    After,
+}
+
+/// Whether a thread goes on.
+#[derive(Clone, Copy, PartialEq, Eq)]
+pub enum Pass {
+    /// It does.
+    Go,
+    /// It ends, and the run with it, by status 5.
+    Stop,
+}
+
+/// Decides when each thread goes on, as a test or a replay wants it. (own)
+pub trait Gate {
+    /// Called before and after each line's work, by the thread that does it. The mover is worker 0, and `nth` counts the worker's
+    /// own lines from 1.
+    fn pass(&self, worker: u64, nth: u64, point: Point) -> Pass;
+}
+
+/// The gate that lets everybody go on.
+#[derive(Clone, Copy)]
+pub struct Free;
+
+impl Gate for Free {
+    fn pass(&self, _worker: u64, _nth: u64, _point: Point) -> Pass {
+        Pass::Go
+    }
+}

@@ -1,0 +1,95 @@
+//! Lines that take and give back references which the worker keeps meanwhile.
+ghost use Rattle.std.specs.Prelude.{◌≡◌, All, IfOk, IfSome, None, true};
+ghost use Rattle.mc_words.specs.Arenas.{IsHandOf, setup_of, view};
+ghost use Rattle.mc_words.specs.Idle.{is_idle};
+ghost use Rattle.mc_words.specs.Observers.{number_of};
+ghost use Rattle.mc_words.specs.Ready.{IsReady};
+ghost use Rattle.mc_workers.specs.Kept.{AreKept, IsLastAt, IsToOther, holds_of};
+ghost use Rattle.mc_workers.specs.Lines.{all_released};
+ghost use Rattle.mc_workers.specs.Serving.{AnswersDrop, AnswersHold};
+
+use crate::reply::Reply;
+use mc_items::{GetError, Ref, get, read, release};
+use mc_words::{Arena, Hand};
+use std::alloc::{AllocError, Global};
+use std::sync::Wait;
+
+// Keeps a reference to the key's item, if it has one.
+pub(crate) fn hold<R: Wait>(
+    rt: &R,
+    arena: &Arena,
+    hand: &mut Hand,
+    kept: &mut Vec<Ref>,
+    key: u64,
+) -> Result<Reply, AllocError>
+    requires arena { IsHandOf arena.now hand.old }
+    requires ready { IsReady (view hand.old) }
+    requires kept { AreKept (view hand.old) kept.old.items }
+    ensures arena { IsHandOf arena.now hand.new }
+    ensures ready { IsReady (view hand.new) }
+    ensures kept { AreKept (view hand.new) kept.new.items }
+    ensures number { number_of hand.new ≡ number_of hand.old }
+    ensures answers { IfOk result (λ reply. AnswersHold (setup_of arena.now) key reply (holds_of (view hand.old) kept.old.items) hand.old (holds_of (view hand.new) kept.new.items) hand.new) }
+{
+    kept.reserve(1)?;
+    match get(rt, arena, hand, key) {
+        Ok(Some(item)) => {
+            kept.push_reserved(item);
+            Ok(Reply::Held)
+        }
+        Ok(None) => Ok(Reply::NotFound),
+        Err(GetError::TooManyRefs) => Ok(Reply::TooManyRefs),
+        Err(GetError::NoMemory) => Err(AllocError),
+    }
+}
+
+// Reads the item of the last reference to the key that is kept, if there is one, and gives that back.
+pub(crate) fn drop_last(
+    alloc: Global,
+    arena: &Arena,
+    hand: &mut Hand,
+    kept: &mut Vec<Ref>,
+    key: u64,
+) -> Result<Reply, AllocError>
+    requires arena { IsHandOf arena.now hand.old }
+    requires ready { IsReady (view hand.old) }
+    requires kept { AreKept (view hand.old) kept.old.items }
+    ensures arena { IsHandOf arena.now hand.new }
+    ensures ready { IsReady (view hand.new) }
+    ensures kept { AreKept (view hand.new) kept.new.items }
+    ensures number { number_of hand.new ≡ number_of hand.old }
+    ensures answers { IfOk result (λ reply. AnswersDrop key reply (holds_of (view hand.old) kept.old.items) hand.old (holds_of (view hand.new) kept.new.items) hand.new) }
+{
+    let Some(place) = place_of_last(kept, key) else {
+        return Ok(Reply::NotHeld);
+    };
+    let words = read(alloc, arena, hand, &kept[place])?;
+    let item = kept.remove(place);
+    release(arena, hand, item);
+    Ok(Reply::Dropped(words))
+}
+
+// Where the last reference to the key stands among those that are kept.
+fn place_of_last(kept: &[Ref], key: u64) -> Option<usize>
+    ensures last { IfSome result (IsLastAt key kept.now) }
+    ensures none { result ≡ None → All (IsToOther key) kept.now }
+{
+    let behind = kept.iter().rev().position(|item| item.key() == key)?;
+    Some(kept.len() - 1 - behind)
+}
+
+// Gives back each reference that is kept, the last one first.
+pub(crate) fn release_all(arena: &Arena, hand: &mut Hand, mut kept: Vec<Ref>)
+    requires arena { IsHandOf arena.now hand.old }
+    requires ready { IsReady (view hand.old) }
+    requires kept { AreKept (view hand.old) kept.items }
+    ensures arena { IsHandOf arena.now hand.new }
+    ensures ready { IsReady (view hand.new) }
+    ensures number { number_of hand.new ≡ number_of hand.old }
+    ensures idle { is_idle (view hand.new) ≡ true }
+    ensures released { view hand.new ≡ all_released kept.items (view hand.old) }
+{
+    while let Some(item) = kept.pop() {
+        release(arena, hand, item);
+    }
+}

@@ -1,0 +1,101 @@
+//! One line of a worker, on its hand.
+ghost use Rattle.std.specs.Prelude.{◌≡◌, IfOk, true};
+ghost use Rattle.mc_script.specs.Command.{IsValid};
+ghost use Rattle.mc_words.specs.Arenas.{IsHandOf, setup_of, view};
+ghost use Rattle.mc_words.specs.Observers.{number_of};
+ghost use Rattle.mc_words.specs.Ready.{IsReady};
+ghost use Rattle.mc_words.specs.Refs.{KeepsRefs};
+ghost use Rattle.mc_items.specs.Keeping.{HoldsAsOften, HoldsTheSame};
+ghost use Rattle.mc_workers.specs.Kept.{AreKept, holds_of};
+ghost use Rattle.mc_workers.specs.Lines.{is_workers};
+ghost use Rattle.mc_workers.specs.Serving.{AnswersDelete, AnswersTouch, Serves};
+
+use crate::getting::get_words;
+use crate::keeping::{drop_last, hold};
+use crate::reply::Reply;
+use crate::setting::set_words;
+use mc_items::{Ref, delete, touch};
+use mc_script::Command;
+use mc_words::{Arena, Hand};
+use std::alloc::{AllocError, Global};
+use std::sync::Wait;
+
+/// Does a worker's line by its hand, with the references that it keeps, and says what is answered. It waits for the locks that the
+/// calls on items wait for.
+///
+/// Where memory runs out the line may be done in part; the references that are kept are as before.
+pub fn serve_line<R: Wait>(
+    rt: &R,
+    alloc: Global,
+    arena: &Arena,
+    hand: &mut Hand,
+    kept: &mut Vec<Ref>,
+    command: Command,
+) -> Result<Reply, AllocError>
+    requires arena { IsHandOf arena.now hand.old }
+    requires ready { IsReady (view hand.old) }
+    requires kept { AreKept (view hand.old) kept.old.items }
+    requires valid { IsValid command }
+    requires worker { is_workers command ≡ true }
+    ensures arena { IsHandOf arena.now hand.new }
+    ensures ready { IsReady (view hand.new) }
+    ensures kept { AreKept (view hand.new) kept.new.items }
+    ensures number { number_of hand.new ≡ number_of hand.old }
+    ensures serves { IfOk result (λ reply. Serves (setup_of arena.now) command reply (holds_of (view hand.old) kept.old.items) hand.old (holds_of (view hand.new) kept.new.items) hand.new) }
+{
+    match command {
+        Command::Set {
+            worker: _,
+            key,
+            words,
+            base,
+        } => set_words(rt, alloc, arena, hand, key, words, base),
+        Command::Get { worker: _, key } => get_words(rt, alloc, arena, hand, key),
+        Command::Hold { worker: _, key } => hold(rt, arena, hand, kept, key),
+        Command::Drop { worker: _, key } => drop_last(alloc, arena, hand, kept, key),
+        Command::Delete { worker: _, key } => delete_key(rt, arena, hand, key),
+        Command::Touch { worker: _, key } => touch_key(rt, arena, hand, key),
+        _ => unreachable!(),
+    }
+}
+
+// Deletes the key, and says whether it had an item.
+fn delete_key<R: Wait>(
+    rt: &R,
+    arena: &Arena,
+    hand: &mut Hand,
+    key: u64,
+) -> Result<Reply, AllocError>
+    requires arena { IsHandOf arena.now hand.old }
+    requires ready { IsReady (view hand.old) }
+    ensures arena { IsHandOf arena.now hand.new }
+    ensures ready { IsReady (view hand.new) }
+    ensures number { number_of hand.new ≡ number_of hand.old }
+    ensures answers { IfOk result (λ reply. AnswersDelete (setup_of arena.now) key reply hand.old hand.new) }
+    ensures holdings { HoldsTheSame (view hand.old) (view hand.new) }
+    ensures keeps { KeepsRefs (view hand.old) (view hand.new) }
+{
+    match delete(rt, arena, hand, key) {
+        Ok(true) => Ok(Reply::Deleted),
+        Ok(false) => Ok(Reply::NotFound),
+        Err(_) => Err(AllocError),
+    }
+}
+
+// Touches the key, and says whether it has an item.
+fn touch_key<R: Wait>(rt: &R, arena: &Arena, hand: &mut Hand, key: u64) -> Result<Reply, AllocError>
+    requires arena { IsHandOf arena.now hand.old }
+    requires ready { IsReady (view hand.old) }
+    ensures arena { IsHandOf arena.now hand.new }
+    ensures ready { IsReady (view hand.new) }
+    ensures number { number_of hand.new ≡ number_of hand.old }
+    ensures answers { IfOk result (λ reply. AnswersTouch (setup_of arena.now) key reply hand.old hand.new) }
+    ensures holdings { HoldsAsOften (view hand.old) (view hand.new) }
+    ensures keeps { KeepsRefs (view hand.old) (view hand.new) }
+{
+    match touch(rt, arena, hand, key) {
+        Ok(true) => Ok(Reply::Touched),
+        Ok(false) => Ok(Reply::NotFound),
+        Err(_) => Err(AllocError),
+    }
+}

@@ -1,0 +1,156 @@
+//! All lines of a worker, in order.
+ghost use Rattle.std.specs.Prelude.{◌≡◌, [], All, OnOk, Some, true};
+ghost use Rattle.std.specs.Option.{option_map};
+ghost use Rattle.mc_script.specs.Command.{IsValid};
+ghost use Rattle.mc_words.specs.Arenas.{IsHandOf, setup_of, view};
+ghost use Rattle.mc_words.specs.Idle.{is_idle};
+ghost use Rattle.mc_words.specs.Observers.{number_of};
+ghost use Rattle.mc_words.specs.Ready.{IsReady};
+ghost use Rattle.mc_workers.specs.Kept.{AreKept, holds_of};
+ghost use Rattle.mc_workers.specs.Lines.{AddsReply, DoesLines, ServesLines, asked_by, is_asked_by, is_workers};
+
+use crate::gate::{Gate, Pass, Point};
+use crate::keeping::release_all;
+use crate::line::serve_line;
+use crate::reply::push_reply;
+use crate::shared::Shared;
+use mc_items::Ref;
+use mc_script::Command;
+use mc_words::Hand;
+use std::alloc::AllocError;
+use std::sync::Wait;
+
+/// Why a thread ended before its lines were done.
+#[derive(Clone, Copy, PartialEq, Eq)]
+pub enum Ended {
+    /// Memory ran out.
+    Memory,
+    /// The run has no turns of the mover left, or the gate stopped it.
+    Turns,
+}
+
+impl From<AllocError> for Ended {
+    ghost use Rattle.std.specs.Prelude.{◌≡◌};
+    ghost use Rattle.mc_workers.specs.declared.lines.Ended.TheVariants.{Memory};
+
+    ghost from_gives = { λ _ ended. ended ≡ Memory };
+
+    fn from(_error: AllocError) -> Ended {
+        Ended::Memory
+    }
+}
+
+/// Does the worker's lines in order, each between two passes of the gate, adds their replies to an empty text, and gives back what the
+/// worker still holds then.
+pub fn serve_lines<R: Wait, G: Gate>(
+    shared: &Shared<R, G>,
+    worker: u64,
+    hand: &mut Hand,
+    text: &mut Vec<u8>,
+) -> Result<(), Ended>
+    requires arena { IsHandOf shared.now.arena.now hand.old }
+    requires ready { IsReady (view hand.old) }
+    requires none { (view hand.old).row.holdings ≡ [] }
+    requires valid { All IsValid shared.now.commands.now }
+    requires empty { text.old.items ≡ [] }
+    ensures arena { IsHandOf shared.now.arena.now hand.new }
+    ensures number { number_of hand.new ≡ number_of hand.old }
+    ensures idle { OnOk result (is_idle (view hand.new) ≡ true) }
+    ensures does { OnOk result (DoesLines (setup_of shared.now.arena.now) worker shared.now.commands.now hand.old text.new.items hand.new) }
+{
+    let mut kept = Vec::new(shared.alloc);
+    serve_each(shared, worker, hand, &mut kept, text)?;
+    release_all(shared.arena, hand, kept);
+    Ok(())
+}
+
+// Does the worker's lines in order, with these references kept at first.
+fn serve_each<R: Wait, G: Gate>(
+    shared: &Shared<R, G>,
+    worker: u64,
+    hand: &mut Hand,
+    kept: &mut Vec<Ref>,
+    text: &mut Vec<u8>,
+) -> Result<(), Ended>
+    requires arena { IsHandOf shared.now.arena.now hand.old }
+    requires ready { IsReady (view hand.old) }
+    requires kept { AreKept (view hand.old) kept.old.items }
+    requires valid { All IsValid shared.now.commands.now }
+    ensures arena { IsHandOf shared.now.arena.now hand.new }
+    ensures ready { IsReady (view hand.new) }
+    ensures kept { AreKept (view hand.new) kept.new.items }
+    ensures number { number_of hand.new ≡ number_of hand.old }
+    ensures serves { OnOk result (ServesLines (setup_of shared.now.arena.now) worker shared.now.commands.now (holds_of (view hand.old) kept.old.items) hand.old text.old.items (holds_of (view hand.new) kept.new.items) hand.new text.new.items) }
+{
+    let mut nth = 0u64;
+    for command in shared.commands {
+        if is_line_of(command, worker) {
+            nth = nth.wrapping_add(1);
+            serve_gated(shared, worker, nth, hand, kept, *command, text)?;
+        }
+    }
+    Ok(())
+}
+
+// Does one line between two passes of the gate, and adds its reply.
+fn serve_gated<R: Wait, G: Gate>(
+    shared: &Shared<R, G>,
+    worker: u64,
+    nth: u64,
+    hand: &mut Hand,
+    kept: &mut Vec<Ref>,
+    command: Command,
+    text: &mut Vec<u8>,
+) -> Result<(), Ended>
+    requires arena { IsHandOf shared.now.arena.now hand.old }
+    requires ready { IsReady (view hand.old) }
+    requires kept { AreKept (view hand.old) kept.old.items }
+    requires valid { IsValid command }
+    requires worker { is_asked_by worker command ≡ true }
+    ensures arena { IsHandOf shared.now.arena.now hand.new }
+    ensures ready { IsReady (view hand.new) }
+    ensures kept { AreKept (view hand.new) kept.new.items }
+    ensures number { number_of hand.new ≡ number_of hand.old }
+    ensures adds { OnOk result (AddsReply (setup_of shared.now.arena.now) command (holds_of (view hand.old) kept.old.items) hand.old text.old.items (holds_of (view hand.new) kept.new.items) hand.new text.new.items) }
+{
+    if shared.gate.pass(worker, nth, Point::Before) == Pass::Stop {
+        return Err(Ended::Turns);
+    }
+    let reply = serve_line(shared.rt, shared.alloc, shared.arena, hand, kept, command)?;
+    push_reply(text, key_of(command), &reply)?;
+    if shared.gate.pass(worker, nth, Point::After) == Pass::Stop {
+        return Err(Ended::Turns);
+    }
+    Ok(())
+}
+
+// Whether the line is this worker's.
+fn is_line_of(command: &Command, worker: u64) -> bool
+    ensures { result ≡ is_asked_by worker command.now }
+{
+    match *command {
+        Command::Set { worker: asking, .. }
+        | Command::Delete { worker: asking, .. }
+        | Command::Get { worker: asking, .. }
+        | Command::Hold { worker: asking, .. }
+        | Command::Drop { worker: asking, .. }
+        | Command::Touch { worker: asking, .. } => asking == worker,
+        _ => false,
+    }
+}
+
+// The key that a worker's line is about.
+fn key_of(command: Command) -> u64
+    requires { is_workers command ≡ true }
+    ensures key { option_map (λ asked. asked.key) (asked_by command) ≡ Some result }
+{
+    match command {
+        Command::Set { key, .. }
+        | Command::Delete { key, .. }
+        | Command::Get { key, .. }
+        | Command::Hold { key, .. }
+        | Command::Drop { key, .. }
+        | Command::Touch { key, .. } => key,
+        _ => unreachable!(),
+    }
+}

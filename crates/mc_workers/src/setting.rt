@@ -1,0 +1,57 @@
+//! Lines that store an item.
+ghost use Rattle.std.specs.Prelude.{◌≡◌, ◌≤◌, IfOk, OnOk};
+ghost use Rattle.mc_machine.specs.Item.{words_from};
+ghost use Rattle.mc_words.specs.Arenas.{IsHandOf, view};
+ghost use Rattle.mc_words.specs.Observers.{number_of};
+ghost use Rattle.mc_words.specs.Ready.{IsReady};
+ghost use Rattle.mc_words.specs.Refs.{KeepsRefs};
+ghost use Rattle.mc_items.specs.Keeping.{HoldsTheSame};
+ghost use Rattle.mc_workers.specs.Serving.{AnswersSet};
+
+use crate::reply::Reply;
+use mc_items::{SetError, set};
+use mc_words::{Arena, Hand};
+use std::alloc::{AllocError, Global};
+use std::sync::Wait;
+
+// Stores so many words under the key: base, base + 1 and so on, modulo 2^64.
+pub(crate) fn set_words<R: Wait>(
+    rt: &R,
+    alloc: Global,
+    arena: &Arena,
+    hand: &mut Hand,
+    key: u64,
+    count: u64,
+    base: u64,
+) -> Result<Reply, AllocError>
+    requires arena { IsHandOf arena.now hand.old }
+    requires ready { IsReady (view hand.old) }
+    requires count { count ≤ 4096 }
+    ensures arena { IsHandOf arena.now hand.new }
+    ensures ready { IsReady (view hand.new) }
+    ensures number { number_of hand.new ≡ number_of hand.old }
+    ensures answers { IfOk result (λ reply. AnswersSet key (words_from base count) reply hand.old hand.new) }
+    ensures holdings { HoldsTheSame (view hand.old) (view hand.new) }
+    ensures keeps { KeepsRefs (view hand.old) (view hand.new) }
+{
+    let words = counted(alloc, base, count)?;
+    match set(rt, arena, hand, key, &words) {
+        Ok(_) => Ok(Reply::Stored),
+        Err(SetError::TooLarge) => Ok(Reply::TooLarge),
+        Err(SetError::NoRoom) => Ok(Reply::NoRoom),
+        Err(SetError::WornOut) => Ok(Reply::WornOut),
+        Err(SetError::NoMemory) => Err(AllocError),
+    }
+}
+
+// So many words that count up from the base.
+fn counted(alloc: Global, base: u64, count: u64) -> Result<Vec<u64>, AllocError>
+    requires { count ≤ 4096 }
+    ensures words { IfOk result (λ words. words.items ≡ words_from base count) }
+{
+    let mut words = Vec::with_capacity(alloc, count as usize)?;
+    for place in 0..count {
+        words.push_reserved(base.wrapping_add(place));
+    }
+    Ok(words)
+}
