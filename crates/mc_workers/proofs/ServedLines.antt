@@ -12,7 +12,8 @@ use Rattle.mc_items.specs.declared.refs.Ref.{Ref}
 use Rattle.mc_script.specs.declared.command.Command.{Command}
 use Rattle.mc_workers.specs.declared.reply.Reply.{Reply}
 use Rattle.mc_workers.specs.Kept.{AreKept, Hold, holds_of}
-use Rattle.mc_workers.specs.Lines.{AddsReply, Asked, ServesEach, ServesLines, asked_by, is_asked_by, lines_of, replies_to, reply_to}
+use Rattle.mc_workers.specs.Asking.{Asked, asked_by, is_asked_by, lines_of}
+use Rattle.mc_workers.specs.Lines.{AddsReply, ServesEach, ServesLines, replies_to, reply_to}
 use Rattle.mc_workers.specs.Replies.{reply_text}
 use Rattle.mc_workers.specs.Serving.{Serves}
 

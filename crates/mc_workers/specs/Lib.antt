@@ -1,5 +1,10 @@
 pub mod Kept
 pub mod Replies
 pub mod Serving
+pub mod Asking
 pub mod Lines
-pub mod Threads
+pub mod Surveyed
+pub mod MoverReplies
+pub mod Moving
+pub mod MoverCases
+pub mod Moves

@@ -1,5 +1,5 @@
 -- The lines of one worker, in order.
-use Rattle.std.specs.Prelude.{◌≡◌, ℕ, ◌==◌, Bool, false, List, [], ◌∷◌, ◌++◌, filter, map, Option, Some, None, is_some}
+use Rattle.std.specs.Prelude.{◌≡◌, ℕ, List, [], ◌∷◌, ◌++◌, map}
 use Rattle.std.specs.Option.{option_map_or}
 use Rattle.mc_words.specs.declared.hand.Hand.{Hand}
 use Rattle.mc_words.specs.Arenas.{view}
@@ -8,37 +8,11 @@ use Rattle.mc_words.specs.Views.{chunk_released}
 use Rattle.mc_items.specs.declared.refs.Ref.{Ref}
 use Rattle.mc_items.specs.ItemRefs.{item_chunk}
 use Rattle.mc_script.specs.declared.command.Command.{Command}
-use Rattle.mc_script.specs.declared.command.Command.TheVariants.{Set, Delete, Get, Hold, Drop, Touch}
 use Rattle.mc_workers.specs.declared.reply.Reply.{Reply}
+use Rattle.mc_workers.specs.Asking.{asked_by, lines_of}
 use Rattle.mc_workers.specs.Kept as kept
 use Rattle.mc_workers.specs.Replies.{reply_text}
 use Rattle.mc_workers.specs.Serving.{Serves}
-
--- whose line it is, and about which key, if it is a worker's
-pub record Asked : Type 0 where
-  pub worker : ℕ
-  pub key : ℕ
-
-abbrev pub asked_by : Command → Option Asked
-asked_by (Set worker key words base) = Some (record { worker = worker; key = key })
-asked_by (Delete worker key) = Some (record { worker = worker; key = key })
-asked_by (Get worker key) = Some (record { worker = worker; key = key })
-asked_by (Hold worker key) = Some (record { worker = worker; key = key })
-asked_by (Drop worker key) = Some (record { worker = worker; key = key })
-asked_by (Touch worker key) = Some (record { worker = worker; key = key })
-asked_by other = None
-
--- the line is this worker's
-abbrev pub is_asked_by : ℕ → Command → Bool
-is_asked_by worker command = option_map_or (λ asked. asked.worker == worker) (asked_by command) false
-
--- the line is a worker's
-abbrev pub is_workers : Command → Bool
-is_workers command = is_some (asked_by command)
-
--- the lines of the worker
-abbrev pub lines_of : ℕ → List Command → List Command
-lines_of worker commands = filter (is_asked_by worker) commands
 
 -- the line that tells a reply to a command
 abbrev pub reply_to : Command → Reply → List ℕ

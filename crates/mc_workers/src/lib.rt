@@ -1,17 +1,32 @@
 //! What the threads of a run do: the lines of a script by hands of the arena, and the mover's lines beside them.
 #![tactic(auto)]
 
+mod ended;
 mod gate;
 mod getting;
 mod keeping;
 mod line;
 mod lines;
+mod mover;
+pub mod mover_laws;
+mod mover_line;
+mod mover_reply;
+mod moves;
+mod numbers;
 mod reply;
 mod setting;
 mod shared;
+mod statistics;
+mod turns;
+mod window;
 
+pub use ended::Ended;
 pub use gate::{Free, Gate, Pass, Point};
 pub use line::serve_line;
-pub use lines::{Ended, serve_lines};
+pub use lines::serve_lines;
+pub use mover::Mover;
+pub use mover_line::serve_mover_line;
+pub use mover_reply::{Acted, MoverReply, push_mover_reply};
+pub use moves::move_lines;
 pub use reply::{Reply, push_reply};
 pub use shared::Shared;

@@ -7,7 +7,7 @@ ghost use Rattle.mc_words.specs.Ready.{IsReady};
 ghost use Rattle.mc_words.specs.Refs.{KeepsRefs};
 ghost use Rattle.mc_items.specs.Keeping.{HoldsAsOften, HoldsTheSame};
 ghost use Rattle.mc_workers.specs.Kept.{AreKept, holds_of};
-ghost use Rattle.mc_workers.specs.Lines.{is_workers};
+ghost use Rattle.mc_workers.specs.Asking.{is_workers};
 ghost use Rattle.mc_workers.specs.Serving.{AnswersDelete, AnswersTouch, Serves};
 
 use crate::getting::get_words;

@@ -7,8 +7,10 @@ ghost use Rattle.mc_words.specs.Idle.{is_idle};
 ghost use Rattle.mc_words.specs.Observers.{number_of};
 ghost use Rattle.mc_words.specs.Ready.{IsReady};
 ghost use Rattle.mc_workers.specs.Kept.{AreKept, holds_of};
-ghost use Rattle.mc_workers.specs.Lines.{AddsReply, DoesLines, ServesLines, asked_by, is_asked_by, is_workers};
+ghost use Rattle.mc_workers.specs.Asking.{asked_by, is_asked_by, is_workers};
+ghost use Rattle.mc_workers.specs.Lines.{AddsReply, DoesLines, ServesLines};
 
+use crate::ended::Ended;
 use crate::gate::{Gate, Pass, Point};
 use crate::keeping::release_all;
 use crate::line::serve_line;
@@ -17,28 +19,7 @@ use crate::shared::Shared;
 use mc_items::Ref;
 use mc_script::Command;
 use mc_words::Hand;
-use std::alloc::AllocError;
 use std::sync::Wait;
-
-/// Why a thread ended before its lines were done.
-#[derive(Clone, Copy, PartialEq, Eq)]
-pub enum Ended {
-    /// Memory ran out.
-    Memory,
-    /// The run has no turns of the mover left, or the gate stopped it.
-    Turns,
-}
-
-impl From<AllocError> for Ended {
-    ghost use Rattle.std.specs.Prelude.{◌≡◌};
-    ghost use Rattle.mc_workers.specs.declared.lines.Ended.TheVariants.{Memory};
-
-    ghost from_gives = { λ _ ended. ended ≡ Memory };
-
-    fn from(_error: AllocError) -> Ended {
-        Ended::Memory
-    }
-}
 
 /// Does the worker's lines in order, each between two passes of the gate, adds their replies to an empty text, and gives back what the
 /// worker still holds then.

@@ -2,7 +2,8 @@ use Rattle.std.proofs.Common.{◌≡◌, ℕ, List, [], ◌++◌, ap, sym, subst
 use Rattle.mc_words.specs.Arenas.{setup_of, view}
 use Rattle.mc_items.specs.declared.refs.Ref.{Ref}
 use Rattle.mc_workers.specs.Kept.{Hold, holds_of}
-use Rattle.mc_workers.specs.Lines.{ServesEach, all_released, lines_of, replies_to}
+use Rattle.mc_workers.specs.Asking.{lines_of}
+use Rattle.mc_workers.specs.Lines.{ServesEach, all_released, replies_to}
 use Rattle.mc_workers.proofs.KeptRefs.{items_held}
 use Rattle.mc_workers.proofs.lines.serve_lines.Goals as goal
 

@@ -1,0 +1,37 @@
+-- Whose line a command is.
+use Rattle.std.specs.Prelude.{ℕ, ◌==◌, Bool, false, not, List, filter, Option, Some, None, is_some}
+use Rattle.std.specs.Option.{option_map_or}
+use Rattle.mc_script.specs.declared.command.Command.{Command}
+use Rattle.mc_script.specs.declared.command.Command.TheVariants.{Set, Delete, Get, Hold, Drop, Touch}
+
+-- whose line it is, and about which key, if it is a worker's
+pub record Asked : Type 0 where
+  pub worker : ℕ
+  pub key : ℕ
+
+abbrev pub asked_by : Command → Option Asked
+asked_by (Set worker key words base) = Some (record { worker = worker; key = key })
+asked_by (Delete worker key) = Some (record { worker = worker; key = key })
+asked_by (Get worker key) = Some (record { worker = worker; key = key })
+asked_by (Hold worker key) = Some (record { worker = worker; key = key })
+asked_by (Drop worker key) = Some (record { worker = worker; key = key })
+asked_by (Touch worker key) = Some (record { worker = worker; key = key })
+asked_by other = None
+
+-- the line is a worker's
+abbrev pub is_workers : Command → Bool
+is_workers command = is_some (asked_by command)
+
+-- the line is this worker's
+abbrev pub is_asked_by : ℕ → Command → Bool
+is_asked_by worker command = option_map_or (λ asked. asked.worker == worker) (asked_by command) false
+
+-- the lines of the worker, and those of no worker, which are the mover's
+abbrev pub lines_of : ℕ → List Command → List Command
+lines_of worker commands = filter (is_asked_by worker) commands
+
+abbrev pub is_movers : Command → Bool
+is_movers command = not (is_workers command)
+
+abbrev pub lines_of_mover : List Command → List Command
+lines_of_mover commands = filter is_movers commands

@@ -1,0 +1,142 @@
+-- What a line of the mover does by its hand, as the reply tells it.
+use Rattle.std.specs.Prelude.{◌≡◌, ◌≢◌, ℕ, ◌+◌, ◌<◌, ◌≤◌, ◌==◌, true, false, ◌&&◌, is_none, is_some, if◌then◌else◌, List, [], ◌∷◌, ◌++◌, length, All, Option, Some, None, Result, Err}
+use Rattle.mc_pages.specs.declared.moves.Reassign.{Reassign}
+use Rattle.mc_pages.specs.declared.moves.Reassign.TheVariants.{NoMemory}
+use Rattle.mc_words.specs.declared.hand.Hand.{Hand}
+use Rattle.mc_words.specs.Reassigning.{Reassigns}
+use Rattle.mc_mover.specs.declared.counts.Turn.{Turn}
+use Rattle.mc_mover.specs.declared.counts.Turn.TheVariants as turn
+use Rattle.mc_mover.specs.declared.numbers.Survey.{Survey}
+use Rattle.mc_mover.specs.Acting.{ActsOnce, TellsTurn}
+use Rattle.mc_mover.specs.Reassigning.{SetsMode}
+use Rattle.mc_mover.specs.Surveying.{Surveys}
+use Rattle.mc_mover.specs.Telling.{counts_in}
+use Rattle.mc_mover.specs.Turning.{Turns}
+use Rattle.mc_script.specs.declared.command.Command.{Command}
+use Rattle.mc_script.specs.declared.command.Command.TheVariants as command
+use Rattle.mc_watch.specs.declared.decider.Decision.{Decision}
+use Rattle.mc_watch.specs.declared.refusal.Feed.{Feed}
+use Rattle.mc_watch.specs.Decider.{DeciderState, after_window, decision_of, refusal_of}
+use Rattle.mc_machine.specs.declared.turn.Counts.{Counts}
+use Rattle.mc_machine.specs.declared.turn.Ending.{Ending}
+use Rattle.mc_machine.specs.declared.turn.Ending.TheVariants.{Idle, Went, Finished}
+use Rattle.mc_machine.specs.Mover.{no_counts}
+use Rattle.mc_workers.specs.declared.mover.Mover.{Mover}
+use Rattle.mc_workers.specs.declared.mover_reply.Acted.{Acted}
+use Rattle.mc_workers.specs.declared.mover_reply.MoverReply.{MoverReply}
+use Rattle.mc_workers.specs.declared.mover_reply.MoverReply.TheVariants.{Answer, Mode, Window, Turned, Totals, Classes}
+use Rattle.mc_workers.specs.Surveyed.{evictions_in, free_in, pages_in}
+
+-- the mover's decider, with the windows that it was fed
+abbrev pub decider_of : Mover → DeciderState
+decider_of mover = mover.decider
+
+-- how many turns of the run were begun
+abbrev pub turns_of : Mover → ℕ
+turns_of mover = mover.turns
+
+-- a page was asked for, and this was answered; it wasn't memory that was wanting
+abbrev pub AsksForPage : Option ℕ → ℕ → Result (Unit {0}) Reassign → Hand → Hand → Type 0
+AsksForPage src dst answer before now = ActsOnce (λ number. Reassigns number src dst answer) before now × (answer ≢ Err NoMemory)
+
+-- why the decider doesn't take the numbers of a survey. In a run it takes all, as classes stay and evictions never fall, but no contract says so
+abbrev pub refusal_for : DeciderState → Survey → Option Feed
+refusal_for decider survey = refusal_of decider (evictions_in survey) (pages_in survey) (free_in survey)
+
+-- the decider at the end of a window with these numbers, in whatever mode; it stays where it doesn't take them
+abbrev pub decider_after : DeciderState → Survey → DeciderState
+decider_after decider survey =
+    if is_some (refusal_for decider survey) then decider else after_window decider (evictions_in survey) (pages_in survey) (free_in survey)
+
+-- the decision that is acted on then: in mode 1 alone there may be one, and none where the decider didn't take the numbers
+abbrev pub decision_after : DeciderState → Survey → Option Decision
+decision_after decider survey = if is_none (refusal_for decider survey) && survey.mode == 1 then decision_of (decider_after decider survey) else None
+
+-- the page of the decision was asked for, and that is what became of it; or there is none, and nothing was done
+abbrev pub ActsOnDecision : Option Decision → Option Acted → Hand → Hand → Type 0
+ActsOnDecision None None before now = now ≡ before
+ActsOnDecision (Some decision) (Some acted) before now =
+    (acted.decision ≡ decision) × AsksForPage (Some decision.src) decision.dst acted.answer before now
+ActsOnDecision decision acted before now = ⊥
+
+-- a window ended: the dead of all classes were put back, the decider was fed what was left then, and its decision was acted on
+pub record EndsWindow (acted : Option Acted) (mover : Mover) (before : Hand) (left : Mover) (now : Hand) : Type 0 where
+  pub survey : Survey
+  pub surveyed : Hand
+  pub surveys : ActsOnce (λ number. Surveys true survey) before surveyed
+  pub feeds : left ≡ record mover { decider = decider_after mover.decider survey }
+  pub acts : ActsOnDecision (decision_after mover.decider survey) acted surveyed now
+
+-- how a turn ended
+abbrev pub ending_of : Turn → Ending
+ending_of turn.Idle = Idle
+ending_of (turn.Went counts) = Went
+ending_of (turn.Finished counts) = Finished
+
+-- the page that it found on the move is so still
+abbrev pub WentOn : Turn → Type 0
+WentOn turn = ending_of turn ≡ Went
+
+-- these turns were done one after another, each in one hold of the lock of the slabs, and each tells its evictions and rescues
+abbrev pub TurnsEach : List Turn → Hand → Hand → Type 0
+TurnsEach [] before now = now ≡ before
+TurnsEach (turn ∷ turns) before now =
+    (next : Hand) × ActsOnce (λ number. Turns number turn) before next × TellsTurn before next turn × TurnsEach turns next now
+
+-- these counts, and those of a turn
+abbrev pub counts_with : Turn → Counts → Counts
+counts_with turn counts = record {
+  cleared = counts.cleared + (counts_in turn).cleared;
+  rescued = counts.rescued + (counts_in turn).rescued;
+  evicted = counts.evicted + (counts_in turn).evicted;
+  busy = counts.busy + (counts_in turn).busy;
+  locked = counts.locked + (counts_in turn).locked;
+}
+
+-- what some turns counted, all together
+abbrev pub counts_of_all : List Turn → Counts
+counts_of_all [] = no_counts
+counts_of_all (turn ∷ turns) = counts_with turn (counts_of_all turns)
+
+-- the turns of a line that asks for so many: all but the last went on, and where the last did, too, there are as many as that
+pub record AreTurnsOf (asked : ℕ) (turns : List Turn) (ending : Ending) : Type 0 where
+  pub earlier : List Turn
+  pub last : Turn
+  pub all : turns ≡ earlier ++ last ∷ []
+  pub went : All WentOn earlier
+  pub ends : ending ≡ ending_of last
+  pub most : length turns ≤ asked
+  pub enough : WentOn last → length turns ≡ asked
+
+-- so many turns were asked for, and these were done, of the 1,000,000 that a run has; their sums are told, and how the last one ended
+pub record DoesTurns (asked : ℕ) (ending : Ending) (counts : Counts) (mover : Mover) (before : Hand) (left : Mover) (now : Hand) : Type 0 where
+  pub turns : List Turn
+  pub are : AreTurnsOf asked turns ending
+  pub does : TurnsEach turns before now
+  pub sums : counts ≡ counts_of_all turns
+  pub begun : left ≡ record mover { turns = mover.turns + length turns }
+  pub few : left.turns ≤ 1000000
+
+-- the run had no turns left for the next one: those before it were done, and each went on
+pub record RunsOutOfTurns (asked : ℕ) (mover : Mover) (before : Hand) (left : Mover) (now : Hand) : Type 0 where
+  pub turns : List Turn
+  pub went : All WentOn turns
+  pub fewer : length turns < asked
+  pub does : TurnsEach turns before now
+  pub begun : left ≡ record mover { turns = mover.turns + length turns }
+  pub spent : 1000000 ≤ left.turns
+
+-- a line of the mover, by its reply: what it did by its hand, and what it made of the decider and of the run's count of turns
+abbrev pub ServesMover : Command → MoverReply → Mover → Hand → Mover → Hand → Type 0
+ServesMover (command.Reassign src dst) (Answer answer) mover before left now = AsksForPage src dst answer before now × (left ≡ mover)
+ServesMover (command.Automove mode) Mode mover before left now = ActsOnce (λ number. SetsMode number mode) before now × (left ≡ mover)
+ServesMover command.Window (Window acted) mover before left now = EndsWindow acted mover before left now
+ServesMover (command.Turn asked) (Turned ending counts) mover before left now = DoesTurns asked ending counts mover before left now
+ServesMover command.Stats (Totals survey) mover before left now = ActsOnce (λ number. Surveys false survey) before now × (left ≡ mover)
+ServesMover command.StatsSlabs (Classes survey) mover before left now = ActsOnce (λ number. Surveys true survey) before now × (left ≡ mover)
+ServesMover command reply mover before left now = ⊥
+
+-- a line of the mover that ended the run: only one of turns does
+abbrev pub StopsMover : Command → Mover → Hand → Mover → Hand → Type 0
+StopsMover (command.Turn asked) mover before left now = RunsOutOfTurns asked mover before left now
+StopsMover command mover before left now = ⊥

@@ -1,0 +1,99 @@
+//! One line of the mover, on its hand.
+ghost use Rattle.std.specs.Prelude.{◌≡◌, ◌≤◌, Err, IfOk, false};
+ghost use Rattle.mc_mover.specs.Acting.{ActsOnce};
+ghost use Rattle.mc_mover.specs.Surveying.{Surveys};
+ghost use Rattle.mc_script.specs.Command.{IsValid};
+ghost use Rattle.mc_words.specs.Arenas.{IsHandOf, setup_of, view};
+ghost use Rattle.mc_words.specs.Observers.{number_of};
+ghost use Rattle.mc_words.specs.Ready.{IsReady};
+ghost use Rattle.mc_workers.specs.Asking.{is_workers};
+ghost use Rattle.mc_workers.specs.MoverReplies.{CanTell};
+ghost use Rattle.mc_workers.specs.Moving.{ServesMover, StopsMover};
+ghost use Rattle.mc_workers.specs.Surveyed.{AreTellable};
+
+use crate::ended::Ended;
+use crate::mover::Mover;
+use crate::mover_reply::MoverReply;
+use crate::turns::do_turns;
+use crate::window::{ask_for_page, end_window};
+use mc_mover::{Survey, set_mode, survey};
+use mc_script::Command;
+use mc_words::{Arena, Hand};
+use std::alloc::{AllocError, Global};
+use std::sync::Wait;
+
+/// Does a line of the mover by its hand, and says what is answered. It waits for the lock of the slabs, and for no other.
+///
+/// `Turns` where a turn would be the run's 1,000,001st: it isn't begun, and those of the line before it are done. Where memory runs out
+/// the line may be done in part.
+pub fn serve_mover_line<R: Wait>(
+    rt: &R,
+    alloc: Global,
+    arena: &Arena,
+    hand: &mut Hand,
+    mover: &mut Mover,
+    command: Command,
+) -> Result<MoverReply, Ended>
+    requires arena { IsHandOf arena.now hand.old }
+    requires ready { IsReady (view hand.old) }
+    requires valid { IsValid command }
+    requires mover { is_workers command ≡ false }
+    ensures arena { IsHandOf arena.now hand.new }
+    ensures ready { IsReady (view hand.new) }
+    ensures number { number_of hand.new ≡ number_of hand.old }
+    ensures holdings { (view hand.new).row.holdings ≡ (view hand.old).row.holdings }
+    ensures moves { IfOk result (λ reply. ServesMover command reply mover.old hand.old mover.new hand.new) }
+    ensures tellable { IfOk result (CanTell (setup_of arena.now).table) }
+    ensures stopped { result ≡ Err Ended.Turns → StopsMover command mover.old hand.old mover.new hand.new }
+{
+    match command {
+        Command::Reassign { src, dst } => {
+            let answer = ask_for_page(rt, arena, hand, src, dst)?;
+            Ok(MoverReply::Answer(answer))
+        }
+        Command::Automove { mode } => {
+            set_mode(rt, arena, hand, mode);
+            Ok(MoverReply::Mode)
+        }
+        Command::Window => {
+            let acted = end_window(rt, alloc, arena, hand, mover)?;
+            Ok(MoverReply::Window(acted))
+        }
+        Command::Turn { turns } => {
+            let (ending, counts) = do_turns(rt, arena, hand, mover, turns)?;
+            Ok(MoverReply::Turned(ending, counts))
+        }
+        Command::Stats => {
+            let survey = survey_all(rt, alloc, arena, hand, false)?;
+            Ok(MoverReply::Totals(survey))
+        }
+        Command::StatsSlabs => {
+            let survey = survey_all(rt, alloc, arena, hand, true)?;
+            Ok(MoverReply::Classes(survey))
+        }
+        _ => unreachable!(),
+    }
+}
+
+// What the classes and the whole have, the dead put back before if that is asked for.
+fn survey_all<R: Wait>(
+    rt: &R,
+    alloc: Global,
+    arena: &Arena,
+    hand: &mut Hand,
+    sweep: bool,
+) -> Result<Survey, AllocError>
+    requires arena { IsHandOf arena.now hand.old }
+    requires ready { IsReady (view hand.old) }
+    ensures arena { IsHandOf arena.now hand.new }
+    ensures ready { IsReady (view hand.new) }
+    ensures number { number_of hand.new ≡ number_of hand.old }
+    ensures holdings { (view hand.new).row.holdings ≡ (view hand.old).row.holdings }
+    ensures surveys { IfOk result (λ survey. ActsOnce (λ number. Surveys sweep survey) hand.old hand.new) }
+    ensures tellable { IfOk result (AreTellable (setup_of arena.now).table) }
+{
+    match survey(rt, alloc, arena, hand, sweep) {
+        Ok(survey) => Ok(survey),
+        Err(_) => Err(AllocError),
+    }
+}

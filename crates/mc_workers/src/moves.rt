@@ -1,0 +1,109 @@
+//! All lines of the mover, in order.
+ghost use Rattle.std.specs.Prelude.{◌≡◌, [], All, OnOk, false};
+ghost use Rattle.mc_script.specs.Command.{IsValid};
+ghost use Rattle.mc_words.specs.Arenas.{IsHandOf, setup_of, view};
+ghost use Rattle.mc_words.specs.Observers.{number_of};
+ghost use Rattle.mc_words.specs.Ready.{IsReady};
+ghost use Rattle.mc_workers.specs.Asking.{is_movers, is_workers};
+ghost use Rattle.mc_workers.specs.Moves.{AddsMove, AddsMoves, MovesLines};
+
+use crate::ended::Ended;
+use crate::gate::{Gate, Pass, Point};
+use crate::mover::Mover;
+use crate::mover_line::serve_mover_line;
+use crate::mover_reply::push_mover_reply;
+use crate::shared::Shared;
+use mc_script::Command;
+use mc_words::Hand;
+use std::sync::Wait;
+
+/// Does the lines of no worker in order, each between two passes of the gate as worker 0, and adds their replies to an empty text.
+pub fn move_lines<R: Wait, G: Gate>(
+    shared: &Shared<R, G>,
+    hand: &mut Hand,
+    text: &mut Vec<u8>,
+) -> Result<(), Ended>
+    requires arena { IsHandOf shared.now.arena.now hand.old }
+    requires ready { IsReady (view hand.old) }
+    requires valid { All IsValid shared.now.commands.now }
+    requires empty { text.old.items ≡ [] }
+    ensures arena { IsHandOf shared.now.arena.now hand.new }
+    ensures ready { IsReady (view hand.new) }
+    ensures number { number_of hand.new ≡ number_of hand.old }
+    ensures holdings { (view hand.new).row.holdings ≡ (view hand.old).row.holdings }
+    ensures moves { OnOk result (MovesLines (setup_of shared.now.arena.now).table shared.now.commands.now hand.old text.new.items hand.new) }
+{
+    let mut mover = Mover::new(shared.alloc, shared.arena.classes())?;
+    move_each(shared, hand, &mut mover, text)
+}
+
+// Does the mover's lines in order.
+fn move_each<R: Wait, G: Gate>(
+    shared: &Shared<R, G>,
+    hand: &mut Hand,
+    mover: &mut Mover,
+    text: &mut Vec<u8>,
+) -> Result<(), Ended>
+    requires arena { IsHandOf shared.now.arena.now hand.old }
+    requires ready { IsReady (view hand.old) }
+    requires valid { All IsValid shared.now.commands.now }
+    ensures arena { IsHandOf shared.now.arena.now hand.new }
+    ensures ready { IsReady (view hand.new) }
+    ensures number { number_of hand.new ≡ number_of hand.old }
+    ensures holdings { (view hand.new).row.holdings ≡ (view hand.old).row.holdings }
+    ensures moves { OnOk result (AddsMoves (setup_of shared.now.arena.now).table shared.now.commands.now mover.old hand.old text.old.items mover.new hand.new text.new.items) }
+{
+    let mut nth = 0u64;
+    for command in shared.commands {
+        if is_line_of_mover(command) {
+            nth = nth.wrapping_add(1);
+            move_gated(shared, nth, hand, mover, *command, text)?;
+        }
+    }
+    Ok(())
+}
+
+// Does one line between two passes of the gate, and adds its reply.
+fn move_gated<R: Wait, G: Gate>(
+    shared: &Shared<R, G>,
+    nth: u64,
+    hand: &mut Hand,
+    mover: &mut Mover,
+    command: Command,
+    text: &mut Vec<u8>,
+) -> Result<(), Ended>
+    requires arena { IsHandOf shared.now.arena.now hand.old }
+    requires ready { IsReady (view hand.old) }
+    requires valid { IsValid command }
+    requires mover { is_workers command ≡ false }
+    ensures arena { IsHandOf shared.now.arena.now hand.new }
+    ensures ready { IsReady (view hand.new) }
+    ensures number { number_of hand.new ≡ number_of hand.old }
+    ensures holdings { (view hand.new).row.holdings ≡ (view hand.old).row.holdings }
+    ensures adds { OnOk result (AddsMove (setup_of shared.now.arena.now).table command mover.old hand.old text.old.items mover.new hand.new text.new.items) }
+{
+    if shared.gate.pass(0, nth, Point::Before) == Pass::Stop {
+        return Err(Ended::Turns);
+    }
+    let reply = serve_mover_line(shared.rt, shared.alloc, shared.arena, hand, mover, command)?;
+    push_mover_reply(text, shared.arena.classes(), &reply)?;
+    if shared.gate.pass(0, nth, Point::After) == Pass::Stop {
+        return Err(Ended::Turns);
+    }
+    Ok(())
+}
+
+// Whether the line is no worker's.
+fn is_line_of_mover(command: &Command) -> bool
+    ensures { result ≡ is_movers command.now }
+{
+    matches!(
+        *command,
+        Command::Reassign { .. }
+            | Command::Automove { .. }
+            | Command::Window
+            | Command::Turn { .. }
+            | Command::Stats
+            | Command::StatsSlabs
+    )
+}

@@ -1,0 +1,114 @@
+//! The texts of the statistics, added to a text in memory.
+ghost use Rattle.std.specs.Prelude.{◌≡◌, ◌++◌, ◌<◌, OnOk};
+ghost use Rattle.std.specs.Io.{StartsWith};
+ghost use Rattle.mc_workers.specs.MoverReplies.{classes_text, totals_text};
+ghost use Rattle.mc_workers.specs.Surveyed.{AreTellable};
+
+use crate::numbers::{free_in, pages_in};
+use mc_classes::{ClassTable, Failures, Fault, Sink};
+use mc_mover::Survey;
+use mc_watch::{stats_general, stats_slabs};
+use std::alloc::AllocError;
+use std::mem;
+use std::sync::ledger::{Blank, Ledger};
+
+// A text that is put together in memory. A write fails where memory runs out, and is counted.
+#[derive(Drop)]
+struct TextSink<L: Ledger> {
+    text: Vec<u8>,
+    refusals: Failures<L>,
+}
+
+impl<L: Ledger> TextSink<L> {
+    // Goes on from a text, which is taken out of its place.
+    fn take(text: &mut Vec<u8>, refusals: Failures<L>) -> TextSink<L>
+        ensures text { result.text ≡ text.old }
+        ensures refusals { result.refusals ≡ refusals }
+    {
+        let empty = Vec::new(*text.allocator());
+        TextSink {
+            text: mem::replace(text, empty),
+            refusals,
+        }
+    }
+
+    // The text so far.
+    fn into_text(self) -> Vec<u8>
+        ensures text { result ≡ self.text }
+    {
+        let TextSink { text, refusals: _ } = self;
+        text
+    }
+}
+
+impl<L: Ledger> Sink for TextSink<L> {
+    ghost use Rattle.std.specs.Prelude.{Some};
+
+    ghost contents = { λ s. Some s.text.items };
+
+    ghost failures = { λ s. s.refusals };
+
+    fn write_all(&mut self, bytes: &[u8]) -> Result<(), Fault> {
+        if self.text.extend_from_slice(bytes).is_err() {
+            self.refusals.add();
+            return Err(Fault);
+        }
+        Ok(())
+    }
+}
+
+// Adds the statistics of all classes together.
+pub(crate) fn push_totals<L: Ledger>(
+    refusals: Blank,
+    text: &mut Vec<u8>,
+    survey: &Survey,
+) -> Result<(), AllocError>
+    requires name { refusals.name ≡ L.name }
+    requires parts { refusals.parts ≡ L.parts }
+    requires some { 0 < refusals.parts }
+    ensures text { OnOk result (text.new.items ≡ text.old.items ++ totals_text survey.now) }
+    ensures kept { StartsWith text.new.items text.old.items }
+{
+    let totals = survey.totals;
+    let mut sink = TextSink::take(text, Failures::<L>::new(refusals));
+    let written = stats_general(
+        totals.pool,
+        survey.running,
+        totals.moved,
+        totals.rescues,
+        totals.evictions_nomem,
+        totals.busy,
+        &mut sink,
+    );
+    *text = sink.into_text();
+    match written {
+        Ok(()) => Ok(()),
+        Err(Fault) => Err(AllocError),
+    }
+}
+
+// Adds the statistics of the classes.
+pub(crate) fn push_classes<L: Ledger>(
+    refusals: Blank,
+    text: &mut Vec<u8>,
+    table: &ClassTable,
+    survey: &Survey,
+) -> Result<(), AllocError>
+    requires name { refusals.name ≡ L.name }
+    requires parts { refusals.parts ≡ L.parts }
+    requires some { 0 < refusals.parts }
+    requires tellable { AreTellable table.now survey.now }
+    ensures text { OnOk result (text.new.items ≡ text.old.items ++ classes_text table.now survey.now) }
+    ensures kept { StartsWith text.new.items text.old.items }
+{
+    let pages = pages_in(*text.allocator(), survey)?;
+    let free = free_in(*text.allocator(), survey)?;
+    let granted = survey.totals.granted * table.page();
+    let mut sink = TextSink::take(text, Failures::<L>::new(refusals));
+    let written = stats_slabs(table, &pages, &free, granted, &mut sink);
+    *text = sink.into_text();
+    match written {
+        Ok(()) => Ok(()),
+        Err(Fault) => Err(AllocError),
+    }
+}

@@ -1,0 +1,87 @@
+//! The end of a window of the automover.
+ghost use Rattle.std.specs.Prelude.{◌≡◌, ◌≢◌, Err, IfOk, OnErr, OnOk};
+ghost use Rattle.mc_words.specs.Arenas.{IsHandOf, view};
+ghost use Rattle.mc_words.specs.Observers.{number_of};
+ghost use Rattle.mc_words.specs.Ready.{IsReady};
+ghost use Rattle.mc_workers.specs.Moving.{AsksForPage, EndsWindow, decider_after, decision_after};
+
+use crate::ended::Ended;
+use crate::mover::Mover;
+use crate::mover_reply::Acted;
+use crate::numbers::{evictions_in, free_in, pages_in};
+use mc_mover::{Survey, reassign, survey};
+use mc_pages::Reassign;
+use mc_watch::{Decider, Decision};
+use mc_words::{Arena, Hand};
+use std::alloc::{AllocError, Global};
+use std::sync::Wait;
+
+// Puts the dead of all classes back, feeds the decider what is left then, and asks for the page that it decides on, in mode 1 alone. Says
+// what became of that. (slabs.c's automover)
+pub(crate) fn end_window<R: Wait>(
+    rt: &R,
+    alloc: Global,
+    arena: &Arena,
+    hand: &mut Hand,
+    mover: &mut Mover,
+) -> Result<Option<Acted>, Ended>
+    requires arena { IsHandOf arena.now hand.old }
+    requires ready { IsReady (view hand.old) }
+    ensures arena { IsHandOf arena.now hand.new }
+    ensures ready { IsReady (view hand.new) }
+    ensures number { number_of hand.new ≡ number_of hand.old }
+    ensures holdings { (view hand.new).row.holdings ≡ (view hand.old).row.holdings }
+    ensures ends { IfOk result (λ acted. EndsWindow acted mover.old hand.old mover.new hand.new) }
+    ensures memory { result ≢ Err Ended.Turns }
+{
+    let Ok(survey) = survey(rt, alloc, arena, hand, true) else {
+        return Err(Ended::Memory);
+    };
+    let Some(decision) = decide(alloc, &mut mover.decider, &survey)? else {
+        return Ok(None);
+    };
+    let Decision { src, dst } = decision;
+    let answer = ask_for_page(rt, arena, hand, Some(src), dst)?;
+    Ok(Some(Acted { decision, answer }))
+}
+
+// Feeds the decider the numbers of a window. Gives the decision to act on, in mode 1 alone.
+fn decide(
+    alloc: Global,
+    decider: &mut Decider,
+    survey: &Survey,
+) -> Result<Option<Decision>, AllocError>
+    ensures fed { OnOk result (decider.new ≡ decider_after decider.old survey.now) }
+    ensures decided { IfOk result (λ decided. decided ≡ decision_after decider.old survey.now) }
+    ensures kept { OnErr result (decider.new ≡ decider.old) }
+{
+    let evictions = evictions_in(alloc, survey)?;
+    let pages = pages_in(alloc, survey)?;
+    let free = free_in(alloc, survey)?;
+    match decider.feed(&evictions, &pages, &free) {
+        Ok(decision) if survey.mode == 1 => Ok(decision),
+        _ => Ok(None),
+    }
+}
+
+// Asks for a page, and tells the answer.
+pub(crate) fn ask_for_page<R: Wait>(
+    rt: &R,
+    arena: &Arena,
+    hand: &mut Hand,
+    src: Option<u64>,
+    dst: u64,
+) -> Result<Result<(), Reassign>, AllocError>
+    requires arena { IsHandOf arena.now hand.old }
+    requires ready { IsReady (view hand.old) }
+    ensures arena { IsHandOf arena.now hand.new }
+    ensures ready { IsReady (view hand.new) }
+    ensures number { number_of hand.new ≡ number_of hand.old }
+    ensures holdings { (view hand.new).row.holdings ≡ (view hand.old).row.holdings }
+    ensures asks { IfOk result (λ answer. AsksForPage src dst answer hand.old hand.new) }
+{
+    match reassign(rt, arena, hand, src, dst) {
+        Err(Reassign::NoMemory) => Err(AllocError),
+        answer => Ok(answer),
+    }
+}
