@@ -5,3 +5,4 @@ pub mod Tellable
 pub mod TurnCounts
 pub mod TurnsDone
 pub mod MovedLines
+pub mod DoneThreads

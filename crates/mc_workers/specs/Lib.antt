@@ -8,3 +8,4 @@ pub mod MoverReplies
 pub mod Moving
 pub mod MoverCases
 pub mod Moves
+pub mod Threads

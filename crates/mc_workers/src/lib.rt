@@ -17,6 +17,7 @@ mod reply;
 mod setting;
 mod shared;
 mod statistics;
+mod threads;
 mod turns;
 mod window;
 
@@ -30,3 +31,4 @@ pub use mover_reply::{Acted, MoverReply, push_mover_reply};
 pub use moves::move_lines;
 pub use reply::{Reply, push_reply};
 pub use shared::Shared;
+pub use threads::{Joined, Served, first_hand, run_workers};

@@ -5,6 +5,7 @@ use mc_words::Arena;
 use std::alloc::Global;
 
 /// What each thread of a run is lent: how it waits, where its memory comes from, the arena, the gate, and the lines of all.
+#[derive(Drop)]
 pub struct Shared<'a, R, G> {
     pub rt: &'a R,
     pub alloc: Global,

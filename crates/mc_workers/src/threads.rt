@@ -1,0 +1,235 @@
+//! Workers in threads of their own, and the mover beside them.
+ghost use Rattle.std.specs.Prelude.{◌≡◌, ◌≤◌, ◌+◌, [], ◌∷◌, All, Err, IfOk, IfSome, None, Ok, true, vec_len};
+ghost use Rattle.std.specs.Thread.{IsSync};
+ghost use Rattle.mc_script.specs.Command.{IsValid};
+ghost use Rattle.mc_words.specs.Arenas.{IsHandOf, view};
+ghost use Rattle.mc_words.specs.Hands.{AreHandsFrom, IsNewHand};
+ghost use Rattle.mc_words.specs.Idle.{is_idle};
+ghost use Rattle.mc_words.specs.Ready.{IsReady};
+ghost use Rattle.mc_workers.specs.Threads.{AreDone, IsMoved, IsServed, JoinsBoth};
+
+use crate::ended::Ended;
+use crate::gate::Gate;
+use crate::lines::serve_lines;
+use crate::moves::move_lines;
+use crate::shared::Shared;
+use mc_script::Command;
+use mc_words::{Arena, Hand};
+use std::alloc::Global;
+use std::snapshot::Snapshot;
+use std::sync::Wait;
+use std::thread;
+use std::thread::{Promise, Threads};
+
+/// A thread whose lines are done: its hand, which has no lock and holds nothing, and the replies.
+#[derive(Drop)]
+pub struct Served {
+    pub hand: Hand,
+    pub text: Vec<u8>,
+}
+
+/// All threads, whose lines are done: one hand of all, the replies of the workers from the lowest on, and those of the mover.
+#[derive(Drop)]
+pub struct Joined {
+    pub hand: Hand,
+    pub workers: Vec<u8>,
+    pub mover: Vec<u8>,
+}
+
+// What a worker's thread promises: it did the worker's lines by the hand that it was given.
+#[derive(Drop)]
+struct DoneBy<'a> {
+    arena: &'a Arena,
+    commands: &'a [Command],
+    worker: u64,
+    hand: Snapshot<Hand>,
+}
+
+impl<'a> Promise<Result<Served, Ended>> for DoneBy<'a> {
+    ghost use Rattle.std.specs.Prelude.{IfOk};
+    ghost use Rattle.mc_workers.specs.Threads.{IsServed};
+
+    ghost kept_by = { λ p done. IfOk done (IsServed p.arena.now p.worker p.commands.now p.hand.value) };
+}
+
+/// Does the lines of all workers, from this number on by these hands, each in a thread of its own, and those of the mover in this one.
+/// Once all have ended, the mover's hand takes the others over.
+///
+/// `Memory` goes before `Turns`; a thread that can't be started is want of memory.
+pub fn run_workers<R: Threads + Wait + Sync, G: Gate + Sync>(
+    rt: &R,
+    alloc: Global,
+    arena: &Arena,
+    gate: &G,
+    commands: &[Command],
+    worker: u64,
+    mut hands: Vec<Hand>,
+    mover: Hand,
+) -> Result<Joined, Ended>
+    requires hands { AreHandsFrom arena.now worker hands.items }
+    requires few { worker + vec_len hands ≤ 64 }
+    requires arena { IsHandOf arena.now mover }
+    requires ready { IsReady (view mover) }
+    requires none { (view mover).row.holdings ≡ [] }
+    requires valid { All IsValid commands.now }
+    ensures done { IfOk result (AreDone arena.now worker commands.now hands.items mover) }
+{
+    let Some(hand) = first_hand(arena, worker, &mut hands) else {
+        return move_alone(rt, alloc, arena, gate, commands, mover);
+    };
+    thread::scope(
+        thread::scope_env(),
+        rt,
+        |scope| -> Result<Joined, Ended>
+            requires { IsSync R.row × IsSync G.row
+                × IsNewHand arena.now worker hand × AreHandsFrom arena.now (1 + worker) hands.items × (worker + vec_len hands ≤ 63)
+                × IsHandOf arena.now mover × IsReady (view mover) × ((view mover).row.holdings ≡ []) × All IsValid commands.now }
+            ensures { IfOk result (AreDone arena.entry.now worker commands.entry.now (hand ∷ hands.items) mover) }
+        {
+            let promise = DoneBy {
+                arena,
+                commands,
+                worker,
+                hand: Snapshot::of(&hand),
+            };
+            let child = scope.spawn_with(
+                promise,
+                move || -> Result<Served, Ended>
+                    requires { IsSync R.row × IsSync G.row × IsNewHand arena.now worker hand × All IsValid commands.now }
+                    ensures { IfOk result (IsServed arena.entry.now worker commands.entry.now hand) }
+                { serve_worker(rt, alloc, arena, gate, commands, worker, hand) },
+            );
+            match child {
+                Ok(child) => {
+                    let others = run_workers(
+                        rt,
+                        alloc,
+                        arena,
+                        gate,
+                        commands,
+                        worker + 1,
+                        hands,
+                        mover,
+                    );
+                    let own = child.join(rt);
+                    let (own, others) = both_of(own, others)?;
+                    join_both(arena, own, others)
+                }
+                Err(_) => Err(Ended::Memory),
+            }
+        },
+    )
+}
+
+// A worker's thread.
+fn serve_worker<R: Wait, G: Gate>(
+    rt: &R,
+    alloc: Global,
+    arena: &Arena,
+    gate: &G,
+    commands: &[Command],
+    worker: u64,
+    mut hand: Hand,
+) -> Result<Served, Ended>
+    requires hand { IsNewHand arena.now worker hand }
+    requires valid { All IsValid commands.now }
+    ensures served { IfOk result (IsServed arena.now worker commands.now hand) }
+{
+    let shared = Shared {
+        rt,
+        alloc,
+        arena,
+        gate,
+        commands,
+    };
+    let mut text = Vec::new(alloc);
+    serve_lines(&shared, worker, &mut hand, &mut text)?;
+    Ok(Served { hand, text })
+}
+
+// The mover's lines, where no worker is left to start.
+fn move_alone<R: Wait, G: Gate>(
+    rt: &R,
+    alloc: Global,
+    arena: &Arena,
+    gate: &G,
+    commands: &[Command],
+    mut hand: Hand,
+) -> Result<Joined, Ended>
+    requires arena { IsHandOf arena.now hand }
+    requires ready { IsReady (view hand) }
+    requires none { (view hand).row.holdings ≡ [] }
+    requires valid { All IsValid commands.now }
+    ensures moved { IfOk result (IsMoved arena.now commands.now hand) }
+{
+    let shared = Shared {
+        rt,
+        alloc,
+        arena,
+        gate,
+        commands,
+    };
+    let mut text = Vec::new(alloc);
+    move_lines(&shared, &mut hand, &mut text)?;
+    Ok(Joined {
+        hand,
+        workers: Vec::new(alloc),
+        mover: text,
+    })
+}
+
+/// The first of these hands, if there is one, which are numbered on from this number; the others are left.
+pub fn first_hand(arena: &Arena, worker: u64, hands: &mut Vec<Hand>) -> Option<Hand>
+    requires hands { AreHandsFrom arena.now worker hands.old.items }
+    ensures first { IfSome result (IsNewHand arena.now worker) }
+    ensures ready { IfSome result (λ hand. IsHandOf arena.now hand × IsReady (view hand) × ((view hand).row.holdings ≡ [])) }
+    ensures others { IfSome result (λ hand. AreHandsFrom arena.now (1 + worker) hands.new.items) }
+    ensures all { IfSome result (λ hand. hands.old.items ≡ hand ∷ hands.new.items) }
+    ensures fewer { IfSome result (λ hand. vec_len hands.new + 1 ≡ vec_len hands.old) }
+    ensures none { result ≡ None → hands.old.items ≡ [] }
+{
+    if hands.is_empty() {
+        None
+    } else {
+        Some(hands.remove(0))
+    }
+}
+
+// What a worker did, and what the others and the mover did. Want of memory goes before spent turns and a gate's stop.
+fn both_of(
+    own: Result<Served, Ended>,
+    others: Result<Joined, Ended>,
+) -> Result<(Served, Joined), Ended>
+    ensures both { IfOk result (λ both. (own ≡ Ok both.0) × (others ≡ Ok both.1)) }
+    ensures memory { own ≡ Err Ended.Memory → result ≡ Err Ended.Memory }
+    ensures memory_of_others { others ≡ Err Ended.Memory → result ≡ Err Ended.Memory }
+{
+    match (own, others) {
+        (Ok(own), Ok(others)) => Ok((own, others)),
+        (Err(Ended::Memory), _) | (_, Err(Ended::Memory)) => Err(Ended::Memory),
+        _ => Err(Ended::Turns),
+    }
+}
+
+// The worker's text before the others', and one hand of both.
+fn join_both(arena: &Arena, own: Served, others: Joined) -> Result<Joined, Ended>
+    requires own { IsHandOf arena.now own.hand }
+    requires others { IsHandOf arena.now others.hand }
+    requires idle { (is_idle (view others.hand) ≡ true) × (is_idle (view own.hand) ≡ true) }
+    ensures joins { IfOk result (JoinsBoth arena.now own others) }
+{
+    let Served { hand, text } = own;
+    let Joined {
+        hand: first,
+        workers: behind,
+        mover,
+    } = others;
+    let mut workers = text;
+    workers.extend_from_slice(&behind)?;
+    let hand = arena.join_hands(first, hand);
+    Ok(Joined {
+        hand,
+        workers,
+        mover,
+    })
+}
