@@ -1,5 +1,5 @@
 -- What all threads did, put together.
-use Rattle.std.proofs.Common.{true, eqb-true, arith, ◌≡◌, ℕ, ◌+◌, List, [], ◌∷◌, ◌++◌, inl, inr, refl, ap, sym, subst, ◌∙◌}
+use Rattle.std.proofs.Common.{true, eqb-true, arith, ◌≡◌, ℕ, ◌+◌, List, [], ◌∷◌, inl, inr, refl, ap, sym, subst, ◌∙◌}
 use Rattle.std.proofs.lemmas.Bool.{and_parts}
 use Rattle.std.proofs.lemmas.List.{nil_from_length}
 use Rattle.mc_words.specs.declared.arena.Arena.{Arena}

@@ -1,10 +1,9 @@
 -- What a worker keeps stays what it is, whatever its lines do.
-use Rattle.std.proofs.Common.{◌≡◌, ◌≤◌, ◌<◌, ℕ, zero, suc, ◌+◌, Bool, true, false, cond, List, [], ◌∷◌, ◌++◌, length, map, is_some, Option, Some, All, Contains, count_by, find, refl, sym, ap, subst, ◌∙◌, arith, inl, inr, slice_index_or, append-nil, get_or, take, drop, ◌==◌}
-use Rattle.std.specs.List.{sum_by}
+use Rattle.std.proofs.Common.{◌≡◌, ◌≤◌, ◌<◌, ℕ, zero, suc, ◌+◌, Bool, true, List, [], ◌∷◌, ◌++◌, length, map, is_some, Option, Some, All, count_by, refl, sym, ap, subst, ◌∙◌, arith, inl, inr, slice_index_or, append-nil, get_or, take, drop, ◌==◌}
 use Rattle.std.proofs.lemmas.Bool.{and_from, cases_Bool}
 use Rattle.std.proofs.lemmas.List.{map-append}
 use Rattle.std.proofs.Math.Seq.{split_at}
-use Rattle.std.proofs.lemmas.List.Elements.{All-append, All-cons, All-head, All-nil, All-push, All-tail}
+use Rattle.std.proofs.lemmas.List.Elements.{All-cons, All-head, All-nil, All-push, All-tail}
 use Rattle.std.proofs.lemmas.List.Sums.{sum_by-append, sum_by-cons, sum_by_push}
 use Rattle.mc_pages.specs.declared.ids.ChunkId.{ChunkId}
 use Rattle.mc_pages.specs.ClassState.{is_chunk}
@@ -20,7 +19,7 @@ use Rattle.mc_words.specs.Idle.{is_idle}
 use Rattle.mc_words.specs.Ready.{IsReady}
 use Rattle.mc_words.specs.Refs.{KeepsHeld, KeepsRefs}
 use Rattle.mc_items.specs.declared.refs.Ref.{Ref}
-use Rattle.mc_items.specs.ItemRefs.{IsItemRef, item_chunk, item_words}
+use Rattle.mc_items.specs.ItemRefs.{IsItemRef, item_chunk}
 use Rattle.mc_items.specs.Keeping.{HoldsAsOften, HoldsLess, HoldsTheSame, HoldsToo, StaysItemRef, holding_by}
 use Rattle.mc_items.proofs.Rows as rows
 use Rattle.mc_items.proofs.Rows.{chunk_found}

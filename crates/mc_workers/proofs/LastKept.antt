@@ -1,8 +1,8 @@
 -- The last reference to items of a key, found from the end.
-use Rattle.std.proofs.Common.{◌≡◌, ◌≢◌, ◌≤◌, ◌<◌, ℕ, zero, suc, ◌+◌, ◌-◌, ◌==◌, Bool, true, false, not, List, [], ◌∷◌, ◌++◌, length, reverse, take, drop, get_or, Some, None, All, position, cond, eqb-true, le-ltb, lt-ltb, refl, sym, ap, subst, ◌∙◌, arith, inl, inr}
+use Rattle.std.proofs.Common.{◌≡◌, ◌≤◌, ◌<◌, ℕ, suc, ◌+◌, ◌-◌, ◌==◌, Bool, true, false, List, [], ◌∷◌, ◌++◌, length, reverse, take, drop, get_or, Some, None, All, position, cond, eqb-true, le-ltb, lt-ltb, sym, ap, subst, ◌∙◌, arith, inl, inr}
 use Rattle.std.specs.List.{position_or_len}
 use Rattle.std.proofs.lemmas.Bool.{cases_lt, eqb-false}
-use Rattle.std.proofs.lemmas.List.{get_or-drop, get_or-reverse, length-drop, length-reverse, map-append}
+use Rattle.std.proofs.lemmas.List.{get_or-drop, get_or-reverse, length-append, length-drop, length-reverse, map-append}
 use Rattle.std.proofs.lemmas.List.Elements.{All-map}
 use Rattle.std.proofs.Math.Seq.{split_at}
 use Rattle.std.proofs.lemmas.List.Quantifiers.{position-Some}
@@ -10,7 +10,7 @@ use Rattle.std.proofs.lemmas.List.Sums.{fails_before_first}
 use Rattle.mc_items.specs.declared.refs.Ref.{Ref}
 use Rattle.mc_items.specs.ItemRefs.{item_key}
 use Rattle.mc_words.specs.View.{View}
-use Rattle.mc_workers.specs.Kept.{IsLastAt, IsLastOf, IsOfOther, IsToOther, hold_of, holds_of}
+use Rattle.mc_workers.specs.Kept.{IsLastAt, IsLastOf, IsOfOther, IsToOther, Hold, hold_of, holds_of}
 
 -- the reference is to an item of the key
 abbrev pub has_key : ℕ → Ref → Bool
@@ -83,3 +83,24 @@ last_held key view kept place d is = record {
   later = none_held key view (drop (suc place) kept) (let next : place + 1 ≡ suc place = omega arith in subst (λ (n : ℕ). All (IsToOther key) (drop n kept)) next is.later);
   rest = map-append (hold_of view) (take place kept) (drop (suc place) kept);
 }
+
+-- three holds, the first and the third of one key
+pub last_of_three : (first other third last : Hold) (left : List Hold) → item_key first.item ≡ 5 → item_key other.item ≡ 6 → item_key third.item ≡ 5
+    → IsLastOf 5 (first ∷ other ∷ third ∷ []) last left → (last ≡ third) × (left ≡ first ∷ other ∷ [])
+last_of_three first other third last left is_first is_other is_third is = by is.before is.behind is.all is.later is.rest
+  where
+    by : (before behind : List Hold) → first ∷ other ∷ third ∷ [] ≡ before ++ last ∷ behind → All (IsOfOther 5) behind → left ≡ before ++ behind → (last ≡ third) × (left ≡ first ∷ other ∷ [])
+    by [] behind all later rest =
+        let are : behind ≡ other ∷ third ∷ [] = cc in
+        absurd (subst (All (IsOfOther 5)) are later 1 third (omega arith) is_third)
+    by (a ∷ []) behind all later rest =
+        let are : behind ≡ third ∷ [] = cc in
+        absurd (subst (All (IsOfOther 5)) are later 0 third (omega arith) is_third)
+    by (a ∷ b ∷ []) behind all later rest =
+        let is_last : last ≡ third = cc in
+        let are : left ≡ first ∷ other ∷ [] = cc in
+        (is_last, are)
+    by (a ∷ b ∷ c ∷ before) behind all later rest =
+        let long = ap (λ (l : List Hold). length l) all in
+        let more = length-append before (last ∷ behind) in
+        absurd (omega arith)

@@ -9,3 +9,4 @@ pub mod Moving
 pub mod MoverCases
 pub mod Moves
 pub mod Threads
+pub mod WorkerCases

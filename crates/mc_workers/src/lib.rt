@@ -20,6 +20,7 @@ mod statistics;
 mod threads;
 mod turns;
 mod window;
+pub mod worker_laws;
 
 pub use ended::Ended;
 pub use gate::{Free, Gate, Pass, Point};

@@ -1,7 +1,6 @@
-use Rattle.std.proofs.Common.{◌≡◌, ℕ, ◌+◌, List, [], append-nil, take, ap, refl, sym, subst, ◌∙◌}
+use Rattle.std.proofs.Common.{ℕ, ◌+◌, List, [], append-nil, take, refl, sym, subst, ◌∙◌}
 use Rattle.mc_words.specs.declared.hand.Hand.{Hand}
 use Rattle.mc_items.specs.declared.refs.Ref.{Ref}
-use Rattle.mc_script.specs.declared.command.Command.{Command}
 use Rattle.mc_script.specs.declared.command.Command.TheVariants.{Set}
 use Rattle.mc_workers.proofs.ServedLines.{SoFar, line_done, line_passed}
 use Rattle.mc_workers.proofs.lines.serve_each.Goals as goal

@@ -1,4 +1,4 @@
-use Rattle.std.proofs.Common.{◌≡◌, ℕ, List, ◌++◌, ap, sym, ◌∙◌}
+use Rattle.std.proofs.Common.{ℕ, List, ◌++◌, ap, sym, ◌∙◌}
 use Rattle.mc_workers.proofs.ServedLines.{told}
 use Rattle.mc_workers.proofs.lines.serve_gated.Goals as goal
 

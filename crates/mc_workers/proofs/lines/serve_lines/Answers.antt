@@ -1,4 +1,4 @@
-use Rattle.std.proofs.Common.{◌≡◌, ℕ, List, [], ◌++◌, ap, sym, subst, ◌∙◌}
+use Rattle.std.proofs.Common.{ℕ, List, ◌++◌, ap, sym, subst, ◌∙◌}
 use Rattle.mc_words.specs.Arenas.{setup_of, view}
 use Rattle.mc_items.specs.declared.refs.Ref.{Ref}
 use Rattle.mc_workers.specs.Kept.{Hold, holds_of}

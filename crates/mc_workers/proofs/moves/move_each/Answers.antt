@@ -1,4 +1,4 @@
-use Rattle.std.proofs.Common.{◌≡◌, ℕ, ◌+◌, List, [], append-nil, take, refl, sym, subst, ◌∙◌}
+use Rattle.std.proofs.Common.{ℕ, ◌+◌, List, [], append-nil, take, refl, sym, subst, ◌∙◌}
 use Rattle.mc_words.specs.declared.hand.Hand.{Hand}
 use Rattle.mc_script.specs.declared.command.Command.TheVariants.{Set}
 use Rattle.mc_workers.specs.declared.mover.Mover.{Mover}

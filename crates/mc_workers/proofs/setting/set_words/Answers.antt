@@ -1,4 +1,4 @@
-use Rattle.std.proofs.Common.{◌≡◌, List, ℕ, subst, ◌∙◌}
+use Rattle.std.proofs.Common.{List, ℕ, subst, ◌∙◌}
 use Rattle.mc_words.specs.Arenas.{view}
 use Rattle.mc_words.specs.Observers.{number_of}
 use Rattle.mc_items.specs.Setting.{RefusesSet}

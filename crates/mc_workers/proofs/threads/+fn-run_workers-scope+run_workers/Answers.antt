@@ -1,8 +1,7 @@
-use Rattle.std.proofs.Common.{◌≡◌, ℕ, ◌+◌, List, [], ◌∷◌, IfOk, Ok, refl, sym, subst, ◌∙◌}
+use Rattle.std.proofs.Common.{◌+◌, List, [], ◌∷◌, IfOk, sym, subst}
 use Rattle.std.proofs.lemmas.Result.{IfOk-at_ok, IfOk-weaker}
 use Rattle.mc_words.specs.declared.hand.Hand.{Hand}
 use Rattle.mc_workers.specs.declared.threads.DoneBy.{DoneBy}
-use Rattle.mc_workers.specs.declared.threads.Joined.{Joined}
 use Rattle.mc_workers.specs.Threads.{AreDone, IsMoved, IsServed, JoinsBoth}
 use Rattle.mc_workers.proofs.DoneThreads.{all_done, moved_alone}
 use Rattle.mc_workers.proofs.threads.+fn-run_workers-scope+run_workers.Goals as goal
