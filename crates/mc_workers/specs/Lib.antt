@@ -8,5 +8,6 @@ pub mod MoverReplies
 pub mod Moving
 pub mod MoverCases
 pub mod Moves
+pub mod OnHands
 pub mod Threads
 pub mod WorkerCases

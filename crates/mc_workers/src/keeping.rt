@@ -1,12 +1,12 @@
 //! Lines that take and give back references which the worker keeps meanwhile.
 ghost use Rattle.std.specs.Prelude.{◌≡◌, All, IfOk, IfSome, None, true};
-ghost use Rattle.mc_words.specs.Arenas.{IsHandOf, setup_of, view};
+ghost use Rattle.mc_words.specs.Arenas.{IsHandOf, view};
 ghost use Rattle.mc_words.specs.Idle.{is_idle};
 ghost use Rattle.mc_words.specs.Observers.{number_of};
 ghost use Rattle.mc_words.specs.Ready.{IsReady};
-ghost use Rattle.mc_workers.specs.Kept.{AreKept, IsLastAt, IsToOther, holds_of};
+ghost use Rattle.mc_workers.specs.Kept.{AreKept, IsLastAt, IsToOther};
 ghost use Rattle.mc_workers.specs.Lines.{all_released};
-ghost use Rattle.mc_workers.specs.Serving.{AnswersDrop, AnswersHold};
+ghost use Rattle.mc_workers.specs.OnHands.{AnswersDropBy, AnswersHoldBy};
 
 use crate::reply::Reply;
 use mc_items::{GetError, Ref, get, read, release};
@@ -29,7 +29,7 @@ pub(crate) fn hold<R: Wait>(
     ensures ready { IsReady (view hand.new) }
     ensures kept { AreKept (view hand.new) kept.new.items }
     ensures number { number_of hand.new ≡ number_of hand.old }
-    ensures answers { IfOk result (λ reply. AnswersHold (setup_of arena.now) key reply (holds_of (view hand.old) kept.old.items) hand.old (holds_of (view hand.new) kept.new.items) hand.new) }
+    ensures answers { IfOk result (λ reply. AnswersHoldBy arena.now key reply hand.old kept.old.items hand.new kept.new.items) }
 {
     kept.reserve(1)?;
     match get(rt, arena, hand, key) {
@@ -58,7 +58,7 @@ pub(crate) fn drop_last(
     ensures ready { IsReady (view hand.new) }
     ensures kept { AreKept (view hand.new) kept.new.items }
     ensures number { number_of hand.new ≡ number_of hand.old }
-    ensures answers { IfOk result (λ reply. AnswersDrop key reply (holds_of (view hand.old) kept.old.items) hand.old (holds_of (view hand.new) kept.new.items) hand.new) }
+    ensures answers { IfOk result (λ reply. AnswersDropBy key reply hand.old kept.old.items hand.new kept.new.items) }
 {
     let Some(place) = place_of_last(kept, key) else {
         return Ok(Reply::NotHeld);

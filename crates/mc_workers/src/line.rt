@@ -6,9 +6,10 @@ ghost use Rattle.mc_words.specs.Observers.{number_of};
 ghost use Rattle.mc_words.specs.Ready.{IsReady};
 ghost use Rattle.mc_words.specs.Refs.{KeepsRefs};
 ghost use Rattle.mc_items.specs.Keeping.{HoldsAsOften, HoldsTheSame};
-ghost use Rattle.mc_workers.specs.Kept.{AreKept, holds_of};
+ghost use Rattle.mc_workers.specs.Kept.{AreKept};
 ghost use Rattle.mc_workers.specs.Asking.{is_workers};
-ghost use Rattle.mc_workers.specs.Serving.{AnswersDelete, AnswersTouch, Serves};
+ghost use Rattle.mc_workers.specs.OnHands.{ServesBy};
+ghost use Rattle.mc_workers.specs.Serving.{AnswersDelete, AnswersTouch};
 
 use crate::getting::get_words;
 use crate::keeping::{drop_last, hold};
@@ -41,7 +42,7 @@ pub fn serve_line<R: Wait>(
     ensures ready { IsReady (view hand.new) }
     ensures kept { AreKept (view hand.new) kept.new.items }
     ensures number { number_of hand.new ≡ number_of hand.old }
-    ensures serves { IfOk result (λ reply. Serves (setup_of arena.now) command reply (holds_of (view hand.old) kept.old.items) hand.old (holds_of (view hand.new) kept.new.items) hand.new) }
+    ensures serves { IfOk result (λ reply. ServesBy arena.now command reply hand.old kept.old.items hand.new kept.new.items) }
 {
     match command {
         Command::Set {

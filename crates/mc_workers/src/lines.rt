@@ -6,9 +6,10 @@ ghost use Rattle.mc_words.specs.Arenas.{IsHandOf, setup_of, view};
 ghost use Rattle.mc_words.specs.Idle.{is_idle};
 ghost use Rattle.mc_words.specs.Observers.{number_of};
 ghost use Rattle.mc_words.specs.Ready.{IsReady};
-ghost use Rattle.mc_workers.specs.Kept.{AreKept, holds_of};
+ghost use Rattle.mc_workers.specs.Kept.{AreKept};
 ghost use Rattle.mc_workers.specs.Asking.{asked_by, is_asked_by, is_workers};
-ghost use Rattle.mc_workers.specs.Lines.{AddsReply, DoesLines, ServesLines};
+ghost use Rattle.mc_workers.specs.Lines.{DoesLines};
+ghost use Rattle.mc_workers.specs.OnHands.{AddsReplyBy, ServesLinesBy};
 
 use crate::ended::Ended;
 use crate::gate::{Gate, Pass, Point};
@@ -61,7 +62,8 @@ fn serve_each<R: Wait, G: Gate>(
     ensures ready { IsReady (view hand.new) }
     ensures kept { AreKept (view hand.new) kept.new.items }
     ensures number { number_of hand.new ≡ number_of hand.old }
-    ensures serves { OnOk result (ServesLines (setup_of shared.now.arena.now) worker shared.now.commands.now (holds_of (view hand.old) kept.old.items) hand.old text.old.items (holds_of (view hand.new) kept.new.items) hand.new text.new.items) }
+    ensures serves { OnOk result
+        (ServesLinesBy shared.now.arena.now worker shared.now.commands.now hand.old kept.old.items text.old.items hand.new kept.new.items text.new.items) }
 {
     let mut nth = 0u64;
     for command in shared.commands {
@@ -92,7 +94,7 @@ fn serve_gated<R: Wait, G: Gate>(
     ensures ready { IsReady (view hand.new) }
     ensures kept { AreKept (view hand.new) kept.new.items }
     ensures number { number_of hand.new ≡ number_of hand.old }
-    ensures adds { OnOk result (AddsReply (setup_of shared.now.arena.now) command (holds_of (view hand.old) kept.old.items) hand.old text.old.items (holds_of (view hand.new) kept.new.items) hand.new text.new.items) }
+    ensures adds { OnOk result (AddsReplyBy shared.now.arena.now command hand.old kept.old.items text.old.items hand.new kept.new.items text.new.items) }
 {
     if shared.gate.pass(worker, nth, Point::Before) == Pass::Stop {
         return Err(Ended::Turns);

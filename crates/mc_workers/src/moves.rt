@@ -5,7 +5,8 @@ ghost use Rattle.mc_words.specs.Arenas.{IsHandOf, setup_of, view};
 ghost use Rattle.mc_words.specs.Observers.{number_of};
 ghost use Rattle.mc_words.specs.Ready.{IsReady};
 ghost use Rattle.mc_workers.specs.Asking.{is_movers, is_workers};
-ghost use Rattle.mc_workers.specs.Moves.{AddsMove, AddsMoves, MovesLines};
+ghost use Rattle.mc_workers.specs.Moves.{MovesLines};
+ghost use Rattle.mc_workers.specs.OnHands.{AddsMoveBy, AddsMovesBy};
 
 use crate::ended::Ended;
 use crate::gate::{Gate, Pass, Point};
@@ -51,7 +52,7 @@ fn move_each<R: Wait, G: Gate>(
     ensures ready { IsReady (view hand.new) }
     ensures number { number_of hand.new ≡ number_of hand.old }
     ensures holdings { (view hand.new).row.holdings ≡ (view hand.old).row.holdings }
-    ensures moves { OnOk result (AddsMoves (setup_of shared.now.arena.now).table shared.now.commands.now mover.old hand.old text.old.items mover.new hand.new text.new.items) }
+    ensures moves { OnOk result (AddsMovesBy shared.now.arena.now shared.now.commands.now hand.old mover.old text.old.items hand.new mover.new text.new.items) }
 {
     let mut nth = 0u64;
     for command in shared.commands {
@@ -80,7 +81,7 @@ fn move_gated<R: Wait, G: Gate>(
     ensures ready { IsReady (view hand.new) }
     ensures number { number_of hand.new ≡ number_of hand.old }
     ensures holdings { (view hand.new).row.holdings ≡ (view hand.old).row.holdings }
-    ensures adds { OnOk result (AddsMove (setup_of shared.now.arena.now).table command mover.old hand.old text.old.items mover.new hand.new text.new.items) }
+    ensures adds { OnOk result (AddsMoveBy shared.now.arena.now command hand.old mover.old text.old.items hand.new mover.new text.new.items) }
 {
     if shared.gate.pass(0, nth, Point::Before) == Pass::Stop {
         return Err(Ended::Turns);
