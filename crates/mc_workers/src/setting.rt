@@ -34,7 +34,7 @@ pub(crate) fn set_words<R: Wait>(
     ensures holdings { HoldsTheSame (view hand.old) (view hand.new) }
     ensures keeps { KeepsRefs (view hand.old) (view hand.new) }
 {
-    let words = counted(alloc, base, count)?;
+    let words = count_up(alloc, base, count)?;
     match set(rt, arena, hand, key, &words) {
         Ok(_) => Ok(Reply::Stored),
         Err(SetError::TooLarge) => Ok(Reply::TooLarge),
@@ -45,7 +45,7 @@ pub(crate) fn set_words<R: Wait>(
 }
 
 // So many words that count up from the base.
-fn counted(alloc: Global, base: u64, count: u64) -> Result<Vec<u64>, AllocError>
+fn count_up(alloc: Global, base: u64, count: u64) -> Result<Vec<u64>, AllocError>
     requires { count ≤ 4096 }
     ensures words { IfOk result (λ words. words.items ≡ words_from base count) }
 {

@@ -1,6 +1,6 @@
 use Rattle.std.proofs.Common.{ℕ, ◌+◌, ◌%◌, ◌^◌, List, [], ◌∷◌, ◌++◌, length, ap, sym, ◌∙◌, arith}
 use Rattle.std.proofs.lemmas.List.FromFn.{length-map-range_with_len, map-range_with_len_more}
-use Rattle.mc_workers.proofs.setting.counted.Goals as goal
+use Rattle.mc_workers.proofs.setting.count_up.Goals as goal
 
 -- so many are there, and there is room for all
 pub push_reserved-requires : goal.push_reserved-requires

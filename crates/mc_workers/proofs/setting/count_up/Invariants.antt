@@ -1,6 +1,6 @@
 use Rattle.std.proofs.Common.{◌≡◌, ◌≤◌}
 use Rattle.mc_machine.specs.Item.{words_from}
-use Rattle.mc_workers.proofs.setting.counted.Given as goal
+use Rattle.mc_workers.proofs.setting.count_up.Given as goal
 
 -- the words so far, and there is room for all
 abbrev pub invariant-loop-place : goal.invariant-loop-place
