@@ -24,7 +24,7 @@ use std::sync::Wait;
 /// Does a worker's line by its hand, with the references that it keeps, and says what is answered. It waits for the locks that the
 /// calls on items wait for.
 ///
-/// Where memory runs out the line may be done in part; the references that are kept are as before.
+/// Where memory runs out the line may be done in part.
 pub fn serve_line<R: Wait>(
     rt: &R,
     alloc: Global,
