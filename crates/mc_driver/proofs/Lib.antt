@@ -1,3 +1,4 @@
 pub mod Replies
 pub mod Outcomes
+pub mod ThreadOutcomes
 pub mod Taken

@@ -19,19 +19,19 @@ use Rattle.mc_driver.specs.Reading.{IsReadFault, since}
 use Rattle.mc_driver.specs.Run.{IsOutcome, IsReadWhole, IsScript, IsScriptOutcome, config_fault, refusal_number}
 
 -- the front of the bytes is all of them where it is short
-front_all : (n : ℕ) (all front : List ℕ) → front ≡ take (n + 1) all → length front ≤ n → front ≡ all
+pub front_all : (n : ℕ) (all front : List ℕ) → front ≡ take (n + 1) all → length front ≤ n → front ≡ all
 front_all n all front front_is short =
     let lengths : length front ≡ min (n + 1) (length all) = ap length front_is ∙ length-take (n + 1) all in
     front_is ∙ take_all (n + 1) all (omega (arith, lengths))
 
 -- and they are too long where it is
-front_long : (n : ℕ) (all front : List ℕ) → front ≡ take (n + 1) all → n < length front → n < length all
+pub front_long : (n : ℕ) (all front : List ℕ) → front ≡ take (n + 1) all → n < length front → n < length all
 front_long n all front front_is long =
     let lengths : length front ≡ min (n + 1) (length all) = ap length front_is ∙ length-take (n + 1) all in
     omega (arith, lengths)
 
 -- a script that is the front of the bytes is all of them
-script_all : (all front : List ℕ) (commands : List Command) → front ≡ take 1048577 all → IsScript front commands → IsScript all commands
+pub script_all : (all front : List ℕ) (commands : List Command) → front ≡ take 1048577 all → IsScript front commands → IsScript all commands
 script_all all front commands front_is script =
     let same : front ≡ all = front_all 1048576 all front front_is script.short in
     rw same at script
@@ -68,14 +68,14 @@ not_first false error rest other later h = later h
 none_last : None ≢ Some NoMemory
 none_last h = cc
 
-no_memory_refusal : (config : Config) → refusal_of config ≢ Some NoMemory
+pub no_memory_refusal : (config : Config) → refusal_of config ≢ Some NoMemory
 no_memory_refusal config =
     not_first _ PageSize _ (omega arith) (not_first _ FirstSize _ (omega arith) (not_first _ Factor _ (omega arith)
     (not_first _ ChunkMax _ (omega arith) (not_first _ Limit _ (omega arith) (not_first _ Stripes _ (omega arith)
     (not_first _ TooManyChunks _ (omega arith) (not_first _ Bulk _ (omega arith) none_last)))))))
 
 -- any other refusal is told by its number
-told_by_number : (error : ConfigError) → error ≢ NoMemory → config_fault error ≡ Refused (number_of error)
+pub told_by_number : (error : ConfigError) → error ≢ NoMemory → config_fault error ≡ Refused (number_of error)
 told_by_number PageSize other = refl
 told_by_number FirstSize other = refl
 told_by_number Factor other = refl
@@ -103,7 +103,7 @@ unbuilt_memory run none = record {
     known None held = tt
     known (Some bytes) held = inl (Keeps-refl held)
 
-unbuilt_refused : (run : Run) (error : ConfigError) → refusal_of run.config ≡ Some error → error ≢ NoMemory → Unbuilt run error
+pub unbuilt_refused : (run : Run) (error : ConfigError) → refusal_of run.config ≡ Some error → error ≢ NoMemory → Unbuilt run error
 unbuilt_refused run error is other = record {
   told = λ number h. let same : number_of error ≡ number = cc (told_by_number error other) in rw (is, same) refl;
   tells = λ number h. let same : Some (number_of error) ≡ Some number = rw is at h in cc (told_by_number error other);

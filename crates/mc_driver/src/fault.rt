@@ -3,6 +3,7 @@ ghost use Rattle.std.specs.Prelude.{◌≡◌};
 ghost use Rattle.mc_driver.specs.Status.{status_of};
 
 use mc_keeper::Stop;
+use mc_workers::Ended;
 use std::alloc::AllocError;
 use std::error::Error;
 use std::fmt;
@@ -78,6 +79,20 @@ impl From<Stop> for RunFault {
         match stop {
             Stop::Turns => RunFault::Turns,
             Stop::NoMemory => RunFault::Memory,
+        }
+    }
+}
+
+impl From<Ended> for RunFault {
+    ghost use Rattle.std.specs.Prelude.{◌≡◌};
+    ghost use Rattle.mc_driver.specs.Threads.{ended_fault};
+
+    ghost from_gives = { λ ended fault. fault ≡ ended_fault ended };
+
+    fn from(ended: Ended) -> RunFault {
+        match ended {
+            Ended::Turns => RunFault::Turns,
+            Ended::Memory => RunFault::Memory,
         }
     }
 }

@@ -86,7 +86,7 @@ fn run_script<W: Sink>(
 }
 
 /// How a run ends without a class table.
-fn fault_of(error: ConfigError) -> RunFault
+pub(crate) fn fault_of(error: ConfigError) -> RunFault
     ensures { result ≡ config_fault error }
 {
     match error {
@@ -96,7 +96,7 @@ fn fault_of(error: ConfigError) -> RunFault
 }
 
 /// The commands of a script.
-fn commands_of(alloc: Global, bytes: &[u8]) -> Result<Vec<Command>, RunFault>
+pub(crate) fn commands_of(alloc: Global, bytes: &[u8]) -> Result<Vec<Command>, RunFault>
     ensures script { IfOk result (λ commands. IsScript bytes.now commands.items) }
     ensures valid { IfOk result (λ commands. All IsValid commands.items) }
     ensures fault { IfErr result (IsScriptFault bytes.now) }

@@ -2,6 +2,7 @@
 mod disjoint;
 mod meeting;
 mod play;
+mod refused;
 
 use mc_classes::Config;
 

@@ -1,6 +1,7 @@
 pub mod KeptRefs
 pub mod LastKept
 pub mod ServedLines
+pub mod GatedLines
 pub mod Tellable
 pub mod TurnCounts
 pub mod TurnsDone

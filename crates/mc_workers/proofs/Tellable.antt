@@ -1,5 +1,5 @@
 -- What a survey tells of the classes can be told in statistics, as the law holds of the pages and lists that it is of.
-use Rattle.std.proofs.Common.{◌≡◌, ℕ, ◌-◌, ◌*◌, ◌/◌, ◌<◌, ◌≤◌, Bool, List, [], ◌∷◌, length, map, Some, refl, sym, ap, subst, ◌∙◌, inl, inr, arith, slice_index_or}
+use Rattle.std.proofs.Common.{◌≡◌, ℕ, ◌-◌, ◌*◌, ◌/◌, ◌<◌, ◌≤◌, Bool, true, List, [], ◌∷◌, length, map, Some, refl, sym, ap, subst, ◌∙◌, inl, inr, arith, slice_index_or}
 use Rattle.std.proofs.lemmas.List.{length-map, get_or-map}
 use Rattle.std.proofs.lemmas.Simd.{map-map}
 use Rattle.mc_classes.specs.Classes.{Classes, IsClass as IsTableClass, IsSound, per_page_of}
@@ -31,6 +31,7 @@ use Rattle.mc_words.proofs.TakeAndGive.{held_from}
 use Rattle.mc_mover.specs.declared.numbers.Survey.{Survey}
 use Rattle.mc_mover.specs.Surveying.{IsSurvey, Surveys, SweepsClasses, classes_swept}
 use Rattle.mc_mover.proofs.HoldsSlabs.{wait_keeps}
+use Rattle.mc_workers.specs.Script.{SurveysWhole}
 use Rattle.mc_workers.specs.Surveyed.{AreTellable, free_in, granted_in, pages_in}
 
 -- pages and lists that are taken are of the arena's table, and that is sound
@@ -128,10 +129,31 @@ module _ (table : Classes) (slabs : SlabState) (sound : IsSound table) (of : IsO
       bytes : granted_in table survey ≡ granted_count slabs * slabs.page
       bytes = ap (λ (t : Totals). t.granted * table.page) is.totals ∙ ap (λ n. granted_count slabs * n) (sym of.page)
 
--- and those of one that was made in one hold of the lock
+-- what a survey in one hold of the lock leaves: pages and lists of the hand's table, which is sound
+module _ (view now : View) (sweep : Bool) (survey : Survey) (holds : HoldsSlabs (Surveys sweep survey) view now) where
+  same_table : holds.taken.setup.table ≡ view.setup.table
+  same_table = ap (λ (s : Setup). s.table) (wait_keeps (λ (v : View). v.setup) (λ word v. refl) (λ slabs v. refl) view holds.found holds.taken holds.waits)
+
+  pub left_of_table : IsOfTable view.setup.table holds.left × IsSound view.setup.table
+  left_of_table =
+      let (of, sound) = taken_of_table view holds.found holds.taken holds.waits in
+      let here = classes_here holds.taken.setup.table (classes_swept sweep holds.found) holds.taken holds.found holds.last holds.left (refl, of) holds.does.sweeps in
+      (subst (λ (t : Classes). IsOfTable t holds.left) same_table here.1, subst IsSound same_table sound)
+
+-- so its numbers can be told
 pub survey_tellable : (view now : View) (sweep : Bool) (survey : Survey) → HoldsSlabs (Surveys sweep survey) view now → AreTellable view.setup.table survey
 survey_tellable view now sweep survey holds =
-    let same : holds.taken.setup.table ≡ view.setup.table = ap (λ (s : Setup). s.table) (wait_keeps (λ (v : View). v.setup) (λ word v. refl) (λ slabs v. refl) view holds.found holds.taken holds.waits) in
-    let (of, sound) = taken_of_table view holds.found holds.taken holds.waits in
-    let here = classes_here holds.taken.setup.table (classes_swept sweep holds.found) holds.taken holds.found holds.last holds.left (refl, of) holds.does.sweeps in
-    subst (λ (t : Classes). AreTellable t survey) same (are_tellable holds.taken.setup.table holds.left sound here.1 survey holds.does.is)
+    let (of, sound) = left_of_table view now sweep survey holds in
+    are_tellable view.setup.table holds.left sound of survey holds.does.is
+
+-- and they are those of pages and lists of the table
+pub survey_whole : (view now : View) (survey : Survey) → HoldsSlabs (Surveys true survey) view now → HoldsSlabs (λ (v : View) (s : SlabState) (n : View) (l : SlabState). SurveysWhole view.setup.table survey v s n l) view now
+survey_whole view now survey holds = record {
+  found = holds.found;
+  taken = holds.taken;
+  last = holds.last;
+  left = holds.left;
+  waits = holds.waits;
+  does = (holds.does, (left_of_table view now true survey holds).0);
+  given = holds.given;
+}

@@ -1,5 +1,5 @@
 -- Whose line a command is.
-use Rattle.std.specs.Prelude.{ℕ, ◌==◌, Bool, false, not, List, filter, Option, Some, None, is_some}
+use Rattle.std.specs.Prelude.{ℕ, ◌==◌, Bool, false, not, List, [], ◌∷◌, filter, Option, Some, None, is_some, max}
 use Rattle.std.specs.Option.{option_map_or}
 use Rattle.mc_script.specs.declared.command.Command.{Command}
 use Rattle.mc_script.specs.declared.command.Command.TheVariants.{Set, Delete, Get, Hold, Drop, Touch}
@@ -35,3 +35,12 @@ is_movers command = not (is_workers command)
 
 abbrev pub lines_of_mover : List Command → List Command
 lines_of_mover commands = filter is_movers commands
+
+-- whose line it is, the mover being worker 0
+abbrev pub worker_of : Command → ℕ
+worker_of command = option_map_or (λ asked. asked.worker) (asked_by command) 0
+
+-- the greatest worker of the lines, and 0 where all are the mover's
+abbrev pub greatest_worker : List Command → ℕ
+greatest_worker [] = 0
+greatest_worker (command ∷ commands) = max (worker_of command) (greatest_worker commands)

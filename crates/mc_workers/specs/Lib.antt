@@ -11,3 +11,5 @@ pub mod Moves
 pub mod OnHands
 pub mod Threads
 pub mod WorkerCases
+pub mod Script
+pub mod Gates

@@ -33,6 +33,10 @@ totals_text survey =
 abbrev pub classes_text : Classes → Survey → List ℕ
 classes_text table survey = slabs_text table (pages_in survey) (free_in survey) (granted_in table survey)
 
+-- both, those of the classes first
+abbrev pub statistics_text : Classes → Survey → List ℕ
+statistics_text table survey = classes_text table survey ++ totals_text survey
+
 -- the lines that tell a reply, where the classes are those of the table
 abbrev pub mover_text : Classes → MoverReply → List ℕ
 mover_text table (Answer answer) = line (told_name answer)

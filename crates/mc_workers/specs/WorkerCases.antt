@@ -9,7 +9,7 @@ use Rattle.mc_machine.specs.Texts.{key_line}
 use Rattle.mc_script.specs.declared.command.Command.{Command}
 use Rattle.mc_script.specs.declared.command.Command.TheVariants.{Set, Get, Drop, Touch, Turn}
 use Rattle.mc_workers.specs.declared.reply.Reply.TheVariants.{Stored, NotFound, NotHeld, Held}
-use Rattle.mc_workers.specs.Asking.{lines_of, lines_of_mover}
+use Rattle.mc_workers.specs.Asking.{greatest_worker, lines_of, lines_of_mover, worker_of}
 use Rattle.mc_workers.specs.Kept.{Hold, IsLastOf}
 use Rattle.mc_workers.specs.Lines.{all_released, replies_to}
 use Rattle.mc_workers.specs.Serving.{Serves}
@@ -26,6 +26,10 @@ some_lines = Set 1 5 3 0 ∷ Turn 2 ∷ Get 2 5 ∷ Drop 1 5 ∷ []
 -- each worker has its own, in their order, and the mover those of none
 abbrev pub LinesComeApart : Type 0
 LinesComeApart = (lines_of 1 some_lines ≡ Set 1 5 3 0 ∷ Drop 1 5 ∷ []) × (lines_of 2 some_lines ≡ Get 2 5 ∷ []) × (lines_of 3 some_lines ≡ []) × (lines_of_mover some_lines ≡ Turn 2 ∷ [])
+
+-- the greatest of them is worker 2, whose line isn't the last; of the mover's lines alone it is 0
+abbrev pub TheGreatestIsFound : Type 0
+TheGreatestIsFound = (greatest_worker some_lines ≡ 2) × (greatest_worker (Turn 2 ∷ []) ≡ 0) × (worker_of (Get 2 5) ≡ 2)
 
 -- each reply is told about its own line's key
 abbrev pub RepliesAreTold : Type 0

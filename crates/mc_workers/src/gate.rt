@@ -20,9 +20,17 @@ pub enum Pass {
 
 /// Decides when each thread goes on, as a test or a replay wants it. (own)
 pub trait Gate {
+    ghost use Rattle.std.specs.Prelude.{◌≡◌, ℕ, ⊤};
+    ghost use Rattle.mc_workers.specs.declared.gate.Point.{Point};
+    ghost use Rattle.mc_workers.specs.declared.gate.Pass.TheVariants.{Go};
+
+    /// What is known where this worker was let on at this of its lines: nothing, unless the gate says more.
+    ghost LetsOn: { Self → ℕ → ℕ → Point → Type 0 } = { λ _ _ _ _. ⊤ };
+
     /// Called before and after each line's work, by the thread that does it. The mover is worker 0, and `nth` counts the worker's
     /// own lines from 1.
-    fn pass(&self, worker: u64, nth: u64, point: Point) -> Pass;
+    fn pass(&self, worker: u64, nth: u64, point: Point) -> Pass
+        ensures lets_on { result ≡ Go → LetsOn self.now worker nth point };
 }
 
 /// The gate that lets everybody go on.

@@ -1,5 +1,5 @@
 //! Lines that take and give back references which the worker keeps meanwhile.
-ghost use Rattle.std.specs.Prelude.{◌≡◌, All, IfOk, IfSome, None, true};
+ghost use Rattle.std.specs.Prelude.{◌≡◌, All, IfOk, IfSome, None, OnErr, true};
 ghost use Rattle.mc_words.specs.Arenas.{IsHandOf, view};
 ghost use Rattle.mc_words.specs.Idle.{is_idle};
 ghost use Rattle.mc_words.specs.Observers.{number_of};
@@ -30,6 +30,7 @@ pub(crate) fn hold<R: Wait>(
     ensures kept { AreKept (view hand.new) kept.new.items }
     ensures number { number_of hand.new ≡ number_of hand.old }
     ensures answers { IfOk result (λ reply. AnswersHoldBy arena.now key reply hand.old kept.old.items hand.new kept.new.items) }
+    ensures left { OnErr result (kept.new.items ≡ kept.old.items) }
 {
     kept.reserve(1)?;
     match get(rt, arena, hand, key) {
@@ -59,6 +60,7 @@ pub(crate) fn drop_last(
     ensures kept { AreKept (view hand.new) kept.new.items }
     ensures number { number_of hand.new ≡ number_of hand.old }
     ensures answers { IfOk result (λ reply. AnswersDropBy key reply hand.old kept.old.items hand.new kept.new.items) }
+    ensures left { OnErr result (kept.new.items ≡ kept.old.items) }
 {
     let Some(place) = place_of_last(kept, key) else {
         return Ok(Reply::NotHeld);

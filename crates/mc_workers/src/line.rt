@@ -1,5 +1,5 @@
 //! One line of a worker, on its hand.
-ghost use Rattle.std.specs.Prelude.{◌≡◌, IfOk, true};
+ghost use Rattle.std.specs.Prelude.{◌≡◌, IfOk, OnErr, true};
 ghost use Rattle.mc_script.specs.Command.{IsValid};
 ghost use Rattle.mc_words.specs.Arenas.{IsHandOf, setup_of, view};
 ghost use Rattle.mc_words.specs.Observers.{number_of};
@@ -24,7 +24,7 @@ use std::sync::Wait;
 /// Does a worker's line by its hand, with the references that it keeps, and says what is answered. It waits for the locks that the
 /// calls on items wait for.
 ///
-/// Where memory runs out the line may be done in part.
+/// Where memory runs out the line may be done in part, and the same references are kept.
 pub fn serve_line<R: Wait>(
     rt: &R,
     alloc: Global,
@@ -43,6 +43,7 @@ pub fn serve_line<R: Wait>(
     ensures kept { AreKept (view hand.new) kept.new.items }
     ensures number { number_of hand.new ≡ number_of hand.old }
     ensures serves { IfOk result (λ reply. ServesBy arena.now command reply hand.old kept.old.items hand.new kept.new.items) }
+    ensures left { OnErr result (kept.new.items ≡ kept.old.items) }
 {
     match command {
         Command::Set {

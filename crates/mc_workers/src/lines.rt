@@ -1,5 +1,5 @@
 //! All lines of a worker, in order.
-ghost use Rattle.std.specs.Prelude.{◌≡◌, [], All, OnOk, Some, true};
+ghost use Rattle.std.specs.Prelude.{◌≡◌, [], All, length, OnOk, Some, true};
 ghost use Rattle.std.specs.Option.{option_map};
 ghost use Rattle.mc_script.specs.Command.{IsValid};
 ghost use Rattle.mc_words.specs.Arenas.{IsHandOf, setup_of, view};
@@ -7,7 +7,8 @@ ghost use Rattle.mc_words.specs.Idle.{is_idle};
 ghost use Rattle.mc_words.specs.Observers.{number_of};
 ghost use Rattle.mc_words.specs.Ready.{IsReady};
 ghost use Rattle.mc_workers.specs.Kept.{AreKept};
-ghost use Rattle.mc_workers.specs.Asking.{asked_by, is_asked_by, is_workers};
+ghost use Rattle.mc_workers.specs.Asking.{asked_by, is_asked_by, is_workers, lines_of};
+ghost use Rattle.mc_workers.specs.Gates.{Passed, PassedEach};
 ghost use Rattle.mc_workers.specs.Lines.{DoesLines};
 ghost use Rattle.mc_workers.specs.OnHands.{AddsReplyBy, ServesLinesBy};
 
@@ -39,6 +40,7 @@ pub fn serve_lines<R: Wait, G: Gate>(
     ensures number { number_of hand.new ≡ number_of hand.old }
     ensures idle { OnOk result (is_idle (view hand.new) ≡ true) }
     ensures does { OnOk result (DoesLines (setup_of shared.now.arena.now) worker shared.now.commands.now hand.old text.new.items hand.new) }
+    ensures passed { OnOk result (PassedEach (G.LetsOn shared.now.gate.now) worker (length (lines_of worker shared.now.commands.now))) }
 {
     let mut kept = Vec::new(shared.alloc);
     serve_each(shared, worker, hand, &mut kept, text)?;
@@ -64,11 +66,12 @@ fn serve_each<R: Wait, G: Gate>(
     ensures number { number_of hand.new ≡ number_of hand.old }
     ensures serves { OnOk result
         (ServesLinesBy shared.now.arena.now worker shared.now.commands.now hand.old kept.old.items text.old.items hand.new kept.new.items text.new.items) }
+    ensures passed { OnOk result (PassedEach (G.LetsOn shared.now.gate.now) worker (length (lines_of worker shared.now.commands.now))) }
 {
     let mut nth = 0u64;
     for command in shared.commands {
         if is_line_of(command, worker) {
-            nth = nth.wrapping_add(1);
+            nth += 1;
             serve_gated(shared, worker, nth, hand, kept, *command, text)?;
         }
     }
@@ -95,6 +98,7 @@ fn serve_gated<R: Wait, G: Gate>(
     ensures kept { AreKept (view hand.new) kept.new.items }
     ensures number { number_of hand.new ≡ number_of hand.old }
     ensures adds { OnOk result (AddsReplyBy shared.now.arena.now command hand.old kept.old.items text.old.items hand.new kept.new.items text.new.items) }
+    ensures passed { OnOk result (Passed (G.LetsOn shared.now.gate.now) worker nth) }
 {
     if shared.gate.pass(worker, nth, Point::Before) == Pass::Stop {
         return Err(Ended::Turns);

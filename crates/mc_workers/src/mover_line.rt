@@ -76,7 +76,7 @@ pub fn serve_mover_line<R: Wait>(
 }
 
 // What the classes and the whole have, the dead put back before if that is asked for.
-fn survey_all<R: Wait>(
+pub(crate) fn survey_all<R: Wait>(
     rt: &R,
     alloc: Global,
     arena: &Arena,

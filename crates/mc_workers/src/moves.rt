@@ -1,10 +1,11 @@
 //! All lines of the mover, in order.
-ghost use Rattle.std.specs.Prelude.{◌≡◌, [], All, OnOk, false};
+ghost use Rattle.std.specs.Prelude.{◌≡◌, [], All, length, OnOk, false};
 ghost use Rattle.mc_script.specs.Command.{IsValid};
 ghost use Rattle.mc_words.specs.Arenas.{IsHandOf, setup_of, view};
 ghost use Rattle.mc_words.specs.Observers.{number_of};
 ghost use Rattle.mc_words.specs.Ready.{IsReady};
-ghost use Rattle.mc_workers.specs.Asking.{is_movers, is_workers};
+ghost use Rattle.mc_workers.specs.Asking.{is_movers, is_workers, lines_of_mover};
+ghost use Rattle.mc_workers.specs.Gates.{Passed, PassedEach};
 ghost use Rattle.mc_workers.specs.Moves.{MovesLines};
 ghost use Rattle.mc_workers.specs.OnHands.{AddsMoveBy, AddsMovesBy};
 
@@ -33,6 +34,7 @@ pub fn move_lines<R: Wait, G: Gate>(
     ensures number { number_of hand.new ≡ number_of hand.old }
     ensures holdings { (view hand.new).row.holdings ≡ (view hand.old).row.holdings }
     ensures moves { OnOk result (MovesLines (setup_of shared.now.arena.now).table shared.now.commands.now hand.old text.new.items hand.new) }
+    ensures passed { OnOk result (PassedEach (G.LetsOn shared.now.gate.now) 0 (length (lines_of_mover shared.now.commands.now))) }
 {
     let mut mover = Mover::new(shared.alloc, shared.arena.classes())?;
     move_each(shared, hand, &mut mover, text)
@@ -53,11 +55,12 @@ fn move_each<R: Wait, G: Gate>(
     ensures number { number_of hand.new ≡ number_of hand.old }
     ensures holdings { (view hand.new).row.holdings ≡ (view hand.old).row.holdings }
     ensures moves { OnOk result (AddsMovesBy shared.now.arena.now shared.now.commands.now hand.old mover.old text.old.items hand.new mover.new text.new.items) }
+    ensures passed { OnOk result (PassedEach (G.LetsOn shared.now.gate.now) 0 (length (lines_of_mover shared.now.commands.now))) }
 {
     let mut nth = 0u64;
     for command in shared.commands {
         if is_line_of_mover(command) {
-            nth = nth.wrapping_add(1);
+            nth += 1;
             move_gated(shared, nth, hand, mover, *command, text)?;
         }
     }
@@ -82,6 +85,7 @@ fn move_gated<R: Wait, G: Gate>(
     ensures number { number_of hand.new ≡ number_of hand.old }
     ensures holdings { (view hand.new).row.holdings ≡ (view hand.old).row.holdings }
     ensures adds { OnOk result (AddsMoveBy shared.now.arena.now command hand.old mover.old text.old.items hand.new mover.new text.new.items) }
+    ensures passed { OnOk result (Passed (G.LetsOn shared.now.gate.now) 0 nth) }
 {
     if shared.gate.pass(0, nth, Point::Before) == Pass::Stop {
         return Err(Ended::Turns);

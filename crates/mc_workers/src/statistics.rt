@@ -1,7 +1,7 @@
 //! The texts of the statistics, added to a text in memory.
 ghost use Rattle.std.specs.Prelude.{◌≡◌, ◌++◌, ◌<◌, OnOk};
 ghost use Rattle.std.specs.Io.{StartsWith};
-ghost use Rattle.mc_workers.specs.MoverReplies.{classes_text, totals_text};
+ghost use Rattle.mc_workers.specs.MoverReplies.{classes_text, statistics_text, totals_text};
 ghost use Rattle.mc_workers.specs.Surveyed.{AreTellable};
 
 use crate::numbers::{free_in, pages_in};
@@ -9,6 +9,7 @@ use mc_classes::{ClassTable, Failures, Fault, Sink};
 use mc_mover::Survey;
 use mc_watch::{stats_general, stats_slabs};
 use std::alloc::AllocError;
+use std::marker::Brand;
 use std::mem;
 use std::sync::ledger::{Blank, Ledger};
 
@@ -55,6 +56,20 @@ impl<L: Ledger> Sink for TextSink<L> {
         }
         Ok(())
     }
+}
+
+// Adds both statistics, those of the classes first.
+pub(crate) fn push_statistics(
+    text: &mut Vec<u8>,
+    table: &ClassTable,
+    survey: &Survey,
+) -> Result<(), AllocError>
+    requires tellable { AreTellable table.now survey.now }
+    ensures text { OnOk result (text.new.items ≡ text.old.items ++ statistics_text table.now survey.now) }
+    ensures kept { StartsWith text.new.items text.old.items }
+{
+    push_classes::<Brand>(Blank::new(1), text, table, survey)?;
+    push_totals::<Brand>(Blank::new(1), text, survey)
 }
 
 // Adds the statistics of all classes together.

@@ -1,5 +1,5 @@
 //! Worked cases of what a worker's lines do and tell, each the contract of a function with nothing to do.
-ghost use Rattle.mc_workers.specs.WorkerCases.{LinesComeApart, RepliesAreTold, RepliesFitTheirLines, TheLastHoldIsDropped, TheLastIsReleasedFirst};
+ghost use Rattle.mc_workers.specs.WorkerCases.{LinesComeApart, RepliesAreTold, RepliesFitTheirLines, TheGreatestIsFound, TheLastHoldIsDropped, TheLastIsReleasedFirst};
 
 /// A drop gives back the hold of its key that came last, and no other.
 pub fn the_last_hold_is_dropped()
@@ -8,7 +8,8 @@ pub fn the_last_hold_is_dropped()
 
 /// The lines of each worker, and those of none, come apart.
 pub fn lines_come_apart()
-    ensures { LinesComeApart }
+    ensures apart { LinesComeApart }
+    ensures greatest { TheGreatestIsFound }
 {}
 
 /// Replies are told one behind the other, each about the key of its line; and no line has the reply of another one.

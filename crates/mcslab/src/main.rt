@@ -10,14 +10,17 @@ ghost use Rattle.mc_driver.specs.Status.{status_of};
 
 use mc_classes::{Failures, Fault};
 use mc_driver::{
-    Input as Standard, Options, Output, RecordedWriter, Run, RunFault, options, run_serial,
+    Free, Input as Standard, Options, Output, RecordedWriter, RunFault, options, run_serial,
+    run_threads,
 };
 use std::env;
 use std::env::Env;
 use std::io::{self, ErrorKind};
 use std::marker::Brand;
 use std::process::ExitCode;
+use std::sync::Wait;
 use std::sync::ledger::{Blank, Ledger};
+use std::thread::Threads;
 
 /// Why the program wasn't done.
 #[derive(Drop)]
@@ -67,14 +70,14 @@ fn started_with<R: Env + AllocGlobal>(rt: &R) -> Result<Options, Stop>
     Ok(options(rt.alloc(), words.as_slice())?)
 }
 
-/// Runs the script. Whatever comes of it, what was replied is written before the end.
-fn serve<R: Input + Print + AllocGlobal, I: Ledger, O: Ledger>(
+/// Runs the script, by one thread or by as many as the options want. Whatever comes of it, what was replied is written before the end.
+fn serve<R: Input + Print + AllocGlobal + Threads + Wait + Sync, I: Ledger, O: Ledger>(
     rt: &R,
-    run: &Run,
+    options: &Options,
     reads: Blank,
     writes: Blank,
 ) -> Result<(), RunFault>
-    requires automove { run.now.automove ≤ 2 }
+    requires automove { options.now.run.automove ≤ 2 }
     requires reads_name { reads.name ≡ I.name }
     requires reads_parts { reads.parts ≡ I.parts }
     requires reads_some { 0 < reads.parts }
@@ -85,7 +88,12 @@ fn serve<R: Input + Print + AllocGlobal, I: Ledger, O: Ledger>(
     let mut input = Standard::new(rt.reader(), Failures::<I>::new(reads));
     let writer = RecordedWriter::new(io::writer(rt));
     let mut output = Output::new(rt.alloc(), writer, Failures::<O>::new(writes))?;
-    let done = run_serial(rt.alloc(), run, &mut input, &mut output);
+    let (alloc, run) = (rt.alloc(), &options.run);
+    let done = if options.threads {
+        run_threads(rt, alloc, run, &Free, &mut input, &mut output)
+    } else {
+        run_serial(alloc, run, &mut input, &mut output)
+    };
     match output.finish() {
         Ok(_) => done,
         Err(Fault) => Err(RunFault::Write),
@@ -93,9 +101,9 @@ fn serve<R: Input + Print + AllocGlobal, I: Ledger, O: Ledger>(
 }
 
 /// Reads the options and runs.
-fn run(rt: &HostRuntime) -> Result<(), Stop> {
+fn run<R: Env + Input + Print + AllocGlobal + Threads + Wait + Sync>(rt: &R) -> Result<(), Stop> {
     let options = started_with(rt)?;
-    serve::<HostRuntime, Brand, Brand>(rt, &options.run, Blank::new(1), Blank::new(1))?;
+    serve::<R, Brand, Brand>(rt, &options, Blank::new(1), Blank::new(1))?;
     Ok(())
 }
 

@@ -1,6 +1,6 @@
 //! Workers on keys of their own.
 use super::play::play;
-use mc_workers::Free;
+use mc_driver::Free;
 use std::test::Fail;
 
 /// Workers 1 to 4, each with five keys of its own.
@@ -23,11 +23,9 @@ STAT slab_reassign_rescues 0\r\nSTAT slab_reassign_evictions_nomem 0\r\nSTAT sla
 
 #[test]
 fn two_hundred_runs_tell_the_same(rt: HostRuntime) -> Result<(), Fail> {
-    for _run in 0..200 {
-        match play(&rt, rt.alloc(), &Free, 4, SCRIPT)? {
-            Ok(text) => assert!(rt; text.as_slice() == TEXT, "the text of a run"),
-            Err(_) => return Err(Fail::new("a thread ended early")),
-        }
+    for run in 0..200 {
+        let played = play(&rt, rt.alloc(), &Free, SCRIPT);
+        assert!(rt; played.is(Ok(()), TEXT), "the text of run {run}");
     }
     Ok(())
 }

@@ -2,9 +2,10 @@
 ghost use Rattle.std.specs.Prelude.{◌≡◌};
 
 use super::FOUR_CLASSES;
-use super::play::{commands_of, play};
+use super::play::play;
+use mc_driver::{Gate, Pass, Point, RunFault};
 use mc_words::Arena;
-use mc_workers::{Ended, Gate, Pass, Point, Shared, first_hand, serve_lines};
+use mc_workers::{Ended, Shared, first_hand, serve_lines};
 use std::sync::atomic::{AtomicU64, Ordering};
 use std::test::Fail;
 
@@ -69,17 +70,17 @@ impl Gate for Meeting {
 #[test]
 fn workers_meet(rt: HostRuntime) -> Result<(), Fail> {
     let gate = Meeting::new(1_000_000_000);
-    match play(&rt, rt.alloc(), &gate, 2, SCRIPT)? {
-        Ok(text) => assert!(rt; text.as_slice() == TEXT, "each reply in its order"),
-        Err(_) => return Err(Fail::new("a thread ended early")),
-    }
+    let played = play(&rt, rt.alloc(), &gate, SCRIPT);
+    assert!(rt; played.is(Ok(()), TEXT), "each reply in its order");
     Ok(())
 }
 
 #[test]
 fn one_after_the_other_they_never_meet(rt: HostRuntime) -> Result<(), Fail> {
     let alloc = rt.alloc();
-    let commands = commands_of(alloc, SCRIPT)?;
+    let Ok(commands) = mc_script::read(alloc, SCRIPT) else {
+        return Err(Fail::new("each line is a command"));
+    };
     let (arena, mut hands) = Arena::new(alloc, &FOUR_CLASSES, 2)?;
     let Some(mut hand) = first_hand(&arena, 0, &mut hands) else {
         return Err(Fail::new("there is a hand"));
@@ -97,6 +98,10 @@ fn one_after_the_other_they_never_meet(rt: HostRuntime) -> Result<(), Fail> {
     assert!(rt;
         ended == Err(Ended::Turns),
         "the first worker is stopped before its drop"
+    );
+    assert!(rt;
+        RunFault::from(Ended::Turns).status() == 5,
+        "so a run of both would end"
     );
     assert!(rt;
         text.as_slice() == b"STORED 1\r\nHELD 1\r\n".as_slice(),

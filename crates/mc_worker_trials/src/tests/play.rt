@@ -1,88 +1,123 @@
-//! How a script is played by threads.
-ghost use Rattle.std.specs.Prelude.{◌≡◌, All, IfOk, false};
-ghost use Rattle.mc_script.specs.Command.{IsValid};
-ghost use Rattle.mc_words.specs.Arenas.{IsHandOf, view};
-ghost use Rattle.mc_words.specs.Ready.{IsReady};
-ghost use Rattle.mc_workers.specs.Asking.{is_workers};
+//! How a script is run by threads, from bytes in memory to bytes in memory.
+ghost use Rattle.std.specs.Prelude.{◌≡◌, ◌<◌};
 
 use super::FOUR_CLASSES;
-use mc_script::Command;
-use mc_words::{Arena, Hand};
-use mc_workers::{
-    Ended, Gate, Joined, Mover, first_hand, push_mover_reply, run_workers, serve_mover_line,
-};
+use mc_classes::{Config, Failures};
+use mc_driver::{Gate, Run, RunFault, run_threads};
+use mc_rows::{MemorySink, MemorySource};
 use std::alloc::Global;
+use std::marker::Brand;
 use std::sync::Wait;
-use std::test::Fail;
+use std::sync::ledger::{Blank, Ledger};
 use std::thread::Threads;
 
-/// The lines of a script.
-pub fn commands_of(alloc: Global, script: &[u8]) -> Result<Vec<Command>, Fail>
-    ensures valid { IfOk result (λ commands. All IsValid commands.items) }
-{
-    match mc_script::read(alloc, script) {
-        Ok(commands) => Ok(commands),
-        Err(_) => Err(Fail::new("each line is a command")),
+/// How a run is disturbed: the bytes before a read fails, the writes before one fails.
+#[derive(Clone, Copy)]
+pub struct StreamLimits {
+    pub good_bytes: usize,
+    pub good_writes: u64,
+}
+
+/// Streams that never fail.
+pub const WHOLE: StreamLimits = StreamLimits {
+    good_bytes: usize::MAX,
+    good_writes: u64::MAX,
+};
+
+/// What a run wrote, how it ended, and how many bytes it read.
+#[derive(Drop)]
+pub struct Played {
+    pub text: Vec<u8>,
+    pub end: Result<(), RunFault>,
+    pub bytes_read: usize,
+}
+
+impl Played {
+    /// The run ended so, and this is all that it wrote.
+    pub fn is(&self, end: Result<(), RunFault>, text: &[u8]) -> bool {
+        self.end == end && self.text.as_slice() == text
     }
 }
 
-/// The replies of so many workers from the lowest on, those of the mover, and the statistics at the end; or why a thread ended early.
+/// Runs a script on four pages, in mode 0 of the automover.
 pub fn play<R: Threads + Wait + Sync, G: Gate + Sync>(
     rt: &R,
     alloc: Global,
     gate: &G,
-    workers: u64,
     script: &[u8],
-) -> Result<Result<Vec<u8>, Ended>, Fail> {
-    let commands = commands_of(alloc, script)?;
-    let (arena, mut hands) = Arena::new(alloc, &FOUR_CLASSES, workers.saturating_add(1))?;
-    let Some(mover) = first_hand(&arena, 0, &mut hands) else {
-        return Err(Fail::new("there is a hand"));
-    };
-    if hands.len() > 63 {
-        return Err(Fail::new("there are few hands"));
-    }
-    match run_workers(rt, alloc, &arena, gate, &commands, 1, hands, mover) {
-        Ok(joined) => Ok(text_of(rt, alloc, &arena, joined)),
-        Err(ended) => Ok(Err(ended)),
-    }
+) -> Played {
+    play_disturbed(rt, alloc, FOUR_CLASSES, gate, script, WHOLE)
 }
 
-// The texts of all threads, and the statistics.
-fn text_of<R: Wait>(rt: &R, alloc: Global, arena: &Arena, joined: Joined) -> Result<Vec<u8>, Ended>
-    requires arena { IsHandOf arena.now joined.hand }
-    requires ready { IsReady (view joined.hand) }
-{
-    let Joined {
-        mut hand,
-        workers,
-        mover,
-    } = joined;
-    let mut text = workers;
-    text.extend_from_slice(&mover)?;
-    push_line(rt, alloc, arena, &mut hand, Command::StatsSlabs, &mut text)?;
-    push_line(rt, alloc, arena, &mut hand, Command::Stats, &mut text)?;
-    Ok(text)
-}
-
-// Adds what a line of statistics is answered.
-fn push_line<R: Wait>(
+/// Runs a script with streams that may fail.
+pub fn play_disturbed<R: Threads + Wait + Sync, G: Gate + Sync>(
     rt: &R,
     alloc: Global,
-    arena: &Arena,
-    hand: &mut Hand,
-    command: Command,
-    text: &mut Vec<u8>,
-) -> Result<(), Ended>
-    requires arena { IsHandOf arena.now hand.old }
-    requires ready { IsReady (view hand.old) }
-    requires valid { IsValid command }
-    requires mover { is_workers command ≡ false }
-    ensures arena { IsHandOf arena.now hand.new }
-    ensures ready { IsReady (view hand.new) }
+    config: Config,
+    gate: &G,
+    script: &[u8],
+    limits: StreamLimits,
+) -> Played {
+    play_counting::<R, G, Brand, Brand>(
+        rt,
+        alloc,
+        config,
+        gate,
+        script,
+        limits,
+        Blank::new(1),
+        Blank::new(1),
+    )
+}
+
+// Runs a script, where these count the failures of reader and writer.
+fn play_counting<R: Threads + Wait + Sync, G: Gate + Sync, I: Ledger, O: Ledger>(
+    rt: &R,
+    alloc: Global,
+    config: Config,
+    gate: &G,
+    script: &[u8],
+    limits: StreamLimits,
+    reads: Blank,
+    writes: Blank,
+) -> Played
+    requires reads_name { reads.name ≡ I.name }
+    requires reads_parts { reads.parts ≡ I.parts }
+    requires reads_some { 0 < reads.parts }
+    requires writes_name { writes.name ≡ O.name }
+    requires writes_parts { writes.parts ≡ O.parts }
+    requires writes_some { 0 < writes.parts }
 {
-    let mut mover = Mover::new(alloc, arena.classes())?;
-    let reply = serve_mover_line(rt, alloc, arena, hand, &mut mover, command)?;
-    push_mover_reply(text, arena.classes(), &reply)?;
-    Ok(())
+    let mut reader = MemorySource::<I> {
+        bytes: script,
+        at: 0,
+        piece: usize::MAX,
+        good: limits.good_bytes,
+        failures: Failures::new(reads),
+    };
+    let mut writer = MemorySink::<O> {
+        bytes: Vec::new(alloc),
+        good: limits.good_writes,
+        has_failed: false,
+        was_tried_again: false,
+        failures: Failures::new(writes),
+    };
+    let run = Run {
+        config,
+        automove: 0,
+    };
+    let end = run_threads(rt, alloc, &run, gate, &mut reader, &mut writer);
+    let bytes_read = reader.at;
+    let MemorySink {
+        bytes,
+        good: _,
+        has_failed: _,
+        was_tried_again: _,
+        failures: _,
+    } = writer;
+    Played {
+        text: bytes,
+        end,
+        bytes_read,
+    }
 }

@@ -1,28 +1,33 @@
-use Rattle.std.proofs.Common.{ℕ, ◌+◌, List, [], append-nil, take, refl, sym, subst, ◌∙◌}
+use Rattle.std.proofs.Common.{ℕ, ◌+◌, List, [], append-nil, length, take, refl, sym, subst, ◌∙◌}
 use Rattle.mc_words.specs.declared.hand.Hand.{Hand}
 use Rattle.mc_items.specs.declared.refs.Ref.{Ref}
 use Rattle.mc_script.specs.declared.command.Command.TheVariants.{Set}
+use Rattle.mc_workers.specs.Asking.{is_asked_by, lines_of}
+use Rattle.mc_workers.proofs.GatedLines.{AreCounted, line_counted, line_uncounted, none_counted}
 use Rattle.mc_workers.proofs.ServedLines.{SoFar, line_done, line_passed}
 use Rattle.mc_workers.proofs.lines.serve_each.Goals as goal
 use Rattle.mc_workers.proofs.lines.serve_each.Goals.{then-is_line_of+in_ok-serve_gated, else-is_line_of}
 
 pub serve_gated-requires-clause-arena : goal.serve_gated-requires-clause-arena
-serve_gated-requires-clause-arena g c = c.loop-command.invariant.hand
+serve_gated-requires-clause-arena g c = c.loop-command.invariant.0.hand
 
 pub serve_gated-requires-clause-ready : goal.serve_gated-requires-clause-ready
-serve_gated-requires-clause-ready g c = c.loop-command.invariant.ready
+serve_gated-requires-clause-ready g c = c.loop-command.invariant.0.ready
 
 pub serve_gated-requires-clause-kept : goal.serve_gated-requires-clause-kept
-serve_gated-requires-clause-kept g c = c.loop-command.invariant.kept_are
+serve_gated-requires-clause-kept g c = c.loop-command.invariant.0.kept_are
 
 pub loop-command-init : goal.loop-command-init
-loop-command-init g c = record {
-  hand = c.requires.arena;
-  ready = c.requires.ready;
-  kept_are = c.requires.kept;
-  number = refl;
-  serves = record { replies = []; serves = (refl, refl); added = sym (append-nil c.args.text.now.items) };
-}
+loop-command-init g c = (
+  record {
+    hand = c.requires.arena;
+    ready = c.requires.ready;
+    kept_are = c.requires.kept;
+    number = refl;
+    serves = record { replies = []; serves = (refl, refl); added = sym (append-nil c.args.text.now.items) };
+  },
+  none_counted (g.G.Gate.LetsOn c.args.shared.now.gate.now) c.args.worker,
+)
 
 pub loop-command-preserved : goal.loop-command-preserved
 loop-command-preserved g c =
@@ -32,17 +37,25 @@ loop-command-preserved g c =
     let before = c.args.hand.now in
     let kept = c.args.kept.now.items in
     let text = c.args.text.now.items in
+    let lets_on = g.G.Gate.LetsOn c.args.shared.now.gate.now in
+    let counted = λ (nth : ℕ). AreCounted lets_on c.args.worker (i + 1) (length (lines_of c.args.worker (take (i + 1) commands))) nth in
     let stands = λ (hand : Hand) (left : List Ref) (longer : List ℕ). SoFar arena c.args.worker (take (i + 1) commands) kept before text hand left longer in
     elim c.if-is_line_of.branch [
-      | then-is_line_of+in_ok-serve_gated w ↦
+      | then-is_line_of+in_ok-serve_gated w ↦ (
           subst (λ (h : Hand). stands h c.if-is_line_of.kept.items c.if-is_line_of.text.items) (sym w.hand-is)
           (subst (λ (k : List Ref). stands w.serve_gated.new.hand k c.if-is_line_of.text.items) (λ k. (sym w.kept-is k).items)
           (subst (λ (t : List ℕ). stands w.serve_gated.new.hand w.serve_gated.new.kept.items t) (λ k. (sym w.text-is k).items)
-          (line_done arena c.args.worker commands i (Set 0 0 0 0) c.loop-command-test.true kept before text c.loop-command.hand c.loop-command.kept.items c.loop-command.text.items c.loop-command.invariant
-          w.serve_gated.new.hand w.serve_gated.new.kept.items w.serve_gated.new.text.items (sym c.is_line_of.ensures ∙ w.if-is_line_of.true) w.in_ok-serve_gated.ensures.arena w.in_ok-serve_gated.ensures.ready w.in_ok-serve_gated.ensures.kept w.in_ok-serve_gated.ensures.number w.in_ok-serve_gated.ensures.adds)))
-      | else-is_line_of w ↦
+          (line_done arena c.args.worker commands i (Set 0 0 0 0) c.loop-command-test.true kept before text c.loop-command.hand c.loop-command.kept.items c.loop-command.text.items c.loop-command.invariant.0
+          w.serve_gated.new.hand w.serve_gated.new.kept.items w.serve_gated.new.text.items (sym c.is_line_of.ensures ∙ w.if-is_line_of.true) w.in_ok-serve_gated.ensures.arena w.in_ok-serve_gated.ensures.ready w.in_ok-serve_gated.ensures.kept w.in_ok-serve_gated.ensures.number w.in_ok-serve_gated.ensures.adds))),
+          subst counted (sym w.nth-is)
+          (line_counted lets_on c.args.worker (is_asked_by c.args.worker) commands i (Set 0 0 0 0) c.loop-command-test.true c.loop-command.nth c.loop-command.invariant.1 (sym c.is_line_of.ensures ∙ w.if-is_line_of.true) w.in_ok-serve_gated.ensures.passed),
+        )
+      | else-is_line_of w ↦ (
           subst (λ (h : Hand). stands h c.if-is_line_of.kept.items c.if-is_line_of.text.items) (sym w.hand-is)
           (subst (λ (k : List Ref). stands c.loop-command.hand k c.if-is_line_of.text.items) (λ k. (sym w.kept-is k).items)
           (subst (λ (t : List ℕ). stands c.loop-command.hand c.loop-command.kept.items t) (λ k. (sym w.text-is k).items)
-          (line_passed arena c.args.worker commands i (Set 0 0 0 0) c.loop-command-test.true kept before text c.loop-command.hand c.loop-command.kept.items c.loop-command.text.items c.loop-command.invariant (sym c.is_line_of.ensures ∙ w.if-is_line_of.false))))
+          (line_passed arena c.args.worker commands i (Set 0 0 0 0) c.loop-command-test.true kept before text c.loop-command.hand c.loop-command.kept.items c.loop-command.text.items c.loop-command.invariant.0 (sym c.is_line_of.ensures ∙ w.if-is_line_of.false)))),
+          subst counted (sym w.nth-is)
+          (line_uncounted lets_on c.args.worker (is_asked_by c.args.worker) commands i (Set 0 0 0 0) c.loop-command-test.true c.loop-command.nth c.loop-command.invariant.1 (sym c.is_line_of.ensures ∙ w.if-is_line_of.false)),
+        )
     ]

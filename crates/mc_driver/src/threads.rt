@@ -1,0 +1,85 @@
+//! A run by threads: each worker's lines in a thread of its own and the mover's beside them, on an arena that all share.
+ghost use Rattle.std.specs.Prelude.{◌≡◌, ◌<◌, ◌≤◌, ◌↔◌, ℕ, Some, None, Err, IfSome, IsSome};
+ghost use Rattle.std.specs.Io.KnownBytes.{Keeps};
+ghost use Rattle.mc_classes.specs.Refusals.{refusal_of};
+ghost use Rattle.mc_driver.specs.Reading.{GivesAtMost, TakesAtMost, since};
+ghost use Rattle.mc_driver.specs.Run.{IsReadWhole, refusal_number};
+ghost use Rattle.mc_driver.specs.Threads.{IsThreadsOutcome, IsToldOutcome};
+
+use crate::fault::RunFault;
+use crate::reading::read_script;
+use crate::run::{commands_of, fault_of};
+use mc_classes::Sink;
+use mc_options::Run;
+use mc_streams::Source;
+use mc_workers::{Gate, serve_script};
+use std::alloc::Global;
+use std::sync::Wait;
+use std::thread::Threads;
+
+/// Reads a script and does its lines by threads: each worker's in order in a thread of its own, and those of no worker, the mover's, in
+/// this one. Each worker gives back at its end what it still holds. Then the replies are written, worker by worker from the lowest and the
+/// mover's last, and the texts of `stats slabs` and `stats` behind them. Which of the lines of two threads comes first is open, unless
+/// the gate says so.
+///
+/// The configuration is tested before anything is read, and the whole script is read and checked before a thread is started. All is
+/// written in one write at the end: where memory or the turns of a run ran out, a thread couldn't be started, or the gate stopped one,
+/// nothing is. `Memory` goes before `Turns`.
+pub fn run_threads<T: Threads + Wait + Sync, G: Gate + Sync, R: Source, W: Sink>(
+    rt: &T,
+    alloc: Global,
+    run: &Run,
+    gate: &G,
+    reader: &mut R,
+    writer: &mut W,
+) -> Result<(), RunFault>
+    requires { run.now.automove ≤ 2 }
+
+    // A refused configuration is told, exactly then, and leaves reader and writer alone.
+    ensures refused { (number : ℕ) → (result ≡ Err (RunFault.Config number)) ↔ (refusal_number run.now.config ≡ Some number) }
+    ensures unread { IsSome (refusal_of run.now.config) → (reader.new ≡ reader.old) × (writer.new ≡ writer.old) }
+
+    // No more is read than shows that a script is too long.
+    ensures most { TakesAtMost 1048577 (R.remaining reader.old) (R.remaining reader.new) }
+    ensures most_given { GivesAtMost 1048577 (R.given reader.old) (R.given reader.new) }
+
+    // A failed read or write is told, exactly then.
+    ensures read { (result ≡ Err RunFault.Read) ↔ (R.failures reader.old < R.failures reader.new) }
+    ensures write { (result ≡ Err RunFault.Write) ↔ (W.failures writer.old < W.failures writer.new) }
+
+    // What is answered and written is what threads may be told of the bytes.
+    ensures outcome { IfSome (R.remaining reader.old) (λ bytes.
+        IsThreadsOutcome run.now bytes (W.contents writer.old) (W.contents writer.new) result) }
+
+    // So it is of the bytes that the reader gave, which were all up to its end where a script was answered to.
+    ensures answered { IsThreadsOutcome run.now (since (R.given reader.old) (R.given reader.new)) (W.contents writer.old) (W.contents writer.new) result }
+    ensures whole { IsReadWhole (R.HasEnded reader.new) (Keeps (W.contents writer.old) (W.contents writer.new)) result }
+{
+    if let Err(error) = run.config.test() {
+        return Err(fault_of(error));
+    }
+    let bytes = read_script(alloc, reader)?;
+    run_by_threads(rt, alloc, run, gate, &bytes, writer)
+}
+
+/// Does the lines of a script, and writes what all threads were told.
+fn run_by_threads<T: Threads + Wait + Sync, G: Gate + Sync, W: Sink>(
+    rt: &T,
+    alloc: Global,
+    run: &Run,
+    gate: &G,
+    bytes: &[u8],
+    writer: &mut W,
+) -> Result<(), RunFault>
+    requires accepted { refusal_of run.now.config ≡ None }
+    requires automove { run.now.automove ≤ 2 }
+    ensures outcome { IsToldOutcome run.now bytes.now (W.contents writer.old) (W.contents writer.new) result }
+    ensures write { (result ≡ Err RunFault.Write) ↔ (W.failures writer.old < W.failures writer.new) }
+{
+    let commands = commands_of(alloc, bytes)?;
+    let text = serve_script(rt, alloc, &run.config, run.automove, gate, &commands)?;
+    match writer.write_all(&text) {
+        Ok(()) => Ok(()),
+        Err(_) => Err(RunFault::Write),
+    }
+}

@@ -1,0 +1,78 @@
+//! Runs that end before a thread is started, or at the one write behind them: the rest is left as it was.
+use super::FOUR_CLASSES;
+use super::play::{StreamLimits, WHOLE, play, play_disturbed};
+use mc_classes::Config;
+use mc_driver::{Free, RunFault};
+use std::test::Fail;
+
+/// Two workers and a mover.
+const SCRIPT: &[u8] = b"1 set 1 3 7\n2 set 2 3 9\nreassign 1 2\n";
+
+/// Lines that are none.
+const REFUSED: [&[u8]; 6] = [
+    b"1 get 18446744073709551616\n",
+    b"0 get 1\n",
+    b"64 get 1\n",
+    b"turn 0\n",
+    b"stats\r",
+    b"1 window\n",
+];
+
+/// The most bytes of a script.
+const MOST: usize = 1_048_576;
+
+#[test]
+fn refused_lines_start_no_thread(rt: HostRuntime) -> Result<(), Fail> {
+    for script in REFUSED {
+        let played = play(&rt, rt.alloc(), &Free, script);
+        assert!(rt; played.is(Err(RunFault::Script(1)), b""), "a line that is no command");
+    }
+    Ok(())
+}
+
+#[test]
+fn a_refused_configuration_reads_nothing(rt: HostRuntime) -> Result<(), Fail> {
+    let config = Config {
+        first: 8,
+        ..FOUR_CLASSES
+    };
+    let played = play_disturbed(&rt, rt.alloc(), config, &Free, SCRIPT, WHOLE);
+    assert!(rt; played.is(Err(RunFault::Config(2)), b""), "the first class is too small");
+    assert!(rt; played.bytes_read == 0, "nothing was read");
+    Ok(())
+}
+
+#[test]
+fn a_reader_that_fails_ends_the_run(rt: HostRuntime) -> Result<(), Fail> {
+    for good_bytes in 0..=SCRIPT.len() {
+        let limits = StreamLimits {
+            good_bytes,
+            ..WHOLE
+        };
+        let played = play_disturbed(&rt, rt.alloc(), FOUR_CLASSES, &Free, SCRIPT, limits);
+        assert!(rt; played.is(Err(RunFault::Read), b""), "after {good_bytes} bytes");
+    }
+    Ok(())
+}
+
+#[test]
+fn a_writer_that_fails_ends_the_run(rt: HostRuntime) -> Result<(), Fail> {
+    let limits = StreamLimits {
+        good_writes: 0,
+        ..WHOLE
+    };
+    let played = play_disturbed(&rt, rt.alloc(), FOUR_CLASSES, &Free, SCRIPT, limits);
+    assert!(rt; played.is(Err(RunFault::Write), b""), "the one write failed");
+    Ok(())
+}
+
+#[test]
+fn a_script_of_the_greatest_length(rt: HostRuntime) -> Result<(), Fail> {
+    let mut script = vec![in rt.alloc(); b'\n'; MOST]?;
+    let whole = play(&rt, rt.alloc(), &Free, &script);
+    assert!(rt; whole.end == Ok(()), "a million blank lines");
+    script.push(b'\n')?;
+    let longer = play(&rt, rt.alloc(), &Free, &script);
+    assert!(rt; longer.is(Err(RunFault::TooLong), b""), "one byte more");
+    Ok(())
+}

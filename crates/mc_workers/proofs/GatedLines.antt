@@ -1,0 +1,38 @@
+-- Lines that a thread counted, at each of which the gate let it on.
+use Rattle.std.proofs.Common.{◌≡◌, ◌⊎◌, ℕ, ◌+◌, ◌<◌, ◌≤◌, Bool, true, false, cond, List, [], ◌∷◌, ◌++◌, length, take, filter, get_or, refl, ap, subst, sym, ◌∙◌, append-nil, arith, cases_lt, inl, inr}
+use Rattle.std.proofs.lemmas.List.{length_push}
+use Rattle.std.proofs.lemmas.List.Elements.{filter_more}
+use Rattle.mc_script.specs.declared.command.Command.{Command}
+use Rattle.mc_workers.specs.Gates.{LetsOn, Passed, PassedEach}
+
+-- of the first lines so many are the thread's own, and it counted each
+pub record AreCounted (lets_on : LetsOn) (worker index own nth : ℕ) : Type 0 where
+  pub count : nth ≡ own
+  pub few : nth ≤ index
+  pub passed : PassedEach lets_on worker nth
+
+pub none_counted : (lets_on : LetsOn) (worker : ℕ) → AreCounted lets_on worker 0 0 0
+none_counted lets_on worker = record { count = refl; few = omega arith; passed = λ nth some few. absurd (omega (arith, some, few)) }
+
+-- one line more, of those that a thread does
+module _ (lets_on : LetsOn) (worker : ℕ) (is_own : Command → Bool) (commands : List Command) (i : ℕ) (other : Command) (within : i < length commands) (nth : ℕ) (are : AreCounted lets_on worker i (length (filter is_own (take i commands))) nth) where
+  more : (b : Bool) → is_own (get_or commands i other) ≡ b → filter is_own (take (i + 1) commands) ≡ filter is_own (take i commands) ++ cond b (get_or commands i other ∷ []) []
+  more b is = filter_more is_own commands i other within ∙ ap (λ (b : Bool). filter is_own (take i commands) ++ cond b (get_or commands i other ∷ []) []) is
+
+  passed_one : Passed lets_on worker (nth + 1) → (at : ℕ) → 1 ≤ at → at ≤ nth + 1 → (at < nth + 1) ⊎ (nth + 1 ≤ at) → Passed lets_on worker at
+  passed_one one at some most (inl before) = are.passed at some (omega (arith, before))
+  passed_one one at some most (inr last) = let same : at ≡ nth + 1 = omega (arith, last, most) in subst (Passed lets_on worker) (sym same) one
+
+  pub line_counted : is_own (get_or commands i other) ≡ true → Passed lets_on worker (nth + 1) → AreCounted lets_on worker (i + 1) (length (filter is_own (take (i + 1) commands))) (nth + 1)
+  line_counted is one =
+      let longer = ap length (more true is) ∙ length_push (filter is_own (take i commands)) (get_or commands i other) in
+      record {
+        count = omega (arith, are.count, longer);
+        few = omega (arith, are.few);
+        passed = λ at some most. passed_one one at some most (cases_lt at (nth + 1));
+      }
+
+  pub line_uncounted : is_own (get_or commands i other) ≡ false → AreCounted lets_on worker (i + 1) (length (filter is_own (take (i + 1) commands))) nth
+  line_uncounted isnt =
+      let same = ap length (more false isnt ∙ append-nil (filter is_own (take i commands))) in
+      record { count = are.count ∙ sym same; few = omega (arith, are.few); passed = are.passed }
