@@ -4,4 +4,5 @@ mod OptionDigits
 mod OptionParse
 mod OptionRows
 mod OptionTaken
+mod OptionValues
 mod OptionWalk

@@ -52,7 +52,7 @@ first_name c r e = rw e refl
 other_byte : (i c : ℕ) → (i == 61) ≡ false → (c == 61) ≡ true → (i == c) ≡ false
 other_byte i c e h = let is : c ≡ 61 = eqb-true c 61 h in rw is e
 
-same_byte : (i c : ℕ) → (i == c) ≡ (c == i)
+pub same_byte : (i c : ℕ) → (i == c) ≡ (c == i)
 same_byte i c = go (i == c) refl
   where
     go : (b : Bool) → (i == c) ≡ b → (i == c) ≡ (c == i)

@@ -1,22 +1,22 @@
--- Words that are options with values that they take are not refused.
-use Rattle.std.proofs.Common.{◌≡◌, ◌≢◌, ◌∙◌, inl, inr, ℕ, ◌==◌, ◌||◌, if◌then◌else◌, Bool, true, false, not, List, [], ◌∷◌, ◌++◌, refl, ap, ap₂, sym, subst, drop, codes, bytes_eq, is_some, Option, Some, None, arith}
+-- Words that are options with values that they take, and perhaps the flag, are not refused.
+use Rattle.std.proofs.Common.{◌≡◌, ◌≢◌, ◌∙◌, inl, inr, ℕ, ◌==◌, ◌||◌, if◌then◌else◌, Bool, true, false, List, [], ◌∷◌, ◌++◌, refl, ap, ap₂, sym, subst, drop, codes, bytes_eq, is_some, Option, Some, None, arith}
 use Rattle.std.proofs.lemmas.List.Folds.{list_any-append}
 use Rattle.std.proofs.lemmas.Slice.Eq.{bytes_eq-Decides}
 use Rattle.clap.specs.Lexer.{has_byte, long_of, name_and_value, short_of}
 use Rattle.clap.specs.Walk.{finished, is_empty, with_default, Row, Rule, Walk, arg_by_id, has_row, most_values, settled, used, walk_from}
 use Rattle.clap.specs.Simple.{Shape, built, entered}
-use Rattle.clap.specs.Faults.{check_fault, entered_fault, given_default_fault, defaults_fault, fault_of, use_fault, values_fault, walk_fault}
+use Rattle.clap.specs.Faults.{check_fault, entered_fault, default_fault, given_default_fault, defaults_fault, fault_of, use_fault, values_fault, walk_fault}
 use Rattle.clap.specs.Kinds.{or_else}
 use Rattle.clap.specs.ValueTests.{accepts}
 use Rattle.clap.specs.Values.{IsUnsignedIn}
 use Rattle.clap.proofs.ValueTestLemmas.{Accepts-accepts}
 use Rattle.clap.specs.declared.builder.value_parser.ValueParser.TheVariants as vp
 use Rattle.mc_options.specs.CommandLine.{mcslab}
-use Rattle.mc_options.specs.Options.{AreTaken, Choice, IsCommandLine, IsMode, IsNewTo, IsNumber, IsNumberName, TakesValue, is_flag, words_of}
+use Rattle.mc_options.specs.Options.{AreTaken, Choice, IsCommandLine, IsMode, IsNewTo, IsNumber, IsNumberName, TakesValue, apart, flag, is_hyphenated, joined, name_of, words_of}
 use Rattle.mc_options.proofs.OptionCut.{IsName, Text, first_name, next_name}
-use Rattle.mc_options.proofs.OptionRows.{IsValued, new_row, used_new}
-use Rattle.mc_options.proofs.OptionWalk.{AreOptions, IsQuiet, apart_next, apart_turn, attached_next, end, ends, found_option, holds, joined_turn, more_quiet, next, pending_used, takes_valued, turn, valued_one, value_next, value_turn, waits_from}
-use Rattle.mc_options.proofs.OptionParse.{HaveNone, are_options, have_none, top}
+use Rattle.mc_options.proofs.OptionRows.{IsFlag, IsValued, new_row, used_flag, used_new}
+use Rattle.mc_options.proofs.OptionWalk.{AreOptions, IsQuiet, apart_next, apart_turn, attached_next, end, ends, flag_next, flag_one, flag_turn, found_option, holds, joined_turn, more_quiet, next, pending_used, takes_nothing, takes_valued, turn, valued_one, value_next, value_turn, waits_from}
+use Rattle.mc_options.proofs.OptionParse.{HaveNone, after_threads, are_options, before_threads, is_threads_flag, none_after, none_before, threads_built, top}
 
 -- ---- the options
 
@@ -27,6 +27,13 @@ pub record Takes (rules : List Rule) (name value : Text) : Type 0 where
   pub found : arg_by_id rules name ≡ Some rule
   pub valued : IsValued rule
   pub passes : values_fault rule (value ∷ []) ≡ []
+
+-- and of a flag
+pub record HasFlag (rules : List Rule) (name : Text) : Type 0 where
+  pub is_name : IsName name
+  pub rule : Rule
+  pub found : arg_by_id rules name ≡ Some rule
+  pub flag : IsFlag rule
 
 named : (i : ℕ) (is : List ℕ) → i ∷ is ≡ [] → ⊥
 named i is e = cc
@@ -68,6 +75,9 @@ takes name value t = elim t [
   | inr (inr number) ↦ number_name_takes name value number.0 number.1
 ]
 
+pub has_flag : HasFlag top.rules (codes "threads")
+has_flag = record { is_name = (refl, named _ _); rule = threads_built; found = refl; flag = is_threads_flag }
+
 -- ---- the words
 
 cut_joined : (name value : Text) → has_byte 61 name ≡ false → name_and_value (name ++ (61 ∷ value)) ≡ (name, Some value)
@@ -105,7 +115,7 @@ record IsPlain (word : Text) : Type 0 where
   short : short_of word ≡ None
   apart : bytes_eq word dashes ≡ false
 
-plain_word : (word : Text) → is_flag word ≡ false → IsPlain word
+plain_word : (word : Text) → is_hyphenated word ≡ false → IsPlain word
 plain_word [] h = record { long = refl; short = refl; apart = refl }
 plain_word (x ∷ []) h = go (x == 45) refl
   where
@@ -114,15 +124,11 @@ plain_word (x ∷ []) h = go (x == 45) refl
     go false e = record { long = rw e refl; short = rw e refl; apart = rw e refl }
 plain_word (x ∷ y ∷ rest) h = record { long = rw h refl; short = rw h refl; apart = rw h refl }
 
-no_flag : (b : Bool) → not b ≡ true → b ≡ false
-no_flag true h = cc
-no_flag false h = refl
-
 -- ---- the walk
 
 abbrev AreFresh : List Choice → List Row → Type 0
 AreFresh [] rows = Unit {0}
-AreFresh (choice ∷ rest) rows = (has_row choice.name rows ≡ false) × AreFresh rest rows
+AreFresh (choice ∷ rest) rows = (has_row (name_of choice) rows ≡ false) × AreFresh rest rows
 
 none_fresh : (choices : List Choice) → AreFresh choices []
 none_fresh [] = tt
@@ -138,11 +144,11 @@ other_name a b differ = go (bytes_eq b a) refl
 fresh_more : (choices : List Choice) (rows : List Row) (name value : Text) → AreFresh choices rows → IsNewTo name choices → AreFresh choices (rows ++ new_row name value ∷ [])
 fresh_more [] rows name value f n = tt
 fresh_more (choice ∷ rest) rows name value f n = (
-  list_any-append (λ (r : Row). bytes_eq r.id choice.name) rows (new_row name value ∷ []) ∙ rw (f.0, other_name choice.name name n.0) refl,
+  list_any-append (λ (r : Row). bytes_eq r.id (name_of choice)) rows (new_row name value ∷ []) ∙ rw (f.0, other_name (name_of choice) name n.0) refl,
   fresh_more rest rows name value f.1 n.1,
 )
 
-module _ (s : Shape) (options : AreOptions s.rules) (once : s.args_override_self ≡ false) (known : (name value : Text) → TakesValue name value → Takes s.rules name value) where
+module _ (s : Shape) (options : AreOptions s.rules) (once : s.args_override_self ≡ false) (known : (name value : Text) → TakesValue name value → Takes s.rules name value) (flags : HasFlag s.rules (codes "threads")) where
   -- a first use passes
   use_quiet : (a : Rule) (value : Text) (rows : List Row) → IsValued a → has_row a.id rows ≡ false → values_fault a (value ∷ []) ≡ [] → use_fault s.args_override_self a (value ∷ []) rows ≡ []
   use_quiet a value rows v fresh pass = valued_one s.args_override_self a value rows v ∙ rw (fresh, pass) refl
@@ -169,14 +175,14 @@ module _ (s : Shape) (options : AreOptions s.rules) (once : s.args_override_self
       more_quiet s options once (walk_from h) word (words_of rest) turn_ok (subst (λ (w : Walk). IsQuiet s options once w (words_of rest)) (sym step) said)
 
   apart_quiet : (name value : Text) (rest : List Choice) → Quiet rest → (rows : List Row) (p : Option (Text × List Text)) → ends s options once (holds rows p) ≡ [] → has_row name (settled s.rules (holds rows p)).rows ≡ false
-      → AreFresh rest (settled s.rules (holds rows p)).rows → Takes s.rules name value → IsNewTo name rest → AreTaken rest → is_flag value ≡ false
+      → AreFresh rest (settled s.rules (holds rows p)).rows → Takes s.rules name value → IsNewTo name rest → AreTaken rest → is_hyphenated value ≡ false
       → IsQuiet s options once (walk_from (holds rows p)) (named_word name ∷ value ∷ words_of rest)
-  apart_quiet name value rest later rows p settles fresh others t new taken flag =
+  apart_quiet name value rest later rows p settles fresh others t new taken plain =
       let h = holds rows p in
       let before = (settled s.rules h).rows in
       let word = named_word name in
       let l = long_apart name t.is_name in
-      let k = plain_word value flag in
+      let k = plain_word value plain in
       let id : t.rule.id ≡ name = (found_option s.rules name t.rule options t.found).1 in
       let own : has_row t.rule.id before ≡ false = ap (λ (x : Text). has_row x before) id ∙ fresh in
       let use_ok = use_quiet t.rule value before t.valued own t.passes in
@@ -195,17 +201,34 @@ module _ (s : Shape) (options : AreOptions s.rules) (once : s.args_override_self
       (more_quiet s options once (waits_from name (holds before (Some (name, [])))) value (words_of rest) value_ok
       (subst (λ (w : Walk). IsQuiet s options once w (words_of rest)) (sym value_step) said)))
 
+  flag_quiet : (rest : List Choice) → Quiet rest → (rows : List Row) (p : Option (Text × List Text)) → ends s options once (holds rows p) ≡ [] → has_row (codes "threads") (settled s.rules (holds rows p)).rows ≡ false
+      → AreFresh rest (settled s.rules (holds rows p)).rows → IsNewTo (codes "threads") rest → AreTaken rest → IsQuiet s options once (walk_from (holds rows p)) (codes "--threads" ∷ words_of rest)
+  flag_quiet rest later rows p settles fresh others new taken =
+      let h = holds rows p in
+      let before = (settled s.rules h).rows in
+      let word = codes "--threads" in
+      let a = flags.rule in
+      let l = long_apart (codes "threads") flags.is_name in
+      let id : a.id ≡ codes "threads" = (found_option s.rules (codes "threads") a options flags.found).1 in
+      let own : has_row a.id before ≡ false = ap (λ (x : Text). has_row x before) id ∙ fresh in
+      let use_ok : use_fault s.args_override_self a [] before ≡ [] = flag_one s.args_override_self a before flags.flag ∙ rw own refl in
+      let grown : used a [] before ≡ before ++ new_row (codes "threads") (codes "true") ∷ [] =
+      used_flag a before flags.flag own ∙ ap (λ (x : Text). before ++ new_row x (codes "true") ∷ []) id in
+      let turn_ok : turn s options once (walk_from h) word ≡ [] =
+      flag_turn s options once h word (codes "threads") a l.1 l.0 flags.found (takes_nothing s options once a flags.flag) ∙ rw (settles, use_ok) refl in
+      let step = flag_next s options once h word (codes "threads") a l.1 l.0 flags.found (takes_nothing s options once a flags.flag) in
+      let fresh_rest : AreFresh rest (used a [] before) = subst (AreFresh rest) (sym grown) (fresh_more rest before (codes "threads") (codes "true") others new) in
+      let said = later (used a [] before) None refl fresh_rest taken in
+      more_quiet s options once (walk_from h) word (words_of rest) turn_ok (subst (λ (w : Walk). IsQuiet s options once w (words_of rest)) (sym step) said)
+
   pub words_quiet : (choices : List Choice) → Quiet choices
   unfolding walk_fault
   words_quiet [] rows p settles fresh taken = (refl, settles)
-  words_quiet (choice ∷ rest) rows p settles fresh taken = go (words_quiet rest) choice.is_joined refl
-    where
-      go : Quiet rest → (b : Bool) → choice.is_joined ≡ b → IsQuiet s options once (walk_from (holds rows p)) (words_of (choice ∷ rest))
-      go later true e =
-          rw e (joined_quiet choice.name choice.value rest later rows p settles fresh.0 fresh.1 (known choice.name choice.value taken.0.0) taken.1 taken.2)
-      go later false e =
-          let flag = rw e at taken.0.1 in
-          rw e (apart_quiet choice.name choice.value rest later rows p settles fresh.0 fresh.1 (known choice.name choice.value taken.0.0) taken.1 taken.2 (no_flag (is_flag choice.value) flag))
+  words_quiet (joined name value ∷ rest) rows p settles fresh taken =
+      joined_quiet name value rest (words_quiet rest) rows p settles fresh.0 fresh.1 (known name value taken.0) taken.1 taken.2
+  words_quiet (apart name value ∷ rest) rows p settles fresh taken =
+      apart_quiet name value rest (words_quiet rest) rows p settles fresh.0 fresh.1 (known name value taken.0.0) taken.1 taken.2 taken.0.1
+  words_quiet (flag ∷ rest) rows p settles fresh taken = flag_quiet rest (words_quiet rest) rows p settles fresh.0 fresh.1 taken.1 taken.2
 
 -- ---- the parse
 
@@ -217,14 +240,32 @@ check_quiet : (stop : Option (Text × List Text)) (rows : List Row) → check_fa
 check_quiet None rows = refl
 check_quiet (Some p) rows = refl
 
-defaults_quiet : (rs : List Rule) (rows : List Row) → HaveNone rs → defaults_fault rows rs ≡ []
-unfolding defaults_fault
-defaults_quiet [] rows h = refl
-defaults_quiet (a ∷ rest) rows h = ap₂ or_else (one (has_row a.id rows)) (defaults_quiet rest (with_default rows a) h.1)
+quiet_default : (a : Rule) (rows : List Row) → a.defaults ≡ [] → default_fault rows a ≡ []
+quiet_default a rows h = one (has_row a.id rows)
   where
     one : (b : Bool) → (if b || is_empty a.defaults then [] else given_default_fault a a.defaults) ≡ []
     one true = refl
-    one false = rw h.0 refl
+    one false = rw h refl
+
+flag_default_quiet : (rows : List Row) → default_fault rows threads_built ≡ []
+flag_default_quiet rows = one (has_row (codes "threads") rows)
+  where
+    one : (b : Bool) → (if b || false then [] else given_default_fault threads_built (codes "false" ∷ [])) ≡ []
+    one true = refl
+    one false = refl
+
+none_quiet : (rs : List Rule) (rows : List Row) → HaveNone rs → defaults_fault rows rs ≡ []
+unfolding defaults_fault
+none_quiet [] rows h = refl
+none_quiet (a ∷ rest) rows h = ap₂ or_else (quiet_default a rows h.0) (none_quiet rest (with_default rows a) h.1)
+
+some_quiet : (before : List Rule) (a : Rule) (after : List Rule) (rows : List Row) → HaveNone before → ((r : List Row) → default_fault r a ≡ []) → HaveNone after → defaults_fault rows (before ++ a ∷ after) ≡ []
+unfolding defaults_fault
+some_quiet [] a after rows h k later = ap₂ or_else (k rows) (none_quiet after (with_default rows a) later)
+some_quiet (x ∷ before) a after rows h k later = ap₂ or_else (quiet_default x rows h.0) (some_quiet before a after (with_default rows x) h.1 k later)
+
+defaults_quiet : (rows : List Row) → defaults_fault rows top.rules ≡ []
+defaults_quiet rows = some_quiet before_threads threads_built after_threads rows none_before flag_default_quiet none_after
 
 -- a command line is not refused
 pub no_refusal : (words : List Text) → IsCommandLine (drop 1 words) → fault_of mcslab words ≡ []
@@ -233,6 +274,6 @@ no_refusal words line =
     let is = line.1 in
     let taken = line.2 in
     let start = walk_from (holds [] None) in
-    let quiet : IsQuiet top are_options refl start (drop 1 words) = subst (λ (ws : List Text). IsQuiet top are_options refl start ws) (sym is) (words_quiet top are_options refl takes choices [] None refl (none_fresh choices) taken) in
+    let quiet : IsQuiet top are_options refl start (drop 1 words) = subst (λ (ws : List Text). IsQuiet top are_options refl start ws) (sym is) (words_quiet top are_options refl takes has_flag choices [] None refl (none_fresh choices) taken) in
     let last = end top are_options refl start (drop 1 words) in
-    ap₂ or_else quiet.0 (ap₂ or_else (stop_quiet last.stopped) (ap₂ or_else quiet.1 (ap₂ or_else (defaults_quiet top.rules (settled top.rules last.held).rows have_none) (check_quiet last.stopped (finished top.rules last.held)))))
+    ap₂ or_else quiet.0 (ap₂ or_else (stop_quiet last.stopped) (ap₂ or_else quiet.1 (ap₂ or_else (defaults_quiet (settled top.rules last.held).rows) (check_quiet last.stopped (finished top.rules last.held)))))

@@ -1,6 +1,6 @@
--- A parse of options that take one value each, word by word.
-use Rattle.std.proofs.Common.{◌≡◌, ◌∙◌, ◌⊎◌, inl, inr, ℕ, if◌then◌else◌, Bool, true, false, not, ◌&&◌, ◌||◌, List, [], ◌∷◌, ◌++◌, refl, ap, sym, subst, bytes_eq, find, fold, is_some, option_map, IfSome, slice_get, length, Option, Some, None}
-use Rattle.std.specs.Option.{option_or}
+-- A parse of options that take one value each, and of flags, word by word.
+use Rattle.std.proofs.Common.{◌≡◌, ◌∙◌, ◌⊎◌, inl, inr, ℕ, if◌then◌else◌, Bool, true, false, not, ◌&&◌, ◌||◌, List, [], ◌∷◌, ◌++◌, refl, ap, sym, subst, bytes_eq, codes, find, fold, is_some, option_map, IfSome, slice_get, length, Option, Some, None}
+use Rattle.std.specs.Option.{option_map_or, option_or}
 use Rattle.std.specs.Str.{chars}
 use Rattle.std.proofs.lemmas.Slice.Eq.{bytes_eq-Decides}
 use Rattle.clap.specs.Lexer.{long_of, short_of}
@@ -10,9 +10,9 @@ use Rattle.clap.specs.Faults.{flags_fault, react_fault, repeat_fault, settle_fau
 use Rattle.clap.specs.Simple.{Shape}
 use Rattle.clap.specs.declared.builder.action.ArgAction.TheVariants.{Help}
 use Rattle.clap.specs.declared.error.kind.ErrorKind.TheVariants as kind
-use Rattle.mc_options.specs.Options.{after, value_of}
-use Rattle.mc_options.proofs.OptionCut.{IsName, Text, given, long_cut, pick, plain_cut, value_from_read}
-use Rattle.mc_options.proofs.OptionRows.{IsValued, find_none, find_used, has_id, new_row, used_new}
+use Rattle.mc_options.proofs.OptionCut.{IsName, Text}
+use Rattle.mc_options.proofs.OptionRows.{IsFlag, IsValued, find_none, find_used, has_id, new_row, used_flag, used_new}
+use Rattle.mc_options.proofs.OptionValues.{apart_value, dashes_value, flag_value, joined_value, none_in, value_in}
 
 -- the option asks for help
 pub record IsRequest (a : Rule) : Type 0 where
@@ -24,7 +24,7 @@ pub record IsOption (a : Rule) : Type 0 where
   pub long : a.long ≡ Some a.id
   pub aliases : a.aliases ≡ []
   pub index : a.index ≡ None
-  pub does : IsValued a ⊎ IsRequest a
+  pub does : IsValued a ⊎ (IsFlag a ⊎ IsRequest a)
 
 abbrev pub AreOptions : List Rule → Type 0
 AreOptions [] = Unit {0}
@@ -58,14 +58,15 @@ found_option (x ∷ rest) name a h e = go (found_option rest name a h.1) (bytes_
         subst (λ (y : Rule). IsOption y × (y.id ≡ name)) same (h.0, (bytes_eq-Decides x.id name).0 d)
     go later false d = later (rw d at e)
 
-not_short : (a : Rule) (x : ℕ) → IsValued a → has_short a x ≡ false
-not_short a x v = rw (v.short, v.short_aliases) refl
+not_short : (a : Rule) (x : ℕ) → a.short ≡ None → a.short_aliases ≡ [] → has_short a x ≡ false
+not_short a x short aliases = rw (short, aliases) refl
 
 pub found_short : (rs : List Rule) (x : ℕ) (a : Rule) → AreOptions rs → arg_by_short rs x ≡ Some a → IsRequest a
 found_short [] x a h e = cc
 found_short (y ∷ rest) x a h e = elim h.0.does [
-  | inl v ↦ found_short rest x a h.1 (rw (not_short y x v, h.0.index) at e)
-  | inr r ↦ go r (found_short rest x a h.1) (not (is_some y.index) && has_short y x) refl
+  | inl v ↦ found_short rest x a h.1 (rw (not_short y x v.short v.short_aliases, h.0.index) at e)
+  | inr (inl f) ↦ found_short rest x a h.1 (rw (not_short y x f.short f.short_aliases, h.0.index) at e)
+  | inr (inr r) ↦ go r (found_short rest x a h.1) (not (is_some y.index) && has_short y x) refl
 ]
   where
     go : IsRequest y → (arg_by_short rest x ≡ Some a → IsRequest a) → (b : Bool) → (not (is_some y.index) && has_short y x) ≡ b → IsRequest a
@@ -92,6 +93,13 @@ valued_none again a rows v = rw v.range refl
 pub valued_one : (again : Bool) (a : Rule) (value : Text) (rows : List Row) → IsValued a
     → use_fault again a (value ∷ []) rows ≡ or_else (repeat_fault again a.id rows) (values_fault a (value ∷ []))
 valued_one again a value rows v = rw (v.range, v.action) refl
+
+-- a flag is used with no value, and its own passes
+pub flag_one : (again : Bool) (a : Rule) (rows : List Row) → IsFlag a → use_fault again a [] rows ≡ or_else (repeat_fault again a.id rows) []
+flag_one again a rows f = rw (f.range, f.action, f.missing, f.parser) refl
+
+flag_passes : (a : Rule) → IsFlag a → values_fault a (codes "true" ∷ []) ≡ []
+flag_passes a f = rw f.parser refl
 
 pub repeat_none : (id : Text) (rows : List Row) → repeat_fault false id rows ≡ [] → has_row id rows ≡ false
 repeat_none id rows h = go (has_row id rows) refl
@@ -174,6 +182,12 @@ module _ (s : Shape) (options : AreOptions s.rules) (once : s.args_override_self
   unfolding walked
   apart_next h word name a e l f t = rw (e, l, by_long s.rules name options, f, t) refl
 
+  -- `--name` of a flag
+  pub flag_next : (h : Held) (word name : Text) (a : Rule) → bytes_eq word dashes ≡ false → long_of word ≡ Some (name, None) → arg_by_id s.rules name ≡ Some a → takes_values a ≡ false
+      → next (walk_from h) word ≡ walk_from (reacted s.rules a [] h)
+  unfolding walked
+  flag_next h word name a e l f t = rw (e, l, by_long s.rules name options, f, t) refl
+
   -- the word after it
   pub value_next : (rows : List Row) (word name : Text) (a : Rule) → bytes_eq word dashes ≡ false → long_of word ≡ None → arg_by_id s.rules name ≡ Some a → most_values a ≡ 1 → a.id ≡ name
       → IfSome (short_of word) (λ flags. bundle_met s.rules (length flags) flags 0 plain (holds rows (Some (name, []))) ≡ (holds rows (Some (name, [])), plain))
@@ -195,6 +209,9 @@ module _ (s : Shape) (options : AreOptions s.rules) (once : s.args_override_self
   pub takes_valued : (a : Rule) → IsValued a → takes_values a ≡ true
   takes_valued a v = rw v.range refl
 
+  pub takes_nothing : (a : Rule) → IsFlag a → takes_values a ≡ false
+  takes_nothing a f = rw f.range refl
+
   takes_request : (a : Rule) → IsRequest a → takes_values a ≡ false
   takes_request a r = rw r.range refl
 
@@ -207,8 +224,24 @@ module _ (s : Shape) (options : AreOptions s.rules) (once : s.args_override_self
     valued : IsValued rule
     uses : IfSome p.1 (λ value. use_fault again rule (value ∷ []) (settled s.rules h).rows ≡ [])
 
+  -- `--name` of a flag
+  record TakesFlag (h : Held) (p : Text × Option Text) : Type 0 where
+    settles : ends h ≡ []
+    rule : Rule
+    found : arg_by_id s.rules p.0 ≡ Some rule
+    id : rule.id ≡ p.0
+    flag : IsFlag rule
+    alone : p.1 ≡ None
+    uses : use_fault again rule [] (settled s.rules h).rows ≡ []
+
+  abbrev Taken : Held → Text × Option Text → Type 0
+  Taken h p = TakesLong h p ⊎ TakesFlag h p
+
+  taken_settles : (h : Held) (p : Text × Option Text) → Taken h p → ends h ≡ []
+  taken_settles h p t = elim t [ inl long ↦ long.settles | inr flag ↦ flag.settles ]
+
   long_taken : (waiting : Waiting) (h : Held) (word : Text) (p : Text × Option Text) → subcommand_met [] waiting word ≡ None → bytes_eq word dashes ≡ false → long_of word ≡ Some p
-      → turn (from waiting h) word ≡ [] → TakesLong h p
+      → turn (from waiting h) word ≡ [] → Taken h p
   long_taken waiting h word p none e l q = go (arg_by_id s.rules p.0) refl p.1 refl
     where
       valued_case : (a : Rule) → arg_by_id s.rules p.0 ≡ Some a → a.id ≡ p.0 → IsValued a → (v : Option Text) → p.1 ≡ v → TakesLong h p
@@ -220,7 +253,16 @@ module _ (s : Shape) (options : AreOptions s.rules) (once : s.args_override_self
           let t : or_else (ends h) [] ≡ [] = rw (none, e, l, by_long s.rules p.0 options, f, takes_valued a va, is) at q in
           record { settles = (or_nil (ends h) [] t).0; rule = a; found = f; id = id; valued = va; uses = rw is tt }
 
-      request_case : (a : Rule) → arg_by_id s.rules p.0 ≡ Some a → IsRequest a → (v : Option Text) → p.1 ≡ v → TakesLong h p
+      flag_case : (a : Rule) → arg_by_id s.rules p.0 ≡ Some a → a.id ≡ p.0 → IsFlag a → (v : Option Text) → p.1 ≡ v → TakesFlag h p
+      flag_case a f id fl (Some value) is =
+          let t : kind.TooManyValues ∷ [] ≡ [] = rw (none, e, l, by_long s.rules p.0 options, f, takes_nothing a fl, is) at q in
+          cc
+      flag_case a f id fl None is =
+          let t : or_else (react_fault s.rules again a [] h) [] ≡ [] = rw (none, e, l, by_long s.rules p.0 options, f, takes_nothing a fl, is) at q in
+          let r = or_nil _ _ (or_nil (react_fault s.rules again a [] h) [] t).0 in
+          record { settles = r.0; rule = a; found = f; id = id; flag = fl; alone = is; uses = r.1 }
+
+      request_case : (a : Rule) → arg_by_id s.rules p.0 ≡ Some a → IsRequest a → (v : Option Text) → p.1 ≡ v → Taken h p
       request_case a f r (Some value) is =
           let t : kind.TooManyValues ∷ [] ≡ [] = rw (none, e, l, by_long s.rules p.0 options, f, takes_request a r, is) at q in
           cc
@@ -230,13 +272,17 @@ module _ (s : Shape) (options : AreOptions s.rules) (once : s.args_override_self
           let bad : kind.DisplayHelp ∷ [] ≡ [] = sym (request_none again a (settled s.rules h).rows r) ∙ u in
           cc
 
-      go : (o : Option Rule) → arg_by_id s.rules p.0 ≡ o → (v : Option Text) → p.1 ≡ v → TakesLong h p
+      go : (o : Option Rule) → arg_by_id s.rules p.0 ≡ o → (v : Option Text) → p.1 ≡ v → Taken h p
       go None f v is =
           let t : kind.UnknownArgument ∷ [] ≡ [] = rw (none, e, l, by_long s.rules p.0 options, f) at q in
           cc
       go (Some a) f v is =
           let o = found_option s.rules p.0 a options f in
-          elim o.0.does [ inl va ↦ valued_case a f o.1 va v is | inr r ↦ request_case a f r v is ]
+          elim o.0.does [
+            | inl va ↦ inl (valued_case a f o.1 va v is)
+            | inr (inl fl) ↦ inr (flag_case a f o.1 fl v is)
+            | inr (inr r) ↦ request_case a f r v is
+          ]
 
   -- a bundle of short options is refused, but for one that has no character
   no_flags : (rows : List Row) (p : Option (Text × List Text)) (flags : Text) → flags_fault s.rules again (length flags) flags 0 (holds rows p) ≡ []
@@ -298,16 +344,41 @@ module _ (s : Shape) (options : AreOptions s.rules) (once : s.args_override_self
       → turn (walk_from h) word ≡ or_else (ends h) []
   apart_turn h word name a e l f t = rw (e, l, by_long s.rules name options, f, t) refl
 
+  pub flag_turn : (h : Held) (word name : Text) (a : Rule) → bytes_eq word dashes ≡ false → long_of word ≡ Some (name, None) → arg_by_id s.rules name ≡ Some a → takes_values a ≡ false
+      → turn (walk_from h) word ≡ or_else (react_fault s.rules again a [] h) []
+  flag_turn h word name a e l f t = rw (e, l, by_long s.rules name options, f, t) refl
+
   pub value_turn : (rows : List Row) (word name : Text) → bytes_eq word dashes ≡ false → long_of word ≡ None → short_of word ≡ None → turn (waits_from name (holds rows (Some (name, [])))) word ≡ []
   value_turn rows word name e l sh = rw (e, l, sh) refl
 
   -- ---- all the words
 
+  -- the option with this id is a flag
+  abbrev pub is_flag : Text → Bool
+  is_flag id = option_map_or (λ (a : Rule). not (takes_values a)) (arg_by_id s.rules id) false
+
+  valued_is : (name id : Text) (a : Rule) → arg_by_id s.rules name ≡ Some a → IsValued a → bytes_eq name id ≡ true → is_flag id ≡ false
+  valued_is name id a f v e =
+      let same : name ≡ id = (bytes_eq-Decides name id).0 e in
+      subst (λ (x : Text). is_flag x ≡ false) same (rw (f, takes_valued a v) refl)
+
+  flag_is : (name id : Text) (a : Rule) → arg_by_id s.rules name ≡ Some a → IsFlag a → bytes_eq name id ≡ true → is_flag id ≡ true
+  flag_is name id a f fl e =
+      let same : name ≡ id = (bytes_eq-Decides name id).0 e in
+      subst (λ (x : Text). is_flag x ≡ true) same (rw (f, takes_nothing a fl) refl)
+
+  -- what the words give the option
+  abbrev pub given_by : Text → List Text → Option Text
+  given_by id words = value_in (is_flag id) id words
+
+  given_by_none : (id : Text) → given_by id [] ≡ None
+  given_by_none id = none_in (is_flag id) id
+
   -- from these rows and this pending option, the words give each option the value that stands in them, and it passes
   pub record Says (words : List Text) (rows : List Row) (pending : Option (Text × List Text)) (last : Held) : Type 0 where
     pub settles : ends (holds rows pending) ≡ []
-    pub finds : (id : Text) → IsName id → find (has_id id) (settled s.rules last).rows ≡ option_or (find (has_id id) (settled s.rules (holds rows pending)).rows) (option_map (new_row id) (value_of id words))
-    pub passes : (id : Text) → IsName id → IfSome (value_of id words) (λ value. IfSome (arg_by_id s.rules id) (λ a. values_fault a (value ∷ []) ≡ []))
+    pub finds : (id : Text) → IsName id → find (has_id id) (settled s.rules last).rows ≡ option_or (find (has_id id) (settled s.rules (holds rows pending)).rows) (option_map (new_row id) (given_by id words))
+    pub passes : (id : Text) → IsName id → IfSome (given_by id words) (λ value. IfSome (arg_by_id s.rules id) (λ a. values_fault a (value ∷ []) ≡ []))
 
   or_none : {X : Type 0} (o : Option X) → o ≡ option_or o None
   or_none None = refl
@@ -318,7 +389,7 @@ module _ (s : Shape) (options : AreOptions s.rules) (once : s.args_override_self
       → arg_by_id s.rules name ≡ Some a → values_fault a (value ∷ []) ≡ [] → has_row name (settled s.rules (holds rows p)).rows ≡ false
       → (settled s.rules (holds more q)).rows ≡ (settled s.rules (holds rows p)).rows ++ new_row name value ∷ []
       → ends (holds rows p) ≡ []
-      → ((id : Text) → IsName id → value_of id words ≡ (if bytes_eq name id then Some value else value_of id rest))
+      → ((id : Text) → IsName id → given_by id words ≡ (if bytes_eq name id then Some value else given_by id rest))
       → Says rest more q last → Says words rows p last
   extend name value a words rest rows more p q last found pass fresh grown settles reads says = record {
     settles = settles;
@@ -330,61 +401,41 @@ module _ (s : Shape) (options : AreOptions s.rules) (once : s.args_override_self
       after_use id b e = ap (find (has_id id)) grown ∙ find_used name value id (settled s.rules (holds rows p)).rows ∙ ap (λ (t : Bool). option_or (find (has_id id) (settled s.rules (holds rows p)).rows) (if t then Some (new_row name value) else None)) e
 
       finds_go : (id : Text) → IsName id → (b : Bool) → bytes_eq name id ≡ b
-          → find (has_id id) (settled s.rules last).rows ≡ option_or (find (has_id id) (settled s.rules (holds rows p)).rows) (option_map (new_row id) (value_of id words))
+          → find (has_id id) (settled s.rules last).rows ≡ option_or (find (has_id id) (settled s.rules (holds rows p)).rows) (option_map (new_row id) (given_by id words))
       finds_go id n true e =
           let same : name ≡ id = (bytes_eq-Decides name id).0 e in
           let none : find (has_id id) (settled s.rules (holds rows p)).rows ≡ None = find_none (has_id id) (settled s.rules (holds rows p)).rows (rw same at fresh) in
-          let here : value_of id words ≡ Some value = rw e at (reads id n) in
+          let here : given_by id words ≡ Some value = rw e at (reads id n) in
           let used_one : find (has_id id) (settled s.rules (holds more q)).rows ≡ Some (new_row name value) = after_use id true e ∙ ap (λ (o : Option Row). option_or o (Some (new_row name value))) none in
-          says.finds id n ∙ ap (λ (o : Option Row). option_or o (option_map (new_row id) (value_of id rest))) used_one
+          says.finds id n ∙ ap (λ (o : Option Row). option_or o (option_map (new_row id) (given_by id rest))) used_one
           ∙ ap (λ (t : Text). Some (new_row t value)) same
-          ∙ sym (ap (λ (o : Option Row). option_or o (option_map (new_row id) (value_of id words))) none ∙ ap (option_map (new_row id)) here)
+          ∙ sym (ap (λ (o : Option Row). option_or o (option_map (new_row id) (given_by id words))) none ∙ ap (option_map (new_row id)) here)
       finds_go id n false e =
-          let later : value_of id words ≡ value_of id rest = rw e at (reads id n) in
-          says.finds id n ∙ ap (λ (o : Option Row). option_or o (option_map (new_row id) (value_of id rest))) (after_use id false e ∙ sym (or_none _))
+          let later : given_by id words ≡ given_by id rest = rw e at (reads id n) in
+          says.finds id n ∙ ap (λ (o : Option Row). option_or o (option_map (new_row id) (given_by id rest))) (after_use id false e ∙ sym (or_none _))
           ∙ ap (λ (o : Option Text). option_or (find (has_id id) (settled s.rules (holds rows p)).rows) (option_map (new_row id) o)) (sym later)
 
-      passes_go : (id : Text) → IsName id → (b : Bool) → bytes_eq name id ≡ b → IfSome (value_of id words) (λ v. IfSome (arg_by_id s.rules id) (λ r. values_fault r (v ∷ []) ≡ []))
+      passes_go : (id : Text) → IsName id → (b : Bool) → bytes_eq name id ≡ b → IfSome (given_by id words) (λ v. IfSome (arg_by_id s.rules id) (λ r. values_fault r (v ∷ []) ≡ []))
       passes_go id n true e =
           let same : name ≡ id = (bytes_eq-Decides name id).0 e in
-          let here : value_of id words ≡ Some value = rw e at (reads id n) in
+          let here : given_by id words ≡ Some value = rw e at (reads id n) in
           let is : arg_by_id s.rules id ≡ Some a = rw same at found in
           rw (here, is) pass
       passes_go id n false e =
-          let later : value_of id words ≡ value_of id rest = rw e at (reads id n) in
+          let later : given_by id words ≡ given_by id rest = rw e at (reads id n) in
           rw later (says.passes id n)
-
-  -- the value that a long word gives
-  long_value : (id word : Text) (rest : List Text) (p : Text × Option Text) → IsName id → long_of word ≡ Some p → value_of id (word ∷ rest) ≡ pick (given p id) rest (value_of id rest)
-  long_value id word rest p n l = value_from_read (after (45 ∷ 45 ∷ id) word) rest (value_of id rest) ∙ ap (λ (o : Option (Option Text)). pick o rest (value_of id rest)) (long_cut id word p n.0 l)
-
-  plain_value : (id word : Text) (rest : List Text) → long_of word ≡ None → bytes_eq word dashes ≡ false → value_of id (word ∷ rest) ≡ value_of id rest
-  plain_value id word rest l e = value_from_read (after (45 ∷ 45 ∷ id) word) rest (value_of id rest) ∙ ap (λ (o : Option (Option Text)). pick o rest (value_of id rest)) (plain_cut id word l e)
-
-  dashes_value : (id : Text) → IsName id → value_of id (dashes ∷ []) ≡ None
-  dashes_value [] n = absurd (n.1 refl)
-  dashes_value (i ∷ is) n = refl
-
-  joined_value : (id name value word : Text) (rest : List Text) → IsName id → long_of word ≡ Some (name, Some value) → value_of id (word ∷ rest) ≡ (if bytes_eq name id then Some value else value_of id rest)
-  joined_value id name value word rest n l = long_value id word rest (name, Some value) n l ∙ go (bytes_eq name id)
-    where
-      go : (b : Bool) → pick (if b then Some (Some value) else None) rest (value_of id rest) ≡ (if b then Some value else value_of id rest)
-      go true = refl
-      go false = refl
-
-  apart_value : (id name value word : Text) (rest : List Text) → IsName id → long_of word ≡ Some (name, None) → long_of value ≡ None → bytes_eq value dashes ≡ false
-      → value_of id (word ∷ value ∷ rest) ≡ (if bytes_eq name id then Some value else value_of id rest)
-  apart_value id name value word rest n l k e = long_value id word (value ∷ rest) (name, None) n l ∙ go (bytes_eq name id)
-    where
-      go : (b : Bool) → pick (if b then Some None else None) (value ∷ rest) (value_of id (value ∷ rest)) ≡ (if b then Some value else value_of id rest)
-      go true = refl
-      go false = plain_value id value rest k e
 
   -- a first use that passes
   use_facts : (a : Rule) (value : Text) (rows : List Row) → IsValued a → use_fault again a (value ∷ []) rows ≡ [] → (has_row a.id rows ≡ false) × (values_fault a (value ∷ []) ≡ [])
   use_facts a value rows v q =
       let both = or_nil (repeat_fault again a.id rows) (values_fault a (value ∷ [])) (sym (valued_one again a value rows v) ∙ q) in
       (repeat_none a.id rows (ap (λ (b : Bool). repeat_fault b a.id rows) (sym once) ∙ both.0), both.1)
+
+  -- so does a flag's
+  flag_fresh : (a : Rule) (rows : List Row) → IsFlag a → use_fault again a [] rows ≡ [] → has_row a.id rows ≡ false
+  flag_fresh a rows f q =
+      let both = or_nil (repeat_fault again a.id rows) [] (sym (flag_one again a rows f) ∙ q) in
+      repeat_none a.id rows (ap (λ (b : Bool). repeat_fault b a.id rows) (sym once) ∙ both.0)
 
   -- an option without its value is refused
   unsettled : (rows : List Row) (name : Text) (a : Rule) → arg_by_id s.rules name ≡ Some a → IsValued a → ends (holds rows (Some (name, []))) ≡ [] → ⊥
@@ -429,18 +480,17 @@ module _ (s : Shape) (options : AreOptions s.rules) (once : s.args_override_self
       let settles : ends h ≡ [] = ap (λ (r : List Text). ends (end (trails_from idle h) r).held) (sym empty) ∙ quiet.1 in
       let said : Says (dashes ∷ []) rows p h = record {
         settles = settles;
-        finds = λ id n. or_none (find (has_id id) (settled s.rules h).rows) ∙ ap (λ (o : Option Text). option_or (find (has_id id) (settled s.rules h).rows) (option_map (new_row id) o)) (sym (dashes_value id n));
-        passes = λ id n. rw (dashes_value id n) tt;
+        finds = λ id n. or_none (find (has_id id) (settled s.rules h).rows) ∙ ap (λ (o : Option Text). option_or (find (has_id id) (settled s.rules h).rows) (option_map (new_row id) o)) (sym (dashes_value (is_flag id) id n));
+        passes = λ id n. rw (dashes_value (is_flag id) id n) tt;
       } in
       subst (λ (r : List Text). Says (dashes ∷ r) rows p (end (walk_from h) (dashes ∷ r)).held) (sym empty)
       (subst (λ (w : Walk). Says (dashes ∷ []) rows p w.held) (sym step) said)
 
   idle_joined : (word : Text) (rest : List Text) → Idle rest → (rows : List Row) (p : Option (Text × List Text)) → bytes_eq word dashes ≡ false → (cut : Text × Option Text) (value : Text) → long_of word ≡ Some cut → cut.1 ≡ Some value
-      → IsQuiet (walk_from (holds rows p)) (word ∷ rest) → Says (word ∷ rest) rows p (end (walk_from (holds rows p)) (word ∷ rest)).held
-  idle_joined word rest later rows p e cut value l is q =
+      → TakesLong (holds rows p) cut → IsQuiet (walk_from (holds rows p)) (word ∷ rest) → Says (word ∷ rest) rows p (end (walk_from (holds rows p)) (word ∷ rest)).held
+  idle_joined word rest later rows p e cut value l is t q =
       let h = holds rows p in
       let fq = first_quiet (walk_from h) word rest q in
-      let t = long_taken idle h word cut refl e l fq.0 in
       let a = t.rule in
       let before = (settled s.rules h).rows in
       let name_is : long_of word ≡ Some (cut.0, Some value) = l ∙ ap (λ (o : Option Text). Some (cut.0, o)) is in
@@ -454,14 +504,13 @@ module _ (s : Shape) (options : AreOptions s.rules) (once : s.args_override_self
       let own_name : long_of word ≡ Some (a.id, Some value) = name_is ∙ ap (λ (x : Text). Some (x, Some value)) (sym t.id) in
       subst (λ (w : Walk). Says (word ∷ rest) rows p (end w rest).held) (sym step)
       (extend a.id value a (word ∷ rest) rest rows (used a (value ∷ []) before) p None (end (walk_from (holds (used a (value ∷ []) before) None)) rest).held own facts.1 facts.0 grown t.settles
-      (λ id n. joined_value id a.id value word rest n own_name) said)
+      (λ id n. joined_value (is_flag id) id a.id value word rest n own_name (valued_is a.id id a own t.valued)) said)
 
   idle_apart : (word : Text) (rest : List Text) → Waits rest → (rows : List Row) (p : Option (Text × List Text)) → bytes_eq word dashes ≡ false → (cut : Text × Option Text) → long_of word ≡ Some cut → cut.1 ≡ None
-      → IsQuiet (walk_from (holds rows p)) (word ∷ rest) → Says (word ∷ rest) rows p (end (walk_from (holds rows p)) (word ∷ rest)).held
-  idle_apart word rest later rows p e cut l is q =
+      → TakesLong (holds rows p) cut → IsQuiet (walk_from (holds rows p)) (word ∷ rest) → Says (word ∷ rest) rows p (end (walk_from (holds rows p)) (word ∷ rest)).held
+  idle_apart word rest later rows p e cut l is t q =
       let h = holds rows p in
       let fq = first_quiet (walk_from h) word rest q in
-      let t = long_taken idle h word cut refl e l fq.0 in
       let a = t.rule in
       let before = (settled s.rules h).rows in
       let name_is : long_of word ≡ Some (cut.0, None) = l ∙ ap (λ (o : Option Text). Some (cut.0, o)) is in
@@ -475,14 +524,40 @@ module _ (s : Shape) (options : AreOptions s.rules) (once : s.args_override_self
       let grown : (settled s.rules (holds before (Some (a.id, w.value ∷ [])))).rows ≡ before ++ new_row a.id w.value ∷ [] = pending_used before a.id w.value a own ∙ used_new a w.value before t.valued facts.0 in
       subst (λ (v : Walk). Says (word ∷ rest) rows p (end v rest).held) (sym step)
       (extend a.id w.value a (word ∷ rest) w.rest rows before p (Some (a.id, w.value ∷ [])) (end (waits_from a.id (holds before (Some (a.id, [])))) rest).held own facts.1 facts.0 grown t.settles
-      (λ id n. ap (λ (r : List Text). value_of id (word ∷ r)) w.split ∙ apart_value id a.id w.value word w.rest n own_name w.plain w.apart) w.says)
+      (λ id n. ap (λ (r : List Text). given_by id (word ∷ r)) w.split ∙ apart_value (is_flag id) id a.id w.value word w.rest n own_name w.plain w.apart (valued_is a.id id a own t.valued)) w.says)
+
+  idle_flag : (word : Text) (rest : List Text) → Idle rest → (rows : List Row) (p : Option (Text × List Text)) → bytes_eq word dashes ≡ false → (cut : Text × Option Text) → long_of word ≡ Some cut
+      → TakesFlag (holds rows p) cut → IsQuiet (walk_from (holds rows p)) (word ∷ rest) → Says (word ∷ rest) rows p (end (walk_from (holds rows p)) (word ∷ rest)).held
+  idle_flag word rest later rows p e cut l t q =
+      let h = holds rows p in
+      let fq = first_quiet (walk_from h) word rest q in
+      let a = t.rule in
+      let before = (settled s.rules h).rows in
+      let name_is : long_of word ≡ Some (cut.0, None) = l ∙ ap (λ (o : Option Text). Some (cut.0, o)) t.alone in
+      let fresh = flag_fresh a before t.flag t.uses in
+      let grown : used a [] before ≡ before ++ new_row a.id (codes "true") ∷ [] = used_flag a before t.flag fresh in
+      let step : next (walk_from h) word ≡ walk_from (holds (used a [] before) None) = flag_next h word cut.0 a e name_is t.found (takes_nothing a t.flag) in
+      let quiet = subst (λ (w : Walk). IsQuiet w rest) step fq.1 in
+      let said = later (used a [] before) None quiet in
+      let own : arg_by_id s.rules a.id ≡ Some a = ap (arg_by_id s.rules) t.id ∙ t.found in
+      let own_name : long_of word ≡ Some (a.id, None) = name_is ∙ ap (λ (x : Text). Some (x, None)) (sym t.id) in
+      subst (λ (w : Walk). Says (word ∷ rest) rows p (end w rest).held) (sym step)
+      (extend a.id (codes "true") a (word ∷ rest) rest rows (used a [] before) p None (end (walk_from (holds (used a [] before) None)) rest).held own (flag_passes a t.flag) fresh grown t.settles
+      (λ id n. flag_value (is_flag id) id a.id word rest n own_name (flag_is a.id id a own t.flag)) said)
 
   idle_step : (word : Text) (rest : List Text) → Idle rest → Waits rest → Idle (word ∷ rest)
   idle_step word rest idle_rest waits_rest rows p q = go (bytes_eq word dashes) refl (long_of word) refl
     where
+      valued_case : bytes_eq word dashes ≡ false → (cut : Text × Option Text) → long_of word ≡ Some cut → TakesLong (holds rows p) cut → (v : Option Text) → cut.1 ≡ v
+          → Says (word ∷ rest) rows p (end (walk_from (holds rows p)) (word ∷ rest)).held
+      valued_case e cut l t (Some value) is = idle_joined word rest idle_rest rows p e cut value l is t q
+      valued_case e cut l t None is = idle_apart word rest waits_rest rows p e cut l is t q
+
       long_case : bytes_eq word dashes ≡ false → (cut : Text × Option Text) → long_of word ≡ Some cut → (v : Option Text) → cut.1 ≡ v → Says (word ∷ rest) rows p (end (walk_from (holds rows p)) (word ∷ rest)).held
-      long_case e cut l (Some value) is = idle_joined word rest idle_rest rows p e cut value l is q
-      long_case e cut l None is = idle_apart word rest waits_rest rows p e cut l is q
+      long_case e cut l v is = elim (long_taken idle (holds rows p) word cut refl e l (first_quiet (walk_from (holds rows p)) word rest q).0) [
+        | inl long ↦ valued_case e cut l long v is
+        | inr flag ↦ idle_flag word rest idle_rest rows p e cut l flag q
+      ]
 
       go : (b : Bool) → bytes_eq word dashes ≡ b → (o : Option (Text × Option Text)) → long_of word ≡ o → Says (word ∷ rest) rows p (end (walk_from (holds rows p)) (word ∷ rest)).held
       go true e o l =
@@ -509,7 +584,7 @@ module _ (s : Shape) (options : AreOptions s.rules) (once : s.args_override_self
       go false e (Some cut) l =
           let h = holds rows (Some (name, [])) in
           let t = long_taken (option name) h word cut refl e l (first_quiet (waits_from name h) word rest q).0 in
-          absurd (unsettled rows name a f v t.settles)
+          absurd (unsettled rows name a f v (taken_settles h cut t))
       go false e None l =
           let h = holds rows (Some (name, [])) in
           let fq = first_quiet (waits_from name h) word rest q in
@@ -526,9 +601,15 @@ module _ (s : Shape) (options : AreOptions s.rules) (once : s.args_override_self
             says = subst (λ (w : Walk). Says rest rows (Some (name, word ∷ [])) (end w rest).held) (sym step) (idle_rest rows (Some (name, word ∷ [])) quiet);
           }
 
+  ended : (rows : List Row) (p : Option (Text × List Text)) (id : Text)
+      → find (has_id id) (settled s.rules (holds rows p)).rows ≡ option_or (find (has_id id) (settled s.rules (holds rows p)).rows) (option_map (new_row id) (given_by id []))
+  ended rows p id =
+      let here = find (has_id id) (settled s.rules (holds rows p)).rows in
+      or_none here ∙ ap (λ (o : Option Text). option_or here (option_map (new_row id) o)) (sym (given_by_none id))
+
   pub words_say : (words : List Text) → Idle words × Waits words
   words_say [] = (
-    λ rows p q. record { settles = q.1; finds = λ id n. or_none _; passes = λ id n. tt },
+    λ rows p q. record { settles = q.1; finds = λ id n. ended rows p id; passes = λ id n. rw (given_by_none id) tt },
     λ rows name a f id v q. absurd (unsettled rows name a f v q.1),
   )
   words_say (word ∷ rest) = let below = words_say rest in (idle_step word rest below.0 below.1, waits_step word rest below.0)

@@ -1,7 +1,7 @@
 -- What the words of a command line ask for. A word's bytes are those of its text.
-use Rattle.std.specs.Prelude.{◌≡◌, ◌≢◌, ◌⊎◌, ℕ, ◌==◌, ◌&&◌, ◌||◌, ◌^◌, ◌<◌, ◌≤◌, ◌++◌, not, Bool, true, false, List, [], ◌∷◌, codes, length, nat_le, slice_get, if◌then◌else◌, Option, Some, None}
+use Rattle.std.specs.Prelude.{◌≡◌, ◌≢◌, ◌⊎◌, ℕ, ◌==◌, ◌&&◌, ◌||◌, ◌^◌, ◌<◌, ◌≤◌, ◌++◌, Bool, false, List, [], ◌∷◌, codes, length, nat_le, slice_get, if◌then◌else◌, Option, Some, None}
 use Rattle.std.specs.List.{before_first, after_first}
-use Rattle.std.specs.Str.{all_ascii_digits}
+use Rattle.std.specs.Str.{all_ascii_digits, bytes_eq}
 use Rattle.std.specs.Str.Parse.{IsNumeral, digits_value, without_leading_plus}
 use Rattle.mc_classes.specs.declared.config.Config.{Config}
 use Rattle.mc_options.specs.declared.settings.Options.{Options}
@@ -24,6 +24,13 @@ value_from None rest later = later
 abbrev pub value_of : List ℕ → List (List ℕ) → Option (List ℕ)
 value_of name [] = None
 value_of name (word ∷ rest) = value_from (after (codes "--" ++ name) word) rest (value_of name rest)
+
+-- ---- the flag of the threads
+
+-- one of the words is the flag
+abbrev pub has_threads : List (List ℕ) → Bool
+has_threads [] = false
+has_threads (word ∷ rest) = bytes_eq word (codes "--threads") || has_threads rest
 
 -- ---- numbers
 
@@ -64,16 +71,25 @@ factor_or (Some text) = factor_of text
 
 -- ---- which words are taken
 
--- an option with its value, as one word or as two
-pub record Choice : Type 0 where
-  pub name : List ℕ
-  pub value : List ℕ
-  pub is_joined : Bool
+-- an option's name and its value, as one word or as two, or the flag of the threads
+pub data Choice : Type 0 where
+  joined : List ℕ → List ℕ → Choice
+  apart : List ℕ → List ℕ → Choice
+  flag : Choice
 
--- `--name=value`, or `--name` and `value`
+-- `--name=value`, or `--name` and `value`, or `--threads`
 abbrev pub written : Choice → List (List ℕ)
-written choice = if choice.is_joined then (codes "--" ++ choice.name ++ (61 ∷ choice.value)) ∷ [] else (codes "--" ++ choice.name) ∷ choice.value ∷ []
+written (joined name value) = (codes "--" ++ name ++ (61 ∷ value)) ∷ []
+written (apart name value) = (codes "--" ++ name) ∷ value ∷ []
+written flag = codes "--threads" ∷ []
 
+-- the name that stands behind the hyphens
+abbrev pub name_of : Choice → List ℕ
+name_of (joined name value) = name
+name_of (apart name value) = name
+name_of flag = codes "threads"
+
+-- the words of many choices
 abbrev pub words_of : List Choice → List (List ℕ)
 words_of [] = []
 words_of (choice ∷ rest) = written choice ++ words_of rest
@@ -87,26 +103,28 @@ abbrev pub TakesValue : List ℕ → List ℕ → Type 0
 TakesValue name value = (name ≡ codes "factor") ⊎ (((name ≡ codes "automove") × IsMode value) ⊎ (IsNumberName name × IsNumber value))
 
 -- a hyphen (45) and more behind it
-abbrev pub is_flag : List ℕ → Bool
-is_flag [] = false
-is_flag (byte ∷ []) = false
-is_flag (byte ∷ more ∷ rest) = byte == 45
+abbrev pub is_hyphenated : List ℕ → Bool
+is_hyphenated [] = false
+is_hyphenated (byte ∷ []) = false
+is_hyphenated (byte ∷ more ∷ rest) = byte == 45
 
--- a word of its own may be a value if it doesn't look like an option
+-- the option takes the value, and a word of its own may be one if it doesn't look like an option; the flag has none
 abbrev pub IsTaken : Choice → Type 0
-IsTaken choice = TakesValue choice.name choice.value × ((choice.is_joined || not (is_flag choice.value)) ≡ true)
+IsTaken (joined name value) = TakesValue name value
+IsTaken (apart name value) = TakesValue name value × (is_hyphenated value ≡ false)
+IsTaken flag = Unit {0}
 
 -- none of the choices has the name
 abbrev pub IsNewTo : List ℕ → List Choice → Type 0
 IsNewTo name [] = Unit {0}
-IsNewTo name (choice ∷ rest) = (choice.name ≢ name) × IsNewTo name rest
+IsNewTo name (choice ∷ rest) = (name_of choice ≢ name) × IsNewTo name rest
 
 -- each is taken, and none is named twice
 abbrev pub AreTaken : List Choice → Type 0
 AreTaken [] = Unit {0}
-AreTaken (choice ∷ rest) = IsTaken choice × IsNewTo choice.name rest × AreTaken rest
+AreTaken (choice ∷ rest) = IsTaken choice × IsNewTo (name_of choice) rest × AreTaken rest
 
--- the words are options with values that they take, none named twice
+-- the words are options with values that they take, and perhaps the flag, none named twice
 abbrev pub IsCommandLine : List (List ℕ) → Type 0
 IsCommandLine words = (choices : List Choice) × (words ≡ words_of choices) × AreTaken choices
 
@@ -129,5 +147,5 @@ config_of words = record {
 abbrev pub options_of : List (List ℕ) → Options
 options_of words = record {
   run = record { config = config_of words; automove = number_or 0 (value_of (codes "automove") words) };
-  threads = false;
+  threads = has_threads words;
 }

@@ -2,12 +2,12 @@
 ghost use Rattle.std.specs.Prelude.{◌≡◌, ◌≤◌, IfErr, IfOk, IfSome, codes, drop, false, map};
 ghost use Rattle.std.specs.Str.{all_ascii_digits};
 ghost use Rattle.clap.specs.Words.{app_of, first_value, found_of, kind_of, one_text, rule_of, with_rule};
-ghost use Rattle.mc_options.specs.CommandLine.{automove_rule, factor_rule, mcslab, number_rule};
+ghost use Rattle.mc_options.specs.CommandLine.{automove_rule, factor_rule, mcslab, number_rule, threads_rule};
 ghost use Rattle.mc_options.specs.Options.{IsCommandLine, IsNumber, factor_of, factor_or, is_short_number, number_or, options_of, short_number_of};
 
 use crate::settings::{Options, Run};
 use clap::error::ErrorKind;
-use clap::{Arg, ArgMatches, Command, Error, value_parser};
+use clap::{Arg, ArgAction, ArgMatches, Command, Error, value_parser};
 use mc_classes::Config;
 use std::alloc::{AllocError, Global};
 use std::convert::AsStr;
@@ -48,6 +48,17 @@ fn automove_option<'a>(alloc: Global) -> Arg<'a>
         "Mode of the automover: 0 is off, 1 acts on windows, 2 on evictions; default 0",
     )
     .value_parser(value_parser!(u64).range(0..=2))
+}
+
+/// The flag of the threads.
+fn threads_option<'a>(alloc: Global) -> Arg<'a>
+    ensures rule { rule_of result ≡ threads_rule }
+    ensures local { result.global ≡ false }
+{
+    Arg::new(alloc, "threads")
+        .long("threads")
+        .action(ArgAction::SetTrue)
+        .help("Workers and the mover run in threads of their own; default off")
 }
 
 /// Adds the options of the pages: the size of one, and how many bytes of them there may be.
@@ -103,6 +114,13 @@ fn with_movers<'a>(alloc: Global, command: Command<'a>) -> Result<Command<'a>, A
         .arg(automove_option(alloc))
 }
 
+/// Adds the flag of the threads.
+fn with_threads<'a>(alloc: Global, command: Command<'a>) -> Result<Command<'a>, AllocError>
+    ensures { IfOk result (λ more. app_of more ≡ with_rule (app_of command.entry) threads_rule) }
+{
+    command.arg(threads_option(alloc))
+}
+
 /// The command line's options.
 fn command<'a>(alloc: Global) -> Result<Command<'a>, Error>
     ensures app { IfOk result (λ command. app_of command ≡ mcslab) }
@@ -113,7 +131,8 @@ fn command<'a>(alloc: Global) -> Result<Command<'a>, Error>
     );
     let command = with_pages(alloc, command)?;
     let command = with_classes(alloc, command)?;
-    Ok(with_movers(alloc, command)?)
+    let command = with_movers(alloc, command)?;
+    Ok(with_threads(alloc, command)?)
 }
 
 /// The number of an option, or what it is where it isn't named.
@@ -195,6 +214,6 @@ pub fn options<S: AsStr>(alloc: Global, words: &[S]) -> Result<Options, Error>
             config,
             automove: number_or(&matches, "automove", 0),
         },
-        threads: false,
+        threads: matches.get_flag("threads"),
     })
 }

@@ -15,6 +15,6 @@ pub struct Run {
 pub struct Options {
     /// What the run is started with.
     pub run: Run,
-    /// Whether the workers are threads.
+    /// Whether the workers and the mover run in threads of their own.
     pub threads: bool,
 }

@@ -211,6 +211,65 @@ fn reads_the_mode_of_the_automover(rt: HostRuntime) -> Result<(), Fail> {
     Ok(())
 }
 
+#[test]
+fn reads_the_flag_of_the_threads(rt: HostRuntime) -> Result<(), Fail> {
+    let rows: [(&[&str], bool); 8] = [
+        (&["mcslab"], false),
+        (&["--threads"], false),
+        (&["mcslab", "--bulk", "64"], false),
+        (&["mcslab", "--threads"], true),
+        (&["mcslab", "--threads", "--bulk", "64"], true),
+        (
+            &["mcslab", "--stripes=4", "--threads", "--bulk", "64"],
+            true,
+        ),
+        (&["mcslab", "--stripes", "4", "--threads"], true),
+        (&["mcslab", "--threads", "--"], true),
+    ];
+    for (words, threads) in rows {
+        assert_equal(
+            &rt,
+            options(rt.alloc(), words)?,
+            Options {
+                run: Run {
+                    config: FOUR_CLASSES,
+                    automove: 0,
+                },
+                threads,
+            },
+            "the options",
+        );
+    }
+    let config = config_of(&rt, &["mcslab", "--factor=--threads"])?;
+    assert_same(
+        &rt,
+        (config.num, config.den),
+        (0, 0),
+        "a value that is spelled as the flag",
+    );
+    Ok(())
+}
+
+/// The text that words are refused with, and none where they are taken.
+fn text_of(rt: &impl AllocGlobal, words: &[&str]) -> Result<String, Fail> {
+    match options(rt.alloc(), words) {
+        Ok(_) => Ok(String::new(rt.alloc())),
+        Err(error) => Ok(format!(in rt.alloc(); "{error}")?),
+    }
+}
+
+#[test]
+fn tells_the_flag_of_the_threads(rt: HostRuntime) -> Result<(), Fail> {
+    let text = text_of(&rt, &["mcslab", "--help"])?;
+    assert!(rt; text.contains("[OPTIONS]"), "{text}");
+    assert!(rt; text.contains("  --threads  "), "{text}");
+    assert!(rt;
+        text.contains("run in threads of their own; default off"),
+        "{text}"
+    );
+    Ok(())
+}
+
 /// The kind of the error that words are refused with.
 fn refusal_of(rt: &impl AllocGlobal, words: &[&str]) -> Result<Option<ErrorKind>, Fail> {
     match options(rt.alloc(), words) {
@@ -222,7 +281,7 @@ fn refusal_of(rt: &impl AllocGlobal, words: &[&str]) -> Result<Option<ErrorKind>
 
 #[test]
 fn refuses_other_words(rt: HostRuntime) -> Result<(), Fail> {
-    let rows: [(&[&str], ErrorKind); 19] = [
+    let rows: [(&[&str], ErrorKind); 27] = [
         (&["mcslab", "--page"], ErrorKind::InvalidValue),
         (&["mcslab", "--page", "--max", "8"], ErrorKind::InvalidValue),
         (&["mcslab", "--page", "x"], ErrorKind::ValueValidation),
@@ -250,6 +309,17 @@ fn refuses_other_words(rt: HostRuntime) -> Result<(), Fail> {
             &["mcslab", "--automove", "1", "--automove=1"],
             ErrorKind::ArgumentConflict,
         ),
+        (&["mcslab", "--threads=x"], ErrorKind::TooManyValues),
+        (&["mcslab", "--threads="], ErrorKind::TooManyValues),
+        (&["mcslab", "--threads", "true"], ErrorKind::UnknownArgument),
+        (
+            &["mcslab", "--threads", "--page=8", "--threads"],
+            ErrorKind::ArgumentConflict,
+        ),
+        (&["mcslab", "--", "--threads"], ErrorKind::UnknownArgument),
+        (&["mcslab", "--page", "--threads"], ErrorKind::InvalidValue),
+        (&["mcslab", "--thread"], ErrorKind::UnknownArgument),
+        (&["mcslab", "--threads", "--help"], ErrorKind::DisplayHelp),
         (&["mcslab", "--bogus"], ErrorKind::UnknownArgument),
         (&["mcslab", "stray"], ErrorKind::UnknownArgument),
         (&["mcslab", "--", "stray"], ErrorKind::UnknownArgument),
