@@ -15,23 +15,23 @@ class Kind(NamedTuple):
     """How a script is drawn."""
 
     options: tuple
-    workers: int
-    # so many lines of each worker
-    lines: int
-    # of each worker so many keys of its own, and so many with few words; and so many of all workers
-    own: int
-    few: int
-    shared: int
-    # words of an item, of keys that haven't few
-    least: int
-    most: int
-    # where not 0, the workers behind the first so many set and delete nothing of what is shared
-    writers: int
-    # so many holds of a worker at once
-    held: int
-    # so many of the mover's lines, which are drawn from these
-    moves: int
+    # the mover's lines are drawn from these
     mover: tuple
+    # so many of the mover's lines, and so many of each worker
+    moves: int
+    lines: int
+    workers: int = 3
+    # of each worker so many keys of its own, and so many with few words; and so many of all workers
+    own: int = 0
+    few: int = 0
+    shared: int = 0
+    # words of an item, of keys that haven't few
+    least: int = 1
+    most: int = 61
+    # where not 0, the workers behind the first so many set and delete nothing of what is shared
+    writers: int = 0
+    # so many holds of a worker at once
+    held: int = 2
 
 
 # Moves to the pool, which leave room for all, and turns behind them.
@@ -42,19 +42,19 @@ BETWEEN_CLASSES = ("reassign 4 3", "reassign 3 4", "reassign 4 2", "reassign -1 
 MODE_2 = ("turn 1", "turn 1", "turn 3", "turn 10", "window", "reassign -1 0", "reassign -1 4", "automove 2", "automove 2", "automove 1", "stats")
 
 KINDS = {
-    "own-keys": Kind(MANY_PAGES, 4, 600, 10, 2, 0, 1, 61, 0, 3, 10, ("stats", "stats slabs", "automove 1", "window")),
-    "own-keys-under-moves": Kind(MANY_PAGES, 3, 800, 20, 2, 0, 10, 61, 0, 1, 1500, TO_THE_POOL),
-    "windows": Kind(MANY_PAGES, 3, 800, 16, 2, 4, 10, 61, 0, 1, 1500, WINDOWS),
-    "mode-2": Kind(FOUR_PAGES, 3, 800, 8, 3, 3, 1, 61, 0, 3, 800, MODE_2),
-    "shared-keys": Kind(MANY_PAGES, 4, 600, 0, 0, 12, 4, 61, 0, 2, 1500, TO_THE_POOL),
-    "one-writer": Kind(MANY_PAGES, 4, 600, 0, 0, 16, 10, 61, 1, 4, 1500, TO_THE_POOL),
-    "one-stripe": Kind(("--stripes", "1", "--bulk", "1"), 4, 500, 4, 2, 6, 1, 61, 0, 3, 1500, BETWEEN_CLASSES),
-    "all-workers": Kind(LARGE_PAGES, 63, 40, 2, 1, 8, 1, 2045, 0, 2, 300, BETWEEN_CLASSES),
+    "own-keys": Kind(MANY_PAGES, ("stats", "stats slabs", "automove 1", "window"), 10, 600, workers=4, own=10, few=2, held=3),
+    "own-keys-under-moves": Kind(MANY_PAGES, TO_THE_POOL, 1500, 800, own=20, few=2, least=10, held=1),
+    "windows": Kind(MANY_PAGES, WINDOWS, 1500, 800, own=16, few=2, shared=4, least=10, held=1),
+    "mode-2": Kind(FOUR_PAGES, MODE_2, 800, 800, own=8, few=3, shared=3, held=3),
+    "shared-keys": Kind(MANY_PAGES, TO_THE_POOL, 1500, 600, workers=4, shared=12, least=4),
+    "one-writer": Kind(MANY_PAGES, TO_THE_POOL, 1500, 600, workers=4, shared=16, least=10, writers=1, held=4),
+    "one-stripe": Kind(("--stripes", "1", "--bulk", "1"), BETWEEN_CLASSES, 1500, 500, workers=4, own=4, few=2, shared=6, held=3),
+    "all-workers": Kind(LARGE_PAGES, BETWEEN_CLASSES, 300, 40, workers=63, own=2, few=1, shared=8, most=2045),
 }
 # Few lines, as each request for memory is refused in turn: in a full memory, and in one with room for all.
 SHORT_KINDS = {
-    "short-mode-2": Kind(("--automove", "2"), 3, 40, 4, 2, 2, 10, 61, 0, 2, 200, MODE_2),
-    "short-moves": Kind(MANY_PAGES, 3, 40, 4, 2, 2, 10, 61, 0, 1, 200, (*TO_THE_POOL, "window", "automove 1", "automove 2")),
+    "short-mode-2": Kind(("--automove", "2"), MODE_2, 200, 40, own=4, few=2, shared=2, least=10),
+    "short-moves": Kind(MANY_PAGES, (*TO_THE_POOL, "window", "automove 1", "automove 2"), 200, 40, own=4, few=2, shared=2, least=10, held=1),
 }
 # A worker gets as often as it sets, and holds and drops less often; a deleted key is often set again.
 VERBS = ("set",) * 6 + ("get",) * 6 + ("hold",) * 2 + ("drop",) * 2 + ("del",) + ("touch",)
