@@ -1,4 +1,4 @@
-"""The clause that a must-fail edit names, and the clauses that a check's output says aren't proved.
+"""The clause or the error code that an edit names, and the clauses that a check's output says aren't proved.
 
 A goal's name says which clause it is of. The output has names of goals in three places: in a note on a goal that `search`
 didn't prove, in the verdict on its function, and in an error in a written answer, proofs/F/Answers.antt. Of an answer that is
@@ -9,6 +9,10 @@ import re
 from typing import NamedTuple
 
 LINE = re.compile(r"#\s*refused by:\s*(.*?)\s*")
+CODE_LINE = re.compile(r"#\s*refused as:\s*(.*?)\s*")
+CODE = re.compile(r"[a-z]+(?:-[a-z]+)*")
+# With which error code the compiler refuses an edit that names none.
+USUAL_CODE = "private-field"
 # Statements with parts that the output may tell: a line may name a part, or the whole.
 WHOLE = ("ensures", "invariant", "loop invariant")
 FORM = re.compile(rf"(?:\w+ requires|{'|'.join(WHOLE)})(?: \w+)?|\w+")
@@ -44,6 +48,17 @@ def named_clause(path):
     if named and not FORM.fullmatch(named[0]):
         return "", f"'{named[0]}' is no form of a clause"
     return "".join(named), ""
+
+
+def named_code(path):
+    """The error code that an edit's file names, or the usual one, and what is wrong."""
+    with open(path, encoding="utf-8") as file:
+        named = [it[1] for it in map(CODE_LINE.fullmatch, file.read().split("\n")) if it]
+    if len(named) > 1:
+        return "", "it has two lines 'refused as:'"
+    if named and not CODE.fullmatch(named[0]):
+        return "", f"'{named[0]}' is no form of an error code"
+    return "".join(named) or USUAL_CODE, ""
 
 
 def is_shown(named, failed):

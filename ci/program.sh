@@ -53,7 +53,28 @@ check_examples() {
         [ ! -f "$base.status" ] || wanted=$(cat "$base.status")
         run_on "$script"
         wants "example $(basename "$base")" "$wanted"
+        [ ! -f "$base.threads" ] || check_in_threads "$script"
     done
+}
+
+# check_in_threads SCRIPT: an example with --threads. Beside it stands what is written, line for line, and where that depends on the
+# schedule, each line that may be written, parted by ' | '.
+check_in_threads() {
+    name="$build: example $(basename "$1" .txt) in threads"
+    run_on "$1" --threads
+    wrong=$(awk '
+        NR == FNR { may[FNR] = $0; lines = FNR; next }
+        { written = FNR; line = $0; fits = 0; ends = sub(/\r$/, "", line); count = split(may[FNR], them, / [|] /) }
+        { for (i = 1; i <= count; i++) if (them[i] == line && ends) fits = 1 }
+        !fits && !wrong { wrong = FNR; print "line " FNR ": " line }
+        END { if (!wrong && written != lines) print written + 0 " lines in place of " lines }' "${1%.txt}.threads" "$room/stdout")
+    if [ "$status" -ne 0 ] || [ -s "$room/stderr" ]; then
+        bad "$name" "status $status; standard error: $(head -c 300 "$room/stderr")"
+    elif [ -n "$wrong" ]; then
+        bad "$name" "$wrong"
+    else
+        ok "$name"
+    fi
 }
 
 # Each refusal of a configuration by its number, in the order of the tests. The script is refused too, and isn't read.
@@ -239,6 +260,53 @@ check_streams() {
     esac
 }
 
+# The statistics of a memory without moves and with pages of class 1 alone, told behind all replies: pages, chunks, used ones, bytes.
+last_texts() {
+    [ "$1" -eq 0 ] || printf 'STAT 1:%s\r\n' 'chunk_size 48' 'chunks_per_page 21' "total_pages $1" "total_chunks $2" "used_chunks $3" \
+        "free_chunks $(($2 - $3))"
+    printf '%s\r\n' "STAT active_slabs $1" "STAT total_malloced $4" END 'STAT slab_global_page_pool 0' 'STAT slab_reassign_running 0' \
+        'STAT slabs_moved 0' 'STAT slab_reassign_rescues 0' 'STAT slab_reassign_evictions_nomem 0' 'STAT slab_reassign_busy_items 0' END
+}
+
+# What every schedule gives, and what ends a run in threads: nothing is written before all threads have ended.
+check_threads() {
+    told
+    last_texts 0 0 0 0 >"$room/want"
+    run_on /dev/null --threads
+    wants "--threads, an empty script" 0
+    awk 'BEGIN { for (i = 1; i <= 5; i++) for (w = 4; w >= 1; w--) print w, "set", 10 * w + i, 3, 7 }' >"$room/script"
+    {
+        printf 'STORED %s\r\n' 11 12 13 14 15 21 22 23 24 25 31 32 33 34 35 41 42 43 44 45
+        last_texts 1 21 20 1024
+    } >"$room/want"
+    for _ in 1 2 3 4 5 6 7 8 9 10; do
+        run_on "$room/script" --threads
+        cmp -s "$room/want" "$room/stdout" || break
+    done
+    wants "--threads, four workers with keys of their own" 0
+    printf '2 set 1 3 7\n1 frob 3\n' >"$room/script"
+    told 'mcslab: script: line 2'
+    run_on "$room/script" --threads
+    wants "--threads, a bad line" 2
+    told 'mcslab: config: 6'
+    run_on "$room/script" --threads --stripes 0
+    wants "--threads, a refused configuration" 1
+    told 'mcslab: read'
+    run_on "$room" --threads
+    wants "--threads, a directory as standard input" 3
+    : >"$room/stdout"
+    told 'mcslab: write'
+    if [ -c /dev/full ]; then
+        timeout 60 "$program" --threads <examples/two-workers.txt >/dev/full 2>"$room/stderr"
+        status=$?
+        wants "--threads, a full device" 3
+    fi
+    awk 'BEGIN { for (i = 0; i < 20000; i++) print "stats slabs" }' >"$room/script"
+    { timeout 60 "$program" --threads <"$room/script" 2>"$room/stderr"; echo $? >"$room/status"; } | head -c 1 >"$room/first"
+    status=$(cat "$room/status")
+    wants "--threads, a closed pipe" 3
+}
+
 # Drawn scripts, always the same, of which the program writes what the plain one does.
 check_drawn() {
     if python3 bench/compare --scripts 200 --lines 600 --seed 3001 --bytes 60000 --program "$program" --keep "$room/differences" \
@@ -264,6 +332,7 @@ check_program() {
         check_lengths
         check_turns
         check_streams
+        check_threads
         check_drawn
     done
 }

@@ -1,14 +1,18 @@
-/* A library to be preloaded: it refuses the Nth request for memory that the program makes, or that and all behind it, and tells
-   how many were made.
+/* A library to be preloaded: it refuses the Nth request for memory that the program makes, or that and all behind it, or the Nth thread
+   that it starts, and tells how many of both there were.
 
-     REFUSE_REQUEST   N, counted from 1 (none: nothing is refused)
+     REFUSE_REQUEST   N, counted from 1 (none: no request is refused)
      REFUSE_ON        is there: all requests behind the Nth are refused too
-     REFUSE_TOLD      a file that is to get the number of requests, once the program ends
+     REFUSE_THREAD    N, counted from 1 (none: each thread is started); the Nth is answered EAGAIN
+     REFUSE_TOLD      a file that is to get the number of requests and that of threads, in one line, once the program ends
 
-   A request is a malloc or a realloc, which is all that the program's allocator calls. Threads may make some at once. A program with threads
-   ends by _exit, which runs no destructor, so that is told there. */
+   A request is a malloc or a realloc, which is all that the program's allocator calls. Threads may make some at once, so which one is
+   the Nth then is another each time. A program with threads ends by _exit, which runs no destructor, so that is told there. */
 #define _GNU_SOURCE
+#include <dlfcn.h>
+#include <errno.h>
 #include <fcntl.h>
+#include <pthread.h>
 #include <stdio.h>
 #include <stdlib.h>
 #include <sys/syscall.h>
@@ -17,14 +21,25 @@
 extern void *__libc_malloc(size_t size);
 extern void *__libc_realloc(void *old, size_t size);
 
+typedef int (*create_thread)(pthread_t *, const pthread_attr_t *, void *(*)(void *), void *);
+
 static unsigned long requests;
 static unsigned long refused;
 static int goes_on;
+static unsigned long threads;
+static unsigned long refused_thread;
+static create_thread create;
+
+static unsigned long number_in(const char *name) {
+    const char *number = getenv(name);
+    return number ? strtoul(number, NULL, 10) : 0;
+}
 
 __attribute__((constructor)) static void begin(void) {
-    const char *number = getenv("REFUSE_REQUEST");
-    refused = number ? strtoul(number, NULL, 10) : 0;
+    create = (create_thread)dlsym(RTLD_NEXT, "pthread_create");
+    refused_thread = number_in("REFUSE_THREAD");
     goes_on = getenv("REFUSE_ON") != NULL;
+    refused = number_in("REFUSE_REQUEST");
     requests = 0;
 }
 
@@ -41,12 +56,17 @@ void *realloc(void *old, size_t size) {
     return is_refused() ? NULL : __libc_realloc(old, size);
 }
 
+int pthread_create(pthread_t *thread, const pthread_attr_t *attributes, void *(*begins)(void *), void *given) {
+    unsigned long number = __atomic_add_fetch(&threads, 1, __ATOMIC_RELAXED);
+    return number == refused_thread ? EAGAIN : create(thread, attributes, begins, given);
+}
+
 __attribute__((destructor)) static void tell(void) {
-    unsigned long made = requests;
+    unsigned long made = requests, started = threads;
     const char *path = getenv("REFUSE_TOLD");
     int file = path ? open(path, O_WRONLY | O_CREAT | O_TRUNC, 0644) : -1;
     if (file >= 0) {
-        dprintf(file, "%lu\n", made);
+        dprintf(file, "%lu %lu\n", made, started);
         close(file);
     }
 }
