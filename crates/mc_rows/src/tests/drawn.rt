@@ -12,12 +12,12 @@ use std::process::Abort;
 use std::sync::Wait;
 use std::test::Fail;
 
-/// How many scripts there are, how many lines each has, and after how many of them its sets are mostly of another size.
+/// How many scripts there are, how many phases each has, in which sets are mostly of one size, and how many lines a phase.
 const SCRIPTS: u64 = 300;
 
-const LINES: u64 = 200;
+const PHASES: u64 = 4;
 
-const PHASE: u64 = 50;
+const LINES: u64 = 50;
 
 /// Three configurations, each in another mode at first.
 const RUNS: [Run; 3] = [
@@ -169,22 +169,32 @@ fn mover_line(alloc: Global, random: &mut Pcg32) -> Result<String, AllocError> {
     format!(in alloc; "reassign {src} {dst}\n")
 }
 
+/// Adds the lines of a phase, a quarter of them lines of the mover.
+fn push_phase(
+    alloc: Global,
+    random: &mut Pcg32,
+    workers: u64,
+    script: &mut Vec<u8>,
+) -> Result<(), AllocError> {
+    let often = pick(random, &WORDS);
+    for _line in 0..LINES {
+        let line = if draw(random, 4) == 0 {
+            mover_line(alloc, random)?
+        } else {
+            worker_line(alloc, random, workers, often)?
+        };
+        script.extend_from_slice(line.as_bytes())?;
+    }
+    Ok(())
+}
+
 /// The script of this number, of two to four workers.
 fn drawn(alloc: Global, number: u64) -> Result<Vec<u8>, AllocError> {
     let mut random = Pcg32::new(number, 0);
     let workers = draw(&mut random, 3).saturating_add(2);
-    let mut often = "";
     let mut script = Vec::new(alloc);
-    for place in 0..LINES {
-        if place % PHASE == 0 {
-            often = pick(&mut random, &WORDS);
-        }
-        let line = if draw(&mut random, 4) == 0 {
-            mover_line(alloc, &mut random)?
-        } else {
-            worker_line(alloc, &mut random, workers, often)?
-        };
-        script.extend_from_slice(line.as_bytes())?;
+    for _phase in 0..PHASES {
+        push_phase(alloc, &mut random, workers, &mut script)?;
     }
     Ok(script)
 }

@@ -119,7 +119,7 @@ fn assert_same_lines(rt: &impl Abort, found: &[u8], wanted: &[u8], name: &str) {
 fn line_at(text: &[u8], before: usize) -> &str {
     let line = text.split(|byte| *byte == b'\n').nth(before);
     match str::from_utf8(line.unwrap_or(b"")) {
-        Ok(line) => line,
+        Ok(line) => line.trim_end(),
         Err(_) => "?",
     }
 }
