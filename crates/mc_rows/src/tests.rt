@@ -1,11 +1,14 @@
 //! Worked examples, by name: a script, the replies and how the run ends; and lists of events for the model.
 mod automove;
+mod drawn;
 mod events;
 mod guards;
 mod holds;
 mod hostile;
 mod moves;
+mod on_hands;
 mod rows;
+mod seats;
 mod streams;
 
 ghost use Rattle.std.specs.Prelude.{◌≡◌, ◌<◌, ◌≤◌};
@@ -13,11 +16,14 @@ ghost use Rattle.std.specs.Prelude.{◌≡◌, ◌<◌, ◌≤◌};
 use crate::devices::{MemorySink, MemorySource};
 use mc_classes::{Config, Failures};
 use mc_driver::{Run, RunFault, run_serial};
+use on_hands::assert_alike;
 use std::alloc::{AllocError, Global};
 use std::fmt::Debug;
 use std::marker::Brand;
 use std::process::Abort;
+use std::sync::Wait;
 use std::sync::ledger::{Blank, Ledger};
+use std::test::Fail;
 
 /// A name, a script, what is written, and how the run ends.
 type Row<'a> = (&'a str, &'a str, &'a str, Result<(), RunFault>);
@@ -146,11 +152,41 @@ fn play_counting<I: Ledger, O: Ledger>(
     })
 }
 
-/// Each row's script has the replies and the end of the row.
-fn plays_rows(rt: &impl Abort, alloc: Global, rows: &[Row]) -> Result<(), AllocError> {
+/// A run with these classes that begins in mode 0 of the automover.
+const FROM_MODE_0: Run = Run {
+    config: FOUR_CLASSES,
+    automove: 0,
+};
+
+/// The serial run of the script writes this and ends so, and hands of the arena do the same.
+fn plays<R: Abort + Wait>(
+    rt: &R,
+    alloc: Global,
+    run: Run,
+    script: &[u8],
+    text: &[u8],
+    end: Result<(), RunFault>,
+    name: &str,
+) -> Result<(), Fail>
+    requires { run.automove ≤ 2 }
+{
+    let played = play_run(alloc, run, script, WHOLE)?;
+    assert_played(rt, &played, end, text, name);
+    assert_alike(rt, alloc, run, script, &played, name)
+}
+
+/// Each row's script has the replies and the end of the row, in a serial run and on hands.
+fn plays_rows<R: Abort + Wait>(rt: &R, alloc: Global, rows: &[Row]) -> Result<(), Fail> {
     for (name, script, replies, end) in rows {
-        let played = play(alloc, FOUR_CLASSES, script.as_bytes(), WHOLE)?;
-        assert_played(rt, &played, *end, replies.as_bytes(), name);
+        plays(
+            rt,
+            alloc,
+            FROM_MODE_0,
+            script.as_bytes(),
+            replies.as_bytes(),
+            *end,
+            name,
+        )?;
     }
     Ok(())
 }

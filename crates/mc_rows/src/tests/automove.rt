@@ -1,5 +1,5 @@
 //! Runs in which pages move by themselves.
-use super::{FOUR_CLASSES, Row, WHOLE, assert_played, play, play_run, plays_rows};
+use super::{FOUR_CLASSES, FROM_MODE_0, Row, plays, plays_rows};
 use mc_driver::Run;
 use std::alloc::{AllocError, Global};
 use std::test::Fail;
@@ -115,8 +115,7 @@ fn a_page_to_spare_goes_to_the_pool(rt: HostRuntime) -> Result<(), Fail> {
         let (mut script, mut replies) = three_pages(rt.alloc(), deleted)?;
         script.extend_from_slice(more.as_bytes())?;
         replies.extend_from_slice(more_replies.as_bytes())?;
-        let played = play_run(rt.alloc(), run, &script, WHOLE)?;
-        assert_played(&rt, &played, Ok(()), &replies, more);
+        plays(&rt, rt.alloc(), run, &script, &replies, Ok(()), more)?;
     }
     Ok(())
 }
@@ -129,15 +128,16 @@ fn a_run_is_started_in_a_mode(rt: HostRuntime) -> Result<(), Fail> {
         config: FOUR_CLASSES,
         automove: 2,
     };
-    let started = play_run(
+    let script = script.as_bytes();
+    let replies = replies.as_bytes();
+    plays(
+        &rt,
         rt.alloc(),
         run,
-        &script.as_bytes()["automove 2\n".len()..],
-        WHOLE,
+        &script["automove 2\n".len()..],
+        &replies["OK\r\n".len()..],
+        Ok(()),
+        name,
     )?;
-    let rest = &replies.as_bytes()["OK\r\n".len()..];
-    assert_played(&rt, &started, Ok(()), rest, name);
-    let told = play(rt.alloc(), FOUR_CLASSES, script.as_bytes(), WHOLE)?;
-    assert_played(&rt, &told, Ok(()), replies.as_bytes(), name);
-    Ok(())
+    plays(&rt, rt.alloc(), FROM_MODE_0, script, replies, Ok(()), name)
 }

@@ -1,6 +1,6 @@
 //! Rules that a reader of the plain machine may take otherwise: each row is named after the rule, and another reading of
 //! it gives other replies.
-use super::{FOUR_CLASSES, Row, WHOLE, assert_played, play, play_run, plays_rows};
+use super::{FOUR_CLASSES, FROM_MODE_0, Row, WHOLE, assert_played, play, plays, plays_rows};
 use mc_classes::Config;
 use mc_driver::{Run, RunFault};
 use std::alloc::{AllocError, Global};
@@ -172,8 +172,15 @@ fn an_idle_turn_counts(rt: HostRuntime) -> Result<(), Fail> {
 fn rules_hold_of_runs_with_options(rt: HostRuntime) -> Result<(), Fail> {
     for (name, run, script, replies) in STARTED_ROWS {
         assert!(rt; run.automove <= 2, "the mode of: {name}");
-        let played = play_run(rt.alloc(), run, script.as_bytes(), WHOLE)?;
-        assert_played(&rt, &played, Ok(()), replies.as_bytes(), name);
+        plays(
+            &rt,
+            rt.alloc(),
+            run,
+            script.as_bytes(),
+            replies.as_bytes(),
+            Ok(()),
+            name,
+        )?;
     }
     Ok(())
 }
@@ -241,9 +248,15 @@ fn of_two_rules_that_apply_the_one_of_evictions_comes_first(rt: HostRuntime) -> 
         "automove 0\n1 set 5 61 0\nwindow\n1 set 6 61 0\nwindow\nautomove 1\n1 set 7 61 0\nwindow\n",
         "OK\r\nSTORED 5\r\nWINDOW none\r\nSTORED 6\r\nWINDOW none\r\nOK\r\nSTORED 7\r\nWINDOW 1 4 OK\r\n",
     )?;
-    let played = play_run(rt.alloc(), run, &told.script, WHOLE)?;
-    assert_played(&rt, &played, Ok(()), &told.replies, "two rules");
-    Ok(())
+    plays(
+        &rt,
+        rt.alloc(),
+        run,
+        &told.script,
+        &told.replies,
+        Ok(()),
+        "two rules",
+    )
 }
 
 /// A page of 256 chunks moves, so chunks have indices of 200 and above.
@@ -269,7 +282,13 @@ fn a_page_of_256_chunks_moves(rt: HostRuntime) -> Result<(), Fail> {
         "reassign 1 2\nturn 9\nstats\nstats slabs\n",
         "OK\r\nTURN FINISHED 256 213 43 0 0\r\nSTAT slab_global_page_pool 0\r\nSTAT slab_reassign_running 0\r\nSTAT slabs_moved 1\r\nSTAT slab_reassign_rescues 213\r\nSTAT slab_reassign_evictions_nomem 43\r\nSTAT slab_reassign_busy_items 0\r\nEND\r\nSTAT 1:chunk_size 64\r\nSTAT 1:chunks_per_page 256\r\nSTAT 1:total_pages 1\r\nSTAT 1:total_chunks 256\r\nSTAT 1:used_chunks 256\r\nSTAT 1:free_chunks 0\r\nSTAT 2:chunk_size 128\r\nSTAT 2:chunks_per_page 128\r\nSTAT 2:total_pages 1\r\nSTAT 2:total_chunks 128\r\nSTAT 2:used_chunks 0\r\nSTAT 2:free_chunks 128\r\nSTAT active_slabs 2\r\nSTAT total_malloced 32768\r\nEND\r\n",
     )?;
-    let played = play_run(rt.alloc(), run, &told.script, WHOLE)?;
-    assert_played(&rt, &played, Ok(()), &told.replies, "a page of 256 chunks");
-    Ok(())
+    plays(
+        &rt,
+        rt.alloc(),
+        run,
+        &told.script,
+        &told.replies,
+        Ok(()),
+        "a page of 256 chunks",
+    )
 }

@@ -1,5 +1,5 @@
 //! Runs that read, hold, give back and touch items.
-use super::{FOUR_CLASSES, Row, WHOLE, assert_played, play, plays_rows};
+use super::{FROM_MODE_0, Row, plays, plays_rows};
 use std::alloc::AllocError;
 use std::test::Fail;
 
@@ -77,7 +77,13 @@ fn a_worker_holds_at_most_255_chunks(rt: HostRuntime) -> Result<(), Fail> {
     replies.extend_from_slice(
         b"HELD 2\r\nVALUE 2 1 5\r\nNOT_HELD 9\r\nDROPPED 1 3 7 8 9\r\nVALUE 2 1 5\r\nHELD 2\r\nTOO_MANY_REFS 1\r\nDROPPED 2 1 5\r\n",
     )?;
-    let played = play(rt.alloc(), FOUR_CLASSES, &script, WHOLE)?;
-    assert_played(&rt, &played, Ok(()), &replies, "255 holds");
-    Ok(())
+    plays(
+        &rt,
+        rt.alloc(),
+        FROM_MODE_0,
+        &script,
+        &replies,
+        Ok(()),
+        "255 holds",
+    )
 }

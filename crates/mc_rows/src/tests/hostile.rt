@@ -1,5 +1,8 @@
 //! Scripts that are refused, and scripts at the edge of what is taken.
-use super::{FOUR_CLASSES, Row, WHOLE, assert_played, assert_same, moves, play, plays_rows};
+use super::{
+    FOUR_CLASSES, FROM_MODE_0, Row, WHOLE, assert_played, assert_same, moves, play, plays,
+    plays_rows,
+};
 use mc_driver::RunFault;
 use std::test::Fail;
 
@@ -68,15 +71,16 @@ fn lines_at_the_edge(rt: HostRuntime) -> Result<(), Fail> {
 #[test]
 fn spent_turns(rt: HostRuntime) -> Result<(), Fail> {
     let (name, script, replies, end) = SPENT;
-    let played = play(rt.alloc(), FOUR_CLASSES, script.as_bytes(), WHOLE)?;
-    assert_played(&rt, &played, end, replies.as_bytes(), name);
-    assert_same(
+    assert_same(&rt, end.map_err(|fault| fault.status()), Err(5), name);
+    plays(
         &rt,
-        played.end.map_err(|fault| fault.status()),
-        Err(5),
+        rt.alloc(),
+        FROM_MODE_0,
+        script.as_bytes(),
+        replies.as_bytes(),
+        end,
         name,
-    );
-    Ok(())
+    )
 }
 
 /// A script that is cut off somewhere is refused by its last line, or runs as the shorter script: the lines before the

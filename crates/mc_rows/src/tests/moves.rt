@@ -1,7 +1,7 @@
 //! Runs whose pages move.
-use super::{FOUR_CLASSES, Row, WHOLE, assert_played, play, plays_rows};
+use super::{FOUR_CLASSES, Row, plays, plays_rows};
 use mc_classes::Config;
-use mc_driver::RunFault;
+use mc_driver::{Run, RunFault};
 use std::test::Fail;
 
 pub(super) const ROWS: [Row<'static>; 7] = [
@@ -57,15 +57,24 @@ fn pages_move(rt: HostRuntime) -> Result<(), Fail> {
 
 #[test]
 fn one_chunk_a_turn(rt: HostRuntime) -> Result<(), Fail> {
-    let config = Config {
-        bulk: 1,
-        ..FOUR_CLASSES
+    let run = Run {
+        config: Config {
+            bulk: 1,
+            ..FOUR_CLASSES
+        },
+        automove: 0,
     };
     let script =
         b"1 set 1 61 0\n1 set 2 61 0\n1 set 3 61 0\n1 set 4 61 0\n1 set 5 61 0\n1 set 6 61 0\n1 set 7 61 0\n1 set 8 61 0\nreassign 4 1\nturn 1\nturn 1\n";
     let replies =
         b"STORED 1\r\nSTORED 2\r\nSTORED 3\r\nSTORED 4\r\nSTORED 5\r\nSTORED 6\r\nSTORED 7\r\nSTORED 8\r\nOK\r\nTURN WENT 1 0 1 0 0\r\nTURN FINISHED 1 0 1 0 0\r\n";
-    let played = play(rt.alloc(), config, script, WHOLE)?;
-    assert_played(&rt, &played, Ok(()), replies, "one chunk a turn");
-    Ok(())
+    plays(
+        &rt,
+        rt.alloc(),
+        run,
+        script,
+        replies,
+        Ok(()),
+        "one chunk a turn",
+    )
 }

@@ -1,0 +1,109 @@
+//! Counts and issue numbers at their greatest.
+ghost use Rattle.mc_mover_trials.specs.Hands.{IsReadyHandOf};
+
+use super::calls::{get_key, header, opened_two, touch_key};
+use super::steps::{Step, play_all};
+use super::{FOUR_CLASSES, assert_equal, assert_same};
+use mc_items::{GetError, get};
+use mc_pages::ChunkId;
+use mc_stripe::Key;
+use mc_words::{Arena, Hand};
+use std::alloc::Global;
+use std::process::Abort;
+use std::sync::Wait;
+use std::test::Fail;
+
+/// The greatest issue number.
+const MOST_ISSUE: u64 = 70_368_744_177_663;
+
+/// Where the first item of 61 words is put.
+const FIRST: ChunkId = ChunkId { page: 0, index: 1 };
+
+/// Holds the key's item so often. False where that is refused.
+fn hold_often<R: Wait>(rt: &R, arena: &Arena, hand: &mut Hand, key: Key, count: u64) -> bool
+    requires arena { IsReadyHandOf arena.now hand.old }
+    ensures arena { IsReadyHandOf arena.now hand.new }
+{
+    for _hold in 0..count {
+        if get_key(rt, arena, hand, key).is_none() {
+            return false;
+        }
+    }
+    true
+}
+
+/// The refusal of a get, if there is one.
+fn refusal_of_get<R: Wait>(rt: &R, arena: &Arena, hand: &mut Hand, key: Key) -> Option<GetError>
+    requires arena { IsReadyHandOf arena.now hand.old }
+    ensures arena { IsReadyHandOf arena.now hand.new }
+{
+    get(rt, arena, hand, key).err()
+}
+
+/// Holds key 1 with 255 references of the hand, which has none before, and is refused more, whatever the key.
+fn fill_up<R: Abort + Wait>(rt: &R, arena: &Arena, hand: &mut Hand)
+    requires arena { IsReadyHandOf arena.now hand.old }
+    ensures arena { IsReadyHandOf arena.now hand.new }
+{
+    assert_same(rt, hold_often(rt, arena, hand, 1, 255), true, "255 holds");
+    for key in [1, 2, 9] {
+        let refused = refusal_of_get(rt, arena, hand, key);
+        assert_equal(rt, refused, Some(GetError::TooManyRefs), "one more");
+    }
+    assert_same(rt, touch_key(rt, arena, hand, 1), Some(true), "a touch");
+}
+
+#[test]
+fn two_hands_hold_a_chunk_as_often_as_they_may(rt: HostRuntime) -> Result<(), Fail> {
+    let (arena, mut hand, mut other) = opened_two(rt.alloc(), &FOUR_CLASSES)?;
+    play_all(&rt, rt.alloc(), &arena, &mut hand, &[Step::Sets(1, 5, 61)])?;
+    fill_up(&rt, &arena, &mut hand);
+    let head = header(&arena, &mut hand, FIRST);
+    assert_same(&rt, head, Some(459_008), "linked, and 255 references");
+    fill_up(&rt, &arena, &mut other);
+    let head = header(&arena, &mut hand, FIRST);
+    assert_same(&rt, head, Some(459_263), "linked, and 510 references");
+    let steps = [
+        Step::Reassigns(Some(4), 1, Ok(())),
+        Step::Goes(1, 0, 1, 1, 0),
+        Step::Deletes(1),
+        Step::Goes(0, 0, 0, 1, 0),
+    ];
+    play_all(&rt, rt.alloc(), &arena, &mut hand, &steps)?;
+    let head = header(&arena, &mut hand, FIRST);
+    assert_same(&rt, head, Some(393_726), "unlinked, and 510 references");
+    Ok(())
+}
+
+/// Four items fill two pages, and one is deleted; then a page goes to the pool, from an arena of this first issue number.
+fn move_beside_dead<R: Abort + Wait>(
+    rt: &R,
+    alloc: Global,
+    start: u64,
+    finishes: Step,
+    has: Step,
+) -> Result<(), Fail> {
+    let (arena, mut hands) = Arena::from_issue(alloc, &FOUR_CLASSES, 1, start)?;
+    let mut hand = hands.remove(0);
+    let steps = [
+        Step::Sets(1, 5, 61),
+        Step::Deletes(4),
+        Step::Reassigns(Some(4), 0, Ok(())),
+        finishes,
+        Step::Pages(2, 1, false),
+        has,
+    ];
+    play_all(rt, alloc, &arena, &mut hand, &steps)?;
+    Ok(())
+}
+
+#[test]
+fn a_worn_chunk_rescues_nothing(rt: HostRuntime) -> Result<(), Fail> {
+    let evicts = Step::Finishes(2, 0, 2, 0, 0);
+    let stays = Step::Has(4, 1, 1, 1);
+    move_beside_dead(&rt, rt.alloc(), MOST_ISSUE - 1, evicts, stays)?;
+    let rescues = Step::Finishes(2, 1, 1, 0, 0);
+    let full = Step::Has(4, 1, 2, 0);
+    move_beside_dead(&rt, rt.alloc(), MOST_ISSUE - 2, rescues, full)?;
+    move_beside_dead(&rt, rt.alloc(), 0, rescues, full)
+}

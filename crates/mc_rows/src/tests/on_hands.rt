@@ -1,0 +1,125 @@
+//! Scripts on hands of the arena, line after line on one thread: they write what the serial run writes.
+ghost use Rattle.std.specs.Prelude.{◌≤◌, All, IfOk};
+ghost use Rattle.mc_script.specs.Command.{IsValid};
+ghost use Rattle.mc_rows.specs.Seats.{IsMoverSeat, IsSeat};
+
+use super::Played;
+use super::seats::{MoverSeat, Seat, asked_by, seats_of, serve_mover, serve_worker};
+use mc_driver::{Run, RunFault};
+use mc_script::Command;
+use mc_words::Arena;
+use mc_workers::{Ended, Mover, first_hand};
+use std::alloc::Global;
+use std::process::Abort;
+use std::str;
+use std::sync::Wait;
+use std::test::Fail;
+
+/// Hands of a new arena do the script's lines, write what the serial run wrote and end as it did. A script that it refused isn't played.
+pub fn assert_alike<R: Abort + Wait>(
+    rt: &R,
+    alloc: Global,
+    run: Run,
+    script: &[u8],
+    serial: &Played,
+    name: &str,
+) -> Result<(), Fail>
+    requires { run.automove ≤ 2 }
+{
+    let end = match serial.end {
+        Ok(()) => Ok(()),
+        Err(RunFault::Turns) => Err(Ended::Turns),
+        Err(_) => return Ok(()),
+    };
+    let mut text = Vec::new(alloc);
+    let ended = play_on_hands(rt, alloc, run, script, &mut text)?;
+    assert_same_lines(rt, &text, &serial.text, name);
+    assert!(rt; ended == end, "how hands end: {name}");
+    Ok(())
+}
+
+/// The commands of a script.
+fn commands_of(alloc: Global, script: &[u8]) -> Result<Vec<Command>, Fail>
+    ensures valid { IfOk result (λ commands. All IsValid commands.items) }
+{
+    match mc_script::read(alloc, script) {
+        Ok(commands) => Ok(commands),
+        Err(_) => Err(Fail::new("each line is a command")),
+    }
+}
+
+/// Plays a script on 64 hands of a new arena, the mover's first, and says how it ends.
+fn play_on_hands<R: Wait>(
+    rt: &R,
+    alloc: Global,
+    run: Run,
+    script: &[u8],
+    text: &mut Vec<u8>,
+) -> Result<Result<(), Ended>, Fail>
+    requires { run.automove ≤ 2 }
+{
+    let commands = commands_of(alloc, script)?;
+    let (arena, mut hands) = Arena::new(alloc, &run.config, 64)?;
+    let Some(hand) = first_hand(&arena, 0, &mut hands) else {
+        return Err(Fail::new("there is a hand"));
+    };
+    let mut seats = seats_of(alloc, &arena, hands)?;
+    let mover = Mover::new(alloc, arena.classes())?;
+    let mut seat = MoverSeat { hand, mover };
+    let mode = Command::Automove { mode: run.automove };
+    let mut told = Vec::new(alloc);
+    if serve_mover(rt, alloc, &arena, &mut seat, mode, &mut told).is_err() {
+        return Err(Fail::new("the mode is set"));
+    }
+    Ok(play_lines(rt, alloc, &arena, &mut seats, &mut seat, &commands, text))
+}
+
+/// Does each line at its seat, and adds the replies.
+fn play_lines<R: Wait>(
+    rt: &R,
+    alloc: Global,
+    arena: &Arena,
+    seats: &mut Vec<Seat>,
+    mover: &mut MoverSeat,
+    commands: &[Command],
+    text: &mut Vec<u8>,
+) -> Result<(), Ended>
+    requires seats { All (λ seat. IsSeat arena.now seat.hand seat.kept.items) seats.old.items }
+    requires mover { IsMoverSeat arena.now mover.old.hand }
+    requires valid { All IsValid commands.now }
+{
+    for command in commands {
+        match asked_by(*command) {
+            Some(asked) => serve_worker(rt, alloc, arena, seats, asked, *command, text)?,
+            None => serve_mover(rt, alloc, arena, mover, *command, text)?,
+        }
+    }
+    Ok(())
+}
+
+/// The texts are the same; else the first line that differs is told.
+fn assert_same_lines(rt: &impl Abort, found: &[u8], wanted: &[u8], name: &str) {
+    if found == wanted {
+        return;
+    }
+    let alike = found
+        .split(|byte| *byte == b'\n')
+        .zip(wanted.split(|byte| *byte == b'\n'))
+        .take_while(|(one, other)| one == other)
+        .count();
+    let one = line_at(found, alike);
+    let other = line_at(wanted, alike);
+    assert!(rt;
+        false,
+        "{name}: behind {alike} lines hands write {one}, and the serial run {other}"
+    );
+}
+
+/// The line behind so many.
+fn line_at(text: &[u8], before: usize) -> &str {
+    let line = text.split(|byte| *byte == b'\n').nth(before);
+    match str::from_utf8(line.unwrap_or(b"")) {
+        Ok(line) => line.trim_end(),
+        Err(_) => "?",
+    }
+}

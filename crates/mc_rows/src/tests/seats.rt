@@ -1,0 +1,110 @@
+//! Seats at an arena: a hand for each worker, with the references that it keeps, and one for the mover.
+ghost use Rattle.std.specs.Prelude.{◌≡◌, ◌≤◌, All, IfOk, false, is_some, true};
+ghost use Rattle.mc_script.specs.Command.{IsValid};
+ghost use Rattle.mc_words.specs.Hands.{AreHandsFrom};
+ghost use Rattle.mc_workers.specs.Asking.{is_workers};
+ghost use Rattle.mc_rows.specs.Seats.{IsMoverSeat, IsSeat};
+
+use mc_items::Ref;
+use mc_script::Command;
+use mc_words::{Arena, Hand};
+use mc_workers::{
+    Ended, Mover, first_hand, push_mover_reply, push_reply, serve_line, serve_mover_line,
+};
+use std::alloc::{AllocError, Global};
+use std::sync::Wait;
+
+/// A worker's hand, and the references that it keeps.
+#[derive(Drop)]
+pub struct Seat {
+    pub hand: Hand,
+    pub kept: Vec<Ref>,
+}
+
+/// The mover's hand, and what the mover owns beside it.
+#[derive(Drop)]
+pub struct MoverSeat {
+    pub hand: Hand,
+    pub mover: Mover,
+}
+
+/// Whose line a command is, and about which key.
+#[derive(Clone, Copy)]
+pub struct Asked {
+    worker: u64,
+    key: u64,
+}
+
+/// Who asks a worker's line; none asks a line of the mover.
+pub fn asked_by(command: Command) -> Option<Asked>
+    ensures workers { is_some result ≡ is_workers command }
+{
+    match command {
+        Command::Set { worker, key, .. }
+        | Command::Get { worker, key }
+        | Command::Hold { worker, key }
+        | Command::Drop { worker, key }
+        | Command::Delete { worker, key }
+        | Command::Touch { worker, key } => Some(Asked { worker, key }),
+        _ => None,
+    }
+}
+
+/// A seat for each of these hands, which are those of the workers from 1 on.
+pub fn seats_of(alloc: Global, arena: &Arena, mut hands: Vec<Hand>) -> Result<Vec<Seat>, AllocError>
+    requires hands { AreHandsFrom arena.now 1 hands.items }
+    ensures seats { IfOk result (λ seats. All (λ seat. IsSeat arena.now seat.hand seat.kept.items) seats.items) }
+{
+    let mut seats = Vec::new(alloc);
+    for worker in 1..64 {
+        let Some(hand) = first_hand(arena, worker, &mut hands) else {
+            return Ok(seats);
+        };
+        let kept = Vec::new(alloc);
+        seats.push(Seat { hand, kept })?;
+    }
+    Ok(seats)
+}
+
+/// Does a worker's line at its seat, and adds the reply.
+pub fn serve_worker<R: Wait>(
+    rt: &R,
+    alloc: Global,
+    arena: &Arena,
+    seats: &mut Vec<Seat>,
+    asked: Asked,
+    command: Command,
+    text: &mut Vec<u8>,
+) -> Result<(), Ended>
+    requires seats { All (λ seat. IsSeat arena.now seat.hand seat.kept.items) seats.old.items }
+    requires valid { IsValid command }
+    requires worker { is_workers command ≡ true }
+    ensures seats { All (λ seat. IsSeat arena.now seat.hand seat.kept.items) seats.new.items }
+{
+    let place = asked.worker.wrapping_sub(1) as usize;
+    let Some(seat) = seats.get_mut(place) else {
+        return Err(Ended::Turns);
+    };
+    let reply = serve_line(rt, alloc, arena, &mut seat.hand, &mut seat.kept, command)?;
+    push_reply(text, asked.key, &reply)?;
+    Ok(())
+}
+
+/// Does a line of the mover at its seat, and adds the reply.
+pub fn serve_mover<R: Wait>(
+    rt: &R,
+    alloc: Global,
+    arena: &Arena,
+    seat: &mut MoverSeat,
+    command: Command,
+    text: &mut Vec<u8>,
+) -> Result<(), Ended>
+    requires seat { IsMoverSeat arena.now seat.old.hand }
+    requires valid { IsValid command }
+    requires mover { is_workers command ≡ false }
+    ensures seat { IsMoverSeat arena.now seat.new.hand }
+{
+    let reply = serve_mover_line(rt, alloc, arena, &mut seat.hand, &mut seat.mover, command)?;
+    push_mover_reply(text, arena.classes(), &reply)?;
+    Ok(())
+}
