@@ -1,5 +1,6 @@
 -- Lines that a thread counted, at each of which the gate let it on.
-use Rattle.std.proofs.Common.{◌≡◌, ◌⊎◌, ℕ, ◌+◌, ◌<◌, ◌≤◌, Bool, true, false, cond, List, [], ◌∷◌, ◌++◌, length, take, filter, get_or, refl, ap, subst, sym, ◌∙◌, append-nil, arith, cases_lt, inl, inr}
+use Rattle.std.proofs.Common.{◌≡◌, ◌⊎◌, ℕ, ◌+◌, ◌<◌, ◌≤◌, Bool, true, false, cond, List, [], ◌∷◌, ◌++◌, length, take, filter, get_or, refl, ap, subst, sym, ◌∙◌, append-nil, arith, inl, inr, take_all}
+use Rattle.std.proofs.lemmas.Bool.{cases_lt}
 use Rattle.std.proofs.lemmas.List.{length_push}
 use Rattle.std.proofs.lemmas.List.Elements.{filter_more}
 use Rattle.mc_script.specs.declared.command.Command.{Command}
@@ -36,3 +37,9 @@ module _ (lets_on : LetsOn) (worker : ℕ) (is_own : Command → Bool) (commands
   line_uncounted isnt =
       let same = ap length (more false isnt ∙ append-nil (filter is_own (take i commands))) in
       record { count = are.count ∙ sym same; few = omega (arith, are.few); passed = are.passed }
+
+-- behind the last line
+pub all_passed : (lets_on : LetsOn) (worker : ℕ) (is_own : Command → Bool) (commands : List Command) (i nth : ℕ) → AreCounted lets_on worker i (length (filter is_own (take i commands))) nth → length commands ≤ i
+    → PassedEach lets_on worker (length (filter is_own commands))
+all_passed lets_on worker is_own commands i nth are all =
+    subst (PassedEach lets_on worker) (are.count ∙ ap (λ (lines : List Command). length (filter is_own lines)) (take_all i commands all)) are.passed

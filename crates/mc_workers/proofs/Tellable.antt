@@ -147,7 +147,7 @@ survey_tellable view now sweep survey holds =
     are_tellable view.setup.table holds.left sound of survey holds.does.is
 
 -- and they are those of pages and lists of the table
-pub survey_whole : (view now : View) (survey : Survey) → HoldsSlabs (Surveys true survey) view now → HoldsSlabs (λ (v : View) (s : SlabState) (n : View) (l : SlabState). SurveysWhole view.setup.table survey v s n l) view now
+pub survey_whole : (view now : View) (survey : Survey) → HoldsSlabs (Surveys true survey) view now → HoldsSlabs (SurveysWhole view.setup.table survey) view now
 survey_whole view now survey holds = record {
   found = holds.found;
   taken = holds.taken;

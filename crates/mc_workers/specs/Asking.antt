@@ -1,5 +1,5 @@
 -- Whose line a command is.
-use Rattle.std.specs.Prelude.{ℕ, ◌==◌, Bool, false, not, List, [], ◌∷◌, filter, Option, Some, None, is_some, max}
+use Rattle.std.specs.Prelude.{ℕ, ◌==◌, Bool, false, not, List, filter, fold, Option, Some, None, is_some, max}
 use Rattle.std.specs.Option.{option_map_or}
 use Rattle.mc_script.specs.declared.command.Command.{Command}
 use Rattle.mc_script.specs.declared.command.Command.TheVariants.{Set, Delete, Get, Hold, Drop, Touch}
@@ -42,5 +42,4 @@ worker_of command = option_map_or (λ asked. asked.worker) (asked_by command) 0
 
 -- the greatest worker of the lines, and 0 where all are the mover's
 abbrev pub greatest_worker : List Command → ℕ
-greatest_worker [] = 0
-greatest_worker (command ∷ commands) = max (worker_of command) (greatest_worker commands)
+greatest_worker commands = fold (λ greatest command. max greatest (worker_of command)) 0 commands

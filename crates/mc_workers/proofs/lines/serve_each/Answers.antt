@@ -1,9 +1,9 @@
-use Rattle.std.proofs.Common.{ℕ, ◌+◌, List, [], append-nil, length, take, refl, sym, subst, ◌∙◌}
+use Rattle.std.proofs.Common.{ℕ, ◌+◌, List, [], append-nil, arith, length, take, refl, sym, subst, ◌∙◌}
 use Rattle.mc_words.specs.declared.hand.Hand.{Hand}
 use Rattle.mc_items.specs.declared.refs.Ref.{Ref}
 use Rattle.mc_script.specs.declared.command.Command.TheVariants.{Set}
 use Rattle.mc_workers.specs.Asking.{is_asked_by, lines_of}
-use Rattle.mc_workers.proofs.GatedLines.{AreCounted, line_counted, line_uncounted, none_counted}
+use Rattle.mc_workers.proofs.GatedLines.{AreCounted, all_passed, line_counted, line_uncounted, none_counted}
 use Rattle.mc_workers.proofs.ServedLines.{SoFar, line_done, line_passed}
 use Rattle.mc_workers.proofs.lines.serve_each.Goals as goal
 use Rattle.mc_workers.proofs.lines.serve_each.Goals.{then-is_line_of+in_ok-serve_gated, else-is_line_of}
@@ -59,3 +59,7 @@ loop-command-preserved g c =
           (line_uncounted lets_on c.args.worker (is_asked_by c.args.worker) commands i (Set 0 0 0 0) c.loop-command-test.true c.loop-command.nth c.loop-command.invariant.1 (sym c.is_line_of.ensures ∙ w.if-is_line_of.false)),
         )
     ]
+
+pub returns-clause-passed : goal.returns-clause-passed
+returns-clause-passed g c =
+    all_passed (g.G.Gate.LetsOn c.args.shared.now.gate.now) c.args.worker (is_asked_by c.args.worker) c.args.shared.now.commands.now c.loop-command.command-index c.loop-command.nth c.loop-command.invariant.1 (omega arith)

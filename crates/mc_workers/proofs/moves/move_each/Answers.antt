@@ -1,9 +1,9 @@
-use Rattle.std.proofs.Common.{ℕ, ◌+◌, List, [], append-nil, length, take, refl, sym, subst, ◌∙◌}
+use Rattle.std.proofs.Common.{ℕ, ◌+◌, List, [], append-nil, arith, length, take, refl, sym, subst, ◌∙◌}
 use Rattle.mc_words.specs.declared.hand.Hand.{Hand}
 use Rattle.mc_script.specs.declared.command.Command.TheVariants.{Set}
 use Rattle.mc_workers.specs.declared.mover.Mover.{Mover}
 use Rattle.mc_workers.specs.Asking.{is_movers, lines_of_mover}
-use Rattle.mc_workers.proofs.GatedLines.{AreCounted, line_counted, line_uncounted, none_counted}
+use Rattle.mc_workers.proofs.GatedLines.{AreCounted, all_passed, line_counted, line_uncounted, none_counted}
 use Rattle.mc_workers.proofs.MovedLines.{MovedSoFar, move_done, move_passed, not_workers}
 use Rattle.mc_workers.proofs.moves.move_each.Goals as goal
 use Rattle.mc_workers.proofs.moves.move_each.Goals.{then-is_line_of_mover+in_ok-move_gated, else-is_line_of_mover}
@@ -60,3 +60,7 @@ loop-command-preserved g c =
           (line_uncounted lets_on 0 is_movers commands i (Set 0 0 0 0) c.loop-command-test.true c.loop-command.nth c.loop-command.invariant.1 (sym c.is_line_of_mover.ensures ∙ w.if-is_line_of_mover.false)),
         )
     ]
+
+pub returns-clause-passed : goal.returns-clause-passed
+returns-clause-passed g c =
+    all_passed (g.G.Gate.LetsOn c.args.shared.now.gate.now) 0 (is_movers) c.args.shared.now.commands.now c.loop-command.command-index c.loop-command.nth c.loop-command.invariant.1 (omega arith)

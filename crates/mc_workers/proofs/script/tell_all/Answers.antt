@@ -1,0 +1,30 @@
+use Rattle.std.proofs.Common.{◌≡◌, ℕ, List, ◌++◌, ap, subst, ◌∙◌}
+use Rattle.mc_classes.specs.Classes.{Classes}
+use Rattle.mc_words.specs.Arenas.{setup_of, view}
+use Rattle.mc_words.specs.Doing.{HoldsSlabs}
+use Rattle.mc_words.specs.View.{Setup}
+use Rattle.mc_workers.specs.MoverReplies.{statistics_text}
+use Rattle.mc_workers.specs.Script.{SurveysWhole}
+use Rattle.mc_workers.proofs.Tellable.{survey_whole}
+use Rattle.mc_workers.proofs.script.tell_all.Goals as goal
+
+pub returns : goal.returns
+returns g c =
+    let survey = c.in_ok-survey.survey in
+    let before = view c.args.joined.hand in
+    let now = view c.survey_all.new.hand in
+    let workers = c.args.joined.workers.items in
+    let mover = c.args.joined.mover.items in
+    let longer = c.extend_from_slice.new.self.items in
+    let statistics = statistics_text (setup_of c.args.arena.now).table survey in
+    let texts : longer ≡ workers ++ mover = c.in_ok-extend_from_slice.ensures.items ∙ ap (λ (text : List ℕ). workers ++ text) c.deref.ensures.value in
+    record {
+      tells = record {
+        survey = survey;
+        last = c.survey_all.new.hand;
+        surveys = subst (λ (setup : Setup). HoldsSlabs (SurveysWhole setup.table survey) before now) c.requires.arena.setup (survey_whole before now survey c.in_ok-survey.ensures.surveys);
+        told = c.in_ok-push_statistics.ensures.text
+            ∙ (ap (λ (table : Classes). longer ++ statistics_text table survey) c.classes.ensures.classes
+            ∙ ap (λ (text : List ℕ). text ++ statistics) texts);
+      };
+    }
