@@ -1,16 +1,13 @@
 -- How a run by threads ends, from how its parts ended.
-use Rattle.std.proofs.Common.{◌≡◌, ◌≢◌, ℕ, ◌+◌, ◌<◌, ◌≤◌, List, length, take, Option, Some, None, Result, Ok, Err, refl, ap, sym, ◌∙◌, inl, inr}
+use Rattle.std.proofs.Common.{◌≡◌, ℕ, List, take, Option, Some, None, Result, Ok, Err, refl}
 use Rattle.std.specs.Prelude.{IfSome}
-use Rattle.std.specs.Io.KnownBytes.{Keeps}
 use Rattle.std.proofs.KnownBytes.{Keeps-refl}
 use Rattle.mc_classes.specs.declared.config.ConfigError.{ConfigError}
-use Rattle.mc_classes.specs.declared.config.ConfigError.TheVariants.{NoMemory}
-use Rattle.mc_classes.specs.Refusals.{refusal_of, number_of}
+use Rattle.mc_classes.specs.Refusals.{refusal_of}
 use Rattle.mc_options.specs.declared.settings.Run.{Run}
 use Rattle.mc_driver.specs.declared.fault.RunFault.{RunFault}
 use Rattle.mc_driver.specs.declared.fault.RunFault.TheVariants.{Config as Refused, Script, TooLong, Read, Write, Memory, Turns}
-use Rattle.mc_driver.specs.Reading.{IsReadFault}
-use Rattle.mc_driver.specs.Run.{IsReadWhole, config_fault}
+use Rattle.mc_driver.specs.Run.{config_fault}
 use Rattle.mc_driver.specs.Threads.{IsThreadsOutcome, IsToldOutcome}
 use Rattle.mc_driver.proofs.Outcomes.{front_all, front_long, no_memory_refusal, script_all, told_by_number}
 
@@ -45,35 +42,6 @@ pub threads_known : (run : Run) (all : Option (List ℕ)) (front : List ℕ) (ol
     → refusal_of run.config ≡ None → IfSome all (λ bytes. front ≡ take 1048577 bytes) → IsToldOutcome run front old new result → IfSome all (λ bytes. IsThreadsOutcome run bytes old new result)
 threads_known run None front old new result accepted front_is told = tt
 threads_known run (Some bytes) front old new result accepted front_is told = threads_outcome run bytes old new result accepted (told_all run bytes front old new result front_is told)
-
--- threads that were started end by no refused configuration, and by no failed read
-pub not_refused : (run : Run) (bytes : List ℕ) (old new : Option (List ℕ)) (number : ℕ) (result : Result (Unit {0}) RunFault) → IsToldOutcome run bytes old new result → result ≢ Err (Refused number)
-not_refused run bytes old new number result told is = rw is at told
-
-pub not_read : (run : Run) (bytes : List ℕ) (old new : Option (List ℕ)) (result : Result (Unit {0}) RunFault) → IsToldOutcome run bytes old new result → result ≢ Err Read
-not_read run bytes old new result told is = rw is at told
-
--- a script that was answered to isn't too long, so it was read to its end
-pub told_whole : (run : Run) (bytes : List ℕ) (old new : Option (List ℕ)) (result : Result (Unit {0}) RunFault) (Ended : Type 0)
-    → IsToldOutcome run bytes old new result → (length bytes ≤ 1048576 → Ended) → IsReadWhole Ended (Keeps old new) result
-told_whole run bytes old new (Ok unit) Ended (commands, script, told) ends = ends script.short
-told_whole run bytes old new (Err Turns) Ended (commands, script, kept) ends = ends script.short
-told_whole run bytes old new (Err Memory) Ended kept ends = inl kept
-told_whole run bytes old new (Err TooLong) Ended (long, kept) ends = kept
-told_whole run bytes old new (Err (Script number)) Ended (short, told, kept) ends = ends short
-told_whole run bytes old new (Err Write) Ended (commands, script, broken) ends = ends script.short
-told_whole run bytes old new (Err (Refused number)) Ended told ends = absurd told
-told_whole run bytes old new (Err Read) Ended told ends = absurd told
-
--- a run whose reading failed, or that found no memory for it, answered nothing
-pub unread_threads : (run : Run) (bytes : List ℕ) (held : Option (List ℕ)) (old new : ℕ) (fault : RunFault) → refusal_of run.config ≡ None → IsReadFault old new fault → IsThreadsOutcome run bytes held held (Err fault)
-unread_threads run bytes held old new Read accepted is = Keeps-refl held
-unread_threads run bytes held old new Memory accepted is = (accepted, Keeps-refl held)
-unread_threads run bytes held old new (Refused number) accepted is = absurd is
-unread_threads run bytes held old new (Script number) accepted is = absurd is
-unread_threads run bytes held old new TooLong accepted is = absurd is
-unread_threads run bytes held old new Write accepted is = absurd is
-unread_threads run bytes held old new Turns accepted is = absurd is
 
 -- a run whose configuration was refused answered that, and nothing else
 pub refused_threads : (run : Run) (bytes : List ℕ) (held : Option (List ℕ)) (error : ConfigError) → refusal_of run.config ≡ Some error → IsThreadsOutcome run bytes held held (Err (config_fault error))
