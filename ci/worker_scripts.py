@@ -49,7 +49,7 @@ KINDS = {
     "shared-keys": Kind(MANY_PAGES, TO_THE_POOL, 1500, 600, workers=4, shared=12, least=4),
     "one-writer": Kind(MANY_PAGES, TO_THE_POOL, 1500, 600, workers=4, shared=16, least=10, writers=1, held=4),
     "one-stripe": Kind(("--stripes", "1", "--bulk", "1"), BETWEEN_CLASSES, 1500, 500, workers=4, own=4, few=2, shared=6, held=3),
-    "all-workers": Kind(LARGE_PAGES, BETWEEN_CLASSES, 300, 40, workers=63, own=2, few=1, shared=8, most=120),
+    "all-workers": Kind(LARGE_PAGES, BETWEEN_CLASSES, 800, 50, workers=63, own=8, few=1, shared=8, most=120),
 }
 # Few lines, as each request for memory is refused in turn: in a full memory, and in one with room for all.
 SHORT_KINDS = {
