@@ -25,7 +25,10 @@ const MOST: usize = 1_048_576;
 fn refused_lines_start_no_thread(rt: HostRuntime) -> Result<(), Fail> {
     for script in REFUSED {
         let played = play(&rt, rt.alloc(), &Free, script);
-        assert!(rt; played.is(Err(RunFault::Script(1)), b""), "a line that is no command");
+        assert!(rt;
+            played.is(Err(RunFault::Script(1)), b""),
+            "a line that is no command"
+        );
     }
     Ok(())
 }
@@ -37,7 +40,10 @@ fn a_refused_configuration_reads_nothing(rt: HostRuntime) -> Result<(), Fail> {
         ..FOUR_CLASSES
     };
     let played = play_disturbed(&rt, rt.alloc(), config, &Free, SCRIPT, WHOLE);
-    assert!(rt; played.is(Err(RunFault::Config(2)), b""), "the first class is too small");
+    assert!(rt;
+        played.is(Err(RunFault::Config(2)), b""),
+        "the first class is too small"
+    );
     assert!(rt; played.bytes_read == 0, "nothing was read");
     Ok(())
 }
@@ -50,7 +56,10 @@ fn a_reader_that_fails_ends_the_run(rt: HostRuntime) -> Result<(), Fail> {
             ..WHOLE
         };
         let played = play_disturbed(&rt, rt.alloc(), FOUR_CLASSES, &Free, SCRIPT, limits);
-        assert!(rt; played.is(Err(RunFault::Read), b""), "after {good_bytes} bytes");
+        assert!(rt;
+            played.is(Err(RunFault::Read), b""),
+            "after {good_bytes} bytes"
+        );
     }
     Ok(())
 }
@@ -62,7 +71,10 @@ fn a_writer_that_fails_ends_the_run(rt: HostRuntime) -> Result<(), Fail> {
         ..WHOLE
     };
     let played = play_disturbed(&rt, rt.alloc(), FOUR_CLASSES, &Free, SCRIPT, limits);
-    assert!(rt; played.is(Err(RunFault::Write), b""), "the one write failed");
+    assert!(rt;
+        played.is(Err(RunFault::Write), b""),
+        "the one write failed"
+    );
     Ok(())
 }
 

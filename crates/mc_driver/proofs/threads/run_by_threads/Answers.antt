@@ -8,16 +8,20 @@ pub returns-in-Ok-clause-outcome : goal.returns-in-Ok-clause-outcome
 returns-in-Ok-clause-outcome g c = (
   c.in_ok-commands.commands.items,
   c.in_ok-commands.ensures.script,
-  (c.in_ok-text.text.items,
-  subst (λ (commands : List Command). ServesScript c.args.run.now.config c.args.run.now.automove commands c.in_ok-text.text.items) c.deref.ensures.value c.in_ok-text.ensures.serves,
-  subst (Appends (g.W.Sink.contents c.args.writer.now) (g.W.Sink.contents c.write_all.new.self)) c.deref-2.ensures.value c.in-Ok.ensures.bytes),
+  (
+    c.in_ok-text.text.items,
+    subst (λ (commands : List Command). ServesScript c.args.run.now.config c.args.run.now.automove commands c.in_ok-text.text.items) c.deref.ensures.value c.in_ok-text.ensures.serves,
+    subst (Appends (g.W.Sink.contents c.args.writer.now) (g.W.Sink.contents c.write_all.new.self)) c.deref-2.ensures.value c.in-Ok.ensures.bytes,
+  ),
 )
 
 pub returns-clause-outcome : goal.returns-clause-outcome
 returns-clause-outcome g c = (
   c.in_ok-commands.commands.items,
   c.in_ok-commands.ensures.script,
-  (c.in_ok-text.text.items,
-  subst (λ (commands : List Command). ServesScript c.args.run.now.config c.args.run.now.automove commands c.in_ok-text.text.items) c.deref.ensures.value c.in_ok-text.ensures.serves,
-  c.in-Err.ensures.kept),
+  (
+    c.in_ok-text.text.items,
+    subst (λ (commands : List Command). ServesScript c.args.run.now.config c.args.run.now.automove commands c.in_ok-text.text.items) c.deref.ensures.value c.in_ok-text.ensures.serves,
+    c.in-Err.ensures.kept,
+  ),
 )

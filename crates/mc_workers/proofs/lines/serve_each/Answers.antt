@@ -42,22 +42,22 @@ loop-command-preserved g c =
     let stands = λ (hand : Hand) (left : List Ref) (longer : List ℕ). SoFar arena c.args.worker (take (i + 1) commands) kept before text hand left longer in
     elim c.if-is_line_of.branch [
       | then-is_line_of+in_ok-serve_gated w ↦ (
-          subst (λ (h : Hand). stands h c.if-is_line_of.kept.items c.if-is_line_of.text.items) (sym w.hand-is)
-          (subst (λ (k : List Ref). stands w.serve_gated.new.hand k c.if-is_line_of.text.items) (λ k. (sym w.kept-is k).items)
-          (subst (λ (t : List ℕ). stands w.serve_gated.new.hand w.serve_gated.new.kept.items t) (λ k. (sym w.text-is k).items)
-          (line_done arena c.args.worker commands i (Set 0 0 0 0) c.loop-command-test.true kept before text c.loop-command.hand c.loop-command.kept.items c.loop-command.text.items c.loop-command.invariant.0
-          w.serve_gated.new.hand w.serve_gated.new.kept.items w.serve_gated.new.text.items (sym c.is_line_of.ensures ∙ w.if-is_line_of.true) w.in_ok-serve_gated.ensures.arena w.in_ok-serve_gated.ensures.ready w.in_ok-serve_gated.ensures.kept w.in_ok-serve_gated.ensures.number w.in_ok-serve_gated.ensures.adds))),
-          subst counted (sym w.nth-is)
-          (line_counted lets_on c.args.worker (is_asked_by c.args.worker) commands i (Set 0 0 0 0) c.loop-command-test.true c.loop-command.nth c.loop-command.invariant.1 (sym c.is_line_of.ensures ∙ w.if-is_line_of.true) w.in_ok-serve_gated.ensures.passed),
-        )
+        subst (λ (h : Hand). stands h c.if-is_line_of.kept.items c.if-is_line_of.text.items) (sym w.hand-is)
+            (subst (λ (k : List Ref). stands w.serve_gated.new.hand k c.if-is_line_of.text.items) (λ k. (sym w.kept-is k).items)
+            (subst (λ (t : List ℕ). stands w.serve_gated.new.hand w.serve_gated.new.kept.items t) (λ k. (sym w.text-is k).items)
+            (line_done arena c.args.worker commands i (Set 0 0 0 0) c.loop-command-test.true kept before text c.loop-command.hand c.loop-command.kept.items c.loop-command.text.items c.loop-command.invariant.0
+            w.serve_gated.new.hand w.serve_gated.new.kept.items w.serve_gated.new.text.items (sym c.is_line_of.ensures ∙ w.if-is_line_of.true) w.in_ok-serve_gated.ensures.arena w.in_ok-serve_gated.ensures.ready w.in_ok-serve_gated.ensures.kept w.in_ok-serve_gated.ensures.number w.in_ok-serve_gated.ensures.adds))),
+        subst counted (sym w.nth-is)
+            (line_counted lets_on c.args.worker (is_asked_by c.args.worker) commands i (Set 0 0 0 0) c.loop-command-test.true c.loop-command.nth c.loop-command.invariant.1 (sym c.is_line_of.ensures ∙ w.if-is_line_of.true) w.in_ok-serve_gated.ensures.passed),
+      )
       | else-is_line_of w ↦ (
-          subst (λ (h : Hand). stands h c.if-is_line_of.kept.items c.if-is_line_of.text.items) (sym w.hand-is)
-          (subst (λ (k : List Ref). stands c.loop-command.hand k c.if-is_line_of.text.items) (λ k. (sym w.kept-is k).items)
-          (subst (λ (t : List ℕ). stands c.loop-command.hand c.loop-command.kept.items t) (λ k. (sym w.text-is k).items)
-          (line_passed arena c.args.worker commands i (Set 0 0 0 0) c.loop-command-test.true kept before text c.loop-command.hand c.loop-command.kept.items c.loop-command.text.items c.loop-command.invariant.0 (sym c.is_line_of.ensures ∙ w.if-is_line_of.false)))),
-          subst counted (sym w.nth-is)
-          (line_uncounted lets_on c.args.worker (is_asked_by c.args.worker) commands i (Set 0 0 0 0) c.loop-command-test.true c.loop-command.nth c.loop-command.invariant.1 (sym c.is_line_of.ensures ∙ w.if-is_line_of.false)),
-        )
+        subst (λ (h : Hand). stands h c.if-is_line_of.kept.items c.if-is_line_of.text.items) (sym w.hand-is)
+            (subst (λ (k : List Ref). stands c.loop-command.hand k c.if-is_line_of.text.items) (λ k. (sym w.kept-is k).items)
+            (subst (λ (t : List ℕ). stands c.loop-command.hand c.loop-command.kept.items t) (λ k. (sym w.text-is k).items)
+            (line_passed arena c.args.worker commands i (Set 0 0 0 0) c.loop-command-test.true kept before text c.loop-command.hand c.loop-command.kept.items c.loop-command.text.items c.loop-command.invariant.0 (sym c.is_line_of.ensures ∙ w.if-is_line_of.false)))),
+        subst counted (sym w.nth-is)
+            (line_uncounted lets_on c.args.worker (is_asked_by c.args.worker) commands i (Set 0 0 0 0) c.loop-command-test.true c.loop-command.nth c.loop-command.invariant.1 (sym c.is_line_of.ensures ∙ w.if-is_line_of.false)),
+      )
     ]
 
 pub returns-clause-passed : goal.returns-clause-passed

@@ -42,23 +42,23 @@ loop-command-preserved g c =
     let stands = λ (left : Mover) (hand : Hand) (longer : List ℕ). MovedSoFar arena (take (i + 1) commands) mover before text left hand longer in
     elim c.if-is_line_of_mover.branch [
       | then-is_line_of_mover+in_ok-move_gated w ↦ (
-          subst (λ (m : Mover). stands m c.if-is_line_of_mover.hand c.if-is_line_of_mover.text.items) (sym w.mover-is)
-          (subst (λ (h : Hand). stands w.move_gated.new.mover h c.if-is_line_of_mover.text.items) (sym w.hand-is)
-          (subst (λ (t : List ℕ). stands w.move_gated.new.mover w.move_gated.new.hand t) (λ k. (sym w.text-is k).items)
-          (move_done arena commands i (Set 0 0 0 0) c.loop-command-test.true mover before text c.loop-command.mover c.loop-command.hand c.loop-command.text.items c.loop-command.invariant.0
-          w.move_gated.new.mover w.move_gated.new.hand w.move_gated.new.text.items (sym c.is_line_of_mover.ensures ∙ w.if-is_line_of_mover.true)
-          w.in_ok-move_gated.ensures.arena w.in_ok-move_gated.ensures.ready w.in_ok-move_gated.ensures.number w.in_ok-move_gated.ensures.holdings w.in_ok-move_gated.ensures.adds))),
-          subst counted (sym w.nth-is)
-          (line_counted lets_on 0 is_movers commands i (Set 0 0 0 0) c.loop-command-test.true c.loop-command.nth c.loop-command.invariant.1 (sym c.is_line_of_mover.ensures ∙ w.if-is_line_of_mover.true) w.in_ok-move_gated.ensures.passed),
-        )
+        subst (λ (m : Mover). stands m c.if-is_line_of_mover.hand c.if-is_line_of_mover.text.items) (sym w.mover-is)
+            (subst (λ (h : Hand). stands w.move_gated.new.mover h c.if-is_line_of_mover.text.items) (sym w.hand-is)
+            (subst (λ (t : List ℕ). stands w.move_gated.new.mover w.move_gated.new.hand t) (λ k. (sym w.text-is k).items)
+            (move_done arena commands i (Set 0 0 0 0) c.loop-command-test.true mover before text c.loop-command.mover c.loop-command.hand c.loop-command.text.items c.loop-command.invariant.0
+            w.move_gated.new.mover w.move_gated.new.hand w.move_gated.new.text.items (sym c.is_line_of_mover.ensures ∙ w.if-is_line_of_mover.true)
+            w.in_ok-move_gated.ensures.arena w.in_ok-move_gated.ensures.ready w.in_ok-move_gated.ensures.number w.in_ok-move_gated.ensures.holdings w.in_ok-move_gated.ensures.adds))),
+        subst counted (sym w.nth-is)
+            (line_counted lets_on 0 is_movers commands i (Set 0 0 0 0) c.loop-command-test.true c.loop-command.nth c.loop-command.invariant.1 (sym c.is_line_of_mover.ensures ∙ w.if-is_line_of_mover.true) w.in_ok-move_gated.ensures.passed),
+      )
       | else-is_line_of_mover w ↦ (
-          subst (λ (m : Mover). stands m c.if-is_line_of_mover.hand c.if-is_line_of_mover.text.items) (sym w.mover-is)
-          (subst (λ (h : Hand). stands c.loop-command.mover h c.if-is_line_of_mover.text.items) (sym w.hand-is)
-          (subst (λ (t : List ℕ). stands c.loop-command.mover c.loop-command.hand t) (λ k. (sym w.text-is k).items)
-          (move_passed arena commands i (Set 0 0 0 0) c.loop-command-test.true mover before text c.loop-command.mover c.loop-command.hand c.loop-command.text.items c.loop-command.invariant.0 (sym c.is_line_of_mover.ensures ∙ w.if-is_line_of_mover.false)))),
-          subst counted (sym w.nth-is)
-          (line_uncounted lets_on 0 is_movers commands i (Set 0 0 0 0) c.loop-command-test.true c.loop-command.nth c.loop-command.invariant.1 (sym c.is_line_of_mover.ensures ∙ w.if-is_line_of_mover.false)),
-        )
+        subst (λ (m : Mover). stands m c.if-is_line_of_mover.hand c.if-is_line_of_mover.text.items) (sym w.mover-is)
+            (subst (λ (h : Hand). stands c.loop-command.mover h c.if-is_line_of_mover.text.items) (sym w.hand-is)
+            (subst (λ (t : List ℕ). stands c.loop-command.mover c.loop-command.hand t) (λ k. (sym w.text-is k).items)
+            (move_passed arena commands i (Set 0 0 0 0) c.loop-command-test.true mover before text c.loop-command.mover c.loop-command.hand c.loop-command.text.items c.loop-command.invariant.0 (sym c.is_line_of_mover.ensures ∙ w.if-is_line_of_mover.false)))),
+        subst counted (sym w.nth-is)
+            (line_uncounted lets_on 0 is_movers commands i (Set 0 0 0 0) c.loop-command-test.true c.loop-command.nth c.loop-command.invariant.1 (sym c.is_line_of_mover.ensures ∙ w.if-is_line_of_mover.false)),
+      )
     ]
 
 pub returns-clause-passed : goal.returns-clause-passed

@@ -10,5 +10,5 @@ returns-clause-greatest c =
     let commands = c.args.commands.now in
     c.unwrap_or.ensures
     ∙ ap (λ o. unwrap_or o 0) (reduce_from_yields_List _ c.map.result _ c.max.ensures.ran
-      (YieldsList-from_map _ worker_of (YieldsList-from_slice commands cc) c.map.ensures.closure (λ x b q k. search rules)))
+    (YieldsList-from_map _ worker_of (YieldsList-from_slice commands cc) c.map.ensures.closure (λ x b q k. search rules)))
     ∙ max_of_map worker_of commands
