@@ -1,7 +1,7 @@
 //! Scripts on hands of the arena, line after line on one thread: they write what the serial run writes.
 ghost use Rattle.std.specs.Prelude.{◌≤◌, All, IfOk};
 ghost use Rattle.mc_script.specs.Command.{IsValid};
-ghost use Rattle.mc_rows.specs.Seats.{IsMoverSeat, IsSeat};
+ghost use Rattle.mc_rows.specs.Seats.{IsReadyHand, IsSeat};
 
 use super::Played;
 use super::seats::{MoverSeat, Seat, asked_by, seats_of, serve_mover, serve_worker};
@@ -74,6 +74,28 @@ fn play_on_hands<R: Wait>(
     Ok(play_lines(rt, alloc, &arena, &mut seats, &mut seat, &commands, text))
 }
 
+/// Does a line at its seat, and adds the reply.
+fn serve<R: Wait>(
+    rt: &R,
+    alloc: Global,
+    arena: &Arena,
+    seats: &mut Vec<Seat>,
+    mover: &mut MoverSeat,
+    command: Command,
+    text: &mut Vec<u8>,
+) -> Result<(), Ended>
+    requires seats { All (λ seat. IsSeat arena.now seat.hand seat.kept.items) seats.old.items }
+    requires mover { IsReadyHand arena.now mover.old.hand }
+    requires valid { IsValid command }
+    ensures seats { All (λ seat. IsSeat arena.now seat.hand seat.kept.items) seats.new.items }
+    ensures mover { IsReadyHand arena.now mover.new.hand }
+{
+    match asked_by(command) {
+        Some(asked) => serve_worker(rt, alloc, arena, seats, asked, command, text),
+        None => serve_mover(rt, alloc, arena, mover, command, text),
+    }
+}
+
 /// Does each line at its seat, and adds the replies.
 fn play_lines<R: Wait>(
     rt: &R,
@@ -85,14 +107,11 @@ fn play_lines<R: Wait>(
     text: &mut Vec<u8>,
 ) -> Result<(), Ended>
     requires seats { All (λ seat. IsSeat arena.now seat.hand seat.kept.items) seats.old.items }
-    requires mover { IsMoverSeat arena.now mover.old.hand }
+    requires mover { IsReadyHand arena.now mover.old.hand }
     requires valid { All IsValid commands.now }
 {
     for command in commands {
-        match asked_by(*command) {
-            Some(asked) => serve_worker(rt, alloc, arena, seats, asked, *command, text)?,
-            None => serve_mover(rt, alloc, arena, mover, *command, text)?,
-        }
+        serve(rt, alloc, arena, seats, mover, *command, text)?;
     }
     Ok(())
 }
