@@ -1,5 +1,5 @@
 use native.Mathlib.Omega.{arith}
-use Rattle.std.proofs.Common.{ℕ, List, All, sym, subst}
+use Rattle.std.proofs.Common.{ℕ, All, sym, subst}
 use Rattle.std.proofs.lemmas.List.Elements.{All-push}
 use Rattle.mc_words.specs.Hands.{AreHandsFrom}
 use Rattle.mc_rows.specs.declared.tests.seats.Seat.{Seat}
