@@ -7,10 +7,11 @@ use Rattle.mc_words.specs.Ready.{IsReady}
 use Rattle.mc_items.specs.declared.refs.Ref.{Ref}
 use Rattle.mc_workers.specs.Kept.{AreKept}
 
--- the hand is one of the arena's, may make any call, and holds what these references are to
-abbrev pub IsSeat : Arena → Hand → List Ref → Type 0
-IsSeat arena hand kept = IsHandOf arena hand × IsReady (view hand) × AreKept (view hand) kept
-
 -- the hand is one of the arena's, and may make any call
-abbrev pub IsMoverSeat : Arena → Hand → Type 0
-IsMoverSeat arena hand = IsHandOf arena hand × IsReady (view hand)
+abbrev pub IsReadyHand : Arena → Hand → Type 0
+IsReadyHand arena hand = IsHandOf arena hand × IsReady (view hand)
+
+-- so is this one, which holds what these references are to
+pub record IsSeat (arena : Arena) (hand : Hand) (kept : List Ref) : Type 0 where
+  pub hand_is : IsReadyHand arena hand
+  pub keeps : AreKept (view hand) kept

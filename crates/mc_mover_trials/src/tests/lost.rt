@@ -11,6 +11,7 @@ use mc_mover::TryTurn;
 use mc_pages::{ChunkId, Reassign};
 use mc_stripe::Key;
 use mc_words::{Arena, Final, Hand};
+use std::process::Abort;
 use std::test::Fail;
 
 /// Takes the slabs by a hand that is lost with them. False where another hand had them.
@@ -29,12 +30,19 @@ fn lose_stripe(arena: &Arena, hand: Hand, stripe: u64) -> bool
     stripe < arena.config().stripes && arena.try_stripe(&mut hand, stripe).is_ok()
 }
 
-/// The refusal of a get that doesn't wait, if there is one. A reference that it gives is lost, and its chunk held by the hand.
-fn refusal_of_try(arena: &Arena, hand: &mut Hand, key: Key) -> Option<TryGetError>
+/// A get that doesn't wait is refused so, or not at all. A reference that it gives is lost, and its chunk held by the hand.
+fn assert_try(
+    rt: &impl Abort,
+    arena: &Arena,
+    hand: &mut Hand,
+    key: Key,
+    refused: Option<TryGetError>,
+)
     requires arena { IsReadyHandOf arena.now hand.old }
     ensures arena { IsReadyHandOf arena.now hand.new }
 {
-    try_get(arena, hand, key).err()
+    let found = try_get(arena, hand, key).err();
+    assert_equal(rt, found, refused, "a get that doesn't wait");
 }
 
 /// Whether a stripe's index and history are there.
@@ -50,8 +58,6 @@ fn lost_slabs_stay_out_and_what_is_held_is_read(rt: HostRuntime) -> Result<(), F
         return Err(Fail::new("the key has an item"));
     };
     assert_same(&rt, lose_slabs(&arena, other), true, "the lock is free");
-    let refused = try_turn_by(&arena, &mut hand);
-    assert_equal(&rt, refused, Err(TryTurn::Held), "a turn");
     let own = has_words(rt.alloc(), &arena, &mut hand, &item, 1, 61)?;
     assert_same(&rt, own, true, "words 1 to 61");
     release(&arena, &mut hand, item);
@@ -59,6 +65,8 @@ fn lost_slabs_stay_out_and_what_is_held_is_read(rt: HostRuntime) -> Result<(), F
     assert_same(&rt, head, Some(458_753), "its header, released");
     let deleted = delete_key(&rt, &arena, &mut hand, 1);
     assert_same(&rt, deleted, Some(true), "a delete takes a stripe alone");
+    let refused = try_turn_by(&arena, &mut hand);
+    assert_equal(&rt, refused, Err(TryTurn::Held), "a turn");
     assert_same(&rt, arena.try_slabs(&mut hand).is_err(), true, "the slabs");
     let left = arena.close(hand);
     assert_same(&rt, left.slabs().is_none(), true, "pages and lists");
@@ -83,14 +91,9 @@ fn a_lost_stripe_holds_up_its_items_page_for_ever(rt: HostRuntime) -> Result<(),
         Step::Touches(4, true),
     ];
     play_all(&rt, rt.alloc(), &arena, &mut hand, &steps)?;
-    for (key, refused) in [
-        (1, Some(TryGetError::Held)),
-        (4, None),
-        (5, Some(TryGetError::Held)),
-    ] {
-        let found = refusal_of_try(&arena, &mut hand, key);
-        assert_equal(&rt, found, refused, "a get that doesn't wait");
-    }
+    assert_try(&rt, &arena, &mut hand, 1, Some(TryGetError::Held));
+    assert_try(&rt, &arena, &mut hand, 4, None);
+    assert_try(&rt, &arena, &mut hand, 5, Some(TryGetError::Held));
     let left = arena.close(hand);
     assert_same(&rt, left.slabs().is_some(), true, "pages and lists");
     for (stripe, is_there) in [(0, true), (1, false), (2, true), (3, true)] {

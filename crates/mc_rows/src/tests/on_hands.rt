@@ -1,7 +1,7 @@
 //! Scripts on hands of the arena, line after line on one thread: they write what the serial run writes.
 ghost use Rattle.std.specs.Prelude.{◌≤◌, All, IfOk};
 ghost use Rattle.mc_script.specs.Command.{IsValid};
-ghost use Rattle.mc_rows.specs.Seats.{IsMoverSeat, IsSeat};
+ghost use Rattle.mc_rows.specs.Seats.{IsReadyHand, IsSeat};
 
 use super::Played;
 use super::seats::{MoverSeat, Seat, asked_by, seats_of, serve_mover, serve_worker};
@@ -48,7 +48,7 @@ fn commands_of(alloc: Global, script: &[u8]) -> Result<Vec<Command>, Fail>
     }
 }
 
-/// Plays a script on 64 hands of a new arena, the mover's first, and says how it ends.
+/// Plays a script on hands, and says how it ends.
 fn play_on_hands<R: Wait>(
     rt: &R,
     alloc: Global,
@@ -59,6 +59,20 @@ fn play_on_hands<R: Wait>(
     requires { run.automove ≤ 2 }
 {
     let commands = commands_of(alloc, script)?;
+    play_commands(rt, alloc, run, &commands, text)
+}
+
+/// Plays commands on 64 hands of a new arena, of which the first is the mover's.
+fn play_commands<R: Wait>(
+    rt: &R,
+    alloc: Global,
+    run: Run,
+    commands: &[Command],
+    text: &mut Vec<u8>,
+) -> Result<Result<(), Ended>, Fail>
+    requires mode { run.automove ≤ 2 }
+    requires valid { All IsValid commands.now }
+{
     let (arena, mut hands) = Arena::new(alloc, &run.config, 64)?;
     let Some(hand) = first_hand(&arena, 0, &mut hands) else {
         return Err(Fail::new("there is a hand"));
@@ -71,7 +85,29 @@ fn play_on_hands<R: Wait>(
     if serve_mover(rt, alloc, &arena, &mut seat, mode, &mut told).is_err() {
         return Err(Fail::new("the mode is set"));
     }
-    Ok(play_lines(rt, alloc, &arena, &mut seats, &mut seat, &commands, text))
+    Ok(play_lines(rt, alloc, &arena, &mut seats, &mut seat, commands, text))
+}
+
+/// Does a line at its seat, and adds the reply.
+fn serve<R: Wait>(
+    rt: &R,
+    alloc: Global,
+    arena: &Arena,
+    seats: &mut Vec<Seat>,
+    mover: &mut MoverSeat,
+    command: Command,
+    text: &mut Vec<u8>,
+) -> Result<(), Ended>
+    requires seats { All (λ seat. IsSeat arena.now seat.hand seat.kept.items) seats.old.items }
+    requires mover { IsReadyHand arena.now mover.old.hand }
+    requires valid { IsValid command }
+    ensures seats { All (λ seat. IsSeat arena.now seat.hand seat.kept.items) seats.new.items }
+    ensures mover { IsReadyHand arena.now mover.new.hand }
+{
+    match asked_by(command) {
+        Some(asked) => serve_worker(rt, alloc, arena, seats, asked, command, text),
+        None => serve_mover(rt, alloc, arena, mover, command, text),
+    }
 }
 
 /// Does each line at its seat, and adds the replies.
@@ -85,14 +121,11 @@ fn play_lines<R: Wait>(
     text: &mut Vec<u8>,
 ) -> Result<(), Ended>
     requires seats { All (λ seat. IsSeat arena.now seat.hand seat.kept.items) seats.old.items }
-    requires mover { IsMoverSeat arena.now mover.old.hand }
+    requires mover { IsReadyHand arena.now mover.old.hand }
     requires valid { All IsValid commands.now }
 {
     for command in commands {
-        match asked_by(*command) {
-            Some(asked) => serve_worker(rt, alloc, arena, seats, asked, *command, text)?,
-            None => serve_mover(rt, alloc, arena, mover, *command, text)?,
-        }
+        serve(rt, alloc, arena, seats, mover, *command, text)?;
     }
     Ok(())
 }

@@ -1,9 +1,10 @@
 //! Seats at an arena: a hand for each worker, with the references that it keeps, and one for the mover.
-ghost use Rattle.std.specs.Prelude.{◌≡◌, ◌≤◌, All, IfOk, false, is_some, true};
+ghost use Rattle.std.specs.Prelude.{◌≡◌, [], All, IfOk, false, is_some, true};
 ghost use Rattle.mc_script.specs.Command.{IsValid};
+ghost use Rattle.mc_words.specs.Arenas.{view};
 ghost use Rattle.mc_words.specs.Hands.{AreHandsFrom};
 ghost use Rattle.mc_workers.specs.Asking.{is_workers};
-ghost use Rattle.mc_rows.specs.Seats.{IsMoverSeat, IsSeat};
+ghost use Rattle.mc_rows.specs.Seats.{IsReadyHand, IsSeat};
 
 use mc_items::Ref;
 use mc_script::Command;
@@ -50,6 +51,19 @@ pub fn asked_by(command: Command) -> Option<Asked>
     }
 }
 
+/// The seat of this hand, which holds nothing.
+#[tactic(auto, using(mc_workers::proofs::KeptRefs::kept_none))]
+fn new_seat(alloc: Global, arena: &Arena, hand: Hand) -> Seat
+    requires arena { IsReadyHand arena.now hand }
+    requires none { (view hand).row.holdings ≡ [] }
+    ensures seat { IsSeat arena.now result.hand result.kept.items }
+{
+    Seat {
+        hand,
+        kept: Vec::new(alloc),
+    }
+}
+
 /// A seat for each of these hands, which are those of the workers from 1 on.
 pub fn seats_of(alloc: Global, arena: &Arena, mut hands: Vec<Hand>) -> Result<Vec<Seat>, AllocError>
     requires hands { AreHandsFrom arena.now 1 hands.items }
@@ -60,10 +74,29 @@ pub fn seats_of(alloc: Global, arena: &Arena, mut hands: Vec<Hand>) -> Result<Ve
         let Some(hand) = first_hand(arena, worker, &mut hands) else {
             return Ok(seats);
         };
-        let kept = Vec::new(alloc);
-        seats.push(Seat { hand, kept })?;
+        seats.push(new_seat(alloc, arena, hand))?;
     }
     Ok(seats)
+}
+
+/// Does a worker's line at this seat, and adds the reply.
+fn serve_at<R: Wait>(
+    rt: &R,
+    alloc: Global,
+    arena: &Arena,
+    seat: &mut Seat,
+    key: u64,
+    command: Command,
+    text: &mut Vec<u8>,
+) -> Result<(), Ended>
+    requires seat { IsSeat arena.now seat.old.hand seat.old.kept.items }
+    requires valid { IsValid command }
+    requires worker { is_workers command ≡ true }
+    ensures seat { IsSeat arena.now seat.new.hand seat.new.kept.items }
+{
+    let reply = serve_line(rt, alloc, arena, &mut seat.hand, &mut seat.kept, command)?;
+    push_reply(text, key, &reply)?;
+    Ok(())
 }
 
 /// Does a worker's line at its seat, and adds the reply.
@@ -82,12 +115,10 @@ pub fn serve_worker<R: Wait>(
     ensures seats { All (λ seat. IsSeat arena.now seat.hand seat.kept.items) seats.new.items }
 {
     let place = asked.worker.wrapping_sub(1) as usize;
-    let Some(seat) = seats.get_mut(place) else {
-        return Err(Ended::Turns);
-    };
-    let reply = serve_line(rt, alloc, arena, &mut seat.hand, &mut seat.kept, command)?;
-    push_reply(text, asked.key, &reply)?;
-    Ok(())
+    match seats.get_mut(place) {
+        Some(seat) => serve_at(rt, alloc, arena, seat, asked.key, command, text),
+        None => Err(Ended::Turns),
+    }
 }
 
 /// Does a line of the mover at its seat, and adds the reply.
@@ -99,10 +130,10 @@ pub fn serve_mover<R: Wait>(
     command: Command,
     text: &mut Vec<u8>,
 ) -> Result<(), Ended>
-    requires seat { IsMoverSeat arena.now seat.old.hand }
+    requires seat { IsReadyHand arena.now seat.old.hand }
     requires valid { IsValid command }
     requires mover { is_workers command ≡ false }
-    ensures seat { IsMoverSeat arena.now seat.new.hand }
+    ensures seat { IsReadyHand arena.now seat.new.hand }
 {
     let reply = serve_mover_line(rt, alloc, arena, &mut seat.hand, &mut seat.mover, command)?;
     push_mover_reply(text, arena.classes(), &reply)?;
