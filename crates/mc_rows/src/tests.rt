@@ -40,6 +40,12 @@ const FOUR_CLASSES: Config = Config {
     bulk: 64,
 };
 
+/// A run with these classes that begins in mode 0 of the automover.
+const FROM_MODE_0: Run = Run {
+    config: FOUR_CLASSES,
+    automove: 0,
+};
+
 /// How a run is disturbed: the bytes of a read, the bytes before a read fails, the writes before one fails.
 #[derive(Clone, Copy)]
 struct StreamLimits {
@@ -151,12 +157,6 @@ fn play_counting<I: Ledger, O: Ledger>(
         wrote_again: was_tried_again,
     })
 }
-
-/// A run with these classes that begins in mode 0 of the automover.
-const FROM_MODE_0: Run = Run {
-    config: FOUR_CLASSES,
-    automove: 0,
-};
 
 /// The serial run of the script writes this and ends so, and hands of the arena do the same.
 fn plays<R: Abort + Wait>(

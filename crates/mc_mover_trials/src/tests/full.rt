@@ -32,12 +32,13 @@ fn hold_often<R: Wait>(rt: &R, arena: &Arena, hand: &mut Hand, key: Key, count: 
     true
 }
 
-/// The refusal of a get, if there is one.
-fn refusal_of_get<R: Wait>(rt: &R, arena: &Arena, hand: &mut Hand, key: Key) -> Option<GetError>
+/// A get is refused, as the hand has all references that it may.
+fn assert_full<R: Abort + Wait>(rt: &R, arena: &Arena, hand: &mut Hand, key: Key)
     requires arena { IsReadyHandOf arena.now hand.old }
     ensures arena { IsReadyHandOf arena.now hand.new }
 {
-    get(rt, arena, hand, key).err()
+    let refused = get(rt, arena, hand, key).err();
+    assert_equal(rt, refused, Some(GetError::TooManyRefs), "one more");
 }
 
 /// Holds key 1 with 255 references of the hand, which has none before, and is refused more, whatever the key.
@@ -46,10 +47,9 @@ fn fill_up<R: Abort + Wait>(rt: &R, arena: &Arena, hand: &mut Hand)
     ensures arena { IsReadyHandOf arena.now hand.new }
 {
     assert_same(rt, hold_often(rt, arena, hand, 1, 255), true, "255 holds");
-    for key in [1, 2, 9] {
-        let refused = refusal_of_get(rt, arena, hand, key);
-        assert_equal(rt, refused, Some(GetError::TooManyRefs), "one more");
-    }
+    assert_full(rt, arena, hand, 1);
+    assert_full(rt, arena, hand, 2);
+    assert_full(rt, arena, hand, 9);
     assert_same(rt, touch_key(rt, arena, hand, 1), Some(true), "a touch");
 }
 

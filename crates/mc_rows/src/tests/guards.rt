@@ -1,6 +1,6 @@
 //! Rules that a reader of the plain machine may take otherwise: each row is named after the rule, and another reading of
 //! it gives other replies.
-use super::{FOUR_CLASSES, FROM_MODE_0, Row, WHOLE, assert_played, play, plays, plays_rows};
+use super::{FOUR_CLASSES, FROM_MODE_0, Row, plays, plays_rows};
 use mc_classes::Config;
 use mc_driver::{Run, RunFault};
 use std::alloc::{AllocError, Global};
@@ -157,15 +157,15 @@ fn an_idle_turn_counts(rt: HostRuntime) -> Result<(), Fail> {
         "1 set 1 61 0\n1 set 2 61 0\n1 set 3 61 0\n1 set 4 61 0\n1 set 5 61 0\n1 set 6 61 0\n1 set 7 61 0\n1 set 8 61 0\nturn 1\n1 hold 1\nreassign 4 1\nturn 1000000\n";
     let replies =
         "STORED 1\r\nSTORED 2\r\nSTORED 3\r\nSTORED 4\r\nSTORED 5\r\nSTORED 6\r\nSTORED 7\r\nSTORED 8\r\nTURN IDLE 0 0 0 0 0\r\nHELD 1\r\nOK\r\n";
-    let played = play(rt.alloc(), FOUR_CLASSES, script.as_bytes(), WHOLE)?;
-    assert_played(
+    plays(
         &rt,
-        &played,
-        Err(RunFault::Turns),
+        rt.alloc(),
+        FROM_MODE_0,
+        script.as_bytes(),
         replies.as_bytes(),
+        Err(RunFault::Turns),
         "an idle turn counts",
-    );
-    Ok(())
+    )
 }
 
 #[test]
