@@ -1,13 +1,18 @@
 //! The tests, and what they have in common.
 mod calls;
+mod headers;
+mod holding;
 mod keys;
+mod left;
 mod lists;
 mod looking;
 mod marks;
 mod opening;
+mod rows;
 mod snapshot;
 mod steps;
 mod stripes;
+mod told;
 
 use mc_classes::Config;
 use std::fmt::Debug;

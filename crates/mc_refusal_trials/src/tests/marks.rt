@@ -15,6 +15,11 @@ pub fn tell_refused<R: Print>(rt: &R, call: &str) {
     tell(rt, "refused ", call);
 }
 
+/// A request of the call was refused, and it did without, as it may.
+pub fn tell_ignored<R: Print>(rt: &R, call: &str) {
+    tell(rt, "ignored ", call);
+}
+
 // What `ci/memory` doesn't get to read it misses.
 fn tell<R: Print>(rt: &R, what: &str, call: &str) {
     let _ = rt.print(what);

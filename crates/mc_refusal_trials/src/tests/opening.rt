@@ -56,14 +56,15 @@ fn next_hand(arena: &Arena, hands: &mut Vec<Hand>) -> Option<Hand>
     }
 }
 
-/// The two hands of the lowest numbers that are left.
-fn two_of(arena: &Arena, hands: &mut Vec<Hand>) -> Option<(Hand, Hand)>
+/// The three hands of the lowest numbers that are left.
+fn three_of(arena: &Arena, hands: &mut Vec<Hand>) -> Option<(Hand, Hand, Hand)>
     requires hands { AreHandsOf arena.now hands.old.items }
-    ensures two { IfSome result (λ two. IsIdleHandOf arena.now two.0 × IsIdleHandOf arena.now two.1) }
+    ensures three { IfSome result (λ three. IsIdleHandOf arena.now three.0 × IsIdleHandOf arena.now three.1 × IsIdleHandOf arena.now three.2) }
 {
     let first = next_hand(arena, hands)?;
     let second = next_hand(arena, hands)?;
-    Some((first, second))
+    let third = next_hand(arena, hands)?;
+    Some((first, second, third))
 }
 
 /// Words from 0 on.
@@ -75,20 +76,20 @@ fn words_of(alloc: Global) -> Result<Vec<u64>, Fail> {
     Ok(words)
 }
 
-/// A new arena, a hand of it, and one that looks.
+/// A new arena, a hand of it that acts, one that reads, and one that looks.
 pub fn opened<R: Print>(
     rt: &R,
     alloc: Global,
     config: &Config,
-) -> Result<(Arena, Hand, Looker), Fail>
-    ensures hands { IfOk result (λ made. IsReadyHandOf made.0 made.1 × IsReadyHandOf made.0 made.2.hand) }
+) -> Result<(Arena, Hand, Hand, Looker), Fail>
+    ensures hands { IfOk result (λ made. IsReadyHandOf made.0 made.1 × IsReadyHandOf made.0 made.2 × IsReadyHandOf made.0 made.3.hand) }
 {
     let before = room(alloc, LENGTH)?;
     let after = room(alloc, LENGTH)?;
     let words = words_of(alloc)?;
-    let (arena, mut hands) = new_again(rt, alloc, config, 2)?;
-    let Some((hand, other)) = two_of(&arena, &mut hands) else {
-        return Err(Fail::new("there are two hands"));
+    let (arena, mut hands) = new_again(rt, alloc, config, 3)?;
+    let Some((hand, reader, other)) = three_of(&arena, &mut hands) else {
+        return Err(Fail::new("there are three hands"));
     };
     let looker = Looker {
         hand: other,
@@ -96,5 +97,5 @@ pub fn opened<R: Print>(
         after,
         words,
     };
-    Ok((arena, hand, looker))
+    Ok((arena, hand, reader, looker))
 }

@@ -19,8 +19,102 @@ pub const ENTRIES: usize = 16;
 
 pub const CALLS: usize = 16;
 
+/// First stand how many chunks the hand that acts holds, and its next stamp; then all headers, page by page.
+pub const HEADS: usize = 2;
+/// Then totals, mode, move and ledger.
+pub const GRANTED: usize = 86;
+
+pub const POOL: usize = 87;
+
+pub const MOVED: usize = 88;
+
+pub const RESCUES: usize = 89;
+
+pub const EVICTIONS_NOMEM: usize = 90;
+
+pub const BUSY: usize = 91;
+
+pub const MODE: usize = 92;
+
+pub const MOVING: usize = 93;
+
+pub const SOURCE: usize = 94;
+
+pub const POSITION: usize = 96;
+
+pub const HELD_UP: usize = 97;
+
+pub const LEDGER: usize = 98;
+/// Then a block of numbers for each class: how many pages it has, how many free chunks and how many evictions, and its lists.
+const CLASS_BLOCKS: usize = 115;
+
+const CLASS_BLOCK: usize = 131;
+
+pub const PAGES_OF: usize = 0;
+
+pub const FREE_OF: usize = 1;
+
+pub const EVICTIONS_OF: usize = 2;
+/// Then one for each stripe: chunk and stamp of each of its keys, and from here on its history.
+const STRIPE_BLOCKS: usize = 639;
+
+const STRIPE_BLOCK: usize = 59;
+
+pub const HISTORY: usize = 10;
+
 /// How many numbers a snapshot has.
 pub const LENGTH: usize = 875;
+
+/// The number at this place.
+pub fn at(seen: &[u64], place: usize) -> u64 {
+    match seen.get(place) {
+        Some(number) => *number,
+        None => 0,
+    }
+}
+
+/// The place of a class's number, by its place in its block. Classes count from 1.
+pub fn in_class(class: u64, place: usize) -> usize {
+    let blocks = (class as usize).wrapping_sub(1).wrapping_mul(CLASS_BLOCK);
+    CLASS_BLOCKS.wrapping_add(blocks).wrapping_add(place)
+}
+
+/// The same of a stripe's.
+pub fn in_stripe(stripe: u64, place: usize) -> usize {
+    let blocks = (stripe as usize).wrapping_mul(STRIPE_BLOCK);
+    STRIPE_BLOCKS.wrapping_add(blocks).wrapping_add(place)
+}
+
+/// The place of a key's chunk. Its stamp is the next.
+pub fn of_key(key: u64) -> usize {
+    in_stripe(key % STRIPES, (key / STRIPES).wrapping_mul(2) as usize)
+}
+
+/// The place of a chunk's header.
+pub fn of_head(page: u64, index: u64) -> usize {
+    let chunks = page.wrapping_mul(MOST).wrapping_add(index);
+    HEADS.wrapping_add(chunks as usize)
+}
+
+/// Whether the numbers from one place on are the same, so many.
+pub fn are_same(before: &[u64], after: &[u64], from: usize, count: usize) -> bool {
+    let end = from.wrapping_add(count);
+    before.get(from..end) == after.get(from..end)
+}
+
+/// How much a number rose.
+pub fn rise(before: &[u64], after: &[u64], place: usize) -> u64 {
+    at(after, place).wrapping_sub(at(before, place))
+}
+
+/// How much all classes' numbers at this place of their blocks rose together.
+pub fn rise_of_classes(before: &[u64], after: &[u64], place: usize) -> u64 {
+    let mut sum = 0u64;
+    for class in 1..=CLASSES {
+        sum = sum.wrapping_add(rise(before, after, in_class(class, place)));
+    }
+    sum
+}
 
 /// Adds a number. There is room for it.
 pub fn note(seen: &mut Vec<u64>, number: u64) {
