@@ -1,0 +1,5 @@
+use Rattle.mc_refusal_trials.specs.Hands.{IsReadyHandOf}
+use Rattle.mc_refusal_trials.proofs.tests.looking.see.Given as goal
+
+abbrev pub invariant-loop-page : goal.invariant-loop-page
+invariant-loop-page l = IsReadyHandOf l.arena l.looker

@@ -1,0 +1,191 @@
+//! Calls that may be refused memory, as data, and what they give.
+ghost use Rattle.mc_refusal_trials.specs.Hands.{IsReadyHandOf};
+
+use mc_classes::ClassId;
+use mc_items::{GetError, SetError, delete, get, release, set, touch};
+use mc_mover::{Counts, Survey, Turn, reassign, set_mode, survey, turn};
+use mc_pages::Reassign;
+use mc_stripe::Key;
+use mc_words::{Arena, Hand};
+use std::alloc::Global;
+use std::sync::Wait;
+
+/// A call of a hand.
+#[derive(Clone, Copy)]
+pub enum Call {
+    /// An item of so many words.
+    Set(Key, usize),
+    /// The same, which evicts and begins a move, in mode 2. Where memory for the move is refused, it is stored, and no page moves.
+    SetAndMove(Key, usize),
+    /// The reference is given up at once.
+    Get(Key),
+    Delete(Key),
+    Touch(Key),
+    /// A move from a class or any to a class or the pool.
+    Reassign(Option<ClassId>, ClassId),
+    Turn,
+    /// With a sweep, or without.
+    Survey(bool),
+    /// The automover's mode 2. It takes no memory.
+    ModeTwo,
+}
+
+/// What it gives.
+#[derive(Clone, Copy, PartialEq, Eq)]
+pub enum Answer {
+    NoMemory,
+    /// What was asked for is done.
+    Done,
+    /// Whether there is such an item.
+    There(bool),
+    /// How a turn ended, and what it counts.
+    Turned(Turn),
+    /// Whether a page moves; and the moves that ended, the items that moves rescued and evicted, and the chunks that held one up.
+    Surveyed(bool, [u64; 4]),
+    /// Why no page moves.
+    Stays(Reassign),
+    /// It was refused otherwise.
+    Refused,
+}
+
+/// A turn that finds that no page moves.
+pub const IDLE: Answer = Answer::Turned(Turn::Idle);
+
+/// A turn that goes on: so many chunks were cleared, rescued, evicted, busy.
+pub fn went(cleared: u64, rescued: u64, evicted: u64, busy: u64) -> Answer {
+    Answer::Turned(Turn::Went(counts(cleared, rescued, evicted, busy)))
+}
+
+/// A turn that ends the move, with the same counts.
+pub fn finished(cleared: u64, rescued: u64, evicted: u64, busy: u64) -> Answer {
+    Answer::Turned(Turn::Finished(counts(cleared, rescued, evicted, busy)))
+}
+
+/// What a turn counts that found no lock held.
+pub fn counts(cleared: u64, rescued: u64, evicted: u64, busy: u64) -> Counts {
+    Counts {
+        cleared,
+        rescued,
+        evicted,
+        busy,
+        locked: 0,
+    }
+}
+
+impl Call {
+    /// What it is called by.
+    pub fn name(self) -> &'static str {
+        match self {
+            Call::Set(..) | Call::SetAndMove(..) => "set",
+            Call::Get(_) => "get",
+            Call::Delete(_) => "delete",
+            Call::Touch(_) => "touch",
+            Call::Reassign(..) => "reassign",
+            Call::Turn => "turn",
+            Call::Survey(_) => "survey",
+            Call::ModeTwo => "set_mode",
+        }
+    }
+}
+
+/// Makes the call.
+pub fn answer_of<R: Wait>(
+    rt: &R,
+    alloc: Global,
+    arena: &Arena,
+    hand: &mut Hand,
+    words: &[u64],
+    call: Call,
+) -> Answer
+    requires arena { IsReadyHandOf arena.now hand.old }
+    ensures arena { IsReadyHandOf arena.now hand.new }
+{
+    match call {
+        Call::Set(key, len) | Call::SetAndMove(key, len) => match words.get(..len) {
+            Some(words) => set_words(rt, arena, hand, key, words),
+            None => Answer::Refused,
+        },
+        Call::Get(key) => get_key(rt, arena, hand, key),
+        Call::Delete(key) => there(delete(rt, arena, hand, key).ok()),
+        Call::Touch(key) => there(touch(rt, arena, hand, key).ok()),
+        Call::Survey(sweep) => surveyed(survey(rt, alloc, arena, hand, sweep).ok()),
+        _ => answer_of_mover(rt, arena, hand, call),
+    }
+}
+
+fn answer_of_mover<R: Wait>(rt: &R, arena: &Arena, hand: &mut Hand, call: Call) -> Answer
+    requires arena { IsReadyHandOf arena.now hand.old }
+    ensures arena { IsReadyHandOf arena.now hand.new }
+{
+    match call {
+        Call::Reassign(src, dst) => reassigned(reassign(rt, arena, hand, src, dst)),
+        Call::Turn => turned(turn(rt, arena, hand).ok()),
+        _ => {
+            set_mode(rt, arena, hand, 2);
+            Answer::Done
+        }
+    }
+}
+
+/// Whether there was such an item, if memory didn't run out.
+fn there(found: Option<bool>) -> Answer {
+    match found {
+        Some(found) => Answer::There(found),
+        None => Answer::NoMemory,
+    }
+}
+
+fn turned(turn: Option<Turn>) -> Answer {
+    match turn {
+        Some(turn) => Answer::Turned(turn),
+        None => Answer::NoMemory,
+    }
+}
+
+fn reassigned(answer: Result<(), Reassign>) -> Answer {
+    match answer {
+        Ok(()) => Answer::Done,
+        Err(Reassign::NoMemory) => Answer::NoMemory,
+        Err(refusal) => Answer::Stays(refusal),
+    }
+}
+
+fn surveyed(survey: Option<Survey>) -> Answer {
+    let Some(survey) = survey else {
+        return Answer::NoMemory;
+    };
+    let totals = survey.totals;
+    let counts = [
+        totals.moved,
+        totals.rescues,
+        totals.evictions_nomem,
+        totals.busy,
+    ];
+    Answer::Surveyed(survey.running, counts)
+}
+
+fn set_words<R: Wait>(rt: &R, arena: &Arena, hand: &mut Hand, key: Key, words: &[u64]) -> Answer
+    requires arena { IsReadyHandOf arena.now hand.old }
+    ensures arena { IsReadyHandOf arena.now hand.new }
+{
+    match set(rt, arena, hand, key, words) {
+        Ok(_) => Answer::Done,
+        Err(SetError::NoMemory) => Answer::NoMemory,
+        Err(_) => Answer::Refused,
+    }
+}
+
+fn get_key<R: Wait>(rt: &R, arena: &Arena, hand: &mut Hand, key: Key) -> Answer
+    requires arena { IsReadyHandOf arena.now hand.old }
+    ensures arena { IsReadyHandOf arena.now hand.new }
+{
+    match get(rt, arena, hand, key) {
+        Ok(Some(item)) => {
+            release(arena, hand, item);
+            Answer::There(true)
+        }
+        Ok(None) => Answer::There(false),
+        Err(GetError::NoMemory) => Answer::NoMemory,
+        Err(_) => Answer::Refused,
+    }
+}

@@ -1,0 +1,20 @@
+//! Calls on keys.
+use super::FOUR_CLASSES;
+use super::calls::{Answer, Call};
+use super::steps::run;
+use std::test::Fail;
+
+#[test]
+fn calls_on_keys_are_refused_memory(rt: HostRuntime) -> Result<(), Fail> {
+    let steps = [
+        (Call::Set(1, 3), Answer::Done),
+        (Call::Get(1), Answer::There(true)),
+        (Call::Touch(1), Answer::There(true)),
+        (Call::Get(2), Answer::There(false)),
+        (Call::Delete(1), Answer::There(true)),
+        (Call::Touch(3), Answer::There(false)),
+        (Call::Delete(4), Answer::There(false)),
+        (Call::Set(4, 61), Answer::Done),
+    ];
+    run(&rt, rt.alloc(), &FOUR_CLASSES, &steps)
+}

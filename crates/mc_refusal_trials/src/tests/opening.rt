@@ -1,0 +1,101 @@
+//! Arenas with three hands: one that acts, one that reads, and one that looks.
+ghost use Rattle.std.specs.Prelude.{IfSome, IfOk};
+ghost use Rattle.mc_refusal_trials.specs.Hands.{AreHandsOf, IsIdleHandOf, IsReadyHandOf};
+
+use super::looking::{Looker, room};
+use super::marks::{tell_call, tell_done, tell_refused};
+use super::snapshot::LENGTH;
+use mc_classes::Config;
+use mc_words::{Arena, Hand, NewError};
+use std::alloc::Global;
+use std::test::Fail;
+
+/// The most words of an item.
+const WORDS: usize = 61;
+
+/// An arena of this configuration, and its hands.
+#[tactic(auto, using(crate::proofs::Kept::all_hands))]
+fn new_arena(alloc: Global, config: &Config, hands: u64) -> Result<(Arena, Vec<Hand>), NewError>
+    ensures hands { IfOk result (λ made. AreHandsOf made.0 made.1.items) }
+{
+    Arena::new(alloc, config, hands)
+}
+
+/// The same. Where that is refused memory once, it is asked for again.
+fn new_again<R: Print>(
+    rt: &R,
+    alloc: Global,
+    config: &Config,
+    hands: u64,
+) -> Result<(Arena, Vec<Hand>), NewError>
+    ensures hands { IfOk result (λ made. AreHandsOf made.0 made.1.items) }
+{
+    tell_call(rt, "new");
+    match new_arena(alloc, config, hands) {
+        Ok(made) => {
+            tell_done(rt, "new");
+            Ok(made)
+        }
+        Err(_) => {
+            tell_refused(rt, "new");
+            new_arena(alloc, config, hands)
+        }
+    }
+}
+
+/// The hand of the lowest number that is left.
+fn next_hand(arena: &Arena, hands: &mut Vec<Hand>) -> Option<Hand>
+    requires hands { AreHandsOf arena.now hands.old.items }
+    ensures hands { AreHandsOf arena.now hands.new.items }
+    ensures hand { IfSome result (λ hand. IsIdleHandOf arena.now hand) }
+{
+    if hands.is_empty() {
+        None
+    } else {
+        Some(hands.remove(0))
+    }
+}
+
+/// The three hands of the lowest numbers that are left.
+fn three_of(arena: &Arena, hands: &mut Vec<Hand>) -> Option<(Hand, Hand, Hand)>
+    requires hands { AreHandsOf arena.now hands.old.items }
+    ensures three { IfSome result (λ three. IsIdleHandOf arena.now three.0 × IsIdleHandOf arena.now three.1 × IsIdleHandOf arena.now three.2) }
+{
+    let first = next_hand(arena, hands)?;
+    let second = next_hand(arena, hands)?;
+    let third = next_hand(arena, hands)?;
+    Some((first, second, third))
+}
+
+/// Words from 0 on.
+fn words_of(alloc: Global) -> Result<Vec<u64>, Fail> {
+    let mut words = room(alloc, WORDS)?;
+    for place in 0..WORDS {
+        words.push(place as u64)?;
+    }
+    Ok(words)
+}
+
+/// A new arena, a hand of it that acts, one that reads, and one that looks.
+pub fn opened<R: Print>(
+    rt: &R,
+    alloc: Global,
+    config: &Config,
+) -> Result<(Arena, Hand, Hand, Looker), Fail>
+    ensures hands { IfOk result (λ made. IsReadyHandOf made.0 made.1 × IsReadyHandOf made.0 made.2 × IsReadyHandOf made.0 made.3.hand) }
+{
+    let before = room(alloc, LENGTH)?;
+    let after = room(alloc, LENGTH)?;
+    let words = words_of(alloc)?;
+    let (arena, mut hands) = new_again(rt, alloc, config, 3)?;
+    let Some((hand, reader, other)) = three_of(&arena, &mut hands) else {
+        return Err(Fail::new("there are three hands"));
+    };
+    let looker = Looker {
+        hand: other,
+        before,
+        after,
+        words,
+    };
+    Ok((arena, hand, reader, looker))
+}

@@ -1,0 +1,146 @@
+//! Pages that move: the worked lists of calls, in which each call that takes memory is made.
+use super::FOUR_CLASSES;
+use super::calls::{Answer, Call, IDLE, finished, went};
+use super::holding::{has_words, hold};
+use super::opening::opened;
+use super::steps::{Step, play_all, run};
+use mc_items::release;
+use mc_pages::Reassign;
+use std::test::Fail;
+
+/// An item of so many words is stored.
+fn stores(key: u64, len: usize) -> Step {
+    (Call::Set(key, len), Answer::Done)
+}
+
+/// Whether the key's item is there is told by a touch of it.
+fn touches(key: u64, there: bool) -> Step {
+    (Call::Touch(key), Answer::There(there))
+}
+
+/// A page moves, or none does, and so many moves ended, items were rescued, and evicted, and chunks held up a move.
+fn surveys(running: bool, counts: [u64; 4]) -> Step {
+    (Call::Survey(true), Answer::Surveyed(running, counts))
+}
+
+#[test]
+fn an_item_is_rescued_and_another_evicted(rt: HostRuntime) -> Result<(), Fail> {
+    let steps = [
+        stores(1, 61),
+        stores(2, 61),
+        stores(3, 61),
+        stores(4, 61),
+        stores(5, 61),
+        stores(6, 61),
+        stores(7, 61),
+        stores(8, 61),
+        (Call::Delete(8), Answer::There(true)),
+        (Call::Reassign(Some(4), 1), Answer::Done),
+        (Call::Turn, finished(2, 1, 1, 0)),
+        touches(2, true),
+        touches(1, false),
+        surveys(false, [1, 1, 1, 0]),
+    ];
+    run(&rt, rt.alloc(), &FOUR_CLASSES, &steps)
+}
+
+#[test]
+fn a_held_item_keeps_its_page(rt: HostRuntime) -> Result<(), Fail> {
+    let (arena, mut hand, mut reader, mut looker) = opened(&rt, rt.alloc(), &FOUR_CLASSES)?;
+    let steps = [
+        stores(1, 22),
+        stores(2, 22),
+        stores(3, 22),
+        stores(4, 22),
+        stores(5, 22),
+        stores(6, 22),
+        stores(7, 22),
+        stores(8, 22),
+    ];
+    if !play_all(&rt, rt.alloc(), &arena, &mut hand, &mut looker, &steps) {
+        return Ok(());
+    }
+    let Some(item) = hold(&rt, &arena, &mut reader, &mut looker, 1) else {
+        return Err(Fail::new("the key has an item, and nothing was left behind"));
+    };
+    let steps = [
+        (Call::Reassign(Some(4), 1), Answer::Done),
+        (Call::Turn, went(1, 0, 1, 1)),
+        surveys(true, [0, 0, 1, 1]),
+        (Call::Reassign(Some(4), 2), Answer::Stays(Reassign::Busy)),
+    ];
+    play_all(&rt, rt.alloc(), &arena, &mut hand, &mut looker, &steps);
+    if !has_words(&rt, rt.alloc(), &arena, &mut reader, &mut looker, &item, 22) {
+        return Err(Fail::new("words 0 to 21, and nothing was left behind"));
+    }
+    release(&arena, &mut reader, item);
+    let steps = [(Call::Turn, finished(1, 0, 1, 0)), (Call::Turn, IDLE)];
+    play_all(&rt, rt.alloc(), &arena, &mut hand, &mut looker, &steps);
+    Ok(())
+}
+
+/// Four items of class 4 and six of class 3, two pages of each.
+const TWO_CLASSES: [Step; 10] = [
+    (Call::Set(1, 61), Answer::Done),
+    (Call::Set(2, 61), Answer::Done),
+    (Call::Set(3, 61), Answer::Done),
+    (Call::Set(4, 61), Answer::Done),
+    (Call::Set(11, 20), Answer::Done),
+    (Call::Set(12, 20), Answer::Done),
+    (Call::Set(13, 20), Answer::Done),
+    (Call::Set(14, 20), Answer::Done),
+    (Call::Set(15, 20), Answer::Done),
+    (Call::Set(16, 20), Answer::Done),
+];
+
+#[test]
+fn two_classes_give_a_page_in_turn(rt: HostRuntime) -> Result<(), Fail> {
+    let (arena, mut hand, _reader, mut looker) = opened(&rt, rt.alloc(), &FOUR_CLASSES)?;
+    if !play_all(
+        &rt,
+        rt.alloc(),
+        &arena,
+        &mut hand,
+        &mut looker,
+        &TWO_CLASSES,
+    ) {
+        return Ok(());
+    }
+    let steps = [
+        (Call::Reassign(None, 1), Answer::Done),
+        (Call::Turn, finished(5, 4, 1, 0)),
+        (Call::Reassign(None, 1), Answer::Done),
+        (Call::Turn, finished(2, 0, 2, 0)),
+        surveys(false, [2, 4, 3, 0]),
+        touches(11, false),
+        touches(12, true),
+    ];
+    play_all(&rt, rt.alloc(), &arena, &mut hand, &mut looker, &steps);
+    Ok(())
+}
+
+#[test]
+fn an_eviction_begins_a_move(rt: HostRuntime) -> Result<(), Fail> {
+    let (arena, mut hand, _reader, mut looker) = opened(&rt, rt.alloc(), &FOUR_CLASSES)?;
+    let mode = [(Call::ModeTwo, Answer::Done)];
+    play_all(&rt, rt.alloc(), &arena, &mut hand, &mut looker, &mode);
+    if !play_all(
+        &rt,
+        rt.alloc(),
+        &arena,
+        &mut hand,
+        &mut looker,
+        &TWO_CLASSES,
+    ) {
+        return Ok(());
+    }
+    let steps = [
+        (Call::SetAndMove(5, 61), Answer::Done),
+        surveys(true, [0, 0, 0, 0]),
+        (Call::Turn, finished(5, 4, 1, 0)),
+        stores(6, 61),
+        touches(2, true),
+    ];
+    play_all(&rt, rt.alloc(), &arena, &mut hand, &mut looker, &steps);
+    Ok(())
+}

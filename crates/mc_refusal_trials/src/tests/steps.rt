@@ -1,0 +1,151 @@
+//! Calls with what each is to give. One that is refused memory is made again, once what the refusal left was looked at.
+ghost use Rattle.mc_refusal_trials.specs.Hands.{IsReadyHandOf};
+
+use super::assert_same;
+use super::calls::{Answer, Call, answer_of};
+use super::left::{has_died, is_left, turned};
+use super::looking::{Looker, look_after, look_before};
+use super::marks::{tell_call, tell_done, tell_ignored, tell_refused};
+use super::opening::opened;
+use super::snapshot::{MOVING, at};
+use mc_classes::Config;
+use mc_mover::{Counts, Turn};
+use mc_words::{Arena, Hand};
+use std::alloc::Global;
+use std::process::Abort;
+use std::sync::Wait;
+use std::test::Fail;
+
+/// A call, and what it is to give.
+pub type Step = (Call, Answer);
+
+/// What becomes of a row behind a call.
+#[derive(Clone, Copy, Debug, PartialEq, Eq)]
+enum Row {
+    Goes,
+    /// A refusal left what the row doesn't know of.
+    Ends,
+    /// The call didn't give what it is to, or a refusal left what it may not.
+    Fails,
+}
+
+// The row goes on if this is so.
+fn goes_if(is_right: bool) -> Row {
+    if is_right { Row::Goes } else { Row::Fails }
+}
+
+// Makes the call, and once more where it is refused memory.
+fn play<R: Wait + Print>(
+    rt: &R,
+    alloc: Global,
+    arena: &Arena,
+    hand: &mut Hand,
+    looker: &mut Looker,
+    step: Step,
+) -> Row
+    requires arena { IsReadyHandOf arena.now hand.old }
+    requires looker { IsReadyHandOf arena.now looker.old.hand }
+    ensures arena { IsReadyHandOf arena.now hand.new }
+    ensures looker { IsReadyHandOf arena.now looker.new.hand }
+{
+    let (call, wanted) = step;
+    if !look_before(arena, looker, hand) {
+        return Row::Fails;
+    }
+    tell_call(rt, call.name());
+    let answer = answer_of(rt, alloc, arena, hand, &looker.words, call);
+    if !look_after(arena, looker, hand) {
+        return Row::Fails;
+    }
+    if answer != Answer::NoMemory {
+        return behind_call(rt, call, looker, answer == wanted);
+    }
+    tell_refused(rt, call.name());
+    let again = answer_of(rt, alloc, arena, hand, &looker.words, call);
+    behind_refusal(step, looker, again)
+}
+
+// What becomes of the row, once the call was made.
+fn behind_call<R: Print>(rt: &R, call: Call, looker: &Looker, is_right: bool) -> Row {
+    let stays = at(&looker.after, MOVING) == 0;
+    if let Call::SetAndMove(..) = call {
+        if stays {
+            tell_ignored(rt, call.name());
+            return Row::Ends;
+        }
+    }
+    tell_done(rt, call.name());
+    goes_if(is_right)
+}
+
+// What becomes of the row, once the call was made again.
+fn behind_refusal(step: Step, looker: &Looker, again: Answer) -> Row {
+    let (call, wanted) = step;
+    let (before, after) = (looker.before.as_slice(), looker.after.as_slice());
+    if !is_left(call, before, after) {
+        return Row::Fails;
+    }
+    let both = match again {
+        Answer::Turned(turn) => Answer::Turned(both_turns(turned(before, after), turn)),
+        other => other,
+    };
+    if both == wanted && has_died(before, after) {
+        return Row::Ends;
+    }
+    goes_if(both == wanted)
+}
+
+// What two turns count together, and how the last one ended.
+fn both_turns(first: Counts, last: Turn) -> Turn {
+    match last {
+        Turn::Idle => Turn::Idle,
+        Turn::Went(counts) => Turn::Went(sum(first, counts)),
+        Turn::Finished(counts) => Turn::Finished(sum(first, counts)),
+    }
+}
+
+fn sum(one: Counts, other: Counts) -> Counts {
+    Counts {
+        cleared: one.cleared.wrapping_add(other.cleared),
+        rescued: one.rescued.wrapping_add(other.rescued),
+        evicted: one.evicted.wrapping_add(other.evicted),
+        busy: one.busy.wrapping_add(other.busy),
+        locked: one.locked.wrapping_add(other.locked),
+    }
+}
+
+/// Each call gives what it is to, one after another. False where a refusal ends the row.
+pub fn play_all<R: Abort + Wait + Print>(
+    rt: &R,
+    alloc: Global,
+    arena: &Arena,
+    hand: &mut Hand,
+    looker: &mut Looker,
+    steps: &[Step],
+) -> bool
+    requires arena { IsReadyHandOf arena.now hand.old }
+    requires looker { IsReadyHandOf arena.now looker.old.hand }
+    ensures arena { IsReadyHandOf arena.now hand.new }
+    ensures looker { IsReadyHandOf arena.now looker.new.hand }
+{
+    for place in 0..steps.len() {
+        let row = play(rt, alloc, arena, hand, looker, steps[place]);
+        if row == Row::Ends {
+            return false;
+        }
+        assert_same(rt, (place, row), (place, Row::Goes), "a step, from 0");
+    }
+    true
+}
+
+/// Each call gives what it is to, in a new arena of this configuration.
+pub fn run<R: Abort + Wait + Print>(
+    rt: &R,
+    alloc: Global,
+    config: &Config,
+    steps: &[Step],
+) -> Result<(), Fail> {
+    let (arena, mut hand, _reader, mut looker) = opened(rt, alloc, config)?;
+    play_all(rt, alloc, &arena, &mut hand, &mut looker, steps);
+    Ok(())
+}
