@@ -1,0 +1,2 @@
+pub mod KeptRefs
+pub mod Kept

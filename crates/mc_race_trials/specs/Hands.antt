@@ -1,0 +1,24 @@
+-- Hands that may make any call, and those that are kept in a list.
+use Rattle.std.specs.Prelude.{◌≡◌, List, [], ◌∷◌, ⊤}
+use Rattle.mc_words.specs.declared.arena.Arena.{Arena}
+use Rattle.mc_words.specs.declared.hand.Hand.{Hand}
+use Rattle.mc_words.specs.Arenas.{IsHandOf, view}
+use Rattle.mc_words.specs.View.{View}
+use Rattle.mc_words.specs.Ready.{IsReady}
+
+-- the hand is one of the arena's, and may make any call
+abbrev pub IsReadyHandOf : Arena → Hand → Type 0
+IsReadyHandOf arena hand = IsHandOf arena hand × IsReady (view hand)
+
+-- the hand holds no chunk
+abbrev pub HoldsNothing : View → Type 0
+HoldsNothing view = view.row.holdings ≡ []
+
+-- so that another may take it over
+abbrev pub IsIdleHandOf : Arena → Hand → Type 0
+IsIdleHandOf arena hand = IsReadyHandOf arena hand × HoldsNothing (view hand)
+
+-- all are such hands of the arena
+abbrev pub AreHandsOf : Arena → List Hand → Type 0
+AreHandsOf arena [] = ⊤
+AreHandsOf arena (hand ∷ hands) = IsIdleHandOf arena hand × AreHandsOf arena hands

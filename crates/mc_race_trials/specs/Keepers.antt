@@ -1,0 +1,36 @@
+-- Hands that keep references, and hints of items that they knew.
+use Rattle.std.specs.Prelude.{◌≡◌, ℕ, List, true, Bool, count_by, All, Option, IfSome}
+use Rattle.mc_pages.specs.declared.ids.ChunkId.{ChunkId}
+use Rattle.mc_pages.specs.ClassState.{is_chunk}
+use Rattle.mc_core.specs.Columns.{holds}
+use Rattle.mc_core.specs.State.{has_chunk}
+use Rattle.mc_words.specs.declared.arena.Arena.{Arena}
+use Rattle.mc_words.specs.declared.hand.Hand.{Hand}
+use Rattle.mc_words.specs.declared.refs.Hint.{Hint}
+use Rattle.mc_words.specs.Arenas.{setup_of, view}
+use Rattle.mc_words.specs.Observers.{hint_chunk}
+use Rattle.mc_words.specs.View.{View}
+use Rattle.mc_items.specs.declared.refs.Ref.{Ref}
+use Rattle.mc_items.specs.ItemRefs.{IsItemRef, item_chunk}
+use Rattle.mc_race_trials.specs.Hands.{IsReadyHandOf}
+
+-- the reference is to the chunk
+abbrev pub refers_to : ChunkId → Ref → Bool
+refers_to chunk item = is_chunk (item_chunk item) chunk
+
+-- the hand refers to the item of each, and holds each chunk as often as references to it are kept
+pub record AreKept (view : View) (kept : List Ref) : Type 0 where
+  pub items : All (IsItemRef view) kept
+  pub counts : (chunk : ChunkId) → holds chunk view.row.holdings ≡ count_by (refers_to chunk) kept
+
+-- the hand may make any call, and keeps these references
+abbrev pub IsKeeperOf : Arena → Hand → List Ref → Type 0
+IsKeeperOf arena hand kept = IsReadyHandOf arena hand × AreKept (view hand) kept
+
+-- the hint is of one of the arena's chunks
+abbrev pub IsNear : Arena → Hint → Type 0
+IsNear arena hint = has_chunk (setup_of arena).table (hint_chunk hint) ≡ true
+
+-- and so each of these that is there, beside which stand the stamps of their items
+abbrev pub AreNear : Arena → List (Option (Hint × ℕ)) → Type 0
+AreNear arena hints = All (λ hint. IfSome hint (λ note. IsNear arena note.0)) hints

@@ -1,0 +1,5 @@
+//! Tests of threads that race for items, over the public calls of `mc_mover`, `mc_items` and `mc_words` alone.
+#![tactic(auto)]
+
+#[cfg(test)]
+mod tests;

@@ -1,0 +1,10 @@
+//! The tests, and what they have in common.
+mod accounts;
+mod calls;
+mod driver;
+mod ends;
+mod holding;
+mod replays;
+mod stress;
+mod words;
+mod workers;

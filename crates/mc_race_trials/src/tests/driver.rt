@@ -1,0 +1,198 @@
+//! Movers: each begins moves between all classes and the pool, turns, and changes the mode and surveys now and then.
+ghost use Rattle.mc_race_trials.specs.Hands.{IsIdleHandOf};
+
+use super::words::draw;
+use mc_mover::{Counts, Survey, TryTurn, Turn, reassign, set_mode, survey, try_turn, turn};
+use mc_stripe::NoMemory;
+use mc_words::{Arena, Hand};
+use std::alloc::Global;
+use std::sync::Wait;
+
+/// How many rounds there are.
+const ROUNDS: u64 = 6000;
+
+/// What turns told, all together.
+#[derive(Clone, Copy)]
+pub struct Tally {
+    /// Pages that came to their destination.
+    pub moved: u64,
+    /// Items that were taken to another chunk.
+    pub rescued: u64,
+    /// Items that were evicted, as there was no other chunk.
+    pub evicted: u64,
+    /// Chunks that held up a page.
+    pub held_up: u64,
+    /// How often a survey didn't add up, or there was no memory.
+    pub wrong: u64,
+}
+
+/// What is told before the first turn.
+pub const NOTHING: Tally = Tally {
+    moved: 0,
+    rescued: 0,
+    evicted: 0,
+    held_up: 0,
+    wrong: 0,
+};
+
+impl Tally {
+    /// Adds what a turn found.
+    fn add(&mut self, counts: Counts) {
+        self.rescued = self.rescued.saturating_add(counts.rescued);
+        self.evicted = self.evicted.saturating_add(counts.evicted);
+        let held_up = counts.busy.saturating_add(counts.locked);
+        self.held_up = self.held_up.saturating_add(held_up);
+    }
+
+    /// Adds what a turn told, and says whether it ended with no page on the move.
+    pub fn note(&mut self, turn: Turn) -> bool {
+        match turn {
+            Turn::Idle => true,
+            Turn::Went(counts) => {
+                self.add(counts);
+                false
+            }
+            Turn::Finished(counts) => {
+                self.add(counts);
+                self.moved = self.moved.saturating_add(1);
+                true
+            }
+        }
+    }
+
+    /// Counts what is wrong.
+    fn check(&mut self, is_right: bool) {
+        if !is_right {
+            self.wrong = self.wrong.saturating_add(1);
+        }
+    }
+}
+
+/// Asks for the next move: to the pool or a class, from any class or a named one. It may be refused.
+fn begin_next<R: Wait>(rt: &R, arena: &Arena, hand: &mut Hand, drawn: u64)
+    requires arena { IsIdleHandOf arena.now hand.old }
+    ensures arena { IsIdleHandOf arena.now hand.new }
+{
+    let src = if drawn % 2 == 0 {
+        None
+    } else {
+        Some(1 + drawn / 256 % 4)
+    };
+    let _answer = reassign(rt, arena, hand, src, drawn / 65_536 % 5);
+}
+
+/// A turn that waits.
+fn turn_by<R: Wait>(rt: &R, arena: &Arena, hand: &mut Hand, tally: &mut Tally) -> bool
+    requires arena { IsIdleHandOf arena.now hand.old }
+    ensures arena { IsIdleHandOf arena.now hand.new }
+{
+    match turn(rt, arena, hand) {
+        Ok(done) => tally.note(done),
+        Err(NoMemory) => {
+            tally.check(false);
+            false
+        }
+    }
+}
+
+/// A turn that waits for nobody.
+fn try_turn_by(arena: &Arena, hand: &mut Hand, tally: &mut Tally) -> bool
+    requires arena { IsIdleHandOf arena.now hand.old }
+    ensures arena { IsIdleHandOf arena.now hand.new }
+{
+    match try_turn(arena, hand) {
+        Ok(done) => tally.note(done),
+        Err(TryTurn::Held) => false,
+        Err(TryTurn::NoMemory) => {
+            tally.check(false);
+            false
+        }
+    }
+}
+
+/// Whether the pages of all classes and of the pool are those that were granted.
+fn adds_up(found: &Survey) -> bool {
+    let mut pages = found.totals.pool;
+    for numbers in found.classes.iter() {
+        pages = pages.saturating_add(numbers.pages);
+    }
+    pages == found.totals.granted
+}
+
+/// A survey, which adds up.
+fn survey_by<R: Wait>(
+    rt: &R,
+    alloc: Global,
+    arena: &Arena,
+    hand: &mut Hand,
+    tally: &mut Tally,
+    sweep: bool,
+)
+    requires arena { IsIdleHandOf arena.now hand.old }
+    ensures arena { IsIdleHandOf arena.now hand.new }
+{
+    match survey(rt, alloc, arena, hand, sweep) {
+        Ok(found) => tally.check(adds_up(&found)),
+        Err(NoMemory) => tally.check(false),
+    }
+}
+
+/// A turn that waits, or one that doesn't. True where no page moves behind it.
+fn one_turn<R: Wait>(rt: &R, arena: &Arena, hand: &mut Hand, tally: &mut Tally, waits: bool) -> bool
+    requires arena { IsIdleHandOf arena.now hand.old }
+    ensures arena { IsIdleHandOf arena.now hand.new }
+{
+    if waits {
+        return turn_by(rt, arena, hand, tally);
+    }
+    try_turn_by(arena, hand, tally)
+}
+
+/// One turn, and where no page moves behind it, the next move.
+fn turn_on<R: Wait>(rt: &R, arena: &Arena, hand: &mut Hand, tally: &mut Tally, drawn: u64)
+    requires arena { IsIdleHandOf arena.now hand.old }
+    ensures arena { IsIdleHandOf arena.now hand.new }
+{
+    if one_turn(rt, arena, hand, tally, drawn % 2 == 0) {
+        begin_next(rt, arena, hand, drawn / 256);
+    }
+}
+
+/// One round.
+fn act<R: Wait>(
+    rt: &R,
+    alloc: Global,
+    arena: &Arena,
+    hand: &mut Hand,
+    tally: &mut Tally,
+    drawn: u64,
+)
+    requires arena { IsIdleHandOf arena.now hand.old }
+    ensures arena { IsIdleHandOf arena.now hand.new }
+{
+    match drawn % 64 {
+        0 => set_mode(rt, arena, hand, drawn / 64 % 3),
+        1 => survey_by(rt, alloc, arena, hand, tally, drawn / 64 % 2 == 0),
+        _ => turn_on(rt, arena, hand, tally, drawn / 64),
+    }
+}
+
+/// A mover's hand, and what its turns told.
+#[derive(Drop)]
+pub struct Mover {
+    pub hand: Hand,
+    pub tally: Tally,
+}
+
+/// A mover's rounds.
+pub fn drive<R: Wait>(rt: &R, alloc: Global, arena: &Arena, thread: u64, hand: Hand) -> Mover
+    requires hand { IsIdleHandOf arena.now hand }
+    ensures hand { IsIdleHandOf arena.now result.hand }
+{
+    let mut hand = hand;
+    let mut tally = NOTHING;
+    for round in 0..ROUNDS {
+        act(rt, alloc, arena, &mut hand, &mut tally, draw(thread, round));
+    }
+    Mover { hand, tally }
+}

@@ -1,0 +1,107 @@
+//! References that a hand keeps over other calls, each of which is read now and then.
+ghost use Rattle.std.specs.Prelude.{◌≡◌, ◌≢◌, IfOk, IfSome, None};
+ghost use Rattle.mc_words.specs.Arenas.{view};
+ghost use Rattle.mc_race_trials.specs.Hands.{IsIdleHandOf};
+ghost use Rattle.mc_race_trials.specs.Keepers.{IsKeeperOf, IsNear};
+
+use super::words::are_words_of;
+use mc_items::{GetError, Ref, again, get, hint, read, release};
+use mc_stripe::{Key, Stamp};
+use mc_words::{Again, Arena, Hand, Hint};
+use std::alloc::{AllocError, Global};
+use std::sync::Wait;
+
+/// Keeps a reference to the key's item, if it has one, and gives a hint of it with its stamp. None, too, where that is refused.
+pub fn keep_key<R: Wait>(
+    rt: &R,
+    arena: &Arena,
+    hand: &mut Hand,
+    kept: &mut Vec<Ref>,
+    key: Key,
+) -> Result<Option<(Hint, Stamp)>, GetError>
+    requires keeper { IsKeeperOf arena.now hand.old kept.old.items }
+    ensures keeper { IsKeeperOf arena.now hand.new kept.new.items }
+    ensures near { IfOk result (λ found. IfSome found (λ note. IsNear arena.now note.0)) }
+{
+    let Ok(()) = kept.reserve(1) else {
+        return Err(GetError::NoMemory);
+    };
+    match get(rt, arena, hand, key) {
+        Ok(Some(item)) => {
+            let note = (hint(&item), item.stamp());
+            kept.push_reserved(item);
+            Ok(Some(note))
+        }
+        Ok(None) => Ok(None),
+        Err(error) => Err(error),
+    }
+}
+
+/// Keeps a reference to the item of a hint, if it is there still. False where an item of another stamp is there. `Contended`, too, where
+/// memory ran out.
+pub fn keep_again(
+    arena: &Arena,
+    hand: &mut Hand,
+    kept: &mut Vec<Ref>,
+    note: (Hint, Stamp),
+) -> Result<bool, Again>
+    requires keeper { IsKeeperOf arena.now hand.old kept.old.items }
+    requires near { IsNear arena.now note.0 }
+    ensures keeper { IsKeeperOf arena.now hand.new kept.new.items }
+{
+    let Ok(()) = kept.reserve(1) else {
+        return Err(Again::Contended);
+    };
+    match again(arena, hand, note.0) {
+        Ok(item) => {
+            let is_own = item.stamp() == note.1;
+            kept.push_reserved(item);
+            Ok(is_own)
+        }
+        Err(error) => Err(error),
+    }
+}
+
+/// Whether an item that is kept has the words of its key and stamp.
+pub fn is_own(
+    alloc: Global,
+    arena: &Arena,
+    hand: &mut Hand,
+    kept: &[Ref],
+    place: usize,
+) -> Result<bool, AllocError>
+    requires keeper { IsKeeperOf arena.now hand.old kept.now }
+    ensures keeper { IsKeeperOf arena.now hand.new kept.now }
+{
+    if place >= kept.len() {
+        return Ok(true);
+    }
+    let item = &kept[place];
+    let words = read(alloc, arena, hand, item)?;
+    Ok(are_words_of(&words, item.key(), item.stamp()))
+}
+
+/// Gives a reference that is kept back.
+pub fn give_back(arena: &Arena, hand: &mut Hand, kept: &mut Vec<Ref>, place: usize)
+    requires keeper { IsKeeperOf arena.now hand.old kept.old.items }
+    ensures keeper { IsKeeperOf arena.now hand.new kept.new.items }
+{
+    if place >= kept.len() {
+        return;
+    }
+    let item = kept.remove(place);
+    release(arena, hand, item);
+}
+
+/// Gives all references that are kept back.
+pub fn give_all_back(arena: &Arena, hand: Hand, kept: Vec<Ref>) -> Hand
+    requires keeper { IsKeeperOf arena.now hand kept.items }
+    ensures hand { IsIdleHandOf arena.now result }
+{
+    let mut hand = hand;
+    let mut kept = kept;
+    while let Some(item) = kept.pop() {
+        release(arena, &mut hand, item);
+    }
+    hand
+}

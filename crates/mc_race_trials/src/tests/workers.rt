@@ -1,0 +1,305 @@
+//! Workers: each keeps up to 255 references over its own calls, most of which it got by old hints.
+ghost use Rattle.std.specs.Prelude.{IfOk, IfSome};
+ghost use Rattle.mc_race_trials.specs.Hands.{IsIdleHandOf};
+ghost use Rattle.mc_race_trials.specs.Keepers.{AreNear, IsKeeperOf, IsNear};
+
+use super::calls::{delete_key, set_key, touch_key};
+use super::holding::{give_all_back, give_back, is_own, keep_again, keep_key};
+use super::replays::{Calls, NO_CALLS};
+use super::words::{KEYS, draw};
+use mc_items::Ref;
+use mc_stripe::{Key, Stamp};
+use mc_words::{Again, Arena, Hand, Hint};
+use std::alloc::{AllocError, Global};
+use std::sync::Wait;
+
+/// How many rounds a worker has.
+const ROUNDS: u64 = 8192;
+
+/// How many references a worker keeps in most of its rounds.
+const FEW: u64 = 4;
+
+/// How many references a worker keeps in a round: for a while as many as it may.
+fn most_kept(thread: u64, round: u64) -> u64 {
+    if (round / 1024).wrapping_add(thread) % 4 == 0 {
+        255
+    } else {
+        FEW
+    }
+}
+
+/// What a worker's rounds told.
+#[derive(Clone, Copy)]
+pub struct Told {
+    /// The calls that were done.
+    pub calls: Calls,
+    /// How often an item had other words than its own, or wasn't the one of its hint.
+    pub wrong: u64,
+}
+
+impl Told {
+    /// Counts what is wrong.
+    fn note(&mut self, is_right: bool) {
+        if !is_right {
+            self.wrong = self.wrong.saturating_add(1);
+        }
+    }
+
+    /// Counts a set, if it was done.
+    fn set(&mut self, done: bool) {
+        self.calls.sets = self.calls.sets.saturating_add(done as u64);
+    }
+
+    /// Counts a get, if it was done.
+    fn got(&mut self, done: bool) {
+        self.calls.gets = self.calls.gets.saturating_add(done as u64);
+    }
+
+    /// Counts a delete, if it was done.
+    fn deleted(&mut self, done: bool) {
+        self.calls.deletes = self.calls.deletes.saturating_add(done as u64);
+    }
+}
+
+/// Hints of the keys' items, each with the item's stamp.
+type Hints = Vec<Option<(Hint, Stamp)>>;
+
+/// The hint of a key.
+fn hint_of(_arena: &Arena, hints: &Hints, key: Key) -> Option<(Hint, Stamp)>
+    requires near { AreNear _arena.now hints.now.items }
+    ensures near { IfSome result (λ note. IsNear _arena.now note.0) }
+{
+    let place = key as usize;
+    if place < hints.len() {
+        hints[place]
+    } else {
+        None
+    }
+}
+
+/// This is the hint of a key from now on.
+fn note_hint(_arena: &Arena, hints: &mut Hints, key: Key, note: (Hint, Stamp))
+    requires near { AreNear _arena.now hints.old.items }
+    requires note { IsNear _arena.now note.0 }
+    ensures near { AreNear _arena.now hints.new.items }
+{
+    let place = key as usize;
+    if place < hints.len() {
+        hints[place] = Some(note);
+    }
+}
+
+/// Gets and keeps the key's item, and notes a hint of it.
+fn keep_fresh<R: Wait>(
+    rt: &R,
+    arena: &Arena,
+    hand: &mut Hand,
+    kept: &mut Vec<Ref>,
+    hints: &mut Hints,
+    told: &mut Told,
+    key: Key,
+)
+    requires keeper { IsKeeperOf arena.now hand.old kept.old.items }
+    requires near { AreNear arena.now hints.old.items }
+    ensures keeper { IsKeeperOf arena.now hand.new kept.new.items }
+    ensures near { AreNear arena.now hints.new.items }
+{
+    match keep_key(rt, arena, hand, kept, key) {
+        Ok(Some(note)) => {
+            told.got(true);
+            note_hint(arena, hints, key, note);
+        }
+        Ok(None) => told.got(true),
+        Err(_) => {}
+    }
+}
+
+/// Keeps the key's item by its hint; where it is gone, by a get.
+fn keep<R: Wait>(
+    rt: &R,
+    arena: &Arena,
+    hand: &mut Hand,
+    kept: &mut Vec<Ref>,
+    hints: &mut Hints,
+    told: &mut Told,
+    key: Key,
+)
+    requires keeper { IsKeeperOf arena.now hand.old kept.old.items }
+    requires near { AreNear arena.now hints.old.items }
+    ensures keeper { IsKeeperOf arena.now hand.new kept.new.items }
+    ensures near { AreNear arena.now hints.new.items }
+{
+    let Some(note) = hint_of(arena, hints, key) else {
+        return keep_fresh(rt, arena, hand, kept, hints, told, key);
+    };
+    match keep_again(arena, hand, kept, note) {
+        Ok(is_right) => told.note(is_right),
+        Err(Again::Gone) => keep_fresh(rt, arena, hand, kept, hints, told, key),
+        Err(_) => {}
+    }
+}
+
+/// Changes what the key leads to, or how old its item is.
+fn change<R: Wait>(
+    rt: &R,
+    alloc: Global,
+    arena: &Arena,
+    hand: &mut Hand,
+    _kept: &[Ref],
+    told: &mut Told,
+    drawn: u64,
+)
+    requires keeper { IsKeeperOf arena.now hand.old _kept.now }
+    ensures keeper { IsKeeperOf arena.now hand.new _kept.now }
+{
+    let key = drawn / 256 % KEYS;
+    match drawn % 4 {
+        0 => told.deleted(delete_key(rt, arena, hand, key)),
+        1 => told.got(touch_key(rt, arena, hand, key)),
+        _ => told.set(set_key(rt, alloc, arena, hand, key)),
+    }
+}
+
+/// Reads an item that is kept.
+fn read_one(
+    alloc: Global,
+    arena: &Arena,
+    hand: &mut Hand,
+    kept: &[Ref],
+    told: &mut Told,
+    place: usize,
+)
+    requires keeper { IsKeeperOf arena.now hand.old kept.now }
+    ensures keeper { IsKeeperOf arena.now hand.new kept.now }
+{
+    let own = is_own(alloc, arena, hand, kept, place);
+    told.note(matches!(own, Ok(true)));
+}
+
+/// A place among so many, or 0 where there is none.
+fn place_in(count: usize, drawn: u64) -> usize {
+    if count == 0 {
+        0
+    } else {
+        (drawn >> 24) as usize % count
+    }
+}
+
+/// What a round does where there is room for one more reference: it is kept, and read at once.
+fn keep_and_read<R: Wait>(
+    rt: &R,
+    alloc: Global,
+    arena: &Arena,
+    hand: &mut Hand,
+    kept: &mut Vec<Ref>,
+    hints: &mut Hints,
+    told: &mut Told,
+    key: Key,
+)
+    requires keeper { IsKeeperOf arena.now hand.old kept.old.items }
+    requires near { AreNear arena.now hints.old.items }
+    ensures keeper { IsKeeperOf arena.now hand.new kept.new.items }
+    ensures near { AreNear arena.now hints.new.items }
+{
+    keep(rt, arena, hand, kept, hints, told, key);
+    let last = kept.len().saturating_sub(1);
+    read_one(alloc, arena, hand, kept, told, last);
+}
+
+/// One round.
+fn act<R: Wait>(
+    rt: &R,
+    alloc: Global,
+    arena: &Arena,
+    hand: &mut Hand,
+    kept: &mut Vec<Ref>,
+    hints: &mut Hints,
+    told: &mut Told,
+    drawn: u64,
+)
+    requires keeper { IsKeeperOf arena.now hand.old kept.old.items }
+    requires near { AreNear arena.now hints.old.items }
+    ensures keeper { IsKeeperOf arena.now hand.new kept.new.items }
+    ensures near { AreNear arena.now hints.new.items }
+{
+    let place = place_in(kept.len(), drawn);
+    match drawn / 4096 % 16 {
+        0..=8 => keep_and_read(rt, alloc, arena, hand, kept, hints, told, drawn % KEYS),
+        9..=11 => change(rt, alloc, arena, hand, kept, told, drawn),
+        12 | 13 => read_one(alloc, arena, hand, kept, told, place),
+        _ => give_back(arena, hand, kept, place),
+    }
+}
+
+/// Gives a reference back where there are more than so many.
+fn make_room(arena: &Arena, hand: &mut Hand, kept: &mut Vec<Ref>, most: u64, drawn: u64)
+    requires keeper { IsKeeperOf arena.now hand.old kept.old.items }
+    ensures keeper { IsKeeperOf arena.now hand.new kept.new.items }
+{
+    if kept.len() as u64 > most {
+        give_back(arena, hand, kept, place_in(kept.len(), drawn));
+    }
+}
+
+/// One round, before which a reference is given back where there are more than there are to be.
+fn do_round<R: Wait>(
+    rt: &R,
+    alloc: Global,
+    arena: &Arena,
+    hand: &mut Hand,
+    kept: &mut Vec<Ref>,
+    hints: &mut Hints,
+    told: &mut Told,
+    place: (u64, u64),
+)
+    requires keeper { IsKeeperOf arena.now hand.old kept.old.items }
+    requires near { AreNear arena.now hints.old.items }
+    ensures keeper { IsKeeperOf arena.now hand.new kept.new.items }
+    ensures near { AreNear arena.now hints.new.items }
+{
+    let (thread, round) = place;
+    let drawn = draw(thread, round);
+    make_room(arena, hand, kept, most_kept(thread, round), drawn);
+    act(rt, alloc, arena, hand, kept, hints, told, drawn);
+}
+
+/// No hints.
+fn no_hints(alloc: Global, _arena: &Arena) -> Result<Hints, AllocError>
+    ensures near { IfOk result (λ hints. AreNear _arena.now hints.items) }
+{
+    let mut hints = Vec::new(alloc);
+    hints.resize(KEYS as usize, None)?;
+    Ok(hints)
+}
+
+/// A worker's hand, and what its rounds told.
+#[derive(Drop)]
+pub struct Worker {
+    pub hand: Hand,
+    pub told: Told,
+}
+
+/// A worker's rounds.
+pub fn work<R: Wait>(rt: &R, alloc: Global, arena: &Arena, thread: u64, hand: Hand) -> Worker
+    requires hand { IsIdleHandOf arena.now hand }
+    ensures hand { IsIdleHandOf arena.now result.hand }
+{
+    let mut hand = hand;
+    let mut kept = Vec::new(alloc);
+    let mut told = Told {
+        calls: NO_CALLS,
+        wrong: 0,
+    };
+    let Ok(mut hints) = no_hints(alloc, arena) else {
+        told.note(false);
+        return Worker { hand, told };
+    };
+    for round in 0..ROUNDS {
+        let place = (thread, round);
+        do_round(
+            rt, alloc, arena, &mut hand, &mut kept, &mut hints, &mut told, place,
+        );
+    }
+    let hand = give_all_back(arena, hand, kept);
+    Worker { hand, told }
+}
