@@ -4,6 +4,7 @@
      REFUSE_REQUEST   N, counted from 1 (none: no request is refused)
      REFUSE_ON        is there: all requests behind the Nth are refused too
      REFUSE_THREAD    N, counted from 1 (none: each thread is started); the Nth is answered EAGAIN
+     REFUSE_LINE      is there: a line says on standard output that a request is refused, as it is
      REFUSE_TOLD      a file that is to get the number of requests and that of threads, in one line, once the program ends
 
    A request is a malloc or a realloc, which is all that the program's allocator calls. Threads may make some at once, so which one is
@@ -26,6 +27,7 @@ typedef int (*create_thread)(pthread_t *, const pthread_attr_t *, void *(*)(void
 static unsigned long requests;
 static unsigned long refused;
 static int goes_on;
+static int has_line;
 static unsigned long threads;
 static unsigned long refused_thread;
 static create_thread create;
@@ -39,13 +41,17 @@ __attribute__((constructor)) static void begin(void) {
     create = (create_thread)dlsym(RTLD_NEXT, "pthread_create");
     refused_thread = number_in("REFUSE_THREAD");
     goes_on = getenv("REFUSE_ON") != NULL;
+    has_line = getenv("REFUSE_LINE") != NULL;
     refused = number_in("REFUSE_REQUEST");
     requests = 0;
 }
 
 static int is_refused(void) {
     unsigned long number = __atomic_add_fetch(&requests, 1, __ATOMIC_RELAXED);
-    return number == refused || (goes_on && refused && number > refused);
+    int is = number == refused || (goes_on && refused && number > refused);
+    if (is && has_line)
+        dprintf(STDOUT_FILENO, "a request is refused\n");
+    return is;
 }
 
 void *malloc(size_t size) {

@@ -1,13 +1,18 @@
 //! The tests, and what they have in common.
 mod calls;
+mod evicting;
 mod headers;
 mod holding;
 mod keys;
 mod left;
+mod listed;
 mod lists;
 mod looking;
+mod made;
 mod marks;
 mod opening;
+mod pages;
+mod planted;
 mod rows;
 mod snapshot;
 mod steps;

@@ -67,13 +67,12 @@ pub fn changes(before: &[u64], after: &[u64], change: Change) -> u64 {
     changes_from(before, after, HEADS, GRANTED, change)
 }
 
-/// How many headers are those of free chunks.
-pub fn free_chunks(seen: &[u64]) -> u64 {
-    let mut count = 0u64;
-    for place in HEADS..GRANTED {
-        if at(seen, place) % ISSUE == FREE {
-            count = count.wrapping_add(1);
-        }
-    }
-    count
+/// Whether this is the header's word of a free chunk.
+pub fn is_free(head: u64) -> bool {
+    head % ISSUE == FREE
+}
+
+/// Whether it is that of a chunk that was handed out: dead, or held, or linked.
+pub fn is_handed_out(head: u64) -> bool {
+    head % ISSUE >= DEAD
 }

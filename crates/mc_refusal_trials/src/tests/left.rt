@@ -1,10 +1,11 @@
 //! What a call may leave that was refused memory, by two snapshots.
 use super::calls::{Call, counts};
-use super::headers::{Change, changes, changes_from, free_chunks};
+use super::headers::{Change, changes, changes_from};
+use super::listed::{are_all_listed, are_listed, is_same_class};
 use super::snapshot::{
-    BUSY, CLASSES, EVICTIONS_NOMEM, EVICTIONS_OF, FREE_OF, GRANTED, HEADS, HELD_UP, LEDGER, LISTED,
-    MODE, MOVED, MOVING, PAGES_OF, POOL, POSITION, RESCUES, SOURCE, are_same, at, in_class,
-    of_head, rise, rise_of_classes,
+    BUSY, CLASSES, EVICTIONS_NOMEM, EVICTIONS_OF, GRANTED, HEADS, HELD_UP, LEDGER, MODE, MOVED,
+    MOVING, PAGES_OF, POOL, POSITION, RESCUES, SOURCE, are_same, at, in_class, of_head, rise,
+    rise_of_classes,
 };
 use super::told::{EVICT, Lead, RESCUE, calls_told, entries_told, leads};
 use mc_mover::Counts;
@@ -12,14 +13,16 @@ use mc_mover::Counts;
 /// Whether the call left what it may: a set dead chunks that were put back, a page that was granted, one item evicted, the chunk that was
 /// got dead, and a move begun in mode 2; a turn dead chunks that were put back, and earlier chunks done; and any other call nothing.
 pub fn is_left(call: Call, before: &[u64], after: &[u64]) -> bool {
+    if before == after {
+        return true;
+    }
     match call {
-        Call::Set(_, len) | Call::SetAndMove(_, len) => is_left_by_set(
-            class_of(len),
-            before,
-            after,
-        ),
+        Call::Set(_, len) | Call::SetAndMove(_, len) => {
+            let class = class_of(len);
+            is_left_by_set(class, before, after)
+        }
         Call::Turn => is_left_by_turn(before, after),
-        _ => before == after,
+        _ => false,
     }
 }
 
@@ -44,19 +47,20 @@ fn died(before: &[u64], after: &[u64]) -> u64 {
     changes(before, after, Change::Died).wrapping_add(taken)
 }
 
-// Hand and mode are as before, so are all other classes, and the free lists are what the headers say.
+// Hand and mode are as before, so are all other classes, a header isn't, and the lists are what the headers say.
 fn is_kept(class: u64, before: &[u64], after: &[u64]) -> bool {
-    let mut free = 0u64;
     for other in 1..=CLASSES {
-        free = free.wrapping_add(at(after, in_class(other, FREE_OF)));
-        let block = (LISTED as usize).wrapping_mul(2).wrapping_add(3);
-        if other != class && !are_same(before, after, in_class(other, PAGES_OF), block) {
+        if !are_listed(after, other) {
+            return false;
+        }
+        if other != class && !is_same_class(before, after, other) {
             return false;
         }
     }
     let hand = are_same(before, after, 0, HEADS);
     let mode = rise(before, after, MODE) == 0;
-    hand && mode && free == free_chunks(after)
+    let heads = are_same(before, after, HEADS, GRANTED - HEADS);
+    hand && mode && !heads && are_all_listed(after)
 }
 
 fn is_left_by_set(class: u64, before: &[u64], after: &[u64]) -> bool {

@@ -25,8 +25,8 @@ pub fn see_slabs(arena: &Arena, looker: &mut Hand, seen: &mut Vec<u64>) -> bool
     true
 }
 
-// What all classes have together: totals, mode, the move, and the ledger.
-fn see_whole(slabs: &Slabs, seen: &mut Vec<u64>) {
+/// What all classes have together: totals, mode, the move, and the ledger.
+pub fn see_whole(slabs: &Slabs, seen: &mut Vec<u64>) {
     let totals = slabs.totals();
     note(seen, totals.granted);
     note(seen, totals.pool);
@@ -60,8 +60,8 @@ fn is_class(arena: &Arena, class: ClassId) -> bool
     class >= 1 && class <= arena.classes().count()
 }
 
-// Its numbers, its free list, and its hand-out order.
-fn see_class(slabs: &Slabs, class: ClassId, seen: &mut Vec<u64>)
+/// A class's numbers, its free list, and its hand-out order.
+pub fn see_class(slabs: &Slabs, class: ClassId, seen: &mut Vec<u64>)
     requires class { IsClass slabs.now.state class }
 {
     let numbers = slabs.numbers(class);

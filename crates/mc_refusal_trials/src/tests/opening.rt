@@ -13,12 +13,22 @@ use std::test::Fail;
 /// The most words of an item.
 const WORDS: usize = 61;
 
-/// An arena of this configuration, and its hands.
+/// How many hands an arena has.
+const HANDS: u64 = 3;
+
+/// An arena of this configuration, whose chunks begin with this issue number, if one is named, and its hands.
 #[tactic(auto, using(crate::proofs::Kept::all_hands))]
-fn new_arena(alloc: Global, config: &Config, hands: u64) -> Result<(Arena, Vec<Hand>), NewError>
+fn new_arena(
+    alloc: Global,
+    config: &Config,
+    start: Option<u64>,
+) -> Result<(Arena, Vec<Hand>), NewError>
     ensures hands { IfOk result (λ made. AreHandsOf made.0 made.1.items) }
 {
-    Arena::new(alloc, config, hands)
+    match start {
+        Some(start) => Arena::from_issue(alloc, config, HANDS, start),
+        None => Arena::new(alloc, config, HANDS),
+    }
 }
 
 /// The same. Where that is refused memory once, it is asked for again.
@@ -26,19 +36,20 @@ fn new_again<R: Print>(
     rt: &R,
     alloc: Global,
     config: &Config,
-    hands: u64,
+    start: Option<u64>,
 ) -> Result<(Arena, Vec<Hand>), NewError>
     ensures hands { IfOk result (λ made. AreHandsOf made.0 made.1.items) }
 {
-    tell_call(rt, "new");
-    match new_arena(alloc, config, hands) {
+    let call = if start.is_some() { "from_issue" } else { "new" };
+    tell_call(rt, call);
+    match new_arena(alloc, config, start) {
         Ok(made) => {
-            tell_done(rt, "new");
+            tell_done(rt, call);
             Ok(made)
         }
         Err(_) => {
-            tell_refused(rt, "new");
-            new_arena(alloc, config, hands)
+            tell_refused(rt, call);
+            new_arena(alloc, config, start)
         }
     }
 }
@@ -84,10 +95,22 @@ pub fn opened<R: Print>(
 ) -> Result<(Arena, Hand, Hand, Looker), Fail>
     ensures hands { IfOk result (λ made. IsReadyHandOf made.0 made.1 × IsReadyHandOf made.0 made.2 × IsReadyHandOf made.0 made.3.hand) }
 {
+    opened_from(rt, alloc, config, None)
+}
+
+/// The same, whose chunks begin with this issue number, if one is named.
+pub fn opened_from<R: Print>(
+    rt: &R,
+    alloc: Global,
+    config: &Config,
+    start: Option<u64>,
+) -> Result<(Arena, Hand, Hand, Looker), Fail>
+    ensures hands { IfOk result (λ made. IsReadyHandOf made.0 made.1 × IsReadyHandOf made.0 made.2 × IsReadyHandOf made.0 made.3.hand) }
+{
     let before = room(alloc, LENGTH)?;
     let after = room(alloc, LENGTH)?;
     let words = words_of(alloc)?;
-    let (arena, mut hands) = new_again(rt, alloc, config, 3)?;
+    let (arena, mut hands) = new_again(rt, alloc, config, start)?;
     let Some((hand, reader, other)) = three_of(&arena, &mut hands) else {
         return Err(Fail::new("there are three hands"));
     };

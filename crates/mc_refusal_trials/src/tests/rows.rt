@@ -9,17 +9,17 @@ use mc_pages::Reassign;
 use std::test::Fail;
 
 /// An item of so many words is stored.
-fn stores(key: u64, len: usize) -> Step {
+pub fn stores(key: u64, len: usize) -> Step {
     (Call::Set(key, len), Answer::Done)
 }
 
 /// Whether the key's item is there is told by a touch of it.
-fn touches(key: u64, there: bool) -> Step {
+pub fn touches(key: u64, there: bool) -> Step {
     (Call::Touch(key), Answer::There(there))
 }
 
 /// A page moves, or none does, and so many moves ended, items were rescued, and evicted, and chunks held up a move.
-fn surveys(running: bool, counts: [u64; 4]) -> Step {
+pub fn surveys(running: bool, counts: [u64; 4]) -> Step {
     (Call::Survey(true), Answer::Surveyed(running, counts))
 }
 
@@ -36,6 +36,31 @@ fn an_item_is_rescued_and_another_evicted(rt: HostRuntime) -> Result<(), Fail> {
         stores(8, 61),
         (Call::Delete(8), Answer::There(true)),
         (Call::Reassign(Some(4), 1), Answer::Done),
+        (Call::Turn, finished(2, 1, 1, 0)),
+        touches(2, true),
+        touches(1, false),
+        surveys(false, [1, 1, 1, 0]),
+    ];
+    run(&rt, rt.alloc(), &FOUR_CLASSES, &steps)
+}
+
+#[test]
+fn a_turn_is_refused_at_each_of_its_chunks(rt: HostRuntime) -> Result<(), Fail> {
+    let steps = [
+        stores(1, 61),
+        stores(2, 61),
+        stores(3, 61),
+        stores(4, 61),
+        stores(5, 61),
+        stores(6, 61),
+        stores(7, 61),
+        stores(8, 61),
+        (Call::Get(1), Answer::There(true)),
+        (Call::Get(1), Answer::There(true)),
+        (Call::Get(2), Answer::There(true)),
+        (Call::Get(2), Answer::There(true)),
+        (Call::Delete(8), Answer::There(true)),
+        (Call::Reassign(Some(4), 0), Answer::Done),
         (Call::Turn, finished(2, 1, 1, 0)),
         touches(2, true),
         touches(1, false),
@@ -80,7 +105,7 @@ fn a_held_item_keeps_its_page(rt: HostRuntime) -> Result<(), Fail> {
 }
 
 /// Four items of class 4 and six of class 3, two pages of each.
-const TWO_CLASSES: [Step; 10] = [
+pub const TWO_CLASSES: [Step; 10] = [
     (Call::Set(1, 61), Answer::Done),
     (Call::Set(2, 61), Answer::Done),
     (Call::Set(3, 61), Answer::Done),

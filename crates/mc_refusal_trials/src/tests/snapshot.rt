@@ -48,13 +48,15 @@ pub const LEDGER: usize = 98;
 /// Then a block of numbers for each class: how many pages it has, how many free chunks and how many evictions, and its lists.
 const CLASS_BLOCKS: usize = 115;
 
-const CLASS_BLOCK: usize = 131;
+pub const CLASS_BLOCK: usize = 131;
 
 pub const PAGES_OF: usize = 0;
 
 pub const FREE_OF: usize = 1;
 
 pub const EVICTIONS_OF: usize = 2;
+
+pub const LISTS_OF: usize = 3;
 /// Then one for each stripe: chunk and stamp of each of its keys, and from here on its history.
 const STRIPE_BLOCKS: usize = 639;
 

@@ -1,0 +1,109 @@
+//! Arenas and states that are made.
+use super::calls::{Answer, Call};
+use super::marks::{tell_call, tell_done, tell_refused};
+use super::opening::opened_from;
+use super::rows::stores;
+use super::steps::play_all;
+use super::{FOUR_CLASSES, assert_same};
+use mc_core::{Change, Event, Series, State, Step, Stop, replay};
+use mc_pages::ChunkId;
+use std::alloc::{AllocError, Global};
+use std::test::Fail;
+
+/// The greatest issue number but one.
+const WORN: u64 = 70_368_744_177_662;
+
+/// The chunk of class 1 that is handed out first.
+const LAST: ChunkId = ChunkId { page: 0, index: 20 };
+
+// The keys are one stripe's, and the first of them makes room for all calls.
+#[test]
+fn an_arena_is_made_of_worn_chunks(rt: HostRuntime) -> Result<(), Fail> {
+    let (arena, mut hand, _reader, mut looker) = opened_from(
+        &rt,
+        rt.alloc(),
+        &FOUR_CLASSES,
+        Some(WORN),
+    )?;
+    let steps = [
+        stores(1, 61),
+        (Call::Delete(1), Answer::There(true)),
+        stores(5, 61),
+        (Call::Delete(5), Answer::There(true)),
+        (Call::Set(9, 61), Answer::Refused),
+    ];
+    play_all(&rt, rt.alloc(), &arena, &mut hand, &mut looker, &steps);
+    Ok(())
+}
+
+/// A step of hand 0, behind a change, if there is one.
+fn does(alloc: Global, change: Option<Change>, step: Step) -> Result<Event, AllocError> {
+    let mut before = Series::new(alloc);
+    if let Some(change) = change {
+        before.push(change)?;
+    }
+    Ok(Event {
+        hand: 0,
+        before,
+        step,
+    })
+}
+
+/// Class 1 gets a page, all of whose chunks are cut, and hands one out. An item is stored there.
+fn events(alloc: Global) -> Result<Vec<Event>, AllocError> {
+    let mut events = Vec::new(alloc);
+    events.push(does(alloc, None, Step::TakeSlabs)?)?;
+    events.push(does(alloc, Some(Change::Grow(1)), Step::Cut(0, 0))?)?;
+    for index in 1..21 {
+        events.push(does(alloc, None, Step::Cut(0, index))?)?;
+    }
+    for step in [
+        Step::Pop(1),
+        Step::GiveSlabs,
+        Step::Fill(LAST, 0, 7),
+        Step::Fill(LAST, 1, 1),
+        Step::Fill(LAST, 2, 1),
+        Step::Fill(LAST, 3, 100),
+        Step::TakeStripe(3),
+    ] {
+        events.push(does(alloc, None, step)?)?;
+    }
+    let reserve = Some(Change::Reserve(3));
+    events.push(does(alloc, reserve, Step::Link(LAST))?)?;
+    events.push(does(alloc, None, Step::GiveStripe(3))?)?;
+    Ok(events)
+}
+
+/// Plays the events, and once more where that is refused memory.
+fn play<R: Print>(rt: &R, alloc: Global, events: &[Event]) -> Result<State, Stop> {
+    tell_call(rt, "replay");
+    match replay(alloc, &FOUR_CLASSES, 2, events) {
+        Err(Stop::NoMemory) => {
+            tell_refused(rt, "replay");
+            replay(alloc, &FOUR_CLASSES, 2, events)
+        }
+        played => {
+            tell_done(rt, "replay");
+            played
+        }
+    }
+}
+
+/// The stamp under which the state's stripe 3 has key 7.
+fn stamp_in(state: &State) -> Option<u64> {
+    let (_, stamp) = state.stripe(3)?.find(7)?;
+    Some(stamp)
+}
+
+#[test]
+fn events_are_played_again(rt: HostRuntime) -> Result<(), Fail> {
+    let events = match events(rt.alloc()) {
+        Ok(events) => events,
+        Err(_) => events(rt.alloc())?,
+    };
+    let state = play(&rt, rt.alloc(), &events)?;
+    let head = state.head(LAST).word();
+    assert_same(&rt, head, 458_754, "linked, and held by its hand");
+    assert_same(&rt, stamp_in(&state), Some(1), "the key's stamp");
+    Ok(())
+}

@@ -1,0 +1,127 @@
+//! The rules of what a refusal may leave find what it may not.
+ghost use Rattle.std.specs.Prelude.{◌≡◌, true, IfSome};
+ghost use Rattle.mc_core.specs.State.{has_chunk};
+ghost use Rattle.mc_words.specs.Arenas.{setup_of};
+ghost use Rattle.mc_words.specs.Observers.{hint_chunk};
+ghost use Rattle.mc_refusal_trials.specs.Hands.{IsReadyHandOf};
+
+use super::calls::{Answer, Call};
+use super::left::is_left;
+use super::looking::{look_after, look_before};
+use super::opening::opened;
+use super::rows::stores;
+use super::snapshot::LENGTH;
+use super::steps::{Step, play_all};
+use super::{FOUR_CLASSES, assert_same};
+use mc_items::{again, get, hint, release};
+use mc_stripe::Key;
+use mc_words::{Arena, Hand, Hint};
+use std::process::Abort;
+use std::sync::Wait;
+use std::test::Fail;
+
+/// A call of each kind.
+const CALLS: [Call; 7] = [
+    Call::Set(9, 61),
+    Call::Get(1),
+    Call::Delete(1),
+    Call::Touch(1),
+    Call::Reassign(Some(4), 1),
+    Call::Turn,
+    Call::Survey(true),
+];
+
+/// A hint of the key's item, whose reference is given up.
+fn hint_of<R: Wait>(rt: &R, arena: &Arena, hand: &mut Hand, key: Key) -> Option<Hint>
+    requires arena { IsReadyHandOf arena.now hand.old }
+    ensures arena { IsReadyHandOf arena.now hand.new }
+    ensures near { IfSome result (λ hint. has_chunk (setup_of arena.now).table (hint_chunk hint) ≡ true) }
+{
+    let Ok(Some(item)) = get(rt, arena, hand, key) else {
+        return None;
+    };
+    let hint = hint(&item);
+    release(arena, hand, item);
+    Some(hint)
+}
+
+/// The same, and once more where it is refused memory.
+fn hint_again<R: Wait>(rt: &R, arena: &Arena, hand: &mut Hand, key: Key) -> Option<Hint>
+    requires arena { IsReadyHandOf arena.now hand.old }
+    ensures arena { IsReadyHandOf arena.now hand.new }
+    ensures near { IfSome result (λ hint. has_chunk (setup_of arena.now).table (hint_chunk hint) ≡ true) }
+{
+    match hint_of(rt, arena, hand, key) {
+        Some(hint) => Some(hint),
+        None => hint_of(rt, arena, hand, key),
+    }
+}
+
+/// A call that says that memory was refused it, and left a header changed: the chunk is held for good.
+fn refused_but_held(arena: &Arena, reader: &mut Hand, hint: Hint) -> Answer
+    requires arena { IsReadyHandOf arena.now reader.old }
+    requires near { has_chunk (setup_of arena.now).table (hint_chunk hint) ≡ true }
+{
+    match again(arena, reader, hint) {
+        Ok(_) => Answer::NoMemory,
+        Err(_) => Answer::Refused,
+    }
+}
+
+/// How many of the calls may leave what was seen.
+fn count_left(before: &[u64], after: &[u64]) -> usize {
+    CALLS
+        .iter()
+        .filter(|call| is_left(**call, before, after))
+        .count()
+}
+
+/// Any one number that isn't as before is found, whatever the call.
+fn assert_found(rt: &impl Abort, before: &[u64], after: &mut Vec<u64>) {
+    for place in 0..LENGTH {
+        if place < after.len() {
+            let number = after[place];
+            after[place] = number ^ 1;
+            let found = (place, count_left(before, after));
+            assert_same(rt, found, (place, 0), "one number is changed");
+            after[place] = number;
+        }
+    }
+}
+
+/// Two items of class 4.
+const ITEMS: [Step; 2] = [
+    (Call::Set(1, 61), Answer::Done),
+    (Call::Set(2, 61), Answer::Done),
+];
+
+#[test]
+fn what_may_not_be_left_is_found(rt: HostRuntime) -> Result<(), Fail> {
+    let (arena, mut hand, mut reader, mut looker) = opened(&rt, rt.alloc(), &FOUR_CLASSES)?;
+    if !play_all(&rt, rt.alloc(), &arena, &mut hand, &mut looker, &ITEMS) {
+        return Ok(());
+    }
+    let Some(hint) = hint_again(&rt, &arena, &mut reader, 1) else {
+        return Err(Fail::new("the key has an item"));
+    };
+    let seen = look_before(&arena, &mut looker, &hand);
+    let again = look_after(&arena, &mut looker, &hand);
+    let left = count_left(&looker.before, &looker.after);
+    assert_same(
+        &rt,
+        (seen, again, left),
+        (true, true, 7),
+        "nothing is changed",
+    );
+    assert_found(&rt, &looker.before, &mut looker.after);
+    let refused = refused_but_held(&arena, &mut reader, hint) == Answer::NoMemory;
+    let again = look_after(&arena, &mut looker, &hand);
+    let left = count_left(&looker.before, &looker.after);
+    assert_same(
+        &rt,
+        (refused, again, left),
+        (true, true, 0),
+        "a header is changed",
+    );
+    Ok(())
+}
