@@ -21,7 +21,7 @@ pub type Step = (Call, Answer);
 
 /// What becomes of a row behind a call.
 #[derive(Clone, Copy, Debug, PartialEq, Eq)]
-enum Row {
+pub enum Row {
     Goes,
     /// A refusal left what the row doesn't know of.
     Ends,
@@ -62,7 +62,7 @@ fn play<R: Wait + Print>(
     }
     tell_refused(rt, call.name());
     let again = answer_of(rt, alloc, arena, hand, &looker.words, call);
-    behind_refusal(step, looker, again)
+    behind_refusal(step, &looker.before, &looker.after, again)
 }
 
 // What becomes of the row, once the call was made.
@@ -78,10 +78,9 @@ fn behind_call<R: Print>(rt: &R, call: Call, looker: &Looker, is_right: bool) ->
     goes_if(is_right)
 }
 
-// What becomes of the row, once the call was made again.
-fn behind_refusal(step: Step, looker: &Looker, again: Answer) -> Row {
+/// What becomes of the row, once the call was made again.
+pub fn behind_refusal(step: Step, before: &[u64], after: &[u64], again: Answer) -> Row {
     let (call, wanted) = step;
-    let (before, after) = (looker.before.as_slice(), looker.after.as_slice());
     if !is_left(call, before, after) {
         return Row::Fails;
     }
