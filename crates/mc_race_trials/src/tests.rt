@@ -4,6 +4,7 @@ mod calls;
 mod driver;
 mod ends;
 mod holding;
+mod lost;
 mod replays;
 mod stress;
 mod words;

@@ -86,7 +86,7 @@ impl Sums {
 }
 
 /// The header of a chunk. None where there is no such chunk.
-fn head(left: &Final, chunk: ChunkId) -> Option<u64> {
+pub fn head(left: &Final, chunk: ChunkId) -> Option<u64> {
     let classes = left.classes();
     if chunk.page < classes.pages() && chunk.index < classes.per_page(1) {
         Some(left.head(chunk))

@@ -9,7 +9,7 @@ use std::alloc::Global;
 use std::sync::Wait;
 
 /// How many rounds there are.
-const ROUNDS: u64 = 6000;
+const ROUNDS: u64 = 60_000;
 
 /// What turns told, all together.
 #[derive(Clone, Copy)]

@@ -13,7 +13,7 @@ use std::sync::Wait;
 use std::test::Fail;
 
 /// Fails where something isn't right, and says what was to be so.
-fn check(is_right: bool, what: &'static str) -> Result<(), Fail> {
+pub fn check(is_right: bool, what: &'static str) -> Result<(), Fail> {
     if is_right {
         Ok(())
     } else {

@@ -1,32 +1,69 @@
 //! References that a hand keeps over other calls, each of which is read now and then.
-ghost use Rattle.std.specs.Prelude.{◌≡◌, ◌≢◌, IfOk, IfSome, None};
-ghost use Rattle.mc_words.specs.Arenas.{view};
-ghost use Rattle.mc_race_trials.specs.Hands.{IsIdleHandOf};
+ghost use Rattle.std.specs.Prelude.{◌≡◌, IfOk, IfSome, OnErr, true};
+ghost use Rattle.mc_core.specs.State.{has_chunk};
+ghost use Rattle.mc_words.specs.Arenas.{setup_of, view};
+ghost use Rattle.mc_words.specs.Refs.{KeepsRefs};
+ghost use Rattle.mc_items.specs.ItemRefs.{IsItemRef, item_chunk};
+ghost use Rattle.mc_items.specs.Keeping.{HoldsTheSame, HoldsToo};
+ghost use Rattle.mc_race_trials.specs.Hands.{IsIdleHandOf, IsReadyHandOf};
 ghost use Rattle.mc_race_trials.specs.Keepers.{IsKeeperOf, IsNear};
 
 use super::words::are_words_of;
-use mc_items::{GetError, Ref, again, get, hint, read, release};
+use mc_items::{Ref, again, get, hint, read, release, try_get};
 use mc_stripe::{Key, Stamp};
 use mc_words::{Again, Arena, Hand, Hint};
 use std::alloc::{AllocError, Global};
 use std::sync::Wait;
 
-/// Keeps a reference to the key's item, if it has one, and gives a hint of it with its stamp. None, too, where that is refused.
+/// A call was refused.
+#[derive(Clone, Copy, Drop)]
+pub struct Refused;
+
+/// A reference to the key's item, if it has one, by the call that waits for the key's stripe, or by that which doesn't.
+fn item_of<R: Wait>(
+    rt: &R,
+    arena: &Arena,
+    hand: &mut Hand,
+    key: Key,
+    waits: bool,
+) -> Result<Option<Ref>, Refused>
+    requires arena { IsReadyHandOf arena.now hand.old }
+    ensures arena { IsReadyHandOf arena.now hand.new }
+    ensures item { IfOk result (λ found. IfSome found (λ item. IsItemRef (view hand.new) item)) }
+    ensures near { IfOk result (λ found. IfSome found (λ item. has_chunk (setup_of arena.now).table (item_chunk item) ≡ true)) }
+    ensures holdings { IfOk result (λ found. HoldsToo found (view hand.old) (view hand.new)) }
+    ensures no_more { OnErr result (HoldsTheSame (view hand.old) (view hand.new)) }
+    ensures keeps { KeepsRefs (view hand.old) (view hand.new) }
+{
+    if waits {
+        return match get(rt, arena, hand, key) {
+            Ok(found) => Ok(found),
+            Err(_) => Err(Refused),
+        };
+    }
+    match try_get(arena, hand, key) {
+        Ok(found) => Ok(found),
+        Err(_) => Err(Refused),
+    }
+}
+
+/// Keeps a reference to the key's item, if it has one, and gives a hint of it with its stamp.
 pub fn keep_key<R: Wait>(
     rt: &R,
     arena: &Arena,
     hand: &mut Hand,
     kept: &mut Vec<Ref>,
     key: Key,
-) -> Result<Option<(Hint, Stamp)>, GetError>
+    waits: bool,
+) -> Result<Option<(Hint, Stamp)>, Refused>
     requires keeper { IsKeeperOf arena.now hand.old kept.old.items }
     ensures keeper { IsKeeperOf arena.now hand.new kept.new.items }
     ensures near { IfOk result (λ found. IfSome found (λ note. IsNear arena.now note.0)) }
 {
     let Ok(()) = kept.reserve(1) else {
-        return Err(GetError::NoMemory);
+        return Err(Refused);
     };
-    match get(rt, arena, hand, key) {
+    match item_of(rt, arena, hand, key, waits) {
         Ok(Some(item)) => {
             let note = (hint(&item), item.stamp());
             kept.push_reserved(item);

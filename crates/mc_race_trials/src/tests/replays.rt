@@ -53,7 +53,7 @@ fn are_indexed(stripe: &Stripe, stamps: &[Option<Stamp>]) -> bool {
 }
 
 /// Whether each reply of a stripe's history is right, and it leads to the index.
-fn is_stripe_legal(alloc: Global, stripe: &Stripe) -> Result<bool, AllocError> {
+pub fn is_stripe_legal(alloc: Global, stripe: &Stripe) -> Result<bool, AllocError> {
     let mut stamps = Vec::new(alloc);
     stamps.resize(KEYS as usize, None)?;
     for call in stripe.history().iter() {

@@ -14,10 +14,10 @@ use std::sync::Wait;
 use std::test::Fail;
 use std::thread::{Threads, join};
 
-/// Eight pages; classes of 48, 96, 192 and 512 bytes with 21, 10, 5 and 2 chunks a page. A turn looks at three chunks.
-const EIGHT_PAGES: Config = Config {
+/// Twelve pages; classes of 48, 96, 192 and 512 bytes with 21, 10, 5 and 2 chunks a page. A turn looks at three chunks.
+pub const TWELVE_PAGES: Config = Config {
     page: 1024,
-    limit: 8192,
+    limit: 12_288,
     first: 48,
     num: 2,
     den: 1,
@@ -101,7 +101,7 @@ fn two_of(arena: &Arena, hands: &mut Vec<Hand>) -> Option<(Hand, Hand)>
 
 #[test]
 fn what_is_kept_is_read_beside_two_movers(rt: HostRuntime) -> Result<(), Fail> {
-    let (arena, mut hands) = opened(rt.alloc(), &EIGHT_PAGES, 4)?;
+    let (arena, mut hands) = opened(rt.alloc(), &TWELVE_PAGES, 4)?;
     let Some(low) = two_of(&arena, &mut hands) else {
         return Err(Fail::new("there are four hands"));
     };

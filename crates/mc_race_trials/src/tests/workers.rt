@@ -14,14 +14,14 @@ use std::alloc::{AllocError, Global};
 use std::sync::Wait;
 
 /// How many rounds a worker has.
-const ROUNDS: u64 = 8192;
+const ROUNDS: u64 = 49_152;
 
 /// How many references a worker keeps in most of its rounds.
-const FEW: u64 = 4;
+const FEW: u64 = 3;
 
 /// How many references a worker keeps in a round: for a while as many as it may.
 fn most_kept(thread: u64, round: u64) -> u64 {
-    if (round / 1024).wrapping_add(thread) % 4 == 0 {
+    if (round / 1024).wrapping_add(thread.wrapping_mul(4)) % 16 == 0 {
         255
     } else {
         FEW
@@ -37,9 +37,15 @@ pub struct Told {
     pub wrong: u64,
 }
 
+/// What is told before the first round.
+pub const NOTHING: Told = Told {
+    calls: NO_CALLS,
+    wrong: 0,
+};
+
 impl Told {
     /// Counts what is wrong.
-    fn note(&mut self, is_right: bool) {
+    pub fn note(&mut self, is_right: bool) {
         if !is_right {
             self.wrong = self.wrong.saturating_add(1);
         }
@@ -62,7 +68,7 @@ impl Told {
 }
 
 /// Hints of the keys' items, each with the item's stamp.
-type Hints = Vec<Option<(Hint, Stamp)>>;
+pub type Hints = Vec<Option<(Hint, Stamp)>>;
 
 /// The hint of a key.
 fn hint_of(_arena: &Arena, hints: &Hints, key: Key) -> Option<(Hint, Stamp)>
@@ -98,13 +104,14 @@ fn keep_fresh<R: Wait>(
     hints: &mut Hints,
     told: &mut Told,
     key: Key,
+    waits: bool,
 )
     requires keeper { IsKeeperOf arena.now hand.old kept.old.items }
     requires near { AreNear arena.now hints.old.items }
     ensures keeper { IsKeeperOf arena.now hand.new kept.new.items }
     ensures near { AreNear arena.now hints.new.items }
 {
-    match keep_key(rt, arena, hand, kept, key) {
+    match keep_key(rt, arena, hand, kept, key, waits) {
         Ok(Some(note)) => {
             told.got(true);
             note_hint(arena, hints, key, note);
@@ -123,6 +130,7 @@ fn keep<R: Wait>(
     hints: &mut Hints,
     told: &mut Told,
     key: Key,
+    waits: bool,
 )
     requires keeper { IsKeeperOf arena.now hand.old kept.old.items }
     requires near { AreNear arena.now hints.old.items }
@@ -130,11 +138,11 @@ fn keep<R: Wait>(
     ensures near { AreNear arena.now hints.new.items }
 {
     let Some(note) = hint_of(arena, hints, key) else {
-        return keep_fresh(rt, arena, hand, kept, hints, told, key);
+        return keep_fresh(rt, arena, hand, kept, hints, told, key, waits);
     };
     match keep_again(arena, hand, kept, note) {
         Ok(is_right) => told.note(is_right),
-        Err(Again::Gone) => keep_fresh(rt, arena, hand, kept, hints, told, key),
+        Err(Again::Gone) => keep_fresh(rt, arena, hand, kept, hints, told, key, waits),
         Err(_) => {}
     }
 }
@@ -153,15 +161,15 @@ fn change<R: Wait>(
     ensures keeper { IsKeeperOf arena.now hand.new _kept.now }
 {
     let key = drawn / 256 % KEYS;
-    match drawn % 4 {
+    match drawn / 16 % 16 {
         0 => told.deleted(delete_key(rt, arena, hand, key)),
-        1 => told.got(touch_key(rt, arena, hand, key)),
+        1..=4 => told.got(touch_key(rt, arena, hand, key)),
         _ => told.set(set_key(rt, alloc, arena, hand, key)),
     }
 }
 
 /// Reads an item that is kept.
-fn read_one(
+pub fn read_one(
     alloc: Global,
     arena: &Arena,
     hand: &mut Hand,
@@ -177,7 +185,7 @@ fn read_one(
 }
 
 /// A place among so many, or 0 where there is none.
-fn place_in(count: usize, drawn: u64) -> usize {
+pub fn place_in(count: usize, drawn: u64) -> usize {
     if count == 0 {
         0
     } else {
@@ -186,7 +194,7 @@ fn place_in(count: usize, drawn: u64) -> usize {
 }
 
 /// What a round does where there is room for one more reference: it is kept, and read at once.
-fn keep_and_read<R: Wait>(
+pub fn keep_and_read<R: Wait>(
     rt: &R,
     alloc: Global,
     arena: &Arena,
@@ -195,13 +203,14 @@ fn keep_and_read<R: Wait>(
     hints: &mut Hints,
     told: &mut Told,
     key: Key,
+    waits: bool,
 )
     requires keeper { IsKeeperOf arena.now hand.old kept.old.items }
     requires near { AreNear arena.now hints.old.items }
     ensures keeper { IsKeeperOf arena.now hand.new kept.new.items }
     ensures near { AreNear arena.now hints.new.items }
 {
-    keep(rt, arena, hand, kept, hints, told, key);
+    keep(rt, arena, hand, kept, hints, told, key, waits);
     let last = kept.len().saturating_sub(1);
     read_one(alloc, arena, hand, kept, told, last);
 }
@@ -223,8 +232,9 @@ fn act<R: Wait>(
     ensures near { AreNear arena.now hints.new.items }
 {
     let place = place_in(kept.len(), drawn);
+    let (key, waits) = (drawn % KEYS, drawn / 65_536 % 4 != 0);
     match drawn / 4096 % 16 {
-        0..=8 => keep_and_read(rt, alloc, arena, hand, kept, hints, told, drawn % KEYS),
+        0..=8 => keep_and_read(rt, alloc, arena, hand, kept, hints, told, key, waits),
         9..=11 => change(rt, alloc, arena, hand, kept, told, drawn),
         12 | 13 => read_one(alloc, arena, hand, kept, told, place),
         _ => give_back(arena, hand, kept, place),
@@ -232,7 +242,7 @@ fn act<R: Wait>(
 }
 
 /// Gives a reference back where there are more than so many.
-fn make_room(arena: &Arena, hand: &mut Hand, kept: &mut Vec<Ref>, most: u64, drawn: u64)
+pub fn make_room(arena: &Arena, hand: &mut Hand, kept: &mut Vec<Ref>, most: u64, drawn: u64)
     requires keeper { IsKeeperOf arena.now hand.old kept.old.items }
     ensures keeper { IsKeeperOf arena.now hand.new kept.new.items }
 {
@@ -264,7 +274,7 @@ fn do_round<R: Wait>(
 }
 
 /// No hints.
-fn no_hints(alloc: Global, _arena: &Arena) -> Result<Hints, AllocError>
+pub fn no_hints(alloc: Global, _arena: &Arena) -> Result<Hints, AllocError>
     ensures near { IfOk result (λ hints. AreNear _arena.now hints.items) }
 {
     let mut hints = Vec::new(alloc);
@@ -286,10 +296,7 @@ pub fn work<R: Wait>(rt: &R, alloc: Global, arena: &Arena, thread: u64, hand: Ha
 {
     let mut hand = hand;
     let mut kept = Vec::new(alloc);
-    let mut told = Told {
-        calls: NO_CALLS,
-        wrong: 0,
-    };
+    let mut told = NOTHING;
     let Ok(mut hints) = no_hints(alloc, arena) else {
         told.note(false);
         return Worker { hand, told };
