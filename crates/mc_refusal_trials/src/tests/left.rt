@@ -21,7 +21,7 @@ pub fn is_left(call: Call, before: &[u64], after: &[u64]) -> bool {
             let class = class_of(len);
             is_left_by_set(class, before, after)
         }
-        Call::Turn => is_left_by_turn(before, after),
+        Call::Turn | Call::TryTurn => is_left_by_turn(before, after),
         _ => false,
     }
 }

@@ -20,13 +20,15 @@ use std::sync::Wait;
 use std::test::Fail;
 
 /// A call of each kind.
-const CALLS: [Call; 7] = [
+const CALLS: [Call; 9] = [
     Call::Set(9, 61),
     Call::Get(1),
+    Call::TryGet(1),
     Call::Delete(1),
     Call::Touch(1),
     Call::Reassign(Some(4), 1),
     Call::Turn,
+    Call::TryTurn,
     Call::Survey(true),
 ];
 
@@ -112,7 +114,7 @@ fn what_may_not_be_left_is_found(rt: HostRuntime) -> Result<(), Fail> {
     assert_same(
         &rt,
         (seen, again, right),
-        (true, true, 7),
+        (true, true, 9),
         "nothing is changed",
     );
     assert_found(&rt, &looker.before, &mut looker.after);

@@ -8,6 +8,7 @@ use super::looking::{Looker, look_after, look_before};
 use super::marks::{tell_call, tell_done, tell_ignored, tell_refused};
 use super::opening::opened;
 use super::snapshot::{MOVING, at};
+use super::told::entries_told;
 use mc_classes::Config;
 use mc_mover::{Counts, Turn};
 use mc_words::{Arena, Hand};
@@ -68,10 +69,15 @@ fn play<R: Wait + Print>(
 // What becomes of the row, once the call was made.
 fn behind_call<R: Print>(rt: &R, call: Call, looker: &Looker, is_right: bool) -> Row {
     let stays = at(&looker.after, MOVING) == 0;
+    let is_as_told = entries_told(&looker.before, &looker.after) == Some(0);
     if let Call::SetAndMove(..) = call {
         if stays {
             tell_ignored(rt, call.name());
-            return Row::Ends;
+            return if is_right && is_as_told {
+                Row::Ends
+            } else {
+                Row::Fails
+            };
         }
     }
     tell_done(rt, call.name());
