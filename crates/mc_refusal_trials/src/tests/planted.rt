@@ -8,7 +8,6 @@ ghost use Rattle.mc_refusal_trials.specs.Hands.{IsReadyHandOf};
 use super::calls::{Answer, Call};
 use super::looking::{look_after, look_before};
 use super::opening::opened;
-use super::rows::stores;
 use super::snapshot::LENGTH;
 use super::steps::{Row, Step, behind_refusal, play_all};
 use super::{FOUR_CLASSES, assert_same};
