@@ -2,8 +2,8 @@
 ghost use Rattle.mc_refusal_trials.specs.Hands.{IsReadyHandOf};
 
 use mc_classes::ClassId;
-use mc_items::{GetError, SetError, delete, get, release, set, touch};
-use mc_mover::{Counts, Survey, Turn, reassign, set_mode, survey, turn};
+use mc_items::{GetError, SetError, TryGetError, delete, get, release, set, touch, try_get};
+use mc_mover::{Counts, Survey, TryTurn, Turn, reassign, set_mode, survey, try_turn, turn};
 use mc_pages::Reassign;
 use mc_stripe::Key;
 use mc_words::{Arena, Hand};
@@ -19,11 +19,15 @@ pub enum Call {
     SetAndMove(Key, usize),
     /// The reference is given up at once.
     Get(Key),
+    /// The same, which waits for nobody.
+    TryGet(Key),
     Delete(Key),
     Touch(Key),
     /// A move from a class or any to a class or the pool.
     Reassign(Option<ClassId>, ClassId),
     Turn,
+    /// The same, which waits for nobody.
+    TryTurn,
     /// With a sweep, or without.
     Survey(bool),
     /// The automover's mode 2. It takes no memory.
@@ -78,10 +82,12 @@ impl Call {
         match self {
             Call::Set(..) | Call::SetAndMove(..) => "set",
             Call::Get(_) => "get",
+            Call::TryGet(_) => "try_get",
             Call::Delete(_) => "delete",
             Call::Touch(_) => "touch",
             Call::Reassign(..) => "reassign",
             Call::Turn => "turn",
+            Call::TryTurn => "try_turn",
             Call::Survey(_) => "survey",
             Call::ModeTwo => "set_mode",
         }
@@ -106,6 +112,7 @@ pub fn answer_of<R: Wait>(
             None => Answer::Refused,
         },
         Call::Get(key) => get_key(rt, arena, hand, key),
+        Call::TryGet(key) => try_get_key(arena, hand, key),
         Call::Delete(key) => there(delete(rt, arena, hand, key).ok()),
         Call::Touch(key) => there(touch(rt, arena, hand, key).ok()),
         Call::Survey(sweep) => surveyed(survey(rt, alloc, arena, hand, sweep).ok()),
@@ -120,6 +127,7 @@ fn answer_of_mover<R: Wait>(rt: &R, arena: &Arena, hand: &mut Hand, call: Call) 
     match call {
         Call::Reassign(src, dst) => reassigned(reassign(rt, arena, hand, src, dst)),
         Call::Turn => turned(turn(rt, arena, hand).ok()),
+        Call::TryTurn => tried(try_turn(arena, hand)),
         _ => {
             set_mode(rt, arena, hand, 2);
             Answer::Done
@@ -139,6 +147,14 @@ fn turned(turn: Option<Turn>) -> Answer {
     match turn {
         Some(turn) => Answer::Turned(turn),
         None => Answer::NoMemory,
+    }
+}
+
+fn tried(turn: Result<Turn, TryTurn>) -> Answer {
+    match turn {
+        Ok(turn) => Answer::Turned(turn),
+        Err(TryTurn::NoMemory) => Answer::NoMemory,
+        Err(TryTurn::Held) => Answer::Refused,
     }
 }
 
@@ -186,6 +202,21 @@ fn get_key<R: Wait>(rt: &R, arena: &Arena, hand: &mut Hand, key: Key) -> Answer
         }
         Ok(None) => Answer::There(false),
         Err(GetError::NoMemory) => Answer::NoMemory,
+        Err(_) => Answer::Refused,
+    }
+}
+
+fn try_get_key(arena: &Arena, hand: &mut Hand, key: Key) -> Answer
+    requires arena { IsReadyHandOf arena.now hand.old }
+    ensures arena { IsReadyHandOf arena.now hand.new }
+{
+    match try_get(arena, hand, key) {
+        Ok(Some(item)) => {
+            release(arena, hand, item);
+            Answer::There(true)
+        }
+        Ok(None) => Answer::There(false),
+        Err(TryGetError::NoMemory) => Answer::NoMemory,
         Err(_) => Answer::Refused,
     }
 }

@@ -18,3 +18,15 @@ fn calls_on_keys_are_refused_memory(rt: HostRuntime) -> Result<(), Fail> {
     ];
     run(&rt, rt.alloc(), &FOUR_CLASSES, &steps)
 }
+
+#[test]
+fn gets_that_wait_for_nobody_are_refused_memory(rt: HostRuntime) -> Result<(), Fail> {
+    let steps = [
+        (Call::TryGet(1), Answer::There(false)),
+        (Call::Set(1, 3), Answer::Done),
+        (Call::TryGet(1), Answer::There(true)),
+        (Call::TryGet(1), Answer::There(true)),
+        (Call::TryGet(5), Answer::There(false)),
+    ];
+    run(&rt, rt.alloc(), &FOUR_CLASSES, &steps)
+}

@@ -1,7 +1,7 @@
 //! What a call may leave that was refused memory, by two snapshots.
 use super::calls::{Call, counts};
 use super::headers::{Change, changes, changes_from};
-use super::listed::{are_all_listed, are_listed, is_same_class};
+use super::listed::{are_all_listed, are_listed, is_in_order, is_same_class};
 use super::snapshot::{
     BUSY, CLASSES, EVICTIONS_NOMEM, EVICTIONS_OF, GRANTED, HEADS, HELD_UP, LEDGER, MODE, MOVED,
     MOVING, PAGES_OF, POOL, POSITION, RESCUES, SOURCE, are_same, at, in_class, of_head, rise,
@@ -21,7 +21,7 @@ pub fn is_left(call: Call, before: &[u64], after: &[u64]) -> bool {
             let class = class_of(len);
             is_left_by_set(class, before, after)
         }
-        Call::Turn => is_left_by_turn(before, after),
+        Call::Turn | Call::TryTurn => is_left_by_turn(before, after),
         _ => false,
     }
 }
@@ -47,7 +47,7 @@ fn died(before: &[u64], after: &[u64]) -> u64 {
     changes(before, after, Change::Died).wrapping_add(taken)
 }
 
-// Hand and mode are as before, so are all other classes, a header isn't, and the lists are what the headers say.
+// Hand and mode are as before, so are all other classes, a header isn't, and the lists are what the headers say, in the order that they had.
 fn is_kept(class: u64, before: &[u64], after: &[u64]) -> bool {
     for other in 1..=CLASSES {
         if !are_listed(after, other) {
@@ -60,7 +60,8 @@ fn is_kept(class: u64, before: &[u64], after: &[u64]) -> bool {
     let hand = are_same(before, after, 0, HEADS);
     let mode = rise(before, after, MODE) == 0;
     let heads = are_same(before, after, HEADS, GRANTED - HEADS);
-    hand && mode && !heads && are_all_listed(after)
+    let order = is_in_order(before, after, class);
+    hand && mode && !heads && order && are_all_listed(after)
 }
 
 fn is_left_by_set(class: u64, before: &[u64], after: &[u64]) -> bool {

@@ -1,5 +1,4 @@
 //! A hand that takes snapshots for another one, in room that was made before.
-ghost use Rattle.mc_words.specs.Arenas.{view};
 ghost use Rattle.mc_refusal_trials.specs.Hands.{IsReadyHandOf};
 
 use super::lists::see_slabs;

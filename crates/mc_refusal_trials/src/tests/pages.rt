@@ -1,5 +1,5 @@
 //! Pages without an arena: a class that gets one, and one that begins to move.
-ghost use Rattle.std.specs.Prelude.{◌≡◌, IsTrue, ◌↔◌};
+ghost use Rattle.std.specs.Prelude.{IsTrue, ◌↔◌};
 ghost use Rattle.mc_pages.specs.SlabState.{IsClass};
 ghost use Rattle.mc_refusal_trials.specs.Sized.{HasClasses};
 

@@ -1,4 +1,4 @@
-//! The rules of what a refusal may leave find what it may not.
+//! A row fails where a refused call left what it may not.
 ghost use Rattle.std.specs.Prelude.{◌≡◌, true, IfSome};
 ghost use Rattle.mc_core.specs.State.{has_chunk};
 ghost use Rattle.mc_words.specs.Arenas.{setup_of};
@@ -6,12 +6,10 @@ ghost use Rattle.mc_words.specs.Observers.{hint_chunk};
 ghost use Rattle.mc_refusal_trials.specs.Hands.{IsReadyHandOf};
 
 use super::calls::{Answer, Call};
-use super::left::is_left;
 use super::looking::{look_after, look_before};
 use super::opening::opened;
-use super::rows::stores;
 use super::snapshot::LENGTH;
-use super::steps::{Step, play_all};
+use super::steps::{Row, Step, behind_refusal, play_all};
 use super::{FOUR_CLASSES, assert_same};
 use mc_items::{again, get, hint, release};
 use mc_stripe::Key;
@@ -21,13 +19,15 @@ use std::sync::Wait;
 use std::test::Fail;
 
 /// A call of each kind.
-const CALLS: [Call; 7] = [
+const CALLS: [Call; 9] = [
     Call::Set(9, 61),
     Call::Get(1),
+    Call::TryGet(1),
     Call::Delete(1),
     Call::Touch(1),
     Call::Reassign(Some(4), 1),
     Call::Turn,
+    Call::TryTurn,
     Call::Survey(true),
 ];
 
@@ -68,11 +68,14 @@ fn refused_but_held(arena: &Arena, reader: &mut Hand, hint: Hint) -> Answer
     }
 }
 
-/// How many of the calls may leave what was seen.
-fn count_left(before: &[u64], after: &[u64]) -> usize {
+/// How many of the calls' rows don't fail, where the call was refused between these snapshots, and then gave what it is to.
+fn count_right(before: &[u64], after: &[u64]) -> usize {
     CALLS
         .iter()
-        .filter(|call| is_left(**call, before, after))
+        .filter(|call| {
+            let step = (**call, Answer::Done);
+            behind_refusal(step, before, after, Answer::Done) != Row::Fails
+        })
         .count()
 }
 
@@ -82,7 +85,7 @@ fn assert_found(rt: &impl Abort, before: &[u64], after: &mut Vec<u64>) {
         if place < after.len() {
             let number = after[place];
             after[place] = number ^ 1;
-            let found = (place, count_left(before, after));
+            let found = (place, count_right(before, after));
             assert_same(rt, found, (place, 0), "one number is changed");
             after[place] = number;
         }
@@ -106,20 +109,20 @@ fn what_may_not_be_left_is_found(rt: HostRuntime) -> Result<(), Fail> {
     };
     let seen = look_before(&arena, &mut looker, &hand);
     let again = look_after(&arena, &mut looker, &hand);
-    let left = count_left(&looker.before, &looker.after);
+    let right = count_right(&looker.before, &looker.after);
     assert_same(
         &rt,
-        (seen, again, left),
-        (true, true, 7),
+        (seen, again, right),
+        (true, true, 9),
         "nothing is changed",
     );
     assert_found(&rt, &looker.before, &mut looker.after);
     let refused = refused_but_held(&arena, &mut reader, hint) == Answer::NoMemory;
     let again = look_after(&arena, &mut looker, &hand);
-    let left = count_left(&looker.before, &looker.after);
+    let right = count_right(&looker.before, &looker.after);
     assert_same(
         &rt,
-        (refused, again, left),
+        (refused, again, right),
         (true, true, 0),
         "a header is changed",
     );

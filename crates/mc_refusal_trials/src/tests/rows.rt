@@ -6,6 +6,9 @@ use super::opening::opened;
 use super::steps::{Step, play_all, run};
 use mc_items::release;
 use mc_pages::Reassign;
+use std::alloc::Global;
+use std::process::Abort;
+use std::sync::Wait;
 use std::test::Fail;
 
 /// An item of so many words is stored.
@@ -44,8 +47,12 @@ fn an_item_is_rescued_and_another_evicted(rt: HostRuntime) -> Result<(), Fail> {
     run(&rt, rt.alloc(), &FOUR_CLASSES, &steps)
 }
 
-#[test]
-fn a_turn_is_refused_at_each_of_its_chunks(rt: HostRuntime) -> Result<(), Fail> {
+/// Eight items fill four pages, and gets fill the histories of two stripes up; a page goes to the pool by this call.
+fn rescue_and_evict<R: Abort + Wait + Print>(
+    rt: &R,
+    alloc: Global,
+    turn: Call,
+) -> Result<(), Fail> {
     let steps = [
         stores(1, 61),
         stores(2, 61),
@@ -61,12 +68,22 @@ fn a_turn_is_refused_at_each_of_its_chunks(rt: HostRuntime) -> Result<(), Fail> 
         (Call::Get(2), Answer::There(true)),
         (Call::Delete(8), Answer::There(true)),
         (Call::Reassign(Some(4), 0), Answer::Done),
-        (Call::Turn, finished(2, 1, 1, 0)),
+        (turn, finished(2, 1, 1, 0)),
         touches(2, true),
         touches(1, false),
         surveys(false, [1, 1, 1, 0]),
     ];
-    run(&rt, rt.alloc(), &FOUR_CLASSES, &steps)
+    run(rt, alloc, &FOUR_CLASSES, &steps)
+}
+
+#[test]
+fn a_turn_is_refused_at_each_of_its_chunks(rt: HostRuntime) -> Result<(), Fail> {
+    rescue_and_evict(&rt, rt.alloc(), Call::Turn)
+}
+
+#[test]
+fn a_turn_that_waits_for_nobody_is_refused_so_too(rt: HostRuntime) -> Result<(), Fail> {
+    rescue_and_evict(&rt, rt.alloc(), Call::TryTurn)
 }
 
 #[test]

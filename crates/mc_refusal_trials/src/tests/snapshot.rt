@@ -57,15 +57,17 @@ pub const FREE_OF: usize = 1;
 pub const EVICTIONS_OF: usize = 2;
 
 pub const LISTS_OF: usize = 3;
-/// Then one for each stripe: chunk and stamp of each of its keys, and from here on its history.
+/// Then one for each stripe: chunk and stamp of each of its keys, its history, and whether it has room for a call and an entry aside.
 const STRIPE_BLOCKS: usize = 639;
 
-const STRIPE_BLOCK: usize = 59;
+const STRIPE_BLOCK: usize = 61;
 
 pub const HISTORY: usize = 10;
 
+pub const READY: usize = 59;
+
 /// How many numbers a snapshot has.
-pub const LENGTH: usize = 875;
+pub const LENGTH: usize = 883;
 
 /// The number at this place.
 pub fn at(seen: &[u64], place: usize) -> u64 {

@@ -8,6 +8,7 @@ use super::looking::{Looker, look_after, look_before};
 use super::marks::{tell_call, tell_done, tell_ignored, tell_refused};
 use super::opening::opened;
 use super::snapshot::{MOVING, at};
+use super::told::entries_told;
 use mc_classes::Config;
 use mc_mover::{Counts, Turn};
 use mc_words::{Arena, Hand};
@@ -21,7 +22,7 @@ pub type Step = (Call, Answer);
 
 /// What becomes of a row behind a call.
 #[derive(Clone, Copy, Debug, PartialEq, Eq)]
-enum Row {
+pub enum Row {
     Goes,
     /// A refusal left what the row doesn't know of.
     Ends,
@@ -62,26 +63,30 @@ fn play<R: Wait + Print>(
     }
     tell_refused(rt, call.name());
     let again = answer_of(rt, alloc, arena, hand, &looker.words, call);
-    behind_refusal(step, looker, again)
+    behind_refusal(step, &looker.before, &looker.after, again)
 }
 
 // What becomes of the row, once the call was made.
 fn behind_call<R: Print>(rt: &R, call: Call, looker: &Looker, is_right: bool) -> Row {
     let stays = at(&looker.after, MOVING) == 0;
+    let is_as_told = entries_told(&looker.before, &looker.after) == Some(0);
     if let Call::SetAndMove(..) = call {
         if stays {
             tell_ignored(rt, call.name());
-            return Row::Ends;
+            return if is_right && is_as_told {
+                Row::Ends
+            } else {
+                Row::Fails
+            };
         }
     }
     tell_done(rt, call.name());
     goes_if(is_right)
 }
 
-// What becomes of the row, once the call was made again.
-fn behind_refusal(step: Step, looker: &Looker, again: Answer) -> Row {
+/// What becomes of the row, once the call was made again.
+pub fn behind_refusal(step: Step, before: &[u64], after: &[u64], again: Answer) -> Row {
     let (call, wanted) = step;
-    let (before, after) = (looker.before.as_slice(), looker.after.as_slice());
     if !is_left(call, before, after) {
         return Row::Fails;
     }

@@ -49,10 +49,13 @@ fn see_keys(stripe: &Stripe, number: u64, seen: &mut Vec<u64>) {
     }
 }
 
+// Its history, whether it has room for one more call, and whether an entry is aside.
 fn see_history(stripe: &Stripe, seen: &mut Vec<u64>) {
     let history = stripe.history();
     note(seen, history.len() as u64);
     for place in 0..CALLS {
         note_call(seen, history.get(place).copied());
     }
+    note(seen, u64::from(stripe.is_ready()));
+    note(seen, u64::from(stripe.aside().is_some()));
 }

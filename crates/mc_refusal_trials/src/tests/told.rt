@@ -1,6 +1,6 @@
 //! What became of ledger, histories and keys between two snapshots.
 use super::snapshot::{
-    CALLS, ENTRIES, HISTORY, KEYS, LEDGER, STRIPES, are_same, at, in_stripe, of_key, rise,
+    CALLS, ENTRIES, HISTORY, KEYS, LEDGER, READY, STRIPES, are_same, at, in_stripe, of_key, rise,
 };
 
 /// A call of the first hand that took an item away, and one that took it to another chunk, as they stand in a history.
@@ -32,7 +32,7 @@ pub fn calls_told(before: &[u64], after: &[u64], kinds: (u64, u64)) -> Option<u6
     Some(sum)
 }
 
-// Whether a stripe's history begins as it was, and goes on with these kinds of calls alone.
+// Whether a stripe's history begins as it was, and goes on with these kinds of calls alone, and it has room or not as before.
 fn are_told(before: &[u64], after: &[u64], stripe: u64, kinds: (u64, u64)) -> bool {
     let known = at(before, in_stripe(stripe, HISTORY));
     let told = at(after, in_stripe(stripe, HISTORY));
@@ -47,7 +47,7 @@ fn are_told(before: &[u64], after: &[u64], stripe: u64, kinds: (u64, u64)) -> bo
             return false;
         }
     }
-    true
+    are_same(before, after, in_stripe(stripe, READY), 2)
 }
 
 /// What became of a key.

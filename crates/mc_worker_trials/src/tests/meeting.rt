@@ -10,7 +10,7 @@ use std::sync::atomic::{AtomicU64, Ordering};
 use std::test::Fail;
 
 /// Worker 1 sets, holds and drops; worker 2 sets the same key.
-const SCRIPT: &[u8] = b"1 set 1 3 7\n1 hold 1\n1 drop 1\n2 set 1 3 50\n";
+pub const SCRIPT: &[u8] = b"1 set 1 3 7\n1 hold 1\n1 drop 1\n2 set 1 3 50\n";
 
 /// The replies, and the statistics: the second item alone is there.
 const TEXT: &[u8] = b"STORED 1\r\nHELD 1\r\nDROPPED 1 3 7 8 9\r\nSTORED 1\r\n\
@@ -23,14 +23,14 @@ STAT slab_reassign_rescues 0\r\nSTAT slab_reassign_evictions_nomem 0\r\nSTAT sla
 /// Keeps worker 2 before its line until worker 1's hold was answered, and worker 1 before its drop until worker 2's set was answered,
 /// each by at most so many bare looks, and then stops the run.
 #[derive(Drop)]
-struct Meeting {
+pub struct Meeting {
     first: AtomicU64,
     second: AtomicU64,
     looks: u64,
 }
 
 impl Meeting {
-    fn new(looks: u64) -> Meeting {
+    pub fn new(looks: u64) -> Meeting {
         Meeting {
             first: AtomicU64::new(0),
             second: AtomicU64::new(0),

@@ -8,13 +8,26 @@ use std::test::Fail;
 /// Two workers and a mover.
 const SCRIPT: &[u8] = b"1 set 1 3 7\n2 set 2 3 9\nreassign 1 2\n";
 
-/// Lines that are none.
-const REFUSED: [&[u8]; 6] = [
+/// Lines that are no command: each is refused as line 1, and nothing is written.
+const REFUSED: [&[u8]; 14] = [
+    // A number above the greatest of 64 bits, and one of 21 digits.
     b"1 get 18446744073709551616\n",
+    b"1 get 000000000000000000001\n",
+    // Workers are 1 to 63.
     b"0 get 1\n",
     b"64 get 1\n",
+    // An item has 4,096 words at most, a line 1 to 1,000,000 turns, the automover modes 0 to 2, and a source is -1 or a class.
+    b"1 set 1 4097 0\n",
     b"turn 0\n",
+    b"turn 1000001\n",
+    b"automove 3\n",
+    b"reassign -2 1\n",
+    // Words have one space between them, a CR stands before an LF alone, and not at the script's end.
+    b"1\tget 1\n",
+    b"1 get\r 1\n",
     b"stats\r",
+    // A window is of no class, and no worker's.
+    b"window 1\n",
     b"1 window\n",
 ];
 
