@@ -1,5 +1,5 @@
 -- What a hand keeps stays what it is, whatever its calls do.
-use Rattle.std.proofs.Common.{◌≡◌, ◌≤◌, ◌<◌, ℕ, zero, suc, ◌+◌, Bool, true, List, [], ◌∷◌, ◌++◌, length, is_some, Option, Some, All, count_by, refl, sym, ap, subst, ◌∙◌, arith, inl, inr, slice_index_or, append-nil, get_or, take, drop}
+use Rattle.std.proofs.Common.{◌≡◌, ◌≤◌, ◌<◌, ℕ, zero, suc, ◌+◌, Bool, true, List, [], ◌∷◌, ◌++◌, length, is_some, Some, All, count_by, refl, sym, ap, subst, ◌∙◌, arith, inl, inr, slice_index_or, append-nil, get_or, take, drop}
 use Rattle.std.proofs.lemmas.Bool.{cases_Bool}
 use Rattle.std.proofs.Math.Seq.{split_at}
 use Rattle.std.proofs.lemmas.List.Elements.{All-cons, All-head, All-nil, All-push, All-tail}

@@ -1,10 +1,8 @@
 //! Calls of hands that may make any.
-ghost use Rattle.std.specs.Prelude.{◌≡◌, true, IfSome, IfOk};
-ghost use Rattle.mc_core.specs.State.{has_chunk};
-ghost use Rattle.mc_words.specs.Arenas.{setup_of, view};
+ghost use Rattle.std.specs.Prelude.{IfSome, IfOk};
+ghost use Rattle.mc_words.specs.Arenas.{view};
 ghost use Rattle.mc_words.specs.Refs.{KeepsRefs};
-ghost use Rattle.mc_items.specs.ItemRefs.{IsItemRef, item_chunk};
-ghost use Rattle.mc_items.specs.Keeping.{HoldsAsOften, HoldsTheSame, HoldsToo};
+ghost use Rattle.mc_items.specs.Keeping.{HoldsAsOften, HoldsTheSame};
 ghost use Rattle.mc_race_trials.specs.Hands.{AreHandsOf, IsIdleHandOf, IsReadyHandOf};
 
 use super::words::words_of;
