@@ -5,6 +5,8 @@ mod driver;
 mod ends;
 mod holding;
 mod lost;
+mod orders;
+mod races;
 mod replays;
 mod stress;
 mod words;

@@ -1,0 +1,299 @@
+//! Both orders in which a hand has an item again while another one takes it away, and what the next turns find then.
+ghost use Rattle.std.specs.Prelude.{◌≡◌, IfOk, IfSome, true};
+ghost use Rattle.mc_pages.specs.SlabState.{class_of_page};
+ghost use Rattle.mc_core.specs.Chunks.{is_moving_page};
+ghost use Rattle.mc_core.specs.State.{has_chunk, is_class};
+ghost use Rattle.mc_words.specs.Arenas.{IsHandOf, setup_of, view};
+ghost use Rattle.mc_words.specs.Observers.{slabs_lent};
+ghost use Rattle.mc_words.specs.Ready.{IsReady};
+ghost use Rattle.mc_items.specs.ItemRefs.{IsItemRef};
+ghost use Rattle.mc_mover.specs.Acting.{HasSlabs};
+ghost use Rattle.mc_race_trials.specs.Hands.{IsReadyHandOf};
+ghost use Rattle.mc_race_trials.specs.Keepers.{IsNear};
+
+use super::calls::{next_hand, opened, set_key};
+use super::ends::check;
+use super::races::{Fate, look_and_lock, take_away};
+use super::words::are_words_of;
+use mc_classes::{ClassId, Config};
+use mc_items::{Ref, again, get, hint, read, release};
+use mc_mover::{Counts, Turn, reassign, turn};
+use mc_pages::ChunkId;
+use mc_stripe::Key;
+use mc_words::{Arena, Hand, Hint, SlabsHeld};
+use std::alloc::Global;
+use std::process::Abort;
+use std::sync::Wait;
+use std::test::Fail;
+
+/// Two pages; classes of 48, 96, 192 and 512 bytes. A page has two chunks of the greatest.
+const TWO_PAGES: Config = Config {
+    page: 1024,
+    limit: 2048,
+    first: 48,
+    num: 2,
+    den: 1,
+    max: 512,
+    stripes: 4,
+    bulk: 64,
+};
+
+/// The key whose item goes into the first chunk, and that chunk. Each fourth key has an item of the greatest class.
+const FIRST: (Key, ChunkId) = (3, ChunkId { page: 0, index: 1 });
+
+/// Whether the arena has such a chunk.
+fn has_chunk(arena: &Arena, chunk: ChunkId) -> bool
+    ensures { result ≡ has_chunk (setup_of arena.now).table chunk }
+{
+    let classes = arena.classes();
+    chunk.page < classes.pages() && chunk.index < classes.per_page(1)
+}
+
+/// The class of a chunk's page, if it moves.
+fn class_on_move(arena: &Arena, _hand: &Hand, held: &SlabsHeld, chunk: ChunkId) -> Option<ClassId>
+    requires arena { IsHandOf arena.now _hand.now }
+    requires held { HasSlabs _hand.now held.now }
+    requires near { has_chunk (setup_of arena.now).table chunk ≡ true }
+    ensures own { IfSome result (λ class. class_of_page (slabs_lent held.now) chunk.page ≡ class) }
+    ensures moving { IfSome result (λ class. is_moving_page (slabs_lent held.now) chunk.page ≡ true) }
+    ensures class { IfSome result (λ class. is_class (setup_of arena.now).table class ≡ true) }
+{
+    let moving = held.moving()?;
+    if moving.page != chunk.page {
+        return None;
+    }
+    let class = held.slabs().owner(chunk.page).class();
+    if class >= 1 && class <= arena.classes().count() {
+        Some(class)
+    } else {
+        None
+    }
+}
+
+/// Whether the hand may make any call.
+fn is_ready(hand: &Hand) -> bool
+    ensures ready { result ≡ true → IsReady (view hand.now) }
+{
+    hand.unlocked() && !hand.has_fresh() && hand.refs() <= 255
+}
+
+/// Gives pages and lists back. False where a page is half cut, or the hand isn't ready then.
+fn give_back(arena: &Arena, hand: &mut Hand, slabs: SlabsHeld) -> bool
+    requires arena { IsHandOf arena.now hand.old }
+    requires slabs { HasSlabs hand.old slabs }
+    ensures hand { result ≡ true → IsReadyHandOf arena.now hand.new }
+{
+    if slabs.slabs().next_uncut().is_some() {
+        return false;
+    }
+    arena.give_slabs(hand, slabs);
+    is_ready(hand)
+}
+
+/// Has the item of a hint again, if there is a hint.
+fn had_again(arena: &Arena, hand: &mut Hand, hint: Option<Hint>) -> Option<Ref>
+    requires hand { IsReadyHandOf arena.now hand.old }
+    requires near { IfSome hint (IsNear arena.now) }
+    ensures hand { IsReadyHandOf arena.now hand.new }
+    ensures item { IfSome result (λ item. IsItemRef (view hand.new) item) }
+{
+    match hint {
+        Some(hint) => again(arena, hand, hint).ok(),
+        None => None,
+    }
+}
+
+/// One hand looks at the chunk of a moving page, under the locks. Then the other has its item again, if there is a hint. Then the first one
+/// takes it away.
+fn race<R: Abort>(
+    rt: &R,
+    arena: &Arena,
+    hand: &mut Hand,
+    other: &mut Hand,
+    chunk: ChunkId,
+    hint: Option<Hint>,
+) -> Option<(Fate, Option<Ref>)>
+    requires hand { IsReadyHandOf arena.now hand.old }
+    requires other { IsReadyHandOf arena.now other.old }
+    requires near { IfSome hint (IsNear arena.now) }
+    ensures hand { IfSome result (λ raced. IsReadyHandOf arena.now hand.new) }
+    ensures other { IsReadyHandOf arena.now other.new }
+    ensures item { IfSome result (λ raced. IfSome raced.1 (λ item. IsItemRef (view other.new) item)) }
+{
+    if !has_chunk(arena, chunk) {
+        return None;
+    }
+    let Ok(mut slabs) = arena.try_slabs(hand) else {
+        return None;
+    };
+    let class = class_on_move(arena, hand, &slabs, chunk)?;
+    let (key, stripe) = look_and_lock(arena, hand, &slabs, chunk)?;
+    let item = had_again(arena, other, hint);
+    let fate = take_away(rt, arena, hand, &mut slabs, stripe, class, chunk, key)?;
+    if !give_back(arena, hand, slabs) {
+        return None;
+    }
+    Some((fate, item))
+}
+
+/// A hint of the key's item, if it has one.
+fn hint_of<R: Wait>(rt: &R, arena: &Arena, hand: &mut Hand, key: Key) -> Option<Hint>
+    requires hand { IsReadyHandOf arena.now hand.old }
+    ensures hand { IsReadyHandOf arena.now hand.new }
+    ensures near { IfSome result (IsNear arena.now) }
+{
+    let Ok(Some(item)) = get(rt, arena, hand, key) else {
+        return None;
+    };
+    let hint = hint(&item);
+    release(arena, hand, item);
+    Some(hint)
+}
+
+/// Whether the item is the key's, and has its own words. It is given up, also where memory ran out.
+fn is_own(alloc: Global, arena: &Arena, hand: &mut Hand, item: Ref, key: Key) -> bool
+    requires hand { IsReadyHandOf arena.now hand.old }
+    requires item { IsItemRef (view hand.old) item }
+    ensures hand { IsReadyHandOf arena.now hand.new }
+{
+    let stamp = item.stamp();
+    let is_keys = item.key() == key;
+    let words = read(alloc, arena, hand, &item);
+    release(arena, hand, item);
+    match words {
+        Ok(words) => is_keys && are_words_of(&words, key, stamp),
+        Err(_) => false,
+    }
+}
+
+/// Whether the key leads to an item, which has its own words.
+fn has_own<R: Wait>(rt: &R, alloc: Global, arena: &Arena, hand: &mut Hand, key: Key) -> bool
+    requires hand { IsReadyHandOf arena.now hand.old }
+    ensures hand { IsReadyHandOf arena.now hand.new }
+{
+    match get(rt, arena, hand, key) {
+        Ok(Some(item)) => is_own(alloc, arena, hand, item, key),
+        _ => false,
+    }
+}
+
+/// Items of the greatest class for the first so many of its keys. False where one isn't stored.
+fn store<R: Wait>(rt: &R, alloc: Global, arena: &Arena, hand: &mut Hand, count: u64) -> bool
+    requires hand { IsReadyHandOf arena.now hand.old }
+    ensures hand { IsReadyHandOf arena.now hand.new }
+{
+    for place in 0..count {
+        let key = FIRST.0.wrapping_add(place.wrapping_mul(4));
+        if !set_key(rt, alloc, arena, hand, key) {
+            return false;
+        }
+    }
+    true
+}
+
+/// What a turn counts: so many cleared, rescued, evicted and busy ones.
+fn counts(cleared: u64, rescued: u64, evicted: u64, busy: u64) -> Counts {
+    Counts {
+        cleared,
+        rescued,
+        evicted,
+        busy,
+        locked: 0,
+    }
+}
+
+/// Whether the next turn does this.
+fn turns<R: Wait>(rt: &R, arena: &Arena, hand: &mut Hand, wanted: Turn) -> bool
+    requires hand { IsReadyHandOf arena.now hand.old }
+    ensures hand { IsReadyHandOf arena.now hand.new }
+{
+    match turn(rt, arena, hand) {
+        Ok(found) => found == wanted,
+        Err(_) => false,
+    }
+}
+
+/// So many items are stored, and the first page begins to move.
+fn prepared<R: Wait>(rt: &R, alloc: Global, count: u64) -> Result<(Arena, Hand, Hand), Fail>
+    ensures hands { IfOk result (λ made. IsReadyHandOf made.0 made.1 × IsReadyHandOf made.0 made.2) }
+{
+    let (arena, mut hands) = opened(alloc, &TWO_PAGES, 2)?;
+    let Some(mut hand) = next_hand(&arena, &mut hands) else {
+        return Err(Fail::new("there are two hands"));
+    };
+    let Some(other) = next_hand(&arena, &mut hands) else {
+        return Err(Fail::new("there are two hands"));
+    };
+    check(
+        store(rt, alloc, &arena, &mut hand, count),
+        "each item is stored",
+    )?;
+    let begins = reassign(rt, &arena, &mut hand, Some(4), 1).is_ok();
+    check(begins, "the page begins to move")?;
+    Ok((arena, hand, other))
+}
+
+/// The first item is had again before it is taken away, among so many: it stays, and the next turn finds it busy.
+fn again_first<R: Abort + Wait>(
+    rt: &R,
+    alloc: Global,
+    count: u64,
+    went: Counts,
+) -> Result<(), Fail> {
+    let (arena, mut hand, mut other) = prepared(rt, alloc, count)?;
+    let hint = hint_of(rt, &arena, &mut other, FIRST.0);
+    let Some((fate, item)) = race(rt, &arena, &mut hand, &mut other, FIRST.1, hint) else {
+        return Err(Fail::new("the copy is put back, and the entry is as before"));
+    };
+    let Some(item) = item else {
+        return Err(Fail::new("the item is had again"));
+    };
+    check(fate == Fate::Stays, "it is told that it is held")?;
+    check(
+        has_own(rt, alloc, &arena, &mut hand, FIRST.0),
+        "its key leads to it",
+    )?;
+    check(
+        turns(rt, &arena, &mut hand, Turn::Went(went)),
+        "it holds up its page",
+    )?;
+    check(
+        is_own(alloc, &arena, &mut other, item, FIRST.0),
+        "its words are its own",
+    )?;
+    let ended = Turn::Finished(counts(1, 0, 1, 0));
+    check(
+        turns(rt, &arena, &mut hand, ended),
+        "the page goes once it is released",
+    )
+}
+
+#[test]
+fn what_is_had_again_is_not_rescued(rt: HostRuntime) -> Result<(), Fail> {
+    again_first(&rt, rt.alloc(), 3, counts(1, 1, 0, 1))
+}
+
+#[test]
+fn what_is_had_again_is_not_evicted(rt: HostRuntime) -> Result<(), Fail> {
+    again_first(&rt, rt.alloc(), 4, counts(1, 0, 1, 1))
+}
+
+#[test]
+fn what_was_evicted_is_not_had_again(rt: HostRuntime) -> Result<(), Fail> {
+    let (arena, mut hand, mut other) = prepared(&rt, rt.alloc(), 4)?;
+    let hint = hint_of(&rt, &arena, &mut other, FIRST.0);
+    let Some((fate, _)) = race(&rt, &arena, &mut hand, &mut other, FIRST.1, None) else {
+        return Err(Fail::new("the item is taken away"));
+    };
+    check(fate == Fate::Evicted, "nobody holds it")?;
+    check(hint.is_some(), "there is a hint")?;
+    let found = had_again(&arena, &mut other, hint);
+    check(found.is_none(), "its hint is gone")?;
+    let has_own = has_own(&rt, rt.alloc(), &arena, &mut other, FIRST.0);
+    check(!has_own, "its key leads nowhere")?;
+    let ended = Turn::Finished(counts(2, 0, 1, 0));
+    check(
+        turns(&rt, &arena, &mut hand, ended),
+        "the page goes at once",
+    )
+}
