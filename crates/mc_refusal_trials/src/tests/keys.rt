@@ -12,6 +12,9 @@ fn calls_on_keys_are_refused_memory(rt: HostRuntime) -> Result<(), Fail> {
         (Call::Touch(1), Answer::There(true)),
         (Call::Get(2), Answer::There(false)),
         (Call::Delete(1), Answer::There(true)),
+        // The dead chunk is put back by a sweep alone that isn't refused.
+        (Call::Survey(false), Answer::Surveyed(false, [0, 0, 0, 0])),
+        (Call::Survey(true), Answer::Surveyed(false, [0, 0, 0, 0])),
         (Call::Touch(3), Answer::There(false)),
         (Call::Delete(4), Answer::There(false)),
         (Call::Set(4, 61), Answer::Done),
