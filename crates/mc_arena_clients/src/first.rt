@@ -77,7 +77,7 @@ fn prepare_page(
             Ok(())
         }
         Err(Grow::NoRoom) => unreachable!(),
-        Err(Grow::NoMemory) => Err(NoMemory),
+        Err(Grow::NoMemory(refused)) => Err(refused),
     }
 }
 
@@ -148,7 +148,7 @@ pub fn pop_worn(
 pub fn header_from(alloc: Global, start: u64) -> Result<Option<u64>, NewError>
     requires begun { start ≤ most_issue }
     ensures header { IfOk result (λ found. found ≡ (if nat_lt start most_issue then Some (code (first_out start)) else None)) }
-    ensures memory { IfErr result (λ error. error ≡ refused.NoMemory) }
+    ensures memory { IfErr result (λ error. error ≡ refused.NoMemory tt) }
 {
     let (arena, mut hands) = match Arena::from_issue(alloc, &FOUR_PAGES, 1, start) {
         Ok(made) => made,
@@ -157,8 +157,8 @@ pub fn header_from(alloc: Global, start: u64) -> Result<Option<u64>, NewError>
     let mut hand = hands.remove(0);
     let mut held = slabs_of_new(&arena, &mut hand);
     let class = arena.classes().count();
-    if prepare_page(&arena, &mut hand, &mut held, class).is_err() {
-        return Err(NewError::NoMemory);
+    if let Err(refused) = prepare_page(&arena, &mut hand, &mut held, class) {
+        return Err(NewError::NoMemory(refused));
     }
     let header = header_of_first(&arena, &mut hand, &mut held, class);
     arena.give_slabs(&mut hand, held);
@@ -168,7 +168,7 @@ pub fn header_from(alloc: Global, start: u64) -> Result<Option<u64>, NewError>
 /// The first chunk that a new arena hands out: its header says that it is unlinked, held once, and out for the first time.
 pub fn first_header(alloc: Global) -> Result<Option<u64>, NewError>
     ensures header { IfOk result (λ found. found ≡ Some 393217) }
-    ensures memory { IfErr result (λ error. error ≡ refused.NoMemory) }
+    ensures memory { IfErr result (λ error. error ≡ refused.NoMemory tt) }
 {
     header_from(alloc, 0)
 }
@@ -176,7 +176,7 @@ pub fn first_header(alloc: Global) -> Result<Option<u64>, NewError>
 /// Where all chunks are used up from the beginning, none is ever handed out.
 pub fn worn_out(alloc: Global) -> Result<Option<u64>, NewError>
     ensures never { IfOk result (λ found. found ≡ None) }
-    ensures memory { IfErr result (λ error. error ≡ refused.NoMemory) }
+    ensures memory { IfErr result (λ error. error ≡ refused.NoMemory tt) }
 {
     header_from(alloc, MOST_ISSUE)
 }

@@ -1,7 +1,7 @@
 //! A cache of squares for one thread, over the typed calls of a keeper.
 ghost use Rattle.std.specs.Prelude.{◌<◌, ◌^◌};
 
-use mc_classes::{ClassTable, Config, ConfigError};
+use mc_classes::{ClassTable, Config};
 use mc_keeper::{Keeper, Stop};
 use std::alloc::{AllocError, Global};
 
@@ -17,11 +17,10 @@ pub const SMALL: Config = Config {
     bulk: 64,
 };
 
-/// A cache in which nothing is stored. Its automover acts on windows, which is mode 1.
-pub fn small_cache(alloc: Global) -> Result<Keeper, ConfigError> {
-    let table = ClassTable::build(alloc, &SMALL)?;
-    let keeper = Keeper::new(alloc, table, SMALL.bulk, 1)?;
-    Ok(keeper)
+/// A cache in which nothing is stored, if there is memory. Its automover acts on windows, which is mode 1.
+pub fn small_cache(alloc: Global) -> Option<Keeper> {
+    let table = ClassTable::build(alloc, &SMALL).ok()?;
+    Keeper::new(alloc, table, SMALL.bulk, 1).ok()
 }
 
 /// The key's square: from the cache, or else reckoned and kept there, if there is room.

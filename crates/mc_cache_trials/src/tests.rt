@@ -2,7 +2,7 @@
 mod steps;
 
 use crate::{SMALL, small_cache, square, tick};
-use mc_classes::{ClassTable, ConfigError};
+use mc_classes::ClassTable;
 use mc_keeper::{Ending, HoldError, Keeper, Reassign, Stored, TooManyRefs};
 use std::alloc::{AllocError, Global};
 use std::process::Abort;
@@ -10,7 +10,7 @@ use std::test::Fail;
 use steps::{Step, is_so};
 
 /// A keeper of four pages whose automover is off.
-fn small_keeper(alloc: Global) -> Result<Keeper, ConfigError> {
+fn small_keeper(alloc: Global) -> Result<Keeper, Fail> {
     let table = ClassTable::build(alloc, &SMALL)?;
     let keeper = Keeper::new(alloc, table, SMALL.bulk, 0)?;
     Ok(keeper)
@@ -19,7 +19,7 @@ fn small_keeper(alloc: Global) -> Result<Keeper, ConfigError> {
 /// Each call gives what it is to give.
 fn play(rt: &impl Abort, keeper: &mut Keeper, steps: &[Step]) -> Result<(), AllocError> {
     for step in steps {
-        let so = is_so(keeper, *step)?;
+        let so = is_so(keeper, step)?;
         assert!(rt; so, "a call gave something else");
     }
     Ok(())
@@ -29,7 +29,7 @@ fn play(rt: &impl Abort, keeper: &mut Keeper, steps: &[Step]) -> Result<(), Allo
 fn play_behind_eight(rt: &impl Abort, alloc: Global, steps: &[Step]) -> Result<(), Fail> {
     let mut keeper = small_keeper(alloc)?;
     for place in 0..8u64 {
-        let so = is_so(&mut keeper, Step::Sets(place + 1, 22, Stored::Yes))?;
+        let so = is_so(&mut keeper, &Step::Sets(place + 1, 22, Stored::Yes))?;
         assert!(rt; so, "an item isn't stored");
     }
     play(rt, &mut keeper, steps)?;
@@ -154,9 +154,11 @@ fn is_kept(cache: &mut Keeper, key: u64) -> Result<bool, AllocError> {
 /// What was reckoned is found again, and a cache that stands still ticks.
 #[test]
 fn squares_are_kept(rt: HostRuntime) -> Result<(), Fail> {
-    let mut cache = small_cache(rt.alloc())?;
+    let Some(mut cache) = small_cache(rt.alloc()) else {
+        return Err(Fail::new("there is memory"));
+    };
     let kept = is_kept(&mut cache, 12)?;
-    let stands = is_so(&mut cache, Step::Has(1, 1, 20))?;
+    let stands = is_so(&mut cache, &Step::Has(1, 1, 20))?;
     let ticked = tick(&mut cache).is_ok();
     assert!(rt; kept && stands && ticked, "the cache");
     Ok(())

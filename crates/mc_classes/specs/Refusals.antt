@@ -43,4 +43,4 @@ number_of Limit = 5
 number_of Stripes = 6
 number_of TooManyChunks = 7
 number_of Bulk = 8
-number_of NoMemory = 9
+number_of (NoMemory _) = 9

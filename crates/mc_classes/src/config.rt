@@ -2,7 +2,7 @@
 ghost use Rattle.std.specs.Prelude.{◌≡◌, ◌^◌, ◌≤◌, IfErr, OnOk};
 ghost use Rattle.mc_classes.specs.Refusals.{refusal_of, number_of, rounded_up, is_below_max, first_size};
 
-use std::alloc::AllocError;
+use mc_memory::Refused;
 use std::error::Error;
 use std::fmt;
 
@@ -28,7 +28,7 @@ pub struct Config {
 }
 
 /// Why there is no class table for a configuration. The tests are made in this order (own).
-#[derive(Clone, Copy, Debug, PartialEq, Eq)]
+#[derive(Debug, PartialEq, Eq, Drop)]
 pub enum ConfigError {
     /// The page size isn't a multiple of 8, or is outside 64 to 16,384.
     PageSize,
@@ -47,7 +47,7 @@ pub enum ConfigError {
     /// The mover's turn has no chunk, or more than 256.
     Bulk,
     /// Memory ran out.
-    NoMemory,
+    NoMemory(Refused),
 }
 
 impl ConfigError {
@@ -64,7 +64,7 @@ impl ConfigError {
             ConfigError::Stripes => 6,
             ConfigError::TooManyChunks => 7,
             ConfigError::Bulk => 8,
-            ConfigError::NoMemory => 9,
+            ConfigError::NoMemory(_) => 9,
         }
     }
 }
@@ -85,21 +85,21 @@ impl fmt::Display for ConfigError {
                 "a page of the first class would have more than 256 chunks: raise the first size or lower the page size"
             }
             ConfigError::Bulk => "the number of chunks a turn must be from 1 to 256",
-            ConfigError::NoMemory => "out of memory",
+            ConfigError::NoMemory(_) => "out of memory",
         })
     }
 }
 
 impl Error for ConfigError {}
 
-impl From<AllocError> for ConfigError {
+impl From<Refused> for ConfigError {
     ghost use Rattle.std.specs.Prelude.{◌≡◌};
     ghost use Rattle.mc_classes.specs.declared.config.ConfigError.TheVariants.{NoMemory};
 
-    ghost from_gives = { λ _ e. e ≡ NoMemory };
+    ghost from_gives = { λ refused error. error ≡ NoMemory refused };
 
-    fn from(_e: AllocError) -> ConfigError {
-        ConfigError::NoMemory
+    fn from(refused: Refused) -> ConfigError {
+        ConfigError::NoMemory(refused)
     }
 }
 

@@ -4,7 +4,8 @@ ghost use Rattle.mc_classes.specs.Refusals.{refusal_of};
 ghost use Rattle.mc_classes.specs.Classes.{ComesFrom, IsClass, IsSound, IsTableOf, class_of, pages_of, per_page_of, size_of};
 
 use crate::config::{Config, ConfigError, rounded_up};
-use std::alloc::{AllocError, Global};
+use mc_memory::{Refused, with_capacity};
+use std::alloc::Global;
 use std::marker::Model;
 
 /// The number of a size class, from 1. (0 is the global page pool, where a page may be told to go.)
@@ -41,7 +42,7 @@ impl ClassTable {
         ensures accepted { IfOk result (λ _. refusal_of config.now ≡ None) }
         ensures table { IfOk result (λ table. IsTableOf config.now table) }
         ensures sound { IfOk result (λ table. IsSound table) }
-        ensures refused { IfErr result (λ error. error ≡ unwrap_or (refusal_of config.now) ConfigError.NoMemory) }
+        ensures refused { IfErr result (λ error. error ≡ unwrap_or (refusal_of config.now) (ConfigError.NoMemory tt)) }
     {
         config.test()?;
         let sizes = sizes_of(alloc, config)?;
@@ -122,11 +123,11 @@ fn place_for(sizes: &[u64], bytes: u64) -> Option<usize>
 
 /// The sizes of the classes: each raw size is raised to a multiple of 8, and the factor gives the next
 /// raw size; a class of the greatest size comes last. All their room is taken first, so that no push can fail.
-fn sizes_of(alloc: Global, config: &Config) -> Result<Vec<u64>, AllocError>
+fn sizes_of(alloc: Global, config: &Config) -> Result<Vec<u64>, Refused>
     requires { refusal_of config.now ≡ None }
     ensures { IfOk result (λ sizes. (raws : List ℕ) × ComesFrom config.now raws sizes.items) }
 {
-    let mut sizes = Vec::with_capacity(alloc, MOST_CLASSES)?;
+    let mut sizes = with_capacity(alloc, MOST_CLASSES)?;
     let mut raw = config.first;
     while sizes.len() + 1 < MOST_CLASSES && config.is_below_max(raw) {
         let size = rounded_up(raw);

@@ -6,9 +6,10 @@ ghost use Rattle.mc_words.specs.Refs.{KeepsRefs};
 ghost use Rattle.mc_items.specs.ItemRefs.{IsItemRef, item_words};
 
 use mc_items::{Ref, delete, get, read, release, set, touch};
+use mc_memory::Refused;
 use mc_mover::turn;
 use mc_words::{Arena, Hand};
-use std::alloc::{AllocError, Global};
+use std::alloc::Global;
 use std::sync::Wait;
 
 /// Sets, gets, touches and deletes a key, whatever it is, and makes a turn of the mover, while an item is held; and then reads that item:
@@ -21,7 +22,7 @@ pub fn read_after_all<R: Wait>(
     item: &Ref,
     key: u64,
     words: &[u64],
-) -> Result<Vec<u64>, AllocError>
+) -> Result<Vec<u64>, Refused>
     requires arena { IsHandOf arena.now hand.old }
     requires ready { IsReady (view hand.old) }
     requires item { IsItemRef (view hand.old) item.now }

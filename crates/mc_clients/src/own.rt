@@ -9,14 +9,14 @@ use std::alloc::Global;
 use std::sync::Wait;
 
 /// Which call was refused.
-#[derive(Clone, Copy)]
+#[derive(Drop)]
 pub enum Refused {
     /// The set.
     Set(SetError),
     /// The get.
     Get(GetError),
     /// The read, for want of memory.
-    Read,
+    Read(mc_memory::Refused),
 }
 
 /// Sets these words under the key, gets its item and reads it: what is read are the words that were set, unless the item has another
@@ -52,6 +52,6 @@ pub fn set_and_read<R: Wait>(
     release(arena, hand, item);
     match found {
         Ok(read) => Ok(Some(read)),
-        Err(_) => Err(Refused::Read),
+        Err(refused) => Err(Refused::Read(refused)),
     }
 }

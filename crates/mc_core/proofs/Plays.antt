@@ -61,7 +61,7 @@ hand_there state hand h = elim (cases_lt hand (length state.ids)) [
 ]
 
 -- memory ran out
-pub tells_memory : (end : Result State ℕ) (told : Result State Stop) → told ≡ Err NoMemory → TellsEnd end told
+pub tells_memory : (end : Result State ℕ) (told : Result State Stop) → told ≡ Err (NoMemory tt) → TellsEnd end told
 tells_memory (Ok state) told e = inr e
 tells_memory (Err place) told e = inr e
 
@@ -80,5 +80,5 @@ played config hands events told table state is made tells = record {
       (subst (λ (s : State). TellsEnd (play s events) told) made tells);
 }
 
-pub played_none : (config : Config) (hands : ℕ) (events : List Event) (told : Result State Stop) → told ≡ Err NoMemory → IsPlayed config hands events told
+pub played_none : (config : Config) (hands : ℕ) (events : List Event) (told : Result State Stop) → told ≡ Err (NoMemory tt) → IsPlayed config hands events told
 played_none config hands events told e = record { exact = λ other too. tells_memory (play (new_state other config.stripes hands 0) events) told e }

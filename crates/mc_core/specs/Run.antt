@@ -87,8 +87,8 @@ play state events = play_from 0 state events
 
 -- what the events answer from the beginning: a state, or the place of the first event that isn't allowed; or memory ran out
 abbrev pub TellsEnd : Result State ℕ → Result State Stop → Type 0
-TellsEnd (Ok state) told = (told ≡ Ok state) ⊎ (told ≡ Err NoMemory)
-TellsEnd (Err place) told = (told ≡ Err (NotAllowed place)) ⊎ (told ≡ Err NoMemory)
+TellsEnd (Ok state) told = (told ≡ Ok state) ⊎ (told ≡ Err (NoMemory tt))
+TellsEnd (Err place) told = (told ≡ Err (NotAllowed place)) ⊎ (told ≡ Err (NoMemory tt))
 
 -- the events were played with the table of this configuration, from the beginning
 pub record IsPlayed (config : Config) (hands : ℕ) (events : List Event) (told : Result State Stop) : Type 0 where

@@ -6,8 +6,9 @@ ghost use Rattle.mc_core.specs.Evictions.{as_rescue};
 
 use crate::series::Series;
 use crate::words;
+use mc_memory::Refused;
 use mc_pages::ChunkId;
-use std::alloc::{AllocError, Global};
+use std::alloc::Global;
 
 /// One holding of a chunk, by one hand.
 #[derive(Drop)]
@@ -76,7 +77,7 @@ impl Holding {
     }
 
     /// The item was linked: the hand refers to it.
-    pub(crate) fn as_reference(&self, alloc: Global) -> Result<Holding, AllocError>
+    pub(crate) fn as_reference(&self, alloc: Global) -> Result<Holding, Refused>
         requires fresh { is_fresh self.now ≡ true }
         requires complete { is_complete (words_of self.now) ≡ true }
         ensures { IfOk result (λ holding. holding ≡ as_reference self.now) }
@@ -104,7 +105,7 @@ impl Holding {
     }
 
     /// The item of this chunk was condemned: if the holding is to be a copy of it, it is to have these words, and no others.
-    fn bind(&mut self, alloc: Global, old: ChunkId, item: &[u64]) -> Result<(), AllocError>
+    fn bind(&mut self, alloc: Global, old: ChunkId, item: &[u64]) -> Result<(), Refused>
         ensures { OnOk result (self.new ≡ (if is_copy_of old self.old then as_rescue old item.now self.old else self.old)) }
     {
         if self.is_copy_of(old) {
@@ -132,7 +133,7 @@ pub(crate) fn bind_copies(
     holdings: &mut Series<Holding>,
     chunk: ChunkId,
     item: &[u64],
-) -> Result<(), AllocError>
+) -> Result<(), Refused>
     ensures { OnOk result (holdings.new ≡ change_each (is_copy_of chunk) (as_rescue chunk item.now) holdings.old) }
 {
     for holding in holdings.items.iter_mut() {

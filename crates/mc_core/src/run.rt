@@ -6,7 +6,7 @@ ghost use Rattle.mc_core.specs.Run.{play, TellsEnd, IsPlayed};
 use crate::event::Event;
 use crate::state::State;
 use crate::stop::Stop;
-use mc_classes::{ClassTable, Config};
+use mc_classes::{ClassTable, Config, ConfigError};
 use std::alloc::Global;
 
 /// Plays the events, one after another, on an arena in which nothing was granted yet.
@@ -15,8 +15,10 @@ pub fn replay(alloc: Global, config: &Config, hands: u64, events: &[Event]) -> R
     requires hands { (1 ≤ hands) × (hands ≤ 64) }
     ensures { IsPlayed config.now hands events.now result }
 {
-    let Ok(table) = ClassTable::build(alloc, config) else {
-        return Err(Stop::NoMemory);
+    let table = match ClassTable::build(alloc, config) {
+        Ok(table) => table,
+        Err(ConfigError::NoMemory(refused)) => return Err(Stop::NoMemory(refused)),
+        Err(_) => unreachable!(),
     };
     let state = State::new(alloc, table, config.stripes, hands, 0)?;
     play_all(state, events)

@@ -2,7 +2,8 @@
 ghost use Rattle.std.specs.Prelude.{◌≡◌, ◌<◌, [], ◌∷◌, ◌++◌, length, slice_index_or, slice_set, IfOk, OnOk, OnErr};
 ghost use Rattle.std.specs.List.{remove};
 
-use std::alloc::{AllocError, Global};
+use mc_memory::{Refused, from_slice, push};
+use std::alloc::Global;
 use std::marker::Model;
 
 /// Values, one after another. Two series of the same values are equal, whatever room they have.
@@ -39,22 +40,21 @@ impl<T> Series<T> {
 
 impl<T: Copy> Series<T> {
     /// The same values.
-    pub fn copy_of(alloc: Global, values: &[T]) -> Result<Series<T>, AllocError>
+    pub fn copy_of(alloc: Global, values: &[T]) -> Result<Series<T>, Refused>
         ensures { IfOk result (λ series. series ≡ values.now) }
     {
-        let items = Vec::from_slice(alloc, values)?;
+        let items = from_slice(alloc, values)?;
         Ok(Series { items })
     }
 }
 
 impl<T: Drop> Series<T> {
     /// One more value, behind the others.
-    pub fn push(&mut self, value: T) -> Result<(), AllocError>
+    pub fn push(&mut self, value: T) -> Result<(), Refused>
         ensures added { OnOk result (self.new ≡ self.old ++ value ∷ []) }
         ensures refused { OnErr result (self.new ≡ self.old) }
     {
-        self.items.push(value)?;
-        Ok(())
+        push(&mut self.items, value)
     }
 
     /// Takes a value out.

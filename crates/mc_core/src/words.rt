@@ -5,7 +5,8 @@ ghost use Rattle.mc_core.specs.Holdings.{word_in, numbers, item_in, fits, is_com
 ghost use Rattle.mc_core.specs.Items.{are_same};
 
 use crate::series::Series;
-use std::alloc::{AllocError, Global};
+use mc_memory::Refused;
+use std::alloc::Global;
 
 /// A word by its place, 0 where it isn't known.
 pub(crate) fn word_in(words: &[Option<u64>], place: usize) -> u64
@@ -69,7 +70,7 @@ pub(crate) fn are_same(words: &[Option<u64>], item: &[u64]) -> bool
 }
 
 /// The words as numbers, with 0 for each that isn't known.
-pub(crate) fn numbers_of(alloc: Global, words: &[Option<u64>]) -> Result<Series<u64>, AllocError>
+pub(crate) fn numbers_of(alloc: Global, words: &[Option<u64>]) -> Result<Series<u64>, Refused>
     ensures { IfOk result (λ found. found ≡ numbers words.now) }
 {
     let mut found = Series::new(alloc);

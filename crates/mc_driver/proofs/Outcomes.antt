@@ -60,22 +60,22 @@ outcome_known run table None front old new result is front_is outcome = tt
 outcome_known run table (Some bytes) front old new result is front_is outcome = outcome_all run table bytes front old new result is front_is outcome
 
 -- memory is no refusal
-not_first : (failed : Bool) (error : ConfigError) (rest : Option ConfigError) → number_of error < 9 → rest ≢ Some NoMemory
-    → cond failed (Some error) rest ≢ Some NoMemory
-not_first true error rest other later h = let same : error ≡ NoMemory = cc in let bad : number_of error ≡ 9 = ap number_of same in omega arith
+not_first : (failed : Bool) (error : ConfigError) (rest : Option ConfigError) → number_of error < 9 → rest ≢ Some (NoMemory tt)
+    → cond failed (Some error) rest ≢ Some (NoMemory tt)
+not_first true error rest other later h = let same : error ≡ NoMemory tt = cc in let bad : number_of error ≡ 9 = ap number_of same in omega arith
 not_first false error rest other later h = later h
 
-none_last : None ≢ Some NoMemory
+none_last : None ≢ Some (NoMemory tt)
 none_last h = cc
 
-pub no_memory_refusal : (config : Config) → refusal_of config ≢ Some NoMemory
+pub no_memory_refusal : (config : Config) → refusal_of config ≢ Some (NoMemory tt)
 no_memory_refusal config =
     not_first _ PageSize _ (omega arith) (not_first _ FirstSize _ (omega arith) (not_first _ Factor _ (omega arith)
     (not_first _ ChunkMax _ (omega arith) (not_first _ Limit _ (omega arith) (not_first _ Stripes _ (omega arith)
     (not_first _ TooManyChunks _ (omega arith) (not_first _ Bulk _ (omega arith) none_last)))))))
 
 -- any other refusal is told by its number
-pub told_by_number : (error : ConfigError) → error ≢ NoMemory → config_fault error ≡ Refused (number_of error)
+pub told_by_number : (error : ConfigError) → error ≢ NoMemory tt → config_fault error ≡ Refused (number_of error)
 told_by_number PageSize other = refl
 told_by_number FirstSize other = refl
 told_by_number Factor other = refl
@@ -84,7 +84,7 @@ told_by_number Limit other = refl
 told_by_number Stripes other = refl
 told_by_number TooManyChunks other = refl
 told_by_number Bulk other = refl
-told_by_number NoMemory other = absurd (other refl)
+told_by_number (NoMemory _) other = absurd (other refl)
 
 -- how a run ends where there is no table
 pub record Unbuilt (run : Run) (error : ConfigError) : Type 0 where
@@ -92,7 +92,7 @@ pub record Unbuilt (run : Run) (error : ConfigError) : Type 0 where
   pub tells : (number : ℕ) → refusal_number run.config ≡ Some number → config_fault error ≡ Refused number
   pub outcome : (all held : Option (List ℕ)) → IfSome all (λ bytes. IsOutcome run bytes held held (Err (config_fault error)))
 
-unbuilt_memory : (run : Run) → refusal_of run.config ≡ None → Unbuilt run NoMemory
+unbuilt_memory : (run : Run) → refusal_of run.config ≡ None → Unbuilt run (NoMemory tt)
 unbuilt_memory run none = record {
   told = λ number h. cc;
   tells = λ number h. let bad : None ≡ Some number = rw none at h in cc;
@@ -103,7 +103,7 @@ unbuilt_memory run none = record {
     known None held = tt
     known (Some bytes) held = inl (Keeps-refl held)
 
-pub unbuilt_refused : (run : Run) (error : ConfigError) → refusal_of run.config ≡ Some error → error ≢ NoMemory → Unbuilt run error
+pub unbuilt_refused : (run : Run) (error : ConfigError) → refusal_of run.config ≡ Some error → error ≢ NoMemory tt → Unbuilt run error
 unbuilt_refused run error is other = record {
   told = λ number h. let same : number_of error ≡ number = cc (told_by_number error other) in rw (is, same) refl;
   tells = λ number h. let same : Some (number_of error) ≡ Some number = rw is at h in cc (told_by_number error other);
@@ -114,12 +114,12 @@ unbuilt_refused run error is other = record {
     known None held = tt
     known (Some bytes) held = (rw is refl, Keeps-refl held)
 
-unbuilt_as : (run : Run) (error : ConfigError) (first : Option ConfigError) → refusal_of run.config ≡ first → error ≡ unwrap_or first NoMemory → Unbuilt run error
+unbuilt_as : (run : Run) (error : ConfigError) (first : Option ConfigError) → refusal_of run.config ≡ first → error ≡ unwrap_or first (NoMemory tt) → Unbuilt run error
 unbuilt_as run error None is told = rw told (unbuilt_memory run is)
 unbuilt_as run error (Some first) is told =
     rw told (unbuilt_refused run first is (λ memory. no_memory_refusal run.config (rw memory at is)))
 
-pub unbuilt : (run : Run) (error : ConfigError) → error ≡ unwrap_or (refusal_of run.config) NoMemory → Unbuilt run error
+pub unbuilt : (run : Run) (error : ConfigError) → error ≡ unwrap_or (refusal_of run.config) (NoMemory tt) → Unbuilt run error
 unbuilt run error told = unbuilt_as run error (refusal_of run.config) refl told
 
 -- the outcome over bytes is the run's over them
@@ -180,4 +180,4 @@ unbuilt_whole Ended held Limit = Keeps-refl held
 unbuilt_whole Ended held Stripes = Keeps-refl held
 unbuilt_whole Ended held TooManyChunks = Keeps-refl held
 unbuilt_whole Ended held Bulk = Keeps-refl held
-unbuilt_whole Ended held NoMemory = inl (Keeps-refl held)
+unbuilt_whole Ended held (NoMemory _) = inl (Keeps-refl held)

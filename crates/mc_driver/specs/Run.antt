@@ -28,7 +28,7 @@ refusal_number config = option_map number_of (refusal_of config)
 
 -- how a run ends without a class table
 abbrev pub config_fault : ConfigError → RunFault
-config_fault NoMemory = Memory
+config_fault (NoMemory _) = Memory
 config_fault refusal = Refused (number_of refusal)
 
 -- how a run ends without commands: the bytes are too many, or the lowest line that is no command is this

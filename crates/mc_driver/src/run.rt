@@ -90,7 +90,7 @@ pub(crate) fn fault_of(error: ConfigError) -> RunFault
     ensures { result ≡ config_fault error }
 {
     match error {
-        ConfigError::NoMemory => RunFault::Memory,
+        ConfigError::NoMemory(_) => RunFault::Memory,
         refusal => RunFault::Config(refusal.number()),
     }
 }
@@ -107,7 +107,7 @@ pub(crate) fn commands_of(alloc: Global, bytes: &[u8]) -> Result<Vec<Command>, R
     match mc_script::read(alloc, bytes) {
         Ok(commands) => Ok(commands),
         Err(ScriptError::Line(number)) => Err(RunFault::Script(number)),
-        Err(ScriptError::NoMemory) => Err(RunFault::Memory),
+        Err(ScriptError::NoMemory(_)) => Err(RunFault::Memory),
     }
 }
 

@@ -207,7 +207,7 @@ none_tells number class WornOut view slabs now left (inl worn) =
     evicts_none number view now (sees_tell worn.swept _ _ now worn.worn ∙ empty_keeps class view slabs worn.swept left worn.sweeps)
 none_tells number class WornOut view slabs now left (inr made) =
     evicts_before number view made.made now (comes_keep number class made.supply view slabs made.made left made.comes) (sees_tell made.made _ _ now made.worn)
-none_tells number class NoMemory view slabs now left lacks =
+none_tells number class (NoMemory _) view slabs now left lacks =
     evicts_none number view now (by lacks.lacks.0 ∙ sweeps_keep _ view slabs lacks.swept lacks.between lacks.finds.sweeps)
   where
     by : ((is_some (next_page lacks.between) ≡ true) × (now ≡ lacks.swept)) ⊎ ((next_page lacks.between ≡ None) × Rattle.mc_items.specs.Evicting.LacksEntry number (first_five lacks.between class) lacks.swept now) → own_of now ≡ own_of lacks.swept

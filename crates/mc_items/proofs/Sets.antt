@@ -20,7 +20,7 @@ pub refuses_so : (number key : ℕ) (words : List ℕ) (error : SetError) (class
 refuses_so number key words TooLarge class view now fits holds = absurd holds.does
 refuses_so number key words NoRoom class view now fits holds = record { class = class; fits = fits; none = holds }
 refuses_so number key words WornOut class view now fits holds = inr (record { class = class; fits = fits; none = holds })
-refuses_so number key words NoMemory class view now fits holds = inl (record { class = class; fits = fits; none = holds })
+refuses_so number key words (NoMemory _) class view now fits holds = inl (record { class = class; fits = fits; none = holds })
 
 -- who gave its chunk up said nothing and made no call
 pub dead_tells : (stripe : ℕ) (chunk : ChunkId) (view now : View) → LeavesDead stripe chunk view now → told_of now ≡ told_of view

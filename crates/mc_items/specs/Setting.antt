@@ -59,7 +59,7 @@ abbrev pub RefusesSet : ℕ → ℕ → List ℕ → SetError → View → View 
 RefusesSet number key words TooLarge view now = IsTooLarge words view now
 RefusesSet number key words NoRoom view now = FindsNoChunk number words NoRoom view now
 RefusesSet number key words WornOut view now = HasNoStamp words view now ⊎ FindsNoChunk number words WornOut view now
-RefusesSet number key words NoMemory view now = FindsNoChunk number words NoMemory view now ⊎ StoresNone number key words view now
+RefusesSet number key words (NoMemory _) view now = FindsNoChunk number words (NoMemory tt) view now ⊎ StoresNone number key words view now
 
 -- of the hand's own calls at most an eviction came, and then the set
 pub record TellsSet (number key stamp : ℕ) (view now : View) : Type 0 where

@@ -101,4 +101,4 @@ abbrev pub SuppliesNone : ℕ → ℕ → SetError → SlabsDoing
 SuppliesNone number class TooLarge view slabs now left = ⊥
 SuppliesNone number class NoRoom view slabs now left = FindsNoRoom number class view slabs now left
 SuppliesNone number class WornOut view slabs now left = FindsWornOut number class view slabs now left
-SuppliesNone number class NoMemory view slabs now left = LacksMemory number class view slabs now left
+SuppliesNone number class (NoMemory _) view slabs now left = LacksMemory number class view slabs now left

@@ -17,17 +17,18 @@ ghost use Rattle.mc_stripe.specs.StripeState as stripes;
 ghost use Rattle.mc_stripe.specs.declared.history.Call.TheVariants as call;
 
 use crate::refs::{Ref, look_at};
+use mc_memory::Refused;
 use mc_stripe::NoMemory;
 use mc_words::{Arena, Hand, StripeHeld};
 use std::sync::Wait;
 
 /// Why a get was refused. It wrote no entry into its stripe's history.
-#[derive(Clone, Copy, Debug, PartialEq, Eq)]
+#[derive(Debug, PartialEq, Eq, Drop)]
 pub enum GetError {
     /// The hand holds 255 chunks.
     TooManyRefs,
     /// The stripe got no room for one more call.
-    NoMemory,
+    NoMemory(Refused),
 }
 
 /// Gets a reference to the key's item, if it has one, and waits for the lock of its stripe. At 255 chunks of the hand it is refused
@@ -52,7 +53,7 @@ pub fn get<R: Wait>(
     ensures refused { OnErr result (TellsNoCall (view hand.old) (view hand.new)) }
     ensures many { (result ≡ Err GetError.TooManyRefs) ↔ (255 ≤ length (view hand.old).row.holdings) }
     ensures same { result ≡ Err GetError.TooManyRefs → view hand.new ≡ view hand.old }
-    ensures no_memory { result ≡ Err GetError.NoMemory → FindsNoRoomFor (setup_of arena.now) key hand.old hand.new }
+    ensures no_memory { result ≡ Err (GetError.NoMemory tt) → FindsNoRoomFor (setup_of arena.now) key hand.old hand.new }
     ensures holdings { IfOk result (λ found. HoldsToo found (view hand.old) (view hand.new)) }
     ensures no_more { OnErr result (HoldsTheSame (view hand.old) (view hand.new)) }
     ensures keeps { KeepsRefs (view hand.old) (view hand.new) }
@@ -65,17 +66,17 @@ pub fn get<R: Wait>(
     let held = arena.lock_stripe(rt, hand, stripe);
     match look_up(arena, hand, held, key) {
         Ok(found) => Ok(found),
-        Err(_) => Err(GetError::NoMemory),
+        Err(refused) => Err(GetError::NoMemory(refused)),
     }
 }
 
 /// Why a get that doesn't wait was refused. It wrote no entry into its stripe's history.
-#[derive(Clone, Copy, Debug, PartialEq, Eq)]
+#[derive(Debug, PartialEq, Eq, Drop)]
 pub enum TryGetError {
     /// The hand holds 255 chunks.
     TooManyRefs,
     /// The stripe got no room for one more call.
-    NoMemory,
+    NoMemory(Refused),
     /// Another hand has the lock of the key's stripe.
     Held,
 }
@@ -98,7 +99,7 @@ pub fn try_get(arena: &Arena, hand: &mut Hand, key: u64) -> Result<Option<Ref>, 
     ensures many { (result ≡ Err TryGetError.TooManyRefs) ↔ (255 ≤ length (view hand.old).row.holdings) }
     ensures same { result ≡ Err TryGetError.TooManyRefs → view hand.new ≡ view hand.old }
     ensures held { result ≡ Err TryGetError.Held → FindsStripeHeld (setup_of arena.now) key hand.old hand.new }
-    ensures no_memory { result ≡ Err TryGetError.NoMemory → FindsNoRoomFor (setup_of arena.now) key hand.old hand.new }
+    ensures no_memory { result ≡ Err (TryGetError.NoMemory tt) → FindsNoRoomFor (setup_of arena.now) key hand.old hand.new }
     ensures holdings { IfOk result (λ found. HoldsToo found (view hand.old) (view hand.new)) }
     ensures no_more { OnErr result (HoldsTheSame (view hand.old) (view hand.new)) }
     ensures keeps { KeepsRefs (view hand.old) (view hand.new) }
@@ -113,7 +114,7 @@ pub fn try_get(arena: &Arena, hand: &mut Hand, key: u64) -> Result<Option<Ref>, 
     };
     match look_up(arena, hand, held, key) {
         Ok(found) => Ok(found),
-        Err(_) => Err(TryGetError::NoMemory),
+        Err(refused) => Err(TryGetError::NoMemory(refused)),
     }
 }
 

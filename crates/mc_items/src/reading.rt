@@ -13,16 +13,12 @@ ghost use Rattle.mc_items.specs.Storing.{item_with};
 ghost use Rattle.mc_core.specs.declared.event.Step.TheVariants as step;
 
 use crate::refs::Ref;
+use mc_memory::{Refused, with_capacity};
 use mc_words::{Arena, Hand};
-use std::alloc::{AllocError, Global};
+use std::alloc::Global;
 
 /// The item's words. It takes no lock, and the reference stays. At want of memory all is as before.
-pub fn read(
-    alloc: Global,
-    arena: &Arena,
-    hand: &mut Hand,
-    item: &Ref,
-) -> Result<Vec<u64>, AllocError>
+pub fn read(alloc: Global, arena: &Arena, hand: &mut Hand, item: &Ref) -> Result<Vec<u64>, Refused>
     requires arena { IsHandOf arena.now hand.old }
     requires ready { IsReady (view hand.old) }
     requires item { IsItemRef (view hand.old) item.now }
@@ -39,7 +35,7 @@ pub fn read(
     ensures keeps { KeepsRefs (view hand.old) (view hand.new) }
     ensures unsaid { SaysNothing (view hand.old) (view hand.new) }
 {
-    let mut words = Vec::with_capacity(alloc, item.len as usize)?;
+    let mut words = with_capacity(alloc, item.len as usize)?;
     for place in 0..item.len {
         words.push_reserved(arena.word(hand, &item.reference, 3 + place));
     }

@@ -18,12 +18,13 @@ ghost use Rattle.mc_items.specs.Storing.{IsOwnItem, item_with};
 use crate::storing::store_words;
 use crate::supplying::supply_chunk;
 use mc_classes::ClassId;
+use mc_memory::Refused;
 use mc_stripe::Stamp;
 use mc_words::{Arena, Fresh, Hand};
 use std::sync::Wait;
 
 /// Why a set was refused. The key's item is as before, unless it was the one that was evicted, and no stamp is used up.
-#[derive(Clone, Copy, Debug, PartialEq, Eq)]
+#[derive(Debug, PartialEq, Eq, Drop)]
 pub enum SetError {
     /// No class has chunks of that size.
     TooLarge,
@@ -32,7 +33,7 @@ pub enum SetError {
     /// The first free chunk has the greatest issue number, or the hand has no stamp left.
     WornOut,
     /// A page's room or the room for a call on the key was refused; the chunk that was got for the item may be dead.
-    NoMemory,
+    NoMemory(Refused),
 }
 
 /// Stores an item of these words under the key, in place of the one that it had, and says its stamp. Its chunk is a free one of the
@@ -74,7 +75,7 @@ pub fn set<R: Wait>(
     };
     match store_words(rt, arena, hand, fresh, key, stamp, words) {
         Ok(()) => Ok(stamp),
-        Err(_) => Err(SetError::NoMemory),
+        Err(refused) => Err(SetError::NoMemory(refused)),
     }
 }
 

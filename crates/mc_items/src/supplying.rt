@@ -83,7 +83,7 @@ pub(crate) fn grow_for(
             Ok(true)
         }
         Err(Grow::NoRoom) => Ok(false),
-        Err(Grow::NoMemory) => Err(NoMemory),
+        Err(Grow::NoMemory(refused)) => Err(refused),
     }
 }
 
@@ -169,7 +169,7 @@ pub(crate) fn supply_chunk(
     let supply = match make_free(arena, hand, held, class) {
         Ok(Some(supply)) => supply,
         Ok(None) => return Err(SetError::NoRoom),
-        Err(_) => return Err(SetError::NoMemory),
+        Err(refused) => return Err(SetError::NoMemory(refused)),
     };
     match arena.pop(hand, held, class) {
         Ok(Some(fresh)) => {

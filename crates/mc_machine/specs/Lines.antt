@@ -104,7 +104,7 @@ name_of Busy = codes "BUSY"
 name_of Same = codes "SAME"
 name_of BadClass = codes "BADCLASS"
 name_of NoSpare = codes "NOSPARE"
-name_of NoMemory = []
+name_of (NoMemory _) = []
 
 -- what is answered to whoever wants a page moved
 abbrev pub answer_name : Result ℕ Reassign → List ℕ

@@ -1,5 +1,5 @@
 -- A linked chunk that the mover comes to: the whole, from the parts of the call; and that what was cleared has left its class's lists.
-use Rattle.std.proofs.Common.{◌≡◌, ◌≢◌, ◌⊎◌, ℕ, ◌%◌, ◌==◌, ◌&&◌, Bool, true, false, not, if◌then◌else◌, List, [], ◌∷◌, ◌++◌, Option, Some, None, Result, Ok, Err, IsOk, OnOk, refl, sym, ap, subst, ◌∙◌, inl, inr}
+use Rattle.std.proofs.Common.{◌≡◌, ◌≢◌, ◌⊎◌, ℕ, ◌%◌, ◌==◌, ◌&&◌, Bool, true, false, if◌then◌else◌, List, [], ◌∷◌, ◌++◌, Option, Some, None, Result, Ok, Err, IsOk, OnOk, refl, sym, ap, subst, ◌∙◌, inl, inr}
 use Rattle.std.specs.List.{fold}
 use Rattle.std.specs.Option.{option_map}
 use Rattle.std.proofs.lemmas.Bool.{or_right}
@@ -74,7 +74,7 @@ abbrev pub same_found : Found → Found → Bool
 same_found a b = denote.Enum.Bare.sameb Rattle.mc_pages.specs.contracts.moves.Found.the_type a b
 
 -- what is saved was rescued or evicted, unless it holds up the move
-pub saved_found : (number class : ℕ) (chunk : ChunkId) (found : Found) (stripe : ℕ) (value : ReadyStripe) (view : View) (slabs : SlabState) (now : View) (left : SlabState) → SavesAs number class chunk found stripe value view slabs now left → not (same_found found Busy) ≡ true → is_held_up found ≡ false
+pub saved_found : (number class : ℕ) (chunk : ChunkId) (found : Found) (stripe : ℕ) (value : ReadyStripe) (view : View) (slabs : SlabState) (now : View) (left : SlabState) → SavesAs number class chunk found stripe value view slabs now left → same_found found Busy ≡ false → is_held_up found ≡ false
 saved_found number class chunk Rescued stripe value view slabs now left saves other = refl
 saved_found number class chunk Evicted stripe value view slabs now left saves other = refl
 saved_found number class chunk Busy stripe value view slabs now left saves other = absurd (cc)
@@ -83,7 +83,7 @@ saved_found number class chunk Locked stripe value view slabs now left saves oth
 saved_found number class chunk Already stripe value view slabs now left saves other = absurd saves
 
 -- and it holds up the move where it was neither
-pub held_found : (number class : ℕ) (chunk : ChunkId) (found : Found) (stripe : ℕ) (value : ReadyStripe) (view : View) (slabs : SlabState) (now : View) (left : SlabState) → SavesAs number class chunk found stripe value view slabs now left → not (same_found found Busy) ≡ false → found ≡ Busy
+pub held_found : (number class : ℕ) (chunk : ChunkId) (found : Found) (stripe : ℕ) (value : ReadyStripe) (view : View) (slabs : SlabState) (now : View) (left : SlabState) → SavesAs number class chunk found stripe value view slabs now left → same_found found Busy ≡ true → found ≡ Busy
 held_found number class chunk Rescued stripe value view slabs now left saves same = absurd (cc)
 held_found number class chunk Evicted stripe value view slabs now left saves same = absurd (cc)
 held_found number class chunk Busy stripe value view slabs now left saves same = refl

@@ -2,6 +2,7 @@
 ghost use Rattle.std.specs.Prelude.{◌≡◌, ◌^◌};
 ghost use Rattle.mc_mover.specs.Turning.{AreBelow, counted, no_counts};
 
+use mc_memory::Refused;
 use mc_pages::Found;
 
 /// How many chunks a turn found of each kind. What was cleared before isn't counted.
@@ -67,11 +68,11 @@ pub enum Turn {
 }
 
 /// Why a turn that waits for nobody wasn't done, or not to its end.
-#[derive(Clone, Copy, Debug, PartialEq, Eq)]
+#[derive(Debug, PartialEq, Eq, Drop)]
 pub enum TryTurn {
     /// Another hand has the lock of the slabs.
     Held,
     /// The room for a call on a key was refused. The chunk at hand is as before, and the move's position is there; what was done for chunks
     /// before it stands, and dead chunks may have been put back.
-    NoMemory,
+    NoMemory(Refused),
 }

@@ -67,9 +67,10 @@ pub(crate) fn visit_linked(
         return Ok(Found::Busy);
     }
     let found = save(arena, hand, held, stripe, class, chunk)?;
-    if found != Found::Busy {
-        let _ = arena.clear(hand, held, chunk);
+    if found == Found::Busy {
+        return Ok(found);
     }
+    let _ = arena.clear(hand, held, chunk);
     Ok(found)
 }
 

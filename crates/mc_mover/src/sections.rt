@@ -78,10 +78,10 @@ pub(crate) fn sections(
     let mut counts = Counts::new();
     for _ in 0..arena.config().bulk {
         let Some(moving) = held.moving() else {
-            break;
+            return Ok(counts);
         };
         if moving.at >= held.slabs().per_page(moving.src) {
-            break;
+            return Ok(counts);
         }
         let found = section(arena, hand, held, moving)?;
         counts.count(found);

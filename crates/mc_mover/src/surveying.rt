@@ -10,6 +10,7 @@ ghost use Rattle.mc_mover.specs.Acting.{Acts, ActsOnce, HasSlabs};
 ghost use Rattle.mc_mover.specs.Surveying.{IsSurvey, Surveys, SweepsClasses, classes_swept};
 
 use crate::numbers::Survey;
+use mc_memory::with_capacity;
 use mc_pages::{Numbers, Slabs};
 use mc_stripe::NoMemory;
 use mc_words::{Arena, Hand, SlabsHeld};
@@ -39,9 +40,7 @@ pub fn survey<R: Wait>(
     ensures unsaid { (view hand.new).row.knows.said ≡ (view hand.old).row.knows.said }
 {
     let count = arena.classes().count();
-    let Ok(room) = Vec::with_capacity(alloc, count as usize) else {
-        return Err(NoMemory);
-    };
+    let room = with_capacity(alloc, count as usize)?;
     let mut held = arena.lock_slabs(rt, hand);
     sweep_classes(arena, hand, &mut held, sweep);
     let numbers = read_slabs(held.slabs(), count, room);

@@ -59,10 +59,10 @@ pub fn try_turn(arena: &Arena, hand: &mut Hand) -> Result<Turn, TryTurn>
     ensures number { number_of hand.new ≡ number_of hand.old }
     ensures turns { IfOk result (λ turn. ActsOnce (λ number. Turns number turn) hand.old hand.new) }
     ensures held { result ≡ Err TryTurn.Held → FindsSlabsHeld hand.old hand.new }
-    ensures lacks { result ≡ Err TryTurn.NoMemory → ActsOnce LacksMemory hand.old hand.new }
+    ensures lacks { result ≡ Err (TryTurn.NoMemory tt) → ActsOnce LacksMemory hand.old hand.new }
     ensures answers { IfOk result (AnswersMove (view hand.new)) }
     ensures told { IfOk result (TellsTurn hand.old hand.new) }
-    ensures told_before { result ≡ Err TryTurn.NoMemory → TellsUntilStopped hand.old hand.new }
+    ensures told_before { result ≡ Err (TryTurn.NoMemory tt) → TellsUntilStopped hand.old hand.new }
     ensures holdings { (view hand.new).row.holdings ≡ (view hand.old).row.holdings }
     ensures keeps { KeepsRefs (view hand.old) (view hand.new) }
     ensures unsaid { (view hand.new).row.knows.said ≡ (view hand.old).row.knows.said }
@@ -74,7 +74,7 @@ pub fn try_turn(arena: &Arena, hand: &mut Hand) -> Result<Turn, TryTurn>
     arena.give_slabs(hand, held);
     match answer {
         Ok(turn) => Ok(turn),
-        Err(_) => Err(TryTurn::NoMemory),
+        Err(refused) => Err(TryTurn::NoMemory(refused)),
     }
 }
 

@@ -24,6 +24,6 @@ fn assert_same<T: Copy + PartialEq + Debug>(rt: &impl Abort, found: T, wanted: T
 }
 
 /// The same, of what can't be printed.
-fn assert_equal<T: Copy + PartialEq>(rt: &impl Abort, found: T, wanted: T, what: &str) {
+fn assert_equal<T: PartialEq + Drop>(rt: &impl Abort, found: T, wanted: T, what: &str) {
     assert!(rt; found == wanted, "{what}");
 }

@@ -51,7 +51,7 @@ answer_of slabs src dst = answer_if slabs src dst slabs.moving
 -- memory may run out only where the answer would be OK
 abbrev pub MayAnswer : Result ℕ Reassign → Result (Unit {0}) Reassign → Type 0
 MayAnswer (Err refusal) result = result ≡ Err refusal
-MayAnswer (Ok source) result = (result ≡ Ok tt) ⊎ (result ≡ Err NoMemory)
+MayAnswer (Ok source) result = (result ≡ Ok tt) ⊎ (result ≡ Err (NoMemory tt))
 
 -- the cursor stops at a class that was picked, and stays for one that was named
 abbrev pub cursor_after : SlabState → Option ℕ → ℕ → ℕ

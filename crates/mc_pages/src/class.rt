@@ -4,7 +4,8 @@ ghost use Rattle.mc_pages.specs.ClassState.{new_class, evicted, with_page, witho
 ghost use Rattle.mc_pages.specs.Room.{in_state};
 
 use mc_classes::PageId;
-use std::alloc::{AllocError, Global};
+use mc_memory::{Refused, reserve};
+use std::alloc::Global;
 use std::marker::Model;
 
 /// A size class without its lists. The page list has room for `room` pages.
@@ -65,7 +66,7 @@ impl SlabClass {
     }
 
     /// Makes room for so many pages.
-    pub(crate) fn make_room(&mut self, pages: usize) -> Result<(), AllocError>
+    pub(crate) fn make_room(&mut self, pages: usize) -> Result<(), Refused>
         requires { pages ≤ 128 }
         ensures state { self.new.state ≡ self.old.state }
         ensures kept { self.old.room ≤ self.new.room }
@@ -74,7 +75,8 @@ impl SlabClass {
         if pages <= self.room {
             return Ok(());
         }
-        self.pages.reserve(pages.saturating_sub(self.pages.len()))?;
+        let more = pages.saturating_sub(self.pages.len());
+        reserve(&mut self.pages, more)?;
         self.room = pages;
         Ok(())
     }

@@ -1,5 +1,5 @@
 //! What a move of a page is asked and told.
-use std::alloc::AllocError;
+use mc_memory::Refused;
 
 /// What the mover found at a chunk of the moving page, and did.
 #[derive(Clone, Copy, PartialEq, Eq)]
@@ -54,7 +54,7 @@ impl Found {
 }
 
 /// Why no page begins to move.
-#[derive(Clone, Copy, PartialEq, Eq)]
+#[derive(PartialEq, Eq, Drop)]
 pub enum Reassign {
     /// A page is moving already.
     Busy,
@@ -65,16 +65,16 @@ pub enum Reassign {
     /// The source has fewer than two pages.
     NoSpare,
     /// Memory ran out.
-    NoMemory,
+    NoMemory(Refused),
 }
 
-impl From<AllocError> for Reassign {
+impl From<Refused> for Reassign {
     ghost use Rattle.std.specs.Prelude.{◌≡◌};
     ghost use Rattle.mc_pages.specs.declared.moves.Reassign.TheVariants.{NoMemory};
 
-    ghost from_gives = { λ _ e. e ≡ NoMemory };
+    ghost from_gives = { λ refused error. error ≡ NoMemory refused };
 
-    fn from(_e: AllocError) -> Reassign {
-        Reassign::NoMemory
+    fn from(refused: Refused) -> Reassign {
+        Reassign::NoMemory(refused)
     }
 }

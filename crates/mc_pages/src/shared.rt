@@ -5,6 +5,7 @@ ghost use Rattle.mc_pages.specs.contracts.shared.SharedSlabs.{the_row as shared_
 ghost use Rattle.mc_pages.specs.contracts.slabs.Slabs.{the_row as slabs_row};
 
 use crate::slabs::{NoMemory, Slabs};
+use mc_memory::boxed;
 use std::alloc::Global;
 use std::marker::Model;
 
@@ -28,7 +29,7 @@ impl SharedSlabs {
     pub fn new(alloc: Global, slabs: Slabs) -> Result<SharedSlabs, NoMemory>
         ensures boxed { IfOk result (λ shared. shared ≡ slabs.state) }
     {
-        let slabs = Box::new(alloc, slabs).map_err(|_| NoMemory)?;
+        let slabs = boxed(alloc, slabs)?;
         Ok(SharedSlabs { slabs })
     }
 

@@ -21,19 +21,13 @@ use crate::ledger::{Entry, Owner};
 use crate::numbers::{Numbers, Totals};
 use crate::rows::{ListName, Rows};
 use mc_classes::{ClassId, ClassTable, PageId};
+use mc_memory::{Refused, filled, push, with_capacity};
 pub use pages::Grow;
-use std::alloc::{AllocError, Global};
+use std::alloc::Global;
 use std::marker::Model;
 
 /// Memory ran out.
-#[derive(Clone, Copy, Debug, PartialEq, Eq)]
-pub struct NoMemory;
-
-impl From<AllocError> for NoMemory {
-    fn from(_e: AllocError) -> NoMemory {
-        NoMemory
-    }
-}
+pub type NoMemory = Refused;
 
 /// Pages, free lists, hand-out orders, the pool, the ledger, and the page that is on the move.
 ///
@@ -81,7 +75,7 @@ impl Slabs {
         ensures accounted { IfOk result (λ slabs. IsAccounted slabs.state) }
     {
         let classes = classes_of(alloc, table)?;
-        let owners = vec![in alloc; Owner::Untouched; table.pages() as usize]?;
+        let owners = filled(alloc, Owner::Untouched, table.pages() as usize)?;
         let rows = rows_of(alloc, table)?;
         Ok(Slabs {
             page: table.page(),
@@ -202,20 +196,23 @@ impl Slabs {
 }
 
 /// The classes of the table, without pages.
-fn classes_of(alloc: Global, table: &ClassTable) -> Result<Vec<SlabClass>, AllocError>
+fn classes_of(alloc: Global, table: &ClassTable) -> Result<Vec<SlabClass>, Refused>
     ensures { IfOk result (λ classes. classes.items ≡ roomless (fresh_slabs table.now).classes) }
 {
-    let mut classes = Vec::with_capacity(alloc, table.count() as usize)?;
+    let mut classes = with_capacity(alloc, table.count() as usize)?;
     for place in 0..table.count() {
         let class = place + 1;
-        classes.push(SlabClass::new(alloc, table.size(class), table.per_page(class)))?;
+        push(
+            &mut classes,
+            SlabClass::new(alloc, table.size(class), table.per_page(class)),
+        )?;
     }
     Ok(classes)
 }
 
 /// Rows for all chunks of the table's pages, and empty lists for its classes. No class has more chunks a page than
 /// the first.
-fn rows_of(alloc: Global, table: &ClassTable) -> Result<Rows, AllocError>
+fn rows_of(alloc: Global, table: &ClassTable) -> Result<Rows, Refused>
     ensures { IfOk result (λ rows. rows ≡ fresh_rows (per_page_of table.now 1) (pages_of table.now * per_page_of table.now 1) (length table.now.sizes)) }
 {
     let classes = table.count() as usize;

@@ -3,12 +3,13 @@ ghost use Rattle.std.specs.Prelude.{◌≡◌};
 ghost use Rattle.mc_replay.specs.Status.{fault_at, status_of};
 
 use mc_classes::ConfigError;
+use mc_memory::Refused;
 use std::alloc::AllocError;
 use std::error::Error;
 use std::fmt;
 
 /// Why a line can't be taken.
-#[derive(Clone, Copy, Debug, PartialEq, Eq)]
+#[derive(Debug, PartialEq, Eq, Drop)]
 pub enum Refusal {
     /// It is none of those that may stand there.
     Form,
@@ -21,7 +22,7 @@ pub enum Refusal {
 }
 
 /// Why a run was not done.
-#[derive(Clone, Copy, Debug, PartialEq, Eq)]
+#[derive(Debug, PartialEq, Eq, Drop)]
 pub enum RunFault {
     /// The line of this number, from 1, is none of those that may stand there.
     Line(u64),
@@ -58,6 +59,17 @@ impl From<AllocError> for Refusal {
     ghost from_gives = { λ _ refusal. refusal ≡ Memory };
 
     fn from(_error: AllocError) -> Refusal {
+        Refusal::Memory
+    }
+}
+
+impl From<Refused> for Refusal {
+    ghost use Rattle.std.specs.Prelude.{◌≡◌};
+    ghost use Rattle.mc_replay.specs.declared.fault.Refusal.TheVariants.{Memory};
+
+    ghost from_gives = { λ _ refusal. refusal ≡ Memory };
+
+    fn from(_refused: Refused) -> Refusal {
         Refusal::Memory
     }
 }

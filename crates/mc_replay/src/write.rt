@@ -33,7 +33,7 @@ pub fn answer(alloc: Global, list: &List) -> Result<String, AllocError>
     match replay(alloc, &list.config, list.hands, list.events.as_slice()) {
         Ok(state) => played(alloc, &state, list.config.stripes),
         Err(Stop::NotAllowed(place)) => format!(in alloc; "answer NotAllowed {place}\nend\n"),
-        Err(Stop::NoMemory) => Err(AllocError),
+        Err(Stop::NoMemory(_)) => Err(AllocError),
     }
 }
 

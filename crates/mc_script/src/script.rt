@@ -10,7 +10,8 @@ use crate::forms::command;
 use crate::line::is_skipped;
 use crate::lines::Lines;
 use crate::parts::first_words;
-use std::alloc::{AllocError, AllocFailed, Global};
+use mc_memory::{Refused, push};
+use std::alloc::Global;
 use std::error::Error;
 use std::fmt;
 
@@ -18,44 +19,33 @@ use std::fmt;
 pub const MAX_SCRIPT: usize = 1_048_576;
 
 /// Why a script gives no commands.
-#[derive(Clone, Copy, Debug, PartialEq, Eq)]
+#[derive(Debug, PartialEq, Eq, Drop)]
 pub enum ScriptError {
     /// The lowest line that is no command. Lines are numbered from 1, skipped ones too.
     Line(u64),
     /// Memory ran out.
-    NoMemory,
+    NoMemory(Refused),
 }
 
 impl fmt::Display for ScriptError {
     fn fmt<W: fmt::Write>(&self, f: &mut fmt::Formatter<W>) -> fmt::Result {
         match self {
             ScriptError::Line(number) => write!(f, "line {number} is no command"),
-            ScriptError::NoMemory => f.write_str("out of memory"),
+            ScriptError::NoMemory(_) => f.write_str("out of memory"),
         }
     }
 }
 
 impl Error for ScriptError {}
 
-impl From<AllocError> for ScriptError {
+impl From<Refused> for ScriptError {
     ghost use Rattle.std.specs.Prelude.{◌≡◌};
     ghost use Rattle.mc_script.specs.declared.script.ScriptError.TheVariants.{NoMemory};
 
-    ghost from_gives = { λ _ error. error ≡ NoMemory };
+    ghost from_gives = { λ refused error. error ≡ NoMemory refused };
 
-    fn from(_error: AllocError) -> ScriptError {
-        ScriptError::NoMemory
-    }
-}
-
-impl<T: Drop> From<AllocFailed<T>> for ScriptError {
-    ghost use Rattle.std.specs.Prelude.{◌≡◌};
-    ghost use Rattle.mc_script.specs.declared.script.ScriptError.TheVariants.{NoMemory};
-
-    ghost from_gives = { λ _ error. error ≡ NoMemory };
-
-    fn from(_error: AllocFailed<T>) -> ScriptError {
-        ScriptError::NoMemory
+    fn from(refused: Refused) -> ScriptError {
+        ScriptError::NoMemory(refused)
     }
 }
 
@@ -75,7 +65,7 @@ pub fn read(alloc: Global, bytes: &[u8]) -> Result<Vec<Command>, ScriptError>
             continue;
         }
         match command_on(line) {
-            Some(command) => commands.push(command)?,
+            Some(command) => push(&mut commands, command)?,
             None => return Err(ScriptError::Line(number)),
         }
     }

@@ -5,8 +5,8 @@ ghost use Rattle.std.specs.Option.{option_map};
 ghost use Rattle.mc_stripe.specs.Entries.{by_key, entry_at, with_entry, without_entry};
 
 use crate::history::{Key, Stamp};
+use mc_memory::{Refused, reserve_entries};
 use mc_pages::ChunkId;
-use std::alloc::AllocError;
 use std::collections::HashMap;
 
 /// Where the items of some keys are, and under which stamps they were stored.
@@ -27,13 +27,13 @@ pub(crate) fn stamp_in(index: &Index, key: Key) -> Option<Stamp>
 }
 
 /// Makes room for one more key.
-pub(crate) fn reserve_one(index: &mut Index) -> Result<(), AllocError>
+pub(crate) fn reserve_one(index: &mut Index) -> Result<(), Refused>
     ensures entries { by_key index.new.entries ≡ by_key index.old.entries }
     ensures room { OnOk result (0 < spare index.new) }
     ensures kept { spare index.old ≤ spare index.new }
     ensures succeeds { 0 < spare index.old → IsOk result }
 {
-    index.reserve(1)
+    reserve_entries(index, 1)
 }
 
 /// The key leads to this place now. There is room for it.

@@ -10,6 +10,7 @@ use crate::history::{Call, HandId, Key, Stamp};
 use crate::index::Index;
 use crate::refusal::NoMemory;
 use crate::{history, index};
+use mc_memory::reserve;
 use mc_pages::ChunkId;
 use std::alloc::Global;
 use std::collections::HashMap;
@@ -62,7 +63,7 @@ impl Stripe {
         ensures legal { IsLegal self.new.state }
     {
         index::reserve_one(&mut self.index)?;
-        self.history.reserve(1)?;
+        reserve(&mut self.history, 1)?;
         self.ready = true;
         Ok(())
     }

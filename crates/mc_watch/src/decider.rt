@@ -8,7 +8,8 @@ use crate::fed::Fed;
 use crate::refusal::{Feed, NoMemory};
 use crate::watched::{Watched, has_fallen, leader, note_all, quiet_class, spare_class};
 use mc_classes::{ClassId, ClassTable};
-use std::alloc::{AllocError, Global};
+use mc_memory::{Refused, push, with_capacity};
+use std::alloc::Global;
 use std::marker::Model;
 
 /// A page is to go from one class to another.
@@ -115,12 +116,12 @@ impl Decider {
 }
 
 /// The classes of the table, before any window.
-fn classes_of(alloc: Global, table: &ClassTable) -> Result<Vec<Watched>, AllocError>
+fn classes_of(alloc: Global, table: &ClassTable) -> Result<Vec<Watched>, Refused>
     ensures { IfOk result (λ classes. classes.items ≡ map (λ size. fresh_class (table.now.page / size)) table.now.sizes) }
 {
-    let mut classes = Vec::with_capacity(alloc, table.count() as usize)?;
+    let mut classes = with_capacity(alloc, table.count() as usize)?;
     for place in 0..table.count() {
-        classes.push(Watched::new(table.per_page(place + 1)))?;
+        push(&mut classes, Watched::new(table.per_page(place + 1)))?;
     }
     Ok(classes)
 }

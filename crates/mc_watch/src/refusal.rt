@@ -1,26 +1,11 @@
 //! Why a decider can't be made or fed.
 
-use std::alloc::AllocError;
+use mc_memory::Refused;
 use std::error::Error;
 use std::fmt;
 
 /// Memory ran out.
-#[derive(Clone, Copy, Debug, PartialEq, Eq)]
-pub struct NoMemory;
-
-impl From<AllocError> for NoMemory {
-    fn from(_e: AllocError) -> NoMemory {
-        NoMemory
-    }
-}
-
-impl fmt::Display for NoMemory {
-    fn fmt<W: fmt::Write>(&self, f: &mut fmt::Formatter<W>) -> fmt::Result {
-        f.write_str("out of memory")
-    }
-}
-
-impl Error for NoMemory {}
+pub type NoMemory = Refused;
 
 /// Why the numbers of a window aren't taken. The tests are made in this order (own).
 #[derive(Clone, Copy, Debug, PartialEq, Eq)]

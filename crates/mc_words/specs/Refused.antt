@@ -23,6 +23,6 @@ arena_refusal config hands start =
 -- 1 to 9 as for a configuration, then 10 and 11
 abbrev pub refusal_number : NewError → ℕ
 refusal_number (refused.Config error) = classes.number_of error
-refusal_number refused.NoMemory = 9
+refusal_number (refused.NoMemory _) = 9
 refusal_number refused.Hands = 10
 refusal_number refused.Issue = 11

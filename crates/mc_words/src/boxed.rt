@@ -4,8 +4,9 @@ ghost use Rattle.std.specs.Borrow.{Lends, sem};
 ghost use Rattle.mc_stripe.specs.contracts.stripe.Stripe.{the_row as stripe_row};
 ghost use Rattle.mc_words.specs.contracts.boxed.BoxedStripe.{the_row as boxed_row};
 
+use mc_memory::{Refused, boxed};
 use mc_stripe::Stripe;
-use std::alloc::{AllocError, Global};
+use std::alloc::Global;
 use std::marker::Model;
 
 /// A stripe that contracts see as the stripe itself. In a box it is one word to exchange, and so is what else lies in a slot.
@@ -24,10 +25,10 @@ impl Model for BoxedStripe {
 
 impl BoxedStripe {
     /// Puts the stripe into a box.
-    pub(crate) fn new(alloc: Global, stripe: Stripe) -> Result<BoxedStripe, AllocError>
+    pub(crate) fn new(alloc: Global, stripe: Stripe) -> Result<BoxedStripe, Refused>
         ensures boxed { IfOk result (λ boxed. boxed ≡ stripe) }
     {
-        let stripe = Box::new(alloc, stripe)?;
+        let stripe = boxed(alloc, stripe)?;
         Ok(BoxedStripe { stripe })
     }
 

@@ -16,8 +16,9 @@ use crate::plan::Plan;
 use crate::refusal::NewError;
 use crate::rule::HandView;
 use atomic_table::Split;
-use mc_classes::{ClassTable, Config};
-use std::alloc::{AllocError, Global};
+use mc_classes::{ClassTable, Config, ConfigError};
+use mc_memory::{Refused, insert, with_capacity};
+use std::alloc::Global;
 
 /// The greatest issue number.
 const MOST_ISSUE: u64 = 70_368_744_177_663;
@@ -40,7 +41,7 @@ impl Arena {
         ensures accepted { IfOk result (λ made. arena_refusal config.now hands 0 ≡ None) }
         ensures setup { IfOk result (λ made. IsMadeWith config.now hands 0 (setup_of made.0)) }
         ensures hands { IfOk result (λ made. AreNewHands made.0 made.1.items) }
-        ensures refused { IfErr result (λ error. error ≡ unwrap_or (arena_refusal config.now hands 0) refused.NoMemory) }
+        ensures refused { IfErr result (λ error. error ≡ unwrap_or (arena_refusal config.now hands 0) (refused.NoMemory tt)) }
     {
         Arena::from_issue(alloc, config, hands, 0)
     }
@@ -55,36 +56,34 @@ impl Arena {
         ensures accepted { IfOk result (λ made. arena_refusal config.now hands start ≡ None) }
         ensures setup { IfOk result (λ made. IsMadeWith config.now hands start (setup_of made.0)) }
         ensures hands { IfOk result (λ made. AreNewHands made.0 made.1.items) }
-        ensures refused { IfErr result (λ error. error ≡ unwrap_or (arena_refusal config.now hands start) refused.NoMemory) }
+        ensures refused { IfErr result (λ error. error ≡ unwrap_or (arena_refusal config.now hands start) (refused.NoMemory tt)) }
     {
         test(config, hands, start)?;
-        let Ok(classes) = ClassTable::build(alloc, config) else {
-            return Err(NewError::NoMemory);
+        let classes = match ClassTable::build(alloc, config) {
+            Ok(classes) => classes,
+            Err(ConfigError::NoMemory(refused)) => return Err(NewError::NoMemory(refused)),
+            Err(_) => unreachable!(),
         };
         let plan = Plan::new(*config, classes, hands, start);
-        let Ok((arena, first)) = Arena::open(alloc, plan) else {
-            return Err(NewError::NoMemory);
-        };
-        let Ok(all) = arena.all_hands(alloc, first) else {
-            return Err(NewError::NoMemory);
-        };
+        let (arena, first) = Arena::open(alloc, plan)?;
+        let all = arena.all_hands(alloc, first)?;
         Ok((arena, all))
     }
 
     // All hands of a new arena: the first one makes the others.
-    fn all_hands(&self, alloc: Global, first: Hand) -> Result<Vec<Hand>, AllocError>
+    fn all_hands(&self, alloc: Global, first: Hand) -> Result<Vec<Hand>, Refused>
         requires arena { IsHandOf self.now first }
         requires first { view first ≡ first_view (setup_of self.now) }
         ensures hands { IfOk result (λ hands. AreNewHands self.now hands.items) }
     {
         let mut first = first;
         let count = self.plan.hands();
-        let mut all = Vec::with_capacity(alloc, count as usize)?;
+        let mut all = with_capacity(alloc, count as usize)?;
         for number in 1..count {
             let hand = self.make(&mut first, number);
             all.push_reserved(hand);
         }
-        all.insert(0, first)?;
+        insert(&mut all, 0, first)?;
         Ok(all)
     }
 

@@ -14,10 +14,10 @@ use crate::header::ISSUE_UNIT;
 use crate::locks::Locks;
 use crate::plan::Plan;
 use crate::slot::Slot;
-use atomic_table::Table;
+use mc_memory::{Refused, extend_from_slice, push, resize, table};
 use mc_pages::{NoMemory, SharedSlabs, Slabs};
 use mc_stripe::Stripe;
-use std::alloc::{AllocError, Global};
+use std::alloc::Global;
 
 /// Where the groups of words begin.
 #[derive(Clone, Copy)]
@@ -29,14 +29,14 @@ pub(crate) struct Places {
 }
 
 // The words at first.
-fn words_of(alloc: Global, plan: &Plan, places: Places) -> Result<Vec<u64>, AllocError>
+fn words_of(alloc: Global, plan: &Plan, places: Places) -> Result<Vec<u64>, Refused>
     requires places { ArePlaces plan.now places }
     ensures words { IfOk result (λ words. words.items ≡ first_words plan.now) }
 {
     let mut words = Vec::new(alloc);
-    words.resize(places.heads, 0)?;
-    words.resize(places.data, plan.start() * ISSUE_UNIT)?;
-    words.resize(places.config, 0)?;
+    resize(&mut words, places.heads, 0)?;
+    resize(&mut words, places.data, plan.start() * ISSUE_UNIT)?;
+    resize(&mut words, places.config, 0)?;
     let config = plan.config();
     let numbers = [
         config.page,
@@ -48,25 +48,21 @@ fn words_of(alloc: Global, plan: &Plan, places: Places) -> Result<Vec<u64>, Allo
         config.stripes,
         config.bulk,
     ];
-    words.extend_from_slice(&numbers)?;
+    extend_from_slice(&mut words, &numbers)?;
     Ok(words)
 }
 
 // The values at home at first.
-fn slots_of(alloc: Global, plan: &Plan) -> Result<Vec<Slot>, AllocError>
+fn slots_of(alloc: Global, plan: &Plan) -> Result<Vec<Slot>, Refused>
     ensures slots { IfOk result (λ slots. slots.items ≡ first_slots plan.now) }
 {
-    let Ok(slabs) = Slabs::new(alloc, plan.classes()) else {
-        return Err(AllocError);
-    };
-    let Ok(shared) = SharedSlabs::new(alloc, slabs) else {
-        return Err(AllocError);
-    };
+    let slabs = Slabs::new(alloc, plan.classes())?;
+    let shared = SharedSlabs::new(alloc, slabs)?;
     let mut slots = Vec::new(alloc);
-    slots.push(Slot::OfSlabs(shared))?;
+    push(&mut slots, Slot::OfSlabs(shared))?;
     for _stripe in 0..plan.config().stripes {
         let stripe = BoxedStripe::new(alloc, Stripe::new(alloc))?;
-        slots.push(Slot::OfStripe(stripe))?;
+        push(&mut slots, Slot::OfStripe(stripe))?;
     }
     Ok(slots)
 }
@@ -105,9 +101,7 @@ impl Arena {
         let places = plan.places();
         let words = words_of(alloc, &plan, places)?;
         let slots = slots_of(alloc, &plan)?;
-        let Ok((table, seat)) = Table::new(alloc, words.as_slice(), slots, &plan) else {
-            return Err(NoMemory);
-        };
+        let (table, seat) = table(alloc, words.as_slice(), slots, &plan)?;
         let arena = Arena {
             most: plan.classes().per_page(1) as usize,
             words_a_page: plan.classes().page() / 8,

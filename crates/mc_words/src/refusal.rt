@@ -3,11 +3,12 @@ ghost use Rattle.std.specs.Prelude.{◌≡◌};
 ghost use Rattle.mc_words.specs.Refused.{refusal_number};
 
 use mc_classes::ConfigError;
+use mc_memory::Refused;
 use std::error::Error;
 use std::fmt;
 
 /// Why there is no arena. The tests are made in this order, before anything is allocated (own).
-#[derive(Clone, Copy, Debug, PartialEq, Eq)]
+#[derive(Debug, PartialEq, Eq, Drop)]
 pub enum NewError {
     /// The configuration is refused.
     Config(ConfigError),
@@ -16,7 +17,7 @@ pub enum NewError {
     /// The first issue number is above the greatest, 2^46 - 1.
     Issue,
     /// Memory ran out.
-    NoMemory,
+    NoMemory(Refused),
 }
 
 impl NewError {
@@ -26,7 +27,7 @@ impl NewError {
     {
         match self {
             NewError::Config(error) => error.number(),
-            NewError::NoMemory => 9,
+            NewError::NoMemory(_) => 9,
             NewError::Hands => 10,
             NewError::Issue => 11,
         }
@@ -39,9 +40,20 @@ impl fmt::Display for NewError {
             NewError::Config(error) => error.fmt(f),
             NewError::Hands => f.write_str("the number of hands must be from 1 to 64"),
             NewError::Issue => f.write_str("the first issue number must be below 2^46"),
-            NewError::NoMemory => f.write_str("out of memory"),
+            NewError::NoMemory(_) => f.write_str("out of memory"),
         }
     }
 }
 
 impl Error for NewError {}
+
+impl From<Refused> for NewError {
+    ghost use Rattle.std.specs.Prelude.{◌≡◌};
+    ghost use Rattle.mc_words.specs.declared.refusal.NewError.TheVariants.{NoMemory};
+
+    ghost from_gives = { λ refused error. error ≡ NoMemory refused };
+
+    fn from(refused: Refused) -> NewError {
+        NewError::NoMemory(refused)
+    }
+}

@@ -116,6 +116,6 @@ ClassesAreTold = (survey : Survey) →
 -- want of memory is no answer, and no line has the reply of another one
 abbrev pub RepliesAreOfTheirLines : Type 0
 RepliesAreOfTheirLines = (mover left : Mover) (before now : Hand) (survey : Survey) →
-    (ServesMover (command.Reassign None 1) (reply.Answer (Err NoMemory)) mover before left now → ⊥)
+    (ServesMover (command.Reassign None 1) (reply.Answer (Err (NoMemory tt))) mover before left now → ⊥)
     × (ServesMover command.Stats (reply.Classes survey) mover before left now → ⊥)
     × (ServesMover command.StatsSlabs (reply.Totals survey) mover before left now → ⊥)

@@ -37,7 +37,7 @@ turns_of mover = mover.turns
 
 -- a page was asked for, and this was answered; it wasn't memory that was wanting
 abbrev pub AsksForPage : Option ℕ → ℕ → Result (Unit {0}) Reassign → Hand → Hand → Type 0
-AsksForPage src dst answer before now = ActsOnce (λ number. Reassigns number src dst answer) before now × (answer ≢ Err NoMemory)
+AsksForPage src dst answer before now = ActsOnce (λ number. Reassigns number src dst answer) before now × (answer ≢ Err (NoMemory tt))
 
 -- why the decider doesn't take the numbers of a survey. In a run it takes all, as classes stay and evictions never fall, but no contract says so
 abbrev pub refusal_for : DeciderState → Survey → Option Feed

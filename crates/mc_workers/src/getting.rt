@@ -34,12 +34,12 @@ pub(crate) fn get_words<R: Wait>(
         Ok(Some(item)) => item,
         Ok(None) => return Ok(Reply::NotFound),
         Err(GetError::TooManyRefs) => return Ok(Reply::TooManyRefs),
-        Err(GetError::NoMemory) => return Err(AllocError),
+        Err(GetError::NoMemory(_)) => return Err(AllocError),
     };
     let words = read(alloc, arena, hand, &item);
     release(arena, hand, item);
     match words {
         Ok(words) => Ok(Reply::Value(words)),
-        Err(error) => Err(error),
+        Err(_) => Err(AllocError),
     }
 }

@@ -40,7 +40,7 @@ pub(crate) fn hold<R: Wait>(
         }
         Ok(None) => Ok(Reply::NotFound),
         Err(GetError::TooManyRefs) => Ok(Reply::TooManyRefs),
-        Err(GetError::NoMemory) => Err(AllocError),
+        Err(GetError::NoMemory(_)) => Err(AllocError),
     }
 }
 
@@ -65,7 +65,10 @@ pub(crate) fn drop_last(
     let Some(place) = place_of_last(kept, key) else {
         return Ok(Reply::NotHeld);
     };
-    let words = read(alloc, arena, hand, &kept[place])?;
+    let words = match read(alloc, arena, hand, &kept[place]) {
+        Ok(words) => words,
+        Err(_) => return Err(AllocError),
+    };
     let item = kept.remove(place);
     release(arena, hand, item);
     Ok(Reply::Dropped(words))

@@ -15,7 +15,7 @@ use std::marker::Brand;
 use std::sync::ledger::Blank;
 
 /// What became of a decision of the automover.
-#[derive(Clone, Copy, PartialEq, Eq)]
+#[derive(PartialEq, Eq, Drop)]
 pub struct Acted {
     /// From which class a page was to go to which, or to the pool.
     pub decision: Decision,
@@ -51,12 +51,12 @@ pub fn push_mover_reply(
     ensures kept { StartsWith text.new.items text.old.items }
 {
     match reply {
-        MoverReply::Answer(answer) => push_answer(text, name_of_answer(*answer)),
+        MoverReply::Answer(answer) => push_answer(text, name_of_answer(answer)),
         MoverReply::Mode => push_answer(text, b"OK"),
         MoverReply::Window(None) => push_answer(text, b"WINDOW none"),
         MoverReply::Window(Some(acted)) => {
             let Decision { src, dst } = acted.decision;
-            push_window_line(text, src, dst, name_of_answer(acted.answer))
+            push_window_line(text, src, dst, name_of_answer(&acted.answer))
         }
         MoverReply::Turned(ending, counts) => push_turn_line(text, *ending, *counts),
         MoverReply::Totals(survey) => push_totals::<Brand>(Blank::new(1), text, survey),
@@ -65,8 +65,8 @@ pub fn push_mover_reply(
 }
 
 // The word for whether a page began to move.
-fn name_of_answer(answer: Result<(), Reassign>) -> &'static [u8]
-    ensures name { result.now ≡ told_name answer }
+fn name_of_answer(answer: &Result<(), Reassign>) -> &'static [u8]
+    ensures name { result.now ≡ told_name answer.now }
 {
     match answer {
         Ok(()) => b"OK",
@@ -74,6 +74,6 @@ fn name_of_answer(answer: Result<(), Reassign>) -> &'static [u8]
         Err(Reassign::Same) => b"SAME",
         Err(Reassign::BadClass) => b"BADCLASS",
         Err(Reassign::NoSpare) => b"NOSPARE",
-        Err(Reassign::NoMemory) => b"",
+        Err(Reassign::NoMemory(_)) => b"",
     }
 }

@@ -40,7 +40,7 @@ pub(crate) fn set_words<R: Wait>(
         Err(SetError::TooLarge) => Ok(Reply::TooLarge),
         Err(SetError::NoRoom) => Ok(Reply::NoRoom),
         Err(SetError::WornOut) => Ok(Reply::WornOut),
-        Err(SetError::NoMemory) => Err(AllocError),
+        Err(SetError::NoMemory(_)) => Err(AllocError),
     }
 }
 

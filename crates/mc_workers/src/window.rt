@@ -81,7 +81,7 @@ pub(crate) fn ask_for_page<R: Wait>(
     ensures asks { IfOk result (λ answer. AsksForPage src dst answer hand.old hand.new) }
 {
     match reassign(rt, arena, hand, src, dst) {
-        Err(Reassign::NoMemory) => Err(AllocError),
+        Err(Reassign::NoMemory(_)) => Err(AllocError),
         answer => Ok(answer),
     }
 }

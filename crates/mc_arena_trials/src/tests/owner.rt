@@ -1,9 +1,11 @@
 //! The owner's pass: pages that are granted and cut, and chunks that go out and come back.
 use super::calls::{first_free, give, go_round, grow_page, is_worn, sweep_around};
 use super::{FOUR_CLASSES, assert_equal, assert_same};
-use mc_classes::{Config, ConfigError};
+use mc_classes::Config;
+use mc_memory::with_capacity;
 use mc_pages::{ChunkId, Grow, Numbers};
 use mc_words::{Arena, NewError};
+use std::alloc::Global;
 use std::test::Fail;
 
 /// The greatest issue number.
@@ -132,6 +134,14 @@ fn a_worn_chunk_stays_at_the_head(rt: HostRuntime) -> Result<(), Fail> {
     Ok(())
 }
 
+/// The number of the refusal, 0 where there is an arena.
+fn refusal_of(alloc: Global, config: &Config, hands: u64, start: u64) -> u64 {
+    match Arena::from_issue(alloc, config, hands, start) {
+        Ok(_made) => 0,
+        Err(error) => error.number(),
+    }
+}
+
 #[test]
 fn arenas_are_refused_in_order(rt: HostRuntime) -> Result<(), Fail> {
     let no_bulk = Config {
@@ -146,18 +156,14 @@ fn arenas_are_refused_in_order(rt: HostRuntime) -> Result<(), Fail> {
         (FOUR_CLASSES, 64, MOST_ISSUE, 0),
         (FOUR_CLASSES, 1, 0, 0),
     ] {
-        let found = match Arena::from_issue(rt.alloc(), &config, hands, start) {
-            Ok(_) => 0,
-            Err(error) => error.number(),
-        };
+        let found = refusal_of(rt.alloc(), &config, hands, start);
         assert_same(&rt, found, number, "the refusal's number");
     }
-    let refused = NewError::Config(ConfigError::NoMemory);
-    assert_same(
-        &rt,
-        refused.number(),
-        NewError::NoMemory.number(),
-        "want of memory",
-    );
+    let refused = match with_capacity::<u64>(rt.alloc(), usize::MAX) {
+        Ok(_room) => return Err(Fail::new("there is no room for so much")),
+        Err(refused) => refused,
+    };
+    let number = NewError::NoMemory(refused).number();
+    assert_same(&rt, number, 9, "want of memory");
     Ok(())
 }

@@ -5,7 +5,7 @@ use mc_keeper::{
 use std::alloc::AllocError;
 
 /// A call, and what it is to give. An item of so many words has each word like the number of its words.
-#[derive(Clone, Copy)]
+#[derive(Drop)]
 pub(super) enum Step {
     /// The key and how many words.
     Sets(u64, usize, Stored),
@@ -92,9 +92,9 @@ fn reassigns(
     keeper: &mut Keeper,
     src: Option<u64>,
     dst: u64,
-    wanted: Result<(), Reassign>,
+    wanted: &Result<(), Reassign>,
 ) -> bool {
-    keeper.reassign(src, dst) == wanted
+    keeper.reassign(src, dst) == *wanted
 }
 
 fn modes(keeper: &mut Keeper, mode: u64) -> bool {
@@ -159,8 +159,8 @@ fn moved(keeper: &Keeper, moved: u64, evicted: u64, busy: u64) -> bool {
 }
 
 /// The call gives what it is to give.
-pub(super) fn is_so(keeper: &mut Keeper, step: Step) -> Result<bool, AllocError> {
-    match step {
+pub(super) fn is_so(keeper: &mut Keeper, step: &Step) -> Result<bool, AllocError> {
+    match *step {
         Step::Sets(key, count, wanted) => sets(keeper, key, count, wanted),
         Step::Gets(worker, key, wanted) => Ok(gets(keeper, worker, key, wanted)),
         Step::Holds(worker, key, wanted) => Ok(holds(keeper, worker, key, wanted)),
@@ -168,7 +168,7 @@ pub(super) fn is_so(keeper: &mut Keeper, step: Step) -> Result<bool, AllocError>
         Step::Drops(worker, key, wanted) => Ok(drops(keeper, worker, key, wanted)),
         Step::Deletes(key, wanted) => Ok(deletes(keeper, key, wanted)),
         Step::Touches(key, wanted) => Ok(touches(keeper, key, wanted)),
-        Step::Reassigns(src, dst, wanted) => Ok(reassigns(keeper, src, dst, wanted)),
+        Step::Reassigns(src, dst, ref wanted) => Ok(reassigns(keeper, src, dst, wanted)),
         Step::Modes(mode) => Ok(modes(keeper, mode)),
         Step::Windows(wanted) => windows(keeper, wanted),
         Step::Turns(ending, cleared, evicted, busy) => {

@@ -12,8 +12,8 @@ use crate::holding::{Holding, Kind, Purpose};
 use crate::look::Look;
 use crate::series::Series;
 use mc_classes::{ClassId, PageId};
+use mc_memory::Refused;
 use mc_pages::ChunkId;
-use std::alloc::AllocError;
 
 /// The most holdings of a hand.
 const MOST_HOLDINGS: usize = 256;
@@ -88,7 +88,7 @@ impl State {
     }
 
     /// The chunk is handed out to the hand.
-    fn hand_out(&mut self, hand: u64, chunk: ChunkId, purpose: Purpose) -> Result<Head, AllocError>
+    fn hand_out(&mut self, hand: u64, chunk: ChunkId, purpose: Purpose) -> Result<Head, Refused>
         requires here { hand < length self.old.ids }
         requires free { can_hand_out self.old (Some chunk) ≡ true }
         ensures head { IfOk result (λ head. head ≡ handed_out (head_at self.old chunk)) }
@@ -110,7 +110,7 @@ impl State {
 
     /// No word of the chunk is filled.
     #[tactic(auto, using(crate::proofs::Lists::replicate_more))]
-    fn blank(&self, chunk: ChunkId) -> Result<Series<Option<u64>>, AllocError>
+    fn blank(&self, chunk: ChunkId) -> Result<Series<Option<u64>>, Refused>
         ensures { IfOk result (λ words. words ≡ replicate (room_at self.now chunk) None) }
     {
         let mut words = Series::new(self.alloc);
@@ -144,7 +144,7 @@ impl State {
     }
 
     /// The class's next free chunk is handed out.
-    pub(super) fn pop(&mut self, hand: u64, class: ClassId) -> Result<(), AllocError>
+    pub(super) fn pop(&mut self, hand: u64, class: ClassId) -> Result<(), Refused>
         requires here { hand < length self.old.ids }
         requires allowed { can_pop self.old hand class ≡ true }
         ensures { OnOk result (self.new ≡ after_pop self.old hand class) }
@@ -166,7 +166,7 @@ impl State {
     }
 
     /// The first free chunk that an item of the page can be taken to.
-    pub(super) fn target(&self, page: PageId) -> Result<Option<ChunkId>, AllocError>
+    pub(super) fn target(&self, page: PageId) -> Result<Option<ChunkId>, Refused>
         ensures { IfOk result (λ target. target ≡ target_of self.now.table self.now.heads self.now.slabs page) }
     {
         let free = self.free(self.class_of_page(page))?;
@@ -177,7 +177,7 @@ impl State {
     }
 
     /// Whether the hand may be handed out a free chunk off the moving page, in the place of this one.
-    pub(super) fn can_pop_off(&self, hand: u64, old: ChunkId) -> Result<bool, AllocError>
+    pub(super) fn can_pop_off(&self, hand: u64, old: ChunkId) -> Result<bool, Refused>
         requires { hand < length self.now.ids }
         ensures { IfOk result (λ can. can ≡ can_pop_off self.now hand old) }
     {
@@ -193,7 +193,7 @@ impl State {
     }
 
     /// A free chunk off the moving page is handed out, and takes the place of this one.
-    pub(super) fn pop_off(&mut self, hand: u64, old: ChunkId) -> Result<(), AllocError>
+    pub(super) fn pop_off(&mut self, hand: u64, old: ChunkId) -> Result<(), Refused>
         requires here { hand < length self.old.ids }
         requires allowed { can_pop_off self.old hand old ≡ true }
         ensures { OnOk result (self.new ≡ after_pop_off self.old hand old) }
@@ -267,7 +267,7 @@ impl State {
     }
 
     /// Whether the hand may put the chunk on its free list: it is dead.
-    pub(super) fn can_put_back(&self, hand: u64, chunk: ChunkId) -> Result<bool, AllocError>
+    pub(super) fn can_put_back(&self, hand: u64, chunk: ChunkId) -> Result<bool, Refused>
         ensures { IfOk result (λ can. can ≡ can_put_back self.now hand chunk) }
     {
         if !self.has_slabs(hand) || !self.has_chunk(chunk) || !self.head(chunk).is_dead() {
@@ -277,7 +277,7 @@ impl State {
     }
 
     /// A dead chunk goes to its free list.
-    pub(super) fn put_back(&mut self, hand: u64, chunk: ChunkId) -> Result<(), AllocError>
+    pub(super) fn put_back(&mut self, hand: u64, chunk: ChunkId) -> Result<(), Refused>
         requires here { hand < length self.old.ids }
         requires allowed { can_put_back self.old hand chunk ≡ true }
         ensures { OnOk result (self.new ≡ after_put_back self.old hand chunk) }
@@ -289,7 +289,7 @@ impl State {
     }
 
     /// Whether the hand may clear the chunk: it is free or dead, and its page moves.
-    pub(super) fn can_clear(&self, hand: u64, chunk: ChunkId) -> Result<bool, AllocError>
+    pub(super) fn can_clear(&self, hand: u64, chunk: ChunkId) -> Result<bool, Refused>
         ensures { IfOk result (λ can. can ≡ can_clear self.now hand chunk) }
     {
         let head = self.head(chunk);
@@ -305,7 +305,7 @@ impl State {
     }
 
     /// A free or dead chunk of the moving page is cleared.
-    pub(super) fn clear(&mut self, hand: u64, chunk: ChunkId) -> Result<(), AllocError>
+    pub(super) fn clear(&mut self, hand: u64, chunk: ChunkId) -> Result<(), Refused>
         requires here { hand < length self.old.ids }
         requires allowed { can_clear self.old hand chunk ≡ true }
         ensures { OnOk result (self.new ≡ after_clear self.old hand chunk) }
@@ -327,7 +327,7 @@ impl State {
     }
 
     /// A chunk of a page just given is cut.
-    pub(super) fn cut(&mut self, hand: u64, chunk: ChunkId) -> Result<(), AllocError>
+    pub(super) fn cut(&mut self, hand: u64, chunk: ChunkId) -> Result<(), Refused>
         requires here { hand < length self.old.ids }
         requires allowed { can_cut self.old hand chunk ≡ true }
         ensures { OnOk result (self.new ≡ after_cut self.old hand chunk) }

@@ -12,8 +12,8 @@ use crate::head::Head;
 use crate::holding::Holding;
 use crate::look::Look;
 use crate::series::Series;
+use mc_memory::Refused;
 use mc_pages::ChunkId;
-use std::alloc::AllocError;
 
 /// The word of a lock says that the hand of this number has it.
 pub(super) fn is_held_by(word: u64, number: Option<u8>) -> bool
@@ -75,7 +75,7 @@ impl State {
 
     /// The words of the item in a chunk.
     #[tactic(auto, using(crate::proofs::Lists::map_range_more))]
-    pub(super) fn item(&self, chunk: ChunkId) -> Result<Series<u64>, AllocError>
+    pub(super) fn item(&self, chunk: ChunkId) -> Result<Series<u64>, Refused>
         ensures { IfOk result (λ words. words ≡ item_at self.now chunk) }
     {
         let length = self.word(chunk, 2).saturating_add(3).min(self.room(chunk));
@@ -173,7 +173,7 @@ impl State {
     }
 
     /// The hand holds one more chunk.
-    pub(super) fn gain(&mut self, hand: u64, holding: Holding) -> Result<(), AllocError>
+    pub(super) fn gain(&mut self, hand: u64, holding: Holding) -> Result<(), Refused>
         requires { hand < length self.old.ids }
         ensures { OnOk result (self.new ≡ with_holding self.old hand holding) }
     {
@@ -199,7 +199,7 @@ impl State {
     }
 
     /// Notes what the hand saw or did.
-    pub(super) fn note(&mut self, hand: u64, look: Look) -> Result<(), AllocError>
+    pub(super) fn note(&mut self, hand: u64, look: Look) -> Result<(), Refused>
         requires { hand < length self.old.ids }
         ensures { OnOk result (self.new ≡ with_look self.old hand look) }
     {
@@ -208,7 +208,7 @@ impl State {
     }
 
     /// Notes what the hand saw, if it has the slabs lock.
-    pub(super) fn note_if_held(&mut self, hand: u64, look: Look) -> Result<(), AllocError>
+    pub(super) fn note_if_held(&mut self, hand: u64, look: Look) -> Result<(), Refused>
         requires { hand < length self.old.ids }
         ensures { OnOk result (self.new ≡ looked self.old hand look) }
     {

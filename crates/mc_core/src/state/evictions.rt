@@ -8,8 +8,8 @@ use super::State;
 use crate::head::{Head, Tag};
 use crate::look::Look;
 use crate::{holding, look};
+use mc_memory::Refused;
 use mc_pages::ChunkId;
-use std::alloc::AllocError;
 
 impl Head {
     /// Whether the chunk is linked and nobody holds it.
@@ -43,7 +43,7 @@ impl State {
     }
 
     /// Whether no handed-out chunk of the chunk's class is dead, as far as the hand saw.
-    fn none_dead(&self, hand: u64, chunk: ChunkId) -> Result<bool, AllocError>
+    fn none_dead(&self, hand: u64, chunk: ChunkId) -> Result<bool, Refused>
         requires { hand < length self.now.ids }
         ensures { IfOk result (λ none. none ≡ none_dead self.now.slabs (looks_at self.now hand) chunk) }
     {
@@ -65,7 +65,7 @@ impl State {
     }
 
     /// Whether the page moves, and there is no other chunk for the item.
-    fn must_leave(&self, hand: u64, chunk: ChunkId) -> Result<bool, AllocError>
+    fn must_leave(&self, hand: u64, chunk: ChunkId) -> Result<bool, Refused>
         requires { hand < length self.now.ids }
         ensures { IfOk result (λ must. must ≡ must_leave self.now.table self.now.heads self.now.slabs (looks_at self.now hand) chunk) }
     {
@@ -76,7 +76,7 @@ impl State {
     }
 
     /// Whether the class has neither a free chunk nor a dead one, and no page is to be had.
-    fn lacks_room(&self, hand: u64, chunk: ChunkId) -> Result<bool, AllocError>
+    fn lacks_room(&self, hand: u64, chunk: ChunkId) -> Result<bool, Refused>
         requires { hand < length self.now.ids }
         ensures { IfOk result (λ lacks. lacks ≡ lacks_room self.now.table self.now.slabs (looks_at self.now hand) chunk) }
     {
@@ -88,7 +88,7 @@ impl State {
     }
 
     /// Whether there is a reason to take the item away.
-    fn has_reason(&self, hand: u64, chunk: ChunkId) -> Result<bool, AllocError>
+    fn has_reason(&self, hand: u64, chunk: ChunkId) -> Result<bool, Refused>
         requires { hand < length self.now.ids }
         ensures { IfOk result (λ has. has ≡ has_reason self.now.table self.now.heads self.now.slabs (looks_at self.now hand) (holdings_at self.now hand) chunk) }
     {
@@ -110,7 +110,7 @@ impl State {
     }
 
     /// Whether the hand may take the item of the chunk away.
-    pub(super) fn can_condemn(&self, hand: u64, chunk: ChunkId) -> Result<bool, AllocError>
+    pub(super) fn can_condemn(&self, hand: u64, chunk: ChunkId) -> Result<bool, Refused>
         requires { hand < length self.now.ids }
         ensures { IfOk result (λ can. can ≡ can_condemn self.now hand chunk) }
     {
@@ -128,7 +128,7 @@ impl State {
     }
 
     /// The item of the chunk is taken away: it is evicted, or its copy is to have its words.
-    pub(super) fn condemn(&mut self, hand: u64, chunk: ChunkId) -> Result<(), AllocError>
+    pub(super) fn condemn(&mut self, hand: u64, chunk: ChunkId) -> Result<(), Refused>
         requires here { hand < length self.old.ids }
         requires allowed { can_condemn self.old hand chunk ≡ true }
         ensures { OnOk result (self.new ≡ after_condemn self.old hand chunk) }
@@ -144,7 +144,7 @@ impl State {
     }
 
     /// Each copy of this chunk that the hand holds is to have these words.
-    fn bind(&mut self, hand: u64, chunk: ChunkId, item: &[u64]) -> Result<(), AllocError>
+    fn bind(&mut self, hand: u64, chunk: ChunkId, item: &[u64]) -> Result<(), Refused>
         requires { hand < length self.old.ids }
         ensures { OnOk result (self.new ≡ with_bound self.old hand chunk item.now) }
     {

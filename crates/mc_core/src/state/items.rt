@@ -11,8 +11,8 @@ use crate::holding::{Holding, Kind, Purpose};
 use crate::ids::Ids;
 use crate::look::Look;
 use crate::{look, words};
+use mc_memory::Refused;
 use mc_pages::ChunkId;
-use std::alloc::AllocError;
 
 /// The most stamps of a hand.
 const MOST_STAMPS: u64 = 281_474_976_710_655;
@@ -122,7 +122,7 @@ impl State {
     }
 
     /// A fresh chunk is linked, under the key in its first word, and the hand refers to it.
-    pub(super) fn link(&mut self, hand: u64, chunk: ChunkId) -> Result<(), AllocError>
+    pub(super) fn link(&mut self, hand: u64, chunk: ChunkId) -> Result<(), Refused>
         requires here { hand < length self.old.ids }
         requires allowed { can_link self.old hand chunk ≡ true }
         ensures { OnOk result (self.new ≡ after_link self.old hand chunk) }
@@ -182,7 +182,7 @@ impl State {
     }
 
     /// The hand refers to the item in the chunk.
-    fn gain_reference(&mut self, hand: u64, chunk: ChunkId) -> Result<(), AllocError>
+    fn gain_reference(&mut self, hand: u64, chunk: ChunkId) -> Result<(), Refused>
         requires here { hand < length self.old.ids }
         requires room { can_count (head_at self.old chunk) ≡ true }
         ensures { OnOk result (self.new ≡ with_reference self.old hand chunk) }
@@ -235,7 +235,7 @@ impl State {
     }
 
     /// The hand gets a reference to the key's item.
-    pub(super) fn refer(&mut self, hand: u64, key: u64) -> Result<(), AllocError>
+    pub(super) fn refer(&mut self, hand: u64, key: u64) -> Result<(), Refused>
         requires here { hand < length self.old.ids }
         requires allowed { can_refer self.old hand key ≡ true }
         ensures { OnOk result (self.new ≡ after_refer self.old hand key) }
@@ -320,7 +320,7 @@ impl State {
     }
 
     /// The hand gets a reference to the chunk.
-    pub(super) fn again(&mut self, hand: u64, chunk: ChunkId, issue: u64) -> Result<(), AllocError>
+    pub(super) fn again(&mut self, hand: u64, chunk: ChunkId, issue: u64) -> Result<(), Refused>
         requires here { hand < length self.old.ids }
         requires allowed { can_again self.old hand chunk issue ≡ true }
         ensures { OnOk result (self.new ≡ after_again self.old hand chunk) }
@@ -354,12 +354,7 @@ impl State {
     }
 
     /// The hand reads a word of a chunk under the slabs lock.
-    pub(super) fn word_held(
-        &mut self,
-        hand: u64,
-        chunk: ChunkId,
-        place: u64,
-    ) -> Result<(), AllocError>
+    pub(super) fn word_held(&mut self, hand: u64, chunk: ChunkId, place: u64) -> Result<(), Refused>
         requires { hand < length self.old.ids }
         ensures { OnOk result (self.new ≡ after_word_held self.old hand chunk place) }
     {

@@ -5,29 +5,30 @@ ghost use Rattle.mc_core.specs.Silent.{is_among, has_page, is_handed_out, is_lis
 
 use super::State;
 use mc_classes::{ClassId, PageId};
+use mc_memory::{Refused, push};
 use mc_pages::{ChunkId, Slabs};
-use std::alloc::{AllocError, Global};
+use std::alloc::Global;
 
 /// The class's free list, from its head.
-pub fn free_of(alloc: Global, slabs: &Slabs, class: ClassId) -> Result<Vec<ChunkId>, AllocError>
+pub fn free_of(alloc: Global, slabs: &Slabs, class: ClassId) -> Result<Vec<ChunkId>, Refused>
     requires { IsClass slabs.now.state class }
     ensures { IfOk result (λ chunks. chunks.items ≡ (class_at slabs.now.state class).free) }
 {
     let mut chunks = Vec::new(alloc);
     while let Some(chunk) = slabs.free_at(class, chunks.len() as u64) {
-        chunks.push(chunk)?;
+        push(&mut chunks, chunk)?;
     }
     Ok(chunks)
 }
 
 /// The class's hand-out order, the oldest first.
-pub fn order_of(alloc: Global, slabs: &Slabs, class: ClassId) -> Result<Vec<ChunkId>, AllocError>
+pub fn order_of(alloc: Global, slabs: &Slabs, class: ClassId) -> Result<Vec<ChunkId>, Refused>
     requires { IsClass slabs.now.state class }
     ensures { IfOk result (λ chunks. chunks.items ≡ (class_at slabs.now.state class).order) }
 {
     let mut chunks = Vec::new(alloc);
     while let Some(chunk) = slabs.order_at(class, chunks.len() as u64) {
-        chunks.push(chunk)?;
+        push(&mut chunks, chunk)?;
     }
     Ok(chunks)
 }
@@ -48,7 +49,7 @@ fn has_page(chunks: &[ChunkId], page: PageId) -> bool
 
 impl State {
     /// The free list of a class, from its head.
-    pub(super) fn free(&self, class: ClassId) -> Result<Vec<ChunkId>, AllocError>
+    pub(super) fn free(&self, class: ClassId) -> Result<Vec<ChunkId>, Refused>
         ensures { IfOk result (λ chunks. chunks.items ≡ (class_at self.now.slabs class).free) }
     {
         let class = class.max(1);
@@ -60,7 +61,7 @@ impl State {
     }
 
     /// The hand-out order of a class, the oldest first.
-    pub(super) fn order(&self, class: ClassId) -> Result<Vec<ChunkId>, AllocError>
+    pub(super) fn order(&self, class: ClassId) -> Result<Vec<ChunkId>, Refused>
         ensures { IfOk result (λ chunks. chunks.items ≡ (class_at self.now.slabs class).order) }
     {
         let class = class.max(1);
@@ -72,7 +73,7 @@ impl State {
     }
 
     /// Whether the chunk is handed out.
-    pub(super) fn is_handed_out(&self, chunk: ChunkId) -> Result<bool, AllocError>
+    pub(super) fn is_handed_out(&self, chunk: ChunkId) -> Result<bool, Refused>
         ensures { IfOk result (λ is. is ≡ is_handed_out self.now.slabs chunk) }
     {
         let order = self.order(self.class_of_page(chunk.page))?;
@@ -80,7 +81,7 @@ impl State {
     }
 
     /// Whether the chunk is in a list of the class.
-    pub(super) fn is_listed(&self, class: ClassId, chunk: ChunkId) -> Result<bool, AllocError>
+    pub(super) fn is_listed(&self, class: ClassId, chunk: ChunkId) -> Result<bool, Refused>
         ensures { IfOk result (λ is. is ≡ is_listed self.now.slabs class chunk) }
     {
         let free = self.free(class)?;
@@ -89,7 +90,7 @@ impl State {
     }
 
     /// Whether some chunk of the page is in a list of the class.
-    pub(super) fn has_listed(&self, class: ClassId, page: PageId) -> Result<bool, AllocError>
+    pub(super) fn has_listed(&self, class: ClassId, page: PageId) -> Result<bool, Refused>
         ensures { IfOk result (λ has. has ≡ has_listed self.now.slabs class page) }
     {
         let free = self.free(class)?;

@@ -5,12 +5,12 @@ ghost use Rattle.mc_core.specs.Locks.{after_look, has_stripes, after_miss_stripe
 
 use super::State;
 use crate::look::Look;
+use mc_memory::Refused;
 use mc_pages::ChunkId;
-use std::alloc::AllocError;
 
 impl State {
     /// The hand looks at a header.
-    pub(super) fn look(&mut self, hand: u64, chunk: ChunkId) -> Result<(), AllocError>
+    pub(super) fn look(&mut self, hand: u64, chunk: ChunkId) -> Result<(), Refused>
         requires { hand < length self.old.ids }
         ensures { OnOk result (self.new ≡ after_look self.old hand chunk) }
     {
@@ -26,7 +26,7 @@ impl State {
     }
 
     /// The hand looks at the word of a stripe's lock.
-    pub(super) fn miss_stripe(&mut self, hand: u64, stripe: u64) -> Result<(), AllocError>
+    pub(super) fn miss_stripe(&mut self, hand: u64, stripe: u64) -> Result<(), Refused>
         requires { hand < length self.old.ids }
         ensures { OnOk result (self.new ≡ after_miss_stripe self.old hand stripe) }
     {

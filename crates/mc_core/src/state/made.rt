@@ -14,9 +14,10 @@ use crate::head::Head;
 use crate::ids::Ids;
 use crate::series::Series;
 use mc_classes::ClassTable;
-use mc_pages::{NoMemory, Slabs};
+use mc_memory::{Refused, filled, push};
+use mc_pages::Slabs;
 use mc_stripe::Stripe;
-use std::alloc::{AllocError, Global};
+use std::alloc::Global;
 
 impl State {
     /// All pages are untouched, all locks free, nobody holds anything, and issue numbers count on from this one.
@@ -26,7 +27,7 @@ impl State {
         stripes: u64,
         hands: u64,
         start: u64,
-    ) -> Result<State, AllocError>
+    ) -> Result<State, Refused>
         requires stripes { (1 ≤ stripes) × (stripes ≤ 64) }
         requires hands { (1 ≤ hands) × (hands ≤ 64) }
         requires start { start ≤ most_issue }
@@ -57,14 +58,14 @@ impl State {
 }
 
 /// So many zeros.
-fn zeros(alloc: Global, count: u64) -> Result<Vec<u64>, AllocError>
+fn zeros(alloc: Global, count: u64) -> Result<Vec<u64>, Refused>
     ensures { IfOk result (λ words. words.items ≡ replicate count 0) }
 {
-    vec![in alloc; 0; count as usize]
+    filled(alloc, 0, count as usize)
 }
 
 /// A header for each index of each page, with this issue number.
-fn heads_of(alloc: Global, table: &ClassTable, start: u64) -> Result<Vec<Head>, AllocError>
+fn heads_of(alloc: Global, table: &ClassTable, start: u64) -> Result<Vec<Head>, Refused>
     ensures { IfOk result (λ heads. heads.items ≡ replicate (pages_of table.now * most_of table.now) (uncut_from start)) }
 {
     let count = table.pages() * table.per_page(1);
@@ -72,55 +73,50 @@ fn heads_of(alloc: Global, table: &ClassTable, start: u64) -> Result<Vec<Head>, 
         issue: start,
         ..Head::NEVER_CUT
     };
-    vec![in alloc; head; count as usize]
+    filled(alloc, head, count as usize)
 }
 
 /// All pages untouched.
-fn slabs_of(alloc: Global, table: &ClassTable) -> Result<Slabs, AllocError>
+fn slabs_of(alloc: Global, table: &ClassTable) -> Result<Slabs, Refused>
     ensures { IfOk result (λ slabs. (slabs.state ≡ fresh_slabs table.now) × IsAccounted slabs.state) }
 {
-    match Slabs::new(alloc, table) {
-        Ok(slabs) => Ok(slabs),
-        Err(NoMemory) => Err(AllocError),
-    }
+    Slabs::new(alloc, table)
 }
 
 /// So many stripes, without items.
 #[tactic(auto, using(crate::proofs::Lists::replicate_more))]
-fn stripes_of(alloc: Global, count: u64) -> Result<Vec<Stripe>, AllocError>
+fn stripes_of(alloc: Global, count: u64) -> Result<Vec<Stripe>, Refused>
     ensures { IfOk result (λ stripes. stripes.items ≡ replicate count new_stripe) }
 {
     let mut stripes = Vec::new(alloc);
     for _ in 0..count {
-        stripes.push(Stripe::new(alloc))?;
+        push(&mut stripes, Stripe::new(alloc))?;
     }
     Ok(stripes)
 }
 
 /// So many hands, numbered from 0.
 #[tactic(auto, using(crate::proofs::Lists::map_range_more))]
-fn ids_of(alloc: Global, count: u64) -> Result<Vec<Ids>, AllocError>
+fn ids_of(alloc: Global, count: u64) -> Result<Vec<Ids>, Refused>
     requires { count ≤ 64 }
     ensures { IfOk result (λ ids. ids.items ≡ map (λ number. record { number = Some number; stamps = 0 }) (range_with_len 0 count)) }
 {
     let mut ids = Vec::new(alloc);
     for number in 0..count {
-        ids.push(Ids {
-            number: Some(number as u8),
-            stamps: 0,
-        })?;
+        let number = Some(number as u8);
+        push(&mut ids, Ids { number, stamps: 0 })?;
     }
     Ok(ids)
 }
 
 /// So many empty rows.
 #[tactic(auto, using(crate::proofs::Lists::replicate_more))]
-fn rows_of<T: Drop>(alloc: Global, count: u64) -> Result<Vec<Series<T>>, AllocError>
+fn rows_of<T: Drop>(alloc: Global, count: u64) -> Result<Vec<Series<T>>, Refused>
     ensures { IfOk result (λ rows. rows.items ≡ replicate count []) }
 {
     let mut rows = Vec::new(alloc);
     for _ in 0..count {
-        rows.push(Series::new(alloc))?;
+        push(&mut rows, Series::new(alloc))?;
     }
     Ok(rows)
 }

@@ -13,9 +13,8 @@ use super::State;
 use crate::event::Change;
 use crate::look::Look;
 use mc_classes::ClassId;
+use mc_memory::Refused;
 use mc_pages::{ChunkId, Found, Grow, Moving, Reassign};
-use mc_stripe::NoMemory;
-use std::alloc::AllocError;
 
 /// Whether what was found holds up the move.
 fn is_held_up(found: Found) -> bool
@@ -36,7 +35,7 @@ impl State {
     }
 
     /// The class gets a page, if there is one and none is half cut.
-    fn grow(&mut self, class: ClassId) -> Result<bool, AllocError>
+    fn grow(&mut self, class: ClassId) -> Result<bool, Refused>
         ensures { IfOk result (IsDone (can_change_slabs self.old.table self.old.slabs (Change.Grow class)) (with_slabs self.old (slabs_after self.old.slabs (Change.Grow class))) self.new) }
     {
         if !self.is_class(class) || !self.none_half_cut() {
@@ -45,23 +44,23 @@ impl State {
         match self.slabs.grow(class) {
             Ok(_) => Ok(true),
             Err(Grow::NoRoom) => Ok(false),
-            Err(Grow::NoMemory) => Err(AllocError),
+            Err(Grow::NoMemory(refused)) => Err(refused),
         }
     }
 
     /// A page begins to move, if the answer is OK.
-    fn begin_move(&mut self, src: Option<u64>, dst: u64) -> Result<bool, AllocError>
+    fn begin_move(&mut self, src: Option<u64>, dst: u64) -> Result<bool, Refused>
         ensures { IfOk result (IsDone (can_change_slabs self.old.table self.old.slabs (BeginMove src dst)) (with_slabs self.old (slabs_after self.old.slabs (BeginMove src dst))) self.new) }
     {
         match self.slabs.begin_move(src, dst) {
             Ok(()) => Ok(true),
-            Err(Reassign::NoMemory) => Err(AllocError),
+            Err(Reassign::NoMemory(refused)) => Err(refused),
             Err(_) => Ok(false),
         }
     }
 
     /// Whether each chunk of the moving page is cleared.
-    fn can_finish(&self) -> Result<bool, AllocError>
+    fn can_finish(&self) -> Result<bool, Refused>
         ensures { IfOk result (λ can. can ≡ can_finish self.now.slabs self.now.slabs.moving) }
     {
         match self.slabs.moving() {
@@ -71,7 +70,7 @@ impl State {
     }
 
     /// The move ends, if all chunks of its page are cleared.
-    fn finish_move(&mut self) -> Result<bool, AllocError>
+    fn finish_move(&mut self) -> Result<bool, Refused>
         ensures { IfOk result (IsDone (can_change_slabs self.old.table self.old.slabs FinishMove) (with_slabs self.old (slabs_after self.old.slabs FinishMove)) self.new) }
     {
         if !self.can_finish()? {
@@ -82,7 +81,7 @@ impl State {
     }
 
     /// The chunk goes to the back of its hand-out order, if it is handed out.
-    fn touch(&mut self, chunk: ChunkId) -> Result<bool, AllocError>
+    fn touch(&mut self, chunk: ChunkId) -> Result<bool, Refused>
         ensures { IfOk result (IsDone (can_change_slabs self.old.table self.old.slabs (Touch chunk)) (with_slabs self.old (slabs_after self.old.slabs (Touch chunk))) self.new) }
     {
         if !self.is_handed_out(chunk)? {
@@ -114,7 +113,7 @@ impl State {
     }
 
     /// Whether the chunk at the mover's position is cleared, or holds up the move.
-    fn can_pass(&self, found: Found) -> Result<bool, AllocError>
+    fn can_pass(&self, found: Found) -> Result<bool, Refused>
         ensures { IfOk result (λ can. can ≡ can_pass self.now.slabs found (run_of self.now.table self.now.slabs.moving)) }
     {
         let Some((moving, per_page)) = self.run() else {
@@ -130,7 +129,7 @@ impl State {
     }
 
     /// Whether the chunk at the position of the move that runs is cleared.
-    fn is_cleared(&self, moving: Moving, per_page: u64) -> Result<bool, AllocError>
+    fn is_cleared(&self, moving: Moving, per_page: u64) -> Result<bool, Refused>
         ensures { IfOk result (λ is. is ≡ is_cleared_at self.now.slabs per_page moving) }
     {
         let chunk = ChunkId {
@@ -154,7 +153,7 @@ impl State {
     }
 
     /// The mover goes on behind the chunk at its position, if it is cleared or holds up the move.
-    fn pass(&mut self, found: Found) -> Result<bool, AllocError>
+    fn pass(&mut self, found: Found) -> Result<bool, Refused>
         ensures { IfOk result (IsDone (can_change_slabs self.old.table self.old.slabs (Passed found)) (with_slabs self.old (slabs_after self.old.slabs (Passed found))) self.new) }
     {
         if !self.can_pass(found)? {
@@ -197,7 +196,7 @@ impl State {
     }
 
     /// Pages and lists are changed, if that is allowed.
-    fn change_slabs(&mut self, change: Change) -> Result<bool, AllocError>
+    fn change_slabs(&mut self, change: Change) -> Result<bool, Refused>
         ensures { IfOk result (IsDone (can_change_slabs self.old.table self.old.slabs change) (with_slabs self.old (slabs_after self.old.slabs change)) self.new) }
     {
         match change {
@@ -222,17 +221,14 @@ impl State {
     }
 
     /// The stripe makes room for a call.
-    fn reserve(&mut self, stripe: u64) -> Result<(), AllocError>
+    fn reserve(&mut self, stripe: u64) -> Result<(), Refused>
         ensures { OnOk result (self.new ≡ with_stripe self.old stripe (record (stripe_at self.old stripe) { ready = true })) }
     {
         if stripe >= self.stripes.len() as u64 {
             return Ok(());
         }
         let stripe = &mut self.stripes[stripe as usize];
-        match stripe.reserve() {
-            Ok(()) => Ok(()),
-            Err(NoMemory) => Err(AllocError),
-        }
+        stripe.reserve()
     }
 
     /// Tells of a key that isn't there: it was looked up, or it was to be deleted.
@@ -251,7 +247,7 @@ impl State {
     }
 
     /// The hand makes the change, if it is allowed.
-    fn change(&mut self, hand: u64, change: Change) -> Result<bool, AllocError>
+    fn change(&mut self, hand: u64, change: Change) -> Result<bool, Refused>
         requires { hand < length self.old.ids }
         ensures { IfOk result (IsDone (allows_change self.old hand change) (after_change self.old hand change) self.new) }
     {
@@ -264,7 +260,7 @@ impl State {
     }
 
     /// The hand makes room in a stripe that it has.
-    fn change_room(&mut self, hand: u64, stripe: u64) -> Result<bool, AllocError>
+    fn change_room(&mut self, hand: u64, stripe: u64) -> Result<bool, Refused>
         requires { hand < length self.old.ids }
         ensures { IfOk result (IsDone (allows_change self.old hand (Reserve stripe)) (after_change self.old hand (Reserve stripe)) self.new) }
     {
@@ -287,7 +283,7 @@ impl State {
     }
 
     /// The hand changes pages and lists, if it has their lock.
-    fn change_pages(&mut self, hand: u64, change: Change) -> Result<bool, AllocError>
+    fn change_pages(&mut self, hand: u64, change: Change) -> Result<bool, Refused>
         requires { hand < length self.old.ids }
         ensures { IfOk result (IsDone (has_slabs self.old hand && can_change_slabs self.old.table self.old.slabs change) (with_look (with_slabs self.old (slabs_after self.old.slabs change)) hand (Changed change)) self.new) }
     {
@@ -299,7 +295,7 @@ impl State {
     }
 
     /// The hand makes all these changes, one after another, if each is allowed.
-    pub(super) fn change_all(&mut self, hand: u64, changes: &[Change]) -> Result<bool, AllocError>
+    pub(super) fn change_all(&mut self, hand: u64, changes: &[Change]) -> Result<bool, Refused>
         requires { hand < length self.old.ids }
         ensures { IfOk result (IsDone (allows_changes self.old hand changes.now) (after_changes self.old hand changes.now) self.new) }
     {

@@ -5,12 +5,12 @@ ghost use Rattle.mc_core.specs.Run.{allows_step, after_step, is_allowed, after};
 
 use super::State;
 use crate::event::{Event, Step};
+use mc_memory::Refused;
 use mc_pages::ChunkId;
-use std::alloc::AllocError;
 
 impl State {
     /// Whether the hand may do this.
-    fn allows_step(&self, hand: u64, step: Step) -> Result<bool, AllocError>
+    fn allows_step(&self, hand: u64, step: Step) -> Result<bool, Refused>
         requires { hand < length self.now.ids }
         ensures { IfOk result (λ allowed. allowed ≡ allows_step self.now hand step) }
     {
@@ -42,7 +42,7 @@ impl State {
     }
 
     /// The hand does what it may.
-    fn do_step(&mut self, hand: u64, step: Step) -> Result<(), AllocError>
+    fn do_step(&mut self, hand: u64, step: Step) -> Result<(), Refused>
         requires here { hand < length self.old.ids }
         requires allowed { allows_step self.old hand step ≡ true }
         ensures { OnOk result (self.new ≡ after_step self.old hand step) }
@@ -74,7 +74,7 @@ impl State {
     }
 
     /// Does the event, if it is allowed.
-    pub(crate) fn play(&mut self, event: &Event) -> Result<bool, AllocError>
+    pub(crate) fn play(&mut self, event: &Event) -> Result<bool, Refused>
         ensures { IfOk result (IsDone (is_allowed self.old event.now) (after self.old event.now) self.new) }
     {
         let is_hand = self.is_hand(event.hand);

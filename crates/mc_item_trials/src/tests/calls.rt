@@ -10,10 +10,11 @@ use super::FOUR_CLASSES;
 use super::words::words_from;
 use mc_classes::Config;
 use mc_items::{Ref, SetError, delete, get, release, set, touch, try_get};
+use mc_memory::Refused;
 use mc_pages::ChunkId;
 use mc_stripe::{Key, Stamp};
 use mc_words::{Arena, Hand, NewError};
-use std::alloc::{AllocError, Global};
+use std::alloc::Global;
 use std::sync::Wait;
 use std::test::Fail;
 
@@ -103,7 +104,7 @@ pub fn refusal_of_set<R: Wait>(
     hand: &mut Hand,
     key: Key,
     len: u64,
-) -> Result<Option<SetError>, AllocError>
+) -> Result<Option<SetError>, Refused>
     requires arena { IsReadyHandOf arena.now hand.old }
     ensures arena { IsReadyHandOf arena.now hand.new }
 {
@@ -198,7 +199,7 @@ pub fn store_all<R: Wait>(
     keys: (Key, Key),
     first: u64,
     len: u64,
-) -> Result<bool, AllocError>
+) -> Result<bool, Refused>
     requires arena { IsReadyHandOf arena.now hand.old }
     ensures arena { IsReadyHandOf arena.now hand.new }
 {

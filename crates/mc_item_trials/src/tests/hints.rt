@@ -67,12 +67,13 @@ fn a_hint_leads_to_its_item_until_that_is_gone(rt: HostRuntime) -> Result<(), Fa
     let (arena, mut hand, mut other) = opened_two(rt.alloc())?;
     let one = Step::Sets(1, 2, 0, MOST_WORDS);
     let hint = hint_behind(&rt, rt.alloc(), &arena, &mut hand, one)?;
+    let once_more = Step::Sets(1, 2, 0, MOST_WORDS);
     let found = follow(&arena, &mut hand, hint);
     assert_equal(&rt, found, None, "its own hint");
     for (step, found) in [
         (Step::Touches(1), None),
         (Step::Deletes(1), Some(Again::Gone)),
-        (one, Some(Again::Gone)),
+        (once_more, Some(Again::Gone)),
     ] {
         play_all(&rt, rt.alloc(), &arena, &mut hand, &[step])?;
         let followed = follow(&arena, &mut other, hint);

@@ -8,10 +8,11 @@ use super::calls::{GETTERS, Getter, get_by, opened_two};
 use super::steps::{Step, play_all};
 use super::words::are_from;
 use mc_items::{Ref, read, release};
+use mc_memory::Refused;
 use mc_pages::ChunkId;
 use mc_stripe::{Key, Stamp};
 use mc_words::{Arena, Hand};
-use std::alloc::{AllocError, Global};
+use std::alloc::Global;
 use std::process::Abort;
 use std::sync::Wait;
 use std::test::Fail;
@@ -27,7 +28,7 @@ fn has_from(
     item: &Ref,
     first: u64,
     len: u64,
-) -> Result<bool, AllocError>
+) -> Result<bool, Refused>
     requires arena { IsReadyHandOf arena.now hand.old }
     requires item { IsItemRef (view hand.old) item.now }
     ensures arena { IsReadyHandOf arena.now hand.new }
@@ -46,7 +47,7 @@ fn is_item(
     key: Key,
     stamp: Stamp,
     first: u64,
-) -> Result<bool, AllocError>
+) -> Result<bool, Refused>
     requires arena { IsReadyHandOf arena.now hand.old }
     requires item { IsItemRef (view hand.old) item.now }
     ensures arena { IsReadyHandOf arena.now hand.new }

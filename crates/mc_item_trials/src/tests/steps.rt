@@ -7,16 +7,17 @@ use super::calls::{
     store_all, touch_key,
 };
 use mc_items::SetError;
+use mc_memory::Refused;
 use mc_pages::ChunkId;
 use mc_stripe::Key;
 use mc_words::{Arena, Hand};
-use std::alloc::{AllocError, Global};
+use std::alloc::Global;
 use std::process::Abort;
 use std::sync::Wait;
 use std::test::Fail;
 
 /// A call, and what it is to give.
-#[derive(Clone, Copy)]
+#[derive(Drop)]
 pub enum Step {
     /// Items for the keys from the first on, before the second, each of so many words from a first one on. Each is stored.
     Sets(Key, Key, u64, u64),
@@ -42,36 +43,36 @@ fn plays<R: Wait>(
     alloc: Global,
     arena: &Arena,
     hand: &mut Hand,
-    step: Step,
-) -> Result<bool, AllocError>
+    step: &Step,
+) -> Result<bool, Refused>
     requires arena { IsReadyHandOf arena.now hand.old }
     ensures arena { IsReadyHandOf arena.now hand.new }
 {
     match step {
         Step::Sets(from, end, first, len) => {
-            store_all(rt, alloc, arena, hand, (from, end), first, len)
+            store_all(rt, alloc, arena, hand, (*from, *end), *first, *len)
         }
         Step::Refuses(key, len, error) => {
-            Ok(refusal_of_set(rt, alloc, arena, hand, key, len)? == Some(error))
+            Ok(refusal_of_set(rt, alloc, arena, hand, *key, *len)?.as_ref() == Some(error))
         }
         _ => Ok(acts(rt, arena, hand, step)),
     }
 }
 
 /// Whether a call that takes no memory gives what it is to.
-fn acts<R: Wait>(rt: &R, arena: &Arena, hand: &mut Hand, step: Step) -> bool
+fn acts<R: Wait>(rt: &R, arena: &Arena, hand: &mut Hand, step: &Step) -> bool
     requires arena { IsReadyHandOf arena.now hand.old }
     ensures arena { IsReadyHandOf arena.now hand.new }
 {
     match step {
-        Step::Deletes(key) => delete_key(rt, arena, hand, key),
-        Step::Touches(key) => touch_key(rt, arena, hand, key),
+        Step::Deletes(key) => delete_key(rt, arena, hand, *key),
+        Step::Touches(key) => touch_key(rt, arena, hand, *key),
         Step::Finds(getter, from, end, there) => {
-            are_there(rt, arena, hand, (from, end), getter, there)
+            are_there(rt, arena, hand, (*from, *end), *getter, *there)
         }
-        Step::Holds(from, end) => hold_all(rt, arena, hand, (from, end)),
-        Step::HoldsOften(key, times) => hold_often(rt, arena, hand, key, times),
-        Step::Head(chunk, head) => header(arena, hand, chunk) == Some(head),
+        Step::Holds(from, end) => hold_all(rt, arena, hand, (*from, *end)),
+        Step::HoldsOften(key, times) => hold_often(rt, arena, hand, *key, *times),
+        Step::Head(chunk, head) => header(arena, hand, *chunk) == Some(*head),
         _ => false,
     }
 }
@@ -83,12 +84,12 @@ pub fn play_all<R: Abort + Wait>(
     arena: &Arena,
     hand: &mut Hand,
     steps: &[Step],
-) -> Result<(), AllocError>
+) -> Result<(), Refused>
     requires arena { IsReadyHandOf arena.now hand.old }
     ensures arena { IsReadyHandOf arena.now hand.new }
 {
     for place in 0..steps.len() {
-        let done = plays(rt, alloc, arena, hand, steps[place])?;
+        let done = plays(rt, alloc, arena, hand, &steps[place])?;
         assert_same(rt, (place, done), (place, true), "a step, from 0");
     }
     Ok(())

@@ -13,10 +13,11 @@ use super::four::one_of;
 use super::words::{are_from, words_from};
 use mc_classes::{Config, PageId};
 use mc_items::{Ref, read, release};
+use mc_memory::Refused;
 use mc_pages::{ChunkId, Owner};
 use mc_stripe::{Key, Stamp};
 use mc_words::{Arena, Final, Hand};
-use std::alloc::{AllocError, Global};
+use std::alloc::Global;
 use std::sync::Wait;
 use std::test::Fail;
 use std::thread::{Threads, join};
@@ -80,7 +81,7 @@ fn store<R: Wait>(
     arena: &Arena,
     hand: &mut Hand,
     key: Key,
-) -> Result<(), AllocError>
+) -> Result<(), Refused>
     requires arena { IsIdleHandOf arena.now hand.old }
     ensures arena { IsIdleHandOf arena.now hand.new }
 {
@@ -97,7 +98,7 @@ fn is_own(
     hand: &mut Hand,
     item: &Ref,
     key: Key,
-) -> Result<bool, AllocError>
+) -> Result<bool, Refused>
     requires arena { IsReadyHandOf arena.now hand.old }
     requires item { IsItemRef (view hand.old) item.now }
     ensures arena { IsReadyHandOf arena.now hand.new }
@@ -126,7 +127,7 @@ fn reads_own<R: Wait>(
     writer: &mut Hand,
     item: &Ref,
     key: Key,
-) -> Result<bool, AllocError>
+) -> Result<bool, Refused>
     requires reader { IsReadyHandOf arena.now reader.old }
     requires item { IsItemRef (view reader.old) item.now }
     requires writer { IsIdleHandOf arena.now writer.old }
@@ -152,7 +153,7 @@ fn read_twice<R: Wait>(
     writer: &mut Hand,
     key: Key,
     getter: Getter,
-) -> Result<bool, AllocError>
+) -> Result<bool, Refused>
     requires reader { IsIdleHandOf arena.now reader.old }
     requires writer { IsIdleHandOf arena.now writer.old }
     ensures reader { IsIdleHandOf arena.now reader.new }
@@ -174,7 +175,7 @@ fn act<R: Wait>(
     reader: &mut Hand,
     writer: &mut Hand,
     chosen: (Action, Key),
-) -> Result<bool, AllocError>
+) -> Result<bool, Refused>
     requires reader { IsIdleHandOf arena.now reader.old }
     requires writer { IsIdleHandOf arena.now writer.old }
     ensures reader { IsIdleHandOf arena.now reader.new }

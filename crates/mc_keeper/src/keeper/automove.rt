@@ -14,7 +14,7 @@ use mc_watch::Decision;
 use std::alloc::AllocError;
 
 /// What became of a decision of the automover.
-#[derive(Clone, Copy, PartialEq, Eq)]
+#[derive(PartialEq, Eq, Drop)]
 pub struct Acted {
     /// From which class a page was to go to which, or to the pool.
     pub decision: Decision,
@@ -115,7 +115,7 @@ impl Keeper {
             Err(Reassign::Same) => Ok(Err(Reassign::Same)),
             Err(Reassign::BadClass) => Ok(Err(Reassign::BadClass)),
             Err(Reassign::NoSpare) => Ok(Err(Reassign::NoSpare)),
-            Err(Reassign::NoMemory) => Err(AllocError),
+            Err(Reassign::NoMemory(_)) => Err(AllocError),
         }
     }
 }

@@ -50,7 +50,7 @@ impl Keeper {
                 Ok(())
             }
             Err(Grow::NoRoom) => Ok(()),
-            Err(Grow::NoMemory) => Err(AllocError),
+            Err(Grow::NoMemory(_)) => Err(AllocError),
         }
     }
 }

@@ -341,6 +341,6 @@ fn name_of_answer(answer: Result<(), Reassign>) -> &'static [u8]
         Err(Reassign::Same) => b"SAME",
         Err(Reassign::BadClass) => b"BADCLASS",
         Err(Reassign::NoSpare) => b"NOSPARE",
-        Err(Reassign::NoMemory) => b"",
+        Err(Reassign::NoMemory(_)) => b"",
     }
 }

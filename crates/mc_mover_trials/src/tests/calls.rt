@@ -9,10 +9,11 @@ ghost use Rattle.mc_mover_trials.specs.Hands.{AreHandsOf, IsIdleHandOf, IsReadyH
 use super::words::{are_from, words_from};
 use mc_classes::Config;
 use mc_items::{Ref, delete, get, read, release, set, touch};
+use mc_memory::Refused;
 use mc_pages::ChunkId;
 use mc_stripe::Key;
 use mc_words::{Arena, Hand, NewError};
-use std::alloc::{AllocError, Global};
+use std::alloc::Global;
 use std::sync::Wait;
 use std::test::Fail;
 
@@ -77,7 +78,7 @@ pub fn store_all<R: Wait>(
     keys: (Key, Key),
     first: u64,
     len: u64,
-) -> Result<bool, AllocError>
+) -> Result<bool, Refused>
     requires arena { IsReadyHandOf arena.now hand.old }
     ensures arena { IsReadyHandOf arena.now hand.new }
 {
@@ -112,7 +113,7 @@ pub fn has_words(
     item: &Ref,
     first: u64,
     len: u64,
-) -> Result<bool, AllocError>
+) -> Result<bool, Refused>
     requires arena { IsReadyHandOf arena.now hand.old }
     requires item { IsItemRef (view hand.old) item.now }
     ensures arena { IsReadyHandOf arena.now hand.new }
@@ -132,7 +133,7 @@ pub fn key_has<R: Wait>(
     key: Key,
     first: u64,
     len: u64,
-) -> Result<bool, AllocError>
+) -> Result<bool, Refused>
     requires arena { IsReadyHandOf arena.now hand.old }
     ensures arena { IsReadyHandOf arena.now hand.new }
 {

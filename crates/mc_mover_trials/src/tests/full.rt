@@ -102,8 +102,10 @@ fn a_worn_chunk_rescues_nothing(rt: HostRuntime) -> Result<(), Fail> {
     let evicts = Step::Finishes(2, 0, 2, 0, 0);
     let stays = Step::Has(4, 1, 1, 1);
     move_beside_dead(&rt, rt.alloc(), MOST_ISSUE - 1, evicts, stays)?;
-    let rescues = Step::Finishes(2, 1, 1, 0, 0);
-    let full = Step::Has(4, 1, 2, 0);
-    move_beside_dead(&rt, rt.alloc(), MOST_ISSUE - 2, rescues, full)?;
-    move_beside_dead(&rt, rt.alloc(), 0, rescues, full)
+    for start in [MOST_ISSUE - 2, 0] {
+        let rescues = Step::Finishes(2, 1, 1, 0, 0);
+        let full = Step::Has(4, 1, 2, 0);
+        move_beside_dead(&rt, rt.alloc(), start, rescues, full)?;
+    }
+    Ok(())
 }

@@ -6,17 +6,18 @@ use super::calls::{delete_key, opened_two, store_all, touch_key};
 use super::moves::{reassign_by, set_mode_by, turn_by};
 use super::stats::{Chunks, stats_of};
 use mc_classes::{ClassId, Config};
+use mc_memory::Refused;
 use mc_mover::{Counts, Turn};
 use mc_pages::Reassign;
 use mc_stripe::Key;
 use mc_words::{Arena, Hand};
-use std::alloc::{AllocError, Global};
+use std::alloc::Global;
 use std::process::Abort;
 use std::sync::Wait;
 use std::test::Fail;
 
 /// A call, and what it is to give.
-#[derive(Clone, Copy)]
+#[derive(Drop)]
 pub enum Step {
     /// Items of so many words, from the first key's number on, for the keys from the first on, before the second. Each is stored.
     Sets(Key, Key, u64),
@@ -132,45 +133,57 @@ fn plays<R: Wait>(
     alloc: Global,
     arena: &Arena,
     hand: &mut Hand,
-    step: Step,
-) -> Result<bool, AllocError>
+    step: &Step,
+) -> Result<bool, Refused>
     requires arena { IsReadyHandOf arena.now hand.old }
     ensures arena { IsReadyHandOf arena.now hand.new }
 {
     match step {
-        Step::Sets(first, end, len) => store_all(rt, alloc, arena, hand, (first, end), first, len),
-        Step::Modes(mode) => Ok(has_mode(rt, alloc, arena, hand, mode)),
+        Step::Sets(first, end, len) => store_all(
+            rt,
+            alloc,
+            arena,
+            hand,
+            (*first, *end),
+            *first,
+            *len,
+        ),
+        Step::Modes(mode) => Ok(has_mode(rt, alloc, arena, hand, *mode)),
         Step::Pages(granted, pool, running) => {
-            Ok(has_pages(rt, alloc, arena, hand, (granted, pool, running)))
+            Ok(has_pages(rt, alloc, arena, hand, (*granted, *pool, *running)))
         }
         Step::Moved(moved, rescues, evictions_nomem, busy) => {
-            let wanted = (moved, rescues, evictions_nomem, busy);
+            let wanted = (*moved, *rescues, *evictions_nomem, *busy);
             Ok(has_moved(rt, alloc, arena, hand, wanted))
         }
         Step::Has(class, pages, used, free) => {
-            let chunks = Chunks { pages, used, free };
-            Ok(has_chunks(rt, alloc, arena, hand, true, class, chunks))
+            let chunks = Chunks {
+                pages: *pages,
+                used: *used,
+                free: *free,
+            };
+            Ok(has_chunks(rt, alloc, arena, hand, true, *class, chunks))
         }
         _ => Ok(acts(rt, arena, hand, step)),
     }
 }
 
 /// Whether a call that takes no memory of its own gives what it is to.
-fn acts<R: Wait>(rt: &R, arena: &Arena, hand: &mut Hand, step: Step) -> bool
+fn acts<R: Wait>(rt: &R, arena: &Arena, hand: &mut Hand, step: &Step) -> bool
     requires arena { IsReadyHandOf arena.now hand.old }
     ensures arena { IsReadyHandOf arena.now hand.new }
 {
     match step {
-        Step::Deletes(key) => delete_key(rt, arena, hand, key) == Some(true),
-        Step::Touches(key, there) => touch_key(rt, arena, hand, key) == Some(there),
-        Step::Reassigns(src, dst, answer) => { reassign_by(rt, arena, hand, src, dst) == answer }
+        Step::Deletes(key) => delete_key(rt, arena, hand, *key) == Some(true),
+        Step::Touches(key, there) => touch_key(rt, arena, hand, *key) == Some(*there),
+        Step::Reassigns(src, dst, answer) => { reassign_by(rt, arena, hand, *src, *dst) == *answer }
         Step::Idles => turn_by(rt, arena, hand) == Some(Turn::Idle),
         Step::Goes(cleared, rescued, evicted, busy, locked) => {
-            let wanted = counts(cleared, rescued, evicted, busy, locked);
+            let wanted = counts(*cleared, *rescued, *evicted, *busy, *locked);
             turn_by(rt, arena, hand) == Some(Turn::Went(wanted))
         }
         Step::Finishes(cleared, rescued, evicted, busy, locked) => {
-            let wanted = counts(cleared, rescued, evicted, busy, locked);
+            let wanted = counts(*cleared, *rescued, *evicted, *busy, *locked);
             turn_by(rt, arena, hand) == Some(Turn::Finished(wanted))
         }
         _ => false,
@@ -184,12 +197,12 @@ pub fn play_all<R: Abort + Wait>(
     arena: &Arena,
     hand: &mut Hand,
     steps: &[Step],
-) -> Result<(), AllocError>
+) -> Result<(), Refused>
     requires arena { IsReadyHandOf arena.now hand.old }
     ensures arena { IsReadyHandOf arena.now hand.new }
 {
     for place in 0..steps.len() {
-        let done = plays(rt, alloc, arena, hand, steps[place])?;
+        let done = plays(rt, alloc, arena, hand, &steps[place])?;
         assert_same(rt, (place, done), (place, true), "a step, from 0");
     }
     Ok(())

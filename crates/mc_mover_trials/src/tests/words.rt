@@ -1,11 +1,12 @@
 //! Words of items: a first number, and each one more than that before it.
-use std::alloc::{AllocError, Global};
+use mc_memory::{Refused, push};
+use std::alloc::Global;
 
 /// So many words from the first on.
-pub fn words_from(alloc: Global, first: u64, len: u64) -> Result<Vec<u64>, AllocError> {
+pub fn words_from(alloc: Global, first: u64, len: u64) -> Result<Vec<u64>, Refused> {
     let mut words = Vec::new(alloc);
     for place in 0..len {
-        words.push(first.wrapping_add(place))?;
+        push(&mut words, first.wrapping_add(place))?;
     }
     Ok(words)
 }

@@ -11,9 +11,10 @@ ghost use Rattle.mc_mover_trials.specs.Hands.{IsIdleHandOf, IsReadyHandOf};
 use super::calls::{delete_key, get_key, has_words, set_words};
 use super::words::words_from;
 use mc_items::{Ref, again, hint, release};
+use mc_memory::Refused;
 use mc_stripe::{Key, Stamp};
 use mc_words::{Arena, Hand, Hint};
-use std::alloc::{AllocError, Global};
+use std::alloc::Global;
 use std::sync::Wait;
 
 /// How many keys there are.
@@ -71,7 +72,7 @@ fn store<R: Wait>(
     arena: &Arena,
     hand: &mut Hand,
     key: Key,
-) -> Result<(), AllocError>
+) -> Result<(), Refused>
     requires arena { IsIdleHandOf arena.now hand.old }
     ensures arena { IsIdleHandOf arena.now hand.new }
 {
@@ -87,7 +88,7 @@ pub fn store_each<R: Wait>(
     alloc: Global,
     arena: &Arena,
     hand: &mut Hand,
-) -> Result<(), AllocError>
+) -> Result<(), Refused>
     requires arena { IsIdleHandOf arena.now hand.old }
     ensures arena { IsIdleHandOf arena.now hand.new }
 {
@@ -104,7 +105,7 @@ fn is_own(
     hand: &mut Hand,
     item: &Ref,
     key: Key,
-) -> Result<bool, AllocError>
+) -> Result<bool, Refused>
     requires arena { IsReadyHandOf arena.now hand.old }
     requires item { IsItemRef (view hand.old) item.now }
     ensures arena { IsReadyHandOf arena.now hand.new }
@@ -124,7 +125,7 @@ fn read_once<R: Wait>(
     arena: &Arena,
     hand: &mut Hand,
     key: Key,
-) -> Result<bool, AllocError>
+) -> Result<bool, Refused>
     requires arena { IsIdleHandOf arena.now hand.old }
     ensures arena { IsIdleHandOf arena.now hand.new }
 {
@@ -143,7 +144,7 @@ fn do_line<R: Wait>(
     arena: &Arena,
     hand: &mut Hand,
     drawn: u64,
-) -> Result<bool, AllocError>
+) -> Result<bool, Refused>
     requires arena { IsIdleHandOf arena.now hand.old }
     ensures arena { IsIdleHandOf arena.now hand.new }
 {
@@ -169,7 +170,7 @@ fn do_lines<R: Wait>(
     hand: &mut Hand,
     thread: u64,
     round: u64,
-) -> Result<bool, AllocError>
+) -> Result<bool, Refused>
     requires arena { IsIdleHandOf arena.now hand.old }
     ensures arena { IsIdleHandOf arena.now hand.new }
 {
@@ -190,7 +191,7 @@ fn read_again(
     hand: &mut Hand,
     hint: Hint,
     key: Key,
-) -> Result<bool, AllocError>
+) -> Result<bool, Refused>
     requires arena { IsIdleHandOf arena.now hand.old }
     requires near { has_chunk (setup_of arena.now).table (hint_chunk hint) ≡ true }
     ensures arena { IsIdleHandOf arena.now hand.new }
@@ -213,7 +214,7 @@ fn reads_own<R: Wait>(
     writer: &mut Hand,
     item: &Ref,
     place: (u64, u64),
-) -> Result<bool, AllocError>
+) -> Result<bool, Refused>
     requires reader { IsReadyHandOf arena.now reader.old }
     requires item { IsItemRef (view reader.old) item.now }
     requires writer { IsIdleHandOf arena.now writer.old }
@@ -241,7 +242,7 @@ fn hold_over<R: Wait>(
     writer: &mut Hand,
     thread: u64,
     round: u64,
-) -> Result<bool, AllocError>
+) -> Result<bool, Refused>
     requires reader { IsIdleHandOf arena.now reader.old }
     requires writer { IsIdleHandOf arena.now writer.old }
     ensures reader { IsIdleHandOf arena.now reader.new }

@@ -319,10 +319,3 @@ fn room_is_made_once(rt: HostRuntime) -> Result<(), Fail> {
     );
     Ok(())
 }
-
-#[test]
-fn a_refusal_is_told(rt: HostRuntime) -> Result<(), Fail> {
-    let text = NoMemory.to_string(rt.alloc())?;
-    assert_same(&rt, text.as_str(), "out of memory", "the text");
-    Ok(())
-}

@@ -8,7 +8,8 @@ use super::link::Link;
 use super::{Change, Field, ListName, Mark};
 use crate::ids::ChunkId;
 use crate::writes::Writes;
-use std::alloc::{AllocError, Global};
+use mc_memory::{Refused, filled};
+use std::alloc::Global;
 use std::marker::Model;
 
 /// The chunks beside a chunk in its list. A list has a row of its own, where `next` is its head, `previous` its tail, and
@@ -53,7 +54,7 @@ impl Rows {
         most: u64,
         pages: usize,
         classes: usize,
-    ) -> Result<Rows, AllocError>
+    ) -> Result<Rows, Refused>
         requires most { most ≤ 256 }
         requires pages { pages ≤ 64 }
         ensures { IfOk result (λ rows. rows ≡ fresh_rows most (pages * most) classes) }
@@ -65,11 +66,11 @@ impl Rows {
         };
         Ok(Rows {
             most,
-            rows: vec![in alloc; none; pages * most as usize]?,
-            free: vec![in alloc; none; classes]?,
-            handed_out: vec![in alloc; none; classes]?,
-            free_lengths: vec![in alloc; 0; classes]?,
-            handed_out_lengths: vec![in alloc; 0; classes]?,
+            rows: filled(alloc, none, pages * most as usize)?,
+            free: filled(alloc, none, classes)?,
+            handed_out: filled(alloc, none, classes)?,
+            free_lengths: filled(alloc, 0, classes)?,
+            handed_out_lengths: filled(alloc, 0, classes)?,
             writes: Writes::new(),
         })
     }

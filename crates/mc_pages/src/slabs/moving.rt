@@ -12,6 +12,7 @@ use crate::ids::{ChunkId, Moving};
 use crate::ledger::{Entry, Owner};
 use crate::moves::{Found, Reassign};
 use mc_classes::{ClassId, PageId};
+use mc_memory::reserve;
 
 impl Slabs {
     /// The move that runs, if one does.
@@ -38,9 +39,9 @@ impl Slabs {
         let page = self.first_page(source);
         let cursor = self.cursor_after(src, source);
         // One entry for the beginning, and one for the end.
-        self.ledger.reserve(2)?;
+        reserve(&mut self.ledger, 2)?;
         if dst == 0 {
-            self.pool.reserve(1)?;
+            reserve(&mut self.pool, 1)?;
         } else {
             let slab = &mut self.classes[dst as usize - 1];
             slab.make_room(slab.page_count() + 1)?;

@@ -9,25 +9,25 @@ use super::Slabs;
 use crate::ids::ChunkId;
 use crate::ledger::{Entry, Owner};
 use mc_classes::{ClassId, PageId};
-use std::alloc::AllocError;
+use mc_memory::{Refused, reserve};
 
 /// Why a class gets no page.
-#[derive(Clone, Copy, PartialEq, Eq)]
+#[derive(PartialEq, Eq, Drop)]
 pub enum Grow {
     /// The pool is empty, and no page is left within the limit.
     NoRoom,
     /// Memory ran out.
-    NoMemory,
+    NoMemory(Refused),
 }
 
-impl From<AllocError> for Grow {
+impl From<Refused> for Grow {
     ghost use Rattle.std.specs.Prelude.{◌≡◌};
     ghost use Rattle.mc_pages.specs.declared.slabs.pages.Grow.TheVariants.{NoMemory};
 
-    ghost from_gives = { λ _ e. e ≡ NoMemory };
+    ghost from_gives = { λ refused error. error ≡ NoMemory refused };
 
-    fn from(_e: AllocError) -> Grow {
-        Grow::NoMemory
+    fn from(refused: Refused) -> Grow {
+        Grow::NoMemory(refused)
     }
 }
 
@@ -46,7 +46,7 @@ impl Slabs {
         ensures writes { self.new.writes ≡ self.old.writes }
     {
         let page = self.next_page().ok_or(Grow::NoRoom)?;
-        self.ledger.reserve(1 + usize::from(self.moving.is_some()))?;
+        reserve(&mut self.ledger, 1 + usize::from(self.moving.is_some()))?;
         let awaited = usize::from(self.awaits(class));
         let slab = &mut self.classes[class as usize - 1];
         slab.make_room(slab.page_count() + 1 + awaited)?;

@@ -3,7 +3,6 @@ ghost use Rattle.mc_race_trials.specs.Hands.{IsIdleHandOf};
 
 use super::words::draw;
 use mc_mover::{Counts, Survey, TryTurn, Turn, reassign, set_mode, survey, try_turn, turn};
-use mc_stripe::NoMemory;
 use mc_words::{Arena, Hand};
 use std::alloc::Global;
 use std::sync::Wait;
@@ -88,7 +87,7 @@ fn turn_by<R: Wait>(rt: &R, arena: &Arena, hand: &mut Hand, tally: &mut Tally) -
 {
     match turn(rt, arena, hand) {
         Ok(done) => tally.note(done),
-        Err(NoMemory) => {
+        Err(_) => {
             tally.check(false);
             false
         }
@@ -103,7 +102,7 @@ fn try_turn_by(arena: &Arena, hand: &mut Hand, tally: &mut Tally) -> bool
     match try_turn(arena, hand) {
         Ok(done) => tally.note(done),
         Err(TryTurn::Held) => false,
-        Err(TryTurn::NoMemory) => {
+        Err(TryTurn::NoMemory(_)) => {
             tally.check(false);
             false
         }
@@ -133,7 +132,7 @@ fn survey_by<R: Wait>(
 {
     match survey(rt, alloc, arena, hand, sweep) {
         Ok(found) => tally.check(adds_up(&found)),
-        Err(NoMemory) => tally.check(false),
+        Err(_) => tally.check(false),
     }
 }
 

@@ -12,7 +12,7 @@ use super::words::are_words_of;
 use mc_items::{Ref, again, get, hint, read, release, try_get};
 use mc_stripe::{Key, Stamp};
 use mc_words::{Again, Arena, Hand, Hint};
-use std::alloc::{AllocError, Global};
+use std::alloc::Global;
 use std::sync::Wait;
 
 /// A call was refused.
@@ -106,7 +106,7 @@ pub fn is_own(
     hand: &mut Hand,
     kept: &[Ref],
     place: usize,
-) -> Result<bool, AllocError>
+) -> Result<bool, mc_memory::Refused>
     requires keeper { IsKeeperOf arena.now hand.old kept.now }
     ensures keeper { IsKeeperOf arena.now hand.new kept.now }
 {

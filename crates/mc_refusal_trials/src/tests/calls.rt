@@ -46,8 +46,8 @@ pub enum Answer {
     Turned(Turn),
     /// Whether a page moves; and the moves that ended, the items that moves rescued and evicted, and the chunks that held one up.
     Surveyed(bool, [u64; 4]),
-    /// Why no page moves.
-    Stays(Reassign),
+    /// A page moves already.
+    Busy,
     /// It was refused otherwise.
     Refused,
 }
@@ -153,7 +153,7 @@ fn turned(turn: Option<Turn>) -> Answer {
 fn tried(turn: Result<Turn, TryTurn>) -> Answer {
     match turn {
         Ok(turn) => Answer::Turned(turn),
-        Err(TryTurn::NoMemory) => Answer::NoMemory,
+        Err(TryTurn::NoMemory(_)) => Answer::NoMemory,
         Err(TryTurn::Held) => Answer::Refused,
     }
 }
@@ -161,8 +161,9 @@ fn tried(turn: Result<Turn, TryTurn>) -> Answer {
 fn reassigned(answer: Result<(), Reassign>) -> Answer {
     match answer {
         Ok(()) => Answer::Done,
-        Err(Reassign::NoMemory) => Answer::NoMemory,
-        Err(refusal) => Answer::Stays(refusal),
+        Err(Reassign::NoMemory(_)) => Answer::NoMemory,
+        Err(Reassign::Busy) => Answer::Busy,
+        Err(_) => Answer::Refused,
     }
 }
 
@@ -186,7 +187,7 @@ fn set_words<R: Wait>(rt: &R, arena: &Arena, hand: &mut Hand, key: Key, words: &
 {
     match set(rt, arena, hand, key, words) {
         Ok(_) => Answer::Done,
-        Err(SetError::NoMemory) => Answer::NoMemory,
+        Err(SetError::NoMemory(_)) => Answer::NoMemory,
         Err(_) => Answer::Refused,
     }
 }
@@ -201,7 +202,7 @@ fn get_key<R: Wait>(rt: &R, arena: &Arena, hand: &mut Hand, key: Key) -> Answer
             Answer::There(true)
         }
         Ok(None) => Answer::There(false),
-        Err(GetError::NoMemory) => Answer::NoMemory,
+        Err(GetError::NoMemory(_)) => Answer::NoMemory,
         Err(_) => Answer::Refused,
     }
 }
@@ -216,7 +217,7 @@ fn try_get_key(arena: &Arena, hand: &mut Hand, key: Key) -> Answer
             Answer::There(true)
         }
         Ok(None) => Answer::There(false),
-        Err(TryGetError::NoMemory) => Answer::NoMemory,
+        Err(TryGetError::NoMemory(_)) => Answer::NoMemory,
         Err(_) => Answer::Refused,
     }
 }

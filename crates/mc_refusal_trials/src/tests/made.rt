@@ -6,8 +6,9 @@ use super::rows::stores;
 use super::steps::play_all;
 use super::{FOUR_CLASSES, assert_same};
 use mc_core::{Change, Event, Series, State, Step, Stop, replay};
+use mc_memory::{Refused, push};
 use mc_pages::ChunkId;
-use std::alloc::{AllocError, Global};
+use std::alloc::Global;
 use std::test::Fail;
 
 /// The greatest issue number but one.
@@ -37,7 +38,7 @@ fn an_arena_is_made_of_worn_chunks(rt: HostRuntime) -> Result<(), Fail> {
 }
 
 /// A step of hand 0, behind a change, if there is one.
-fn does(alloc: Global, change: Option<Change>, step: Step) -> Result<Event, AllocError> {
+fn does(alloc: Global, change: Option<Change>, step: Step) -> Result<Event, Refused> {
     let mut before = Series::new(alloc);
     if let Some(change) = change {
         before.push(change)?;
@@ -50,12 +51,15 @@ fn does(alloc: Global, change: Option<Change>, step: Step) -> Result<Event, Allo
 }
 
 /// Class 1 gets a page, all of whose chunks are cut, and hands one out. An item is stored there.
-fn events(alloc: Global) -> Result<Vec<Event>, AllocError> {
+fn events(alloc: Global) -> Result<Vec<Event>, Refused> {
     let mut events = Vec::new(alloc);
-    events.push(does(alloc, None, Step::TakeSlabs)?)?;
-    events.push(does(alloc, Some(Change::Grow(1)), Step::Cut(0, 0))?)?;
+    push(&mut events, does(alloc, None, Step::TakeSlabs)?)?;
+    push(
+        &mut events,
+        does(alloc, Some(Change::Grow(1)), Step::Cut(0, 0))?,
+    )?;
     for index in 1..21 {
-        events.push(does(alloc, None, Step::Cut(0, index))?)?;
+        push(&mut events, does(alloc, None, Step::Cut(0, index))?)?;
     }
     for step in [
         Step::Pop(1),
@@ -66,11 +70,11 @@ fn events(alloc: Global) -> Result<Vec<Event>, AllocError> {
         Step::Fill(LAST, 3, 100),
         Step::TakeStripe(3),
     ] {
-        events.push(does(alloc, None, step)?)?;
+        push(&mut events, does(alloc, None, step)?)?;
     }
     let reserve = Some(Change::Reserve(3));
-    events.push(does(alloc, reserve, Step::Link(LAST))?)?;
-    events.push(does(alloc, None, Step::GiveStripe(3))?)?;
+    push(&mut events, does(alloc, reserve, Step::Link(LAST))?)?;
+    push(&mut events, does(alloc, None, Step::GiveStripe(3))?)?;
     Ok(events)
 }
 
@@ -78,7 +82,7 @@ fn events(alloc: Global) -> Result<Vec<Event>, AllocError> {
 fn play<R: Print>(rt: &R, alloc: Global, events: &[Event]) -> Result<State, Stop> {
     tell_call(rt, "replay");
     match replay(alloc, &FOUR_CLASSES, 2, events) {
-        Err(Stop::NoMemory) => {
+        Err(Stop::NoMemory(_)) => {
             tell_refused(rt, "replay");
             replay(alloc, &FOUR_CLASSES, 2, events)
         }

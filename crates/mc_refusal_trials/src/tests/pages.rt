@@ -94,7 +94,7 @@ impl Pages<'_> {
         match step {
             Step::Grows(class) => match self.grow(class) {
                 Ok(()) => Answer::Right,
-                Err(Grow::NoMemory) => Answer::NoMemory,
+                Err(Grow::NoMemory(_)) => Answer::NoMemory,
                 Err(Grow::NoRoom) => Answer::Wrong,
             },
             Step::IsFull(class) => match self.grow(class) {
@@ -103,7 +103,7 @@ impl Pages<'_> {
             },
             Step::Begins(src, dst, source) => match self.begin(src, dst) {
                 Ok(()) => self.is_begun(source),
-                Err(Reassign::NoMemory) => Answer::NoMemory,
+                Err(Reassign::NoMemory(_)) => Answer::NoMemory,
                 Err(_) => Answer::Wrong,
             },
         }

@@ -5,7 +5,6 @@ use super::holding::{has_words, hold};
 use super::opening::opened;
 use super::steps::{Step, play_all, run};
 use mc_items::release;
-use mc_pages::Reassign;
 use std::alloc::Global;
 use std::process::Abort;
 use std::sync::Wait;
@@ -109,7 +108,7 @@ fn a_held_item_keeps_its_page(rt: HostRuntime) -> Result<(), Fail> {
         (Call::Reassign(Some(4), 1), Answer::Done),
         (Call::Turn, went(1, 0, 1, 1)),
         surveys(true, [0, 0, 1, 1]),
-        (Call::Reassign(Some(4), 2), Answer::Stays(Reassign::Busy)),
+        (Call::Reassign(Some(4), 2), Answer::Busy),
     ];
     play_all(&rt, rt.alloc(), &arena, &mut hand, &mut looker, &steps);
     if !has_words(&rt, rt.alloc(), &arena, &mut reader, &mut looker, &item, 22) {

@@ -64,7 +64,7 @@ fn accepted(alloc: Global, line: &[u8]) -> Result<Accepted, Refusal> {
     };
     match ClassTable::build(alloc, &config) {
         Ok(_) => Ok(Accepted { config }),
-        Err(ConfigError::NoMemory) => Err(Refusal::Memory),
+        Err(ConfigError::NoMemory(_)) => Err(Refusal::Memory),
         Err(error) => Err(Refusal::Config(error)),
     }
 }

@@ -111,8 +111,8 @@ fn class(alloc: Global, text: &mut String, slabs: &Slabs, class: ClassId) -> Res
     requires { IsClass slabs.now.state class }
     ensures { OnOk result (string_bytes text.new ≡ string_bytes text.old ++ class_line class (class_at slabs.now.state class)) }
 {
-    let free = free_of(alloc, slabs, class)?;
-    let order = order_of(alloc, slabs, class)?;
+    let free = free_of(alloc, slabs, class).map_err(|_| AllocError)?;
+    let order = order_of(alloc, slabs, class).map_err(|_| AllocError)?;
     free_list(text, class, &free)?;
     hand_out_order(text, &order)?;
     evictions(text, slabs.numbers(class).evictions)

@@ -3,8 +3,9 @@ ghost use Rattle.std.specs.Prelude.{◌≡◌, ◌<◌, ◌≤◌};
 
 use super::{FOUR_CLASSES, assert_same};
 use mc_core::{Change, Event, Series, State, Step, Stop, replay};
+use mc_memory::{Refused, push, with_capacity};
 use mc_pages::{ChunkId, Entry};
-use std::alloc::{AllocError, Global};
+use std::alloc::Global;
 use std::process::Abort;
 use std::test::Fail;
 
@@ -27,31 +28,32 @@ fn does(alloc: Global, hand: u64, step: Step) -> Event {
 }
 
 /// A step of hand 0 after one change.
-fn does_after(alloc: Global, change: Change, step: Step) -> Result<Event, AllocError> {
+fn does_after(alloc: Global, change: Change, step: Step) -> Result<Event, Refused> {
     let mut event = does(alloc, 0, step);
     event.before.push(change)?;
     Ok(event)
 }
 
 /// Hand 0 takes the slabs lock, and class 1 gets page 0, of which so many chunks are cut.
-fn cut(alloc: Global, chunks: u64) -> Result<Vec<Event>, AllocError> {
+fn cut(alloc: Global, chunks: u64) -> Result<Vec<Event>, Refused> {
     let mut events = Vec::new(alloc);
-    events.push(does(alloc, 0, Step::TakeSlabs))?;
+    push(&mut events, does(alloc, 0, Step::TakeSlabs))?;
     for index in 0..chunks {
         let step = Step::Cut(0, index);
-        events.push(if index == 0 {
+        let event = if index == 0 {
             does_after(alloc, Change::Grow(1), step)?
         } else {
             does(alloc, 0, step)
-        })?;
+        };
+        push(&mut events, event)?;
     }
     Ok(events)
 }
 
 /// More steps of hand 0.
-fn go_on(alloc: Global, events: &mut Vec<Event>, steps: &[Step]) -> Result<(), AllocError> {
+fn go_on(alloc: Global, events: &mut Vec<Event>, steps: &[Step]) -> Result<(), Refused> {
     for step in steps {
-        events.push(does(alloc, 0, *step))?;
+        push(events, does(alloc, 0, *step))?;
     }
     Ok(())
 }
@@ -61,12 +63,17 @@ fn play(alloc: Global, events: &[Event]) -> Result<State, Stop> {
     replay(alloc, &FOUR_CLASSES, 2, events)
 }
 
-/// The events aren't played to their end, and this is why.
-fn assert_stops(rt: &impl Abort, alloc: Global, events: &[Event], wanted: Stop) {
-    let found = match play(alloc, events) {
-        Ok(_) => None,
-        Err(stop) => Some(stop),
-    };
+/// The place, from 0, of the first event that isn't allowed.
+fn stop_of(alloc: Global, events: &[Event]) -> Option<u64> {
+    match play(alloc, events) {
+        Err(Stop::NotAllowed(place)) => Some(place),
+        _ => None,
+    }
+}
+
+/// The event at this place, from 0, is the first that isn't allowed.
+fn assert_stops(rt: &impl Abort, alloc: Global, events: &[Event], wanted: u64) {
+    let found = stop_of(alloc, events);
     assert_same(rt, found, Some(wanted), "how the events end");
 }
 
@@ -95,7 +102,7 @@ fn a_page_is_cut_whole_before_its_lock_is_given(rt: HostRuntime) -> Result<(), F
     );
     let mut short = cut(rt.alloc(), 20)?;
     short.push(does(rt.alloc(), 0, Step::GiveSlabs))?;
-    assert_stops(&rt, rt.alloc(), &short, Stop::NotAllowed(21));
+    assert_stops(&rt, rt.alloc(), &short, 21);
     Ok(())
 }
 
@@ -103,7 +110,7 @@ fn a_page_is_cut_whole_before_its_lock_is_given(rt: HostRuntime) -> Result<(), F
 fn a_class_without_a_page_hands_out_nothing(rt: HostRuntime) -> Result<(), Fail> {
     let mut events = Vec::new(rt.alloc());
     go_on(rt.alloc(), &mut events, &[Step::TakeSlabs, Step::Pop(1)])?;
-    assert_stops(&rt, rt.alloc(), &events, Stop::NotAllowed(1));
+    assert_stops(&rt, rt.alloc(), &events, 1);
     Ok(())
 }
 
@@ -123,7 +130,7 @@ fn a_header_tells_issue_tag_and_count(rt: HostRuntime) -> Result<(), Fail> {
 }
 
 /// An item of one word is stored in the chunk that is handed out first.
-fn store(alloc: Global) -> Result<Vec<Event>, AllocError> {
+fn store(alloc: Global) -> Result<Vec<Event>, Refused> {
     let mut events = cut(alloc, 21)?;
     let steps = [
         Step::Pop(1),
@@ -135,7 +142,10 @@ fn store(alloc: Global) -> Result<Vec<Event>, AllocError> {
         Step::TakeStripe(3),
     ];
     go_on(alloc, &mut events, &steps)?;
-    events.push(does_after(alloc, Change::Reserve(3), Step::Link(LAST))?)?;
+    push(
+        &mut events,
+        does_after(alloc, Change::Reserve(3), Step::Link(LAST))?,
+    )?;
     Ok(events)
 }
 
@@ -169,7 +179,7 @@ fn the_link_and_each_holding_count(rt: HostRuntime) -> Result<(), Fail> {
     )?;
     let again = events.len() as u64;
     events.push(does(rt.alloc(), 1, Step::Again(LAST, 1)))?;
-    assert_stops(&rt, rt.alloc(), &events, Stop::NotAllowed(again));
+    assert_stops(&rt, rt.alloc(), &events, again);
     Ok(())
 }
 
@@ -179,7 +189,7 @@ fn a_hint_of_another_issue_is_refused(rt: HostRuntime) -> Result<(), Fail> {
     go_on(rt.alloc(), &mut events, &[Step::GiveStripe(3)])?;
     let again = events.len() as u64;
     events.push(does(rt.alloc(), 0, Step::Again(LAST, 2)))?;
-    assert_stops(&rt, rt.alloc(), &events, Stop::NotAllowed(again));
+    assert_stops(&rt, rt.alloc(), &events, again);
     Ok(())
 }
 
@@ -187,7 +197,10 @@ fn a_hint_of_another_issue_is_refused(rt: HostRuntime) -> Result<(), Fail> {
 fn a_stop_is_told(rt: HostRuntime) -> Result<(), Fail> {
     let text = Stop::NotAllowed(21).to_string(rt.alloc())?;
     assert_same(&rt, text.as_str(), "event 21 is not allowed", "the first");
-    let text = Stop::NoMemory.to_string(rt.alloc())?;
+    let Err(refused) = with_capacity::<u64>(rt.alloc(), usize::MAX) else {
+        return Err(Fail::new("there is no room for so much"));
+    };
+    let text = Stop::NoMemory(refused).to_string(rt.alloc())?;
     assert_same(&rt, text.as_str(), "out of memory", "the second");
     Ok(())
 }

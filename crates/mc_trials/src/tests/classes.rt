@@ -1,7 +1,7 @@
 //! Class tables: their sizes, the class of an item, and which configurations are refused.
 mod vectors;
 
-use super::{FOUR_CLASSES, assert_same};
+use super::{FOUR_CLASSES, assert_equal, assert_same, too_much};
 use mc_classes::{ClassId, ClassTable, Config, ConfigError};
 use std::alloc::Global;
 use std::process::Abort;
@@ -163,7 +163,7 @@ fn sizes_that_memcached_printed(rt: HostRuntime) -> Result<(), Fail> {
 /// The configuration is refused with this error.
 fn assert_refused(rt: &impl Abort, alloc: Global, name: &str, config: Config, wanted: ConfigError) {
     let found = ClassTable::build(alloc, &config).err();
-    assert_same(rt, found, Some(wanted), name);
+    assert_equal(rt, found, Some(wanted), name);
 }
 
 #[test]
@@ -590,7 +590,11 @@ fn numbers_and_texts(rt: HostRuntime) -> Result<(), Fail> {
             "a page of the first class would",
         ),
         (ConfigError::Bulk, 8, "the number of chunks a turn must"),
-        (ConfigError::NoMemory, 9, "out of memory"),
+        (
+            ConfigError::NoMemory(too_much(rt.alloc())?),
+            9,
+            "out of memory",
+        ),
     ] {
         assert_told(&rt, rt.alloc(), error, number, text)?;
     }

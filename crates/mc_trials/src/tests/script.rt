@@ -1,5 +1,5 @@
 //! Scripts that are read, and such as are refused.
-use super::{assert_equal, assert_same};
+use super::{assert_equal, assert_same, too_much};
 use mc_script::{Command, MAX_SCRIPT, ScriptError, read};
 use std::alloc::Global;
 use std::test::Fail;
@@ -7,9 +7,11 @@ use std::test::Fail;
 /// The line at which a script is refused.
 fn refused_line(alloc: Global, script: &[u8]) -> Result<Option<u64>, ScriptError> {
     match read(alloc, script) {
-        Ok(_) => Ok(None),
-        Err(ScriptError::Line(number)) => Ok(Some(number)),
-        Err(error) => Err(error),
+        Ok(_commands) => Ok(None),
+        Err(error) => match error {
+            ScriptError::Line(number) => Ok(Some(number)),
+            ScriptError::NoMemory(refused) => Err(ScriptError::NoMemory(refused)),
+        },
     }
 }
 
@@ -127,7 +129,7 @@ fn reads_a_largest_script(rt: HostRuntime) -> Result<(), Fail> {
 fn tells_the_error(rt: HostRuntime) -> Result<(), Fail> {
     let line = ScriptError::Line(12).to_string(rt.alloc())?;
     assert_same(&rt, line.as_str(), "line 12 is no command", "the text");
-    let memory = ScriptError::NoMemory.to_string(rt.alloc())?;
+    let memory = ScriptError::NoMemory(too_much(rt.alloc())?).to_string(rt.alloc())?;
     assert_same(&rt, memory.as_str(), "out of memory", "the text");
     Ok(())
 }
@@ -168,7 +170,7 @@ fn refuses_other_lines_of_workers(rt: HostRuntime) -> Result<(), Fail> {
         "1 get 1\r",
     ] {
         let error = read(rt.alloc(), script.as_bytes()).err();
-        assert_same(&rt, error, Some(ScriptError::Line(1)), script);
+        assert_equal(&rt, error, Some(ScriptError::Line(1)), script);
     }
     Ok(())
 }
@@ -227,7 +229,7 @@ fn refuses_other_lines_without_a_worker(rt: HostRuntime) -> Result<(), Fail> {
         "stats\r",
     ] {
         let error = read(rt.alloc(), script.as_bytes()).err();
-        assert_same(&rt, error, Some(ScriptError::Line(1)), script);
+        assert_equal(&rt, error, Some(ScriptError::Line(1)), script);
     }
     Ok(())
 }

@@ -16,7 +16,7 @@ use Rattle.mc_words.specs.declared.hand.Hand.{Hand}
 use Rattle.mc_words.proofs.Sweeps.{is_empty, stands_there, sweep_passes, swept_at}
 use Rattle.mc_words.proofs.SweepViews.{class_here, order_once, stands_out}
 use Rattle.mc_words.proofs.Unlocked.{no_stripe_from, no_stripes_there}
-use Rattle.mc_stripe.specs.declared.refusal.NoMemory.{NoMemory}
+use Rattle.std.specs.Prelude.{⊤}
 use Rattle.mc_items.specs.declared.evicting.Supply.{Supply}
 use Rattle.mc_items.specs.Evicting.{FreesChunk, PassesEach, PassesOne}
 use Rattle.mc_items.proofs.FirstFive.{five_of_all, five_passed, five_with, rest_begins}
@@ -120,7 +120,7 @@ returns-in_err-supply-clause-no_memory c =
 -- the chunk was freed so
 freed_here : (c : goal.In-Some-2) → FreesChunk c.loop.hand.number c.args.class c.in-Some.chunk c.in-Some-2.supply c.loop.hand.seat.me.0 c.loop.slabs.shared c.free_one.new.hand.seat.me.0 c.free_one.new.slabs.shared
 freed_here c =
-    subst (λ (r : Result (Option Supply) NoMemory). IfOk r (λ freed. IfSome freed (λ supply. FreesChunk c.loop.hand.number c.args.class c.in-Some.chunk supply c.loop.hand.seat.me.0 c.loop.slabs.shared c.free_one.new.hand.seat.me.0 c.free_one.new.slabs.shared)))
+    subst (λ (r : Result (Option Supply) ⊤). IfOk r (λ freed. IfSome freed (λ supply. FreesChunk c.loop.hand.number c.args.class c.in-Some.chunk supply c.loop.hand.seat.me.0 c.loop.slabs.shared c.free_one.new.hand.seat.me.0 c.free_one.new.slabs.shared)))
     (c.in_ok-supply.was ∙ ap (λ o. Ok o) c.in-Some-2.is) c.free_one.ensures.frees
 
 pub returns-in-Some-2-clause-frees : goal.returns-in-Some-2-clause-frees

@@ -103,13 +103,13 @@ returns-in_err-found-clause-lacks c =
     as_error c.from_residual.result
     (c.if-not-unheld.false, reached c.args.chunk view read taken slabs key stripe value reads at c.in-Ok.ensures.taken c.in-Ok.ensures.lent c.in-Ok.ensures.whole (GivesThere c.args.chunk) now left (ap (option_map (λ (place : ChunkId × ℕ). place.0)) leads.1, c.in_err-found.ensures.unready, subst (λ n. OnlyGives n value taken slabs now left) c.in-Ok.ensures.number c.in_err-found.ensures.lacks))
 
-pub returns-then-ne-clause-locks : goal.returns-then-ne-clause-locks
-returns-then-ne-clause-locks c =
+pub returns-clause-locks : goal.returns-clause-locks
+returns-clause-locks c =
     let back = ap without_stripe c.in-Ok.ensures.locks ∙ (stripe_back c.word_held-key.new.hand (c.word_held-key.result % c.config.result.now.stripes) (ap (λ (v : View). has_no_stripes v) c.word_held-key.ensures.view ∙ c.requires.one) ∙ c.word_held-key.ensures.locks) in
     c.clear.ensures.locks ∙ (c.save.ensures.locks ∙ back)
 
-pub returns-then-ne-clause-visits : goal.returns-then-ne-clause-visits
-returns-then-ne-clause-visits c =
+pub returns-clause-visits : goal.returns-clause-visits
+returns-clause-visits c =
     let view : View = c.args.hand.now.seat.me.0 in
     let key = c.word_held-key.result in
     let read : View = c.word_held-key.new.hand.seat.me.0 in
@@ -125,7 +125,7 @@ returns-then-ne-clause-visits c =
     let number = number_stays c.args.hand.now c.try_stripe.new.hand (ap (λ (v : View). v.row.ids) c.in-Ok.ensures.lent ∙ ap (λ (v : View). v.row.ids) c.word_held-key.ensures.view) in
     let saves : SavesAs c.args.hand.now.number c.args.class c.args.chunk found stripe value taken slabs saved kept =
     subst (λ (p : ℕ × ℕ). SavesAs p.0 c.args.class c.args.chunk found p.1 value taken slabs saved kept) (λ k. (number k, c.in-Ok.ensures.number k)) c.in_ok-found.ensures.saves in
-    let free = saved_found c.args.hand.now.number c.args.class c.args.chunk found stripe value taken slabs saved kept saves (sym c.ne.ensures ∙ c.if-ne.true) in
+    let free = saved_found c.args.hand.now.number c.args.class c.args.chunk found stripe value taken slabs saved kept saves (sym c.eq.ensures ∙ c.if-eq.false) in
     let dead = c.in_ok-found.ensures.dead free in
     let clears = of_ok c.clear.result (c.clear.ensures.succeeds (dead_unused _ dead)) c.clear.ensures.cleared in
     let held : c.args.unheld ≡ true = c.if-not-unheld.false in
@@ -133,8 +133,8 @@ returns-then-ne-clause-visits c =
     (visited_saved c.args.hand.now.number c.args.class c.args.chunk found view slabs c.clear.new.hand.seat.me.0 c.clear.new.held.shared free
     (record { saved = saved; kept = kept; reaches = reached c.args.chunk view read taken slabs key stripe value reads at c.in-Ok.ensures.taken c.in-Ok.ensures.lent c.in-Ok.ensures.whole (λ key. SavesAs c.args.hand.now.number c.args.class c.args.chunk found) saved kept saves; clears = clears.0; left_is = clears.1 }))
 
-pub returns-then-ne-clause-clears : goal.returns-then-ne-clause-clears
-returns-then-ne-clause-clears c =
+pub returns-clause-clears : goal.returns-clause-clears
+returns-clause-clears c =
     let view : View = c.args.hand.now.seat.me.0 in
     let key = c.word_held-key.result in
     let read : View = c.word_held-key.new.hand.seat.me.0 in
@@ -150,14 +150,14 @@ returns-then-ne-clause-clears c =
     let number = number_stays c.args.hand.now c.try_stripe.new.hand (ap (λ (v : View). v.row.ids) c.in-Ok.ensures.lent ∙ ap (λ (v : View). v.row.ids) c.word_held-key.ensures.view) in
     let saves : SavesAs c.args.hand.now.number c.args.class c.args.chunk found stripe value taken slabs saved kept =
     subst (λ (p : ℕ × ℕ). SavesAs p.0 c.args.class c.args.chunk found p.1 value taken slabs saved kept) (λ k. (number k, c.in-Ok.ensures.number k)) c.in_ok-found.ensures.saves in
-    let free = saved_found c.args.hand.now.number c.args.class c.args.chunk found stripe value taken slabs saved kept saves (sym c.ne.ensures ∙ c.if-ne.true) in
+    let free = saved_found c.args.hand.now.number c.args.class c.args.chunk found stripe value taken slabs saved kept saves (sym c.eq.ensures ∙ c.if-eq.false) in
     let dead = c.in_ok-found.ensures.dead free in
     let clears = of_ok c.clear.result (c.clear.ensures.succeeds (dead_unused _ dead)) c.clear.ensures.cleared in
     let owned : class_of_page kept c.args.chunk.page ≡ c.args.class = ap (λ owners. Rattle.mc_pages.specs.SlabState.class_of_owner (Rattle.mc_pages.specs.Ledger.owner_at owners c.args.chunk.page)) c.in_ok-found.ensures.owners ∙ c.requires.own in
     λ _. cleared_after_clear saved c.clear.new.hand.seat.me.0 kept c.clear.new.held.shared c.args.class c.args.chunk c.save.ensures.slabs c.clear.ensures.held c.clear.ensures.arena.lawful clears.0 clears.1 owned
 
-pub returns-then-ne-clause-moving : goal.returns-then-ne-clause-moving
-returns-then-ne-clause-moving c =
+pub returns-clause-moving : goal.returns-clause-moving
+returns-clause-moving c =
     let view : View = c.args.hand.now.seat.me.0 in
     let key = c.word_held-key.result in
     let read : View = c.word_held-key.new.hand.seat.me.0 in
@@ -173,13 +173,13 @@ returns-then-ne-clause-moving c =
     let number = number_stays c.args.hand.now c.try_stripe.new.hand (ap (λ (v : View). v.row.ids) c.in-Ok.ensures.lent ∙ ap (λ (v : View). v.row.ids) c.word_held-key.ensures.view) in
     let saves : SavesAs c.args.hand.now.number c.args.class c.args.chunk found stripe value taken slabs saved kept =
     subst (λ (p : ℕ × ℕ). SavesAs p.0 c.args.class c.args.chunk found p.1 value taken slabs saved kept) (λ k. (number k, c.in-Ok.ensures.number k)) c.in_ok-found.ensures.saves in
-    let free = saved_found c.args.hand.now.number c.args.class c.args.chunk found stripe value taken slabs saved kept saves (sym c.ne.ensures ∙ c.if-ne.true) in
+    let free = saved_found c.args.hand.now.number c.args.class c.args.chunk found stripe value taken slabs saved kept saves (sym c.eq.ensures ∙ c.if-eq.false) in
     let dead = c.in_ok-found.ensures.dead free in
     let clears = of_ok c.clear.result (c.clear.ensures.succeeds (dead_unused _ dead)) c.clear.ensures.cleared in
     ap (λ (x : SlabState). x.moving) clears.1 ∙ c.in_ok-found.ensures.moving
 
-pub returns-then-ne-clause-uncut : goal.returns-then-ne-clause-uncut
-returns-then-ne-clause-uncut c =
+pub returns-clause-uncut : goal.returns-clause-uncut
+returns-clause-uncut c =
     let view : View = c.args.hand.now.seat.me.0 in
     let key = c.word_held-key.result in
     let read : View = c.word_held-key.new.hand.seat.me.0 in
@@ -195,13 +195,13 @@ returns-then-ne-clause-uncut c =
     let number = number_stays c.args.hand.now c.try_stripe.new.hand (ap (λ (v : View). v.row.ids) c.in-Ok.ensures.lent ∙ ap (λ (v : View). v.row.ids) c.word_held-key.ensures.view) in
     let saves : SavesAs c.args.hand.now.number c.args.class c.args.chunk found stripe value taken slabs saved kept =
     subst (λ (p : ℕ × ℕ). SavesAs p.0 c.args.class c.args.chunk found p.1 value taken slabs saved kept) (λ k. (number k, c.in-Ok.ensures.number k)) c.in_ok-found.ensures.saves in
-    let free = saved_found c.args.hand.now.number c.args.class c.args.chunk found stripe value taken slabs saved kept saves (sym c.ne.ensures ∙ c.if-ne.true) in
+    let free = saved_found c.args.hand.now.number c.args.class c.args.chunk found stripe value taken slabs saved kept saves (sym c.eq.ensures ∙ c.if-eq.false) in
     let dead = c.in_ok-found.ensures.dead free in
     let clears = of_ok c.clear.result (c.clear.ensures.succeeds (dead_unused _ dead)) c.clear.ensures.cleared in
     ap (λ (x : SlabState). x.uncut) clears.1 ∙ c.in_ok-found.ensures.uncut
 
-pub returns-then-ne-clause-per_page : goal.returns-then-ne-clause-per_page
-returns-then-ne-clause-per_page c =
+pub returns-clause-per_page : goal.returns-clause-per_page
+returns-clause-per_page c =
     let view : View = c.args.hand.now.seat.me.0 in
     let key = c.word_held-key.result in
     let read : View = c.word_held-key.new.hand.seat.me.0 in
@@ -217,13 +217,13 @@ returns-then-ne-clause-per_page c =
     let number = number_stays c.args.hand.now c.try_stripe.new.hand (ap (λ (v : View). v.row.ids) c.in-Ok.ensures.lent ∙ ap (λ (v : View). v.row.ids) c.word_held-key.ensures.view) in
     let saves : SavesAs c.args.hand.now.number c.args.class c.args.chunk found stripe value taken slabs saved kept =
     subst (λ (p : ℕ × ℕ). SavesAs p.0 c.args.class c.args.chunk found p.1 value taken slabs saved kept) (λ k. (number k, c.in-Ok.ensures.number k)) c.in_ok-found.ensures.saves in
-    let free = saved_found c.args.hand.now.number c.args.class c.args.chunk found stripe value taken slabs saved kept saves (sym c.ne.ensures ∙ c.if-ne.true) in
+    let free = saved_found c.args.hand.now.number c.args.class c.args.chunk found stripe value taken slabs saved kept saves (sym c.eq.ensures ∙ c.if-eq.false) in
     let dead = c.in_ok-found.ensures.dead free in
     let clears = of_ok c.clear.result (c.clear.ensures.succeeds (dead_unused _ dead)) c.clear.ensures.cleared in
     per_page-map kept c.clear.new.held.shared c.args.class (ap (λ (s : SlabState). map (λ (x : ClassState). x.per_page) s.classes) clears.1 ∙ per_pages-with_class kept (class_of_page kept c.args.chunk.page) _ refl) ∙ c.in_ok-found.ensures.per_page
 
-pub returns-then-ne-clause-holdings : goal.returns-then-ne-clause-holdings
-returns-then-ne-clause-holdings c =
+pub returns-clause-holdings : goal.returns-clause-holdings
+returns-clause-holdings c =
     let view : View = c.args.hand.now.seat.me.0 in
     let key = c.word_held-key.result in
     let read : View = c.word_held-key.new.hand.seat.me.0 in
@@ -239,13 +239,13 @@ returns-then-ne-clause-holdings c =
     let number = number_stays c.args.hand.now c.try_stripe.new.hand (ap (λ (v : View). v.row.ids) c.in-Ok.ensures.lent ∙ ap (λ (v : View). v.row.ids) c.word_held-key.ensures.view) in
     let saves : SavesAs c.args.hand.now.number c.args.class c.args.chunk found stripe value taken slabs saved kept =
     subst (λ (p : ℕ × ℕ). SavesAs p.0 c.args.class c.args.chunk found p.1 value taken slabs saved kept) (λ k. (number k, c.in-Ok.ensures.number k)) c.in_ok-found.ensures.saves in
-    let free = saved_found c.args.hand.now.number c.args.class c.args.chunk found stripe value taken slabs saved kept saves (sym c.ne.ensures ∙ c.if-ne.true) in
+    let free = saved_found c.args.hand.now.number c.args.class c.args.chunk found stripe value taken slabs saved kept saves (sym c.eq.ensures ∙ c.if-eq.false) in
     let dead = c.in_ok-found.ensures.dead free in
     let clears = of_ok c.clear.result (c.clear.ensures.succeeds (dead_unused _ dead)) c.clear.ensures.cleared in
     ap (λ (v : View). v.row.holdings) clears.0.is ∙ (c.save.ensures.holdings ∙ (ap (λ (v : View). v.row.holdings) c.in-Ok.ensures.lent ∙ ap (λ (v : View). v.row.holdings) c.word_held-key.ensures.view))
 
-pub returns-then-ne-clause-ids : goal.returns-then-ne-clause-ids
-returns-then-ne-clause-ids c =
+pub returns-clause-ids : goal.returns-clause-ids
+returns-clause-ids c =
     let view : View = c.args.hand.now.seat.me.0 in
     let key = c.word_held-key.result in
     let read : View = c.word_held-key.new.hand.seat.me.0 in
@@ -261,18 +261,18 @@ returns-then-ne-clause-ids c =
     let number = number_stays c.args.hand.now c.try_stripe.new.hand (ap (λ (v : View). v.row.ids) c.in-Ok.ensures.lent ∙ ap (λ (v : View). v.row.ids) c.word_held-key.ensures.view) in
     let saves : SavesAs c.args.hand.now.number c.args.class c.args.chunk found stripe value taken slabs saved kept =
     subst (λ (p : ℕ × ℕ). SavesAs p.0 c.args.class c.args.chunk found p.1 value taken slabs saved kept) (λ k. (number k, c.in-Ok.ensures.number k)) c.in_ok-found.ensures.saves in
-    let free = saved_found c.args.hand.now.number c.args.class c.args.chunk found stripe value taken slabs saved kept saves (sym c.ne.ensures ∙ c.if-ne.true) in
+    let free = saved_found c.args.hand.now.number c.args.class c.args.chunk found stripe value taken slabs saved kept saves (sym c.eq.ensures ∙ c.if-eq.false) in
     let dead = c.in_ok-found.ensures.dead free in
     let clears = of_ok c.clear.result (c.clear.ensures.succeeds (dead_unused _ dead)) c.clear.ensures.cleared in
     ap (λ (v : View). v.row.ids) clears.0.is ∙ (c.save.ensures.ids ∙ (ap (λ (v : View). v.row.ids) c.in-Ok.ensures.lent ∙ ap (λ (v : View). v.row.ids) c.word_held-key.ensures.view))
 
-pub returns-else-ne-clause-locks : goal.returns-else-ne-clause-locks
-returns-else-ne-clause-locks c =
+pub returns-then-eq-clause-locks : goal.returns-then-eq-clause-locks
+returns-then-eq-clause-locks c =
     let back = ap without_stripe c.in-Ok.ensures.locks ∙ (stripe_back c.word_held-key.new.hand (c.word_held-key.result % c.config.result.now.stripes) (ap (λ (v : View). has_no_stripes v) c.word_held-key.ensures.view ∙ c.requires.one) ∙ c.word_held-key.ensures.locks) in
     c.save.ensures.locks ∙ back
 
-pub returns-else-ne-clause-visits : goal.returns-else-ne-clause-visits
-returns-else-ne-clause-visits c =
+pub returns-then-eq-clause-visits : goal.returns-then-eq-clause-visits
+returns-then-eq-clause-visits c =
     let view : View = c.args.hand.now.seat.me.0 in
     let key = c.word_held-key.result in
     let read : View = c.word_held-key.new.hand.seat.me.0 in
@@ -288,12 +288,12 @@ returns-else-ne-clause-visits c =
     let number = number_stays c.args.hand.now c.try_stripe.new.hand (ap (λ (v : View). v.row.ids) c.in-Ok.ensures.lent ∙ ap (λ (v : View). v.row.ids) c.word_held-key.ensures.view) in
     let saves : SavesAs c.args.hand.now.number c.args.class c.args.chunk found stripe value taken slabs saved kept =
     subst (λ (p : ℕ × ℕ). SavesAs p.0 c.args.class c.args.chunk found p.1 value taken slabs saved kept) (λ k. (number k, c.in-Ok.ensures.number k)) c.in_ok-found.ensures.saves in
-    let busy = held_found c.args.hand.now.number c.args.class c.args.chunk found stripe value taken slabs saved kept saves (sym c.ne.ensures ∙ c.if-ne.false) in
+    let busy = held_found c.args.hand.now.number c.args.class c.args.chunk found stripe value taken slabs saved kept saves (sym c.eq.ensures ∙ c.if-eq.true) in
     subst (λ (p : Bool × Found). VisitsLinked c.args.hand.now.number c.args.class c.args.chunk p.0 p.1 view slabs saved kept) (λ k. (sym c.if-not-unheld.false k, sym busy k))
     (inr (reached c.args.chunk view read taken slabs key stripe value reads at c.in-Ok.ensures.taken c.in-Ok.ensures.lent c.in-Ok.ensures.whole (λ key. SavesAs c.args.hand.now.number c.args.class c.args.chunk Busy) saved kept (subst (λ (f : Found). SavesAs c.args.hand.now.number c.args.class c.args.chunk f stripe value taken slabs saved kept) busy saves)))
 
-pub returns-else-ne-clause-clears : goal.returns-else-ne-clause-clears
-returns-else-ne-clause-clears c =
+pub returns-then-eq-clause-clears : goal.returns-then-eq-clause-clears
+returns-then-eq-clause-clears c =
     let view : View = c.args.hand.now.seat.me.0 in
     let key = c.word_held-key.result in
     let read : View = c.word_held-key.new.hand.seat.me.0 in
@@ -309,5 +309,5 @@ returns-else-ne-clause-clears c =
     let number = number_stays c.args.hand.now c.try_stripe.new.hand (ap (λ (v : View). v.row.ids) c.in-Ok.ensures.lent ∙ ap (λ (v : View). v.row.ids) c.word_held-key.ensures.view) in
     let saves : SavesAs c.args.hand.now.number c.args.class c.args.chunk found stripe value taken slabs saved kept =
     subst (λ (p : ℕ × ℕ). SavesAs p.0 c.args.class c.args.chunk found p.1 value taken slabs saved kept) (λ k. (number k, c.in-Ok.ensures.number k)) c.in_ok-found.ensures.saves in
-    let busy = held_found c.args.hand.now.number c.args.class c.args.chunk found stripe value taken slabs saved kept saves (sym c.ne.ensures ∙ c.if-ne.false) in
+    let busy = held_found c.args.hand.now.number c.args.class c.args.chunk found stripe value taken slabs saved kept saves (sym c.eq.ensures ∙ c.if-eq.true) in
     λ free. absurd (let held : is_held_up found ≡ true = ap is_held_up busy in let never : true ≡ false = sym held ∙ free in cc)

@@ -83,8 +83,8 @@ loop-preserved c =
           c.in_ok-found.ensures.moves c.count.ensures.counted;
     }
 
-pub returns-after-loop-clause-looks : goal.returns-after-loop-clause-looks
-returns-after-loop-clause-looks c =
+pub returns-clause-looks : goal.returns-clause-looks
+returns-clause-looks c =
     let inv = c.loop.invariant in
     let hand = c.args.hand.now in
     let bulk = ap (λ (f : Config). f.bulk) c.config.ensures.config ∙ ap (λ (s : Setup). s.config.bulk) (sym c.requires.arena.setup) in
@@ -107,8 +107,8 @@ returns-then-moving-per_page-clause-looks c =
     c.loop.hand.seat.me.0 inv.arena.lawful inv.arena.setup c.loop.held.shared inv.held hand.number c.loop.counter c.loop.counts inv.gone
     (omega arith) move (sym c.in-Some.ensures.moving) (omega arith)
 
-pub returns-after-loop-clause-same_move : goal.returns-after-loop-clause-same_move
-returns-after-loop-clause-same_move c =
+pub returns-clause-same_move : goal.returns-clause-same_move
+returns-clause-same_move c =
     let hand = c.args.hand.now in
     gone_runs hand.number c.loop.counter c.loop.counts hand.seat.me.0 c.args.held.now.shared c.loop.hand.seat.me.0 c.loop.held.shared c.loop.invariant.gone
 

@@ -19,7 +19,7 @@ returns-clause-kept c =
     let there : IsLastAt c.args.key c.args.kept.now.items c.in-Some.place = subst (λ (l : List Ref). IsLastAt c.args.key l c.in-Some.place) c.deref.ensures.value c.in-Some.ensures.last in
     subst (AreKept (view c.release.new.hand)) (sym c.remove-item.ensures.items)
     (kept_without (view c.args.hand.now) (view c.read.new.hand) (view c.release.new.hand) c.args.kept.now.items c.in-Some.place c.remove-item.result there.there c.remove-item.ensures.value
-    c.requires.kept c.in_ok-words.ensures.keeps c.in_ok-words.ensures.holdings c.release.ensures.keeps c.release.ensures.holdings)
+    c.requires.kept c.in-Ok.ensures.keeps c.in-Ok.ensures.holdings c.release.ensures.keeps c.release.ensures.holdings)
 
 pub returns-clause-answers : goal.returns-clause-answers
 returns-clause-answers c =
@@ -30,12 +30,12 @@ returns-clause-answers c =
     let index : c.index.result.now ≡ item = c.index.ensures ∙ (get_or_default kept c.in-Some.place c.index.result.now item there.there ∙ sym c.remove-item.ensures.value) in
     let left = ap (holds_of (view c.release.new.hand)) c.remove-item.ensures.items
     ∙ holds_without before (view c.read.new.hand) (view c.release.new.hand) kept c.in-Some.place item there.there c.remove-item.ensures.value
-    c.requires.kept c.in_ok-words.ensures.keeps c.in_ok-words.ensures.holdings c.release.ensures.keeps c.release.ensures.holdings in
+    c.requires.kept c.in-Ok.ensures.keeps c.in-Ok.ensures.holdings c.release.ensures.keeps c.release.ensures.holdings in
     record {
       last = hold_of before item;
       is = subst (IsLastOf c.args.key (holds_of before kept) (hold_of before item)) (sym left)
           (subst (λ (r : Ref). IsLastOf c.args.key (holds_of before kept) (hold_of before r) (holds_of before (take c.in-Some.place kept ++ drop (suc c.in-Some.place) kept))) (sym c.remove-item.ensures.value)
           (last_held c.args.key before kept c.in-Some.place item there));
-      are = c.in_ok-words.ensures.words ∙ ap (item_words before) index;
-      released = c.release.ensures.dropped ∙ (ap (chunk_released (item_chunk item)) c.in_ok-words.ensures.view ∙ ap (λ (r : Ref). chunk_released (item_chunk item) (words_seen (item_chunk r) 3 (item_len r) before)) index);
+      are = c.in-Ok.ensures.words ∙ ap (item_words before) index;
+      released = c.release.ensures.dropped ∙ (ap (chunk_released (item_chunk item)) c.in-Ok.ensures.view ∙ ap (λ (r : Ref). chunk_released (item_chunk item) (words_seen (item_chunk r) 3 (item_len r) before)) index);
     }

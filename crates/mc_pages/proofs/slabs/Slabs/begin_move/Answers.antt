@@ -53,7 +53,7 @@ pub make_room-requires : goal.make_room-requires
 make_room-requires c = omega (arith, few (goal.at.make_room-requires c).After-page_count)
 
 -- what was reserved changes nothing that callers see
-refused_is : (c : goal.After-from_residual-in_err-make_room) → record (slabs_of c.self.inside) { classes = states c.self.inside.rows (set c.self.inside.classes.items (c.args.dst - 1) c.make_room.new.self); ledger = c.reserve.new.self.items } ≡ slabs_of c.self.inside
+refused_is : (c : goal.After-from_residual-in_err-make_room) → record (slabs_of c.self.inside) { classes = states c.self.inside.rows (set c.self.inside.classes.items (c.args.dst - 1) c.make_room.new.self); ledger = c.reserve.new.list.items } ≡ slabs_of c.self.inside
 refused_is c =
     let is = is_class (goal.at.invariant_of-self-in_err-make_room c).After-reserve c.if-dst-eq0.false in
     ap₂ (λ (classes : List ClassState) (ledger : List Entry). record (slabs_of c.self.inside) { classes = classes; ledger = ledger })
@@ -110,7 +110,7 @@ pushed c inside is before =
     ∙ (ap (λ (i : Inside). i.ledger.items ++ entry ∷ []) is ∙ ap (λ (entries : List Entry). entries ++ entry ∷ []) before))
 
 -- and room for the one at the move's end
-ledger_fits : (c : goal.After-self-4-1) → vec_len c.if-dst-eq0.self-inside.ledger ≡ vec_len c.reserve.new.self → vec_capacity c.if-dst-eq0.self-inside.ledger ≡ vec_capacity c.reserve.new.self → vec_len c.push.new.self + 1 ≤ vec_capacity c.push.new.self
+ledger_fits : (c : goal.After-self-4-1) → vec_len c.if-dst-eq0.self-inside.ledger ≡ vec_len c.reserve.new.list → vec_capacity c.if-dst-eq0.self-inside.ledger ≡ vec_capacity c.reserve.new.list → vec_len c.push.new.self + 1 ≤ vec_capacity c.push.new.self
 ledger_fits c len capacity = omega (arith, len, capacity, c.push.ensures.upper_bound, c.push.ensures.capacity, c.in_ok-reserve.ensures.ok)
 
 -- the whole after the beginning

@@ -54,7 +54,7 @@ is_next : (c : After-page_count) → next_page (slabs_of c.self.inside) ≡ Some
 is_next c = ap next_page (same_state c.self.view_is) ∙ (sym c.next_page.ensures ∙ c.in_ok-page.ensures.ok_part)
 
 -- what was reserved changes nothing that callers see
-refused_is : (c : goal.After-from_residual-in_err-make_room) → record (slabs_of c.self.inside) { classes = states c.self.inside.rows (set c.self.inside.classes.items (c.args.class - 1) c.make_room.new.self); ledger = c.reserve.new.self.items } ≡ slabs_of c.self.inside
+refused_is : (c : goal.After-from_residual-in_err-make_room) → record (slabs_of c.self.inside) { classes = states c.self.inside.rows (set c.self.inside.classes.items (c.args.class - 1) c.make_room.new.self); ledger = c.reserve.new.list.items } ≡ slabs_of c.self.inside
 refused_is c =
     let is = is_class (goal.at.invariant_of-self-in_err-make_room c).After-page_count in
     ap₂ (λ (classes : List ClassState) (ledger : List Entry). record (slabs_of c.self.inside) { classes = classes; ledger = ledger })
@@ -100,7 +100,7 @@ abbrev taken_inside : (c : goal.After-self-4-1) → Inside
 taken_inside c = record c.self.inside {
   classes = with_item c.self.inside.classes (c.args.class - 1) c.add_page.new.self;
   pool = c.pop.new.self;
-  ledger = c.reserve.new.self;
+  ledger = c.reserve.new.list;
 }
 
 -- and where it was untouched
@@ -114,7 +114,7 @@ pushed c inside entry is entry_is before =
     ∙ (ap₂ (λ (i : Inside) (e : Entry). i.ledger.items ++ e ∷ []) is entry_is ∙ ap (λ (entries : List Entry). entries ++ entry ∷ []) before))
 
 -- and room for one more where a page is on the move
-ledger_fits : (c : goal.After-self-4-1) → vec_len c.match-pop.self-inside.ledger ≡ vec_len c.reserve.new.self → vec_capacity c.match-pop.self-inside.ledger ≡ vec_capacity c.reserve.new.self → vec_len c.push.new.self + truth (is_some c.self.inside.moving) ≤ vec_capacity c.push.new.self
+ledger_fits : (c : goal.After-self-4-1) → vec_len c.match-pop.self-inside.ledger ≡ vec_len c.reserve.new.list → vec_capacity c.match-pop.self-inside.ledger ≡ vec_capacity c.reserve.new.list → vec_len c.push.new.self + truth (is_some c.self.inside.moving) ≤ vec_capacity c.push.new.self
 ledger_fits c len capacity =
     omega (arith, len, capacity, c.push.ensures.upper_bound, c.push.ensures.capacity, c.in_ok-reserve.ensures.ok, entries (goal.at.invariant_of-self-3 c).After-page_count)
 

@@ -39,7 +39,7 @@ returns-clause-fresh c =
     let table = c.args.table.now in
     let classes : states c.in_ok-rows.rows c.in_ok-classes.classes.items ≡ (fresh_slabs table).classes =
     ap₂ (λ (rows : RowsState) (all : List RoomyClass). states rows all) c.in_ok-rows.ensures c.in_ok-classes.ensures ∙ states-fresh table (per_page_of table 1) (pages_of table * per_page_of table 1) (length table.sizes) in
-    let owners = c.in_ok-owners.ensures.items_if_clones_equal (λ y e. e) ∙ ap all_untouched c.pages.ensures.pages in
+    let owners = c.in_ok-owners.ensures.items ∙ ap all_untouched c.pages.ensures.pages in
     ap₂ (λ (page limit : ℕ). fresh_with page limit c.count.result (states c.in_ok-rows.rows c.in_ok-classes.classes.items) c.in_ok-owners.owners.items c.new.result.items c.new-2.result.items) c.page.ensures.page c.limit.ensures.limit
     ∙ (ap₂ (λ (cs : List ClassState) (os : List Owner). fresh_with c.args.table.now.page c.args.table.now.limit c.count.result cs os c.new.result.items c.new-2.result.items) classes owners
     ∙ (ap₂ (λ (pool : List ℕ) (ledger : List Entry). fresh_with c.args.table.now.page c.args.table.now.limit c.count.result (fresh_slabs c.args.table.now).classes (fresh_slabs c.args.table.now).owners pool ledger) c.new.ensures.items c.new-2.ensures.items

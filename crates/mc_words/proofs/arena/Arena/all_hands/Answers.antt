@@ -65,13 +65,13 @@ returns c =
     let few = c.hands-count.ensures.few in
     let items : List Hand = c.loop-number.all.items in
     let first : Hand = c.loop-number.first in
-    let is : c.insert.new.self.items ≡ first ∷ items = c.in_ok-insert.ensures.items in
+    let is : c.insert.new.list.items ≡ first ∷ items = c.in_ok-insert.ensures.items in
     let count : c.hands-count.result ≡ setup.hands = c.hands-count.ensures.hands ∙ ap (λ (s : Setup). s.hands) (sym arena.planned) in
     let end : c.loop-number.number ≡ setup.hands = let e = i.4 in omega arith in
     let long : length items + 1 ≡ c.loop-number.number = i.2 in
     record {
       hands = (
-        (let e : length c.insert.new.self.items ≡ suc (length items) = ap length is in omega arith),
+        (let e : length c.insert.new.list.items ≡ suc (length items) = ap length is in omega arith),
         subst (AreHandsFrom arena 0) (sym is) (new_hand arena 0 first i.0 (i.1 ∙ ap (new_view setup 0) (omega arith)), i.6),
       );
     }

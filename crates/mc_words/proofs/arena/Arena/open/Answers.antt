@@ -12,21 +12,21 @@ use Rattle.mc_words.specs.Told.{Sits}
 use Rattle.mc_words.proofs.Opens.{rule_first, new_lawful, new_noted}
 use Rattle.mc_words.proofs.arena.Arena.open.Goals as goal
 
-pub new-requires : goal.new-requires
-new-requires c =
+pub table-requires : goal.table-requires
+table-requires c =
     let setup : Setup = c.args.plan in
     let told = c.places-places.ensures in
     subst (λ (p : List ℕ × List Slot). Rule setup (opening p.0 p.1 (first_view setup))) (λ k. (sym (c.as_slice.ensures.value ∙ c.in_ok-words.ensures.words) k, sym c.in_ok-slots.ensures.slots k))
     (rule_first setup told.sound told.stripes.0 told.hands.0 told.hands.1 told.start)
 
 pub invariant_of-hand : goal.invariant_of-hand
-invariant_of-hand c = record { noted = subst (λ (me : Sits). IsNoted me 0 0 Neither) (sym c.in-Ok.ensures.ok.4) (let setup : Setup = c.args.plan in new_noted setup 0 (setup.hands - 1) (omega arith)); tallied = subst (λ (me : Sits). IsTallied me 0 0) (sym c.in-Ok.ensures.ok.4) (refl, refl) }
+invariant_of-hand c = record { noted = subst (λ (me : Sits). IsNoted me 0 0 Neither) (sym c.in_ok-table.ensures.ok.4) (let setup : Setup = c.args.plan in new_noted setup 0 (setup.hands - 1) (omega arith)); tallied = subst (λ (me : Sits). IsTallied me 0 0) (sym c.in_ok-table.ensures.ok.4) (refl, refl) }
 
 pub returns-clause-arena : goal.returns-clause-arena
 returns-clause-arena c =
     let setup : Setup = c.args.plan in
     let told = c.places-places.ensures in
-    let ok = c.in-Ok.ensures.ok in
+    let ok = c.in_ok-table.ensures.ok in
     let view = ap (λ (me : Sits). me.0) ok.4 in (
       record {
         same_table = ok.2;
