@@ -7,4 +7,4 @@ mod own;
 
 pub use chained::call_twice;
 pub use held::read_after_all;
-pub use own::{Refused, set_and_read};
+pub use own::{RefusedCall, set_and_read};

@@ -10,7 +10,7 @@ use std::sync::Wait;
 
 /// Which call was refused.
 #[derive(Drop)]
-pub enum Refused {
+pub enum RefusedCall {
     /// The set.
     Set(SetError),
     /// The get.
@@ -28,7 +28,7 @@ pub fn set_and_read<R: Wait>(
     hand: &mut Hand,
     key: u64,
     words: &[u64],
-) -> Result<Option<Vec<u64>>, Refused>
+) -> Result<Option<Vec<u64>>, RefusedCall>
     requires arena { IsHandOf arena.now hand.old }
     requires ready { IsReady (view hand.old) }
     ensures arena { IsHandOf arena.now hand.new }
@@ -37,12 +37,12 @@ pub fn set_and_read<R: Wait>(
 {
     let stamp = match set(rt, arena, hand, key, words) {
         Ok(stamp) => stamp,
-        Err(error) => return Err(Refused::Set(error)),
+        Err(error) => return Err(RefusedCall::Set(error)),
     };
     let item = match get(rt, arena, hand, key) {
         Ok(Some(item)) => item,
         Ok(None) => return Ok(None),
-        Err(error) => return Err(Refused::Get(error)),
+        Err(error) => return Err(RefusedCall::Get(error)),
     };
     if item.stamp() != stamp {
         release(arena, hand, item);
@@ -52,6 +52,6 @@ pub fn set_and_read<R: Wait>(
     release(arena, hand, item);
     match found {
         Ok(read) => Ok(Some(read)),
-        Err(refused) => Err(Refused::Read(refused)),
+        Err(refused) => Err(RefusedCall::Read(refused)),
     }
 }
