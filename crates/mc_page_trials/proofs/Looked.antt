@@ -30,6 +30,12 @@ handed_out_at slabs class place chunk all is h =
     let handed = Contains_from_slice_get chunk (class_at slabs class).order place h in
     subst (λ (n : ℕ). Contains (class_at slabs n).order chunk) (sym (class_of_handed_out slabs class chunk all is handed)) handed
 
+-- a handed-out chunk of the class of another one
+pub handed_out_beside : (slabs : SlabState) (class place than : ℕ) (chunk other : ChunkId) → IsAccounted slabs → IsClass slabs class → slice_get (class_at slabs class).order place ≡ Some chunk → slice_get (class_at slabs class).order than ≡ Some other → Contains (class_of_chunk slabs chunk).order other
+handed_out_beside slabs class place than chunk other all is here there =
+    let own = class_of_handed_out slabs class chunk all is (Contains_from_slice_get chunk (class_at slabs class).order place here) in
+    subst (λ (n : ℕ). Contains (class_at slabs n).order other) (sym own) (Contains_from_slice_get other (class_at slabs class).order than there)
+
 -- a free chunk of the class of a handed-out one
 pub free_beside : (slabs : SlabState) (class free place : ℕ) (new old : ChunkId) → IsAccounted slabs → IsClass slabs class → slice_get (class_at slabs class).free free ≡ Some new → slice_get (class_at slabs class).order place ≡ Some old → Contains (class_of_chunk slabs old).free new
 free_beside slabs class free place new old all is there handed =

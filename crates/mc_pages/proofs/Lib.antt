@@ -7,6 +7,9 @@ pub mod NumberedLinks
 pub mod Joined
 pub mod Linked
 pub mod ClassRows
+pub mod Before
+pub mod Aged
+pub mod KeptAges
 pub mod Owners
 pub mod Replays
 pub mod OneClass

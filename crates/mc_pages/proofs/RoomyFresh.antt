@@ -1,5 +1,5 @@
 -- No page is granted yet, no room is kept, and all lists are empty.
-use Rattle.std.proofs.Common.{◌≡◌, ℕ, ◌-◌, ◌*◌, ◌/◌, ◌<◌, ◌≤◌, Bool, nat_lt, if◌then◌else◌, List, [], length, None, replicate, slice_index_or, sym, ap, ap₂, ◌∙◌, inl, inr, arith}
+use Rattle.std.proofs.Common.{refl, subst, ◌≡◌, ℕ, ◌-◌, ◌*◌, ◌/◌, ◌<◌, ◌≤◌, Bool, nat_lt, if◌then◌else◌, List, [], length, None, replicate, slice_index_or, sym, ap, ap₂, ◌∙◌, inl, inr, arith}
 use Rattle.std.proofs.Math.ListN.{get_or-map as get_or-map_at}
 use Rattle.std.proofs.Math.Nat.{div-mul-le_self, mul-le-mul_left}
 use Rattle.std.proofs.lemmas.Bool.{cases_Bool, cases_lt}
@@ -12,12 +12,14 @@ use Rattle.mc_pages.specs.declared.rows.ListName.{ListName}
 use Rattle.mc_pages.specs.declared.rows.ListName.TheVariants.{Free, HandedOut}
 use Rattle.mc_pages.specs.ClassState.{ClassState, new_class}
 use Rattle.mc_pages.specs.declared.rows.Mark.TheVariants.{Unlisted}
-use Rattle.mc_pages.specs.Rows.{no_row, row_place, row_at, ends_of, length_of, fresh_rows}
+use Rattle.mc_pages.specs.Rows.{RowsState, no_row, row_place, row_at, ends_of, length_of, fresh_rows}
 use Rattle.mc_pages.specs.Linked.{IsLinked, AreLinked, sizes_of}
 use Rattle.mc_pages.specs.ClassRows.{with_lists}
+use Rattle.mc_pages.specs.Ages.{AgesState, HasAges, fresh_ages}
 use Rattle.mc_pages.specs.Room.{RoomyClass, states}
 use Rattle.mc_pages.specs.SlabState.{IsClass, class_at, fresh_slabs}
 use Rattle.mc_pages.specs.InOrder.{HasRows, roomless}
+use Rattle.mc_pages.proofs.KeptAges.{HasAges-none_out}
 use Rattle.mc_pages.proofs.Linked.{chunks_are, are_linked}
 use Rattle.mc_pages.proofs.States.{length-states, state_at}
 
@@ -67,6 +69,14 @@ linked-fresh most rows classes =
 
 pub AreLinked-fresh : (most rows classes : ℕ) → AreLinked (fresh_rows most rows classes)
 AreLinked-fresh most rows classes = are_linked _ _ (linked-fresh most rows classes)
+
+-- no chunk has an age, and none is handed out
+pub HasAges-fresh : (rows : RowsState) (ages : AgesState) (most chunks classes : ℕ) → rows ≡ fresh_rows most chunks classes → ages ≡ fresh_ages chunks → HasAges rows ages
+HasAges-fresh rows ages most chunks classes rows_are ages_are =
+    subst (λ (r : RowsState). HasAges r ages) (sym rows_are)
+    (subst (λ (a : AgesState). HasAges (fresh_rows most chunks classes) a) (sym ages_are)
+    (HasAges-none_out (fresh_rows most chunks classes) (fresh_ages chunks) (omega (arith, length-replicate chunks no_row, length-replicate {A = ℕ} chunks 0)) refl
+    (λ class. chunks_are _ _ (linked-fresh most chunks classes) (HandedOut class))))
 
 -- classes without room are seen as they are
 pub states-fresh : (table : Classes) (most rows count : ℕ) → states (fresh_rows most rows count) (roomless (fresh_slabs table).classes) ≡ (fresh_slabs table).classes

@@ -14,6 +14,7 @@ use Rattle.mc_pages.specs.ClassState.{ClassState, new_class, times, popped, hand
 use Rattle.mc_pages.specs.Rows.{RowsState, IsRow, field_of, length_of}
 use Rattle.mc_pages.specs.Linked.{Sizes, sizes_of, walk, AreLinked, chunks_of, IsUnlisted}
 use Rattle.mc_pages.specs.ClassRows.{IsPlace, HasBecome, with_lists}
+use Rattle.mc_pages.specs.Ages.{AgesState, HasAges}
 use Rattle.mc_pages.specs.Room.{RoomyClass, in_state, no_class, states}
 use Rattle.mc_pages.specs.SlabState.{SlabState, IsClass, class_at, class_of_page, class_of_chunk}
 use Rattle.mc_pages.specs.Changes.{with_class}
@@ -135,6 +136,7 @@ AreKept-changed slabs class place read new f kept is at h changed apart pages si
       pool = kept.pool;
       classes = fits-changed slabs class place new kept is at (omega (arith, more, pages, before)) (omega (arith, ap (λ (c : RoomyClass). c.room) changed, read_room slabs class place read is at h));
       linked = kept.linked;
+      aged = kept.aged;
       rows = subst (λ (s : SlabState). HasRows s.classes (vec_len slabs.owners) (sizes_of slabs.rows)) (sym now)
           (HasRows-with_class (slabs_of slabs) class (vec_len slabs.owners) (sizes_of slabs.rows) (f (class_at (slabs_of slabs) class)) kept.rows is size);
     }
@@ -149,6 +151,10 @@ slabs_of-became slabs after class place change is at became =
     let within = length-classes slabs class is in
     let here = subst (λ (n : ℕ). HasBecome slabs.rows after n change) at became in
     ap (λ (cs : List ClassState). record (slabs_of slabs) { classes = cs }) (states-became slabs.rows after slabs.classes.items (class - 1) change (omega (arith, is.0, within)) here)
+
+-- and other ages
+abbrev pub with_ages : Inside → RowsState → AgesState → Inside
+with_ages slabs rows ages = record slabs { rows = rows; ages = ages }
 
 -- what is kept beside the order, after a change of the lists of one class
 pub record AreListed (slabs : Inside) : Type 0 where
@@ -169,9 +175,9 @@ AreKept-lists slabs after class place change kept is at became size =
           (HasRows-with_class (slabs_of slabs) class (vec_len slabs.owners) (sizes_of slabs.rows) (change (class_at (slabs_of slabs) class)) kept.rows is size));
     }
 
--- all is kept after a change of the lists of one class
-pub AreKept-became : (slabs : Inside) (after : RowsState) (class place : ℕ) (change : ClassState → ClassState) → AreKept slabs → IsClass (slabs_of slabs) class → place ≡ class - 1 → HasBecome slabs.rows after place change → (change (class_at (slabs_of slabs) class)).per_page ≡ (class_at (slabs_of slabs) class).per_page → IsInOrder (with_class (slabs_of slabs) class (change (class_at (slabs_of slabs) class))) slabs.granted → AreKept (with_rows slabs after)
-AreKept-became slabs after class place change kept is at became size order =
+-- all is kept after a change of the lists of one class, with these ages
+pub AreKept-became : (slabs : Inside) (after : RowsState) (ages : AgesState) (class place : ℕ) (change : ClassState → ClassState) → AreKept slabs → IsClass (slabs_of slabs) class → place ≡ class - 1 → HasBecome slabs.rows after place change → (change (class_at (slabs_of slabs) class)).per_page ≡ (class_at (slabs_of slabs) class).per_page → IsInOrder (with_class (slabs_of slabs) class (change (class_at (slabs_of slabs) class))) slabs.granted → HasAges after ages → AreKept (with_ages slabs after ages)
+AreKept-became slabs after ages class place change kept is at became size order aged =
     let listed = AreKept-lists slabs after class place change kept is at became size in
     record {
       order = subst (λ (s : SlabState). IsInOrder s slabs.granted) (sym (slabs_of-became slabs after class place change is at became)) order;
@@ -179,6 +185,7 @@ AreKept-became slabs after class place change kept is at became size order =
       pool = kept.pool;
       classes = listed.classes;
       linked = listed.linked;
+      aged = aged;
       rows = listed.rows;
     }
 

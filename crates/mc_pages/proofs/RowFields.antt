@@ -38,7 +38,7 @@ cases_list (Free a) (HandedOut b) = inr (λ h. cc h)
 cases_list (HandedOut a) (Free b) = inr (λ h. cc h)
 
 -- two chunks whose rows stand at one place are one
-place-same : (most : ℕ) (a b : ChunkId) → a.index < most → b.index < most → row_place most a ≡ row_place most b → a ≡ b
+pub place-same : (most : ℕ) (a b : ChunkId) → a.index < most → b.index < most → row_place most a ≡ row_place most b → a ≡ b
 place-same most a b within within-2 h =
     let page : a.page ≡ b.page = sym (div-mul-add a.page most a.index within) ∙ (ap (λ (n : ℕ). n / most) h ∙ div-mul-add b.page most b.index within-2) in
     let index : a.index ≡ b.index = omega (arith, h, ap (λ (n : ℕ). n * most) page) in

@@ -9,6 +9,7 @@ use Rattle.mc_pages.specs.declared.slabs.Slabs.TheInside.{Inside}
 use Rattle.mc_pages.specs.Ledger.{owner_at}
 use Rattle.mc_pages.specs.ClassState.{ClassState, new_class}
 use Rattle.mc_pages.specs.Linked.{AreLinked, Sizes, sizes_of}
+use Rattle.mc_pages.specs.Ages.{HasAges}
 use Rattle.mc_pages.specs.Room.{RoomyClass, no_class, states}
 use Rattle.mc_pages.specs.SlabState.{SlabState, SlabValue, IsClass, class_at, class_of_page, class_of_chunk, is_untouched}
 use Rattle.mc_pages.specs.Accounted.{truth, is_moving, IsAccounted}
@@ -87,4 +88,6 @@ pub record AreKept (slabs : Inside) : Type 0 where
       length (class_at (slabs_of slabs) class).pages + truth (is_awaited slabs.moving class) ≤ room_at slabs.classes.items class
   -- the lists stand in the rows
   pub linked : AreLinked slabs.rows
+  -- and each hand-out order goes by age
+  pub aged : HasAges slabs.rows slabs.ages
   pub rows : HasRows (slabs_of slabs).classes (vec_len slabs.owners) (sizes_of slabs.rows)

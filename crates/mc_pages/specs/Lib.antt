@@ -1,10 +1,12 @@
 pub mod Ledger
 pub mod ClassState
+pub mod Before
 pub mod Links
 pub mod Rows
 pub mod RowsInside
 pub mod Linked
 pub mod ClassRows
+pub mod Ages
 pub mod Room
 pub mod SlabState
 pub mod Changes

@@ -1,6 +1,9 @@
 //! Laws of the definitions, each the contract of a function with nothing to do.
-ghost use Rattle.std.specs.Prelude.{◌≡◌, ℕ, ◌<◌, ◌≤◌, Some};
+ghost use Rattle.std.specs.Prelude.{◌≡◌, ◌≢◌, ℕ, ◌<◌, ◌≤◌, List, Some, true, false};
+ghost use Rattle.mc_pages.specs.declared.ids.ChunkId.{ChunkId};
 ghost use Rattle.mc_pages.specs.declared.ids.Moving.{Moving};
+ghost use Rattle.mc_pages.specs.ClassState.{without};
+ghost use Rattle.mc_pages.specs.Before.{comes_before, HasEachOnce, nth, three};
 ghost use Rattle.mc_pages.specs.SlabState.{SlabState};
 ghost use Rattle.mc_pages.specs.Accounted.{IsAccounted};
 ghost use Rattle.mc_pages.specs.Pages.{page_count, times_listed, places_of};
@@ -22,4 +25,18 @@ pub fn unaccounted_memories()
     ensures last_page_moves { IsAccounted last_page_moves → ⊥ }
     ensures cursor_past_the_classes { IsAccounted cursor_past_the_classes → ⊥ }
     ensures unknown_mode { IsAccounted unknown_mode → ⊥ }
+{}
+
+/// Which of two chunks stands before the other: in 2, 0, 1 the first before the last, which isn't before it, and none before itself or
+/// before one that isn't there. Where no chunk stands twice, of two at most one is before the other, what is before one is before
+/// those behind it, and both stay so where a third leaves the list.
+pub fn one_before_another()
+    ensures forth { comes_before (nth 2) (nth 1) three ≡ true }
+    ensures not_back { comes_before (nth 1) (nth 2) three ≡ false }
+    ensures not_itself { comes_before (nth 0) (nth 0) three ≡ false }
+    ensures not_absent { comes_before (nth 2) (nth 3) three ≡ false }
+    ensures absent_not { comes_before (nth 3) (nth 1) three ≡ false }
+    ensures one_way { (a b : ChunkId) (l : List ChunkId) → HasEachOnce l → comes_before a b l ≡ true → comes_before b a l ≡ false }
+    ensures through { (a b c : ChunkId) (l : List ChunkId) → HasEachOnce l → comes_before a b l ≡ true → comes_before b c l ≡ true → comes_before a c l ≡ true }
+    ensures without { (a b c : ChunkId) (l : List ChunkId) → c ≢ a → c ≢ b → comes_before a b l ≡ true → comes_before a b (without c l) ≡ true }
 {}

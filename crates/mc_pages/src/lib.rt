@@ -5,6 +5,7 @@
 //! order and the ledger are own.
 #![tactic(auto)]
 
+mod ages;
 mod class;
 mod ids;
 mod laws;
@@ -17,7 +18,7 @@ mod slabs;
 mod writes;
 
 pub use ids::{ChunkId, Moving};
-pub use laws::{no_page_is_lost, unaccounted_memories};
+pub use laws::{no_page_is_lost, one_before_another, unaccounted_memories};
 pub use ledger::{Entry, Owner};
 pub use moves::{Found, Reassign};
 pub use numbers::{Numbers, Totals};

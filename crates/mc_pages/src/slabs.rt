@@ -6,6 +6,7 @@ ghost use Rattle.mc_classes.specs.Classes.{pages_of, per_page_of};
 ghost use Rattle.mc_pages.specs.Ledger.{owner_at};
 ghost use Rattle.mc_pages.specs.declared.rows.ListName.TheVariants.{Free, HandedOut};
 ghost use Rattle.mc_pages.specs.Rows.{fresh_rows};
+ghost use Rattle.mc_pages.specs.Ages.{fresh_ages};
 ghost use Rattle.mc_pages.specs.Linked.{AreLinked, chunks_of};
 ghost use Rattle.mc_pages.specs.SlabState.{fresh_slabs, IsClass, class_at, class_of_page, totals_of};
 ghost use Rattle.mc_pages.specs.Accounted.{IsAccounted};
@@ -15,6 +16,7 @@ mod chunks;
 mod moving;
 mod pages;
 
+use crate::ages::Ages;
 use crate::class::SlabClass;
 use crate::ids::{ChunkId, Moving};
 use crate::ledger::{Entry, Owner};
@@ -39,6 +41,7 @@ pub struct Slabs {
     limit: u64,
     classes: Vec<SlabClass>,
     rows: Rows,
+    ages: Ages,
     owners: Vec<Owner>,
     /// How many pages were granted. They are the lowest ones.
     granted: usize,
@@ -77,11 +80,13 @@ impl Slabs {
         let classes = classes_of(alloc, table)?;
         let owners = filled(alloc, Owner::Untouched, table.pages() as usize)?;
         let rows = rows_of(alloc, table)?;
+        let ages = ages_of(alloc, table)?;
         Ok(Slabs {
             page: table.page(),
             limit: table.limit(),
             classes,
             rows,
+            ages,
             owners,
             granted: 0,
             pool: Vec::new(alloc),
@@ -218,4 +223,12 @@ fn rows_of(alloc: Global, table: &ClassTable) -> Result<Rows, Refused>
     let classes = table.count() as usize;
     let pages = table.pages() as usize;
     Rows::new(alloc, table.per_page(1), pages, classes)
+}
+
+/// An age for each of these rows.
+fn ages_of(alloc: Global, table: &ClassTable) -> Result<Ages, Refused>
+    ensures { IfOk result (λ ages. ages ≡ fresh_ages (pages_of table.now * per_page_of table.now 1)) }
+{
+    let chunks = table.pages() * table.per_page(1);
+    Ages::new(alloc, chunks as usize)
 }

@@ -30,6 +30,12 @@ enum Step {
     HasFree(ClassId, u64, Option<(PageId, u64)>),
     /// At this place of the hand-out order stands this chunk.
     HasOrder(ClassId, u64, Option<(PageId, u64)>),
+    /// The chunk at this place of the hand-out order becomes the youngest: it is this one.
+    Touches(ClassId, u64, PageId, u64),
+    /// The first free chunk takes the place in the hand-out order that is named.
+    Replaces(ClassId, u64),
+    /// Whether the chunk at the first place of the hand-out order is known to be older than the one at the second.
+    IsOlder(ClassId, u64, u64, bool),
     /// The page has this owner.
     Owns(PageId, Owner),
     /// The class has so many pages and so many free chunks.
@@ -105,6 +111,16 @@ fn assert_step(rt: &impl Abort, all: &mut Driven, step: Step) {
                 "order_at",
             );
         }
+        Step::Touches(class, place, page, index) => {
+            assert_equal(rt, all.touch(class, place), chunk(page, index), "touch");
+        }
+        Step::Replaces(class, place) => {
+            let want = all.first_free(class).zip(all.order_at(class, place));
+            assert_equal(rt, all.replace(class, 0, place), want, "replace");
+        }
+        Step::IsOlder(class, place, than, want) => {
+            assert_equal(rt, all.is_older(class, place, than), Some(want), "is_older");
+        }
         Step::Owns(page, owner) => assert_equal(rt, all.owner(page), Some(owner), "owner"),
         Step::Counts(class, pages, free) => {
             assert_equal(rt, all.numbers(class), numbers(pages, free), "numbers");
@@ -149,6 +165,50 @@ fn one_page_is_cut_and_handed_out(rt: HostRuntime) -> Result<(), Fail> {
         [Entry::Granted(0, 1)].as_slice(),
         "ledger",
     );
+    Ok(())
+}
+
+#[test]
+fn the_older_of_two_chunks_is_known_unless_one_replaced_the_other(
+    rt: HostRuntime,
+) -> Result<(), Fail> {
+    let table = ClassTable::build(rt.alloc(), &FOUR_CLASSES)?;
+    let mut all = Driven::new(rt.alloc(), &table)?;
+    for step in [
+        Step::Grows(2, 0),
+        Step::Cuts(0, 10),
+        Step::Pops(2, 0, 9),
+        Step::Pops(2, 0, 8),
+        Step::Pops(2, 0, 7),
+        // In the order of their hand-outs.
+        Step::IsOlder(2, 0, 1, true),
+        Step::IsOlder(2, 0, 2, true),
+        Step::IsOlder(2, 1, 2, true),
+        Step::IsOlder(2, 1, 0, false),
+        Step::IsOlder(2, 2, 0, false),
+        Step::IsOlder(2, 1, 1, false),
+        // The first one is the youngest now: 8, 7, 9.
+        Step::Touches(2, 0, 0, 9),
+        Step::HasOrder(2, 2, Some((0, 9))),
+        Step::IsOlder(2, 1, 2, true),
+        Step::IsOlder(2, 2, 0, false),
+        // Chunk 6 is as old as chunk 7: 8, 6, 7, 9.
+        Step::Replaces(2, 1),
+        Step::HasOrder(2, 1, Some((0, 6))),
+        Step::HasOrder(2, 2, Some((0, 7))),
+        Step::IsOlder(2, 1, 2, false),
+        Step::IsOlder(2, 2, 1, false),
+        Step::IsOlder(2, 0, 1, true),
+        Step::IsOlder(2, 1, 3, true),
+        // The old one goes back and out again: 8, 6, 9, 7.
+        Step::Backs(2, 2, 0, 7),
+        Step::Pops(2, 0, 7),
+        Step::IsOlder(2, 1, 3, true),
+        Step::IsOlder(2, 2, 3, true),
+        Step::IsOlder(2, 3, 1, false),
+    ] {
+        assert_step(&rt, &mut all, step);
+    }
     Ok(())
 }
 
@@ -258,6 +318,15 @@ fn assert_same_walks(rt: &impl Abort, all: &Driven, own: &PlainClass, class: Cla
             own.order.get(at.wrapping_add(1)).copied(),
             "next_out",
         );
+        assert_older(rt, all, own, class, at);
+    }
+}
+
+/// A chunk is told to be older than others only where they stand behind it.
+fn assert_older(rt: &impl Abort, all: &Driven, own: &PlainClass, class: ClassId, at: usize) {
+    for than in 0..own.order.len() {
+        let older = all.is_older(class, at as u64, than as u64);
+        assert_same(rt, older == Some(false) || at < than, true, "is_older");
     }
 }
 

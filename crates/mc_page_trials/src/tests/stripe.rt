@@ -53,7 +53,8 @@ fn made(stripe: &mut Stripe, call: Try) -> bool {
             if !stripe.is_ready() || aside == Some(key) {
                 return false;
             }
-            stripe.got(hand, key);
+            let found = stripe.find(key);
+            stripe.got(hand, key, found);
         }
         Evict(hand, key) => {
             if !stripe.is_ready() || stripe.find(key).is_none() {

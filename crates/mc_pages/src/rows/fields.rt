@@ -166,7 +166,7 @@ impl Rows {
     }
 
     /// Where the chunk's row stands.
-    fn place(&self, chunk: ChunkId) -> usize
+    pub(crate) fn place(&self, chunk: ChunkId) -> usize
         requires { IsRow self.now chunk }
         ensures { result ≡ row_place self.now.most chunk }
     {

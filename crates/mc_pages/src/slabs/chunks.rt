@@ -1,9 +1,11 @@
 //! The chunks of the classes: handed out, given back, touched, replaced, cleared and cut.
 //!
-//! Each of these six writes eight fields of the rows at most, wherever in its list the chunk stands (own).
+//! Each of these six writes eight fields of the rows at most, wherever in its list the chunk stands (own). Of `pop`, `touch` and
+//! `replace`, each writes one age beside them, which `writes` doesn't count.
 ghost use Rattle.std.specs.Prelude.{◌≡◌, ◌+◌, ◌<◌, ◌≤◌, slice_get, nat_lt, Contains, None, Some, true};
 ghost use Rattle.std.specs.Option.{option_map};
 ghost use Rattle.mc_pages.specs.ClassState.{first_free, behind, times};
+ghost use Rattle.mc_pages.specs.Before.{comes_before};
 ghost use Rattle.mc_pages.specs.SlabState.{IsClass, class_at, class_of_page, class_of_chunk};
 ghost use Rattle.mc_pages.specs.Changes.{after_pop, after_back, after_touch, after_replace, after_clear, after_cut, after_evicted, next_uncut};
 ghost use Rattle.mc_pages.specs.Accounted.{IsAccounted, is_cut, places_in};
@@ -22,7 +24,12 @@ impl Slabs {
         ensures accounted { IsAccounted self.new.state }
         ensures writes { self.new.writes ≤ self.old.writes + 8 }
     {
-        self.rows.pop(class as usize - 1)
+        let Some(chunk) = self.rows.pop(class as usize - 1) else {
+            return None;
+        };
+        let row = self.rows.place(chunk);
+        self.ages.renew(row);
+        Some(chunk)
     }
 
     /// Takes a handed-out chunk back: it leaves the hand-out order and is the next to be handed out. (slabs.c's `do_slabs_free`)
@@ -45,6 +52,8 @@ impl Slabs {
     {
         let place = self.class_place(chunk.page);
         self.rows.touch(place, chunk);
+        let youngest = self.rows.place(chunk);
+        self.ages.renew(youngest);
     }
 
     /// Gives a free chunk the place of a handed-out one in the hand-out order. The old one stands directly behind it. (own)
@@ -57,6 +66,9 @@ impl Slabs {
     {
         let place = self.class_place(old.page);
         self.rows.replace(place, new, old);
+        let to = self.rows.place(new);
+        let from = self.rows.place(old);
+        self.ages.inherit(to, from);
     }
 
     /// Clears a free or handed-out chunk of the moving page: it is in no list any more. (slabs.c's `slab_rebalance_move`)
@@ -158,6 +170,20 @@ impl Slabs {
     {
         let rows = &self.rows;
         rows.next(ListName::HandedOut(self.class_place(chunk.page)), chunk)
+    }
+
+    /// Whether a handed-out chunk is known to be older than another of its class: then it stands before that one in the hand-out order.
+    /// False says nothing: the other one is older, or their ages are equal, as those of a chunk and of the one that replaced it
+    /// are. A caller that gets false both ways has to walk. This compares two numbers and walks along no list. (own)
+    pub fn is_older(&self, chunk: ChunkId, than: ChunkId) -> bool
+        requires chunk { Contains (class_of_chunk self.now.state chunk).order chunk }
+        requires than { Contains (class_of_chunk self.now.state chunk).order than }
+        ensures older { result ≡ true → comes_before chunk than (class_of_chunk self.now.state chunk).order ≡ true }
+        ensures accounted { IsAccounted self.now.state }
+    {
+        let row = self.rows.place(chunk);
+        let other = self.rows.place(than);
+        self.ages.age(row) < self.ages.age(other)
     }
 
     /// The chunk at this place of the class's free list: 0 is handed out next. None past its end. It walks to it.

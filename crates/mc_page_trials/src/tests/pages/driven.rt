@@ -294,6 +294,17 @@ impl Driven<'_> {
         self.slabs.next_out(chunk)
     }
 
+    /// Whether the chunk at one place of the class's hand-out order is known to be older than the one at the other place.
+    #[tactic(auto, using(crate::proofs::Looked::handed_out_at, crate::proofs::Looked::handed_out_beside))]
+    pub(super) fn is_older(&self, class: ClassId, place: u64, than: u64) -> Option<bool> {
+        if !self.is_class(class) {
+            return None;
+        }
+        let chunk = self.slabs.order_at(class, place)?;
+        let other = self.slabs.order_at(class, than)?;
+        Some(self.slabs.is_older(chunk, other))
+    }
+
     /// Whether the chunk is free. None where its page has no class, isn't all cut, or has no such chunk.
     #[tactic(auto, using(crate::proofs::Sized::sized_class, crate::proofs::Looked::cut_looked))]
     pub(super) fn is_free(&self, chunk: ChunkId) -> Option<bool> {

@@ -6,6 +6,7 @@ use Rattle.mc_pages.specs.Changes.{after_back}
 use Rattle.mc_pages.specs.InOrder.{slabs_of}
 use Rattle.mc_pages.proofs.HandedOut.{IsClass-handed_out}
 use Rattle.mc_pages.proofs.Kept.{IsInOrder-after_back}
+use Rattle.mc_pages.proofs.KeptAges.{HasAges-back}
 use Rattle.mc_pages.proofs.RoomySlabs.{IsPlace-class, lists_at, lengths_below, slabs_of-became, AreKept-became}
 use Rattle.mc_pages.proofs.Roomy.{same_state}
 use Rattle.mc_pages.proofs.slabs.Slabs.back.Goals as goal
@@ -54,8 +55,9 @@ invariant_of-self c =
     let handed = subst (IsHandedOut c.args.chunk) (sym (same_state c.self.view_is)) c.requires in
     let is = IsClass-handed_out slabs c.args.chunk c.self.invariant.order.accounted handed in
     let at = c.class_place-place.ensures ∙ ap (place_in c.args.chunk) (sym (same_state c.self.view_is)) in
-    AreKept-became c.self.inside _ (class_of_page slabs c.args.chunk.page) _ (λ class. put_back class c.args.chunk) c.self.invariant is at c.back.ensures.back refl
+    AreKept-became c.self.inside _ c.self.inside.ages (class_of_page slabs c.args.chunk.page) _ (λ class. put_back class c.args.chunk) c.self.invariant is at c.back.ensures.back refl
     (IsInOrder-after_back slabs c.self.inside.granted c.args.chunk c.self.invariant.order handed)
+    (HasAges-back c.self.inside.rows _ c.self.inside.ages _ c.args.chunk c.back.ensures.back c.self.invariant.aged)
 
 pub returns-clause-back : goal.returns-clause-back
 returns-clause-back c =

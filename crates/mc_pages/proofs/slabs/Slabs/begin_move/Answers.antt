@@ -69,6 +69,7 @@ invariant_of-self-in_err-make_room c =
       pool = c.self.invariant.pool;
       classes = fits-roomier c.self.inside c.args.dst _ c.make_room.new.self c.self.invariant is c.index_mut-slab.ensures.value c.in_err-make_room.ensures.state c.in_err-make_room.ensures.kept;
       linked = c.self.invariant.linked;
+      aged = c.self.invariant.aged;
       rows = subst (λ (s : SlabState). HasRows s.classes (vec_len c.self.inside.owners) (sizes_of c.self.inside.rows)) (sym (refused_is c)) c.self.invariant.rows;
     }
 
@@ -133,6 +134,7 @@ invariant_of-self-2 c =
             pool = omega (arith, w.in_ok-reserve-2.ensures.ok, truth_le (c.args.dst == 0));
             classes = fits-to_pool c.self.inside c.args.dst c.self.invariant w.if-dst-eq0.true;
             linked = c.self.invariant.linked;
+            aged = c.self.invariant.aged;
             rows = c.self.invariant.rows;
           })
       | else-dst-eq0+in_ok-make_room w ↦
@@ -146,6 +148,7 @@ invariant_of-self-2 c =
             classes = fits-to_class c.self.inside c.args.dst _ w.make_room.new.self c.self.invariant is w.index_mut-slab.ensures.value w.in_ok-make_room.ensures.state
                 (omega (arith, w.page_count.ensures, ap (λ (class : ClassState). length class.pages) read, w.in_ok-make_room.ensures.ok));
             linked = c.self.invariant.linked;
+            aged = c.self.invariant.aged;
             rows = subst (λ (classes : List ClassState). HasRows classes (vec_len c.self.inside.owners) (sizes_of c.self.inside.rows))
                 (sym (states_roomier c.self.inside c.args.dst _ w.make_room.new.self is w.index_mut-slab.ensures.value w.in_ok-make_room.ensures.state)) c.self.invariant.rows;
           })

@@ -8,6 +8,7 @@ use Rattle.mc_pages.specs.Accounted.{places_in}
 use Rattle.mc_pages.specs.InOrder.{slabs_of}
 use Rattle.mc_pages.proofs.HandedOut.{IsClass-placed}
 use Rattle.mc_pages.proofs.Kept.{IsInOrder-after_clear}
+use Rattle.mc_pages.proofs.KeptAges.{HasAges-cleared}
 use Rattle.mc_pages.proofs.RoomySlabs.{IsPlace-class, lists_at, slabs_of-became, AreKept-became}
 use Rattle.mc_pages.proofs.Roomy.{same_state}
 use Rattle.mc_pages.proofs.slabs.Slabs.clear.Goals as goal
@@ -50,8 +51,9 @@ invariant_of-self c =
     let is = IsClass-placed slabs c.args.chunk c.self.invariant.order.accounted listed in
     let at = c.class_place-place.ensures ∙ ap (place_in c.args.chunk) (sym (same_state c.self.view_is)) in
     let moves = subst (λ (s : SlabState). option_map (λ move. move.page) s.moving ≡ Some c.args.chunk.page) (sym (same_state c.self.view_is)) c.requires.moving in
-    AreKept-became c.self.inside _ (class_of_page slabs c.args.chunk.page) _ (λ class. cleared class c.args.chunk) c.self.invariant is at c.clear.ensures.cleared refl
+    AreKept-became c.self.inside _ c.self.inside.ages (class_of_page slabs c.args.chunk.page) _ (λ class. cleared class c.args.chunk) c.self.invariant is at c.clear.ensures.cleared refl
     (IsInOrder-after_clear slabs c.self.inside.granted c.args.chunk c.self.invariant.order moves listed)
+    (HasAges-cleared c.self.inside.rows _ c.self.inside.ages _ c.args.chunk c.clear.ensures.cleared c.self.invariant.aged)
 
 pub returns-clause-cleared : goal.returns-clause-cleared
 returns-clause-cleared c =

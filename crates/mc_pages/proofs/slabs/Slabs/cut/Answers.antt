@@ -5,6 +5,7 @@ use Rattle.mc_pages.specs.SlabState.{SlabState, IsClass, class_of_page}
 use Rattle.mc_pages.specs.Changes.{next_uncut, after_cut}
 use Rattle.mc_pages.specs.InOrder.{IsInOrder, slabs_of}
 use Rattle.mc_pages.proofs.Kept.{IsInOrder-after_cut}
+use Rattle.mc_pages.proofs.KeptAges.{HasAges-cut}
 use Rattle.mc_pages.proofs.RoomySlabs.{length-classes, read_state, IsPlace-class, lengths_below, unlisted_uncut, IsRow-uncut, slabs_of-became, AreKept-lists, with_rows}
 use Rattle.mc_pages.proofs.Roomy.{same_state}
 use Rattle.mc_pages.proofs.slabs.Slabs.cut.Goals as goal
@@ -90,6 +91,7 @@ invariant_of-self c =
       pool = c.self.invariant.pool;
       classes = kept.classes;
       linked = kept.linked;
+      aged = HasAges-cut c.self.inside.rows _ c.self.inside.ages _ chunk c.cut.ensures.cut c.self.invariant.aged;
       rows = kept.rows;
     }
 

@@ -79,6 +79,7 @@ invariant_of-self c =
       pool = omega (arith, c.push-then-dst-eq0.new.self.ok.1);
       classes = λ other there. fits-pooled c.self.inside move _ _ c.self.invariant is c.index_mut.ensures.value c.remove_page.ensures other there.0 (IsClass-set c.self.inside.rows _ _ other _ there.1);
       linked = c.self.invariant.linked;
+      aged = c.self.invariant.aged;
       rows = rows-pooled c.self.inside move (vec_len c.self.inside.owners) (sizes_of c.self.inside.rows) _ _ c.self.invariant.rows is c.index_mut.ensures.value c.remove_page.ensures;
     }
 
@@ -113,6 +114,7 @@ invariant_of-self-else-dst-eq0 c =
       classes = λ other there.
           fits-joined c.self.inside move _ _ _ _ c.self.invariant c.in-Some.is is.src to is.apart c.index_mut.ensures.value c.remove_page.ensures c.index_mut-else-dst-eq0.ensures.value c.add_page.ensures other there.0 (within-both c.self.inside.rows _ _ _ other _ _ there.1);
       linked = c.self.invariant.linked;
+      aged = c.self.invariant.aged;
       rows = rows-joined c.self.inside move (vec_len c.self.inside.owners) (sizes_of c.self.inside.rows) _ _ _ _ c.self.invariant.rows is.src to c.index_mut.ensures.value c.remove_page.ensures c.index_mut-else-dst-eq0.ensures.value c.add_page.ensures;
     }
 

@@ -70,6 +70,7 @@ invariant_of-self-in_err-make_room c =
       pool = c.self.invariant.pool;
       classes = fits-roomier c.self.inside c.args.class _ c.make_room.new.self c.self.invariant is c.index_mut-slab.ensures.value c.in_err-make_room.ensures.state c.in_err-make_room.ensures.kept;
       linked = c.self.invariant.linked;
+      aged = c.self.invariant.aged;
       rows = subst (λ (s : SlabState). HasRows s.classes (vec_len c.self.inside.owners) (sizes_of c.self.inside.rows)) (sym (refused_is c)) c.self.invariant.rows;
     }
 
@@ -149,6 +150,7 @@ taken_kept c is entry some =
       pool = omega (arith, c.self.invariant.pool, c.pop.ensures.len, c.pop.ensures.capacity);
       classes = all_fit c;
       linked = c.self.invariant.linked;
+      aged = c.self.invariant.aged;
       rows = subst (λ (s : SlabState). HasRows s.classes (vec_len c.self.inside.owners) (sizes_of c.self.inside.rows)) (sym (taken_is c is entry)) (has_rows c);
     }
 
@@ -173,6 +175,7 @@ granted_kept c is entry none =
       pool = omega (arith, c.self.invariant.pool, c.pop.ensures.len, c.pop.ensures.capacity);
       classes = all_fit c;
       linked = c.self.invariant.linked;
+      aged = c.self.invariant.aged;
       rows = subst (λ (s : SlabState). HasRows s.classes (vec_len c.self.inside.owners) (sizes_of c.self.inside.rows)) (sym (granted_is c is entry none)) (has_rows c);
     }
 

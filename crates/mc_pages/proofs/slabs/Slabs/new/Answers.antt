@@ -12,7 +12,7 @@ use Rattle.mc_pages.specs.Linked.{AreLinked, sizes_of}
 use Rattle.mc_pages.specs.Room.{RoomyClass, states}
 use Rattle.mc_pages.specs.InOrder.{IsInOrder, HasRows}
 use Rattle.mc_pages.proofs.Fresh.{IsInOrder-fresh}
-use Rattle.mc_pages.proofs.RoomyFresh.{pages-fresh, states-fresh, AreLinked-fresh, HasRows-fresh}
+use Rattle.mc_pages.proofs.RoomyFresh.{pages-fresh, states-fresh, AreLinked-fresh, HasAges-fresh, HasRows-fresh}
 use Rattle.mc_pages.proofs.slabs.Slabs.new.Goals as goal
 
 -- a whole of which nothing was granted
@@ -57,6 +57,7 @@ invariant_of-result c =
       pool = omega (arith, c.new.ensures.len);
       classes = λ class is. omega (arith, ap (λ (s : SlabState). length (class_at s class).pages) fresh, pages-fresh table class (subst (λ (s : SlabState). IsClass s class) fresh is));
       linked = subst AreLinked (sym c.in_ok-rows.ensures) (AreLinked-fresh (per_page_of table 1) (pages_of table * per_page_of table 1) (length table.sizes));
+      aged = HasAges-fresh c.in_ok-rows.rows c.in_ok-ages.ages _ _ _ c.in_ok-rows.ensures c.in_ok-ages.ensures;
       rows = subst (λ (s : SlabState). HasRows s.classes (vec_len c.in_ok-owners.owners) (sizes_of c.in_ok-rows.rows)) (sym fresh)
           (subst (λ (rows : RowsState). HasRows (fresh_slabs table).classes (vec_len c.in_ok-owners.owners) (sizes_of rows)) (sym c.in_ok-rows.ensures)
           (subst (λ (n : ℕ). HasRows (fresh_slabs table).classes n (sizes_of (fresh_rows (per_page_of table 1) (pages_of table * per_page_of table 1) (length table.sizes)))) pages (HasRows-fresh table (pages_of table) sound)));
