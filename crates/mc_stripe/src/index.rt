@@ -19,11 +19,11 @@ pub(crate) fn place_in(index: &Index, key: Key) -> Option<(ChunkId, Stamp)>
     index.get(&key).copied()
 }
 
-/// The key's stamp.
-pub(crate) fn stamp_in(index: &Index, key: Key) -> Option<Stamp>
-    ensures { result ≡ option_map (λ place. place.1) (entry_at (by_key index.now.entries) key) }
+/// The stamp of what a look-up found.
+pub(crate) fn stamp_of(found: Option<(ChunkId, Stamp)>) -> Option<Stamp>
+    ensures { result ≡ option_map (λ place. place.1) found }
 {
-    place_in(index, key).map(|place| place.1)
+    found.map(|place| place.1)
 }
 
 /// Makes room for one more key.

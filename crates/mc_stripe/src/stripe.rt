@@ -94,14 +94,15 @@ impl Stripe {
         self.ready = false;
     }
 
-    /// The key was looked up, and its item was got if it has one. (items.c's `do_item_get`)
-    pub fn got(&mut self, hand: HandId, key: Key)
+    /// The key was looked up, which found this, and its item was got if it has one. It isn't looked up again. (items.c's `do_item_get`)
+    pub fn got(&mut self, hand: HandId, key: Key, found: Option<(ChunkId, Stamp)>)
         requires ready { self.old.ready ≡ true }
+        requires found { found ≡ place_of self.old.state key }
         requires aside { IfSome (key_aside self.old.state) (λ other. other ≢ key) }
         ensures told { self.new ≡ used_up (after_got self.old.state hand key) }
         ensures legal { IsLegal self.new.state }
     {
-        let stamp = index::stamp_in(&self.index, key);
+        let stamp = index::stamp_of(found);
         history::tell(&mut self.history, Call::Get(hand, key, stamp));
         self.ready = false;
     }

@@ -1,6 +1,7 @@
-use Rattle.std.proofs.Common.{◌≢◌, IfSome, refl, sym, ap, subst}
+use Rattle.std.proofs.Common.{◌≡◌, ◌≢◌, IfSome, refl, sym, ap, ◌∙◌, subst}
+use Rattle.std.specs.Option.{option_map}
 use Rattle.mc_stripe.specs.declared.history.Call.TheVariants.{Get}
-use Rattle.mc_stripe.specs.StripeState.{ReadyStripe, key_aside}
+use Rattle.mc_stripe.specs.StripeState.{ReadyStripe, key_aside, place_of}
 use Rattle.mc_stripe.specs.Changes.{after_got}
 use Rattle.mc_stripe.specs.InOrder.{state_of}
 use Rattle.mc_stripe.proofs.Kept.{IsLegal-after_got}
@@ -11,7 +12,9 @@ pub invariant_of-self : goal.invariant_of-self
 invariant_of-self c =
     let stripe = state_of c.self.inside in
     let apart = subst (λ (s : ReadyStripe). IfSome (key_aside s.state) (λ other. other ≢ c.args.key)) (sym c.self.view_is) c.requires.aside in
-    let told = ends_by stripe.history _ _ _ c.tell.ensures (ap (Get c.args.hand c.args.key) c.stamp_in-stamp.ensures) in
+    let found = subst (λ (s : ReadyStripe). c.args.found ≡ place_of s.state c.args.key) (sym c.self.view_is) c.requires.found in
+    let stamp = c.stamp_of-stamp.ensures ∙ ap (option_map (λ place. place.1)) found in
+    let told = ends_by stripe.history _ _ _ c.tell.ensures (ap (Get c.args.hand c.args.key) stamp) in
     record {
       legal = IsLegal-fields (after_got stripe c.args.hand c.args.key) _ _ _ refl refl told (IsLegal-after_got stripe c.args.hand c.args.key c.self.invariant.legal apart);
       entry = λ is. absurd cc;
