@@ -1,12 +1,15 @@
 -- How a class came to a free chunk, or to none: what that leaves of what the hand has.
-use Rattle.std.proofs.Common.{◌≡◌, ℕ, ◌+◌, true, false, is_some, List, [], ◌∷◌, ◌++◌, map, Some, None, Option, Result, Ok, Err, refl, sym, ap, subst, ◌∙◌, inl, inr, ◌⊎◌}
-use Rattle.std.specs.Prelude.{All, Contains}
-use Rattle.std.proofs.lemmas.List.Elements.{All-contains_itself, All-head, All-tail}
+use Rattle.std.proofs.Common.{◌≡◌, ℕ, ◌+◌, Bool, if◌then◌else◌, arith, true, false, is_some, List, [], ◌∷◌, ◌++◌, map, Some, None, Option, Result, Ok, Err, refl, sym, ap, subst, ◌∙◌, inl, inr, ◌⊎◌}
+use Rattle.std.specs.Prelude.{Contains}
+use Rattle.std.proofs.lemmas.Bool.{cases_Bool}
+use Rattle.std.proofs.lemmas.List.Elements.{Contains-append_cases, Contains-append_left, Contains-append_right, Contains-push}
 use Rattle.mc_pages.specs.declared.ids.ChunkId.{ChunkId}
 use Rattle.mc_pages.specs.Changes.{after_back, after_cut, after_pop, next_page}
-use Rattle.mc_pages.specs.ClassState.{first_free, put_back}
+use Rattle.mc_pages.specs.ClassState.{first_free, is_chunk, put_back}
 use Rattle.mc_pages.specs.SlabState.{SlabState, IsClass, class_at, class_of_chunk, class_of_page}
+use Rattle.mc_pages.proofs.Chunks.{same_from_is_chunk}
 use Rattle.mc_pages.proofs.OneClass.{IsClass-with_class}
+use Rattle.mc_core.specs.Head.{is_dead}
 use Rattle.mc_core.specs.declared.head.Head.{Head}
 use Rattle.mc_core.specs.declared.ids.Ids.{Ids}
 use Rattle.mc_core.specs.declared.holding.Holding.{Holding}
@@ -17,7 +20,8 @@ use Rattle.mc_words.specs.Doing.{HoldsSlabs}
 use Rattle.mc_words.specs.View.{View}
 use Rattle.mc_words.specs.Happens.{LawfulView}
 use Rattle.mc_words.specs.Owner.{PopsFirst, SeesOther}
-use Rattle.mc_words.specs.Sweeping.{Sweeps, with_seen}
+use Rattle.mc_words.specs.Sweeping.{Recovers, SeesHeader, SeesHeaders, Sweeps, SweepsEach, follows, with_seen}
+use Rattle.mc_words.proofs.LookedOver.{sees_both, sees_headers_alone}
 use Rattle.mc_words.proofs.SweepViews.{class_here, sees_alone, stands_out}
 use Rattle.mc_items.specs.Evicting.{FreesOne, TellsEvict, first_five}
 use Rattle.mc_pages.specs.declared.moves.Reassign.{Reassign}
@@ -35,41 +39,80 @@ use Rattle.mc_items.proofs.Locks.{waits_slabs_keep}
 use Rattle.mc_items.proofs.Freed.{Evicts, back_is_free, entry_keeps, evicts_after, evicts_before, evicts_none, one_keeps}
 use Rattle.mc_items.proofs.Passes.{OwnTuple, each_keeps, own_of}
 
--- a sweep that left no free chunk put none back
-module _ (class : ℕ) (order : List ChunkId) where
-  free_still : (chunks : List ChunkId) (view : View) (slabs : SlabState) (now : View) (left : SlabState) → IsClass slabs class → ((chunk : ChunkId) → Contains order chunk → class_of_page slabs chunk.page ≡ class) → All (Contains order) chunks
-      → is_some (first_free (class_at slabs class)) ≡ true → Sweeps chunks view slabs now left → is_some (first_free (class_at left class)) ≡ true
-  free_still [] view slabs now left is own all free (same, left_is) = ap (λ (s : SlabState). is_some (first_free (class_at s class))) left_is ∙ free
-  free_still (chunk ∷ chunks) view slabs now left is own all free (next, between, one, rest) =
-      let here = All-head (Contains order) chunk chunks all in
-      let others = All-tail (Contains order) chunk chunks all in elim one [
-        | inl back ↦ free_still chunks next (after_back slabs chunk) now left (IsClass-with_class slabs (class_of_page slabs chunk.page) class (put_back (class_of_chunk slabs chunk) chunk) is) own others
-            (back_is_free slabs class chunk is (own chunk here)) (subst (λ (s : SlabState). Sweeps chunks next s now left) back.1 rest)
-        | inr other ↦ free_still chunks next slabs now left is own others free (subst (λ (s : SlabState). Sweeps chunks next s now left) other.1 rest)
+-- chunks that stand in an order, in that sequence, are of it
+pub follows_there : (order chunks : List ChunkId) → follows order chunks ≡ true → (chunk : ChunkId) → Contains chunks chunk → Contains order chunk
+follows_there order [] h chunk there = absurd (omega (arith, there.1))
+follows_there [] (first ∷ chunks) h chunk there = absurd (let never : false ≡ true = h in cc)
+follows_there (other ∷ order) (first ∷ chunks) h chunk there = elim (cases_Bool (is_chunk other first)) [
+  | inl same ↦
+      let h' : follows order chunks ≡ true = sym (ap (λ (b : Bool). if b then follows order chunks else follows order (first ∷ chunks)) same) ∙ h in elim (Contains-append_cases (first ∷ []) chunks chunk there) [
+        | inl one ↦ Contains-append_left (other ∷ []) order chunk (subst (λ (c : ChunkId). Contains (c ∷ []) chunk) (sym (same_from_is_chunk other first same)) one)
+        | inr more ↦ Contains-append_right (other ∷ []) order chunk (follows_there order chunks h' chunk more)
       ]
+  | inr apart ↦
+      let h' : follows order (first ∷ chunks) ≡ true = sym (ap (λ (b : Bool). if b then follows order chunks else follows order (first ∷ chunks)) apart) ∙ h in
+      Contains-append_right (other ∷ []) order chunk (follows_there order (first ∷ chunks) h' chunk there)
+]
 
-  none_swept : (chunks : List ChunkId) (view : View) (slabs : SlabState) (now : View) (left : SlabState) → IsClass slabs class → ((chunk : ChunkId) → Contains order chunk → class_of_page slabs chunk.page ≡ class) → All (Contains order) chunks
-      → first_free (class_at left class) ≡ None → Sweeps chunks view slabs now left → left ≡ slabs
-  none_swept [] view slabs now left is own all none (same, left_is) = left_is
-  none_swept (chunk ∷ chunks) view slabs now left is own all none (next, between, one, rest) =
-      let here = All-head (Contains order) chunk chunks all in
-      let others = All-tail (Contains order) chunk chunks all in elim one [
-        | inl back ↦ absurd (let free = free_still chunks next (after_back slabs chunk) now left (IsClass-with_class slabs (class_of_page slabs chunk.page) class (put_back (class_of_chunk slabs chunk) chunk) is) own others
-            (back_is_free slabs class chunk is (own chunk here)) (subst (λ (s : SlabState). Sweeps chunks next s now left) back.1 rest) in let never : false ≡ true = ap is_some (sym none) ∙ free in cc)
-        | inr other ↦ none_swept chunks next slabs now left is own others none (subst (λ (s : SlabState). Sweeps chunks next s now left) other.1 rest)
-      ]
+-- chunks of the class that were put back or seen alive, and left no free chunk: none was put back
+module _ (class : ℕ) where
+  abbrev AreOf : SlabState → List ChunkId → Type 0
+  AreOf slabs chunks = (chunk : ChunkId) → Contains chunks chunk → class_of_page slabs chunk.page ≡ class
+
+  first_of : (slabs : SlabState) (chunk : ChunkId) (chunks : List ChunkId) → AreOf slabs (chunk ∷ chunks) → class_of_page slabs chunk.page ≡ class
+  first_of slabs chunk chunks own = own chunk (Contains-append_left (chunk ∷ []) chunks chunk (Contains-push [] chunk))
+
+  rest_of : (slabs : SlabState) (chunk : ChunkId) (chunks : List ChunkId) → AreOf slabs (chunk ∷ chunks) → AreOf slabs chunks
+  rest_of slabs chunk chunks own other there = own other (Contains-append_right (chunk ∷ []) chunks other there)
+
+  free_still : (chunks : List ChunkId) (view : View) (slabs : SlabState) (now : View) (left : SlabState) → IsClass slabs class → AreOf slabs chunks → is_some (first_free (class_at slabs class)) ≡ true → SweepsEach chunks view slabs now left
+      → is_some (first_free (class_at left class)) ≡ true
+  free_still [] view slabs now left is own free (same, left_is) = ap (λ (s : SlabState). is_some (first_free (class_at s class))) left_is ∙ free
+  free_still (chunk ∷ chunks) view slabs now left is own free (next, between, one, rest) = elim one [
+    | inl back ↦ free_still chunks next (after_back slabs chunk) now left (IsClass-with_class slabs (class_of_page slabs chunk.page) class (put_back (class_of_chunk slabs chunk) chunk) is) (rest_of slabs chunk chunks own)
+        (back_is_free slabs class chunk is (first_of slabs chunk chunks own)) (subst (λ (s : SlabState). SweepsEach chunks next s now left) back.1 rest)
+    | inr other ↦ free_still chunks next slabs now left is (rest_of slabs chunk chunks own) free (subst (λ (s : SlabState). SweepsEach chunks next s now left) other.1 rest)
+  ]
+
+  none_back : (chunks : List ChunkId) (view : View) (slabs : SlabState) (now : View) (left : SlabState) → IsClass slabs class → AreOf slabs chunks → first_free (class_at left class) ≡ None → SweepsEach chunks view slabs now left
+      → (left ≡ slabs) × SeesHeaders chunks view now
+  none_back [] view slabs now left is own none (same, left_is) = (left_is, same)
+  none_back (chunk ∷ chunks) view slabs now left is own none (next, between, one, rest) = elim one [
+    | inl back ↦ absurd (let free = free_still chunks next (after_back slabs chunk) now left (IsClass-with_class slabs (class_of_page slabs chunk.page) class (put_back (class_of_chunk slabs chunk) chunk) is) (rest_of slabs chunk chunks own)
+        (back_is_free slabs class chunk is (first_of slabs chunk chunks own)) (subst (λ (s : SlabState). SweepsEach chunks next s now left) back.1 rest) in let never : false ≡ true = ap is_some (sym none) ∙ free in cc)
+    | inr other ↦
+        let after = none_back chunks next slabs now left is (rest_of slabs chunk chunks own) none (subst (λ (s : SlabState). SweepsEach chunks next s now left) other.1 rest) in
+        (after.0, (next, seen_so chunk view next other.0, after.1))
+  ]
+    where
+      seen_so : (chunk : ChunkId) (view next : View) → SeesOther view (Some chunk) (λ head. is_dead head ≡ false) next → SeesHeader view chunk next
+      seen_so chunk view next other = subst (λ (c : ChunkId). SeesHeader view c next) (same_chunk chunk other.chunk other.is_asked) (record { head = other.head; happens = other.happens; is = other.is })
+        where
+          same_chunk : (a b : ChunkId) → Some a ≡ Some b → b ≡ a
+          same_chunk a b e = cc
+
+-- so nothing was changed, and all that was done is looks
+pub none_recovered : (view : View) → LawfulView view → (slabs : SlabState) → view.slabs ≡ Some slabs → (class : ℕ) → is_class view.setup.table class ≡ true → (now : View) (left : SlabState) → Recovers (class_at slabs class).order view slabs now left
+    → first_free (class_at left class) ≡ None → (left ≡ slabs) × (looked : List ChunkId) × SeesHeaders looked view now
+none_recovered view was slabs mine class is now left recovers none =
+    let own = λ (chunk : ChunkId) (there : Contains recovers.again chunk). (stands_out view was slabs mine class is chunk (follows_there (class_at slabs class).order recovers.again recovers.oldest_first chunk there)).own in
+    let after = none_back class recovers.again recovers.seen slabs now left (class_here view was slabs mine class is) own none recovers.each in
+    (after.0, recovers.looked ++ recovers.again, sees_both recovers.looked recovers.again view recovers.seen now recovers.sees after.1)
 
 pub none_changed : (view : View) → LawfulView view → (slabs : SlabState) → view.slabs ≡ Some slabs → (class : ℕ) → is_class view.setup.table class ≡ true → (now : View) (left : SlabState) → FindsNoFree class view slabs now left → left ≡ slabs
-none_changed view was slabs mine class is now left finds =
-    none_swept class (class_at slabs class).order (class_at slabs class).order view slabs now left (class_here view was slabs mine class is) (λ chunk there. (stands_out view was slabs mine class is chunk there).own) (All-contains_itself (class_at slabs class).order) finds.still finds.sweeps
+none_changed view was slabs mine class is now left finds = (none_recovered view was slabs mine class is now left finds.sweeps.recovers finds.still).0
 
 -- a sweep leaves the hand what it has, and so does a page that is cut
-pub sweeps_keep : (chunks : List ChunkId) (view : View) (slabs : SlabState) (now : View) (left : SlabState) → Sweeps chunks view slabs now left → own_of now ≡ own_of view
-sweeps_keep chunks view slabs now left sweeps = ap own_of (sees_alone chunks view slabs now left sweeps)
+pub recovers_keep : (order : List ChunkId) (view : View) (slabs : SlabState) (now : View) (left : SlabState) → Recovers order view slabs now left → own_of now ≡ own_of view
+recovers_keep order view slabs now left recovers =
+    ap own_of (sees_alone recovers.again recovers.seen slabs now left recovers.each) ∙ ap own_of (sees_headers_alone recovers.looked view recovers.seen recovers.sees)
+
+pub sweeps_keep : (order : List ChunkId) (view : View) (slabs : SlabState) (now : View) (left : SlabState) → Sweeps order view slabs now left → own_of now ≡ own_of view
+sweeps_keep order view slabs now left sweeps = recovers_keep order view slabs now left sweeps.recovers
 
 empty_keeps : (class : ℕ) (view : View) (slabs : SlabState) (now : View) (left : SlabState) → SweepsEmpty class view slabs now left → own_of now ≡ own_of view
 empty_keeps class view slabs now left (inl (some, same, is)) = ap own_of same
-empty_keeps class view slabs now left (inr (none, sweeps)) = sweeps_keep (class_at slabs class).order view slabs now left sweeps
+empty_keeps class view slabs now left (inr (none, recovers)) = recovers_keep (class_at slabs class).order view slabs now left recovers
 
 cuts_keep : (chunks : List ChunkId) (view : View) (slabs : SlabState) (now : View) (left : SlabState) → CutsEach chunks view slabs now left → own_of now ≡ own_of view
 cuts_keep [] view slabs now left (same, is) = ap own_of same

@@ -1,5 +1,5 @@
 -- A chunk for a class, from its parts.
-use Rattle.std.proofs.Common.{◌≡◌, ℕ, ◌+◌, ◌≤◌, true, is_some, [], ◌∷◌, ◌++◌, Option, Some, None, Result, Ok, Err, IfOk, IfSome, OnErr, refl, sym, ap, subst, ◌∙◌, inl, inr}
+use Rattle.std.proofs.Common.{◌≡◌, ℕ, ◌+◌, ◌≤◌, true, is_some, List, [], ◌∷◌, ◌++◌, Option, Some, None, Result, Ok, Err, IfOk, IfSome, OnErr, refl, sym, ap, subst, ◌∙◌, inl, inr}
 use Rattle.std.specs.List.{list_all}
 use Rattle.mc_pages.specs.declared.ids.ChunkId.{ChunkId}
 use Rattle.mc_pages.specs.Changes.{after_pop}
@@ -8,12 +8,15 @@ use Rattle.mc_pages.specs.SlabState.{SlabState, class_at}
 use Rattle.mc_core.specs.declared.head.Head.{Head}
 use Rattle.mc_core.specs.Chunks.{most_issue}
 use Rattle.mc_core.specs.Looks.{is_found_alive}
+use Rattle.mc_core.specs.Silent.{is_among}
 use Rattle.mc_core.specs.State.{room_in}
 use Rattle.mc_words.specs.View.{View}
 use Rattle.mc_words.specs.Owner.{PopsFirst, SeesOther}
-use Rattle.mc_words.specs.Sweeping.{Sweeps, with_seen}
+use Rattle.mc_words.specs.Sweeping.{Recovers, Sweeps, with_seen}
 use Rattle.mc_words.specs.Views.{chunk_popped, fresh_holding, head_seen, with_holdings}
-use Rattle.mc_items.specs.Supplying.{FindsNoFree, FindsWorn, GainsFresh, SuppliesFree}
+use Rattle.std.proofs.lemmas.Bool.{and_from, and_parts}
+use Rattle.mc_words.proofs.LookedOver.{among_behind, sees_both, sees_headers_alone}
+use Rattle.mc_items.specs.Supplying.{FindsNoFree, FindsNoneDead, FindsWorn, GainsFresh, SuppliesFree}
 
 -- what follows of a chunk that there may be
 pub if_some : {A E : Type 0} (P Q : A → Type 0) (r : Result (Option A) E) → ((a : A) → P a → Q a) → IfOk r (λ o. IfSome o P) → IfOk r (λ o. IfSome o Q)
@@ -60,22 +63,63 @@ module _ (class : ℕ) (view : View) (slabs : SlabState) (now : View) (left : Sl
     worn_seen view now _ _ sees,
   )
 
+-- there was none, and dead chunks of the class were put back
+module _ (class : ℕ) (view tried swept now : View) (slabs before between left : SlabState) (none : (first_free (class_at slabs class) ≡ None) × (before ≡ slabs) × (tried ≡ view)) (recovers : Recovers (class_at before class).order tried before swept between) (seen : swept ≡ with_seen tried swept) where
+  pub recovers_here : Recovers (class_at slabs class).order view slabs swept between
+  recovers_here = subst (λ (p : View × SlabState). Recovers (class_at p.1 class).order p.0 p.1 swept between) (λ k. (none.2 k, none.1 k)) recovers
+
+  pub seen_recovered : swept ≡ with_seen view swept
+  seen_recovered = seen ∙ ap (λ (v : View). with_seen v swept) none.2
+
+  pub by_recover : (chunk : ChunkId) → PopsFirst swept between class chunk now → left ≡ after_pop between class → SuppliesFree class view slabs chunk now left
+  by_recover chunk pops is = record { swept = swept; between = between; sweeps = inr (none.0, recovers_here); pops = pops; left_is = is }
+
+  pub worn_by_recover : SeesOther swept (first_free (class_at between class)) (λ head. most_issue ≤ head.issue) now → left ≡ between → FindsWorn class view slabs now left × (now ≡ with_seen view now)
+  worn_by_recover sees is = (
+    record {
+      swept = swept;
+      sweeps = subst (λ (s : SlabState). Rattle.mc_items.specs.Supplying.SweepsEmpty class view slabs swept s) (sym is) (inr (none.0, recovers_here));
+      worn = subst (λ (s : SlabState). SeesOther swept (first_free (class_at s class)) (λ head. most_issue ≤ head.issue) now) (sym is) sees;
+    },
+    let last : now ≡ head_seen sees.chunk sees.head (with_seen view swept) = sees.is ∙ ap (head_seen sees.chunk sees.head) seen_recovered in
+        last ∙ (λ k. with_seen view (sym last k)),
+  )
+
+-- what stands in the second of two lists stands in both together
+all_still : (order first second : List ChunkId) → list_all (is_among second) order ≡ true → list_all (is_among (first ++ second)) order ≡ true
+all_still [] first second whole = refl
+all_still (chunk ∷ order) first second whole =
+    let parts = and_parts (is_among second chunk) (list_all (is_among second) order) whole in
+    and_from _ _ (among_behind first second chunk parts.0) (all_still order first second parts.1)
+
 -- there was none, and the class was swept
-module _ (class : ℕ) (view tried swept now : View) (slabs before between left : SlabState) (none : (first_free (class_at slabs class) ≡ None) × (before ≡ slabs) × (tried ≡ view)) (sweeps : Sweeps (class_at before class).order tried before swept between) (seen : swept ≡ with_seen tried swept) where
+module _ (class : ℕ) (view tried swept now : View) (slabs before between left : SlabState) (none : FindsNoneDead class view slabs tried before) (sweeps : Sweeps (class_at before class).order tried before swept between) (seen : swept ≡ with_seen tried swept) where
+  -- what was looked at before the sweep was looked at, too
   sweeps_here : Sweeps (class_at slabs class).order view slabs swept between
-  sweeps_here = subst (λ (p : View × SlabState). Sweeps (class_at p.1 class).order p.0 p.1 swept between) (λ k. (none.2 k, none.1 k)) sweeps
+  sweeps_here =
+      let here = subst (λ (s : SlabState). Sweeps (class_at s class).order tried s swept between) none.same sweeps in record {
+        recovers = record {
+          looked = none.looked ++ here.recovers.looked;
+          seen = here.recovers.seen;
+          sees = sees_both none.looked here.recovers.looked view tried here.recovers.seen none.sees here.recovers.sees;
+          again = here.recovers.again;
+          oldest_first = here.recovers.oldest_first;
+          each = here.recovers.each;
+        };
+        whole = all_still (class_at slabs class).order none.looked here.recovers.looked here.whole;
+      }
 
   pub seen_here : swept ≡ with_seen view swept
-  seen_here = seen ∙ ap (λ (v : View). with_seen v swept) none.2
+  seen_here = seen ∙ ap (λ (v : View). with_seen v swept) (sees_headers_alone none.looked view tried none.sees)
 
   pub by_sweep : (chunk : ChunkId) → PopsFirst swept between class chunk now → left ≡ after_pop between class → SuppliesFree class view slabs chunk now left
-  by_sweep chunk pops is = record { swept = swept; between = between; sweeps = inr (none.0, sweeps_here); pops = pops; left_is = is }
+  by_sweep chunk pops is = record { swept = swept; between = between; sweeps = inr (none.empty, sweeps_here.recovers); pops = pops; left_is = is }
 
   pub worn_by_sweep : SeesOther swept (first_free (class_at between class)) (λ head. most_issue ≤ head.issue) now → left ≡ between → FindsWorn class view slabs now left × (now ≡ with_seen view now)
   worn_by_sweep sees is = (
     record {
       swept = swept;
-      sweeps = subst (λ (s : SlabState). Rattle.mc_items.specs.Supplying.SweepsEmpty class view slabs swept s) (sym is) (inr (none.0, sweeps_here));
+      sweeps = subst (λ (s : SlabState). Rattle.mc_items.specs.Supplying.SweepsEmpty class view slabs swept s) (sym is) (inr (none.empty, sweeps_here.recovers));
       worn = subst (λ (s : SlabState). SeesOther swept (first_free (class_at s class)) (λ head. most_issue ≤ head.issue) now) (sym is) sees;
     },
     let last : now ≡ head_seen sees.chunk sees.head (with_seen view swept) = sees.is ∙ ap (head_seen sees.chunk sees.head) seen_here in
@@ -84,6 +128,6 @@ module _ (class : ℕ) (view tried swept now : View) (slabs before between left 
 
   pub none_by_sweep : list_all (is_found_alive swept.row.looks) (class_at between class).order ≡ true → (first_free (class_at between class) ≡ None) × (left ≡ between) × (now ≡ swept) → FindsNoFree class view slabs now left × (now ≡ with_seen view now)
   none_by_sweep alive (still, is, same) = (
-    subst (λ (p : View × SlabState). FindsNoFree class view slabs p.0 p.1) (λ k. (sym same k, sym is k)) (record { empty = none.0; sweeps = sweeps_here; still = still; alive = alive }),
+    subst (λ (p : View × SlabState). FindsNoFree class view slabs p.0 p.1) (λ k. (sym same k, sym is k)) (record { empty = none.empty; sweeps = sweeps_here; still = still; alive = alive }),
     same ∙ (seen_here ∙ ap (with_seen view) (sym same)),
   )

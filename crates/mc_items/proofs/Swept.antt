@@ -4,16 +4,19 @@ use Rattle.mc_pages.specs.declared.ids.ChunkId.{ChunkId}
 use Rattle.mc_pages.specs.Changes.{after_pop}
 use Rattle.mc_pages.specs.SlabState.{SlabState}
 use Rattle.mc_words.specs.View.{View}
-use Rattle.mc_words.specs.Sweeping.{Sweeps, SweepsOne}
+use Rattle.mc_words.specs.Sweeping.{Recovers, SweepsEach, SweepsOne}
 
 -- no page is cut, or begun to be
-pub sweeps_uncut : (chunks : List ChunkId) (view : View) (slabs : SlabState) (now : View) (left : SlabState) → Sweeps chunks view slabs now left → left.uncut ≡ slabs.uncut
-sweeps_uncut [] view slabs now left (same, is) = ap (λ (s : SlabState). s.uncut) is
-sweeps_uncut (chunk ∷ chunks) view slabs now left (next, between, one, rest) = sweeps_uncut chunks next between now left rest ∙ by one
+each_uncut : (chunks : List ChunkId) (view : View) (slabs : SlabState) (now : View) (left : SlabState) → SweepsEach chunks view slabs now left → left.uncut ≡ slabs.uncut
+each_uncut [] view slabs now left (same, is) = ap (λ (s : SlabState). s.uncut) is
+each_uncut (chunk ∷ chunks) view slabs now left (next, between, one, rest) = each_uncut chunks next between now left rest ∙ by one
   where
     by : SweepsOne chunk view slabs next between → between.uncut ≡ slabs.uncut
     by (inl (back, is)) = ap (λ (s : SlabState). s.uncut) is
     by (inr (other, is)) = ap (λ (s : SlabState). s.uncut) is
+
+pub recovers_uncut : (order : List ChunkId) (view : View) (slabs : SlabState) (now : View) (left : SlabState) → Recovers order view slabs now left → left.uncut ≡ slabs.uncut
+recovers_uncut order view slabs now left recovers = each_uncut recovers.again recovers.seen slabs now left recovers.each
 
 -- nor by a pop, whatever it answers
 pub pop_uncut : {A E : Type 0} (r : Result (Option A) E) (X : A → Type 0) (Q : Type 0) (slabs left : SlabState) (class : ℕ) → (r ≡ Ok None → left ≡ slabs) → IfOk r (λ o. IfSome o (λ a. X a × (left ≡ after_pop slabs class))) → OnErr r (Q × (left ≡ slabs)) → left.uncut ≡ slabs.uncut

@@ -1,5 +1,5 @@
 -- How a class comes to a chunk that is handed out.
-use Rattle.std.specs.Prelude.{◌≡◌, ◌≢◌, ◌⊎◌, ℕ, ◌+◌, ◌%◌, ◌≤◌, true, false, is_some, [], ◌∷◌, ◌++◌, Some, None}
+use Rattle.std.specs.Prelude.{◌≡◌, ◌≢◌, ◌⊎◌, ℕ, ◌+◌, ◌%◌, ◌≤◌, true, false, is_some, List, [], ◌∷◌, ◌++◌, Some, None}
 use Rattle.std.specs.List.{list_all}
 use Rattle.mc_pages.specs.declared.ids.ChunkId.{ChunkId}
 use Rattle.mc_pages.specs.Accounted.{first_chunks}
@@ -18,16 +18,16 @@ use Rattle.mc_words.specs.View.{View}
 use Rattle.mc_words.specs.Happens.{Happens}
 use Rattle.mc_words.specs.Cutting.{CutsEach}
 use Rattle.mc_words.specs.Owner.{PopsFirst, PutsBack, SeesOther}
-use Rattle.mc_words.specs.Sweeping.{Sweeps, with_seen}
+use Rattle.mc_words.specs.Sweeping.{Recovers, SeesHeaders, Sweeps, with_seen}
 use Rattle.mc_words.specs.Condemning.{Condemns, FindsHeld, SeesHeld, key_seen}
 use Rattle.mc_words.specs.Lent.{BeginsWithSeen, IsLentStripe}
 use Rattle.mc_words.specs.Views.{fresh_holding, head_seen, slabs_changed, stripe_given, stripe_missed, stripe_taken, with_holdings}
 
--- the class has a free chunk, and nothing was done; or it has none, and its dead chunks were put back
+-- the class has a free chunk, and nothing was done; or it has none, and dead chunks of it were put back
 abbrev pub SweepsEmpty : ℕ → View → SlabState → View → SlabState → Type 0
 SweepsEmpty class view slabs now left =
     ((is_some (first_free (class_at slabs class)) ≡ true) × (now ≡ view) × (left ≡ slabs))
-    ⊎ ((first_free (class_at slabs class) ≡ None) × Sweeps (class_at slabs class).order view slabs now left)
+    ⊎ ((first_free (class_at slabs class) ≡ None) × Recovers (class_at slabs class).order view slabs now left)
 
 -- so, and then the first free chunk was handed out
 pub record SuppliesFree (class : ℕ) (view : View) (slabs : SlabState) (chunk : ChunkId) (now : View) (left : SlabState) : Type 0 where
@@ -45,6 +45,13 @@ pub record FindsWorn (class : ℕ) (view : View) (slabs : SlabState) (now : View
   pub swept : View
   pub sweeps : SweepsEmpty class view slabs swept left
   pub worn : SeesOther swept (first_free (class_at left class)) (λ head. most_issue ≤ head.issue) now
+
+-- the class has no free chunk, and none came of chunks that were looked at; nothing was changed
+pub record FindsNoneDead (class : ℕ) (view : View) (slabs : SlabState) (now : View) (left : SlabState) : Type 0 where
+  pub empty : first_free (class_at slabs class) ≡ None
+  pub looked : List ChunkId
+  pub sees : SeesHeaders looked view now
+  pub same : left ≡ slabs
 
 -- the class has no free chunk, and none came by a sweep: each that it handed out was found alive
 pub record FindsNoFree (class : ℕ) (view : View) (slabs : SlabState) (now : View) (left : SlabState) : Type 0 where

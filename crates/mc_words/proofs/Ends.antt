@@ -1,5 +1,5 @@
 -- What is left of an arena is what its last moment has.
-use Rattle.std.proofs.Common.{◌≡◌, ℕ, zero, suc, ◌+◌, ◌*◌, ◌<◌, ◌==◌, Bool, true, false, List, [], ◌∷◌, length, map, drop, slice_index, slice_index_or, if◌then◌else◌, Option, Some, None, IfSome, refl, sym, ap, ap₂, subst, ◌∙◌, inl, inr, arith, zero-add, eq-eqb, ne_eqb}
+use Rattle.std.proofs.Common.{◌≡◌, ℕ, zero, suc, ◌+◌, ◌*◌, ◌^◌, ◌<◌, ◌==◌, Bool, true, false, List, [], ◌∷◌, length, map, drop, slice_index, slice_index_or, if◌then◌else◌, Option, Some, None, IfSome, refl, sym, ap, ap₂, subst, ◌∙◌, inl, inr, arith, zero-add, eq-eqb, ne_eqb}
 use Rattle.std.proofs.lemmas.Bool.{cases_eq}
 use Rattle.std.proofs.lemmas.List.{get_or-take, get_or-drop, get_or-map, length-map}
 use Rattle.std.proofs.lemmas.List.FromFn.{get_or-map-range_with_len}
@@ -21,12 +21,13 @@ use Rattle.mc_words.specs.declared.slot.Slot.{Slot}
 use Rattle.mc_words.specs.declared.slot.Slot.TheVariants.{Empty, OfSlabs, OfStripe}
 use Rattle.mc_words.specs.View.{Setup, View, settled}
 use Rattle.mc_words.specs.Layout.{lock_word, head_word, heads_from, head_count}
+use Rattle.mc_words.specs.Slots.{slot_at}
 use Rattle.mc_words.specs.Meaning.{Words, Has, Ruled}
 use Rattle.mc_words.specs.Joining.{Rule, all_settled}
 use Rattle.mc_words.specs.Closing.{Closes, IsLeftOf, Left, at_home, left_of, slabs_in, slabs_left, stripe_in, stripe_left}
 use Rattle.mc_words.proofs.Rules.{lawful_view}
 use Rattle.mc_words.proofs.Settled.{IsSettled, settled_same}
-use Rattle.mc_words.proofs.Written.{lock_read, head_near}
+use Rattle.mc_words.proofs.Written.{slabs_lock_read, lock_read, head_near}
 
 -- what holds of each number of a range
 maps_alike : {A : Type 0} (f g : ℕ → A) (first count : ℕ) → ((i : ℕ) → i < count → f (first + i) ≡ g (first + i)) → map f (range_with_len first count) ≡ map g (range_with_len first count)
@@ -64,18 +65,19 @@ module _ (setup : Setup) (t : Words) (r : Ruled setup t) (slots : List Slot) (la
 
   slabs_is : slabs_left t.words slots ≡ at_home s.slabs_lock s.slabs
   slabs_is =
-      left_by (slice_index t.words (lock_word zero)) s.slabs_lock (slabs_in (slice_index_or slots zero Empty)) s.slabs r.means.words.slabs_lock
+      left_by (slice_index t.words (lock_word zero)) s.slabs_lock (slabs_in (slice_index_or slots (slot_at zero) Empty)) s.slabs
+      (slabs_lock_read setup r.cuts t.words s.slabs_lock s.stripe_locks s.heads s.words r.means.words)
       (λ free.
       let (slot, home, has) = r.means.homes zero (omega arith) free in
-      ap slabs_in (read slots zero slot Empty (last zero slot home)) ∙ slabs_of s slot has)
+      ap slabs_in (read slots (slot_at zero) slot Empty (last (slot_at zero) slot home)) ∙ slabs_of s slot has)
 
   stripe_is : (stripe : ℕ) → stripe < setup.config.stripes → stripe_left t.words slots stripe ≡ at_home (slice_index s.stripe_locks stripe) (stripe_at s stripe)
   stripe_is stripe near =
-      left_by (slice_index t.words (lock_word (suc stripe))) (slice_index s.stripe_locks stripe) (stripe_in (slice_index_or slots (suc stripe) Empty)) (stripe_at s stripe)
+      left_by (slice_index t.words (lock_word (suc stripe))) (slice_index s.stripe_locks stripe) (stripe_in (slice_index_or slots (slot_at (suc stripe)) Empty)) (stripe_at s stripe)
       (lock_read setup r.cuts t.words s.slabs_lock s.stripe_locks s.heads s.words r.means.words stripe near)
       (λ free.
       let (slot, home, has) = r.means.homes (suc stripe) (omega arith) free in
-      ap stripe_in (read slots (suc stripe) slot Empty (last (suc stripe) slot home)) ∙ stripe_of s stripe slot has)
+      ap stripe_in (read slots (slot_at (suc stripe)) slot Empty (last (slot_at (suc stripe)) slot home)) ∙ stripe_of s stripe slot has)
 
   lists_are : IfSome (slabs_left t.words slots) (λ slabs. IsOfTable setup.table slabs)
   lists_are =
@@ -116,26 +118,37 @@ module _ (setup : Setup) (words : List ℕ) (slots : List Slot) (left : IsLeftOf
       sym (get_or-take (head_count setup) (drop (heads_from setup) words) (head_place setup.table chunk) 0 (head_near setup chunk near)
       ∙ (get_or-drop (heads_from setup) words (head_place setup.table chunk) 0 ∙ (ap (slice_index words) (sym is) ∙ read words place word 0 at)))
 
-  module _ (stripe : ℕ) (near : stripe < setup.config.stripes) (word : ℕ) (at : get_elem? words (1 + (stripe + 1)) ≡ some word) where
+  -- pages and lists, where they are at home
+  pub slabs_told : (word : ℕ) → get_elem? words (lock_word zero) ≡ some word → word ≡ 0 → (slot : Slot) → slot ≡ slice_index_or slots (slot_at zero) slot → slabs_in slot ≡ (left_of setup words slots).slabs
+  slabs_told word at free slot found =
+      let count = left.locks in
+      let here = read slots (slot_at zero) slot Empty (at_index slots (slot_at zero) slot (omega arith) found) in
+      sym (ap (λ (b : Bool). if b then slabs_in (slice_index_or slots (slot_at zero) Empty) else None) (eq-eqb (slice_index words (lock_word zero)) 0 (read words (lock_word zero) word 0 at ∙ free))
+      ∙ ap slabs_in here)
+
+  -- the numbers of locks are small
+  pub few_stripes : (stripe : ℕ) → stripe < setup.config.stripes → suc stripe < 2 ^ 59
+  few_stripes stripe near = let small = left.small in omega arith
+
+  module _ (stripe : ℕ) (near : stripe < setup.config.stripes) (word : ℕ) (at : get_elem? words (lock_word (suc stripe)) ≡ some word) where
     word_is : slice_index words (lock_word (suc stripe)) ≡ word
-    word_is = let e : lock_word (suc stripe) ≡ 1 + (stripe + 1) = omega arith in ap (slice_index words) e ∙ read words (1 + (stripe + 1)) word 0 at
+    word_is = read words (lock_word (suc stripe)) word 0 at
 
     of_stripe : slice_index_or (left_of setup words slots).stripes stripe None ≡ stripe_left words slots stripe
     of_stripe = get_or-map-range_with_len (stripe_left words slots) 0 setup.config.stripes stripe stripe None near (zero-add stripe)
 
     -- where a hand has it
     pub none_told : (word ≡ 0 → ⊥) → None ≡ slice_index_or (left_of setup words slots).stripes stripe None
-    none_told held = sym (of_stripe ∙ ap (λ (b : Bool). if b then stripe_in (slice_index_or slots (suc stripe) Empty) else None) (ne_eqb (slice_index words (lock_word (suc stripe))) 0 (λ is. held (sym word_is ∙ is))))
+    none_told held = sym (of_stripe ∙ ap (λ (b : Bool). if b then stripe_in (slice_index_or slots (slot_at (suc stripe)) Empty) else None) (ne_eqb (slice_index words (lock_word (suc stripe))) 0 (λ is. held (sym word_is ∙ is))))
 
     -- and where it is at home
-    pub stripe_told : word ≡ 0 → (slot : Slot) → slot ≡ slice_index_or slots (stripe + 1) slot → stripe_in slot ≡ slice_index_or (left_of setup words slots).stripes stripe None
+    pub stripe_told : word ≡ 0 → (slot : Slot) → slot ≡ slice_index_or slots (slot_at (suc stripe)) slot → stripe_in slot ≡ slice_index_or (left_of setup words slots).stripes stripe None
     stripe_told free slot found =
         let count = left.locks in
-        let here = read slots (stripe + 1) slot Empty (at_index slots (stripe + 1) slot (omega arith) found) in
-        let e : suc stripe ≡ stripe + 1 = omega arith in
+        let here = read slots (slot_at (suc stripe)) slot Empty (at_index slots (slot_at (suc stripe)) slot (omega arith) found) in
         sym (of_stripe
-        ∙ (ap (λ (b : Bool). if b then stripe_in (slice_index_or slots (suc stripe) Empty) else None) (eq-eqb (slice_index words (lock_word (suc stripe))) 0 (word_is ∙ free))
-        ∙ ap stripe_in (ap (λ (n : ℕ). slice_index_or slots n Empty) e ∙ here)))
+        ∙ (ap (λ (b : Bool). if b then stripe_in (slice_index_or slots (slot_at (suc stripe)) Empty) else None) (eq-eqb (slice_index words (lock_word (suc stripe))) 0 (word_is ∙ free))
+        ∙ ap stripe_in here))
 
 -- a slot without a stripe
 pub no_stripe_in : (slot : Slot) → ((value : ReadyStripe) → slot ≡ OfStripe value → ⊥) → stripe_in slot ≡ None

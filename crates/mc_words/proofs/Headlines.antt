@@ -1,5 +1,5 @@
 -- The rule of the table gives the headline.
-use Rattle.std.proofs.Common.{◌≡◌, ◌≢◌, ◌⊎◌, ℕ, zero, suc, ◌+◌, ◌*◌, ◌<◌, ◌≤◌, ◌==◌, ◌&&◌, not, Bool, true, false, IsTrue, List, [], ◌∷◌, map, length, Option, Some, None, refl, sym, ap, ap₂, subst, ◌∙◌, inl, inr, arith, slice_get, slice_index, slice_index_or, is_some, lt-ltb, count_by, Contains, nat_lt, ◌/◌, option_map}
+use Rattle.std.proofs.Common.{◌≡◌, ℕ, zero, suc, ◌+◌, ◌*◌, ◌<◌, ◌≤◌, ◌&&◌, not, Bool, true, false, List, [], ◌∷◌, map, length, Option, Some, None, refl, sym, ap, ap₂, subst, ◌∙◌, inl, inr, arith, slice_get, slice_index, slice_index_or, is_some, lt-ltb, Contains, nat_lt, ◌/◌, option_map}
 use Rattle.std.proofs.lemmas.Bool.{and_from, cases_Bool}
 use Rattle.std.proofs.lemmas.List.Elements.{All-contains}
 use mathlib.Core.Option.{some}
@@ -16,23 +16,23 @@ use Rattle.mc_core.specs.declared.head.Head.{Head}
 use Rattle.mc_core.specs.declared.head.Tag.{Tag}
 use Rattle.mc_core.specs.declared.head.Tag.TheVariants.{Free, Linked, Out, Unlinked}
 use Rattle.mc_core.specs.declared.holding.Holding.{Holding}
-use Rattle.mc_core.specs.Columns.{Each, IsHandedOut, head_in, holders, holds, link_of, place_in}
-use Rattle.mc_core.specs.Head.{decode, is_free, is_out, never_cut}
+use Rattle.mc_core.specs.Columns.{IsHandedOut, head_in, holders, holds, link_of, place_in}
+use Rattle.mc_core.specs.Head.{is_free, is_out, never_cut}
 use Rattle.mc_core.specs.Holdings.{words_of}
 use Rattle.mc_core.specs.Lawful.{IsKept}
 use Rattle.mc_core.specs.Past.{Moment}
-use Rattle.mc_core.specs.State.{State, gone, has_chunk, head_place, holdings_at, is_hand, number_at, page_words, room_in}
+use Rattle.mc_core.specs.State.{has_chunk, head_place, holdings_at, is_hand, number_at, page_words, room_in}
 use Rattle.mc_core.proofs.Base.{chunk_within, placed_at, word_within}
 use Rattle.mc_core.proofs.Follows.{are_kept}
 use Rattle.mc_core.proofs.MoreRows.{each_contained}
 use Rattle.mc_words.specs.declared.slot.Slot.{Slot}
 use Rattle.mc_words.specs.declared.slot.Slot.TheVariants.{Empty, OfSlabs, OfStripe}
-use Rattle.mc_words.specs.Headline.{ArePagesOwned, Headline, HeldStaysTheSame, IsAccountedFor, IsInOnePlace, IsKeptIn, RuleGivesHeadline, class_in, data_in, header_in, holders_among}
-use Rattle.mc_words.specs.Joining.{Rule, all_settled}
-use Rattle.mc_words.specs.Layout.{data_count, data_from, data_word, head_count, head_word, heads_from, page_word, pages_from, slabs_word}
+use Rattle.mc_words.specs.Headline.{HeldStaysTheSame, IsAccountedFor, IsInOnePlace, IsKeptIn, RuleGivesHeadline, class_in, header_in, holders_among}
+use Rattle.mc_words.specs.Joining.{all_settled}
+use Rattle.mc_words.specs.Layout.{data_count, data_from, data_word, slabs_word}
 use Rattle.mc_words.specs.Meaning.{Has, IsViewOf, Ruled, Words}
 use Rattle.mc_words.specs.View.{Setup, View, new_view, settled}
-use Rattle.mc_words.proofs.Written.{data_read, head_near, head_read, page_read}
+use Rattle.mc_words.proofs.Written.{data_read, head_near, head_read, page_read, slabs_lock_read}
 
 -- all holders are those of the rows
 same_holders : (chunk : ChunkId) (rows : List (List Holding)) (views : List View) → ((i : ℕ) (view : View) → get_elem? views i ≡ some view → slice_index_or rows i [] ≡ view.row.holdings)
@@ -136,7 +136,7 @@ module _ (setup : Setup) (t : Words) (r : Ruled setup t) where
 
   module _ (free : slice_index t.words slabs_word ≡ 0) where
     none_uncut : slabs.uncut ≡ None
-    none_uncut = r.lawful.paged.whole (sym r.means.words.slabs_lock ∙ free)
+    none_uncut = r.lawful.paged.whole (sym (slabs_lock_read setup r.cuts t.words m.state.slabs_lock m.state.stripe_locks m.state.heads m.state.words r.means.words) ∙ free)
 
     cut_here : (class : ℕ) (chunk : ChunkId) → is_of_class class (owner_at slabs.owners chunk.page) ≡ true → chunk.index < (class_at slabs class).per_page → is_cut slabs class chunk ≡ true
     cut_here class chunk of within =

@@ -30,6 +30,9 @@ pub mod Copies
 pub mod HeldOut
 pub mod Sweeps
 pub mod SweepViews
+pub mod Judged
+pub mod LookedOver
+pub mod FewDead
 pub mod Calls
 pub mod Refers
 pub mod References
@@ -42,6 +45,7 @@ pub mod Filled
 pub mod Judging
 pub mod Opens
 pub mod Splits
+pub mod Spread
 pub mod Pages
 pub mod MoveChanges
 pub mod ChangeViews

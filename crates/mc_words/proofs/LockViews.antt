@@ -28,7 +28,7 @@ use Rattle.mc_words.specs.Happens.{LawfulView, Happens, HappensAt}
 use Rattle.mc_words.specs.Views.{slabs_taken, slabs_given, stripe_taken, stripe_given, slabs_missed, stripe_missed, head_seen, with_looks, looked_if_held}
 use Rattle.mc_words.specs.Views as views
 use Rattle.mc_words.proofs.Knows.{knows_after, said_none}
-use Rattle.mc_words.proofs.Written.{lock_read, head_read, head_near}
+use Rattle.mc_words.proofs.Written.{slabs_lock_read, lock_read, head_read, head_near}
 use Rattle.mc_words.proofs.Quiet.{has_if}
 use Rattle.mc_words.proofs.TakeAndGive.{held_from}
 
@@ -127,7 +127,7 @@ module _ (view now : View) where
       let m : Moment = h.was.moment in
       let id : ℕ = h.was.hand in
       let after : Moment = moment_stepped m id core.MissSlabs in
-      let is : m.state.slabs_lock ≡ word = sym h.was.are.slabs_lock ∙ at.1 in
+      let is : m.state.slabs_lock ≡ word = sym (slabs_lock_read view.setup h.was.cuts h.was.words m.state.slabs_lock m.state.stripe_locks m.state.heads m.state.words h.was.are) ∙ at.1 in
       let knows = knows_after m id core.MissSlabs refl (may_step h) refl
       ∙ (said_none ((knowledge_at m.past id).saw ++ slabs_word m.state.slabs_lock ∷ []) (knowledge_at m.past id) (knowledge_at m.past id).hold (knowledge_at m.past id).seen
       ∙ (λ k. let knows = knew h.was k in record knows { saw = knows.saw ++ slabs_word (is k) ∷ [] })) in

@@ -12,6 +12,7 @@ use Rattle.mc_words.specs.View.{Setup, View}
 use Rattle.mc_words.specs.Told.{Sits}
 use Rattle.mc_words.specs.Happens.{IsSameHand}
 use Rattle.mc_words.specs.Out.{slots_out, slots_in, has_slabs_in, has_stripe_in, is_within, HasLocks, IsNoted, with_last, with_slabs, without_slabs, with_stripe, without_stripe, has_no_stripe}
+use Rattle.mc_words.specs.Slots.{slot_at}
 use Rattle.mc_words.specs.Taking.{Gains, Loses, IsOneHand}
 
 slots_with : (locks : Locks) → has_slabs_in locks ≡ false → zero ∷ slots_in locks ≡ slots_in (with_slabs locks)
@@ -66,7 +67,7 @@ within_no_stripe stripes (SlabsLast stripe) = refl
 within_no_stripe stripes (StripeLast stripe) = refl
 
 none_with : (locks : Locks) → has_no_stripe locks ≡ true → (stripe : ℕ) (stripes : List ℕ) → (map (has_stripe_in locks) stripes ≡ map (λ other. false) stripes) × (has_slabs_in (with_stripe stripe locks) ≡ has_slabs_in locks)
-    × (map (has_stripe_in (with_stripe stripe locks)) stripes ≡ map (λ other. stripe == other) stripes) × (slots_in (with_stripe stripe locks) ≡ suc stripe ∷ slots_in locks)
+    × (map (has_stripe_in (with_stripe stripe locks)) stripes ≡ map (λ other. stripe == other) stripes) × (slots_in (with_stripe stripe locks) ≡ slot_at (suc stripe) ∷ slots_in locks)
 none_with Neither none stripe stripes = (refl, refl, refl, refl)
 none_with Slabs none stripe stripes = (refl, refl, refl, refl)
 none_with (Stripe other) none stripe stripes = absurd (cc)
@@ -94,7 +95,7 @@ module _ (view now : View) (locks : Locks) (had : HasLocks view locks) (same : I
   )
 
   -- and with that of a stripe
-  pub gained_stripe : (stripe : ℕ) → has_no_stripe locks ≡ true → nat_lt stripe view.setup.config.stripes ≡ true → Gains (StripeLock stripe) view now → HasLocks now (with_stripe stripe locks) × (suc stripe ∷ slots_in locks ≡ slots_in (with_stripe stripe locks))
+  pub gained_stripe : (stripe : ℕ) → has_no_stripe locks ≡ true → nat_lt stripe view.setup.config.stripes ≡ true → Gains (StripeLock stripe) view now → HasLocks now (with_stripe stripe locks) × (slot_at (suc stripe) ∷ slots_in locks ≡ slots_in (with_stripe stripe locks))
   gained_stripe stripe none near gains =
       let (old, slabs, new, slots) = none_with locks none stripe (range_with_len 0 view.setup.config.stripes) in (
         (
@@ -131,14 +132,14 @@ noted_slabs me now number chunks locks (is, few, count, slots, had) same gains o
     )
 
 -- after a stripe's was
-pub noted_stripe : (me now : Sits) (number chunks stripe : ℕ) (locks : Locks) → has_no_stripe locks ≡ true → nat_lt stripe me.0.setup.config.stripes ≡ true → IsNoted me number chunks locks → IsOneHand me.0 now.0 → Gains (StripeLock stripe) me.0 now.0 → slots_out now.1 ≡ suc stripe ∷ slots_out me.1 → now.0.row.holdings ≡ me.0.row.holdings
+pub noted_stripe : (me now : Sits) (number chunks stripe : ℕ) (locks : Locks) → has_no_stripe locks ≡ true → nat_lt stripe me.0.setup.config.stripes ≡ true → IsNoted me number chunks locks → IsOneHand me.0 now.0 → Gains (StripeLock stripe) me.0 now.0 → slots_out now.1 ≡ slot_at (suc stripe) ∷ slots_out me.1 → now.0.row.holdings ≡ me.0.row.holdings
     → IsNoted now number chunks (with_stripe stripe locks)
 noted_stripe me now number chunks stripe locks none near (is, few, count, slots, had) same gains out holdings =
     let (locked, front) = gained_stripe me.0 now.0 locks had same stripe none near gains in (
       same.2 ∙ is,
       few,
       count ∙ ap length (sym holdings),
-      out ∙ (ap (λ l. suc stripe ∷ l) slots ∙ front),
+      out ∙ (ap (λ l. slot_at (suc stripe) ∷ l) slots ∙ front),
       locked,
     )
 
@@ -151,12 +152,12 @@ slabs_last (SlabsLast stripe) has = refl
 slabs_last (StripeLast stripe) has = refl
 
 -- and so does a stripe's
-pub stripe_last : (locks : Locks) (stripe : ℕ) → has_stripe_in locks stripe ≡ true → slots_in (with_last (suc stripe) locks) ≡ suc stripe ∷ slots_in (without_stripe locks)
+pub stripe_last : (locks : Locks) (stripe : ℕ) → has_stripe_in locks stripe ≡ true → slots_in (with_last (suc stripe) locks) ≡ slot_at (suc stripe) ∷ slots_in (without_stripe locks)
 stripe_last Neither stripe has = absurd (cc)
 stripe_last Slabs stripe has = absurd (cc)
-stripe_last (Stripe other) stripe has = ap (λ (i : ℕ). suc i ∷ []) (eqb-true other stripe has)
-stripe_last (SlabsLast other) stripe has = ap (λ (i : ℕ). suc i ∷ zero ∷ []) (eqb-true other stripe has)
-stripe_last (StripeLast other) stripe has = ap (λ (i : ℕ). suc i ∷ zero ∷ []) (eqb-true other stripe has)
+stripe_last (Stripe other) stripe has = ap (λ (i : ℕ). slot_at (suc i) ∷ []) (eqb-true other stripe has)
+stripe_last (SlabsLast other) stripe has = ap (λ (i : ℕ). slot_at (suc i) ∷ zero ∷ []) (eqb-true other stripe has)
+stripe_last (StripeLast other) stripe has = ap (λ (i : ℕ). slot_at (suc i) ∷ zero ∷ []) (eqb-true other stripe has)
 
 pub left_slabs : (locks : Locks) → without_slabs (with_last zero locks) ≡ without_slabs locks
 left_slabs Neither = refl
@@ -223,7 +224,7 @@ module _ (me now : Sits) (number chunks : ℕ) (locks : Locks) (same : IsOneHand
       )
 
   -- and after a stripe's was
-  pub noted_gave_stripe : (stripe : ℕ) → IsNoted me number chunks (with_last (suc stripe) locks) → HasLocks me.0 locks → has_stripe_in locks stripe ≡ true → Loses (StripeLock stripe) me.0 now.0 → slots_out me.1 ≡ suc stripe ∷ slots_out now.1
+  pub noted_gave_stripe : (stripe : ℕ) → IsNoted me number chunks (with_last (suc stripe) locks) → HasLocks me.0 locks → has_stripe_in locks stripe ≡ true → Loses (StripeLock stripe) me.0 now.0 → slots_out me.1 ≡ slot_at (suc stripe) ∷ slots_out now.1
       → IsNoted now number chunks (without_stripe locks)
   noted_gave_stripe stripe (is, few, count, slots, _) had has loses out =
       let stripes = range_with_len 0 me.0.setup.config.stripes in
@@ -231,7 +232,7 @@ module _ (me now : Sits) (number chunks : ℕ) (locks : Locks) (same : IsOneHand
         same.2 ∙ is,
         few,
         count ∙ ap length (sym holdings),
-        rest_same (suc stripe) (suc stripe) (slots_out now.1) (slots_in (without_stripe locks)) (sym out ∙ (slots ∙ stripe_last locks stripe has)),
+        rest_same (slot_at (suc stripe)) (slot_at (suc stripe)) (slots_out now.1) (slots_in (without_stripe locks)) (sym out ∙ (slots ∙ stripe_last locks stripe has)),
         (
           loses.0 ∙ (had.0 ∙ left.0),
           loses.1 (had.1 ∙ that_stripe locks stripe stripes has) ∙ (ap (λ (s : Setup). map (λ other. false) (range_with_len 0 s.config.stripes)) same.0 ∙ (left.1 ∙ ap (λ (s : Setup). map (has_stripe_in (without_stripe locks)) (range_with_len 0 s.config.stripes)) (sym same.0))),

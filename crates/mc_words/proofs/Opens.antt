@@ -1,7 +1,7 @@
 -- The table of a new arena means the core's first moment, and a hand that is made changes nothing of it.
-use Rattle.std.proofs.Common.{◌≡◌, ℕ, zero, suc, ◌+◌, ◌-◌, ◌*◌, ◌<◌, ◌≤◌, Bool, true, false, List, [], ◌∷◌, ◌++◌, map, length, length-append, take, drop, replicate, Some, None, refl, sym, ap, subst, ◌∙◌, arith, zero-add, slice_index, get_or, is_some, if◌then◌else◌}
+use Rattle.std.proofs.Common.{◌≡◌, ℕ, zero, suc, ◌+◌, ◌-◌, ◌*◌, ◌<◌, ◌≤◌, Bool, true, false, List, [], ◌∷◌, ◌++◌, map, length, length-append, take, drop, replicate, Some, None, refl, sym, ap, ap₂, subst, ◌∙◌, append-nil, arith, zero-add, slice_index, get_or, is_some, if◌then◌else◌}
 use Rattle.std.specs.List.{range_with_len}
-use Rattle.std.proofs.lemmas.List.{length-replicate, drop-replicate, take-replicate, get_or-replicate, get_or_append_left, drop-append-le, take-append-le, length-map}
+use Rattle.std.proofs.lemmas.List.{length-replicate, drop-replicate, take-replicate, get_or-replicate, replicate-append-replicate, drop-append-le, take-append-le, length-map}
 use Rattle.std.proofs.Math.Seq.{drop-append_seam, drop-append-add, take-append_seam}
 use Rattle.std.proofs.lemmas.List.FromFn.{get_or-map-range_with_len, length-map-range_with_len}
 use mathlib.Core.Option.{some}
@@ -20,14 +20,17 @@ use Rattle.mc_core.specs.Views.{held_slabs, held_stripe}
 use Rattle.mc_core.proofs.Codes.{are_one_word}
 use Rattle.mc_core.proofs.Framed.{free_lock}
 use Rattle.mc_core.proofs.LawKept.{lawful_first}
-use Rattle.mc_words.specs.declared.slot.Slot.TheVariants.{OfSlabs, OfStripe}
+use Rattle.mc_words.specs.declared.slot.Slot.{Slot}
+use Rattle.mc_words.specs.declared.slot.Slot.TheVariants.{Empty, OfSlabs, OfStripe}
 use Rattle.mc_words.specs.View.{Setup, View, view_at, new_view}
-use Rattle.mc_words.specs.Layout.{locks_from, pages_from, heads_from, head_count, data_count, config_from, config_words}
+use Rattle.mc_words.specs.Layout.{words_between, spread, pages_from, heads_from, head_count, data_count, config_from, config_words}
 use Rattle.mc_words.specs.Meaning.{AreWords, AreHome, IsViewOf, Ruled, beginning_of}
 use Rattle.mc_words.specs.declared.locks.Locks.TheVariants.{Neither}
 use Rattle.mc_words.specs.Out.{IsNoted}
 use Rattle.mc_words.specs.Happens.{LawfulView}
 use Rattle.mc_words.specs.Joining.{IsMade, Rule}
+use Rattle.mc_words.specs.Slots.{slots_between, slot_at, slot_count}
+use Rattle.mc_words.proofs.Spread.{map_spread, spread_append, spread_elem, spread_long, spread_same}
 use Rattle.mc_words.proofs.Settled.{not_made}
 use Rattle.mc_words.proofs.Quiet.{map_map}
 use Rattle.mc_words.specs.Opening.{first_words, first_slots, first_view}
@@ -98,9 +101,9 @@ module _ (setup : Setup) (small : setup.start ≤ most_issue) where
         let y : length (replicate {A = ℕ} headers (start * 262144)) ≡ headers = length-replicate headers (start * 262144) in
         let z : length (replicate {A = ℕ} data_words 0) ≡ data_words = length-replicate data_words 0 in
         let w : length behind_data ≡ 8 = refl in omega arith;
-    slabs_lock = let long : length (replicate {A = ℕ} H 0) ≡ H = length-replicate H 0 in get_or_append_left (replicate H 0) behind_pages 0 1 (omega arith) ∙ same_entry H 1 0 0 (omega arith);
-    hands_word = let long : length (replicate {A = ℕ} H 0) ≡ H = length-replicate H 0 in get_or_append_left (replicate H 0) behind_pages 0 0 (omega arith) ∙ same_entry H 0 0 0 (omega arith);
-    locks = zeros locks_from setup.config.stripes H behind_pages (omega arith);
+    locks =
+        let e : pages_from setup ≡ (1 + words_between) * suc (suc setup.config.stripes) = omega arith in
+        zeros 0 (pages_from setup) H behind_pages (omega arith) ∙ (ap (λ n. replicate n 0) e ∙ sym (spread_same words_between 0 (suc (suc setup.config.stripes))));
     pages = zeros (pages_from setup) (pages_of setup.table) H behind_pages (omega arith);
     heads = ap (λ l. map decode (take headers l)) (here H (replicate H 0) behind_pages (length-replicate H 0))
         ∙ (ap (map decode) (group headers (start * 262144) behind_heads) ∙ (map_replicate decode headers (start * 262144) ∙ ap (replicate headers) (uncut_word start small)));
@@ -130,13 +133,32 @@ no_class (suc pages) (suc page) = no_class pages page
 one_more : (n : ℕ) → suc n ≡ 1 + n
 one_more n = omega arith
 
+-- how many slots there are
+pub slots_long : (setup : Setup) → length (first_slots setup) ≡ slot_count setup.config.stripes
+slots_long setup =
+    spread_long slots_between Empty (OfSlabs (fresh_slabs setup.table) ∷ replicate setup.config.stripes (OfStripe new_stripe))
+    ∙ ap (λ n. (1 + slots_between) * n) (ap suc (length-replicate setup.config.stripes (OfStripe new_stripe)) ∙ one_more setup.config.stripes)
+
+-- the slots with one stripe more
+pub one_slot_more : (slabs : Slot) (stripes : ℕ) (stripe : Slot) (slots : List Slot) → slots ≡ spread slots_between Empty (slabs ∷ replicate stripes stripe) → slots ++ stripe ∷ replicate slots_between Empty ≡ spread slots_between Empty (slabs ∷ replicate (stripes + 1) stripe)
+one_slot_more slabs stripes stripe slots is =
+    ap₂ (λ l m. l ++ m) is (ap (λ l. stripe ∷ l) (sym (append-nil (replicate slots_between Empty))))
+    ∙ (sym (spread_append slots_between Empty (slabs ∷ replicate stripes stripe) (stripe ∷ [])) ∙ ap (λ l. spread slots_between Empty (slabs ∷ l)) (replicate-append-replicate stripes 1 stripe))
+
 module _ (setup : Setup) (sound : IsSound setup.table) (stripes : 1 ≤ setup.config.stripes) (hands : 1 ≤ setup.hands) (few : setup.hands ≤ 64) (small : setup.start ≤ most_issue) where
   abbrev first : Moment
   first = beginning_of setup
 
+  -- the values, of which each stands at its lock's slot
+  abbrev values : List Slot
+  values = OfSlabs (fresh_slabs setup.table) ∷ replicate setup.config.stripes (OfStripe new_stripe)
+
+  apart : (i : ℕ) → get_elem? (map some (first_slots setup)) (slot_at i) ≡ get_elem? (map some values) i
+  apart i = ap (λ homes. get_elem? homes (slot_at i)) (map_spread some slots_between Empty values) ∙ spread_elem slots_between (some Empty) (map some values) i
+
   home_first : AreHome setup (first_words setup) (map some (first_slots setup)) first.state
   home_first zero near free = (OfSlabs (fresh_slabs setup.table), refl, refl)
-  home_first (suc i) near free = (OfStripe new_stripe, many setup.config.stripes i (OfStripe new_stripe) (omega arith), sym (same_entry setup.config.stripes i new_stripe new_stripe (omega arith)))
+  home_first (suc i) near free = (OfStripe new_stripe, apart (suc i) ∙ many setup.config.stripes i (OfStripe new_stripe) (omega arith), sym (same_entry setup.config.stripes i new_stripe new_stripe (omega arith)))
 
   no_slabs : (hand : ℕ) → held_slabs first.state hand ≡ None
   no_slabs hand = ap (λ (b : Bool). if b then Some first.state.slabs else None) (free_lock (number_at first.state hand))
@@ -193,7 +215,7 @@ module _ (setup : Setup) (sound : IsSound setup.table) (stripes : 1 ≤ setup.co
       words = words_first setup small;
       cut = λ page. zero_at (pages_of setup.table) page ∙ sym (no_class (pages_of setup.table) page);
       homes = home_first;
-      slots = ap suc (length-map (replicate setup.config.stripes (OfStripe new_stripe)) some ∙ length-replicate setup.config.stripes (OfStripe new_stripe)) ∙ one_more setup.config.stripes;
+      slots = length-map (first_slots setup) some ∙ slots_long setup;
       views = views;
       most = hands;
       made = made;

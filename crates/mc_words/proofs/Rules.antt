@@ -18,7 +18,7 @@ use Rattle.mc_words.specs.Layout.{lock_word}
 use Rattle.mc_words.specs.Meaning.{Words, WordsOf, AreCut, Has, AreHome, IsViewOf, LeadsTo, Ruled}
 use Rattle.mc_words.specs.Happens.{LawfulView}
 use Rattle.mc_words.proofs.Reached.{events_else, events_own}
-use Rattle.mc_words.proofs.Written.{lock_read}
+use Rattle.mc_words.proofs.Written.{slabs_lock_read, lock_read}
 
 pub within : {A : Type 0} (l : List A) (i : ℕ) (a : A) → get_elem? l i ≡ some a → i < length l
 within [] i a e = absurd (maybe.some-ne-none a (sym e))
@@ -29,7 +29,7 @@ within (x ∷ xs) (suc i) a e = let more = within xs i a e in omega arith
 module _ (setup : Setup) (cuts cuts' words words' : List ℕ) (homes : List (maybe.Option Slot)) (m now : Moment) (id : ℕ) (quiet : IsQuiet m now id) (are : WordsOf setup cuts words m.state) (are' : WordsOf setup cuts' words' now.state) (home : AreHome setup words homes m.state) where
   still_home : (lock : ℕ) (slot : Slot) → slice_index words (lock_word lock) ≡ 0 → lock ≤ setup.config.stripes → Has m.state lock slot → Has now.state lock slot
   still_home zero Empty free near has = absurd has
-  still_home zero (OfSlabs value) free near has = has ∙ sym (quiet.free_slabs (sym are.slabs_lock ∙ free))
+  still_home zero (OfSlabs value) free near has = has ∙ sym (quiet.free_slabs (sym (slabs_lock_read setup cuts words m.state.slabs_lock m.state.stripe_locks m.state.heads m.state.words are) ∙ free))
   still_home zero (OfStripe value) free near has = absurd has
   still_home (suc i) Empty free near has = absurd has
   still_home (suc i) (OfSlabs value) free near has = absurd has
@@ -37,7 +37,9 @@ module _ (setup : Setup) (cuts cuts' words words' : List ℕ) (homes : List (may
       has ∙ sym (quiet.free_stripes i (sym (lock_read setup cuts words m.state.slabs_lock m.state.stripe_locks m.state.heads m.state.words are i (omega arith)) ∙ free))
 
   was_free : (lock : ℕ) → lock ≤ setup.config.stripes → slice_index words' (lock_word lock) ≡ 0 → slice_index words (lock_word lock) ≡ 0
-  was_free zero near free = are.slabs_lock ∙ (sym quiet.slabs_lock ∙ (sym are'.slabs_lock ∙ free))
+  was_free zero near free =
+      slabs_lock_read setup cuts words m.state.slabs_lock m.state.stripe_locks m.state.heads m.state.words are
+      ∙ (sym quiet.slabs_lock ∙ (sym (slabs_lock_read setup cuts' words' now.state.slabs_lock now.state.stripe_locks now.state.heads now.state.words are') ∙ free))
   was_free (suc i) near free =
       lock_read setup cuts words m.state.slabs_lock m.state.stripe_locks m.state.heads m.state.words are i (omega arith)
       ∙ (ap (λ (locks : List ℕ). slice_index locks i) (sym quiet.locks)

@@ -90,7 +90,7 @@ all_append f (x ∷ xs) ys one two = let parts = and_parts (f x) (list_all f xs)
 
 -- a look at a chunk says nothing of another, and neither does one that is put back
 module _ (looks : List Look) (chunk : ChunkId) where
-  other_alive : (head : Head) (other : ChunkId) → is_chunk other chunk ≡ false → is_found_alive (looks ++ Saw chunk head ∷ []) other ≡ is_found_alive looks other
+  pub other_alive : (head : Head) (other : ChunkId) → is_chunk other chunk ≡ false → is_found_alive (looks ++ Saw chunk head ∷ []) other ≡ is_found_alive looks other
   other_alive head other apart =
       fold-append (stays_alive other) false looks (Saw chunk head ∷ []) ∙ ap (λ (b : Bool). if b then not (is_dead head) else is_found_alive looks other) turned
     where
@@ -100,19 +100,19 @@ module _ (looks : List Look) (chunk : ChunkId) where
         | inr isnt ↦ isnt
       ]
 
-  chunk_alive : (head : Head) → is_dead head ≡ false → is_found_alive (looks ++ Saw chunk head ∷ []) chunk ≡ true
+  pub chunk_alive : (head : Head) → is_dead head ≡ false → is_found_alive (looks ++ Saw chunk head ∷ []) chunk ≡ true
   chunk_alive head alive =
       fold-append (stays_alive chunk) false looks (Saw chunk head ∷ [])
       ∙ (ap (λ (b : Bool). if b then not (is_dead head) else is_found_alive looks chunk) (is_chunk-same chunk) ∙ ap not alive)
 
-  others_alive : (head : Head) (chunks : List ChunkId) → times chunk chunks ≡ 0 → list_all (is_found_alive looks) chunks ≡ true → list_all (is_found_alive (looks ++ Saw chunk head ∷ [])) chunks ≡ true
+  pub others_alive : (head : Head) (chunks : List ChunkId) → times chunk chunks ≡ 0 → list_all (is_found_alive looks) chunks ≡ true → list_all (is_found_alive (looks ++ Saw chunk head ∷ [])) chunks ≡ true
   others_alive head [] none all = refl
   others_alive head (c ∷ chunks) none all =
       let parts = and_parts (is_found_alive looks c) (list_all (is_found_alive looks) chunks) all in
       let apart = other_first chunk [] c chunks none in
       and_from _ _ (other_alive head c apart.0 ∙ parts.0) (others_alive head chunks apart.1 parts.1)
 
-  back_alive : (head : Head) (chunks : List ChunkId) → list_all (is_found_alive looks) chunks ≡ true → list_all (is_found_alive (looks ++ PutBack chunk head ∷ [])) chunks ≡ true
+  pub back_alive : (head : Head) (chunks : List ChunkId) → list_all (is_found_alive looks) chunks ≡ true → list_all (is_found_alive (looks ++ PutBack chunk head ∷ [])) chunks ≡ true
   back_alive head [] all = refl
   back_alive head (c ∷ chunks) all =
       let parts = and_parts (is_found_alive looks c) (list_all (is_found_alive looks) chunks) all in

@@ -1,5 +1,5 @@
 -- The words of a table after one of them was written.
-use Rattle.std.proofs.Common.{◌≡◌, ℕ, suc, ◌+◌, ◌*◌, ◌<◌, ◌≤◌, true, List, map, length, take, drop, sym, ap, subst, ◌∙◌, arith, slice_set, slice_index, slice_index_or, length-set, length-drop, mul_comm, get_or-set_same, get_or-set_other}
+use Rattle.std.proofs.Common.{◌≡◌, ℕ, suc, ◌+◌, ◌*◌, ◌<◌, ◌≤◌, true, List, ◌∷◌, map, length, take, drop, refl, sym, ap, subst, ◌∙◌, arith, slice_set, slice_index, slice_index_or, length-set, length-drop, mul_comm}
 use Rattle.std.proofs.lemmas.List.{drop-set-add, drop-set-lt, take-set-le, map-set, get_or-map, get_or-take, get_or-drop, set-get_or, length-take-le}
 use Rattle.std.proofs.Math.Seq.{take-set-lt}
 use Rattle.std.proofs.lemmas.Nat.{mul-add-lt}
@@ -10,8 +10,9 @@ use Rattle.mc_core.specs.Head.{decode}
 use Rattle.mc_core.specs.State.{has_chunk, head_place, most_of}
 use Rattle.mc_core.proofs.Base.{chunk_within}
 use Rattle.mc_words.specs.View.{Setup}
-use Rattle.mc_words.specs.Layout.{locks_from, slabs_word, lock_word, pages_from, heads_from, head_count, data_from, data_count, config_from}
+use Rattle.mc_words.specs.Layout.{words_apart, words_between, spread, slabs_word, lock_word, pages_from, heads_from, head_count, data_from, data_count, config_from}
 use Rattle.mc_words.specs.Meaning.{AreWords}
+use Rattle.mc_words.proofs.Spread.{spread_set, spread_get}
 
 -- a group of words that begins at `first`
 module _ (first count : ℕ) (words : List ℕ) where
@@ -54,42 +55,44 @@ module _ (setup : Setup) (cuts words : List ℕ) (lock : ℕ) (locks : List ℕ)
   abbrev C : ℕ
   C = config_from setup
 
-  -- the word of the slabs lock
+  -- the word of a lock: of all that is before the pages, only it changes
+  locks_written : (place index word : ℕ) (after : List ℕ) → place ≡ words_apart * index → place < P → slice_set (0 ∷ lock ∷ locks) index word ≡ after → take P (slice_set words place word) ≡ spread words_between 0 after
+  locks_written place index word after is near same =
+      take-set-lt P words place word near
+      ∙ (ap (λ (l : List ℕ). slice_set l place word) are.locks
+      ∙ (ap (λ (i : ℕ). slice_set (spread words_between 0 (0 ∷ lock ∷ locks)) i word) is
+      ∙ (spread_set words_between 0 (0 ∷ lock ∷ locks) index word ∙ ap (spread words_between 0) same)))
+
+  -- of the slabs
   pub slabs_lock_written : (word : ℕ) → AreWords setup cuts (slice_set words slabs_word word) word locks heads stored
   slabs_lock_written word = let wide = are.wide in record {
-    wide = length-set words 1 word ∙ are.wide;
-    slabs_lock = get_or-set_same words 1 word 0 (omega arith);
-    locks = before locks_from stripes words 1 word (omega arith) ∙ are.locks;
-    pages = before P pages words 1 word (omega arith) ∙ are.pages;
-    heads = ap (map decode) (before H headers words 1 word (omega arith)) ∙ are.heads;
-    items = before D words_count words 1 word (omega arith) ∙ are.items;
-    hands_word = get_or-set_other words 1 0 word 0 (λ e. omega arith) ∙ are.hands_word;
-    configured = drop-set-lt C words 1 word (omega arith) ∙ are.configured;
+    wide = length-set words slabs_word word ∙ are.wide;
+    locks = locks_written slabs_word 1 word (0 ∷ word ∷ locks) refl (omega arith) refl;
+    pages = before P pages words slabs_word word (omega arith) ∙ are.pages;
+    heads = ap (map decode) (before H headers words slabs_word word (omega arith)) ∙ are.heads;
+    items = before D words_count words slabs_word word (omega arith) ∙ are.items;
+    configured = drop-set-lt C words slabs_word word (omega arith) ∙ are.configured;
   }
 
-  -- the word of a stripe's lock
-  pub lock_written : (stripe word : ℕ) → stripe < stripes → AreWords setup cuts (slice_set words (locks_from + stripe) word) lock (slice_set locks stripe word) heads stored
+  -- of a stripe
+  pub lock_written : (stripe word : ℕ) → stripe < stripes → AreWords setup cuts (slice_set words (lock_word (suc stripe)) word) lock (slice_set locks stripe word) heads stored
   lock_written stripe word near = let wide = are.wide in record {
-    wide = length-set words (2 + stripe) word ∙ are.wide;
-    slabs_lock = get_or-set_other words (2 + stripe) 1 word 0 (λ e. omega arith) ∙ are.slabs_lock;
-    locks = inside locks_from stripes words stripe word near ∙ ap (λ (l : List ℕ). slice_set l stripe word) are.locks;
-    pages = before P pages words (2 + stripe) word (omega arith) ∙ are.pages;
-    heads = ap (map decode) (before H headers words (2 + stripe) word (omega arith)) ∙ are.heads;
-    items = before D words_count words (2 + stripe) word (omega arith) ∙ are.items;
-    hands_word = get_or-set_other words (2 + stripe) 0 word 0 (λ e. omega arith) ∙ are.hands_word;
-    configured = drop-set-lt C words (2 + stripe) word (omega arith) ∙ are.configured;
+    wide = length-set words (lock_word (suc stripe)) word ∙ are.wide;
+    locks = locks_written (lock_word (suc stripe)) (suc (suc stripe)) word (0 ∷ lock ∷ slice_set locks stripe word) (omega arith) (omega arith) refl;
+    pages = before P pages words (lock_word (suc stripe)) word (omega arith) ∙ are.pages;
+    heads = ap (map decode) (before H headers words (lock_word (suc stripe)) word (omega arith)) ∙ are.heads;
+    items = before D words_count words (lock_word (suc stripe)) word (omega arith) ∙ are.items;
+    configured = drop-set-lt C words (lock_word (suc stripe)) word (omega arith) ∙ are.configured;
   }
 
   -- the word of a page
   pub page_written : (page word : ℕ) → page < pages → AreWords setup (slice_set cuts page word) (slice_set words (P + page) word) lock locks heads stored
   page_written page word near = let wide = are.wide in record {
     wide = length-set words (P + page) word ∙ are.wide;
-    slabs_lock = get_or-set_other words (P + page) 1 word 0 (λ e. omega arith) ∙ are.slabs_lock;
-    locks = behind locks_from stripes words (P + page) (stripes + page) word (omega arith) (omega arith) ∙ are.locks;
+    locks = take-set-le P words (P + page) word (omega arith) ∙ are.locks;
     pages = inside P pages words page word near ∙ ap (λ (l : List ℕ). slice_set l page word) are.pages;
     heads = ap (map decode) (before H headers words (P + page) word (omega arith)) ∙ are.heads;
     items = before D words_count words (P + page) word (omega arith) ∙ are.items;
-    hands_word = get_or-set_other words (P + page) 0 word 0 (λ e. omega arith) ∙ are.hands_word;
     configured = drop-set-lt C words (P + page) word (omega arith) ∙ are.configured;
   }
 
@@ -97,12 +100,10 @@ module _ (setup : Setup) (cuts words : List ℕ) (lock : ℕ) (locks : List ℕ)
   pub head_written : (at word : ℕ) → at < headers → AreWords setup cuts (slice_set words (H + at) word) lock locks (slice_set heads at (decode word)) stored
   head_written at word near = let wide = are.wide in record {
     wide = length-set words (H + at) word ∙ are.wide;
-    slabs_lock = get_or-set_other words (H + at) 1 word 0 (λ e. omega arith) ∙ are.slabs_lock;
-    locks = behind locks_from stripes words (H + at) (stripes + (pages + at)) word (omega arith) (omega arith) ∙ are.locks;
+    locks = take-set-le P words (H + at) word (omega arith) ∙ are.locks;
     pages = behind P pages words (H + at) (pages + at) word (omega arith) (omega arith) ∙ are.pages;
     heads = ap (map decode) (inside H headers words at word near) ∙ (map-set decode (take headers (drop H words)) at word ∙ ap (λ (l : List Head). slice_set l at (decode word)) are.heads);
     items = before D words_count words (H + at) word (omega arith) ∙ are.items;
-    hands_word = get_or-set_other words (H + at) 0 word 0 (λ e. omega arith) ∙ are.hands_word;
     configured = drop-set-lt C words (H + at) word (omega arith) ∙ are.configured;
   }
 
@@ -110,12 +111,10 @@ module _ (setup : Setup) (cuts words : List ℕ) (lock : ℕ) (locks : List ℕ)
   pub data_written : (at word : ℕ) → at < words_count → AreWords setup cuts (slice_set words (D + at) word) lock locks heads (slice_set stored at word)
   data_written at word near = let wide = are.wide in record {
     wide = length-set words (D + at) word ∙ are.wide;
-    slabs_lock = get_or-set_other words (D + at) 1 word 0 (λ e. omega arith) ∙ are.slabs_lock;
-    locks = behind locks_from stripes words (D + at) (stripes + (pages + (headers + at))) word (omega arith) (omega arith) ∙ are.locks;
+    locks = take-set-le P words (D + at) word (omega arith) ∙ are.locks;
     pages = behind P pages words (D + at) (pages + (headers + at)) word (omega arith) (omega arith) ∙ are.pages;
     heads = ap (map decode) (behind H headers words (D + at) (headers + at) word (omega arith) (omega arith)) ∙ are.heads;
     items = inside D words_count words at word near ∙ ap (λ (l : List ℕ). slice_set l at word) are.items;
-    hands_word = get_or-set_other words (D + at) 0 word 0 (λ e. omega arith) ∙ are.hands_word;
     configured = drop-set-lt C words (D + at) word (omega arith) ∙ are.configured;
   }
 
@@ -143,11 +142,19 @@ module _ (setup : Setup) (cuts words : List ℕ) (lock : ℕ) (locks : List ℕ)
   pub data_read : (at : ℕ) → at < words_count → slice_index words (D + at) ≡ slice_index stored at
   data_read at near = sym (get_or-drop D words at 0) ∙ (sym (get_or-take words_count (drop D words) at 0 near) ∙ ap (λ (l : List ℕ). slice_index l at) are.items)
 
-  -- the word of a stripe's lock
+  -- the word of a lock
+  locks_read : (place index : ℕ) → place ≡ words_apart * index → place < P → slice_index words place ≡ slice_index (0 ∷ lock ∷ locks) index
+  locks_read place index is near =
+      sym (get_or-take P words place 0 near)
+      ∙ (ap (λ (l : List ℕ). slice_index l place) are.locks ∙ (ap (slice_index (spread words_between 0 (0 ∷ lock ∷ locks))) is ∙ spread_get words_between 0 (0 ∷ lock ∷ locks) index 0))
+
+  -- of the slabs
+  pub slabs_lock_read : slice_index words slabs_word ≡ lock
+  slabs_lock_read = locks_read slabs_word 1 refl (omega arith)
+
+  -- of a stripe
   pub lock_read : (stripe : ℕ) → stripe < stripes → slice_index words (lock_word (suc stripe)) ≡ slice_index locks stripe
-  lock_read stripe near =
-      let e : lock_word (suc stripe) ≡ locks_from + stripe = omega arith in
-      ap (slice_index words) e ∙ (sym (get_or-drop locks_from words stripe 0) ∙ (sym (get_or-take stripes (drop locks_from words) stripe 0 near) ∙ ap (λ (l : List ℕ). slice_index l stripe) are.locks))
+  lock_read stripe near = locks_read (lock_word (suc stripe)) (suc (suc stripe)) (omega arith) (omega arith)
 
 -- a header is among the words
 pub head_near : (setup : Setup) (chunk : ChunkId) → has_chunk setup.table chunk ≡ true → head_place setup.table chunk < head_count setup

@@ -1,5 +1,5 @@
 -- What is left of an arena after its end.
-use Rattle.std.specs.Prelude.{◌≡◌, ℕ, zero, suc, ◌+◌, ◌<◌, ◌^◌, ◌==◌, List, length, map, take, drop, slice_index, slice_index_or, if◌then◌else◌, Option, Some, None, IfSome}
+use Rattle.std.specs.Prelude.{◌≡◌, ℕ, zero, suc, ◌<◌, ◌^◌, ◌==◌, List, length, map, take, drop, slice_index, slice_index_or, if◌then◌else◌, Option, Some, None, IfSome}
 use Rattle.std.specs.List.{range_with_len}
 use Rattle.mc_pages.specs.SlabState.{SlabState}
 use Rattle.mc_stripe.specs.StripeState.{ReadyStripe}
@@ -11,6 +11,7 @@ use Rattle.mc_words.specs.declared.slot.Slot.TheVariants.{Empty, OfSlabs, OfStri
 use Rattle.mc_words.specs.View.{Setup, View}
 use Rattle.mc_words.specs.Happens.{LawfulView}
 use Rattle.mc_words.specs.Layout.{lock_word, heads_from, head_count, word_count}
+use Rattle.mc_words.specs.Slots.{slot_at, slot_count}
 
 -- the words of the headers, page 0 first, and the values behind the locks that no hand has
 pub record Left : Type 0 where
@@ -43,10 +44,10 @@ stripe_in other = None
 
 -- the value in the slot of a lock, where its word is 0
 abbrev pub slabs_left : List ℕ → List Slot → Option SlabState
-slabs_left words slots = if slice_index words (lock_word zero) == 0 then slabs_in (slice_index_or slots zero Empty) else None
+slabs_left words slots = if slice_index words (lock_word zero) == 0 then slabs_in (slice_index_or slots (slot_at zero) Empty) else None
 
 abbrev pub stripe_left : List ℕ → List Slot → ℕ → Option ReadyStripe
-stripe_left words slots stripe = if slice_index words (lock_word (suc stripe)) == 0 then stripe_in (slice_index_or slots (suc stripe) Empty) else None
+stripe_left words slots stripe = if slice_index words (lock_word (suc stripe)) == 0 then stripe_in (slice_index_or slots (slot_at (suc stripe)) Empty) else None
 
 -- what is left, as words and slots have it
 abbrev pub left_of : Setup → List ℕ → List Slot → Left
@@ -61,5 +62,5 @@ left_of setup words slots = record {
 pub record IsLeftOf (setup : Setup) (words : List ℕ) (slots : List Slot) : Type 0 where
   pub wide : length words ≡ word_count setup
   pub small : word_count setup < 2 ^ 63
-  pub locks : length slots ≡ 1 + setup.config.stripes
+  pub locks : length slots ≡ slot_count setup.config.stripes
   pub slabs : IfSome (slabs_left words slots) (λ slabs. IsOfTable setup.table slabs)

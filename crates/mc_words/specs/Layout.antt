@@ -1,25 +1,34 @@
 -- Where each word of the table stands.
-use Rattle.std.specs.Prelude.{ℕ, ◌+◌, ◌*◌, List, [], ◌∷◌}
+use Rattle.std.specs.Prelude.{ℕ, ◌+◌, ◌-◌, ◌*◌, List, [], ◌∷◌, ◌++◌, replicate}
 use Rattle.mc_classes.specs.declared.config.Config.{Config}
 use Rattle.mc_classes.specs.Classes.{pages_of}
 use Rattle.mc_pages.specs.declared.ids.ChunkId.{ChunkId}
 use Rattle.mc_core.specs.State.{most_of, page_words, head_place}
 use Rattle.mc_words.specs.View.{Setup}
 
--- word 0 makes and joins hands; then come the lock of the slabs and those of the stripes
-abbrev pub slabs_word : ℕ
-slabs_word = 1
+-- a lock's word stands so many words of 8 bytes from the next, and from what is written before and behind: 128 bytes, so that no two are in one line of a cache
+abbrev pub words_apart : ℕ
+words_apart = 16
 
-abbrev pub locks_from : ℕ
-locks_from = 2
+-- how many words stand between two of them
+abbrev pub words_between : ℕ
+words_between = words_apart - 1
 
--- the lock of the slabs, and then of each stripe
+-- each of these, with the other so many times behind it
+abbrev pub spread : {A : Type 0} → ℕ → A → List A → List A
+spread between other [] = []
+spread between other (x ∷ xs) = x ∷ (replicate between other ++ spread between other xs)
+
+-- word 0 makes and joins hands; then come the lock of the slabs, which is number 0, and that of stripe i, number i + 1
 abbrev pub lock_word : ℕ → ℕ
-lock_word lock = 1 + lock
+lock_word lock = words_apart * (1 + lock)
+
+abbrev pub slabs_word : ℕ
+slabs_word = lock_word 0
 
 -- behind the locks a word for each page
 abbrev pub pages_from : Setup → ℕ
-pages_from setup = locks_from + setup.config.stripes
+pages_from setup = words_apart * (2 + setup.config.stripes)
 
 -- the word of a page: the class that the page was last cut for
 abbrev pub page_word : Setup → ℕ → ℕ

@@ -31,6 +31,7 @@ pub mod Hinting
 pub mod Condemning
 pub mod Originals
 pub mod Sweeping
+pub mod Dead
 pub mod Arenas
 pub mod Refused
 pub mod Hands

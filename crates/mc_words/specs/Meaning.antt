@@ -1,5 +1,5 @@
 -- What the words, the values at home and the views of a table mean: a lawful moment of the core.
-use Rattle.std.specs.Prelude.{◌≡◌, ℕ, zero, suc, ◌+◌, ◌<◌, ◌≤◌, true, false, List, map, length, take, drop, slice_index}
+use Rattle.std.specs.Prelude.{◌≡◌, ℕ, zero, suc, ◌+◌, ◌<◌, ◌≤◌, true, false, List, map, length, take, drop, ◌∷◌, slice_index}
 use mathlib.Core.Option.{some}
 use lib.ListN.{get_elem?}
 use Rattle.atomic_table.specs.Table as table
@@ -15,7 +15,8 @@ use Rattle.mc_core.specs.Lawful.{IsLawful}
 use Rattle.mc_words.specs.declared.slot.Slot.{Slot}
 use Rattle.mc_words.specs.declared.slot.Slot.TheVariants.{Empty, OfSlabs, OfStripe}
 use Rattle.mc_words.specs.View.{Setup, View, events_of, view_at, new_view, spent_view}
-use Rattle.mc_words.specs.Layout.{slabs_word, locks_from, lock_word, pages_from, heads_from, head_count, data_from, data_count, config_from, config_words, word_count}
+use Rattle.mc_words.specs.Layout.{words_between, spread, lock_word, pages_from, heads_from, head_count, data_from, data_count, config_from, config_words, word_count}
+use Rattle.mc_words.specs.Slots.{slot_at, slot_count}
 
 -- words of 64 bits, values at home, and views
 abbrev pub Words : Type 0
@@ -24,10 +25,8 @@ Words = table.State Slot View
 -- the words are these columns
 pub record AreWords (setup : Setup) (cuts words : List ℕ) (lock : ℕ) (stripe_locks : List ℕ) (headers : List Head) (stored : List ℕ) : Type 0 where
   pub wide : length words ≡ word_count setup
-  -- nothing is written into the word of the hands
-  pub hands_word : slice_index words 0 ≡ 0
-  pub slabs_lock : slice_index words slabs_word ≡ lock
-  pub locks : take setup.config.stripes (drop locks_from words) ≡ stripe_locks
+  -- the word of the hands, into which nothing is written, and those of the locks: each is followed by words that are 0 always
+  pub locks : take (pages_from setup) words ≡ spread words_between 0 (0 ∷ lock ∷ stripe_locks)
   pub pages : take (pages_of setup.table) (drop (pages_from setup) words) ≡ cuts
   pub heads : map decode (take (head_count setup) (drop (heads_from setup) words)) ≡ headers
   pub items : take (data_count setup) (drop (data_from setup) words) ≡ stored
@@ -37,7 +36,7 @@ pub record AreWords (setup : Setup) (cuts words : List ℕ) (lock : ℕ) (stripe
 abbrev pub WordsOf : Setup → List ℕ → List ℕ → State → Type 0
 WordsOf setup cuts words state = AreWords setup cuts words state.slabs_lock state.stripe_locks state.heads state.words
 
--- slot 0 is that of the slabs, and slot i + 1 that of stripe i
+-- lock 0 is that of the slabs, and lock i + 1 that of stripe i
 abbrev pub Has : State → ℕ → Slot → Type 0
 Has state zero (OfSlabs slabs) = slabs ≡ state.slabs
 Has state (suc stripe) (OfStripe value) = value ≡ stripe_at state stripe
@@ -48,7 +47,7 @@ Has state (suc stripe) Empty = ⊥
 
 -- a lock whose word is 0 has its value at home
 abbrev pub AreHome : Setup → List ℕ → List (mathlib.Core.Option.Option Slot) → State → Type 0
-AreHome setup words homes state = (lock : ℕ) → lock ≤ setup.config.stripes → slice_index words (lock_word lock) ≡ 0 → (slot : Slot) × (get_elem? homes lock ≡ some (some slot)) × Has state lock slot
+AreHome setup words homes state = (lock : ℕ) → lock ≤ setup.config.stripes → slice_index words (lock_word lock) ≡ 0 → (slot : Slot) × (get_elem? homes (slot_at lock) ≡ some (some slot)) × Has state lock slot
 
 -- before anything was done in an arena
 abbrev pub beginning_of : Setup → Moment
@@ -76,7 +75,7 @@ pub record Means (setup : Setup) (cuts : List ℕ) (run : List Event) (t : Words
   pub words : WordsOf setup cuts t.words moment.state
   pub cut : AreCut cuts moment.state.slabs
   pub homes : AreHome setup t.words t.homes moment.state
-  pub slots : length t.homes ≡ 1 + setup.config.stripes
+  pub slots : length t.homes ≡ slot_count setup.config.stripes
   pub views : (hand : ℕ) (view : View) → get_elem? t.views hand ≡ some view → IsViewOf setup run moment hand view
   pub most : length t.views ≤ setup.hands
   -- the first hand makes the others

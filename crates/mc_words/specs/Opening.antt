@@ -3,17 +3,18 @@ use Rattle.std.specs.Prelude.{ℕ, ◌-◌, ◌*◌, List, ◌∷◌, ◌++◌, 
 use Rattle.mc_pages.specs.SlabState.{fresh_slabs}
 use Rattle.mc_stripe.specs.StripeState.{new_stripe}
 use Rattle.mc_words.specs.declared.slot.Slot.{Slot}
-use Rattle.mc_words.specs.declared.slot.Slot.TheVariants.{OfSlabs, OfStripe}
+use Rattle.mc_words.specs.declared.slot.Slot.TheVariants.{Empty, OfSlabs, OfStripe}
 use Rattle.mc_words.specs.View.{Setup, View, new_view}
-use Rattle.mc_words.specs.Layout.{heads_from, head_count, data_count, config_words}
+use Rattle.mc_words.specs.Layout.{spread, heads_from, head_count, data_count, config_words}
+use Rattle.mc_words.specs.Slots.{slots_between}
 
 -- all locks are free, no page has a class, each header is out with the first issue number, and all data words are 0
 abbrev pub first_words : Setup → List ℕ
 first_words setup = replicate (heads_from setup) 0 ++ (replicate (head_count setup) (setup.start * 262144) ++ (replicate (data_count setup) 0 ++ config_words setup.config))
 
--- the values at home: untouched pages, and stripes without keys
+-- the values at home: untouched pages, and stripes without keys; and no value between them
 abbrev pub first_slots : Setup → List Slot
-first_slots setup = OfSlabs (fresh_slabs setup.table) ∷ replicate setup.config.stripes (OfStripe new_stripe)
+first_slots setup = spread slots_between Empty (OfSlabs (fresh_slabs setup.table) ∷ replicate setup.config.stripes (OfStripe new_stripe))
 
 -- the first hand, which makes all others
 abbrev pub first_view : Setup → View

@@ -5,6 +5,7 @@ use Rattle.mc_words.specs.declared.slot.Slot.{Slot}
 use Rattle.mc_words.specs.declared.locks.Locks.{Locks}
 use Rattle.mc_words.specs.declared.locks.Locks.TheVariants.{Neither, Slabs, Stripe, SlabsLast, StripeLast}
 use Rattle.mc_words.specs.View.{View}
+use Rattle.mc_words.specs.Slots.{slot_at}
 use Rattle.mc_words.specs.Told.{Sits}
 
 -- the slots of the values that are out, that of the last taken first
@@ -13,10 +14,10 @@ slots_out out = map (λ entry. entry.0) out
 
 abbrev pub slots_in : Locks → List ℕ
 slots_in Neither = []
-slots_in Slabs = zero ∷ []
-slots_in (Stripe stripe) = suc stripe ∷ []
-slots_in (SlabsLast stripe) = zero ∷ suc stripe ∷ []
-slots_in (StripeLast stripe) = suc stripe ∷ zero ∷ []
+slots_in Slabs = slot_at zero ∷ []
+slots_in (Stripe stripe) = slot_at (suc stripe) ∷ []
+slots_in (SlabsLast stripe) = slot_at zero ∷ slot_at (suc stripe) ∷ []
+slots_in (StripeLast stripe) = slot_at (suc stripe) ∷ slot_at zero ∷ []
 
 abbrev pub has_slabs_in : Locks → Bool
 has_slabs_in Neither = false
@@ -99,13 +100,13 @@ is_neither (Stripe stripe) = false
 is_neither (SlabsLast stripe) = false
 is_neither (StripeLast stripe) = false
 
--- the lock of this slot was taken before the other one
+-- the lock of this number was taken before the other one
 abbrev pub is_behind : Locks → ℕ → Bool
 is_behind (SlabsLast stripe) zero = false
-is_behind (SlabsLast stripe) (suc slot) = true
+is_behind (SlabsLast stripe) (suc number) = true
 is_behind (StripeLast stripe) zero = true
-is_behind (StripeLast stripe) (suc slot) = false
-is_behind other slot = false
+is_behind (StripeLast stripe) (suc number) = false
+is_behind other number = false
 
 -- the two in the other order
 abbrev pub turned_locks : Locks → Locks
@@ -113,6 +114,6 @@ turned_locks (SlabsLast stripe) = StripeLast stripe
 turned_locks (StripeLast stripe) = SlabsLast stripe
 turned_locks other = other
 
--- the lock of this slot, which is one of them, as the one that was taken last
+-- the lock of this number, which is one of them, as the one that was taken last
 abbrev pub with_last : ℕ → Locks → Locks
-with_last slot locks = if is_behind locks slot then turned_locks locks else locks
+with_last number locks = if is_behind locks number then turned_locks locks else locks

@@ -1,9 +1,29 @@
--- The slots of the values behind locks.
-use Rattle.std.specs.Prelude.{ℕ, zero, suc}
+-- The numbers of locks, and the slots of the values behind them.
+use Rattle.std.specs.Prelude.{ℕ, zero, suc, ◌+◌, ◌-◌, ◌*◌}
 use Rattle.mc_words.specs.declared.locks.Lock.{Lock}
 use Rattle.mc_words.specs.declared.locks.Lock.TheVariants.{SlabsLock, StripeLock}
 
--- the slot of the value behind the lock
+-- the value behind a lock stands so many slots of 16 bytes from the next: 128 bytes, too
+abbrev pub slots_apart : ℕ
+slots_apart = 8
+
+-- how many slots stand between two of them, which are empty
+abbrev pub slots_between : ℕ
+slots_between = slots_apart - 1
+
+-- the slabs have lock 0, and stripe i lock i + 1
+abbrev pub number_of : Lock → ℕ
+number_of SlabsLock = zero
+number_of (StripeLock stripe) = suc stripe
+
+-- the slot of the value behind the lock of this number
+abbrev pub slot_at : ℕ → ℕ
+slot_at lock = slots_apart * lock
+
+-- and of the value behind this lock
 abbrev pub slot_of : Lock → ℕ
-slot_of SlabsLock = zero
-slot_of (StripeLock stripe) = suc stripe
+slot_of lock = slot_at (number_of lock)
+
+-- how many slots there are, for so many stripes
+abbrev pub slot_count : ℕ → ℕ
+slot_count stripes = slots_apart * (1 + stripes)

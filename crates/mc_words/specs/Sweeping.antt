@@ -1,10 +1,17 @@
--- Sweeps: each chunk that a class handed out is looked at in turn, and put back if it is dead.
-use Rattle.std.specs.Prelude.{◌≡◌, ◌⊎◌, false, List, [], ◌∷◌, Some}
+-- Sweeps: each chunk that a class handed out is looked at, and the dead ones are put back, oldest first.
+use Rattle.std.specs.Prelude.{◌≡◌, ◌⊎◌, true, false, Bool, if◌then◌else◌, List, [], ◌∷◌, Some}
+use Rattle.std.specs.List.{list_all}
 use Rattle.mc_pages.specs.declared.ids.ChunkId.{ChunkId}
 use Rattle.mc_pages.specs.Changes.{after_back}
+use Rattle.mc_pages.specs.ClassState.{is_chunk}
 use Rattle.mc_pages.specs.SlabState.{SlabState}
+use Rattle.mc_core.specs.declared.event.Step.TheVariants as step
+use Rattle.mc_core.specs.declared.head.Head.{Head}
 use Rattle.mc_core.specs.Head.{is_dead}
+use Rattle.mc_core.specs.Silent.{is_among}
+use Rattle.mc_words.specs.Happens.{Happens}
 use Rattle.mc_words.specs.View.{View}
+use Rattle.mc_words.specs.Views.{head_seen}
 use Rattle.mc_words.specs.Owner.{PutsBack, SeesOther}
 
 -- the chunk was seen dead and put back, or seen otherwise
@@ -13,9 +20,40 @@ SweepsOne chunk view slabs now left =
     (PutsBack view slabs chunk now × (left ≡ after_back slabs chunk)) ⊎ (SeesOther view (Some chunk) (λ head. is_dead head ≡ false) now × (left ≡ slabs))
 
 -- so it was with each of these chunks, one after another
-abbrev pub Sweeps : List ChunkId → View → SlabState → View → SlabState → Type 0
-Sweeps [] view slabs now left = (now ≡ view) × (left ≡ slabs)
-Sweeps (chunk ∷ chunks) view slabs now left = (next : View) × (between : SlabState) × SweepsOne chunk view slabs next between × Sweeps chunks next between now left
+abbrev pub SweepsEach : List ChunkId → View → SlabState → View → SlabState → Type 0
+SweepsEach [] view slabs now left = (now ≡ view) × (left ≡ slabs)
+SweepsEach (chunk ∷ chunks) view slabs now left = (next : View) × (between : SlabState) × SweepsOne chunk view slabs next between × SweepsEach chunks next between now left
+
+-- the chunk's header was looked at, whatever it was
+pub record SeesHeader (view : View) (chunk : ChunkId) (now : View) : Type 0 where
+  pub head : Head
+  pub happens : Happens view [] (step.Head chunk) now
+  pub is : now ≡ head_seen chunk head view
+
+-- so it was with each of these chunks, one after another
+abbrev pub SeesHeaders : List ChunkId → View → View → Type 0
+SeesHeaders [] view now = now ≡ view
+SeesHeaders (chunk ∷ chunks) view now = (next : View) × SeesHeader view chunk next × SeesHeaders chunks next now
+
+-- the chunks stand in the order in this sequence, with or without others between
+abbrev pub follows : List ChunkId → List ChunkId → Bool
+follows order [] = true
+follows [] (chunk ∷ chunks) = false
+follows (other ∷ order) (chunk ∷ chunks) = if is_chunk other chunk then follows order chunks else follows order (chunk ∷ chunks)
+
+-- chunks were looked at, and then some of the hand-out order, oldest first, were each put back or seen alive
+pub record Recovers (order : List ChunkId) (view : View) (slabs : SlabState) (now : View) (left : SlabState) : Type 0 where
+  pub looked : List ChunkId
+  pub seen : View
+  pub sees : SeesHeaders looked view seen
+  pub again : List ChunkId
+  pub oldest_first : follows order again ≡ true
+  pub each : SweepsEach again seen slabs now left
+
+-- so, and each chunk of the hand-out order was looked at
+pub record Sweeps (order : List ChunkId) (view : View) (slabs : SlabState) (now : View) (left : SlabState) : Type 0 where
+  pub recovers : Recovers order view slabs now left
+  pub whole : list_all (is_among recovers.looked) order ≡ true
 
 -- the one view, but for what the other saw and did, and for its pages and lists
 abbrev pub with_seen : View → View → View

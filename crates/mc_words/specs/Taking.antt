@@ -13,7 +13,7 @@ use Rattle.mc_words.specs.declared.locks.Lock.{Lock}
 use Rattle.mc_words.specs.declared.locks.Lock.TheVariants.{SlabsLock, StripeLock}
 use Rattle.mc_words.specs.View.{Setup, View}
 use Rattle.mc_words.specs.Happens.{LawfulView, Happens, HappensAt}
-use Rattle.mc_words.specs.Slots.{slot_of}
+use Rattle.mc_words.specs.Slots.{number_of, slot_of}
 use Rattle.mc_words.specs.Told.{Sits, At, StaysOut}
 
 -- the events by which it is taken, missed and given
@@ -36,7 +36,7 @@ sight_of (StripeLock stripe) word = past.stripe_word stripe word
 
 -- the arena has such a lock
 abbrev pub IsLockOf : Setup → Lock → Type 0
-IsLockOf setup lock = slot_of lock ≤ setup.config.stripes
+IsLockOf setup lock = number_of lock ≤ setup.config.stripes
 
 -- the hand has the value behind the lock, and it is this one
 abbrev pub HasValue : View → Lock → Slot → Type 0

@@ -1,5 +1,5 @@
--- Waiting for a lock: some tries that miss it, and then one that takes it.
-use Rattle.std.specs.Prelude.{◌≡◌, ◌≢◌, ℕ, List, [], ◌∷◌}
+-- Waiting for a lock: some looks at its word, and then a try that takes it.
+use Rattle.std.specs.Prelude.{◌≡◌, ◌≢◌, ℕ, List, [], ◌∷◌, ⊤}
 use Rattle.mc_pages.specs.SlabState.{SlabState}
 use Rattle.mc_stripe.specs.StripeState.{ReadyStripe}
 use Rattle.mc_core.specs.declared.event.Step.TheVariants as step
@@ -8,12 +8,17 @@ use Rattle.mc_words.specs.Happens.{Happens}
 use Rattle.mc_words.specs.Lent.{BeginsWithSeen}
 use Rattle.mc_words.specs.Views.{slabs_missed, slabs_taken, stripe_missed, stripe_taken}
 
--- these words were seen at the lock of the slabs, one after another, and none was 0
+-- where a read found the word 0, the next look is that of a try, which missed: its word isn't 0
+abbrev pub IsTriedNext : ℕ → List ℕ → Type 0
+IsTriedNext word [] = ⊤
+IsTriedNext word (next ∷ words) = word ≡ 0 → next ≢ 0
+
+-- these words were seen at the lock of the slabs, one after another: by tries that missed it, and by reads, which go on until one finds 0
 abbrev pub MissesSlabs : List ℕ → View → View → Type 0
 MissesSlabs [] view now = now ≡ view
-MissesSlabs (word ∷ words) view now = (word ≢ 0) × Happens view [] step.MissSlabs (slabs_missed word view) × MissesSlabs words (slabs_missed word view) now
+MissesSlabs (word ∷ words) view now = IsTriedNext word words × Happens view [] step.MissSlabs (slabs_missed word view) × MissesSlabs words (slabs_missed word view) now
 
--- after these misses it was taken, and these are its pages and lists
+-- after these looks it was taken, and these are its pages and lists
 pub record WaitsForSlabs (view : View) (slabs : SlabState) (now : View) : Type 0 where
   pub words : List ℕ
   pub before : View
@@ -21,13 +26,13 @@ pub record WaitsForSlabs (view : View) (slabs : SlabState) (now : View) : Type 0
   pub taken : Happens before [] step.TakeSlabs now
   pub is : now ≡ slabs_taken slabs before
 
--- these words were seen at the lock of a stripe
+-- these words were seen at the lock of a stripe, by such tries and reads
 abbrev pub MissesStripe : ℕ → List ℕ → View → View → Type 0
 MissesStripe stripe [] view now = now ≡ view
 MissesStripe stripe (word ∷ words) view now =
-    (word ≢ 0) × Happens view [] (step.MissStripe stripe) (stripe_missed stripe word view) × MissesStripe stripe words (stripe_missed stripe word view) now
+    IsTriedNext word words × Happens view [] (step.MissStripe stripe) (stripe_missed stripe word view) × MissesStripe stripe words (stripe_missed stripe word view) now
 
--- after these misses it was taken, and this is its value
+-- after these looks it was taken, and this is its value
 pub record WaitsForStripe (stripe : ℕ) (view : View) (value : ReadyStripe) (now : View) : Type 0 where
   pub words : List ℕ
   pub before : View

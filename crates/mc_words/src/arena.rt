@@ -4,7 +4,9 @@ ghost use Rattle.mc_classes.specs.Classes.{IsSound};
 ghost use Rattle.mc_core.specs.Chunks.{most_issue};
 ghost use Rattle.mc_core.specs.State.{most_of, page_words};
 ghost use Rattle.mc_words.specs.Layout.{data_from, heads_from, pages_from, word_count};
+ghost use Rattle.mc_words.specs.Slots.{slot_count};
 
+use crate::hints::Hints;
 use crate::plan::Plan;
 use crate::rule::SharedTable;
 use mc_classes::{ClassTable, Config};
@@ -22,9 +24,11 @@ pub struct Arena {
     pub(crate) most: usize,
     /// The words of a page.
     pub(crate) words_a_page: u64,
+    /// Where dead chunks may be.
+    pub(crate) hints: Hints,
     ghost planned: { table.shared.key ≡ plan },
     ghost words: { table.shared.table_id.words ≡ word_count plan },
-    ghost slots: { table.shared.table_id.slots ≡ 1 + plan.config.stripes },
+    ghost slots: { table.shared.table_id.slots ≡ slot_count plan.config.stripes },
     ghost sound: { IsSound plan.table },
     ghost some: { 1 ≤ plan.config.stripes },
     ghost few: { plan.config.stripes ≤ 64 },

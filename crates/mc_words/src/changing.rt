@@ -15,7 +15,7 @@ ghost use Rattle.mc_words.specs.Views.{slabs_changed, stripe_reserved};
 use crate::arena::Arena;
 use crate::hand::Hand;
 use crate::held::{SlabsHeld, StripeHeld};
-use crate::locks::Lock;
+use crate::locks::{Lock, SLABS_WORD};
 use mc_classes::{ClassId, PageId};
 use mc_core::{Change, Step};
 use mc_pages::{ChunkId, Grow};
@@ -36,7 +36,7 @@ impl Arena {
     {
         held.shared.slabs_mut().set_automove(mode);
         let change = Change::SetAutomove(mode);
-        self.tell(&mut hand.seat, 1, change, Step::MissSlabs);
+        self.tell(&mut hand.seat, SLABS_WORD, change, Step::MissSlabs);
     }
 
     /// A chunk that is handed out goes to the back of its class's hand-out order, as if it had just been handed out. (own,
@@ -54,7 +54,7 @@ impl Arena {
     {
         held.shared.slabs_mut().touch(chunk);
         let change = Change::Touch(chunk);
-        self.tell(&mut hand.seat, 1, change, Step::MissSlabs);
+        self.tell(&mut hand.seat, SLABS_WORD, change, Step::MissSlabs);
     }
 
     /// Counts that an item of the class was evicted. (`evicted` of items.c's `itemstats`)
@@ -71,7 +71,7 @@ impl Arena {
     {
         held.shared.slabs_mut().evicted(class);
         let change = Change::Evicted(class);
-        self.tell(&mut hand.seat, 1, change, Step::MissSlabs);
+        self.tell(&mut hand.seat, SLABS_WORD, change, Step::MissSlabs);
     }
 
     /// The class gets the next page, the one that came last into the pool or else the lowest that was never granted, to be
@@ -118,7 +118,7 @@ impl Arena {
     {
         held.stripe.stripe_mut().reserve()?;
         let stripe = held.number;
-        let word = 1 + Lock::StripeLock(stripe).slot();
+        let word = Lock::StripeLock(stripe).word();
         let change = Change::Reserve(stripe);
         self.tell(&mut hand.seat, word, change, Step::MissStripe(stripe));
         Ok(())
@@ -141,7 +141,7 @@ impl Arena {
         ensures view { view hand.new ≡ (if deletes then key_not_deleted hand.old.number held.now.number held.now.stripe key (view hand.old) else key_missed hand.old.number held.now.number held.now.stripe key (view hand.old)) }
     {
         let stripe = held.number;
-        let word = 1 + Lock::StripeLock(stripe).slot();
+        let word = Lock::StripeLock(stripe).word();
         self.tell(&mut hand.seat, word, change, Step::MissStripe(stripe));
     }
 }

@@ -12,6 +12,7 @@ ghost use Rattle.mc_words.specs.Closing.{Closes};
 
 use crate::arena::Arena;
 use crate::hand::Hand;
+use crate::locks::{Lock, SLABS_WORD};
 use crate::plan::Plan;
 use crate::slot::Slot;
 use atomic_table::Closed;
@@ -98,7 +99,7 @@ impl Final {
         ensures slabs { option_map (λ slabs. slabs.now.state) result ≡ self.now.slabs }
         ensures accounted { IfSome result (λ slabs. IsOfTable self.now.setup.table slabs.now.state) }
     {
-        if self.closed.word(1) != 0 {
+        if self.closed.word(SLABS_WORD) != 0 {
             return None;
         }
         match self.closed.slots.get(0) {
@@ -113,11 +114,13 @@ impl Final {
         ensures stripe { option_map (λ value. value.now) result ≡ slice_index_or self.now.stripes stripe None }
     {
         let closed = &self.closed;
-        let lock = stripe as usize + 1;
-        if closed.word(1 + lock) != 0 {
+        let lock = Lock::StripeLock(stripe);
+        let place = lock.word();
+        if closed.word(place) != 0 {
             return None;
         }
-        match closed.slots.get(lock) {
+        let slot = lock.slot();
+        match closed.slots.get(slot) {
             Slot::OfStripe(value) => Some(value.stripe()),
             _ => None,
         }
@@ -144,8 +147,8 @@ impl Drop for Final {
             first_head: _,
             most: _,
         } = self;
-        for lock in 0..closed.slot_count() {
-            drop(closed.take(lock));
+        for slot in 0..closed.slot_count() {
+            drop(closed.take(slot));
         }
         closed.free();
     }

@@ -50,7 +50,8 @@ impl Arena {
             stamp: _,
         } = fresh;
         let word = self.head_word(chunk);
-        self.subtract(&mut hand.seat, word, 1, Step::Discard(chunk));
+        let found = self.subtract(&mut hand.seat, word, 1, Step::Discard(chunk));
+        self.hints.note_if_dead(chunk, found.wrapping_sub(1));
         hand.chunks -= 1;
         hand.fresh -= 1;
     }

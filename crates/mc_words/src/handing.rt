@@ -89,7 +89,7 @@ impl Arena {
             return Err(Moved);
         }
         let word = self.head_word(chunk);
-        self.subtract(&mut hand.seat, word, TAG_UNIT, Step::PutBack(chunk));
+        let _ = self.subtract(&mut hand.seat, word, TAG_UNIT, Step::PutBack(chunk));
         held.shared.slabs_mut().back(chunk);
         Ok(())
     }

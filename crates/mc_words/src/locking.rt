@@ -5,7 +5,7 @@ ghost use Rattle.mc_words.specs.declared.slot.Slot.{Slot};
 ghost use Rattle.mc_words.specs.Arenas.{IsOfArena, setup_of};
 ghost use Rattle.mc_words.specs.Happens.{Happens, HappensAt, IsSameHand};
 ghost use Rattle.mc_words.specs.Layout.{lock_word};
-ghost use Rattle.mc_words.specs.Slots.{slot_of};
+ghost use Rattle.mc_words.specs.Slots.{number_of, slot_of};
 ghost use Rattle.mc_words.specs.Taking.{Gains, GivesValue, HasValue, IsLockOf, IsOneHand, Loses, can_give, give_of, miss_of, take_of};
 ghost use Rattle.mc_words.specs.Out.{slots_out};
 
@@ -31,11 +31,12 @@ impl Arena {
         ensures gains { IfSome result (λ slot. Gains told seat.old.me.0 seat.new.me.0) }
         ensures taken { IfSome result (λ slot. Happens seat.old.me.0 [] (take_of told) seat.new.me.0) }
         ensures stays { result ≡ None → (seat.new.me.1 ≡ seat.old.me.1) × IsSameHand seat.old.me.0 seat.new.me.0 }
-        ensures missed { result ≡ None → (word : ℕ) × (word ≢ 0) × HappensAt (lock_word (slot_of told)) word seat.old.me.0 [] (miss_of told) seat.new.me.0 }
+        ensures missed { result ≡ None → (word : ℕ) × (word ≢ 0) × HappensAt (lock_word (number_of told)) word seat.old.me.0 [] (miss_of told) seat.new.me.0 }
     {
+        let word = lock.word();
         let slot = lock.slot();
         let shared = &self.table.shared;
-        let found = shared.compare_exchange::<Brand>(seat, 1 + slot, 0, number + 1);
+        let found = shared.compare_exchange::<Brand>(seat, word, 0, number + 1);
         if found != 0 {
             return None;
         }
@@ -58,12 +59,13 @@ impl Arena {
         ensures loses { Loses told.0 seat.old.me.0 seat.new.me.0 }
         ensures given { Happens seat.old.me.0 [] (give_of told.0) seat.new.me.0 }
     {
+        let word = lock.word();
         let slot = lock.slot();
         let shared = &self.table.shared;
         match shared.exchange(seat, slot, value) {
             Slot::Empty => {}
             lost => drop(lost),
         }
-        shared.store::<Brand>(seat, 1 + slot, 0);
+        shared.store::<Brand>(seat, word, 0);
     }
 }

@@ -1,7 +1,27 @@
-//! Which locks there are, and which a hand has.
-ghost use Rattle.std.specs.Prelude.{◌≡◌, ◌<◌};
+//! Which locks there are, where each stands, and which a hand has.
+ghost use Rattle.std.specs.Prelude.{◌≡◌, ◌<◌, ◌^◌};
+ghost use Rattle.mc_words.specs.Layout.{lock_word};
 ghost use Rattle.mc_words.specs.Out.{is_behind, is_neither, turned_locks, with_slabs, with_stripe, without_slabs, without_stripe};
-ghost use Rattle.mc_words.specs.Slots.{slot_of};
+ghost use Rattle.mc_words.specs.Slots.{number_of, slot_of};
+
+use crate::slot::Slot;
+
+/// How many words the words of locks stand apart, from one another and from what lies around them: 128 bytes, so that no two share
+/// a line of a cache, nor one of the pairs of lines that are fetched together. (own)
+pub(crate) const WORDS_APART: usize = 16;
+
+/// How many slots the values behind locks stand apart: 128 bytes, too. (own)
+pub(crate) const SLOTS_APART: usize = 8;
+
+/// The slots from one of them to the next, which are empty.
+pub(crate) const SLOTS_BETWEEN: usize = SLOTS_APART - 1;
+
+/// The word of the lock of the slabs.
+pub(crate) const SLABS_WORD: usize = WORDS_APART;
+
+const _: () = prove!(WORDS_APART * size_of::<u64>() == 128);
+
+const _: () = prove!(SLOTS_APART * size_of::<Slot>() == 128);
 
 /// A lock: that of the slabs, or of a stripe.
 #[derive(Clone, Copy)]
@@ -11,15 +31,31 @@ pub enum Lock {
 }
 
 impl Lock {
-    /// The number of the slot behind the lock, whose word is the next.
-    pub(crate) fn slot(self) -> usize
-        requires few { slot_of self < 65 }
-        ensures slot { result ≡ slot_of self }
+    /// Its number.
+    pub(crate) fn number(self) -> usize
+        requires few { number_of self < 2 ^ 59 }
+        ensures number { result ≡ number_of self }
     {
         match self {
             Lock::SlabsLock => 0,
             Lock::StripeLock(stripe) => stripe as usize + 1,
         }
+    }
+
+    /// Its word.
+    pub(crate) fn word(self) -> usize
+        requires few { number_of self < 2 ^ 59 }
+        ensures word { result ≡ lock_word (number_of self) }
+    {
+        WORDS_APART * (1 + self.number())
+    }
+
+    /// The slot of the value behind it.
+    pub(crate) fn slot(self) -> usize
+        requires few { number_of self < 2 ^ 59 }
+        ensures slot { result ≡ slot_of self }
+    {
+        SLOTS_APART * self.number()
     }
 }
 
@@ -89,7 +125,7 @@ impl Locks {
 
     /// Whether this lock, which is one of them, was taken before the other.
     pub(crate) fn is_behind(self, lock: Lock) -> bool
-        ensures behind { result ≡ is_behind self (slot_of lock) }
+        ensures behind { result ≡ is_behind self (number_of lock) }
     {
         match self {
             Locks::SlabsLast(_) => matches!(lock, Lock::StripeLock(_)),

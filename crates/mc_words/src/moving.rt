@@ -12,6 +12,7 @@ ghost use Rattle.mc_words.specs.Views.{slabs_changed};
 use crate::arena::Arena;
 use crate::hand::Hand;
 use crate::held::SlabsHeld;
+use crate::locks::SLABS_WORD;
 use mc_core::{Change, Step};
 use mc_pages::{Found, Reassign};
 
@@ -39,7 +40,7 @@ impl Arena {
         match held.shared.slabs_mut().begin_move(src, dst) {
             Ok(()) => {
                 let change = Change::BeginMove(src, dst);
-                self.tell(&mut hand.seat, 1, change, Step::MissSlabs);
+                self.tell(&mut hand.seat, SLABS_WORD, change, Step::MissSlabs);
                 Ok(())
             }
             Err(refusal) => Err(refusal),
@@ -61,7 +62,7 @@ impl Arena {
     {
         held.shared.slabs_mut().passed(found);
         let change = Change::Passed(found);
-        self.tell(&mut hand.seat, 1, change, Step::MissSlabs);
+        self.tell(&mut hand.seat, SLABS_WORD, change, Step::MissSlabs);
     }
 
     /// Begins the pass anew from the page's top, as some chunks of it held up the move, and counts them. (own, as slabs.c's
@@ -78,7 +79,7 @@ impl Arena {
         ensures view { view hand.new ≡ slabs_changed held.old.shared change.Wrap (hand.old.number + 1) (view hand.old) }
     {
         held.shared.slabs_mut().wrap();
-        self.tell(&mut hand.seat, 1, Change::Wrap, Step::MissSlabs);
+        self.tell(&mut hand.seat, SLABS_WORD, Change::Wrap, Step::MissSlabs);
     }
 
     /// Ends the move, each chunk of whose page is cleared: the page leaves its class and goes uncut into the pool, or joins its

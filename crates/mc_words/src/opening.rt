@@ -1,9 +1,11 @@
 //! The beginning of an arena.
-ghost use Rattle.std.specs.Prelude.{◌≡◌, ◌+◌, ◌*◌, ◌^◌, ◌<◌, ◌≤◌, IfOk};
+ghost use Rattle.std.specs.Prelude.{◌≡◌, ◌+◌, ◌*◌, ◌^◌, ◌<◌, ◌≤◌, ◌∷◌, ◌++◌, replicate, IfOk, OnOk};
 ghost use Rattle.mc_classes.specs.Classes.{IsSound};
 ghost use Rattle.mc_core.specs.Chunks.{most_issue};
 ghost use Rattle.mc_words.specs.Arenas.{IsHandOf, setup_of, view};
 ghost use Rattle.mc_words.specs.Layout.{word_count};
+ghost use Rattle.mc_words.specs.Slots.{slots_between};
+ghost use Rattle.mc_words.specs.declared.slot.Slot.TheVariants.{Empty};
 ghost use Rattle.mc_words.specs.Places.{ArePlaces};
 ghost use Rattle.mc_words.specs.Opening.{first_slots, first_view, first_words};
 
@@ -11,7 +13,8 @@ use crate::arena::Arena;
 use crate::boxed::BoxedStripe;
 use crate::hand::Hand;
 use crate::header::ISSUE_UNIT;
-use crate::locks::Locks;
+use crate::hints::Hints;
+use crate::locks::{Locks, SLOTS_BETWEEN, WORDS_APART};
 use crate::plan::Plan;
 use crate::slot::Slot;
 use mc_memory::{Refused, extend_from_slice, push, resize, table};
@@ -52,6 +55,17 @@ fn words_of(alloc: Global, plan: &Plan, places: Places) -> Result<Vec<u64>, Refu
     Ok(words)
 }
 
+// Puts the value behind a lock into the next slot, and nothing into those between it and the next value.
+fn push_apart(slots: &mut Vec<Slot>, value: Slot) -> Result<(), Refused>
+    ensures slots { OnOk result (slots.new.items ≡ slots.old.items ++ value ∷ replicate slots_between Empty) }
+{
+    push(slots, value)?;
+    for _between in 0..SLOTS_BETWEEN {
+        push(slots, Slot::Empty)?;
+    }
+    Ok(())
+}
+
 // The values at home at first.
 fn slots_of(alloc: Global, plan: &Plan) -> Result<Vec<Slot>, Refused>
     ensures slots { IfOk result (λ slots. slots.items ≡ first_slots plan.now) }
@@ -59,10 +73,10 @@ fn slots_of(alloc: Global, plan: &Plan) -> Result<Vec<Slot>, Refused>
     let slabs = Slabs::new(alloc, plan.classes())?;
     let shared = SharedSlabs::new(alloc, slabs)?;
     let mut slots = Vec::new(alloc);
-    push(&mut slots, Slot::OfSlabs(shared))?;
+    push_apart(&mut slots, Slot::OfSlabs(shared))?;
     for _stripe in 0..plan.config().stripes {
         let stripe = BoxedStripe::new(alloc, Stripe::new(alloc))?;
-        push(&mut slots, Slot::OfStripe(stripe))?;
+        push_apart(&mut slots, Slot::OfStripe(stripe))?;
     }
     Ok(slots)
 }
@@ -79,7 +93,7 @@ impl Plan {
     {
         let classes = self.classes();
         let count = classes.pages();
-        let pages = 2 + self.config().stripes;
+        let pages = WORDS_APART as u64 * (2 + self.config().stripes);
         let heads = pages + count;
         let data = heads + count * classes.per_page(1);
         let config = data + count * (classes.page() / 8);
@@ -102,12 +116,14 @@ impl Arena {
         let words = words_of(alloc, &plan, places)?;
         let slots = slots_of(alloc, &plan)?;
         let (table, seat) = table(alloc, words.as_slice(), slots, &plan)?;
+        let hints = Hints::new(alloc)?;
         let arena = Arena {
             most: plan.classes().per_page(1) as usize,
             words_a_page: plan.classes().page() / 8,
             first_page: places.pages,
             first_head: places.heads,
             first_data: places.data,
+            hints,
             table,
             plan,
         };

@@ -21,7 +21,7 @@ use mc_pages::ChunkId;
 use mc_stripe::Key;
 
 impl Arena {
-    /// Looks a key up, whose stripe the hand has, and gets a reference to its item. None where the key has no item. Either is
+    /// Looks a key up once, whose stripe the hand has, and gets a reference to its item. None where the key has no item. Either is
     /// told to the stripe, which has room for a call. A hand that holds 256 chunks is refused. (memcached's `do_item_get`)
     pub fn refer(
         &self,
@@ -49,13 +49,14 @@ impl Arena {
         if hand.chunks >= 256 {
             return Err(TooManyRefs);
         }
-        let Some((chunk, _)) = held.stripe().find(key) else {
+        let place = held.stripe().find(key);
+        let Some((chunk, _)) = place else {
             self.tell_none(hand, held, key, Change::GotNone(key));
-            held.stripe.stripe_mut().got(hand.number, key);
+            held.stripe.stripe_mut().got(hand.number, key, None);
             return Ok(None);
         };
         let reference = self.refer_to(hand, held, key, chunk);
-        held.stripe.stripe_mut().got(hand.number, key);
+        held.stripe.stripe_mut().got(hand.number, key, place);
         Ok(Some(reference))
     }
 

@@ -29,7 +29,8 @@ impl Arena {
             room: _,
         } = reference;
         let word = self.head_word(chunk);
-        self.subtract(&mut hand.seat, word, 1, Step::Release(chunk));
+        let found = self.subtract(&mut hand.seat, word, 1, Step::Release(chunk));
+        self.hints.note_if_dead(chunk, found.wrapping_sub(1));
         hand.chunks -= 1;
     }
 }

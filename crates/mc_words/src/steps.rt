@@ -80,9 +80,9 @@ impl Arena {
         self.table.shared.fetch_add::<Brand>(seat, word, more)
     }
 
-    // The event takes from this word.
+    // The event takes from this word. The answer is the word found.
     #[inline(always)]
-    pub(crate) fn subtract(&self, seat: &mut HandSeat, word: usize, less: u64, step: Step)
+    pub(crate) fn subtract(&self, seat: &mut HandSeat, word: usize, less: u64, step: Step) -> u64
         ghost told: { Step }
         requires is { told ≡ step }
         requires still { is_quiet told ≡ true }
@@ -94,7 +94,7 @@ impl Arena {
         ensures hand { IsSameHand seat.old.me.0 seat.new.me.0 }
         ensures happens { Happens seat.old.me.0 [] told seat.new.me.0 }
     {
-        self.table.shared.fetch_sub::<Brand>(seat, word, less);
+        self.table.shared.fetch_sub::<Brand>(seat, word, less)
     }
 
     // The event exchanges this word where it is as expected. Where it isn't, the event is a look at it. The answer is the word found.

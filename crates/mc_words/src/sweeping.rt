@@ -1,21 +1,24 @@
 //! Sweeps: the dead chunks of a class are put back.
-ghost use Rattle.std.specs.Prelude.{◌≡◌, true, Some};
+ghost use Rattle.std.specs.Prelude.{◌≡◌, false, true, Some};
 ghost use Rattle.std.specs.List.{list_all};
 ghost use Rattle.mc_pages.specs.SlabState.{class_at};
 ghost use Rattle.mc_core.specs.Looks.{is_found_alive};
 ghost use Rattle.mc_core.specs.State.{is_class};
 ghost use Rattle.mc_words.specs.Arenas.{IsHandOf, setup_of, view};
-ghost use Rattle.mc_words.specs.Sweeping.{Sweeps, with_seen};
+ghost use Rattle.mc_words.specs.Dead.{AreHandedOut, noted};
+ghost use Rattle.mc_words.specs.Sweeping.{Sweeps, SweepsEach, with_seen};
 
 use crate::arena::Arena;
+use crate::dead::DeadChunks;
 use crate::hand::Hand;
 use crate::held::SlabsHeld;
 use mc_classes::ClassId;
 
 impl Arena {
-    /// Looks at each chunk that the class handed out, the oldest first, and puts back the dead ones. Afterwards none of the class is
-    /// dead, as far as the hand saw, so that an item of it may be evicted where the class lacks room. (own, as slabs.c frees a chunk
-    /// when its last reference goes)
+    /// Looks at each chunk that the class handed out, and puts back the dead ones, the oldest first. Afterwards none of the class is
+    /// dead, as far as the hand saw, so that an item of it may be evicted where the class lacks room. It looks along the pages, where
+    /// the headers stand side by side, and walks along the hand-out order only where more than two chunks are dead. (own, as slabs.c
+    /// frees a chunk when its last reference goes)
     pub fn sweep(&self, hand: &mut Hand, held: &mut SlabsHeld, class: ClassId)
         requires arena { IsHandOf self.now hand.old }
         requires class { is_class (setup_of self.now).table class ≡ true }
@@ -25,6 +28,53 @@ impl Arena {
         ensures held { (view hand.new).slabs ≡ Some held.new.shared }
         ensures swept { Sweeps (class_at held.old.shared class).order (view hand.old) held.old.shared (view hand.new) held.new.shared }
         ensures view { view hand.new ≡ with_seen (view hand.old) (view hand.new) }
+        ensures alive { list_all (is_found_alive (view hand.new).row.looks) (class_at held.new.shared class).order ≡ true }
+    {
+        let dead = self.look_over(hand, held, class);
+        if dead.are_more() {
+            self.walk(hand, held, class);
+        } else {
+            self.put_back_few(hand, held, class, dead);
+        }
+    }
+
+    // Puts back the dead chunks that were noted, where they still are.
+    pub(crate) fn put_back_few(
+        &self,
+        hand: &mut Hand,
+        held: &mut SlabsHeld,
+        class: ClassId,
+        dead: DeadChunks,
+    )
+        requires arena { IsHandOf self.now hand.old }
+        requires out { AreHandedOut (setup_of self.now).table held.old.shared class dead }
+        requires held { (view hand.old).slabs ≡ Some held.old.shared }
+        ensures arena { IsHandOf self.now hand.new }
+        ensures locks { hand.new.locks ≡ hand.old.locks }
+        ensures held { (view hand.new).slabs ≡ Some held.new.shared }
+        ensures each { SweepsEach (noted dead) (view hand.old) held.old.shared (view hand.new) held.new.shared }
+    {
+        match dead {
+            DeadChunks::Nothing | DeadChunks::More => {}
+            DeadChunks::One(chunk) => {
+                let _ = self.put_back(hand, held, chunk);
+            }
+            DeadChunks::Two(first, second) => {
+                let _ = self.put_back(hand, held, first);
+                let _ = self.put_back(hand, held, second);
+            }
+        }
+    }
+
+    // Walks along the class's hand-out order, the oldest chunk first, and puts back the dead ones.
+    pub(crate) fn walk(&self, hand: &mut Hand, held: &mut SlabsHeld, class: ClassId)
+        requires arena { IsHandOf self.now hand.old }
+        requires class { is_class (setup_of self.now).table class ≡ true }
+        requires held { (view hand.old).slabs ≡ Some held.old.shared }
+        ensures arena { IsHandOf self.now hand.new }
+        ensures locks { hand.new.locks ≡ hand.old.locks }
+        ensures held { (view hand.new).slabs ≡ Some held.new.shared }
+        ensures each { SweepsEach (class_at held.old.shared class).order (view hand.old) held.old.shared (view hand.new) held.new.shared }
         ensures alive { list_all (is_found_alive (view hand.new).row.looks) (class_at held.new.shared class).order ≡ true }
     {
         let mut next = held.slabs().first_out(class);

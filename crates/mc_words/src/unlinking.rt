@@ -71,6 +71,7 @@ impl Arena {
         ensures unlinked { view hand.new ≡ key_unlinked hand.old.number held.now.number held.now.stripe key (view hand.old) }
     {
         let word = self.head_word(chunk);
-        self.subtract(&mut hand.seat, word, LINKED, Step::Unlink(key));
+        let found = self.subtract(&mut hand.seat, word, LINKED, Step::Unlink(key));
+        self.hints.note_if_dead(chunk, found.wrapping_sub(LINKED));
     }
 }

@@ -241,22 +241,23 @@ impl State {
         ensures { OnOk result (self.new ≡ after_refer self.old hand key) }
     {
         let found = self.chunk_of(key);
-        self.tell_got(hand, key);
+        self.tell_got(hand, key, found);
         match found {
             Some((chunk, _)) => self.gain_reference(hand, chunk),
             None => Ok(()),
         }
     }
 
-    /// The stripe of the key comes to know that the key was looked up.
-    fn tell_got(&mut self, hand: u64, key: u64)
-        requires { can_look_up self.old hand key ≡ true }
+    /// The stripe of the key comes to know that the key was looked up, which found this.
+    fn tell_got(&mut self, hand: u64, key: u64, found: Option<(ChunkId, u64)>)
+        requires allowed { can_look_up self.old hand key ≡ true }
+        requires found { found ≡ chunk_of self.old key }
         ensures { self.new ≡ with_got self.old hand key }
     {
         let writer = self.writer(hand);
         let place = self.stripe_of(key);
         let stripe = &mut self.stripes[place as usize];
-        stripe.got(writer, key);
+        stripe.got(writer, key, found);
     }
 
     /// Whether the hand holds a fresh chunk.

@@ -242,7 +242,7 @@ impl State {
         if deletes {
             stripe.unlink(writer, key);
         } else {
-            stripe.got(writer, key);
+            stripe.got(writer, key, None);
         }
     }
 

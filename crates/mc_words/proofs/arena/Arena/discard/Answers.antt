@@ -19,8 +19,8 @@ head_word-word-requires c =
     let arena = c.requires.arena in
     record { near = subst (λ (s : Setup). has_chunk s.table c.args.fresh.chunk ≡ true) arena.setup (holding_near c.args.hand.now.seat.me.0 arena.lawful c.args.fresh.chunk fresh.holding fresh.found fresh.fresh) }
 
-pub subtract-requires : goal.subtract-requires
-subtract-requires c =
+pub subtract-found-requires : goal.subtract-found-requires
+subtract-found-requires c =
     let fresh = c.requires.fresh in
     let arena = c.requires.arena in
     let view = c.args.hand.now.seat.me.0 in
@@ -31,16 +31,16 @@ subtract-requires c =
 pub invariant_of-hand : goal.invariant_of-hand
 invariant_of-hand c =
     let a = c.args.hand.now in
-    let is = discarded_chunk a.seat.me.0 c.subtract.new.seat.me.0 c.args.fresh.chunk c.subtract.ensures.happens in
+    let is = discarded_chunk a.seat.me.0 c.subtract-found.new.seat.me.0 c.args.fresh.chunk c.subtract-found.ensures.happens in
     let less = one_less c.args.fresh.chunk a.seat.me.0.row.holdings c.requires.fresh.holding c.requires.fresh.found in
     let count = a.noted.2 in
     let fills = a.tallied.1 in
     let fewer = fresh_less c.args.fresh.chunk a.seat.me.0.row.holdings c.requires.fresh.holding c.requires.fresh.found in
     let kind = ap truth c.requires.fresh.fresh in
-    record { noted = noted_same a.seat.me c.subtract.new.seat.me a.number a.chunks (a.chunks - 1) a.locks a.noted c.subtract.ensures.out c.subtract.ensures.hand ((omega arith) ∙ ap (λ (v : View). length v.row.holdings) (sym is)); tallied = tallied_fresh a.seat.me c.subtract.new.seat.me a.stamps a.fresh (a.fresh - 1) a.tallied (ap (λ (v : View). v.row.ids) is) ((omega arith) ∙ ap (λ (v : View). fresh_count v.row.holdings) (sym is)) }
+    record { noted = noted_same a.seat.me c.subtract-found.new.seat.me a.number a.chunks (a.chunks - 1) a.locks a.noted c.subtract-found.ensures.out c.subtract-found.ensures.hand ((omega arith) ∙ ap (λ (v : View). length v.row.holdings) (sym is)); tallied = tallied_fresh a.seat.me c.subtract-found.new.seat.me a.stamps a.fresh (a.fresh - 1) a.tallied (ap (λ (v : View). v.row.ids) is) ((omega arith) ∙ ap (λ (v : View). fresh_count v.row.holdings) (sym is)) }
 
 pub returns-clause-dropped : goal.returns-clause-dropped
-returns-clause-dropped c = discarded_chunk c.args.hand.now.seat.me.0 c.subtract.new.seat.me.0 c.args.fresh.chunk c.subtract.ensures.happens
+returns-clause-dropped c = discarded_chunk c.args.hand.now.seat.me.0 c.subtract-found.new.seat.me.0 c.args.fresh.chunk c.subtract-found.ensures.happens
 
 pub overflow_sub-hand-2 : goal.overflow_sub-hand-2
 overflow_sub-hand-2 c =

@@ -1,4 +1,4 @@
-use Rattle.std.proofs.Common.{List, ℕ, ◌-◌, arith, ap, sym, subst, ◌∙◌, refl}
+use Rattle.std.proofs.Common.{List, ℕ, ◌-◌, length, arith, ap, sym, subst, ◌∙◌, refl}
 use Rattle.atomic_table.specs.Table.{opening}
 use Rattle.mc_words.specs.declared.slot.Slot.{Slot}
 use Rattle.mc_words.specs.declared.locks.Locks.TheVariants.{Neither}
@@ -9,7 +9,7 @@ use Rattle.mc_words.specs.Opening.{first_view}
 use Rattle.mc_words.specs.Out.{IsNoted}
 use Rattle.mc_words.specs.Tallies.{IsTallied}
 use Rattle.mc_words.specs.Told.{Sits}
-use Rattle.mc_words.proofs.Opens.{rule_first, new_lawful, new_noted}
+use Rattle.mc_words.proofs.Opens.{rule_first, new_lawful, new_noted, slots_long}
 use Rattle.mc_words.proofs.arena.Arena.open.Goals as goal
 
 pub table-requires : goal.table-requires
@@ -35,3 +35,6 @@ returns-clause-arena c =
       },
       ok.5,
     )
+
+pub invariant_of-arena-clause-slots : goal.invariant_of-arena-clause-slots
+invariant_of-arena-clause-slots c = c.in_ok-table.ensures.ok.1 ∙ (ap length c.in_ok-slots.ensures.slots ∙ slots_long c.args.plan)

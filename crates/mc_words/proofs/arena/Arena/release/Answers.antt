@@ -19,8 +19,8 @@ head_word-word-requires c =
     let arena = c.requires.arena in
     record { near = subst (λ (s : Setup). has_chunk s.table c.args.reference.chunk ≡ true) arena.setup (held_is_near c.args.hand.now.seat.me.0 arena.lawful c.args.reference.chunk ref.holding ref.found) }
 
-pub subtract-requires : goal.subtract-requires
-subtract-requires c =
+pub subtract-found-requires : goal.subtract-found-requires
+subtract-found-requires c =
     let ref = c.requires.reference in
     let arena = c.requires.arena in
     let view = c.args.hand.now.seat.me.0 in
@@ -31,13 +31,13 @@ subtract-requires c =
 pub invariant_of-hand : goal.invariant_of-hand
 invariant_of-hand c =
     let a = c.args.hand.now in
-    let is = released_chunk a.seat.me.0 c.subtract.new.seat.me.0 c.args.reference.chunk c.subtract.ensures.happens in
+    let is = released_chunk a.seat.me.0 c.subtract-found.new.seat.me.0 c.args.reference.chunk c.subtract-found.ensures.happens in
     let less = one_less c.args.reference.chunk a.seat.me.0.row.holdings c.requires.reference.holding c.requires.reference.found in
     let count = a.noted.2 in
     let fills = a.tallied.1 in
     let fewer = fresh_less c.args.reference.chunk a.seat.me.0.row.holdings c.requires.reference.holding c.requires.reference.found in
     let kind = ap truth c.requires.reference.linked in
-    record { noted = noted_same a.seat.me c.subtract.new.seat.me a.number a.chunks (a.chunks - 1) a.locks a.noted c.subtract.ensures.out c.subtract.ensures.hand ((omega arith) ∙ ap (λ (v : View). length v.row.holdings) (sym is)); tallied = tallied_fresh a.seat.me c.subtract.new.seat.me a.stamps a.fresh a.fresh a.tallied (ap (λ (v : View). v.row.ids) is) ((omega arith) ∙ ap (λ (v : View). fresh_count v.row.holdings) (sym is)) }
+    record { noted = noted_same a.seat.me c.subtract-found.new.seat.me a.number a.chunks (a.chunks - 1) a.locks a.noted c.subtract-found.ensures.out c.subtract-found.ensures.hand ((omega arith) ∙ ap (λ (v : View). length v.row.holdings) (sym is)); tallied = tallied_fresh a.seat.me c.subtract-found.new.seat.me a.stamps a.fresh a.fresh a.tallied (ap (λ (v : View). v.row.ids) is) ((omega arith) ∙ ap (λ (v : View). fresh_count v.row.holdings) (sym is)) }
 
 pub returns-clause-dropped : goal.returns-clause-dropped
-returns-clause-dropped c = released_chunk c.args.hand.now.seat.me.0 c.subtract.new.seat.me.0 c.args.reference.chunk c.subtract.ensures.happens
+returns-clause-dropped c = released_chunk c.args.hand.now.seat.me.0 c.subtract-found.new.seat.me.0 c.args.reference.chunk c.subtract-found.ensures.happens

@@ -14,22 +14,13 @@ use Rattle.mc_words.proofs.StripeChanges.{stripe_near, may_reserve, made, reserv
 use Rattle.mc_words.proofs.Tallies.{tallied_same}
 use Rattle.mc_words.proofs.arena.Arena.reserve.Goals as goal
 
-pub slot-word-requires : goal.slot-word-requires
-slot-word-requires c =
+pub word-word-requires : goal.word-word-requires
+word-word-requires c =
     let a = c.args.self.now in
     let near = stripe_near c.args.hand.now.seat.me.0 c.args.held.now.number c.args.held.now.stripe c.requires.held c.requires.arena.lawful in
     let setup = ap (λ (s : Setup). s.config.stripes) (c.requires.arena.setup ∙ a.planned) in
     let few = a.few in
     record { few = omega arith }
-
-pub overflow_add-word : goal.overflow_add-word
-overflow_add-word c =
-    let a = c.args.self.now in
-    let near = stripe_near c.args.hand.now.seat.me.0 c.args.held.now.number c.args.held.now.stripe c.requires.held c.requires.arena.lawful in
-    let setup = ap (λ (s : Setup). s.config.stripes) (c.requires.arena.setup ∙ a.planned) in
-    let few = a.few in
-    let slot = c.slot-word.ensures.slot in
-    omega arith
 
 pub tell-requires : goal.tell-requires
 tell-requires c =
@@ -38,7 +29,7 @@ tell-requires c =
     let near = stripe_near c.args.hand.now.seat.me.0 number c.args.held.now.stripe c.requires.held c.requires.arena.lawful in
     let setup = ap (λ (s : Setup). s.config.stripes) (c.requires.arena.setup ∙ a.planned) in
     let count = a.words in
-    let place : 1 + c.slot-word.result ≡ lock_word (suc number) = let slot = c.slot-word.ensures.slot in omega arith in
+    let place : c.word-word.result ≡ lock_word (suc number) = c.word-word.ensures.word in
     (refl, (refl, ((omega arith), (c.requires.arena, subst (λ (n : ℕ). MayTell c.args.hand.now.seat.me.0 (Reserve number) (core.MissStripe number) n (λ found. found)) (sym place) (may_reserve c.args.hand.now.seat.me.0 number c.args.held.now.stripe c.requires.held)))))
 
 pub invariant_of-hand : goal.invariant_of-hand

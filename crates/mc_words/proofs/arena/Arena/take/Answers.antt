@@ -5,12 +5,20 @@ use Rattle.atomic_table.specs.Table.{Allows, step}
 use Rattle.mc_words.specs.View.{Setup, View}
 use Rattle.mc_words.specs.Joining.{Rule}
 use Rattle.mc_words.specs.Happens.{Happens, HappensAt}
-use Rattle.mc_words.specs.Slots.{slot_of}
+use Rattle.mc_words.specs.declared.locks.Lock.{Lock}
+use Rattle.mc_words.specs.Layout.{lock_word}
+use Rattle.mc_words.specs.Slots.{number_of}
 use Rattle.mc_words.specs.Taking.{take_of, miss_of, Takes}
 use Rattle.mc_words.proofs.Quiet.{has_number}
 use Rattle.mc_words.proofs.OutFirst.{few_locks}
 use Rattle.mc_words.proofs.TakeAndGive.{tries}
 use Rattle.mc_words.proofs.arena.Arena.take.Goals as goal
+
+pub word-word-requires : goal.word-word-requires
+word-word-requires g c =
+    let (is, (near, more)) = c.requires in
+    let a = c.args.self.now in
+    record { few = few_locks a.table.shared.key a.plan c.args.lock g.told a.planned a.few is near }
 
 pub slot-slot-requires : goal.slot-slot-requires
 slot-slot-requires g c =
@@ -23,22 +31,22 @@ compare_exchange-found-requires g c =
     let (is, (near, (seat, number))) = c.requires in
     let a = c.args.self.now in
     let me = c.args.seat.now.me in
-    let i_is : c.slot-slot.result ≡ slot_of g.told = c.slot-slot.ensures.slot ∙ ap slot_of (sym is) in
+    let i_is : c.word-word.result ≡ lock_word (number_of g.told) = c.word-word.ensures.word ∙ ap (λ (l : Lock). lock_word (number_of l)) (sym is) in
     let count = a.words in
     let stripes : a.table.shared.key.config.stripes ≡ a.plan.config.stripes = ap (λ (s : Setup). s.config.stripes) a.planned in (
       seat.same_table,
       omega arith,
-      subst (λ (i : ℕ). Allows (Rule a.table.shared.key) a.table.shared.table_id.slots c.args.seat.now.id me (1 + i) (λ n. either (eqb n 0) (c.args.number + 1) n) (Takes g.told (step a.table.shared.table_id.slots (1 + i) 0 (c.args.number + 1) none) me)) (sym i_is)
+      subst (λ (i : ℕ). Allows (Rule a.table.shared.key) a.table.shared.table_id.slots c.args.seat.now.id me i (λ n. either (eqb n 0) (c.args.number + 1) n) (Takes g.told (step a.table.shared.table_id.slots i 0 (c.args.number + 1) none) me)) (sym i_is)
           (tries a.table.shared.key _ _ me (has_number _ seat.lawful) seat.setup g.told near c.args.number number.0),
     )
 
 pub returns-then-found-ne0-clause-missed : goal.returns-then-found-ne0-clause-missed
 returns-then-found-ne0-clause-missed g c none_ =
-    let i_is : c.slot-slot.result ≡ slot_of g.told = c.slot-slot.ensures.slot ∙ ap slot_of (sym c.requires.0) in
+    let i_is : c.word-word.result ≡ lock_word (number_of g.told) = c.word-word.ensures.word ∙ ap (λ (l : Lock). lock_word (number_of l)) (sym c.requires.0) in
     let missed = c.compare_exchange-found.ensures.2.1 c.if-found-ne0.true in (
       c.compare_exchange-found.result,
       c.if-found-ne0.true,
-      subst (λ (i : ℕ). HappensAt (1 + i) c.compare_exchange-found.result c.args.seat.now.me.0 [] (miss_of g.told) c.compare_exchange-found.new.seat.me.0) i_is missed.1,
+      subst (λ (i : ℕ). HappensAt i c.compare_exchange-found.result c.args.seat.now.me.0 [] (miss_of g.told) c.compare_exchange-found.new.seat.me.0) i_is missed.1,
     )
 
 pub returns-clause-taken : goal.returns-clause-taken

@@ -1,4 +1,4 @@
-use Rattle.std.proofs.Common.{◌≡◌, ℕ, suc, ◌+◌, ◌%◌, refl, ap, sym, subst, ◌∙◌, length, arith, [], ◌∷◌}
+use Rattle.std.proofs.Common.{◌≡◌, ℕ, suc, ◌%◌, refl, ap, sym, subst, ◌∙◌, length, arith, [], ◌∷◌}
 use Rattle.mc_core.specs.declared.event.Change.{Change}
 use Rattle.mc_core.specs.declared.event.Step.TheVariants as core
 use Rattle.mc_words.specs.View.{View, Setup}
@@ -10,8 +10,8 @@ use Rattle.mc_words.proofs.NoneTold.{LeadsNowhere, may_tell_none, none_told, tol
 use Rattle.mc_words.proofs.StripeChanges.{stripe_near}
 use Rattle.mc_words.proofs.arena.Arena.tell_none.Goals as goal
 
-pub slot-word-requires : goal.slot-word-requires
-slot-word-requires g c =
+pub word-word-requires : goal.word-word-requires
+word-word-requires g c =
     let a = c.args.self.now in
     let hand = c.args.hand.now in
     let view = hand.seat.me.0 in
@@ -23,21 +23,6 @@ slot-word-requires g c =
     let setup = ap (λ (s : Setup). s.config.stripes) (arena.setup ∙ a.planned) in
     let few = a.few in
     record { few = omega arith }
-
-pub overflow_add-word : goal.overflow_add-word
-overflow_add-word g c =
-    let a = c.args.self.now in
-    let hand = c.args.hand.now in
-    let view = hand.seat.me.0 in
-    let key = c.args.key in
-    let number = c.args.held.now.number in
-    let value = c.args.held.now.stripe in
-    let (same, (arena, (of_key, (mine, (ready, (inside, none)))))) = c.requires in
-    let near = stripe_near view number value mine arena.lawful in
-    let setup = ap (λ (s : Setup). s.config.stripes) (arena.setup ∙ a.planned) in
-    let few = a.few in
-    let slot = c.slot-word.ensures.slot in
-    omega arith
 
 pub tell-requires : goal.tell-requires
 tell-requires g c =
@@ -60,7 +45,7 @@ tell-requires g c =
       none = none;
     } in
     let count = a.words in
-    let place : 1 + c.slot-word.result ≡ lock_word (suc number) = let slot = c.slot-word.ensures.slot in omega arith in
+    let place : c.word-word.result ≡ lock_word (suc number) = c.word-word.ensures.word in
     (refl, (refl, ((omega arith), (arena, subst (λ (n : ℕ). MayTell view c.args.change (core.MissStripe number) n (λ found. found)) (sym place) (subst (λ (change : Change). MayTell view change (core.MissStripe number) (lock_word (suc number)) (λ found. found)) (sym same) (may_tell_none view hand.number number value key nowhere g.deletes))))))
 
 pub invariant_of-hand : goal.invariant_of-hand

@@ -24,8 +24,8 @@ head_word-word-requires c =
     let to : LeadsTo view stripe value key chunk c.requires.leads.0 = record { mine = c.requires.held; of_key = of_key; leads = c.requires.leads.1 } in
     record { near = subst (λ (s : Setup). has_chunk s.table chunk ≡ true) arena.setup (entry_near view stripe value key chunk c.requires.leads.0 to arena.lawful) }
 
-pub subtract-requires : goal.subtract-requires
-subtract-requires c =
+pub subtract-found-requires : goal.subtract-found-requires
+subtract-found-requires c =
     let a = c.args.hand.now in
     let arena = c.requires.arena in
     let view = a.seat.me.0 in
@@ -49,8 +49,8 @@ invariant_of-hand c =
     let value = c.args.held.now.stripe in
     let of_key = ap (λ (s : Setup). key % s.config.stripes) arena.setup ∙ c.requires.of_key in
     let to : LeadsTo view stripe value key chunk c.requires.leads.0 = record { mine = c.requires.held; of_key = of_key; leads = c.requires.leads.1 } in
-    let keeps = unlinked_keeps view stripe value key chunk c.requires.leads.0 to a.number a.noted.0 c.subtract.new.seat.me.0 c.subtract.ensures.happens in
-    record { noted = noted_same a.seat.me c.subtract.new.seat.me a.number a.chunks a.chunks a.locks a.noted c.subtract.ensures.out c.subtract.ensures.hand (a.noted.2 ∙ ap length (sym keeps.1)); tallied = tallied_same a.seat.me c.subtract.new.seat.me a.stamps a.fresh a.tallied keeps.0 keeps.1 }
+    let keeps = unlinked_keeps view stripe value key chunk c.requires.leads.0 to a.number a.noted.0 c.subtract-found.new.seat.me.0 c.subtract-found.ensures.happens in
+    record { noted = noted_same a.seat.me c.subtract-found.new.seat.me a.number a.chunks a.chunks a.locks a.noted c.subtract-found.ensures.out c.subtract-found.ensures.hand (a.noted.2 ∙ ap length (sym keeps.1)); tallied = tallied_same a.seat.me c.subtract-found.new.seat.me a.stamps a.fresh a.tallied keeps.0 keeps.1 }
 
 pub returns-clause-holdings : goal.returns-clause-holdings
 returns-clause-holdings c =
@@ -63,7 +63,7 @@ returns-clause-holdings c =
     let value = c.args.held.now.stripe in
     let of_key = ap (λ (s : Setup). key % s.config.stripes) arena.setup ∙ c.requires.of_key in
     let to : LeadsTo view stripe value key chunk c.requires.leads.0 = record { mine = c.requires.held; of_key = of_key; leads = c.requires.leads.1 } in
-    (unlinked_keeps view stripe value key chunk c.requires.leads.0 to a.number a.noted.0 c.subtract.new.seat.me.0 c.subtract.ensures.happens).1
+    (unlinked_keeps view stripe value key chunk c.requires.leads.0 to a.number a.noted.0 c.subtract-found.new.seat.me.0 c.subtract-found.ensures.happens).1
 
 pub returns-clause-unlinked : goal.returns-clause-unlinked
 returns-clause-unlinked c =
@@ -76,4 +76,4 @@ returns-clause-unlinked c =
     let value = c.args.held.now.stripe in
     let of_key = ap (λ (s : Setup). key % s.config.stripes) arena.setup ∙ c.requires.of_key in
     let to : LeadsTo view stripe value key chunk c.requires.leads.0 = record { mine = c.requires.held; of_key = of_key; leads = c.requires.leads.1 } in
-    unlinked_view view stripe value key chunk c.requires.leads.0 to a.number a.noted.0 c.subtract.new.seat.me.0 c.subtract.ensures.happens
+    unlinked_view view stripe value key chunk c.requires.leads.0 to a.number a.noted.0 c.subtract-found.new.seat.me.0 c.subtract-found.ensures.happens

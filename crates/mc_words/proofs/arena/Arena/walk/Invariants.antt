@@ -3,9 +3,9 @@ use Rattle.mc_pages.specs.declared.ids.ChunkId.{ChunkId}
 use Rattle.mc_pages.specs.SlabState.{class_at}
 use Rattle.mc_pages.proofs.RestOfList.{rest_from}
 use Rattle.mc_words.specs.Arenas.{IsHandOf, view}
-use Rattle.mc_words.specs.Sweeping.{Sweeps}
+use Rattle.mc_words.specs.Sweeping.{SweepsEach}
 use Rattle.mc_words.proofs.Sweeps.{IsSweptTo}
-use Rattle.mc_words.proofs.arena.Arena.sweep.Given as goal
+use Rattle.mc_words.proofs.arena.Arena.walk.Given as goal
 
 -- the walk came so far, and what is left of the order is what was to come at first
 abbrev pub invariant-loop-next : goal.invariant-loop-next
@@ -16,7 +16,7 @@ invariant-loop-next l = record {
   swept : IsSweptTo l.held.shared (view l.hand).row.looks l.fn.class l.next;
   done : List ChunkId;
   split : (class_at l.fn.held.shared l.fn.class).order ≡ done ++ swept.rest;
-  so_far : Sweeps done (view l.fn.hand) l.fn.held.shared (view l.hand) l.held.shared;
+  so_far : SweepsEach done (view l.fn.hand) l.fn.held.shared (view l.hand) l.held.shared;
 }
 
 abbrev pub decreases-loop-next : goal.decreases-loop-next

@@ -1,0 +1,18 @@
+use Rattle.std.proofs.Common.{◌≡◌, List, Some}
+use Rattle.mc_pages.specs.declared.ids.ChunkId.{ChunkId}
+use Rattle.mc_pages.specs.SlabState.{class_of_page}
+use Rattle.mc_words.specs.Arenas.{IsHandOf, setup_of, view}
+use Rattle.mc_words.specs.Dead.{AreHandedOut}
+use Rattle.mc_words.specs.Sweeping.{SeesHeaders}
+use Rattle.mc_words.proofs.arena.Arena.look_at_each.Given as goal
+
+-- some chunks were looked at
+abbrev pub invariant-loop : goal.invariant-loop
+invariant-loop l = record {
+  arena : IsHandOf l.self l.hand;
+  locks : l.hand.locks ≡ l.fn.hand.locks;
+  held : (view l.hand).slabs ≡ Some l.held.shared;
+  out : AreHandedOut (setup_of l.self).table l.held.shared (class_of_page l.held.shared l.first.page) l.dead;
+  looked : List ChunkId;
+  sees : SeesHeaders looked (view l.fn.hand) (view l.hand);
+}

@@ -1,0 +1,79 @@
+//! Hints of where dead chunks may be, beside the table. Nothing proved rests on them: who follows one looks at the chunk's header, and
+//! who has none looks at all headers.
+use crate::header::{DEAD, ISSUE_UNIT};
+use mc_classes::PageId;
+use mc_memory::{Refused, push, with_capacity};
+use mc_pages::ChunkId;
+use std::alloc::Global;
+use std::sync::atomic::AtomicU64;
+use std::sync::atomic::Ordering::SeqCst;
+
+/// How many words the bits of a page's chunks take, of which there are at most 256.
+pub(crate) const WORDS_A_PAGE: u64 = 4;
+
+/// How many words there are, for 64 pages.
+const WORDS: usize = 256;
+
+/// How many bits a word has.
+pub(crate) const BITS: u64 = 64;
+
+/// A bit for each chunk that may be dead, and one for each page on which there may be such a chunk. A chunk's bit is set before its
+/// page's, and taken after it, so that a hint is late at most and never lost.
+#[derive(Drop)]
+pub struct Hints {
+    pages: AtomicU64,
+    chunks: Vec<AtomicU64>,
+}
+
+impl Hints {
+    /// None yet.
+    pub(crate) fn new(alloc: Global) -> Result<Hints, Refused> {
+        let mut chunks = with_capacity(alloc, WORDS)?;
+        for _ in 0..WORDS {
+            push(&mut chunks, AtomicU64::new(0))?;
+        }
+        Ok(Hints {
+            pages: AtomicU64::new(0),
+            chunks,
+        })
+    }
+
+    /// The chunk's header is this now: the chunk is noted where it is dead.
+    #[inline(always)]
+    pub(crate) fn note_if_dead(&self, chunk: ChunkId, head: u64) {
+        if head % ISSUE_UNIT == DEAD {
+            self.note(chunk);
+        }
+    }
+
+    // The chunk may be dead.
+    fn note(&self, chunk: ChunkId) {
+        if let Some(word) = self.chunks.get(place(chunk.page, chunk.index / BITS)) {
+            word.fetch_or(1 << (chunk.index % BITS), SeqCst);
+            self.pages.fetch_or(1 << (chunk.page % BITS), SeqCst);
+        }
+    }
+
+    /// The pages on which chunks may be dead, as bits.
+    pub(crate) fn pages(&self) -> u64 {
+        self.pages.load(SeqCst)
+    }
+
+    /// Takes the page's bit.
+    pub(crate) fn take_page(&self, page: PageId) {
+        self.pages.fetch_and(!(1 << (page % BITS)), SeqCst);
+    }
+
+    /// Takes the bits of 64 chunks of the page: those from 64 times `word` on.
+    pub(crate) fn take_chunks(&self, page: PageId, word: u64) -> u64 {
+        match self.chunks.get(place(page, word)) {
+            Some(bits) => bits.swap(0, SeqCst),
+            None => 0,
+        }
+    }
+}
+
+// Where the word of a page's bits stands.
+fn place(page: PageId, word: u64) -> usize {
+    page.saturating_mul(WORDS_A_PAGE).saturating_add(word) as usize
+}
