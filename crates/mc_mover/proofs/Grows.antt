@@ -17,17 +17,20 @@ use Rattle.mc_words.specs.Cutting.{CutsEach}
 use Rattle.mc_words.specs.Items.{issue_in, words_in}
 use Rattle.mc_words.specs.Referring.{reference_to}
 use Rattle.mc_words.specs.Rescuing.{PassesAll, PopsOff}
-use Rattle.mc_words.specs.Sweeping.{Sweeps, SweepsOne}
+use Rattle.mc_words.specs.Doing.{SlabsDoing}
+use Rattle.mc_words.specs.Sweeping.{SweepsOne}
 use Rattle.mc_words.specs.Views.{head_seen}
 use Rattle.mc_mover.specs.declared.counts.Turn.{Turn}
 use Rattle.mc_mover.specs.declared.counts.Turn.TheVariants.{Idle, Went, Finished}
 use Rattle.mc_mover.specs.Copying.{Copies, item_of}
-use Rattle.mc_mover.specs.Saving.{BothDoing, Evicts, FailsToEvict, FailsToRescue, Rescues}
+use Rattle.mc_mover.specs.declared.sweep.Sweep.{Sweep}
+use Rattle.mc_mover.specs.declared.sweep.Sweep.TheVariants.{Due}
+use Rattle.mc_mover.specs.Saving.{BothDoing, Evicts, FailsToEvict, FailsToRescue, Rescues, SweepsToEvict, SweepsToRescue}
 use Rattle.mc_mover.specs.Linked.{HoldsUp, ReachesStripe, SavesAndClears, SavesAs, SavesWith, StripeDoing}
 use Rattle.mc_mover.specs.Visiting.{Visits}
 use Rattle.mc_mover.specs.Turning.{GoesOn, LacksMemory, Sections, Turns}
 use Rattle.mc_mover.proofs.Copied.{copied_keeps}
-use Rattle.mc_mover.proofs.Kept.{finds_keep, passes_keep, sweeps_keep, swept_keep}
+use Rattle.mc_mover.proofs.Kept.{finds_keep, passes_keep, swept_keep, to_evict_keeps, to_rescue_keeps}
 
 -- the hold, what was said, and number and stamps
 abbrev pub Stays : Type 0
@@ -63,8 +66,15 @@ grows_on view next now first later = record {
 swept_kept : (chunk : ChunkId) (view : View) (slabs : SlabState) (now : View) (left : SlabState) → SweepsOne chunk view slabs now left → kept_of now ≡ kept_of view
 swept_kept chunk view slabs now left sweeps = swept_keep kept_of (λ one v. refl) (λ chunk one v. refl) (λ slabs chunk one v. refl) chunk view slabs now left sweeps
 
-sweeps_kept : (chunks : List ChunkId) (view : View) (slabs : SlabState) (now : View) (left : SlabState) → Sweeps chunks view slabs now left → kept_of now ≡ kept_of view
-sweeps_kept chunks view slabs now left sweeps = sweeps_keep kept_of (λ one v. refl) (λ chunk one v. refl) (λ slabs chunk one v. refl) chunks view slabs now left sweeps
+-- a sweep does so, too
+abbrev LeavesKept : SlabsDoing → Type 0
+LeavesKept Swept = (view : View) (slabs : SlabState) (now : View) (left : SlabState) → Swept view slabs now left → kept_of now ≡ kept_of view
+
+to_evict_kept : (class : ℕ) (chunk : ChunkId) (sweep : Sweep) → LeavesKept (SweepsToEvict class chunk sweep)
+to_evict_kept class chunk sweep view slabs now left sweeps = to_evict_keeps kept_of (λ one v. refl) (λ chunk one v. refl) (λ slabs chunk one v. refl) class chunk sweep view slabs now left sweeps
+
+to_rescue_kept : (class : ℕ) (chunk : ChunkId) (sweep : Sweep) → LeavesKept (SweepsToRescue class chunk sweep)
+to_rescue_kept class chunk sweep view slabs now left sweeps = to_rescue_keeps kept_of (λ one v. refl) (λ chunk one v. refl) (λ slabs chunk one v. refl) class chunk sweep view slabs now left sweeps
 
 passes_kept : (page : ℕ) (chunks : List ChunkId) (view now : View) → PassesAll page chunks view now → kept_of now ≡ kept_of view
 passes_kept page chunks view now passes = passes_keep kept_of (λ one v. refl) (λ chunk one v. refl) page chunks view now passes
@@ -115,60 +125,66 @@ fails_rescue_grow chunk copy slabs value view kept left now fails =
     ∙ (finds_kept chunk moves.filled moves.found moves.finds
     ∙ (copies_kept chunk copy moves.key moves.stamp fails.popped moves.filled moves.copies ∙ pops_kept view slabs chunk copy fails.popped fails.pops)))
 
--- under the stripe's lock, whose dead were put back first
-saves_grow : (number class stripe : ℕ) (Does : ℕ → BothDoing) → ((slabs : SlabState) (value : ReadyStripe) (view : View) (kept : SlabState) (left : ReadyStripe) (now : View) → Does stripe slabs value view kept left now → Grows view now)
-    → (value : ReadyStripe) (taken : View) (slabs : SlabState) (now : View) (left : SlabState) → SavesWith number class Does stripe value taken slabs now left → Grows taken now
-saves_grow number class stripe Does each value taken slabs now left saves =
+-- under the stripe's lock, behind a sweep
+saves_grow : (number stripe : ℕ) (Swept : SlabsDoing) → LeavesKept Swept → (Does : ℕ → BothDoing) → ((slabs : SlabState) (value : ReadyStripe) (view : View) (kept : SlabState) (left : ReadyStripe) (now : View) → Does stripe slabs value view kept left now → Grows view now)
+    → (value : ReadyStripe) (taken : View) (slabs : SlabState) (now : View) (left : SlabState) → SavesWith number Swept Does stripe value taken slabs now left → Grows taken now
+saves_grow number stripe Swept leaves Does each value taken slabs now left saves =
     let sweeping = saves.does in
-    grows_on taken sweeping.swept now (grows_same taken sweeping.swept (sweeps_kept _ _ slabs sweeping.swept sweeping.between sweeping.sweeps))
+    grows_on taken sweeping.swept now (grows_same taken sweeping.swept (leaves _ slabs sweeping.swept sweeping.between sweeping.sweeps))
     (grows_on sweeping.swept saves.last now (each sweeping.between (record value { ready = true }) sweeping.swept left saves.left saves.last sweeping.does) (grows_same saves.last now (ap kept_of saves.given)))
 
 -- by what was found
-saved_grow : (number class : ℕ) (chunk : ChunkId) (found : Found) (stripe : ℕ) (value : ReadyStripe) (taken : View) (slabs : SlabState) (now : View) (left : SlabState) → SavesAs number class chunk found stripe value taken slabs now left → Grows taken now
-saved_grow number class chunk Rescued stripe value taken slabs now left saves = saves_grow number class stripe (λ stripe. Rescues number stripe chunk) (rescues_grow number stripe chunk) value taken slabs now left saves
-saved_grow number class chunk Evicted stripe value taken slabs now left saves = saves_grow number class stripe (λ stripe. Evicts number stripe chunk) (evicts_grow number stripe chunk) value taken slabs now left saves
-saved_grow number class chunk Busy stripe value taken slabs now left (inl saves) = saves_grow number class stripe (λ stripe. FailsToEvict chunk) (fails_evict_grow chunk) value taken slabs now left saves
-saved_grow number class chunk Busy stripe value taken slabs now left (inr gives) =
-    grows_on taken gives.failed now (saves_grow number class stripe (λ stripe. FailsToRescue chunk gives.copy) (fails_rescue_grow chunk gives.copy) value taken slabs gives.failed gives.kept gives.fails)
+saved_grow : (number class : ℕ) (chunk : ChunkId) (sweep : Sweep) (found : Found) (stripe : ℕ) (value : ReadyStripe) (taken : View) (slabs : SlabState) (now : View) (left : SlabState) → SavesAs number class chunk sweep found stripe value taken slabs now left → Grows taken now
+saved_grow number class chunk sweep Rescued stripe value taken slabs now left saves =
+    saves_grow number stripe (SweepsToRescue class chunk sweep) (to_rescue_kept class chunk sweep) (λ stripe. Rescues number stripe chunk) (rescues_grow number stripe chunk) value taken slabs now left saves
+saved_grow number class chunk sweep Evicted stripe value taken slabs now left saves =
+    saves_grow number stripe (SweepsToEvict class chunk sweep) (to_evict_kept class chunk sweep) (λ stripe. Evicts number stripe chunk) (evicts_grow number stripe chunk) value taken slabs now left saves
+saved_grow number class chunk sweep Busy stripe value taken slabs now left (inl saves) =
+    saves_grow number stripe (SweepsToEvict class chunk sweep) (to_evict_kept class chunk sweep) (λ stripe. FailsToEvict chunk) (fails_evict_grow chunk) value taken slabs now left saves
+saved_grow number class chunk sweep Busy stripe value taken slabs now left (inr gives) =
+    grows_on taken gives.failed now
+    (saves_grow number stripe (SweepsToRescue class chunk sweep) (to_rescue_kept class chunk sweep) (λ stripe. FailsToRescue chunk gives.copy) (fails_rescue_grow chunk gives.copy) value taken slabs gives.failed gives.kept gives.fails)
     (grows_same gives.failed now (swept_kept gives.copy gives.failed gives.kept now left gives.puts))
-saved_grow number class chunk Cleared stripe value taken slabs now left never = absurd never
-saved_grow number class chunk Locked stripe value taken slabs now left never = absurd never
-saved_grow number class chunk Already stripe value taken slabs now left never = absurd never
+saved_grow number class chunk sweep Cleared stripe value taken slabs now left never = absurd never
+saved_grow number class chunk sweep Locked stripe value taken slabs now left never = absurd never
+saved_grow number class chunk sweep Already stripe value taken slabs now left never = absurd never
 
 -- the stripe was reached
 reached_grow : (chunk : ChunkId) (Does : ℕ → StripeDoing) (view : View) (slabs : SlabState) (now : View) (left : SlabState) → (reaches : ReachesStripe chunk Does view slabs now left) → Grows reaches.taken now → Grows view now
 reached_grow chunk Does view slabs now left reaches grows = grows_on view reaches.taken now (grows_same view reaches.taken (ap kept_of reaches.is_taken ∙ ap kept_of reaches.reads.1)) grows
 
-cleared_grow : (number class : ℕ) (chunk : ChunkId) (found : Found) (view : View) (slabs : SlabState) (now : View) (left : SlabState) → SavesAndClears number class chunk found view slabs now left → Grows view now
-cleared_grow number class chunk found view slabs now left saves =
+cleared_grow : (number class : ℕ) (chunk : ChunkId) (sweep : Sweep) (found : Found) (view : View) (slabs : SlabState) (now : View) (left : SlabState) → SavesAndClears number class chunk sweep found view slabs now left → Grows view now
+cleared_grow number class chunk sweep found view slabs now left saves =
     let reaches = saves.reaches in
-    grows_on view saves.saved now (reached_grow chunk (λ key. SavesAs number class chunk found) view slabs saves.saved saves.kept reaches (saved_grow number class chunk found _ reaches.value reaches.taken slabs saves.saved saves.kept reaches.does))
+    grows_on view saves.saved now
+    (reached_grow chunk (λ key. SavesAs number class chunk sweep found) view slabs saves.saved saves.kept reaches (saved_grow number class chunk sweep found _ reaches.value reaches.taken slabs saves.saved saves.kept reaches.does))
     (grows_same saves.saved now (ap kept_of saves.clears.is))
 
-holds_grow : (number class : ℕ) (chunk : ChunkId) (unheld : Bool) (view : View) (slabs : SlabState) (now : View) (left : SlabState) → HoldsUp number class chunk unheld view slabs now left → Grows view now
-holds_grow number class chunk false view slabs now left reaches = reached_grow chunk _ view slabs now left reaches (grows_same reaches.taken now (ap kept_of reaches.does.0))
-holds_grow number class chunk true view slabs now left (inl reaches) = reached_grow chunk _ view slabs now left reaches (grows_same reaches.taken now (ap kept_of reaches.does.1.0))
-holds_grow number class chunk true view slabs now left (inr reaches) = reached_grow chunk _ view slabs now left reaches (saved_grow number class chunk Busy _ reaches.value reaches.taken slabs now left reaches.does)
+holds_grow : (number class : ℕ) (chunk : ChunkId) (sweep : Sweep) (unheld : Bool) (next : Sweep) (view : View) (slabs : SlabState) (now : View) (left : SlabState) → HoldsUp number class chunk sweep unheld next view slabs now left → Grows view now
+holds_grow number class chunk sweep false next view slabs now left (reaches, then) = reached_grow chunk _ view slabs now left reaches (grows_same reaches.taken now (ap kept_of reaches.does.0))
+holds_grow number class chunk sweep true next view slabs now left (inl (reaches, then)) = reached_grow chunk _ view slabs now left reaches (grows_same reaches.taken now (ap kept_of reaches.does.1.0))
+holds_grow number class chunk sweep true next view slabs now left (inr (reaches, then)) =
+    reached_grow chunk _ view slabs now left reaches (saved_grow number class chunk sweep Busy _ reaches.value reaches.taken slabs now left reaches.does)
 
 -- a header was seen first
 seen_grow : (chunk : ChunkId) (head : Head) (view now : View) → Grows (head_seen chunk head view) now → Grows view now
 seen_grow chunk head view now grows = grows_on view (head_seen chunk head view) now (grows_same view (head_seen chunk head view) refl) grows
 
-visit_grows : (number class : ℕ) (chunk : ChunkId) (found : Found) (view : View) (slabs : SlabState) (now : View) (left : SlabState) → Visits number class chunk found view slabs now left → Grows view now
-visit_grows number class chunk Already view slabs now left (sees, same) = grows_same view now (ap kept_of sees.is)
-visit_grows number class chunk Cleared view slabs now left clears = grows_same view now (ap kept_of clears.clears.is ∙ ap kept_of clears.sees.is)
-visit_grows number class chunk Rescued view slabs now left sees = seen_grow chunk sees.head view now (cleared_grow number class chunk Rescued _ slabs now left sees.does.1)
-visit_grows number class chunk Evicted view slabs now left sees = seen_grow chunk sees.head view now (cleared_grow number class chunk Evicted _ slabs now left sees.does.1)
-visit_grows number class chunk Busy view slabs now left (inl (finds, same)) = grows_same view now (ap kept_of finds.other.is ∙ ap kept_of finds.sees.is)
-visit_grows number class chunk Busy view slabs now left (inr sees) = seen_grow chunk sees.head view now (holds_grow number class chunk _ _ slabs now left sees.does)
-visit_grows number class chunk Locked view slabs now left sees = let (finds, same) = sees.does in seen_grow chunk sees.head view now (grows_same _ now (ap kept_of finds.is ∙ ap kept_of finds.reads.1))
+visit_grows : (number class : ℕ) (chunk : ChunkId) (sweep : Sweep) (found : Found) (next : Sweep) (view : View) (slabs : SlabState) (now : View) (left : SlabState) → Visits number class chunk sweep found next view slabs now left → Grows view now
+visit_grows number class chunk sweep Already next view slabs now left (sees, same, then) = grows_same view now (ap kept_of sees.is)
+visit_grows number class chunk sweep Cleared next view slabs now left (clears, then) = grows_same view now (ap kept_of clears.clears.is ∙ ap kept_of clears.sees.is)
+visit_grows number class chunk sweep Rescued next view slabs now left sees = seen_grow chunk sees.head view now (cleared_grow number class chunk sweep Rescued _ slabs now left sees.does.1)
+visit_grows number class chunk sweep Evicted next view slabs now left sees = seen_grow chunk sees.head view now (cleared_grow number class chunk sweep Evicted _ slabs now left sees.does.1)
+visit_grows number class chunk sweep Busy next view slabs now left (inl (finds, same, then)) = grows_same view now (ap kept_of finds.other.is ∙ ap kept_of finds.sees.is)
+visit_grows number class chunk sweep Busy next view slabs now left (inr sees) = seen_grow chunk sees.head view now (holds_grow number class chunk sweep _ next _ slabs now left sees.does)
+visit_grows number class chunk sweep Locked next view slabs now left sees = let (finds, same, then) = sees.does in seen_grow chunk sees.head view now (grows_same _ now (ap kept_of finds.is ∙ ap kept_of finds.reads.1))
 
-sections_grow : (number : ℕ) (found : List Found) (view : View) (slabs : SlabState) (now : View) (left : SlabState) → Sections number found view slabs now left → Grows view now
-sections_grow number [] view slabs now left (same, is) = grows_same view now (ap kept_of same)
-sections_grow number (first ∷ found) view slabs now left (next, between, section, rest) =
+sections_grow : (number : ℕ) (sweep : Sweep) (found : List Found) (last : Sweep) (view : View) (slabs : SlabState) (now : View) (left : SlabState) → Sections number sweep found last view slabs now left → Grows view now
+sections_grow number sweep [] last view slabs now left (same, is, then) = grows_same view now (ap kept_of same)
+sections_grow number sweep (first ∷ found) last view slabs now left (next, between, then, section, rest) =
     grows_on view next now
-    (grows_on view section.visited next (visit_grows number section.move.src _ first view slabs section.visited section.kept section.visits) (grows_same section.visited next (ap kept_of section.is)))
-    (sections_grow number found next between now left rest)
+    (grows_on view section.visited next (visit_grows number section.move.src _ sweep first then view slabs section.visited section.kept section.visits) (grows_same section.visited next (ap kept_of section.is)))
+    (sections_grow number then found last next between now left rest)
 
 -- the end of a turn leaves it
 cuts_kept : (chunks : List ChunkId) (view : View) (slabs : SlabState) (now : View) (left : SlabState) → CutsEach chunks view slabs now left → kept_of now ≡ kept_of view
@@ -184,16 +200,16 @@ pub turns_grow : (number : ℕ) (turn : Turn) (view : View) (slabs : SlabState) 
 turns_grow number Idle view slabs now left (none, same, is) = grows_same view now (ap kept_of same)
 turns_grow number (Went counts) view slabs now left turns =
     let looks = turns.looks in
-    grows_on view turns.looked now (sections_grow number looks.found view slabs turns.looked turns.kept looks.sections) (grows_same turns.looked now (goes_on_kept number turns.looked turns.kept now left turns.ends))
+    grows_on view turns.looked now (sections_grow number Due looks.found looks.last view slabs turns.looked turns.kept looks.sections) (grows_same turns.looked now (goes_on_kept number turns.looked turns.kept now left turns.ends))
 turns_grow number (Finished counts) view slabs now left turns =
     let looks = turns.looks in
     let ends = turns.ends in
-    grows_on view turns.looked now (sections_grow number looks.found view slabs turns.looked turns.kept looks.sections) (grows_same turns.looked now (cuts_kept _ ends.moved _ now left ends.cuts ∙ ap kept_of ends.is))
+    grows_on view turns.looked now (sections_grow number Due looks.found looks.last view slabs turns.looked turns.kept looks.sections) (grows_same turns.looked now (cuts_kept _ ends.moved _ now left ends.cuts ∙ ap kept_of ends.is))
 
 -- and one that there was no memory for
 pub lacks_grow : (number : ℕ) (view : View) (slabs : SlabState) (now : View) (left : SlabState) → LacksMemory number view slabs now left → Grows view now
 lacks_grow number view slabs now left lacks =
     let reaches = lacks.lacks.does.1 in
-    grows_on view lacks.looked now (sections_grow number lacks.found view slabs lacks.looked lacks.kept lacks.sections)
+    grows_on view lacks.looked now (sections_grow number Due lacks.found lacks.last view slabs lacks.looked lacks.kept lacks.sections)
     (seen_grow (chunk_at_position lacks.move) lacks.lacks.head lacks.looked now
     (reached_grow _ _ _ lacks.kept now left reaches (grows_same reaches.taken now (ap kept_of reaches.does.2.0))))

@@ -6,8 +6,11 @@ use Rattle.mc_core.specs.declared.head.Head.{Head}
 use Rattle.mc_words.specs.View.{View}
 use Rattle.mc_words.specs.Condemning.{FindsHeld, SeesHeld}
 use Rattle.mc_words.specs.Rescuing.{PassesAll, PassesOver}
-use Rattle.mc_words.specs.Sweeping.{Sweeps, SweepsOne}
+use Rattle.mc_words.specs.Sweeping.{SeesHeaders, Sweeps, SweepsEach, SweepsOne}
 use Rattle.mc_words.specs.Views.{chunk_put_back, head_seen}
+use Rattle.mc_mover.specs.declared.sweep.Sweep.{Sweep}
+use Rattle.mc_mover.specs.declared.sweep.Sweep.TheVariants.{Due, Done}
+use Rattle.mc_mover.specs.Saving.{SweepsForTarget, SweepsToEvict, SweepsToRescue}
 
 -- a part that neither a key nor a header changes that is seen
 module _ {X : Type 0} (part : View → X) (look : (one : ChunkId × ℕ) (v : View) → part (Rattle.mc_words.specs.Condemning.key_seen one.0 one.1 v) ≡ part v) (head : (chunk : ChunkId) (one : Head) (v : View) → part (head_seen chunk one v) ≡ part v) where
@@ -33,13 +36,35 @@ module _ {X : Type 0} (part : View → X) (look : (one : ChunkId × ℕ) (v : Vi
   passes_keep page [] view now same = ap part same
   passes_keep page (chunk ∷ chunks) view now (next, over, rest) = passes_keep page chunks next now rest ∙ over_keep page chunk view next over
 
+  -- where headers are looked at
+  headers_keep : (chunks : List ChunkId) (view now : View) → SeesHeaders chunks view now → part now ≡ part view
+  headers_keep [] view now same = ap part same
+  headers_keep (chunk ∷ chunks) view now (next, sees, rest) = headers_keep chunks next now rest ∙ (ap part sees.is ∙ head chunk sees.head view)
+
   module _ (back : (slabs : SlabState) (chunk : ChunkId) (one : Head) (v : View) → part (chunk_put_back slabs chunk one v) ≡ part v) where
     -- where a chunk is put back, or seen otherwise
     pub swept_keep : (chunk : ChunkId) (view : View) (slabs : SlabState) (now : View) (left : SlabState) → SweepsOne chunk view slabs now left → part now ≡ part view
     swept_keep chunk view slabs now left (inl (puts, is)) = ap part puts.is ∙ (back slabs chunk puts.head _ ∙ head chunk puts.head view)
     swept_keep chunk view slabs now left (inr (sees, is)) = ap part sees.is ∙ head sees.chunk sees.head view
 
-    -- and where each of a class's is
-    pub sweeps_keep : (chunks : List ChunkId) (view : View) (slabs : SlabState) (now : View) (left : SlabState) → Sweeps chunks view slabs now left → part now ≡ part view
-    sweeps_keep [] view slabs now left (same, is) = ap part same
-    sweeps_keep (chunk ∷ chunks) view slabs now left (next, between, one, rest) = sweeps_keep chunks next between now left rest ∙ swept_keep chunk view slabs next between one
+    -- and where each of these is
+    each_keeps : (chunks : List ChunkId) (view : View) (slabs : SlabState) (now : View) (left : SlabState) → SweepsEach chunks view slabs now left → part now ≡ part view
+    each_keeps [] view slabs now left (same, is) = ap part same
+    each_keeps (chunk ∷ chunks) view slabs now left (next, between, one, rest) = each_keeps chunks next between now left rest ∙ swept_keep chunk view slabs next between one
+
+    -- so after a sweep
+    pub sweeps_keep : (order : List ChunkId) (view : View) (slabs : SlabState) (now : View) (left : SlabState) → Sweeps order view slabs now left → part now ≡ part view
+    sweeps_keep order view slabs now left sweeps = let did = sweeps.recovers in each_keeps did.again did.seen slabs now left did.each ∙ headers_keep did.looked view did.seen did.sees
+
+    -- and where the class is swept before an item is saved
+    for_target_keeps : (class : ℕ) (chunk : ChunkId) (view : View) (slabs : SlabState) (now : View) (left : SlabState) → SweepsForTarget class chunk view slabs now left → part now ≡ part view
+    for_target_keeps class chunk view slabs now left sweeps = sweeps_keep _ sweeps.passed slabs now left sweeps.sweeps ∙ passes_keep chunk.page _ view sweeps.passed sweeps.none
+
+    pub to_evict_keeps : (class : ℕ) (chunk : ChunkId) (sweep : Sweep) (view : View) (slabs : SlabState) (now : View) (left : SlabState) → SweepsToEvict class chunk sweep view slabs now left → part now ≡ part view
+    to_evict_keeps class chunk Due view slabs now left sweeps = sweeps_keep _ view slabs now left sweeps
+    to_evict_keeps class chunk Done view slabs now left sweeps = for_target_keeps class chunk view slabs now left sweeps
+
+    pub to_rescue_keeps : (class : ℕ) (chunk : ChunkId) (sweep : Sweep) (view : View) (slabs : SlabState) (now : View) (left : SlabState) → SweepsToRescue class chunk sweep view slabs now left → part now ≡ part view
+    to_rescue_keeps class chunk Due view slabs now left sweeps = sweeps_keep _ view slabs now left sweeps
+    to_rescue_keeps class chunk Done view slabs now left (inl (same, is)) = ap part same
+    to_rescue_keeps class chunk Done view slabs now left (inr sweeps) = for_target_keeps class chunk view slabs now left sweeps

@@ -28,7 +28,7 @@ use Rattle.mc_words.specs.Happens.{LawfulView}
 use Rattle.mc_words.specs.Items.{word_read}
 use Rattle.mc_words.specs.Owner.{PutsBack}
 use Rattle.mc_words.specs.Rescuing.{PassesAll, PassesOver}
-use Rattle.mc_words.specs.Sweeping.{Sweeps, SweepsOne}
+use Rattle.mc_words.specs.Sweeping.{SeesHeaders, Sweeps, SweepsEach, SweepsOne}
 use Rattle.mc_words.specs.Views.{head_seen, looked, saw, with_event}
 use Rattle.mc_core.specs.declared.event.Step.TheVariants as core
 use Rattle.mc_words.proofs.Heads.{near_here}
@@ -121,14 +121,24 @@ module _ (stripe : ℕ) (value : ReadyStripe) (key : ℕ) (chunk : ChunkId) (sta
         read_is = ap (λ (v : View). word_read v chunk 0) puts.is ∙ (read_back before.row.looks other (with_tag_free puts.head) chunk apart ∙ seen.read_is);
       }
 
-  -- and after a sweep
-  pub reaches_swept : (chunks : List ChunkId) (view : View) (slabs : SlabState) (now : View) (left : SlabState) → Sweeps chunks view slabs now left → Reaches view slabs stripe value key chunk stamp read → Reaches now left stripe value key chunk stamp read
-  reaches_swept [] view slabs now left (same, is) at = subst (λ (p : View × SlabState). Reaches p.0 p.1 stripe value key chunk stamp read) (λ k. (sym same k, sym is k)) at
-  reaches_swept (other ∷ chunks) view slabs now left (next, between, one, rest) at = reaches_swept chunks next between now left rest (by one)
+  -- and after looks at headers
+  reaches_looked : (chunks : List ChunkId) (view now : View) (slabs : SlabState) → SeesHeaders chunks view now → Reaches view slabs stripe value key chunk stamp read → Reaches now slabs stripe value key chunk stamp read
+  reaches_looked [] view now slabs same at = subst (λ (v : View). Reaches v slabs stripe value key chunk stamp read) (sym same) at
+  reaches_looked (other ∷ chunks) view now slabs (next, sees, rest) at = reaches_looked chunks next now slabs rest (reaches_seen view next slabs other sees.head sees.is at)
+
+  -- and where chunks were put back, or seen otherwise
+  reaches_each : (chunks : List ChunkId) (view : View) (slabs : SlabState) (now : View) (left : SlabState) → SweepsEach chunks view slabs now left → Reaches view slabs stripe value key chunk stamp read → Reaches now left stripe value key chunk stamp read
+  reaches_each [] view slabs now left (same, is) at = subst (λ (p : View × SlabState). Reaches p.0 p.1 stripe value key chunk stamp read) (λ k. (sym same k, sym is k)) at
+  reaches_each (other ∷ chunks) view slabs now left (next, between, one, rest) at = reaches_each chunks next between now left rest (by one)
     where
       by : SweepsOne other view slabs next between → Reaches next between stripe value key chunk stamp read
       by (inl (puts, is)) = subst (λ (s : SlabState). Reaches next s stripe value key chunk stamp read) (sym is) (reaches_back view next slabs other at puts)
       by (inr (sees, is)) = subst (λ (s : SlabState). Reaches next s stripe value key chunk stamp read) (sym is) (reaches_seen view next slabs sees.chunk sees.head sees.is at)
+
+  -- and so after a sweep
+  pub reaches_swept : (order : List ChunkId) (view : View) (slabs : SlabState) (now : View) (left : SlabState) → Sweeps order view slabs now left → Reaches view slabs stripe value key chunk stamp read → Reaches now left stripe value key chunk stamp read
+  reaches_swept order view slabs now left sweeps at =
+      let did = sweeps.recovers in reaches_each did.again did.seen slabs now left did.each (reaches_looked did.looked view did.seen slabs did.sees at)
 
   -- and where free chunks are passed over
   pub reaches_passed : (page : ℕ) (chunks : List ChunkId) (view now : View) (slabs : SlabState) → PassesAll page chunks view now → Reaches view slabs stripe value key chunk stamp read → Reaches now slabs stripe value key chunk stamp read

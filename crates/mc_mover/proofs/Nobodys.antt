@@ -20,6 +20,7 @@ use Rattle.mc_core.specs.State.{State, has_chunk, has_slabs, has_stripe, head_at
 use Rattle.mc_words.specs.View.{View}
 use Rattle.mc_words.specs.Happens.{Happens}
 use Rattle.mc_words.proofs.LockViews.{may_step}
+use Rattle.mc_mover.specs.declared.sweep.Sweep.{Sweep}
 use Rattle.mc_mover.specs.Unheld.{BusyIsUncleared, ClearsUnheld, IsUnheldAt, NobodyHolds, SeesUncleared}
 use Rattle.mc_mover.specs.Visiting.{Visits}
 
@@ -76,18 +77,19 @@ condemn_unheld chunk view now h = by h.was.moment.state h.was.lawful.counted par
         let one : (head_at state chunk).count ≡ 1 = eqb-true (head_at state chunk).count 1 both.1 in
         omega arith
 
-visits_unheld : (number class : ℕ) (chunk : ChunkId) (found : Found) (view : View) (slabs : SlabState) (now : View) (left : SlabState) → (visits : Visits number class chunk found view slabs now left) → NobodyHolds number class chunk found view slabs now left visits
-visits_unheld number class chunk Cleared view slabs now left visits = clear_unheld chunk _ _ visits.clears.happens
-visits_unheld number class chunk Rescued view slabs now left visits =
+visits_unheld : (number class : ℕ) (chunk : ChunkId) (sweep : Sweep) (found : Found) (next : Sweep) (view : View) (slabs : SlabState) (now : View) (left : SlabState) → (visits : Visits number class chunk sweep found next view slabs now left)
+    → NobodyHolds number class chunk sweep found next view slabs now left visits
+visits_unheld number class chunk sweep Cleared next view slabs now left visits = clear_unheld chunk _ _ visits.0.clears.happens
+visits_unheld number class chunk sweep Rescued next view slabs now left visits =
     (condemn_unheld chunk _ _ visits.does.1.reaches.does.does.does.moves.condemns.happens, clear_unheld chunk _ _ visits.does.1.clears.happens)
-visits_unheld number class chunk Evicted view slabs now left visits =
+visits_unheld number class chunk sweep Evicted next view slabs now left visits =
     (condemn_unheld chunk _ _ visits.does.1.reaches.does.does.does.condemns.happens, clear_unheld chunk _ _ visits.does.1.clears.happens)
-visits_unheld number class chunk Busy view slabs now left visits = tt
-visits_unheld number class chunk Locked view slabs now left visits = tt
-visits_unheld number class chunk Already view slabs now left visits = tt
+visits_unheld number class chunk sweep Busy next view slabs now left visits = tt
+visits_unheld number class chunk sweep Locked next view slabs now left visits = tt
+visits_unheld number class chunk sweep Already next view slabs now left visits = tt
 
 pub clears_unheld : ClearsUnheld
-clears_unheld number found view slabs now left section = visits_unheld number section.move.src _ found view slabs section.visited section.kept section.visits
+clears_unheld number sweep found next view slabs now left section = visits_unheld number section.move.src _ sweep found next view slabs section.visited section.kept section.visits
 
 -- a chunk that counts as busy
 linked_in : (tag : Tag) → is_linked tag ≡ true → is_out tag ≡ false
@@ -100,11 +102,11 @@ not_true : (b : Bool) → not b ≡ true → b ≡ false
 not_true false is = refl
 not_true true is = absurd (cc)
 
-busy_sees : (number class : ℕ) (chunk : ChunkId) (view : View) (slabs : SlabState) (now : View) (left : SlabState) → Visits number class chunk Busy view slabs now left → SeesUncleared chunk view
-busy_sees number class chunk view slabs now left (inl (finds, same)) =
+busy_sees : (number class : ℕ) (chunk : ChunkId) (sweep next : Sweep) (view : View) (slabs : SlabState) (now : View) (left : SlabState) → Visits number class chunk sweep Busy next view slabs now left → SeesUncleared chunk view
+busy_sees number class chunk sweep next view slabs now left (inl (finds, same, then)) =
     let sees = finds.sees in
     (sees.head, subst (λ (v : View). Happens view [] (step.Head chunk) v) sees.is sees.looks, not_true (is_out sees.head.tag) (and_parts _ _ sees.so).1)
-busy_sees number class chunk view slabs now left (inr sees) = (sees.head, sees.looks, linked_in sees.head.tag sees.linked)
+busy_sees number class chunk sweep next view slabs now left (inr sees) = (sees.head, sees.looks, linked_in sees.head.tag sees.linked)
 
 pub busy_uncleared : BusyIsUncleared
-busy_uncleared number view slabs now left section = busy_sees number section.move.src _ view slabs section.visited section.kept section.visits
+busy_uncleared number sweep next view slabs now left section = busy_sees number section.move.src _ sweep next view slabs section.visited section.kept section.visits

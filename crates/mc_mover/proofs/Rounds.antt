@@ -20,6 +20,8 @@ use Rattle.mc_words.proofs.Owners.{slabs_here}
 use Rattle.mc_mover.specs.declared.counts.Counts.{Counts}
 use Rattle.mc_mover.specs.declared.counts.Turn.{Turn}
 use Rattle.mc_mover.specs.declared.counts.Turn.TheVariants.{Idle, Went, Finished}
+use Rattle.mc_mover.specs.declared.sweep.Sweep.{Sweep}
+use Rattle.mc_mover.specs.declared.sweep.Sweep.TheVariants.{Due}
 use Rattle.mc_mover.specs.Answering.{RunsStill}
 use Rattle.mc_mover.specs.Visiting.{LacksCall}
 use Rattle.mc_mover.specs.Turning.{AreBelow, EndsTurn, LacksMemory, LooksFrom, Section, Sections, Turns, counted, counts_of, no_counts}
@@ -59,18 +61,18 @@ module _ (view : View) (was : LawfulView view) (slabs : SlabState) (mine : view.
   position_within = ((of_table_here view was slabs mine).accounted.move move runs).within
 
 -- sections, and then others
-sections_on : (number : ℕ) (found more : List Found) (view : View) (slabs : SlabState) (between : View) (kept : SlabState) (now : View) (left : SlabState)
-    → Sections number found view slabs between kept → Sections number more between kept now left → Sections number (found ++ more) view slabs now left
-sections_on number [] more view slabs between kept now left (same, same_slabs) rest =
-    subst (λ (p : View × SlabState). Sections number more p.0 p.1 now left) (λ k. (same k, same_slabs k)) rest
-sections_on number (first ∷ found) more view slabs between kept now left (next, mid, begins, others) rest =
-    (next, mid, begins, sections_on number found more next mid between kept now left others rest)
+sections_on : (number : ℕ) (sweep : Sweep) (found : List Found) (then : Sweep) (more : List Found) (last : Sweep) (view : View) (slabs : SlabState) (between : View) (kept : SlabState) (now : View) (left : SlabState)
+    → Sections number sweep found then view slabs between kept → Sections number then more last between kept now left → Sections number sweep (found ++ more) last view slabs now left
+sections_on number sweep [] then more last view slabs between kept now left (same, same_slabs, same_sweep) rest =
+    subst (λ (p : View × SlabState × Sweep). Sections number p.2 more last p.0 p.1 now left) (λ k. (same k, same_slabs k, same_sweep k)) rest
+sections_on number sweep (first ∷ found) then more last view slabs between kept now left (next, mid, after, begins, others) rest =
+    (next, mid, after, begins, sections_on number after found then more last next mid between kept now left others rest)
 
 -- one more section
-sections_more : (number : ℕ) (found : List Found) (last : Found) (view : View) (slabs : SlabState) (between : View) (kept : SlabState) (now : View) (left : SlabState)
-    → Sections number found view slabs between kept → Section number last between kept now left → Sections number (found ++ last ∷ []) view slabs now left
-sections_more number found last view slabs between kept now left sections section =
-    sections_on number found (last ∷ []) view slabs between kept now left sections (now, left, section, (refl, refl))
+sections_more : (number : ℕ) (sweep : Sweep) (found : List Found) (then : Sweep) (one : Found) (last : Sweep) (view : View) (slabs : SlabState) (between : View) (kept : SlabState) (now : View) (left : SlabState)
+    → Sections number sweep found then view slabs between kept → Section number then one last between kept now left → Sections number sweep (found ++ one ∷ []) last view slabs now left
+sections_more number sweep found then one last view slabs between kept now left sections section =
+    sections_on number sweep found then (one ∷ []) last view slabs between kept now left sections (now, left, last, section, (refl, refl, refl))
 
 counts_more : (found : List Found) (last : Found) (counts : Counts) → counts_of (found ++ last ∷ []) counts ≡ counted last (counts_of found counts)
 counts_more [] last counts = refl
@@ -89,13 +91,13 @@ pub some_move : (moving : Option Moving) → is_some moving ≡ true → (move :
 some_move None runs = absurd (cc)
 some_move (Some move) runs = (move, refl)
 
--- so many sections were gone through, from where the move was to where it is
-pub record GoneThrough (number rounds : ℕ) (counts : Counts) (view : View) (slabs : SlabState) (now : View) (left : SlabState) : Type 0 where
+-- so many sections were gone through, from where the move was to where it is, and the turn's sweep is due or done then
+pub record GoneThrough (number rounds : ℕ) (counts : Counts) (sweep : Sweep) (view : View) (slabs : SlabState) (now : View) (left : SlabState) : Type 0 where
   pub found : List Found
   pub count : length found ≡ rounds
   pub counts_are : counts ≡ counts_of found no_counts
   pub small : AreBelow (rounds + 1) counts
-  pub sections : Sections number found view slabs now left
+  pub sections : Sections number Due found sweep view slabs now left
   pub move : Moving
   pub runs : slabs.moving ≡ Some move
   pub next : Moving
@@ -106,13 +108,13 @@ pub record GoneThrough (number rounds : ℕ) (counts : Counts) (view : View) (sl
   pub at : next.at ≡ move.at + rounds
 
 -- at first
-pub gone_none : (number : ℕ) (view : View) (slabs : SlabState) (move : Moving) → slabs.moving ≡ Some move → (counts : Counts) → counts ≡ no_counts → GoneThrough number 0 counts view slabs view slabs
+pub gone_none : (number : ℕ) (view : View) (slabs : SlabState) (move : Moving) → slabs.moving ≡ Some move → (counts : Counts) → counts ≡ no_counts → GoneThrough number 0 counts Due view slabs view slabs
 gone_none number view slabs move runs counts none = record {
   found = [];
   count = refl;
   counts_are = none;
   small = subst (AreBelow 1) (sym none) (omega arith, omega arith, omega arith, omega arith, omega arith);
-  sections = (refl, refl);
+  sections = (refl, refl, refl);
   move = move;
   runs = runs;
   next = move;
@@ -124,20 +126,20 @@ gone_none number view slabs move runs counts none = record {
 }
 
 -- the move runs still
-pub gone_runs : (number rounds : ℕ) (counts : Counts) (view : View) (slabs : SlabState) (now : View) (left : SlabState) → GoneThrough number rounds counts view slabs now left → RunsStill slabs.moving left.moving
-gone_runs number rounds counts view slabs now left gone = (gone.move, gone.next, gone.runs, gone.runs_on, (gone.page, gone.src, gone.dst))
+pub gone_runs : (number rounds : ℕ) (counts : Counts) (sweep : Sweep) (view : View) (slabs : SlabState) (now : View) (left : SlabState) → GoneThrough number rounds counts sweep view slabs now left → RunsStill slabs.moving left.moving
+gone_runs number rounds counts sweep view slabs now left gone = (gone.move, gone.next, gone.runs, gone.runs_on, (gone.page, gone.src, gone.dst))
 
 -- and after one more
-pub gone_more : (number rounds : ℕ) (counts more : Counts) (found : Found) (next : Moving) (view : View) (slabs : SlabState) (between : View) (kept : SlabState) (now : View) (left : SlabState)
-    → GoneThrough number rounds counts view slabs between kept → kept.moving ≡ Some next → Section number found between kept now left → left.moving ≡ Some (moved_on next found) → more ≡ counted found counts
-    → GoneThrough number (rounds + 1) more view slabs now left
-gone_more number rounds counts more found next view slabs between kept now left gone here section moves is =
+pub gone_more : (number rounds : ℕ) (counts more : Counts) (sweep : Sweep) (found : Found) (then : Sweep) (next : Moving) (view : View) (slabs : SlabState) (between : View) (kept : SlabState) (now : View) (left : SlabState)
+    → GoneThrough number rounds counts sweep view slabs between kept → kept.moving ≡ Some next → Section number sweep found then between kept now left → left.moving ≡ Some (moved_on next found) → more ≡ counted found counts
+    → GoneThrough number (rounds + 1) more then view slabs now left
+gone_more number rounds counts more sweep found then next view slabs between kept now left gone here section moves is =
     let same : gone.next ≡ next = same_Some gone.next next (sym gone.runs_on ∙ here) in record {
       found = gone.found ++ found ∷ [];
       count = length-append gone.found (found ∷ []) ∙ ap (λ n. n + 1) gone.count;
       counts_are = is ∙ (ap (counted found) gone.counts_are ∙ sym (counts_more gone.found found no_counts));
       small = subst (AreBelow (rounds + 1 + 1)) (sym is) (small_more rounds found counts gone.small);
-      sections = sections_more number gone.found found view slabs between kept now left gone.sections section;
+      sections = sections_more number Due gone.found sweep found then view slabs between kept now left gone.sections section;
       move = gone.move;
       runs = gone.runs;
       next = moved_on next found;
@@ -149,10 +151,10 @@ gone_more number rounds counts more found next view slabs between kept now left 
     }
 
 -- and then there was no memory for the next chunk's item
-pub lacks_next : (number rounds : ℕ) (counts : Counts) (move : Moving) (view : View) (slabs : SlabState) (between : View) (kept : SlabState) (now : View) (left : SlabState)
-    → GoneThrough number rounds counts view slabs between kept → rounds < view.setup.config.bulk → kept.moving ≡ Some move → move.at < (class_at kept move.src).per_page
+pub lacks_next : (number rounds : ℕ) (counts : Counts) (sweep : Sweep) (move : Moving) (view : View) (slabs : SlabState) (between : View) (kept : SlabState) (now : View) (left : SlabState)
+    → GoneThrough number rounds counts sweep view slabs between kept → rounds < view.setup.config.bulk → kept.moving ≡ Some move → move.at < (class_at kept move.src).per_page
     → LacksCall (chunk_at_position move) between kept now left → LacksMemory number view slabs now left
-lacks_next number rounds counts move view slabs between kept now left gone few here within lacks =
+lacks_next number rounds counts sweep move view slabs between kept now left gone few here within lacks =
     let same : move ≡ gone.next = same_Some move gone.next (sym here ∙ gone.runs_on) in
     let count : length gone.found ≡ rounds = gone.count in record {
       first = gone.move;
@@ -161,6 +163,7 @@ lacks_next number rounds counts move view slabs between kept now left gone few h
       few = omega arith;
       looked = between;
       kept = kept;
+      last = sweep;
       sections = gone.sections;
       move = move;
       runs = here;
@@ -174,21 +177,22 @@ lacks_next number rounds counts move view slabs between kept now left gone few h
     }
 
 -- after as many as a turn has
-pub looks_through : (number rounds : ℕ) (counts : Counts) (view : View) (slabs : SlabState) (now : View) (left : SlabState) (gone : GoneThrough number rounds counts view slabs now left)
+pub looks_through : (number rounds : ℕ) (counts : Counts) (sweep : Sweep) (view : View) (slabs : SlabState) (now : View) (left : SlabState) (gone : GoneThrough number rounds counts sweep view slabs now left)
     → rounds ≡ min view.setup.config.bulk ((class_at slabs gone.move.src).per_page - gone.move.at) → LooksFrom number counts view slabs now left
-looks_through number rounds counts view slabs now left gone all = record {
+looks_through number rounds counts sweep view slabs now left gone all = record {
   move = gone.move;
   runs = gone.runs;
   found = gone.found;
   count = gone.count ∙ all;
   counts_are = gone.counts_are;
+  last = sweep;
   sections = gone.sections;
 }
 
 -- with two views of one arena: how many chunks a page has stays, and the counts stay small
 module _ (setup : Setup) (view : View) (was : LawfulView view) (first : view.setup ≡ setup) (slabs : SlabState) (mine : view.slabs ≡ Some slabs)
     (now : View) (is : LawfulView now) (second : now.setup ≡ setup) (left : SlabState) (mine_now : now.slabs ≡ Some left)
-    (number rounds : ℕ) (counts : Counts) (gone : GoneThrough number rounds counts view slabs now left) where
+    (number rounds : ℕ) (counts : Counts) (sweep : Sweep) (gone : GoneThrough number rounds counts sweep view slabs now left) where
   same_chunks : (class_at left gone.next.src).per_page ≡ (class_at slabs gone.move.src).per_page
   same_chunks =
       chunks_of now is left mine_now gone.next gone.runs_on
@@ -213,7 +217,7 @@ module _ (setup : Setup) (view : View) (was : LawfulView view) (first : view.set
   pub all_of_bulk : view.setup.config.bulk ≤ rounds → rounds ≤ view.setup.config.bulk → LooksFrom number counts view slabs now left
   all_of_bulk low high =
       let within = rounds_within in
-      looks_through number rounds counts view slabs now left gone (omega (arith))
+      looks_through number rounds counts sweep view slabs now left gone (omega (arith))
 
   -- or it came to the page's end
   pub all_of_page : rounds ≤ view.setup.config.bulk → (next : Moving) → left.moving ≡ Some next → (class_at left next.src).per_page ≤ next.at → LooksFrom number counts view slabs now left
@@ -224,7 +228,7 @@ module _ (setup : Setup) (view : View) (was : LawfulView view) (first : view.set
       let at = gone.at in
       let same = same_chunks in
       let within = rounds_within in
-      looks_through number rounds counts view slabs now left gone (omega (arith))
+      looks_through number rounds counts sweep view slabs now left gone (omega (arith))
 
 -- the sections of a turn, and then its end
 pub turns_so : (number : ℕ) (counts : Counts) (turn : Turn) (view : View) (slabs : SlabState) (looked : View) (kept : SlabState) (now : View) (left : SlabState)

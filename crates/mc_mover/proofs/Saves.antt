@@ -32,7 +32,7 @@ use Rattle.mc_words.specs.Happens.{LawfulView}
 use Rattle.mc_words.specs.Items.{word_read}
 use Rattle.mc_words.specs.Lent.{IsLentStripe}
 use Rattle.mc_words.specs.Rescuing.{PassesAll, PassesOver, PopsOff}
-use Rattle.mc_words.specs.Sweeping.{Sweeps, SweepsOne}
+use Rattle.mc_words.specs.Sweeping.{Sweeps, SweepsEach, SweepsOne}
 use Rattle.mc_words.specs.Views.{copy_holding, stripe_reserved}
 use Rattle.mc_words.proofs.FreeWalks.{passed_holds}
 use Rattle.mc_words.proofs.Judging.{seen_is, seen_slabs}
@@ -44,13 +44,16 @@ use Rattle.mc_mover.proofs.Leads.{Reaches, reaches_passed, reaches_seen}
 
 -- a part of pages and lists that no put back changes
 module _ {X : Type 0} (part : SlabState → X) (back : (slabs : SlabState) (chunk : ChunkId) → part (after_back slabs chunk) ≡ part slabs) where
-  pub sweeps_slabs : (chunks : List ChunkId) (view : View) (slabs : SlabState) (now : View) (left : SlabState) → Sweeps chunks view slabs now left → part left ≡ part slabs
-  sweeps_slabs [] view slabs now left (same, is) = ap part is
-  sweeps_slabs (chunk ∷ chunks) view slabs now left (next, between, one, rest) = sweeps_slabs chunks next between now left rest ∙ by one
+  each_slabs : (chunks : List ChunkId) (view : View) (slabs : SlabState) (now : View) (left : SlabState) → SweepsEach chunks view slabs now left → part left ≡ part slabs
+  each_slabs [] view slabs now left (same, is) = ap part is
+  each_slabs (chunk ∷ chunks) view slabs now left (next, between, one, rest) = each_slabs chunks next between now left rest ∙ by one
     where
       by : SweepsOne chunk view slabs next between → part between ≡ part slabs
       by (inl (puts, is)) = ap part is ∙ back slabs chunk
       by (inr (sees, is)) = ap part is
+
+  pub sweeps_slabs : (order : List ChunkId) (view : View) (slabs : SlabState) (now : View) (left : SlabState) → Sweeps order view slabs now left → part left ≡ part slabs
+  sweeps_slabs order view slabs now left sweeps = let did = sweeps.recovers in each_slabs did.again did.seen slabs now left did.each
 
 -- room was made in the stripe
 module _ (view made : View) (slabs : SlabState) (mine : view.slabs ≡ Some slabs) (number word : ℕ) (value : ReadyStripe) (is : made ≡ stripe_reserved number value word view) (key : ℕ) (chunk : ChunkId) (stamp : ℕ) where

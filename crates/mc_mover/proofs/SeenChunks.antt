@@ -24,6 +24,7 @@ use Rattle.mc_words.specs.Views.{head_seen}
 use Rattle.mc_words.proofs.Heads.{near_here}
 use Rattle.mc_words.proofs.Judging.{seen_is, seen_last, seen_slabs}
 use Rattle.mc_words.proofs.Owners.{looks_here, slabs_here}
+use Rattle.mc_mover.specs.declared.sweep.Sweep.{Sweep}
 use Rattle.mc_mover.specs.Linked.{VisitsLinked}
 use Rattle.mc_mover.specs.Visiting.{SeesLinked, Visits}
 use Rattle.mc_mover.proofs.ClearedPages.{cleared_out}
@@ -55,10 +56,10 @@ module _ (number class : ℕ) (chunk : ChunkId) (view seen : View) (slabs : Slab
     does = subst (λ (v : View). Does (is_linked_unheld head) v slabs now left) is does;
   }
 
-  pub visited : (found : Found) → VisitsLinked number class chunk (is_linked_unheld head) found seen slabs now left → Visits number class chunk found view slabs now left
-  visited Rescued does = sees_linked (λ unheld. VisitsLinked number class chunk unheld Rescued) does
-  visited Evicted does = sees_linked (λ unheld. VisitsLinked number class chunk unheld Evicted) does
-  visited Busy does = inr (sees_linked (λ unheld. VisitsLinked number class chunk unheld Busy) does)
-  visited Locked does = sees_linked (λ unheld. VisitsLinked number class chunk unheld Locked) does
-  visited Cleared does = absurd does
-  visited Already does = absurd does
+  pub visited : (sweep : Sweep) (found : Found) (next : Sweep) → VisitsLinked number class chunk sweep (is_linked_unheld head) found next seen slabs now left → Visits number class chunk sweep found next view slabs now left
+  visited sweep Rescued next does = sees_linked (λ unheld. VisitsLinked number class chunk sweep unheld Rescued next) does
+  visited sweep Evicted next does = sees_linked (λ unheld. VisitsLinked number class chunk sweep unheld Evicted next) does
+  visited sweep Busy next does = inr (sees_linked (λ unheld. VisitsLinked number class chunk sweep unheld Busy next) does)
+  visited sweep Locked next does = sees_linked (λ unheld. VisitsLinked number class chunk sweep unheld Locked next) does
+  visited sweep Cleared next does = absurd does
+  visited sweep Already next does = absurd does

@@ -9,8 +9,9 @@ use Rattle.mc_pages.specs.SlabState.{SlabState, class_at}
 use Rattle.mc_core.proofs.OfTable.{class_count}
 use Rattle.mc_words.specs.View.{View}
 use Rattle.mc_words.specs.Happens.{LawfulView}
-use Rattle.mc_words.specs.Sweeping.{Sweeps, SweepsOne, with_seen}
+use Rattle.mc_words.specs.Sweeping.{Sweeps, SweepsEach, SweepsOne, with_seen}
 use Rattle.mc_words.proofs.Owners.{slabs_here}
+use Rattle.mc_words.proofs.LookedOver.{sees_headers_alone}
 use Rattle.mc_words.proofs.SweepViews.{sees_alone}
 use Rattle.mc_mover.specs.Surveying.{SweepsClasses, classes_swept}
 
@@ -41,13 +42,17 @@ none_swept true slabs place is none = absurd (cc)
 none_swept false slabs place is none = ap (range_with_len 1) none
 
 -- all else of the view stays
+sweeps_alone : (order : List ChunkId) (view : View) (slabs : SlabState) (now : View) (left : SlabState) → Sweeps order view slabs now left → now ≡ with_seen view now
+sweeps_alone order view slabs now left sweeps =
+    let did = sweeps.recovers in sees_alone did.again did.seen slabs now left did.each ∙ ap (λ (v : View). with_seen v now) (sees_headers_alone did.looked view did.seen did.sees)
+
 pub classes_alone : (classes : List ℕ) (view : View) (slabs : SlabState) (now : View) (left : SlabState) → SweepsClasses classes view slabs now left → now ≡ with_seen view now
 classes_alone [] view slabs now left (same, is) = same ∙ (λ k. with_seen view (sym same k))
 classes_alone (class ∷ classes) view slabs now left (next, between, one, rest) =
-    classes_alone classes next between now left rest ∙ ap (λ (v : View). with_seen v now) (sees_alone (class_at slabs class).order view slabs next between one)
+    classes_alone classes next between now left rest ∙ ap (λ (v : View). with_seen v now) (sweeps_alone (class_at slabs class).order view slabs next between one)
 
 -- no page is cut, or begun to be
-chunks_uncut : (chunks : List ChunkId) (view : View) (slabs : SlabState) (now : View) (left : SlabState) → Sweeps chunks view slabs now left → left.uncut ≡ slabs.uncut
+chunks_uncut : (chunks : List ChunkId) (view : View) (slabs : SlabState) (now : View) (left : SlabState) → SweepsEach chunks view slabs now left → left.uncut ≡ slabs.uncut
 chunks_uncut [] view slabs now left (same, is) = ap (λ (s : SlabState). s.uncut) is
 chunks_uncut (chunk ∷ chunks) view slabs now left (next, between, one, rest) = chunks_uncut chunks next between now left rest ∙ by one
   where
@@ -55,6 +60,9 @@ chunks_uncut (chunk ∷ chunks) view slabs now left (next, between, one, rest) =
     by (inl (back, is)) = ap (λ (s : SlabState). s.uncut) is
     by (inr (other, is)) = ap (λ (s : SlabState). s.uncut) is
 
+sweeps_uncut : (order : List ChunkId) (view : View) (slabs : SlabState) (now : View) (left : SlabState) → Sweeps order view slabs now left → left.uncut ≡ slabs.uncut
+sweeps_uncut order view slabs now left sweeps = let did = sweeps.recovers in chunks_uncut did.again did.seen slabs now left did.each
+
 pub classes_uncut : (classes : List ℕ) (view : View) (slabs : SlabState) (now : View) (left : SlabState) → SweepsClasses classes view slabs now left → left.uncut ≡ slabs.uncut
 classes_uncut [] view slabs now left (same, is) = ap (λ (s : SlabState). s.uncut) is
-classes_uncut (class ∷ classes) view slabs now left (next, between, one, rest) = classes_uncut classes next between now left rest ∙ chunks_uncut (class_at slabs class).order view slabs next between one
+classes_uncut (class ∷ classes) view slabs now left (next, between, one, rest) = classes_uncut classes next between now left rest ∙ sweeps_uncut (class_at slabs class).order view slabs next between one

@@ -16,22 +16,24 @@ use Rattle.mc_words.specs.View.{Setup, View}
 use Rattle.mc_words.specs.Called.{with_own_call}
 use Rattle.mc_words.specs.Condemning.{FindsHeld}
 use Rattle.mc_words.specs.Cutting.{CutsEach}
-use Rattle.mc_words.specs.Doing.{HoldsSlabs}
+use Rattle.mc_words.specs.Doing.{HoldsSlabs, SlabsDoing}
 use Rattle.mc_words.specs.Happens.{LawfulView}
 use Rattle.mc_words.specs.Rescuing.{PassesAll, PopsOff}
-use Rattle.mc_words.specs.Sweeping.{Sweeps, SweepsOne}
+use Rattle.mc_words.specs.Sweeping.{SweepsOne}
 use Rattle.mc_mover.specs.declared.counts.Counts.{Counts}
 use Rattle.mc_mover.specs.declared.counts.Turn.{Turn}
 use Rattle.mc_mover.specs.declared.counts.Turn.TheVariants.{Idle, Went, Finished}
 use Rattle.mc_mover.specs.Copying.{item_of}
-use Rattle.mc_mover.specs.Saving.{BothDoing, Evicts, FailsToEvict, FailsToMove, FailsToRescue, Rescues}
+use Rattle.mc_mover.specs.declared.sweep.Sweep.{Sweep}
+use Rattle.mc_mover.specs.declared.sweep.Sweep.TheVariants.{Due}
+use Rattle.mc_mover.specs.Saving.{BothDoing, Evicts, FailsToEvict, FailsToMove, FailsToRescue, Rescues, SweepsToEvict, SweepsToRescue}
 use Rattle.mc_mover.specs.Linked.{HoldsUp, ReachesStripe, SavesAndClears, SavesAs, SavesWith, StripeDoing}
 use Rattle.mc_mover.specs.Visiting.{Visits}
 use Rattle.mc_mover.specs.Turning.{GoesOn, Finishes, LacksMemory, Section, Sections, Turns, counted, counts_of, no_counts}
 use Rattle.mc_mover.specs.Telling.{IsSaving, TellsAsCounted, TellsOfFewer, called_key, counts_in, is_eviction, is_rescue, with_own_calls}
 use Rattle.mc_mover.proofs.Copied.{copied_keeps}
 use Rattle.mc_mover.proofs.HoldsSlabs.{wait_keeps}
-use Rattle.mc_mover.proofs.Kept.{finds_keep, passes_keep, sweeps_keep, swept_keep}
+use Rattle.mc_mover.proofs.Kept.{finds_keep, passes_keep, swept_keep, to_evict_keeps, to_rescue_keeps}
 use Rattle.mc_mover.proofs.Moved.{key_copied}
 use Rattle.mc_mover.proofs.OwnCalls.{calls_more}
 
@@ -54,8 +56,15 @@ told_calls number calls told = (told.0, told.1, told.2, with_own_calls number to
 swept_told : (chunk : ChunkId) (view : View) (slabs : SlabState) (now : View) (left : SlabState) → SweepsOne chunk view slabs now left → told_of now ≡ told_of view
 swept_told chunk view slabs now left sweeps = swept_keep told_of (λ one v. refl) (λ chunk one v. refl) (λ slabs chunk one v. refl) chunk view slabs now left sweeps
 
-sweeps_told : (chunks : List ChunkId) (view : View) (slabs : SlabState) (now : View) (left : SlabState) → Sweeps chunks view slabs now left → told_of now ≡ told_of view
-sweeps_told chunks view slabs now left sweeps = sweeps_keep told_of (λ one v. refl) (λ chunk one v. refl) (λ slabs chunk one v. refl) chunks view slabs now left sweeps
+-- a sweep does so, too
+abbrev LeavesTold : SlabsDoing → Type 0
+LeavesTold Swept = (view : View) (slabs : SlabState) (now : View) (left : SlabState) → Swept view slabs now left → told_of now ≡ told_of view
+
+to_evict_told : (class : ℕ) (chunk : ChunkId) (sweep : Sweep) → LeavesTold (SweepsToEvict class chunk sweep)
+to_evict_told class chunk sweep view slabs now left sweeps = to_evict_keeps told_of (λ one v. refl) (λ chunk one v. refl) (λ slabs chunk one v. refl) class chunk sweep view slabs now left sweeps
+
+to_rescue_told : (class : ℕ) (chunk : ChunkId) (sweep : Sweep) → LeavesTold (SweepsToRescue class chunk sweep)
+to_rescue_told class chunk sweep view slabs now left sweeps = to_rescue_keeps told_of (λ one v. refl) (λ chunk one v. refl) (λ slabs chunk one v. refl) class chunk sweep view slabs now left sweeps
 
 passes_told : (page : ℕ) (chunks : List ChunkId) (view now : View) → PassesAll page chunks view now → told_of now ≡ told_of view
 passes_told page chunks view now passes = passes_keep told_of (λ one v. refl) (λ chunk one v. refl) page chunks view now passes
@@ -105,28 +114,28 @@ fails_told chunk copy view now fails =
     ∙ (finds_told chunk fails.filled fails.found fails.finds
     ∙ (ap told_of fails.copies.is ∙ copied_keeps chunk copy told_of (λ place word v. refl) 0 (item_of fails.key fails.stamp fails.copies.words) view))
 
--- under the stripe's lock, whose dead were put back first
-saves_tell : (number class stripe : ℕ) (Does : ℕ → BothDoing) (call : ℕ → Call) → ((slabs : SlabState) (value : ReadyStripe) (view : View) (kept : SlabState) (left : ReadyStripe) (now : View) → Does stripe slabs value view kept left now → TellsKey number stripe call value view now)
-    → (value : ReadyStripe) (taken : View) (slabs : SlabState) (now : View) (left : SlabState) → SavesWith number class Does stripe value taken slabs now left → TellsKey number stripe call value taken now
-saves_tell number class stripe Does call each value taken slabs now left saves =
+-- under the stripe's lock, behind a sweep
+saves_tell : (number stripe : ℕ) (Swept : SlabsDoing) → LeavesTold Swept → (Does : ℕ → BothDoing) (call : ℕ → Call) → ((slabs : SlabState) (value : ReadyStripe) (view : View) (kept : SlabState) (left : ReadyStripe) (now : View) → Does stripe slabs value view kept left now → TellsKey number stripe call value view now)
+    → (value : ReadyStripe) (taken : View) (slabs : SlabState) (now : View) (left : SlabState) → SavesWith number Swept Does stripe value taken slabs now left → TellsKey number stripe call value taken now
+saves_tell number stripe Swept leaves Does call each value taken slabs now left saves =
     let sweeping = saves.does in
     let (key, place, led, tells) = each sweeping.between (record value { ready = true }) sweeping.swept left saves.left saves.last sweeping.does in
-    (key, place, led, ap told_of saves.given ∙ (tells ∙ ap (told_call number stripe (call key)) (sweeps_told _ _ slabs sweeping.swept sweeping.between sweeping.sweeps)))
+    (key, place, led, ap told_of saves.given ∙ (tells ∙ ap (told_call number stripe (call key)) (leaves _ slabs sweeping.swept sweeping.between sweeping.sweeps)))
 
-saves_quiet : (number class stripe : ℕ) (Does : ℕ → BothDoing) → ((slabs : SlabState) (value : ReadyStripe) (view : View) (kept : SlabState) (left : ReadyStripe) (now : View) → Does stripe slabs value view kept left now → told_of now ≡ told_of view)
-    → (value : ReadyStripe) (taken : View) (slabs : SlabState) (now : View) (left : SlabState) → SavesWith number class Does stripe value taken slabs now left → told_of now ≡ told_of taken
-saves_quiet number class stripe Does each value taken slabs now left saves =
+saves_quiet : (number stripe : ℕ) (Swept : SlabsDoing) → LeavesTold Swept → (Does : ℕ → BothDoing) → ((slabs : SlabState) (value : ReadyStripe) (view : View) (kept : SlabState) (left : ReadyStripe) (now : View) → Does stripe slabs value view kept left now → told_of now ≡ told_of view)
+    → (value : ReadyStripe) (taken : View) (slabs : SlabState) (now : View) (left : SlabState) → SavesWith number Swept Does stripe value taken slabs now left → told_of now ≡ told_of taken
+saves_quiet number stripe Swept leaves Does each value taken slabs now left saves =
     let sweeping = saves.does in
     ap told_of saves.given
-    ∙ (each sweeping.between (record value { ready = true }) sweeping.swept left saves.left saves.last sweeping.does ∙ sweeps_told _ _ slabs sweeping.swept sweeping.between sweeping.sweeps)
+    ∙ (each sweeping.between (record value { ready = true }) sweeping.swept left saves.left saves.last sweeping.does ∙ leaves _ slabs sweeping.swept sweeping.between sweeping.sweeps)
 
-held_quiet : (number class : ℕ) (chunk : ChunkId) (stripe : ℕ) (value : ReadyStripe) (taken : View) (slabs : SlabState) (now : View) (left : SlabState) → SavesAs number class chunk Busy stripe value taken slabs now left → told_of now ≡ told_of taken
-held_quiet number class chunk stripe value taken slabs now left (inl saves) =
-    saves_quiet number class stripe (λ stripe. FailsToEvict chunk)
+held_quiet : (number class : ℕ) (chunk : ChunkId) (sweep : Sweep) (stripe : ℕ) (value : ReadyStripe) (taken : View) (slabs : SlabState) (now : View) (left : SlabState) → SavesAs number class chunk sweep Busy stripe value taken slabs now left → told_of now ≡ told_of taken
+held_quiet number class chunk sweep stripe value taken slabs now left (inl saves) =
+    saves_quiet number stripe (SweepsToEvict class chunk sweep) (to_evict_told class chunk sweep) (λ stripe. FailsToEvict chunk)
     (λ slabs value view kept left now fails. finds_told chunk fails.passed now fails.finds ∙ passes_told chunk.page _ view fails.passed fails.passes) value taken slabs now left saves
-held_quiet number class chunk stripe value taken slabs now left (inr gives) =
+held_quiet number class chunk sweep stripe value taken slabs now left (inr gives) =
     swept_told gives.copy gives.failed gives.kept now left gives.puts
-    ∙ saves_quiet number class stripe (λ stripe. FailsToRescue chunk gives.copy)
+    ∙ saves_quiet number stripe (SweepsToRescue class chunk sweep) (to_rescue_told class chunk sweep) (λ stripe. FailsToRescue chunk gives.copy)
     (λ slabs value view kept left now fails. fails_told chunk gives.copy fails.popped now fails.fails ∙ pops_told view slabs chunk gives.copy fails.popped fails.pops) value taken slabs gives.failed gives.kept gives.fails
 
 -- the stripe was reached
@@ -154,38 +163,38 @@ calls_for number Already key = []
 abbrev TellsFound : ℕ → Found → View → View → Type 0
 TellsFound number found view now = (key : ℕ) × (told_of now ≡ told_calls number (calls_for number found key) (told_of view))
 
-rescued_tells : (number class : ℕ) (chunk : ChunkId) (view : View) (slabs : SlabState) (now : View) (left : SlabState) → SavesAndClears number class chunk Rescued view slabs now left → TellsFound number Rescued view now
-rescued_tells number class chunk view slabs now left saves =
+rescued_tells : (number class : ℕ) (chunk : ChunkId) (sweep : Sweep) (view : View) (slabs : SlabState) (now : View) (left : SlabState) → SavesAndClears number class chunk sweep Rescued view slabs now left → TellsFound number Rescued view now
+rescued_tells number class chunk sweep view slabs now left saves =
     let reaches = saves.reaches in
-    let (key, tells) = reaches_tell chunk (λ key. SavesAs number class chunk Rescued) view slabs saves.saved saves.kept reaches number (λ key. Rescue number key) (λ key. refl)
-    (saves_tell number class _ (λ stripe. Rescues number stripe chunk) (λ key. Rescue number key) (rescues_tell number _ chunk) reaches.value reaches.taken slabs saves.saved saves.kept reaches.does) in
+    let (key, tells) = reaches_tell chunk (λ key. SavesAs number class chunk sweep Rescued) view slabs saves.saved saves.kept reaches number (λ key. Rescue number key) (λ key. refl)
+    (saves_tell number _ (SweepsToRescue class chunk sweep) (to_rescue_told class chunk sweep) (λ stripe. Rescues number stripe chunk) (λ key. Rescue number key) (rescues_tell number _ chunk) reaches.value reaches.taken slabs saves.saved saves.kept reaches.does) in
     (key, ap told_of saves.clears.is ∙ tells)
 
-evicted_tells : (number class : ℕ) (chunk : ChunkId) (view : View) (slabs : SlabState) (now : View) (left : SlabState) → SavesAndClears number class chunk Evicted view slabs now left → TellsFound number Evicted view now
-evicted_tells number class chunk view slabs now left saves =
+evicted_tells : (number class : ℕ) (chunk : ChunkId) (sweep : Sweep) (view : View) (slabs : SlabState) (now : View) (left : SlabState) → SavesAndClears number class chunk sweep Evicted view slabs now left → TellsFound number Evicted view now
+evicted_tells number class chunk sweep view slabs now left saves =
     let reaches = saves.reaches in
-    let (key, tells) = reaches_tell chunk (λ key. SavesAs number class chunk Evicted) view slabs saves.saved saves.kept reaches number (λ key. Evict number key) (λ key. refl)
-    (saves_tell number class _ (λ stripe. Evicts number stripe chunk) (λ key. Evict number key) (evicts_tell number _ chunk) reaches.value reaches.taken slabs saves.saved saves.kept reaches.does) in
+    let (key, tells) = reaches_tell chunk (λ key. SavesAs number class chunk sweep Evicted) view slabs saves.saved saves.kept reaches number (λ key. Evict number key) (λ key. refl)
+    (saves_tell number _ (SweepsToEvict class chunk sweep) (to_evict_told class chunk sweep) (λ stripe. Evicts number stripe chunk) (λ key. Evict number key) (evicts_tell number _ chunk) reaches.value reaches.taken slabs saves.saved saves.kept reaches.does) in
     (key, ap told_of saves.clears.is ∙ tells)
 
-holds_told : (number class : ℕ) (chunk : ChunkId) (unheld : Bool) (view : View) (slabs : SlabState) (now : View) (left : SlabState) → HoldsUp number class chunk unheld view slabs now left → told_of now ≡ told_of view
-holds_told number class chunk false view slabs now left reaches = ap told_of reaches.does.0 ∙ taken_told chunk _ view slabs now left reaches
-holds_told number class chunk true view slabs now left (inl reaches) = ap told_of reaches.does.1.0 ∙ taken_told chunk _ view slabs now left reaches
-holds_told number class chunk true view slabs now left (inr reaches) =
-    held_quiet number class chunk _ reaches.value reaches.taken slabs now left reaches.does ∙ taken_told chunk _ view slabs now left reaches
+holds_told : (number class : ℕ) (chunk : ChunkId) (sweep : Sweep) (unheld : Bool) (next : Sweep) (view : View) (slabs : SlabState) (now : View) (left : SlabState) → HoldsUp number class chunk sweep unheld next view slabs now left → told_of now ≡ told_of view
+holds_told number class chunk sweep false next view slabs now left (reaches, then) = ap told_of reaches.does.0 ∙ taken_told chunk _ view slabs now left reaches
+holds_told number class chunk sweep true next view slabs now left (inl (reaches, then)) = ap told_of reaches.does.1.0 ∙ taken_told chunk _ view slabs now left reaches
+holds_told number class chunk sweep true next view slabs now left (inr (reaches, then)) =
+    held_quiet number class chunk sweep _ reaches.value reaches.taken slabs now left reaches.does ∙ taken_told chunk _ view slabs now left reaches
 
-visit_tells : (number class : ℕ) (chunk : ChunkId) (found : Found) (view : View) (slabs : SlabState) (now : View) (left : SlabState) → Visits number class chunk found view slabs now left → TellsFound number found view now
-visit_tells number class chunk Already view slabs now left (sees, same) = (0, ap told_of sees.is)
-visit_tells number class chunk Cleared view slabs now left clears = (0, ap told_of clears.clears.is ∙ ap told_of clears.sees.is)
-visit_tells number class chunk Rescued view slabs now left sees = rescued_tells number class chunk _ slabs now left sees.does.1
-visit_tells number class chunk Evicted view slabs now left sees = evicted_tells number class chunk _ slabs now left sees.does.1
-visit_tells number class chunk Busy view slabs now left (inl (finds, same)) = (0, ap told_of finds.other.is ∙ ap told_of finds.sees.is)
-visit_tells number class chunk Busy view slabs now left (inr sees) = (0, holds_told number class chunk _ _ slabs now left sees.does)
-visit_tells number class chunk Locked view slabs now left sees = let (finds, same) = sees.does in (0, ap told_of finds.is ∙ ap told_of finds.reads.1)
+visit_tells : (number class : ℕ) (chunk : ChunkId) (sweep : Sweep) (found : Found) (next : Sweep) (view : View) (slabs : SlabState) (now : View) (left : SlabState) → Visits number class chunk sweep found next view slabs now left → TellsFound number found view now
+visit_tells number class chunk sweep Already next view slabs now left (sees, same, then) = (0, ap told_of sees.is)
+visit_tells number class chunk sweep Cleared next view slabs now left (clears, then) = (0, ap told_of clears.clears.is ∙ ap told_of clears.sees.is)
+visit_tells number class chunk sweep Rescued next view slabs now left sees = rescued_tells number class chunk sweep _ slabs now left sees.does.1
+visit_tells number class chunk sweep Evicted next view slabs now left sees = evicted_tells number class chunk sweep _ slabs now left sees.does.1
+visit_tells number class chunk sweep Busy next view slabs now left (inl (finds, same, then)) = (0, ap told_of finds.other.is ∙ ap told_of finds.sees.is)
+visit_tells number class chunk sweep Busy next view slabs now left (inr sees) = (0, holds_told number class chunk sweep _ next _ slabs now left sees.does)
+visit_tells number class chunk sweep Locked next view slabs now left sees = let (finds, same, then) = sees.does in (0, ap told_of finds.is ∙ ap told_of finds.reads.1)
 
-section_tells : (number : ℕ) (found : Found) (view : View) (slabs : SlabState) (now : View) (left : SlabState) → Section number found view slabs now left → TellsFound number found view now
-section_tells number found view slabs now left section =
-    let (key, tells) = visit_tells number section.move.src _ found view slabs section.visited section.kept section.visits in
+section_tells : (number : ℕ) (sweep : Sweep) (found : Found) (next : Sweep) (view : View) (slabs : SlabState) (now : View) (left : SlabState) → Section number sweep found next view slabs now left → TellsFound number found view now
+section_tells number sweep found next view slabs now left section =
+    let (key, tells) = visit_tells number section.move.src _ sweep found next view slabs section.visited section.kept section.visits in
     (key, ap told_of section.is ∙ tells)
 
 -- what was told of all that was found
@@ -240,16 +249,16 @@ found_first number Busy found view next now (key, tells) rest = quiet_first numb
 found_first number Locked found view next now (key, tells) rest = quiet_first number Locked found view next now (λ counts. refl) (λ counts. refl) tells rest
 found_first number Already found view next now (key, tells) rest = quiet_first number Already found view next now (λ counts. refl) (λ counts. refl) tells rest
 
-sections_tell : (number : ℕ) (found : List Found) (view : View) (slabs : SlabState) (now : View) (left : SlabState) → Sections number found view slabs now left → TellsAll number found view now
-sections_tell number [] view slabs now left (same, is) = record {
+sections_tell : (number : ℕ) (sweep : Sweep) (found : List Found) (last : Sweep) (view : View) (slabs : SlabState) (now : View) (left : SlabState) → Sections number sweep found last view slabs now left → TellsAll number found view now
+sections_tell number sweep [] last view slabs now left (same, is, then) = record {
   calls = [];
   own = All-nil (IsSaving number);
   evicted = λ counts. omega arith;
   rescued = λ counts. omega arith;
   come = ap told_of same;
 }
-sections_tell number (first ∷ found) view slabs now left (next, between, section, rest) =
-    found_first number first found view next now (section_tells number first view slabs next between section) (sections_tell number found next between now left rest)
+sections_tell number sweep (first ∷ found) last view slabs now left (next, between, then, section, rest) =
+    found_first number first found view next now (section_tells number sweep first then view slabs next between section) (sections_tell number then found last next between now left rest)
 
 cuts_told : (chunks : List ChunkId) (view : View) (slabs : SlabState) (now : View) (left : SlabState) → CutsEach chunks view slabs now left → told_of now ≡ told_of view
 cuts_told [] view slabs now left (same, is) = ap told_of same
@@ -279,19 +288,19 @@ module _ (number : ℕ) (view : View) (was : LawfulView view) (own : view.row.id
       }
 
   tells_turn : (turn : Turn) (slabs left : SlabState) → Turns number turn taken slabs last left → TellsAsCounted number (counts_in turn) view now
-  tells_turn Idle slabs left (none, same, is) = tells_found [] taken (sections_tell number [] taken slabs taken slabs (refl, refl)) (ap told_of same) no_counts refl
+  tells_turn Idle slabs left (none, same, is) = tells_found [] taken (sections_tell number Due [] Due taken slabs taken slabs (refl, refl, refl)) (ap told_of same) no_counts refl
   tells_turn (Went counts) slabs left turns =
       let looks = turns.looks in
-      tells_found looks.found turns.looked (sections_tell number looks.found taken slabs turns.looked turns.kept looks.sections) (goes_on_told number turns.looked turns.kept last left turns.ends) counts looks.counts_are
+      tells_found looks.found turns.looked (sections_tell number Due looks.found looks.last taken slabs turns.looked turns.kept looks.sections) (goes_on_told number turns.looked turns.kept last left turns.ends) counts looks.counts_are
   tells_turn (Finished counts) slabs left turns =
       let looks = turns.looks in
-      tells_found looks.found turns.looked (sections_tell number looks.found taken slabs turns.looked turns.kept looks.sections) (finishes_told number turns.looked turns.kept last left turns.ends) counts looks.counts_are
+      tells_found looks.found turns.looked (sections_tell number Due looks.found looks.last taken slabs turns.looked turns.kept looks.sections) (finishes_told number turns.looked turns.kept last left turns.ends) counts looks.counts_are
 
   tells_fewer : (slabs left : SlabState) → LacksMemory number taken slabs last left → TellsOfFewer number view now
   tells_fewer slabs left lacks =
       let few : length lacks.found < view.setup.config.bulk = subst (λ (t : Told). length lacks.found < t.0.config.bulk) before lacks.few in
       let given : told_of last ≡ told_of lacks.looked = ap told_of lacks.lacks.does.1.does.2.0 ∙ taken_told _ _ _ lacks.kept last left lacks.lacks.does.1 in
-      (lacks.found, few, tells_found lacks.found lacks.looked (sections_tell number lacks.found taken slabs lacks.looked lacks.kept lacks.sections) given (counts_of lacks.found no_counts) refl)
+      (lacks.found, few, tells_found lacks.found lacks.looked (sections_tell number Due lacks.found lacks.last taken slabs lacks.looked lacks.kept lacks.sections) given (counts_of lacks.found no_counts) refl)
 
 -- a turn tells as many evictions and rescues as it counts
 pub turn_told : (number : ℕ) (turn : Turn) (view now : View) → LawfulView view → view.row.ids.number ≡ Some number → HoldsSlabs (Turns number turn) view now → TellsAsCounted number (counts_in turn) view now

@@ -30,6 +30,8 @@ use Rattle.mc_words.specs.Out.{has_no_stripe, with_stripe, without_stripe}
 use Rattle.mc_words.specs.Owner.{is_unused}
 use Rattle.mc_words.specs.Views.{stripe_given, stripe_taken}
 use Rattle.mc_words.proofs.Unlocked.{no_stripe_from}
+use Rattle.mc_mover.specs.declared.sweep.Sweep.{Sweep}
+use Rattle.mc_mover.specs.declared.sweep.Sweep.TheVariants.{Done}
 use Rattle.mc_mover.specs.Linked.{FindsGone, HoldsUp, OnlyGives, ReachesStripe, ReadsKey, SavesAs, SavesAndClears, StripeDoing, VisitsLinked}
 
 -- a stripe's lock that came and went
@@ -74,36 +76,37 @@ abbrev pub same_found : Found → Found → Bool
 same_found a b = denote.Enum.Bare.sameb Rattle.mc_pages.specs.contracts.moves.Found.the_type a b
 
 -- what is saved was rescued or evicted, unless it holds up the move
-pub saved_found : (number class : ℕ) (chunk : ChunkId) (found : Found) (stripe : ℕ) (value : ReadyStripe) (view : View) (slabs : SlabState) (now : View) (left : SlabState) → SavesAs number class chunk found stripe value view slabs now left → same_found found Busy ≡ false → is_held_up found ≡ false
-saved_found number class chunk Rescued stripe value view slabs now left saves other = refl
-saved_found number class chunk Evicted stripe value view slabs now left saves other = refl
-saved_found number class chunk Busy stripe value view slabs now left saves other = absurd (cc)
-saved_found number class chunk Cleared stripe value view slabs now left saves other = absurd saves
-saved_found number class chunk Locked stripe value view slabs now left saves other = absurd saves
-saved_found number class chunk Already stripe value view slabs now left saves other = absurd saves
+pub saved_found : (number class : ℕ) (chunk : ChunkId) (sweep : Sweep) (found : Found) (stripe : ℕ) (value : ReadyStripe) (view : View) (slabs : SlabState) (now : View) (left : SlabState) → SavesAs number class chunk sweep found stripe value view slabs now left → same_found found Busy ≡ false → is_held_up found ≡ false
+saved_found number class chunk sweep Rescued stripe value view slabs now left saves other = refl
+saved_found number class chunk sweep Evicted stripe value view slabs now left saves other = refl
+saved_found number class chunk sweep Busy stripe value view slabs now left saves other = absurd (cc)
+saved_found number class chunk sweep Cleared stripe value view slabs now left saves other = absurd saves
+saved_found number class chunk sweep Locked stripe value view slabs now left saves other = absurd saves
+saved_found number class chunk sweep Already stripe value view slabs now left saves other = absurd saves
 
 -- and it holds up the move where it was neither
-pub held_found : (number class : ℕ) (chunk : ChunkId) (found : Found) (stripe : ℕ) (value : ReadyStripe) (view : View) (slabs : SlabState) (now : View) (left : SlabState) → SavesAs number class chunk found stripe value view slabs now left → same_found found Busy ≡ true → found ≡ Busy
-held_found number class chunk Rescued stripe value view slabs now left saves same = absurd (cc)
-held_found number class chunk Evicted stripe value view slabs now left saves same = absurd (cc)
-held_found number class chunk Busy stripe value view slabs now left saves same = refl
-held_found number class chunk Cleared stripe value view slabs now left saves same = absurd saves
-held_found number class chunk Locked stripe value view slabs now left saves same = absurd saves
-held_found number class chunk Already stripe value view slabs now left saves same = absurd saves
+pub held_found : (number class : ℕ) (chunk : ChunkId) (sweep : Sweep) (found : Found) (stripe : ℕ) (value : ReadyStripe) (view : View) (slabs : SlabState) (now : View) (left : SlabState) → SavesAs number class chunk sweep found stripe value view slabs now left → same_found found Busy ≡ true → found ≡ Busy
+held_found number class chunk sweep Rescued stripe value view slabs now left saves same = absurd (cc)
+held_found number class chunk sweep Evicted stripe value view slabs now left saves same = absurd (cc)
+held_found number class chunk sweep Busy stripe value view slabs now left saves same = refl
+held_found number class chunk sweep Cleared stripe value view slabs now left saves same = absurd saves
+held_found number class chunk sweep Locked stripe value view slabs now left saves same = absurd saves
+held_found number class chunk sweep Already stripe value view slabs now left saves same = absurd saves
 
 -- a chunk that was saved and cleared, by what was found
-pub visited_saved : (number class : ℕ) (chunk : ChunkId) (found : Found) (view : View) (slabs : SlabState) (now : View) (left : SlabState) → is_held_up found ≡ false → SavesAndClears number class chunk found view slabs now left → VisitsLinked number class chunk true found view slabs now left
-visited_saved number class chunk Rescued view slabs now left free saves = (refl, saves)
-visited_saved number class chunk Evicted view slabs now left free saves = (refl, saves)
-visited_saved number class chunk Busy view slabs now left free saves = absurd (cc)
-visited_saved number class chunk Locked view slabs now left free saves = absurd (cc)
-visited_saved number class chunk Cleared view slabs now left free saves = absurd (never saves)
+pub visited_saved : (number class : ℕ) (chunk : ChunkId) (sweep : Sweep) (found : Found) (next : Sweep) (view : View) (slabs : SlabState) (now : View) (left : SlabState) → is_held_up found ≡ false → next ≡ Done → SavesAndClears number class chunk sweep found view slabs now left
+    → VisitsLinked number class chunk sweep true found next view slabs now left
+visited_saved number class chunk sweep Rescued next view slabs now left free done saves = (refl, saves, done)
+visited_saved number class chunk sweep Evicted next view slabs now left free done saves = (refl, saves, done)
+visited_saved number class chunk sweep Busy next view slabs now left free done saves = absurd (cc)
+visited_saved number class chunk sweep Locked next view slabs now left free done saves = absurd (cc)
+visited_saved number class chunk sweep Cleared next view slabs now left free done saves = absurd (never saves)
   where
-    never : SavesAndClears number class chunk Cleared view slabs now left → ⊥
+    never : SavesAndClears number class chunk sweep Cleared view slabs now left → ⊥
     never saves = saves.reaches.does
-visited_saved number class chunk Already view slabs now left free saves = absurd (never saves)
+visited_saved number class chunk sweep Already next view slabs now left free done saves = absurd (never saves)
   where
-    never : SavesAndClears number class chunk Already view slabs now left → ⊥
+    never : SavesAndClears number class chunk sweep Already view slabs now left → ⊥
     never saves = saves.reaches.does
 
 -- of a call that succeeds
@@ -122,8 +125,11 @@ dead_unused (Some head) dead = ap Some (or_right (is_free head.tag) (is_dead hea
 -- the chunk was held, or its key leads elsewhere, and the lock was given back
 module _ (chunk : ChunkId) (view read taken : View) (slabs : SlabState) (key stripe : ℕ) (value : ReadyStripe) (reads : ReadsKey chunk key view read) (at : stripe ≡ key % view.setup.config.stripes) (takes : Happens read [] (step.TakeStripe stripe) taken)
     (is_taken : taken ≡ stripe_taken stripe value read) (lent : IsLentStripe taken stripe value) where
-  pub held_up : (number class : ℕ) (unheld : Bool) (now : View) → now ≡ stripe_given stripe value taken → ((unheld ≡ false) ⊎ ((unheld ≡ true) × (option_map (λ (place : ChunkId × ℕ). place.0) (place_of value.state key) ≢ Some chunk))) → HoldsUp number class chunk unheld view slabs now slabs
-  held_up number class unheld now given (inl held) =
-      subst (λ (b : Bool). HoldsUp number class chunk b view slabs now slabs) (sym held) (reached chunk view read taken slabs key stripe value reads at takes is_taken lent (λ key. OnlyGives) now slabs (given, refl))
-  held_up number class unheld now given (inr (free, gone)) =
-      subst (λ (b : Bool). HoldsUp number class chunk b view slabs now slabs) (sym free) (inl (reached chunk view read taken slabs key stripe value reads at takes is_taken lent (FindsGone chunk) now slabs (gone, (given, refl))))
+  pub held_up : (number class : ℕ) (sweep : Sweep) (unheld : Bool) (now : View) → now ≡ stripe_given stripe value taken → ((unheld ≡ false) ⊎ ((unheld ≡ true) × (option_map (λ (place : ChunkId × ℕ). place.0) (place_of value.state key) ≢ Some chunk)))
+      → HoldsUp number class chunk sweep unheld sweep view slabs now slabs
+  held_up number class sweep unheld now given (inl held) =
+      subst (λ (b : Bool). HoldsUp number class chunk sweep b sweep view slabs now slabs) (sym held)
+      (reached chunk view read taken slabs key stripe value reads at takes is_taken lent (λ key. OnlyGives) now slabs (given, refl), refl)
+  held_up number class sweep unheld now given (inr (free, gone)) =
+      subst (λ (b : Bool). HoldsUp number class chunk sweep b sweep view slabs now slabs) (sym free)
+      (inl (reached chunk view read taken slabs key stripe value reads at takes is_taken lent (FindsGone chunk) now slabs (gone, (given, refl)), refl))

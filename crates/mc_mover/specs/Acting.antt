@@ -1,8 +1,9 @@
 -- What clauses say of a call: of the hand, and of what was lent to it, before and after.
-use Rattle.std.specs.Prelude.{◌≡◌, ◌≢◌, ℕ, true, slice_index_or, Some, None}
+use Rattle.std.specs.Prelude.{◌≡◌, ◌≢◌, ℕ, ◌%◌, true, slice_index_or, Some, None}
 use Rattle.std.specs.Option.{option_map}
 use Rattle.mc_pages.specs.declared.ids.ChunkId.{ChunkId}
 use Rattle.mc_pages.specs.declared.moves.Found.{Found}
+use Rattle.mc_stripe.specs.StripeState.{place_of}
 use Rattle.mc_core.specs.Head.{is_dead}
 use Rattle.mc_core.specs.Holdings.{holding_of}
 use Rattle.mc_core.specs.Seen.{seen_head}
@@ -27,6 +28,11 @@ HasSlabs hand held = (view hand).slabs ≡ Some (slabs_lent held)
 
 abbrev pub HasStripe : Hand → StripeHeld → Type 0
 HasStripe hand held = slice_index_or (view hand).stripes (stripe_number held) None ≡ Some (stripe_lent held)
+
+-- a key of this stripe leads to the chunk
+abbrev pub IsLedTo : Hand → StripeHeld → ChunkId → Type 0
+IsLedTo hand held chunk =
+    (key : ℕ) × (stamp : ℕ) × (place_of (stripe_lent held).state key ≡ Some (chunk, stamp)) × (key % (view hand).setup.config.stripes ≡ stripe_number held)
 
 -- with the lock of the slabs the hand did this, by its number
 abbrev pub Acts : (ℕ → SlabsDoing) → Hand → SlabsHeld → Hand → SlabsHeld → Type 0

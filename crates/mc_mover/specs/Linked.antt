@@ -16,7 +16,9 @@ use Rattle.mc_words.specs.Lent.{IsLentStripe}
 use Rattle.mc_words.specs.Owner.{Clears}
 use Rattle.mc_words.specs.Sweeping.{SweepsOne}
 use Rattle.mc_words.specs.Views.{stripe_given, stripe_missed, stripe_taken}
-use Rattle.mc_mover.specs.Saving.{BothDoing, Evicts, FailsToEvict, FailsToRescue, Rescues, Sweeping}
+use Rattle.mc_mover.specs.declared.sweep.Sweep.{Sweep}
+use Rattle.mc_mover.specs.declared.sweep.Sweep.TheVariants.{Done}
+use Rattle.mc_mover.specs.Saving.{BothDoing, Evicts, FailsToEvict, FailsToRescue, Rescues, SweepsToEvict, SweepsToRescue, Sweeping}
 
 -- what is done on a stripe under its lock, whose value was this, until the lock is given back
 abbrev pub StripeDoing : Type 1
@@ -55,49 +57,55 @@ OnlyGives stripe value taken slabs now left = (now ≡ stripe_given stripe value
 abbrev pub FindsGone : ChunkId → ℕ → StripeDoing
 FindsGone chunk key stripe value taken slabs now left = (option_map (λ place. place.0) (place_of value.state key) ≢ Some chunk) × OnlyGives stripe value taken slabs now left
 
--- room was made for a call on the key, the dead of the class were put back, and then this was done
-abbrev pub SavesWith : ℕ → ℕ → (ℕ → BothDoing) → StripeDoing
-SavesWith number class Does stripe value taken slabs now left =
-    IsDone number stripe value (λ ready view last after. Sweeping class (Does stripe) slabs ready view left last after) taken now
+-- room was made for a call on the key, the class was swept as it had to be, and then this was done
+abbrev pub SavesWith : ℕ → SlabsDoing → (ℕ → BothDoing) → StripeDoing
+SavesWith number Swept Does stripe value taken slabs now left =
+    IsDone number stripe value (λ ready view last after. Sweeping Swept (Does stripe) slabs ready view left last after) taken now
 
 -- a copy was given up: then its chunk was put back, or seen in use
-pub record GivesCopyUp (number class : ℕ) (chunk : ChunkId) (stripe : ℕ) (value : ReadyStripe) (taken : View) (slabs : SlabState) (now : View) (left : SlabState) : Type 0 where
+pub record GivesCopyUp (number class : ℕ) (chunk : ChunkId) (sweep : Sweep) (stripe : ℕ) (value : ReadyStripe) (taken : View) (slabs : SlabState) (now : View) (left : SlabState) : Type 0 where
   pub copy : ChunkId
   pub failed : View
   pub kept : SlabState
-  pub fails : SavesWith number class (λ stripe. FailsToRescue chunk copy) stripe value taken slabs failed kept
+  pub fails : SavesWith number (SweepsToRescue class chunk sweep) (λ stripe. FailsToRescue chunk copy) stripe value taken slabs failed kept
   pub puts : SweepsOne copy failed kept now left
 
--- what became of the item, by what was found
-abbrev pub SavesAs : ℕ → ℕ → ChunkId → Found → StripeDoing
-SavesAs number class chunk Rescued stripe value taken slabs now left = SavesWith number class (λ stripe. Rescues number stripe chunk) stripe value taken slabs now left
-SavesAs number class chunk Evicted stripe value taken slabs now left = SavesWith number class (λ stripe. Evicts number stripe chunk) stripe value taken slabs now left
-SavesAs number class chunk Busy stripe value taken slabs now left =
-    SavesWith number class (λ stripe. FailsToEvict chunk) stripe value taken slabs now left ⊎ GivesCopyUp number class chunk stripe value taken slabs now left
-SavesAs number class chunk found stripe value taken slabs now left = ⊥
+-- what became of the item, by what was found, in a turn whose sweep was due or done
+abbrev pub SavesAs : ℕ → ℕ → ChunkId → Sweep → Found → StripeDoing
+SavesAs number class chunk sweep Rescued stripe value taken slabs now left =
+    SavesWith number (SweepsToRescue class chunk sweep) (λ stripe. Rescues number stripe chunk) stripe value taken slabs now left
+SavesAs number class chunk sweep Evicted stripe value taken slabs now left =
+    SavesWith number (SweepsToEvict class chunk sweep) (λ stripe. Evicts number stripe chunk) stripe value taken slabs now left
+SavesAs number class chunk sweep Busy stripe value taken slabs now left =
+    SavesWith number (SweepsToEvict class chunk sweep) (λ stripe. FailsToEvict chunk) stripe value taken slabs now left
+    ⊎ GivesCopyUp number class chunk sweep stripe value taken slabs now left
+SavesAs number class chunk sweep found stripe value taken slabs now left = ⊥
 
 -- so, and then the chunk, which is dead, was cleared
-pub record SavesAndClears (number class : ℕ) (chunk : ChunkId) (found : Found) (view : View) (slabs : SlabState) (now : View) (left : SlabState) : Type 0 where
+pub record SavesAndClears (number class : ℕ) (chunk : ChunkId) (sweep : Sweep) (found : Found) (view : View) (slabs : SlabState) (now : View) (left : SlabState) : Type 0 where
   pub saved : View
   pub kept : SlabState
-  pub reaches : ReachesStripe chunk (λ key. SavesAs number class chunk found) view slabs saved kept
+  pub reaches : ReachesStripe chunk (λ key. SavesAs number class chunk sweep found) view slabs saved kept
   pub clears : Clears saved kept chunk now
   pub left_is : left ≡ after_clear kept chunk
 
 -- why a linked chunk holds up the move, which was seen unheld or held: it was held; its key leads elsewhere by now; or it was held or
--- unlinked before its item could be taken away
-abbrev pub HoldsUp : ℕ → ℕ → ChunkId → Bool → SlabsDoing
-HoldsUp number class chunk false view slabs now left = ReachesStripe chunk (λ key. OnlyGives) view slabs now left
-HoldsUp number class chunk true view slabs now left =
-    ReachesStripe chunk (FindsGone chunk) view slabs now left ⊎ ReachesStripe chunk (λ key. SavesAs number class chunk Busy) view slabs now left
+-- unlinked before its item could be taken away. In this last case alone the turn's sweep is done then
+abbrev pub HoldsUp : ℕ → ℕ → ChunkId → Sweep → Bool → Sweep → SlabsDoing
+HoldsUp number class chunk sweep false next view slabs now left = ReachesStripe chunk (λ key. OnlyGives) view slabs now left × (next ≡ sweep)
+HoldsUp number class chunk sweep true next view slabs now left =
+    (ReachesStripe chunk (FindsGone chunk) view slabs now left × (next ≡ sweep))
+    ⊎ (ReachesStripe chunk (λ key. SavesAs number class chunk sweep Busy) view slabs now left × (next ≡ Done))
 
--- what was done, by what was found; the chunk was seen unheld or held
-abbrev pub VisitsLinked : ℕ → ℕ → ChunkId → Bool → Found → SlabsDoing
-VisitsLinked number class chunk unheld Rescued view slabs now left = (unheld ≡ true) × SavesAndClears number class chunk Rescued view slabs now left
-VisitsLinked number class chunk unheld Evicted view slabs now left = (unheld ≡ true) × SavesAndClears number class chunk Evicted view slabs now left
-VisitsLinked number class chunk unheld Busy view slabs now left = HoldsUp number class chunk unheld view slabs now left
-VisitsLinked number class chunk unheld Locked view slabs now left = FindsLocked chunk view now × (left ≡ slabs)
-VisitsLinked number class chunk unheld found view slabs now left = ⊥
+-- what was done, by what was found; the chunk was seen unheld or held; and whether the turn's sweep is due or done, before and afterwards
+abbrev pub VisitsLinked : ℕ → ℕ → ChunkId → Sweep → Bool → Found → Sweep → SlabsDoing
+VisitsLinked number class chunk sweep unheld Rescued next view slabs now left =
+    (unheld ≡ true) × SavesAndClears number class chunk sweep Rescued view slabs now left × (next ≡ Done)
+VisitsLinked number class chunk sweep unheld Evicted next view slabs now left =
+    (unheld ≡ true) × SavesAndClears number class chunk sweep Evicted view slabs now left × (next ≡ Done)
+VisitsLinked number class chunk sweep unheld Busy next view slabs now left = HoldsUp number class chunk sweep unheld next view slabs now left
+VisitsLinked number class chunk sweep unheld Locked next view slabs now left = FindsLocked chunk view now × (left ≡ slabs) × (next ≡ sweep)
+VisitsLinked number class chunk sweep unheld found next view slabs now left = ⊥
 
 -- the lock was given back, and nothing was changed, though the key leads to the chunk
 abbrev pub GivesThere : ChunkId → ℕ → StripeDoing

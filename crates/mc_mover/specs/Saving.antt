@@ -1,6 +1,6 @@
 -- Items of the moving page that are taken to another chunk, or evicted where there is none: what is done under the locks of the slabs and
 -- of the key's stripe.
-use Rattle.std.specs.Prelude.{◌≡◌, ℕ, ◌+◌, ◌≤◌, length}
+use Rattle.std.specs.Prelude.{◌≡◌, ◌⊎◌, ℕ, ◌+◌, ◌≤◌, length}
 use Rattle.mc_pages.specs.declared.ids.ChunkId.{ChunkId}
 use Rattle.mc_pages.specs.declared.moves.Found.{Found}
 use Rattle.mc_pages.specs.declared.moves.Found.TheVariants.{Busy, Evicted, Rescued}
@@ -18,30 +18,52 @@ use Rattle.mc_words.specs.Originals.{CondemnsOriginal}
 use Rattle.mc_words.specs.Rescuing.{PassesAll, PopsOff}
 use Rattle.mc_words.specs.Sweeping.{Sweeps, SweepsOne}
 use Rattle.mc_words.specs.Views.{chunk_discarded, chunk_released, stripe_given}
+use Rattle.mc_mover.specs.declared.sweep.Sweep.{Sweep}
+use Rattle.mc_mover.specs.declared.sweep.Sweep.TheVariants.{Due, Done}
 use Rattle.mc_mover.specs.Copying.{Copies}
 
 -- what is done under both locks, from pages and lists, the stripe and the hand's view to those that it leaves
 abbrev pub BothDoing : Type 1
 BothDoing = SlabState → ReadyStripe → View → SlabState → ReadyStripe → View → Type 0
 
--- the dead of the class were put back, and then this was done
-pub record Sweeping (class : ℕ) (Does : BothDoing) (slabs : SlabState) (value : ReadyStripe) (view : View) (kept : SlabState) (left : ReadyStripe) (now : View) : Type 0 where
+-- each free chunk of the class was passed over, and none could be had for a copy of the chunk's item
+abbrev pub FindsNoTarget : ChunkId → SlabState → View → View → Type 0
+FindsNoTarget chunk slabs view now = PassesAll chunk.page (class_at slabs (class_of_page slabs chunk.page)).free view now
+
+-- so, and then the dead of the class were put back
+pub record SweepsForTarget (class : ℕ) (chunk : ChunkId) (view : View) (slabs : SlabState) (now : View) (left : SlabState) : Type 0 where
+  pub passed : View
+  pub none : FindsNoTarget chunk slabs view passed
+  pub sweeps : Sweeps (class_at slabs class).order passed slabs now left
+
+-- what comes before an item is evicted: a sweep; in a turn that made its own before, once no free chunk could be had
+abbrev pub SweepsToEvict : ℕ → ChunkId → Sweep → SlabsDoing
+SweepsToEvict class chunk Due view slabs now left = Sweeps (class_at slabs class).order view slabs now left
+SweepsToEvict class chunk Done view slabs now left = SweepsForTarget class chunk view slabs now left
+
+-- and before it is taken to a free chunk: likewise, but in such a turn nothing, where that chunk could be had at once
+abbrev pub SweepsToRescue : ℕ → ChunkId → Sweep → SlabsDoing
+SweepsToRescue class chunk Due view slabs now left = Sweeps (class_at slabs class).order view slabs now left
+SweepsToRescue class chunk Done view slabs now left = ((now ≡ view) × (left ≡ slabs)) ⊎ SweepsForTarget class chunk view slabs now left
+
+-- the class was swept, or not, as it had to be, and then this was done
+pub record Sweeping (Swept : SlabsDoing) (Does : BothDoing) (slabs : SlabState) (value : ReadyStripe) (view : View) (kept : SlabState) (left : ReadyStripe) (now : View) : Type 0 where
   pub swept : View
   pub between : SlabState
-  pub sweeps : Sweeps (class_at slabs class).order view slabs swept between
+  pub sweeps : Swept view slabs swept between
   pub does : Does between value swept kept left now
 
 -- no free chunk could be had for a copy, and the item was evicted
 pub record Evicts (number stripe : ℕ) (chunk : ChunkId) (slabs : SlabState) (value : ReadyStripe) (view : View) (kept : SlabState) (left : ReadyStripe) (now : View) : Type 0 where
   pub passed : View
-  pub passes : PassesAll chunk.page (class_at slabs (class_of_page slabs chunk.page)).free view passed
+  pub passes : FindsNoTarget chunk slabs view passed
   pub condemns : Condemns passed number stripe value chunk left now
   pub same : kept ≡ slabs
 
 -- so, but the item was found unlinked or held
 pub record FailsToEvict (chunk : ChunkId) (slabs : SlabState) (value : ReadyStripe) (view : View) (kept : SlabState) (left : ReadyStripe) (now : View) : Type 0 where
   pub passed : View
-  pub passes : PassesAll chunk.page (class_at slabs (class_of_page slabs chunk.page)).free view passed
+  pub passes : FindsNoTarget chunk slabs view passed
   pub finds : FindsHeld passed chunk now
   pub same : (kept ≡ slabs) × (left ≡ value)
 
@@ -99,3 +121,24 @@ GivesRescued number stripe value chunk copy room Rescued view slabs now left =
 GivesRescued number stripe value chunk copy room Busy view slabs now left =
     (last : View) × FailsToMove chunk copy view last × SweepsOne copy (stripe_given stripe value last) slabs now left
 GivesRescued number stripe value chunk copy room found view slabs now left = ⊥
+
+-- the item went to a free chunk that was handed out for a copy, or couldn't be moved, by what was found; and the stripe's lock was given back
+pub record RescuesToTarget (number : ℕ) (chunk : ChunkId) (found : Found) (stripe : ℕ) (value : ReadyStripe) (view : View) (slabs : SlabState) (now : View) (left : SlabState) : Type 0 where
+  pub copy : ChunkId
+  pub popped : View
+  pub pops : PopsOff view slabs chunk copy popped
+  pub gives : GivesRescued number stripe value chunk copy (room_in view.setup.table (class_of_page slabs chunk.page)) found popped (after_replace slabs copy chunk) now left
+
+-- no free chunk could be had: the item was evicted, or found unlinked or held, by what was found; and the stripe's lock was given back
+pub record EvictsWithoutTarget (number : ℕ) (chunk : ChunkId) (found : Found) (stripe : ℕ) (value : ReadyStripe) (view : View) (slabs : SlabState) (now : View) (left : SlabState) : Type 0 where
+  pub passed : View
+  pub passes : FindsNoTarget chunk slabs view passed
+  pub gives : GivesEvicted number stripe value chunk found passed now
+  pub same : left ≡ slabs
+
+-- the dead of the class were put back, and then came the one or the other
+pub record SweepsAndSaves (number class : ℕ) (chunk : ChunkId) (found : Found) (stripe : ℕ) (value : ReadyStripe) (view : View) (slabs : SlabState) (now : View) (left : SlabState) : Type 0 where
+  pub swept : View
+  pub between : SlabState
+  pub sweeps : Sweeps (class_at slabs class).order view slabs swept between
+  pub saves : RescuesToTarget number chunk found stripe value swept between now left ⊎ EvictsWithoutTarget number chunk found stripe value swept between now left

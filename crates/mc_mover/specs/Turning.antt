@@ -16,6 +16,8 @@ use Rattle.mc_words.specs.Views.{slabs_changed}
 use Rattle.mc_mover.specs.declared.counts.Counts.{Counts}
 use Rattle.mc_mover.specs.declared.counts.Turn.{Turn}
 use Rattle.mc_mover.specs.declared.counts.Turn.TheVariants.{Idle, Went, Finished}
+use Rattle.mc_mover.specs.declared.sweep.Sweep.{Sweep}
+use Rattle.mc_mover.specs.declared.sweep.Sweep.TheVariants.{Due}
 use Rattle.mc_mover.specs.Visiting.{LacksCall, Visits}
 
 abbrev pub no_counts : Counts
@@ -39,22 +41,24 @@ abbrev pub counts_of : List Found → Counts → Counts
 counts_of [] counts = counts
 counts_of (found ∷ more) counts = counts_of more (counted found counts)
 
--- one section of a turn: the chunk at the move's position was dealt with, and the position is one further
-pub record Section (number : ℕ) (found : Found) (view : View) (slabs : SlabState) (now : View) (left : SlabState) : Type 0 where
+-- one section of a turn: the chunk at the move's position was dealt with, and the position is one further; and whether the turn's sweep is
+-- due or done, before and afterwards
+pub record Section (number : ℕ) (sweep : Sweep) (found : Found) (next : Sweep) (view : View) (slabs : SlabState) (now : View) (left : SlabState) : Type 0 where
   pub move : Moving
   pub runs : slabs.moving ≡ Some move
   pub within : move.at < (class_at slabs move.src).per_page
   pub visited : View
   pub kept : SlabState
-  pub visits : Visits number move.src (chunk_at_position move) found view slabs visited kept
+  pub visits : Visits number move.src (chunk_at_position move) sweep found next view slabs visited kept
   pub happens : Happens visited (change.Passed found ∷ []) step.MissSlabs now
   pub is : now ≡ slabs_changed kept (change.Passed found) (number + 1) visited
   pub left_is : left ≡ after_passed kept found
 
--- sections that found these, one after another
-abbrev pub Sections : ℕ → List Found → SlabsDoing
-Sections number [] view slabs now left = (now ≡ view) × (left ≡ slabs)
-Sections number (found ∷ more) view slabs now left = (next : View) × (between : SlabState) × Section number found view slabs next between × Sections number more next between now left
+-- sections that found these, one after another, each with the sweep due or done as the one before it left it
+abbrev pub Sections : ℕ → Sweep → List Found → Sweep → SlabsDoing
+Sections number sweep [] last view slabs now left = (now ≡ view) × (left ≡ slabs) × (last ≡ sweep)
+Sections number sweep (found ∷ more) last view slabs now left =
+    (next : View) × (between : SlabState) × (after : Sweep) × Section number sweep found after view slabs next between × Sections number after more last next between now left
 
 -- the pass is at the page's end
 abbrev pub IsAtEnd : SlabState → Moving → Type 0
@@ -82,14 +86,15 @@ EndsTurn number counts Idle view slabs now left = ⊥
 EndsTurn number counts (Went same) view slabs now left = (same ≡ counts) × GoesOn number view slabs now left
 EndsTurn number counts (Finished same) view slabs now left = (same ≡ counts) × Finishes number view slabs now left
 
--- as many sections as a turn has from the move's position, which found these
+-- as many sections as a turn has from the move's position, which found these; its sweep is due at first
 pub record LooksFrom (number : ℕ) (counts : Counts) (view : View) (slabs : SlabState) (now : View) (left : SlabState) : Type 0 where
   pub move : Moving
   pub runs : slabs.moving ≡ Some move
   pub found : List Found
   pub count : length found ≡ min view.setup.config.bulk ((class_at slabs move.src).per_page - move.at)
   pub counts_are : counts ≡ counts_of found no_counts
-  pub sections : Sections number found view slabs now left
+  pub last : Sweep
+  pub sections : Sections number Due found last view slabs now left
 
 -- so, and then this
 pub record Looks (number : ℕ) (counts : Counts) (Ends : SlabsDoing) (view : View) (slabs : SlabState) (now : View) (left : SlabState) : Type 0 where
@@ -104,7 +109,8 @@ Turns number Idle view slabs now left = (slabs.moving ≡ None) × (now ≡ view
 Turns number (Went counts) view slabs now left = Looks number counts (GoesOn number) view slabs now left
 Turns number (Finished counts) view slabs now left = Looks number counts (Finishes number) view slabs now left
 
--- fewer sections than a turn has, from the move's position, and then there was no memory for the item of the next chunk, which is as before
+-- fewer sections than a turn has, from the move's position, its sweep due at first, and then there was no memory for the item of the next
+-- chunk, which is as before
 pub record LacksMemory (number : ℕ) (view : View) (slabs : SlabState) (now : View) (left : SlabState) : Type 0 where
   pub first : Moving
   pub began : slabs.moving ≡ Some first
@@ -112,7 +118,8 @@ pub record LacksMemory (number : ℕ) (view : View) (slabs : SlabState) (now : V
   pub few : length found < view.setup.config.bulk
   pub looked : View
   pub kept : SlabState
-  pub sections : Sections number found view slabs looked kept
+  pub last : Sweep
+  pub sections : Sections number Due found last view slabs looked kept
   pub move : Moving
   pub runs : kept.moving ≡ Some move
   -- it is as many chunks further on the same page

@@ -13,6 +13,7 @@ use Rattle.mc_core.specs.Head.{is_out}
 use Rattle.mc_words.specs.View.{View}
 use Rattle.mc_words.specs.Happens.{Happens}
 use Rattle.mc_words.specs.Views.{head_seen}
+use Rattle.mc_mover.specs.declared.sweep.Sweep.{Sweep}
 use Rattle.mc_mover.specs.Turning.{Section}
 use Rattle.mc_mover.specs.Visiting.{Visits}
 
@@ -21,18 +22,20 @@ abbrev pub IsUnheldAt : (chunk : ChunkId) (view : View) (step : Step) (now : Vie
 IsUnheldAt chunk view step now happens = holders chunk happens.was.moment.state.holdings ≡ 0
 
 -- so it is where a chunk is cleared, and where the item of one is taken away before
-abbrev pub NobodyHolds : (number class : ℕ) (chunk : ChunkId) (found : Found) (view : View) (slabs : SlabState) (now : View) (left : SlabState) → Visits number class chunk found view slabs now left → Type 0
-NobodyHolds number class chunk Cleared view slabs now left visits = IsUnheldAt chunk _ _ _ visits.clears.happens
-NobodyHolds number class chunk Rescued view slabs now left visits =
+abbrev pub NobodyHolds : (number class : ℕ) (chunk : ChunkId) (sweep : Sweep) (found : Found) (next : Sweep) (view : View) (slabs : SlabState) (now : View) (left : SlabState) →
+    Visits number class chunk sweep found next view slabs now left → Type 0
+NobodyHolds number class chunk sweep Cleared next view slabs now left visits = IsUnheldAt chunk _ _ _ visits.0.clears.happens
+NobodyHolds number class chunk sweep Rescued next view slabs now left visits =
     IsUnheldAt chunk _ _ _ visits.does.1.reaches.does.does.does.moves.condemns.happens × IsUnheldAt chunk _ _ _ visits.does.1.clears.happens
-NobodyHolds number class chunk Evicted view slabs now left visits =
+NobodyHolds number class chunk sweep Evicted next view slabs now left visits =
     IsUnheldAt chunk _ _ _ visits.does.1.reaches.does.does.does.condemns.happens × IsUnheldAt chunk _ _ _ visits.does.1.clears.happens
-NobodyHolds number class chunk found view slabs now left visits = Unit {0}
+NobodyHolds number class chunk sweep found next view slabs now left visits = Unit {0}
 
 -- whatever a section found
 abbrev pub ClearsUnheld : Type 0
-ClearsUnheld = (number : ℕ) (found : Found) (view : View) (slabs : SlabState) (now : View) (left : SlabState) → (section : Section number found view slabs now left) →
-    NobodyHolds number section.move.src (chunk_at_position section.move) found view slabs section.visited section.kept section.visits
+ClearsUnheld = (number : ℕ) (sweep : Sweep) (found : Found) (next : Sweep) (view : View) (slabs : SlabState) (now : View) (left : SlabState) →
+    (section : Section number sweep found next view slabs now left) →
+    NobodyHolds number section.move.src (chunk_at_position section.move) sweep found next view slabs section.visited section.kept section.visits
 
 -- the chunk's header was seen first, and it isn't that of a cleared chunk
 abbrev pub SeesUncleared : ChunkId → View → Type 0
@@ -40,4 +43,5 @@ SeesUncleared chunk view = (head : Head) × Happens view [] (step.Head chunk) (h
 
 -- so it is of each chunk that counts as busy
 abbrev pub BusyIsUncleared : Type 0
-BusyIsUncleared = (number : ℕ) (view : View) (slabs : SlabState) (now : View) (left : SlabState) → (section : Section number Busy view slabs now left) → SeesUncleared (chunk_at_position section.move) view
+BusyIsUncleared = (number : ℕ) (sweep next : Sweep) (view : View) (slabs : SlabState) (now : View) (left : SlabState) →
+    (section : Section number sweep Busy next view slabs now left) → SeesUncleared (chunk_at_position section.move) view

@@ -14,6 +14,7 @@ use Rattle.mc_words.specs.Doing.{SlabsDoing}
 use Rattle.mc_words.specs.Happens.{Happens}
 use Rattle.mc_words.specs.Owner.{Clears, SeesOther, is_unused}
 use Rattle.mc_words.specs.Views.{head_seen}
+use Rattle.mc_mover.specs.declared.sweep.Sweep.{Sweep}
 use Rattle.mc_mover.specs.Linked as linked
 use Rattle.mc_mover.specs.Linked.{VisitsLinked}
 
@@ -52,15 +53,15 @@ pub record SeesLinked (chunk : ChunkId) (Does : Bool → SlabsDoing) (view : Vie
   pub looks : Happens view [] (step.Head chunk) (head_seen chunk head view)
   pub does : Does (is_linked_unheld head) (head_seen chunk head view) slabs now left
 
--- what was seen and done, by what was found
-abbrev pub Visits : ℕ → ℕ → ChunkId → Found → SlabsDoing
-Visits number class chunk Already view slabs now left = SeesCleared chunk view now × (left ≡ slabs)
-Visits number class chunk Cleared view slabs now left = ClearsUnused chunk view slabs now left
-Visits number class chunk Rescued view slabs now left = SeesLinked chunk (λ unheld. VisitsLinked number class chunk unheld Rescued) view slabs now left
-Visits number class chunk Evicted view slabs now left = SeesLinked chunk (λ unheld. VisitsLinked number class chunk unheld Evicted) view slabs now left
-Visits number class chunk Busy view slabs now left =
-    (FindsUnlinkedHeld chunk view now × (left ≡ slabs)) ⊎ SeesLinked chunk (λ unheld. VisitsLinked number class chunk unheld Busy) view slabs now left
-Visits number class chunk Locked view slabs now left = SeesLinked chunk (λ unheld. VisitsLinked number class chunk unheld Locked) view slabs now left
+-- what was seen and done, by what was found; and whether the turn's sweep is due or done, before and afterwards, which only a linked chunk changes
+abbrev pub Visits : ℕ → ℕ → ChunkId → Sweep → Found → Sweep → SlabsDoing
+Visits number class chunk sweep Already next view slabs now left = SeesCleared chunk view now × (left ≡ slabs) × (next ≡ sweep)
+Visits number class chunk sweep Cleared next view slabs now left = ClearsUnused chunk view slabs now left × (next ≡ sweep)
+Visits number class chunk sweep Rescued next view slabs now left = SeesLinked chunk (λ unheld. VisitsLinked number class chunk sweep unheld Rescued next) view slabs now left
+Visits number class chunk sweep Evicted next view slabs now left = SeesLinked chunk (λ unheld. VisitsLinked number class chunk sweep unheld Evicted next) view slabs now left
+Visits number class chunk sweep Busy next view slabs now left =
+    (FindsUnlinkedHeld chunk view now × (left ≡ slabs) × (next ≡ sweep)) ⊎ SeesLinked chunk (λ unheld. VisitsLinked number class chunk sweep unheld Busy next) view slabs now left
+Visits number class chunk sweep Locked next view slabs now left = SeesLinked chunk (λ unheld. VisitsLinked number class chunk sweep unheld Locked next) view slabs now left
 
 -- the chunk is to be saved, but there was no memory for a call on its key, and nothing was changed
 abbrev pub LacksCall : ChunkId → SlabsDoing

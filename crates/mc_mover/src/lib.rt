@@ -15,6 +15,7 @@ mod reassigning;
 mod saving;
 mod sections;
 mod surveying;
+mod sweep;
 mod turning;
 mod visiting;
 

@@ -12,6 +12,7 @@ ghost use Rattle.mc_mover.specs.Turning.{LacksMemory, LooksFrom, Section};
 ghost use Rattle.mc_mover.specs.Visiting.{LacksCall};
 
 use crate::counts::Counts;
+use crate::sweep::Sweep;
 use crate::visiting::visit;
 use mc_pages::{ChunkId, Found, Moving};
 use mc_stripe::NoMemory;
@@ -23,6 +24,7 @@ fn section(
     hand: &mut Hand,
     held: &mut SlabsHeld,
     moving: Moving,
+    sweep: &mut Sweep,
 ) -> Result<Found, NoMemory>
     requires arena { IsHandOf arena.now hand.old }
     requires held { HasSlabs hand.old held.old }
@@ -35,7 +37,7 @@ fn section(
     ensures arena { IsHandOf arena.now hand.new }
     ensures locks { locks_of hand.new ≡ locks_of hand.old }
     ensures held { HasSlabs hand.new held.new }
-    ensures section { IfOk result (λ found. Acts (λ number. Section number found) hand.old held.old hand.new held.new) }
+    ensures section { IfOk result (λ found. Acts (λ number. Section number sweep.old found sweep.new) hand.old held.old hand.new held.new) }
     ensures lacks { OnErr result (Acts (λ number. LacksCall (chunk_at_position moving)) hand.old held.old hand.new held.new) }
     ensures moves { IfOk result (λ found. (slabs_lent held.new).moving ≡ Some (moved_on moving found)) }
     ensures uncut { (slabs_lent held.new).uncut ≡ (slabs_lent held.old).uncut }
@@ -46,12 +48,13 @@ fn section(
         page: moving.page,
         index: moving.at,
     };
-    let found = visit(arena, hand, held, moving.src, chunk)?;
+    let found = visit(arena, hand, held, moving.src, chunk, sweep)?;
     arena.passed(hand, held, found);
     Ok(found)
 }
 
-// Deals with up to `bulk` chunks from the move's position on, or as many as are left on the page.
+// Deals with up to `bulk` chunks from the move's position on, or as many as are left on the page. The dead of the class are put back before
+// the first item that is to be saved, and again only where a later one finds no free chunk.
 pub(crate) fn sections(
     arena: &Arena,
     hand: &mut Hand,
@@ -76,6 +79,7 @@ pub(crate) fn sections(
     ensures ids { (view hand.new).row.ids ≡ (view hand.old).row.ids }
 {
     let mut counts = Counts::new();
+    let mut sweep = Sweep::Due;
     for _ in 0..arena.config().bulk {
         let Some(moving) = held.moving() else {
             return Ok(counts);
@@ -83,7 +87,7 @@ pub(crate) fn sections(
         if moving.at >= held.slabs().per_page(moving.src) {
             return Ok(counts);
         }
-        let found = section(arena, hand, held, moving)?;
+        let found = section(arena, hand, held, moving, &mut sweep)?;
         counts.count(found);
     }
     Ok(counts)

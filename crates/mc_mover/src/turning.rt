@@ -22,6 +22,9 @@ use std::sync::Wait;
 /// begins anew if some chunks held it up, and else the page comes to its destination. It waits for the lock of the slabs, and for no
 /// other. (slabs.c's `slab_rebalance_move` and `slab_rebalance_finish`; that a rescue keeps an item's age is own)
 ///
+/// The dead of the class are put back once a turn, before its first rescue or eviction, and once more before each later item that finds
+/// no free chunk, as an eviction has to have seen that none is dead. So a turn of rescues alone looks at each chunk of the class once. (own)
+///
 /// Of the hand's own calls just the evictions and the rescues that it counts come, each in its key's stripe; it says nothing, and gives out
 /// no stamp.
 ///

@@ -13,20 +13,22 @@ ghost use Rattle.mc_mover.specs.Acting.{Acts, HasSlabs};
 ghost use Rattle.mc_mover.specs.Visiting.{LacksCall, Visits};
 
 use crate::linked::visit_linked;
+use crate::sweep::Sweep;
 use mc_classes::ClassId;
 use mc_pages::{ChunkId, Found};
 use mc_stripe::NoMemory;
 use mc_words::{Arena, Hand, SlabsHeld, header};
 
 // Looks at a chunk of the moving page, and clears it where it can: a free or dead one at once, and a linked one that nobody holds once its
-// item was taken to another chunk of the class, or else evicted. At want of memory the chunk is as before. (slabs.c's
-// `slab_rebalance_move`, for one chunk)
+// item was taken to another chunk of the class, or else evicted. The turn's sweep is done before that, if it is due. At want of memory the
+// chunk is as before. (slabs.c's `slab_rebalance_move`, for one chunk)
 pub(crate) fn visit(
     arena: &Arena,
     hand: &mut Hand,
     held: &mut SlabsHeld,
     class: ClassId,
     chunk: ChunkId,
+    sweep: &mut Sweep,
 ) -> Result<Found, NoMemory>
     requires arena { IsHandOf arena.now hand.old }
     requires near { has_chunk (setup_of arena.now).table chunk ≡ true }
@@ -41,7 +43,7 @@ pub(crate) fn visit(
     ensures arena { IsHandOf arena.now hand.new }
     ensures locks { locks_of hand.new ≡ locks_of hand.old }
     ensures held { HasSlabs hand.new held.new }
-    ensures visits { IfOk result (λ found. Acts (λ number. Visits number class chunk found) hand.old held.old hand.new held.new) }
+    ensures visits { IfOk result (λ found. Acts (λ number. Visits number class chunk sweep.old found sweep.new) hand.old held.old hand.new held.new) }
     ensures clears { IfOk result (λ found. is_held_up found ≡ false → is_cleared (slabs_lent held.new) class chunk ≡ true) }
     ensures lacks { OnErr result (Acts (λ number. LacksCall chunk) hand.old held.old hand.new held.new) }
     ensures moving { (slabs_lent held.new).moving ≡ (slabs_lent held.old).moving }
@@ -52,7 +54,15 @@ pub(crate) fn visit(
 {
     let head = arena.head(hand, chunk);
     if header::is_linked(head) {
-        return visit_linked(arena, hand, held, class, chunk, header::is_unheld(head));
+        return visit_linked(
+            arena,
+            hand,
+            held,
+            class,
+            chunk,
+            header::is_unheld(head),
+            sweep,
+        );
     }
     if header::is_out(head) {
         return Ok(Found::Already);

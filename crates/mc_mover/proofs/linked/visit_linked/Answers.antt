@@ -38,7 +38,7 @@ returns-in_default-clause-visits c =
     let read : View = c.word_held-key.new.hand.seat.me.0 in
     let at : key % c.config.result.now.stripes ≡ key % view.setup.config.stripes = ap (λ (g : Config). key % g.stripes) (c.config.ensures.config ∙ ap (λ (s : Setup). s.config) (sym c.requires.arena.setup)) in
     let (word, busy, missed) = c.in_default.ensures.held in
-    (record { key = key; read = read; reads = (c.word_held-key.ensures.happens, c.word_held-key.ensures.view); word = word; busy = busy; is = missed ∙ ap (λ n. stripe_missed n word read) at }, refl)
+    (record { key = key; read = read; reads = (c.word_held-key.ensures.happens, c.word_held-key.ensures.view); word = word; busy = busy; is = missed ∙ ap (λ n. stripe_missed n word read) at }, refl, refl)
 
 pub returns-then-not-unheld-clause-locks : goal.returns-then-not-unheld-clause-locks
 returns-then-not-unheld-clause-locks c =
@@ -58,7 +58,7 @@ returns-then-not-unheld-clause-visits c =
     let reads : ReadsKey c.args.chunk key view read = (c.word_held-key.ensures.happens, c.word_held-key.ensures.view) in
     let given = c.give_stripe.ensures.left ∙ ap (λ n. stripe_given n value taken) c.in-Ok.ensures.number in
     let now : View = c.give_stripe.new.hand.seat.me.0 in
-    held_up c.args.chunk view read taken slabs key stripe value reads at c.in-Ok.ensures.taken c.in-Ok.ensures.lent c.in-Ok.ensures.whole c.args.hand.now.number c.args.class c.args.unheld now given (elim c.then-not-unheld.branch [
+    held_up c.args.chunk view read taken slabs key stripe value reads at c.in-Ok.ensures.taken c.in-Ok.ensures.lent c.in-Ok.ensures.whole c.args.hand.now.number c.args.class c.args.sweep.now c.args.unheld now given (elim c.then-not-unheld.branch [
       | then-not-unheld-via-then-not-unheld w ↦ inl w.if-not-unheld.true
       | then-not-unheld-via-else-not-unheld+then-not-leads_to w ↦ inr (w.if-not-unheld.false, w.if-not-leads_to.ensures.other refl)
     ])
@@ -123,15 +123,15 @@ returns-clause-visits c =
     let saved : View = c.save.new.hand.seat.me.0 in
     let kept = c.save.new.slabs.shared in
     let number = number_stays c.args.hand.now c.try_stripe.new.hand (ap (λ (v : View). v.row.ids) c.in-Ok.ensures.lent ∙ ap (λ (v : View). v.row.ids) c.word_held-key.ensures.view) in
-    let saves : SavesAs c.args.hand.now.number c.args.class c.args.chunk found stripe value taken slabs saved kept =
-    subst (λ (p : ℕ × ℕ). SavesAs p.0 c.args.class c.args.chunk found p.1 value taken slabs saved kept) (λ k. (number k, c.in-Ok.ensures.number k)) c.in_ok-found.ensures.saves in
-    let free = saved_found c.args.hand.now.number c.args.class c.args.chunk found stripe value taken slabs saved kept saves (sym c.eq.ensures ∙ c.if-eq.false) in
+    let saves : SavesAs c.args.hand.now.number c.args.class c.args.chunk c.args.sweep.now found stripe value taken slabs saved kept =
+    subst (λ (p : ℕ × ℕ). SavesAs p.0 c.args.class c.args.chunk c.args.sweep.now found p.1 value taken slabs saved kept) (λ k. (number k, c.in-Ok.ensures.number k)) c.in_ok-found.ensures.saves in
+    let free = saved_found c.args.hand.now.number c.args.class c.args.chunk c.args.sweep.now found stripe value taken slabs saved kept saves (sym c.eq.ensures ∙ c.if-eq.false) in
     let dead = c.in_ok-found.ensures.dead free in
     let clears = of_ok c.clear.result (c.clear.ensures.succeeds (dead_unused _ dead)) c.clear.ensures.cleared in
     let held : c.args.unheld ≡ true = c.if-not-unheld.false in
-    subst (λ (b : Bool). VisitsLinked c.args.hand.now.number c.args.class c.args.chunk b found view slabs c.clear.new.hand.seat.me.0 c.clear.new.held.shared) (sym held)
-    (visited_saved c.args.hand.now.number c.args.class c.args.chunk found view slabs c.clear.new.hand.seat.me.0 c.clear.new.held.shared free
-    (record { saved = saved; kept = kept; reaches = reached c.args.chunk view read taken slabs key stripe value reads at c.in-Ok.ensures.taken c.in-Ok.ensures.lent c.in-Ok.ensures.whole (λ key. SavesAs c.args.hand.now.number c.args.class c.args.chunk found) saved kept saves; clears = clears.0; left_is = clears.1 }))
+    subst (λ (b : Bool). VisitsLinked c.args.hand.now.number c.args.class c.args.chunk c.args.sweep.now b found c.save.new.sweep view slabs c.clear.new.hand.seat.me.0 c.clear.new.held.shared) (sym held)
+    (visited_saved c.args.hand.now.number c.args.class c.args.chunk c.args.sweep.now found c.save.new.sweep view slabs c.clear.new.hand.seat.me.0 c.clear.new.held.shared free c.in_ok-found.ensures.done
+    (record { saved = saved; kept = kept; reaches = reached c.args.chunk view read taken slabs key stripe value reads at c.in-Ok.ensures.taken c.in-Ok.ensures.lent c.in-Ok.ensures.whole (λ key. SavesAs c.args.hand.now.number c.args.class c.args.chunk c.args.sweep.now found) saved kept saves; clears = clears.0; left_is = clears.1 }))
 
 pub returns-clause-clears : goal.returns-clause-clears
 returns-clause-clears c =
@@ -148,9 +148,9 @@ returns-clause-clears c =
     let saved : View = c.save.new.hand.seat.me.0 in
     let kept = c.save.new.slabs.shared in
     let number = number_stays c.args.hand.now c.try_stripe.new.hand (ap (λ (v : View). v.row.ids) c.in-Ok.ensures.lent ∙ ap (λ (v : View). v.row.ids) c.word_held-key.ensures.view) in
-    let saves : SavesAs c.args.hand.now.number c.args.class c.args.chunk found stripe value taken slabs saved kept =
-    subst (λ (p : ℕ × ℕ). SavesAs p.0 c.args.class c.args.chunk found p.1 value taken slabs saved kept) (λ k. (number k, c.in-Ok.ensures.number k)) c.in_ok-found.ensures.saves in
-    let free = saved_found c.args.hand.now.number c.args.class c.args.chunk found stripe value taken slabs saved kept saves (sym c.eq.ensures ∙ c.if-eq.false) in
+    let saves : SavesAs c.args.hand.now.number c.args.class c.args.chunk c.args.sweep.now found stripe value taken slabs saved kept =
+    subst (λ (p : ℕ × ℕ). SavesAs p.0 c.args.class c.args.chunk c.args.sweep.now found p.1 value taken slabs saved kept) (λ k. (number k, c.in-Ok.ensures.number k)) c.in_ok-found.ensures.saves in
+    let free = saved_found c.args.hand.now.number c.args.class c.args.chunk c.args.sweep.now found stripe value taken slabs saved kept saves (sym c.eq.ensures ∙ c.if-eq.false) in
     let dead = c.in_ok-found.ensures.dead free in
     let clears = of_ok c.clear.result (c.clear.ensures.succeeds (dead_unused _ dead)) c.clear.ensures.cleared in
     let owned : class_of_page kept c.args.chunk.page ≡ c.args.class = ap (λ owners. Rattle.mc_pages.specs.SlabState.class_of_owner (Rattle.mc_pages.specs.Ledger.owner_at owners c.args.chunk.page)) c.in_ok-found.ensures.owners ∙ c.requires.own in
@@ -171,9 +171,9 @@ returns-clause-moving c =
     let saved : View = c.save.new.hand.seat.me.0 in
     let kept = c.save.new.slabs.shared in
     let number = number_stays c.args.hand.now c.try_stripe.new.hand (ap (λ (v : View). v.row.ids) c.in-Ok.ensures.lent ∙ ap (λ (v : View). v.row.ids) c.word_held-key.ensures.view) in
-    let saves : SavesAs c.args.hand.now.number c.args.class c.args.chunk found stripe value taken slabs saved kept =
-    subst (λ (p : ℕ × ℕ). SavesAs p.0 c.args.class c.args.chunk found p.1 value taken slabs saved kept) (λ k. (number k, c.in-Ok.ensures.number k)) c.in_ok-found.ensures.saves in
-    let free = saved_found c.args.hand.now.number c.args.class c.args.chunk found stripe value taken slabs saved kept saves (sym c.eq.ensures ∙ c.if-eq.false) in
+    let saves : SavesAs c.args.hand.now.number c.args.class c.args.chunk c.args.sweep.now found stripe value taken slabs saved kept =
+    subst (λ (p : ℕ × ℕ). SavesAs p.0 c.args.class c.args.chunk c.args.sweep.now found p.1 value taken slabs saved kept) (λ k. (number k, c.in-Ok.ensures.number k)) c.in_ok-found.ensures.saves in
+    let free = saved_found c.args.hand.now.number c.args.class c.args.chunk c.args.sweep.now found stripe value taken slabs saved kept saves (sym c.eq.ensures ∙ c.if-eq.false) in
     let dead = c.in_ok-found.ensures.dead free in
     let clears = of_ok c.clear.result (c.clear.ensures.succeeds (dead_unused _ dead)) c.clear.ensures.cleared in
     ap (λ (x : SlabState). x.moving) clears.1 ∙ c.in_ok-found.ensures.moving
@@ -193,9 +193,9 @@ returns-clause-uncut c =
     let saved : View = c.save.new.hand.seat.me.0 in
     let kept = c.save.new.slabs.shared in
     let number = number_stays c.args.hand.now c.try_stripe.new.hand (ap (λ (v : View). v.row.ids) c.in-Ok.ensures.lent ∙ ap (λ (v : View). v.row.ids) c.word_held-key.ensures.view) in
-    let saves : SavesAs c.args.hand.now.number c.args.class c.args.chunk found stripe value taken slabs saved kept =
-    subst (λ (p : ℕ × ℕ). SavesAs p.0 c.args.class c.args.chunk found p.1 value taken slabs saved kept) (λ k. (number k, c.in-Ok.ensures.number k)) c.in_ok-found.ensures.saves in
-    let free = saved_found c.args.hand.now.number c.args.class c.args.chunk found stripe value taken slabs saved kept saves (sym c.eq.ensures ∙ c.if-eq.false) in
+    let saves : SavesAs c.args.hand.now.number c.args.class c.args.chunk c.args.sweep.now found stripe value taken slabs saved kept =
+    subst (λ (p : ℕ × ℕ). SavesAs p.0 c.args.class c.args.chunk c.args.sweep.now found p.1 value taken slabs saved kept) (λ k. (number k, c.in-Ok.ensures.number k)) c.in_ok-found.ensures.saves in
+    let free = saved_found c.args.hand.now.number c.args.class c.args.chunk c.args.sweep.now found stripe value taken slabs saved kept saves (sym c.eq.ensures ∙ c.if-eq.false) in
     let dead = c.in_ok-found.ensures.dead free in
     let clears = of_ok c.clear.result (c.clear.ensures.succeeds (dead_unused _ dead)) c.clear.ensures.cleared in
     ap (λ (x : SlabState). x.uncut) clears.1 ∙ c.in_ok-found.ensures.uncut
@@ -215,9 +215,9 @@ returns-clause-per_page c =
     let saved : View = c.save.new.hand.seat.me.0 in
     let kept = c.save.new.slabs.shared in
     let number = number_stays c.args.hand.now c.try_stripe.new.hand (ap (λ (v : View). v.row.ids) c.in-Ok.ensures.lent ∙ ap (λ (v : View). v.row.ids) c.word_held-key.ensures.view) in
-    let saves : SavesAs c.args.hand.now.number c.args.class c.args.chunk found stripe value taken slabs saved kept =
-    subst (λ (p : ℕ × ℕ). SavesAs p.0 c.args.class c.args.chunk found p.1 value taken slabs saved kept) (λ k. (number k, c.in-Ok.ensures.number k)) c.in_ok-found.ensures.saves in
-    let free = saved_found c.args.hand.now.number c.args.class c.args.chunk found stripe value taken slabs saved kept saves (sym c.eq.ensures ∙ c.if-eq.false) in
+    let saves : SavesAs c.args.hand.now.number c.args.class c.args.chunk c.args.sweep.now found stripe value taken slabs saved kept =
+    subst (λ (p : ℕ × ℕ). SavesAs p.0 c.args.class c.args.chunk c.args.sweep.now found p.1 value taken slabs saved kept) (λ k. (number k, c.in-Ok.ensures.number k)) c.in_ok-found.ensures.saves in
+    let free = saved_found c.args.hand.now.number c.args.class c.args.chunk c.args.sweep.now found stripe value taken slabs saved kept saves (sym c.eq.ensures ∙ c.if-eq.false) in
     let dead = c.in_ok-found.ensures.dead free in
     let clears = of_ok c.clear.result (c.clear.ensures.succeeds (dead_unused _ dead)) c.clear.ensures.cleared in
     per_page-map kept c.clear.new.held.shared c.args.class (ap (λ (s : SlabState). map (λ (x : ClassState). x.per_page) s.classes) clears.1 ∙ per_pages-with_class kept (class_of_page kept c.args.chunk.page) _ refl) ∙ c.in_ok-found.ensures.per_page
@@ -237,9 +237,9 @@ returns-clause-holdings c =
     let saved : View = c.save.new.hand.seat.me.0 in
     let kept = c.save.new.slabs.shared in
     let number = number_stays c.args.hand.now c.try_stripe.new.hand (ap (λ (v : View). v.row.ids) c.in-Ok.ensures.lent ∙ ap (λ (v : View). v.row.ids) c.word_held-key.ensures.view) in
-    let saves : SavesAs c.args.hand.now.number c.args.class c.args.chunk found stripe value taken slabs saved kept =
-    subst (λ (p : ℕ × ℕ). SavesAs p.0 c.args.class c.args.chunk found p.1 value taken slabs saved kept) (λ k. (number k, c.in-Ok.ensures.number k)) c.in_ok-found.ensures.saves in
-    let free = saved_found c.args.hand.now.number c.args.class c.args.chunk found stripe value taken slabs saved kept saves (sym c.eq.ensures ∙ c.if-eq.false) in
+    let saves : SavesAs c.args.hand.now.number c.args.class c.args.chunk c.args.sweep.now found stripe value taken slabs saved kept =
+    subst (λ (p : ℕ × ℕ). SavesAs p.0 c.args.class c.args.chunk c.args.sweep.now found p.1 value taken slabs saved kept) (λ k. (number k, c.in-Ok.ensures.number k)) c.in_ok-found.ensures.saves in
+    let free = saved_found c.args.hand.now.number c.args.class c.args.chunk c.args.sweep.now found stripe value taken slabs saved kept saves (sym c.eq.ensures ∙ c.if-eq.false) in
     let dead = c.in_ok-found.ensures.dead free in
     let clears = of_ok c.clear.result (c.clear.ensures.succeeds (dead_unused _ dead)) c.clear.ensures.cleared in
     ap (λ (v : View). v.row.holdings) clears.0.is ∙ (c.save.ensures.holdings ∙ (ap (λ (v : View). v.row.holdings) c.in-Ok.ensures.lent ∙ ap (λ (v : View). v.row.holdings) c.word_held-key.ensures.view))
@@ -259,9 +259,9 @@ returns-clause-ids c =
     let saved : View = c.save.new.hand.seat.me.0 in
     let kept = c.save.new.slabs.shared in
     let number = number_stays c.args.hand.now c.try_stripe.new.hand (ap (λ (v : View). v.row.ids) c.in-Ok.ensures.lent ∙ ap (λ (v : View). v.row.ids) c.word_held-key.ensures.view) in
-    let saves : SavesAs c.args.hand.now.number c.args.class c.args.chunk found stripe value taken slabs saved kept =
-    subst (λ (p : ℕ × ℕ). SavesAs p.0 c.args.class c.args.chunk found p.1 value taken slabs saved kept) (λ k. (number k, c.in-Ok.ensures.number k)) c.in_ok-found.ensures.saves in
-    let free = saved_found c.args.hand.now.number c.args.class c.args.chunk found stripe value taken slabs saved kept saves (sym c.eq.ensures ∙ c.if-eq.false) in
+    let saves : SavesAs c.args.hand.now.number c.args.class c.args.chunk c.args.sweep.now found stripe value taken slabs saved kept =
+    subst (λ (p : ℕ × ℕ). SavesAs p.0 c.args.class c.args.chunk c.args.sweep.now found p.1 value taken slabs saved kept) (λ k. (number k, c.in-Ok.ensures.number k)) c.in_ok-found.ensures.saves in
+    let free = saved_found c.args.hand.now.number c.args.class c.args.chunk c.args.sweep.now found stripe value taken slabs saved kept saves (sym c.eq.ensures ∙ c.if-eq.false) in
     let dead = c.in_ok-found.ensures.dead free in
     let clears = of_ok c.clear.result (c.clear.ensures.succeeds (dead_unused _ dead)) c.clear.ensures.cleared in
     ap (λ (v : View). v.row.ids) clears.0.is ∙ (c.save.ensures.ids ∙ (ap (λ (v : View). v.row.ids) c.in-Ok.ensures.lent ∙ ap (λ (v : View). v.row.ids) c.word_held-key.ensures.view))
@@ -286,11 +286,11 @@ returns-then-eq-clause-visits c =
     let saved : View = c.save.new.hand.seat.me.0 in
     let kept = c.save.new.slabs.shared in
     let number = number_stays c.args.hand.now c.try_stripe.new.hand (ap (λ (v : View). v.row.ids) c.in-Ok.ensures.lent ∙ ap (λ (v : View). v.row.ids) c.word_held-key.ensures.view) in
-    let saves : SavesAs c.args.hand.now.number c.args.class c.args.chunk found stripe value taken slabs saved kept =
-    subst (λ (p : ℕ × ℕ). SavesAs p.0 c.args.class c.args.chunk found p.1 value taken slabs saved kept) (λ k. (number k, c.in-Ok.ensures.number k)) c.in_ok-found.ensures.saves in
-    let busy = held_found c.args.hand.now.number c.args.class c.args.chunk found stripe value taken slabs saved kept saves (sym c.eq.ensures ∙ c.if-eq.true) in
-    subst (λ (p : Bool × Found). VisitsLinked c.args.hand.now.number c.args.class c.args.chunk p.0 p.1 view slabs saved kept) (λ k. (sym c.if-not-unheld.false k, sym busy k))
-    (inr (reached c.args.chunk view read taken slabs key stripe value reads at c.in-Ok.ensures.taken c.in-Ok.ensures.lent c.in-Ok.ensures.whole (λ key. SavesAs c.args.hand.now.number c.args.class c.args.chunk Busy) saved kept (subst (λ (f : Found). SavesAs c.args.hand.now.number c.args.class c.args.chunk f stripe value taken slabs saved kept) busy saves)))
+    let saves : SavesAs c.args.hand.now.number c.args.class c.args.chunk c.args.sweep.now found stripe value taken slabs saved kept =
+    subst (λ (p : ℕ × ℕ). SavesAs p.0 c.args.class c.args.chunk c.args.sweep.now found p.1 value taken slabs saved kept) (λ k. (number k, c.in-Ok.ensures.number k)) c.in_ok-found.ensures.saves in
+    let busy = held_found c.args.hand.now.number c.args.class c.args.chunk c.args.sweep.now found stripe value taken slabs saved kept saves (sym c.eq.ensures ∙ c.if-eq.true) in
+    subst (λ (p : Bool × Found). VisitsLinked c.args.hand.now.number c.args.class c.args.chunk c.args.sweep.now p.0 p.1 c.save.new.sweep view slabs saved kept) (λ k. (sym c.if-not-unheld.false k, sym busy k))
+    (inr (reached c.args.chunk view read taken slabs key stripe value reads at c.in-Ok.ensures.taken c.in-Ok.ensures.lent c.in-Ok.ensures.whole (λ key. SavesAs c.args.hand.now.number c.args.class c.args.chunk c.args.sweep.now Busy) saved kept (subst (λ (f : Found). SavesAs c.args.hand.now.number c.args.class c.args.chunk c.args.sweep.now f stripe value taken slabs saved kept) busy saves), c.in_ok-found.ensures.done))
 
 pub returns-then-eq-clause-clears : goal.returns-then-eq-clause-clears
 returns-then-eq-clause-clears c =
@@ -307,7 +307,7 @@ returns-then-eq-clause-clears c =
     let saved : View = c.save.new.hand.seat.me.0 in
     let kept = c.save.new.slabs.shared in
     let number = number_stays c.args.hand.now c.try_stripe.new.hand (ap (λ (v : View). v.row.ids) c.in-Ok.ensures.lent ∙ ap (λ (v : View). v.row.ids) c.word_held-key.ensures.view) in
-    let saves : SavesAs c.args.hand.now.number c.args.class c.args.chunk found stripe value taken slabs saved kept =
-    subst (λ (p : ℕ × ℕ). SavesAs p.0 c.args.class c.args.chunk found p.1 value taken slabs saved kept) (λ k. (number k, c.in-Ok.ensures.number k)) c.in_ok-found.ensures.saves in
-    let busy = held_found c.args.hand.now.number c.args.class c.args.chunk found stripe value taken slabs saved kept saves (sym c.eq.ensures ∙ c.if-eq.true) in
+    let saves : SavesAs c.args.hand.now.number c.args.class c.args.chunk c.args.sweep.now found stripe value taken slabs saved kept =
+    subst (λ (p : ℕ × ℕ). SavesAs p.0 c.args.class c.args.chunk c.args.sweep.now found p.1 value taken slabs saved kept) (λ k. (number k, c.in-Ok.ensures.number k)) c.in_ok-found.ensures.saves in
+    let busy = held_found c.args.hand.now.number c.args.class c.args.chunk c.args.sweep.now found stripe value taken slabs saved kept saves (sym c.eq.ensures ∙ c.if-eq.true) in
     λ free. absurd (let held : is_held_up found ≡ true = ap is_held_up busy in let never : true ≡ false = sym held ∙ free in cc)

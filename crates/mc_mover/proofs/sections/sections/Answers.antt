@@ -51,7 +51,7 @@ returns-in_err-found-clause-lacks c =
     let chunks = c.per_page.ensures.chunks ∙ ap (λ (s : SlabState). (class_at s move.src).per_page) c.slabs.ensures.slabs in
     let inside = c.if-moving-per_page.false in
     as_error c.from_residual.result
-    (lacks_next hand.number c.loop.counter c.loop.counts move hand.seat.me.0 c.args.held.now.shared before c.loop.held.shared now c.section.new.held.shared inv.gone
+    (lacks_next hand.number c.loop.counter c.loop.counts c.loop.sweep move hand.seat.me.0 c.args.held.now.shared before c.loop.held.shared now c.section.new.held.shared inv.gone
     (omega arith) (sym c.in-Some.ensures.moving) (omega arith) (on_error c.section.result c.in_err-found.field-0.0 c.in_err-found.was c.section.ensures.lacks))
 
 pub count-requires : goal.count-requires
@@ -60,7 +60,7 @@ count-requires c =
     let hand = c.args.hand.now in
     record {
       below = counts_small (setup_of c.args.arena.now) hand.seat.me.0 c.requires.arena.lawful c.requires.arena.setup c.args.held.now.shared c.requires.held
-          c.loop.hand.seat.me.0 inv.arena.lawful inv.arena.setup c.loop.held.shared inv.held hand.number c.loop.counter c.loop.counts inv.gone;
+          c.loop.hand.seat.me.0 inv.arena.lawful inv.arena.setup c.loop.held.shared inv.held hand.number c.loop.counter c.loop.counts c.loop.sweep inv.gone;
     }
 
 pub loop-preserved : goal.loop-preserved
@@ -78,8 +78,8 @@ loop-preserved c =
       uncut = c.section.ensures.uncut ∙ inv.uncut;
       holdings = c.section.ensures.holdings ∙ inv.holdings;
       ids = c.section.ensures.ids ∙ inv.ids;
-      gone = gone_more hand.number c.loop.counter c.loop.counts c.count.new.self found c.in-Some.moving hand.seat.me.0 c.args.held.now.shared before c.loop.held.shared now left inv.gone
-          (sym c.in-Some.ensures.moving) (subst (λ n. Section n found before c.loop.held.shared now left) (number_stays hand c.loop.hand inv.ids) c.in_ok-found.ensures.section)
+      gone = gone_more hand.number c.loop.counter c.loop.counts c.count.new.self c.loop.sweep found c.section.new.sweep c.in-Some.moving hand.seat.me.0 c.args.held.now.shared before c.loop.held.shared now left inv.gone
+          (sym c.in-Some.ensures.moving) (subst (λ n. Section n c.loop.sweep found c.section.new.sweep before c.loop.held.shared now left) (number_stays hand c.loop.hand inv.ids) c.in_ok-found.ensures.section)
           c.in_ok-found.ensures.moves c.count.ensures.counted;
     }
 
@@ -91,7 +91,7 @@ returns-clause-looks c =
     let most = c.loop.auto.counter-end in
     let over = c.loop-test.false in
     all_of_bulk (setup_of c.args.arena.now) hand.seat.me.0 c.requires.arena.lawful c.requires.arena.setup c.args.held.now.shared c.requires.held
-    c.loop.hand.seat.me.0 inv.arena.lawful inv.arena.setup c.loop.held.shared inv.held hand.number c.loop.counter c.loop.counts inv.gone
+    c.loop.hand.seat.me.0 inv.arena.lawful inv.arena.setup c.loop.held.shared inv.held hand.number c.loop.counter c.loop.counts c.loop.sweep inv.gone
     (omega arith) (omega arith)
 
 pub returns-then-moving-per_page-clause-looks : goal.returns-then-moving-per_page-clause-looks
@@ -104,15 +104,15 @@ returns-then-moving-per_page-clause-looks c =
     let chunks = c.per_page.ensures.chunks ∙ ap (λ (s : SlabState). (class_at s move.src).per_page) c.slabs.ensures.slabs in
     let past = c.if-moving-per_page.true in
     all_of_page (setup_of c.args.arena.now) hand.seat.me.0 c.requires.arena.lawful c.requires.arena.setup c.args.held.now.shared c.requires.held
-    c.loop.hand.seat.me.0 inv.arena.lawful inv.arena.setup c.loop.held.shared inv.held hand.number c.loop.counter c.loop.counts inv.gone
+    c.loop.hand.seat.me.0 inv.arena.lawful inv.arena.setup c.loop.held.shared inv.held hand.number c.loop.counter c.loop.counts c.loop.sweep inv.gone
     (omega arith) move (sym c.in-Some.ensures.moving) (omega arith)
 
 pub returns-clause-same_move : goal.returns-clause-same_move
 returns-clause-same_move c =
     let hand = c.args.hand.now in
-    gone_runs hand.number c.loop.counter c.loop.counts hand.seat.me.0 c.args.held.now.shared c.loop.hand.seat.me.0 c.loop.held.shared c.loop.invariant.gone
+    gone_runs hand.number c.loop.counter c.loop.counts c.loop.sweep hand.seat.me.0 c.args.held.now.shared c.loop.hand.seat.me.0 c.loop.held.shared c.loop.invariant.gone
 
 pub returns-then-moving-per_page-clause-same_move : goal.returns-then-moving-per_page-clause-same_move
 returns-then-moving-per_page-clause-same_move c =
     let hand = c.args.hand.now in
-    gone_runs hand.number c.loop.counter c.loop.counts hand.seat.me.0 c.args.held.now.shared c.loop.hand.seat.me.0 c.loop.held.shared c.loop.invariant.gone
+    gone_runs hand.number c.loop.counter c.loop.counts c.loop.sweep hand.seat.me.0 c.args.held.now.shared c.loop.hand.seat.me.0 c.loop.held.shared c.loop.invariant.gone

@@ -12,5 +12,5 @@ invariant-loop l = record {
   uncut : l.held.shared.uncut ≡ l.fn.held.shared.uncut;
   holdings : (view l.hand).row.holdings ≡ (view l.fn.hand).row.holdings;
   ids : (view l.hand).row.ids ≡ (view l.fn.hand).row.ids;
-  gone : GoneThrough l.fn.hand.number l.counter l.counts (view l.fn.hand) l.fn.held.shared (view l.hand) l.held.shared;
+  gone : GoneThrough l.fn.hand.number l.counter l.counts l.sweep (view l.fn.hand) l.fn.held.shared (view l.hand) l.held.shared;
 }

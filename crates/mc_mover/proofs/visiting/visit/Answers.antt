@@ -30,9 +30,9 @@ returns-then-is_linked-clause-visits c =
     let left = c.visit_linked.new.held.shared in
     let slabs = c.args.held.now.shared in
     let number = number_stays c.args.hand.now c.head-head.new.hand (ap (λ (v : View). v.row.ids) c.head-head.ensures.seen) in
-    if_ok (λ found. VisitsLinked c.head-head.new.hand.number c.args.class c.args.chunk c.is_unheld.result found seen slabs now left) (λ found. Visits c.args.hand.now.number c.args.class c.args.chunk found view slabs now left) c.visit_linked.result
-    (λ found does. visited c.args.hand.now.number c.args.class c.args.chunk view seen slabs now left head (sym c.is_linked.ensures.linked ∙ c.if-is_linked.true) c.head-head.ensures.happens c.head-head.ensures.seen found
-    (subst (λ (p : ℕ × Bool). VisitsLinked p.0 c.args.class c.args.chunk p.1 found seen slabs now left) (λ k. (number k, c.is_unheld.ensures.unheld k)) does))
+    if_ok (λ found. VisitsLinked c.head-head.new.hand.number c.args.class c.args.chunk c.args.sweep.now c.is_unheld.result found c.visit_linked.new.sweep seen slabs now left) (λ found. Visits c.args.hand.now.number c.args.class c.args.chunk c.args.sweep.now found c.visit_linked.new.sweep view slabs now left) c.visit_linked.result
+    (λ found does. visited c.args.hand.now.number c.args.class c.args.chunk view seen slabs now left head (sym c.is_linked.ensures.linked ∙ c.if-is_linked.true) c.head-head.ensures.happens c.head-head.ensures.seen c.args.sweep.now found c.visit_linked.new.sweep
+    (subst (λ (p : ℕ × Bool). VisitsLinked p.0 c.args.class c.args.chunk c.args.sweep.now p.1 found c.visit_linked.new.sweep seen slabs now left) (λ k. (number k, c.is_unheld.ensures.unheld k)) does))
     c.visit_linked.ensures.visits
 
 pub returns-then-is_linked-clause-lacks : goal.returns-then-is_linked-clause-lacks
@@ -56,12 +56,15 @@ returns-then-is_out-clause-clears c =
     λ _. out_found view seen slabs c.requires.held c.args.chunk (decode c.head-head.result) c.head-head.ensures.seen c.head-head.ensures.arena.lawful near c.args.class valid c.requires.cut (sym c.is_out.ensures.out ∙ c.if-is_out.true)
 
 pub returns-in-Ok-clause-visits : goal.returns-in-Ok-clause-visits
-returns-in-Ok-clause-visits c = record {
-  seen = c.head-head.new.hand.seat.me.0;
-  sees = record { head = decode c.head-head.result; so = and_from _ _ (ap not (sym c.is_linked.ensures.linked ∙ c.if-is_linked.false)) (ap not (sym c.is_out.ensures.out ∙ c.if-is_out.false)); looks = c.head-head.ensures.happens; is = c.head-head.ensures.seen };
-  clears = c.in-Ok.ensures.cleared.0;
-  left_is = c.in-Ok.ensures.cleared.1;
-}
+returns-in-Ok-clause-visits c = (
+  record {
+    seen = c.head-head.new.hand.seat.me.0;
+    sees = record { head = decode c.head-head.result; so = and_from _ _ (ap not (sym c.is_linked.ensures.linked ∙ c.if-is_linked.false)) (ap not (sym c.is_out.ensures.out ∙ c.if-is_out.false)); looks = c.head-head.ensures.happens; is = c.head-head.ensures.seen };
+    clears = c.in-Ok.ensures.cleared.0;
+    left_is = c.in-Ok.ensures.cleared.1;
+  },
+  refl,
+)
 
 pub returns-in-Ok-clause-clears : goal.returns-in-Ok-clause-clears
 returns-in-Ok-clause-clears c =
@@ -84,4 +87,5 @@ returns-in-Err-clause-visits c =
         other = c.in-Err.ensures.moved.0;
       },
       c.in-Err.ensures.moved.1,
+      refl,
     )

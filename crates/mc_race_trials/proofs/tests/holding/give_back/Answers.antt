@@ -1,8 +1,18 @@
 use Rattle.std.proofs.Common.{◌<◌, length, rules, sym, subst}
+use Rattle.std.proofs.lemmas.List.Elements.{All-get_or}
 use Rattle.mc_words.specs.Arenas.{view}
+use Rattle.mc_items.specs.ItemRefs.{IsItemRef}
 use Rattle.mc_race_trials.specs.Keepers.{AreKept}
 use Rattle.mc_race_trials.proofs.KeptRefs.{kept_without}
 use Rattle.mc_race_trials.proofs.tests.holding.give_back.Goals as goal
+
+-- the one that is taken out was kept
+pub release-requires-clause-item : goal.release-requires-clause-item
+release-requires-clause-item c =
+    let before = view c.args.hand.now in
+    let kept = c.args.kept.now.items in
+    let within : c.args.place < length kept = search rules in
+    subst (IsItemRef before) (sym c.remove-item.ensures.value) (All-get_or (IsItemRef before) kept c.args.place c.remove-item.result within c.requires.keeper.1.items)
 
 -- one less is kept
 pub returns : goal.returns
