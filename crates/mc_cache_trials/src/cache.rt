@@ -1,9 +1,9 @@
 //! A cache of squares for one thread, over the typed calls of a keeper.
 ghost use Rattle.std.specs.Prelude.{◌<◌, ◌^◌};
 
-use mc_classes::{ClassTable, Config};
-use mc_keeper::{Keeper, Stop};
-use std::alloc::{AllocError, Global};
+use mc_classes::{ClassTable, Config, ConfigError};
+use mc_keeper::{Keeper, Refused, Stop};
+use std::alloc::Global;
 
 /// Four pages of 1024 bytes, classes of 48, 96, 192 and 512 bytes, and 64 chunks a turn of the mover.
 pub const SMALL: Config = Config {
@@ -17,14 +17,15 @@ pub const SMALL: Config = Config {
     bulk: 64,
 };
 
-/// A cache in which nothing is stored, if there is memory. Its automover acts on windows, which is mode 1.
-pub fn small_cache(alloc: Global) -> Option<Keeper> {
-    let table = ClassTable::build(alloc, &SMALL).ok()?;
-    Keeper::new(alloc, table, SMALL.bulk, 1).ok()
+/// A cache in which nothing is stored. Its automover acts on windows, which is mode 1.
+pub fn small_cache(alloc: Global) -> Result<Keeper, ConfigError> {
+    let table = ClassTable::build(alloc, &SMALL)?;
+    let keeper = Keeper::new(alloc, table, SMALL.bulk, 1)?;
+    Ok(keeper)
 }
 
 /// The key's square: from the cache, or else reckoned and kept there, if there is room.
-pub fn square(cache: &mut Keeper, key: u64) -> Result<u64, AllocError>
+pub fn square(cache: &mut Keeper, key: u64) -> Result<u64, Refused>
     requires { key < 2 ^ 32 }
 {
     if let Ok(Some(words)) = cache.get(0, key) {

@@ -2,22 +2,22 @@
 mod steps;
 
 use crate::{SMALL, small_cache, square, tick};
-use mc_classes::ClassTable;
-use mc_keeper::{Ending, HoldError, Keeper, Reassign, Stored, TooManyRefs};
-use std::alloc::{AllocError, Global};
+use mc_classes::{ClassTable, ConfigError};
+use mc_keeper::{Ending, HoldError, Keeper, Reassign, Refused, Stored, TooManyRefs};
+use std::alloc::Global;
 use std::process::Abort;
 use std::test::Fail;
 use steps::{Step, is_so};
 
 /// A keeper of four pages whose automover is off.
-fn small_keeper(alloc: Global) -> Result<Keeper, Fail> {
+fn small_keeper(alloc: Global) -> Result<Keeper, ConfigError> {
     let table = ClassTable::build(alloc, &SMALL)?;
     let keeper = Keeper::new(alloc, table, SMALL.bulk, 0)?;
     Ok(keeper)
 }
 
 /// Each call gives what it is to give.
-fn play(rt: &impl Abort, keeper: &mut Keeper, steps: &[Step]) -> Result<(), AllocError> {
+fn play(rt: &impl Abort, keeper: &mut Keeper, steps: &[Step]) -> Result<(), Refused> {
     for step in steps {
         let so = is_so(keeper, step)?;
         assert!(rt; so, "a call gave something else");
@@ -142,7 +142,7 @@ fn a_worker_has_255_holds(rt: HostRuntime) -> Result<(), Fail> {
 }
 
 /// Whether the square is right, and is told again.
-fn is_kept(cache: &mut Keeper, key: u64) -> Result<bool, AllocError> {
+fn is_kept(cache: &mut Keeper, key: u64) -> Result<bool, Refused> {
     if key >= 100 {
         return Ok(false);
     }
@@ -154,9 +154,7 @@ fn is_kept(cache: &mut Keeper, key: u64) -> Result<bool, AllocError> {
 /// What was reckoned is found again, and a cache that stands still ticks.
 #[test]
 fn squares_are_kept(rt: HostRuntime) -> Result<(), Fail> {
-    let Some(mut cache) = small_cache(rt.alloc()) else {
-        return Err(Fail::new("there is memory"));
-    };
+    let mut cache = small_cache(rt.alloc())?;
     let kept = is_kept(&mut cache, 12)?;
     let stands = is_so(&mut cache, &Step::Has(1, 1, 20))?;
     let ticked = tick(&mut cache).is_ok();

@@ -13,7 +13,7 @@ use Rattle.mc_classes.specs.Refusals.{refusal_of, number_of}
 use Rattle.mc_options.specs.declared.settings.Run.{Run}
 use Rattle.mc_script.specs.declared.command.Command.{Command}
 use Rattle.mc_driver.specs.declared.fault.RunFault.{RunFault}
-use Rattle.mc_driver.specs.declared.fault.RunFault.TheVariants.{Config as Refused, Script, TooLong, Read, Write, Memory, Turns}
+use Rattle.mc_driver.specs.declared.fault.RunFault.TheVariants.{Config as Refused, Script, TooLong, Read, Write, Memory, Thread, Turns}
 use Rattle.mc_machine.specs.Machine.{Machine, fresh_machine}
 use Rattle.mc_driver.specs.Reading.{IsReadFault, since}
 use Rattle.mc_driver.specs.Run.{IsOutcome, IsReadWhole, IsScript, IsScriptOutcome, config_fault, refusal_number}
@@ -46,10 +46,11 @@ outcome_all run table all front old new (Err (Script number)) is front_is (short
     let same : front ≡ all = front_all 1048576 all front front_is short in
     (table, is, (rw (← same) short, rw (← same) at, kept))
 outcome_all run table all front old new (Err Write) is front_is (commands, script, broken) = (table, is, (commands, script_all all front commands front_is script, broken))
-outcome_all run table all front old new (Err Memory) is front_is (inl kept) = inl kept
-outcome_all run table all front old new (Err Memory) is front_is (inr (commands, script, first)) =
+outcome_all run table all front old new (Err (Memory refused)) is front_is (inl kept) = inl kept
+outcome_all run table all front old new (Err (Memory refused)) is front_is (inr (commands, script, first)) =
     inr (table, is, inr (commands, script_all all front commands front_is script, first))
 outcome_all run table all front old new (Err (Refused number)) is front_is told = absurd told
+outcome_all run table all front old new (Err (Thread unstarted)) is front_is told = absurd told
 outcome_all run table all front old new (Err Read) is front_is told = absurd told
 
 -- the same, of bytes that the reader may not tell
@@ -99,7 +100,7 @@ unbuilt_memory run none = record {
   outcome = λ all held. known all held;
 }
   where
-    known : (all held : Option (List ℕ)) → IfSome all (λ bytes. IsOutcome run bytes held held (Err Memory))
+    known : (all held : Option (List ℕ)) → IfSome all (λ bytes. IsOutcome run bytes held held (Err (Memory tt)))
     known None held = tt
     known (Some bytes) held = inl (Keeps-refl held)
 
@@ -130,8 +131,9 @@ outcome_of run table bytes old new (Err Turns) is outcome = (table, is, outcome)
 outcome_of run table bytes old new (Err TooLong) is outcome = (table, is, outcome)
 outcome_of run table bytes old new (Err (Script number)) is outcome = (table, is, outcome)
 outcome_of run table bytes old new (Err Write) is outcome = (table, is, outcome)
-outcome_of run table bytes old new (Err Memory) is outcome = inr (table, is, outcome)
+outcome_of run table bytes old new (Err (Memory refused)) is outcome = inr (table, is, outcome)
 outcome_of run table bytes old new (Err (Refused number)) is told = absurd told
+outcome_of run table bytes old new (Err (Thread unstarted)) is told = absurd told
 outcome_of run table bytes old new (Err Read) is told = absurd told
 
 -- a script that was answered to isn't too long, so it was read to its end
@@ -142,9 +144,10 @@ whole_where_short bytes machine old new (Err Turns) Ended (commands, script, wri
 whole_where_short bytes machine old new (Err TooLong) Ended (long, kept) ends = kept
 whole_where_short bytes machine old new (Err (Script number)) Ended (short, told, kept) ends = ends short
 whole_where_short bytes machine old new (Err Write) Ended (commands, script, broken) ends = ends script.short
-whole_where_short bytes machine old new (Err Memory) Ended (inl kept) ends = inl kept
-whole_where_short bytes machine old new (Err Memory) Ended (inr (commands, script, first)) ends = inr (ends script.short)
+whole_where_short bytes machine old new (Err (Memory refused)) Ended (inl kept) ends = inl kept
+whole_where_short bytes machine old new (Err (Memory refused)) Ended (inr (commands, script, first)) ends = inr (ends script.short)
 whole_where_short bytes machine old new (Err (Refused number)) Ended told ends = absurd told
+whole_where_short bytes machine old new (Err (Thread unstarted)) Ended told ends = absurd told
 whole_where_short bytes machine old new (Err Read) Ended told ends = absurd told
 
 -- what came since is what was read
@@ -154,20 +157,22 @@ since_is old new bytes is = ap (λ all. drop (length old) all) is ∙ drop-appen
 -- a run whose reading failed, or that found no memory for it, answered nothing
 pub unread_outcome : (run : Run) (bytes : List ℕ) (held : Option (List ℕ)) (old new : ℕ) (fault : RunFault) → IsReadFault old new fault → IsOutcome run bytes held held (Err fault)
 unread_outcome run bytes held old new Read is = Keeps-refl held
-unread_outcome run bytes held old new Memory is = inl (Keeps-refl held)
+unread_outcome run bytes held old new (Memory refused) is = inl (Keeps-refl held)
 unread_outcome run bytes held old new (Refused number) is = absurd is
 unread_outcome run bytes held old new (Script number) is = absurd is
 unread_outcome run bytes held old new TooLong is = absurd is
 unread_outcome run bytes held old new Write is = absurd is
+unread_outcome run bytes held old new (Thread unstarted) is = absurd is
 unread_outcome run bytes held old new Turns is = absurd is
 
 pub unread_whole : (Ended : Type 0) (held : Option (List ℕ)) (old new : ℕ) (fault : RunFault) → IsReadFault old new fault → IsReadWhole Ended (Keeps held held) (Err fault)
 unread_whole Ended held old new Read is = Keeps-refl held
-unread_whole Ended held old new Memory is = inl (Keeps-refl held)
+unread_whole Ended held old new (Memory refused) is = inl (Keeps-refl held)
 unread_whole Ended held old new (Refused number) is = absurd is
 unread_whole Ended held old new (Script number) is = absurd is
 unread_whole Ended held old new TooLong is = absurd is
 unread_whole Ended held old new Write is = absurd is
+unread_whole Ended held old new (Thread unstarted) is = absurd is
 unread_whole Ended held old new Turns is = absurd is
 
 -- nor did one whose configuration was refused

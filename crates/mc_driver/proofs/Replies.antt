@@ -7,7 +7,7 @@ use Rattle.std.proofs.lemmas.List.{take_more, drop_more, take-append-drop}
 use Rattle.mc_classes.specs.Device.{Extends}
 use Rattle.mc_script.specs.declared.command.Command.{Command}
 use Rattle.mc_driver.specs.declared.fault.RunFault.{RunFault}
-use Rattle.mc_driver.specs.declared.fault.RunFault.TheVariants.{Config as Refused, Script, TooLong, Read, Write, Memory, Turns}
+use Rattle.mc_driver.specs.declared.fault.RunFault.TheVariants.{Config as Refused, Script, TooLong, Read, Write, Memory, Thread, Turns}
 use Rattle.mc_driver.specs.Run.{IsReplyFault, IsServeFault}
 use Rattle.mc_machine.specs.Machine.{Machine}
 use Rattle.mc_machine.specs.Lines.{Served, serve, replies_to, after_all, is_done}
@@ -96,7 +96,7 @@ module _ (m now : Machine) (commands : List Command) (i : ℕ) (other : Command)
       written = extends_from_appends old mid new (replies_to m (take i commands)) wrote ends.1;
     },
   )
-  ends_there old mid new f_old f_mid f_new Memory wrote quiet ends = (
+  ends_there old mid new f_old f_mid f_new (Memory refused) wrote quiet ends = (
     ends.0 ∙ quiet,
     record {
       count = i;
@@ -111,6 +111,7 @@ module _ (m now : Machine) (commands : List Command) (i : ℕ) (other : Command)
     rw (stopped_replies ends.2) (Appends-kept old mid new (replies_to m (take i commands)) wrote ends.1),
   )
   ends_there old mid new f_old f_mid f_new (Refused number) wrote quiet ends = absurd ends
+  ends_there old mid new f_old f_mid f_new (Thread unstarted) wrote quiet ends = absurd ends
   ends_there old mid new f_old f_mid f_new (Script number) wrote quiet ends = absurd ends
   ends_there old mid new f_old f_mid f_new TooLong wrote quiet ends = absurd ends
   ends_there old mid new f_old f_mid f_new Read wrote quiet ends = absurd ends

@@ -6,7 +6,7 @@ use Rattle.mc_classes.specs.declared.config.ConfigError.{ConfigError}
 use Rattle.mc_classes.specs.Refusals.{refusal_of}
 use Rattle.mc_options.specs.declared.settings.Run.{Run}
 use Rattle.mc_driver.specs.declared.fault.RunFault.{RunFault}
-use Rattle.mc_driver.specs.declared.fault.RunFault.TheVariants.{Config as Refused, Script, TooLong, Read, Write, Memory, Turns}
+use Rattle.mc_driver.specs.declared.fault.RunFault.TheVariants.{Config as Refused, Script, TooLong, Read, Write, Memory, Thread, Turns}
 use Rattle.mc_driver.specs.Run.{config_fault}
 use Rattle.mc_driver.specs.Threads.{IsThreadsOutcome, IsToldOutcome}
 use Rattle.mc_driver.proofs.Outcomes.{front_all, front_long, no_memory_refusal, script_all, told_by_number}
@@ -16,7 +16,8 @@ told_all : (run : Run) (all front : List ℕ) (old new : Option (List ℕ)) (res
     → front ≡ take 1048577 all → IsToldOutcome run front old new result → IsToldOutcome run all old new result
 told_all run all front old new (Ok unit) front_is (commands, script, told) = (commands, script_all all front commands front_is script, told)
 told_all run all front old new (Err Turns) front_is (commands, script, kept) = (commands, script_all all front commands front_is script, kept)
-told_all run all front old new (Err Memory) front_is kept = kept
+told_all run all front old new (Err (Thread unstarted)) front_is (commands, script, kept) = (commands, script_all all front commands front_is script, kept)
+told_all run all front old new (Err (Memory refused)) front_is kept = kept
 told_all run all front old new (Err TooLong) front_is (long, kept) = (front_long 1048576 all front front_is long, kept)
 told_all run all front old new (Err (Script number)) front_is (short, at, kept) =
     let same : front ≡ all = front_all 1048576 all front front_is short in
@@ -30,7 +31,8 @@ pub threads_outcome : (run : Run) (bytes : List ℕ) (old new : Option (List ℕ
     → refusal_of run.config ≡ None → IsToldOutcome run bytes old new result → IsThreadsOutcome run bytes old new result
 threads_outcome run bytes old new (Ok unit) accepted told = (accepted, told)
 threads_outcome run bytes old new (Err Turns) accepted told = (accepted, told)
-threads_outcome run bytes old new (Err Memory) accepted told = (accepted, told)
+threads_outcome run bytes old new (Err (Thread unstarted)) accepted told = (accepted, told)
+threads_outcome run bytes old new (Err (Memory refused)) accepted told = (accepted, told)
 threads_outcome run bytes old new (Err TooLong) accepted told = (accepted, told)
 threads_outcome run bytes old new (Err (Script number)) accepted told = (accepted, told)
 threads_outcome run bytes old new (Err Write) accepted told = (accepted, told)

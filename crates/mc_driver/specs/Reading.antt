@@ -2,16 +2,17 @@
 use Rattle.std.specs.Prelude.{◌≡◌, ℕ, ◌<◌, ◌≤◌, List, ◌++◌, length, drop, Option}
 use Rattle.std.specs.Io.KnownBytes.{Consumes}
 use Rattle.mc_driver.specs.declared.fault.RunFault.{RunFault}
-use Rattle.mc_driver.specs.declared.fault.RunFault.TheVariants.{Config, Script, TooLong, Read, Write, Memory, Turns}
+use Rattle.mc_driver.specs.declared.fault.RunFault.TheVariants.{Config, Script, TooLong, Read, Write, Memory, Thread, Turns}
 
 -- a read failed, which the reader counts; or memory ran out, and no read failed
 abbrev pub IsReadFault : ℕ → ℕ → RunFault → Type 0
 IsReadFault old new Read = old < new
-IsReadFault old new Memory = new ≡ old
+IsReadFault old new (Memory refused) = new ≡ old
 IsReadFault old new (Config number) = ⊥
 IsReadFault old new (Script number) = ⊥
 IsReadFault old new TooLong = ⊥
 IsReadFault old new Write = ⊥
+IsReadFault old new (Thread unstarted) = ⊥
 IsReadFault old new Turns = ⊥
 
 -- so many bytes, which the reader gave, went from what was left to the end of what was read

@@ -12,7 +12,7 @@ use Rattle.mc_options.specs.declared.settings.Run.{Run}
 use Rattle.mc_script.specs.declared.command.Command.{Command}
 use Rattle.mc_script.specs.Script.{script_of}
 use Rattle.mc_driver.specs.declared.fault.RunFault.{RunFault}
-use Rattle.mc_driver.specs.declared.fault.RunFault.TheVariants.{Config as Refused, Script, TooLong, Read, Write, Memory, Turns}
+use Rattle.mc_driver.specs.declared.fault.RunFault.TheVariants.{Config as Refused, Script, TooLong, Read, Write, Memory, Thread, Turns}
 use Rattle.mc_keeper.specs.declared.keeper.serve.Stop.{Stop}
 use Rattle.mc_keeper.specs.declared.keeper.serve.Stop.TheVariants as stop
 use Rattle.mc_machine.specs.Machine.{Machine, fresh_machine}
@@ -28,17 +28,18 @@ refusal_number config = option_map number_of (refusal_of config)
 
 -- how a run ends without a class table
 abbrev pub config_fault : ConfigError → RunFault
-config_fault (NoMemory _) = Memory
+config_fault (NoMemory refused) = Memory refused
 config_fault refusal = Refused (number_of refusal)
 
 -- how a run ends without commands: the bytes are too many, or the lowest line that is no command is this
 abbrev pub IsScriptFault : List ℕ → RunFault → Type 0
 IsScriptFault bytes TooLong = most_bytes < length bytes
 IsScriptFault bytes (Script number) = (length bytes ≤ most_bytes) × (script_of bytes ≡ Err number)
-IsScriptFault bytes Memory = Unit {0}
+IsScriptFault bytes (Memory refused) = Unit {0}
 IsScriptFault bytes (Refused number) = ⊥
 IsScriptFault bytes Read = ⊥
 IsScriptFault bytes Write = ⊥
+IsScriptFault bytes (Thread unstarted) = ⊥
 IsScriptFault bytes Turns = ⊥
 
 -- the bytes are a script of these commands
@@ -49,7 +50,7 @@ pub record IsScript (bytes : List ℕ) (commands : List Command) : Type 0 where
 -- how a run ends at a command that wasn't done
 abbrev pub stop_fault : Stop → RunFault
 stop_fault stop.Turns = Turns
-stop_fault stop.NoMemory = Memory
+stop_fault (stop.NoMemory refused) = Memory refused
 
 -- the replies to the first commands were written, and nothing of the next
 pub record WroteFirst (machine : Machine) (commands : List Command) (old new : Option (List ℕ)) : Type 0 where
@@ -76,9 +77,10 @@ pub record WroteReply (m : Machine) (command : Command) (old new : Option (List 
 -- of a run ran out, and nothing of it was written
 abbrev pub IsReplyFault : Machine → Command → Option (List ℕ) → Option (List ℕ) → ℕ → ℕ → RunFault → Type 0
 IsReplyFault machine command old new failures_old failures_new Write = (failures_old < failures_new) × Extends old new × (is_some (serve machine command) ≡ true)
-IsReplyFault machine command old new failures_old failures_new Memory = (failures_new ≡ failures_old) × Keeps old new
+IsReplyFault machine command old new failures_old failures_new (Memory refused) = (failures_new ≡ failures_old) × Keeps old new
 IsReplyFault machine command old new failures_old failures_new Turns = (failures_new ≡ failures_old) × Keeps old new × (serve machine command ≡ None)
 IsReplyFault machine command old new failures_old failures_new (Refused number) = ⊥
+IsReplyFault machine command old new failures_old failures_new (Thread unstarted) = ⊥
 IsReplyFault machine command old new failures_old failures_new (Script number) = ⊥
 IsReplyFault machine command old new failures_old failures_new TooLong = ⊥
 IsReplyFault machine command old new failures_old failures_new Read = ⊥
@@ -86,10 +88,11 @@ IsReplyFault machine command old new failures_old failures_new Read = ⊥
 -- how a run of commands ends before its end, by the writer's contents and its failures, before and after
 abbrev pub IsServeFault : Machine → List Command → Option (List ℕ) → Option (List ℕ) → ℕ → ℕ → RunFault → Type 0
 IsServeFault machine commands old new failures_old failures_new Write = (failures_old < failures_new) × WroteBroken machine commands old new
-IsServeFault machine commands old new failures_old failures_new Memory = (failures_new ≡ failures_old) × WroteFirst machine commands old new
+IsServeFault machine commands old new failures_old failures_new (Memory refused) = (failures_new ≡ failures_old) × WroteFirst machine commands old new
 IsServeFault machine commands old new failures_old failures_new Turns =
     (failures_new ≡ failures_old) × (is_done machine commands ≡ false) × Appends old new (replies_to machine commands)
 IsServeFault machine commands old new failures_old failures_new (Refused number) = ⊥
+IsServeFault machine commands old new failures_old failures_new (Thread unstarted) = ⊥
 IsServeFault machine commands old new failures_old failures_new (Script number) = ⊥
 IsServeFault machine commands old new failures_old failures_new TooLong = ⊥
 IsServeFault machine commands old new failures_old failures_new Read = ⊥
@@ -110,9 +113,10 @@ IsScriptOutcome bytes machine old new (Err (Script number)) = (length bytes ≤ 
 -- the writer failed at the reply to some command
 IsScriptOutcome bytes machine old new (Err Write) = OfScript bytes (λ commands. WroteBroken machine commands old new)
 -- memory ran out before the first command, or at one of them
-IsScriptOutcome bytes machine old new (Err Memory) = Keeps old new ⊎ OfScript bytes (λ commands. WroteFirst machine commands old new)
+IsScriptOutcome bytes machine old new (Err (Memory refused)) = Keeps old new ⊎ OfScript bytes (λ commands. WroteFirst machine commands old new)
 -- it ends in no other way
 IsScriptOutcome bytes machine old new (Err (Refused number)) = ⊥
+IsScriptOutcome bytes machine old new (Err (Thread unstarted)) = ⊥
 IsScriptOutcome bytes machine old new (Err Read) = ⊥
 
 -- what is said of the plain machine with the size classes and the mode that a run is started with
@@ -126,7 +130,7 @@ IsOutcome run bytes old new (Err (Refused number)) = (refusal_number run.config 
 -- the reader failed: nothing was written
 IsOutcome run bytes old new (Err Read) = Keeps old new
 -- memory ran out before there was a machine, or later
-IsOutcome run bytes old new (Err Memory) = Keeps old new ⊎ OfMachine run (λ machine. IsScriptOutcome bytes machine old new (Err Memory))
+IsOutcome run bytes old new (Err (Memory refused)) = Keeps old new ⊎ OfMachine run (λ machine. IsScriptOutcome bytes machine old new (Err (Memory refused)))
 -- the machine's run ended so
 IsOutcome run bytes old new result = OfMachine run (λ machine. IsScriptOutcome bytes machine old new result)
 
@@ -134,10 +138,11 @@ IsOutcome run bytes old new result = OfMachine run (λ machine. IsScriptOutcome 
 abbrev pub IsReadWhole : Type 0 → Type 0 → Result (Unit {0}) RunFault → Type 0
 IsReadWhole Ended Kept (Ok unit) = Ended
 IsReadWhole Ended Kept (Err Turns) = Ended
+IsReadWhole Ended Kept (Err (Thread unstarted)) = Ended
 IsReadWhole Ended Kept (Err Write) = Ended
 IsReadWhole Ended Kept (Err (Script number)) = Ended
 -- memory ran out at a command, or before there was one
-IsReadWhole Ended Kept (Err Memory) = Kept ⊎ Ended
+IsReadWhole Ended Kept (Err (Memory refused)) = Kept ⊎ Ended
 -- nothing was answered
 IsReadWhole Ended Kept (Err (Refused number)) = Kept
 IsReadWhole Ended Kept (Err TooLong) = Kept

@@ -10,12 +10,13 @@ use Rattle.mc_workers.specs.declared.ended.Ended.{Ended}
 use Rattle.mc_workers.specs.declared.ended.Ended.TheVariants as ended
 use Rattle.mc_workers.specs.Script.{ServesScript}
 use Rattle.mc_driver.specs.declared.fault.RunFault.{RunFault}
-use Rattle.mc_driver.specs.declared.fault.RunFault.TheVariants.{Config as Refused, Script, TooLong, Read, Write, Memory, Turns}
+use Rattle.mc_driver.specs.declared.fault.RunFault.TheVariants.{Config as Refused, Script, TooLong, Read, Write, Memory, Thread, Turns}
 use Rattle.mc_driver.specs.Run.{IsScript, OfScript, most_bytes, refusal_number}
 
 -- how a run ends in which a thread ended early
 abbrev pub ended_fault : Ended → RunFault
-ended_fault ended.Memory = Memory
+ended_fault (ended.Memory refused) = Memory refused
+ended_fault (ended.Thread unstarted) = Thread unstarted
 ended_fault ended.Turns = Turns
 
 -- what is said of a text that the threads of the run may tell of these lines: the replies, worker by worker, and the statistics
@@ -28,8 +29,10 @@ abbrev pub IsToldOutcome : Run → List ℕ → Option (List ℕ) → Option (Li
 IsToldOutcome run bytes old new (Ok unit) = OfScript bytes (λ commands. OfText run commands (λ text. Appends old new text))
 -- a thread ran out of turns, or its gate stopped it: nothing was written
 IsToldOutcome run bytes old new (Err Turns) = OfScript bytes (λ commands. Keeps old new)
--- memory ran out, or no thread could be started: nothing was written
-IsToldOutcome run bytes old new (Err Memory) = Keeps old new
+-- memory ran out: nothing was written
+IsToldOutcome run bytes old new (Err (Memory refused)) = Keeps old new
+-- a thread couldn't be started: nothing was written
+IsToldOutcome run bytes old new (Err (Thread unstarted)) = OfScript bytes (λ commands. Keeps old new)
 -- refused: nothing was written
 IsToldOutcome run bytes old new (Err TooLong) = (most_bytes < length bytes) × Keeps old new
 IsToldOutcome run bytes old new (Err (Script number)) = (length bytes ≤ most_bytes) × (script_of bytes ≡ Err number) × Keeps old new

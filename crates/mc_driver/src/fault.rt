@@ -3,13 +3,13 @@ ghost use Rattle.std.specs.Prelude.{◌≡◌};
 ghost use Rattle.mc_driver.specs.Status.{status_of};
 
 use mc_keeper::Stop;
-use mc_workers::Ended;
-use std::alloc::AllocError;
+use mc_memory::Refused;
+use mc_workers::{Ended, Unstarted};
 use std::error::Error;
 use std::fmt;
 
 /// Why a run was not done.
-#[derive(Clone, Copy, Debug, PartialEq, Eq)]
+#[derive(Debug, PartialEq, Eq, Drop)]
 pub enum RunFault {
     /// The configuration is refused, by the test of this number.
     Config(u64),
@@ -22,7 +22,9 @@ pub enum RunFault {
     /// A write failed.
     Write,
     /// Memory ran out.
-    Memory,
+    Memory(Refused),
+    /// A thread couldn't be started. The status and the text are those of want of memory.
+    Thread(Unstarted),
     /// The script asks for more than 1,000,000 turns of the mover.
     Turns,
 }
@@ -36,7 +38,7 @@ impl RunFault {
             RunFault::Config(_) => 1,
             RunFault::Script(_) | RunFault::TooLong => 2,
             RunFault::Read | RunFault::Write => 3,
-            RunFault::Memory => 4,
+            RunFault::Memory(_) | RunFault::Thread(_) => 4,
             RunFault::Turns => 5,
         }
     }
@@ -50,7 +52,7 @@ impl fmt::Display for RunFault {
             RunFault::TooLong => write!(f, "script: too long"),
             RunFault::Read => write!(f, "read"),
             RunFault::Write => write!(f, "write"),
-            RunFault::Memory => write!(f, "memory"),
+            RunFault::Memory(_) | RunFault::Thread(_) => write!(f, "memory"),
             RunFault::Turns => write!(f, "turns"),
         }
     }
@@ -58,14 +60,14 @@ impl fmt::Display for RunFault {
 
 impl Error for RunFault {}
 
-impl From<AllocError> for RunFault {
+impl From<Refused> for RunFault {
     ghost use Rattle.std.specs.Prelude.{◌≡◌};
     ghost use Rattle.mc_driver.specs.declared.fault.RunFault.TheVariants.{Memory};
 
-    ghost from_gives = { λ _ fault. fault ≡ Memory };
+    ghost from_gives = { λ refused fault. fault ≡ Memory refused };
 
-    fn from(_error: AllocError) -> RunFault {
-        RunFault::Memory
+    fn from(refused: Refused) -> RunFault {
+        RunFault::Memory(refused)
     }
 }
 
@@ -78,7 +80,7 @@ impl From<Stop> for RunFault {
     fn from(stop: Stop) -> RunFault {
         match stop {
             Stop::Turns => RunFault::Turns,
-            Stop::NoMemory => RunFault::Memory,
+            Stop::NoMemory(refused) => RunFault::Memory(refused),
         }
     }
 }
@@ -92,7 +94,8 @@ impl From<Ended> for RunFault {
     fn from(ended: Ended) -> RunFault {
         match ended {
             Ended::Turns => RunFault::Turns,
-            Ended::Memory => RunFault::Memory,
+            Ended::Memory(refused) => RunFault::Memory(refused),
+            Ended::Thread(unstarted) => RunFault::Thread(unstarted),
         }
     }
 }

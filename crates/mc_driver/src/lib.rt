@@ -14,6 +14,6 @@ mod threads;
 pub use fault::RunFault;
 pub use mc_options::{Options, Run, options};
 pub use mc_streams::{Input, Output, RecordedWriter, Source};
-pub use mc_workers::{Free, Gate, Pass, Point};
+pub use mc_workers::{Free, Gate, Pass, Point, Unstarted};
 pub use run::run_serial;
 pub use threads::run_threads;

@@ -4,9 +4,10 @@ ghost use Rattle.std.specs.Io.KnownBytes.{Consumes, IsAtEnd};
 ghost use Rattle.mc_driver.specs.Reading.{GivesAtMost, IsReadFault, TakesAtMost, TakesPiece};
 
 use crate::fault::RunFault;
+use mc_memory::{Refused, extend_from_slice, filled};
 use mc_script::MAX_SCRIPT;
 use mc_streams::Source;
-use std::alloc::{AllocError, Global};
+use std::alloc::Global;
 
 /// How many bytes are asked for at a time.
 const PIECE: usize = 65_536;
@@ -37,10 +38,10 @@ pub(crate) fn read_script<R: Source>(alloc: Global, reader: &mut R) -> Result<Ve
 }
 
 /// So many bytes to read into.
-fn room_for(alloc: Global, count: usize) -> Result<Vec<u8>, AllocError>
+fn room_for(alloc: Global, count: usize) -> Result<Vec<u8>, Refused>
     ensures { IfOk result (λ room. vec_len room ≡ count) }
 {
-    vec![in alloc; 0u8; count]
+    filled(alloc, 0u8, count)
 }
 
 /// Reads once into `piece`, adds what was read to `bytes` and says how many that were. None is the end.
@@ -63,6 +64,6 @@ fn read_piece<R: Source>(
         Ok(count) => count,
         Err(_) => return Err(RunFault::Read),
     };
-    bytes.extend_from_slice(&piece[..count])?;
+    extend_from_slice(bytes, &piece[..count])?;
     Ok(count)
 }

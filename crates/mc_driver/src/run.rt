@@ -17,7 +17,7 @@ use mc_keeper::Keeper;
 use mc_options::Run;
 use mc_script::{Command, MAX_SCRIPT, ScriptError};
 use mc_streams::Source;
-use std::alloc::{AllocError, Global};
+use std::alloc::Global;
 
 /// Reads a script and does its commands on one thread, in order. Each reply is written before the next command.
 ///
@@ -81,7 +81,7 @@ fn run_script<W: Sink>(
     };
     match Keeper::new(alloc, table, run.config.bulk, run.automove) {
         Ok(keeper) => serve_all(alloc, keeper, &commands, writer),
-        Err(_) => Err(RunFault::Memory),
+        Err(refused) => Err(RunFault::Memory(refused)),
     }
 }
 
@@ -90,7 +90,7 @@ pub(crate) fn fault_of(error: ConfigError) -> RunFault
     ensures { result ≡ config_fault error }
 {
     match error {
-        ConfigError::NoMemory(_) => RunFault::Memory,
+        ConfigError::NoMemory(refused) => RunFault::Memory(refused),
         refusal => RunFault::Config(refusal.number()),
     }
 }
@@ -107,7 +107,7 @@ pub(crate) fn commands_of(alloc: Global, bytes: &[u8]) -> Result<Vec<Command>, R
     match mc_script::read(alloc, bytes) {
         Ok(commands) => Ok(commands),
         Err(ScriptError::Line(number)) => Err(RunFault::Script(number)),
-        Err(ScriptError::NoMemory(_)) => Err(RunFault::Memory),
+        Err(ScriptError::NoMemory(refused)) => Err(RunFault::Memory(refused)),
     }
 }
 

@@ -24,7 +24,7 @@ use std::thread::Threads;
 ///
 /// The configuration is tested before anything is read, and the whole script is read and checked before a thread is started. All is
 /// written in one write at the end: where memory or the turns of a run ran out, a thread couldn't be started, or the gate stopped one,
-/// nothing is. `Memory` goes before `Turns`.
+/// nothing is. `Memory` goes before `Thread`, and that before `Turns`.
 pub fn run_threads<T: Threads + Wait + Sync, G: Gate + Sync, R: Source, W: Sink>(
     rt: &T,
     alloc: Global,

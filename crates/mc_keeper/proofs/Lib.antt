@@ -7,3 +7,5 @@ pub mod DeadOrders
 pub mod Watched
 pub mod HeldElsewhere
 pub mod Indexed
+pub mod DeadRunsHold
+pub mod ReclaimsEach

@@ -35,7 +35,7 @@ hold_answer m worker key = if is_full m.holds worker then Err TooManyRefs else O
 abbrev pub MayHold : Result Bool HoldError → Result Bool HoldError → Type 0
 MayHold (Err refusal) result = result ≡ Err refusal
 MayHold (Ok false) result = result ≡ Ok false
-MayHold (Ok true) result = (result ≡ Ok true) ⊎ (result ≡ Err NoMemory)
+MayHold (Ok true) result = (result ≡ Ok true) ⊎ (result ≡ Err (NoMemory tt))
 
 -- the words of the item that the worker's last hold of the key is of
 abbrev pub held_words : Machine → ℕ → ℕ → Option (List ℕ)

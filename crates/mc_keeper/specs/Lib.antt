@@ -2,3 +2,4 @@ pub mod Kept
 pub mod Stages
 pub mod Calls
 pub mod Replies
+pub mod DeadRuns

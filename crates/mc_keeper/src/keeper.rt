@@ -6,21 +6,25 @@ ghost use Rattle.mc_machine.specs.Machine.{fresh_machine};
 mod automove;
 mod evict;
 mod mover;
+mod noted;
 mod pages;
 mod refs;
 mod serve;
+mod several;
 mod statistics;
 mod store;
 mod sweep;
 
 pub use automove::Acted;
 use mc_classes::ClassTable;
+use mc_memory::Refused;
 use mc_pages::Slabs;
 use mc_parts::{DeadCounts, Holds, ItemTable, KeyIndex, LastDead};
 use mc_watch::Decider;
+use noted::DeadNotes;
 pub use refs::{HoldError, TooManyRefs};
 pub use serve::Stop;
-use std::alloc::{AllocError, Global};
+use std::alloc::Global;
 use std::marker::Model;
 pub use store::Stored;
 
@@ -41,6 +45,8 @@ pub struct Keeper {
     dead: DeadCounts,
     /// Which of each class came last, so that the only one is put back without a walk.
     last_dead: LastDead,
+    /// Which of each class came since its last sweep, so that several are put back without a walk.
+    noted: DeadNotes,
     /// How many turns of the mover were begun.
     turns: u64,
     /// What the automover knows of the last windows.
@@ -62,25 +68,20 @@ impl Model for Keeper {
 impl Keeper {
     /// Nothing is stored yet. A turn of the mover is to look at up to `bulk` chunks, and the automover works in
     /// `mode`: 0 is off, 1 acts on each window, 2 on each eviction.
-    pub fn new(alloc: Global, table: ClassTable, bulk: u64, mode: u64) -> Result<Keeper, AllocError>
+    pub fn new(alloc: Global, table: ClassTable, bulk: u64, mode: u64) -> Result<Keeper, Refused>
         requires sound { IsSound table }
         requires bulk { bulk ≤ 256 }
         requires mode { mode ≤ 2 }
         ensures fresh { IfOk result (λ keeper. keeper ≡ fresh_machine table bulk mode) }
     {
-        let mut slabs = match Slabs::new(alloc, &table) {
-            Ok(slabs) => slabs,
-            Err(_) => return Err(AllocError),
-        };
+        let mut slabs = Slabs::new(alloc, &table)?;
         slabs.set_automove(mode);
-        let decider = match Decider::new(alloc, &table) {
-            Ok(decider) => decider,
-            Err(_) => return Err(AllocError),
-        };
+        let decider = Decider::new(alloc, &table)?;
         let index = KeyIndex::new(alloc, most_items(&table))?;
         let holds = Holds::new(alloc)?;
         let dead = DeadCounts::new(alloc, table.count())?;
         let last_dead = LastDead::new(alloc, table.count())?;
+        let noted = DeadNotes::new(alloc, table.count())?;
         Ok(Keeper {
             alloc,
             table,
@@ -91,6 +92,7 @@ impl Keeper {
             holds,
             dead,
             last_dead,
+            noted,
             turns: 0,
             decider,
         })

@@ -10,5 +10,6 @@ mod reply;
 
 pub use keeper::{Acted, HoldError, Keeper, Stop, Stored, TooManyRefs};
 pub use mc_machine::{Counts, Ending};
+pub use mc_memory::Refused;
 pub use mc_pages::{Moving, Numbers, Reassign, Totals};
 pub use mc_watch::Decision;

@@ -6,8 +6,9 @@ ghost use Rattle.mc_machine.specs.Holds.{is_held};
 
 use crate::holds::Holds;
 use mc_classes::ClassId;
+use mc_memory::{Refused, filled};
 use mc_pages::{ChunkId, Slabs};
-use std::alloc::{AllocError, Global};
+use std::alloc::Global;
 use std::marker::Model;
 
 /// A count for each class, class 1 first.
@@ -26,11 +27,11 @@ impl Model for DeadCounts {
 
 impl DeadCounts {
     /// None of so many classes has a dead chunk.
-    pub fn new(alloc: Global, classes: u64) -> Result<DeadCounts, AllocError>
+    pub fn new(alloc: Global, classes: u64) -> Result<DeadCounts, Refused>
         ensures fresh { IfOk result (λ counts. counts ≡ replicate classes 0) }
     {
         Ok(DeadCounts {
-            by_class: vec![in alloc; 0; classes as usize]?,
+            by_class: filled(alloc, 0, classes as usize)?,
         })
     }
 
@@ -81,11 +82,11 @@ impl Model for LastDead {
 
 impl LastDead {
     /// No chunk of so many classes was counted yet.
-    pub fn new(alloc: Global, classes: u64) -> Result<LastDead, AllocError>
+    pub fn new(alloc: Global, classes: u64) -> Result<LastDead, Refused>
         ensures fresh { IfOk result (λ last. last ≡ replicate classes None) }
     {
         Ok(LastDead {
-            by_class: vec![in alloc; None; classes as usize]?,
+            by_class: filled(alloc, None, classes as usize)?,
         })
     }
 

@@ -5,8 +5,9 @@ ghost use Rattle.mc_pages.specs.Accounted.{truth};
 ghost use Rattle.mc_pages.specs.ClassState.{is_chunk};
 ghost use Rattle.mc_parts.specs.CountsByPlace.{count_at, counts_of, CountAlike, IsReached};
 
+use mc_memory::{Refused, push};
 use mc_pages::ChunkId;
-use std::alloc::{AllocError, Global};
+use std::alloc::Global;
 use std::marker::Model;
 
 /// A count for each chunk, 0 for those that nobody held yet.
@@ -51,7 +52,7 @@ impl HoldCounts {
     }
 
     /// Sees to it that the chunk has a place.
-    pub(crate) fn reach(&mut self, chunk: ChunkId) -> Result<(), AllocError>
+    pub(crate) fn reach(&mut self, chunk: ChunkId) -> Result<(), Refused>
         ensures there { OnOk result (IsReached self.new chunk) }
         ensures same { CountAlike self.old self.new }
     {
@@ -79,23 +80,23 @@ impl HoldCounts {
 }
 
 /// Sees to it that there are counts for the page.
-fn reach_page(alloc: Global, pages: &mut Vec<Vec<u16>>, page: u64) -> Result<(), AllocError>
+fn reach_page(alloc: Global, pages: &mut Vec<Vec<u16>>, page: u64) -> Result<(), Refused>
     ensures there { OnOk result (page < length pages.new.items) }
     ensures same { CountAlike (counts_of pages.old.items) (counts_of pages.new.items) }
 {
     while pages.len() as u64 <= page {
-        pages.push(Vec::new(alloc))?;
+        push(pages, Vec::new(alloc))?;
     }
     Ok(())
 }
 
 /// Sees to it that the page has a count at the index.
-fn reach_index(counts: &mut Vec<u16>, index: u64) -> Result<(), AllocError>
+fn reach_index(counts: &mut Vec<u16>, index: u64) -> Result<(), Refused>
     ensures there { OnOk result (index < length counts.new.items) }
     ensures same { (at : ℕ) → slice_index_or counts.new.items at 0 ≡ slice_index_or counts.old.items at 0 }
 {
     while counts.len() as u64 <= index {
-        counts.push(0)?;
+        push(counts, 0)?;
     }
     Ok(())
 }

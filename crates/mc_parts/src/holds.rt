@@ -5,8 +5,9 @@ ghost use Rattle.mc_pages.specs.ClassState.{is_chunk};
 ghost use Rattle.mc_machine.specs.Holds.{no_holds, held_by, is_full, is_held, with_hold, without_hold};
 
 use crate::hold_counts::HoldCounts;
+use mc_memory::{Refused, push, with_capacity};
 use mc_pages::ChunkId;
-use std::alloc::{AllocError, Global};
+use std::alloc::Global;
 use std::marker::Model;
 
 /// How many workers there can be, the thread that moves pages counted as worker 0.
@@ -37,10 +38,10 @@ impl Model for Holds {
 
 impl Holds {
     /// Nobody holds a chunk.
-    pub fn new(alloc: Global) -> Result<Holds, AllocError>
+    pub fn new(alloc: Global) -> Result<Holds, Refused>
         ensures fresh { IfOk result (λ holds. holds ≡ no_holds) }
     {
-        let mut by_worker = Vec::with_capacity(alloc, WORKERS)?;
+        let mut by_worker = with_capacity(alloc, WORKERS)?;
         for _ in 0..WORKERS {
             by_worker.push(Vec::new(alloc)).unwrap();
         }
@@ -74,14 +75,14 @@ impl Holds {
     }
 
     /// The worker takes a hold of the chunk.
-    pub fn take(&mut self, worker: u64, chunk: ChunkId) -> Result<(), AllocError>
+    pub fn take(&mut self, worker: u64, chunk: ChunkId) -> Result<(), Refused>
         requires worker { worker < 64 }
         requires room { is_full self.old worker ≡ false }
         ensures ok { OnOk result (self.new ≡ with_hold self.old worker chunk) }
         ensures err { OnErr result (self.new ≡ self.old) }
     {
         self.counts.reach(chunk)?;
-        self.by_worker[worker as usize].push(chunk)?;
+        push(&mut self.by_worker[worker as usize], chunk)?;
         self.counts.increment(chunk);
         Ok(())
     }

@@ -3,7 +3,8 @@ ghost use Rattle.std.specs.Prelude.{◌≡◌, ◌≤◌, ◌^◌, length, OnOk,
 ghost use Rattle.mc_machine.specs.Item.{new_item, unlinked, words_from};
 ghost use Rattle.mc_parts.specs.NewWords.{words_in};
 
-use std::alloc::{AllocError, Global};
+use mc_memory::{Refused, filled, from_slice};
+use std::alloc::Global;
 use std::marker::Model;
 
 /// The words of an item that comes.
@@ -53,14 +54,14 @@ impl Item {
         }
     }
 
-    /// Becomes a new item with these words, to which its key leads. The room of the old words is used again.
-    pub(crate) fn renew(&mut self, key: u64, words: NewWords) -> Result<(), AllocError>
+    /// Becomes a new item with these words, to which its key leads. The room of the old words is used again where it suffices.
+    pub(crate) fn renew(&mut self, alloc: Global, key: u64, words: NewWords) -> Result<(), Refused>
         ensures new { OnOk result (self.new ≡ new_item key (words_in words.entry)) }
         ensures unchanged { OnErr result (self.new ≡ self.old) }
     {
         match words {
-            NewWords::Copied(words) => copy_words(&mut self.words, words)?,
-            NewWords::Counted { base, count } => write_words(&mut self.words, base, count)?,
+            NewWords::Copied(words) => copy_words(alloc, &mut self.words, words)?,
+            NewWords::Counted { base, count } => write_words(alloc, &mut self.words, base, count)?,
         }
         self.key = key;
         self.linked = true;
@@ -97,23 +98,29 @@ impl Item {
 }
 
 /// Writes these words in the place of what was there.
-fn copy_words(all: &mut Vec<u64>, words: &[u64]) -> Result<(), AllocError>
+fn copy_words(alloc: Global, all: &mut Vec<u64>, words: &[u64]) -> Result<(), Refused>
     ensures words { OnOk result (all.new.items ≡ words.now) }
     ensures unchanged { OnErr result (all.new.items ≡ all.old.items) }
 {
-    all.reserve_exact(words.len().saturating_sub(all.len()))?;
+    if all.capacity() < words.len() {
+        *all = from_slice(alloc, words)?;
+        return Ok(());
+    }
     all.clear();
     all.extend_from_slice(words).unwrap();
     Ok(())
 }
 
 /// Writes so many words, base, base + 1 and so on, modulo 2^64, in the place of what was there.
-fn write_words(all: &mut Vec<u64>, base: u64, words: u64) -> Result<(), AllocError>
+fn write_words(alloc: Global, all: &mut Vec<u64>, base: u64, words: u64) -> Result<(), Refused>
     ensures words { OnOk result (all.new.items ≡ words_from base words) }
     ensures unchanged { OnErr result (all.new.items ≡ all.old.items) }
 {
-    all.reserve_exact((words as usize).saturating_sub(all.len()))?;
-    all.resize(words as usize, 0)?;
+    if all.capacity() < words as usize {
+        *all = filled(alloc, 0, words as usize)?;
+    } else {
+        all.resize(words as usize, 0).unwrap();
+    }
     count_up(all, base);
     Ok(())
 }

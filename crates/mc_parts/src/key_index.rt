@@ -5,8 +5,9 @@ ghost use Rattle.std.specs.Map.{set_value};
 ghost use Rattle.std.specs.Ordering.{nat_cmp};
 ghost use Rattle.mc_parts.specs.Leads.{chunk_of, IsLed};
 
+use mc_memory::{Refused, reserve_entries};
 use mc_pages::ChunkId;
-use std::alloc::{AllocError, Global};
+use std::alloc::Global;
 use std::collections::HashMap;
 use std::marker::Model;
 
@@ -27,12 +28,12 @@ impl Model for KeyIndex {
 
 impl KeyIndex {
     /// No key leads anywhere, and there is room for so many.
-    pub fn new(alloc: Global, keys: usize) -> Result<KeyIndex, AllocError>
+    pub fn new(alloc: Global, keys: usize) -> Result<KeyIndex, Refused>
         ensures empty { IfOk result (λ index. index ≡ []) }
     {
-        Ok(KeyIndex {
-            chunks: HashMap::with_capacity(alloc, keys)?,
-        })
+        let mut chunks = HashMap::new(alloc);
+        reserve_entries(&mut chunks, keys)?;
+        Ok(KeyIndex { chunks })
     }
 
     /// The key's chunk, if it leads to one.
@@ -43,16 +44,14 @@ impl KeyIndex {
     }
 
     /// The key leads to this chunk now. Gives the chunk to which it led before.
-    pub fn insert(&mut self, key: u64, chunk: ChunkId) -> Result<Option<ChunkId>, AllocError>
+    pub fn insert(&mut self, key: u64, chunk: ChunkId) -> Result<Option<ChunkId>, Refused>
         ensures before { IfOk result (λ before. before ≡ chunk_of self.old key) }
         ensures led { OnOk result (IsLed self.old self.new key (Some chunk)) }
         ensures unchanged { OnErr result (self.new ≡ self.old) }
     {
-        let before = match self.chunks.insert(key, chunk) {
-            Ok(before) => before,
-            Err(_) => return Err(AllocError),
-        };
-        Ok(before)
+        reserve_entries(&mut self.chunks, 1)?;
+        let before: Result<_, _> = self.chunks.insert(key, chunk);
+        Ok(before.unwrap())
     }
 
     /// The key leads nowhere any more. Gives the chunk to which it led.

@@ -5,7 +5,8 @@ ghost use Rattle.mc_machine.specs.Item.{new_item, unlinked};
 ghost use Rattle.mc_parts.specs.NewWords.{words_in};
 
 use crate::item::{Item, NewWords};
-use std::alloc::{AllocError, Global};
+use mc_memory::Refused;
+use std::alloc::Global;
 use std::marker::Model;
 use std::mem;
 
@@ -45,11 +46,11 @@ impl Place {
     }
 
     /// A new item comes here, in the place of what was here.
-    pub(crate) fn fill(&mut self, key: u64, words: NewWords) -> Result<(), AllocError>
+    pub(crate) fn fill(&mut self, alloc: Global, key: u64, words: NewWords) -> Result<(), Refused>
         ensures filled { OnOk result (self.new ≡ Some (new_item key (words_in words.entry))) }
         ensures unchanged { OnErr result (self.new ≡ self.old) }
     {
-        self.item.renew(key, words)?;
+        self.item.renew(alloc, key, words)?;
         self.filled = true;
         Ok(())
     }

@@ -8,8 +8,9 @@ ghost use Rattle.mc_parts.specs.NewWords.{words_in};
 
 use crate::item::{Item, NewWords};
 use crate::place::Place;
+use mc_memory::{Refused, push};
 use mc_pages::ChunkId;
-use std::alloc::{AllocError, Global};
+use std::alloc::Global;
 use std::marker::Model;
 
 /// The item of each chunk that has one.
@@ -52,12 +53,12 @@ impl ItemTable {
 
     /// A new item comes into the chunk, in the place of what was there: a key with these words. They are written where the
     /// chunk's last item had its words, so that no memory is taken where there is room for them.
-    pub fn store(&mut self, chunk: ChunkId, key: u64, words: NewWords) -> Result<(), AllocError>
+    pub fn store(&mut self, chunk: ChunkId, key: u64, words: NewWords) -> Result<(), Refused>
         ensures entries { OnOk result (self.new ≡ with_item self.old chunk (new_item key (words_in words.entry))) }
         ensures unchanged { OnErr result (self.new ≡ self.old) }
     {
         reach(self.alloc, &mut self.pages, chunk)?;
-        self.pages[chunk.page as usize][chunk.index as usize].fill(key, words)?;
+        self.pages[chunk.page as usize][chunk.index as usize].fill(self.alloc, key, words)?;
         Ok(())
     }
 
@@ -74,7 +75,7 @@ impl ItemTable {
 
     /// The item of a chunk comes into another, in the place of what was there. Gives its key. Nothing happens where there is
     /// no item.
-    pub fn relocate(&mut self, old: ChunkId, new: ChunkId) -> Result<Option<u64>, AllocError>
+    pub fn relocate(&mut self, old: ChunkId, new: ChunkId) -> Result<Option<u64>, Refused>
         ensures key { IfOk result (λ key. key ≡ option_map (λ item. item.key) (item_at self.old old)) }
         ensures moved { OnOk result (self.new ≡ with_moved_item self.old old new) }
         ensures unchanged { OnErr result (self.new ≡ self.old) }
@@ -125,7 +126,7 @@ fn relocate(alloc: Global, pages: &mut Vec<Vec<Place>>, old: ChunkId, new: Chunk
 }
 
 /// Sees to it that there is a place for the chunk.
-fn reach(alloc: Global, pages: &mut Vec<Vec<Place>>, chunk: ChunkId) -> Result<(), AllocError>
+fn reach(alloc: Global, pages: &mut Vec<Vec<Place>>, chunk: ChunkId) -> Result<(), Refused>
     ensures there { OnOk result (HasPlace (places_of pages.new.items) chunk) }
     ensures same { items_from 0 (places_of pages.new.items) ≡ items_from 0 (places_of pages.old.items) }
 {
@@ -135,23 +136,23 @@ fn reach(alloc: Global, pages: &mut Vec<Vec<Place>>, chunk: ChunkId) -> Result<(
 }
 
 /// Sees to it that there are places for the page.
-fn reach_page(alloc: Global, pages: &mut Vec<Vec<Place>>, page: u64) -> Result<(), AllocError>
+fn reach_page(alloc: Global, pages: &mut Vec<Vec<Place>>, page: u64) -> Result<(), Refused>
     ensures there { OnOk result (page < length pages.new.items) }
     ensures same { items_from 0 (places_of pages.new.items) ≡ items_from 0 (places_of pages.old.items) }
 {
     while pages.len() as u64 <= page {
-        pages.push(Vec::new(alloc))?;
+        push(pages, Vec::new(alloc))?;
     }
     Ok(())
 }
 
 /// Sees to it that the page has a place at the index.
-fn reach_index(alloc: Global, places: &mut Vec<Place>, index: u64) -> Result<(), AllocError>
+fn reach_index(alloc: Global, places: &mut Vec<Place>, index: u64) -> Result<(), Refused>
     ensures there { OnOk result (index < length places.new.items) }
     ensures same { AreAlike places.old.items places.new.items }
 {
     while places.len() as u64 <= index {
-        places.push(Place::empty(alloc))?;
+        push(places, Place::empty(alloc))?;
     }
     Ok(())
 }

@@ -8,10 +8,10 @@ ghost use Rattle.mc_machine.specs.Texts.{key_line, spaced, turn_line, word_of, w
 
 use itoa::Buffer;
 use mc_machine::{Counts, Ending};
-use std::alloc::AllocError;
+use mc_memory::{Refused, extend_from_slice};
 
 /// Adds a number in decimal digits.
-fn push_number(text: &mut Vec<u8>, number: u64) -> Result<(), AllocError>
+fn push_number(text: &mut Vec<u8>, number: u64) -> Result<(), Refused>
     ensures number { OnOk result (text.new.items ≡ text.old.items ++ decimal number) }
     ensures kept { StartsWith text.new.items text.old.items }
     ensures len { OnOk result (vec_len text.new ≤ vec_len text.old + 40) }
@@ -19,22 +19,22 @@ fn push_number(text: &mut Vec<u8>, number: u64) -> Result<(), AllocError>
     ensures succeeds { vec_len text.old + 40 ≤ vec_capacity text.old → IsOk result }
 {
     let mut digits = Buffer::new();
-    text.extend_from_slice(digits.format(number).as_bytes())?;
+    extend_from_slice(text, digits.format(number).as_bytes())?;
     Ok(())
 }
 
 /// Adds a line of these words.
-fn push_line(text: &mut Vec<u8>, words: &[u8]) -> Result<(), AllocError>
+fn push_line(text: &mut Vec<u8>, words: &[u8]) -> Result<(), Refused>
     ensures line { OnOk result (text.new.items ≡ text.old.items ++ line words.now) }
     ensures kept { StartsWith text.new.items text.old.items }
 {
-    text.extend_from_slice(words)?;
-    text.extend_from_slice(b"\r\n")?;
+    extend_from_slice(text, words)?;
+    extend_from_slice(text, b"\r\n")?;
     Ok(())
 }
 
 /// Adds an answer of one word.
-pub fn push_answer(text: &mut Vec<u8>, answer: &[u8]) -> Result<(), AllocError>
+pub fn push_answer(text: &mut Vec<u8>, answer: &[u8]) -> Result<(), Refused>
     ensures line { OnOk result (text.new.items ≡ text.old.items ++ line answer.now) }
     ensures kept { StartsWith text.new.items text.old.items }
 {
@@ -42,12 +42,12 @@ pub fn push_answer(text: &mut Vec<u8>, answer: &[u8]) -> Result<(), AllocError>
 }
 
 /// Adds numbers, a space before each.
-fn push_spaced(text: &mut Vec<u8>, numbers: &[u64]) -> Result<(), AllocError>
+fn push_spaced(text: &mut Vec<u8>, numbers: &[u64]) -> Result<(), Refused>
     ensures numbers { OnOk result (text.new.items ≡ text.old.items ++ spaced numbers.now) }
     ensures kept { StartsWith text.new.items text.old.items }
 {
     for number in numbers {
-        text.extend_from_slice(b" ")?;
+        extend_from_slice(text, b" ")?;
         push_number(text, *number)?;
     }
     Ok(())
@@ -59,17 +59,17 @@ pub fn push_words_line(
     answer: &[u8],
     key: u64,
     words: &[u64],
-) -> Result<(), AllocError>
+) -> Result<(), Refused>
     ensures line { OnOk result (text.new.items ≡ text.old.items ++ words_line answer.now key words.now) }
     ensures kept { StartsWith text.new.items text.old.items }
 {
-    text.extend_from_slice(answer)?;
-    text.extend_from_slice(b" ")?;
+    extend_from_slice(text, answer)?;
+    extend_from_slice(text, b" ")?;
     push_number(text, key)?;
-    text.extend_from_slice(b" ")?;
+    extend_from_slice(text, b" ")?;
     push_number(text, words.len() as u64)?;
     push_spaced(text, words)?;
-    text.extend_from_slice(b"\r\n")?;
+    extend_from_slice(text, b"\r\n")?;
     Ok(())
 }
 
@@ -85,7 +85,7 @@ fn word_of(ending: Ending) -> &'static [u8]
 }
 
 /// Adds what some turns did.
-pub fn push_turn_line(text: &mut Vec<u8>, ending: Ending, counts: Counts) -> Result<(), AllocError>
+pub fn push_turn_line(text: &mut Vec<u8>, ending: Ending, counts: Counts) -> Result<(), Refused>
     ensures line { OnOk result (text.new.items ≡ text.old.items ++ turn_line ending counts) }
     ensures kept { StartsWith text.new.items text.old.items }
 {
@@ -96,10 +96,10 @@ pub fn push_turn_line(text: &mut Vec<u8>, ending: Ending, counts: Counts) -> Res
         busy,
         locked,
     } = counts;
-    text.extend_from_slice(b"TURN ")?;
-    text.extend_from_slice(word_of(ending))?;
+    extend_from_slice(text, b"TURN ")?;
+    extend_from_slice(text, word_of(ending))?;
     push_spaced(text, &[cleared, rescued, evicted, busy, locked])?;
-    text.extend_from_slice(b"\r\n")?;
+    extend_from_slice(text, b"\r\n")?;
     Ok(())
 }
 
@@ -109,25 +109,25 @@ pub fn push_window_line(
     src: u64,
     dst: u64,
     answer: &[u8],
-) -> Result<(), AllocError>
+) -> Result<(), Refused>
     ensures line { OnOk result (text.new.items ≡ text.old.items ++ line (codes "WINDOW" ++ spaced (src ∷ dst ∷ []) ++ codes " " ++ answer.now)) }
     ensures kept { StartsWith text.new.items text.old.items }
 {
-    text.extend_from_slice(b"WINDOW")?;
+    extend_from_slice(text, b"WINDOW")?;
     push_spaced(text, &[src, dst])?;
-    text.extend_from_slice(b" ")?;
+    extend_from_slice(text, b" ")?;
     push_line(text, answer)
 }
 
 /// Adds the answer about a key. Where there is room for 43 bytes beside the answer's, it doesn't fail.
-pub fn push_key_line(text: &mut Vec<u8>, answer: &[u8], key: u64) -> Result<(), AllocError>
+pub fn push_key_line(text: &mut Vec<u8>, answer: &[u8], key: u64) -> Result<(), Refused>
     ensures line { OnOk result (text.new.items ≡ text.old.items ++ key_line answer.now key) }
     ensures kept { StartsWith text.new.items text.old.items }
     ensures succeeds { vec_len text.old + length answer.now + 43 ≤ vec_capacity text.old → IsOk result }
 {
-    text.extend_from_slice(answer)?;
-    text.extend_from_slice(b" ")?;
+    extend_from_slice(text, answer)?;
+    extend_from_slice(text, b" ")?;
     push_number(text, key)?;
-    text.extend_from_slice(b"\r\n")?;
+    extend_from_slice(text, b"\r\n")?;
     Ok(())
 }

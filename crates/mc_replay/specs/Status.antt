@@ -10,7 +10,7 @@ abbrev pub fault_at : ℕ → Refusal → RunFault
 fault_at number refusal.Form = fault.Line number
 fault_at number (refusal.Config error) = fault.Config number error
 fault_at number refusal.Hands = fault.Hands number
-fault_at number refusal.Memory = fault.Memory
+fault_at number (refusal.Memory lack) = fault.Memory lack
 
 -- the status that the program ends with
 abbrev pub status_of : RunFault → ℕ
@@ -19,4 +19,4 @@ status_of (fault.Config number error) = 2
 status_of (fault.Hands number) = 2
 status_of fault.Read = 3
 status_of fault.Write = 3
-status_of fault.Memory = 4
+status_of (fault.Memory lack) = 4

@@ -8,6 +8,15 @@ use std::alloc::AllocError;
 use std::error::Error;
 use std::fmt;
 
+/// Want of memory.
+#[derive(Debug, PartialEq, Eq, Drop)]
+pub enum NoMemory {
+    /// What a call of `mc_memory` asked for was refused.
+    Seen(Refused),
+    /// The standard library says so, of words and parts that it collects, texts that it formats, and sets. Its error is no evidence.
+    Told,
+}
+
 /// Why a line can't be taken.
 #[derive(Debug, PartialEq, Eq, Drop)]
 pub enum Refusal {
@@ -18,7 +27,7 @@ pub enum Refusal {
     /// Its hands aren't from 1 to 64.
     Hands,
     /// Memory ran out.
-    Memory,
+    Memory(NoMemory),
 }
 
 /// Why a run was not done.
@@ -35,7 +44,7 @@ pub enum RunFault {
     /// A write failed.
     Write,
     /// Memory ran out.
-    Memory,
+    Memory(NoMemory),
 }
 
 impl Refusal {
@@ -47,30 +56,54 @@ impl Refusal {
             Refusal::Form => RunFault::Line(number),
             Refusal::Config(error) => RunFault::Config(number, error),
             Refusal::Hands => RunFault::Hands(number),
-            Refusal::Memory => RunFault::Memory,
+            Refusal::Memory(lack) => RunFault::Memory(lack),
         }
+    }
+}
+
+impl From<Refused> for NoMemory {
+    ghost use Rattle.std.specs.Prelude.{◌≡◌};
+    ghost use Rattle.mc_replay.specs.declared.fault.NoMemory.TheVariants.{Seen};
+
+    ghost from_gives = { λ refused lack. lack ≡ Seen refused };
+
+    fn from(refused: Refused) -> NoMemory {
+        NoMemory::Seen(refused)
+    }
+}
+
+impl From<AllocError> for NoMemory {
+    ghost use Rattle.std.specs.Prelude.{◌≡◌};
+    ghost use Rattle.mc_replay.specs.declared.fault.NoMemory.TheVariants.{Told};
+
+    ghost from_gives = { λ _ lack. lack ≡ Told };
+
+    fn from(_error: AllocError) -> NoMemory {
+        NoMemory::Told
     }
 }
 
 impl From<AllocError> for Refusal {
     ghost use Rattle.std.specs.Prelude.{◌≡◌};
+    ghost use Rattle.mc_replay.specs.declared.fault.NoMemory.TheVariants.{Told};
     ghost use Rattle.mc_replay.specs.declared.fault.Refusal.TheVariants.{Memory};
 
-    ghost from_gives = { λ _ refusal. refusal ≡ Memory };
+    ghost from_gives = { λ _ refusal. refusal ≡ Memory Told };
 
     fn from(_error: AllocError) -> Refusal {
-        Refusal::Memory
+        Refusal::Memory(NoMemory::Told)
     }
 }
 
 impl From<Refused> for Refusal {
     ghost use Rattle.std.specs.Prelude.{◌≡◌};
+    ghost use Rattle.mc_replay.specs.declared.fault.NoMemory.TheVariants.{Seen};
     ghost use Rattle.mc_replay.specs.declared.fault.Refusal.TheVariants.{Memory};
 
-    ghost from_gives = { λ _ refusal. refusal ≡ Memory };
+    ghost from_gives = { λ refused refusal. refusal ≡ Memory (Seen refused) };
 
-    fn from(_refused: Refused) -> Refusal {
-        Refusal::Memory
+    fn from(refused: Refused) -> Refusal {
+        Refusal::Memory(NoMemory::Seen(refused))
     }
 }
 
@@ -82,7 +115,7 @@ impl RunFault {
         match self {
             RunFault::Line(_) | RunFault::Config(_, _) | RunFault::Hands(_) => 2,
             RunFault::Read | RunFault::Write => 3,
-            RunFault::Memory => 4,
+            RunFault::Memory(_) => 4,
         }
     }
 }
@@ -95,20 +128,32 @@ impl fmt::Display for RunFault {
             RunFault::Hands(number) => write!(f, "line {number}: the hands must be from 1 to 64"),
             RunFault::Read => f.write_str("read"),
             RunFault::Write => f.write_str("write"),
-            RunFault::Memory => f.write_str("memory"),
+            RunFault::Memory(_) => f.write_str("memory"),
         }
     }
 }
 
 impl Error for RunFault {}
 
-impl From<AllocError> for RunFault {
+impl From<NoMemory> for RunFault {
     ghost use Rattle.std.specs.Prelude.{◌≡◌};
     ghost use Rattle.mc_replay.specs.declared.fault.RunFault.TheVariants.{Memory};
 
-    ghost from_gives = { λ _ fault. fault ≡ Memory };
+    ghost from_gives = { λ lack fault. fault ≡ Memory lack };
 
-    fn from(_error: AllocError) -> RunFault {
-        RunFault::Memory
+    fn from(lack: NoMemory) -> RunFault {
+        RunFault::Memory(lack)
+    }
+}
+
+impl From<Refused> for RunFault {
+    ghost use Rattle.std.specs.Prelude.{◌≡◌};
+    ghost use Rattle.mc_replay.specs.declared.fault.NoMemory.TheVariants.{Seen};
+    ghost use Rattle.mc_replay.specs.declared.fault.RunFault.TheVariants.{Memory};
+
+    ghost from_gives = { λ refused fault. fault ≡ Memory (Seen refused) };
+
+    fn from(refused: Refused) -> RunFault {
+        RunFault::Memory(NoMemory::Seen(refused))
     }
 }

@@ -3,15 +3,16 @@ ghost use Rattle.std.specs.Prelude.{◌≡◌, ◌++◌, IfErr, IfOk, OnOk, code
 ghost use Rattle.std.specs.Io.KnownBytes.{Appends};
 ghost use Rattle.mc_replay.specs.Written.{IsWritten, WritesList};
 
-use crate::fault::RunFault;
+use crate::fault::{NoMemory, RunFault};
 use crate::list::List;
 use crate::read::{Stage, read_all};
 use crate::write::answer;
 use mc_classes::Sink;
+use mc_memory::{Refused, extend_from_slice, from_slice};
 use mc_script::line::is_skipped;
 use mc_script::lines::Lines;
 use mc_streams::Source;
-use std::alloc::{AllocError, Global};
+use std::alloc::Global;
 
 /// Reads all lists and plays them, one after another. What a list answers is written before the next is played.
 pub fn run<R: Source, W: Sink>(
@@ -66,20 +67,20 @@ fn play_list<W: Sink>(alloc: Global, list: &List, writer: &mut W) -> Result<(), 
 }
 
 /// The first line of a list and what it answers.
-fn played(alloc: Global, list: &List) -> Result<Vec<u8>, AllocError>
+fn played(alloc: Global, list: &List) -> Result<Vec<u8>, NoMemory>
     ensures { IfOk result (λ bytes. IsWritten list.now.name.now list.now.config list.now.hands list.now.events.items bytes.items) }
 {
     let text = answer(alloc, list)?;
-    in_lines(alloc, list.name, text.as_bytes())
+    Ok(in_lines(alloc, list.name, text.as_bytes())?)
 }
 
 /// A line, and the lines behind it.
-fn in_lines(alloc: Global, first: &[u8], others: &[u8]) -> Result<Vec<u8>, AllocError>
+fn in_lines(alloc: Global, first: &[u8], others: &[u8]) -> Result<Vec<u8>, Refused>
     ensures { IfOk result (λ bytes. bytes.items ≡ (first.now ++ codes "\n") ++ others.now) }
 {
-    let mut bytes = Vec::from_slice(alloc, first)?;
-    bytes.extend_from_slice(b"\n")?;
-    bytes.extend_from_slice(others)?;
+    let mut bytes = from_slice(alloc, first)?;
+    extend_from_slice(&mut bytes, b"\n")?;
+    extend_from_slice(&mut bytes, others)?;
     Ok(bytes)
 }
 

@@ -22,34 +22,39 @@ mod heads;
 mod slabs;
 mod stripes;
 
+use crate::fault::NoMemory;
 use crate::list::List;
 use mc_core::{State, Stop, replay};
-use std::alloc::{AllocError, Global};
+use mc_memory::push_str;
+use std::alloc::Global;
 
 /// The answer of the list, what stands after it, and the line `end`.
-pub fn answer(alloc: Global, list: &List) -> Result<String, AllocError>
+pub fn answer(alloc: Global, list: &List) -> Result<String, NoMemory>
     ensures { IfOk result (λ text. IsAnswer list.now.config list.now.hands list.now.events.items (string_bytes text)) }
 {
     match replay(alloc, &list.config, list.hands, list.events.as_slice()) {
         Ok(state) => played(alloc, &state, list.config.stripes),
-        Err(Stop::NotAllowed(place)) => format!(in alloc; "answer NotAllowed {place}\nend\n"),
-        Err(Stop::NoMemory(_)) => Err(AllocError),
+        Err(Stop::NotAllowed(place)) => {
+            Ok(format!(in alloc; "answer NotAllowed {place}\nend\n")?)
+        }
+        Err(Stop::NoMemory(refused)) => Err(NoMemory::Seen(refused)),
     }
 }
 
 /// The answer where all events were played.
-fn played(alloc: Global, state: &State, stripes: u64) -> Result<String, AllocError>
+fn played(alloc: Global, state: &State, stripes: u64) -> Result<String, NoMemory>
     ensures { IfOk result (λ text. string_bytes text ≡ (codes "answer Ok\n" ++ standing_text stripes state.now) ++ codes "end\n") }
 {
-    let mut text = String::from_str(alloc, "answer Ok\n")?;
+    let mut text = String::new(alloc);
+    push_str(&mut text, "answer Ok\n")?;
     standing(alloc, &mut text, state, stripes)?;
-    text.push_str("end\n")?;
+    push_str(&mut text, "end\n")?;
     Ok(text)
 }
 
 /// What stands in a state with so many stripes.
 #[tactic(auto, using(crate::proofs::Ranges::appends_three))]
-fn standing(alloc: Global, text: &mut String, state: &State, stripes: u64) -> Result<(), AllocError>
+fn standing(alloc: Global, text: &mut String, state: &State, stripes: u64) -> Result<(), NoMemory>
     ensures { OnOk result (string_bytes text.new ≡ string_bytes text.old ++ standing_text stripes state.now) }
 {
     heads::heads(text, state)?;
@@ -58,12 +63,12 @@ fn standing(alloc: Global, text: &mut String, state: &State, stripes: u64) -> Re
 }
 
 /// What stands behind the slabs lock, if nobody has it.
-fn free_slabs(alloc: Global, text: &mut String, state: &State) -> Result<(), AllocError>
+fn free_slabs(alloc: Global, text: &mut String, state: &State) -> Result<(), NoMemory>
     ensures { OnOk result (string_bytes text.new ≡ string_bytes text.old ++ free_slabs_text state.now) }
 {
     match state.slabs() {
         Some(value) => slabs::slabs(alloc, text, state.table(), value),
-        None => text.push_str("slabs none\n"),
+        None => Ok(push_str(text, "slabs none\n")?),
     }
 }
 
@@ -73,7 +78,7 @@ fn free_stripes(
     text: &mut String,
     state: &State,
     stripes: u64,
-) -> Result<(), AllocError>
+) -> Result<(), NoMemory>
     ensures { OnOk result (string_bytes text.new ≡ string_bytes text.old ++ stripes_text stripes state.now) }
 {
     for number in 0..stripes {
@@ -83,16 +88,11 @@ fn free_stripes(
 }
 
 /// What stands behind the lock of a stripe, if nobody has it.
-fn free_stripe(
-    alloc: Global,
-    text: &mut String,
-    state: &State,
-    number: u64,
-) -> Result<(), AllocError>
+fn free_stripe(alloc: Global, text: &mut String, state: &State, number: u64) -> Result<(), NoMemory>
     ensures { OnOk result (string_bytes text.new ≡ string_bytes text.old ++ free_stripe_text state.now number) }
 {
     match state.stripe(number) {
-        Some(value) => stripes::stripe(alloc, text, number, value),
-        None => writeln!(text, "stripe {number} none"),
+        Some(value) => Ok(stripes::stripe(alloc, text, number, value)?),
+        None => Ok(writeln!(text, "stripe {number} none")?),
     }
 }

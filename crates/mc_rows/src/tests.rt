@@ -78,11 +78,11 @@ fn assert_same<T: Copy + PartialEq + Debug>(rt: &impl Abort, found: T, wanted: T
 fn assert_played(
     rt: &impl Abort,
     played: &Played,
-    end: Result<(), RunFault>,
+    end: &Result<(), RunFault>,
     text: &[u8],
     name: &str,
 ) {
-    assert_same(rt, played.end, end, name);
+    assert_same(rt, &played.end, end, name);
     assert_same(rt, played.text.as_slice(), text, name);
 }
 
@@ -165,7 +165,7 @@ fn plays<R: Abort + Wait>(
     run: Run,
     script: &[u8],
     text: &[u8],
-    end: Result<(), RunFault>,
+    end: &Result<(), RunFault>,
     name: &str,
 ) -> Result<(), Fail>
     requires { run.automove ≤ 2 }
@@ -184,7 +184,7 @@ fn plays_rows<R: Abort + Wait>(rt: &R, alloc: Global, rows: &[Row]) -> Result<()
             FROM_MODE_0,
             script.as_bytes(),
             replies.as_bytes(),
-            *end,
+            end,
             name,
         )?;
     }

@@ -6,7 +6,8 @@ ghost use Rattle.mc_classes.specs.Device.{Extends};
 use crate::recorded::{RecordedReader, is_interrupted};
 use crate::source::Source;
 use mc_classes::{Failures, Fault, Sink};
-use std::alloc::{AllocError, Global};
+use mc_memory::{Refused, with_capacity};
+use std::alloc::Global;
 use std::io::{Read, Write};
 use std::sync::ledger::Ledger;
 
@@ -94,7 +95,7 @@ impl<W: Write, L: Ledger> Output<W, L> {
         alloc: Global,
         writer: W,
         failed_writes: Failures<L>,
-    ) -> Result<Output<W, L>, AllocError>
+    ) -> Result<Output<W, L>, Refused>
     where
         W: Drop,
         ensures writer { IfOk result (λ output. output.writer ≡ writer) }
@@ -102,7 +103,7 @@ impl<W: Write, L: Ledger> Output<W, L> {
         ensures works { IfOk result (λ output. output.has_failed ≡ false) }
         ensures failures { IfOk result (λ output. output.failed_writes ≡ failed_writes) }
     {
-        let held = Vec::with_capacity(alloc, ROOM)?;
+        let held = with_capacity(alloc, ROOM)?;
         Ok(Output {
             writer,
             held,

@@ -3,6 +3,7 @@ mod disjoint;
 mod meeting;
 mod play;
 mod refused;
+mod spent;
 mod truncated;
 
 use mc_classes::Config;

@@ -24,7 +24,7 @@ use Rattle.mc_words.specs.View.{Setup, View}
 use Rattle.mc_words.specs.Doing.{HoldsSlabs}
 use Rattle.mc_words.specs.Happens.{event_of}
 use Rattle.mc_words.specs.Owner.{PutsBack}
-use Rattle.mc_words.specs.Sweeping.{Sweeps, SweepsOne}
+use Rattle.mc_words.specs.Sweeping.{SeesHeaders, Sweeps, SweepsEach, SweepsOne}
 use Rattle.mc_words.specs.Waiting.{WaitsForSlabs}
 use Rattle.mc_words.proofs.Lent.{lent_slabs}
 use Rattle.mc_words.proofs.TakeAndGive.{held_from}
@@ -66,15 +66,24 @@ module _ (table : Classes) where
       (same, subst (λ (p : Classes × SlabState). IsOfTable p.0 p.1) (λ k. (same k, sym is k)) (put_back_of_table view slabs chunk now puts))
   swept_here chunk view slabs now left (here, of) (inr (sees, is)) = (ap (λ (v : View). v.setup.table) sees.is ∙ here, subst (IsOfTable table) (sym is) of)
 
-  chunks_here : (chunks : List ChunkId) (view : View) (slabs : SlabState) (now : View) (left : SlabState) → AreHere view slabs → Sweeps chunks view slabs now left → AreHere now left
+  -- looks leave both
+  looked_here : (chunks : List ChunkId) (view now : View) (slabs : SlabState) → AreHere view slabs → SeesHeaders chunks view now → AreHere now slabs
+  looked_here [] view now slabs here same = subst (λ (v : View). AreHere v slabs) (sym same) here
+  looked_here (chunk ∷ chunks) view now slabs (here, of) (next, sees, rest) = looked_here chunks next now slabs (ap (λ (v : View). v.setup.table) sees.is ∙ here, of) rest
+
+  chunks_here : (chunks : List ChunkId) (view : View) (slabs : SlabState) (now : View) (left : SlabState) → AreHere view slabs → SweepsEach chunks view slabs now left → AreHere now left
   chunks_here [] view slabs now left here (same, is) = subst (λ (p : View × SlabState). AreHere p.0 p.1) (λ k. (sym same k, sym is k)) here
   chunks_here (chunk ∷ chunks) view slabs now left here (next, between, one, rest) =
       chunks_here chunks next between now left (swept_here chunk view slabs next between here one) rest
 
+  order_here : (order : List ChunkId) (view : View) (slabs : SlabState) (now : View) (left : SlabState) → AreHere view slabs → Sweeps order view slabs now left → AreHere now left
+  order_here order view slabs now left here sweeps =
+      let did = sweeps.recovers in chunks_here did.again did.seen slabs now left (looked_here did.looked view did.seen slabs here did.sees) did.each
+
   classes_here : (classes : List ℕ) (view : View) (slabs : SlabState) (now : View) (left : SlabState) → AreHere view slabs → SweepsClasses classes view slabs now left → AreHere now left
   classes_here [] view slabs now left here (same, is) = subst (λ (p : View × SlabState). AreHere p.0 p.1) (λ k. (sym same k, sym is k)) here
   classes_here (class ∷ classes) view slabs now left here (next, between, one, rest) =
-      classes_here classes next between now left (chunks_here (class_at slabs class).order view slabs next between here one) rest
+      classes_here classes next between now left (order_here (class_at slabs class).order view slabs next between here one) rest
 
 -- the pages of a class, and its free chunks
 abbrev page_count : ClassState → ℕ

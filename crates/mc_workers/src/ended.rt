@@ -1,23 +1,26 @@
 //! Why a thread ends.
 
-use std::alloc::AllocError;
+use crate::starting::Unstarted;
+use mc_memory::Refused;
 
 /// Why a thread ended before its lines were done.
-#[derive(Clone, Copy, PartialEq, Eq)]
+#[derive(PartialEq, Eq, Drop)]
 pub enum Ended {
     /// Memory ran out.
-    Memory,
+    Memory(Refused),
+    /// A thread couldn't be started.
+    Thread(Unstarted),
     /// The run has no turns of the mover left, or the gate stopped it.
     Turns,
 }
 
-impl From<AllocError> for Ended {
+impl From<Refused> for Ended {
     ghost use Rattle.std.specs.Prelude.{◌≡◌};
     ghost use Rattle.mc_workers.specs.declared.ended.Ended.TheVariants.{Memory};
 
-    ghost from_gives = { λ _ ended. ended ≡ Memory };
+    ghost from_gives = { λ refused ended. ended ≡ Memory refused };
 
-    fn from(_error: AllocError) -> Ended {
-        Ended::Memory
+    fn from(refused: Refused) -> Ended {
+        Ended::Memory(refused)
     }
 }

@@ -9,8 +9,9 @@ ghost use Rattle.mc_workers.specs.Serving.{AnswersGet};
 
 use crate::reply::Reply;
 use mc_items::{GetError, get, read, release};
+use mc_memory::Refused;
 use mc_words::{Arena, Hand};
-use std::alloc::{AllocError, Global};
+use std::alloc::Global;
 use std::sync::Wait;
 
 // Reads the words of the key's item, and releases it again.
@@ -20,7 +21,7 @@ pub(crate) fn get_words<R: Wait>(
     arena: &Arena,
     hand: &mut Hand,
     key: u64,
-) -> Result<Reply, AllocError>
+) -> Result<Reply, Refused>
     requires arena { IsHandOf arena.now hand.old }
     requires ready { IsReady (view hand.old) }
     ensures arena { IsHandOf arena.now hand.new }
@@ -34,12 +35,12 @@ pub(crate) fn get_words<R: Wait>(
         Ok(Some(item)) => item,
         Ok(None) => return Ok(Reply::NotFound),
         Err(GetError::TooManyRefs) => return Ok(Reply::TooManyRefs),
-        Err(GetError::NoMemory(_)) => return Err(AllocError),
+        Err(GetError::NoMemory(refused)) => return Err(refused),
     };
     let words = read(alloc, arena, hand, &item);
     release(arena, hand, item);
     match words {
         Ok(words) => Ok(Reply::Value(words)),
-        Err(_) => Err(AllocError),
+        Err(refused) => Err(refused),
     }
 }

@@ -10,8 +10,9 @@ ghost use Rattle.mc_workers.specs.OnHands.{AnswersDropBy, AnswersHoldBy};
 
 use crate::reply::Reply;
 use mc_items::{GetError, Ref, get, read, release};
+use mc_memory::{Refused, reserve};
 use mc_words::{Arena, Hand};
-use std::alloc::{AllocError, Global};
+use std::alloc::Global;
 use std::sync::Wait;
 
 // Keeps a reference to the key's item, if it has one.
@@ -21,7 +22,7 @@ pub(crate) fn hold<R: Wait>(
     hand: &mut Hand,
     kept: &mut Vec<Ref>,
     key: u64,
-) -> Result<Reply, AllocError>
+) -> Result<Reply, Refused>
     requires arena { IsHandOf arena.now hand.old }
     requires ready { IsReady (view hand.old) }
     requires kept { AreKept (view hand.old) kept.old.items }
@@ -32,7 +33,7 @@ pub(crate) fn hold<R: Wait>(
     ensures answers { IfOk result (λ reply. AnswersHoldBy arena.now key reply hand.old kept.old.items hand.new kept.new.items) }
     ensures left { OnErr result (kept.new.items ≡ kept.old.items) }
 {
-    kept.reserve(1)?;
+    reserve(kept, 1)?;
     match get(rt, arena, hand, key) {
         Ok(Some(item)) => {
             kept.push_reserved(item);
@@ -40,7 +41,7 @@ pub(crate) fn hold<R: Wait>(
         }
         Ok(None) => Ok(Reply::NotFound),
         Err(GetError::TooManyRefs) => Ok(Reply::TooManyRefs),
-        Err(GetError::NoMemory(_)) => Err(AllocError),
+        Err(GetError::NoMemory(refused)) => Err(refused),
     }
 }
 
@@ -51,7 +52,7 @@ pub(crate) fn drop_last(
     hand: &mut Hand,
     kept: &mut Vec<Ref>,
     key: u64,
-) -> Result<Reply, AllocError>
+) -> Result<Reply, Refused>
     requires arena { IsHandOf arena.now hand.old }
     requires ready { IsReady (view hand.old) }
     requires kept { AreKept (view hand.old) kept.old.items }
@@ -67,7 +68,7 @@ pub(crate) fn drop_last(
     };
     let words = match read(alloc, arena, hand, &kept[place]) {
         Ok(words) => words,
-        Err(_) => return Err(AllocError),
+        Err(refused) => return Err(refused),
     };
     let item = kept.remove(place);
     release(arena, hand, item);

@@ -16,9 +16,10 @@ use crate::keeping::{drop_last, hold};
 use crate::reply::Reply;
 use crate::setting::set_words;
 use mc_items::{Ref, delete, touch};
+use mc_memory::Refused;
 use mc_script::Command;
 use mc_words::{Arena, Hand};
-use std::alloc::{AllocError, Global};
+use std::alloc::Global;
 use std::sync::Wait;
 
 /// Does a worker's line by its hand, with the references that it keeps, and says what is answered. It waits for the locks that the
@@ -32,7 +33,7 @@ pub fn serve_line<R: Wait>(
     hand: &mut Hand,
     kept: &mut Vec<Ref>,
     command: Command,
-) -> Result<Reply, AllocError>
+) -> Result<Reply, Refused>
     requires arena { IsHandOf arena.now hand.old }
     requires ready { IsReady (view hand.old) }
     requires kept { AreKept (view hand.old) kept.old.items }
@@ -62,12 +63,7 @@ pub fn serve_line<R: Wait>(
 }
 
 // Deletes the key, and says whether it had an item.
-fn delete_key<R: Wait>(
-    rt: &R,
-    arena: &Arena,
-    hand: &mut Hand,
-    key: u64,
-) -> Result<Reply, AllocError>
+fn delete_key<R: Wait>(rt: &R, arena: &Arena, hand: &mut Hand, key: u64) -> Result<Reply, Refused>
     requires arena { IsHandOf arena.now hand.old }
     requires ready { IsReady (view hand.old) }
     ensures arena { IsHandOf arena.now hand.new }
@@ -80,12 +76,12 @@ fn delete_key<R: Wait>(
     match delete(rt, arena, hand, key) {
         Ok(true) => Ok(Reply::Deleted),
         Ok(false) => Ok(Reply::NotFound),
-        Err(_) => Err(AllocError),
+        Err(refused) => Err(refused),
     }
 }
 
 // Touches the key, and says whether it has an item.
-fn touch_key<R: Wait>(rt: &R, arena: &Arena, hand: &mut Hand, key: u64) -> Result<Reply, AllocError>
+fn touch_key<R: Wait>(rt: &R, arena: &Arena, hand: &mut Hand, key: u64) -> Result<Reply, Refused>
     requires arena { IsHandOf arena.now hand.old }
     requires ready { IsReady (view hand.old) }
     ensures arena { IsHandOf arena.now hand.new }
@@ -98,6 +94,6 @@ fn touch_key<R: Wait>(rt: &R, arena: &Arena, hand: &mut Hand, key: u64) -> Resul
     match touch(rt, arena, hand, key) {
         Ok(true) => Ok(Reply::Touched),
         Ok(false) => Ok(Reply::NotFound),
-        Err(_) => Err(AllocError),
+        Err(refused) => Err(refused),
     }
 }

@@ -16,10 +16,11 @@ use crate::mover::Mover;
 use crate::mover_reply::MoverReply;
 use crate::turns::do_turns;
 use crate::window::{ask_for_page, end_window};
+use mc_memory::Refused;
 use mc_mover::{Survey, set_mode, survey};
 use mc_script::Command;
 use mc_words::{Arena, Hand};
-use std::alloc::{AllocError, Global};
+use std::alloc::Global;
 use std::sync::Wait;
 
 /// Does a line of the mover by its hand, and says what is answered. It waits for the lock of the slabs, and for no other.
@@ -82,7 +83,7 @@ pub(crate) fn survey_all<R: Wait>(
     arena: &Arena,
     hand: &mut Hand,
     sweep: bool,
-) -> Result<Survey, AllocError>
+) -> Result<Survey, Refused>
     requires arena { IsHandOf arena.now hand.old }
     requires ready { IsReady (view hand.old) }
     ensures arena { IsHandOf arena.now hand.new }
@@ -94,6 +95,6 @@ pub(crate) fn survey_all<R: Wait>(
 {
     match survey(rt, alloc, arena, hand, sweep) {
         Ok(survey) => Ok(survey),
-        Err(_) => Err(AllocError),
+        Err(refused) => Err(refused),
     }
 }

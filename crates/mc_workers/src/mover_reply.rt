@@ -6,11 +6,11 @@ ghost use Rattle.mc_workers.specs.MoverReplies.{CanTell, mover_text, told_name};
 use crate::statistics::{push_classes, push_totals};
 use mc_classes::ClassTable;
 use mc_machine::{Counts, Ending};
+use mc_memory::Refused;
 use mc_mover::Survey;
 use mc_pages::Reassign;
 use mc_parts::{push_answer, push_turn_line, push_window_line};
 use mc_watch::Decision;
-use std::alloc::AllocError;
 use std::marker::Brand;
 use std::sync::ledger::Blank;
 
@@ -45,7 +45,7 @@ pub fn push_mover_reply(
     text: &mut Vec<u8>,
     table: &ClassTable,
     reply: &MoverReply,
-) -> Result<(), AllocError>
+) -> Result<(), Refused>
     requires tellable { CanTell table.now reply.now }
     ensures text { OnOk result (text.new.items ≡ text.old.items ++ mover_text table.now reply.now) }
     ensures kept { StartsWith text.new.items text.old.items }

@@ -2,8 +2,8 @@
 ghost use Rattle.std.specs.Prelude.{◌≡◌, ◌++◌, OnOk};
 ghost use Rattle.mc_workers.specs.Replies.{reply_text};
 
+use mc_memory::Refused;
 use mc_parts::{push_key_line, push_words_line};
-use std::alloc::AllocError;
 
 /// The answer to a worker's line, which is about its key.
 #[derive(Drop)]
@@ -35,7 +35,7 @@ pub enum Reply {
 }
 
 /// Adds the line that tells the reply. Where memory runs out, the text that stood there stays, and some of the line may follow it.
-pub fn push_reply(text: &mut Vec<u8>, key: u64, reply: &Reply) -> Result<(), AllocError>
+pub fn push_reply(text: &mut Vec<u8>, key: u64, reply: &Reply) -> Result<(), Refused>
     ensures line { OnOk result (text.new.items ≡ text.old.items ++ reply_text key reply.now) }
 {
     match reply {

@@ -13,10 +13,11 @@ use crate::mover_line::survey_all;
 use crate::statistics::push_statistics;
 use crate::threads::{Joined, first_hand, run_workers};
 use mc_classes::Config;
+use mc_memory::{Refused, extend_from_slice};
 use mc_mover::set_mode;
 use mc_script::Command;
-use mc_words::{Arena, Hand};
-use std::alloc::{AllocError, Global};
+use mc_words::{Arena, Hand, NewError};
+use std::alloc::Global;
 use std::sync::Wait;
 use std::thread::Threads;
 
@@ -24,7 +25,7 @@ use std::thread::Threads;
 /// replies to the workers from the lowest on, those to the mover, and the statistics of the classes and of the whole once all had
 /// ended.
 ///
-/// `Memory` goes before `Turns`; a thread that can't be started is want of memory.
+/// `Memory` goes before `Thread`, and that before `Turns`.
 pub fn serve_script<R: Threads + Wait + Sync, G: Gate + Sync>(
     rt: &R,
     alloc: Global,
@@ -75,7 +76,7 @@ fn open_arena<R: Wait>(
     config: &Config,
     mode: u64,
     hands: u64,
-) -> Result<(Arena, Hand, Vec<Hand>), AllocError>
+) -> Result<(Arena, Hand, Vec<Hand>), Refused>
     requires accepted { refusal_of config.now ≡ None }
     requires mode { mode ≤ 2 }
     requires some { 1 ≤ hands }
@@ -84,8 +85,10 @@ fn open_arena<R: Wait>(
     ensures mover { IfOk result (λ opened. IsHandOf opened.0 opened.1 × IsReady (view opened.1)) }
     ensures none { IfOk result (λ opened. (view opened.1).row.holdings ≡ []) }
 {
-    let Ok((arena, mut workers)) = Arena::new(alloc, config, hands) else {
-        return Err(AllocError);
+    let (arena, mut workers) = match Arena::new(alloc, config, hands) {
+        Ok(made) => made,
+        Err(NewError::NoMemory(refused)) => return Err(refused),
+        Err(_) => unreachable!(),
     };
     let Some(mut mover) = first_hand(&arena, 0, &mut workers) else {
         unreachable!()
@@ -100,7 +103,7 @@ fn tell_all<R: Wait>(
     alloc: Global,
     arena: &Arena,
     joined: Joined,
-) -> Result<Vec<u8>, AllocError>
+) -> Result<Vec<u8>, Refused>
     requires arena { IsHandOf arena.now joined.hand }
     requires ready { IsReady (view joined.hand) }
     ensures tells { IfOk result (λ text. TellsAll arena.now joined text.items) }
@@ -112,7 +115,7 @@ fn tell_all<R: Wait>(
     } = joined;
     let survey = survey_all(rt, alloc, arena, &mut hand, true)?;
     let mut text = workers;
-    text.extend_from_slice(&mover)?;
+    extend_from_slice(&mut text, &mover)?;
     push_statistics(&mut text, arena.classes(), &survey)?;
     Ok(text)
 }

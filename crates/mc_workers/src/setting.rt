@@ -10,8 +10,9 @@ ghost use Rattle.mc_workers.specs.Serving.{AnswersSet};
 
 use crate::reply::Reply;
 use mc_items::{SetError, set};
+use mc_memory::{Refused, with_capacity};
 use mc_words::{Arena, Hand};
-use std::alloc::{AllocError, Global};
+use std::alloc::Global;
 use std::sync::Wait;
 
 // Stores so many words under the key: base, base + 1 and so on, modulo 2^64.
@@ -23,7 +24,7 @@ pub(crate) fn set_words<R: Wait>(
     key: u64,
     count: u64,
     base: u64,
-) -> Result<Reply, AllocError>
+) -> Result<Reply, Refused>
     requires arena { IsHandOf arena.now hand.old }
     requires ready { IsReady (view hand.old) }
     requires count { count ≤ 4096 }
@@ -40,16 +41,16 @@ pub(crate) fn set_words<R: Wait>(
         Err(SetError::TooLarge) => Ok(Reply::TooLarge),
         Err(SetError::NoRoom) => Ok(Reply::NoRoom),
         Err(SetError::WornOut) => Ok(Reply::WornOut),
-        Err(SetError::NoMemory(_)) => Err(AllocError),
+        Err(SetError::NoMemory(refused)) => Err(refused),
     }
 }
 
 // So many words that count up from the base.
-fn count_up(alloc: Global, base: u64, count: u64) -> Result<Vec<u64>, AllocError>
+fn count_up(alloc: Global, base: u64, count: u64) -> Result<Vec<u64>, Refused>
     requires { count ≤ 4096 }
     ensures words { IfOk result (λ words. words.items ≡ words_from base count) }
 {
-    let mut words = Vec::with_capacity(alloc, count as usize)?;
+    let mut words = with_capacity(alloc, count as usize)?;
     for place in 0..count {
         words.push_reserved(base.wrapping_add(place));
     }

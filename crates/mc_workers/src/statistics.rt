@@ -1,28 +1,31 @@
 //! The texts of the statistics, added to a text in memory.
-ghost use Rattle.std.specs.Prelude.{◌≡◌, ◌++◌, ◌<◌, OnOk};
+ghost use Rattle.std.specs.Prelude.{◌≡◌, ◌++◌, ◌<◌, IsSome, OnOk};
 ghost use Rattle.std.specs.Io.{StartsWith};
 ghost use Rattle.mc_workers.specs.MoverReplies.{classes_text, statistics_text, totals_text};
 ghost use Rattle.mc_workers.specs.Surveyed.{AreTellable};
 
 use crate::numbers::{free_in, pages_in};
 use mc_classes::{ClassTable, Failures, Fault, Sink};
+use mc_memory::{Refused, extend_from_slice};
 use mc_mover::Survey;
 use mc_watch::{stats_general, stats_slabs};
-use std::alloc::AllocError;
 use std::marker::Brand;
 use std::mem;
 use std::sync::ledger::{Blank, Ledger};
 
-// A text that is put together in memory. A write fails where memory runs out, and is counted.
+// A text that is put together in memory. A write fails where memory is refused, and is counted; then the sink has the evidence.
 #[derive(Drop)]
 struct TextSink<L: Ledger> {
     text: Vec<u8>,
     refusals: Failures<L>,
+    refused: Option<Refused>,
+    ghost told: { 0 < refusals → IsSome refused },
 }
 
 impl<L: Ledger> TextSink<L> {
-    // Goes on from a text, which is taken out of its place.
+    // Goes on from a text, which is taken out of its place. Nothing was refused yet.
     fn take(text: &mut Vec<u8>, refusals: Failures<L>) -> TextSink<L>
+        requires { refusals ≡ 0 }
         ensures text { result.text ≡ text.old }
         ensures refusals { result.refusals ≡ refusals }
     {
@@ -30,15 +33,21 @@ impl<L: Ledger> TextSink<L> {
         TextSink {
             text: mem::replace(text, empty),
             refusals,
+            refused: None,
         }
     }
 
-    // The text so far.
-    fn into_text(self) -> Vec<u8>
-        ensures text { result ≡ self.text }
+    // The text so far, and the evidence where a write failed.
+    fn into_parts(self) -> (Vec<u8>, Option<Refused>)
+        ensures text { result.0 ≡ self.text }
+        ensures told { 0 < self.refusals → IsSome result.1 }
     {
-        let TextSink { text, refusals: _ } = self;
-        text
+        let TextSink {
+            text,
+            refusals: _,
+            refused,
+        } = self;
+        (text, refused)
     }
 }
 
@@ -50,7 +59,8 @@ impl<L: Ledger> Sink for TextSink<L> {
     ghost failures = { λ s. s.refusals };
 
     fn write_all(&mut self, bytes: &[u8]) -> Result<(), Fault> {
-        if self.text.extend_from_slice(bytes).is_err() {
+        if let Err(refused) = extend_from_slice(&mut self.text, bytes) {
+            self.refused = Some(refused);
             self.refusals.add();
             return Err(Fault);
         }
@@ -63,7 +73,7 @@ pub(crate) fn push_statistics(
     text: &mut Vec<u8>,
     table: &ClassTable,
     survey: &Survey,
-) -> Result<(), AllocError>
+) -> Result<(), Refused>
     requires tellable { AreTellable table.now survey.now }
     ensures text { OnOk result (text.new.items ≡ text.old.items ++ statistics_text table.now survey.now) }
     ensures kept { StartsWith text.new.items text.old.items }
@@ -77,7 +87,7 @@ pub(crate) fn push_totals<L: Ledger>(
     refusals: Blank,
     text: &mut Vec<u8>,
     survey: &Survey,
-) -> Result<(), AllocError>
+) -> Result<(), Refused>
     requires name { refusals.name ≡ L.name }
     requires parts { refusals.parts ≡ L.parts }
     requires some { 0 < refusals.parts }
@@ -95,10 +105,14 @@ pub(crate) fn push_totals<L: Ledger>(
         totals.busy,
         &mut sink,
     );
-    *text = sink.into_text();
+    let (added, refused) = sink.into_parts();
+    *text = added;
     match written {
         Ok(()) => Ok(()),
-        Err(Fault) => Err(AllocError),
+        Err(Fault) => match refused {
+            Some(refused) => Err(refused),
+            None => unreachable!(),
+        },
     }
 }
 
@@ -108,7 +122,7 @@ pub(crate) fn push_classes<L: Ledger>(
     text: &mut Vec<u8>,
     table: &ClassTable,
     survey: &Survey,
-) -> Result<(), AllocError>
+) -> Result<(), Refused>
     requires name { refusals.name ≡ L.name }
     requires parts { refusals.parts ≡ L.parts }
     requires some { 0 < refusals.parts }
@@ -121,9 +135,13 @@ pub(crate) fn push_classes<L: Ledger>(
     let granted = survey.totals.granted * table.page();
     let mut sink = TextSink::take(text, Failures::<L>::new(refusals));
     let written = stats_slabs(table, &pages, &free, granted, &mut sink);
-    *text = sink.into_text();
+    let (added, refused) = sink.into_parts();
+    *text = added;
     match written {
         Ok(()) => Ok(()),
-        Err(Fault) => Err(AllocError),
+        Err(Fault) => match refused {
+            Some(refused) => Err(refused),
+            None => unreachable!(),
+        },
     }
 }

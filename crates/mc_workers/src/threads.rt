@@ -1,5 +1,5 @@
 //! Workers in threads of their own, and the mover beside them.
-ghost use Rattle.std.specs.Prelude.{◌≡◌, ◌≤◌, ◌+◌, [], ◌∷◌, All, Err, IfOk, IfSome, None, Ok, true, vec_len};
+ghost use Rattle.std.specs.Prelude.{◌≡◌, ◌≢◌, ◌≤◌, ◌+◌, [], ◌∷◌, All, Err, IfOk, IfSome, None, Ok, true, vec_len};
 ghost use Rattle.std.specs.Thread.{IsSync};
 ghost use Rattle.mc_script.specs.Command.{IsValid};
 ghost use Rattle.mc_words.specs.Arenas.{IsHandOf, view};
@@ -13,6 +13,8 @@ use crate::gate::Gate;
 use crate::lines::serve_lines;
 use crate::moves::move_lines;
 use crate::shared::Shared;
+use crate::starting::start;
+use mc_memory::extend_from_slice;
 use mc_script::Command;
 use mc_words::{Arena, Hand};
 use std::alloc::Global;
@@ -55,7 +57,7 @@ impl<'a> Promise<Result<Served, Ended>> for DoneBy<'a> {
 /// Does the lines of all workers, from this number on by these hands, each in a thread of its own, and those of the mover in this one.
 /// Once all have ended, the mover's hand takes the others over.
 ///
-/// `Memory` goes before `Turns`; a thread that can't be started is want of memory.
+/// `Memory` goes before `Thread`, and that before `Turns`.
 pub fn run_workers<R: Threads + Wait + Sync, G: Gate + Sync>(
     rt: &R,
     alloc: Global,
@@ -92,7 +94,8 @@ pub fn run_workers<R: Threads + Wait + Sync, G: Gate + Sync>(
                 worker,
                 hand: Snapshot::of(&hand),
             };
-            let child = scope.spawn_with(
+            let child = start(
+                scope,
                 promise,
                 move || -> Result<Served, Ended>
                     requires { IsSync R.row × IsSync G.row × IsNewHand arena.now worker hand × All IsValid commands.now }
@@ -115,7 +118,7 @@ pub fn run_workers<R: Threads + Wait + Sync, G: Gate + Sync>(
                     let (own, others) = both_of(own, others)?;
                     join_both(arena, own, others)
                 }
-                Err(_) => Err(Ended::Memory),
+                Err(unstarted) => Err(Ended::Thread(unstarted)),
             }
         },
     )
@@ -195,19 +198,46 @@ pub fn first_hand(arena: &Arena, worker: u64, hands: &mut Vec<Hand>) -> Option<H
     }
 }
 
-// What a worker did, and what the others and the mover did. Want of memory goes before spent turns and a gate's stop.
+// What a worker did, and what the others and the mover did. Want of memory goes before a thread that wasn't started, and that before
+// spent turns and a gate's stop.
 fn both_of(
     own: Result<Served, Ended>,
     others: Result<Joined, Ended>,
 ) -> Result<(Served, Joined), Ended>
     ensures both { IfOk result (λ both. (own ≡ Ok both.0) × (others ≡ Ok both.1)) }
-    ensures memory { own ≡ Err Ended.Memory → result ≡ Err Ended.Memory }
-    ensures memory_of_others { others ≡ Err Ended.Memory → result ≡ Err Ended.Memory }
+    ensures memory { own ≡ Err (Ended.Memory tt) → result ≡ Err (Ended.Memory tt) }
+    ensures memory_of_others { others ≡ Err (Ended.Memory tt) → result ≡ Err (Ended.Memory tt) }
+    ensures unstarted { own ≡ Err (Ended.Thread tt) → result ≢ Err Ended.Turns }
+    ensures unstarted_of_others { others ≡ Err (Ended.Thread tt) → result ≢ Err Ended.Turns }
 {
-    match (own, others) {
-        (Ok(own), Ok(others)) => Ok((own, others)),
-        (Err(Ended::Memory), _) | (_, Err(Ended::Memory)) => Err(Ended::Memory),
-        _ => Err(Ended::Turns),
+    let own = match own {
+        Ok(own) => own,
+        Err(own) => {
+            return match others {
+                Ok(_others) => Err(own),
+                Err(others) => Err(first_of(own, others)),
+            };
+        }
+    };
+    match others {
+        Ok(others) => Ok((own, others)),
+        Err(others) => Err(others),
+    }
+}
+
+// Which of two ends is told.
+fn first_of(own: Ended, others: Ended) -> Ended
+    ensures memory { own ≡ Ended.Memory tt → result ≡ Ended.Memory tt }
+    ensures memory_of_others { others ≡ Ended.Memory tt → result ≡ Ended.Memory tt }
+    ensures turns { result ≡ Ended.Turns → (own ≡ Ended.Turns) × (others ≡ Ended.Turns) }
+{
+    match own {
+        Ended::Memory(refused) => Ended::Memory(refused),
+        Ended::Thread(unstarted) => match others {
+            Ended::Memory(refused) => Ended::Memory(refused),
+            _ => Ended::Thread(unstarted),
+        },
+        Ended::Turns => others,
     }
 }
 
@@ -225,7 +255,7 @@ fn join_both(arena: &Arena, own: Served, others: Joined) -> Result<Joined, Ended
         mover,
     } = others;
     let mut workers = text;
-    workers.extend_from_slice(&behind)?;
+    extend_from_slice(&mut workers, &behind)?;
     let hand = arena.join_hands(first, hand);
     Ok(Joined {
         hand,

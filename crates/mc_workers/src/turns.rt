@@ -44,8 +44,9 @@ pub(crate) fn do_turns<R: Wait>(
             return Err(Ended::Turns);
         }
         mover.turns += 1;
-        let Ok(turn) = turn(rt, arena, hand) else {
-            return Err(Ended::Memory);
+        let turn = match turn(rt, arena, hand) {
+            Ok(turn) => turn,
+            Err(refused) => return Err(Ended::Memory(refused)),
         };
         add_counts(&mut counts, turn);
         ending = ending_of(turn);

@@ -9,11 +9,12 @@ use crate::ended::Ended;
 use crate::mover::Mover;
 use crate::mover_reply::Acted;
 use crate::numbers::{evictions_in, free_in, pages_in};
+use mc_memory::Refused;
 use mc_mover::{Survey, reassign, survey};
 use mc_pages::Reassign;
 use mc_watch::{Decider, Decision};
 use mc_words::{Arena, Hand};
-use std::alloc::{AllocError, Global};
+use std::alloc::Global;
 use std::sync::Wait;
 
 // Puts the dead of all classes back, feeds the decider what is left then, and asks for the page that it decides on, in mode 1 alone. Says
@@ -34,8 +35,9 @@ pub(crate) fn end_window<R: Wait>(
     ensures ends { IfOk result (λ acted. EndsWindow acted mover.old hand.old mover.new hand.new) }
     ensures memory { result ≢ Err Ended.Turns }
 {
-    let Ok(survey) = survey(rt, alloc, arena, hand, true) else {
-        return Err(Ended::Memory);
+    let survey = match survey(rt, alloc, arena, hand, true) {
+        Ok(survey) => survey,
+        Err(refused) => return Err(Ended::Memory(refused)),
     };
     let Some(decision) = decide(alloc, &mut mover.decider, &survey)? else {
         return Ok(None);
@@ -50,7 +52,7 @@ fn decide(
     alloc: Global,
     decider: &mut Decider,
     survey: &Survey,
-) -> Result<Option<Decision>, AllocError>
+) -> Result<Option<Decision>, Refused>
     ensures fed { OnOk result (decider.new ≡ decider_after decider.old survey.now) }
     ensures decided { IfOk result (λ decided. decided ≡ decision_after decider.old survey.now) }
     ensures kept { OnErr result (decider.new ≡ decider.old) }
@@ -71,7 +73,7 @@ pub(crate) fn ask_for_page<R: Wait>(
     hand: &mut Hand,
     src: Option<u64>,
     dst: u64,
-) -> Result<Result<(), Reassign>, AllocError>
+) -> Result<Result<(), Reassign>, Refused>
     requires arena { IsHandOf arena.now hand.old }
     requires ready { IsReady (view hand.old) }
     ensures arena { IsHandOf arena.now hand.new }
@@ -81,7 +83,7 @@ pub(crate) fn ask_for_page<R: Wait>(
     ensures asks { IfOk result (λ answer. AsksForPage src dst answer hand.old hand.new) }
 {
     match reassign(rt, arena, hand, src, dst) {
-        Err(Reassign::NoMemory(_)) => Err(AllocError),
+        Err(Reassign::NoMemory(refused)) => Err(refused),
         answer => Ok(answer),
     }
 }

@@ -13,6 +13,7 @@ use mc_driver::{
     Free, Input as Standard, Options, Output, RecordedWriter, RunFault, options, run_serial,
     run_threads,
 };
+use mc_memory::push;
 use std::env;
 use std::env::Env;
 use std::io::{self, ErrorKind};
@@ -29,6 +30,8 @@ enum Stop {
     Options(clap::Error),
     /// The arguments can't be read as text.
     Words,
+    /// Memory ran out for the arguments or the options. That `clap` or the standard library says, by an error that is no evidence.
+    Memory,
     /// The run wasn't done.
     Fault(RunFault),
 }
@@ -47,7 +50,7 @@ impl From<RunFault> for Stop {
 impl From<clap::Error> for Stop {
     fn from(error: clap::Error) -> Stop {
         match error.kind() {
-            clap::error::ErrorKind::OutOfMemory => Stop::Fault(RunFault::Memory),
+            clap::error::ErrorKind::OutOfMemory => Stop::Memory,
             _ => Stop::Options(error),
         }
     }
@@ -56,7 +59,7 @@ impl From<clap::Error> for Stop {
 impl From<io::Error> for Stop {
     fn from(error: io::Error) -> Stop {
         match error.kind() {
-            ErrorKind::OutOfMemory => Stop::Fault(RunFault::Memory),
+            ErrorKind::OutOfMemory => Stop::Memory,
             _ => Stop::Words,
         }
     }
@@ -66,7 +69,10 @@ impl From<io::Error> for Stop {
 fn started_with<R: Env + AllocGlobal>(rt: &R) -> Result<Options, Stop>
     ensures { IfOk result (λ options. options.run.automove ≤ 2) }
 {
-    let words: Vec<String> = env::args(rt)?.collect(rt.alloc()).map_err(RunFault::from)?;
+    let mut words = Vec::new(rt.alloc());
+    for word in env::args(rt)? {
+        push(&mut words, word).map_err(RunFault::from)?;
+    }
     Ok(options(rt.alloc(), words.as_slice())?)
 }
 
@@ -131,6 +137,10 @@ fn end(rt: &(impl Print + Eprint), stop: Stop) -> u8 {
         Stop::Words => {
             let _ = rt.eprintln("mcslab: the arguments are not text");
             1
+        }
+        Stop::Memory => {
+            let _ = rt.eprintln("mcslab: memory");
+            4
         }
         Stop::Fault(fault) => tell(rt, fault),
     }

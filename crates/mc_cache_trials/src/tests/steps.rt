@@ -1,8 +1,7 @@
 //! A call with what it is to give. Each is in a function of its own that promises nothing, so that a list of calls is checked fast.
 use mc_keeper::{
-    Counts, Decision, Ending, HoldError, Keeper, Numbers, Reassign, Stored, TooManyRefs,
+    Counts, Decision, Ending, HoldError, Keeper, Numbers, Reassign, Refused, Stored, TooManyRefs,
 };
-use std::alloc::AllocError;
 
 /// A call, and what it is to give. An item of so many words has each word like the number of its words.
 #[derive(Drop)]
@@ -44,7 +43,7 @@ fn is_lent(found: Option<&[u64]>, wanted: Option<usize>) -> bool {
     }
 }
 
-fn sets(keeper: &mut Keeper, key: u64, count: usize, wanted: Stored) -> Result<bool, AllocError> {
+fn sets(keeper: &mut Keeper, key: u64, count: usize, wanted: Stored) -> Result<bool, Refused> {
     let words = [count as u64; 64];
     match words.get(..count) {
         Some(words) => Ok(keeper.set(1, key, words)? == wanted),
@@ -68,8 +67,8 @@ fn gets(
     }
 }
 
-fn holds(keeper: &mut Keeper, worker: u64, key: u64, wanted: Result<bool, HoldError>) -> bool {
-    worker < 64 && keeper.hold(worker, key) == wanted
+fn holds(keeper: &mut Keeper, worker: u64, key: u64, wanted: &Result<bool, HoldError>) -> bool {
+    worker < 64 && keeper.hold(worker, key) == *wanted
 }
 
 fn reads(keeper: &Keeper, worker: u64, key: u64, wanted: Option<usize>) -> bool {
@@ -105,7 +104,7 @@ fn modes(keeper: &mut Keeper, mode: u64) -> bool {
     keeper.automove() == mode
 }
 
-fn windows(keeper: &mut Keeper, wanted: Option<(u64, u64)>) -> Result<bool, AllocError> {
+fn windows(keeper: &mut Keeper, wanted: Option<(u64, u64)>) -> Result<bool, Refused> {
     Ok(match (keeper.window()?, wanted) {
         (Some(acted), Some((src, dst))) => {
             acted.decision == Decision { src, dst } && acted.answer.is_ok()
@@ -159,11 +158,11 @@ fn moved(keeper: &Keeper, moved: u64, evicted: u64, busy: u64) -> bool {
 }
 
 /// The call gives what it is to give.
-pub(super) fn is_so(keeper: &mut Keeper, step: &Step) -> Result<bool, AllocError> {
+pub(super) fn is_so(keeper: &mut Keeper, step: &Step) -> Result<bool, Refused> {
     match *step {
         Step::Sets(key, count, wanted) => sets(keeper, key, count, wanted),
         Step::Gets(worker, key, wanted) => Ok(gets(keeper, worker, key, wanted)),
-        Step::Holds(worker, key, wanted) => Ok(holds(keeper, worker, key, wanted)),
+        Step::Holds(worker, key, ref wanted) => Ok(holds(keeper, worker, key, wanted)),
         Step::Reads(worker, key, wanted) => Ok(reads(keeper, worker, key, wanted)),
         Step::Drops(worker, key, wanted) => Ok(drops(keeper, worker, key, wanted)),
         Step::Deletes(key, wanted) => Ok(deletes(keeper, key, wanted)),

@@ -9,9 +9,9 @@ ghost use Rattle.mc_keeper.specs.Stages.{reassign_stages, window_stages};
 
 use super::Keeper;
 use mc_classes::ClassId;
+use mc_memory::Refused;
 use mc_pages::Reassign;
 use mc_watch::Decision;
-use std::alloc::AllocError;
 
 /// What became of a decision of the automover.
 #[derive(PartialEq, Eq, Drop)]
@@ -37,7 +37,7 @@ impl Keeper {
     }
 
     /// Asks for a page for this class, from any other. The answer doesn't matter.
-    pub(super) fn ask_for_page(&mut self, class: ClassId) -> Result<(), AllocError>
+    pub(super) fn ask_for_page(&mut self, class: ClassId) -> Result<(), Refused>
         ensures after { OnOk result (self.new ≡ with_asked_page self.old class) }
         ensures refused { OnErr result (self.new ≡ self.old) }
     {
@@ -58,7 +58,7 @@ impl Keeper {
     /// of that is told. (slabs.c's automover of 1.4, which judges three windows; to the pool after 1.6's page mover.)
     ///
     /// Where memory runs out, what was done before stays: the dead that were put back, and then the window.
-    pub fn window(&mut self) -> Result<Option<Acted>, AllocError>
+    pub fn window(&mut self) -> Result<Option<Acted>, Refused>
         ensures answer { IfOk result (λ answer. answer ≡ acted_answer (with_window (all_swept self.old)) (decision (with_window (all_swept self.old)))) }
         ensures after { OnOk result (self.new ≡ (acted (with_window (all_swept self.old)) (decision (with_window (all_swept self.old)))).machine) }
         ensures refused { OnErr result (Contains (window_stages self.old) self.new) }
@@ -71,7 +71,7 @@ impl Keeper {
     }
 
     /// Lets the decider learn the numbers of a window. Gives the decision to act on, if there is one.
-    fn decide(&mut self) -> Result<Option<Decision>, AllocError>
+    fn decide(&mut self) -> Result<Option<Decision>, Refused>
         ensures after { OnOk result (self.new ≡ with_window self.old) }
         ensures refused { OnErr result (self.new ≡ self.old) }
         ensures decided { IfOk result (λ decided. decided ≡ decision self.new) }
@@ -89,7 +89,7 @@ impl Keeper {
     }
 
     /// Begins to move a page as it was decided, and tells what became of that.
-    fn act(&mut self, decision: Decision) -> Result<Option<Acted>, AllocError>
+    fn act(&mut self, decision: Decision) -> Result<Option<Acted>, Refused>
         ensures answer { IfOk result (λ answer. answer ≡ acted_answer self.old (Some decision)) }
         ensures after { OnOk result (self.new ≡ (acted self.old (Some decision)).machine) }
         ensures refused { OnErr result (self.new ≡ self.old) }
@@ -104,7 +104,7 @@ impl Keeper {
         &mut self,
         src: Option<u64>,
         dst: u64,
-    ) -> Result<Result<(), Reassign>, AllocError>
+    ) -> Result<Result<(), Reassign>, Refused>
         ensures answer { IfOk result (λ answer. answer ≡ told_answer (answer_of self.old.slabs src dst)) }
         ensures after { OnOk result (self.new ≡ begun self.old src dst (answer_of self.old.slabs src dst)) }
         ensures refused { OnErr result (self.new ≡ self.old) }
@@ -115,7 +115,7 @@ impl Keeper {
             Err(Reassign::Same) => Ok(Err(Reassign::Same)),
             Err(Reassign::BadClass) => Ok(Err(Reassign::BadClass)),
             Err(Reassign::NoSpare) => Ok(Err(Reassign::NoSpare)),
-            Err(Reassign::NoMemory(_)) => Err(AllocError),
+            Err(Reassign::NoMemory(refused)) => Err(refused),
         }
     }
 }

@@ -7,8 +7,8 @@ ghost use Rattle.mc_machine.specs.Supply.{evicts, victim, with_eviction, supplie
 
 use super::Keeper;
 use mc_classes::ClassId;
+use mc_memory::Refused;
 use mc_pages::ChunkId;
-use std::alloc::AllocError;
 
 /// How many of the oldest chunks are looked at for an item to evict (own; five tries after memcached's items.c).
 const TRIES: u64 = 5;
@@ -16,7 +16,7 @@ const TRIES: u64 = 5;
 impl Keeper {
     /// Sees to it that the class has a free chunk, where there is a way to one. Says whether an item was evicted for it.
     #[tactic(auto, using(mc_machine::proofs::Stocks::class_stays))]
-    pub(super) fn supply(&mut self, class: ClassId) -> Result<bool, AllocError>
+    pub(super) fn supply(&mut self, class: ClassId) -> Result<bool, Refused>
         requires { IsClass self.old.slabs class }
         ensures evicted { IfOk result (λ evicted. evicted ≡ evicts self.old class) }
         ensures after { OnOk result (self.new ≡ supplied self.old class) }

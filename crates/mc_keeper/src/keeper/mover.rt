@@ -15,9 +15,9 @@ use super::pages::cut_page;
 use super::serve::Stop;
 use mc_classes::{ClassId, PageId};
 use mc_machine::{Counts, Ending};
+use mc_memory::Refused;
 use mc_pages::{ChunkId, Found, Moving};
 use mc_parts::class_of;
-use std::alloc::AllocError;
 
 /// The most turns of a run (own).
 const MAX_TURNS: u64 = 1_000_000;
@@ -33,7 +33,7 @@ impl Keeper {
         ensures done { IfOk result (λ done. turned self.old no_counts ≡ record { machine = self.new; counts = done.1; ending = done.0 }) }
         ensures some { OnOk result (self.old.turns < 1000000) }
         ensures stopped { result ≡ Err Stop.Turns → (1000000 ≤ self.old.turns) × (self.new ≡ self.old) }
-        ensures refused { result ≡ Err Stop.NoMemory → Contains (turn_stages self.old no_counts) self.new }
+        ensures refused { result ≡ Err (Stop.NoMemory tt) → Contains (turn_stages self.old no_counts) self.new }
     {
         if self.turns >= MAX_TURNS {
             return Err(Stop::Turns);
@@ -41,7 +41,7 @@ impl Keeper {
         let mut counts = Counts::new();
         match self.turn_on(&mut counts) {
             Ok(ending) => Ok((ending, counts)),
-            Err(_) => Err(Stop::NoMemory),
+            Err(refused) => Err(Stop::NoMemory(refused)),
         }
     }
 
@@ -68,7 +68,7 @@ impl Keeper {
     }
 
     /// One turn, which goes on counting.
-    fn turn_on(&mut self, counts: &mut Counts) -> Result<Ending, AllocError>
+    fn turn_on(&mut self, counts: &mut Counts) -> Result<Ending, Refused>
         requires turns { self.old.turns < 1000000 }
         requires counts { AreAtMost (256 * 999999) counts.old }
         ensures refused { OnErr result (Contains (turn_stages self.old counts.old) self.new) }
@@ -80,7 +80,7 @@ impl Keeper {
     }
 
     /// Looks at as many chunks as a turn may, or fewer where no page moves or all of it was looked at.
-    fn steps(&mut self, counts: &mut Counts) -> Result<(), AllocError>
+    fn steps(&mut self, counts: &mut Counts) -> Result<(), Refused>
         requires { AreAtMost (256 * 999999) counts.old }
         ensures refused { OnErr result (Contains (look_stages self.old.bulk (record { machine = self.old; counts = counts.old })) self.new) }
         ensures done { OnOk result (with_chunks self.old.bulk (record { machine = self.old; counts = counts.old }) ≡ record { machine = self.new; counts = counts.new }) }
@@ -95,7 +95,7 @@ impl Keeper {
 
     /// Looks at the chunk at the move's position, and goes on from there. Says whether there was one: nothing happens where
     /// no page moves or all of it was looked at.
-    fn step(&mut self, counts: &mut Counts) -> Result<bool, AllocError>
+    fn step(&mut self, counts: &mut Counts) -> Result<bool, Refused>
         requires { AreAtMost 256000000 counts.old }
         ensures looked { OnOk result (with_chunk (record { machine = self.old; counts = counts.old }) self.old.slabs.moving ≡ record { machine = self.new; counts = counts.new }) }
         ensures refused { OnErr result (self.new ≡ with_source_swept self.old self.old.slabs.moving) }
@@ -159,7 +159,7 @@ impl Keeper {
     }
 
     /// Looks at a chunk of the moving page, and clears it where it can.
-    fn look(&mut self, class: ClassId, chunk: ChunkId) -> Result<Found, AllocError>
+    fn look(&mut self, class: ClassId, chunk: ChunkId) -> Result<Found, Refused>
         requires class { IsClass self.old.slabs class }
         requires moving { option_map (λ move. move.page) self.old.slabs.moving ≡ Some chunk.page }
         requires cut { is_cut self.old.slabs class chunk ≡ true }
@@ -209,10 +209,11 @@ impl Keeper {
         self.slabs.clear(chunk);
         self.items.remove(chunk);
         self.dead.decrement(class);
+        self.noted.omit(class, chunk);
     }
 
     /// Takes the chunk's item, which nobody holds, to a free chunk off the page, or else evicts it.
-    fn save(&mut self, class: ClassId, chunk: ChunkId) -> Result<Found, AllocError>
+    fn save(&mut self, class: ClassId, chunk: ChunkId) -> Result<Found, Refused>
         requires class { IsClass self.old.slabs class }
         requires moving { option_map (λ move. move.page) self.old.slabs.moving ≡ Some chunk.page }
         requires own { class_of_page self.old.slabs chunk.page ≡ class }
@@ -250,7 +251,7 @@ impl Keeper {
     }
 
     /// Takes the item of a chunk to a free one, which gets the old one's place in the hand-out order.
-    fn rescue(&mut self, old: ChunkId, new: ChunkId) -> Result<(), AllocError>
+    fn rescue(&mut self, old: ChunkId, new: ChunkId) -> Result<(), Refused>
         requires moving { option_map (λ move. move.page) self.old.slabs.moving ≡ Some old.page }
         requires unheld { is_linked_unheld self.old old ≡ true }
         requires free { Contains (class_of_chunk self.old.slabs old).free new }

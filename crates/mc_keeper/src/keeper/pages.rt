@@ -7,14 +7,14 @@ ghost use Rattle.mc_machine.specs.Machine.{has_free, stocked, swept, with_new_pa
 
 use super::Keeper;
 use mc_classes::{ClassId, PageId};
+use mc_memory::Refused;
 use mc_pages::{Grow, Slabs};
-use std::alloc::AllocError;
 
 impl Keeper {
     /// Sees to it that the class has a free chunk, where there is a way: its dead are put back, and else it
     /// gets a page.
     #[tactic(auto, using(mc_machine::proofs::Stocks::class_stays))]
-    pub(super) fn stock(&mut self, class: ClassId) -> Result<(), AllocError>
+    pub(super) fn stock(&mut self, class: ClassId) -> Result<(), Refused>
         requires { IsClass self.old.slabs class }
         ensures after { OnOk result (self.new ≡ stocked self.old class) }
         ensures refused { OnErr result (self.new ≡ swept self.old class) }
@@ -38,7 +38,7 @@ impl Keeper {
     }
 
     /// Gives the class the next page, if there is one, and cuts its chunks.
-    fn grow(&mut self, class: ClassId) -> Result<(), AllocError>
+    fn grow(&mut self, class: ClassId) -> Result<(), Refused>
         requires { IsClass self.old.slabs class }
         ensures after { OnOk result (self.new ≡ with_new_page self.old class (next_page self.old.slabs)) }
         ensures refused { OnErr result (self.new ≡ self.old) }
@@ -50,7 +50,7 @@ impl Keeper {
                 Ok(())
             }
             Err(Grow::NoRoom) => Ok(()),
-            Err(Grow::NoMemory(_)) => Err(AllocError),
+            Err(Grow::NoMemory(refused)) => Err(refused),
         }
     }
 }

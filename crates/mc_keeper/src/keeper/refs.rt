@@ -10,6 +10,8 @@ ghost use Rattle.mc_machine.specs.Lines.{dropped, kept, last_hold, made_youngest
 ghost use Rattle.mc_keeper.specs.Calls.{held_words, hold_answer, words_of, EndsAs, MayHold};
 
 use super::Keeper;
+use super::noted::note_unheld;
+use mc_memory::Refused;
 use mc_pages::ChunkId;
 use mc_parts::count_unheld;
 
@@ -18,12 +20,12 @@ use mc_parts::count_unheld;
 pub struct TooManyRefs;
 
 /// Why a worker doesn't hold an item.
-#[derive(Clone, Copy, Debug, PartialEq, Eq)]
+#[derive(Debug, PartialEq, Eq, Drop)]
 pub enum HoldError {
     /// It has as many holds as it may have, 255.
     TooManyRefs,
     /// Memory ran out.
-    NoMemory,
+    NoMemory(Refused),
 }
 
 impl Keeper {
@@ -62,7 +64,7 @@ impl Keeper {
         };
         match self.holds.take(worker, chunk) {
             Ok(()) => Ok(true),
-            Err(_) => Err(HoldError::NoMemory),
+            Err(refused) => Err(HoldError::NoMemory(refused)),
         }
     }
 
@@ -122,6 +124,7 @@ impl Keeper {
                 &self.slabs,
                 chunk,
             );
+            note_unheld(&mut self.noted, &self.holds, &self.slabs, chunk);
         }
     }
 

@@ -18,13 +18,13 @@ use super::refs::{HoldError, TooManyRefs};
 use super::store::Stored;
 use crate::reply::Reply;
 use mc_classes::{Failures, Fault};
+use mc_memory::{Refused, reserve};
 use mc_pages::Reassign;
 use mc_parts::{
     NewWords, push_answer, push_key_line, push_turn_line, push_window_line, push_words_line,
 };
 use mc_script::Command;
 use mc_watch::{stats_general, stats_slabs};
-use std::alloc::AllocError;
 use std::marker::Brand;
 use std::mem;
 use std::sync::ledger::{Blank, Ledger};
@@ -33,22 +33,22 @@ use std::sync::ledger::{Blank, Ledger};
 const KEY_LINE: usize = 64;
 
 /// Why a command wasn't done.
-#[derive(Clone, Copy, Debug, PartialEq, Eq)]
+#[derive(Debug, PartialEq, Eq, Drop)]
 pub enum Stop {
     /// It asks for more turns of the mover than a run has.
     Turns,
     /// Memory ran out.
-    NoMemory,
+    NoMemory(Refused),
 }
 
-impl From<AllocError> for Stop {
+impl From<Refused> for Stop {
     ghost use Rattle.std.specs.Prelude.{◌≡◌};
     ghost use Rattle.mc_keeper.specs.declared.keeper.serve.Stop.TheVariants.{NoMemory};
 
-    ghost from_gives = { λ _ stop. stop ≡ NoMemory };
+    ghost from_gives = { λ refused stop. stop ≡ NoMemory refused };
 
-    fn from(_e: AllocError) -> Stop {
-        Stop::NoMemory
+    fn from(refused: Refused) -> Stop {
+        Stop::NoMemory(refused)
     }
 }
 
@@ -86,23 +86,22 @@ impl Keeper {
                 key,
                 words,
                 base,
-            } => self.serve_set(key, words, base, text)?,
-            Command::Get { worker, key } => self.serve_get(worker, key, text)?,
-            Command::Hold { worker, key } => self.serve_hold(worker, key, text)?,
-            Command::Drop { worker, key } => self.serve_drop(worker, key, text)?,
-            Command::Delete { worker, key } => self.serve_delete(worker, key, text)?,
-            Command::Touch { worker, key } => self.serve_touch(worker, key, text)?,
-            Command::Reassign { src, dst } => self.serve_reassign(src, dst, text)?,
-            Command::Automove { mode } => self.serve_automove(mode, text)?,
-            Command::Window => self.serve_window(text)?,
+            } => Ok(self.serve_set(key, words, base, text)?),
+            Command::Get { worker, key } => Ok(self.serve_get(worker, key, text)?),
+            Command::Hold { worker, key } => Ok(self.serve_hold(worker, key, text)?),
+            Command::Drop { worker, key } => Ok(self.serve_drop(worker, key, text)?),
+            Command::Delete { worker, key } => Ok(self.serve_delete(worker, key, text)?),
+            Command::Touch { worker, key } => Ok(self.serve_touch(worker, key, text)?),
+            Command::Reassign { src, dst } => Ok(self.serve_reassign(src, dst, text)?),
+            Command::Automove { mode } => Ok(self.serve_automove(mode, text)?),
+            Command::Window => Ok(self.serve_window(text)?),
             Command::Turn { turns } => {
                 let (ending, counts) = self.turns(turns)?;
-                push_turn_line(text, ending, counts)?;
+                Ok(push_turn_line(text, ending, counts)?)
             }
-            Command::Stats => self.push_totals::<Brand>(Blank::new(1), text)?,
-            Command::StatsSlabs => self.serve_classes::<Brand>(Blank::new(1), text)?,
+            Command::Stats => Ok(self.push_totals::<Brand>(Blank::new(1), text)?),
+            Command::StatsSlabs => Ok(self.serve_classes::<Brand>(Blank::new(1), text)?),
         }
-        Ok(())
     }
 
     /// Stores so many words that count up from `base`, and answers whether there was room for them.
@@ -112,7 +111,7 @@ impl Keeper {
         words: u64,
         base: u64,
         text: &mut Vec<u8>,
-    ) -> Result<(), AllocError>
+    ) -> Result<(), Refused>
         requires { words ≤ 4096 }
         ensures reply { OnOk result (text.new.items ≡ text.old.items ++ (set_in self.old (class_of self.old.table (item_bytes words)) key (words_from base words)).reply) }
         ensures after { OnOk result (self.new ≡ (set_in self.old (class_of self.old.table (item_bytes words)) key (words_from base words)).machine) }
@@ -125,7 +124,7 @@ impl Keeper {
     }
 
     /// Tells the words of the key's item.
-    fn serve_get(&self, worker: u64, key: u64, text: &mut Vec<u8>) -> Result<(), AllocError>
+    fn serve_get(&self, worker: u64, key: u64, text: &mut Vec<u8>) -> Result<(), Refused>
         requires { worker < 64 }
         ensures reply { OnOk result (text.new.items ≡ text.old.items ++ (looked_up self.now worker key).reply) }
         ensures kept { StartsWith text.new.items text.old.items }
@@ -138,26 +137,26 @@ impl Keeper {
     }
 
     /// The worker holds the key's item, once there is room to say so.
-    fn serve_hold(&mut self, worker: u64, key: u64, text: &mut Vec<u8>) -> Result<(), AllocError>
+    fn serve_hold(&mut self, worker: u64, key: u64, text: &mut Vec<u8>) -> Result<(), Refused>
         requires { worker < 64 }
         ensures reply { OnOk result (text.new.items ≡ text.old.items ++ (kept self.old worker key).reply) }
         ensures after { OnOk result (self.new ≡ (kept self.old worker key).machine) }
         ensures refused { OnErr result (self.new ≡ self.old) }
         ensures kept { StartsWith text.new.items text.old.items }
     {
-        text.reserve(KEY_LINE)?;
+        reserve(text, KEY_LINE)?;
         let answer: &[u8] = match self.hold(worker, key) {
             Ok(true) => b"HELD",
             Ok(false) => b"NOT_FOUND",
             Err(HoldError::TooManyRefs) => b"TOO_MANY_REFS",
-            Err(HoldError::NoMemory) => return Err(AllocError),
+            Err(HoldError::NoMemory(refused)) => return Err(refused),
         };
         push_key_line(text, answer, key).unwrap();
         Ok(())
     }
 
     /// Tells the words of the item that the worker's last hold of the key is of, and the worker gives it back.
-    fn serve_drop(&mut self, worker: u64, key: u64, text: &mut Vec<u8>) -> Result<(), AllocError>
+    fn serve_drop(&mut self, worker: u64, key: u64, text: &mut Vec<u8>) -> Result<(), Refused>
         requires { worker < 64 }
         ensures reply { OnOk result (text.new.items ≡ text.old.items ++ (dropped self.old worker key (last_hold self.old worker key)).reply) }
         ensures after { OnOk result (self.new ≡ (dropped self.old worker key (last_hold self.old worker key)).machine) }
@@ -179,7 +178,7 @@ impl Keeper {
     }
 
     /// Unlinks the key's item, and answers whether it had one.
-    fn serve_delete(&mut self, worker: u64, key: u64, text: &mut Vec<u8>) -> Result<(), AllocError>
+    fn serve_delete(&mut self, worker: u64, key: u64, text: &mut Vec<u8>) -> Result<(), Refused>
         ensures reply { OnOk result (text.new.items ≡ text.old.items ++ (deleted self.old key (linked_chunk self.old.items key)).reply) }
         ensures after { self.new ≡ (deleted self.old key (linked_chunk self.old.items key)).machine }
         ensures kept { StartsWith text.new.items text.old.items }
@@ -189,13 +188,13 @@ impl Keeper {
     }
 
     /// The key's item becomes the youngest of its class, once there is room to say so.
-    fn serve_touch(&mut self, worker: u64, key: u64, text: &mut Vec<u8>) -> Result<(), AllocError>
+    fn serve_touch(&mut self, worker: u64, key: u64, text: &mut Vec<u8>) -> Result<(), Refused>
         ensures reply { OnOk result (text.new.items ≡ text.old.items ++ (made_youngest self.old key (linked_chunk self.old.items key)).reply) }
         ensures after { OnOk result (self.new ≡ (made_youngest self.old key (linked_chunk self.old.items key)).machine) }
         ensures refused { OnErr result (self.new ≡ self.old) }
         ensures kept { StartsWith text.new.items text.old.items }
     {
-        text.reserve(KEY_LINE)?;
+        reserve(text, KEY_LINE)?;
         let had = self.touch(worker, key);
         push_key_line(text, if had { b"TOUCHED" } else { b"NOT_FOUND" }, key).unwrap();
         Ok(())
@@ -207,7 +206,7 @@ impl Keeper {
         src: Option<u64>,
         dst: u64,
         text: &mut Vec<u8>,
-    ) -> Result<(), AllocError>
+    ) -> Result<(), Refused>
         ensures reply { OnOk result (text.new.items ≡ text.old.items ++ (reassigned self.old src dst (answer_of self.old.slabs src dst)).reply) }
         ensures after { OnOk result (self.new ≡ (reassigned self.old src dst (answer_of self.old.slabs src dst)).machine) }
         ensures refused { OnErr result (Contains (reassign_stages self.old src dst) self.new) }
@@ -218,7 +217,7 @@ impl Keeper {
     }
 
     /// Sets the automover's mode.
-    fn serve_automove(&mut self, mode: u64, text: &mut Vec<u8>) -> Result<(), AllocError>
+    fn serve_automove(&mut self, mode: u64, text: &mut Vec<u8>) -> Result<(), Refused>
         requires { mode ≤ 2 }
         ensures reply { OnOk result (text.new.items ≡ text.old.items ++ line (codes "OK")) }
         ensures after { self.new ≡ record self.old { slabs = with_mode self.old.slabs mode } }
@@ -229,7 +228,7 @@ impl Keeper {
     }
 
     /// Ends a window, and tells what became of the automover's decision.
-    fn serve_window(&mut self, text: &mut Vec<u8>) -> Result<(), AllocError>
+    fn serve_window(&mut self, text: &mut Vec<u8>) -> Result<(), Refused>
         ensures reply { OnOk result (text.new.items ≡ text.old.items ++ (acted (with_window (all_swept self.old)) (decision (with_window (all_swept self.old)))).reply) }
         ensures after { OnOk result (self.new ≡ (acted (with_window (all_swept self.old)) (decision (with_window (all_swept self.old)))).machine) }
         ensures refused { OnErr result (Contains (window_stages self.old) self.new) }
@@ -249,7 +248,7 @@ impl Keeper {
         &mut self,
         refusals: Blank,
         text: &mut Vec<u8>,
-    ) -> Result<(), AllocError>
+    ) -> Result<(), Refused>
         requires name { refusals.name ≡ L.name }
         requires parts { refusals.parts ≡ L.parts }
         requires some { 0 < refusals.parts }
@@ -262,7 +261,7 @@ impl Keeper {
     }
 
     /// Adds the statistics of the classes as they are now.
-    fn push_classes<L: Ledger>(&self, refusals: Blank, text: &mut Vec<u8>) -> Result<(), AllocError>
+    fn push_classes<L: Ledger>(&self, refusals: Blank, text: &mut Vec<u8>) -> Result<(), Refused>
         requires name { refusals.name ≡ L.name }
         requires parts { refusals.parts ≡ L.parts }
         requires some { 0 < refusals.parts }
@@ -282,15 +281,19 @@ impl Keeper {
             malloced,
             &mut reply,
         );
-        *text = reply.into_text();
+        let (added, refused) = reply.into_parts();
+        *text = added;
         match written {
             Ok(()) => Ok(()),
-            Err(Fault) => Err(AllocError),
+            Err(Fault) => match refused {
+                Some(refused) => Err(refused),
+                None => unreachable!(),
+            },
         }
     }
 
     /// Adds the statistics of all classes together.
-    fn push_totals<L: Ledger>(&self, refusals: Blank, text: &mut Vec<u8>) -> Result<(), AllocError>
+    fn push_totals<L: Ledger>(&self, refusals: Blank, text: &mut Vec<u8>) -> Result<(), Refused>
         requires name { refusals.name ≡ L.name }
         requires parts { refusals.parts ≡ L.parts }
         requires some { 0 < refusals.parts }
@@ -312,10 +315,14 @@ impl Keeper {
             totals.busy,
             &mut reply,
         );
-        *text = reply.into_text();
+        let (added, refused) = reply.into_parts();
+        *text = added;
         match written {
             Ok(()) => Ok(()),
-            Err(Fault) => Err(AllocError),
+            Err(Fault) => match refused {
+                Some(refused) => Err(refused),
+                None => unreachable!(),
+            },
         }
     }
 }

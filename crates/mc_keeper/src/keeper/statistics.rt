@@ -6,8 +6,8 @@ ghost use Rattle.mc_machine.specs.Automove.{eviction_counts, free_counts, page_c
 
 use super::Keeper;
 use mc_classes::{ClassId, ClassTable};
+use mc_memory::{Refused, push};
 use mc_pages::{Moving, Numbers, Totals};
-use std::alloc::AllocError;
 
 /// Numbers of all classes, class 1 first.
 #[derive(Drop)]
@@ -63,7 +63,7 @@ impl Keeper {
     }
 
     /// The numbers of all classes.
-    pub(super) fn counts(&self) -> Result<ClassCounts, AllocError>
+    pub(super) fn counts(&self) -> Result<ClassCounts, Refused>
         ensures evictions { IfOk result (λ counts. counts.evictions.items ≡ eviction_counts self.now.slabs) }
         ensures pages { IfOk result (λ counts. counts.pages.items ≡ page_counts self.now.slabs) }
         ensures free { IfOk result (λ counts. counts.free.items ≡ free_counts self.now.slabs) }
@@ -73,9 +73,9 @@ impl Keeper {
         let mut free = Vec::new(self.alloc);
         for place in 0..self.table.count() {
             let numbers = self.slabs.numbers(place + 1);
-            evictions.push(numbers.evictions)?;
-            pages.push(numbers.pages)?;
-            free.push(numbers.free)?;
+            push(&mut evictions, numbers.evictions)?;
+            push(&mut pages, numbers.pages)?;
+            push(&mut free, numbers.free)?;
         }
         Ok(ClassCounts {
             evictions,

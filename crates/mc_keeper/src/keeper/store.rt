@@ -14,10 +14,11 @@ ghost use Rattle.mc_keeper.specs.Calls.{stored_answer};
 ghost use Rattle.mc_keeper.specs.Stages.{set_stages, store_stages};
 
 use super::Keeper;
+use super::noted::note_unheld;
 use mc_classes::ClassId;
+use mc_memory::Refused;
 use mc_pages::ChunkId;
 use mc_parts::{NewWords, count_unheld};
-use std::alloc::AllocError;
 
 /// Whether an item was stored.
 #[derive(Clone, Copy, Debug, PartialEq, Eq)]
@@ -41,7 +42,7 @@ impl Keeper {
     /// The words are copied once, into the room of the chunk's last item where that suffices, and not at all where they are
     /// too large. Where memory runs out, what was done before stays: dead chunks put back, an item evicted, or the new item
     /// stored and no page asked for.
-    pub fn set(&mut self, _worker: u64, key: u64, words: &[u64]) -> Result<Stored, AllocError>
+    pub fn set(&mut self, _worker: u64, key: u64, words: &[u64]) -> Result<Stored, Refused>
         ensures answer { IfOk result (λ answer. answer ≡ stored_answer self.old (class_of self.old.table (item_bytes (length words.now)))) }
         ensures after { OnOk result (self.new ≡ (set_in self.old (class_of self.old.table (item_bytes (length words.now))) key words.now).machine) }
         ensures refused { OnErr result (Contains (set_stages self.old (class_of self.old.table (item_bytes (length words.now))) key words.now) self.new) }
@@ -50,7 +51,7 @@ impl Keeper {
     }
 
     /// Stores an item of these words under the key, and says whether it did.
-    pub(super) fn set_words(&mut self, key: u64, words: NewWords) -> Result<Stored, AllocError>
+    pub(super) fn set_words(&mut self, key: u64, words: NewWords) -> Result<Stored, Refused>
         requires { length (words_in words) ≤ 2 ^ 60 }
         ensures answer { IfOk result (λ answer. answer ≡ stored_answer self.old (class_of self.old.table (item_bytes (length (words_in words.entry))))) }
         ensures after { OnOk result (self.new ≡ (set_in self.old (class_of self.old.table (item_bytes (length (words_in words.entry)))) key (words_in words.entry)).machine) }
@@ -69,7 +70,7 @@ impl Keeper {
     /// and says whether there was a chunk for it. Where there is none, the old item stays, unless it was the one evicted. In
     /// mode 2 of the automover an eviction asks for a page (after memcached's `slabs automove 2`).
     #[tactic(auto, using(mc_machine::proofs::Stocks::store_steps))]
-    fn store(&mut self, class: ClassId, key: u64, words: NewWords) -> Result<bool, AllocError>
+    fn store(&mut self, class: ClassId, key: u64, words: NewWords) -> Result<bool, Refused>
         requires { IsClass self.old.slabs class }
         ensures stored { IfOk result (λ stored. stored ≡ is_some (supply self.old class)) }
         ensures after { OnOk result (self.new ≡ (stored (supplied self.old class) class key (words_in words.entry) (asks_for_page self.old class) (supply self.old class)).machine) }
@@ -79,9 +80,10 @@ impl Keeper {
         match self.slabs.first_free(class) {
             Some(chunk) => {
                 self.put(class, chunk, key, words)?;
-                if evicted && self.slabs.automove() == 2 {
-                    self.ask_for_page(class)?;
+                if !evicted || self.slabs.automove() != 2 {
+                    return Ok(true);
                 }
+                self.ask_for_page(class)?;
                 Ok(true)
             }
             None => Ok(false),
@@ -105,6 +107,7 @@ impl Keeper {
                     &self.slabs,
                     chunk,
                 );
+                note_unheld(&mut self.noted, &self.holds, &self.slabs, chunk);
                 true
             }
             None => false,
@@ -119,7 +122,7 @@ impl Keeper {
         chunk: ChunkId,
         key: u64,
         words: NewWords,
-    ) -> Result<(), AllocError>
+    ) -> Result<(), Refused>
         requires class { IsClass self.old.slabs class }
         requires free { first_free (class_at self.old.slabs class) ≡ Some chunk }
         ensures put { OnOk result (self.new ≡ record self.old {
@@ -131,9 +134,9 @@ impl Keeper {
         self.items.store(chunk, key, words)?;
         let before = match self.index.insert(key, chunk) {
             Ok(before) => before,
-            Err(error) => {
+            Err(refused) => {
                 self.items.remove(chunk);
-                return Err(error);
+                return Err(refused);
             }
         };
         if let Some(old) = before {
@@ -145,6 +148,7 @@ impl Keeper {
                 &self.slabs,
                 old,
             );
+            note_unheld(&mut self.noted, &self.holds, &self.slabs, old);
         }
         self.slabs.pop(class);
         Ok(())

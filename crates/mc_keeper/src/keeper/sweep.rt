@@ -4,9 +4,11 @@ ghost use Rattle.mc_pages.specs.SlabState.{IsClass, class_at, class_of_page, cla
 ghost use Rattle.mc_machine.specs.Machine.{dead_chunks, is_dead, is_linked_unheld, swept, all_swept, after_reclaim};
 
 use super::Keeper;
+use super::noted::DeadNotes;
 use mc_classes::ClassId;
 use mc_pages::ChunkId;
 use mc_parts::class_of;
+use std::mem;
 
 impl Keeper {
     /// Puts back the dead chunks of a class, the one that was handed out first of all first.
@@ -15,8 +17,60 @@ impl Keeper {
         ensures swept { self.new ≡ swept self.old class }
     {
         match self.only_dead(class) {
-            Some(chunk) => self.reclaim(chunk),
+            Some(chunk) => self.reclaim_only(class, chunk),
+            None => self.sweep_several(class),
+        }
+    }
+
+    /// Puts back the only dead chunk of the class.
+    fn reclaim_only(&mut self, class: ClassId, chunk: ChunkId)
+        requires class { IsClass self.old.slabs class }
+        requires own { class_of_page self.old.slabs chunk.page ≡ class }
+        requires dead { is_dead self.old chunk ≡ true }
+        requires listed { Contains (class_at self.old.slabs class).order chunk }
+        ensures reclaimed { self.new ≡ after_reclaim self.old chunk }
+    {
+        self.reclaim(chunk);
+        self.noted.forget(class);
+    }
+
+    /// Puts back the dead chunks of a class, as they are noted where those are all, else on a walk.
+    fn sweep_several(&mut self, class: ClassId)
+        requires { IsClass self.old.slabs class }
+        ensures swept { self.new ≡ swept self.old class }
+    {
+        let mut noted = mem::replace(&mut self.noted, DeadNotes::none(self.alloc));
+        match noted.of_mut(class) {
+            Some(chunks) => self.sweep_noted(class, chunks),
             None => self.sweep_order(class),
+        }
+        noted.forget(class);
+        self.noted = noted;
+    }
+
+    /// Puts back the dead chunks of a class, these where they are all, else on a walk.
+    fn sweep_noted(&mut self, class: ClassId, chunks: &mut [ChunkId])
+        requires { IsClass self.old.slabs class }
+        ensures swept { self.new ≡ swept self.old class }
+    {
+        self.sort_dead(class, chunks);
+        if self.is_dead_order(class, chunks) {
+            self.reclaim_each(class, chunks);
+        } else {
+            self.sweep_order(class);
+        }
+    }
+
+    /// Puts back the dead chunks of a class, which these are.
+    fn reclaim_each(&mut self, class: ClassId, chunks: &[ChunkId])
+        requires class { IsClass self.old.slabs class }
+        requires all { dead_chunks self.old class ≡ chunks.now }
+        ensures swept { self.new ≡ swept self.old class }
+    {
+        for place in 0..chunks.len() {
+            // that the keeper is consistent is known where one of its fields is looked at
+            let _ = &self.slabs;
+            self.reclaim(chunks[place]);
         }
     }
 

@@ -2,8 +2,9 @@
 ghost use Rattle.std.specs.Prelude.{◌≡◌, IfOk, vec_len};
 
 use crate::fault::RunFault;
+use mc_memory::{Refused, extend_from_slice, filled};
 use mc_streams::Source;
-use std::alloc::{AllocError, Global};
+use std::alloc::Global;
 
 /// How many bytes are asked for at a time.
 const PIECE: usize = 65_536;
@@ -22,10 +23,10 @@ pub fn read_all<R: Source>(alloc: Global, reader: &mut R) -> Result<Vec<u8>, Run
 }
 
 /// So many bytes to read into.
-fn room_for(alloc: Global, count: usize) -> Result<Vec<u8>, AllocError>
+fn room_for(alloc: Global, count: usize) -> Result<Vec<u8>, Refused>
     ensures { IfOk result (λ room. vec_len room ≡ count) }
 {
-    vec![in alloc; 0u8; count]
+    filled(alloc, 0u8, count)
 }
 
 /// Reads once into `piece`, adds what was read to `bytes` and says how many that were. None is the end.
@@ -38,6 +39,6 @@ fn read_piece<R: Source>(
         Ok(count) => count,
         Err(_) => return Err(RunFault::Read),
     };
-    bytes.extend_from_slice(&piece[..count])?;
+    extend_from_slice(bytes, &piece[..count])?;
     Ok(count)
 }

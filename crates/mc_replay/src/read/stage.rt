@@ -7,6 +7,7 @@ use super::word::is;
 use crate::fault::Refusal;
 use crate::list::{Accepted, List};
 use mc_classes::{ClassTable, Config, ConfigError};
+use mc_memory::push;
 use mc_script::line::words;
 use mc_script::number::number;
 use std::alloc::{AllocError, Global};
@@ -64,7 +65,7 @@ fn accepted(alloc: Global, line: &[u8]) -> Result<Accepted, Refusal> {
     };
     match ClassTable::build(alloc, &config) {
         Ok(_) => Ok(Accepted { config }),
-        Err(ConfigError::NoMemory(_)) => Err(Refusal::Memory),
+        Err(ConfigError::NoMemory(refused)) => Err(Refusal::from(refused)),
         Err(error) => Err(Refusal::Config(error)),
     }
 }
@@ -151,7 +152,7 @@ fn more<'a>(alloc: Global, mut list: List<'a>, line: &[u8]) -> Result<Stage<'a>,
         return Ok(Stage::Answered(list));
     }
     let event = event(alloc, line)?;
-    list.events.push(event).map_err(AllocError::from)?;
+    push(&mut list.events, event)?;
     Ok(Stage::Begun(list))
 }
 

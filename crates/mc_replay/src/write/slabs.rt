@@ -5,8 +5,10 @@ ghost use Rattle.mc_pages.specs.SlabState.{IsClass, class_at, totals_of};
 ghost use Rattle.mc_core.specs.InOrder.{IsOfTable};
 ghost use Rattle.mc_replay.specs.Written.{chunk_text, chunks_text, class_line, classes_text, entry_line, entry_text, evictions_text, free_text, item_counts, mode_text, moving_line, moving_text, order_text, owner_line, owners_text, page_counts, slabs_text, totals_line};
 
+use crate::fault::NoMemory;
 use mc_classes::{ClassId, ClassTable, PageId};
 use mc_core::{free_of, order_of};
+use mc_memory::push_str;
 use mc_pages::{ChunkId, Entry, Moving, Owner, Slabs, Totals};
 use std::alloc::{AllocError, Global};
 
@@ -17,17 +19,17 @@ pub(super) fn slabs(
     text: &mut String,
     table: &ClassTable,
     slabs: &Slabs,
-) -> Result<(), AllocError>
+) -> Result<(), NoMemory>
     requires { IsOfTable table.now slabs.now.state }
     ensures { OnOk result (string_bytes text.new ≡ string_bytes text.old ++ slabs_text table.now slabs.now.state) }
 {
     pages(text, table, slabs)?;
     classes(alloc, text, table, slabs)?;
-    moves(text, slabs)
+    Ok(moves(text, slabs)?)
 }
 
 /// Owners and ledger.
-fn pages(text: &mut String, table: &ClassTable, slabs: &Slabs) -> Result<(), AllocError>
+fn pages(text: &mut String, table: &ClassTable, slabs: &Slabs) -> Result<(), NoMemory>
     requires { IsOfTable table.now slabs.now.state }
     ensures { OnOk result (string_bytes text.new ≡ string_bytes text.old ++ (owners_text (pages_of table.now) slabs.now.state ++ flat_map entry_line slabs.now.state.ledger)) }
 {
@@ -67,11 +69,11 @@ fn owner(text: &mut String, page: PageId, owner: Owner) -> Result<(), AllocError
 }
 
 /// How pages changed hands.
-fn ledger(text: &mut String, entries: &[Entry]) -> Result<(), AllocError>
+fn ledger(text: &mut String, entries: &[Entry]) -> Result<(), NoMemory>
     ensures { OnOk result (string_bytes text.new ≡ string_bytes text.old ++ flat_map entry_line entries.now) }
 {
     for change in entries {
-        text.push_str("ledger ")?;
+        push_str(text, "ledger ")?;
         entry(text, *change)?;
     }
     Ok(())
@@ -95,7 +97,7 @@ fn classes(
     text: &mut String,
     table: &ClassTable,
     slabs: &Slabs,
-) -> Result<(), AllocError>
+) -> Result<(), NoMemory>
     requires { IsOfTable table.now slabs.now.state }
     ensures { OnOk result (string_bytes text.new ≡ string_bytes text.old ++ classes_text (length table.now.sizes) slabs.now.state) }
 {
@@ -107,19 +109,19 @@ fn classes(
 
 /// The lists of a class, and how often it evicted.
 #[tactic(auto, using(crate::proofs::Ranges::appends_three))]
-fn class(alloc: Global, text: &mut String, slabs: &Slabs, class: ClassId) -> Result<(), AllocError>
+fn class(alloc: Global, text: &mut String, slabs: &Slabs, class: ClassId) -> Result<(), NoMemory>
     requires { IsClass slabs.now.state class }
     ensures { OnOk result (string_bytes text.new ≡ string_bytes text.old ++ class_line class (class_at slabs.now.state class)) }
 {
-    let free = free_of(alloc, slabs, class).map_err(|_| AllocError)?;
-    let order = order_of(alloc, slabs, class).map_err(|_| AllocError)?;
+    let free = free_of(alloc, slabs, class)?;
+    let order = order_of(alloc, slabs, class)?;
     free_list(text, class, &free)?;
     hand_out_order(text, &order)?;
-    evictions(text, slabs.numbers(class).evictions)
+    Ok(evictions(text, slabs.numbers(class).evictions)?)
 }
 
 /// A class and its free list.
-fn free_list(text: &mut String, class: ClassId, free: &[ChunkId]) -> Result<(), AllocError>
+fn free_list(text: &mut String, class: ClassId, free: &[ChunkId]) -> Result<(), NoMemory>
     ensures { OnOk result (string_bytes text.new ≡ string_bytes text.old ++ free_text class free.now) }
 {
     write!(text, "class {class} free [")?;
@@ -127,10 +129,10 @@ fn free_list(text: &mut String, class: ClassId, free: &[ChunkId]) -> Result<(), 
 }
 
 /// A hand-out order.
-fn hand_out_order(text: &mut String, order: &[ChunkId]) -> Result<(), AllocError>
+fn hand_out_order(text: &mut String, order: &[ChunkId]) -> Result<(), NoMemory>
     ensures { OnOk result (string_bytes text.new ≡ string_bytes text.old ++ order_text order.now) }
 {
-    text.push_str("] order [")?;
+    push_str(text, "] order [")?;
     chunks(text, order)
 }
 
@@ -142,7 +144,7 @@ fn evictions(text: &mut String, count: u64) -> Result<(), AllocError>
 }
 
 /// The chunks of a list.
-fn chunks(text: &mut String, chunks: &[ChunkId]) -> Result<(), AllocError>
+fn chunks(text: &mut String, chunks: &[ChunkId]) -> Result<(), NoMemory>
     ensures { OnOk result (string_bytes text.new ≡ string_bytes text.old ++ chunks_text chunks.now) }
 {
     let Some((first, others)) = chunks.split_first() else {
@@ -150,7 +152,7 @@ fn chunks(text: &mut String, chunks: &[ChunkId]) -> Result<(), AllocError>
     };
     chunk(text, *first)?;
     for other in others {
-        text.push_str(" ")?;
+        push_str(text, " ")?;
         chunk(text, *other)?;
     }
     Ok(())

@@ -115,7 +115,7 @@ fn a_page_to_spare_goes_to_the_pool(rt: HostRuntime) -> Result<(), Fail> {
         let (mut script, mut replies) = three_pages(rt.alloc(), deleted)?;
         script.extend_from_slice(more.as_bytes())?;
         replies.extend_from_slice(more_replies.as_bytes())?;
-        plays(&rt, rt.alloc(), run, &script, &replies, Ok(()), more)?;
+        plays(&rt, rt.alloc(), run, &script, &replies, &Ok(()), more)?;
     }
     Ok(())
 }
@@ -123,7 +123,7 @@ fn a_page_to_spare_goes_to_the_pool(rt: HostRuntime) -> Result<(), Fail> {
 /// What the options say of the mode is what the line `automove` says.
 #[test]
 fn a_run_is_started_in_a_mode(rt: HostRuntime) -> Result<(), Fail> {
-    let (name, script, replies, _) = ROWS[2];
+    let (name, script, replies, _) = &ROWS[2];
     let run = Run {
         config: FOUR_CLASSES,
         automove: 2,
@@ -136,8 +136,8 @@ fn a_run_is_started_in_a_mode(rt: HostRuntime) -> Result<(), Fail> {
         run,
         &script["automove 2\n".len()..],
         &replies["OK\r\n".len()..],
-        Ok(()),
+        &Ok(()),
         name,
     )?;
-    plays(&rt, rt.alloc(), FROM_MODE_0, script, replies, Ok(()), name)
+    plays(&rt, rt.alloc(), FROM_MODE_0, script, replies, &Ok(()), name)
 }

@@ -212,7 +212,7 @@ fn play_drawn<R: Abort + Wait>(
     let script = drawn(alloc, number)?;
     let name = format!(in alloc; "drawn script {number}")?;
     let played = play_run(alloc, run, &script, WHOLE)?;
-    assert_same(rt, played.end, Ok(()), &name);
+    assert_same(rt, &played.end, &Ok(()), &name);
     assert_alike(rt, alloc, run, &script, &played, &name)?;
     texts.extend_from_slice(&played.text)?;
     Ok(())

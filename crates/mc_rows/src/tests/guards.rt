@@ -163,7 +163,7 @@ fn an_idle_turn_counts(rt: HostRuntime) -> Result<(), Fail> {
         FROM_MODE_0,
         script.as_bytes(),
         replies.as_bytes(),
-        Err(RunFault::Turns),
+        &Err(RunFault::Turns),
         "an idle turn counts",
     )
 }
@@ -178,7 +178,7 @@ fn rules_hold_of_runs_with_options(rt: HostRuntime) -> Result<(), Fail> {
             run,
             script.as_bytes(),
             replies.as_bytes(),
-            Ok(()),
+            &Ok(()),
             name,
         )?;
     }
@@ -254,7 +254,7 @@ fn of_two_rules_that_apply_the_one_of_evictions_comes_first(rt: HostRuntime) -> 
         run,
         &told.script,
         &told.replies,
-        Ok(()),
+        &Ok(()),
         "two rules",
     )
 }
@@ -288,7 +288,7 @@ fn a_page_of_256_chunks_moves(rt: HostRuntime) -> Result<(), Fail> {
         run,
         &told.script,
         &told.replies,
-        Ok(()),
+        &Ok(()),
         "a page of 256 chunks",
     )
 }

@@ -83,7 +83,7 @@ fn a_worker_holds_at_most_255_chunks(rt: HostRuntime) -> Result<(), Fail> {
         FROM_MODE_0,
         &script,
         &replies,
-        Ok(()),
+        &Ok(()),
         "255 holds",
     )
 }

@@ -56,7 +56,7 @@ const SPENT: Row<'static> = (
 fn refused_lines(rt: HostRuntime) -> Result<(), Fail> {
     for script in REFUSED {
         let played = play(rt.alloc(), FOUR_CLASSES, script.as_bytes(), WHOLE)?;
-        assert_played(&rt, &played, Err(RunFault::Script(1)), b"", script);
+        assert_played(&rt, &played, &Err(RunFault::Script(1)), b"", script);
     }
     Ok(())
 }
@@ -71,35 +71,36 @@ fn lines_at_the_edge(rt: HostRuntime) -> Result<(), Fail> {
 #[test]
 fn spent_turns(rt: HostRuntime) -> Result<(), Fail> {
     let (name, script, replies, end) = SPENT;
-    assert_same(&rt, end.map_err(|fault| fault.status()), Err(5), name);
     plays(
         &rt,
         rt.alloc(),
         FROM_MODE_0,
         script.as_bytes(),
         replies.as_bytes(),
-        end,
+        &end,
         name,
-    )
+    )?;
+    assert_same(&rt, end.map_err(|fault| fault.status()), Err(5), name);
+    Ok(())
 }
 
 /// A script that is cut off somewhere is refused by its last line, or runs as the shorter script: the lines before the
 /// last one answer what they answer alone.
 #[test]
 fn truncated_scripts(rt: HostRuntime) -> Result<(), Fail> {
-    let (_, script, _, _) = moves::ROWS[5];
+    let (_, script, _, _) = &moves::ROWS[5];
     let script = script.as_bytes();
     let mut before = Vec::new(rt.alloc());
     for (length, byte) in script.iter().enumerate() {
         let cut = &script[..length];
         let played = play(rt.alloc(), FOUR_CLASSES, cut, WHOLE)?;
-        match played.end {
+        match &played.end {
             Ok(()) => {
                 assert!(rt; played.text.starts_with(&before), "{length} bytes");
             }
             Err(_) => {
                 let end = Err(RunFault::Script(last_line(cut)));
-                assert_played(&rt, &played, end, b"", "a script that is cut off");
+                assert_played(&rt, &played, &end, b"", "a script that is cut off");
             }
         }
         if *byte == b'\n' {

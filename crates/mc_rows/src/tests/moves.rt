@@ -74,7 +74,7 @@ fn one_chunk_a_turn(rt: HostRuntime) -> Result<(), Fail> {
         run,
         script,
         replies,
-        Ok(()),
+        &Ok(()),
         "one chunk a turn",
     )
 }

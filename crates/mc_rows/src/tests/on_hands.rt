@@ -26,7 +26,7 @@ pub fn assert_alike<R: Abort + Wait>(
 ) -> Result<(), Fail>
     requires { run.automove ≤ 2 }
 {
-    let end = match serial.end {
+    let end = match &serial.end {
         Ok(()) => Ok(()),
         Err(RunFault::Turns) => Err(Ended::Turns),
         Err(_) => return Ok(()),

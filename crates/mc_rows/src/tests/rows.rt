@@ -2,6 +2,8 @@
 use super::{FOUR_CLASSES, Row, WHOLE, assert_played, assert_same, play, plays_rows};
 use mc_classes::Config;
 use mc_driver::RunFault;
+use mc_memory::{Refused, with_capacity};
+use std::alloc::Global;
 use std::test::Fail;
 
 const ROWS: [Row<'static>; 16] = [
@@ -163,7 +165,7 @@ fn a_refused_configuration_comes_first(rt: HostRuntime) -> Result<(), Fail> {
     for (number, config) in refused {
         let played = play(rt.alloc(), config, b"frob\n", WHOLE)?;
         let end = Err(RunFault::Config(number));
-        assert_played(&rt, &played, end, b"", "a refused configuration");
+        assert_played(&rt, &played, &end, b"", "a refused configuration");
     }
     Ok(())
 }
@@ -173,23 +175,32 @@ fn scripts_of_the_greatest_length(rt: HostRuntime) -> Result<(), Fail> {
     for (length, end) in [(1_048_576, Ok(())), (1_048_577, Err(RunFault::TooLong))] {
         let comment = vec![in rt.alloc(); b'#'; length]?;
         let played = play(rt.alloc(), FOUR_CLASSES, &comment, WHOLE)?;
-        assert_played(&rt, &played, end, b"", "a long script");
+        assert_played(&rt, &played, &end, b"", "a long script");
     }
     Ok(())
 }
 
+/// Want of memory, as a vector tells it that no memory has room for.
+fn too_much(alloc: Global) -> Result<Refused, Fail> {
+    match with_capacity::<u64>(alloc, usize::MAX) {
+        Ok(_room) => Err(Fail::new("there is no room for so much")),
+        Err(refused) => Ok(refused),
+    }
+}
+
 #[test]
-fn statuses(rt: HostRuntime) {
+fn statuses(rt: HostRuntime) -> Result<(), Fail> {
     let rows = [
         (RunFault::Config(7), 1),
         (RunFault::Script(2), 2),
         (RunFault::TooLong, 2),
         (RunFault::Read, 3),
         (RunFault::Write, 3),
-        (RunFault::Memory, 4),
+        (RunFault::Memory(too_much(rt.alloc())?), 4),
         (RunFault::Turns, 5),
     ];
     for (fault, status) in rows {
         assert_same(&rt, fault.status(), status, "the status");
     }
+    Ok(())
 }

@@ -20,7 +20,7 @@ fn a_reader_in_pieces_gives_the_same_run(rt: HostRuntime) -> Result<(), Fail> {
     for piece in [1, 2, 7] {
         let limits = StreamLimits { piece, ..WHOLE };
         let played = play(rt.alloc(), FOUR_CLASSES, SCRIPT, limits)?;
-        assert_played(&rt, &played, Ok(()), &whole.text, "read in pieces");
+        assert_played(&rt, &played, &Ok(()), &whole.text, "read in pieces");
     }
     Ok(())
 }
@@ -33,7 +33,7 @@ fn a_reader_that_fails_ends_the_run(rt: HostRuntime) -> Result<(), Fail> {
             ..WHOLE
         };
         let played = play(rt.alloc(), FOUR_CLASSES, SCRIPT, limits)?;
-        assert_played(&rt, &played, Err(RunFault::Read), b"", "a failed read");
+        assert_played(&rt, &played, &Err(RunFault::Read), b"", "a failed read");
     }
     Ok(())
 }
@@ -50,7 +50,7 @@ fn a_writer_that_fails_ends_the_run(rt: HostRuntime) -> Result<(), Fail> {
         assert_played(
             &rt,
             &played,
-            Err(RunFault::Write),
+            &Err(RunFault::Write),
             &so_far,
             "a failed write",
         );
@@ -62,14 +62,14 @@ fn a_writer_that_fails_ends_the_run(rt: HostRuntime) -> Result<(), Fail> {
 /// A held item holds up a move: no read and no write of that run may fail and be overlooked.
 #[test]
 fn a_reader_that_fails_in_a_long_script(rt: HostRuntime) -> Result<(), Fail> {
-    let (_, script, _, _) = moves::ROWS[2];
+    let (_, script, _, _) = &moves::ROWS[2];
     for good_bytes in 0..=script.len() {
         let limits = StreamLimits {
             good_bytes,
             ..WHOLE
         };
         let played = play(rt.alloc(), FOUR_CLASSES, script.as_bytes(), limits)?;
-        assert_played(&rt, &played, Err(RunFault::Read), b"", "a failed read");
+        assert_played(&rt, &played, &Err(RunFault::Read), b"", "a failed read");
     }
     Ok(())
 }
@@ -77,7 +77,7 @@ fn a_reader_that_fails_in_a_long_script(rt: HostRuntime) -> Result<(), Fail> {
 /// What was written begins the whole text, and nothing is written after a fault.
 #[test]
 fn a_writer_that_fails_in_a_long_script(rt: HostRuntime) -> Result<(), Fail> {
-    let (_, script, replies, _) = moves::ROWS[2];
+    let (_, script, replies, _) = &moves::ROWS[2];
     let mut whole = None;
     for good_writes in 0..32 {
         let limits = StreamLimits {
@@ -86,12 +86,12 @@ fn a_writer_that_fails_in_a_long_script(rt: HostRuntime) -> Result<(), Fail> {
         };
         let played = play(rt.alloc(), FOUR_CLASSES, script.as_bytes(), limits)?;
         assert!(rt; !played.wrote_again, "after {good_writes} writes");
-        if played.end == Ok(()) {
-            assert_played(&rt, &played, Ok(()), replies.as_bytes(), "no failed write");
+        if played.end.is_ok() {
+            assert_played(&rt, &played, &Ok(()), replies.as_bytes(), "no failed write");
             whole = Some(good_writes);
             break;
         }
-        assert_same(&rt, played.end, Err(RunFault::Write), "a failed write");
+        assert_same(&rt, &played.end, &Err(RunFault::Write), "a failed write");
         assert!(rt;
             replies.as_bytes().starts_with(&played.text),
             "after {good_writes} writes"

@@ -25,7 +25,7 @@ STAT slab_reassign_rescues 0\r\nSTAT slab_reassign_evictions_nomem 0\r\nSTAT sla
 fn two_hundred_runs_tell_the_same(rt: HostRuntime) -> Result<(), Fail> {
     for run in 0..200 {
         let played = play(&rt, rt.alloc(), &Free, SCRIPT);
-        assert!(rt; played.is(Ok(()), TEXT), "the text of run {run}");
+        assert!(rt; played.is(&Ok(()), TEXT), "the text of run {run}");
     }
     Ok(())
 }

@@ -71,7 +71,7 @@ impl Gate for Meeting {
 fn workers_meet(rt: HostRuntime) -> Result<(), Fail> {
     let gate = Meeting::new(1_000_000_000);
     let played = play(&rt, rt.alloc(), &gate, SCRIPT);
-    assert!(rt; played.is(Ok(()), TEXT), "each reply in its order");
+    assert!(rt; played.is(&Ok(()), TEXT), "each reply in its order");
     Ok(())
 }
 

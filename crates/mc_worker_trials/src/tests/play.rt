@@ -34,8 +34,8 @@ pub struct Played {
 
 impl Played {
     /// The run ended so, and this is all that it wrote.
-    pub fn is(&self, end: Result<(), RunFault>, text: &[u8]) -> bool {
-        self.end == end && self.text.as_slice() == text
+    pub fn is(&self, end: &Result<(), RunFault>, text: &[u8]) -> bool {
+        self.end == *end && self.text.as_slice() == text
     }
 }
 

@@ -39,7 +39,7 @@ fn refused_lines_start_no_thread(rt: HostRuntime) -> Result<(), Fail> {
     for script in REFUSED {
         let played = play(&rt, rt.alloc(), &Free, script);
         assert!(rt;
-            played.is(Err(RunFault::Script(1)), b""),
+            played.is(&Err(RunFault::Script(1)), b""),
             "a line that is no command"
         );
     }
@@ -54,7 +54,7 @@ fn a_refused_configuration_reads_nothing(rt: HostRuntime) -> Result<(), Fail> {
     };
     let played = play_disturbed(&rt, rt.alloc(), config, &Free, SCRIPT, WHOLE);
     assert!(rt;
-        played.is(Err(RunFault::Config(2)), b""),
+        played.is(&Err(RunFault::Config(2)), b""),
         "the first class is too small"
     );
     assert!(rt; played.bytes_read == 0, "nothing was read");
@@ -70,7 +70,7 @@ fn a_reader_that_fails_ends_the_run(rt: HostRuntime) -> Result<(), Fail> {
         };
         let played = play_disturbed(&rt, rt.alloc(), FOUR_CLASSES, &Free, SCRIPT, limits);
         assert!(rt;
-            played.is(Err(RunFault::Read), b""),
+            played.is(&Err(RunFault::Read), b""),
             "after {good_bytes} bytes"
         );
     }
@@ -85,7 +85,7 @@ fn a_writer_that_fails_ends_the_run(rt: HostRuntime) -> Result<(), Fail> {
     };
     let played = play_disturbed(&rt, rt.alloc(), FOUR_CLASSES, &Free, SCRIPT, limits);
     assert!(rt;
-        played.is(Err(RunFault::Write), b""),
+        played.is(&Err(RunFault::Write), b""),
         "the one write failed"
     );
     Ok(())
@@ -95,9 +95,9 @@ fn a_writer_that_fails_ends_the_run(rt: HostRuntime) -> Result<(), Fail> {
 fn a_script_of_the_greatest_length(rt: HostRuntime) -> Result<(), Fail> {
     let mut script = vec![in rt.alloc(); b'\n'; MOST]?;
     let whole = play(&rt, rt.alloc(), &Free, &script);
-    assert!(rt; whole.end == Ok(()), "a million blank lines");
+    assert!(rt; whole.end.is_ok(), "a million blank lines");
     script.push(b'\n')?;
     let longer = play(&rt, rt.alloc(), &Free, &script);
-    assert!(rt; longer.is(Err(RunFault::TooLong), b""), "one byte more");
+    assert!(rt; longer.is(&Err(RunFault::TooLong), b""), "one byte more");
     Ok(())
 }

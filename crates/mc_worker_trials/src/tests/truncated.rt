@@ -56,7 +56,7 @@ fn has_replies(played: &Played, lines: usize) -> bool {
     let statistics = if lines == 0 { NONE } else { ONE };
     let text = played.text.as_slice();
     let first = text.get(..replies.len()) == Some(*replies);
-    first && text.get(replies.len()..) == Some(statistics) && played.end == Ok(())
+    first && text.get(replies.len()..) == Some(statistics) && played.end.is_ok()
 }
 
 #[test]
@@ -75,7 +75,7 @@ fn a_script_that_is_cut_off_is_refused_or_runs_as_far(rt: HostRuntime) -> Result
             Some(lines) => has_replies(&play(&rt, rt.alloc(), &Free, script), lines),
             None => {
                 let fault = Err(RunFault::Script(last_line(script)));
-                play(&rt, rt.alloc(), &Free, script).is(fault, b"")
+                play(&rt, rt.alloc(), &Free, script).is(&fault, b"")
             }
         };
         assert!(rt; right, "the first {length} bytes");

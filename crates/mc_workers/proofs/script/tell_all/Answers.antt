@@ -15,7 +15,7 @@ returns g c =
     let now = view c.survey_all.new.hand in
     let workers = c.args.joined.workers.items in
     let mover = c.args.joined.mover.items in
-    let longer = c.extend_from_slice.new.self.items in
+    let longer = c.extend_from_slice.new.list.items in
     let statistics = statistics_text (setup_of c.args.arena.now).table survey in
     let texts : longer ≡ workers ++ mover = c.in_ok-extend_from_slice.ensures.items ∙ ap (λ (text : List ℕ). workers ++ text) c.deref.ensures.value in
     record {

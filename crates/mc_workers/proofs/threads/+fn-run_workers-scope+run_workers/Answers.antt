@@ -7,8 +7,8 @@ use Rattle.mc_workers.proofs.DoneThreads.{all_done, moved_alone}
 use Rattle.mc_workers.proofs.threads.+fn-run_workers-scope+run_workers.Goals as goal
 
 -- the thread keeps its promise
-pub scope-spawn_with-child-requires-clause-keeps : goal.scope-spawn_with-child-requires-clause-keeps
-scope-spawn_with-child-requires-clause-keeps g n c = λ lifetimes outlive r gives.
+pub scope-start-child-requires-clause-keeps : goal.scope-start-child-requires-clause-keeps
+scope-start-child-requires-clause-keeps g n c = λ lifetimes outlive r gives.
     subst (λ (h : Hand). IfOk r (IsServed c.captures.arena.now c.captures.worker c.captures.commands.now h)) (sym c.of.ensures) gives
 
 -- what it did stands with what the others did

@@ -14,13 +14,13 @@ acts_on_some : (decision : Decision) (decided : Option Decision) → Some decisi
     → AsksForPage (Some decision.src) decision.dst acted.answer before now → ActsOnDecision decided (Some acted) before now
 acts_on_some decision decided is acted of before now asks = subst (λ (d : Option Decision). ActsOnDecision d (Some acted) before now) is (of, asks)
 
-pub returns-in_default-2-clause-ends : goal.returns-in_default-2-clause-ends
-returns-in_default-2-clause-ends g c = record {
+pub returns-in_default-clause-ends : goal.returns-in_default-clause-ends
+returns-in_default-clause-ends g c = record {
   survey = c.in-Ok.survey;
   surveyed = c.survey.new.hand;
   surveys = c.in-Ok.ensures.surveys;
   feeds = λ k. record c.args.mover.now { decider = c.in_ok-decision.ensures.fed k };
-  acts = acts_on_none _ (sym c.in_default-2.is ∙ c.in_ok-decision.ensures.decided) c.survey.new.hand;
+  acts = acts_on_none _ (sym c.in_default.is ∙ c.in_ok-decision.ensures.decided) c.survey.new.hand;
 }
 
 pub returns-clause-ends : goal.returns-clause-ends

@@ -33,6 +33,11 @@ decrement-requires-clause-some c =
     rw c.class_of-class.ensures.class (some_dead _ _ _ _ _ c.args.chunk found.0 c.self.invariant.counted found.1 found.2
     (dead_unheld _ _ c.args.chunk c.self.view_is c.requires.dead) class.0 class.1)
 
+pub omit-requires : goal.omit-requires
+omit-requires c =
+    let found = dead_here _ _ c.args.chunk c.self.view_is c.requires.dead in
+    rw c.class_of-class.ensures.class (class_of_item _ _ _ c.args.chunk found.0 c.self.invariant.kept found.1).0
+
 pub invariant_of-self : goal.invariant_of-self
 invariant_of-self c =
     let found = dead_here _ _ c.args.chunk c.self.view_is c.requires.dead in

@@ -9,6 +9,9 @@ use Rattle.mc_keeper.proofs.keeper.Keeper.delete.Goals as goal
 pub count_unheld-requires-clause-class : goal.count_unheld-requires-clause-class
 count_unheld-requires-clause-class c = (leads_linked _ _ _ c.args.key c.in-Some.chunk c.self.invariant.kept (sym (c.self.invariant.indexed c.args.key) ∙ sym c.in-Some.ensures.chunk)).1
 
+pub note_unheld-requires : goal.note_unheld-requires
+note_unheld-requires c = (leads_linked _ _ _ c.args.key c.in-Some.chunk c.self.invariant.kept (sym (c.self.invariant.indexed c.args.key) ∙ sym c.in-Some.ensures.chunk)).1
+
 pub count_unheld-requires-clause-of_each : goal.count_unheld-requires-clause-of_each
 count_unheld-requires-clause-of_each c = c.self.invariant.counted.of_each
 

@@ -30,6 +30,11 @@ count_unheld-requires-clause-class c =
     let found = found_item (item_at c.self.inside.items c.args.chunk) c.args.is_linked (rw (ap (λ (m : Machine). m.items) c.self.view_is) c.requires.item) in
     class_of_item _ _ _ c.args.chunk found.item c.self.invariant.kept found.there
 
+pub note_unheld-requires : goal.note_unheld-requires
+note_unheld-requires c =
+    let found = found_item (item_at c.self.inside.items c.args.chunk) c.args.is_linked (rw (ap (λ (m : Machine). m.items) c.self.view_is) c.requires.item) in
+    class_of_item _ _ _ c.args.chunk found.item c.self.invariant.kept found.there
+
 pub count_unheld-requires-clause-few : goal.count_unheld-requires-clause-few
 count_unheld-requires-clause-few c =
     let found = found_item (item_at c.self.inside.items c.args.chunk) c.args.is_linked (rw (ap (λ (m : Machine). m.items) c.self.view_is) c.requires.item) in

@@ -11,7 +11,7 @@ stats_slabs-written-requires g c =
 pub returns-in-Ok-clause-reply : goal.returns-in-Ok-clause-reply
 returns-in-Ok-clause-reply g c =
     rw (← c.self.view_is) (rw c.self.invariant.kept.page
-    (ap (λ (v : Vec ℕ Global). v.items) c.into_text.ensures.text
+    (ap (λ (v : Vec ℕ Global). v.items) c.into_parts-added.ensures.text
     ∙ (rw (
       c.deref.ensures.value,
       c.deref-2.ensures.value,

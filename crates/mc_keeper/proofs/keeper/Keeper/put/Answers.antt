@@ -39,6 +39,11 @@ count_unheld-requires-clause-class c =
     let found : linked_chunk c.self.inside.items c.args.key ≡ Some c.in-Some.old = sym (c.self.invariant.indexed c.args.key) ∙ sym c.in-Ok.ensures.before ∙ c.in-Some.is in
     (leads_linked _ _ _ c.args.key c.in-Some.old c.self.invariant.kept found).1
 
+pub note_unheld-requires : goal.note_unheld-requires
+note_unheld-requires c =
+    let found : linked_chunk c.self.inside.items c.args.key ≡ Some c.in-Some.old = sym (c.self.invariant.indexed c.args.key) ∙ sym c.in-Ok.ensures.before ∙ c.in-Some.is in
+    (leads_linked _ _ _ c.args.key c.in-Some.old c.self.invariant.kept found).1
+
 pub count_unheld-requires-clause-of_each : goal.count_unheld-requires-clause-of_each
 count_unheld-requires-clause-of_each c = c.self.invariant.counted.of_each
 

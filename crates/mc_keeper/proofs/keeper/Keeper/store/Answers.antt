@@ -6,7 +6,7 @@ use Rattle.mc_machine.specs.Supply.{supply}
 use Rattle.mc_pages.specs.ClassState.{first_free}
 use Rattle.mc_pages.specs.SlabState.{class_at}
 use Rattle.mc_machine.proofs.StoredItems.{stored_asking, stored_in_mode, stored_quietly}
-use Rattle.mc_keeper.proofs.keeper.Keeper.store.Goals.{else-evicted-via-then-evicted+else-automove-eq2, else-evicted-via-else-evicted}
+use Rattle.mc_keeper.proofs.keeper.Keeper.store.Goals.{then-not-evicted-via-else-not-evicted+then-automove-ne2, then-not-evicted-via-then-not-evicted}
 use Rattle.mc_keeper.proofs.keeper.Keeper.store.Goals as goal
 
 pub returns-in_ok-ask_for_page-in-Some-clause-after :
@@ -16,24 +16,24 @@ returns-in_ok-ask_for_page-in-Some-clause-after c =
     = sym (ap (λ (m : Machine). first_free (class_at m.slabs c.args.class)) (c.self.view_is ∙ c.in_ok-evicted.ensures.after)) ∙ sym c.in-Some.ensures.chunk in
     stored_asking c.args.self.now _ _ _ c.args.class c.args.key (words_in c.args.words) c.in-Some.chunk
     c.in_ok-evicted.ensures.after refl c.in_ok-put-in-Some.ensures.put head
-    c.ask_for_page.new.self (sym c.in_ok-evicted.ensures.evicted ∙ c.if-evicted.true)
-    (ap (λ (m : Machine). m.slabs.automove) (sym c.self-then-evicted.view_is) ∙ sym c.automove.ensures.mode ∙ c.if-automove-eq2.true)
+    c.ask_for_page.new.self (sym c.in_ok-evicted.ensures.evicted ∙ c.if-not-evicted.false)
+    (ap (λ (m : Machine). m.slabs.automove) (sym c.self-in-Some.view_is) ∙ sym c.automove.ensures.mode ∙ c.if-automove-ne2.false)
     c.in_ok-ask_for_page-in-Some.ensures.after
 
-pub returns-else-evicted-clause-after : goal.returns-else-evicted-clause-after
-returns-else-evicted-clause-after c =
+pub returns-then-not-evicted-clause-after : goal.returns-then-not-evicted-clause-after
+returns-then-not-evicted-clause-after c =
     let head : supply c.args.self.now c.args.class ≡ Some c.in-Some.chunk
     = sym (ap (λ (m : Machine). first_free (class_at m.slabs c.args.class)) (c.self.view_is ∙ c.in_ok-evicted.ensures.after)) ∙ sym c.in-Some.ensures.chunk in
-    elim c.else-evicted.branch [
-      | else-evicted-via-then-evicted+else-automove-eq2 w ↦
+    elim c.then-not-evicted.branch [
+      | then-not-evicted-via-else-not-evicted+then-automove-ne2 w ↦
           stored_in_mode c.args.self.now _ _ _ c.args.class c.args.key (words_in c.args.words) c.in-Some.chunk
           c.in_ok-evicted.ensures.after refl c.in_ok-put-in-Some.ensures.put head
-          (sym c.in_ok-evicted.ensures.evicted ∙ w.if-evicted.true)
-          (λ two. w.if-automove-eq2.false (w.automove.ensures.mode ∙ ap (λ (m : Machine). m.slabs.automove) w.self-then-evicted.view_is ∙ two))
-      | else-evicted-via-else-evicted w ↦
+          (sym c.in_ok-evicted.ensures.evicted ∙ w.if-not-evicted.false)
+          (λ two. w.if-automove-ne2.true (w.automove.ensures.mode ∙ ap (λ (m : Machine). m.slabs.automove) c.self-in-Some.view_is ∙ two))
+      | then-not-evicted-via-then-not-evicted w ↦
           stored_quietly c.args.self.now _ _ _ c.args.class c.args.key (words_in c.args.words) c.in-Some.chunk
           c.in_ok-evicted.ensures.after refl c.in_ok-put-in-Some.ensures.put head
-          (sym c.in_ok-evicted.ensures.evicted ∙ w.if-evicted.false)
+          (sym c.in_ok-evicted.ensures.evicted ∙ w.if-not-evicted.true)
     ]
 
 -- nothing was stored in the chunk

@@ -13,17 +13,17 @@ pub returns-in_err-push-clause-err : goal.returns-in_err-push-clause-err
 returns-in_err-push-clause-err c =
     let inside : c.args.worker < length c.self.inside.by_worker.items = omega (arith, c.self.invariant.of_each, c.requires.worker) in
     let p = err_from_is_err_and c.from_residual-in_err-push.result c.from_residual-in_err-push.ensures.1 in
-    rw (p.1, ← c.self.view_is) (view_same (λ (v : Vec ChunkId Global). reverse v.items) c.self.inside.by_worker.items c.args.worker c.index_mut.result.now c.push.new.self inside
+    rw (p.1, ← c.self.view_is) (view_same (λ (v : Vec ChunkId Global). reverse v.items) c.self.inside.by_worker.items c.args.worker c.index_mut.result.now c.push.new.list inside
     c.index_mut.ensures.value (ap (λ (l : List ChunkId). reverse l) c.in_err-push.ensures.items))
 
 pub invariant_of-self-in_err-push : goal.invariant_of-self-in_err-push
 invariant_of-self-in_err-push c =
     let inside : c.args.worker < length c.self.inside.by_worker.items = omega (arith, c.self.invariant.of_each, c.requires.worker) in
-    let same : holds_of (record { by_worker = with_item c.self.inside.by_worker c.args.worker c.push.new.self; counts = c.reach.new.self }) ≡ holds_of c.self.inside
-    = view_same (λ (v : Vec ChunkId Global). reverse v.items) c.self.inside.by_worker.items c.args.worker c.index_mut.result.now c.push.new.self inside
+    let same : holds_of (record { by_worker = with_item c.self.inside.by_worker c.args.worker c.push.new.list; counts = c.reach.new.self }) ≡ holds_of c.self.inside
+    = view_same (λ (v : Vec ChunkId Global). reverse v.items) c.self.inside.by_worker.items c.args.worker c.index_mut.result.now c.push.new.list inside
     c.index_mut.ensures.value (ap (λ (l : List ChunkId). reverse l) c.in_err-push.ensures.items) in
     record {
-      of_each = length-set c.self.inside.by_worker.items c.args.worker c.push.new.self ∙ c.self.invariant.of_each;
+      of_each = length-set c.self.inside.by_worker.items c.args.worker c.push.new.list ∙ c.self.invariant.of_each;
       few = rw same c.self.invariant.few;
       counted = λ chunk. c.reach.ensures.same chunk ∙ rw same (c.self.invariant.counted chunk);
     }
@@ -38,12 +38,12 @@ invariant_of-self-2 c =
     let inside : c.args.worker < length c.self.inside.by_worker.items = omega (arith, c.self.invariant.of_each, c.requires.worker) in
     let within : c.args.worker < length (holds_of c.self.inside) = omega (arith, inside, length-map c.self.inside.by_worker.items (λ (v : Vec ChunkId Global). reverse v.items)) in
     let room : is_full (holds_of c.self.inside) c.args.worker ≡ false = rw c.self.view_is c.requires.room in
-    let new : holds_of (record { by_worker = with_item c.self.inside.by_worker c.args.worker c.push.new.self; counts = c.increment.new.self }) ≡ with_hold (holds_of c.self.inside) c.args.worker c.args.chunk
-    = view_set (λ (v : Vec ChunkId Global). reverse v.items) c.self.inside.by_worker.items c.args.worker c.index_mut.result.now c.push.new.self inside
+    let new : holds_of (record { by_worker = with_item c.self.inside.by_worker c.args.worker c.push.new.list; counts = c.increment.new.self }) ≡ with_hold (holds_of c.self.inside) c.args.worker c.args.chunk
+    = view_set (λ (v : Vec ChunkId Global). reverse v.items) c.self.inside.by_worker.items c.args.worker c.index_mut.result.now c.push.new.list inside
     c.index_mut.ensures.value (λ (l : List ChunkId). c.args.chunk ∷ l)
     (ap (λ (l : List ChunkId). reverse l) c.in_ok-push.ensures.items ∙ reverse-push c.index_mut.result.now.items c.args.chunk) in
     record {
-      of_each = length-set c.self.inside.by_worker.items c.args.worker c.push.new.self ∙ c.self.invariant.of_each;
+      of_each = length-set c.self.inside.by_worker.items c.args.worker c.push.new.list ∙ c.self.invariant.of_each;
       few = rw new (few_with (holds_of c.self.inside) c.args.worker c.args.chunk within room c.self.invariant.few);
       counted = λ chunk.
           rw new (omega (
@@ -58,6 +58,6 @@ invariant_of-self-2 c =
 pub returns-clause-ok : goal.returns-clause-ok
 returns-clause-ok c =
     let inside : c.args.worker < length c.self.inside.by_worker.items = omega (arith, c.self.invariant.of_each, c.requires.worker) in
-    rw (← c.self.view_is) (view_set (λ (v : Vec ChunkId Global). reverse v.items) c.self.inside.by_worker.items c.args.worker c.index_mut.result.now c.push.new.self inside
+    rw (← c.self.view_is) (view_set (λ (v : Vec ChunkId Global). reverse v.items) c.self.inside.by_worker.items c.args.worker c.index_mut.result.now c.push.new.list inside
     c.index_mut.ensures.value (λ (l : List ChunkId). c.args.chunk ∷ l)
     (ap (λ (l : List ChunkId). reverse l) c.in_ok-push.ensures.items ∙ reverse-push c.index_mut.result.now.items c.args.chunk))
