@@ -5,8 +5,8 @@ options also gets, touches, holds and drops, pages that move, and windows of the
     bench/generate.py NAME
     bench/generate.py [options]
 
-A name is one of `bench/run`: evictions, holds-and-drops, moves-with-rescues, mode-2-churn, overwrites, one-class,
-turns-over-held. The same options give the same bytes, with any version of Python 3. The live items are kept near `--fill` of the memory of the largest
+A name is one of `bench/run`: evictions, holds-and-drops, moves-with-rescues, moves-with-overwrites, mode-2-churn, overwrites,
+one-class, turns-over-held. The same options give the same bytes, with any version of Python 3. The live items are kept near `--fill` of the memory of the largest
 configuration (CONFIGURATION below); above 100 the program evicts.
 """
 import argparse
@@ -109,9 +109,14 @@ class Script:
             return "turn 1"
         if self.options.moves_every and count % self.options.moves_every == 0:
             return f"reassign -1 {1 + self.numbers.below(self.options.classes)}"
-        if self.options.moves_every and count % self.options.moves_every <= self.options.turns:
-            return "turn 1"
+        if self.options.moves_every and count % self.options.moves_every <= self.options.turns * (1 + self.options.between):
+            return self.turn_or_overwrite(count)
         return None
+
+    def turn_or_overwrite(self, count):
+        """A turn, and behind it the overwrites that come before the next one."""
+        place, lines = count % self.options.moves_every - 1, 1 + self.options.between
+        return self.set(self.live_key(), count) if place % lines and self.keys else "turn 1"
 
     def line(self, count):
         regular = self.regular(count)
@@ -160,6 +165,7 @@ def parser():
     it.add_argument("--most-held", type=int, default=100, help="so many holds at a time")
     it.add_argument("--moves-every", type=int, default=0, help="every so many lines a page begins to move")
     it.add_argument("--turns", type=int, default=8, help="so many turns of the mover behind each")
+    it.add_argument("--between", type=int, default=0, help="behind each turn so many lines set a live key anew")
     it.add_argument("--classes", type=int, default=25, help="pages move to one of so many classes")
     it.add_argument("--workers", type=int, default=4, help="workers 1 to this")
     it.add_argument("--forget", action="store_true", help="past the fill, forget the oldest keys and delete none")
@@ -175,6 +181,7 @@ SCRIPTS = {
     "evictions": "--fill 90 --forget --deletes 0 --overwrites 10 --reads 20",
     "holds-and-drops": "--fill 50 --holds 50 --most-held 2000 --workers 16 --reads 10",
     "moves-with-rescues": "--fill 50 --max-words 63 --moves-every 50 --turns 8 --classes 10 --reads 10",
+    "moves-with-overwrites": "--fill 50 --max-words 63 --moves-every 50 --turns 8 --between 2 --classes 10 --reads 10",
     "mode-2-churn": "--fill 80 --forget --deletes 5 --automove 2 --shift-every 3000 --turn-every 10"
     " --windows-every 500",
 }
@@ -293,6 +300,16 @@ def deletes_and_sets(live, count):
     return LineKind("".join(f"1 del {key}\n{set_line(key)}" for key in keys_below(live, count)), 2 * count)
 
 
+def dead_at_once(dead):
+    """So many of the newest keys are deleted, and then stored again."""
+    def kind(live, count):
+        newest = range(live - dead, live)
+        deletes, sets = "".join(f"1 del {key}\n" for key in newest), "".join(map(set_line, newest))
+        return LineKind((deletes + sets) * (count // dead), 2 * dead * (count // dead))
+
+    return kind
+
+
 def holds_and_drops(held):
     """Pairs by a worker that has so many holds."""
     before = "".join(f"1 hold {key}\n" for key in range(held - 1))
@@ -321,6 +338,9 @@ LINE_KINDS = {
     "set that evicts": sets_that_evict,
     "overwrite": overwrites,
     "del and set": deletes_and_sets,
+    "2 dead at once": dead_at_once(2),
+    "3 dead at once": dead_at_once(3),
+    "100 dead at once": dead_at_once(100),
     "hold, drop at 1": holds_and_drops(1),
     "hold, drop at 64": holds_and_drops(64),
     "hold, drop at 255": holds_and_drops(255),

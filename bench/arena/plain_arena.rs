@@ -1,7 +1,6 @@
 //! The arena in plain Rust: a `Mutex` for the lock of the slabs and one for each stripe, each with its value in a box, an `AtomicU64` for
 //! each header, word and page, and the same linked rows of four bytes a link. Each step on a header or word is `SeqCst`, as the arena's
 //! are. An index is a `HashMap` with a hasher that takes one multiplication, and a history is a `Vec`.
-#![allow(dead_code, reason = "each program makes some of the calls")]
 use std::collections::HashMap;
 use std::hash::{BuildHasherDefault, Hasher};
 use std::hint::black_box;
@@ -75,11 +74,13 @@ pub struct List {
 
 const EMPTY: List = List { first: NONE, last: NONE, length: 0 };
 
-/// A page on its way to the pool.
+/// A page on its way.
 #[derive(Clone, Copy)]
 pub struct Moving {
     pub page: u64,
     pub class: usize,
+    /// None for the pool.
+    pub to: Option<usize>,
     /// The chunk that the mover looks at next.
     pub at: u64,
     /// How many chunks of this pass held up the move.
@@ -221,9 +222,9 @@ pub struct Hand {
 }
 
 impl Hand {
-    /// The one hand of a memory that nothing was done with.
-    pub fn new() -> Hand {
-        Hand { number: 0, chunks: 0, stamps: 0 }
+    /// The hand of this number of a memory that nothing was done with.
+    pub fn new(number: u64) -> Hand {
+        Hand { number, chunks: 0, stamps: 0 }
     }
 }
 
@@ -348,6 +349,12 @@ impl Arena {
         let Some(page) = slabs.next_page() else {
             return false;
         };
+        self.cut(slabs, page, class);
+        true
+    }
+
+    /// Makes a page the class's, whose chunks are all free.
+    pub fn cut(&self, slabs: &mut Slabs, page: u64, class: usize) {
         slabs.owners[page as usize] = class;
         slabs.pages[class].push(page);
         self.pages[page as usize].store(class as u64, SeqCst);
@@ -356,7 +363,6 @@ impl Arena {
             self.header(chunk).fetch_add(TAG_UNIT, SeqCst);
             push_front(slabs.most, &mut slabs.rows, &mut slabs.free[class], chunk, Mark::Free);
         }
-        true
     }
 
     /// Unlinks a chunk that nobody holds, whose stripe's lock is held. False where somebody holds it.
@@ -455,7 +461,8 @@ impl Arena {
             return None;
         }
         let stripe = self.stripe(key).lock().unwrap();
-        self.look_up(hand, stripe, key)
+        let (chunk, issue) = self.refer(hand, stripe, key)?;
+        Some(self.look_at(chunk, issue))
     }
 
     pub fn try_get(&self, hand: &mut Hand, key: u64) -> Option<Ref> {
@@ -463,10 +470,12 @@ impl Arena {
             return None;
         }
         let stripe = self.stripe(key).try_lock().ok()?;
-        self.look_up(hand, stripe, key)
+        let (chunk, issue) = self.refer(hand, stripe, key)?;
+        Some(self.look_at(chunk, issue))
     }
 
-    fn look_up(&self, hand: &mut Hand, mut stripe: MutexGuard<'_, Box<Stripe>>, key: u64) -> Option<Ref> {
+    /// Refers to the key's item, and gives the lock of its stripe back.
+    fn refer(&self, hand: &mut Hand, mut stripe: MutexGuard<'_, Box<Stripe>>, key: u64) -> Option<(ChunkId, u64)> {
         let Some(&(chunk, stamp)) = stripe.index.get(&key) else {
             stripe.history.push(Call::Get(hand.number, key, None));
             return None;
@@ -475,7 +484,7 @@ impl Arena {
         hand.chunks += 1;
         stripe.history.push(Call::Get(hand.number, key, Some(stamp)));
         drop(stripe);
-        Some(self.look_at(chunk, head / ISSUE_UNIT))
+        Some((chunk, head / ISSUE_UNIT))
     }
 
     /// Key, stamp and length are read at once, as the arena does.
@@ -487,8 +496,28 @@ impl Arena {
     }
 
     pub fn release(&self, hand: &mut Hand, item: Ref) {
-        self.header(item.chunk).fetch_sub(1, SeqCst);
+        self.give_up(hand, item.chunk);
+    }
+
+    fn give_up(&self, hand: &mut Hand, chunk: ChunkId) {
+        self.header(chunk).fetch_sub(1, SeqCst);
         hand.chunks -= 1;
+    }
+
+    /// Makes the key's item the one of its class that is evicted last. It is a get, and the reference is given up.
+    pub fn touch(&self, hand: &mut Hand, key: u64) -> bool {
+        let stripe = self.stripe(key).lock().unwrap();
+        let Some((chunk, _)) = self.refer(hand, stripe, key) else {
+            return false;
+        };
+        let mut slabs = self.slabs.lock().unwrap();
+        let Slabs { most, rows, order, owners, .. } = &mut **slabs;
+        let list = &mut order[owners[chunk.page as usize]];
+        unlink(*most, rows, list, chunk);
+        push_back(*most, rows, list, chunk, Mark::HandedOut);
+        drop(slabs);
+        self.give_up(hand, chunk);
+        true
     }
 
     pub fn again(&self, hand: &mut Hand, hint: Hint) -> Option<Ref> {

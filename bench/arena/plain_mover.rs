@@ -1,4 +1,5 @@
-//! The mover's calls in plain Rust. Pages go to the pool alone.
+//! The mover's calls in plain Rust.
+use crate::driver::{Counts, Turn};
 use crate::plain_arena::{place, unlink, Arena, Call, ChunkId, Hand, Link, Mark, Moving, Row, Slabs, Stripe, NONE};
 use crate::plain_arena::{DEAD, FREE_TAG, HANDED_OUT, ISSUE_UNIT, LINKED, LINKED_TAG, MOST_ISSUE, OUT_TAG, TAG_UNIT, UNHELD};
 use std::sync::atomic::Ordering::SeqCst;
@@ -17,34 +18,13 @@ enum Found {
     Already,
 }
 
-#[derive(Clone, Copy, Debug, Default, PartialEq, Eq)]
-pub struct Counts {
-    pub cleared: u64,
-    pub rescued: u64,
-    pub evicted: u64,
-    pub busy: u64,
-    pub locked: u64,
-}
-
-impl Counts {
-    fn count(&mut self, found: Found) {
-        self.cleared += u64::from(matches!(found, Found::Cleared | Found::Rescued | Found::Evicted));
-        self.rescued += u64::from(found == Found::Rescued);
-        self.evicted += u64::from(found == Found::Evicted);
-        self.busy += u64::from(found == Found::Busy);
-        self.locked += u64::from(found == Found::Locked);
-    }
-
-    /// Of both together.
-    pub fn and(self, other: Counts) -> Counts {
-        Counts {
-            cleared: self.cleared + other.cleared,
-            rescued: self.rescued + other.rescued,
-            evicted: self.evicted + other.evicted,
-            busy: self.busy + other.busy,
-            locked: self.locked + other.locked,
-        }
-    }
+/// Counts what was found of a chunk.
+fn count(counts: &mut Counts, found: Found) {
+    counts.cleared += u64::from(matches!(found, Found::Cleared | Found::Rescued | Found::Evicted));
+    counts.rescued += u64::from(found == Found::Rescued);
+    counts.evicted += u64::from(found == Found::Evicted);
+    counts.busy += u64::from(found == Found::Busy);
+    counts.locked += u64::from(found == Found::Locked);
 }
 
 /// An item on the moving page.
@@ -56,12 +36,6 @@ struct Item {
 }
 
 type Locked<'a> = MutexGuard<'a, Box<Stripe>>;
-
-pub enum Turn {
-    Idle,
-    Went(Counts),
-    Finished(Counts),
-}
 
 impl Slabs {
     /// Gives a free chunk the place of a handed-out one in the hand-out order, which stands directly behind it then.
@@ -98,14 +72,14 @@ impl Slabs {
 }
 
 impl Arena {
-    /// The class's first page begins to move. False where a page moves already, or the class has no other.
-    pub fn reassign(&self, class: usize) -> bool {
+    /// The class's first page begins to move to another class, or to the pool. False where a page moves already, or the class has no other.
+    pub fn reassign(&self, class: usize, to: Option<usize>) -> bool {
         let mut slabs = self.slabs.lock().unwrap();
         if slabs.moving.is_some() || slabs.pages[class].len() < 2 {
             return false;
         }
         slabs.pool.reserve(1);
-        slabs.moving = Some(Moving { page: slabs.pages[class][0], class, at: 0, busy: 0 });
+        slabs.moving = Some(Moving { page: slabs.pages[class][0], class, to, at: 0, busy: 0 });
         true
     }
 
@@ -129,7 +103,7 @@ impl Arena {
             }
             let found = self.visit(hand, slabs, class, ChunkId { page, index });
             slabs.passed(found);
-            counts.count(found);
+            count(&mut counts, found);
         }
         counts
     }
@@ -245,21 +219,24 @@ impl Arena {
         Found::Evicted
     }
 
-    /// At the page's end begins the pass anew, if something held it up, and else the page goes to the pool.
+    /// At the page's end begins the pass anew, if something held it up, and else the page comes to where it goes.
     fn end_turn(&self, slabs: &mut Slabs, counts: Counts) -> Turn {
-        let Some(Moving { page, class, at, busy }) = slabs.moving else {
+        let Some(Moving { page, class, to, at, busy }) = slabs.moving else {
             return Turn::Idle;
         };
         if at < self.per_page(class) {
             return Turn::Went(counts);
         }
         if busy > 0 {
-            slabs.moving = Some(Moving { page, class, at: 0, busy: 0 });
+            slabs.moving = Some(Moving { page, class, to, at: 0, busy: 0 });
             return Turn::Went(counts);
         }
         slabs.moving = None;
         slabs.pages[class].retain(|other| *other != page);
-        slabs.pool.push(page);
+        match to {
+            None => slabs.pool.push(page),
+            Some(class) => self.cut(slabs, page, class),
+        }
         Turn::Finished(counts)
     }
 }
