@@ -1,10 +1,47 @@
 //! The same work as the arena's, in plain Rust and unchecked.
+#[path = "plain/ages.rs"]
+mod ages;
+#[path = "plain/arena.rs"]
+mod arena;
+#[path = "plain/chunks.rs"]
+mod chunks;
+#[path = "plain/dead.rs"]
+mod dead;
 mod driver;
-mod plain_arena;
-mod plain_mover;
+#[path = "plain/header.rs"]
+mod header;
+#[path = "plain/hints.rs"]
+mod hints;
+#[path = "plain/items.rs"]
+mod items;
+#[path = "plain/locks.rs"]
+mod locks;
+#[cfg(test)]
+#[path = "plain/model.rs"]
+mod model;
+#[path = "plain/moving.rs"]
+mod moving;
+#[path = "plain/rows.rs"]
+mod rows;
+#[path = "plain/saving.rs"]
+mod saving;
+#[path = "plain/slabs.rs"]
+mod slabs;
+#[path = "plain/stripe.rs"]
+mod stripe;
+#[path = "plain/supplying.rs"]
+mod supplying;
+#[path = "plain/surveying.rs"]
+mod surveying;
+#[path = "plain/sweeping.rs"]
+mod sweeping;
+#[cfg(test)]
+#[path = "plain/tests.rs"]
+mod tests;
 
+use arena::{Arena, Hand};
 use driver::{Memory, Turn};
-use plain_arena::{Arena, Hand, Hint, Ref};
+use items::{Hint, Ref};
 use std::hint::black_box;
 
 impl Memory for Arena {
@@ -55,12 +92,13 @@ impl Memory for Arena {
         self.release(hand, item);
     }
 
-    fn sweep(&self, class: usize) {
-        self.sweep(&mut self.slabs.lock().unwrap(), class - 1);
+    /// A survey sweeps all classes, as the arena's does.
+    fn sweep(&self, _class: usize) {
+        black_box(self.survey(0, true));
     }
 
-    fn reassign(&self, _hand: &mut Hand, from: usize, to: usize) -> bool {
-        self.reassign(from - 1, to.checked_sub(1))
+    fn reassign(&self, hand: &mut Hand, from: usize, to: usize) -> bool {
+        self.reassign(hand, from - 1, to.checked_sub(1))
     }
 
     fn turn(&self, hand: &mut Hand) -> Turn {
@@ -68,7 +106,7 @@ impl Memory for Arena {
     }
 
     fn evicted(&self, class: usize) -> u64 {
-        self.slabs.lock().unwrap().evicted[class - 1]
+        self.survey(0, false)[class - 1].evicted
     }
 }
 
