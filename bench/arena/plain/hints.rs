@@ -58,6 +58,16 @@ impl Hints {
     }
 }
 
+#[cfg(test)]
+impl Hints {
+    /// The chunks whose bits are set, of pages whose bits are.
+    pub fn noted(&self) -> Vec<ChunkId> {
+        let bits = |page, word| self.chunks[place(page, word)].load(SeqCst);
+        let chunks = |page| (0..WORDS_A_PAGE).flat_map(move |word| ones(bits(page, word)).map(move |bit| word * BITS + bit));
+        self.pages().flat_map(|page| chunks(page).map(move |index| ChunkId { page, index })).collect()
+    }
+}
+
 /// Where the word of a page's bits stands.
 fn place(page: u64, word: u64) -> usize {
     (page * WORDS_A_PAGE + word) as usize

@@ -218,3 +218,20 @@ impl Slabs {
         }
     }
 }
+
+#[cfg(test)]
+impl Slabs {
+    fn along(&self, first: Option<ChunkId>) -> Vec<ChunkId> {
+        std::iter::successors(first, |chunk| self.next(*chunk)).collect()
+    }
+
+    /// The class's free chunks in their order.
+    pub fn free_list(&self, class: usize) -> Vec<ChunkId> {
+        self.along(self.first_free(class))
+    }
+
+    /// Those that are handed out, the oldest first.
+    pub fn out_list(&self, class: usize) -> Vec<ChunkId> {
+        self.along(self.first_out(class))
+    }
+}
