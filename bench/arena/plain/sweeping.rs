@@ -20,7 +20,7 @@ impl Arena {
                 self.look_at_hinted(page, self.per_page(class), &mut dead);
             }
         }
-        self.put_dead_back(slabs, class, dead);
+        self.put_dead_back(slabs, class, &mut dead);
     }
 
     /// Takes a page's hints, and notes which of its first chunks are dead.
@@ -51,7 +51,7 @@ impl Arena {
                 self.look_along(page, per_page, &mut dead);
             }
         }
-        self.put_dead_back(slabs, class, dead);
+        self.put_dead_back(slabs, class, &mut dead);
     }
 
     /// Notes which of a page's first chunks are dead. Their headers stand side by side.
@@ -64,7 +64,7 @@ impl Arena {
         }
     }
 
-    fn put_dead_back(&self, slabs: &mut Slabs, class: usize, mut dead: DeadChunks) {
+    fn put_dead_back(&self, slabs: &mut Slabs, class: usize, dead: &mut DeadChunks) {
         match dead.oldest_first(slabs) {
             Some(chunks) => chunks.iter().for_each(|chunk| _ = self.put_back(slabs, *chunk)),
             None => self.walk(slabs, class),
