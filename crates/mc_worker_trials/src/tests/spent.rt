@@ -8,8 +8,8 @@ use std::test::Fail;
 const SCRIPT: &[u8] = b"1 set 1 22 100\n1 set 2 22 100\n1 set 3 22 100\n1 hold 1\n1 get 1\n\
 reassign 4 1\nturn 1000000\nturn 1\n";
 
-/// How often a thread looks before it gives up.
-const LOOKS: u64 = 100_000_000_000;
+/// How often a thread looks before it gives up, some seconds: where the other one was refused memory, what it waits for never comes.
+const LOOKS: u64 = 3_000_000_000;
 
 /// Keeps the mover before its first line until worker 1's hold was answered, and worker 1 before its last line, after which it gives
 /// back what it holds, until the 1,000,000 turns were answered.
