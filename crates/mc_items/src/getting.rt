@@ -119,6 +119,7 @@ pub fn try_get(arena: &Arena, hand: &mut Hand, key: u64) -> Result<Option<Ref>, 
 }
 
 // Looks the key up in its stripe, gives the stripe's lock back, and reads what is said of the item.
+#[inline(always)]
 fn look_up(
     arena: &Arena,
     hand: &mut Hand,
@@ -145,6 +146,7 @@ fn look_up(
 }
 
 // Looks the key up in its stripe, and gives the stripe's lock back. At want of memory the stripe is as before.
+#[inline(always)]
 pub(crate) fn refer_at(
     arena: &Arena,
     hand: &mut Hand,

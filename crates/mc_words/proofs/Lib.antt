@@ -33,6 +33,7 @@ pub mod SweepViews
 pub mod Judged
 pub mod LookedOver
 pub mod FewDead
+pub mod DeadOrders
 pub mod Calls
 pub mod Refers
 pub mod References

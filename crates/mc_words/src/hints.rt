@@ -1,6 +1,7 @@
 //! Hints of where dead chunks may be, beside the table. Nothing proved rests on them: who follows one looks at the chunk's header, and
 //! who has none looks at all headers.
 use crate::header::{DEAD, ISSUE_UNIT};
+use crossbeam_utils::CachePadded;
 use mc_classes::PageId;
 use mc_memory::{Refused, push, with_capacity};
 use mc_pages::ChunkId;
@@ -21,7 +22,7 @@ pub(crate) const BITS: u64 = 64;
 /// page's, and taken after it, so that a hint is late at most and never lost.
 #[derive(Drop)]
 pub struct Hints {
-    pages: AtomicU64,
+    pages: CachePadded<AtomicU64>,
     chunks: Vec<AtomicU64>,
 }
 
@@ -33,7 +34,7 @@ impl Hints {
             push(&mut chunks, AtomicU64::new(0))?;
         }
         Ok(Hints {
-            pages: AtomicU64::new(0),
+            pages: CachePadded::new(AtomicU64::new(0)),
             chunks,
         })
     }
@@ -50,7 +51,14 @@ impl Hints {
     fn note(&self, chunk: ChunkId) {
         if let Some(word) = self.chunks.get(place(chunk.page, chunk.index / BITS)) {
             word.fetch_or(1 << (chunk.index % BITS), SeqCst);
-            self.pages.fetch_or(1 << (chunk.page % BITS), SeqCst);
+            self.note_page(1 << (chunk.page % BITS));
+        }
+    }
+
+    // A chunk of the page with this bit may be dead. Where the bit is there already nothing is written.
+    fn note_page(&self, bit: u64) {
+        if self.pages.load(SeqCst) & bit == 0 {
+            self.pages.fetch_or(bit, SeqCst);
         }
     }
 
@@ -64,11 +72,11 @@ impl Hints {
         self.pages.fetch_and(!(1 << (page % BITS)), SeqCst);
     }
 
-    /// Takes the bits of 64 chunks of the page: those from 64 times `word` on.
+    /// Takes the bits of 64 chunks of the page: those from 64 times `word` on. Where there is none nothing is written.
     pub(crate) fn take_chunks(&self, page: PageId, word: u64) -> u64 {
         match self.chunks.get(place(page, word)) {
-            Some(bits) => bits.swap(0, SeqCst),
-            None => 0,
+            Some(bits) if bits.load(SeqCst) != 0 => bits.swap(0, SeqCst),
+            _ => 0,
         }
     }
 }

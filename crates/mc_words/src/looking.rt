@@ -1,10 +1,11 @@
 //! Looks at headers.
-ghost use Rattle.std.specs.Prelude.{◌≡◌, true, []};
+ghost use Rattle.std.specs.Prelude.{◌≡◌, ◌<◌, true, []};
 ghost use Rattle.mc_core.specs.Head.{decode};
 ghost use Rattle.mc_core.specs.State.{has_chunk};
 ghost use Rattle.mc_core.specs.declared.event.Step.TheVariants as step;
 ghost use Rattle.mc_words.specs.Arenas.{IsHandOf, setup_of, view};
 ghost use Rattle.mc_words.specs.Happens.{Happens};
+ghost use Rattle.mc_words.specs.Layout.{head_word};
 ghost use Rattle.mc_words.specs.Views.{head_seen};
 
 use crate::arena::Arena;
@@ -24,6 +25,21 @@ impl Arena {
         ensures seen { view hand.new ≡ head_seen chunk (decode result) (view hand.old) }
     {
         let word = self.head_word(chunk);
+        self.head_at(hand, word, chunk)
+    }
+
+    /// The same, of a chunk whose header stands in this word.
+    #[inline(always)]
+    pub(crate) fn head_at(&self, hand: &mut Hand, word: usize, chunk: ChunkId) -> u64
+        requires arena { IsHandOf self.now hand.old }
+        requires near { has_chunk (setup_of self.now).table chunk ≡ true }
+        requires word { word ≡ head_word (setup_of self.now) chunk }
+        requires within { word < self.now.table.shared.table_id.words }
+        ensures arena { IsHandOf self.now hand.new }
+        ensures locks { hand.new.locks ≡ hand.old.locks }
+        ensures happens { Happens (view hand.old) [] (step.Head chunk) (view hand.new) }
+        ensures seen { view hand.new ≡ head_seen chunk (decode result) (view hand.old) }
+    {
         self.look(&mut hand.seat, word, Step::Head(chunk))
     }
 }

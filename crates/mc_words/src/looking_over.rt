@@ -9,6 +9,7 @@ ghost use Rattle.mc_core.specs.Silent.{is_among};
 ghost use Rattle.mc_core.specs.State.{has_chunk, is_class, most_of};
 ghost use Rattle.mc_words.specs.Arenas.{IsHandOf, setup_of, view};
 ghost use Rattle.mc_words.specs.Dead.{AreHandedOut, IsJudged};
+ghost use Rattle.mc_words.specs.Layout.{head_word};
 ghost use Rattle.mc_words.specs.Sweeping.{SeesHeader, SeesHeaders};
 
 use crate::arena::Arena;
@@ -32,7 +33,7 @@ impl Arena {
         ensures judged { (chunk : ChunkId) → Contains (class_at held.now.shared class).order chunk → IsJudged (view hand.new).row.looks result chunk }
         ensures out { AreHandedOut (setup_of self.now).table held.now.shared class result }
     {
-        let mut dead = DeadChunks::Nothing;
+        let mut dead = DeadChunks::new();
         let per_page = held.slabs().per_page(class);
         for page in 0..self.classes().pages() {
             if held.slabs().owner(page).class() != class {
@@ -65,22 +66,32 @@ impl Arena {
         ensures judged { (index : ℕ) → index < per_page → IsJudged (view hand.new).row.looks dead.new (record { page = page; index = index }) }
         ensures kept { (other : ChunkId) → IsJudged (view hand.old).row.looks dead.old other → IsJudged (view hand.new).row.looks dead.new other }
     {
+        let first = self.heads_of_page(page);
         for index in 0..per_page {
-            self.judge(hand, held, ChunkId { page, index }, dead);
+            self.judge(
+                hand,
+                held,
+                first + index as usize,
+                ChunkId { page, index },
+                dead,
+            );
         }
     }
 
-    // Looks at a chunk, and notes it where it is dead.
+    // Looks at a chunk, whose header stands in this word, and notes it where it is dead.
     #[inline(always)]
     pub(crate) fn judge(
         &self,
         hand: &mut Hand,
         held: &SlabsHeld,
+        word: usize,
         chunk: ChunkId,
         dead: &mut DeadChunks,
     )
         requires arena { IsHandOf self.now hand.old }
         requires near { has_chunk (setup_of self.now).table chunk ≡ true }
+        requires word { word ≡ head_word (setup_of self.now) chunk }
+        requires within { word < self.now.table.shared.table_id.words }
         requires held { (view hand.old).slabs ≡ Some held.now.shared }
         requires out { AreHandedOut (setup_of self.now).table held.now.shared (class_of_page held.now.shared chunk.page) dead.old }
         ensures arena { IsHandOf self.now hand.new }
@@ -91,9 +102,9 @@ impl Arena {
         ensures judged { IsJudged (view hand.new).row.looks dead.new chunk }
         ensures kept { (other : ChunkId) → IsJudged (view hand.old).row.looks dead.old other → IsJudged (view hand.new).row.looks dead.new other }
     {
-        let head = self.head(hand, chunk);
+        let head = self.head_at(hand, word, chunk);
         if head % ISSUE_UNIT == DEAD {
-            dead.note(held.slabs(), chunk);
+            dead.note(chunk);
         }
     }
 }

@@ -1,7 +1,7 @@
 //! Where words of the table stand.
-ghost use Rattle.std.specs.Prelude.{◌≡◌, ◌<◌, true};
+ghost use Rattle.std.specs.Prelude.{◌≡◌, ◌+◌, ◌<◌, ◌≤◌, ℕ, true};
 ghost use Rattle.mc_classes.specs.Classes.{pages_of};
-ghost use Rattle.mc_core.specs.State.{has_chunk};
+ghost use Rattle.mc_core.specs.State.{has_chunk, most_of};
 ghost use Rattle.mc_words.specs.Arenas.{setup_of};
 ghost use Rattle.mc_words.specs.Layout.{config_from, data_word, head_word, page_word};
 
@@ -28,6 +28,16 @@ impl Arena {
         ensures near { result < self.now.table.shared.table_id.words }
     {
         self.first_head + chunk.page as usize * self.most + chunk.index as usize
+    }
+
+    /// The word of the header of a page's first chunk. Those of its other chunks stand behind it, in their order.
+    #[inline(always)]
+    pub(crate) fn heads_of_page(&self, page: PageId) -> usize
+        requires near { page < pages_of (setup_of self.now).table }
+        ensures words { (index : ℕ) → head_word (setup_of self.now) (record { page = page; index = index }) ≡ result + index }
+        ensures near { result + most_of (setup_of self.now).table ≤ self.now.table.shared.table_id.words }
+    {
+        self.first_head + page as usize * self.most
     }
 
     /// A data word, of a chunk with room for so many.

@@ -30,12 +30,8 @@ impl Arena {
         ensures recovers { Recovers (class_at held.old.shared class).order (view hand.old) held.old.shared (view hand.new) held.new.shared }
         ensures view { view hand.new ≡ with_seen (view hand.old) (view hand.new) }
     {
-        let dead = self.look_at_hints(hand, held, class);
-        if dead.are_more() {
-            self.walk(hand, held, class);
-        } else {
-            self.put_back_few(hand, held, class, dead);
-        }
+        let mut dead = self.look_at_hints(hand, held, class);
+        self.put_back_dead(hand, held, class, &mut dead);
     }
 
     // Follows the hints on the class's pages, and says which chunks are dead.
@@ -49,7 +45,7 @@ impl Arena {
         ensures sees { (looked : List ChunkId) × SeesHeaders looked (view hand.old) (view hand.new) }
         ensures out { AreHandedOut (setup_of self.now).table held.now.shared class result }
     {
-        let mut dead = DeadChunks::Nothing;
+        let mut dead = DeadChunks::new();
         let per_page = held.slabs().per_page(class);
         let mut pages = self.hints.pages();
         for _ in 0..BITS {
@@ -126,7 +122,8 @@ impl Arena {
                 return;
             }
             hinted &= hinted.wrapping_sub(1);
-            self.judge(hand, held, ChunkId { index, ..first }, dead);
+            let chunk = ChunkId { index, ..first };
+            self.judge(hand, held, self.head_word(chunk), chunk, dead);
         }
     }
 }

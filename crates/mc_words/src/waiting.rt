@@ -69,6 +69,7 @@ impl Arena {
 
     /// Takes the lock of a stripe. Where it isn't free it reads the lock's word until it is, and tries again. After some looks it lets other
     /// threads run.
+    #[inline(always)]
     pub fn lock_stripe<R: Wait>(&self, rt: &R, hand: &mut Hand, stripe: u64) -> StripeHeld
         requires arena { IsHandOf self.now hand.old }
         requires near { stripe < (setup_of self.now).config.stripes }

@@ -1,20 +1,19 @@
 use Rattle.std.proofs.Common.{◌≡◌, ℕ, true, Some, refl, ap, sym, subst, ◌∙◌, List, [], ◌∷◌, ◌++◌}
 use Rattle.std.specs.Prelude.{Contains}
 use Rattle.mc_pages.specs.declared.ids.ChunkId.{ChunkId}
-use Rattle.mc_pages.specs.SlabState.{SlabState, class_at, class_of_chunk, class_of_page}
+use Rattle.mc_pages.specs.SlabState.{SlabState, class_of_chunk, class_of_page}
 use Rattle.mc_core.specs.Head.{decode, is_dead}
 use Rattle.mc_core.specs.State.{has_chunk}
 use Rattle.mc_core.specs.declared.event.Step.TheVariants as core
 use Rattle.mc_core.specs.declared.look.Look.{Look}
 use Rattle.mc_core.specs.declared.look.Look.TheVariants.{Saw}
 use Rattle.mc_words.specs.Arenas.{setup_of}
-use Rattle.mc_words.specs.Dead.{IsJudged, Notes}
+use Rattle.mc_words.specs.Dead.{IsJudged}
 use Rattle.mc_words.specs.Happens.{Happens, LawfulView}
 use Rattle.mc_words.specs.View.{View, Setup}
 use Rattle.mc_words.specs.Views.{head_seen}
 use Rattle.mc_words.proofs.Judged.{alive_judged, alive_kept, noted_judged, noted_kept, noted_out}
 use Rattle.mc_words.proofs.Judging.{after_last, after_slabs, seen_is, stands_out, word_alive, word_dead}
-use Rattle.mc_words.proofs.SweepViews.{same_class}
 use Rattle.mc_words.proofs.arena.Arena.judge.Goals as goal
 
 -- the look that the hand has then
@@ -27,62 +26,40 @@ module _ (view seen : View) (was : LawfulView seen) (slabs : SlabState) (mine : 
   pub there : Contains (class_of_chunk slabs chunk).order chunk
   there = stands_out seen seen slabs (after_slabs view seen seen slabs chunk (decode word) mine is looks) chunk (decode word) near (after_last view seen seen slabs chunk (decode word) mine is looks) dead was
 
-  pub others : (other : ChunkId) → Contains (class_of_chunk slabs chunk).order other → Contains (class_of_chunk slabs other).order other × ((class_of_chunk slabs other).order ≡ (class_of_chunk slabs chunk).order)
-  others other among =
-      let own = same_class seen was slabs (after_slabs view seen seen slabs chunk (decode word) mine is looks) chunk other there among in
-      (subst (λ (n : ℕ). Contains (class_at slabs n).order other) (sym own) among, ap (λ (n : ℕ). (class_at slabs n).order) own)
-
-pub note-requires-clause-out : goal.note-requires-clause-out
-note-requires-clause-out c =
-    let chunk = c.args.chunk in
-    let slabs = c.args.held.now.shared in
-    let near = subst (λ (s : Setup). has_chunk s.table chunk ≡ true) (sym c.head-head.ensures.arena.setup) c.requires.near in
-    subst (λ (x : SlabState). Contains (class_of_chunk x chunk).order chunk) (sym c.slabs.ensures.slabs)
-    (there c.args.hand.now.seat.me.0 c.head-head.new.hand.seat.me.0 c.head-head.ensures.arena.lawful slabs c.requires.held chunk c.head-head.result near (word_dead c.head-head.result c.if-head-eq-DEAD.true) c.head-head.ensures.seen c.head-head.ensures.happens)
-
-pub note-requires-clause-others : goal.note-requires-clause-others
-note-requires-clause-others c other among =
-    let chunk = c.args.chunk in
-    let slabs = c.args.held.now.shared in
-    let near = subst (λ (s : Setup). has_chunk s.table chunk ≡ true) (sym c.head-head.ensures.arena.setup) c.requires.near in
-    subst (λ (x : SlabState). Contains (class_of_chunk x other).order other × ((class_of_chunk x other).order ≡ (class_of_chunk x chunk).order)) (sym c.slabs.ensures.slabs)
-    (others c.args.hand.now.seat.me.0 c.head-head.new.hand.seat.me.0 c.head-head.ensures.arena.lawful slabs c.requires.held chunk c.head-head.result near (word_dead c.head-head.result c.if-head-eq-DEAD.true) c.head-head.ensures.seen c.head-head.ensures.happens other (c.requires.out.each other among).1)
-
 pub returns-then-head-eq-DEAD-clause-out : goal.returns-then-head-eq-DEAD-clause-out
 returns-then-head-eq-DEAD-clause-out c =
     let chunk = c.args.chunk in
     let slabs = c.args.held.now.shared in
-    let near = subst (λ (s : Setup). has_chunk s.table chunk ≡ true) (sym c.head-head.ensures.arena.setup) c.requires.near in
-    let notes = subst (λ (x : SlabState). Notes (class_of_chunk x chunk).order chunk c.args.dead.now c.note.new.self) c.slabs.ensures.slabs c.note.ensures.notes in
-    noted_out (setup_of c.args.self.now).table slabs (class_of_page slabs chunk.page) chunk c.args.dead.now c.note.new.self notes c.requires.out c.requires.near
-    (there c.args.hand.now.seat.me.0 c.head-head.new.hand.seat.me.0 c.head-head.ensures.arena.lawful slabs c.requires.held chunk c.head-head.result near (word_dead c.head-head.result c.if-head-eq-DEAD.true) c.head-head.ensures.seen c.head-head.ensures.happens)
+    let near = subst (λ (s : Setup). has_chunk s.table chunk ≡ true) (sym c.head_at-head.ensures.arena.setup) c.requires.near in
+    let listed = there c.args.hand.now.seat.me.0 c.head_at-head.new.hand.seat.me.0 c.head_at-head.ensures.arena.lawful slabs c.requires.held chunk c.head_at-head.result near (word_dead c.head_at-head.result c.if-head-eq-DEAD.true) c.head_at-head.ensures.seen c.head_at-head.ensures.happens in
+    noted_out (setup_of c.args.self.now).table slabs (class_of_page slabs chunk.page) chunk c.args.dead.now c.note.new.self c.note.ensures.notes c.requires.out (record { near = c.requires.near; own = refl; listed = listed })
 
 pub returns-then-head-eq-DEAD-clause-judged : goal.returns-then-head-eq-DEAD-clause-judged
 returns-then-head-eq-DEAD-clause-judged c =
     let view = c.args.hand.now.seat.me.0 in
     let chunk = c.args.chunk in
     let now = c.note.new.self in
-    let is = looks_more view c.head-head.new.hand.seat.me.0 chunk c.head-head.result c.args.held.now.shared c.requires.held c.head-head.ensures.seen in
-    subst (λ (looks : List Look). IsJudged looks now chunk) (sym is) (noted_judged view.row.looks chunk (decode c.head-head.result) c.args.dead.now _ now c.note.ensures.notes)
+    let is = looks_more view c.head_at-head.new.hand.seat.me.0 chunk c.head_at-head.result c.args.held.now.shared c.requires.held c.head_at-head.ensures.seen in
+    subst (λ (looks : List Look). IsJudged looks now chunk) (sym is) (noted_judged view.row.looks chunk (decode c.head_at-head.result) c.args.dead.now now c.note.ensures.notes)
 
 pub returns-then-head-eq-DEAD-clause-kept : goal.returns-then-head-eq-DEAD-clause-kept
 returns-then-head-eq-DEAD-clause-kept c other judged =
     let view = c.args.hand.now.seat.me.0 in
     let chunk = c.args.chunk in
     let now = c.note.new.self in
-    let is = looks_more view c.head-head.new.hand.seat.me.0 chunk c.head-head.result c.args.held.now.shared c.requires.held c.head-head.ensures.seen in
-    subst (λ (looks : List Look). IsJudged looks now other) (sym is) (noted_kept view.row.looks chunk (decode c.head-head.result) c.args.dead.now _ now c.note.ensures.notes other judged)
+    let is = looks_more view c.head_at-head.new.hand.seat.me.0 chunk c.head_at-head.result c.args.held.now.shared c.requires.held c.head_at-head.ensures.seen in
+    subst (λ (looks : List Look). IsJudged looks now other) (sym is) (noted_kept view.row.looks chunk (decode c.head_at-head.result) c.args.dead.now now c.note.ensures.notes other judged)
 
 pub returns-else-head-eq-DEAD-clause-judged : goal.returns-else-head-eq-DEAD-clause-judged
 returns-else-head-eq-DEAD-clause-judged c =
     let view = c.args.hand.now.seat.me.0 in
     let chunk = c.args.chunk in
-    let is = looks_more view c.head-head.new.hand.seat.me.0 chunk c.head-head.result c.args.held.now.shared c.requires.held c.head-head.ensures.seen in
-    subst (λ (looks : List Look). IsJudged looks c.args.dead.now chunk) (sym is) (alive_judged view.row.looks chunk (decode c.head-head.result) c.args.dead.now (word_alive c.head-head.result c.if-head-eq-DEAD.false))
+    let is = looks_more view c.head_at-head.new.hand.seat.me.0 chunk c.head_at-head.result c.args.held.now.shared c.requires.held c.head_at-head.ensures.seen in
+    subst (λ (looks : List Look). IsJudged looks c.args.dead.now chunk) (sym is) (alive_judged view.row.looks chunk (decode c.head_at-head.result) c.args.dead.now (word_alive c.head_at-head.result c.if-head-eq-DEAD.false))
 
 pub returns-else-head-eq-DEAD-clause-kept : goal.returns-else-head-eq-DEAD-clause-kept
 returns-else-head-eq-DEAD-clause-kept c other judged =
     let view = c.args.hand.now.seat.me.0 in
     let chunk = c.args.chunk in
-    let is = looks_more view c.head-head.new.hand.seat.me.0 chunk c.head-head.result c.args.held.now.shared c.requires.held c.head-head.ensures.seen in
-    subst (λ (looks : List Look). IsJudged looks c.args.dead.now other) (sym is) (alive_kept view.row.looks chunk (decode c.head-head.result) c.args.dead.now (word_alive c.head-head.result c.if-head-eq-DEAD.false) other judged)
+    let is = looks_more view c.head_at-head.new.hand.seat.me.0 chunk c.head_at-head.result c.args.held.now.shared c.requires.held c.head_at-head.ensures.seen in
+    subst (λ (looks : List Look). IsJudged looks c.args.dead.now other) (sym is) (alive_kept view.row.looks chunk (decode c.head_at-head.result) c.args.dead.now (word_alive c.head_at-head.result c.if-head-eq-DEAD.false) other judged)

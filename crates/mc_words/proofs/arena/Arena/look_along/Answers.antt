@@ -40,3 +40,6 @@ loop-index-preserved c =
 
 pub returns-clause-judged : goal.returns-clause-judged
 returns-clause-judged c index below = let past = c.loop-index-test.false in c.loop-index.invariant.judged index (omega (arith, below, past))
+
+pub judge-requires-clause-word : goal.judge-requires-clause-word
+judge-requires-clause-word c = sym (c.heads_of_page-first.ensures.words c.loop-index.index)

@@ -1,4 +1,4 @@
-use Rattle.mc_words.proofs.arena.Arena.head.Given as goal
+use Rattle.mc_words.proofs.arena.Arena.head_at.Given as goal
 
 abbrev pub ghost-look : goal.ghost-look
 ghost-look a = a.step

@@ -12,15 +12,15 @@ use Rattle.mc_words.proofs.Heads.{may_look}
 use Rattle.mc_words.proofs.Locked.{noted_same}
 use Rattle.mc_words.proofs.LockViews.{seen_head, look_holds}
 use Rattle.mc_words.proofs.Tallies.{tallied_same}
-use Rattle.mc_words.proofs.arena.Arena.head.Goals as goal
+use Rattle.mc_words.proofs.arena.Arena.head_at.Goals as goal
 
 pub look-requires : goal.look-requires
 look-requires c =
     let arena = c.requires.arena in
     let view = c.args.hand.now.seat.me.0 in
     let near : has_chunk view.setup.table c.args.chunk ≡ true = subst (λ (s : Setup). has_chunk s.table c.args.chunk ≡ true) (sym arena.setup) c.requires.near in
-    let place : c.head_word-word.result ≡ head_word view.setup c.args.chunk = c.head_word-word.ensures.word ∙ ap (λ (s : Setup). head_word s c.args.chunk) (sym arena.setup) in
-    (refl, (refl, (c.head_word-word.ensures.near, (arena, subst (λ (n : ℕ). MayWrite view (core.Head c.args.chunk) n (λ found. found)) (sym place) (may_look view c.args.chunk near)))))
+    let place : c.args.word ≡ head_word view.setup c.args.chunk = c.requires.word ∙ ap (λ (s : Setup). head_word s c.args.chunk) (sym arena.setup) in
+    (refl, (refl, (c.requires.within, (arena, subst (λ (n : ℕ). MayWrite view (core.Head c.args.chunk) n (λ found. found)) (sym place) (may_look view c.args.chunk near)))))
 
 pub invariant_of-hand : goal.invariant_of-hand
 invariant_of-hand c =
@@ -28,7 +28,7 @@ invariant_of-hand c =
     let arena = c.requires.arena in
     let view = a.seat.me.0 in
     let near : has_chunk view.setup.table c.args.chunk ≡ true = subst (λ (s : Setup). has_chunk s.table c.args.chunk ≡ true) (sym arena.setup) c.requires.near in
-    let place : c.head_word-word.result ≡ head_word view.setup c.args.chunk = c.head_word-word.ensures.word ∙ ap (λ (s : Setup). head_word s c.args.chunk) (sym arena.setup) in
+    let place : c.args.word ≡ head_word view.setup c.args.chunk = c.requires.word ∙ ap (λ (s : Setup). head_word s c.args.chunk) (sym arena.setup) in
     let at = subst (λ (n : ℕ). HappensAt n c.look.result view [] (core.Head c.args.chunk) c.look.new.seat.me.0) place c.look.ensures.happens in
     let is = seen_head view c.look.new.seat.me.0 c.args.chunk c.look.result near at in
     let held = ap (λ (v : View). v.row.holdings) is ∙ look_holds (Saw c.args.chunk (decode c.look.result)) (saw (header c.args.chunk (decode c.look.result)) view) in
@@ -42,5 +42,5 @@ returns-clause-seen c =
     let arena = c.requires.arena in
     let view = c.args.hand.now.seat.me.0 in
     let near : has_chunk view.setup.table c.args.chunk ≡ true = subst (λ (s : Setup). has_chunk s.table c.args.chunk ≡ true) (sym arena.setup) c.requires.near in
-    let place : c.head_word-word.result ≡ head_word view.setup c.args.chunk = c.head_word-word.ensures.word ∙ ap (λ (s : Setup). head_word s c.args.chunk) (sym arena.setup) in
+    let place : c.args.word ≡ head_word view.setup c.args.chunk = c.requires.word ∙ ap (λ (s : Setup). head_word s c.args.chunk) (sym arena.setup) in
     seen_head view c.look.new.seat.me.0 c.args.chunk c.look.result near (subst (λ (n : ℕ). HappensAt n c.look.result view [] (core.Head c.args.chunk) c.look.new.seat.me.0) place c.look.ensures.happens)

@@ -1,0 +1,63 @@
+use Rattle.std.proofs.Common.{◌≡◌, ◌∙◌, true, List, ap, sym, subst, inl, inr}
+use Rattle.std.specs.Prelude.{Contains}
+use Rattle.std.proofs.lemmas.List.Sorted.{Contains-permutation, IsPermutation-sym}
+use Rattle.mc_pages.specs.declared.ids.ChunkId.{ChunkId}
+use Rattle.mc_pages.specs.SlabState.{SlabState, class_at, class_of_chunk}
+use Rattle.mc_core.specs.State.{is_class}
+use Rattle.mc_words.specs.Arenas.{setup_of}
+use Rattle.mc_words.specs.Dead.{ShareAnOrder}
+use Rattle.mc_words.specs.Sweeping.{SweepsEach, follows}
+use Rattle.mc_words.specs.View.{Setup}
+use Rattle.mc_words.proofs.DeadOrders.{in_order_of}
+use Rattle.mc_words.proofs.FewDead.{AreAliveBut, all_alive, contains_from_times, each_alive, follows_all}
+use Rattle.mc_words.proofs.Judged.{shared_order}
+use Rattle.mc_words.proofs.SweepViews.{class_here, order_once}
+use Rattle.mc_words.proofs.arena.Arena.put_back_dead.Goals as goal
+
+pub put_in_order-requires : goal.put_in_order-requires
+put_in_order-requires c = record {
+  order = subst (λ (x : SlabState). ShareAnOrder x c.args.dead.now.chunks) (sym c.slabs.ensures.slabs) (shared_order (setup_of c.args.self.now).table c.args.held.now.shared c.args.class c.args.dead.now c.requires.out);
+}
+
+pub put_back_each-requires-clause-near : goal.put_back_each-requires-clause-near
+put_back_each-requires-clause-near c chunk there =
+    let chunks = c.args.dead.now.chunks in
+    let now = c.put_in_order.new.self.chunks in
+    let back = IsPermutation-sym chunks now c.put_in_order.ensures.same in
+    (c.requires.out chunk (Contains-permutation now chunks chunk back (subst (λ (cs : List ChunkId). Contains cs chunk) c.as_slice.ensures.chunks there))).near
+
+pub returns-then-put_in_order-clause-each : goal.returns-then-put_in_order-clause-each
+returns-then-put_in_order-clause-each c =
+    let slabs = c.args.held.now.shared in
+    let now = c.put_in_order.new.self.chunks in
+    let oldest_first = in_order_of (setup_of c.args.self.now).table slabs c.args.class c.args.dead.now now c.requires.out c.put_in_order.ensures.same
+    (subst (λ (x : SlabState). (chunk : ChunkId) → Contains now chunk → follows (class_of_chunk x chunk).order now ≡ true) c.slabs.ensures.slabs (c.put_in_order.ensures.in_order c.if-put_in_order.true)) in
+    let each = subst (λ (cs : List ChunkId). SweepsEach cs c.args.hand.now.seat.me.0 slabs c.put_back_each.new.hand.seat.me.0 c.put_back_each.new.held.shared) c.as_slice.ensures.chunks c.put_back_each.ensures.each in
+    (now, oldest_first, each)
+
+pub returns-then-put_in_order-clause-alive : goal.returns-then-put_in_order-clause-alive
+returns-then-put_in_order-clause-alive c judged =
+    let slabs = c.args.held.now.shared in
+    let class = c.args.class in
+    let view = c.args.hand.now.seat.me.0 in
+    let was = c.requires.arena.lawful in
+    let held = c.requires.held in
+    let left = c.put_back_each.new.held.shared in
+    let end = c.put_back_each.new.hand.seat.me.0 in
+    let chunks = c.args.dead.now.chunks in
+    let now = c.put_in_order.new.self.chunks in
+    let same = c.put_in_order.ensures.same in
+    let back = IsPermutation-sym chunks now same in
+    let is = ap (λ (s : Setup). is_class s.table class) c.requires.arena.setup ∙ c.requires.class in
+    let few = c.put_in_order.ensures.few c.if-put_in_order.true in
+    let but : AreAliveBut class now slabs view.row.looks = λ chunk there. elim (judged chunk (contains_from_times chunk (class_at slabs class).order there) few) [
+      | inl alive ↦ inl alive
+      | inr among ↦ inr (Contains-permutation chunks now chunk same among)
+    ] in
+    let own = λ (chunk : ChunkId) (there : Contains now chunk). (c.requires.out chunk (Contains-permutation now chunks chunk back there)).own in
+    let each = subst (λ (cs : List ChunkId). SweepsEach cs view slabs end left) c.as_slice.ensures.chunks c.put_back_each.ensures.each in
+    all_alive class left end.row.looks (each_alive class now view slabs end left held (class_here view was slabs held class is) own (order_once view was slabs held class is) but each)
+
+pub returns-else-put_in_order-clause-each : goal.returns-else-put_in_order-clause-each
+returns-else-put_in_order-clause-each c =
+    let order = (class_at c.args.held.now.shared c.args.class).order in (order, follows_all order, c.walk.ensures.each)

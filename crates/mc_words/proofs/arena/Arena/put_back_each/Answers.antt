@@ -1,0 +1,25 @@
+use Rattle.std.proofs.Common.{◌∙◌, List, get_or, take, sym, subst}
+use Rattle.std.proofs.lemmas.List.{take_more}
+use Rattle.mc_pages.specs.declared.ids.ChunkId.{ChunkId}
+use Rattle.mc_words.specs.Sweeping.{SweepsEach}
+use Rattle.mc_words.proofs.SweepViews.{swept_again, swept_one}
+use Rattle.mc_words.proofs.arena.Arena.put_back_each.Goals as goal
+
+pub loop-chunk-preserved : goal.loop-chunk-preserved
+loop-chunk-preserved c =
+    let inv = c.loop-chunk.invariant in
+    let chunks = c.args.chunks.now in
+    let place = c.loop-chunk.chunk-index in
+    let blank : ChunkId = record { page = 0; index = 0 } in
+    let chunk = get_or chunks place blank in
+    let view = c.args.hand.now.seat.me.0 in
+    let slabs = c.args.held.now.shared in
+    let next = c.put_back.new.hand.seat.me.0 in
+    let between = c.put_back.new.held.shared in
+    let one = swept_one c.put_back.result c.put_back.ensures.back c.put_back.ensures.moved in record {
+      arena = c.put_back.ensures.arena;
+      locks = c.put_back.ensures.locks ∙ inv.locks;
+      held = c.put_back.ensures.held;
+      each = subst (λ (cs : List ChunkId). SweepsEach cs view slabs next between) (sym (take_more chunks place blank c.loop-chunk-test.true))
+          (swept_again chunk c.loop-chunk.hand.seat.me.0 next c.loop-chunk.held.shared between (take place chunks) view slabs inv.each one);
+    }
