@@ -1,4 +1,4 @@
-//! Ninety gets and ten sets of a hundred calls, over a full memory of one class, by one, two and four threads.
+//! Ninety gets and ten sets of a hundred calls, over a full memory of one class, by one, two and four threads; and gets alone.
 use super::numbers::Numbers;
 use super::{get_and_release, set_keys, show, Memory, PAGE, PER_PAGE};
 use std::thread;
@@ -17,16 +17,27 @@ enum Keys {
     Own,
     OneStripe,
     One,
+    /// Of a stripe beside that of the thread before.
+    Neighbours,
+    /// Of a stripe 16 behind that of the thread before.
+    Apart,
 }
 
 impl Keys {
     fn name(self) -> &'static str {
         match self {
-            Keys::All => "all",
-            Keys::Own => "own",
-            Keys::OneStripe => "stripe",
-            Keys::One => "key",
+            Keys::All => "mix-all",
+            Keys::Own => "mix-own",
+            Keys::OneStripe => "mix-stripe",
+            Keys::One => "mix-key",
+            Keys::Neighbours => "gets-neighbours",
+            Keys::Apart => "gets-apart",
         }
+    }
+
+    /// Whether some of the calls are sets.
+    fn has_sets(self) -> bool {
+        !matches!(self, Keys::Neighbours | Keys::Apart)
     }
 
     /// A key of a thread of so many.
@@ -36,6 +47,8 @@ impl Keys {
             Keys::Own => numbers.below(ROOM / threads) * threads + thread,
             Keys::OneStripe => numbers.below(ROOM / STRIPES) * STRIPES,
             Keys::One => 0,
+            Keys::Neighbours => numbers.below(ROOM / STRIPES) * STRIPES + thread,
+            Keys::Apart => numbers.below(ROOM / STRIPES) * STRIPES + 16 * thread,
         }
     }
 }
@@ -45,7 +58,7 @@ fn mix<M: Memory>(memory: &M, mut hand: M::Hand, keys: Keys, thread: u64, thread
     let mut numbers = Numbers::new(thread);
     for _ in 0..OPERATIONS {
         let key = keys.draw(&mut numbers, thread, threads);
-        if numbers.below(10) == 0 {
+        if numbers.below(10) == 0 && keys.has_sets() {
             assert!(memory.set(&mut hand, key, &[key, key, key]));
         } else {
             get_and_release(memory, &mut hand, key);
@@ -74,11 +87,11 @@ fn show_keys<M: Memory>(keys: Keys) {
         let others = hands.split_off(threads);
         let started = Instant::now();
         mix_at_once(&memory, hands, keys);
-        show(&format!("mix-{}", keys.name()), threads as u64, started.elapsed(), threads as u64 * OPERATIONS);
+        show(keys.name(), threads as u64, started.elapsed(), threads as u64 * OPERATIONS);
         hands = others;
     }
 }
 
 pub fn run<M: Memory>() {
-    [Keys::All, Keys::Own, Keys::OneStripe, Keys::One].into_iter().for_each(show_keys::<M>);
+    [Keys::All, Keys::Own, Keys::OneStripe, Keys::One, Keys::Neighbours, Keys::Apart].into_iter().for_each(show_keys::<M>);
 }
