@@ -1,5 +1,5 @@
 -- A step that takes and gives no lock keeps the rule, where the core allows it and the word becomes what the core says.
-use Rattle.std.proofs.Common.{◌≡◌, ℕ, Bool, true, false, List, [], ◌∷◌, ◌++◌, map, Option, Some, None, refl, sym, ap, ap₂, subst, ◌∙◌, slice_set, slice_index, is_some, if◌then◌else◌, eqb, arith}
+use Rattle.std.proofs.Common.{◌≡◌, ℕ, Bool, true, false, List, [], ◌∷◌, ◌++◌, map, Option, Some, None, refl, sym, ap, ap₂, subst, ◌∙◌, slice_set, slice_index, is_some, if◌then◌else◌, eqb}
 use Rattle.std.proofs.lemmas.Bool.{and_from}
 use Rattle.std.specs.List.{range_with_len}
 use mathlib.Core.Option.{some, none}

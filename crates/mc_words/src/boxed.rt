@@ -4,15 +4,17 @@ ghost use Rattle.std.specs.Borrow.{Lends, sem};
 ghost use Rattle.mc_stripe.specs.contracts.stripe.Stripe.{the_row as stripe_row};
 ghost use Rattle.mc_words.specs.contracts.boxed.BoxedStripe.{the_row as boxed_row};
 
+use crossbeam_utils::CachePadded;
 use mc_memory::{Refused, boxed};
 use mc_stripe::Stripe;
 use std::alloc::Global;
 use std::marker::Model;
 
-/// A stripe that contracts see as the stripe itself. In a box it is one word to exchange, and so is what else lies in a slot.
+/// A stripe that contracts see as the stripe itself. In a box it is one word to exchange, and so is what else lies in a slot. It shares no
+/// line of the cache with another, so that hands which act on two stripes don't take it from each other.
 #[derive(Drop)]
 pub struct BoxedStripe {
-    stripe: Box<Stripe>,
+    stripe: Box<CachePadded<Stripe>>,
 }
 
 impl Model for BoxedStripe {
@@ -20,7 +22,9 @@ impl Model for BoxedStripe {
 
     ghost Value = { ReadyStripe };
 
-    ghost view = { λ boxed. boxed.stripe.value };
+    ghost use Rattle.crossbeam_utils.specs.Padded.{padded_value};
+
+    ghost view = { λ boxed. padded_value boxed.stripe.value };
 }
 
 impl BoxedStripe {
@@ -28,7 +32,7 @@ impl BoxedStripe {
     pub(crate) fn new(alloc: Global, stripe: Stripe) -> Result<BoxedStripe, Refused>
         ensures boxed { IfOk result (λ boxed. boxed ≡ stripe) }
     {
-        let stripe = boxed(alloc, stripe)?;
+        let stripe = boxed(alloc, CachePadded::new(stripe))?;
         Ok(BoxedStripe { stripe })
     }
 

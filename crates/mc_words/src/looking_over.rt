@@ -1,6 +1,6 @@
 //! Looks along the pages of a class, on which the headers of chunks stand side by side.
 ghost use Rattle.std.specs.List.{list_all};
-ghost use Rattle.std.specs.Prelude.{◌≡◌, ℕ, ◌<◌, ◌≤◌, Contains, List, Some, true};
+ghost use Rattle.std.specs.Prelude.{◌≡◌, ℕ, ◌<◌, ◌≤◌, Contains, List, [], Some, true};
 ghost use Rattle.mc_classes.specs.Classes.{pages_of};
 ghost use Rattle.mc_pages.specs.declared.ids.ChunkId.{ChunkId};
 ghost use Rattle.mc_pages.specs.Accounted.{first_chunks};
@@ -21,27 +21,32 @@ use mc_classes::{ClassId, PageId};
 use mc_pages::ChunkId;
 
 impl Arena {
-    // Looks at each chunk of the class's pages, free ones too, and says which are dead.
-    pub(crate) fn look_over(&self, hand: &mut Hand, held: &SlabsHeld, class: ClassId) -> DeadChunks
+    // Looks at each chunk of the class's pages, free ones too, and notes which are dead.
+    pub(crate) fn look_over(
+        &self,
+        hand: &mut Hand,
+        held: &SlabsHeld,
+        class: ClassId,
+        dead: &mut DeadChunks,
+    )
         requires arena { IsHandOf self.now hand.old }
         requires class { is_class (setup_of self.now).table class ≡ true }
         requires held { (view hand.old).slabs ≡ Some held.now.shared }
+        requires none { dead.old.chunks ≡ [] }
         ensures arena { IsHandOf self.now hand.new }
         ensures locks { hand.new.locks ≡ hand.old.locks }
         ensures held { (view hand.new).slabs ≡ Some held.now.shared }
         ensures sees { (looked : List ChunkId) × SeesHeaders looked (view hand.old) (view hand.new) × (list_all (is_among looked) (class_at held.now.shared class).order ≡ true) }
-        ensures judged { (chunk : ChunkId) → Contains (class_at held.now.shared class).order chunk → IsJudged (view hand.new).row.looks result chunk }
-        ensures out { AreHandedOut (setup_of self.now).table held.now.shared class result }
+        ensures judged { (chunk : ChunkId) → Contains (class_at held.now.shared class).order chunk → IsJudged (view hand.new).row.looks dead.new chunk }
+        ensures out { AreHandedOut (setup_of self.now).table held.now.shared class dead.new }
     {
-        let mut dead = DeadChunks::new();
         let per_page = held.slabs().per_page(class);
         for page in 0..self.classes().pages() {
             if held.slabs().owner(page).class() != class {
                 continue;
             }
-            self.look_along(hand, held, page, per_page, &mut dead);
+            self.look_along(hand, held, page, per_page, dead);
         }
-        dead
     }
 
     // Looks at so many chunks of a page, from its first on.

@@ -1,5 +1,5 @@
 //! Dead chunks that are found by hints, and put back.
-ghost use Rattle.std.specs.Prelude.{◌≡◌, ◌<◌, ◌≤◌, List, Some, true};
+ghost use Rattle.std.specs.Prelude.{◌≡◌, ◌<◌, ◌≤◌, List, [], Some, true};
 ghost use Rattle.mc_classes.specs.Classes.{pages_of};
 ghost use Rattle.mc_pages.specs.declared.ids.ChunkId.{ChunkId};
 ghost use Rattle.mc_pages.specs.SlabState.{class_at, class_of_page};
@@ -30,37 +30,43 @@ impl Arena {
         ensures recovers { Recovers (class_at held.old.shared class).order (view hand.old) held.old.shared (view hand.new) held.new.shared }
         ensures view { view hand.new ≡ with_seen (view hand.old) (view hand.new) }
     {
-        let mut dead = self.look_at_hints(hand, held, class);
+        let mut dead = DeadChunks::new();
+        self.look_at_hints(hand, held, class, &mut dead);
         self.put_back_dead(hand, held, class, &mut dead);
     }
 
-    // Follows the hints on the class's pages, and says which chunks are dead.
-    fn look_at_hints(&self, hand: &mut Hand, held: &SlabsHeld, class: ClassId) -> DeadChunks
+    // Follows the hints on the class's pages, and notes which chunks are dead.
+    fn look_at_hints(
+        &self,
+        hand: &mut Hand,
+        held: &SlabsHeld,
+        class: ClassId,
+        dead: &mut DeadChunks,
+    )
         requires arena { IsHandOf self.now hand.old }
         requires class { is_class (setup_of self.now).table class ≡ true }
         requires held { (view hand.old).slabs ≡ Some held.now.shared }
+        requires none { dead.old.chunks ≡ [] }
         ensures arena { IsHandOf self.now hand.new }
         ensures locks { hand.new.locks ≡ hand.old.locks }
         ensures held { (view hand.new).slabs ≡ Some held.now.shared }
         ensures sees { (looked : List ChunkId) × SeesHeaders looked (view hand.old) (view hand.new) }
-        ensures out { AreHandedOut (setup_of self.now).table held.now.shared class result }
+        ensures out { AreHandedOut (setup_of self.now).table held.now.shared class dead.new }
     {
-        let mut dead = DeadChunks::new();
         let per_page = held.slabs().per_page(class);
         let mut pages = self.hints.pages();
         for _ in 0..BITS {
             let page = u64::from(pages.trailing_zeros());
             if page >= self.classes().pages() {
-                return dead;
+                return;
             }
             pages &= pages.wrapping_sub(1);
             if held.slabs().owner(page).class() != class {
                 continue;
             }
             self.hints.take_page(page);
-            self.look_at_page(hand, held, page, per_page, &mut dead);
+            self.look_at_page(hand, held, page, per_page, dead);
         }
-        dead
     }
 
     // Follows the hints on a page, which has so many chunks.

@@ -23,6 +23,7 @@ use mc_stripe::Key;
 impl Arena {
     /// Looks a key up once, whose stripe the hand has, and gets a reference to its item. None where the key has no item. Either is
     /// told to the stripe, which has room for a call. A hand that holds 256 chunks is refused. (memcached's `do_item_get`)
+    #[inline(always)]
     pub fn refer(
         &self,
         hand: &mut Hand,

@@ -32,7 +32,8 @@ impl Arena {
         ensures view { view hand.new ≡ with_seen (view hand.old) (view hand.new) }
         ensures alive { list_all (is_found_alive (view hand.new).row.looks) (class_at held.new.shared class).order ≡ true }
     {
-        let mut dead = self.look_over(hand, held, class);
+        let mut dead = DeadChunks::new();
+        self.look_over(hand, held, class, &mut dead);
         self.put_back_dead(hand, held, class, &mut dead);
     }
 

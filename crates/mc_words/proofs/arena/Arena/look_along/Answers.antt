@@ -1,10 +1,10 @@
-use Rattle.std.proofs.Common.{◌≡◌, ◌∙◌, ℕ, ◌<◌, true, List, ap, sym, subst, inl, inr, arith, lt-ltb}
+use Rattle.std.proofs.Common.{◌∙◌, ℕ, List, sym, subst, inl, inr, arith, lt-ltb}
 use Rattle.std.proofs.lemmas.Bool.{and_from, cases_eq}
 use Rattle.mc_classes.specs.Classes.{pages_of}
 use Rattle.mc_pages.specs.declared.ids.ChunkId.{ChunkId}
 use Rattle.mc_pages.proofs.Cuts.{chunk_at}
-use Rattle.mc_core.specs.State.{has_chunk, most_of}
-use Rattle.mc_words.specs.Arenas.{setup_of, view}
+use Rattle.mc_core.specs.State.{most_of}
+use Rattle.mc_words.specs.Arenas.{setup_of}
 use Rattle.mc_words.specs.Dead.{IsJudged}
 use Rattle.mc_words.specs.Sweeping.{SeesHeaders}
 use Rattle.mc_words.proofs.LookedOver.{sees_more}

@@ -1,4 +1,4 @@
-use Rattle.std.proofs.Common.{◌≡◌, ◌∙◌, ℕ, ◌≤◌, ◌++◌, ap, sym, subst}
+use Rattle.std.proofs.Common.{◌∙◌, ℕ, ◌≤◌, ◌++◌, ap, sym, subst}
 use Rattle.mc_pages.specs.SlabState.{SlabState, class_at, class_of_owner}
 use Rattle.mc_core.specs.State.{is_class, most_of}
 use Rattle.mc_words.specs.Arenas.{setup_of}

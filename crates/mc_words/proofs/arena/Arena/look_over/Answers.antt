@@ -1,13 +1,12 @@
-use Rattle.std.proofs.Common.{◌≡◌, ◌∙◌, ℕ, ◌<◌, ◌≤◌, true, List, ◌++◌, ap, sym, subst, inl, inr, arith, ltb-true, nat_lt, Some}
+use Rattle.std.proofs.Common.{◌≡◌, ◌∙◌, ℕ, ◌<◌, ◌≤◌, true, ◌++◌, ap, sym, subst, inl, inr, arith, ltb-true, nat_lt, Some}
 use Rattle.std.specs.Prelude.{Contains}
 use Rattle.std.proofs.lemmas.Bool.{and_parts, cases_eq}
 use Rattle.mc_classes.specs.Classes.{pages_of}
 use Rattle.mc_pages.specs.declared.ids.ChunkId.{ChunkId}
 use Rattle.mc_pages.specs.Accounted.{first_chunks}
-use Rattle.mc_pages.specs.Ledger.{owner_at}
 use Rattle.mc_pages.specs.SlabState.{SlabState, class_at, class_of_owner, class_of_page}
 use Rattle.mc_core.specs.Silent.{is_among}
-use Rattle.mc_core.specs.State.{has_chunk, is_class, most_of}
+use Rattle.mc_core.specs.State.{is_class, most_of}
 use Rattle.mc_words.specs.Arenas.{setup_of}
 use Rattle.mc_words.specs.Dead.{AreHandedOut, IsJudged}
 use Rattle.mc_words.specs.View.{Setup, View}

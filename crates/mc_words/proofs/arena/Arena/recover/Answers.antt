@@ -7,14 +7,14 @@ use Rattle.mc_words.proofs.arena.Arena.recover.Goals as goal
 
 pub returns-clause-recovers : goal.returns-clause-recovers
 returns-clause-recovers c =
-    let (looked, sees) = c.look_at_hints-dead.ensures.sees in
+    let (looked, sees) = c.look_at_hints.ensures.sees in
     let (again, oldest_first, each) = c.put_back_dead.ensures.each in
-    record { looked = looked; seen = c.look_at_hints-dead.new.hand.seat.me.0; sees = sees; again = again; oldest_first = oldest_first; each = each }
+    record { looked = looked; seen = c.look_at_hints.new.hand.seat.me.0; sees = sees; again = again; oldest_first = oldest_first; each = each }
 
 pub returns-clause-view : goal.returns-clause-view
 returns-clause-view c =
-    let (looked, sees) = c.look_at_hints-dead.ensures.sees in
+    let (looked, sees) = c.look_at_hints.ensures.sees in
     let (again, oldest_first, each) = c.put_back_dead.ensures.each in
-    let seen = c.look_at_hints-dead.new.hand.seat.me.0 in
+    let seen = c.look_at_hints.new.hand.seat.me.0 in
     let now = c.put_back_dead.new.hand.seat.me.0 in
     sees_alone again seen c.args.held.now.shared now c.put_back_dead.new.held.shared each ∙ ap (λ (v : View). with_seen v now) (sees_headers_alone looked c.args.hand.now.seat.me.0 seen sees)
