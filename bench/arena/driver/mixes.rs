@@ -47,10 +47,16 @@ impl Keys {
             Keys::Own => numbers.below(ROOM / threads) * threads + thread,
             Keys::OneStripe => numbers.below(ROOM / STRIPES) * STRIPES,
             Keys::One => 0,
-            Keys::Neighbours => numbers.below(ROOM / STRIPES) * STRIPES + thread,
-            Keys::Apart => numbers.below(ROOM / STRIPES) * STRIPES + 16 * thread,
+            Keys::Neighbours => key_of_stripe(numbers, thread, thread),
+            Keys::Apart => key_of_stripe(numbers, thread, 16 * thread),
         }
     }
+}
+
+/// A key of the stripe, out of a fourth of its keys that no other thread has: so the headers of two threads' chunks are far from each other.
+fn key_of_stripe(numbers: &mut Numbers, thread: u64, stripe: u64) -> u64 {
+    let share = ROOM / STRIPES / 4;
+    (thread * share + numbers.below(share)) * STRIPES + stripe
 }
 
 /// One thread's calls, by its own hand: hands beside each other would share a line of the cache.
