@@ -1,0 +1,4 @@
+pub mod Bounds
+pub mod Computed
+pub mod Shares
+pub mod Worst

@@ -1,0 +1,11 @@
+use Rattle.mc_waste.proofs.Shares.{no_63, fifth_of_between, ninth_of_last}
+use Rattle.mc_waste.proofs.laws.five_quarters.Goals as goal
+
+pub returns-clause-few : goal.returns-clause-few
+returns-clause-few c = no_63
+
+pub returns-clause-between : goal.returns-clause-between
+returns-clause-between c = fifth_of_between
+
+pub returns-clause-last : goal.returns-clause-last
+returns-clause-last c = ninth_of_last

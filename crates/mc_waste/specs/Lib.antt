@@ -1,0 +1,3 @@
+pub mod Waste
+pub mod Tables
+pub mod Cases

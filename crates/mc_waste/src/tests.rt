@@ -1,0 +1,76 @@
+//! The classes and their worst waste of two tables that are built.
+use crate::worst_waste;
+use mc_classes::{ClassTable, Config};
+use std::alloc::Global;
+use std::process::Abort;
+use std::test::Fail;
+
+/// The program's defaults.
+const DEFAULTS: Config = Config {
+    page: 1024,
+    limit: 4096,
+    first: 48,
+    num: 2,
+    den: 1,
+    max: 512,
+    stripes: 4,
+    bulk: 64,
+};
+
+/// The same with a factor of 5/4.
+const FINER: Config = Config {
+    num: 5,
+    den: 4,
+    ..DEFAULTS
+};
+
+/// The table has these classes, each with its size and the most that an item leaves of it.
+fn assert_classes(
+    rt: &impl Abort,
+    alloc: Global,
+    config: &Config,
+    wanted: &[(u64, u64)],
+) -> Result<(), Fail> {
+    let table = ClassTable::build(alloc, config)?;
+    assert!(rt;
+        table.count() == wanted.len() as u64,
+        "there are more classes, or fewer"
+    );
+    for (place, (size, waste)) in wanted.iter().enumerate() {
+        let class = place as u64 + 1;
+        assert!(rt; class <= table.count(), "there are fewer classes");
+        assert!(rt; table.size(class) == *size, "a class has another size");
+        assert!(rt;
+            worst_waste(&table, class) == Some(*waste),
+            "an item leaves more, or less"
+        );
+    }
+    Ok(())
+}
+
+#[test]
+fn defaults(rt: HostRuntime) -> Result<(), Fail> {
+    assert_classes(
+        &rt,
+        rt.alloc(),
+        &DEFAULTS,
+        &[(48, 24), (96, 40), (192, 88), (512, 312)],
+    )
+}
+
+#[test]
+fn five_quarters(rt: HostRuntime) -> Result<(), Fail> {
+    let wanted = [
+        (48, 24),
+        (64, 8),
+        (80, 8),
+        (104, 16),
+        (136, 24),
+        (176, 32),
+        (224, 40),
+        (280, 48),
+        (352, 64),
+        (512, 152),
+    ];
+    assert_classes(&rt, rt.alloc(), &FINER, &wanted)
+}
