@@ -23,9 +23,10 @@ pub fn waste_is_a_share()
     ensures last { (config : Config) (table : Classes) (words class : ℕ) → GoesTo config table words class → 1 < class → class < 63 → size_of table class * config.den * config.den < item_bytes words * config.num * config.num }
 {}
 
-/// With a factor of 5/4 there are never 63 classes, and an item that is too large for the first class leaves less than 20
-/// of each 100 bytes of its chunk unused, or, in the last class, less than 36.
+/// With a factor of 5/4 there are never 63 classes. An item in the first class leaves at most what the first size has over
+/// 24 bytes; a larger one less than 20 of each 100 bytes of its chunk unused, or, in the last class, less than 36.
 pub fn five_quarters()
+    ensures first { (config : Config) (table : Classes) (words : ℕ) → GoesTo config table words 1 → size_of table 1 - item_bytes words ≤ first_size config - 24 }
     ensures few { (config : Config) (table : Classes) → refusal_of config ≡ None → IsTableOf config table → config.num * 4 ≡ config.den * 5 → length table.sizes < 63 }
     ensures between { (config : Config) (table : Classes) (words class : ℕ) → GoesTo config table words class → config.num * 4 ≡ config.den * 5 → 1 < class → class < length table.sizes → WastesLessThan 20 (item_bytes words) (size_of table class) }
     ensures last { (config : Config) (table : Classes) (words class : ℕ) → GoesTo config table words class → config.num * 4 ≡ config.den * 5 → 1 < class → WastesLessThan 36 (item_bytes words) (size_of table class) }

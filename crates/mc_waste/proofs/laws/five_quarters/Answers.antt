@@ -1,5 +1,9 @@
-use Rattle.mc_waste.proofs.Shares.{no_63, fifth_of_between, ninth_of_last}
+use Rattle.std.proofs.Common.{arith}
+use Rattle.mc_waste.proofs.Shares.{first_of_item, no_63, fifth_of_between, ninth_of_last}
 use Rattle.mc_waste.proofs.laws.five_quarters.Goals as goal
+
+pub returns-clause-first : goal.returns-clause-first
+returns-clause-first c = λ config table words h. omega (arith, first_of_item config table words h)
 
 pub returns-clause-few : goal.returns-clause-few
 returns-clause-few c = no_63
