@@ -1,20 +1,38 @@
 -- Each call keeps that the history is legal and makes the index.
-use Rattle.std.proofs.Common.{◌≡◌, ◌≢◌, ℕ, nat_eq, true, cond, List, [], ◌∷◌, ◌++◌, is_some, is_none, IfSome, IsSome, Option, Some, None, refl, sym, ap, ◌∙◌}
+use Rattle.std.proofs.Common.{◌≡◌, ◌≢◌, ◌≤◌, ℕ, nat_eq, true, cond, List, [], ◌∷◌, ◌++◌, is_some, is_none, IfSome, IsSome, Option, Some, None, refl, sym, ap, ◌∙◌, arith, length}
+use Rattle.std.proofs.lemmas.List.{length-append}
 use Rattle.std.specs.Option.{option_map, option_map_or, option_eq}
 use Rattle.mc_pages.specs.declared.ids.ChunkId.{ChunkId}
 use Rattle.mc_stripe.specs.declared.history.Call.{Call}
 use Rattle.mc_stripe.specs.declared.history.Call.TheVariants.{Set, Get, Delete, Evict, Rescue}
 use Rattle.mc_stripe.specs.Entries.{entry_at, with_entry, without_entry, AreRising}
 use Rattle.mc_stripe.specs.History.{Stamps, fits, stamps_after, replay}
+use Rattle.mc_stripe.specs.Recorded.{count_trimmed, recorded_behind}
 use Rattle.mc_stripe.specs.StripeState.{Index, StripeState, new_stripe, key_aside, place_of, stamp_of, with_aside, stamps_in, stamps_of}
-use Rattle.mc_stripe.specs.Changes.{after_link, after_unlink, after_got, after_evict, after_lift, after_rescue, stamp_aside}
+use Rattle.mc_stripe.specs.Changes.{after_link, after_unlink, after_got, after_evict, after_lift, after_rescue, after_trim, after_forget, stamp_aside}
 use Rattle.mc_stripe.specs.Legal.{IsLegal}
 use Rattle.mc_stripe.proofs.Entries.{by_equal, nat_eq_same, nat_eq_other, at_with_entry, at_without_entry, rising_with_entry, rising_without_entry}
 use Rattle.mc_stripe.proofs.Stamps.{Place, stamps-with_entry, stamps-without_entry, stamp_at, with_entry_twice, with_entry_again, with_entry_without}
 use Rattle.mc_stripe.proofs.Histories.{replay-push}
 
 pub IsLegal-new : IsLegal new_stripe.state
-IsLegal-new = record { rising = tt; apart = λ entry is. absurd cc; replayed = refl }
+IsLegal-new = record { rising = tt; apart = λ entry is. absurd cc; replayed = refl; trimmed = omega arith }
+
+-- one more call, of which no more are trimmed
+trimmed-told : (history : List Call) (call : Call) (from : Option ℕ) → count_trimmed history from ≤ length history → count_trimmed (history ++ call ∷ []) from ≤ length (history ++ call ∷ [])
+trimmed-told history call None none = omega arith
+trimmed-told history call (Some from) few = omega (arith, few, length-append history (call ∷ []))
+
+-- all that there were are trimmed, if any are recorded
+all_trimmed : (history : List Call) (from : Option ℕ) → count_trimmed history (recorded_behind from (length history)) ≤ length history
+all_trimmed history None = omega arith
+all_trimmed history (Some from) = omega arith
+
+pub IsLegal-after_trim : (stripe : StripeState) → IsLegal stripe → IsLegal (after_trim stripe)
+IsLegal-after_trim stripe legal = record { rising = legal.rising; apart = legal.apart; replayed = legal.replayed; trimmed = all_trimmed stripe.history stripe.recorded_from }
+
+pub IsLegal-after_forget : (stripe : StripeState) → IsLegal stripe → IsLegal (after_forget stripe)
+IsLegal-after_forget stripe legal = record { rising = legal.rising; apart = legal.apart; replayed = legal.replayed; trimmed = omega arith }
 
 -- one more call, whose reply is right
 replayed-told : (start stamps after : Stamps) (history : List Call) (call : Call) → replay start history ≡ Some stamps → fits call stamps ≡ true → stamps_after call stamps ≡ after → replay start (history ++ call ∷ []) ≡ Some after
@@ -57,6 +75,7 @@ IsLegal-after_link stripe hand key chunk stamp legal same = record {
   rising = rising_with_entry stripe.index key (chunk, stamp) legal.rising;
   apart = λ entry is. absurd cc;
   replayed = replayed-told [] (stamps_of stripe) _ stripe.history (Set hand key stamp) legal.replayed refl (stamps_with stripe.index stripe.aside key (chunk, stamp) legal.rising same);
+  trimmed = trimmed-told stripe.history _ stripe.recorded_from legal.trimmed;
 }
 
 -- the key aside isn't in what is left of the index
@@ -74,6 +93,7 @@ IsLegal-after_unlink stripe hand key legal apart =
       rising = rising_without_entry stripe.index key legal.rising;
       apart = apart_without stripe key legal;
       replayed = replayed-told [] (stamps_of stripe) _ stripe.history call legal.replayed fit (stamps_without stripe.index stripe.aside key legal.rising apart);
+      trimmed = trimmed-told stripe.history _ stripe.recorded_from legal.trimmed;
     }
 
 pub IsLegal-after_got : (stripe : StripeState) (hand key : ℕ) → IsLegal stripe → IfSome (key_aside stripe) (λ other. other ≢ key) → IsLegal (after_got stripe hand key)
@@ -84,6 +104,7 @@ IsLegal-after_got stripe hand key legal apart =
       rising = legal.rising;
       apart = legal.apart;
       replayed = replayed-told [] (stamps_of stripe) _ stripe.history call legal.replayed fit refl;
+      trimmed = trimmed-told stripe.history _ stripe.recorded_from legal.trimmed;
     }
 
 -- what is there isn't missing
@@ -104,6 +125,7 @@ IsLegal-after_evict stripe hand key legal there =
       rising = rising_without_entry stripe.index key legal.rising;
       apart = apart_without stripe key legal;
       replayed = replayed-told [] (stamps_of stripe) _ stripe.history (Evict hand key) legal.replayed fit (stamps_without stripe.index stripe.aside key legal.rising apart);
+      trimmed = trimmed-told stripe.history _ stripe.recorded_from legal.trimmed;
     }
 
 -- an entry that was lifted counts in as before
@@ -122,6 +144,7 @@ IsLegal-after_lift stripe key legal there none =
       rising = rising_without_entry stripe.index key legal.rising;
       apart = λ entry is. at_without_entry stripe.index key entry.0 legal.rising ∙ rw (nat_eq_same entry.0 key (lifted_key key entry (place_of stripe key) is)) refl;
       replayed = legal.replayed ∙ ap (λ (index : Index). Some (stamps_in index)) (ap (with_aside stripe.index) none ∙ sym (lifted_counts stripe.index key (place_of stripe key) legal.rising refl there));
+      trimmed = legal.trimmed;
     }
 
 -- the stamps with the entry aside in another chunk
@@ -145,4 +168,5 @@ IsLegal-after_rescue stripe hand key chunk legal is = record {
   rising = rising_with_entry stripe.index key (chunk, stamp_aside stripe) legal.rising;
   apart = λ entry none. absurd cc;
   replayed = replayed-told [] (stamps_of stripe) _ stripe.history (Rescue hand key) legal.replayed (aside_has_stamp stripe.index stripe.aside key is) (stamps_rescued stripe.index stripe.aside key chunk is);
+  trimmed = trimmed-told stripe.history _ stripe.recorded_from legal.trimmed;
 }

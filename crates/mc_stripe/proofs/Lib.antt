@@ -4,4 +4,6 @@ pub mod Histories
 pub mod Sequential
 pub mod Stamps
 pub mod Kept
+pub mod Copies
 pub mod Fields
+pub mod Tails

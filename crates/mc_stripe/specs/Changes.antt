@@ -1,10 +1,11 @@
 -- What each call changes.
-use Rattle.std.specs.Prelude.{ℕ, false, [], ◌∷◌, ◌++◌, is_some, None}
+use Rattle.std.specs.Prelude.{ℕ, false, [], ◌∷◌, ◌++◌, length, is_some, None}
 use Rattle.std.specs.Option.{option_map, option_map_or}
 use Rattle.mc_pages.specs.declared.ids.ChunkId.{ChunkId}
 use Rattle.mc_stripe.specs.declared.history.Call.{Call}
 use Rattle.mc_stripe.specs.declared.history.Call.TheVariants.{Set, Get, Delete, Evict, Rescue}
 use Rattle.mc_stripe.specs.Entries.{with_entry, without_entry}
+use Rattle.mc_stripe.specs.Recorded.{recorded_behind}
 use Rattle.mc_stripe.specs.StripeState.{StripeState, ReadyStripe, place_of, stamp_of}
 
 -- the call comes last in the history
@@ -46,6 +47,14 @@ stamp_aside stripe = option_map_or (λ entry. entry.1.1) stripe.aside 0
 -- the entry aside comes back, with another chunk and the same stamp
 abbrev pub after_rescue : StripeState → ℕ → ℕ → ChunkId → StripeState
 after_rescue stripe hand key chunk = told (with_place stripe key (chunk, stamp_aside stripe)) (Rescue hand key)
+
+-- the calls so far aren't recorded any more
+abbrev pub after_trim : StripeState → StripeState
+after_trim stripe = record stripe { recorded_from = recorded_behind stripe.recorded_from (length stripe.history) }
+
+-- no call is recorded from now on, and none of those so far
+abbrev pub after_forget : StripeState → StripeState
+after_forget stripe = record stripe { recorded_from = None }
 
 -- the stripe is now this, and the room is used up
 abbrev pub used_up : StripeState → ReadyStripe

@@ -1,14 +1,35 @@
 -- A stripe in memory, and what it keeps.
-use Rattle.std.specs.Prelude.{◌≡◌, ◌<◌, true, vec_len, vec_capacity}
+use Rattle.std.specs.Prelude.{◌≡◌, ◌<◌, ◌^◌, ◌-◌, ◌++◌, [], length, min, true, false, if◌then◌else◌, Some, None, vec_len, vec_capacity}
 use Rattle.std.specs.HashMap.{spare}
+use Rattle.mc_stripe.specs.declared.recorded.Recorded.TheInside.{Inside as RecordedInside}
 use Rattle.mc_stripe.specs.declared.stripe.Stripe.TheInside.{Inside}
 use Rattle.mc_stripe.specs.Entries.{by_key}
+use Rattle.mc_stripe.specs.History.{replay}
+use Rattle.mc_stripe.specs.Recorded.{Calls, CanTell}
 use Rattle.mc_stripe.specs.StripeState.{StripeState, ReadyStripe}
 use Rattle.mc_stripe.specs.Legal.{IsLegal}
 
+-- all calls, in memory or not
+abbrev pub calls_of : RecordedInside → Calls
+calls_of calls = record {
+  all = calls.past.calls ++ calls.tail.items;
+  recorded_from = if calls.is_recorded then Some (length calls.past.calls) else None;
+  room = vec_capacity calls.tail - vec_len calls.tail;
+}
+
+pub record IsRecorded (calls : RecordedInside) : Type 0 where
+  -- so many calls aren't in memory, as far as 64 bits can tell
+  pub trimmed : calls.trimmed ≡ min (length calls.past.calls) (2 ^ 64 - 1)
+  -- and they can, where calls are recorded
+  pub fits : calls.is_recorded ≡ true → length calls.past.calls < 2 ^ 64
+  -- the base is what these left
+  pub base : calls.is_recorded ≡ true → replay [] calls.past.calls ≡ Some (by_key calls.base.items)
+  -- no call is in memory where none is recorded
+  pub none : calls.is_recorded ≡ false → calls.tail.items ≡ []
+
 -- the stripe as its callers see it: the index by rising key, in whatever order the table has it
 abbrev pub state_of : Inside → StripeState
-state_of stripe = record { index = by_key stripe.index.entries; aside = stripe.aside; history = stripe.history.items }
+state_of stripe = record { index = by_key stripe.index.entries; aside = stripe.aside; history = stripe.calls.all; recorded_from = stripe.calls.recorded_from }
 
 -- the stripe and its room
 abbrev pub ready_of : Inside → ReadyStripe
@@ -18,4 +39,4 @@ pub record IsInOrder (stripe : Inside) : Type 0 where
   pub legal : IsLegal (state_of stripe)
   -- there is room where it says so
   pub entry : stripe.ready ≡ true → 0 < spare stripe.index
-  pub call : stripe.ready ≡ true → vec_len stripe.history < vec_capacity stripe.history
+  pub call : stripe.ready ≡ true → CanTell stripe.calls

@@ -1,9 +1,9 @@
 -- What is so after every call: the history is legal, and makes the index.
-use Rattle.std.specs.Prelude.{◌≡◌, ℕ, [], Some, None}
+use Rattle.std.specs.Prelude.{◌≡◌, ◌≤◌, ℕ, [], length, Some, None}
 use Rattle.mc_pages.specs.declared.ids.ChunkId.{ChunkId}
 use Rattle.mc_stripe.specs.Entries.{AreRising}
 use Rattle.mc_stripe.specs.History.{replay}
-use Rattle.mc_stripe.specs.StripeState.{StripeState, place_of, stamps_of}
+use Rattle.mc_stripe.specs.StripeState.{StripeState, place_of, stamps_of, trimmed_of}
 
 pub record IsLegal (stripe : StripeState) : Type 0 where
   -- the index is in its one form
@@ -12,3 +12,5 @@ pub record IsLegal (stripe : StripeState) : Type 0 where
   pub apart : (entry : ℕ × (ChunkId × ℕ)) → stripe.aside ≡ Some entry → place_of stripe entry.0 ≡ None
   -- each reply of the history is right, and what all calls leave are the stamps of the keys
   pub replayed : replay [] stripe.history ≡ Some (stamps_of stripe)
+  -- no more calls are trimmed than there were
+  pub trimmed : trimmed_of stripe ≤ length stripe.history

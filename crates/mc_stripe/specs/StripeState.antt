@@ -5,6 +5,7 @@ use Rattle.mc_pages.specs.declared.ids.ChunkId.{ChunkId}
 use Rattle.mc_stripe.specs.declared.history.Call.{Call}
 use Rattle.mc_stripe.specs.Entries.{entry_at, with_entry}
 use Rattle.mc_stripe.specs.History.{Stamps}
+use Rattle.mc_stripe.specs.Recorded.{count_trimmed, left_by_trimmed, recorded}
 
 -- the keys, each with the chunk and the stamp of its item, by rising key
 abbrev pub Index : Type 0
@@ -14,8 +15,10 @@ pub record StripeState : Type 0 where
   pub index : Index
   -- an entry that was lifted out of the index, until its key comes back
   pub aside : Option (ℕ × (ChunkId × ℕ))
-  -- the oldest call first
+  -- all calls, the oldest first
   pub history : List Call
+  -- the place of the first call that is recorded, none where no call is
+  pub recorded_from : Option ℕ
 
 -- the stripe, and whether there is room for one more entry of the index and one more call
 pub record ReadyStripe : Type 0 where
@@ -24,7 +27,7 @@ pub record ReadyStripe : Type 0 where
 
 -- no key was ever stored, and no room was made
 abbrev pub new_stripe : ReadyStripe
-new_stripe = record { state = record { index = []; aside = None; history = [] }; ready = false }
+new_stripe = record { state = record { index = []; aside = None; history = []; recorded_from = Some 0 }; ready = false }
 
 -- the key whose entry is aside
 abbrev pub key_aside : StripeState → Option ℕ
@@ -50,3 +53,15 @@ stamps_in index = map (λ entry. (entry.0, entry.1.1)) index
 -- the stamps of all keys, the one aside counted in
 abbrev pub stamps_of : StripeState → Stamps
 stamps_of stripe = stamps_in (with_aside stripe.index stripe.aside)
+
+-- how many calls aren't recorded
+abbrev pub trimmed_of : StripeState → ℕ
+trimmed_of stripe = count_trimmed stripe.history stripe.recorded_from
+
+-- the calls that are recorded
+abbrev pub tail_of : StripeState → List Call
+tail_of stripe = recorded stripe.history stripe.recorded_from
+
+-- the stamps of the keys as the others left them
+abbrev pub base_of : StripeState → Stamps
+base_of stripe = left_by_trimmed stripe.history stripe.recorded_from

@@ -1,5 +1,4 @@
 //! The entries of a stripe's history.
-ghost use Rattle.std.specs.Prelude.{◌≡◌, ◌<◌, [], ◌∷◌, ◌++◌, vec_len, vec_capacity};
 
 /// The key of an item.
 pub type Key = u64;
@@ -23,12 +22,4 @@ pub enum Call {
     Evict(HandId, Key),
     /// The key's item was copied into another chunk.
     Rescue(HandId, Key),
-}
-
-/// Writes a call behind the others. There is room for it.
-pub(crate) fn tell(history: &mut Vec<Call>, call: Call)
-    requires { vec_len history.old < vec_capacity history.old }
-    ensures { history.new.items ≡ history.old.items ++ call ∷ [] }
-{
-    history.push(call).unwrap();
 }

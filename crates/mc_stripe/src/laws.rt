@@ -1,10 +1,13 @@
 //! Laws of the definitions, each the contract of a function with nothing to do.
-ghost use Rattle.std.specs.Prelude.{◌≡◌, ℕ, true, false, List, [], ◌∷◌, Some, None};
+ghost use Rattle.std.specs.Prelude.{◌≡◌, ◌≤◌, ℕ, Bool, true, false, List, [], ◌∷◌, ◌++◌, length, take, drop, filter, Some, None};
 ghost use Rattle.mc_stripe.specs.declared.history.Call.{Call};
 ghost use Rattle.mc_stripe.specs.declared.history.Call.TheVariants.{Set, Get, Delete, Evict, Rescue};
 ghost use Rattle.mc_stripe.specs.Entries.{entry_at};
 ghost use Rattle.mc_stripe.specs.History.{Stamps, replay};
+ghost use Rattle.mc_stripe.specs.Recorded.{left_by_trimmed, recorded, recorded_behind};
 ghost use Rattle.mc_stripe.specs.Sequential.{StampMap, Leads, no_stamps};
+ghost use Rattle.mc_stripe.specs.StripeState.{StripeState, base_of, stamps_of, tail_of, trimmed_of};
+ghost use Rattle.mc_stripe.specs.Legal.{IsLegal};
 
 /// A legal history leaves one map from keys to stamps.
 pub fn one_replay()
@@ -28,4 +31,23 @@ pub fn worked_histories()
     ensures rescued { replay [] (Set 0 5 1 ∷ Rescue 1 5 ∷ Get 0 5 (Some 1) ∷ []) ≡ Some ((5, 1) ∷ []) }
     ensures evicted { replay [] (Set 0 5 1 ∷ Set 0 6 2 ∷ Evict 1 5 ∷ []) ≡ Some ((6, 2) ∷ []) }
     ensures evicted_and_rescued { replay [] (Set 0 5 1 ∷ Evict 1 5 ∷ Rescue 1 5 ∷ []) ≡ None }
+{}
+
+/// What is recorded goes on from what the other calls left. Of the calls that pass a test, those that are recorded come behind the others.
+/// And a beginning of the history that is as long as what was trimmed, or longer, ends among what is recorded.
+pub fn records_go_on()
+    ensures replayed { (stripe : StripeState) → IsLegal stripe → replay (base_of stripe) (tail_of stripe) ≡ Some (stamps_of stripe) }
+    ensures chosen { (stripe : StripeState) (test : Call → Bool) → filter test stripe.history ≡ filter test (take (trimmed_of stripe) stripe.history) ++ filter test (tail_of stripe) }
+    ensures seen { (stripe : StripeState) (seen more : List Call) → stripe.history ≡ seen ++ more → trimmed_of stripe ≤ length seen → tail_of stripe ≡ drop (trimmed_of stripe) seen ++ more }
+{}
+
+/// What some histories record from a place on, and what the calls before it left.
+pub fn worked_records()
+    ensures from_the_third { recorded (Set 1 5 10 ∷ Set 2 5 11 ∷ Get 1 5 (Some 11) ∷ []) (Some 2) ≡ Get 1 5 (Some 11) ∷ [] }
+    ensures the_first_left { left_by_trimmed (Set 1 5 10 ∷ Set 2 5 11 ∷ Get 1 5 (Some 11) ∷ []) (Some 1) ≡ (5, 10) ∷ [] }
+    ensures from_the_first { left_by_trimmed (Set 1 5 10 ∷ Set 2 5 11 ∷ []) (Some 0) ≡ [] }
+    ensures none_is_recorded { recorded (Set 1 5 10 ∷ Set 2 5 11 ∷ []) None ≡ [] }
+    ensures all_left { left_by_trimmed (Set 0 9 1 ∷ Set 0 3 2 ∷ []) None ≡ (3, 2) ∷ (9, 1) ∷ [] }
+    ensures trimmed_again { recorded_behind (Some 1) 3 ≡ Some 3 }
+    ensures none_was_recorded { recorded_behind None 3 ≡ None }
 {}

@@ -9,10 +9,12 @@
 mod history;
 mod index;
 mod laws;
+mod past;
+mod recorded;
 mod refusal;
 mod stripe;
 
 pub use history::{Call, HandId, Key, Stamp};
-pub use laws::{one_replay, replay_is_exact, worked_histories};
-pub use refusal::NoMemory;
+pub use laws::{one_replay, records_go_on, replay_is_exact, worked_histories, worked_records};
+pub use refusal::{NoMemory, Trim};
 pub use stripe::Stripe;

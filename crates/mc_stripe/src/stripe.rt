@@ -1,16 +1,16 @@
 //! The sequential value behind a stripe's lock.
-ghost use Rattle.std.specs.Prelude.{◌≡◌, ◌≢◌, true, None, Some, OnOk, OnErr, IsOk, IsSome, IfSome};
+ghost use Rattle.std.specs.Prelude.{◌≡◌, ◌≢◌, ◌≤◌, ◌^◌, true, length, is_some, None, Some, Err, OnOk, OnErr, IsOk, IsSome, IfSome};
 ghost use Rattle.mc_stripe.specs.StripeState.{new_stripe, key_aside, place_of};
-ghost use Rattle.mc_stripe.specs.Changes.{after_link, after_unlink, after_got, after_evict, after_lift, after_rescue, used_up};
+ghost use Rattle.mc_stripe.specs.Changes.{after_link, after_unlink, after_got, after_evict, after_lift, after_rescue, after_trim, after_forget, used_up};
 ghost use Rattle.mc_stripe.specs.Legal.{IsLegal};
 
 mod looks;
 
 use crate::history::{Call, HandId, Key, Stamp};
+use crate::index;
 use crate::index::Index;
-use crate::refusal::NoMemory;
-use crate::{history, index};
-use mc_memory::reserve;
+use crate::recorded::Recorded;
+use crate::refusal::{NoMemory, Trim};
 use mc_pages::ChunkId;
 use std::alloc::Global;
 use std::collections::HashMap;
@@ -24,7 +24,7 @@ pub struct Stripe {
     index: Index,
     /// An entry that was lifted out of the index, until its key comes back.
     aside: Option<(Key, (ChunkId, Stamp))>,
-    history: Vec<Call>,
+    calls: Recorded,
     /// There is room for one more entry of the index and one more call.
     ready: bool,
 }
@@ -50,7 +50,7 @@ impl Stripe {
         Stripe {
             index: HashMap::new(alloc),
             aside: None,
-            history: Vec::new(alloc),
+            calls: Recorded::new(alloc),
             ready: false,
         }
     }
@@ -63,7 +63,7 @@ impl Stripe {
         ensures legal { IsLegal self.new.state }
     {
         index::reserve_one(&mut self.index)?;
-        reserve(&mut self.history, 1)?;
+        self.calls.reserve()?;
         self.ready = true;
         Ok(())
     }
@@ -78,8 +78,31 @@ impl Stripe {
     {
         self.aside = None;
         index::put(&mut self.index, key, (chunk, stamp));
-        history::tell(&mut self.history, Call::Set(hand, key, stamp));
+        self.calls.tell(Call::Set(hand, key, stamp));
         self.ready = false;
+    }
+
+    /// The calls so far aren't recorded any more, and what they left is copied: each key's stamp, also that of the entry aside. That costs
+    /// as much as the index has keys. Where no call is recorded, nothing changes. (own)
+    ///
+    /// `Full` where the next call's place would pass the greatest number of 64 bits, which is tested first, and `NoMemory` where the room for the
+    /// copy was refused: all is as before.
+    pub fn trim(&mut self) -> Result<(), Trim>
+        ensures trimmed { OnOk result (self.new ≡ record self.old { state = after_trim self.old.state }) }
+        ensures refused { OnErr result (self.new ≡ self.old) }
+        ensures full { result ≡ Err Trim.Full → (is_some self.old.state.recorded_from ≡ true) × (2 ^ 64 ≤ length self.old.state.history) }
+        ensures first { is_some self.old.state.recorded_from ≡ true → 2 ^ 64 ≤ length self.old.state.history → result ≡ Err Trim.Full }
+        ensures legal { IsLegal self.new.state }
+    {
+        self.calls.trim(&self.index, self.aside)
+    }
+
+    /// No call is recorded from now on, and none of those so far. A call that is told then needs no room but that of its index entry. (own)
+    pub fn forget(&mut self)
+        ensures forgets { self.new ≡ record self.old { state = after_forget self.old.state } }
+        ensures legal { IsLegal self.new.state }
+    {
+        self.calls.forget();
     }
 
     /// The key is deleted, if it is there. (items.c's `do_item_unlink`)
@@ -90,7 +113,7 @@ impl Stripe {
         ensures legal { IsLegal self.new.state }
     {
         let was_there = index::take(&mut self.index, key).is_some();
-        history::tell(&mut self.history, Call::Delete(hand, key, was_there));
+        self.calls.tell(Call::Delete(hand, key, was_there));
         self.ready = false;
     }
 
@@ -103,7 +126,7 @@ impl Stripe {
         ensures legal { IsLegal self.new.state }
     {
         let stamp = index::stamp_of(found);
-        history::tell(&mut self.history, Call::Get(hand, key, stamp));
+        self.calls.tell(Call::Get(hand, key, stamp));
         self.ready = false;
     }
 
@@ -115,7 +138,7 @@ impl Stripe {
         ensures legal { IsLegal self.new.state }
     {
         index::take(&mut self.index, key);
-        history::tell(&mut self.history, Call::Evict(hand, key));
+        self.calls.tell(Call::Evict(hand, key));
         self.ready = false;
     }
 
@@ -139,7 +162,7 @@ impl Stripe {
         if let Some((_, (_, stamp))) = self.aside {
             self.aside = None;
             index::put(&mut self.index, key, (chunk, stamp));
-            history::tell(&mut self.history, Call::Rescue(hand, key));
+            self.calls.tell(Call::Rescue(hand, key));
             self.ready = false;
         }
     }

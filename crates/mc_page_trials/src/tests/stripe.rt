@@ -2,6 +2,7 @@
 ghost use Rattle.std.specs.Prelude.{◌≡◌, false, IfSome};
 
 mod plain;
+mod trims;
 
 use super::{assert_equal, assert_same};
 use mc_pages::ChunkId;

@@ -1,6 +1,7 @@
 //! What a stripe tells of itself.
-ghost use Rattle.std.specs.Prelude.{◌≡◌};
-ghost use Rattle.mc_stripe.specs.StripeState.{key_aside, place_of};
+ghost use Rattle.std.specs.Prelude.{◌≡◌, ◌^◌, ◌-◌, min, IfSome, is_some};
+ghost use Rattle.mc_stripe.specs.Entries.{by_key};
+ghost use Rattle.mc_stripe.specs.StripeState.{base_of, key_aside, place_of, tail_of, trimmed_of};
 ghost use Rattle.mc_stripe.specs.Legal.{IsLegal};
 
 use super::Stripe;
@@ -37,11 +38,27 @@ impl Stripe {
         self.aside
     }
 
-    /// All calls, the oldest first.
+    /// The calls that are recorded, the oldest first: all behind those that were trimmed.
     pub fn history(&self) -> &[Call]
-        ensures history { result.now ≡ self.now.state.history }
+        ensures history { result.now ≡ tail_of self.now.state }
         ensures legal { IsLegal self.now.state }
     {
-        self.history.as_slice()
+        self.calls.tail()
+    }
+
+    /// How many calls aren't recorded, so that the first one that is has this place among all. The greatest number where they are more, which
+    /// can be only where no call is recorded.
+    pub fn trimmed(&self) -> u64
+        ensures trimmed { result ≡ min (trimmed_of self.now.state) (2 ^ 64 - 1) }
+    {
+        self.calls.trimmed()
+    }
+
+    /// Each key's stamp, in no order, as the calls left them that aren't recorded any more. None where no call is recorded: then it is the index.
+    pub fn base(&self) -> Option<&[(Key, Stamp)]>
+        ensures base { IfSome result (λ base. by_key base.now ≡ base_of self.now.state) }
+        ensures some { is_some result ≡ is_some self.now.state.recorded_from }
+    {
+        self.calls.base()
     }
 }

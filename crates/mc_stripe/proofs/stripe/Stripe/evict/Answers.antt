@@ -11,7 +11,7 @@ invariant_of-self c =
     let stripe = state_of c.self.inside in
     let there = subst (λ (s : ReadyStripe). IsSome (place_of s.state c.args.key)) (sym c.self.view_is) c.requires.there in
     record {
-      legal = IsLegal-fields (after_evict stripe c.args.hand c.args.key) _ _ _ c.take.ensures.entries refl c.tell.ensures (IsLegal-after_evict stripe c.args.hand c.args.key c.self.invariant.legal there);
+      legal = IsLegal-fields (after_evict stripe c.args.hand c.args.key) _ _ _ _ c.take.ensures.entries refl c.tell.ensures.all c.tell.ensures.from (IsLegal-after_evict stripe c.args.hand c.args.key c.self.invariant.legal there);
       entry = λ is. absurd cc;
       call = λ is. absurd cc;
     }

@@ -14,9 +14,9 @@ invariant_of-self c =
     let apart = subst (λ (s : ReadyStripe). IfSome (key_aside s.state) (λ other. other ≢ c.args.key)) (sym c.self.view_is) c.requires.aside in
     let found = subst (λ (s : ReadyStripe). c.args.found ≡ place_of s.state c.args.key) (sym c.self.view_is) c.requires.found in
     let stamp = c.stamp_of-stamp.ensures ∙ ap (option_map (λ place. place.1)) found in
-    let told = ends_by stripe.history _ _ _ c.tell.ensures (ap (Get c.args.hand c.args.key) stamp) in
+    let told = ends_by stripe.history _ _ _ c.tell.ensures.all (ap (Get c.args.hand c.args.key) stamp) in
     record {
-      legal = IsLegal-fields (after_got stripe c.args.hand c.args.key) _ _ _ refl refl told (IsLegal-after_got stripe c.args.hand c.args.key c.self.invariant.legal apart);
+      legal = IsLegal-fields (after_got stripe c.args.hand c.args.key) _ _ _ _ refl refl told c.tell.ensures.from (IsLegal-after_got stripe c.args.hand c.args.key c.self.invariant.legal apart);
       entry = λ is. absurd cc;
       call = λ is. absurd cc;
     }

@@ -12,7 +12,7 @@ invariant_of-self c =
     let there = subst (λ (s : ReadyStripe). IsSome (place_of s.state c.args.key)) (sym c.self.view_is) c.requires.there in
     let none = subst (λ (s : ReadyStripe). s.state.aside ≡ None) (sym c.self.view_is) c.requires.none in
     record {
-      legal = IsLegal-fields (after_lift stripe c.args.key) _ _ _ c.take_entry-self-inside.ensures.entries c.take_entry-self-inside.ensures.entry refl (IsLegal-after_lift stripe c.args.key c.self.invariant.legal there none);
+      legal = IsLegal-fields (after_lift stripe c.args.key) _ _ _ _ c.take_entry-self-inside.ensures.entries c.take_entry-self-inside.ensures.entry refl refl (IsLegal-after_lift stripe c.args.key c.self.invariant.legal there none);
       entry = λ is. omega (arith, c.self.invariant.entry is);
       call = c.self.invariant.call;
     }

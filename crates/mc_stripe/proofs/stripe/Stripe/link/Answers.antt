@@ -11,7 +11,7 @@ invariant_of-self c =
     let stripe = state_of c.self.inside in
     let same = subst (λ (s : ReadyStripe). IfSome (key_aside s.state) (λ other. other ≡ c.args.key)) (sym c.self.view_is) c.requires.aside in
     record {
-      legal = IsLegal-fields (after_link stripe c.args.hand c.args.key c.args.chunk c.args.stamp) _ _ _ c.put.ensures refl c.tell.ensures (IsLegal-after_link stripe c.args.hand c.args.key c.args.chunk c.args.stamp c.self.invariant.legal same);
+      legal = IsLegal-fields (after_link stripe c.args.hand c.args.key c.args.chunk c.args.stamp) _ _ _ _ c.put.ensures refl c.tell.ensures.all c.tell.ensures.from (IsLegal-after_link stripe c.args.hand c.args.key c.args.chunk c.args.stamp c.self.invariant.legal same);
       entry = λ is. absurd cc;
       call = λ is. absurd cc;
     }

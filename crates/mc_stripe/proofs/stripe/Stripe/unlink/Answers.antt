@@ -12,9 +12,9 @@ invariant_of-self c =
     let stripe = state_of c.self.inside in
     let apart = subst (λ (s : ReadyStripe). IfSome (key_aside s.state) (λ other. other ≢ c.args.key)) (sym c.self.view_is) c.requires.aside in
     let was_there = c.is_some-was_there.ensures ∙ ap is_some c.take.ensures.place in
-    let told = ends_by stripe.history _ _ _ c.tell.ensures (ap (Delete c.args.hand c.args.key) was_there) in
+    let told = ends_by stripe.history _ _ _ c.tell.ensures.all (ap (Delete c.args.hand c.args.key) was_there) in
     record {
-      legal = IsLegal-fields (after_unlink stripe c.args.hand c.args.key) _ _ _ c.take.ensures.entries refl told (IsLegal-after_unlink stripe c.args.hand c.args.key c.self.invariant.legal apart);
+      legal = IsLegal-fields (after_unlink stripe c.args.hand c.args.key) _ _ _ _ c.take.ensures.entries refl told c.tell.ensures.from (IsLegal-after_unlink stripe c.args.hand c.args.key c.self.invariant.legal apart);
       entry = λ is. absurd cc;
       call = λ is. absurd cc;
     }

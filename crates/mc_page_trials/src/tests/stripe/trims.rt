@@ -1,0 +1,136 @@
+//! Stripes whose calls are trimmed, and stripes that forget them.
+use super::Try::{Got, Lift, Link, Rescue, Unlink};
+use super::{Plain, Random, any_call, assert_equal, assert_same, chunk, made, place};
+use mc_stripe::{Call, Key, NoMemory, Stamp, Stripe, Trim};
+use std::process::Abort;
+use std::test::Fail;
+
+/// Makes room and the calls, one after another.
+fn make_all(rt: &impl Abort, stripe: &mut Stripe, calls: &[super::Try]) -> Result<(), NoMemory> {
+    for call in calls {
+        stripe.reserve()?;
+        assert_same(rt, made(stripe, *call), true, "made");
+    }
+    Ok(())
+}
+
+/// The stamp that a base has of a key.
+fn stamp_in(base: Option<&[(Key, Stamp)]>, key: Key) -> Option<Stamp> {
+    let entry = base?.iter().find(|entry| entry.0 == key)?;
+    Some(entry.1)
+}
+
+/// Trims, at the second try where memory was refused at the first. A refusal leaves all as before.
+fn trim_at_last(rt: &impl Abort, stripe: &mut Stripe) -> Result<(), NoMemory> {
+    let (trimmed, recorded) = (stripe.trimmed(), stripe.history().len());
+    if stripe.trim().is_ok() {
+        return Ok(());
+    }
+    assert_same(rt, stripe.trimmed(), trimmed, "trimmed");
+    assert_same(rt, stripe.history().len(), recorded, "history");
+    match stripe.trim() {
+        Err(Trim::NoMemory(refused)) => Err(refused),
+        second => {
+            assert_same(rt, second.is_ok(), true, "trim");
+            Ok(())
+        }
+    }
+}
+
+#[test]
+fn what_calls_left_is_kept(rt: HostRuntime) -> Result<(), Fail> {
+    let mut stripe = Stripe::new(rt.alloc());
+    assert_equal(&rt, stripe.base().map(|base| base.len()), Some(0), "base");
+    make_all(
+        &rt,
+        &mut stripe,
+        &[
+            Link(1, 1, chunk(4), 7),
+            Link(1, 9, chunk(5), 8),
+            Got(2, 1),
+            Unlink(0, 9),
+        ],
+    )?;
+    make_all(&rt, &mut stripe, &[Link(1, 3, chunk(6), 9), Lift(1)])?;
+    trim_at_last(&rt, &mut stripe)?;
+    // the entry aside is counted in
+    assert_same(&rt, stripe.trimmed(), 5, "trimmed");
+    assert_same(&rt, stripe.history().is_empty(), true, "history");
+    assert_equal(&rt, stripe.base().map(|base| base.len()), Some(2), "base");
+    assert_equal(&rt, stamp_in(stripe.base(), 1), Some(7), "base");
+    assert_equal(&rt, stamp_in(stripe.base(), 3), Some(9), "base");
+    // what comes then is recorded behind it, and the base stays
+    make_all(&rt, &mut stripe, &[Rescue(3, 1, chunk(7)), Unlink(2, 3)])?;
+    assert_equal(
+        &rt,
+        stripe.history(),
+        [Call::Rescue(3, 1), Call::Delete(2, 3, true)].as_slice(),
+        "history",
+    );
+    assert_equal(&rt, stamp_in(stripe.base(), 3), Some(9), "base");
+    trim_at_last(&rt, &mut stripe)?;
+    assert_same(&rt, stripe.trimmed(), 7, "trimmed");
+    assert_equal(&rt, stamp_in(stripe.base(), 3), None, "base");
+    assert_equal(&rt, stripe.find(1), Some(place((7, 7))), "find");
+    Ok(())
+}
+
+#[test]
+fn what_is_forgotten_takes_no_room(rt: HostRuntime) -> Result<(), Fail> {
+    let mut stripe = Stripe::new(rt.alloc());
+    make_all(&rt, &mut stripe, &[Link(1, 1, chunk(4), 7), Got(2, 1)])?;
+    stripe.forget();
+    assert_same(&rt, stripe.history().is_empty(), true, "history");
+    assert_same(&rt, stripe.base().is_none(), true, "base");
+    assert_same(&rt, stripe.trimmed(), 2, "trimmed");
+    for _ in 0..100 {
+        make_all(&rt, &mut stripe, &[Got(2, 1), Unlink(2, 5)])?;
+    }
+    assert_same(&rt, stripe.history().is_empty(), true, "history");
+    assert_same(&rt, stripe.trimmed(), 202, "trimmed");
+    assert_equal(&rt, stripe.find(1), Some(place((4, 7))), "find");
+    // there is nothing to trim
+    assert_same(&rt, stripe.trim().is_ok(), true, "trim");
+    assert_same(&rt, stripe.trimmed(), 202, "trimmed");
+    Ok(())
+}
+
+/// The base has the stamps that a plain list had when the stripe was trimmed.
+fn assert_same_base(rt: &impl Abort, stripe: &Stripe, plain: &Plain) {
+    for key in 0..24 {
+        let key = key * 64 + 3;
+        let aside = plain
+            .aside
+            .filter(|item| item.key == key)
+            .map(|item| item.stamp);
+        let stamp = plain.find(key).map(|place| place.1).or(aside);
+        assert_equal(rt, stamp_in(stripe.base(), key), stamp, "base");
+    }
+}
+
+#[test]
+fn random_calls_between_trims_are_recorded(rt: HostRuntime) -> Result<(), Fail> {
+    for seed in 0..4 {
+        let mut random = Random(seed + 100);
+        let mut stripe = Stripe::new(rt.alloc());
+        let mut plain = Plain::new(rt.alloc());
+        for number in 0..600 {
+            stripe.reserve()?;
+            plain.ready = true;
+            let call = any_call(&mut random, number);
+            assert_same(&rt, made(&mut stripe, call), plain.made(call)?, "made");
+            if random.next() % 50 == 0 {
+                trim_at_last(&rt, &mut stripe)?;
+                assert_same_base(&rt, &stripe, &plain);
+            }
+            let trimmed = stripe.trimmed() as usize;
+            assert_equal(
+                &rt,
+                Some(stripe.history()),
+                plain.history.get(trimmed..),
+                "history",
+            );
+        }
+    }
+    Ok(())
+}

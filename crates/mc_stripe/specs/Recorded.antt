@@ -1,0 +1,33 @@
+-- The calls of a stripe, of which the newest are recorded, or none is.
+use Rattle.std.specs.Prelude.{ℕ, ◌<◌, List, [], length, drop, take, Option, IfSome}
+use Rattle.std.specs.Option.{option_map, option_map_or}
+use Rattle.mc_stripe.specs.declared.history.Call.{Call}
+use Rattle.mc_stripe.specs.History.{Stamps, replay}
+
+pub record Calls : Type 0 where
+  -- all that there were, the oldest first
+  pub all : List Call
+  -- the place of the first call that is recorded, none where no call is
+  pub recorded_from : Option ℕ
+  -- there is room to record so many more
+  pub room : ℕ
+
+-- one more call can be told
+abbrev pub CanTell : Calls → Type 0
+CanTell calls = IfSome calls.recorded_from (λ from. 0 < calls.room)
+
+-- how many of the calls aren't recorded
+abbrev pub count_trimmed : List Call → Option ℕ → ℕ
+count_trimmed all recorded_from = option_map_or (λ from. from) recorded_from (length all)
+
+-- the calls that are recorded
+abbrev pub recorded : List Call → Option ℕ → List Call
+recorded all recorded_from = drop (count_trimmed all recorded_from) all
+
+-- the stamps that the others leave
+abbrev pub left_by_trimmed : List Call → Option ℕ → Stamps
+left_by_trimmed all recorded_from = option_map_or (λ stamps. stamps) (replay [] (take (count_trimmed all recorded_from) all)) []
+
+-- where calls are recorded, those are that come after this many
+abbrev pub recorded_behind : Option ℕ → ℕ → Option ℕ
+recorded_behind recorded_from count = option_map (λ from. count) recorded_from
