@@ -7,7 +7,7 @@ use Rattle.mc_pages.specs.declared.ids.ChunkId.{ChunkId}
 use Rattle.mc_pages.specs.Changes as slabs_changes
 use Rattle.mc_stripe.specs.declared.history.Call.{Call}
 use Rattle.mc_core.specs.declared.event.Change.{Change}
-use Rattle.mc_core.specs.declared.event.Change.TheVariants.{Grow, BeginMove, FinishMove, Touch, SetAutomove, Passed, Wrap, Evicted, Reserve, GotNone, DeletedNone}
+use Rattle.mc_core.specs.declared.event.Change.TheVariants.{Grow, BeginMove, FinishMove, Touch, SetAutomove, Passed, Wrap, Evicted, OfStripe, GotNone, DeletedNone}
 use Rattle.mc_core.specs.declared.event.Event.{Event}
 use Rattle.mc_core.specs.declared.event.Step.{Step}
 use Rattle.mc_core.specs.declared.event.Step.TheVariants as step
@@ -198,7 +198,7 @@ no_word_change s hand change = none_written s (after_change s hand change) (own_
     heads_stay (Passed found) = refl
     heads_stay Wrap = refl
     heads_stay (Evicted class) = refl
-    heads_stay (Reserve stripe) = refl
+    heads_stay (OfStripe stripe how) = refl
     heads_stay (GotNone key) = refl
     heads_stay (DeletedNone key) = refl
 
@@ -211,7 +211,7 @@ no_word_change s hand change = none_written s (after_change s hand change) (own_
     words_stay (Passed found) = refl
     words_stay Wrap = refl
     words_stay (Evicted class) = refl
-    words_stay (Reserve stripe) = refl
+    words_stay (OfStripe stripe how) = refl
     words_stay (GotNone key) = refl
     words_stay (DeletedNone key) = refl
 

@@ -10,7 +10,7 @@ use Rattle.mc_core.specs.declared.holding.Purpose.TheVariants.{Item, Copy, Rescu
 use Rattle.mc_core.specs.declared.event.Step.{Step}
 use Rattle.mc_core.specs.declared.event.Step.TheVariants as step
 use Rattle.mc_core.specs.declared.event.Change.{Change}
-use Rattle.mc_core.specs.declared.event.Change.TheVariants.{Grow, BeginMove, FinishMove, Touch, SetAutomove, Passed, Wrap, Evicted, Reserve, GotNone, DeletedNone}
+use Rattle.mc_core.specs.declared.event.Change.TheVariants.{Grow, BeginMove, FinishMove, Touch, SetAutomove, Passed, Wrap, Evicted, OfStripe, GotNone, DeletedNone}
 use Rattle.mc_core.specs.Frame.{AreGuarded}
 use Rattle.mc_core.specs.Holdings.{is_of, holding_of, key_in, has_fresh, words_of}
 use Rattle.mc_core.specs.State.{State, has_slabs, has_stripe, stripe_of, stripe_at, with_stripe, with_slabs, holdings_at, looks_at, without_holding}
@@ -125,6 +125,17 @@ guards_step s hand (step.Cut page index) can = guards_slabs s _ hand (cut_tests 
 guards_step s hand (step.Again chunk issue) can = guards_same s _ hand refl refl
 guards_step s hand (step.Join kept spent) can = guards_same s _ hand refl refl
 
+-- a stripe that the hand has is another value
+guards_at : (s : State) (hand stripe : ℕ) (value : ReadyStripe) → has_stripe s hand stripe ≡ true → AreGuarded s (with_stripe s stripe value) hand
+guards_at s hand stripe value has = record {
+  slabs = inl refl;
+  stripes = λ i. elim (cases_eq i stripe) [
+    | inl same ↦ inr (subst (λ (k : ℕ). has_stripe s hand k ≡ true) (sym same) has)
+    | inr apart ↦ inl (get_or-set_other s.stripes stripe i _ new_stripe apart)
+  ];
+  count = length-set s.stripes stripe _;
+}
+
 pub guards_change : (s : State) (hand : ℕ) (change : Change) → allows_change s hand change ≡ true → AreGuarded s (after_change s hand change) hand
 guards_change s hand (Grow class) can = guards_slabs s _ hand (and_parts (has_slabs s hand) _ can).0 refl
 guards_change s hand (BeginMove src dst) can = guards_slabs s _ hand (and_parts (has_slabs s hand) _ can).0 refl
@@ -134,13 +145,6 @@ guards_change s hand (SetAutomove mode) can = guards_slabs s _ hand (and_parts (
 guards_change s hand (Passed found) can = guards_slabs s _ hand (and_parts (has_slabs s hand) _ can).0 refl
 guards_change s hand Wrap can = guards_slabs s _ hand (and_parts (has_slabs s hand) _ can).0 refl
 guards_change s hand (Evicted class) can = guards_slabs s _ hand (and_parts (has_slabs s hand) _ can).0 refl
-guards_change s hand (Reserve stripe) can = record {
-  slabs = inl refl;
-  stripes = λ i. elim (cases_eq i stripe) [
-    | inl same ↦ inr (subst (λ (k : ℕ). has_stripe s hand k ≡ true) (sym same) can)
-    | inr apart ↦ inl (get_or-set_other s.stripes stripe i _ new_stripe apart)
-  ];
-  count = length-set s.stripes stripe _;
-}
+guards_change s hand (OfStripe stripe how) can = guards_at s hand stripe _ (and_parts (has_stripe s hand stripe) _ can).0
 guards_change s hand (GotNone key) can = guards_stripe s _ hand key _ (and_parts (has_stripe s hand (stripe_of s key)) _ can).0 refl refl
 guards_change s hand (DeletedNone key) can = guards_stripe s _ hand key _ (and_parts (has_stripe s hand (stripe_of s key)) _ can).0 refl refl

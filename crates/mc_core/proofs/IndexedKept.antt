@@ -5,18 +5,21 @@ use Rattle.std.proofs.lemmas.List.{set_past}
 use Rattle.std.proofs.lemmas.Option.{get_or_from_slice_get}
 use Rattle.mc_classes.specs.Classes.{pages_of}
 use Rattle.mc_pages.specs.SlabState.{fresh_slabs}
-use Rattle.mc_stripe.specs.StripeState.{ReadyStripe, new_stripe, place_of}
+use Rattle.mc_stripe.specs.Entries.{entry_at}
+use Rattle.mc_stripe.specs.StripeState.{Index, ReadyStripe, new_stripe, place_of}
 use Rattle.mc_stripe.specs.Changes as stripe_changes
 use Rattle.mc_stripe.specs.Changes.{after_got, used_up}
 use Rattle.mc_stripe.proofs.Entries.{at_without_entry, by_equal}
 use Rattle.mc_core.specs.declared.head.Tag.TheVariants.{Out, Linked}
 use Rattle.mc_core.specs.declared.look.Look.{Look}
 use Rattle.mc_core.specs.declared.event.Change.{Change}
-use Rattle.mc_core.specs.declared.event.Change.TheVariants.{Grow, BeginMove, FinishMove, Touch, SetAutomove, Passed, Wrap, Evicted, Reserve, GotNone, DeletedNone}
+use Rattle.mc_core.specs.declared.event.Change.TheVariants.{Grow, BeginMove, FinishMove, Touch, SetAutomove, Passed, Wrap, Evicted, OfStripe, GotNone, DeletedNone}
 use Rattle.mc_core.specs.declared.event.Step.TheVariants.{TakeSlabs, TakeStripe, MissSlabs, MissStripe, GiveSlabs, GiveStripe, Pop, PopOff, Fill, Word, WordHeld, Link, Refer, Unlink, Release, Discard, Condemn, PutBack, Clear, Cut, Again, Join}
 use Rattle.mc_core.specs.declared.event.Step.TheVariants as step
+use Rattle.mc_core.specs.declared.event.StripeChange.{StripeChange}
+use Rattle.mc_core.specs.declared.event.StripeChange.TheVariants.{Reserve, Trim, Forget}
 use Rattle.mc_core.specs.State.{State, most_of, head_place, stripe_of, stripe_at, has_slabs, has_stripe, with_look, new_state}
-use Rattle.mc_core.specs.Silent.{writer_of, can_tell_none, after_change}
+use Rattle.mc_core.specs.Silent.{writer_of, can_tell_none, after_change, stripe_after}
 use Rattle.mc_core.specs.Columns.{head_in}
 use Rattle.mc_core.specs.Indexed.{AreIndexed}
 use Rattle.mc_core.specs.Past.{Moment}
@@ -44,6 +47,12 @@ indexed_slabs m hand change may =
     record { tag = linked; class = same; first_words = λ place _. word_moved m.state.table m.state.slabs next m.state.words chunk place same })
     (λ chunk near linked. linked) (own m may.lawful) (λ key. refl)
 
+-- such a change leaves the index
+same_index : (how : StripeChange) (stripe : ReadyStripe) → (stripe_after how stripe).state.index ≡ stripe.state.index
+same_index Reserve stripe = refl
+same_index Trim stripe = refl
+same_index Forget stripe = refl
+
 -- a stripe is written, and all its keys lead where they led
 module _ (m : Moment) (l : IsLawful m) where
   indexed_stripe : (at : ℕ) (value : ReadyStripe) → at < length m.state.stripes → ((key : ℕ) → place_of value.state key ≡ place_of (stripe_at m.state at).state key) →
@@ -53,10 +62,12 @@ module _ (m : Moment) (l : IsLawful m) where
       (λ chunk near linked. record { tag = linked; class = refl; first_words = λ place _. refl })
       (λ chunk near linked. linked) (same_own m.state.stripes at value within same (own m l)) (same_leads m.state.stripes at value within same)
 
-  indexed_ready : (stripe : ℕ) → AreIndexed m.state.table m.state.slabs m.state.heads m.state.words (slice_set m.state.stripes stripe (record (stripe_at m.state stripe) { ready = true }))
-  indexed_ready stripe = elim (cases_lt stripe (length m.state.stripes)) [
-    | inl within ↦ indexed_stripe stripe (record (stripe_at m.state stripe) { ready = true }) within (λ key. refl)
-    | inr past ↦ subst (AreIndexed m.state.table m.state.slabs m.state.heads m.state.words) (sym (set_past m.state.stripes stripe (record (stripe_at m.state stripe) { ready = true }) past)) l.indexed
+  -- a stripe has another value, whose keys lead where they led
+  indexed_quiet : (stripe : ℕ) (value : ReadyStripe) → ((key : ℕ) → place_of value.state key ≡ place_of (stripe_at m.state stripe).state key)
+      → AreIndexed m.state.table m.state.slabs m.state.heads m.state.words (slice_set m.state.stripes stripe value)
+  indexed_quiet stripe value same = elim (cases_lt stripe (length m.state.stripes)) [
+    | inl within ↦ indexed_stripe stripe value within same
+    | inr past ↦ subst (AreIndexed m.state.table m.state.slabs m.state.heads m.state.words) (sym (set_past m.state.stripes stripe value past)) l.indexed
   ]
 
   within : (key : ℕ) → stripe_of m.state key < length m.state.stripes
@@ -87,7 +98,7 @@ indexed_changes m hand (SetAutomove mode) may = indexed_slabs m hand (SetAutomov
 indexed_changes m hand (Passed found) may = indexed_slabs m hand (Passed found) may
 indexed_changes m hand Wrap may = indexed_slabs m hand Wrap may
 indexed_changes m hand (Evicted class) may = indexed_slabs m hand (Evicted class) may
-indexed_changes m hand (Reserve stripe) may = indexed_ready m may.lawful stripe
+indexed_changes m hand (OfStripe stripe how) may = indexed_quiet m may.lawful stripe (stripe_after how (stripe_at m.state stripe)) (λ key. ap (λ (index : Index). entry_at index key) (same_index how (stripe_at m.state stripe)))
 indexed_changes m hand (GotNone key) may = indexed_got m may.lawful hand key
 indexed_changes m hand (DeletedNone key) may = indexed_deleted m may.lawful hand key (nothing_there m hand key may.allowed)
 

@@ -7,7 +7,7 @@ use Rattle.mc_core.specs.declared.event.Step.{Step}
 use Rattle.mc_core.specs.declared.event.Step.TheVariants.{MissSlabs, MissStripe, Pop, PopOff, Fill, Word, WordHeld, Link, Refer, Unlink, Release, Discard, Condemn, PutBack, Clear, Cut, Again}
 use Rattle.mc_core.specs.declared.event.Step.TheVariants as step
 use Rattle.mc_core.specs.declared.event.Change.{Change}
-use Rattle.mc_core.specs.declared.event.Change.TheVariants.{Grow, BeginMove, FinishMove, Touch, SetAutomove, Passed, Wrap, Evicted, Reserve, GotNone, DeletedNone}
+use Rattle.mc_core.specs.declared.event.Change.TheVariants.{Grow, BeginMove, FinishMove, Touch, SetAutomove, Passed, Wrap, Evicted, OfStripe, GotNone, DeletedNone}
 use Rattle.mc_core.specs.declared.head.Head.{Head}
 use Rattle.mc_core.specs.declared.ids.Ids.{Ids}
 use Rattle.mc_core.specs.declared.look.Look.{Look}
@@ -248,6 +248,6 @@ own_change s hand (SetAutomove mode) = own_then (own_slabs s hand _) (own_look _
 own_change s hand (Passed found) = own_then (own_slabs s hand _) (own_look _ hand _)
 own_change s hand Wrap = own_then (own_slabs s hand _) (own_look _ hand _)
 own_change s hand (Evicted class) = own_then (own_slabs s hand _) (own_look _ hand _)
-own_change s hand (Reserve stripe) = own_stripe s hand _ _
+own_change s hand (OfStripe stripe how) = own_stripe s hand _ _
 own_change s hand (GotNone key) = own_stripe s hand _ _
 own_change s hand (DeletedNone key) = own_stripe s hand _ _

@@ -14,7 +14,7 @@ use Rattle.mc_pages.specs.InOrder.{IsInOrder}
 use Rattle.mc_pages.proofs.Kept.{IsInOrder-after_grant, IsInOrder-after_take, IsInOrder-after_begin, IsInOrder-after_touch, IsInOrder-after_evicted, IsInOrder-after_passed, IsInOrder-after_wrap, IsInOrder-automove, IsInOrder-finished}
 use Rattle.mc_pages.proofs.RoomyGrow.{next_pooled, next_granted, grow_takes, grow_grants}
 use Rattle.mc_core.specs.declared.event.Change.{Change}
-use Rattle.mc_core.specs.declared.event.Change.TheVariants.{Grow, BeginMove, FinishMove, Touch, SetAutomove, Passed, Wrap, Evicted, Reserve, GotNone, DeletedNone}
+use Rattle.mc_core.specs.declared.event.Change.TheVariants.{Grow, BeginMove, FinishMove, Touch, SetAutomove, Passed, Wrap, Evicted, OfStripe, GotNone, DeletedNone}
 use Rattle.mc_core.specs.State.{is_class, number_at, has_slabs, is_held_by}
 use Rattle.mc_core.specs.Silent.{is_handed_out, none_half_cut, can_finish, can_pass, can_wrap, run_of, grown, begun, can_change_slabs, slabs_after}
 use Rattle.mc_core.specs.Places.{ArePaged}
@@ -141,7 +141,7 @@ paged_slabs table slabs lock paged (SetAutomove mode) can = automove_paged table
 paged_slabs table slabs lock paged (Passed found) can = passed_paged table slabs lock paged found can
 paged_slabs table slabs lock paged Wrap can = wrapped_paged table slabs lock paged can
 paged_slabs table slabs lock paged (Evicted class) can = evicted_paged table slabs lock paged class can
-paged_slabs table slabs lock paged (Reserve stripe) can = absurd (cc)
+paged_slabs table slabs lock paged (OfStripe stripe how) can = absurd (cc)
 paged_slabs table slabs lock paged (GotNone key) can = absurd (cc)
 paged_slabs table slabs lock paged (DeletedNone key) can = absurd (cc)
 
@@ -162,6 +162,6 @@ paged_changes moment hand (SetAutomove mode) may = under_lock moment hand (SetAu
 paged_changes moment hand (Passed found) may = under_lock moment hand (Passed found) may.lawful.paged may.allowed
 paged_changes moment hand Wrap may = under_lock moment hand Wrap may.lawful.paged may.allowed
 paged_changes moment hand (Evicted class) may = under_lock moment hand (Evicted class) may.lawful.paged may.allowed
-paged_changes moment hand (Reserve stripe) may = may.lawful.paged
+paged_changes moment hand (OfStripe stripe how) may = may.lawful.paged
 paged_changes moment hand (GotNone key) may = may.lawful.paged
 paged_changes moment hand (DeletedNone key) may = may.lawful.paged

@@ -26,7 +26,7 @@ use Rattle.mc_pages.proofs.Redistributed.{is_cut-kept}
 use Rattle.mc_pages.proofs.ReleasedPage.{within_from_IsMove}
 use Rattle.mc_pages.proofs.RoomyGrow.{next_within}
 use Rattle.mc_core.specs.declared.event.Change.{Change}
-use Rattle.mc_core.specs.declared.event.Change.TheVariants.{Grow, BeginMove, FinishMove, Touch, SetAutomove, Passed, Wrap, Evicted, Reserve, GotNone, DeletedNone}
+use Rattle.mc_core.specs.declared.event.Change.TheVariants.{Grow, BeginMove, FinishMove, Touch, SetAutomove, Passed, Wrap, Evicted, OfStripe, GotNone, DeletedNone}
 use Rattle.mc_core.specs.State.{is_class, has_slabs}
 use Rattle.mc_core.specs.Silent.{is_handed_out, none_half_cut, has_page, can_finish, grown, begun, can_change_slabs, slabs_after}
 use Rattle.mc_core.specs.Places.{ArePaged, ArePlaced}
@@ -252,7 +252,7 @@ slabs_listed table slabs lock paged (Passed found) can = let now : SlabState = s
 slabs_listed table slabs lock paged Wrap can = let now : SlabState = slabs_after slabs Wrap in numbered_listed slabs now.moving now.rescues now.evictions_nomem now.busy now.automove
 slabs_listed table slabs lock paged (Evicted class) can =
     listed_with_class slabs class (evicted (class_at slabs class)) (IsClass_from table slabs class paged.of_table can) refl (λ chunk. refl) (λ chunk. refl)
-slabs_listed table slabs lock paged (Reserve stripe) can = absurd (cc)
+slabs_listed table slabs lock paged (OfStripe stripe how) can = absurd (cc)
 slabs_listed table slabs lock paged (GotNone key) can = absurd (cc)
 slabs_listed table slabs lock paged (DeletedNone key) can = absurd (cc)
 
@@ -272,6 +272,6 @@ placed_changes moment hand (SetAutomove mode) may = under_lock moment hand (SetA
 placed_changes moment hand (Passed found) may = under_lock moment hand (Passed found) may.lawful may.allowed
 placed_changes moment hand Wrap may = under_lock moment hand Wrap may.lawful may.allowed
 placed_changes moment hand (Evicted class) may = under_lock moment hand (Evicted class) may.lawful may.allowed
-placed_changes moment hand (Reserve stripe) may = may.lawful.placed
+placed_changes moment hand (OfStripe stripe how) may = may.lawful.placed
 placed_changes moment hand (GotNone key) may = may.lawful.placed
 placed_changes moment hand (DeletedNone key) may = may.lawful.placed

@@ -29,7 +29,7 @@ use Rattle.mc_core.specs.declared.head.Head.{Head}
 use Rattle.mc_core.specs.declared.head.Tag.{Tag}
 use Rattle.mc_core.specs.declared.head.Tag.TheVariants.{Out, Unlinked, Linked}
 use Rattle.mc_core.specs.declared.event.Change.{Change}
-use Rattle.mc_core.specs.declared.event.Change.TheVariants.{Grow, BeginMove, FinishMove, Touch, SetAutomove, Passed, Wrap, Evicted, Reserve, GotNone, DeletedNone}
+use Rattle.mc_core.specs.declared.event.Change.TheVariants.{Grow, BeginMove, FinishMove, Touch, SetAutomove, Passed, Wrap, Evicted, OfStripe, GotNone, DeletedNone}
 use Rattle.mc_core.specs.Head.{is_free, is_out}
 use Rattle.mc_core.specs.State.{State, has_chunk, has_slabs}
 use Rattle.mc_core.specs.Silent.{has_page, has_listed, none_half_cut, can_finish, grown, begun, after_change}
@@ -192,6 +192,6 @@ stays_changes moment hand (SetAutomove mode) may = λ chunk issue here out. refl
 stays_changes moment hand (Passed found) may = λ chunk issue here out. refl
 stays_changes moment hand Wrap may = λ chunk issue here out. refl
 stays_changes moment hand (Evicted class) may = λ chunk issue here out. refl
-stays_changes moment hand (Reserve stripe) may = λ chunk issue here out. refl
+stays_changes moment hand (OfStripe stripe how) may = λ chunk issue here out. refl
 stays_changes moment hand (GotNone key) may = λ chunk issue here out. refl
 stays_changes moment hand (DeletedNone key) may = λ chunk issue here out. refl

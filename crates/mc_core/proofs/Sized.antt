@@ -3,7 +3,7 @@ use Rattle.std.proofs.Common.{◌≡◌, ℕ, ◌*◌, length, refl, sym, ap, su
 use Rattle.std.proofs.lemmas.List.{length-replicate}
 use Rattle.mc_classes.specs.Classes.{Classes, IsSound, pages_of}
 use Rattle.mc_core.specs.declared.head.Head.{Head}
-use Rattle.mc_core.specs.declared.event.Change.TheVariants.{Grow, BeginMove, FinishMove, Touch, SetAutomove, Passed, Wrap, Evicted, Reserve, GotNone, DeletedNone}
+use Rattle.mc_core.specs.declared.event.Change.TheVariants.{Grow, BeginMove, FinishMove, Touch, SetAutomove, Passed, Wrap, Evicted, OfStripe, GotNone, DeletedNone}
 use Rattle.mc_core.specs.declared.event.Step.{Step}
 use Rattle.mc_core.specs.declared.event.Step.TheVariants.{TakeSlabs, TakeStripe, MissSlabs, MissStripe, GiveSlabs, GiveStripe, Pop, PopOff, Fill, Word, WordHeld, Link, Refer, Unlink, Release, Discard, Condemn, PutBack, Clear, Cut, Again, Join}
 use Rattle.mc_core.specs.declared.event.Step.TheVariants as step
@@ -91,7 +91,7 @@ sized_changes moment hand (SetAutomove mode) may = may.lawful.sized
 sized_changes moment hand (Passed found) may = may.lawful.sized
 sized_changes moment hand Wrap may = may.lawful.sized
 sized_changes moment hand (Evicted class) may = may.lawful.sized
-sized_changes moment hand (Reserve stripe) may = may.lawful.sized
+sized_changes moment hand (OfStripe stripe how) may = may.lawful.sized
 sized_changes moment hand (GotNone key) may = may.lawful.sized
 sized_changes moment hand (DeletedNone key) may = may.lawful.sized
 

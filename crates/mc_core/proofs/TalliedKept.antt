@@ -7,7 +7,7 @@ use Rattle.mc_pages.specs.SlabState.{SlabState, class_of_page, fresh_slabs}
 use Rattle.mc_core.specs.declared.holding.Holding.{Holding}
 use Rattle.mc_core.specs.declared.look.Look.{Look}
 use Rattle.mc_core.specs.declared.event.Change.{Change}
-use Rattle.mc_core.specs.declared.event.Change.TheVariants.{Grow, BeginMove, FinishMove, Touch, SetAutomove, Passed, Wrap, Evicted, Reserve, GotNone, DeletedNone}
+use Rattle.mc_core.specs.declared.event.Change.TheVariants.{Grow, BeginMove, FinishMove, Touch, SetAutomove, Passed, Wrap, Evicted, OfStripe, GotNone, DeletedNone}
 use Rattle.mc_core.specs.declared.event.Step.{Step}
 use Rattle.mc_core.specs.declared.event.Step.TheVariants.{TakeSlabs, TakeStripe, MissSlabs, MissStripe, GiveSlabs, GiveStripe, Pop, PopOff, Fill, Word, WordHeld, Link, Refer, Unlink, Release, Discard, Condemn, PutBack, Clear, Cut, Again, Join}
 use Rattle.mc_core.specs.declared.event.Step.TheVariants as step
@@ -42,7 +42,7 @@ counted_changes m hand (SetAutomove mode) may = may.lawful.counted
 counted_changes m hand (Passed found) may = may.lawful.counted
 counted_changes m hand Wrap may = may.lawful.counted
 counted_changes m hand (Evicted class) may = may.lawful.counted
-counted_changes m hand (Reserve stripe) may = may.lawful.counted
+counted_changes m hand (OfStripe stripe how) may = may.lawful.counted
 counted_changes m hand (GotNone key) may = may.lawful.counted
 counted_changes m hand (DeletedNone key) may = may.lawful.counted
 
@@ -75,7 +75,7 @@ held_changes m hand (SetAutomove mode) may = held_slabs m hand (SetAutomove mode
 held_changes m hand (Passed found) may = held_slabs m hand (Passed found) may
 held_changes m hand Wrap may = held_slabs m hand Wrap may
 held_changes m hand (Evicted class) may = held_slabs m hand (Evicted class) may
-held_changes m hand (Reserve stripe) may = may.lawful.held
+held_changes m hand (OfStripe stripe how) may = may.lawful.held
 held_changes m hand (GotNone key) may = may.lawful.held
 held_changes m hand (DeletedNone key) may = may.lawful.held
 

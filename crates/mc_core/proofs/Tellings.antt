@@ -12,9 +12,11 @@ use Rattle.mc_stripe.specs.StripeState.{StripeState, ReadyStripe, new_stripe, ke
 use Rattle.mc_stripe.specs.Changes.{after_got, after_lift, after_evict, after_rescue, used_up}
 use Rattle.mc_stripe.specs.Changes as stripe_changes
 use Rattle.mc_stripe.specs.Legal.{IsLegal}
-use Rattle.mc_stripe.proofs.Kept.{IsLegal-after_got, IsLegal-after_unlink, IsLegal-after_lift, IsLegal-after_evict, IsLegal-after_link, IsLegal-after_rescue}
+use Rattle.mc_stripe.proofs.Kept.{IsLegal-after_got, IsLegal-after_unlink, IsLegal-after_lift, IsLegal-after_evict, IsLegal-after_link, IsLegal-after_rescue, IsLegal-after_trim, IsLegal-after_forget}
+use Rattle.mc_core.specs.declared.event.StripeChange.{StripeChange}
+use Rattle.mc_core.specs.declared.event.StripeChange.TheVariants.{Reserve, Trim, Forget}
 use Rattle.mc_core.specs.State.{State, has_stripe, stripe_of, stripe_at, number_at}
-use Rattle.mc_core.specs.Silent.{is_aside, writer_of}
+use Rattle.mc_core.specs.Silent.{is_aside, writer_of, stripe_after}
 use Rattle.mc_core.specs.Indexed.{AreLegal}
 use Rattle.mc_core.specs.Past.{Saying}
 use Rattle.mc_core.specs.Identities.{said_times}
@@ -70,22 +72,28 @@ module _ (state : State) (hand : ℕ) (l : AreLegal state.stripes state.stripe_l
   was_aside : (entry : ℕ × (ChunkId × ℕ)) → old.aside ≡ Some entry → entry.0 % length state.stripes ≡ at
   was_aside entry is = l.aside at (stripe_at state at) entry (slice_get-get_or state.stripes at new_stripe within) is
 
-  -- room was made
-  pub tells_reserve : Tells state (slice_set state.stripes at (record (stripe_at state at) { ready = true })) hand []
-  tells_reserve = record {
+  -- nothing was told: the value has the same calls, and what was aside
+  told_nothing : (value : ReadyStripe) → IsLegal value.state → value.state.aside ≡ old.aside → value.state.history ≡ old.history → Tells state (slice_set state.stripes at value) hand []
+  told_nothing value lawful same_aside same_history = record {
     at = at;
-    value = record (stripe_at state at) { ready = true };
+    value = value;
     stripes = refl;
     within = within;
     held = held;
-    legal = legal;
-    aside = was_aside;
+    legal = lawful;
+    aside = λ entry is. was_aside entry (sym same_aside ∙ is);
     more = [];
-    grown = sym (append-nil old.history);
+    grown = same_history ∙ sym (append-nil old.history);
     own = All-nil (λ call. hand_of call ≡ writer_of state hand);
     sets = All-nil (IsSetIn (length state.stripes) at);
     stores = λ stamp. refl;
   }
+
+  -- room was made, or calls were trimmed or forgotten
+  pub tells_change : (how : StripeChange) → Tells state (slice_set state.stripes at (stripe_after how (stripe_at state at))) hand []
+  tells_change Reserve = told_nothing (stripe_after Reserve (stripe_at state at)) legal refl refl
+  tells_change Trim = told_nothing (stripe_after Trim (stripe_at state at)) (IsLegal-after_trim old legal) refl refl
+  tells_change Forget = told_nothing (stripe_after Forget (stripe_at state at)) (IsLegal-after_forget old legal) refl refl
 
   -- the key was looked up
   pub tells_got : (key : ℕ) → is_aside old key ≡ false → Tells state (slice_set state.stripes at (used_up (after_got old (writer_of state hand) key))) hand []

@@ -6,7 +6,7 @@ use Rattle.mc_pages.specs.declared.ids.ChunkId.{ChunkId}
 use Rattle.mc_pages.specs.ClassState.{is_chunk}
 use Rattle.mc_stripe.specs.StripeState.{ReadyStripe, place_of}
 use Rattle.mc_core.specs.declared.event.Change.{Change}
-use Rattle.mc_core.specs.declared.event.Change.TheVariants.{Grow, BeginMove, FinishMove, Touch, SetAutomove, Passed, Wrap, Evicted, Reserve, GotNone, DeletedNone}
+use Rattle.mc_core.specs.declared.event.Change.TheVariants.{Grow, BeginMove, FinishMove, Touch, SetAutomove, Passed, Wrap, Evicted, OfStripe, GotNone, DeletedNone}
 use Rattle.mc_core.specs.declared.event.Step.{Step}
 use Rattle.mc_core.specs.declared.event.Step.TheVariants.{TakeSlabs, TakeStripe, MissSlabs, MissStripe, GiveSlabs, GiveStripe, Pop, PopOff, Fill, Word, WordHeld, Link, Refer, Unlink, Release, Discard, Condemn, PutBack, Clear, Cut, Again, Join}
 use Rattle.mc_core.specs.declared.event.Step.TheVariants as step
@@ -29,7 +29,7 @@ use Rattle.mc_core.specs.Evictions as evictions
 use Rattle.mc_core.specs.Run.{allows_step, after_step}
 use Rattle.mc_core.specs.Past.{Saying, saying_of, said_by, sayings_of}
 use Rattle.mc_core.specs.Indexed.{AreLegal}
-use Rattle.mc_core.proofs.Tellings.{Tells, tells_reserve, tells_got, tells_deleted, tells_evicted, tells_lifted, tells_set, tells_rescued}
+use Rattle.mc_core.proofs.Tellings.{Tells, tells_change, tells_got, tells_deleted, tells_evicted, tells_lifted, tells_set, tells_rescued}
 
 abbrev pub MayTell : State → List ReadyStripe → ℕ → List Saying → Type 0
 MayTell state now hand said = ((now ≡ state.stripes) × (said ≡ [])) ⊎ Tells state now hand said
@@ -85,7 +85,7 @@ module _ (state : State) (hand : ℕ) (l : AreLegal state.stripes state.stripe_l
   told_by_change (Passed found) h = inl (refl, refl)
   told_by_change Wrap h = inl (refl, refl)
   told_by_change (Evicted class) h = inl (refl, refl)
-  told_by_change (Reserve stripe) h = inr (tells_reserve state hand l stripe h)
+  told_by_change (OfStripe stripe how) h = inr (tells_change state hand l stripe (and_parts (has_stripe state hand stripe) _ h).0 how)
   told_by_change (GotNone key) h = let parts = none_told key h in inr (tells_got state hand l (stripe_of state key) parts.0 key parts.1)
   told_by_change (DeletedNone key) h = let parts = none_told key h in inr (tells_deleted state hand l (stripe_of state key) parts.0 key parts.1)
 

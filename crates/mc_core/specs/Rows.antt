@@ -8,7 +8,8 @@ use Rattle.mc_core.specs.declared.event.Event.{Event}
 use Rattle.mc_core.specs.declared.event.Step.{Step}
 use Rattle.mc_core.specs.declared.event.Step.TheVariants.{TakeSlabs, TakeStripe, GiveSlabs, GiveStripe, Head, Pop, PopOff, Fill, Link, Unlink, Release, Discard, Condemn, PutBack, Clear, Cut}
 use Rattle.mc_core.specs.declared.event.Change.{Change}
-use Rattle.mc_core.specs.declared.event.Change.TheVariants.{Grow, BeginMove, FinishMove, Reserve}
+use Rattle.mc_core.specs.declared.event.Change.TheVariants.{Grow, BeginMove, FinishMove, OfStripe}
+use Rattle.mc_core.specs.declared.event.StripeChange.TheVariants.{Reserve}
 use Rattle.mc_core.specs.State.{State, new_state}
 use Rattle.mc_core.specs.Run.{play}
 
@@ -61,7 +62,7 @@ fills_with chunk key = does [] (Fill chunk 0 key) ∷ does [] (Fill chunk 1 key)
 
 -- the chunk is filled, linked and let go
 abbrev pub puts : ChunkId → ℕ → List Event
-puts chunk key = fills_with chunk key ++ does (Reserve 0 ∷ []) (Link chunk) ∷ does [] (Release chunk) ∷ []
+puts chunk key = fills_with chunk key ++ does (OfStripe 0 Reserve ∷ []) (Link chunk) ∷ does [] (Release chunk) ∷ []
 
 -- it is handed out before
 abbrev pub stores : ChunkId → ℕ → List Event
@@ -73,7 +74,7 @@ full_page = gets 0 ++ stores (chunk_at 0 1) 1 ++ stores (chunk_at 0 0) 2
 
 -- the item of a chunk is taken away
 abbrev pub takes_away : ChunkId → List Event
-takes_away chunk = does (Reserve 0 ∷ []) (Condemn chunk) ∷ []
+takes_away chunk = does (OfStripe 0 Reserve ∷ []) (Condemn chunk) ∷ []
 
 -- both chunks of a page are looked at
 abbrev pub looks_at : ℕ → List Event
@@ -105,4 +106,4 @@ ends = does (FinishMove ∷ []) GiveSlabs ∷ does [] (GiveStripe 0) ∷ []
 -- the item is deleted, a chunk is handed out for a copy of it, its page leaves the class and comes again, and a new item stands in its chunk
 abbrev pub comes_again : List Event
 comes_again =
-    does (Reserve 0 ∷ []) (Unlink 1) ∷ begins_rescue ++ does [] (Clear (chunk_at 0 1)) ∷ does [] (Clear (chunk_at 0 0)) ∷ does (FinishMove ∷ Grow 1 ∷ []) (Cut 0 0) ∷ does [] (Cut 0 1) ∷ stores (chunk_at 0 1) 2
+    does (OfStripe 0 Reserve ∷ []) (Unlink 1) ∷ begins_rescue ++ does [] (Clear (chunk_at 0 1)) ∷ does [] (Clear (chunk_at 0 0)) ∷ does (FinishMove ∷ Grow 1 ∷ []) (Cut 0 0) ∷ does [] (Cut 0 1) ∷ stores (chunk_at 0 1) 2

@@ -1,5 +1,5 @@
 -- Changes of the values behind locks that touch no word.
-use Rattle.std.specs.Prelude.{ℕ, ◌==◌, Bool, true, false, not, ◌&&◌, ◌||◌, nat_le, nat_lt, if◌then◌else◌, List, [], ◌∷◌, is_some, is_none, is_ok, unwrap_or, Option, Some, None, Result, Ok, Err}
+use Rattle.std.specs.Prelude.{ℕ, ◌==◌, ◌^◌, Bool, true, false, not, ◌&&◌, ◌||◌, nat_le, nat_lt, if◌then◌else◌, List, [], ◌∷◌, length, is_some, is_none, is_ok, unwrap_or, Option, Some, None, Result, Ok, Err}
 use Rattle.std.specs.List.{list_any}
 use Rattle.std.specs.Option.{option_map_or}
 use Rattle.mc_classes.specs.Classes.{Classes, per_page_of}
@@ -14,9 +14,11 @@ use Rattle.mc_pages.specs.Changes.{after_touch, after_evicted, after_grow, next_
 use Rattle.mc_pages.specs.Answer.{answer_of}
 use Rattle.mc_pages.specs.Moves.{after_begin, after_finish, after_passed, after_wrap, is_held_up, chunk_at_position}
 use Rattle.mc_stripe.specs.StripeState.{StripeState, ReadyStripe, key_aside, place_of}
-use Rattle.mc_stripe.specs.Changes.{after_got, after_unlink, used_up}
+use Rattle.mc_stripe.specs.Changes.{after_got, after_unlink, after_trim, after_forget, used_up}
 use Rattle.mc_core.specs.declared.event.Change.{Change}
-use Rattle.mc_core.specs.declared.event.Change.TheVariants.{Grow, BeginMove, FinishMove, Touch, SetAutomove, Passed, Wrap, Evicted, Reserve, GotNone, DeletedNone}
+use Rattle.mc_core.specs.declared.event.Change.TheVariants.{Grow, BeginMove, FinishMove, Touch, SetAutomove, Passed, Wrap, Evicted, OfStripe, GotNone, DeletedNone}
+use Rattle.mc_core.specs.declared.event.StripeChange.{StripeChange}
+use Rattle.mc_core.specs.declared.event.StripeChange.TheVariants.{Reserve, Trim, Forget}
 use Rattle.mc_core.specs.declared.look.Look.TheVariants.{Changed}
 use Rattle.mc_core.specs.State.{State, is_class, number_at, has_slabs, has_stripe, stripe_of, stripe_at, with_stripe, with_slabs, with_look}
 
@@ -114,20 +116,32 @@ is_aside stripe key = option_map_or (λ other. other == key) (key_aside stripe) 
 abbrev pub can_tell_none : ReadyStripe → ℕ → Bool
 can_tell_none stripe key = stripe.ready && not (is_aside stripe.state key) && is_none (place_of stripe.state key)
 
+-- a stripe may be changed so: trimmed only where the place of the next call can be counted, if calls are recorded
+abbrev pub can_change_stripe : StripeChange → StripeState → Bool
+can_change_stripe Reserve stripe = true
+can_change_stripe Trim stripe = is_none stripe.recorded_from || nat_lt (length stripe.history) (2 ^ 64)
+can_change_stripe Forget stripe = true
+
+-- a stripe after such a change
+abbrev pub stripe_after : StripeChange → ReadyStripe → ReadyStripe
+stripe_after Reserve stripe = record stripe { ready = true }
+stripe_after Trim stripe = record stripe { state = after_trim stripe.state }
+stripe_after Forget stripe = record stripe { state = after_forget stripe.state }
+
 -- the number that a hand writes into histories
 abbrev pub writer_of : State → ℕ → ℕ
 writer_of state hand = unwrap_or (number_at state hand) 0
 
 -- the hand may make this change of a value behind a lock that it has
 abbrev pub allows_change : State → ℕ → Change → Bool
-allows_change state hand (Reserve stripe) = has_stripe state hand stripe
+allows_change state hand (OfStripe stripe how) = has_stripe state hand stripe && can_change_stripe how (stripe_at state stripe).state
 allows_change state hand (GotNone key) = has_stripe state hand (stripe_of state key) && can_tell_none (stripe_at state (stripe_of state key)) key
 allows_change state hand (DeletedNone key) = has_stripe state hand (stripe_of state key) && can_tell_none (stripe_at state (stripe_of state key)) key
 allows_change state hand change = has_slabs state hand && can_change_slabs state.table state.slabs change
 
 -- the state after the change
 abbrev pub after_change : State → ℕ → Change → State
-after_change state hand (Reserve stripe) = with_stripe state stripe (record (stripe_at state stripe) { ready = true })
+after_change state hand (OfStripe stripe how) = with_stripe state stripe (stripe_after how (stripe_at state stripe))
 after_change state hand (GotNone key) =
     with_stripe state (stripe_of state key) (used_up (after_got (stripe_at state (stripe_of state key)).state (writer_of state hand) key))
 after_change state hand (DeletedNone key) =

@@ -82,10 +82,21 @@ pub enum Change {
     Wrap,
     /// An eviction of the class is counted.
     Evicted(u64),
-    /// A stripe makes room for a call.
-    Reserve(u64),
+    /// A stripe changes, and no call is told.
+    OfStripe(u64, StripeChange),
     /// A key that isn't there was looked up.
     GotNone(u64),
     /// A key that isn't there was to be deleted.
     DeletedNone(u64),
+}
+
+/// A change of a stripe by which no call is told.
+#[derive(Clone, Copy, PartialEq, Eq)]
+pub enum StripeChange {
+    /// It makes room for a call.
+    Reserve,
+    /// The calls so far aren't recorded any more.
+    Trim,
+    /// No call is recorded from now on, and none of those so far.
+    Forget,
 }

@@ -16,7 +16,7 @@ mod state;
 mod stop;
 mod words;
 
-pub use event::{Change, Event, Step};
+pub use event::{Change, Event, Step, StripeChange};
 pub use head::{Head, Tag};
 pub use holding::{Holding, Kind, Purpose};
 pub use ids::Ids;

@@ -45,7 +45,7 @@ pub none_lifted : (value : ReadyStripe) (key : ℕ) → place_of value.state key
 none_lifted value key none whole =
     let index : without_entry value.state.index key ≡ value.state.index = not_left value.state.index key none in
     let aside : option_map (λ (place : ChunkId × ℕ). (key, place)) (place_of value.state key) ≡ value.state.aside = ap (option_map (λ (place : ChunkId × ℕ). (key, place))) none ∙ sym whole in
-    λ k. record value { state = record { index = sym index k; aside = sym aside k; history = value.state.history } }
+    λ k. record value { state = record { index = sym index k; aside = sym aside k; history = value.state.history; recorded_from = value.state.recorded_from } }
 
 pub nothing_lifted : (stripe : ℕ) (value : ReadyStripe) (key : ℕ) (view : View) → slice_index_or view.stripes stripe None ≡ Some value → place_of value.state key ≡ None → value.state.aside ≡ None → view ≡ key_lifted stripe value key view
 nothing_lifted stripe value key view mine none whole =

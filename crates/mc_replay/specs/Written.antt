@@ -14,7 +14,7 @@ use Rattle.mc_pages.specs.Ledger.{owner_at}
 use Rattle.mc_pages.specs.SlabState.{SlabState, class_at, totals_of}
 use Rattle.mc_stripe.specs.declared.history.Call.{Call}
 use Rattle.mc_stripe.specs.declared.history.Call.TheVariants as call
-use Rattle.mc_stripe.specs.StripeState.{StripeState, place_of}
+use Rattle.mc_stripe.specs.StripeState.{StripeState, place_of, tail_of}
 use Rattle.mc_core.specs.Head.{code}
 use Rattle.mc_core.specs.declared.event.Event.{Event}
 use Rattle.mc_core.specs.Run.{play}
@@ -158,7 +158,7 @@ keys_text number stripe keys = flat_map (λ key. key_line number key (place_of s
 
 -- what stands behind the lock of the stripe of this number
 abbrev pub stripe_text : ℕ → StripeState → List ℕ
-stripe_text number stripe = keys_text number stripe (with_stored [] stripe.history) ++ flat_map (call_line number) stripe.history
+stripe_text number stripe = keys_text number stripe (with_stored [] (tail_of stripe)) ++ flat_map (call_line number) (tail_of stripe)
 
 -- what stands behind the slabs lock, if nobody has it
 abbrev pub free_slabs_text : State → List ℕ

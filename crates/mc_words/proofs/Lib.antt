@@ -57,3 +57,4 @@ pub mod Ends
 pub mod WholeCuts
 pub mod HandNumbers
 pub mod BegunMoves
+pub mod Waited

@@ -4,7 +4,7 @@ use Rattle.mc_pages.specs.SlabState.{SlabState}
 use Rattle.mc_stripe.specs.StripeState.{ReadyStripe}
 use Rattle.mc_words.specs.View.{View}
 use Rattle.mc_words.specs.Views.{slabs_given, stripe_given, stripe_reserved}
-use Rattle.mc_words.specs.Waiting.{WaitsForSlabs}
+use Rattle.mc_words.specs.Waiting.{WaitsForSlabs, WaitsForStripe}
 
 -- what is done on a stripe, from its value and the hand's view to those that it leaves
 abbrev pub Doing : Type 1
@@ -30,3 +30,13 @@ pub record HoldsSlabs (Does : SlabsDoing) (view now : View) : Type 0 where
   pub last : View
   pub does : Does taken found last left
   pub given : now ≡ slabs_given left last
+
+-- the lock of a stripe was waited for, this was done, and it was given back
+pub record HoldsStripe (stripe : ℕ) (Does : Doing) (view now : View) : Type 0 where
+  pub found : ReadyStripe
+  pub taken : View
+  pub waits : WaitsForStripe stripe view found taken
+  pub left : ReadyStripe
+  pub last : View
+  pub does : Does found taken left last
+  pub given : now ≡ stripe_given stripe left last

@@ -1,9 +1,9 @@
 -- What a hand finds behind a lock that it takes.
-use Rattle.std.specs.Prelude.{◌≡◌, ◌==◌, ℕ, ◌%◌, List, [], filter, slice_get, slice_index_or, Some, None, All}
+use Rattle.std.specs.Prelude.{◌≡◌, ◌==◌, ℕ, ◌%◌, List, [], filter, slice_get, slice_index_or, unwrap_or, Some, None, All}
 use Rattle.mc_pages.specs.declared.ids.ChunkId.{ChunkId}
 use Rattle.mc_pages.specs.ClassState.{times}
 use Rattle.mc_pages.specs.SlabState.{SlabState, class_of_chunk}
-use Rattle.mc_stripe.specs.StripeState.{ReadyStripe, place_of}
+use Rattle.mc_stripe.specs.StripeState.{ReadyStripe, new_stripe, place_of}
 use Rattle.mc_stripe.specs.declared.history.Call.{Call}
 use Rattle.mc_stripe.specs.Legal.{IsLegal}
 use Rattle.mc_core.specs.Histories.{IsBeginning, hand_of}
@@ -36,3 +36,7 @@ pub record IsLentStripe (view : View) (number : ℕ) (stripe : ReadyStripe) : Ty
 -- the history that was found begins with all that the hand had seen of it
 abbrev pub BeginsWithSeen : View → ℕ → ReadyStripe → Type 0
 BeginsWithSeen view number stripe = (seen : List Call) → slice_get view.row.knows.seen number ≡ Some seen → IsBeginning seen stripe.state.history
+
+-- the stripe of this number that the hand has
+abbrev pub lent_stripe : View → ℕ → ReadyStripe
+lent_stripe view number = unwrap_or (slice_index_or view.stripes number None) new_stripe

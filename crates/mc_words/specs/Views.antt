@@ -10,8 +10,10 @@ use Rattle.mc_core.specs.declared.look.Look.TheVariants.{Read, Saw, SawStripe, P
 use Rattle.mc_core.specs.declared.event.Change.{Change}
 use Rattle.mc_core.specs.declared.event.Change.TheVariants as change
 use Rattle.mc_core.specs.declared.event.Step.{Step}
+use Rattle.mc_core.specs.declared.event.StripeChange.{StripeChange}
+use Rattle.mc_core.specs.declared.event.StripeChange.TheVariants.{Reserve}
 use Rattle.mc_core.specs.declared.event.Step.TheVariants as step
-use Rattle.mc_core.specs.Silent.{slabs_after}
+use Rattle.mc_core.specs.Silent.{slabs_after, stripe_after}
 use Rattle.mc_core.specs.Past.{Sight, Knowledge, header, slabs_word, stripe_word}
 use Rattle.mc_core.specs.Holdings.{is_of, lose, change_each}
 use Rattle.mc_pages.specs.Changes.{after_pop, after_replace, after_back, after_clear, after_cut}
@@ -154,6 +156,10 @@ chunk_cut slabs chunk head view = with_event [] (step.Cut chunk.page chunk.index
 abbrev pub slabs_changed : SlabState → Change → ℕ → View → View
 slabs_changed slabs change word view = slabs_told (change ∷ []) word (looked (Changed change) (with_slabs (slabs_after slabs change) view))
 
--- room was made in a stripe, which was told by a look at the word of its lock
+-- a stripe changed, which was told by a look at the word of its lock
+abbrev pub stripe_changed : StripeChange → ℕ → ReadyStripe → ℕ → View → View
+stripe_changed how stripe value word view = stripe_told (change.OfStripe stripe how ∷ []) stripe word (record view { stripes = slice_set view.stripes stripe (Some (stripe_after how value)) })
+
+-- room was made in it
 abbrev pub stripe_reserved : ℕ → ReadyStripe → ℕ → View → View
-stripe_reserved stripe value word view = stripe_told (change.Reserve stripe ∷ []) stripe word (record view { stripes = slice_set view.stripes stripe (Some (record value { ready = true })) })
+stripe_reserved stripe value word view = stripe_changed Reserve stripe value word view

@@ -1,5 +1,5 @@
 //! Changes of pages and lists, and of stripes, that write no header. Each is told at once.
-ghost use Rattle.std.specs.Prelude.{◌≡◌, ℕ, ◌+◌, ◌%◌, ◌<◌, ◌≤◌, ◌↔◌, Bool, if◌then◌else◌, [], ◌∷◌, true, false, slice_index_or, None, Some, Err, IfOk, IsOk, OnOk, OnErr};
+ghost use Rattle.std.specs.Prelude.{◌≡◌, ℕ, ◌+◌, ◌%◌, ◌<◌, ◌≤◌, ◌↔◌, Bool, if◌then◌else◌, [], ◌∷◌, true, false, slice_index_or, None, Some, Err, IfOk, OnOk, OnErr};
 ghost use Rattle.mc_classes.specs.Classes.{pages_of};
 ghost use Rattle.mc_pages.specs.Changes.{after_evicted, after_grow, after_touch, next_page};
 ghost use Rattle.mc_stripe.specs.StripeState.{place_of};
@@ -10,7 +10,7 @@ ghost use Rattle.mc_core.specs.declared.event.Step.TheVariants as step;
 ghost use Rattle.mc_words.specs.Arenas.{IsHandOf, setup_of, view};
 ghost use Rattle.mc_words.specs.Called.{key_missed, key_not_deleted};
 ghost use Rattle.mc_words.specs.Happens.{Happens};
-ghost use Rattle.mc_words.specs.Views.{slabs_changed, stripe_reserved};
+ghost use Rattle.mc_words.specs.Views.{slabs_changed};
 
 use crate::arena::Arena;
 use crate::hand::Hand;
@@ -19,7 +19,7 @@ use crate::locks::{Lock, SLABS_WORD};
 use mc_classes::{ClassId, PageId};
 use mc_core::{Change, Step};
 use mc_pages::{ChunkId, Grow};
-use mc_stripe::{Key, NoMemory};
+use mc_stripe::Key;
 
 impl Arena {
     /// Sets the automover's mode, which is 0, 1 or 2.
@@ -100,28 +100,6 @@ impl Arena {
         let change = Change::Grow(class);
         self.tell_page(&mut hand.seat, word, class, change, Step::MissSlabs);
         Ok(page)
-    }
-
-    /// Makes room in a stripe for one more call on one of its keys. Where there is room, it takes no memory. (own)
-    pub fn reserve(&self, hand: &mut Hand, held: &mut StripeHeld) -> Result<(), NoMemory>
-        requires arena { IsHandOf self.now hand.old }
-        requires held { slice_index_or (view hand.old).stripes held.old.number None ≡ Some held.old.stripe }
-        ensures arena { IsHandOf self.now hand.new }
-        ensures locks { hand.new.locks ≡ hand.old.locks }
-        ensures number { held.new.number ≡ held.old.number }
-        ensures held { slice_index_or (view hand.new).stripes held.new.number None ≡ Some held.new.stripe }
-        ensures reserved { OnOk result (held.new ≡ record held.old { stripe = record held.old.stripe { ready = true } }) }
-        ensures happens { OnOk result (Happens (view hand.old) (change.Reserve held.old.number ∷ []) (step.MissStripe held.old.number) (view hand.new)) }
-        ensures view { OnOk result (view hand.new ≡ stripe_reserved held.old.number held.old.stripe (hand.old.number + 1) (view hand.old)) }
-        ensures succeeds { held.old.stripe.ready ≡ true → IsOk result }
-        ensures refused { OnErr result ((held.new ≡ held.old) × (view hand.new ≡ view hand.old)) }
-    {
-        held.stripe.stripe_mut().reserve()?;
-        let stripe = held.number;
-        let word = Lock::StripeLock(stripe).word();
-        let change = Change::Reserve(stripe);
-        self.tell(&mut hand.seat, word, change, Step::MissStripe(stripe));
-        Ok(())
     }
 
     // Tells the stripe of a key that leads nowhere that it was looked up, or deleted.

@@ -31,6 +31,7 @@ mod originals;
 mod places;
 mod plan;
 mod reading;
+mod recording;
 mod recovering;
 mod referring;
 mod refs;

@@ -1,20 +1,22 @@
 //! Changes of the values behind locks that touch no word.
-ghost use Rattle.std.specs.Prelude.{◌≡◌, ◌<◌, ◌&&◌, true, length, IfOk, OnOk};
+ghost use Rattle.std.specs.Prelude.{◌≡◌, ◌<◌, ◌&&◌, true, false, length, Ok, IfOk};
 ghost use Rattle.mc_pages.specs.Accounted.{cut_count};
 ghost use Rattle.mc_pages.specs.Moves.{is_held_up};
 ghost use Rattle.mc_stripe.specs.Changes.{used_up};
-ghost use Rattle.mc_core.specs.declared.event.Change.TheVariants.{BeginMove, FinishMove, Touch, SetAutomove, Passed, Wrap, Evicted, Reserve};
+ghost use Rattle.mc_core.specs.declared.event.Change.TheVariants.{BeginMove, FinishMove, Touch, SetAutomove, Passed, Wrap, Evicted, OfStripe};
+ghost use Rattle.mc_core.specs.declared.event.StripeChange.TheVariants.{Trim};
 ghost use Rattle.mc_core.specs.declared.look.Look.TheVariants.{Changed};
 ghost use Rattle.mc_core.specs.State.{has_slabs, stripe_of, stripe_at, with_slabs, with_stripe, with_look};
-ghost use Rattle.mc_core.specs.Silent.{none_half_cut, run_of, is_cleared_at, can_finish, can_pass, can_wrap, can_tell_none, writer_of, slabs_after, can_change_slabs, allows_change, after_change, allows_changes, after_changes, told_none, call_of};
+ghost use Rattle.mc_core.specs.Silent.{none_half_cut, run_of, is_cleared_at, can_finish, can_pass, can_wrap, can_tell_none, can_change_stripe, stripe_after, writer_of, slabs_after, can_change_slabs, allows_change, after_change, allows_changes, after_changes, told_none, call_of};
 ghost use Rattle.mc_core.specs.Done.{IsDone};
 
 use super::State;
-use crate::event::Change;
+use crate::event::{Change, StripeChange};
 use crate::look::Look;
 use mc_classes::ClassId;
 use mc_memory::Refused;
 use mc_pages::{ChunkId, Found, Grow, Moving, Reassign};
+use mc_stripe::Stripe;
 
 /// Whether what was found holds up the move.
 fn is_held_up(found: Found) -> bool
@@ -23,6 +25,19 @@ fn is_held_up(found: Found) -> bool
     match found {
         Found::Busy | Found::Locked => true,
         _ => false,
+    }
+}
+
+/// The stripe's calls so far aren't recorded any more, if the place of the next one can be counted.
+fn trim(stripe: &mut Stripe) -> Result<bool, Refused>
+    ensures can { IfOk result (λ can. can ≡ can_change_stripe Trim stripe.old.state) }
+    ensures trimmed { result ≡ Ok true → stripe.new ≡ stripe_after Trim stripe.old }
+    ensures full { result ≡ Ok false → stripe.new ≡ stripe.old }
+{
+    match stripe.trim() {
+        Ok(()) => Ok(true),
+        Err(mc_stripe::Trim::Full) => Ok(false),
+        Err(mc_stripe::Trim::NoMemory(refused)) => Err(refused),
     }
 }
 
@@ -220,15 +235,25 @@ impl State {
         stripe.is_ready() && stripe.aside() != Some(key) && stripe.find(key).is_none()
     }
 
-    /// The stripe makes room for a call.
-    fn reserve(&mut self, stripe: u64) -> Result<(), Refused>
-        ensures { OnOk result (self.new ≡ with_stripe self.old stripe (record (stripe_at self.old stripe) { ready = true })) }
+    /// The stripe changes, if it may.
+    fn change_stripe(&mut self, stripe: u64, how: StripeChange) -> Result<bool, Refused>
+        ensures { IfOk result (IsDone (can_change_stripe how (stripe_at self.old stripe).state) (with_stripe self.old stripe (stripe_after how (stripe_at self.old stripe))) self.new) }
     {
         if stripe >= self.stripes.len() as u64 {
-            return Ok(());
+            return Ok(true);
         }
         let stripe = &mut self.stripes[stripe as usize];
-        stripe.reserve()
+        match how {
+            StripeChange::Reserve => {
+                stripe.reserve()?;
+                Ok(true)
+            }
+            StripeChange::Trim => trim(stripe),
+            StripeChange::Forget => {
+                stripe.forget();
+                Ok(true)
+            }
+        }
     }
 
     /// Tells of a key that isn't there: it was looked up, or it was to be deleted.
@@ -252,23 +277,22 @@ impl State {
         ensures { IfOk result (IsDone (allows_change self.old hand change) (after_change self.old hand change) self.new) }
     {
         match change {
-            Change::Reserve(stripe) => self.change_room(hand, stripe),
+            Change::OfStripe(stripe, how) => self.change_held(hand, stripe, how),
             Change::GotNone(key) => Ok(self.change_history(hand, key, false)),
             Change::DeletedNone(key) => Ok(self.change_history(hand, key, true)),
             _ => self.change_pages(hand, change),
         }
     }
 
-    /// The hand makes room in a stripe that it has.
-    fn change_room(&mut self, hand: u64, stripe: u64) -> Result<bool, Refused>
+    /// The hand changes a stripe that it has, if that is allowed.
+    fn change_held(&mut self, hand: u64, stripe: u64, how: StripeChange) -> Result<bool, Refused>
         requires { hand < length self.old.ids }
-        ensures { IfOk result (IsDone (allows_change self.old hand (Reserve stripe)) (after_change self.old hand (Reserve stripe)) self.new) }
+        ensures { IfOk result (IsDone (allows_change self.old hand (OfStripe stripe how)) (after_change self.old hand (OfStripe stripe how)) self.new) }
     {
         if !self.has_stripe(hand, stripe) {
             return Ok(false);
         }
-        self.reserve(stripe)?;
-        Ok(true)
+        self.change_stripe(stripe, how)
     }
 
     /// The hand tells of a key that isn't there, in a stripe that it has.

@@ -7,7 +7,7 @@ ghost use Rattle.mc_script.specs.Forms.{source_of};
 
 use super::word::is;
 use crate::fault::Refusal;
-use mc_core::{Change, Series};
+use mc_core::{Change, Series, StripeChange};
 use mc_pages::{ChunkId, Found};
 use mc_script::line::words;
 use mc_script::number::number;
@@ -94,7 +94,7 @@ fn number_change(name: &[u8], number: u64) -> Option<Change>
         _ if is(name, b"Grow") => Some(Change::Grow(number)),
         _ if is(name, b"SetAutomove") => Some(Change::SetAutomove(number)),
         _ if is(name, b"Evicted") => Some(Change::Evicted(number)),
-        _ if is(name, b"Reserve") => Some(Change::Reserve(number)),
+        _ if is(name, b"Reserve") => Some(Change::OfStripe(number, StripeChange::Reserve)),
         _ if is(name, b"GotNone") => Some(Change::GotNone(number)),
         _ if is(name, b"DelNone") => Some(Change::DeletedNone(number)),
         _ => None,

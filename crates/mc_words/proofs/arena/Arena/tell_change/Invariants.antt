@@ -1,4 +1,4 @@
-use Rattle.mc_words.proofs.arena.Arena.reserve.Given as goal
+use Rattle.mc_words.proofs.arena.Arena.tell_change.Given as goal
 
 abbrev pub ghost-tell : goal.ghost-tell
 ghost-tell a = (a.change, a.step)

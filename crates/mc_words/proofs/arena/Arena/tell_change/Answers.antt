@@ -1,0 +1,51 @@
+use Rattle.std.proofs.Common.{◌≡◌, ℕ, suc, ◌+◌, refl, ap, sym, subst, ◌∙◌, length, arith, slice_index_or, true, None, Some}
+use Rattle.mc_core.specs.declared.event.Change.TheVariants.{OfStripe}
+use Rattle.mc_core.specs.declared.event.Step.TheVariants as core
+use Rattle.mc_core.specs.declared.look.Look.TheVariants.{SawStripe}
+use Rattle.mc_core.specs.Past.{stripe_word}
+use Rattle.mc_core.specs.Silent.{stripe_after}
+use Rattle.mc_words.specs.View.{View, Setup}
+use Rattle.mc_words.specs.Layout.{lock_word}
+use Rattle.mc_words.specs.Happens.{MayTell}
+use Rattle.mc_words.specs.Lent.{lent_stripe}
+use Rattle.mc_words.specs.Views.{saw}
+use Rattle.mc_words.proofs.Locked.{noted_same}
+use Rattle.mc_words.proofs.LockViews.{look_holds}
+use Rattle.mc_words.proofs.StripeChanges.{stripe_near, may_change, made, changed_stripe, set_found}
+use Rattle.mc_words.proofs.Tallies.{tallied_same}
+use Rattle.mc_words.proofs.arena.Arena.tell_change.Goals as goal
+
+pub word-word-requires : goal.word-word-requires
+word-word-requires c =
+    let a = c.args.self.now in
+    let near = stripe_near c.args.hand.now.seat.me.0 c.args.stripe (lent_stripe c.args.hand.now.seat.me.0 c.args.stripe) c.requires.held c.requires.arena.lawful in
+    let setup = ap (λ (s : Setup). s.config.stripes) (c.requires.arena.setup ∙ a.planned) in
+    let few = a.few in
+    record { few = omega arith }
+
+pub tell-requires : goal.tell-requires
+tell-requires c =
+    let a = c.args.self.now in
+    let number = c.args.stripe in
+    let near = stripe_near c.args.hand.now.seat.me.0 number (lent_stripe c.args.hand.now.seat.me.0 c.args.stripe) c.requires.held c.requires.arena.lawful in
+    let setup = ap (λ (s : Setup). s.config.stripes) (c.requires.arena.setup ∙ a.planned) in
+    let count = a.words in
+    let place : c.word-word.result ≡ lock_word (suc number) = c.word-word.ensures.word in
+    (refl, (refl, ((omega arith), (c.requires.arena, subst (λ (n : ℕ). MayTell c.args.hand.now.seat.me.0 (OfStripe number c.args.how) (core.MissStripe number) n (λ found. found)) (sym place) (may_change c.args.hand.now.seat.me.0 number (lent_stripe c.args.hand.now.seat.me.0 c.args.stripe) c.requires.held c.args.how c.requires.may)))))
+
+pub invariant_of-hand : goal.invariant_of-hand
+invariant_of-hand c =
+    let a = c.args.hand.now in
+    let number = c.args.stripe in
+    let is = changed_stripe a.seat.me.0 number (lent_stripe c.args.hand.now.seat.me.0 c.args.stripe) c.requires.held c.args.how c.requires.may c.tell.new.seat.me.0 a.number a.noted.0 c.tell.ensures.happens in
+    let held = ap (λ (v : View). v.row.holdings) is ∙ look_holds (SawStripe number (a.number + 1)) (saw (stripe_word number (a.number + 1)) (made a.seat.me.0 number (lent_stripe c.args.hand.now.seat.me.0 c.args.stripe) c.requires.held c.args.how c.requires.may)) in
+    record { noted = noted_same a.seat.me c.tell.new.seat.me a.number a.chunks a.chunks a.locks a.noted c.tell.ensures.out c.tell.ensures.hand (a.noted.2 ∙ ap length (sym held)); tallied = tallied_same a.seat.me c.tell.new.seat.me a.stamps a.fresh a.tallied (ap (λ (v : View). v.row.ids) is) (ap (λ (v : View). v.row.holdings) is) }
+
+pub returns-clause-view : goal.returns-clause-view
+returns-clause-view c = changed_stripe c.args.hand.now.seat.me.0 c.args.stripe (lent_stripe c.args.hand.now.seat.me.0 c.args.stripe) c.requires.held c.args.how c.requires.may c.tell.new.seat.me.0 c.args.hand.now.number c.args.hand.now.noted.0 c.tell.ensures.happens
+
+pub returns-clause-held : goal.returns-clause-held
+returns-clause-held c =
+    let view = c.args.hand.now.seat.me.0 in
+    ap (λ (v : View). slice_index_or v.stripes c.args.stripe None) (returns-clause-view c)
+    ∙ set_found view.stripes c.args.stripe (lent_stripe c.args.hand.now.seat.me.0 c.args.stripe) (stripe_after c.args.how (lent_stripe c.args.hand.now.seat.me.0 c.args.stripe)) c.requires.held
