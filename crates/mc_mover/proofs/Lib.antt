@@ -21,3 +21,4 @@ pub mod Grows
 pub mod Chains
 pub mod Nobodys
 pub mod SameItems
+pub mod Recorded

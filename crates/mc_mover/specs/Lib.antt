@@ -10,3 +10,4 @@ pub mod Reassigning
 pub mod Surveying
 pub mod Telling
 pub mod Acting
+pub mod Recording

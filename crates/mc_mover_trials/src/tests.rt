@@ -16,6 +16,7 @@ mod stats;
 mod steps;
 mod stress;
 mod surveys;
+mod trims;
 mod words;
 mod workers;
 

@@ -8,6 +8,7 @@ use Rattle.mc_mover.specs.declared.counts.Turn.{Turn}
 use Rattle.mc_mover.specs.declared.counts.Turn.TheVariants as turn
 use Rattle.mc_mover.specs.declared.numbers.Survey.{Survey}
 use Rattle.mc_mover.specs.Acting.{ActsOnce, TellsTurn}
+use Rattle.mc_mover.specs.Recording.{TrimsStripes}
 use Rattle.mc_mover.specs.Reassigning.{SetsMode}
 use Rattle.mc_mover.specs.Surveying.{Surveys}
 use Rattle.mc_mover.specs.Telling.{counts_in}
@@ -59,13 +60,19 @@ ActsOnDecision (Some decision) (Some acted) before now =
     (acted.decision ≡ decision) × AsksForPage (Some decision.src) decision.dst acted.answer before now
 ActsOnDecision decision acted before now = ⊥
 
--- a window ended: the dead of all classes were put back, the decider was fed what was left then, and its decision was acted on
-pub record EndsWindow (acted : Option Acted) (mover : Mover) (before : Hand) (left : Mover) (now : Hand) : Type 0 where
+-- at a window's end the dead of all classes were put back, the decider was fed what was left then, and its decision was acted on
+pub record ActsOnWindow (acted : Option Acted) (mover : Mover) (before : Hand) (left : Mover) (now : Hand) : Type 0 where
   pub survey : Survey
   pub surveyed : Hand
   pub surveys : ActsOnce (λ number. Surveys true survey) before surveyed
   pub feeds : left ≡ record mover { decider = decider_after mover.decider survey }
   pub acts : ActsOnDecision (decision_after mover.decider survey) acted surveyed now
+
+-- a window ended: so it was, and then each stripe was trimmed, or the first ones until memory was refused
+pub record EndsWindow (acted : Option Acted) (mover : Mover) (before : Hand) (left : Mover) (now : Hand) : Type 0 where
+  pub decided : Hand
+  pub acts : ActsOnWindow acted mover before left decided
+  pub trims : TrimsStripes decided now
 
 -- how a turn ended
 abbrev pub ending_of : Turn → Ending

@@ -3,22 +3,22 @@ ghost use Rattle.std.specs.Prelude.{◌≡◌, ◌≢◌, Err, IfOk, OnErr, OnOk
 ghost use Rattle.mc_words.specs.Arenas.{IsHandOf, view};
 ghost use Rattle.mc_words.specs.Observers.{number_of};
 ghost use Rattle.mc_words.specs.Ready.{IsReady};
-ghost use Rattle.mc_workers.specs.Moving.{AsksForPage, EndsWindow, decider_after, decision_after};
+ghost use Rattle.mc_workers.specs.Moving.{ActsOnWindow, AsksForPage, EndsWindow, decider_after, decision_after};
 
 use crate::ended::Ended;
 use crate::mover::Mover;
 use crate::mover_reply::Acted;
 use crate::numbers::{evictions_in, free_in, pages_in};
 use mc_memory::Refused;
-use mc_mover::{Survey, reassign, survey};
+use mc_mover::{Survey, reassign, survey, trim};
 use mc_pages::Reassign;
 use mc_watch::{Decider, Decision};
 use mc_words::{Arena, Hand};
 use std::alloc::Global;
 use std::sync::Wait;
 
-// Puts the dead of all classes back, feeds the decider what is left then, and asks for the page that it decides on, in mode 1 alone. Says
-// what became of that. (slabs.c's automover)
+// Puts the dead of all classes back, feeds the decider what is left then, and asks for the page that it decides on, in mode 1 alone. Then
+// it trims each stripe, as far as memory isn't refused. Says what became of the decision. (slabs.c's automover; the trim is own)
 pub(crate) fn end_window<R: Wait>(
     rt: &R,
     alloc: Global,
@@ -33,6 +33,28 @@ pub(crate) fn end_window<R: Wait>(
     ensures number { number_of hand.new ≡ number_of hand.old }
     ensures holdings { (view hand.new).row.holdings ≡ (view hand.old).row.holdings }
     ensures ends { IfOk result (λ acted. EndsWindow acted mover.old hand.old mover.new hand.new) }
+    ensures memory { result ≢ Err Ended.Turns }
+{
+    let acted = act_on_window(rt, alloc, arena, hand, mover)?;
+    let _trimmed = trim(rt, arena, hand);
+    Ok(acted)
+}
+
+// The same without the trim.
+fn act_on_window<R: Wait>(
+    rt: &R,
+    alloc: Global,
+    arena: &Arena,
+    hand: &mut Hand,
+    mover: &mut Mover,
+) -> Result<Option<Acted>, Ended>
+    requires arena { IsHandOf arena.now hand.old }
+    requires ready { IsReady (view hand.old) }
+    ensures arena { IsHandOf arena.now hand.new }
+    ensures ready { IsReady (view hand.new) }
+    ensures number { number_of hand.new ≡ number_of hand.old }
+    ensures holdings { (view hand.new).row.holdings ≡ (view hand.old).row.holdings }
+    ensures acts { IfOk result (λ acted. ActsOnWindow acted mover.old hand.old mover.new hand.new) }
     ensures memory { result ≢ Err Ended.Turns }
 {
     let survey = match survey(rt, alloc, arena, hand, true) {

@@ -7,7 +7,7 @@ use super::moves::{reassign_by, set_mode_by, turn_by};
 use super::stats::{Chunks, stats_of};
 use mc_classes::{ClassId, Config};
 use mc_memory::Refused;
-use mc_mover::{Counts, Turn};
+use mc_mover::{Counts, Turn, forget, trim};
 use mc_pages::Reassign;
 use mc_stripe::Key;
 use mc_words::{Arena, Hand};
@@ -33,6 +33,10 @@ pub enum Step {
     Goes(u64, u64, u64, u64, u64),
     /// A turn finishes the move, with the same counts.
     Finishes(u64, u64, u64, u64, u64),
+    /// Each stripe is trimmed, at the second try where memory was refused at the first.
+    Trims,
+    /// Each stripe forgets its calls.
+    Forgets,
     /// The automover's mode is set, and told by a survey.
     Modes(u64),
     /// So many pages are granted, and in the pool, and one moves or none does.
@@ -177,6 +181,11 @@ fn acts<R: Wait>(rt: &R, arena: &Arena, hand: &mut Hand, step: &Step) -> bool
         Step::Deletes(key) => delete_key(rt, arena, hand, *key) == Some(true),
         Step::Touches(key, there) => touch_key(rt, arena, hand, *key) == Some(*there),
         Step::Reassigns(src, dst, answer) => { reassign_by(rt, arena, hand, *src, *dst) == *answer }
+        Step::Trims => trim(rt, arena, hand).is_ok() || trim(rt, arena, hand).is_ok(),
+        Step::Forgets => {
+            forget(rt, arena, hand);
+            true
+        }
         Step::Idles => turn_by(rt, arena, hand) == Some(Turn::Idle),
         Step::Goes(cleared, rescued, evicted, busy, locked) => {
             let wanted = counts(*cleared, *rescued, *evicted, *busy, *locked);

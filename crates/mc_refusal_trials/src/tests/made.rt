@@ -5,7 +5,7 @@ use super::opening::opened_from;
 use super::rows::stores;
 use super::steps::play_all;
 use super::{FOUR_CLASSES, assert_same};
-use mc_core::{Change, Event, Series, State, Step, Stop, replay};
+use mc_core::{Change, Event, Series, State, Step, Stop, StripeChange, replay};
 use mc_memory::{Refused, push};
 use mc_pages::ChunkId;
 use std::alloc::Global;
@@ -72,7 +72,7 @@ fn events(alloc: Global) -> Result<Vec<Event>, Refused> {
     ] {
         push(&mut events, does(alloc, None, step)?)?;
     }
-    let reserve = Some(Change::Reserve(3));
+    let reserve = Some(Change::OfStripe(3, StripeChange::Reserve));
     push(&mut events, does(alloc, reserve, Step::Link(LAST))?)?;
     push(&mut events, does(alloc, None, Step::GiveStripe(3))?)?;
     Ok(events)

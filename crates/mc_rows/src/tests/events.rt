@@ -2,7 +2,7 @@
 ghost use Rattle.std.specs.Prelude.{◌≡◌, ◌<◌, ◌≤◌};
 
 use super::{FOUR_CLASSES, assert_same};
-use mc_core::{Change, Event, Series, State, Step, Stop, replay};
+use mc_core::{Change, Event, Series, State, Step, Stop, StripeChange, replay};
 use mc_memory::{Refused, push, with_capacity};
 use mc_pages::{ChunkId, Entry};
 use std::alloc::Global;
@@ -144,7 +144,11 @@ fn store(alloc: Global) -> Result<Vec<Event>, Refused> {
     go_on(alloc, &mut events, &steps)?;
     push(
         &mut events,
-        does_after(alloc, Change::Reserve(3), Step::Link(LAST))?,
+        does_after(
+            alloc,
+            Change::OfStripe(3, StripeChange::Reserve),
+            Step::Link(LAST),
+        )?,
     )?;
     Ok(events)
 }

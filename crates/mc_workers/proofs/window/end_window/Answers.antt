@@ -1,34 +1,22 @@
-use Rattle.std.proofs.Common.{◌≡◌, Option, Some, None, refl, sym, subst, ◌∙◌}
-use Rattle.mc_watch.specs.declared.decider.Decision.{Decision}
-use Rattle.mc_words.specs.declared.hand.Hand.{Hand}
-use Rattle.mc_workers.specs.declared.mover_reply.Acted.{Acted}
-use Rattle.mc_workers.specs.Moving.{ActsOnDecision, AsksForPage}
+use Rattle.std.proofs.Common.{◌⊎◌, Result, Ok, Err, OnErr, OnOk, inl, inr, subst, sym}
+use Rattle.std.specs.List.{range_with_len}
+use Rattle.mc_core.specs.declared.event.StripeChange.TheVariants.{Trim}
+use Rattle.mc_words.specs.View.{Setup, View}
+use Rattle.mc_mover.specs.Recording.{ChangesEach, Leaves, StopsTrimming}
 use Rattle.mc_workers.proofs.window.end_window.Goals as goal
 
--- no decision was found
-acts_on_none : (decided : Option Decision) → None ≡ decided → (hand : Hand) → ActsOnDecision decided None hand hand
-acts_on_none decided is hand = subst (λ (d : Option Decision). ActsOnDecision d None hand hand) is refl
-
--- this one was found
-acts_on_some : (decision : Decision) (decided : Option Decision) → Some decision ≡ decided → (acted : Acted) → acted.decision ≡ decision → (before now : Hand)
-    → AsksForPage (Some decision.src) decision.dst acted.answer before now → ActsOnDecision decided (Some acted) before now
-acts_on_some decision decided is acted of before now asks = subst (λ (d : Option Decision). ActsOnDecision d (Some acted) before now) is (of, asks)
-
-pub returns-in_default-clause-ends : goal.returns-in_default-clause-ends
-returns-in_default-clause-ends g c = record {
-  survey = c.in-Ok.survey;
-  surveyed = c.survey.new.hand;
-  surveys = c.in-Ok.ensures.surveys;
-  feeds = λ k. record c.args.mover.now { decider = c.in_ok-decision.ensures.fed k };
-  acts = acts_on_none _ (sym c.in_default.is ∙ c.in_ok-decision.ensures.decided) c.survey.new.hand;
-}
+-- whatever came of it, the one or the other holds
+one_of : {A E : Type 0} {P Q : Type 0} (result : Result A E) → OnOk result P → OnErr result Q → P ⊎ Q
+one_of (Ok a) whole stopped = inl whole
+one_of (Err e) whole stopped = inr stopped
 
 pub returns-clause-ends : goal.returns-clause-ends
-returns-clause-ends g c = record {
-  survey = c.in-Ok.survey;
-  surveyed = c.survey.new.hand;
-  surveys = c.in-Ok.ensures.surveys;
-  feeds = λ k. record c.args.mover.now { decider = c.in_ok-decision.ensures.fed k };
-  acts = acts_on_some c.in-Some.decision _ (sym c.in-Some.is ∙ c.in_ok-decision.ensures.decided) (record { decision = c.in-Some.decision; answer = c.in_ok-answer.answer }) refl
-      c.survey.new.hand c.ask_for_page.new.hand c.in_ok-answer.ensures.asks;
-}
+returns-clause-ends g c =
+    let number = c.act_on_window.new.hand.number in
+    let before : View = c.act_on_window.new.hand.seat.me.0 in
+    let now : View = c.trim-trimmed.new.hand.seat.me.0 in
+    let trims = one_of c.trim-trimmed.result c.trim-trimmed.ensures.trims c.trim-trimmed.ensures.stops in record {
+      decided = c.act_on_window.new.hand;
+      acts = c.in_ok-acted.ensures.acts;
+      trims = subst (λ (s : Setup). ChangesEach Trim number (range_with_len 0 s.config.stripes) before now ⊎ StopsTrimming number Leaves before now) (sym c.act_on_window.ensures.arena.setup) trims;
+    }

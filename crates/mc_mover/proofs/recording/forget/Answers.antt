@@ -1,0 +1,35 @@
+use Rattle.std.proofs.Common.{◌≡◌, ℕ, List, ap, sym, subst, ◌∙◌}
+use Rattle.std.specs.List.{range_with_len}
+use Rattle.mc_core.specs.declared.event.StripeChange.TheVariants.{Forget}
+use Rattle.mc_words.specs.View.{View}
+use Rattle.mc_words.specs.Doing.{HoldsStripe}
+use Rattle.mc_mover.specs.Recording.{Changes, ChangesEach}
+use Rattle.mc_mover.proofs.Recorded.{each_keeps, each_more, hold_keeps, holdings_kept, mine_kept, numbers_more, refs_kept, said_kept}
+use Rattle.mc_mover.proofs.recording.forget.Goals as goal
+
+pub loop-stripe-preserved : goal.loop-stripe-preserved
+loop-stripe-preserved g c =
+    let inv = c.loop-stripe.invariant in
+    let stripe = c.loop-stripe.stripe in
+    let view : View = c.args.hand.now.seat.me.0 in
+    let before : View = c.loop-stripe.hand.seat.me.0 in
+    let now : View = c.forget_stripe.new.hand.seat.me.0 in
+    let one = subst (λ (n : ℕ). HoldsStripe stripe (Changes Forget n stripe) before now) inv.number c.forget_stripe.ensures.forgets in record {
+      arena = c.forget_stripe.ensures.arena;
+      ready = c.forget_stripe.ensures.ready;
+      locks = c.forget_stripe.ensures.locks ∙ inv.locks;
+      number = c.forget_stripe.ensures.number ∙ inv.number;
+      so_far = subst (λ (stripes : List ℕ). ChangesEach Forget c.args.hand.now.number stripes view now) (sym (numbers_more stripe)) (each_more Forget c.args.hand.now.number stripe (range_with_len 0 stripe) view before now inv.so_far one);
+    }
+
+pub returns-clause-holdings : goal.returns-clause-holdings
+returns-clause-holdings g c = holdings_kept c.args.hand.now c.loop-stripe.hand (each_keeps Forget c.args.hand.now.number (range_with_len 0 c.loop-stripe.stripe) c.args.hand.now.seat.me.0 c.loop-stripe.hand.seat.me.0 c.loop-stripe.invariant.so_far)
+
+pub returns-clause-keeps : goal.returns-clause-keeps
+returns-clause-keeps g c = refs_kept c.args.hand.now c.loop-stripe.hand (each_keeps Forget c.args.hand.now.number (range_with_len 0 c.loop-stripe.stripe) c.args.hand.now.seat.me.0 c.loop-stripe.hand.seat.me.0 c.loop-stripe.invariant.so_far)
+
+pub returns-clause-unsaid : goal.returns-clause-unsaid
+returns-clause-unsaid g c = said_kept c.args.hand.now c.loop-stripe.hand (each_keeps Forget c.args.hand.now.number (range_with_len 0 c.loop-stripe.stripe) c.args.hand.now.seat.me.0 c.loop-stripe.hand.seat.me.0 c.loop-stripe.invariant.so_far)
+
+pub returns-clause-untold : goal.returns-clause-untold
+returns-clause-untold g c = mine_kept c.args.hand.now c.loop-stripe.hand (each_keeps Forget c.args.hand.now.number (range_with_len 0 c.loop-stripe.stripe) c.args.hand.now.seat.me.0 c.loop-stripe.hand.seat.me.0 c.loop-stripe.invariant.so_far)

@@ -1,0 +1,53 @@
+use Rattle.std.proofs.Common.{◌≡◌, ap, ◌∙◌, subst}
+use Rattle.mc_stripe.specs.StripeState.{ReadyStripe}
+use Rattle.mc_core.specs.declared.event.StripeChange.TheVariants.{Trim}
+use Rattle.mc_words.specs.Out.{without_stripe}
+use Rattle.mc_words.specs.declared.held.StripeHeld.{StripeHeld}
+use Rattle.mc_mover.proofs.Chains.{ready_still}
+use Rattle.mc_mover.specs.Recording.{Changes, Leaves}
+use Rattle.mc_mover.proofs.Recorded.{changes_quiet, held_for, hold_keeps, holdings_kept, leaves_quiet, number_kept, stripe_back, waited_number}
+use Rattle.mc_mover.proofs.recording.trim_stripe.Goals as goal
+
+pub returns-in-Err-clause-locks : goal.returns-in-Err-clause-locks
+returns-in-Err-clause-locks g c = c.give_stripe.ensures.locks ∙ (ap without_stripe (c.trim.ensures.locks ∙ c.lock_stripe-held.ensures.locks) ∙ stripe_back c.args.hand.now c.args.stripe c.requires.ready.unlocked)
+
+pub returns-in-Err-clause-leaves : goal.returns-in-Err-clause-leaves
+returns-in-Err-clause-leaves g c =
+    let held = c.lock_stripe-held in
+    record {
+      found = held.result.stripe;
+      taken = held.new.hand.seat.me.0;
+      waits = held.ensures.waits;
+      left = c.trim.new.held.stripe;
+      last = c.trim.new.hand.seat.me.0;
+      does = (ap (λ (h : StripeHeld). h.stripe) c.in-Err.ensures.refused.0, c.in-Err.ensures.refused.1);
+      given = c.give_stripe.ensures.left ∙ ap (λ n. Rattle.mc_words.specs.Views.stripe_given n c.trim.new.held.stripe c.trim.new.hand.seat.me.0) (c.trim.ensures.number ∙ held.ensures.number);
+    }
+
+pub returns-in-Err-clause-number : goal.returns-in-Err-clause-number
+returns-in-Err-clause-number g c = number_kept c.args.hand.now c.give_stripe.new.hand (hold_keeps Leaves leaves_quiet c.args.stripe c.args.hand.now.seat.me.0 c.give_stripe.new.hand.seat.me.0 (returns-in-Err-clause-leaves g c))
+
+pub returns-in-Err-clause-ready : goal.returns-in-Err-clause-ready
+returns-in-Err-clause-ready g c = ready_still c.args.hand.now c.give_stripe.new.hand (returns-in-Err-clause-locks g c)
+    (holdings_kept c.args.hand.now c.give_stripe.new.hand (hold_keeps Leaves leaves_quiet c.args.stripe c.args.hand.now.seat.me.0 c.give_stripe.new.hand.seat.me.0 (returns-in-Err-clause-leaves g c))) c.requires.ready
+
+pub returns-clause-locks : goal.returns-clause-locks
+returns-clause-locks g c = c.give_stripe-2.ensures.locks ∙ (ap without_stripe (c.trim.ensures.locks ∙ c.lock_stripe-held.ensures.locks) ∙ stripe_back c.args.hand.now c.args.stripe c.requires.ready.unlocked)
+
+pub returns-clause-trims : goal.returns-clause-trims
+returns-clause-trims g c =
+    let held = c.lock_stripe-held in
+    held_for Trim c.args.hand.now.number held.new.hand.number c.args.stripe held.result.number c.trim.new.held.number held.result.stripe held.result.stripe c.trim.new.held.stripe
+    c.args.hand.now.seat.me.0 held.new.hand.seat.me.0 c.trim.new.hand.seat.me.0 c.give_stripe-2.new.hand.seat.me.0 held.ensures.waits
+    (waited_number c.args.hand.now held.new.hand c.args.stripe held.result.stripe held.ensures.waits) held.ensures.number (c.trim.ensures.number ∙ held.ensures.number)
+    (ap (λ (h : StripeHeld). h.stripe) c.in_default.ensures.trimmed) c.in_default.ensures.view c.give_stripe-2.ensures.left
+
+pub returns-clause-number : goal.returns-clause-number
+returns-clause-number g c = number_kept c.args.hand.now c.give_stripe-2.new.hand
+    (hold_keeps (Changes Trim c.args.hand.now.number c.args.stripe) (changes_quiet Trim c.args.hand.now.number c.args.stripe) c.args.stripe c.args.hand.now.seat.me.0 c.give_stripe-2.new.hand.seat.me.0 (returns-clause-trims g c))
+
+pub returns-clause-ready : goal.returns-clause-ready
+returns-clause-ready g c = ready_still c.args.hand.now c.give_stripe-2.new.hand (returns-clause-locks g c)
+    (holdings_kept c.args.hand.now c.give_stripe-2.new.hand
+    (hold_keeps (Changes Trim c.args.hand.now.number c.args.stripe) (changes_quiet Trim c.args.hand.now.number c.args.stripe) c.args.stripe c.args.hand.now.seat.me.0 c.give_stripe-2.new.hand.seat.me.0 (returns-clause-trims g c)))
+    c.requires.ready

@@ -1,0 +1,46 @@
+-- Stripes whose calls are trimmed, or forgotten, each under its own lock.
+use Rattle.std.specs.Prelude.{◌≡◌, ◌⊎◌, ◌≤◌, ◌^◌, ◌+◌, ℕ, true, List, [], ◌∷◌, length, is_some}
+use Rattle.std.specs.List.{range_with_len}
+use Rattle.mc_stripe.specs.StripeState.{ReadyStripe}
+use Rattle.mc_core.specs.declared.event.StripeChange.{StripeChange}
+use Rattle.mc_core.specs.declared.event.StripeChange.TheVariants.{Trim}
+use Rattle.mc_core.specs.Silent.{stripe_after}
+use Rattle.mc_words.specs.declared.hand.Hand.{Hand}
+use Rattle.mc_words.specs.View.{View}
+use Rattle.mc_words.specs.Arenas.{view}
+use Rattle.mc_words.specs.Observers.{number_of}
+use Rattle.mc_words.specs.Doing.{Doing, HoldsStripe}
+use Rattle.mc_words.specs.Views.{stripe_changed}
+
+-- by the hand of this number the stripe changed so
+abbrev pub Changes : StripeChange → ℕ → ℕ → Doing
+Changes how number stripe found taken left last = (left ≡ stripe_after how found) × (last ≡ stripe_changed how stripe found (number + 1) taken)
+
+-- nothing was done
+abbrev pub Leaves : Doing
+Leaves found taken left last = (left ≡ found) × (last ≡ taken)
+
+-- the stripe records calls, and the place of its next one can't be counted
+abbrev pub IsFull : ReadyStripe → Type 0
+IsFull stripe = (is_some stripe.state.recorded_from ≡ true) × (2 ^ 64 ≤ length stripe.state.history)
+
+-- that was found, and nothing was done
+abbrev pub FindsFull : Doing
+FindsFull found taken left last = IsFull found × Leaves found taken left last
+
+-- each of these stripes changed so, one after another
+abbrev pub ChangesEach : StripeChange → ℕ → List ℕ → View → View → Type 0
+ChangesEach how number [] view now = now ≡ view
+ChangesEach how number (stripe ∷ stripes) view now = (next : View) × HoldsStripe stripe (Changes how number stripe) view next × ChangesEach how number stripes next now
+
+-- all stripes below one were trimmed, and this was done with that one
+pub record StopsTrimming (number : ℕ) (Does : Doing) (view now : View) : Type 0 where
+  pub stripe : ℕ
+  pub before : View
+  pub trims : ChangesEach Trim number (range_with_len 0 stripe) view before
+  pub stops : HoldsStripe stripe Does before now
+
+-- the hand trimmed all stripes, or the first ones, up to one that was refused
+abbrev pub TrimsStripes : Hand → Hand → Type 0
+TrimsStripes before now =
+    ChangesEach Trim (number_of before) (range_with_len 0 (view before).setup.config.stripes) (view before) (view now) ⊎ StopsTrimming (number_of before) Leaves (view before) (view now)

@@ -1,0 +1,96 @@
+//! Histories that are trimmed, or forgotten: of each stripe in turn, from the first on.
+ghost use Rattle.std.specs.List.{range_with_len};
+ghost use Rattle.std.specs.Prelude.{◌≡◌, ◌<◌, Err, OnErr, OnOk};
+ghost use Rattle.mc_core.specs.declared.event.StripeChange.TheVariants.{Forget, Trim as Trimmed};
+ghost use Rattle.mc_words.specs.Arenas.{IsHandOf, setup_of, view};
+ghost use Rattle.mc_words.specs.Doing.{HoldsStripe};
+ghost use Rattle.mc_words.specs.Observers.{locks_of, number_of};
+ghost use Rattle.mc_words.specs.Ready.{IsReady};
+ghost use Rattle.mc_words.specs.Refs.{KeepsRefs};
+ghost use Rattle.mc_mover.specs.Recording.{Changes, ChangesEach, FindsFull, Leaves, StopsTrimming};
+
+use mc_stripe::Trim;
+use mc_words::{Arena, Hand};
+use std::sync::Wait;
+
+/// Trims the history of each stripe, from 0 on, one at a time: the calls so far aren't recorded any more, and take no memory but what they
+/// left, each key's stamp. It waits for each lock. It ends at the first refusal, whose stripe is as before; what was trimmed stays
+/// trimmed. (own)
+pub fn trim<R: Wait>(rt: &R, arena: &Arena, hand: &mut Hand) -> Result<(), Trim>
+    requires arena { IsHandOf arena.now hand.old }
+    requires ready { IsReady (view hand.old) }
+    ensures arena { IsHandOf arena.now hand.new }
+    ensures ready { IsReady (view hand.new) }
+    ensures locks { locks_of hand.new ≡ locks_of hand.old }
+    ensures number { number_of hand.new ≡ number_of hand.old }
+    ensures trims { OnOk result (ChangesEach Trimmed (number_of hand.old) (range_with_len 0 (setup_of arena.now).config.stripes) (view hand.old) (view hand.new)) }
+    ensures stops { OnErr result (StopsTrimming (number_of hand.old) Leaves (view hand.old) (view hand.new)) }
+    ensures full { result ≡ Err Trim.Full → StopsTrimming (number_of hand.old) FindsFull (view hand.old) (view hand.new) }
+    ensures holdings { (view hand.new).row.holdings ≡ (view hand.old).row.holdings }
+    ensures keeps { KeepsRefs (view hand.old) (view hand.new) }
+    ensures unsaid { (view hand.new).row.knows.said ≡ (view hand.old).row.knows.said }
+    ensures untold { (view hand.new).row.knows.mine ≡ (view hand.old).row.knows.mine }
+{
+    for stripe in 0..arena.config().stripes {
+        trim_stripe(rt, arena, hand, stripe)?;
+    }
+    Ok(())
+}
+
+/// Has each stripe forget its calls: from then on none is recorded, and a call takes no memory but what the index wants for a new key. It
+/// waits for each lock, from 0 on, one at a time. What the contracts say of the history stands, as it tells of all calls. (own)
+pub fn forget<R: Wait>(rt: &R, arena: &Arena, hand: &mut Hand)
+    requires arena { IsHandOf arena.now hand.old }
+    requires ready { IsReady (view hand.old) }
+    ensures arena { IsHandOf arena.now hand.new }
+    ensures ready { IsReady (view hand.new) }
+    ensures locks { locks_of hand.new ≡ locks_of hand.old }
+    ensures number { number_of hand.new ≡ number_of hand.old }
+    ensures forgets { ChangesEach Forget (number_of hand.old) (range_with_len 0 (setup_of arena.now).config.stripes) (view hand.old) (view hand.new) }
+    ensures holdings { (view hand.new).row.holdings ≡ (view hand.old).row.holdings }
+    ensures keeps { KeepsRefs (view hand.old) (view hand.new) }
+    ensures unsaid { (view hand.new).row.knows.said ≡ (view hand.old).row.knows.said }
+    ensures untold { (view hand.new).row.knows.mine ≡ (view hand.old).row.knows.mine }
+{
+    for stripe in 0..arena.config().stripes {
+        forget_stripe(rt, arena, hand, stripe);
+    }
+}
+
+// Trims the history of one stripe.
+fn trim_stripe<R: Wait>(rt: &R, arena: &Arena, hand: &mut Hand, stripe: u64) -> Result<(), Trim>
+    requires arena { IsHandOf arena.now hand.old }
+    requires ready { IsReady (view hand.old) }
+    requires near { stripe < (setup_of arena.now).config.stripes }
+    ensures arena { IsHandOf arena.now hand.new }
+    ensures ready { IsReady (view hand.new) }
+    ensures locks { locks_of hand.new ≡ locks_of hand.old }
+    ensures number { number_of hand.new ≡ number_of hand.old }
+    ensures trims { OnOk result (HoldsStripe stripe (Changes Trimmed (number_of hand.old) stripe) (view hand.old) (view hand.new)) }
+    ensures leaves { OnErr result (HoldsStripe stripe Leaves (view hand.old) (view hand.new)) }
+    ensures full { result ≡ Err Trim.Full → HoldsStripe stripe FindsFull (view hand.old) (view hand.new) }
+{
+    let mut held = arena.lock_stripe(rt, hand, stripe);
+    if let Err(refused) = arena.trim(hand, &mut held) {
+        arena.give_stripe(hand, held);
+        return Err(refused);
+    }
+    arena.give_stripe(hand, held);
+    Ok(())
+}
+
+// Has one stripe forget its calls.
+fn forget_stripe<R: Wait>(rt: &R, arena: &Arena, hand: &mut Hand, stripe: u64)
+    requires arena { IsHandOf arena.now hand.old }
+    requires ready { IsReady (view hand.old) }
+    requires near { stripe < (setup_of arena.now).config.stripes }
+    ensures arena { IsHandOf arena.now hand.new }
+    ensures ready { IsReady (view hand.new) }
+    ensures locks { locks_of hand.new ≡ locks_of hand.old }
+    ensures number { number_of hand.new ≡ number_of hand.old }
+    ensures forgets { HoldsStripe stripe (Changes Forget (number_of hand.old) stripe) (view hand.old) (view hand.new) }
+{
+    let mut held = arena.lock_stripe(rt, hand, stripe);
+    arena.forget(hand, &mut held);
+    arena.give_stripe(hand, held);
+}

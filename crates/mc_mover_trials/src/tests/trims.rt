@@ -1,0 +1,108 @@
+//! Stripes that are trimmed between calls, or forget their calls: the answers are the same, and what is told isn't kept.
+use super::calls::opened_two;
+use super::steps::{Step, play_all};
+use super::{FOUR_CLASSES, assert_same};
+use mc_pages::Reassign;
+use mc_words::Final;
+use std::alloc::Global;
+use std::process::Abort;
+use std::sync::Wait;
+use std::test::Fail;
+
+/// The arena that these calls leave.
+fn close_behind<R: Abort + Wait>(rt: &R, alloc: Global, steps: &[Step]) -> Result<Final, Fail> {
+    let (arena, mut hand, _other) = opened_two(alloc, &FOUR_CLASSES)?;
+    play_all(rt, alloc, &arena, &mut hand, steps)?;
+    Ok(arena.close(hand))
+}
+
+/// How many calls of all stripes are recorded, and how many aren't.
+fn counts_of(left: &Final) -> (usize, u64) {
+    let (mut recorded, mut trimmed) = (0usize, 0u64);
+    for number in 0..left.config().stripes {
+        if let Some(stripe) = left.stripe(number) {
+            recorded = recorded.saturating_add(stripe.history().len());
+            trimmed = trimmed.saturating_add(stripe.trimmed());
+        }
+    }
+    (recorded, trimmed)
+}
+
+/// For how many keys the bases have a stamp. None where a stripe has no base.
+fn count_based(left: &Final) -> Option<usize> {
+    let mut keys = 0usize;
+    for number in 0..left.config().stripes {
+        keys = keys.saturating_add(left.stripe(number)?.base()?.len());
+    }
+    Some(keys)
+}
+
+/// Eight sets, a delete, a rescue, an eviction, and two touches, of which one finds its key.
+const CALLS: u64 = 13;
+
+#[test]
+fn a_trim_after_each_call_changes_no_answer(rt: HostRuntime) -> Result<(), Fail> {
+    let steps = [
+        Step::Trims,
+        Step::Sets(1, 5, 61),
+        Step::Trims,
+        Step::Sets(5, 9, 61),
+        Step::Trims,
+        Step::Deletes(8),
+        Step::Trims,
+        Step::Reassigns(Some(4), 1, Ok(())),
+        Step::Trims,
+        Step::Reassigns(Some(4), 1, Err(Reassign::Busy)),
+        Step::Finishes(2, 1, 1, 0, 0),
+        Step::Trims,
+        Step::Touches(2, true),
+        Step::Trims,
+        Step::Touches(1, false),
+        Step::Trims,
+    ];
+    let left = close_behind(&rt, rt.alloc(), &steps)?;
+    assert_same(&rt, counts_of(&left), (0, CALLS), "recorded, and trimmed");
+    // of eight keys one was deleted, and one evicted
+    assert_same(&rt, count_based(&left), Some(6), "keys of the bases");
+    Ok(())
+}
+
+#[test]
+fn what_comes_behind_a_trim_is_recorded(rt: HostRuntime) -> Result<(), Fail> {
+    let steps = [
+        Step::Sets(1, 9, 61),
+        Step::Trims,
+        Step::Deletes(8),
+        Step::Reassigns(Some(4), 1, Ok(())),
+        Step::Finishes(2, 1, 1, 0, 0),
+        Step::Touches(2, true),
+        Step::Touches(1, false),
+    ];
+    let left = close_behind(&rt, rt.alloc(), &steps)?;
+    assert_same(
+        &rt,
+        counts_of(&left),
+        (5, CALLS - 5),
+        "recorded, and trimmed",
+    );
+    assert_same(&rt, count_based(&left), Some(8), "keys of the bases");
+    Ok(())
+}
+
+#[test]
+fn what_is_forgotten_is_not_recorded(rt: HostRuntime) -> Result<(), Fail> {
+    let steps = [
+        Step::Forgets,
+        Step::Sets(1, 9, 61),
+        Step::Deletes(8),
+        Step::Reassigns(Some(4), 1, Ok(())),
+        Step::Finishes(2, 1, 1, 0, 0),
+        Step::Touches(2, true),
+        Step::Touches(1, false),
+        Step::Trims,
+    ];
+    let left = close_behind(&rt, rt.alloc(), &steps)?;
+    assert_same(&rt, counts_of(&left), (0, CALLS), "recorded, and trimmed");
+    assert_same(&rt, count_based(&left), None, "keys of the bases");
+    Ok(())
+}
