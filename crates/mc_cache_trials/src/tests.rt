@@ -25,15 +25,43 @@ fn play(rt: &impl Abort, keeper: &mut Keeper, steps: &[Step]) -> Result<(), Refu
     Ok(())
 }
 
-/// Eight items of 22 words are stored, two a page, and then come these calls.
-fn play_behind_eight(rt: &impl Abort, alloc: Global, steps: &[Step]) -> Result<(), Fail> {
-    let mut keeper = small_keeper(alloc)?;
-    for place in 0..8u64 {
-        let so = is_so(&mut keeper, &Step::Sets(place + 1, 22, Stored::Yes))?;
-        assert!(rt; so, "an item isn't stored");
+/// Lists of calls, each with how often it is played.
+type Lists<'a> = &'a [(usize, &'a [Step])];
+
+fn play_each(rt: &impl Abort, keeper: &mut Keeper, lists: Lists<'_>) -> Result<(), Refused> {
+    for (times, steps) in lists {
+        for _ in 0..*times {
+            play(rt, keeper, steps)?;
+        }
     }
-    play(rt, &mut keeper, steps)?;
     Ok(())
+}
+
+/// A new keeper plays these lists. It is dropped by a call, and before the `?`: each place where a keeper goes out of
+/// scope takes most of a minute to prove.
+fn play_new(rt: &impl Abort, alloc: Global, lists: Lists<'_>) -> Result<(), Fail> {
+    let mut keeper = small_keeper(alloc)?;
+    let played = play_each(rt, &mut keeper, lists);
+    drop(keeper);
+    played?;
+    Ok(())
+}
+
+/// Eight items of 22 words are stored, two a page.
+const EIGHT: [Step; 8] = [
+    Step::Sets(1, 22, Stored::Yes),
+    Step::Sets(2, 22, Stored::Yes),
+    Step::Sets(3, 22, Stored::Yes),
+    Step::Sets(4, 22, Stored::Yes),
+    Step::Sets(5, 22, Stored::Yes),
+    Step::Sets(6, 22, Stored::Yes),
+    Step::Sets(7, 22, Stored::Yes),
+    Step::Sets(8, 22, Stored::Yes),
+];
+
+/// The eight are stored, and then come these calls.
+fn play_behind_eight(rt: &impl Abort, alloc: Global, steps: &[Step]) -> Result<(), Fail> {
+    play_new(rt, alloc, &[(1, &EIGHT), (1, steps)])
 }
 
 /// What is held stays as it was when it was held, and its words are lent when it is dropped.
@@ -104,9 +132,7 @@ const FULL: [Step; 7] = [
 
 #[test]
 fn a_held_item_outlives_its_key(rt: HostRuntime) -> Result<(), Fail> {
-    let mut keeper = small_keeper(rt.alloc())?;
-    play(&rt, &mut keeper, &HELD)?;
-    Ok(())
+    play_new(&rt, rt.alloc(), &[(1, &HELD)])
 }
 
 #[test]
@@ -124,21 +150,24 @@ fn what_is_held_leaves_no_room(rt: HostRuntime) -> Result<(), Fail> {
     play_behind_eight(&rt, rt.alloc(), &FULL)
 }
 
-/// A worker with 255 holds is refused a hold and a get, whatever the key.
+const ONE: [Step; 1] = [Step::Sets(6, 1, Stored::Yes)];
+
+const HELD_AGAIN: [Step; 1] = [Step::Holds(3, 6, Ok(true))];
+
+/// A hold and a get are refused, whatever the key.
+const HOLDS_NO_MORE: [Step; 2] = [
+    Step::Holds(3, 7, Err(HoldError::TooManyRefs)),
+    Step::Gets(3, 7, Err(TooManyRefs)),
+];
+
+/// A worker with 255 holds gets no other.
 #[test]
 fn a_worker_has_255_holds(rt: HostRuntime) -> Result<(), Fail> {
-    let mut keeper = small_keeper(rt.alloc())?;
-    play(&rt, &mut keeper, &[Step::Sets(6, 1, Stored::Yes)])?;
-    for _ in 0..255 {
-        play(&rt, &mut keeper, &[Step::Holds(3, 6, Ok(true))])?;
-    }
-    let refused = Step::Holds(3, 7, Err(HoldError::TooManyRefs));
-    play(
+    play_new(
         &rt,
-        &mut keeper,
-        &[refused, Step::Gets(3, 7, Err(TooManyRefs))],
-    )?;
-    Ok(())
+        rt.alloc(),
+        &[(1, &ONE), (255, &HELD_AGAIN), (1, &HOLDS_NO_MORE)],
+    )
 }
 
 /// Whether the square is right, and is told again.
@@ -151,13 +180,20 @@ fn is_kept(cache: &mut Keeper, key: u64) -> Result<bool, Refused> {
     Ok(first == key * key && again == first)
 }
 
-/// What was reckoned is found again, and a cache that stands still ticks.
+/// A square is found again, it is all that is stored, and a cache that stands still ticks.
+fn keeps_and_ticks(cache: &mut Keeper) -> Result<bool, Refused> {
+    let kept = is_kept(cache, 12)?;
+    let stands = is_so(cache, &Step::Has(1, 1, 20))?;
+    let ticked = tick(cache).is_ok();
+    Ok(kept && stands && ticked)
+}
+
+/// What was reckoned is found again, and the cache ticks.
 #[test]
 fn squares_are_kept(rt: HostRuntime) -> Result<(), Fail> {
     let mut cache = small_cache(rt.alloc())?;
-    let kept = is_kept(&mut cache, 12)?;
-    let stands = is_so(&mut cache, &Step::Has(1, 1, 20))?;
-    let ticked = tick(&mut cache).is_ok();
-    assert!(rt; kept && stands && ticked, "the cache");
+    let found = keeps_and_ticks(&mut cache);
+    drop(cache);
+    assert!(rt; found?, "the cache");
     Ok(())
 }
