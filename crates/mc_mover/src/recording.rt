@@ -37,8 +37,9 @@ pub fn trim<R: Wait>(rt: &R, arena: &Arena, hand: &mut Hand) -> Result<(), Trim>
     Ok(())
 }
 
-/// Has each stripe forget its calls: from then on none is recorded, and a call takes no memory but what the index wants for a new key. It
-/// waits for each lock, from 0 on, one at a time. What the contracts say of the history stands, as it tells of all calls. (own)
+/// Has each stripe forget its calls: from then on none is recorded. It waits for each lock, from 0 on, one at a time. What the contracts say
+/// of the history stands, as it tells of all calls. That a call asks for no memory for its entry then is seen in the benchmark, and no
+/// clause says it. (own)
 pub fn forget<R: Wait>(rt: &R, arena: &Arena, hand: &mut Hand)
     requires arena { IsHandOf arena.now hand.old }
     requires ready { IsReady (view hand.old) }
