@@ -6,7 +6,7 @@ ghost use Rattle.mc_words.specs.Observers.{hint_chunk, number_of};
 ghost use Rattle.mc_words.specs.Ready.{IsReady};
 
 use mc_items::{again, delete, get, hint, read, release, set, touch, try_get};
-use mc_mover::{reassign, set_mode, survey, try_turn, turn};
+use mc_mover::{forget, reassign, set_mode, survey, trim, try_turn, turn};
 use mc_words::{Arena, Hand, Hint};
 use std::alloc::Global;
 use std::sync::Wait;
@@ -106,4 +106,8 @@ fn move_twice<R: Wait>(rt: &R, alloc: Global, arena: &Arena, hand: &mut Hand)
     let _ = try_turn(arena, hand);
     let _ = survey(rt, alloc, arena, hand, true);
     let _ = survey(rt, alloc, arena, hand, false);
+    let _ = trim(rt, arena, hand);
+    let _ = trim(rt, arena, hand);
+    forget(rt, arena, hand);
+    forget(rt, arena, hand);
 }

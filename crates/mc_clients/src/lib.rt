@@ -4,7 +4,9 @@
 mod chained;
 mod held;
 mod own;
+mod trimmed;
 
 pub use chained::call_twice;
 pub use held::read_after_all;
 pub use own::{RefusedCall, set_and_read};
+pub use trimmed::read_after_trims;
