@@ -8,6 +8,7 @@ use driven::Driven;
 use mc_classes::{ClassId, ClassTable, Config, PageId};
 use mc_pages::{ChunkId, Entry, Found, Grow, Numbers, Owner, Reassign, Totals};
 use plain::{Plain, PlainClass};
+use std::alloc::Global;
 use std::process::Abort;
 use std::test::Fail;
 
@@ -128,36 +129,44 @@ fn assert_step(rt: &impl Abort, all: &mut Driven, step: Step) {
     }
 }
 
+/// Each call gives what it is to give, one after another.
+fn assert_steps(rt: &impl Abort, all: &mut Driven, steps: &[Step]) {
+    for step in steps {
+        assert_step(rt, all, *step);
+    }
+}
+
+/// One page is cut, and two of its chunks go out.
+const ONE_PAGE: [Step; 22] = [
+    Step::IsEmpty(1),
+    Step::Owns(0, Owner::Untouched),
+    Step::Grows(1, 0),
+    Step::Owns(0, Owner::Class(1)),
+    Step::Owns(1, Owner::Untouched),
+    Step::Counts(1, 1, 0),
+    Step::Cuts(0, 21),
+    Step::Counts(1, 1, 21),
+    Step::HasFree(1, 0, Some((0, 20))),
+    Step::HasFree(1, 20, Some((0, 0))),
+    Step::HasFree(1, 21, None),
+    Step::IsEmpty(2),
+    Step::Pops(1, 0, 20),
+    Step::Pops(1, 0, 19),
+    Step::HasOrder(1, 0, Some((0, 20))),
+    Step::HasOrder(1, 1, Some((0, 19))),
+    Step::HasOrder(1, 2, None),
+    Step::Counts(1, 1, 19),
+    Step::Backs(1, 0, 0, 20),
+    Step::HasFree(1, 0, Some((0, 20))),
+    Step::HasOrder(1, 0, Some((0, 19))),
+    Step::Counts(1, 1, 20),
+];
+
 #[test]
 fn one_page_is_cut_and_handed_out(rt: HostRuntime) -> Result<(), Fail> {
     let table = ClassTable::build(rt.alloc(), &FOUR_CLASSES)?;
     let mut all = Driven::new(rt.alloc(), &table)?;
-    for step in [
-        Step::IsEmpty(1),
-        Step::Owns(0, Owner::Untouched),
-        Step::Grows(1, 0),
-        Step::Owns(0, Owner::Class(1)),
-        Step::Owns(1, Owner::Untouched),
-        Step::Counts(1, 1, 0),
-        Step::Cuts(0, 21),
-        Step::Counts(1, 1, 21),
-        Step::HasFree(1, 0, Some((0, 20))),
-        Step::HasFree(1, 20, Some((0, 0))),
-        Step::HasFree(1, 21, None),
-        Step::IsEmpty(2),
-        Step::Pops(1, 0, 20),
-        Step::Pops(1, 0, 19),
-        Step::HasOrder(1, 0, Some((0, 20))),
-        Step::HasOrder(1, 1, Some((0, 19))),
-        Step::HasOrder(1, 2, None),
-        Step::Counts(1, 1, 19),
-        Step::Backs(1, 0, 0, 20),
-        Step::HasFree(1, 0, Some((0, 20))),
-        Step::HasOrder(1, 0, Some((0, 19))),
-        Step::Counts(1, 1, 20),
-    ] {
-        assert_step(&rt, &mut all, step);
-    }
+    assert_steps(&rt, &mut all, &ONE_PAGE);
     assert_equal(&rt, all.totals(), granted(1), "totals");
     assert_equal(
         &rt,
@@ -168,73 +177,75 @@ fn one_page_is_cut_and_handed_out(rt: HostRuntime) -> Result<(), Fail> {
     Ok(())
 }
 
+/// Chunks go out, are touched, replaced and given back, and which is older.
+const AGES: [Step; 27] = [
+    Step::Grows(2, 0),
+    Step::Cuts(0, 10),
+    Step::Pops(2, 0, 9),
+    Step::Pops(2, 0, 8),
+    Step::Pops(2, 0, 7),
+    // In the order of their hand-outs.
+    Step::IsOlder(2, 0, 1, true),
+    Step::IsOlder(2, 0, 2, true),
+    Step::IsOlder(2, 1, 2, true),
+    Step::IsOlder(2, 1, 0, false),
+    Step::IsOlder(2, 2, 0, false),
+    Step::IsOlder(2, 1, 1, false),
+    // The first one is the youngest now: 8, 7, 9.
+    Step::Touches(2, 0, 0, 9),
+    Step::HasOrder(2, 2, Some((0, 9))),
+    Step::IsOlder(2, 1, 2, true),
+    Step::IsOlder(2, 2, 0, false),
+    // Chunk 6 is as old as chunk 7: 8, 6, 7, 9.
+    Step::Replaces(2, 1),
+    Step::HasOrder(2, 1, Some((0, 6))),
+    Step::HasOrder(2, 2, Some((0, 7))),
+    Step::IsOlder(2, 1, 2, false),
+    Step::IsOlder(2, 2, 1, false),
+    Step::IsOlder(2, 0, 1, true),
+    Step::IsOlder(2, 1, 3, true),
+    // The old one goes back and out again: 8, 6, 9, 7.
+    Step::Backs(2, 2, 0, 7),
+    Step::Pops(2, 0, 7),
+    Step::IsOlder(2, 1, 3, true),
+    Step::IsOlder(2, 2, 3, true),
+    Step::IsOlder(2, 3, 1, false),
+];
+
 #[test]
 fn the_older_of_two_chunks_is_known_unless_one_replaced_the_other(
     rt: HostRuntime,
 ) -> Result<(), Fail> {
     let table = ClassTable::build(rt.alloc(), &FOUR_CLASSES)?;
     let mut all = Driven::new(rt.alloc(), &table)?;
-    for step in [
-        Step::Grows(2, 0),
-        Step::Cuts(0, 10),
-        Step::Pops(2, 0, 9),
-        Step::Pops(2, 0, 8),
-        Step::Pops(2, 0, 7),
-        // In the order of their hand-outs.
-        Step::IsOlder(2, 0, 1, true),
-        Step::IsOlder(2, 0, 2, true),
-        Step::IsOlder(2, 1, 2, true),
-        Step::IsOlder(2, 1, 0, false),
-        Step::IsOlder(2, 2, 0, false),
-        Step::IsOlder(2, 1, 1, false),
-        // The first one is the youngest now: 8, 7, 9.
-        Step::Touches(2, 0, 0, 9),
-        Step::HasOrder(2, 2, Some((0, 9))),
-        Step::IsOlder(2, 1, 2, true),
-        Step::IsOlder(2, 2, 0, false),
-        // Chunk 6 is as old as chunk 7: 8, 6, 7, 9.
-        Step::Replaces(2, 1),
-        Step::HasOrder(2, 1, Some((0, 6))),
-        Step::HasOrder(2, 2, Some((0, 7))),
-        Step::IsOlder(2, 1, 2, false),
-        Step::IsOlder(2, 2, 1, false),
-        Step::IsOlder(2, 0, 1, true),
-        Step::IsOlder(2, 1, 3, true),
-        // The old one goes back and out again: 8, 6, 9, 7.
-        Step::Backs(2, 2, 0, 7),
-        Step::Pops(2, 0, 7),
-        Step::IsOlder(2, 1, 3, true),
-        Step::IsOlder(2, 2, 3, true),
-        Step::IsOlder(2, 3, 1, false),
-    ] {
-        assert_step(&rt, &mut all, step);
-    }
+    assert_steps(&rt, &mut all, &AGES);
     Ok(())
 }
+
+/// Four classes get a page each, and no fifth is left.
+const FIVE_PAGES: [Step; 15] = [
+    Step::Grows(1, 0),
+    Step::Cuts(0, 21),
+    Step::Grows(2, 1),
+    Step::Cuts(1, 10),
+    Step::Grows(3, 2),
+    Step::Cuts(2, 5),
+    Step::Grows(4, 3),
+    Step::Cuts(3, 2),
+    Step::IsFull(2),
+    Step::Counts(1, 1, 21),
+    Step::Counts(2, 1, 10),
+    Step::Counts(3, 1, 5),
+    Step::Counts(4, 1, 2),
+    Step::Owns(0, Owner::Class(1)),
+    Step::Owns(3, Owner::Class(4)),
+];
 
 #[test]
 fn the_limit_refuses_a_fifth_page(rt: HostRuntime) -> Result<(), Fail> {
     let table = ClassTable::build(rt.alloc(), &FOUR_CLASSES)?;
     let mut all = Driven::new(rt.alloc(), &table)?;
-    for step in [
-        Step::Grows(1, 0),
-        Step::Cuts(0, 21),
-        Step::Grows(2, 1),
-        Step::Cuts(1, 10),
-        Step::Grows(3, 2),
-        Step::Cuts(2, 5),
-        Step::Grows(4, 3),
-        Step::Cuts(3, 2),
-        Step::IsFull(2),
-        Step::Counts(1, 1, 21),
-        Step::Counts(2, 1, 10),
-        Step::Counts(3, 1, 5),
-        Step::Counts(4, 1, 2),
-        Step::Owns(0, Owner::Class(1)),
-        Step::Owns(3, Owner::Class(4)),
-    ] {
-        assert_step(&rt, &mut all, step);
-    }
+    assert_steps(&rt, &mut all, &FIVE_PAGES);
     assert_equal(&rt, all.totals(), granted(4), "totals");
     let ledger = [
         Entry::Granted(0, 1),
@@ -454,6 +465,39 @@ fn assert_page_call(
     Ok(())
 }
 
+/// Random calls of both on chunks and on pages, in turns.
+fn assert_calls(
+    rt: &impl Abort,
+    all: &mut Driven,
+    plain: &mut Plain,
+    random: &mut Random,
+) -> Result<(), Fail> {
+    for _ in 0..200 {
+        assert_chunk_call(rt, all, plain, random)?;
+        assert_same_slabs(rt, all, plain);
+        assert_page_call(rt, all, plain, random)?;
+        assert_same_slabs(rt, all, plain);
+    }
+    Ok(())
+}
+
+/// How many moves ended.
+fn assert_calls_of(
+    rt: &impl Abort,
+    alloc: Global,
+    table: &ClassTable,
+    seed: u64,
+    plain: &mut Plain,
+) -> Result<u64, Fail> {
+    let mut random = Random(seed);
+    let mut all = Driven::new(alloc, table)?;
+    let called = assert_calls(rt, &mut all, plain, &mut random);
+    let moved = all.totals().moved;
+    drop(all);
+    called?;
+    Ok(moved)
+}
+
 #[test]
 fn random_calls_leave_what_plain_lists_hold(rt: HostRuntime) -> Result<(), Fail> {
     let table = ClassTable::build(
@@ -465,19 +509,52 @@ fn random_calls_leave_what_plain_lists_hold(rt: HostRuntime) -> Result<(), Fail>
     )?;
     let mut moved: u64 = 0;
     for seed in 0..16 {
-        let mut random = Random(seed);
-        let mut all = Driven::new(rt.alloc(), &table)?;
         let mut plain = Plain::new(rt.alloc(), &table)?;
-        for _ in 0..200 {
-            assert_chunk_call(&rt, &mut all, &mut plain, &mut random)?;
-            assert_same_slabs(&rt, &all, &plain);
-            assert_page_call(&rt, &mut all, &mut plain, &mut random)?;
-            assert_same_slabs(&rt, &all, &plain);
-        }
-        moved = moved.wrapping_add(all.totals().moved);
+        let called = assert_calls_of(&rt, rt.alloc(), &table, seed, &mut plain);
+        drop(plain);
+        moved = moved.wrapping_add(called?);
     }
     assert_same(&rt, moved > 16, true, "moves ended");
     Ok(())
+}
+
+/// Random calls of both, three on chunks and then one on pages.
+fn assert_rows(
+    rt: &impl Abort,
+    all: &mut Driven,
+    plain: &mut Plain,
+    random: &mut Random,
+) -> Result<(), Fail> {
+    for call in 0..400 {
+        if call % 4 == 0 {
+            assert_page_call(rt, all, plain, random)?;
+        } else {
+            assert_chunk_call(rt, all, plain, random)?;
+        }
+        for (place, own) in plain.classes.iter().enumerate() {
+            let class = place as u64 + 1;
+            assert_same_class(rt, all, own, class);
+            assert_same_walks(rt, all, own, class);
+        }
+    }
+    Ok(())
+}
+
+/// How many pages were granted.
+fn assert_rows_of(
+    rt: &impl Abort,
+    alloc: Global,
+    table: &ClassTable,
+    seed: u64,
+    plain: &mut Plain,
+) -> Result<u64, Fail> {
+    let mut random = Random(seed);
+    let mut all = Driven::new(alloc, table)?;
+    let called = assert_rows(rt, &mut all, plain, &mut random);
+    let granted = all.totals().granted;
+    drop(all);
+    called?;
+    Ok(granted)
 }
 
 #[test]
@@ -490,22 +567,10 @@ fn rows_are_the_plain_lists(rt: HostRuntime) -> Result<(), Fail> {
         },
     )?;
     for seed in 100..108 {
-        let mut random = Random(seed);
-        let mut all = Driven::new(rt.alloc(), &table)?;
         let mut plain = Plain::new(rt.alloc(), &table)?;
-        for call in 0..400 {
-            if call % 4 == 0 {
-                assert_page_call(&rt, &mut all, &mut plain, &mut random)?;
-            } else {
-                assert_chunk_call(&rt, &mut all, &mut plain, &mut random)?;
-            }
-            for (place, own) in plain.classes.iter().enumerate() {
-                let class = place as u64 + 1;
-                assert_same_class(&rt, &all, own, class);
-                assert_same_walks(&rt, &all, own, class);
-            }
-        }
-        assert_same(&rt, all.totals().granted > 1, true, "totals");
+        let called = assert_rows_of(&rt, rt.alloc(), &table, seed, &mut plain);
+        drop(plain);
+        assert_same(&rt, called? > 1, true, "totals");
     }
     Ok(())
 }

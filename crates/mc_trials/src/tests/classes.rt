@@ -1,7 +1,7 @@
 //! Class tables: their sizes, the class of an item, and which configurations are refused.
 mod vectors;
 
-use super::{FOUR_CLASSES, assert_equal, assert_same, too_much};
+use super::{FOUR_CLASSES, assert_same, too_much};
 use mc_classes::{ClassId, ClassTable, Config, ConfigError};
 use std::alloc::Global;
 use std::process::Abort;
@@ -27,56 +27,66 @@ fn assert_classes(rt: &impl Abort, table: &ClassTable, sizes: &[u64], name: &str
     }
 }
 
+/// A configuration, its sizes, and how many chunks a page has of each.
+type SizesRow<'a> = (&'a str, Config, &'a [u64], &'a [u64]);
+
+const SIZES: [SizesRow<'static>; 4] = [
+    (
+        "four classes",
+        FOUR_CLASSES,
+        &[48, 96, 192, 512],
+        &[21, 10, 5, 2],
+    ),
+    (
+        "fine factor",
+        Config {
+            num: 5,
+            den: 4,
+            ..FOUR_CLASSES
+        },
+        &[48, 64, 80, 104, 136, 176, 224, 280, 352, 512],
+        &[21, 16, 12, 9, 7, 5, 4, 3, 2, 2],
+    ),
+    (
+        "one class",
+        Config {
+            first: 400,
+            ..FOUR_CLASSES
+        },
+        &[512],
+        &[2],
+    ),
+    (
+        "256 chunks",
+        Config {
+            page: 16384,
+            limit: 65536,
+            first: 64,
+            ..FOUR_CLASSES
+        },
+        &[64, 128, 512],
+        &[256, 128, 32],
+    ),
+];
+
+/// The table of the row's configuration has four pages, and the row's sizes and chunks.
+fn assert_table(rt: &impl Abort, table: &ClassTable, row: &SizesRow) {
+    let (name, config, sizes, chunks) = row;
+    assert_classes(rt, table, sizes, name);
+    assert_same(rt, table.page(), config.page, name);
+    assert_same(rt, table.limit(), config.limit, name);
+    assert_same(rt, table.pages(), 4, name);
+    for (place, chunk) in chunks.iter().enumerate() {
+        assert!(rt; (place as u64) < table.count());
+        assert_same(rt, table.per_page(place as u64 + 1), *chunk, name);
+    }
+}
+
 #[test]
 fn sizes_and_chunks(rt: HostRuntime) -> Result<(), Fail> {
-    let rows: [(&str, Config, &[u64], &[u64]); 4] = [
-        (
-            "four classes",
-            FOUR_CLASSES,
-            &[48, 96, 192, 512],
-            &[21, 10, 5, 2],
-        ),
-        (
-            "fine factor",
-            Config {
-                num: 5,
-                den: 4,
-                ..FOUR_CLASSES
-            },
-            &[48, 64, 80, 104, 136, 176, 224, 280, 352, 512],
-            &[21, 16, 12, 9, 7, 5, 4, 3, 2, 2],
-        ),
-        (
-            "one class",
-            Config {
-                first: 400,
-                ..FOUR_CLASSES
-            },
-            &[512],
-            &[2],
-        ),
-        (
-            "256 chunks",
-            Config {
-                page: 16384,
-                limit: 65536,
-                first: 64,
-                ..FOUR_CLASSES
-            },
-            &[64, 128, 512],
-            &[256, 128, 32],
-        ),
-    ];
-    for (name, config, sizes, chunks) in rows {
-        let table = ClassTable::build(rt.alloc(), &config)?;
-        assert_classes(&rt, &table, sizes, name);
-        assert_same(&rt, table.page(), config.page, name);
-        assert_same(&rt, table.limit(), config.limit, name);
-        assert_same(&rt, table.pages(), 4, name);
-        for (place, chunk) in chunks.iter().enumerate() {
-            assert!(rt; (place as u64) < table.count());
-            assert_same(&rt, table.per_page(place as u64 + 1), *chunk, name);
-        }
+    for row in &SIZES {
+        let table = ClassTable::build(rt.alloc(), &row.1)?;
+        assert_table(&rt, &table, row);
     }
     Ok(())
 }
@@ -160,44 +170,43 @@ fn sizes_that_memcached_printed(rt: HostRuntime) -> Result<(), Fail> {
     Ok(())
 }
 
-/// The configuration is refused with this error.
-fn assert_refused(rt: &impl Abort, alloc: Global, name: &str, config: Config, wanted: ConfigError) {
-    let found = ClassTable::build(alloc, &config).err();
-    assert_equal(rt, found, Some(wanted), name);
+/// The configuration is refused, with the error of this number.
+fn assert_refused(rt: &impl Abort, alloc: Global, name: &str, config: &Config, number: u64) {
+    let found = ClassTable::build(alloc, config).err();
+    let found = found.map(|error| error.number());
+    assert_same(rt, found, Some(number), name);
 }
 
-#[test]
-fn refusals(rt: HostRuntime) {
-    let alloc = rt.alloc();
-    let largest_pages = Config {
-        page: 16384,
-        limit: 65536,
-        ..FOUR_CLASSES
-    };
-    let all_zero = Config {
-        page: 0,
-        limit: 0,
-        first: 0,
-        num: 0,
-        den: 0,
-        max: 0,
-        stripes: 0,
-        bulk: 0,
-    };
+/// Pages of 16,384 bytes, with too many chunks.
+const LARGEST_PAGES: Config = Config {
+    page: 16384,
+    limit: 65536,
+    ..FOUR_CLASSES
+};
+
+const ALL_ZERO: Config = Config {
+    page: 0,
+    limit: 0,
+    first: 0,
+    num: 0,
+    den: 0,
+    max: 0,
+    stripes: 0,
+    bulk: 0,
+};
+
+/// A configuration, and the number of its refusal.
+const REFUSED: [(&str, Config, u64); 34] = [
     // each configuration fails one test
-    assert_refused(
-        &rt,
-        alloc,
+    (
         "page 1028",
         Config {
             page: 1028,
             ..FOUR_CLASSES
         },
-        ConfigError::PageSize,
-    );
-    assert_refused(
-        &rt,
-        alloc,
+        1,
+    ),
+    (
         "page 56, limit 56, max 56",
         Config {
             page: 56,
@@ -205,11 +214,9 @@ fn refusals(rt: HostRuntime) {
             max: 56,
             ..FOUR_CLASSES
         },
-        ConfigError::PageSize,
-    );
-    assert_refused(
-        &rt,
-        alloc,
+        1,
+    ),
+    (
         "page 16392, limit 16392, first 72",
         Config {
             page: 16392,
@@ -217,316 +224,259 @@ fn refusals(rt: HostRuntime) {
             first: 72,
             ..FOUR_CLASSES
         },
-        ConfigError::PageSize,
-    );
-    assert_refused(
-        &rt,
-        alloc,
+        1,
+    ),
+    (
         "first 23",
         Config {
             first: 23,
             ..FOUR_CLASSES
         },
-        ConfigError::FirstSize,
-    );
-    assert_refused(
-        &rt,
-        alloc,
+        2,
+    ),
+    (
         "den 0",
         Config {
             den: 0,
             ..FOUR_CLASSES
         },
-        ConfigError::Factor,
-    );
-    assert_refused(
-        &rt,
-        alloc,
+        3,
+    ),
+    (
         "num 1",
         Config {
             num: 1,
             ..FOUR_CLASSES
         },
-        ConfigError::Factor,
-    );
-    assert_refused(
-        &rt,
-        alloc,
+        3,
+    ),
+    (
         "num 65536",
         Config {
             num: 65536,
             ..FOUR_CLASSES
         },
-        ConfigError::Factor,
-    );
-    assert_refused(
-        &rt,
-        alloc,
+        3,
+    ),
+    (
         "max 508",
         Config {
             max: 508,
             ..FOUR_CLASSES
         },
-        ConfigError::ChunkMax,
-    );
-    assert_refused(
-        &rt,
-        alloc,
+        4,
+    ),
+    (
         "max 40",
         Config {
             max: 40,
             ..FOUR_CLASSES
         },
-        ConfigError::ChunkMax,
-    );
-    assert_refused(
-        &rt,
-        alloc,
+        4,
+    ),
+    (
         "max 1032",
         Config {
             max: 1032,
             ..FOUR_CLASSES
         },
-        ConfigError::ChunkMax,
-    );
-    assert_refused(
-        &rt,
-        alloc,
+        4,
+    ),
+    (
         "limit 1023",
         Config {
             limit: 1023,
             ..FOUR_CLASSES
         },
-        ConfigError::Limit,
-    );
-    assert_refused(
-        &rt,
-        alloc,
+        5,
+    ),
+    (
         "limit 66560",
         Config {
             limit: 66560,
             ..FOUR_CLASSES
         },
-        ConfigError::Limit,
-    );
-    assert_refused(
-        &rt,
-        alloc,
+        5,
+    ),
+    (
         "stripes 0",
         Config {
             stripes: 0,
             ..FOUR_CLASSES
         },
-        ConfigError::Stripes,
-    );
-    assert_refused(
-        &rt,
-        alloc,
+        6,
+    ),
+    (
         "stripes 65",
         Config {
             stripes: 65,
             ..FOUR_CLASSES
         },
-        ConfigError::Stripes,
-    );
-    assert_refused(
-        &rt,
-        alloc,
-        "the largest pages",
-        largest_pages,
-        ConfigError::TooManyChunks,
-    );
-    assert_refused(
-        &rt,
-        alloc,
+        6,
+    ),
+    ("the largest pages", LARGEST_PAGES, 7),
+    (
         "bulk 0",
         Config {
             bulk: 0,
             ..FOUR_CLASSES
         },
-        ConfigError::Bulk,
-    );
-    assert_refused(
-        &rt,
-        alloc,
+        8,
+    ),
+    (
         "bulk 257",
         Config {
             bulk: 257,
             ..FOUR_CLASSES
         },
-        ConfigError::Bulk,
-    );
+        8,
+    ),
     // of several tests that fail, the first is told
-    assert_refused(&rt, alloc, "all zero", all_zero, ConfigError::PageSize);
-    assert_refused(
-        &rt,
-        alloc,
+    ("all zero", ALL_ZERO, 1),
+    (
         "all zero but page 1024",
         Config {
             page: 1024,
-            ..all_zero
+            ..ALL_ZERO
         },
-        ConfigError::FirstSize,
-    );
-    assert_refused(
-        &rt,
-        alloc,
+        2,
+    ),
+    (
         "all zero but page 1024, first 48",
         Config {
             page: 1024,
             first: 48,
-            ..all_zero
+            ..ALL_ZERO
         },
-        ConfigError::Factor,
-    );
-    assert_refused(
-        &rt,
-        alloc,
+        3,
+    ),
+    (
         "the largest pages, max 0, limit 0, stripes 0, bulk 0",
         Config {
             max: 0,
             limit: 0,
             stripes: 0,
             bulk: 0,
-            ..largest_pages
+            ..LARGEST_PAGES
         },
-        ConfigError::ChunkMax,
-    );
-    assert_refused(
-        &rt,
-        alloc,
+        4,
+    ),
+    (
         "the largest pages, limit 0, stripes 0, bulk 0",
         Config {
             limit: 0,
             stripes: 0,
             bulk: 0,
-            ..largest_pages
+            ..LARGEST_PAGES
         },
-        ConfigError::Limit,
-    );
-    assert_refused(
-        &rt,
-        alloc,
+        5,
+    ),
+    (
         "the largest pages, stripes 0, bulk 0",
         Config {
             stripes: 0,
             bulk: 0,
-            ..largest_pages
+            ..LARGEST_PAGES
         },
-        ConfigError::Stripes,
-    );
-    assert_refused(
-        &rt,
-        alloc,
+        6,
+    ),
+    (
         "the largest pages, bulk 0",
         Config {
             bulk: 0,
-            ..largest_pages
+            ..LARGEST_PAGES
         },
-        ConfigError::TooManyChunks,
-    );
+        7,
+    ),
     // no number is too large for the tests
-    assert_refused(
-        &rt,
-        alloc,
+    (
         "page 2^64 - 1",
         Config {
             page: u64::MAX,
             ..FOUR_CLASSES
         },
-        ConfigError::PageSize,
-    );
-    assert_refused(
-        &rt,
-        alloc,
+        1,
+    ),
+    (
         "page 2^64 - 8",
         Config {
             page: u64::MAX - 7,
             ..FOUR_CLASSES
         },
-        ConfigError::PageSize,
-    );
-    assert_refused(
-        &rt,
-        alloc,
+        1,
+    ),
+    (
         "limit 2^64 - 1",
         Config {
             limit: u64::MAX,
             ..FOUR_CLASSES
         },
-        ConfigError::Limit,
-    );
-    assert_refused(
-        &rt,
-        alloc,
+        5,
+    ),
+    (
         "first 2^64 - 1",
         Config {
             first: u64::MAX,
             ..FOUR_CLASSES
         },
-        ConfigError::FirstSize,
-    );
-    assert_refused(
-        &rt,
-        alloc,
+        2,
+    ),
+    (
         "num 2^64 - 1",
         Config {
             num: u64::MAX,
             ..FOUR_CLASSES
         },
-        ConfigError::Factor,
-    );
-    assert_refused(
-        &rt,
-        alloc,
+        3,
+    ),
+    (
         "num 2^64 - 1, den 2^64 - 2",
         Config {
             num: u64::MAX,
             den: u64::MAX - 1,
             ..FOUR_CLASSES
         },
-        ConfigError::Factor,
-    );
-    assert_refused(
-        &rt,
-        alloc,
+        3,
+    ),
+    (
         "den 2^64 - 1",
         Config {
             den: u64::MAX,
             ..FOUR_CLASSES
         },
-        ConfigError::Factor,
-    );
-    assert_refused(
-        &rt,
-        alloc,
+        3,
+    ),
+    (
         "max 2^64 - 8",
         Config {
             max: u64::MAX - 7,
             ..FOUR_CLASSES
         },
-        ConfigError::ChunkMax,
-    );
-    assert_refused(
-        &rt,
-        alloc,
+        4,
+    ),
+    (
         "stripes 2^64 - 1",
         Config {
             stripes: u64::MAX,
             ..FOUR_CLASSES
         },
-        ConfigError::Stripes,
-    );
-    assert_refused(
-        &rt,
-        alloc,
+        6,
+    ),
+    (
         "bulk 2^64 - 1",
         Config {
             bulk: u64::MAX,
             ..FOUR_CLASSES
         },
-        ConfigError::Bulk,
-    );
+        8,
+    ),
+];
+
+#[test]
+fn refusals(rt: HostRuntime) {
+    for (name, config, number) in &REFUSED {
+        assert_refused(&rt, rt.alloc(), name, config, *number);
+    }
 }
 
 #[test]

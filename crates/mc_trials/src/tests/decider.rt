@@ -125,45 +125,47 @@ fn decisions(rt: HostRuntime) -> Result<(), Fail> {
     Ok(())
 }
 
+/// Evictions, pages and free chunks of the classes, and how they are refused.
+type RefusedRow<'a> = (&'a [u64], &'a [u64], &'a [u64], Feed);
+
+const SHORT: [u64; 3] = [0; 3];
+
+const LONG: [u64; 5] = [0; 5];
+
+const REFUSED: [RefusedRow<'static>; 8] = [
+    (&[0, 0, 0, 5], &PAGES, &NONE, Feed::Backwards),
+    (&[9, 9, 9, 5], &PAGES, &NONE, Feed::Backwards),
+    (&SHORT, &PAGES, &NONE, Feed::Length),
+    (&LONG, &PAGES, &NONE, Feed::Length),
+    (&[0, 0, 0, 9], &SHORT, &NONE, Feed::Length),
+    (&[0, 0, 0, 9], &PAGES, &SHORT, Feed::Length),
+    (&[0, 0, 0, 9], &LONG, &LONG, Feed::Length),
+    // the length is told first
+    (&[0, 0, 0, 5], &PAGES, &LONG, Feed::Length),
+];
+
+/// The decider decides this of the evictions.
+fn assert_decides(
+    rt: &impl Abort,
+    decider: &mut Decider,
+    evictions: &[u64],
+    decision: Option<Decision>,
+) {
+    let fed = decider.feed(evictions, &PAGES, &NONE);
+    assert_equal(rt, fed, Ok(decision), "the decision");
+}
+
 #[test]
 fn refusals_leave_the_decider_alone(rt: HostRuntime) -> Result<(), Fail> {
     let table = ClassTable::build(rt.alloc(), &FOUR_CLASSES)?;
     let mut decider = Decider::new(rt.alloc(), &table)?;
-    assert_equal(
-        &rt,
-        decider.feed(&[0, 0, 0, 5], &PAGES, &NONE),
-        Ok(None),
-        "the decision",
-    );
-    assert_equal(
-        &rt,
-        decider.feed(&[0, 0, 0, 6], &PAGES, &NONE),
-        Ok(None),
-        "the decision",
-    );
-    let short = [0; 3];
-    let long = [0; 5];
-    let rows: [(&[u64], &[u64], &[u64], Feed); 8] = [
-        (&[0, 0, 0, 5], &PAGES, &NONE, Feed::Backwards),
-        (&[9, 9, 9, 5], &PAGES, &NONE, Feed::Backwards),
-        (&short, &PAGES, &NONE, Feed::Length),
-        (&long, &PAGES, &NONE, Feed::Length),
-        (&[0, 0, 0, 9], &short, &NONE, Feed::Length),
-        (&[0, 0, 0, 9], &PAGES, &short, Feed::Length),
-        (&[0, 0, 0, 9], &long, &long, Feed::Length),
-        // the length is told first
-        (&[0, 0, 0, 5], &PAGES, &long, Feed::Length),
-    ];
-    for (evictions, pages, free, refusal) in rows {
+    assert_decides(&rt, &mut decider, &[0, 0, 0, 5], None);
+    assert_decides(&rt, &mut decider, &[0, 0, 0, 6], None);
+    for (evictions, pages, free, refusal) in &REFUSED {
         let fed = decider.feed(evictions, pages, free);
-        assert_equal(&rt, fed, Err(refusal), "the refusal");
+        assert_equal(&rt, fed, Err(*refusal), "the refusal");
     }
-    assert_equal(
-        &rt,
-        decider.feed(&[0, 0, 0, 9], &PAGES, &NONE),
-        Ok(moves(1, 4)),
-        "the decision",
-    );
+    assert_decides(&rt, &mut decider, &[0, 0, 0, 9], moves(1, 4));
     Ok(())
 }
 

@@ -25,88 +25,105 @@ fn config_of(rt: &(impl Abort + AllocGlobal), words: &[&str]) -> Result<Config, 
     Ok(config)
 }
 
+/// An option in two words and in one, and what is configured.
+const EACH_OPTION: [([&str; 2], &str, Config); 7] = [
+    (
+        ["--page", "2048"],
+        "--page=2048",
+        Config {
+            page: 2048,
+            ..FOUR_CLASSES
+        },
+    ),
+    (
+        ["--limit", "65536"],
+        "--limit=65536",
+        Config {
+            limit: 65_536,
+            ..FOUR_CLASSES
+        },
+    ),
+    (
+        ["--first", "0100"],
+        "--first=0100",
+        Config {
+            first: 100,
+            ..FOUR_CLASSES
+        },
+    ),
+    (
+        ["--factor", "5/4"],
+        "--factor=5/4",
+        Config {
+            num: 5,
+            den: 4,
+            ..FOUR_CLASSES
+        },
+    ),
+    (
+        ["--max", "+1024"],
+        "--max=+1024",
+        Config {
+            max: 1024,
+            ..FOUR_CLASSES
+        },
+    ),
+    (
+        ["--stripes", "0"],
+        "--stripes=0",
+        Config {
+            stripes: 0,
+            ..FOUR_CLASSES
+        },
+    ),
+    (
+        ["--bulk", "18446744073709551615"],
+        "--bulk=18446744073709551615",
+        Config {
+            bulk: u64::MAX,
+            ..FOUR_CLASSES
+        },
+    ),
+];
+
+/// Both forms of a row are read so.
+fn assert_both_forms(
+    rt: &(impl Abort + AllocGlobal),
+    row: &([&str; 2], &str, Config),
+) -> Result<(), Fail> {
+    let ([name, value], joined, config) = row;
+    let found = config_of(rt, &["mcslab", name, value])?;
+    assert_equal(rt, found, *config, joined);
+    let found = config_of(rt, &["mcslab", joined])?;
+    assert_equal(rt, found, *config, joined);
+    Ok(())
+}
+
 #[test]
 fn reads_each_option(rt: HostRuntime) -> Result<(), Fail> {
-    let rows = [
-        (
-            ["--page", "2048"],
-            "--page=2048",
-            Config {
-                page: 2048,
-                ..FOUR_CLASSES
-            },
-        ),
-        (
-            ["--limit", "65536"],
-            "--limit=65536",
-            Config {
-                limit: 65_536,
-                ..FOUR_CLASSES
-            },
-        ),
-        (
-            ["--first", "0100"],
-            "--first=0100",
-            Config {
-                first: 100,
-                ..FOUR_CLASSES
-            },
-        ),
-        (
-            ["--factor", "5/4"],
-            "--factor=5/4",
-            Config {
-                num: 5,
-                den: 4,
-                ..FOUR_CLASSES
-            },
-        ),
-        (
-            ["--max", "+1024"],
-            "--max=+1024",
-            Config {
-                max: 1024,
-                ..FOUR_CLASSES
-            },
-        ),
-        (
-            ["--stripes", "0"],
-            "--stripes=0",
-            Config {
-                stripes: 0,
-                ..FOUR_CLASSES
-            },
-        ),
-        (
-            ["--bulk", "18446744073709551615"],
-            "--bulk=18446744073709551615",
-            Config {
-                bulk: u64::MAX,
-                ..FOUR_CLASSES
-            },
-        ),
-    ];
-    assert_equal(
-        &rt,
-        config_of(&rt, &["mcslab"])?,
-        FOUR_CLASSES,
-        "the options",
-    );
-    assert_equal(
-        &rt,
-        config_of(&rt, &["mcslab", "--"])?,
-        FOUR_CLASSES,
-        "the options",
-    );
-    for ([name, value], joined, config) in rows {
-        assert_equal(
-            &rt,
-            config_of(&rt, &["mcslab", name, value])?,
-            config,
-            joined,
-        );
-        assert_equal(&rt, config_of(&rt, &["mcslab", joined])?, config, joined);
+    let plain = config_of(&rt, &["mcslab"])?;
+    assert_equal(&rt, plain, FOUR_CLASSES, "the options");
+    let plain = config_of(&rt, &["mcslab", "--"])?;
+    assert_equal(&rt, plain, FOUR_CLASSES, "the options");
+    for row in &EACH_OPTION {
+        assert_both_forms(&rt, row)?;
     }
+    Ok(())
+}
+
+/// Words are read so, with four classes.
+fn assert_read(
+    rt: &(impl Abort + AllocGlobal),
+    words: &[&str],
+    automove: u64,
+    threads: bool,
+) -> Result<(), Fail> {
+    let run = Run {
+        config: FOUR_CLASSES,
+        automove,
+    };
+    let found = options(rt.alloc(), words)?;
+    assert_equal(rt, found, Options { run, threads }, "the options");
     Ok(())
 }
 
@@ -154,91 +171,75 @@ fn reads_all_options(rt: HostRuntime) -> Result<(), Fail> {
     Ok(())
 }
 
+/// A factor, and what is read: 0 over 0 where it is none.
+const FACTORS: [(&str, (u64, u64)); 13] = [
+    ("5/4", (5, 4)),
+    ("05/04", (5, 4)),
+    ("99999/00000", (99_999, 0)),
+    ("", (0, 0)),
+    ("5", (0, 0)),
+    ("5/", (0, 0)),
+    ("/4", (0, 0)),
+    ("5/4/3", (0, 0)),
+    ("123456/1", (0, 0)),
+    ("1/123456", (0, 0)),
+    ("a/b", (0, 0)),
+    ("5 /4", (0, 0)),
+    ("+5/4", (0, 0)),
+];
+
 #[test]
 fn reads_any_factor(rt: HostRuntime) -> Result<(), Fail> {
-    let rows = [
-        ("5/4", (5, 4)),
-        ("05/04", (5, 4)),
-        ("99999/00000", (99_999, 0)),
-        ("", (0, 0)),
-        ("5", (0, 0)),
-        ("5/", (0, 0)),
-        ("/4", (0, 0)),
-        ("5/4/3", (0, 0)),
-        ("123456/1", (0, 0)),
-        ("1/123456", (0, 0)),
-        ("a/b", (0, 0)),
-        ("5 /4", (0, 0)),
-        ("+5/4", (0, 0)),
-    ];
-    for (text, (num, den)) in rows {
+    for (text, factor) in &FACTORS {
         let config = config_of(&rt, &["mcslab", "--factor", text])?;
-        assert_same(&rt, (config.num, config.den), (num, den), text);
+        assert_same(&rt, (config.num, config.den), *factor, text);
     }
     Ok(())
 }
+
+/// Words, and the automover's mode.
+const MODES: [(&[&str], u64); 12] = [
+    (&["mcslab"], 0),
+    (&["mcslab", "--bulk", "64"], 0),
+    (&["mcslab", "--automove", "0"], 0),
+    (&["mcslab", "--automove=0"], 0),
+    (&["mcslab", "--automove", "1"], 1),
+    (&["mcslab", "--automove=1"], 1),
+    (&["mcslab", "--automove", "2"], 2),
+    (&["mcslab", "--automove=2"], 2),
+    (&["mcslab", "--automove", "01"], 1),
+    (&["mcslab", "--automove=+1"], 1),
+    (&["mcslab", "--automove=2", "--stripes", "4"], 2),
+    (&["mcslab", "--stripes=4", "--automove", "+002"], 2),
+];
 
 #[test]
 fn reads_the_mode_of_the_automover(rt: HostRuntime) -> Result<(), Fail> {
-    let rows: [(&[&str], u64); 12] = [
-        (&["mcslab"], 0),
-        (&["mcslab", "--bulk", "64"], 0),
-        (&["mcslab", "--automove", "0"], 0),
-        (&["mcslab", "--automove=0"], 0),
-        (&["mcslab", "--automove", "1"], 1),
-        (&["mcslab", "--automove=1"], 1),
-        (&["mcslab", "--automove", "2"], 2),
-        (&["mcslab", "--automove=2"], 2),
-        (&["mcslab", "--automove", "01"], 1),
-        (&["mcslab", "--automove=+1"], 1),
-        (&["mcslab", "--automove=2", "--stripes", "4"], 2),
-        (&["mcslab", "--stripes=4", "--automove", "+002"], 2),
-    ];
-    for (words, automove) in rows {
-        assert_equal(
-            &rt,
-            options(rt.alloc(), words)?,
-            Options {
-                run: Run {
-                    config: FOUR_CLASSES,
-                    automove,
-                },
-                threads: false,
-            },
-            "the options",
-        );
+    for (words, automove) in &MODES {
+        assert_read(&rt, words, *automove, false)?;
     }
     Ok(())
 }
 
+/// Words, and whether the run has threads.
+const THREADS: [(&[&str], bool); 8] = [
+    (&["mcslab"], false),
+    (&["--threads"], false),
+    (&["mcslab", "--bulk", "64"], false),
+    (&["mcslab", "--threads"], true),
+    (&["mcslab", "--threads", "--bulk", "64"], true),
+    (
+        &["mcslab", "--stripes=4", "--threads", "--bulk", "64"],
+        true,
+    ),
+    (&["mcslab", "--stripes", "4", "--threads"], true),
+    (&["mcslab", "--threads", "--"], true),
+];
+
 #[test]
 fn reads_the_flag_of_the_threads(rt: HostRuntime) -> Result<(), Fail> {
-    let rows: [(&[&str], bool); 8] = [
-        (&["mcslab"], false),
-        (&["--threads"], false),
-        (&["mcslab", "--bulk", "64"], false),
-        (&["mcslab", "--threads"], true),
-        (&["mcslab", "--threads", "--bulk", "64"], true),
-        (
-            &["mcslab", "--stripes=4", "--threads", "--bulk", "64"],
-            true,
-        ),
-        (&["mcslab", "--stripes", "4", "--threads"], true),
-        (&["mcslab", "--threads", "--"], true),
-    ];
-    for (words, threads) in rows {
-        assert_equal(
-            &rt,
-            options(rt.alloc(), words)?,
-            Options {
-                run: Run {
-                    config: FOUR_CLASSES,
-                    automove: 0,
-                },
-                threads,
-            },
-            "the options",
-        );
+    for (words, threads) in &THREADS {
+        assert_read(&rt, words, 0, *threads)?;
     }
     let config = config_of(&rt, &["mcslab", "--factor=--threads"])?;
     assert_same(
@@ -279,59 +280,57 @@ fn refusal_of(rt: &impl AllocGlobal, words: &[&str]) -> Result<Option<ErrorKind>
     }
 }
 
+/// Words, and the kind of their refusal.
+const REFUSED: [(&[&str], ErrorKind); 27] = [
+    (&["mcslab", "--page"], ErrorKind::InvalidValue),
+    (&["mcslab", "--page", "--max", "8"], ErrorKind::InvalidValue),
+    (&["mcslab", "--page", "x"], ErrorKind::ValueValidation),
+    (&["mcslab", "--page="], ErrorKind::ValueValidation),
+    (
+        &["mcslab", "--page", "18446744073709551616"],
+        ErrorKind::ValueValidation,
+    ),
+    (&["mcslab", "--page", "-1"], ErrorKind::UnknownArgument),
+    (
+        &["mcslab", "--page", "1", "--page=2"],
+        ErrorKind::ArgumentConflict,
+    ),
+    (&["mcslab", "--automove"], ErrorKind::InvalidValue),
+    (&["mcslab", "--automove", "3"], ErrorKind::ValueValidation),
+    (&["mcslab", "--automove=3"], ErrorKind::ValueValidation),
+    (
+        &["mcslab", "--automove", "18446744073709551615"],
+        ErrorKind::ValueValidation,
+    ),
+    (&["mcslab", "--automove", "x"], ErrorKind::ValueValidation),
+    (&["mcslab", "--automove", ""], ErrorKind::ValueValidation),
+    (&["mcslab", "--automove="], ErrorKind::ValueValidation),
+    (
+        &["mcslab", "--automove", "1", "--automove=1"],
+        ErrorKind::ArgumentConflict,
+    ),
+    (&["mcslab", "--threads=x"], ErrorKind::TooManyValues),
+    (&["mcslab", "--threads="], ErrorKind::TooManyValues),
+    (&["mcslab", "--threads", "true"], ErrorKind::UnknownArgument),
+    (
+        &["mcslab", "--threads", "--page=8", "--threads"],
+        ErrorKind::ArgumentConflict,
+    ),
+    (&["mcslab", "--", "--threads"], ErrorKind::UnknownArgument),
+    (&["mcslab", "--page", "--threads"], ErrorKind::InvalidValue),
+    (&["mcslab", "--thread"], ErrorKind::UnknownArgument),
+    (&["mcslab", "--threads", "--help"], ErrorKind::DisplayHelp),
+    (&["mcslab", "--bogus"], ErrorKind::UnknownArgument),
+    (&["mcslab", "stray"], ErrorKind::UnknownArgument),
+    (&["mcslab", "--", "stray"], ErrorKind::UnknownArgument),
+    (&["mcslab", "--page", "8", "--help"], ErrorKind::DisplayHelp),
+];
+
 #[test]
 fn refuses_other_words(rt: HostRuntime) -> Result<(), Fail> {
-    let rows: [(&[&str], ErrorKind); 27] = [
-        (&["mcslab", "--page"], ErrorKind::InvalidValue),
-        (&["mcslab", "--page", "--max", "8"], ErrorKind::InvalidValue),
-        (&["mcslab", "--page", "x"], ErrorKind::ValueValidation),
-        (&["mcslab", "--page="], ErrorKind::ValueValidation),
-        (
-            &["mcslab", "--page", "18446744073709551616"],
-            ErrorKind::ValueValidation,
-        ),
-        (&["mcslab", "--page", "-1"], ErrorKind::UnknownArgument),
-        (
-            &["mcslab", "--page", "1", "--page=2"],
-            ErrorKind::ArgumentConflict,
-        ),
-        (&["mcslab", "--automove"], ErrorKind::InvalidValue),
-        (&["mcslab", "--automove", "3"], ErrorKind::ValueValidation),
-        (&["mcslab", "--automove=3"], ErrorKind::ValueValidation),
-        (
-            &["mcslab", "--automove", "18446744073709551615"],
-            ErrorKind::ValueValidation,
-        ),
-        (&["mcslab", "--automove", "x"], ErrorKind::ValueValidation),
-        (&["mcslab", "--automove", ""], ErrorKind::ValueValidation),
-        (&["mcslab", "--automove="], ErrorKind::ValueValidation),
-        (
-            &["mcslab", "--automove", "1", "--automove=1"],
-            ErrorKind::ArgumentConflict,
-        ),
-        (&["mcslab", "--threads=x"], ErrorKind::TooManyValues),
-        (&["mcslab", "--threads="], ErrorKind::TooManyValues),
-        (&["mcslab", "--threads", "true"], ErrorKind::UnknownArgument),
-        (
-            &["mcslab", "--threads", "--page=8", "--threads"],
-            ErrorKind::ArgumentConflict,
-        ),
-        (&["mcslab", "--", "--threads"], ErrorKind::UnknownArgument),
-        (&["mcslab", "--page", "--threads"], ErrorKind::InvalidValue),
-        (&["mcslab", "--thread"], ErrorKind::UnknownArgument),
-        (&["mcslab", "--threads", "--help"], ErrorKind::DisplayHelp),
-        (&["mcslab", "--bogus"], ErrorKind::UnknownArgument),
-        (&["mcslab", "stray"], ErrorKind::UnknownArgument),
-        (&["mcslab", "--", "stray"], ErrorKind::UnknownArgument),
-        (&["mcslab", "--page", "8", "--help"], ErrorKind::DisplayHelp),
-    ];
-    for (words, kind) in rows {
-        assert_same(
-            &rt,
-            refusal_of(&rt, words)?,
-            Some(kind),
-            "the kind of the refusal",
-        );
+    for (words, kind) in &REFUSED {
+        let found = refusal_of(&rt, words)?;
+        assert_same(&rt, found, Some(*kind), "the kind of the refusal");
     }
     Ok(())
 }

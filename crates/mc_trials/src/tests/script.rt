@@ -2,6 +2,7 @@
 use super::{assert_equal, assert_same, too_much};
 use mc_script::{Command, MAX_SCRIPT, ScriptError, read};
 use std::alloc::Global;
+use std::process::Abort;
 use std::test::Fail;
 
 /// The line at which a script is refused.
@@ -15,72 +16,87 @@ fn refused_line(alloc: Global, script: &[u8]) -> Result<Option<u64>, ScriptError
     }
 }
 
+/// A script, and the line at which it is refused.
+const REFUSED: [(&str, u64); 21] = [
+    // numbers
+    ("1 del 18446744073709551616", 1),
+    ("1 del 000000000000000000001", 1),
+    ("-1 del 1", 1),
+    ("1 del +1", 1),
+    // ranges
+    ("0 del 1", 1),
+    ("64 del 1", 1),
+    ("1 set 1 4097 0", 1),
+    // bytes between words and line ends
+    ("1\tdel 1", 1),
+    ("\t# x", 1),
+    ("1 del 1\r2 del 2", 1),
+    ("stats slabs\r", 1),
+    ("stats slabs\r\r\n", 1),
+    // forms
+    ("1 set 1 3", 1),
+    ("1 set 1 3 7 8", 1),
+    ("STATS slabs", 1),
+    ("stats now", 1),
+    ("1 del 1 # no comment", 1),
+    // numbering
+    ("1 set 1 3 7\n1 frob 3", 2),
+    ("1 set 1 3 7\n1 se", 2),
+    ("\n\r\n# x\n1 frob 3\n", 4),
+    ("1 del 1\n\nfirst\n1 del 2\nsecond\n", 3),
+];
+
 #[test]
 fn refuses_the_lowest_line(rt: HostRuntime) -> Result<(), Fail> {
-    for (script, line) in [
-        // numbers
-        ("1 del 18446744073709551616", 1),
-        ("1 del 000000000000000000001", 1),
-        ("-1 del 1", 1),
-        ("1 del +1", 1),
-        // ranges
-        ("0 del 1", 1),
-        ("64 del 1", 1),
-        ("1 set 1 4097 0", 1),
-        // bytes between words and line ends
-        ("1\tdel 1", 1),
-        ("\t# x", 1),
-        ("1 del 1\r2 del 2", 1),
-        ("stats slabs\r", 1),
-        ("stats slabs\r\r\n", 1),
-        // forms
-        ("1 set 1 3", 1),
-        ("1 set 1 3 7 8", 1),
-        ("STATS slabs", 1),
-        ("stats now", 1),
-        ("1 del 1 # no comment", 1),
-        // numbering
-        ("1 set 1 3 7\n1 frob 3", 2),
-        ("1 set 1 3 7\n1 se", 2),
-        ("\n\r\n# x\n1 frob 3\n", 4),
-        ("1 del 1\n\nfirst\n1 del 2\nsecond\n", 3),
-    ] {
-        assert_same(
-            &rt,
-            refused_line(rt.alloc(), script.as_bytes())?,
-            Some(line),
-            script,
-        );
+    for (script, line) in &REFUSED {
+        let found = refused_line(rt.alloc(), script.as_bytes())?;
+        assert_same(&rt, found, Some(*line), script);
     }
     Ok(())
 }
 
+/// The script is this command alone.
+fn assert_command(
+    rt: &(impl Abort + AllocGlobal),
+    script: &str,
+    command: &Command,
+) -> Result<(), Fail> {
+    let commands = read(rt.alloc(), script.as_bytes())?;
+    assert_equal(rt, commands.as_slice(), [*command].as_slice(), script);
+    Ok(())
+}
+
+/// A script, and its command.
+const COMMANDS: [(&str, Command); 6] = [
+    (
+        "1 set 1 4096 0",
+        Command::Set {
+            worker: 1,
+            key: 1,
+            words: 4096,
+            base: 0,
+        },
+    ),
+    (
+        "1 del 18446744073709551615\n",
+        Command::Delete {
+            worker: 1,
+            key: u64::MAX,
+        },
+    ),
+    ("  01   del   007  ", Command::Delete { worker: 1, key: 7 }),
+    ("stats slabs", Command::StatsSlabs),
+    ("stats slabs\r\n", Command::StatsSlabs),
+    (
+        "\n \n# 1 frob 3\r\n  # x\nstats slabs\n\n",
+        Command::StatsSlabs,
+    ),
+];
+
 #[test]
 fn gives_the_commands(rt: HostRuntime) -> Result<(), Fail> {
-    let set = Command::Set {
-        worker: 1,
-        key: 1,
-        words: 4096,
-        base: 0,
-    };
-    let largest = Command::Delete {
-        worker: 1,
-        key: u64::MAX,
-    };
-    let padded = Command::Delete { worker: 1, key: 7 };
-    for (script, command) in [
-        ("1 set 1 4096 0", set),
-        ("1 del 18446744073709551615\n", largest),
-        ("  01   del   007  ", padded),
-        ("stats slabs", Command::StatsSlabs),
-        ("stats slabs\r\n", Command::StatsSlabs),
-        (
-            "\n \n# 1 frob 3\r\n  # x\nstats slabs\n\n",
-            Command::StatsSlabs,
-        ),
-    ] {
-        let commands = read(rt.alloc(), script.as_bytes())?;
-        assert_equal(&rt, commands.as_slice(), [command].as_slice(), script);
+    for (script, command) in &COMMANDS {
+        assert_command(&rt, script, command)?;
     }
     assert!(rt; read(rt.alloc(), b"")?.is_empty());
     Ok(())
@@ -134,165 +150,187 @@ fn tells_the_error(rt: HostRuntime) -> Result<(), Fail> {
     Ok(())
 }
 
+/// Lines that are no worker's.
+const REFUSED_OF_WORKERS: [&str; 28] = [
+    // numbers and ranges
+    "0 get 1",
+    "64 get 1",
+    "0 hold 1",
+    "64 drop 1",
+    "64 touch 1",
+    "-1 get 1",
+    "1 get -1",
+    "1 get 18446744073709551616",
+    "1 hold 18446744073709551616",
+    "1 drop 18446744073709551616",
+    "1 touch 18446744073709551616",
+    "1 get 000000000000000000001",
+    // forms
+    "1 get",
+    "1 get ",
+    "1 get 1 2",
+    "1 hold",
+    "1 drop 1 1",
+    "1 touch",
+    "get 1",
+    "get 1 1",
+    "1 1 get",
+    "1 GET 1",
+    "1 gets 1",
+    "1 ge 1",
+    "1 release 1",
+    // bytes between words
+    "1\tget\t1",
+    "1 get\t1",
+    "1 get 1\r",
+];
+
 #[test]
 fn refuses_other_lines_of_workers(rt: HostRuntime) -> Result<(), Fail> {
-    for script in [
-        // numbers and ranges
-        "0 get 1",
-        "64 get 1",
-        "0 hold 1",
-        "64 drop 1",
-        "64 touch 1",
-        "-1 get 1",
-        "1 get -1",
-        "1 get 18446744073709551616",
-        "1 hold 18446744073709551616",
-        "1 drop 18446744073709551616",
-        "1 touch 18446744073709551616",
-        "1 get 000000000000000000001",
-        // forms
-        "1 get",
-        "1 get ",
-        "1 get 1 2",
-        "1 hold",
-        "1 drop 1 1",
-        "1 touch",
-        "get 1",
-        "get 1 1",
-        "1 1 get",
-        "1 GET 1",
-        "1 gets 1",
-        "1 ge 1",
-        "1 release 1",
-        // bytes between words
-        "1\tget\t1",
-        "1 get\t1",
-        "1 get 1\r",
-    ] {
-        let error = read(rt.alloc(), script.as_bytes()).err();
-        assert_equal(&rt, error, Some(ScriptError::Line(1)), script);
+    for script in &REFUSED_OF_WORKERS {
+        assert_same(
+            &rt,
+            refused_line(rt.alloc(), script.as_bytes())?,
+            Some(1),
+            script,
+        );
     }
     Ok(())
 }
+
+/// Lines that are no mover's.
+const REFUSED_WITHOUT_A_WORKER: [&str; 45] = [
+    // numbers and ranges
+    "turn 0",
+    "turn 00",
+    "turn 1000001",
+    "turn 18446744073709551616",
+    "turn -1",
+    "turn +1",
+    "automove 3",
+    "automove 18446744073709551616",
+    "automove -1",
+    "automove",
+    "automove 1 1",
+    "Automove 1",
+    "window 1",
+    "windows",
+    "1 window",
+    "1 automove 1",
+    "reassign 18446744073709551616 1",
+    "reassign 1 18446744073709551616",
+    // no source and no destination
+    "reassign -2 1",
+    "reassign -01 1",
+    "reassign -0 1",
+    "reassign - 1",
+    "reassign -1- 1",
+    "reassign - 1 1",
+    "reassign 1 -1",
+    "reassign -1 -1",
+    // forms
+    "reassign -1",
+    "reassign 1",
+    "reassign 1 2 3",
+    "reassign",
+    "1 reassign 2",
+    "turn",
+    "turn 1 2",
+    "1 turn",
+    "1 turn 1",
+    "stats now",
+    "stats slabs now",
+    "1 stats",
+    "Stats",
+    "stat",
+    // bytes between words
+    "turn\t1",
+    "reassign 1\t2",
+    "reassign\t-1 2",
+    "\tstats",
+    "stats\r",
+];
 
 #[test]
 fn refuses_other_lines_without_a_worker(rt: HostRuntime) -> Result<(), Fail> {
-    for script in [
-        // numbers and ranges
-        "turn 0",
-        "turn 00",
-        "turn 1000001",
-        "turn 18446744073709551616",
-        "turn -1",
-        "turn +1",
-        "automove 3",
-        "automove 18446744073709551616",
-        "automove -1",
-        "automove",
-        "automove 1 1",
-        "Automove 1",
-        "window 1",
-        "windows",
-        "1 window",
-        "1 automove 1",
-        "reassign 18446744073709551616 1",
-        "reassign 1 18446744073709551616",
-        // no source and no destination
-        "reassign -2 1",
-        "reassign -01 1",
-        "reassign -0 1",
-        "reassign - 1",
-        "reassign -1- 1",
-        "reassign - 1 1",
-        "reassign 1 -1",
-        "reassign -1 -1",
-        // forms
-        "reassign -1",
-        "reassign 1",
-        "reassign 1 2 3",
-        "reassign",
-        "1 reassign 2",
-        "turn",
-        "turn 1 2",
-        "1 turn",
-        "1 turn 1",
-        "stats now",
-        "stats slabs now",
-        "1 stats",
-        "Stats",
-        "stat",
-        // bytes between words
-        "turn\t1",
-        "reassign 1\t2",
-        "reassign\t-1 2",
-        "\tstats",
-        "stats\r",
-    ] {
-        let error = read(rt.alloc(), script.as_bytes()).err();
-        assert_equal(&rt, error, Some(ScriptError::Line(1)), script);
+    for script in &REFUSED_WITHOUT_A_WORKER {
+        assert_same(
+            &rt,
+            refused_line(rt.alloc(), script.as_bytes())?,
+            Some(1),
+            script,
+        );
     }
     Ok(())
 }
+
+/// Lines of workers, and their commands.
+const OF_WORKERS: [(&str, Command); 5] = [
+    ("1 get 2", Command::Get { worker: 1, key: 2 }),
+    (
+        "63 get 18446744073709551615\n",
+        Command::Get {
+            worker: 63,
+            key: u64::MAX,
+        },
+    ),
+    ("3 hold 4\r\n", Command::Hold { worker: 3, key: 4 }),
+    ("5 drop 6", Command::Drop { worker: 5, key: 6 }),
+    (" 07  touch  008 ", Command::Touch { worker: 7, key: 8 }),
+];
 
 #[test]
 fn gives_the_commands_of_workers(rt: HostRuntime) -> Result<(), Fail> {
-    let largest = Command::Get {
-        worker: 63,
-        key: u64::MAX,
-    };
-    for (script, command) in [
-        ("1 get 2", Command::Get { worker: 1, key: 2 }),
-        ("63 get 18446744073709551615\n", largest),
-        ("3 hold 4\r\n", Command::Hold { worker: 3, key: 4 }),
-        ("5 drop 6", Command::Drop { worker: 5, key: 6 }),
-        (" 07  touch  008 ", Command::Touch { worker: 7, key: 8 }),
-    ] {
-        let commands = read(rt.alloc(), script.as_bytes())?;
-        assert_equal(&rt, commands.as_slice(), [command].as_slice(), script);
+    for (script, command) in &OF_WORKERS {
+        assert_command(&rt, script, command)?;
     }
     Ok(())
 }
 
+/// Lines of the mover, and their commands.
+const WITHOUT_A_WORKER: [(&str, Command); 15] = [
+    (
+        "reassign 1 2",
+        Command::Reassign {
+            src: Some(1),
+            dst: 2,
+        },
+    ),
+    ("reassign -1 2\n", Command::Reassign { src: None, dst: 2 }),
+    ("reassign  -1  02 ", Command::Reassign { src: None, dst: 2 }),
+    (
+        "reassign 0 0",
+        Command::Reassign {
+            src: Some(0),
+            dst: 0,
+        },
+    ),
+    (
+        "reassign 18446744073709551615 18446744073709551615",
+        Command::Reassign {
+            src: Some(u64::MAX),
+            dst: u64::MAX,
+        },
+    ),
+    ("turn 1", Command::Turn { turns: 1 }),
+    ("turn 1000000\r\n", Command::Turn { turns: 1_000_000 }),
+    (
+        "turn 00000000000001000000",
+        Command::Turn { turns: 1_000_000 },
+    ),
+    ("automove 0", Command::Automove { mode: 0 }),
+    ("automove 2\r\n", Command::Automove { mode: 2 }),
+    (" automove  01 ", Command::Automove { mode: 1 }),
+    ("window", Command::Window),
+    (" window \n", Command::Window),
+    ("stats", Command::Stats),
+    (" stats \r\n", Command::Stats),
+];
+
 #[test]
 fn gives_the_commands_without_a_worker(rt: HostRuntime) -> Result<(), Fail> {
-    let largest = Command::Reassign {
-        src: Some(u64::MAX),
-        dst: u64::MAX,
-    };
-    let any = Command::Reassign { src: None, dst: 2 };
-    let other = Command::Reassign {
-        src: Some(1),
-        dst: 2,
-    };
-    let first = Command::Reassign {
-        src: Some(0),
-        dst: 0,
-    };
-    for (script, command) in [
-        ("reassign 1 2", other),
-        ("reassign -1 2\n", any),
-        ("reassign  -1  02 ", any),
-        ("reassign 0 0", first),
-        (
-            "reassign 18446744073709551615 18446744073709551615",
-            largest,
-        ),
-        ("turn 1", Command::Turn { turns: 1 }),
-        ("turn 1000000\r\n", Command::Turn { turns: 1_000_000 }),
-        (
-            "turn 00000000000001000000",
-            Command::Turn { turns: 1_000_000 },
-        ),
-        ("automove 0", Command::Automove { mode: 0 }),
-        ("automove 2\r\n", Command::Automove { mode: 2 }),
-        (" automove  01 ", Command::Automove { mode: 1 }),
-        ("window", Command::Window),
-        (" window \n", Command::Window),
-        ("stats", Command::Stats),
-        (" stats \r\n", Command::Stats),
-    ] {
-        let commands = read(rt.alloc(), script.as_bytes())?;
-        assert_equal(&rt, commands.as_slice(), [command].as_slice(), script);
+    for (script, command) in &WITHOUT_A_WORKER {
+        assert_command(&rt, script, command)?;
     }
     Ok(())
 }
