@@ -1,2 +1,1 @@
 pub mod KeptRefs
-pub mod Kept

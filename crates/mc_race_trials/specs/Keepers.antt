@@ -12,7 +12,7 @@ use Rattle.mc_words.specs.Observers.{hint_chunk}
 use Rattle.mc_words.specs.View.{View}
 use Rattle.mc_items.specs.declared.refs.Ref.{Ref}
 use Rattle.mc_items.specs.ItemRefs.{IsItemRef, item_chunk}
-use Rattle.mc_race_trials.specs.Hands.{IsReadyHandOf}
+use Rattle.mc_calls.specs.Hands.{IsReadyHandOf}
 
 -- the reference is to the chunk
 abbrev pub refers_to : ChunkId → Ref → Bool

@@ -1,5 +1,4 @@
 //! The tests, and what they have in common.
-mod accounts;
 mod calls;
 mod driver;
 mod ends;

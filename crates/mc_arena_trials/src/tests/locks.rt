@@ -1,114 +1,127 @@
 //! Locks: one hand has each, and the others are told so; what is lost with a hand stays held.
+ghost use Rattle.std.specs.Prelude.{IfSome};
+ghost use Rattle.mc_words.specs.Arenas.{IsHandOf};
+ghost use Rattle.mc_arena_trials.specs.Hands.{AreHandsOf};
+
 use super::calls::{
     give, has_lent_stripe, head, is_stripe_left, lose_stripe, next_hand, opened, owner,
 };
 use super::{assert_equal, assert_same};
 use mc_pages::{ChunkId, Owner};
+use mc_words::{Arena, Final, Hand};
+use std::process::Abort;
 use std::test::Fail;
 
 /// The first chunk of the first page.
 const FIRST: ChunkId = ChunkId { page: 0, index: 0 };
 
-#[test]
-fn one_hand_has_the_slabs(rt: HostRuntime) -> Result<(), Fail> {
-    let (arena, mut hands) = opened(rt.alloc(), 2)?;
-    let (Some(mut first), Some(mut second)) = (
-        next_hand(&arena, &mut hands),
-        next_hand(&arena, &mut hands),
-    ) else {
+/// The two hands of the lowest numbers that are left.
+fn next_two(arena: &Arena, hands: &mut Vec<Hand>) -> Option<(Hand, Hand)>
+    requires hands { AreHandsOf arena.now hands.old.items }
+    ensures two { IfSome result (λ two. IsHandOf arena.now two.0 × IsHandOf arena.now two.1) }
+{
+    let first = next_hand(arena, hands)?;
+    let second = next_hand(arena, hands)?;
+    Some((first, second))
+}
+
+/// One hand takes the slabs and gives them, and another tries meanwhile and behind it.
+fn lend_slabs(rt: &impl Abort, arena: &Arena, hands: &mut Vec<Hand>) -> Result<(), Fail>
+    requires hands { AreHandsOf arena.now hands.old.items }
+{
+    let Some((mut first, mut second)) = next_two(arena, hands) else {
         return Err(Fail::new("there are two hands"));
     };
     let Ok(held) = arena.try_slabs(&mut first) else {
         return Err(Fail::new("the lock is free"));
     };
-    assert_same(&rt, first.unlocked(), false, "the first hand");
-    assert_same(
-        &rt,
-        arena.try_slabs(&mut second).is_err(),
-        true,
-        "while it is held",
-    );
-    assert_same(&rt, second.unlocked(), true, "the second hand");
-    assert_same(&rt, give(&arena, &mut first, held), true, "give_slabs");
-    assert_same(
-        &rt,
-        arena.try_slabs(&mut second).is_ok(),
-        true,
-        "once it was given",
-    );
+    assert_same(rt, first.unlocked(), false, "the first hand");
+    let refused = arena.try_slabs(&mut second).is_err();
+    assert_same(rt, refused, true, "while it is held");
+    assert_same(rt, second.unlocked(), true, "the second hand");
+    let given = give(arena, &mut first, held);
+    assert_same(rt, given, true, "give_slabs");
+    let taken = arena.try_slabs(&mut second).is_ok();
+    assert_same(rt, taken, true, "once it was given");
+    Ok(())
+}
+
+#[test]
+fn one_hand_has_the_slabs(rt: HostRuntime) -> Result<(), Fail> {
+    let (arena, mut hands) = opened(rt.alloc(), 2)?;
+    let lent = lend_slabs(&rt, &arena, &mut hands);
+    drop(hands);
+    drop(arena);
+    lent
+}
+
+/// Mode 2 is set by the one hand, which is given back.
+fn set_mode_two(rt: &impl Abort, arena: &Arena, hands: &mut Vec<Hand>) -> Option<Hand>
+    requires hands { AreHandsOf arena.now hands.old.items }
+    ensures hand { IfSome result (λ hand. IsHandOf arena.now hand) }
+{
+    let mut hand = next_hand(arena, hands)?;
+    let mut held = arena.try_slabs(&mut hand).ok()?;
+    arena.set_automove(&mut hand, &mut held, 2);
+    assert_same(rt, give(arena, &mut hand, held), true, "give_slabs");
+    Some(hand)
+}
+
+/// The mode and the first page of the closed arena.
+fn assert_mode_two(rt: &impl Abort, left: &Final) -> Result<(), Fail> {
+    let Some(slabs) = left.slabs() else {
+        return Err(Fail::new("nobody has pages and lists"));
+    };
+    assert_same(rt, slabs.automove(), 2, "the mode");
+    let first = owner(left, 0);
+    assert_equal(rt, first, Some(Owner::Untouched), "the first page");
+    assert_same(rt, head(left, FIRST), Some(0), "the first header");
     Ok(())
 }
 
 #[test]
 fn a_mode_is_left(rt: HostRuntime) -> Result<(), Fail> {
     let (arena, mut hands) = opened(rt.alloc(), 1)?;
-    let Some(mut hand) = next_hand(&arena, &mut hands) else {
-        return Err(Fail::new("there is a hand"));
+    let Some(hand) = set_mode_two(&rt, &arena, &mut hands) else {
+        return Err(Fail::new("there is a hand, and the lock is free"));
     };
-    let Ok(mut held) = arena.try_slabs(&mut hand) else {
-        return Err(Fail::new("the lock is free"));
-    };
-    arena.set_automove(&mut hand, &mut held, 2);
-    assert_same(&rt, give(&arena, &mut hand, held), true, "give_slabs");
     let left = arena.close(hand);
-    let Some(slabs) = left.slabs() else {
-        return Err(Fail::new("nobody has pages and lists"));
-    };
-    assert_same(&rt, slabs.automove(), 2, "the mode");
-    assert_equal(
-        &rt,
-        owner(&left, 0),
-        Some(Owner::Untouched),
-        "the first page",
-    );
-    assert_same(&rt, head(&left, FIRST), Some(0), "the first header");
-    Ok(())
+    let told = assert_mode_two(&rt, &left);
+    drop(left);
+    told
+}
+
+/// One hand is lost with the slabs; the other finds them out, has each stripe, and loses the last. It is given back.
+fn lose_both(rt: &impl Abort, arena: &Arena, hands: &mut Vec<Hand>) -> Option<Hand>
+    requires hands { AreHandsOf arena.now hands.old.items }
+    ensures hand { IfSome result (λ hand. IsHandOf arena.now hand) }
+{
+    let (mut first, mut second) = next_two(arena, hands)?;
+    assert_same(rt, arena.try_slabs(&mut first).is_ok(), true, "the lock");
+    drop(first);
+    let refused = arena.try_slabs(&mut second).is_err();
+    assert_same(rt, refused, true, "the slabs");
+    for stripe in 0..4 {
+        let lent = has_lent_stripe(arena, &mut second, stripe);
+        assert_same(rt, lent, true, "a stripe");
+    }
+    let lost = lose_stripe(arena, &mut second, 3);
+    assert_same(rt, lost, true, "the last stripe");
+    Some(second)
 }
 
 #[test]
 fn a_lost_value_stays_out(rt: HostRuntime) -> Result<(), Fail> {
     let (arena, mut hands) = opened(rt.alloc(), 2)?;
-    let (Some(mut first), Some(mut second)) = (
-        next_hand(&arena, &mut hands),
-        next_hand(&arena, &mut hands),
-    ) else {
+    let Some(hand) = lose_both(&rt, &arena, &mut hands) else {
         return Err(Fail::new("there are two hands"));
     };
-    let Ok(held) = arena.try_slabs(&mut first) else {
-        return Err(Fail::new("the lock is free"));
-    };
-    drop(held);
-    drop(first);
-    assert_same(
-        &rt,
-        arena.try_slabs(&mut second).is_err(),
-        true,
-        "the slabs",
-    );
-    for stripe in 0..4 {
-        assert_same(
-            &rt,
-            has_lent_stripe(&arena, &mut second, stripe),
-            true,
-            "a stripe",
-        );
-    }
-    assert_same(
-        &rt,
-        lose_stripe(&arena, &mut second, 3),
-        true,
-        "the last stripe",
-    );
-    let left = arena.close(second);
+    let left = arena.close(hand);
     assert_same(&rt, left.slabs().is_none(), true, "pages and lists");
     assert_equal(&rt, owner(&left, 0), None, "the first page");
     for (stripe, is_there) in [(0, true), (1, true), (2, true), (3, false)] {
-        assert_same(
-            &rt,
-            is_stripe_left(&left, stripe),
-            is_there,
-            "a stripe is left",
-        );
+        let found = is_stripe_left(&left, stripe);
+        assert_same(&rt, (stripe, found), (stripe, is_there), "a stripe");
     }
     Ok(())
 }

@@ -11,6 +11,7 @@ use super::{assert_equal, assert_same};
 use mc_classes::ClassId;
 use mc_pages::ChunkId;
 use mc_words::{Arena, Final, Fresh, Hand};
+use std::process::Abort;
 use std::sync::Wait;
 use std::test::Fail;
 use std::thread::{Threads, join};
@@ -209,20 +210,28 @@ fn count_free(left: &Final) -> Option<(u64, u64)> {
     Some((listed, rounds))
 }
 
+/// The first of five hands gives the class a page, and the others work in pairs. None where one isn't idle, or the lock isn't free.
+fn grow_and_work<R: Abort + Threads + Wait + Sync>(
+    rt: &R,
+    arena: &Arena,
+    hands: &mut Vec<Hand>,
+) -> Option<Worked>
+    requires hands { AreHandsOf arena.now hands.old.items }
+    ensures hand { IfSome result (λ worked. IsHandOf arena.now worked.hand) }
+{
+    let mut owner = next_hand(arena, hands)?;
+    let mut held = arena.try_slabs(&mut owner).ok()?;
+    let grown = grow_page(arena, &mut owner, &mut held, 1);
+    assert_equal(rt, grown, Some(Ok(0)), "grow");
+    assert_same(rt, give(arena, &mut owner, held), true, "give_slabs");
+    work_by_all(rt, arena, hands)
+}
+
 #[test]
 fn four_threads_share_a_class(rt: HostRuntime) -> Result<(), Fail> {
     let (arena, mut hands) = opened(rt.alloc(), 5)?;
-    let Some(mut owner) = next_hand(&arena, &mut hands) else {
-        return Err(Fail::new("there are five hands"));
-    };
-    let Ok(mut held) = arena.try_slabs(&mut owner) else {
-        return Err(Fail::new("the lock is free"));
-    };
-    let grown = grow_page(&arena, &mut owner, &mut held, 1);
-    assert_equal(&rt, grown, Some(Ok(0)), "grow");
-    assert_same(&rt, give(&arena, &mut owner, held), true, "give_slabs");
-    let Some(worked) = work_by_all(&rt, &arena, &mut hands) else {
-        return Err(Fail::new("the hands are idle"));
+    let Some(worked) = grow_and_work(&rt, &arena, &mut hands) else {
+        return Err(Fail::new("five hands are idle"));
     };
     assert_same(&rt, worked.rounds, ROUNDS, "rounds");
     let left = arena.close(worked.hand);

@@ -1,7 +1,8 @@
 //! Which item is evicted: the oldest of five that nobody holds.
 use super::MOST_WORDS;
-use super::calls::{GETTERS, Getter, opened_two};
+use super::calls::{GETTERS, Getter};
 use super::steps::{Step, play_all, run};
+use mc_calls::{FOUR_CLASSES, opened_two};
 use mc_items::SetError;
 use std::alloc::Global;
 use std::process::Abort;
@@ -37,10 +38,14 @@ fn store_ninth<R: Abort + Wait>(
     held: Step,
     behind: &[Step],
 ) -> Result<(), Fail> {
-    let (arena, mut hand, mut reader) = opened_two(alloc)?;
-    play_all(rt, alloc, &arena, &mut hand, &[EIGHT])?;
-    play_all(rt, alloc, &arena, &mut reader, &[held])?;
-    play_all(rt, alloc, &arena, &mut hand, behind)?;
+    let mut two = opened_two(alloc, &FOUR_CLASSES)?;
+    let stored = play_all(rt, alloc, &two.arena, &mut two.hand, &[EIGHT]);
+    let held = play_all(rt, alloc, &two.arena, &mut two.other, &[held]);
+    let played = play_all(rt, alloc, &two.arena, &mut two.hand, behind);
+    drop(two);
+    stored?;
+    held?;
+    played?;
     Ok(())
 }
 

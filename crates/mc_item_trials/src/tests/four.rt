@@ -1,10 +1,11 @@
 //! Four threads look up a key that leads nowhere: each get is noted in its stripe's history.
 ghost use Rattle.std.specs.Prelude.{IfSome};
 ghost use Rattle.std.specs.Thread.{IsSync};
-ghost use Rattle.mc_item_trials.specs.Hands.{IsIdleHandOf};
+ghost use Rattle.mc_calls.specs.Hands.{AreHandsOf, IsIdleHandOf};
 
-use super::calls::{Getter, is_there, next_two, opened};
-use super::{FOUR_CLASSES, assert_same};
+use super::assert_same;
+use super::calls::{Getter, is_there};
+use mc_calls::{FOUR_CLASSES, one_of, opened, two_of};
 use mc_stripe::{Call, Key};
 use mc_words::{Arena, Final, Hand};
 use std::sync::Wait;
@@ -99,17 +100,7 @@ fn both(arena: &Arena, pair: (Searched, Searched)) -> Option<Hand>
     if found || more {
         return None;
     }
-    Some(one_of(arena, (hand, other)))
-}
-
-/// One hand of two.
-#[tactic(auto, using(crate::proofs::Kept::idle, crate::proofs::Kept::ready_of_both, crate::proofs::Kept::nothing_of_both))]
-pub fn one_of(arena: &Arena, hands: (Hand, Hand)) -> Hand
-    requires hands { IsIdleHandOf arena.now hands.0 × IsIdleHandOf arena.now hands.1 }
-    ensures hand { IsIdleHandOf arena.now result }
-{
-    let (hand, other) = hands;
-    arena.join_hands(hand, other)
+    Some(one_of(arena, hand, other))
 }
 
 /// How many calls the stripe noted, if all are gets of that key that found nothing.
@@ -132,20 +123,29 @@ fn is_missed(call: &Call) -> bool {
     matches!(call, Call::Get(_, MISSING, None))
 }
 
+/// One hand of the four that searched. None where there were fewer, or one found something.
+fn search_by_four<R: Threads + Wait + Sync>(
+    rt: &R,
+    arena: &Arena,
+    hands: &mut Vec<Hand>,
+) -> Option<Hand>
+    requires hands { AreHandsOf arena.now hands.old.items }
+    ensures hand { IfSome result (λ hand. IsIdleHandOf arena.now hand) }
+{
+    let low = two_of(arena, hands)?;
+    let high = two_of(arena, hands)?;
+    let (low, high) = get_by_four(rt, arena, low, high);
+    let low = both(arena, low);
+    let high = both(arena, high);
+    Some(one_of(arena, low?, high?))
+}
+
 #[test]
 fn each_get_is_noted(rt: HostRuntime) -> Result<(), Fail> {
     let (arena, mut hands) = opened(rt.alloc(), &FOUR_CLASSES, 4)?;
-    let Some(low) = next_two(&arena, &mut hands) else {
-        return Err(Fail::new("there are four hands"));
+    let Some(hand) = search_by_four(&rt, &arena, &mut hands) else {
+        return Err(Fail::new("four hands find nothing"));
     };
-    let Some(high) = next_two(&arena, &mut hands) else {
-        return Err(Fail::new("there are four hands"));
-    };
-    let (low, high) = get_by_four(&rt, &arena, low, high);
-    let (Some(low), Some(high)) = (both(&arena, low), both(&arena, high)) else {
-        return Err(Fail::new("nothing is found"));
-    };
-    let hand = one_of(&arena, (low, high));
     let left = arena.close(hand);
     assert_same(&rt, count_gets(&left, 2), Some(4 * GETS), "gets");
     Ok(())

@@ -1,14 +1,18 @@
 //! Items that are set, looked up and given up, and what their headers are meanwhile.
 ghost use Rattle.mc_words.specs.Arenas.{IsHandOf, view};
 ghost use Rattle.mc_items.specs.ItemRefs.{IsItemRef};
-ghost use Rattle.mc_item_trials.specs.Hands.{IsReadyHandOf};
+ghost use Rattle.mc_calls.specs.Hands.{IsReadyHandOf};
 
-use super::calls::{GETTERS, Getter, get_by, header, opened_two};
+use super::calls::{GETTERS, Getter, get_by};
 use super::steps::{Step, play_all, run};
 use super::{MOST_WORDS, assert_same};
+use mc_calls::{FOUR_CLASSES, header, opened_two};
 use mc_items::{Ref, SetError, release};
 use mc_pages::ChunkId;
 use mc_words::{Arena, Hand};
+use std::alloc::Global;
+use std::process::Abort;
+use std::sync::Wait;
 use std::test::Fail;
 
 /// The first chunk of a class of two chunks a page that goes out.
@@ -48,34 +52,66 @@ fn release_beside(
 /// An item of the greatest length, in that chunk.
 const STORED: [Step; 2] = [Step::Sets(1, 2, 7, MOST_WORDS), Step::Head(FIRST, 458_753)];
 
-#[test]
-fn headers_count_link_and_references(rt: HostRuntime) -> Result<(), Fail> {
-    let (arena, mut hand, mut other) = opened_two(rt.alloc())?;
-    play_all(&rt, rt.alloc(), &arena, &mut hand, &STORED)?;
-    let Some(item) = get_by(&rt, &arena, &mut hand, 1, Getter::Get) else {
+/// An item is set, referred to, given up beside another hand's locks, and deleted; its header at each step.
+fn play_header_states<R: Abort + Wait>(
+    rt: &R,
+    alloc: Global,
+    arena: &Arena,
+    hand: &mut Hand,
+    other: &mut Hand,
+) -> Result<(), Fail>
+    requires hand { IsReadyHandOf arena.now hand.old }
+    requires other { IsReadyHandOf arena.now other.old }
+{
+    play_all(rt, alloc, arena, hand, &STORED)?;
+    let Some(item) = get_by(rt, arena, hand, 1, Getter::Get) else {
         return Err(Fail::new("the key has an item"));
     };
-    let counted = header(&arena, &mut other, FIRST);
-    assert_same(&rt, counted, Some(458_754), "get");
-    let released = release_beside(&arena, &mut hand, item, &mut other, 1);
-    assert_same(&rt, released, Some(458_753), "release");
+    let counted = header(arena, other, FIRST);
+    assert_same(rt, counted, Some(458_754), "get");
+    let released = release_beside(arena, hand, item, other, 1);
+    assert_same(rt, released, Some(458_753), "release");
     let steps = [Step::Deletes(1), Step::Head(FIRST, 393_216)];
-    play_all(&rt, rt.alloc(), &arena, &mut hand, &steps)?;
+    play_all(rt, alloc, arena, hand, &steps)?;
+    Ok(())
+}
+
+#[test]
+fn headers_count_link_and_references(rt: HostRuntime) -> Result<(), Fail> {
+    let mut two = opened_two(rt.alloc(), &FOUR_CLASSES)?;
+    let played = play_header_states(&rt, rt.alloc(), &two.arena, &mut two.hand, &mut two.other);
+    drop(two);
+    played
+}
+
+/// A reader gives an item up that was deleted meanwhile.
+fn release_behind_delete<R: Abort + Wait>(
+    rt: &R,
+    alloc: Global,
+    arena: &Arena,
+    hand: &mut Hand,
+    reader: &mut Hand,
+) -> Result<(), Fail>
+    requires hand { IsReadyHandOf arena.now hand.old }
+    requires reader { IsReadyHandOf arena.now reader.old }
+{
+    play_all(rt, alloc, arena, hand, &STORED)?;
+    let Some(item) = get_by(rt, arena, reader, 1, Getter::Get) else {
+        return Err(Fail::new("the key has an item"));
+    };
+    let steps = [Step::Deletes(1), Step::Head(FIRST, 393_217)];
+    play_all(rt, alloc, arena, hand, &steps)?;
+    let released = release_beside(arena, reader, item, hand, 1);
+    assert_same(rt, released, Some(393_216), "release");
     Ok(())
 }
 
 #[test]
 fn the_last_release_behind_a_delete_leaves_a_dead_chunk(rt: HostRuntime) -> Result<(), Fail> {
-    let (arena, mut hand, mut reader) = opened_two(rt.alloc())?;
-    play_all(&rt, rt.alloc(), &arena, &mut hand, &STORED)?;
-    let Some(item) = get_by(&rt, &arena, &mut reader, 1, Getter::Get) else {
-        return Err(Fail::new("the key has an item"));
-    };
-    let steps = [Step::Deletes(1), Step::Head(FIRST, 393_217)];
-    play_all(&rt, rt.alloc(), &arena, &mut hand, &steps)?;
-    let released = release_beside(&arena, &mut reader, item, &mut hand, 1);
-    assert_same(&rt, released, Some(393_216), "release");
-    Ok(())
+    let mut two = opened_two(rt.alloc(), &FOUR_CLASSES)?;
+    let played = release_behind_delete(&rt, rt.alloc(), &two.arena, &mut two.hand, &mut two.other);
+    drop(two);
+    played
 }
 
 #[test]

@@ -1,12 +1,12 @@
 //! A reference keeps the words of its item, whatever is stored meanwhile.
 ghost use Rattle.mc_words.specs.Arenas.{view};
 ghost use Rattle.mc_items.specs.ItemRefs.{IsItemRef};
-ghost use Rattle.mc_item_trials.specs.Hands.{IsReadyHandOf};
+ghost use Rattle.mc_calls.specs.Hands.{IsReadyHandOf};
 
 use super::assert_same;
-use super::calls::{GETTERS, Getter, get_by, opened_two};
+use super::calls::{GETTERS, Getter, get_by};
 use super::steps::{Step, play_all};
-use super::words::are_from;
+use mc_calls::{FOUR_CLASSES, are_from, opened_two};
 use mc_items::{Ref, read, release};
 use mc_memory::Refused;
 use mc_pages::ChunkId;
@@ -58,30 +58,49 @@ fn is_item(
 }
 
 /// A key is stored over, while its first item is held: each reader has the words of its own.
-fn store_over<R: Abort + Wait>(rt: &R, alloc: Global, getter: Getter) -> Result<(), Fail> {
-    let (arena, mut hand, mut reader) = opened_two(alloc)?;
-    play_all(rt, alloc, &arena, &mut hand, &[Step::Sets(1, 2, 7, 3)])?;
-    let Some(old) = get_by(rt, &arena, &mut reader, 1, getter) else {
+fn store_over<R: Abort + Wait>(
+    rt: &R,
+    alloc: Global,
+    arena: &Arena,
+    hand: &mut Hand,
+    reader: &mut Hand,
+    getter: Getter,
+) -> Result<(), Fail>
+    requires hand { IsReadyHandOf arena.now hand.old }
+    requires reader { IsReadyHandOf arena.now reader.old }
+{
+    play_all(rt, alloc, arena, hand, &[Step::Sets(1, 2, 7, 3)])?;
+    let Some(old) = get_by(rt, arena, reader, 1, getter) else {
         return Err(Fail::new("the key has an item"));
     };
-    play_all(rt, alloc, &arena, &mut hand, &[Step::Sets(1, 2, 50, 3)])?;
-    let Some(new) = get_by(rt, &arena, &mut hand, 1, getter) else {
+    play_all(rt, alloc, arena, hand, &[Step::Sets(1, 2, 50, 3)])?;
+    let Some(new) = get_by(rt, arena, hand, 1, getter) else {
         return Err(Fail::new("the key has an item"));
     };
-    let own = is_item(alloc, &arena, &mut hand, &new, 1, 2, 50)?;
+    let own = is_item(alloc, arena, hand, &new, 1, 2, 50)?;
     assert_same(rt, own, true, "the new item");
-    let own = is_item(alloc, &arena, &mut reader, &old, 1, 1, 7)?;
+    let own = is_item(alloc, arena, reader, &old, 1, 1, 7)?;
     assert_same(rt, own, true, "the old item");
-    play_all(rt, alloc, &arena, &mut hand, &[Step::Head(FIRST, 393_217)])?;
-    release(&arena, &mut reader, old);
-    play_all(rt, alloc, &arena, &mut hand, &[Step::Head(FIRST, 393_216)])?;
+    play_all(rt, alloc, arena, hand, &[Step::Head(FIRST, 393_217)])?;
+    release(arena, reader, old);
+    play_all(rt, alloc, arena, hand, &[Step::Head(FIRST, 393_216)])?;
     Ok(())
 }
 
 #[test]
 fn a_held_item_keeps_its_words(rt: HostRuntime) -> Result<(), Fail> {
     for getter in GETTERS {
-        store_over(&rt, rt.alloc(), getter)?;
+        let mut two = opened_two(rt.alloc(), &FOUR_CLASSES)?;
+        let played = store_over(
+            &rt,
+            rt.alloc(),
+            &two.arena,
+            &mut two.hand,
+            &mut two.other,
+            getter,
+        );
+        drop(two);
+        played?;
     }
     Ok(())
 }

@@ -1,13 +1,15 @@
 //! Refusals of calls on items.
-ghost use Rattle.mc_item_trials.specs.Hands.{IsReadyHandOf};
+ghost use Rattle.mc_calls.specs.Hands.{IsReadyHandOf};
 
-use super::calls::opened_two;
-use super::hints::{follow, hint_behind};
+use super::hints::hint_behind;
 use super::steps::{Step, play_all};
-use super::{FOUR_CLASSES, MOST_WORDS, assert_equal};
+use super::{MOST_WORDS, assert_equal};
+use mc_calls::{FOUR_CLASSES, follow, opened_two};
 use mc_items::{GetError, SetError, TryGetError, get, try_get};
 use mc_stripe::Key;
 use mc_words::{Again, Arena, Hand};
+use std::alloc::Global;
+use std::process::Abort;
 use std::sync::Wait;
 use std::test::Fail;
 
@@ -30,41 +32,70 @@ fn refusal_of_try(arena: &Arena, hand: &mut Hand, key: Key) -> Option<TryGetErro
     try_get(arena, hand, key).err()
 }
 
+/// A hand holds one item 255 times; one more is refused by each call.
+fn hold_too_often<R: Abort + Wait>(
+    rt: &R,
+    alloc: Global,
+    arena: &Arena,
+    hand: &mut Hand,
+) -> Result<(), Fail>
+    requires hand { IsReadyHandOf arena.now hand.old }
+{
+    let one = Step::Sets(1, 2, 0, 3);
+    let hint = hint_behind(rt, alloc, arena, hand, one)?;
+    let most = [Step::HoldsOften(1, 254)];
+    play_all(rt, alloc, arena, hand, &most)?;
+    let last = refusal_of_try(arena, hand, 1);
+    assert_equal(rt, last, None, "the 255th");
+    let refused = refusal_of_get(rt, arena, hand, 1);
+    assert_equal(rt, refused, Some(GetError::TooManyRefs), "get");
+    let refused = refusal_of_try(arena, hand, 1);
+    assert_equal(rt, refused, Some(TryGetError::TooManyRefs), "try_get");
+    let refused = follow(arena, hand, hint);
+    assert_equal(rt, refused, Some(Again::TooManyRefs), "again");
+    Ok(())
+}
+
 #[test]
 fn a_hand_has_at_most_255_references(rt: HostRuntime) -> Result<(), Fail> {
-    let (arena, mut hand, _other) = opened_two(rt.alloc())?;
-    let one = Step::Sets(1, 2, 0, 3);
-    let hint = hint_behind(&rt, rt.alloc(), &arena, &mut hand, one)?;
-    let most = [Step::HoldsOften(1, 254)];
-    play_all(&rt, rt.alloc(), &arena, &mut hand, &most)?;
-    let last = refusal_of_try(&arena, &mut hand, 1);
-    assert_equal(&rt, last, None, "the 255th");
-    let refused = refusal_of_get(&rt, &arena, &mut hand, 1);
-    assert_equal(&rt, refused, Some(GetError::TooManyRefs), "get");
-    let refused = refusal_of_try(&arena, &mut hand, 1);
-    assert_equal(&rt, refused, Some(TryGetError::TooManyRefs), "try_get");
-    let refused = follow(&arena, &mut hand, hint);
-    assert_equal(&rt, refused, Some(Again::TooManyRefs), "again");
+    let mut two = opened_two(rt.alloc(), &FOUR_CLASSES)?;
+    let played = hold_too_often(&rt, rt.alloc(), &two.arena, &mut two.hand);
+    drop(two);
+    played
+}
+
+/// Gets that don't wait, beside a hand that has a stripe.
+fn try_beside_stripe<R: Abort + Wait>(
+    rt: &R,
+    arena: &Arena,
+    hand: &mut Hand,
+    other: &mut Hand,
+) -> Result<(), Fail>
+    requires hand { IsReadyHandOf arena.now hand.old }
+    requires other { IsReadyHandOf arena.now other.old }
+{
+    if arena.config().stripes < 2 {
+        return Err(Fail::new("there are four stripes"));
+    }
+    let Ok(held) = arena.try_stripe(other, 1) else {
+        return Err(Fail::new("the stripe is free"));
+    };
+    let refused = refusal_of_try(arena, hand, 5);
+    assert_equal(rt, refused, Some(TryGetError::Held), "its stripe");
+    let found = refusal_of_try(arena, hand, 4);
+    assert_equal(rt, found, None, "another stripe");
+    arena.give_stripe(other, held);
+    let found = refusal_of_try(arena, hand, 5);
+    assert_equal(rt, found, None, "its stripe, given back");
     Ok(())
 }
 
 #[test]
 fn who_does_not_wait_is_told_of_another_hand(rt: HostRuntime) -> Result<(), Fail> {
-    let (arena, mut hand, mut other) = opened_two(rt.alloc())?;
-    if arena.config().stripes < 2 {
-        return Err(Fail::new("there are four stripes"));
-    }
-    let Ok(held) = arena.try_stripe(&mut other, 1) else {
-        return Err(Fail::new("the stripe is free"));
-    };
-    let refused = refusal_of_try(&arena, &mut hand, 5);
-    assert_equal(&rt, refused, Some(TryGetError::Held), "its stripe");
-    let found = refusal_of_try(&arena, &mut hand, 4);
-    assert_equal(&rt, found, None, "another stripe");
-    arena.give_stripe(&mut other, held);
-    let found = refusal_of_try(&arena, &mut hand, 5);
-    assert_equal(&rt, found, None, "its stripe, given back");
-    Ok(())
+    let mut two = opened_two(rt.alloc(), &FOUR_CLASSES)?;
+    let played = try_beside_stripe(&rt, &two.arena, &mut two.hand, &mut two.other);
+    drop(two);
+    played
 }
 
 #[test]
@@ -78,6 +109,9 @@ fn a_worn_chunk_holds_no_item(rt: HostRuntime) -> Result<(), Fail> {
         Step::Deletes(2),
         Step::Refuses(3, MOST_WORDS, SetError::WornOut),
     ];
-    play_all(&rt, rt.alloc(), &arena, &mut hand, &steps)?;
+    let played = play_all(&rt, rt.alloc(), &arena, &mut hand, &steps);
+    drop(hand);
+    drop(arena);
+    played?;
     Ok(())
 }

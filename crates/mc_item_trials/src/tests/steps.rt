@@ -1,11 +1,9 @@
 //! A call with what it is to give. A list of calls is one call of a test, so that it is checked fast.
-ghost use Rattle.mc_item_trials.specs.Hands.{IsReadyHandOf};
+ghost use Rattle.mc_calls.specs.Hands.{IsReadyHandOf};
 
 use super::assert_same;
-use super::calls::{
-    Getter, are_there, delete_key, header, hold_all, hold_often, opened_two, refusal_of_set,
-    store_all, touch_key,
-};
+use super::calls::{Getter, are_there, hold_all, hold_often, refusal_of_set};
+use mc_calls::{FOUR_CLASSES, delete_key, header, opened_two, store_all, touch_key};
 use mc_items::SetError;
 use mc_memory::Refused;
 use mc_pages::ChunkId;
@@ -65,8 +63,8 @@ fn acts<R: Wait>(rt: &R, arena: &Arena, hand: &mut Hand, step: &Step) -> bool
     ensures arena { IsReadyHandOf arena.now hand.new }
 {
     match step {
-        Step::Deletes(key) => delete_key(rt, arena, hand, *key),
-        Step::Touches(key) => touch_key(rt, arena, hand, *key),
+        Step::Deletes(key) => delete_key(rt, arena, hand, *key) == Some(true),
+        Step::Touches(key) => touch_key(rt, arena, hand, *key) == Some(true),
         Step::Finds(getter, from, end, there) => {
             are_there(rt, arena, hand, (*from, *end), *getter, *there)
         }
@@ -97,7 +95,9 @@ pub fn play_all<R: Abort + Wait>(
 
 /// Each call gives what it is to, in a new arena of four classes.
 pub fn run<R: Abort + Wait>(rt: &R, alloc: Global, steps: &[Step]) -> Result<(), Fail> {
-    let (arena, mut hand, _other) = opened_two(alloc)?;
-    play_all(rt, alloc, &arena, &mut hand, steps)?;
+    let mut two = opened_two(alloc, &FOUR_CLASSES)?;
+    let played = play_all(rt, alloc, &two.arena, &mut two.hand, steps);
+    drop(two);
+    played?;
     Ok(())
 }

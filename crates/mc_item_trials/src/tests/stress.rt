@@ -5,12 +5,13 @@ ghost use Rattle.std.specs.Thread.{IsSync};
 ghost use Rattle.mc_words.specs.Arenas.{view};
 ghost use Rattle.mc_items.specs.ItemRefs.{IsItemRef};
 ghost use Rattle.mc_items.specs.Keeping.{HoldsTheSame};
-ghost use Rattle.mc_item_trials.specs.Hands.{AreHandsOf, IsIdleHandOf, IsReadyHandOf};
+ghost use Rattle.mc_calls.specs.Hands.{AreHandsOf, IsIdleHandOf, IsReadyHandOf};
 
 use super::assert_same;
-use super::calls::{Getter, delete_key, get_by, next_two, opened, set_words};
-use super::four::one_of;
-use super::words::{are_from, words_from};
+use super::calls::{Getter, get_by};
+use mc_calls::{
+    are_from, count_keys, delete_key, head, one_of, opened, set_words, two_of, words_from,
+};
 use mc_classes::{Config, PageId};
 use mc_items::{Ref, read, release};
 use mc_memory::Refused;
@@ -18,6 +19,7 @@ use mc_pages::{ChunkId, Owner};
 use mc_stripe::{Key, Stamp};
 use mc_words::{Arena, Final, Hand};
 use std::alloc::Global;
+use std::process::Abort;
 use std::sync::Wait;
 use std::test::Fail;
 use std::thread::{Threads, join};
@@ -87,7 +89,7 @@ fn store<R: Wait>(
 {
     let stamp = hand.next_stamp().unwrap_or(0);
     let words = words_from(alloc, first_word(key, stamp), LEN)?;
-    let _stored = set_words(rt, arena, hand, key, &words);
+    let _stored = set_words(rt, arena, hand, key, &words).is_ok();
     Ok(())
 }
 
@@ -144,7 +146,7 @@ fn reads_own<R: Wait>(
 
 /// Gets the key's item, reads it before and behind a set of the next key, and gives the reference up, also where memory ran out.
 /// True if all words were its own.
-#[tactic(auto, using(crate::proofs::Kept::nothing_left_later))]
+#[tactic(auto, using(mc_calls::proofs::Kept::nothing_left_later))]
 fn read_twice<R: Wait>(
     rt: &R,
     alloc: Global,
@@ -254,7 +256,7 @@ fn done(arena: &Arena, worker: Worker) -> (Hand, u64)
         writer,
         wrong,
     } = worker;
-    (one_of(arena, (reader, writer)), wrong)
+    (one_of(arena, reader, writer), wrong)
 }
 
 /// One hand of two workers, and how many items both found wrong.
@@ -266,7 +268,7 @@ fn both(arena: &Arena, workers: (Worker, Worker)) -> (Hand, u64)
     let (first, second) = workers;
     let (hand, wrong) = done(arena, first);
     let (other, more) = done(arena, second);
-    let hand = one_of(arena, (hand, other));
+    let hand = one_of(arena, hand, other);
     (hand, wrong.saturating_add(more))
 }
 
@@ -277,8 +279,8 @@ fn next_pairs(arena: &Arena, hands: &mut Vec<Hand>) -> Option<((Hand, Hand), (Ha
     ensures first { IfSome result (λ pairs. IsIdleHandOf arena.now pairs.0.0 × IsIdleHandOf arena.now pairs.0.1) }
     ensures second { IfSome result (λ pairs. IsIdleHandOf arena.now pairs.1.0 × IsIdleHandOf arena.now pairs.1.1) }
 {
-    let first = next_two(arena, hands)?;
-    let second = next_two(arena, hands)?;
+    let first = two_of(arena, hands)?;
+    let second = two_of(arena, hands)?;
     Some((first, second))
 }
 
@@ -307,7 +309,7 @@ fn work_by_four<R: Threads + Wait + Sync>(
     );
     let (hand, wrong) = both(arena, low);
     let (other, more) = both(arena, high);
-    let hand = one_of(arena, (hand, other));
+    let hand = one_of(arena, hand, other);
     Some((hand, wrong.saturating_add(more)))
 }
 
@@ -337,31 +339,6 @@ fn add_page(left: &Final, page: PageId, sums: Sums) -> Option<Sums> {
     Some(Sums { free, dead, linked })
 }
 
-/// The header of a chunk. None where there is no such chunk.
-fn head(left: &Final, chunk: ChunkId) -> Option<u64> {
-    let classes = left.classes();
-    if chunk.page < classes.pages() && chunk.index < classes.per_page(1) {
-        Some(left.head(chunk))
-    } else {
-        None
-    }
-}
-
-/// How many of the keys have an item.
-fn count_keys(left: &Final) -> Option<u64> {
-    let stripes = left.config().stripes;
-    let mut count = 0u64;
-    for key in 0..KEYS {
-        if stripes == 0 {
-            return None;
-        }
-        if left.stripe(key % stripes)?.find(key).is_some() {
-            count = count.saturating_add(1);
-        }
-    }
-    Some(count)
-}
-
 /// How many chunks of the class are free as its list says, and whether both pages are the class's.
 fn listed(left: &Final) -> Option<(u64, bool)> {
     let mut are_owned = left.classes().pages() == 2;
@@ -373,6 +350,36 @@ fn listed(left: &Final) -> Option<(u64, bool)> {
     Some((left.slabs()?.numbers(1).free, are_owned))
 }
 
+/// Each chunk of the closed arena is free, dead or an item's, and its lists and stripes tell the same.
+fn assert_left(rt: &impl Abort, left: &Final) -> Result<(), Fail> {
+    let none = Sums {
+        free: 0,
+        dead: 0,
+        linked: 0,
+    };
+    let Some(sums) = add_page(left, 0, none) else {
+        return Err(Fail::new("each chunk is free, dead or linked"));
+    };
+    let Some(sums) = add_page(left, 1, sums) else {
+        return Err(Fail::new("each chunk is free, dead or linked"));
+    };
+    let Some((free, are_owned)) = listed(left) else {
+        return Err(Fail::new("pages and lists are there"));
+    };
+    assert_same(rt, are_owned, true, "pages of the class");
+    assert_same(rt, free, sums.free, "free chunks");
+    assert_same(rt, count_keys(left, KEYS), Some(sums.linked), "items");
+    assert_same(
+        rt,
+        sums.free
+            .saturating_add(sums.dead)
+            .saturating_add(sums.linked),
+        2 * CHUNKS,
+        "chunks",
+    );
+    Ok(())
+}
+
 #[test]
 fn no_read_shows_another_item(rt: HostRuntime) -> Result<(), Fail> {
     let (arena, mut hands) = opened(rt.alloc(), &TWO_PAGES, 8)?;
@@ -381,30 +388,7 @@ fn no_read_shows_another_item(rt: HostRuntime) -> Result<(), Fail> {
     };
     assert_same(&rt, wrong, 0, "words of other items");
     let left = arena.close(hand);
-    let none = Sums {
-        free: 0,
-        dead: 0,
-        linked: 0,
-    };
-    let Some(sums) = add_page(&left, 0, none) else {
-        return Err(Fail::new("each chunk is free, dead or linked"));
-    };
-    let Some(sums) = add_page(&left, 1, sums) else {
-        return Err(Fail::new("each chunk is free, dead or linked"));
-    };
-    let Some((free, are_owned)) = listed(&left) else {
-        return Err(Fail::new("pages and lists are there"));
-    };
-    assert_same(&rt, are_owned, true, "pages of the class");
-    assert_same(&rt, free, sums.free, "free chunks");
-    assert_same(&rt, count_keys(&left), Some(sums.linked), "items");
-    assert_same(
-        &rt,
-        sums.free
-            .saturating_add(sums.dead)
-            .saturating_add(sums.linked),
-        2 * CHUNKS,
-        "chunks",
-    );
-    Ok(())
+    let accounted = assert_left(&rt, &left);
+    drop(left);
+    accounted
 }

@@ -1,5 +1,5 @@
 //! The mover's thread of the stress: it begins moves between all classes and the pool, and turns without a pause.
-ghost use Rattle.mc_mover_trials.specs.Hands.{IsIdleHandOf, IsReadyHandOf};
+ghost use Rattle.mc_calls.specs.Hands.{IsIdleHandOf, IsReadyHandOf};
 
 use super::moves::{reassign_by, turn_by};
 use super::workers::draw;

@@ -1,9 +1,9 @@
 //! Counts and issue numbers at their greatest.
-ghost use Rattle.mc_mover_trials.specs.Hands.{IsReadyHandOf};
+ghost use Rattle.mc_calls.specs.Hands.{IsReadyHandOf};
 
-use super::calls::{get_key, header, opened_two, touch_key};
 use super::steps::{Step, play_all};
-use super::{FOUR_CLASSES, assert_equal, assert_same};
+use super::{assert_equal, assert_same};
+use mc_calls::{FOUR_CLASSES, get_key, header, opened_two, touch_key};
 use mc_items::{GetError, get};
 use mc_pages::ChunkId;
 use mc_stripe::Key;
@@ -53,26 +53,48 @@ fn fill_up<R: Abort + Wait>(rt: &R, arena: &Arena, hand: &mut Hand)
     assert_same(rt, touch_key(rt, arena, hand, 1), Some(true), "a touch");
 }
 
-#[test]
-fn two_hands_hold_a_chunk_as_often_as_they_may(rt: HostRuntime) -> Result<(), Fail> {
-    let (arena, mut hand, mut other) = opened_two(rt.alloc(), &FOUR_CLASSES)?;
-    play_all(&rt, rt.alloc(), &arena, &mut hand, &[Step::Sets(1, 5, 61)])?;
-    fill_up(&rt, &arena, &mut hand);
-    let head = header(&arena, &mut hand, FIRST);
-    assert_same(&rt, head, Some(459_008), "linked, and 255 references");
-    fill_up(&rt, &arena, &mut other);
-    let head = header(&arena, &mut hand, FIRST);
-    assert_same(&rt, head, Some(459_263), "linked, and 510 references");
+/// Two hands hold one chunk 255 times each, and its page moves.
+fn hold_as_often_as_two_may<R: Abort + Wait>(
+    rt: &R,
+    alloc: Global,
+    arena: &Arena,
+    hand: &mut Hand,
+    other: &mut Hand,
+) -> Result<(), Fail>
+    requires hand { IsReadyHandOf arena.now hand.old }
+    requires other { IsReadyHandOf arena.now other.old }
+{
+    play_all(rt, alloc, arena, hand, &[Step::Sets(1, 5, 61)])?;
+    fill_up(rt, arena, hand);
+    let head = header(arena, hand, FIRST);
+    assert_same(rt, head, Some(459_008), "linked, and 255 references");
+    fill_up(rt, arena, other);
+    let head = header(arena, hand, FIRST);
+    assert_same(rt, head, Some(459_263), "linked, and 510 references");
     let steps = [
         Step::Reassigns(Some(4), 1, Ok(())),
         Step::Goes(1, 0, 1, 1, 0),
         Step::Deletes(1),
         Step::Goes(0, 0, 0, 1, 0),
     ];
-    play_all(&rt, rt.alloc(), &arena, &mut hand, &steps)?;
-    let head = header(&arena, &mut hand, FIRST);
-    assert_same(&rt, head, Some(393_726), "unlinked, and 510 references");
+    play_all(rt, alloc, arena, hand, &steps)?;
+    let head = header(arena, hand, FIRST);
+    assert_same(rt, head, Some(393_726), "unlinked, and 510 references");
     Ok(())
+}
+
+#[test]
+fn two_hands_hold_a_chunk_as_often_as_they_may(rt: HostRuntime) -> Result<(), Fail> {
+    let mut two = opened_two(rt.alloc(), &FOUR_CLASSES)?;
+    let played = hold_as_often_as_two_may(
+        &rt,
+        rt.alloc(),
+        &two.arena,
+        &mut two.hand,
+        &mut two.other,
+    );
+    drop(two);
+    played
 }
 
 /// Four items fill two pages, and one is deleted; then a page goes to the pool, from an arena of this first issue number.
@@ -93,7 +115,10 @@ fn move_beside_dead<R: Abort + Wait>(
         Step::Pages(2, 1, false),
         has,
     ];
-    play_all(rt, alloc, &arena, &mut hand, &steps)?;
+    let played = play_all(rt, alloc, &arena, &mut hand, &steps);
+    drop(hand);
+    drop(arena);
+    played?;
     Ok(())
 }
 

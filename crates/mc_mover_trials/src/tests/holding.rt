@@ -1,17 +1,31 @@
 //! Items that are held hold up their page.
-use super::calls::{get_key, has_words, opened_two, store_all};
+ghost use Rattle.mc_calls.specs.Hands.{IsReadyHandOf};
+
+use super::assert_same;
 use super::steps::{Step, play_all};
-use super::{FOUR_CLASSES, assert_same};
+use mc_calls::{FOUR_CLASSES, get_key, has_words, opened_two, store_all};
 use mc_items::release;
 use mc_pages::Reassign;
+use mc_words::{Arena, Hand};
+use std::alloc::Global;
+use std::process::Abort;
+use std::sync::Wait;
 use std::test::Fail;
 
-#[test]
-fn a_held_item_keeps_its_page_and_its_words(rt: HostRuntime) -> Result<(), Fail> {
-    let (arena, mut hand, mut reader) = opened_two(rt.alloc(), &FOUR_CLASSES)?;
-    let stored = store_all(&rt, rt.alloc(), &arena, &mut hand, (1, 9), 100, 22)?;
-    assert_same(&rt, stored, true, "eight sets");
-    let Some(item) = get_key(&rt, &arena, &mut reader, 1) else {
+/// A page moves whose item the reader holds, reads and releases.
+fn move_a_held_page<R: Abort + Wait>(
+    rt: &R,
+    alloc: Global,
+    arena: &Arena,
+    hand: &mut Hand,
+    reader: &mut Hand,
+) -> Result<(), Fail>
+    requires hand { IsReadyHandOf arena.now hand.old }
+    requires reader { IsReadyHandOf arena.now reader.old }
+{
+    let stored = store_all(rt, alloc, arena, hand, (1, 9), 100, 22)?;
+    assert_same(rt, stored, true, "eight sets");
+    let Some(item) = get_key(rt, arena, reader, 1) else {
         return Err(Fail::new("the key has an item"));
     };
     let steps = [
@@ -21,11 +35,19 @@ fn a_held_item_keeps_its_page_and_its_words(rt: HostRuntime) -> Result<(), Fail>
         Step::Moved(0, 0, 1, 1),
         Step::Reassigns(Some(4), 2, Err(Reassign::Busy)),
     ];
-    play_all(&rt, rt.alloc(), &arena, &mut hand, &steps)?;
-    let own = has_words(rt.alloc(), &arena, &mut reader, &item, 100, 22)?;
-    assert_same(&rt, own, true, "words 100 to 121");
-    release(&arena, &mut reader, item);
+    play_all(rt, alloc, arena, hand, &steps)?;
+    let own = has_words(alloc, arena, reader, &item, 100, 22)?;
+    assert_same(rt, own, true, "words 100 to 121");
+    release(arena, reader, item);
     let steps = [Step::Finishes(1, 0, 1, 0, 0), Step::Idles];
-    play_all(&rt, rt.alloc(), &arena, &mut hand, &steps)?;
+    play_all(rt, alloc, arena, hand, &steps)?;
     Ok(())
+}
+
+#[test]
+fn a_held_item_keeps_its_page_and_its_words(rt: HostRuntime) -> Result<(), Fail> {
+    let mut two = opened_two(rt.alloc(), &FOUR_CLASSES)?;
+    let played = move_a_held_page(&rt, rt.alloc(), &two.arena, &mut two.hand, &mut two.other);
+    drop(two);
+    played
 }

@@ -1,13 +1,16 @@
 //! Turns beside another hand's locks.
 ghost use Rattle.mc_words.specs.Arenas.{IsHandOf};
-ghost use Rattle.mc_mover_trials.specs.Hands.{IsReadyHandOf};
+ghost use Rattle.mc_calls.specs.Hands.{IsReadyHandOf};
 
-use super::calls::opened_two;
+use super::assert_equal;
 use super::moves::try_turn_by;
 use super::steps::{Step, play_all};
-use super::{FOUR_CLASSES, assert_equal};
+use mc_calls::{FOUR_CLASSES, opened_two};
 use mc_mover::{Counts, TryTurn, Turn};
 use mc_words::{Arena, Hand};
+use std::alloc::Global;
+use std::process::Abort;
+use std::sync::Wait;
 use std::test::Fail;
 
 /// A turn of one hand, while another has the stripe. None where that hand didn't get it.
@@ -63,35 +66,73 @@ fn evicted(count: u64, locked: u64) -> Counts {
     }
 }
 
+/// A page moves while another hand has the stripe of its item.
+fn move_beside_stripe<R: Abort + Wait>(
+    rt: &R,
+    alloc: Global,
+    arena: &Arena,
+    hand: &mut Hand,
+    other: &mut Hand,
+) -> Result<(), Fail>
+    requires hand { IsReadyHandOf arena.now hand.old }
+    requires other { IsReadyHandOf arena.now other.old }
+{
+    let steps = [Step::Sets(1, 9, 61), Step::Reassigns(Some(4), 1, Ok(()))];
+    play_all(rt, alloc, arena, hand, &steps)?;
+    let went = turn_beside_stripe(arena, hand, other, 1);
+    let wanted = Turn::Went(evicted(1, 1));
+    assert_equal(rt, went, Some(Ok(wanted)), "beside its stripe");
+    let done = try_turn_by(arena, hand);
+    let wanted = Turn::Finished(evicted(1, 0));
+    assert_equal(rt, done, Ok(wanted), "once it was given");
+    let steps = [Step::Moved(1, 0, 2, 1)];
+    play_all(rt, alloc, arena, hand, &steps)?;
+    Ok(())
+}
+
 #[test]
 fn a_held_stripe_holds_up_the_page(rt: HostRuntime) -> Result<(), Fail> {
-    let (arena, mut hand, mut other) = opened_two(rt.alloc(), &FOUR_CLASSES)?;
+    let mut two = opened_two(rt.alloc(), &FOUR_CLASSES)?;
+    let played = move_beside_stripe(&rt, rt.alloc(), &two.arena, &mut two.hand, &mut two.other);
+    drop(two);
+    played
+}
+
+/// Turns that don't wait, beside a hand that has the slabs.
+fn turn_while_slabs_are_held<R: Abort + Wait>(
+    rt: &R,
+    alloc: Global,
+    arena: &Arena,
+    hand: &mut Hand,
+    other: &mut Hand,
+) -> Result<(), Fail>
+    requires hand { IsReadyHandOf arena.now hand.old }
+    requires other { IsReadyHandOf arena.now other.old }
+{
+    let refused = turn_beside_slabs(arena, hand, other);
+    assert_equal(rt, refused, Some(Err(TryTurn::Held)), "no page moves");
     let steps = [Step::Sets(1, 9, 61), Step::Reassigns(Some(4), 1, Ok(()))];
-    play_all(&rt, rt.alloc(), &arena, &mut hand, &steps)?;
-    let went = turn_beside_stripe(&arena, &mut hand, &mut other, 1);
-    let wanted = Turn::Went(evicted(1, 1));
-    assert_equal(&rt, went, Some(Ok(wanted)), "beside its stripe");
-    let done = try_turn_by(&arena, &mut hand);
-    let wanted = Turn::Finished(evicted(1, 0));
-    assert_equal(&rt, done, Ok(wanted), "once it was given");
-    let steps = [Step::Moved(1, 0, 2, 1)];
-    play_all(&rt, rt.alloc(), &arena, &mut hand, &steps)?;
+    play_all(rt, alloc, arena, hand, &steps)?;
+    let refused = turn_beside_slabs(arena, hand, other);
+    assert_equal(rt, refused, Some(Err(TryTurn::Held)), "a page moves");
+    let done = try_turn_by(arena, hand);
+    let wanted = Turn::Finished(evicted(2, 0));
+    assert_equal(rt, done, Ok(wanted), "once they were given");
+    let idle = try_turn_by(arena, hand);
+    assert_equal(rt, idle, Ok(Turn::Idle), "when no page moves");
     Ok(())
 }
 
 #[test]
 fn who_does_not_wait_is_told_that_the_slabs_are_held(rt: HostRuntime) -> Result<(), Fail> {
-    let (arena, mut hand, mut other) = opened_two(rt.alloc(), &FOUR_CLASSES)?;
-    let refused = turn_beside_slabs(&arena, &mut hand, &mut other);
-    assert_equal(&rt, refused, Some(Err(TryTurn::Held)), "no page moves");
-    let steps = [Step::Sets(1, 9, 61), Step::Reassigns(Some(4), 1, Ok(()))];
-    play_all(&rt, rt.alloc(), &arena, &mut hand, &steps)?;
-    let refused = turn_beside_slabs(&arena, &mut hand, &mut other);
-    assert_equal(&rt, refused, Some(Err(TryTurn::Held)), "a page moves");
-    let done = try_turn_by(&arena, &mut hand);
-    let wanted = Turn::Finished(evicted(2, 0));
-    assert_equal(&rt, done, Ok(wanted), "once they were given");
-    let idle = try_turn_by(&arena, &mut hand);
-    assert_equal(&rt, idle, Ok(Turn::Idle), "when no page moves");
-    Ok(())
+    let mut two = opened_two(rt.alloc(), &FOUR_CLASSES)?;
+    let played = turn_while_slabs_are_held(
+        &rt,
+        rt.alloc(),
+        &two.arena,
+        &mut two.hand,
+        &mut two.other,
+    );
+    drop(two);
+    played
 }

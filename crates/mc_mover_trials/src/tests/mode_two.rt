@@ -1,6 +1,6 @@
 //! The automover's mode 2: an eviction asks for a page for its class.
-use super::FOUR_CLASSES;
 use super::steps::{Step, run};
+use mc_calls::FOUR_CLASSES;
 use std::test::Fail;
 
 #[test]

@@ -1,7 +1,7 @@
 //! Calls of the mover, of hands that may make any.
 ghost use Rattle.mc_words.specs.Arenas.{view};
 ghost use Rattle.mc_items.specs.Keeping.{HoldsTheSame};
-ghost use Rattle.mc_mover_trials.specs.Hands.{IsReadyHandOf};
+ghost use Rattle.mc_calls.specs.Hands.{IsReadyHandOf};
 
 use mc_classes::ClassId;
 use mc_mover::{TryTurn, Turn, reassign, set_mode, try_turn, turn};

@@ -1,8 +1,13 @@
 //! Moves that are refused.
-use super::FOUR_CLASSES;
-use super::calls::{get_key, opened_two};
+ghost use Rattle.mc_calls.specs.Hands.{IsReadyHandOf};
+
 use super::steps::{Step, play_all, run};
+use mc_calls::{FOUR_CLASSES, get_key, opened_two};
 use mc_pages::Reassign;
+use mc_words::{Arena, Hand};
+use std::alloc::Global;
+use std::process::Abort;
+use std::sync::Wait;
 use std::test::Fail;
 
 #[test]
@@ -25,11 +30,19 @@ fn refusals_come_in_their_order(rt: HostRuntime) -> Result<(), Fail> {
     run(&rt, rt.alloc(), &FOUR_CLASSES, &steps)
 }
 
-#[test]
-fn one_page_moves_at_a_time(rt: HostRuntime) -> Result<(), Fail> {
-    let (arena, mut hand, mut reader) = opened_two(rt.alloc(), &FOUR_CLASSES)?;
-    play_all(&rt, rt.alloc(), &arena, &mut hand, &[Step::Sets(1, 9, 61)])?;
-    if get_key(&rt, &arena, &mut reader, 1).is_none() {
+/// Moves are asked for while one page moves, whose item the reader holds.
+fn ask_while_one_moves<R: Abort + Wait>(
+    rt: &R,
+    alloc: Global,
+    arena: &Arena,
+    hand: &mut Hand,
+    reader: &mut Hand,
+) -> Result<(), Fail>
+    requires hand { IsReadyHandOf arena.now hand.old }
+    requires reader { IsReadyHandOf arena.now reader.old }
+{
+    play_all(rt, alloc, arena, hand, &[Step::Sets(1, 9, 61)])?;
+    if get_key(rt, arena, reader, 1).is_none() {
         return Err(Fail::new("the key has an item"));
     }
     let steps = [
@@ -43,6 +56,14 @@ fn one_page_moves_at_a_time(rt: HostRuntime) -> Result<(), Fail> {
         Step::Goes(0, 0, 0, 1, 0),
         Step::Moved(0, 0, 1, 2),
     ];
-    play_all(&rt, rt.alloc(), &arena, &mut hand, &steps)?;
+    play_all(rt, alloc, arena, hand, &steps)?;
     Ok(())
+}
+
+#[test]
+fn one_page_moves_at_a_time(rt: HostRuntime) -> Result<(), Fail> {
+    let mut two = opened_two(rt.alloc(), &FOUR_CLASSES)?;
+    let played = ask_while_one_moves(&rt, rt.alloc(), &two.arena, &mut two.hand, &mut two.other);
+    drop(two);
+    played
 }

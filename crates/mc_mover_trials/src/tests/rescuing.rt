@@ -1,8 +1,14 @@
 //! Pages that move while their class has other chunks: items are taken there.
-use super::calls::{key_has, opened_two};
+ghost use Rattle.mc_calls.specs.Hands.{IsReadyHandOf};
+
+use super::assert_same;
 use super::steps::{Step, play_all, run};
-use super::{FOUR_CLASSES, assert_same};
+use mc_calls::{FOUR_CLASSES, key_has, opened_two};
 use mc_pages::Reassign;
+use mc_words::{Arena, Hand};
+use std::alloc::Global;
+use std::process::Abort;
+use std::sync::Wait;
 use std::test::Fail;
 
 #[test]
@@ -18,9 +24,15 @@ fn an_item_is_taken_to_a_dead_chunk_of_its_class(rt: HostRuntime) -> Result<(), 
     run(&rt, rt.alloc(), &FOUR_CLASSES, &steps)
 }
 
-#[test]
-fn a_rescued_item_keeps_its_words_and_its_age(rt: HostRuntime) -> Result<(), Fail> {
-    let (arena, mut hand, _other) = opened_two(rt.alloc(), &FOUR_CLASSES)?;
+/// An item is rescued, read, and evicted as the eldest.
+fn read_behind_a_rescue<R: Abort + Wait>(
+    rt: &R,
+    alloc: Global,
+    arena: &Arena,
+    hand: &mut Hand,
+) -> Result<(), Fail>
+    requires hand { IsReadyHandOf arena.now hand.old }
+{
     let steps = [
         Step::Sets(1, 8, 61),
         Step::Sets(8, 9, 61),
@@ -28,16 +40,24 @@ fn a_rescued_item_keeps_its_words_and_its_age(rt: HostRuntime) -> Result<(), Fai
         Step::Reassigns(Some(4), 1, Ok(())),
         Step::Finishes(2, 1, 1, 0, 0),
     ];
-    play_all(&rt, rt.alloc(), &arena, &mut hand, &steps)?;
-    let own = key_has(&rt, rt.alloc(), &arena, &mut hand, 2, 1, 61)?;
-    assert_same(&rt, own, true, "the words of the item that was rescued");
+    play_all(rt, alloc, arena, hand, &steps)?;
+    let own = key_has(rt, alloc, arena, hand, 2, 1, 61)?;
+    assert_same(rt, own, true, "the words of the item that was rescued");
     let steps = [
         Step::Sets(9, 10, 61),
         Step::Touches(2, false),
         Step::Touches(3, true),
     ];
-    play_all(&rt, rt.alloc(), &arena, &mut hand, &steps)?;
+    play_all(rt, alloc, arena, hand, &steps)?;
     Ok(())
+}
+
+#[test]
+fn a_rescued_item_keeps_its_words_and_its_age(rt: HostRuntime) -> Result<(), Fail> {
+    let mut two = opened_two(rt.alloc(), &FOUR_CLASSES)?;
+    let played = read_behind_a_rescue(&rt, rt.alloc(), &two.arena, &mut two.hand);
+    drop(two);
+    played
 }
 
 #[test]

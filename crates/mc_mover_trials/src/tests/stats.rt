@@ -1,5 +1,5 @@
 //! Surveys, in the words of the statistics.
-ghost use Rattle.mc_mover_trials.specs.Hands.{IsReadyHandOf};
+ghost use Rattle.mc_calls.specs.Hands.{IsReadyHandOf};
 
 use mc_classes::{ClassId, ClassTable};
 use mc_mover::{Survey, survey};

@@ -1,10 +1,10 @@
 //! A call with what it is to give. A list of calls is one call of a test, so that it is checked fast.
-ghost use Rattle.mc_mover_trials.specs.Hands.{IsReadyHandOf};
+ghost use Rattle.mc_calls.specs.Hands.{IsReadyHandOf};
 
 use super::assert_same;
-use super::calls::{delete_key, opened_two, store_all, touch_key};
 use super::moves::{reassign_by, set_mode_by, turn_by};
 use super::stats::{Chunks, stats_of};
+use mc_calls::{delete_key, opened_two, store_all, touch_key};
 use mc_classes::{ClassId, Config};
 use mc_memory::Refused;
 use mc_mover::{Counts, Turn, forget, trim};
@@ -224,7 +224,9 @@ pub fn run<R: Abort + Wait>(
     config: &Config,
     steps: &[Step],
 ) -> Result<(), Fail> {
-    let (arena, mut hand, _other) = opened_two(alloc, config)?;
-    play_all(rt, alloc, &arena, &mut hand, steps)?;
+    let mut two = opened_two(alloc, config)?;
+    let played = play_all(rt, alloc, &two.arena, &mut two.hand, steps);
+    drop(two);
+    played?;
     Ok(())
 }

@@ -1,15 +1,16 @@
 //! A mover's thread moves pages between four classes, while three workers store, hold, read and delete items.
 ghost use Rattle.std.specs.Prelude.{IfSome};
 ghost use Rattle.std.specs.Thread.{IsSync};
-ghost use Rattle.mc_mover_trials.specs.Hands.{AreHandsOf, IsIdleHandOf};
+ghost use Rattle.mc_calls.specs.Hands.{AreHandsOf, IsIdleHandOf};
 
-use super::accounts::{NO_SUMS, Sums, all_sums, class_sums, count_keys, count_pages};
 use super::assert_same;
-use super::calls::{next_hand, opened, two_of};
 use super::driver::{Mover, Tally, drive, end_if};
 use super::moves::set_mode_by;
 use super::stats::{Stats, stats_of};
-use super::workers::{Worker, gather, store_each, work};
+use super::workers::{KEYS, Worker, gather, store_each, work};
+use mc_calls::{
+    NO_SUMS, Sums, all_sums, class_sums, count_keys, count_pages, next_hand, opened, two_of,
+};
 use mc_classes::{ClassId, Config};
 use mc_words::{Arena, Final, Hand};
 use std::alloc::Global;
@@ -207,7 +208,7 @@ fn assert_chunks<R: Abort>(rt: &R, left: &Final, stats: &Stats) -> Result<(), Fa
     };
     let found = (all.free, all.dead, all.linked);
     assert_same(rt, found, (sums.free, 0, sums.linked), "chunks of classes");
-    assert_same(rt, count_keys(left), Some(all.linked), "items");
+    assert_same(rt, count_keys(left, KEYS), Some(all.linked), "items");
     Ok(())
 }
 
@@ -219,6 +220,22 @@ fn assert_tally<R: Abort>(rt: &R, stats: &Stats, tally: Tally, ends: bool) {
     assert_same(rt, found, told, "moved, rescues, evictions_nomem");
     assert_same(rt, totals.busy <= tally.held_up, true, "busy at most");
     assert_same(rt, !ends || totals.busy == tally.held_up, true, "busy");
+}
+
+/// The closed arena is as the survey and the turns tell.
+fn assert_final<R: Abort>(
+    rt: &R,
+    left: &Final,
+    surveyed: Option<Stats>,
+    tally: Tally,
+    ends: bool,
+) -> Result<(), Fail> {
+    let Some(stats) = surveyed else {
+        return Err(Fail::new("there is memory for a survey"));
+    };
+    assert_tally(rt, &stats, tally, ends);
+    assert_pages(rt, left, &stats)?;
+    assert_chunks(rt, left, &stats)
 }
 
 /// What the threads left is as it is to be. The move that runs is ended first, where that is asked for.
@@ -239,13 +256,11 @@ fn assert_left<R: Abort + Wait>(
     assert_same(rt, wrong, 0, "words of other items");
     let ended = end_if(rt, &arena, &mut hand, &mut tally, ends);
     assert_same(rt, ended, true, "the last move ends");
-    let Some(stats) = stats_of(rt, alloc, &arena, &mut hand, true) else {
-        return Err(Fail::new("there is memory for a survey"));
-    };
-    assert_tally(rt, &stats, tally, ends);
+    let surveyed = stats_of(rt, alloc, &arena, &mut hand, true);
     let left = arena.close(hand);
-    assert_pages(rt, &left, &stats)?;
-    assert_chunks(rt, &left, &stats)
+    let accounted = assert_final(rt, &left, surveyed, tally, ends);
+    drop(left);
+    accounted
 }
 
 /// All threads' work in this mode, and then what is left.

@@ -1,8 +1,14 @@
 //! Surveys.
-use super::calls::opened_two;
+ghost use Rattle.mc_calls.specs.Hands.{IsReadyHandOf};
+
+use super::assert_same;
 use super::stats::Chunks;
 use super::steps::{Step, has_chunks, play_all, run};
-use super::{FOUR_CLASSES, assert_same};
+use mc_calls::{FOUR_CLASSES, opened_two};
+use mc_words::{Arena, Hand};
+use std::alloc::Global;
+use std::process::Abort;
+use std::sync::Wait;
 use std::test::Fail;
 
 /// A page of two chunks, both of which are used.
@@ -19,16 +25,32 @@ const HALF_FREE: Chunks = Chunks {
     free: 1,
 };
 
-#[test]
-fn a_survey_puts_dead_chunks_back_where_it_is_to(rt: HostRuntime) -> Result<(), Fail> {
-    let (arena, mut hand, mut other) = opened_two(rt.alloc(), &FOUR_CLASSES)?;
+/// Surveys with and without a sweep, of a class that has a dead chunk.
+fn survey_beside_dead<R: Abort + Wait>(
+    rt: &R,
+    alloc: Global,
+    arena: &Arena,
+    hand: &mut Hand,
+    other: &mut Hand,
+) -> Result<(), Fail>
+    requires hand { IsReadyHandOf arena.now hand.old }
+    requires other { IsReadyHandOf arena.now other.old }
+{
     let steps = [Step::Sets(1, 3, 61), Step::Deletes(1)];
-    play_all(&rt, rt.alloc(), &arena, &mut hand, &steps)?;
+    play_all(rt, alloc, arena, hand, &steps)?;
     for (sweep, chunks) in [(false, USED), (true, HALF_FREE), (false, HALF_FREE)] {
-        let found = has_chunks(&rt, rt.alloc(), &arena, &mut other, sweep, 4, chunks);
-        assert_same(&rt, found, true, "class 4");
+        let found = has_chunks(rt, alloc, arena, other, sweep, 4, chunks);
+        assert_same(rt, found, true, "class 4");
     }
     Ok(())
+}
+
+#[test]
+fn a_survey_puts_dead_chunks_back_where_it_is_to(rt: HostRuntime) -> Result<(), Fail> {
+    let mut two = opened_two(rt.alloc(), &FOUR_CLASSES)?;
+    let played = survey_beside_dead(&rt, rt.alloc(), &two.arena, &mut two.hand, &mut two.other);
+    drop(two);
+    played
 }
 
 #[test]

@@ -1,7 +1,7 @@
 //! Stripes that are trimmed between calls, or forget their calls: the answers are the same, and what is told isn't kept.
-use super::calls::opened_two;
+use super::assert_same;
 use super::steps::{Step, play_all};
-use super::{FOUR_CLASSES, assert_same};
+use mc_calls::{FOUR_CLASSES, Two, opened_two};
 use mc_pages::Reassign;
 use mc_words::Final;
 use std::alloc::Global;
@@ -11,9 +11,15 @@ use std::test::Fail;
 
 /// The arena that these calls leave.
 fn close_behind<R: Abort + Wait>(rt: &R, alloc: Global, steps: &[Step]) -> Result<Final, Fail> {
-    let (arena, mut hand, _other) = opened_two(alloc, &FOUR_CLASSES)?;
-    play_all(rt, alloc, &arena, &mut hand, steps)?;
-    Ok(arena.close(hand))
+    let Two {
+        arena,
+        mut hand,
+        other: _other,
+    } = opened_two(alloc, &FOUR_CLASSES)?;
+    let played = play_all(rt, alloc, &arena, &mut hand, steps);
+    let left = arena.close(hand);
+    played?;
+    Ok(left)
 }
 
 /// How many calls of all stripes are recorded, and how many aren't.

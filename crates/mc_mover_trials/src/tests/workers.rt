@@ -6,10 +6,9 @@ ghost use Rattle.mc_words.specs.Arenas.{setup_of, view};
 ghost use Rattle.mc_words.specs.Observers.{hint_chunk};
 ghost use Rattle.mc_items.specs.ItemRefs.{IsItemRef};
 ghost use Rattle.mc_items.specs.Keeping.{HoldsTheSame};
-ghost use Rattle.mc_mover_trials.specs.Hands.{IsIdleHandOf, IsReadyHandOf};
+ghost use Rattle.mc_calls.specs.Hands.{IsIdleHandOf, IsReadyHandOf};
 
-use super::calls::{delete_key, get_key, has_words, set_words};
-use super::words::words_from;
+use mc_calls::{delete_key, get_key, has_words, one_of, set_words, words_from};
 use mc_items::{Ref, again, hint, release};
 use mc_memory::Refused;
 use mc_stripe::{Key, Stamp};
@@ -78,7 +77,7 @@ fn store<R: Wait>(
 {
     let stamp = hand.next_stamp().unwrap_or(0);
     let words = words_from(alloc, first_word(key, stamp), len_of(key))?;
-    let _stored = set_words(rt, arena, hand, key, &words);
+    let _stored = set_words(rt, arena, hand, key, &words).is_ok();
     Ok(())
 }
 
@@ -118,7 +117,7 @@ fn is_own(
 }
 
 /// Reads the key's item, if it has one. True if all words were its own. The reference is given up, also where memory ran out.
-#[tactic(auto, using(crate::proofs::Kept::nothing_left_later))]
+#[tactic(auto, using(mc_calls::proofs::Kept::nothing_left_later))]
 fn read_once<R: Wait>(
     rt: &R,
     alloc: Global,
@@ -233,7 +232,7 @@ fn reads_own<R: Wait>(
 
 /// One round: an item is held over lines, read before and behind them, and once more when it was released, which it is also where
 /// memory ran out. True if all words that were read were their items' own.
-#[tactic(auto, using(crate::proofs::Kept::nothing_left_later))]
+#[tactic(auto, using(mc_calls::proofs::Kept::nothing_left_later))]
 fn hold_over<R: Wait>(
     rt: &R,
     alloc: Global,
@@ -291,16 +290,6 @@ pub fn work<R: Wait>(
         writer,
         wrong,
     }
-}
-
-/// One hand of two.
-#[tactic(auto, using(crate::proofs::Kept::idle, crate::proofs::Kept::ready_of_both, crate::proofs::Kept::nothing_of_both))]
-pub fn one_of(arena: &Arena, hand: Hand, other: Hand) -> Hand
-    requires hand { IsIdleHandOf arena.now hand }
-    requires other { IsIdleHandOf arena.now other }
-    ensures hand { IsIdleHandOf arena.now result }
-{
-    arena.join_hands(hand, other)
 }
 
 /// One hand of all that is given here and the worker's two, and how many rounds were wrong.

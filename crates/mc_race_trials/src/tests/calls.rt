@@ -1,48 +1,15 @@
-//! Calls of hands that may make any.
-ghost use Rattle.std.specs.Prelude.{IfSome, IfOk};
+//! Calls of hands that may make any, and which refs they keep.
 ghost use Rattle.mc_words.specs.Arenas.{view};
 ghost use Rattle.mc_words.specs.Refs.{KeepsRefs};
 ghost use Rattle.mc_items.specs.Keeping.{HoldsAsOften, HoldsTheSame};
-ghost use Rattle.mc_race_trials.specs.Hands.{AreHandsOf, IsIdleHandOf, IsReadyHandOf};
+ghost use Rattle.mc_calls.specs.Hands.{IsReadyHandOf};
 
 use super::words::words_of;
-use mc_classes::Config;
 use mc_items::{delete, set, touch};
 use mc_stripe::Key;
-use mc_words::{Arena, Hand, NewError};
+use mc_words::{Arena, Hand};
 use std::alloc::Global;
 use std::sync::Wait;
-
-/// An arena of this configuration, and its hands.
-#[tactic(auto, using(crate::proofs::Kept::all_hands))]
-pub fn opened(alloc: Global, config: &Config, hands: u64) -> Result<(Arena, Vec<Hand>), NewError>
-    ensures hands { IfOk result (λ made. AreHandsOf made.0 made.1.items) }
-{
-    Arena::new(alloc, config, hands)
-}
-
-/// The hand of the lowest number that is left.
-pub fn next_hand(arena: &Arena, hands: &mut Vec<Hand>) -> Option<Hand>
-    requires hands { AreHandsOf arena.now hands.old.items }
-    ensures hands { AreHandsOf arena.now hands.new.items }
-    ensures hand { IfSome result (λ hand. IsIdleHandOf arena.now hand) }
-{
-    if hands.is_empty() {
-        None
-    } else {
-        Some(hands.remove(0))
-    }
-}
-
-/// One hand of two.
-#[tactic(auto, using(crate::proofs::Kept::idle, crate::proofs::Kept::ready_of_both, crate::proofs::Kept::nothing_of_both))]
-pub fn one_of(arena: &Arena, hand: Hand, other: Hand) -> Hand
-    requires hand { IsIdleHandOf arena.now hand }
-    requires other { IsIdleHandOf arena.now other }
-    ensures hand { IsIdleHandOf arena.now result }
-{
-    arena.join_hands(hand, other)
-}
 
 /// Stores an item whose words tell its key and stamp. False where that is refused.
 pub fn set_key<R: Wait>(rt: &R, alloc: Global, arena: &Arena, hand: &mut Hand, key: Key) -> bool

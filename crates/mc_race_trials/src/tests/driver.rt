@@ -1,5 +1,5 @@
 //! Movers: each begins moves between all classes and the pool, turns, and changes the mode and surveys now and then.
-ghost use Rattle.mc_race_trials.specs.Hands.{IsIdleHandOf};
+ghost use Rattle.mc_calls.specs.Hands.{IsIdleHandOf};
 
 use super::words::draw;
 use mc_mover::{Counts, Survey, TryTurn, Turn, reassign, set_mode, survey, try_turn, turn};

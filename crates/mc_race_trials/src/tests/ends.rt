@@ -1,10 +1,11 @@
 //! What is left of an arena that several hands used, against what they told of their calls.
-ghost use Rattle.mc_race_trials.specs.Hands.{IsIdleHandOf};
+ghost use Rattle.mc_calls.specs.Hands.{IsIdleHandOf};
 
-use super::accounts::{NO_SUMS, Sums, all_sums, class_sums, count_keys, count_pages};
 use super::driver::Tally;
 use super::replays::{Calls, are_first_stamps, are_legal, calls_of, is_ledger_right};
+use super::words::KEYS;
 use super::workers::Told;
+use mc_calls::{NO_SUMS, Sums, all_sums, class_sums, count_keys, count_pages};
 use mc_mover::{Survey, survey};
 use mc_stripe::HandId;
 use mc_words::{Arena, Final, Hand};
@@ -56,7 +57,10 @@ fn check_chunks(left: &Final, found: &Survey) -> Result<(), Fail> {
         chunks == (sums.free, 0, sums.linked),
         "chunks of classes are all",
     )?;
-    check(count_keys(left) == Some(all.linked), "each item has a key")
+    check(
+        count_keys(left, KEYS) == Some(all.linked),
+        "each item has a key",
+    )
 }
 
 /// Each page has one owner, and the ledger leads there.
@@ -128,6 +132,28 @@ fn check_moves(found: &Survey, low: Tally, high: Tally) -> Result<(), Fail> {
     check(totals.busy <= held_up, "busy at most as told")
 }
 
+/// The closed arena is as the survey tells and the hands told, and each call that they told is in a history.
+fn check_final(
+    alloc: Global,
+    left: &Final,
+    found: &Survey,
+    low: (Tally, Told),
+    high: (Tally, Told),
+) -> Result<(), Fail> {
+    check_chunks(left, found)?;
+    check_pages(alloc, left, found)?;
+    check_moves(found, low.0, high.0)?;
+    check_mover(left, 0, low.0)?;
+    check_mover(left, 2, high.0)?;
+    let evicted = check_worker(alloc, left, 1, low.1)?;
+    let more = check_worker(alloc, left, 3, high.1)?;
+    check(
+        evicted.saturating_add(more) == evictions(found),
+        "evictions as counted",
+    )?;
+    check(are_legal(alloc, left)?, "each history leads to its index")
+}
+
 /// What the hands left is as it is to be, and each call that they told is in a history.
 pub fn check_left<R: Wait>(
     rt: &R,
@@ -140,20 +166,12 @@ pub fn check_left<R: Wait>(
     requires hand { IsIdleHandOf arena hand }
 {
     let mut hand = hand;
-    let Ok(found) = survey(rt, alloc, &arena, &mut hand, true) else {
-        return Err(Fail::new("there is memory for a survey"));
-    };
+    let surveyed = survey(rt, alloc, &arena, &mut hand, true);
     let left = arena.close(hand);
-    check_chunks(&left, &found)?;
-    check_pages(alloc, &left, &found)?;
-    check_moves(&found, low.0, high.0)?;
-    check_mover(&left, 0, low.0)?;
-    check_mover(&left, 2, high.0)?;
-    let evicted = check_worker(alloc, &left, 1, low.1)?;
-    let more = check_worker(alloc, &left, 3, high.1)?;
-    check(
-        evicted.saturating_add(more) == evictions(&found),
-        "evictions as counted",
-    )?;
-    check(are_legal(alloc, &left)?, "each history leads to its index")
+    let checked = match &surveyed {
+        Ok(found) => check_final(alloc, &left, found, low, high),
+        Err(_) => Err(Fail::new("there is memory for a survey")),
+    };
+    drop(left);
+    checked
 }

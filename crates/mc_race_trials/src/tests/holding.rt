@@ -5,7 +5,7 @@ ghost use Rattle.mc_words.specs.Arenas.{setup_of, view};
 ghost use Rattle.mc_words.specs.Refs.{KeepsRefs};
 ghost use Rattle.mc_items.specs.ItemRefs.{IsItemRef, item_chunk};
 ghost use Rattle.mc_items.specs.Keeping.{HoldsTheSame, HoldsToo};
-ghost use Rattle.mc_race_trials.specs.Hands.{IsIdleHandOf, IsReadyHandOf};
+ghost use Rattle.mc_calls.specs.Hands.{IsIdleHandOf, IsReadyHandOf};
 ghost use Rattle.mc_race_trials.specs.Keepers.{IsKeeperOf, IsNear};
 
 use super::words::are_words_of;

@@ -1,11 +1,10 @@
 //! Hands that are lost while others go on: with references, with a stripe, and with pages and lists. Who doesn't wait goes on reading.
 ghost use Rattle.std.specs.Prelude.{IfSome};
 ghost use Rattle.std.specs.Thread.{IsSync};
-ghost use Rattle.mc_race_trials.specs.Hands.{AreHandsOf, IsIdleHandOf};
+ghost use Rattle.mc_calls.specs.Hands.{AreHandsOf, IsIdleHandOf};
 ghost use Rattle.mc_race_trials.specs.Keepers.{AreNear, IsKeeperOf};
 
-use super::accounts::head;
-use super::calls::{next_hand, one_of, opened, set_key};
+use super::calls::set_key;
 use super::driver::{Mover, drive};
 use super::ends::check;
 use super::holding::{give_all_back, give_back};
@@ -15,6 +14,7 @@ use super::words::{KEYS, draw};
 use super::workers::{
     Hints, NOTHING, Told, keep_and_read, make_room, no_hints, place_in, read_one,
 };
+use mc_calls::{head, next_hand, one_of, opened};
 use mc_items::Ref;
 use mc_pages::ChunkId;
 use mc_words::{Arena, Final, Hand};
@@ -374,5 +374,7 @@ fn lost_hands_cost_what_they_had(rt: HostRuntime) -> Result<(), Fail> {
         return Err(Fail::new("there are eight hands"));
     };
     let left = arena.close(hand);
-    check_left(rt.alloc(), &left, &lost)
+    let checked = check_left(rt.alloc(), &left, &lost);
+    drop(left);
+    checked
 }

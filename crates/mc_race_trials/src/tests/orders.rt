@@ -8,13 +8,14 @@ ghost use Rattle.mc_words.specs.Observers.{slabs_lent};
 ghost use Rattle.mc_words.specs.Ready.{IsReady};
 ghost use Rattle.mc_items.specs.ItemRefs.{IsItemRef};
 ghost use Rattle.mc_mover.specs.Acting.{HasSlabs};
-ghost use Rattle.mc_race_trials.specs.Hands.{IsReadyHandOf};
+ghost use Rattle.mc_calls.specs.Hands.{IsReadyHandOf};
 ghost use Rattle.mc_race_trials.specs.Keepers.{IsNear};
 
-use super::calls::{next_hand, opened, set_key};
+use super::calls::set_key;
 use super::ends::check;
 use super::races::{Fate, look_and_lock, take_away};
 use super::words::are_words_of;
+use mc_calls::{opened, two_of};
 use mc_classes::{ClassId, Config};
 use mc_items::{Ref, again, get, hint, read, release};
 use mc_mover::{Counts, Turn, reassign, turn};
@@ -213,36 +214,58 @@ fn turns<R: Wait>(rt: &R, arena: &Arena, hand: &mut Hand, wanted: Turn) -> bool
     }
 }
 
-/// So many items are stored, and the first page begins to move.
-fn prepared<R: Wait>(rt: &R, alloc: Global, count: u64) -> Result<(Arena, Hand, Hand), Fail>
-    ensures hands { IfOk result (λ made. IsReadyHandOf made.0 made.1 × IsReadyHandOf made.0 made.2) }
+/// An arena and two of its hands. How it is dropped is proved at each place where it goes out of scope, so a test drops it by one call,
+/// behind all that may fail.
+#[derive(Drop)]
+struct Two {
+    arena: Arena,
+    hand: Hand,
+    other: Hand,
+}
+
+/// A new arena of two pages, and its two hands.
+fn opened_two(alloc: Global) -> Result<Two, Fail>
+    ensures hands { IfOk result (λ two. IsReadyHandOf two.arena two.hand × IsReadyHandOf two.arena two.other) }
 {
     let (arena, mut hands) = opened(alloc, &TWO_PAGES, 2)?;
-    let Some(mut hand) = next_hand(&arena, &mut hands) else {
-        return Err(Fail::new("there are two hands"));
-    };
-    let Some(other) = next_hand(&arena, &mut hands) else {
-        return Err(Fail::new("there are two hands"));
-    };
-    check(
-        store(rt, alloc, &arena, &mut hand, count),
-        "each item is stored",
-    )?;
-    let begins = reassign(rt, &arena, &mut hand, Some(4), 1).is_ok();
-    check(begins, "the page begins to move")?;
-    Ok((arena, hand, other))
+    match two_of(&arena, &mut hands) {
+        Some((hand, other)) => Ok(Two { arena, hand, other }),
+        None => Err(Fail::new("there are two hands")),
+    }
+}
+
+/// So many items are stored, and the first page begins to move.
+fn begin_move<R: Wait>(
+    rt: &R,
+    alloc: Global,
+    arena: &Arena,
+    hand: &mut Hand,
+    count: u64,
+) -> Result<(), Fail>
+    requires hand { IsReadyHandOf arena.now hand.old }
+    ensures hand { IsReadyHandOf arena.now hand.new }
+{
+    check(store(rt, alloc, arena, hand, count), "each item is stored")?;
+    let begins = reassign(rt, arena, hand, Some(4), 1).is_ok();
+    check(begins, "the page begins to move")
 }
 
 /// The first item is had again before it is taken away, among so many: it stays, and the next turn finds it busy.
-fn again_first<R: Abort + Wait>(
+fn race_again_first<R: Abort + Wait>(
     rt: &R,
     alloc: Global,
+    arena: &Arena,
+    hand: &mut Hand,
+    other: &mut Hand,
     count: u64,
     went: Counts,
-) -> Result<(), Fail> {
-    let (arena, mut hand, mut other) = prepared(rt, alloc, count)?;
-    let hint = hint_of(rt, &arena, &mut other, FIRST.0);
-    let Some((fate, item)) = race(rt, &arena, &mut hand, &mut other, FIRST.1, hint) else {
+) -> Result<(), Fail>
+    requires hand { IsReadyHandOf arena.now hand.old }
+    requires other { IsReadyHandOf arena.now other.old }
+{
+    begin_move(rt, alloc, arena, hand, count)?;
+    let hint = hint_of(rt, arena, other, FIRST.0);
+    let Some((fate, item)) = race(rt, arena, hand, other, FIRST.1, hint) else {
         return Err(Fail::new("the copy is put back, and the entry is as before"));
     };
     let Some(item) = item else {
@@ -250,22 +273,43 @@ fn again_first<R: Abort + Wait>(
     };
     check(fate == Fate::Stays, "it is told that it is held")?;
     check(
-        has_own(rt, alloc, &arena, &mut hand, FIRST.0),
+        has_own(rt, alloc, arena, hand, FIRST.0),
         "its key leads to it",
     )?;
     check(
-        turns(rt, &arena, &mut hand, Turn::Went(went)),
+        turns(rt, arena, hand, Turn::Went(went)),
         "it holds up its page",
     )?;
     check(
-        is_own(alloc, &arena, &mut other, item, FIRST.0),
+        is_own(alloc, arena, other, item, FIRST.0),
         "its words are its own",
     )?;
     let ended = Turn::Finished(counts(1, 0, 1, 0));
     check(
-        turns(rt, &arena, &mut hand, ended),
+        turns(rt, arena, hand, ended),
         "the page goes once it is released",
     )
+}
+
+/// The same in a new arena.
+fn again_first<R: Abort + Wait>(
+    rt: &R,
+    alloc: Global,
+    count: u64,
+    went: Counts,
+) -> Result<(), Fail> {
+    let mut two = opened_two(alloc)?;
+    let raced = race_again_first(
+        rt,
+        alloc,
+        &two.arena,
+        &mut two.hand,
+        &mut two.other,
+        count,
+        went,
+    );
+    drop(two);
+    raced
 }
 
 #[test]
@@ -278,22 +322,36 @@ fn what_is_had_again_is_not_evicted(rt: HostRuntime) -> Result<(), Fail> {
     again_first(&rt, rt.alloc(), 4, counts(1, 0, 1, 1))
 }
 
-#[test]
-fn what_was_evicted_is_not_had_again(rt: HostRuntime) -> Result<(), Fail> {
-    let (arena, mut hand, mut other) = prepared(&rt, rt.alloc(), 4)?;
-    let hint = hint_of(&rt, &arena, &mut other, FIRST.0);
-    let Some((fate, _)) = race(&rt, &arena, &mut hand, &mut other, FIRST.1, None) else {
+/// The first of four items is evicted before its hint is followed.
+fn race_eviction_first<R: Abort + Wait>(
+    rt: &R,
+    alloc: Global,
+    arena: &Arena,
+    hand: &mut Hand,
+    other: &mut Hand,
+) -> Result<(), Fail>
+    requires hand { IsReadyHandOf arena.now hand.old }
+    requires other { IsReadyHandOf arena.now other.old }
+{
+    begin_move(rt, alloc, arena, hand, 4)?;
+    let hint = hint_of(rt, arena, other, FIRST.0);
+    let Some((fate, _)) = race(rt, arena, hand, other, FIRST.1, None) else {
         return Err(Fail::new("the item is taken away"));
     };
     check(fate == Fate::Evicted, "nobody holds it")?;
     check(hint.is_some(), "there is a hint")?;
-    let found = had_again(&arena, &mut other, hint);
+    let found = had_again(arena, other, hint);
     check(found.is_none(), "its hint is gone")?;
-    let has_own = has_own(&rt, rt.alloc(), &arena, &mut other, FIRST.0);
+    let has_own = has_own(rt, alloc, arena, other, FIRST.0);
     check(!has_own, "its key leads nowhere")?;
     let ended = Turn::Finished(counts(2, 0, 1, 0));
-    check(
-        turns(&rt, &arena, &mut hand, ended),
-        "the page goes at once",
-    )
+    check(turns(rt, arena, hand, ended), "the page goes at once")
+}
+
+#[test]
+fn what_was_evicted_is_not_had_again(rt: HostRuntime) -> Result<(), Fail> {
+    let mut two = opened_two(rt.alloc())?;
+    let raced = race_eviction_first(&rt, rt.alloc(), &two.arena, &mut two.hand, &mut two.other);
+    drop(two);
+    raced
 }

@@ -1,12 +1,12 @@
 //! Two movers move pages, while two workers store, get by hints, keep, read, touch and delete items of few keys.
 ghost use Rattle.std.specs.Prelude.{IfSome};
 ghost use Rattle.std.specs.Thread.{IsSync};
-ghost use Rattle.mc_race_trials.specs.Hands.{AreHandsOf, IsIdleHandOf};
+ghost use Rattle.mc_calls.specs.Hands.{AreHandsOf, IsIdleHandOf};
 
-use super::calls::{next_hand, one_of, opened};
 use super::driver::{Mover, Tally, drive};
 use super::ends::check_left;
 use super::workers::{Told, Worker, work};
+use mc_calls::{one_of, opened, two_of};
 use mc_classes::Config;
 use mc_words::{Arena, Hand};
 use std::alloc::Global;
@@ -88,29 +88,29 @@ fn both(arena: &Arena, pair: (Mover, Worker)) -> (Hand, (Tally, Told))
     (one_of(arena, hand, other), (tally, told))
 }
 
-/// The two hands of the lowest numbers that are left.
-fn two_of(arena: &Arena, hands: &mut Vec<Hand>) -> Option<(Hand, Hand)>
+/// The calls of two pairs at once, and one hand of all four. None where there are fewer hands.
+fn work_by_four<R: Threads + Wait + Sync>(
+    rt: &R,
+    alloc: Global,
+    arena: &Arena,
+    hands: &mut Vec<Hand>,
+) -> Option<(Hand, (Tally, Told), (Tally, Told))>
     requires hands { AreHandsOf arena.now hands.old.items }
-    ensures hands { AreHandsOf arena.now hands.new.items }
-    ensures two { IfSome result (λ two. IsIdleHandOf arena.now two.0 × IsIdleHandOf arena.now two.1) }
+    ensures hand { IfSome result (λ worked. IsIdleHandOf arena.now worked.0) }
 {
-    let first = next_hand(arena, hands)?;
-    let second = next_hand(arena, hands)?;
-    Some((first, second))
+    let low = two_of(arena, hands)?;
+    let high = two_of(arena, hands)?;
+    let (low, high) = run_all(rt, alloc, arena, low, high);
+    let (hand, low) = both(arena, low);
+    let (other, high) = both(arena, high);
+    Some((one_of(arena, hand, other), low, high))
 }
 
 #[test]
 fn what_is_kept_is_read_beside_two_movers(rt: HostRuntime) -> Result<(), Fail> {
     let (arena, mut hands) = opened(rt.alloc(), &TWELVE_PAGES, 4)?;
-    let Some(low) = two_of(&arena, &mut hands) else {
-        return Err(Fail::new("there are four hands"));
-    };
-    let Some(high) = two_of(&arena, &mut hands) else {
-        return Err(Fail::new("there are four hands"));
-    };
-    let (low, high) = run_all(&rt, rt.alloc(), &arena, low, high);
-    let (hand, low) = both(&arena, low);
-    let (other, high) = both(&arena, high);
-    let hand = one_of(&arena, hand, other);
-    check_left(&rt, rt.alloc(), arena, hand, low, high)
+    match work_by_four(&rt, rt.alloc(), &arena, &mut hands) {
+        Some((hand, low, high)) => check_left(&rt, rt.alloc(), arena, hand, low, high),
+        None => Err(Fail::new("there are four hands")),
+    }
 }

@@ -1,6 +1,6 @@
 //! Workers: each keeps up to 255 references over its own calls, most of which it got by old hints.
 ghost use Rattle.std.specs.Prelude.{IfOk, IfSome};
-ghost use Rattle.mc_race_trials.specs.Hands.{IsIdleHandOf};
+ghost use Rattle.mc_calls.specs.Hands.{IsIdleHandOf};
 ghost use Rattle.mc_race_trials.specs.Keepers.{AreNear, IsKeeperOf, IsNear};
 
 use super::calls::{delete_key, set_key, touch_key};

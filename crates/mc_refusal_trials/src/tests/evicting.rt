@@ -3,7 +3,7 @@ use super::FOUR_CLASSES;
 use super::calls::{Answer, Call, finished};
 use super::opening::opened;
 use super::rows::{TWO_CLASSES, stores, surveys, touches};
-use super::steps::{Step, play_all};
+use super::steps::{Step, play_each};
 use std::alloc::Global;
 use std::process::Abort;
 use std::sync::Wait;
@@ -19,11 +19,16 @@ fn evict<R: Abort + Wait + Print>(
     before: &[Step],
     behind: &[Step],
 ) -> Result<(), Fail> {
-    let (arena, mut hand, _reader, mut looker) = opened(rt, alloc, &FOUR_CLASSES)?;
-    let goes = play_all(rt, alloc, &arena, &mut hand, &mut looker, before);
-    if goes && play_all(rt, alloc, &arena, &mut hand, &mut looker, &TWO_CLASSES) {
-        play_all(rt, alloc, &arena, &mut hand, &mut looker, behind);
-    }
+    let mut all = opened(rt, alloc, &FOUR_CLASSES)?;
+    play_each(
+        rt,
+        alloc,
+        &all.arena,
+        &mut all.hand,
+        &mut all.looker,
+        &[before, &TWO_CLASSES, behind],
+    );
+    drop(all);
     Ok(())
 }
 

@@ -20,12 +20,7 @@ const LAST: ChunkId = ChunkId { page: 0, index: 20 };
 // The keys are one stripe's, and the first of them makes room for all calls.
 #[test]
 fn an_arena_is_made_of_worn_chunks(rt: HostRuntime) -> Result<(), Fail> {
-    let (arena, mut hand, _reader, mut looker) = opened_from(
-        &rt,
-        rt.alloc(),
-        &FOUR_CLASSES,
-        Some(WORN),
-    )?;
+    let mut all = opened_from(&rt, rt.alloc(), &FOUR_CLASSES, Some(WORN))?;
     let steps = [
         stores(1, 61),
         (Call::Delete(1), Answer::There(true)),
@@ -33,7 +28,15 @@ fn an_arena_is_made_of_worn_chunks(rt: HostRuntime) -> Result<(), Fail> {
         (Call::Delete(5), Answer::There(true)),
         (Call::Set(9, 61), Answer::Refused),
     ];
-    play_all(&rt, rt.alloc(), &arena, &mut hand, &mut looker, &steps);
+    play_all(
+        &rt,
+        rt.alloc(),
+        &all.arena,
+        &mut all.hand,
+        &mut all.looker,
+        &steps,
+    );
+    drop(all);
     Ok(())
 }
 

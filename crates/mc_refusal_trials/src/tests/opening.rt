@@ -87,13 +87,19 @@ fn words_of(alloc: Global) -> Result<Vec<u64>, Fail> {
     Ok(words)
 }
 
-/// A new arena, a hand of it that acts, one that reads, and one that looks.
-pub fn opened<R: Print>(
-    rt: &R,
-    alloc: Global,
-    config: &Config,
-) -> Result<(Arena, Hand, Hand, Looker), Fail>
-    ensures hands { IfOk result (λ made. IsReadyHandOf made.0 made.1 × IsReadyHandOf made.0 made.2 × IsReadyHandOf made.0 made.3.hand) }
+/// An arena, a hand of it that acts, one that reads, and one that looks. How it is dropped is proved at each place where it goes out of
+/// scope, so a test drops it by one call, behind all that may fail.
+#[derive(Drop)]
+pub struct Three {
+    pub arena: Arena,
+    pub hand: Hand,
+    pub reader: Hand,
+    pub looker: Looker,
+}
+
+/// A new arena, and its three hands.
+pub fn opened<R: Print>(rt: &R, alloc: Global, config: &Config) -> Result<Three, Fail>
+    ensures hands { IfOk result (λ made. IsReadyHandOf made.arena made.hand × IsReadyHandOf made.arena made.reader × IsReadyHandOf made.arena made.looker.hand) }
 {
     opened_from(rt, alloc, config, None)
 }
@@ -104,8 +110,8 @@ pub fn opened_from<R: Print>(
     alloc: Global,
     config: &Config,
     start: Option<u64>,
-) -> Result<(Arena, Hand, Hand, Looker), Fail>
-    ensures hands { IfOk result (λ made. IsReadyHandOf made.0 made.1 × IsReadyHandOf made.0 made.2 × IsReadyHandOf made.0 made.3.hand) }
+) -> Result<Three, Fail>
+    ensures hands { IfOk result (λ made. IsReadyHandOf made.arena made.hand × IsReadyHandOf made.arena made.reader × IsReadyHandOf made.arena made.looker.hand) }
 {
     let before = room(alloc, LENGTH)?;
     let after = room(alloc, LENGTH)?;
@@ -120,5 +126,10 @@ pub fn opened_from<R: Print>(
         after,
         words,
     };
-    Ok((arena, hand, reader, looker))
+    Ok(Three {
+        arena,
+        hand,
+        reader,
+        looker,
+    })
 }

@@ -6,7 +6,7 @@ ghost use Rattle.mc_words.specs.Observers.{hint_chunk};
 ghost use Rattle.mc_refusal_trials.specs.Hands.{IsReadyHandOf};
 
 use super::calls::{Answer, Call};
-use super::looking::{look_after, look_before};
+use super::looking::{Looker, look_after, look_before};
 use super::opening::opened;
 use super::snapshot::LENGTH;
 use super::steps::{Row, Step, behind_refusal, play_all};
@@ -14,6 +14,7 @@ use super::{FOUR_CLASSES, assert_same};
 use mc_items::{again, get, hint, release};
 use mc_stripe::Key;
 use mc_words::{Arena, Hand, Hint};
+use std::alloc::Global;
 use std::process::Abort;
 use std::sync::Wait;
 use std::test::Fail;
@@ -98,33 +99,58 @@ const ITEMS: [Step; 2] = [
     (Call::Set(2, 61), Answer::Done),
 ];
 
-#[test]
-fn what_may_not_be_left_is_found(rt: HostRuntime) -> Result<(), Fail> {
-    let (arena, mut hand, mut reader, mut looker) = opened(&rt, rt.alloc(), &FOUR_CLASSES)?;
-    if !play_all(&rt, rt.alloc(), &arena, &mut hand, &mut looker, &ITEMS) {
+/// Snapshots before and behind nothing, and before and behind a call that changes a header and says that it was refused.
+fn look_around_a_fault<R: Abort + Wait + Print>(
+    rt: &R,
+    alloc: Global,
+    arena: &Arena,
+    hand: &mut Hand,
+    reader: &mut Hand,
+    looker: &mut Looker,
+) -> Result<(), Fail>
+    requires hand { IsReadyHandOf arena.now hand.old }
+    requires reader { IsReadyHandOf arena.now reader.old }
+    requires looker { IsReadyHandOf arena.now looker.old.hand }
+{
+    if !play_all(rt, alloc, arena, hand, looker, &ITEMS) {
         return Ok(());
     }
-    let Some(hint) = hint_again(&rt, &arena, &mut reader, 1) else {
+    let Some(hint) = hint_again(rt, arena, reader, 1) else {
         return Err(Fail::new("the key has an item"));
     };
-    let seen = look_before(&arena, &mut looker, &hand);
-    let again = look_after(&arena, &mut looker, &hand);
+    let seen = look_before(arena, looker, hand);
+    let again = look_after(arena, looker, hand);
     let right = count_right(&looker.before, &looker.after);
     assert_same(
-        &rt,
+        rt,
         (seen, again, right),
         (true, true, 9),
         "nothing is changed",
     );
-    assert_found(&rt, &looker.before, &mut looker.after);
-    let refused = refused_but_held(&arena, &mut reader, hint) == Answer::NoMemory;
-    let again = look_after(&arena, &mut looker, &hand);
+    assert_found(rt, &looker.before, &mut looker.after);
+    let refused = refused_but_held(arena, reader, hint) == Answer::NoMemory;
+    let again = look_after(arena, looker, hand);
     let right = count_right(&looker.before, &looker.after);
     assert_same(
-        &rt,
+        rt,
         (refused, again, right),
         (true, true, 0),
         "a header is changed",
     );
     Ok(())
+}
+
+#[test]
+fn what_may_not_be_left_is_found(rt: HostRuntime) -> Result<(), Fail> {
+    let mut all = opened(&rt, rt.alloc(), &FOUR_CLASSES)?;
+    let looked = look_around_a_fault(
+        &rt,
+        rt.alloc(),
+        &all.arena,
+        &mut all.hand,
+        &mut all.reader,
+        &mut all.looker,
+    );
+    drop(all);
+    looked
 }

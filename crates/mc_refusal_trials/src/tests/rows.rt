@@ -1,10 +1,14 @@
 //! Pages that move: the worked lists of calls, in which each call that takes memory is made.
+ghost use Rattle.mc_refusal_trials.specs.Hands.{IsReadyHandOf};
+
 use super::FOUR_CLASSES;
 use super::calls::{Answer, Call, IDLE, finished, went};
 use super::holding::{has_words, hold};
+use super::looking::Looker;
 use super::opening::opened;
-use super::steps::{Step, play_all, run};
+use super::steps::{Step, play_all, play_each, run};
 use mc_items::release;
+use mc_words::{Arena, Hand};
 use std::alloc::Global;
 use std::process::Abort;
 use std::sync::Wait;
@@ -85,9 +89,19 @@ fn a_turn_that_waits_for_nobody_is_refused_so_too(rt: HostRuntime) -> Result<(),
     rescue_and_evict(&rt, rt.alloc(), Call::TryTurn)
 }
 
-#[test]
-fn a_held_item_keeps_its_page(rt: HostRuntime) -> Result<(), Fail> {
-    let (arena, mut hand, mut reader, mut looker) = opened(&rt, rt.alloc(), &FOUR_CLASSES)?;
+/// A page moves whose item the reader holds, reads and releases.
+fn move_a_held_page<R: Abort + Wait + Print>(
+    rt: &R,
+    alloc: Global,
+    arena: &Arena,
+    hand: &mut Hand,
+    reader: &mut Hand,
+    looker: &mut Looker,
+) -> Result<(), Fail>
+    requires hand { IsReadyHandOf arena.now hand.old }
+    requires reader { IsReadyHandOf arena.now reader.old }
+    requires looker { IsReadyHandOf arena.now looker.old.hand }
+{
     let steps = [
         stores(1, 22),
         stores(2, 22),
@@ -98,10 +112,10 @@ fn a_held_item_keeps_its_page(rt: HostRuntime) -> Result<(), Fail> {
         stores(7, 22),
         stores(8, 22),
     ];
-    if !play_all(&rt, rt.alloc(), &arena, &mut hand, &mut looker, &steps) {
+    if !play_all(rt, alloc, arena, hand, looker, &steps) {
         return Ok(());
     }
-    let Some(item) = hold(&rt, &arena, &mut reader, &mut looker, 1) else {
+    let Some(item) = hold(rt, arena, reader, looker, 1) else {
         return Err(Fail::new("the key has an item, and nothing was left behind"));
     };
     let steps = [
@@ -110,14 +124,29 @@ fn a_held_item_keeps_its_page(rt: HostRuntime) -> Result<(), Fail> {
         surveys(true, [0, 0, 1, 1]),
         (Call::Reassign(Some(4), 2), Answer::Busy),
     ];
-    play_all(&rt, rt.alloc(), &arena, &mut hand, &mut looker, &steps);
-    if !has_words(&rt, rt.alloc(), &arena, &mut reader, &mut looker, &item, 22) {
+    play_all(rt, alloc, arena, hand, looker, &steps);
+    if !has_words(rt, alloc, arena, reader, looker, &item, 22) {
         return Err(Fail::new("words 0 to 21, and nothing was left behind"));
     }
-    release(&arena, &mut reader, item);
+    release(arena, reader, item);
     let steps = [(Call::Turn, finished(1, 0, 1, 0)), (Call::Turn, IDLE)];
-    play_all(&rt, rt.alloc(), &arena, &mut hand, &mut looker, &steps);
+    play_all(rt, alloc, arena, hand, looker, &steps);
     Ok(())
+}
+
+#[test]
+fn a_held_item_keeps_its_page(rt: HostRuntime) -> Result<(), Fail> {
+    let mut all = opened(&rt, rt.alloc(), &FOUR_CLASSES)?;
+    let played = move_a_held_page(
+        &rt,
+        rt.alloc(),
+        &all.arena,
+        &mut all.hand,
+        &mut all.reader,
+        &mut all.looker,
+    );
+    drop(all);
+    played
 }
 
 /// Four items of class 4 and six of class 3, two pages of each.
@@ -134,19 +163,16 @@ pub const TWO_CLASSES: [Step; 10] = [
     (Call::Set(16, 20), Answer::Done),
 ];
 
+/// These lists of calls, in a new arena.
+fn run_each<R: Abort + Wait + Print>(rt: &R, alloc: Global, lists: &[&[Step]]) -> Result<(), Fail> {
+    let mut all = opened(rt, alloc, &FOUR_CLASSES)?;
+    play_each(rt, alloc, &all.arena, &mut all.hand, &mut all.looker, lists);
+    drop(all);
+    Ok(())
+}
+
 #[test]
 fn two_classes_give_a_page_in_turn(rt: HostRuntime) -> Result<(), Fail> {
-    let (arena, mut hand, _reader, mut looker) = opened(&rt, rt.alloc(), &FOUR_CLASSES)?;
-    if !play_all(
-        &rt,
-        rt.alloc(),
-        &arena,
-        &mut hand,
-        &mut looker,
-        &TWO_CLASSES,
-    ) {
-        return Ok(());
-    }
     let steps = [
         (Call::Reassign(None, 1), Answer::Done),
         (Call::Turn, finished(5, 4, 1, 0)),
@@ -156,25 +182,12 @@ fn two_classes_give_a_page_in_turn(rt: HostRuntime) -> Result<(), Fail> {
         touches(11, false),
         touches(12, true),
     ];
-    play_all(&rt, rt.alloc(), &arena, &mut hand, &mut looker, &steps);
-    Ok(())
+    run_each(&rt, rt.alloc(), &[&TWO_CLASSES, &steps])
 }
 
 #[test]
 fn an_eviction_begins_a_move(rt: HostRuntime) -> Result<(), Fail> {
-    let (arena, mut hand, _reader, mut looker) = opened(&rt, rt.alloc(), &FOUR_CLASSES)?;
     let mode = [(Call::ModeTwo, Answer::Done)];
-    play_all(&rt, rt.alloc(), &arena, &mut hand, &mut looker, &mode);
-    if !play_all(
-        &rt,
-        rt.alloc(),
-        &arena,
-        &mut hand,
-        &mut looker,
-        &TWO_CLASSES,
-    ) {
-        return Ok(());
-    }
     let steps = [
         (Call::SetAndMove(5, 61), Answer::Done),
         surveys(true, [0, 0, 0, 0]),
@@ -182,6 +195,5 @@ fn an_eviction_begins_a_move(rt: HostRuntime) -> Result<(), Fail> {
         stores(6, 61),
         touches(2, true),
     ];
-    play_all(&rt, rt.alloc(), &arena, &mut hand, &mut looker, &steps);
-    Ok(())
+    run_each(&rt, rt.alloc(), &[&mode, &TWO_CLASSES, &steps])
 }

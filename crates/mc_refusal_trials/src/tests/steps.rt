@@ -143,6 +143,25 @@ pub fn play_all<R: Abort + Wait + Print>(
     true
 }
 
+/// The same of several lists, up to the first that a refusal ends.
+pub fn play_each<R: Abort + Wait + Print>(
+    rt: &R,
+    alloc: Global,
+    arena: &Arena,
+    hand: &mut Hand,
+    looker: &mut Looker,
+    lists: &[&[Step]],
+)
+    requires arena { IsReadyHandOf arena.now hand.old }
+    requires looker { IsReadyHandOf arena.now looker.old.hand }
+{
+    for place in 0..lists.len() {
+        if !play_all(rt, alloc, arena, hand, looker, lists[place]) {
+            return;
+        }
+    }
+}
+
 /// Each call gives what it is to, in a new arena of this configuration.
 pub fn run<R: Abort + Wait + Print>(
     rt: &R,
@@ -150,7 +169,8 @@ pub fn run<R: Abort + Wait + Print>(
     config: &Config,
     steps: &[Step],
 ) -> Result<(), Fail> {
-    let (arena, mut hand, _reader, mut looker) = opened(rt, alloc, config)?;
-    play_all(rt, alloc, &arena, &mut hand, &mut looker, steps);
+    let mut all = opened(rt, alloc, config)?;
+    play_all(rt, alloc, &all.arena, &mut all.hand, &mut all.looker, steps);
+    drop(all);
     Ok(())
 }

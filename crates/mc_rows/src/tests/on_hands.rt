@@ -1,14 +1,15 @@
 //! Scripts on hands of the arena, line after line on one thread: they write what the serial run writes.
 ghost use Rattle.std.specs.Prelude.{◌≤◌, All, IfOk};
 ghost use Rattle.mc_script.specs.Command.{IsValid};
+ghost use Rattle.mc_words.specs.Hands.{AreHandsFrom};
 ghost use Rattle.mc_rows.specs.Seats.{IsReadyHand, IsSeat};
 
 use super::Played;
-use super::seats::{MoverSeat, Seat, asked_by, seats_of, serve_mover, serve_worker};
+use super::seats::{MoverSeat, Seat, asked_by, mover_seat, seats_of, serve_mover, serve_worker};
 use mc_driver::{Run, RunFault};
 use mc_script::Command;
-use mc_words::Arena;
-use mc_workers::{Ended, Mover, first_hand};
+use mc_words::{Arena, Hand};
+use mc_workers::{Ended, first_hand};
 use std::alloc::Global;
 use std::process::Abort;
 use std::str;
@@ -73,19 +74,48 @@ fn play_commands<R: Wait>(
     requires mode { run.automove ≤ 2 }
     requires valid { All IsValid commands.now }
 {
-    let (arena, mut hands) = Arena::new(alloc, &run.config, 64)?;
-    let Some(hand) = first_hand(&arena, 0, &mut hands) else {
+    let (arena, hands) = Arena::new(alloc, &run.config, 64)?;
+    let played = play_on_arena(rt, alloc, run.automove, &arena, hands, commands, text);
+    drop(arena);
+    played
+}
+
+/// The same on hands of this arena.
+fn play_on_arena<R: Wait>(
+    rt: &R,
+    alloc: Global,
+    mode: u64,
+    arena: &Arena,
+    hands: Vec<Hand>,
+    commands: &[Command],
+    text: &mut Vec<u8>,
+) -> Result<Result<(), Ended>, Fail>
+    requires hands { AreHandsFrom arena.now 0 hands.items }
+    requires mode { mode ≤ 2 }
+    requires valid { All IsValid commands.now }
+{
+    let mut hands = hands;
+    let Some(hand) = first_hand(arena, 0, &mut hands) else {
         return Err(Fail::new("there is a hand"));
     };
-    let mut seats = seats_of(alloc, &arena, hands)?;
-    let mover = Mover::new(alloc, arena.classes())?;
-    let mut seat = MoverSeat { hand, mover };
-    let mode = Command::Automove { mode: run.automove };
+    let mut seat = mover_seat(alloc, arena, hand)?;
+    let mut seats = seats_of(alloc, arena, hands)?;
     let mut told = Vec::new(alloc);
-    if serve_mover(rt, alloc, &arena, &mut seat, mode, &mut told).is_err() {
-        return Err(Fail::new("the mode is set"));
+    let set = serve_mover(
+        rt,
+        alloc,
+        arena,
+        &mut seat,
+        Command::Automove { mode },
+        &mut told,
+    );
+    let played = play_lines(rt, alloc, arena, &mut seats, &mut seat, commands, text);
+    drop(seats);
+    drop(seat);
+    match set {
+        Ok(()) => Ok(played),
+        Err(_) => Err(Fail::new("the mode is set")),
     }
-    Ok(play_lines(rt, alloc, &arena, &mut seats, &mut seat, commands, text))
 }
 
 /// Does a line at its seat, and adds the reply.

@@ -7,6 +7,7 @@ ghost use Rattle.mc_workers.specs.Asking.{is_workers};
 ghost use Rattle.mc_rows.specs.Seats.{IsReadyHand, IsSeat};
 
 use mc_items::Ref;
+use mc_memory::Refused;
 use mc_script::Command;
 use mc_words::{Arena, Hand};
 use mc_workers::{
@@ -61,6 +62,17 @@ fn new_seat(alloc: Global, arena: &Arena, hand: Hand) -> Seat
     Seat {
         hand,
         kept: Vec::new(alloc),
+    }
+}
+
+/// The mover's seat, with this hand.
+pub fn mover_seat(alloc: Global, arena: &Arena, hand: Hand) -> Result<MoverSeat, Refused>
+    requires hand { IsReadyHand arena.now hand }
+    ensures seat { IfOk result (λ seat. IsReadyHand arena.now seat.hand) }
+{
+    match Mover::new(alloc, arena.classes()) {
+        Ok(mover) => Ok(MoverSeat { hand, mover }),
+        Err(error) => Err(error),
     }
 }
 

@@ -1,4 +1,4 @@
-use Rattle.mc_item_trials.specs.Hands.{IsReadyHandOf}
+use Rattle.mc_calls.specs.Hands.{IsReadyHandOf}
 use Rattle.mc_item_trials.proofs.tests.calls.hold_all.Given as goal
 
 abbrev pub invariant-loop-key : goal.invariant-loop-key

@@ -1,4 +1,4 @@
-use Rattle.mc_item_trials.specs.Hands.{IsReadyHandOf}
+use Rattle.mc_calls.specs.Hands.{IsReadyHandOf}
 use Rattle.mc_item_trials.proofs.tests.calls.hold_often.Given as goal
 
 abbrev pub invariant-loop-time : goal.invariant-loop-time

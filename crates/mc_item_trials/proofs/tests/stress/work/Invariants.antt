@@ -1,5 +1,5 @@
 use Rattle.std.proofs.Common.{◌≤◌}
-use Rattle.mc_item_trials.specs.Hands.{IsIdleHandOf}
+use Rattle.mc_calls.specs.Hands.{IsIdleHandOf}
 use Rattle.mc_item_trials.proofs.tests.stress.work.Given as goal
 
 abbrev pub invariant-loop-round : goal.invariant-loop-round

@@ -1,4 +1,4 @@
-use Rattle.mc_mover_trials.specs.Hands.{IsReadyHandOf}
+use Rattle.mc_calls.specs.Hands.{IsReadyHandOf}
 use Rattle.mc_mover_trials.proofs.tests.driver.end_move.Given as goal
 
 abbrev pub invariant-loop-turn : goal.invariant-loop-turn

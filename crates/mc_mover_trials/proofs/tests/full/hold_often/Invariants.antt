@@ -1,4 +1,4 @@
-use Rattle.mc_mover_trials.specs.Hands.{IsReadyHandOf}
+use Rattle.mc_calls.specs.Hands.{IsReadyHandOf}
 use Rattle.mc_mover_trials.proofs.tests.full.hold_often.Given as goal
 
 abbrev pub invariant-loop-hold : goal.invariant-loop-hold

@@ -1,4 +1,4 @@
-use Rattle.mc_mover_trials.specs.Hands.{IsReadyHandOf}
+use Rattle.mc_calls.specs.Hands.{IsReadyHandOf}
 use Rattle.mc_mover_trials.proofs.tests.hints.store_four.Given as goal
 
 abbrev pub invariant-loop-index : goal.invariant-loop-index

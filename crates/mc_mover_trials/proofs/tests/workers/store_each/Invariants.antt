@@ -1,4 +1,4 @@
-use Rattle.mc_mover_trials.specs.Hands.{IsIdleHandOf}
+use Rattle.mc_calls.specs.Hands.{IsIdleHandOf}
 use Rattle.mc_mover_trials.proofs.tests.workers.store_each.Given as goal
 
 abbrev pub invariant-loop-key : goal.invariant-loop-key

@@ -1,4 +1,4 @@
-use Rattle.mc_race_trials.specs.Hands.{IsReadyHandOf}
+use Rattle.mc_calls.specs.Hands.{IsReadyHandOf}
 use Rattle.mc_race_trials.proofs.tests.orders.store.Given as goal
 
 abbrev pub invariant-loop-place : goal.invariant-loop-place

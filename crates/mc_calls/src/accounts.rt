@@ -1,5 +1,4 @@
 //! Every page and every chunk of a closed arena, by its headers and its ledger.
-use super::words::KEYS;
 use mc_classes::{ClassId, PageId};
 use mc_pages::{ChunkId, Owner};
 use mc_words::Final;
@@ -134,11 +133,11 @@ pub fn all_sums(left: &Final) -> Option<Sums> {
     Some(sums)
 }
 
-/// How many of the keys have an item.
-pub fn count_keys(left: &Final) -> Option<u64> {
+/// How many of the keys before this one have an item.
+pub fn count_keys(left: &Final, keys: u64) -> Option<u64> {
     let stripes = left.config().stripes;
     let mut count = 0u64;
-    for key in 0..KEYS {
+    for key in 0..keys {
         if stripes == 0 {
             return None;
         }

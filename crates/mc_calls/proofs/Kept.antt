@@ -15,7 +15,7 @@ use Rattle.mc_words.specs.Ready.{IsReady}
 use Rattle.mc_items.specs.declared.refs.Ref.{Ref}
 use Rattle.mc_items.specs.ItemRefs.{item_chunk}
 use Rattle.mc_items.specs.Keeping.{HoldsLess, HoldsTheSame, HoldsToo, holding_by}
-use Rattle.mc_mover_trials.specs.Hands.{AreHandsOf, HoldsNothing}
+use Rattle.mc_calls.specs.Hands.{AreHandsOf, HoldsNothing}
 
 hands_from : (arena : Arena) (number : ℕ) (hands : List Hand) → AreHandsFrom arena number hands → AreHandsOf arena hands
 hands_from arena number [] are = record {}
@@ -40,7 +40,7 @@ pub nothing_of_both : (kept spent now : View) → now ≡ both_views kept spent 
 nothing_of_both kept spent now both none = ap (λ (v : View). v.row.holdings) both ∙ none
 
 -- a hand that held nothing, and gave up the item that it got, holds nothing
-nothing_left : (view got now : View) (item : Ref) → HoldsNothing view → HoldsToo (Some item) view got → HoldsLess item got now → HoldsNothing now
+pub nothing_left : (view got now : View) (item : Ref) → HoldsNothing view → HoldsToo (Some item) view got → HoldsLess item got now → HoldsNothing now
 nothing_left view got now item none more less =
     let one : Holding = holding_by got item in
     less ∙ (ap (lose (is_of (item_chunk item))) (more ∙ ap (λ (hs : List Holding). hs ++ one ∷ []) none) ∙ ap (λ (b : Bool). if b then [] else one ∷ []) (is_chunk-same (item_chunk item)))

@@ -1,75 +1,36 @@
 //! Calls on items, of hands that may make any.
-ghost use Rattle.std.specs.Prelude.{◌≡◌, true, IfSome, IfOk};
+ghost use Rattle.std.specs.Prelude.{◌≡◌, true, IfSome};
 ghost use Rattle.mc_core.specs.State.{has_chunk};
 ghost use Rattle.mc_words.specs.Arenas.{setup_of, view};
 ghost use Rattle.mc_items.specs.ItemRefs.{IsItemRef, item_chunk};
 ghost use Rattle.mc_items.specs.Keeping.{HoldsTheSame, HoldsToo};
-ghost use Rattle.mc_mover_trials.specs.Hands.{AreHandsOf, IsIdleHandOf, IsReadyHandOf};
+ghost use Rattle.mc_calls.specs.Hands.{IsReadyHandOf};
 
-use super::words::{are_from, words_from};
-use mc_classes::Config;
-use mc_items::{Ref, delete, get, read, release, set, touch};
+use crate::words::{are_from, words_from};
+use mc_items::{Ref, SetError, delete, get, read, release, set, touch};
 use mc_memory::Refused;
 use mc_pages::ChunkId;
-use mc_stripe::Key;
-use mc_words::{Arena, Hand, NewError};
+use mc_stripe::{Key, Stamp};
+use mc_words::{Arena, Hand};
 use std::alloc::Global;
 use std::sync::Wait;
-use std::test::Fail;
 
-/// An arena of this configuration, and its hands.
-#[tactic(auto, using(crate::proofs::Kept::all_hands))]
-pub fn opened(alloc: Global, config: &Config, hands: u64) -> Result<(Arena, Vec<Hand>), NewError>
-    ensures hands { IfOk result (λ made. AreHandsOf made.0 made.1.items) }
-{
-    Arena::new(alloc, config, hands)
-}
-
-/// The hand of the lowest number that is left.
-pub fn next_hand(arena: &Arena, hands: &mut Vec<Hand>) -> Option<Hand>
-    requires hands { AreHandsOf arena.now hands.old.items }
-    ensures hands { AreHandsOf arena.now hands.new.items }
-    ensures hand { IfSome result (λ hand. IsIdleHandOf arena.now hand) }
-{
-    if hands.is_empty() {
-        None
-    } else {
-        Some(hands.remove(0))
-    }
-}
-
-/// The two hands of the lowest numbers that are left.
-pub fn two_of(arena: &Arena, hands: &mut Vec<Hand>) -> Option<(Hand, Hand)>
-    requires hands { AreHandsOf arena.now hands.old.items }
-    ensures hands { AreHandsOf arena.now hands.new.items }
-    ensures two { IfSome result (λ two. IsIdleHandOf arena.now two.0 × IsIdleHandOf arena.now two.1) }
-{
-    let first = next_hand(arena, hands)?;
-    let second = next_hand(arena, hands)?;
-    Some((first, second))
-}
-
-/// An arena of this configuration, and its two hands.
-pub fn opened_two(alloc: Global, config: &Config) -> Result<(Arena, Hand, Hand), Fail>
-    ensures hands { IfOk result (λ made. IsReadyHandOf made.0 made.1 × IsReadyHandOf made.0 made.2) }
-{
-    let (arena, mut hands) = opened(alloc, config, 2)?;
-    let Some((hand, other)) = two_of(&arena, &mut hands) else {
-        return Err(Fail::new("there are two hands"));
-    };
-    Ok((arena, hand, other))
-}
-
-/// Stores these words under the key. False where that is refused.
-pub fn set_words<R: Wait>(rt: &R, arena: &Arena, hand: &mut Hand, key: Key, words: &[u64]) -> bool
+/// Stores these words under the key.
+pub fn set_words<R: Wait>(
+    rt: &R,
+    arena: &Arena,
+    hand: &mut Hand,
+    key: Key,
+    words: &[u64],
+) -> Result<Stamp, SetError>
     requires arena { IsReadyHandOf arena.now hand.old }
     ensures arena { IsReadyHandOf arena.now hand.new }
     ensures holdings { HoldsTheSame (view hand.old) (view hand.new) }
 {
-    set(rt, arena, hand, key, words).is_ok()
+    set(rt, arena, hand, key, words)
 }
 
-/// Stores so many words, from the first on, under the keys from the first on, before the second. True if each was stored.
+/// Items of so many words, from the first on, for the keys from the first on, before the second. True if each was stored.
 pub fn store_all<R: Wait>(
     rt: &R,
     alloc: Global,
@@ -84,7 +45,7 @@ pub fn store_all<R: Wait>(
 {
     let words = words_from(alloc, first, len)?;
     for key in keys.0..keys.1 {
-        if !set_words(rt, arena, hand, key, &words) {
+        if set_words(rt, arena, hand, key, &words).is_err() {
             return Ok(false);
         }
     }

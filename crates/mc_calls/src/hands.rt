@@ -1,0 +1,82 @@
+//! Arenas that are opened, and their hands.
+ghost use Rattle.std.specs.Prelude.{IfSome, IfOk};
+ghost use Rattle.mc_calls.specs.Hands.{AreHandsOf, IsIdleHandOf, IsReadyHandOf};
+
+use mc_classes::Config;
+use mc_words::{Arena, Hand, NewError};
+use std::alloc::Global;
+use std::test::Fail;
+
+/// Four pages; classes of 48, 96, 192 and 512 bytes with 21, 10, 5 and 2 chunks a page. An item has 24 bytes beside its words.
+pub const FOUR_CLASSES: Config = Config {
+    page: 1024,
+    limit: 4096,
+    first: 48,
+    num: 2,
+    den: 1,
+    max: 512,
+    stripes: 4,
+    bulk: 64,
+};
+
+/// An arena of this configuration, and its hands.
+#[tactic(auto, using(crate::proofs::Kept::all_hands))]
+pub fn opened(alloc: Global, config: &Config, hands: u64) -> Result<(Arena, Vec<Hand>), NewError>
+    ensures hands { IfOk result (λ made. AreHandsOf made.0 made.1.items) }
+{
+    Arena::new(alloc, config, hands)
+}
+
+/// The hand of the lowest number that is left.
+pub fn next_hand(arena: &Arena, hands: &mut Vec<Hand>) -> Option<Hand>
+    requires hands { AreHandsOf arena.now hands.old.items }
+    ensures hands { AreHandsOf arena.now hands.new.items }
+    ensures hand { IfSome result (λ hand. IsIdleHandOf arena.now hand) }
+{
+    if hands.is_empty() {
+        None
+    } else {
+        Some(hands.remove(0))
+    }
+}
+
+/// The two hands of the lowest numbers that are left.
+pub fn two_of(arena: &Arena, hands: &mut Vec<Hand>) -> Option<(Hand, Hand)>
+    requires hands { AreHandsOf arena.now hands.old.items }
+    ensures hands { AreHandsOf arena.now hands.new.items }
+    ensures two { IfSome result (λ two. IsIdleHandOf arena.now two.0 × IsIdleHandOf arena.now two.1) }
+{
+    let first = next_hand(arena, hands)?;
+    let second = next_hand(arena, hands)?;
+    Some((first, second))
+}
+
+/// One hand of two.
+#[tactic(auto, using(crate::proofs::Kept::idle, crate::proofs::Kept::ready_of_both, crate::proofs::Kept::nothing_of_both))]
+pub fn one_of(arena: &Arena, hand: Hand, other: Hand) -> Hand
+    requires hand { IsIdleHandOf arena.now hand }
+    requires other { IsIdleHandOf arena.now other }
+    ensures hand { IsIdleHandOf arena.now result }
+{
+    arena.join_hands(hand, other)
+}
+
+/// An arena and two of its hands. How it is dropped is proved at each place where it goes out of scope, so a test drops it by one call,
+/// behind all that may fail.
+#[derive(Drop)]
+pub struct Two {
+    pub arena: Arena,
+    pub hand: Hand,
+    pub other: Hand,
+}
+
+/// An arena of this configuration, and its two hands.
+pub fn opened_two(alloc: Global, config: &Config) -> Result<Two, Fail>
+    ensures hands { IfOk result (λ two. IsReadyHandOf two.arena two.hand × IsReadyHandOf two.arena two.other) }
+{
+    let (arena, mut hands) = opened(alloc, config, 2)?;
+    match two_of(&arena, &mut hands) {
+        Some((hand, other)) => Ok(Two { arena, hand, other }),
+        None => Err(Fail::new("there are two hands")),
+    }
+}

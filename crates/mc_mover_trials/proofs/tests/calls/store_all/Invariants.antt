@@ -1,5 +1,0 @@
-use Rattle.mc_mover_trials.specs.Hands.{IsReadyHandOf}
-use Rattle.mc_mover_trials.proofs.tests.calls.store_all.Given as goal
-
-abbrev pub invariant-loop-key : goal.invariant-loop-key
-invariant-loop-key g l = IsReadyHandOf l.arena l.hand
