@@ -1,0 +1,2 @@
+pub mod ReplaysMore
+pub mod ToldLines

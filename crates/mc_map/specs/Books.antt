@@ -1,0 +1,65 @@
+-- What the books say of all pages, and what each change makes of it.
+use Rattle.std.specs.Prelude.{ℕ, ◌-◌, ◌==◌, ◌||◌, nat_lt, if◌then◌else◌, List, [], ◌∷◌, ◌++◌, length, take, position, slice_get, slice_set, Option, Some, None}
+use Rattle.mc_pages.specs.declared.ids.Moving.{Moving}
+use Rattle.mc_pages.specs.declared.ledger.Owner.{Owner}
+use Rattle.mc_pages.specs.declared.ledger.Owner.TheVariants.{Pool, Class}
+use Rattle.mc_pages.specs.declared.ledger.Owner.TheVariants as owner
+use Rattle.mc_pages.specs.declared.ledger.Entry.{Entry}
+use Rattle.mc_pages.specs.declared.ledger.Entry.TheVariants.{Granted, Taken, Began, Ended}
+use Rattle.mc_pages.specs.SlabState.{SlabState, is_untouched, granted_count}
+use Rattle.mc_map.specs.declared.glance.Glance.{Glance}
+
+-- the owner of each page, the pool with the page that came last standing last, and each change of an owner
+pub record Book : Type 0 where
+  pub owners : List Owner
+  pub pool : List ℕ
+  pub ledger : List Entry
+
+-- the book of a slab memory
+abbrev pub book_of : SlabState → Book
+book_of slabs = record { owners = slabs.owners; pool = slabs.pool; ledger = slabs.ledger }
+
+-- what a slab memory shows of its pages at a glance
+abbrev pub glance_of : SlabState → Glance
+glance_of slabs = record { granted = granted_count slabs; pool = length slabs.pool; moving = slabs.moving }
+
+-- the page that came last into the pool
+abbrev pub pooled : Book → Option ℕ
+pooled book = slice_get book.pool (length book.pool - 1)
+
+-- a page has this owner now, by this entry
+abbrev pub changed : Book → ℕ → Entry → Owner → Book
+changed book page entry owner = record book { owners = slice_set book.owners page owner; ledger = book.ledger ++ entry ∷ [] }
+
+-- the class got the page that came last into the pool, if there is one, or else this untouched one, if there is one
+abbrev pub grown : Book → ℕ → Option ℕ → Option ℕ → Book
+grown book class (Some page) untouched = record (changed book page (Taken page class) (Class class)) { pool = take (length book.pool - 1) book.pool }
+grown book class None (Some page) = changed book page (Granted page class) (Class class)
+grown book class None None = book
+
+-- the class got the page that comes next
+abbrev pub grown_next : Book → ℕ → Book
+grown_next book class = grown book class (pooled book) (position is_untouched book.owners)
+
+-- a page began to move
+abbrev pub with_began : Book → Moving → Book
+with_began book move = changed book move.page (Began move.page move.src move.dst) (owner.Moving move.src move.dst)
+
+-- a moving page has come to its class, or to the pool
+abbrev pub with_ended : Book → Moving → Book
+with_ended book move =
+    if move.dst == 0 then record (changed book move.page (Ended move.page move.dst) Pool) { pool = book.pool ++ move.page ∷ [] }
+    else changed book move.page (Ended move.page move.dst) (Class move.dst)
+
+-- what is noted where no page was given: a page began to move, or a moving one has come to its end
+abbrev pub noted_move : Book → Option Moving → Option Moving → Book
+noted_move book None (Some move) = with_began book move
+noted_move book (Some move) None = with_ended book move
+noted_move book None None = book
+noted_move book (Some move) (Some later) = book
+
+-- what is noted of two glances between which at most one page changed hands: a page that was given went to this class
+abbrev pub noted : Book → ℕ → Glance → Glance → Book
+noted book class before after =
+    if nat_lt before.granted after.granted || nat_lt after.pool before.pool then grown_next book class
+    else noted_move book before.moving after.moving

@@ -1,0 +1,46 @@
+-- What a class keeps: which of some keys have an item in it, and the bytes that these ask for.
+use Rattle.std.specs.Prelude.{◌≡◌, ℕ, ◌+◌, ◌-◌, ◌*◌, ◌==◌, ◌||◌, nat_lt, Bool, false, if◌then◌else◌, List, length, count_by, sum_by, unwrap_or, Option, Some, None}
+use Rattle.std.specs.Option.{is_some, option_and_then, option_map_or}
+use Rattle.mc_classes.specs.Classes.{Classes, class_of, per_page_of, size_of}
+use Rattle.mc_pages.specs.ClassState.{numbers_of}
+use Rattle.mc_pages.specs.SlabState.{class_at}
+use Rattle.mc_machine.specs.Item.{item_bytes}
+use Rattle.mc_machine.specs.Machine.{Machine}
+use Rattle.mc_keeper.specs.Calls.{words_of}
+use Rattle.mc_map.specs.declared.kept.ClassLine.{ClassLine}
+
+-- an item of so many words comes into the class
+abbrev pub is_of : Classes → ℕ → ℕ → Bool
+is_of table class words = option_map_or (λ own. own == class) (class_of table (item_bytes words)) false
+
+-- the bytes that such an item asks for, if it comes into the class
+abbrev pub bytes_as : Classes → ℕ → ℕ → Option ℕ
+bytes_as table class words = if is_of table class words then Some (item_bytes words) else None
+
+-- the bytes that the key's item asks for, if it has one in the class
+abbrev pub bytes_in : Machine → ℕ → ℕ → Option ℕ
+bytes_in m class key = option_and_then (λ words. bytes_as m.table class (length words)) (words_of m key)
+
+-- how many of the keys have an item in the class
+abbrev pub linked_count : Machine → ℕ → List ℕ → ℕ
+linked_count m class keys = count_by (λ key. is_some (bytes_in m class key)) keys
+
+-- the bytes that these ask for
+abbrev pub asked_bytes : Machine → ℕ → List ℕ → ℕ
+asked_bytes m class keys = sum_by (λ key. unwrap_or (bytes_in m class key) 0) keys
+
+-- how many chunks a page of the class has, and none where there is no such class
+abbrev pub chunks_of : Classes → ℕ → ℕ
+chunks_of table class = if class == 0 || nat_lt (length table.sizes) class then 0 else per_page_of table class
+
+-- the line tells what the class has of the items of these keys; each chunk of its pages is free, cleared, linked, held without a key, or dead
+pub record IsLine (m : Machine) (keys : List ℕ) (line : ClassLine) : Type 0 where
+  pub size : line.size ≡ size_of m.table line.class
+  pub per_page : line.per_page ≡ per_page_of m.table line.class
+  pub pages : line.pages ≡ (numbers_of (class_at m.slabs line.class)).pages
+  pub free : line.free ≡ (numbers_of (class_at m.slabs line.class)).free
+  pub evictions : line.evictions ≡ (numbers_of (class_at m.slabs line.class)).evictions
+  pub linked : line.linked ≡ linked_count m line.class keys
+  pub asked : line.asked ≡ asked_bytes m line.class keys
+  pub bytes : line.bytes ≡ line.linked * line.size
+  pub dead : line.dead ≡ line.pages * line.per_page - (line.free + line.cleared + line.linked + line.unlinked)

@@ -1,0 +1,6 @@
+pub mod Books
+pub mod Replays
+pub mod Marks
+pub mod Kept
+pub mod Agree
+pub mod Map

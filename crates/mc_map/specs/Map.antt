@@ -1,0 +1,69 @@
+-- What a map shows, and what is noted at each command.
+use Rattle.std.specs.Prelude.{◌≡◌, ℕ, ◌+◌, Bool, ◌||◌, nat_lt, if◌then◌else◌, List, [], ◌∷◌, length, All, filter, map, unwrap_or, Option}
+use Rattle.std.specs.Prelude.{map as list_map}
+use Rattle.std.specs.List.{range_with_len}
+use Rattle.mc_classes.specs.Classes.{Classes, class_of}
+use Rattle.mc_pages.specs.declared.numbers.Numbers.{Numbers}
+use Rattle.mc_pages.specs.ClassState.{numbers_of}
+use Rattle.mc_pages.specs.SlabState.{SlabState, class_at, totals_of}
+use Rattle.mc_script.specs.declared.command.Command.{Command}
+use Rattle.mc_script.specs.declared.command.Command.TheVariants as command
+use Rattle.mc_machine.specs.Item.{item_bytes}
+use Rattle.mc_machine.specs.Machine.{Machine}
+use Rattle.mc_keeper.specs.declared.keeper.serve.Stop as keeper_stop
+use Rattle.mc_keeper.specs.declared.keeper.serve.Stop.TheVariants as stops
+use Rattle.mc_map.specs.declared.kept.ClassLine.{ClassLine}
+use Rattle.mc_map.specs.declared.map.Map.{Map}
+use Rattle.mc_map.specs.declared.player.Stop.{Stop}
+use Rattle.mc_map.specs.declared.player.Stop.TheVariants.{Turns, NoMemory}
+use Rattle.mc_map.specs.Agree.{Agrees}
+use Rattle.mc_map.specs.Books.{Book, glance_of, noted}
+use Rattle.mc_map.specs.Kept.{IsLine}
+
+-- why a command wasn't done, as the keeper says it
+abbrev pub stop_of : keeper_stop.Stop → Stop
+stop_of stops.Turns = Turns
+stop_of (stops.NoMemory refused) = NoMemory refused
+
+-- the class of an item of so many words, or 0 where it is too large
+abbrev pub given_class : Classes → ℕ → ℕ
+given_class table words = unwrap_or (class_of table (item_bytes words)) 0
+
+-- what the books say after a command that led from one machine to another
+abbrev pub books_after : Book → Machine → Command → Machine → Book
+books_after book m (command.Set worker key words base) after = noted book (given_class m.table words) (glance_of m.slabs) (glance_of after.slabs)
+books_after book m (command.Reassign src dst) after = noted book 0 (glance_of m.slabs) (glance_of after.slabs)
+books_after book m command.Window after = noted book 0 (glance_of m.slabs) (glance_of after.slabs)
+books_after book m (command.Turn turns) after = noted book 0 (glance_of m.slabs) (glance_of after.slabs)
+books_after book m (command.Get worker key) after = book
+books_after book m (command.Hold worker key) after = book
+books_after book m (command.Drop worker key) after = book
+books_after book m (command.Delete worker key) after = book
+books_after book m (command.Touch worker key) after = book
+books_after book m (command.Automove mode) after = book
+books_after book m command.Stats after = book
+books_after book m command.StatsSlabs after = book
+
+-- something is to be told of a class with these numbers: it has pages, or an item was evicted
+abbrev pub is_told : Numbers → Bool
+is_told numbers = nat_lt 0 numbers.pages || nat_lt 0 numbers.evictions
+
+-- the classes of which something is to be told, of so many
+abbrev pub told_classes : SlabState → ℕ → List ℕ
+told_classes slabs count = filter (λ class. is_told (numbers_of (class_at slabs class))) (map (λ place. place + 1) (range_with_len 0 count))
+
+-- the line, if something is to be told
+abbrev pub told_line : ClassLine → List ClassLine
+told_line line = if nat_lt 0 line.pages || nat_lt 0 line.evictions then line ∷ [] else []
+
+-- the map shows the machine and the books, which agree, and a line for each class of which something is to be told
+pub record IsMap (m : Machine) (book : Book) (keys : List ℕ) (map : Map) : Type 0 where
+  pub page : map.page ≡ m.table.page
+  pub owners : map.owners.items ≡ book.owners
+  pub agrees : Agrees m.slabs book.owners
+  pub pool : map.pool.items ≡ book.pool
+  pub moving : map.moving ≡ m.slabs.moving
+  pub totals : map.totals ≡ totals_of m.slabs
+  pub ledger : map.ledger.items ≡ book.ledger
+  pub classes : All (IsLine m keys) map.classes.items
+  pub told : list_map (λ line. line.class) map.classes.items ≡ told_classes m.slabs (length m.table.sizes)

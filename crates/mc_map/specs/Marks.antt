@@ -1,0 +1,23 @@
+-- The marks of a script: the lines that ask for a map.
+use Rattle.std.specs.Prelude.{ℕ, ◌+◌, Bool, if◌then◌else◌, List, [], ◌∷◌, ◌++◌, codes}
+use Rattle.std.specs.Str.{bytes_eq}
+use Rattle.mc_script.specs.Script.{is_skipped}
+use Rattle.mc_script.specs.Words.{words_of}
+use Rattle.mc_map.specs.declared.script.Mark.{Mark}
+
+-- the line asks for a map
+abbrev pub is_mark : List ℕ → Bool
+is_mark line = bytes_eq line (codes "# map")
+
+-- 1 for a line that is a command, and 0 for one that is skipped
+abbrev pub command_count : List ℕ → ℕ
+command_count line = if is_skipped (words_of line) then 0 else 1
+
+-- the mark of a line with this number, above which stand so many commands, if it is one
+abbrev pub mark_on : List ℕ → ℕ → ℕ → List Mark
+mark_on line number done = if is_mark line then record { line = number; done = done } ∷ [] else []
+
+-- the marks of these lines, above which stand so many lines and so many commands
+abbrev pub marks_of : ℕ → ℕ → List (List ℕ) → List Mark
+marks_of number done [] = []
+marks_of number done (line ∷ rest) = mark_on line (number + 1) done ++ marks_of (number + 1) (done + command_count line) rest

@@ -1,0 +1,14 @@
+-- What the first entries of a ledger make of untouched pages.
+use Rattle.std.specs.Prelude.{ℕ, Bool, ◌&&◌, nat_lt, List, length, map, take, Option}
+use Rattle.std.specs.List.{range_with_len}
+use Rattle.mc_pages.specs.declared.ledger.Owner.{Owner}
+use Rattle.mc_pages.specs.declared.ledger.Entry.{Entry}
+use Rattle.mc_pages.specs.Ledger.{all_untouched, fits, owner_at, page_of, replay}
+
+-- there is such a page, and the entry fits its owner
+abbrev pub is_fitting : List Owner → Entry → Bool
+is_fitting owners entry = nat_lt (page_of entry) (length owners) && fits entry (owner_at owners (page_of entry))
+
+-- the owners after no entry, after the first one, and so on, so many times
+abbrev pub replays : ℕ → List Entry → ℕ → List (Option (List Owner))
+replays pages entries count = map (λ k. replay (all_untouched pages) (take k entries)) (range_with_len 0 count)
