@@ -1,0 +1,49 @@
+-- Texts that go on.
+use Rattle.std.proofs.Common.{◌≡◌, ℕ, List, [], ◌∷◌, ◌++◌, ◌+◌, length, refl, ap, ap₂, sym, ◌∙◌, append_assoc}
+use Rattle.mc_pages.specs.declared.ledger.Owner.{Owner}
+use Rattle.std.specs.Prelude.{map, Option, Some}
+use Rattle.mc_pages.specs.declared.ledger.Entry.{Entry}
+use Rattle.mc_map.specs.Replays.{replays}
+use Rattle.mc_picture.specs.Charts.{IsChart}
+use Rattle.mc_picture.specs.Drawn.{Extends, IsDrawn}
+use Rattle.mc_picture.specs.Cells.{cells_text}
+
+append_nil : (xs : List ℕ) → xs ++ [] ≡ xs
+append_nil [] = refl
+append_nil (x ∷ xs) = ap (λ (ys : List ℕ). x ∷ ys) (append_nil xs)
+
+parts : (a b c d : List ℕ) → ((a ++ b) ++ c) ++ d ≡ a ++ (b ++ c ++ d)
+parts a b c d = simp append_assoc
+
+-- a text and more
+pub extends : (old new more : List ℕ) → new ≡ old ++ more → Extends old new
+extends old new more is = (more, is)
+
+-- what goes on from a text that goes on from a third goes on from the third
+pub extends_on : (old middle new : List ℕ) → Extends old middle → Extends middle new → Extends old new
+extends_on old middle new first second = (first.0 ++ second.0, second.1 ∙ ap (λ (l : List ℕ). l ++ second.0) first.1 ∙ append_assoc old first.0 second.0)
+
+-- what is no more is a text itself
+pub extends_same : (text : List ℕ) → Extends text text
+extends_same text = ([], sym (append_nil text))
+
+-- cells between two texts
+pub drawn : (columns : List (List Owner)) (count : ℕ) (old before after new : List ℕ) → count ≡ length columns → Extends old before → after ≡ before ++ cells_text columns count → Extends after new
+    → IsDrawn columns old new
+drawn columns count old before after new same first cells second = record {
+  front = first.0;
+  back = second.0;
+  whole = second.1
+      ∙ ap (λ (l : List ℕ). l ++ second.0) (cells ∙ ap₂ (λ (l : List ℕ) (n : ℕ). l ++ cells_text columns n) first.1 same)
+      ∙ parts old first.0 (cells_text columns (length columns)) second.0;
+}
+
+map_twice : {X : Type 0} (f : X → List Owner) (columns : List X) → map Some (map f columns) ≡ map (λ (x : X). Some (f x)) columns
+map_twice f [] = refl
+map_twice f (column ∷ more) = ap (λ (rest : List (Option (List Owner))). Some (f column) ∷ rest) (map_twice f more)
+
+-- cells of replays are a chart
+pub chart : {X : Type 0} (f : X → List Owner) (columns shown : List X) (pages : ℕ) (entries : List Entry) (old new : List ℕ) → shown ≡ columns
+    → map (λ (x : X). Some (f x)) columns ≡ replays pages entries (length entries + 1) → IsDrawn (map f shown) old new → IsChart pages entries old new
+chart {X} f columns shown pages entries old new same replayed drawn =
+    record { columns = map f shown; replayed = map_twice f shown ∙ ap (map (λ (x : X). Some (f x))) same ∙ replayed; drawn = drawn }

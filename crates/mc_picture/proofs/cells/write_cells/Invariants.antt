@@ -1,0 +1,8 @@
+use Rattle.std.proofs.Common.{◌≡◌, ◌++◌, string_bytes}
+use Rattle.std.specs.Prelude.{map}
+use Rattle.mc_picture.specs.Cells.{cells_text}
+use Rattle.mc_picture.proofs.cells.write_cells.Given as goal
+
+-- the cells of the columns so far
+abbrev pub invariant-loop-place : goal.invariant-loop-place
+invariant-loop-place l = string_bytes l.text ≡ string_bytes l.initial.text ++ cells_text (map (λ column. column.items) l.columns) l.place

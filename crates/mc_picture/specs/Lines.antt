@@ -1,0 +1,33 @@
+-- The lines of a map's text that say how pages changed hands.
+use Rattle.std.specs.Prelude.{ℕ, ◌+◌, ◌==◌, if◌then◌else◌, List, [], ◌∷◌, ◌++◌, length, codes, decimal, flat_map, slice_index_or}
+use Rattle.std.specs.List.{range_with_len}
+use Rattle.mc_pages.specs.declared.ledger.Entry.{Entry}
+use Rattle.mc_pages.specs.declared.ledger.Entry.TheVariants.{Granted, Taken, Began, Ended}
+
+-- where a page goes: to a class, or to the pool, which is 0
+abbrev pub goal_text : ℕ → List ℕ
+goal_text class = if class == 0 then codes " to the pool" else codes " to class " ++ decimal class
+
+-- that a page began to move
+abbrev pub began_text : ℕ → ℕ → List ℕ
+began_text page src = codes "page " ++ (decimal page ++ (codes " began to move from class " ++ decimal src))
+
+-- what an entry of the ledger says
+abbrev pub entry_text : Entry → List ℕ
+entry_text (Granted page class) = codes "page " ++ decimal page ++ codes " was granted to class " ++ decimal class
+entry_text (Taken page class) = codes "page " ++ decimal page ++ codes " came from the pool to class " ++ decimal class
+entry_text (Began page src dst) = began_text page src ++ goal_text dst
+entry_text (Ended page dst) = (codes "page " ++ decimal page ++ codes " has come") ++ goal_text dst
+
+-- the line of an entry with this number
+abbrev pub entry_line : ℕ → Entry → List ℕ
+entry_line number entry = (codes "  " ++ decimal number ++ codes ": ") ++ entry_text entry ++ codes "\n"
+
+-- the lines of the first so many entries, numbered from 1
+abbrev pub entry_lines : List Entry → ℕ → List ℕ
+entry_lines entries count = flat_map (λ place. entry_line (place + 1) (slice_index_or entries place (Granted 0 0))) (range_with_len 0 count)
+
+-- the ledger
+abbrev pub ledger_text : List Entry → List ℕ
+ledger_text [] = codes "\nledger\n  no page changed hands\n"
+ledger_text (entry ∷ more) = codes "\nledger\n" ++ entry_lines (entry ∷ more) (length (entry ∷ more))

@@ -1,0 +1,322 @@
+//! Pages over time, as an SVG: a row for each page, and a column before the first entry of the ledger and after each.
+ghost use Rattle.std.specs.Prelude.{◌≡◌, ◌≤◌, ◌<◌, ◌^◌, ◌⊎◌, Err, OnOk, length, map, string_bytes};
+ghost use Rattle.mc_picture.specs.Charts.{IsChart};
+ghost use Rattle.mc_picture.specs.Drawn.{Extends, IsDrawn};
+
+use crate::cells::{LEFT, column_at, row_at, write_cells};
+use crate::classes::ClassRow;
+use crate::legend::{legend_end, write_legend};
+use mc_map::{Misfit, columns};
+use mc_pages::{Entry, Owner};
+use std::alloc::{AllocError, Global};
+use std::fmt::Write;
+
+/// The most entries that a chart has columns for, beside the one before the first.
+pub const MOST_ENTRIES: usize = 4095;
+
+/// The most pages of a chart.
+const MOST_PAGES: usize = 4096;
+
+/// The least width, with room for the legend.
+const LEAST: usize = 640;
+
+/// Why no chart is drawn.
+#[derive(Debug, PartialEq, Eq, Drop)]
+pub enum ChartError {
+    /// There are more entries than a chart has columns for, or more pages than it has rows.
+    Large,
+    /// An entry finds its page otherwise.
+    Misfit,
+    /// Memory ran out.
+    NoMemory,
+}
+
+impl From<Misfit> for ChartError {
+    ghost use Rattle.std.specs.Prelude.{◌≡◌};
+    ghost use Rattle.mc_picture.specs.Charts.{chart_error_of};
+
+    ghost from_gives = { λ misfit error. error ≡ chart_error_of misfit };
+
+    fn from(misfit: Misfit) -> ChartError {
+        match misfit {
+            Misfit::Entry => ChartError::Misfit,
+            Misfit::NoMemory(_) => ChartError::NoMemory,
+        }
+    }
+}
+
+impl From<AllocError> for ChartError {
+    ghost use Rattle.std.specs.Prelude.{◌≡◌};
+    ghost use Rattle.mc_picture.specs.declared.chart.ChartError.TheVariants.{NoMemory};
+
+    ghost from_gives = { λ full error. error ≡ NoMemory };
+
+    fn from(_full: AllocError) -> ChartError {
+        ChartError::NoMemory
+    }
+}
+
+/// Adds a chart of so many pages, each of `page` bytes: in column k stands what the first k entries of the ledger make of them.
+pub fn write_chart(
+    alloc: Global,
+    pages: usize,
+    ledger: &[Entry],
+    classes: &[ClassRow],
+    page: u64,
+    text: &mut String,
+) -> Result<(), ChartError>
+    requires { length classes.now ≤ 63 }
+    ensures chart { OnOk result (IsChart pages ledger.now (string_bytes text.old) (string_bytes text.new)) }
+    ensures large { result ≡ Err ChartError.Large → (4095 < length ledger.now) ⊎ (4096 < pages) }
+{
+    if ledger.len() > MOST_ENTRIES {
+        return Err(ChartError::Large);
+    }
+    if pages > MOST_PAGES {
+        return Err(ChartError::Large);
+    }
+    let shown = columns(alloc, pages, ledger)?;
+    draw(&shown, pages, ledger, classes, page, text)?;
+    Ok(())
+}
+
+/// Adds the chart of these columns, each with the owners of all pages of so many bytes. Column k comes behind entry k of the ledger.
+fn draw(
+    columns: &[Vec<Owner>],
+    pages: usize,
+    ledger: &[Entry],
+    classes: &[ClassRow],
+    page: u64,
+    text: &mut String,
+) -> Result<(), AllocError>
+    requires pages { pages ≤ 4096 }
+    requires ledger { length ledger.now ≤ 4096 }
+    requires classes { length classes.now ≤ 63 }
+    ensures drawn { OnOk result (IsDrawn (map (λ column. column.items) columns.now) (string_bytes text.old) (string_bytes text.new)) }
+{
+    write_front(pages, ledger, classes, page, text)?;
+    write_cells(columns, text)?;
+    write_back(columns, pages, ledger, classes, text)?;
+    Ok(())
+}
+
+/// Where the legend begins, from the top.
+fn legend_at(pages: usize) -> usize
+    requires { pages ≤ 4096 }
+    ensures { result ≤ 100000 }
+{
+    row_at(pages) + 52
+}
+
+/// Adds what stands before the cells: the head, the title and the names of the rows.
+#[tactic(auto, using(crate::proofs::Extends::extends_on))]
+fn write_front(
+    pages: usize,
+    ledger: &[Entry],
+    classes: &[ClassRow],
+    page: u64,
+    text: &mut String,
+) -> Result<(), AllocError>
+    requires pages { pages ≤ 4096 }
+    requires ledger { length ledger.now ≤ 4096 }
+    requires classes { length classes.now ≤ 63 }
+    ensures { OnOk result (Extends (string_bytes text.old) (string_bytes text.new)) }
+{
+    let wide = column_at(ledger.len() + 2).max(LEAST);
+    write_head(wide, legend_end(legend_at(pages), classes, ledger), text)?;
+    write_title(pages, page, ledger.len(), text)?;
+    write_names(pages, text)?;
+    Ok(())
+}
+
+/// Adds what stands behind the cells: the numbers of classes in them, the axis and the legend.
+#[tactic(auto, using(crate::proofs::Extends::extends_on))]
+fn write_back(
+    columns: &[Vec<Owner>],
+    pages: usize,
+    ledger: &[Entry],
+    classes: &[ClassRow],
+    text: &mut String,
+) -> Result<(), AllocError>
+    requires pages { pages ≤ 4096 }
+    requires ledger { length ledger.now ≤ 4096 }
+    requires classes { length classes.now ≤ 63 }
+    ensures { OnOk result (Extends (string_bytes text.old) (string_bytes text.new)) }
+{
+    write_labels(columns, text)?;
+    write_axis(ledger, row_at(pages), text)?;
+    write_legend(classes, ledger, legend_at(pages), text)?;
+    text.push_str("</svg>\n")?;
+    Ok(())
+}
+
+/// Adds the size, the style of letters, the patterns of moving pages and of the pool, and the ground.
+#[tactic(auto, using(crate::proofs::Extends::extends, crate::proofs::Extends::extends_on))]
+fn write_head(wide: usize, high: usize, text: &mut String) -> Result<(), AllocError>
+    ensures { OnOk result (Extends (string_bytes text.old) (string_bytes text.new)) }
+{
+    writeln!(
+        text,
+        "<svg xmlns=\"http://www.w3.org/2000/svg\" width=\"{wide}\" height=\"{high}\" viewBox=\"0 0 {wide} {high}\">"
+    )?;
+    text.push_str(HEAD)?;
+    Ok(())
+}
+
+/// The style and the patterns.
+const HEAD: &str =
+    "<style>text { font-family: Helvetica, Arial, sans-serif; font-size: 12px; fill: #222 } .t { font-size: 16px; font-weight: bold } .s { fill: #666; font-size: 11px } .c { font-weight: bold; font-size: 11px } .m { text-anchor: middle } .r { text-anchor: end }</style>
+<defs>
+<pattern id=\"moving\" width=\"6\" height=\"6\" patternUnits=\"userSpaceOnUse\" patternTransform=\"rotate(45)\"><rect width=\"2.4\" height=\"6\" fill=\"#222\"/></pattern>
+<pattern id=\"pool\" width=\"6\" height=\"6\" patternUnits=\"userSpaceOnUse\"><rect width=\"6\" height=\"6\" fill=\"#fff\"/><circle cx=\"3\" cy=\"3\" r=\"1\" fill=\"#555\"/></pattern>
+</defs>
+<rect width=\"100%\" height=\"100%\" fill=\"#fff\"/>
+";
+
+/// Adds the title.
+#[tactic(auto, using(crate::proofs::Extends::extends, crate::proofs::Extends::extends_on))]
+fn write_title(pages: usize, page: u64, entries: usize, text: &mut String) -> Result<(), AllocError>
+    ensures { OnOk result (Extends (string_bytes text.old) (string_bytes text.new)) }
+{
+    text.push_str("<text class=\"t\" x=\"16\" y=\"28\">Who owns each page</text>\n")?;
+    writeln!(
+        text,
+        "<text class=\"s\" x=\"16\" y=\"48\">{pages} pages of {page} bytes, a column for each of the {entries} entries of the ledger</text>"
+    )?;
+    Ok(())
+}
+
+/// Adds the names of the rows.
+#[tactic(auto, using(crate::proofs::Extends::extends, crate::proofs::Extends::extends_on))]
+fn write_names(pages: usize, text: &mut String) -> Result<(), AllocError>
+    requires { pages ≤ 4096 }
+    ensures { OnOk result (Extends (string_bytes text.old) (string_bytes text.new)) }
+{
+    for page in 0..pages {
+        let (right, y) = (LEFT - 8, row_at(page) + 14);
+        writeln!(
+            text,
+            "<text class=\"r\" x=\"{right}\" y=\"{y}\">page {page}</text>"
+        )?;
+    }
+    Ok(())
+}
+
+/// Adds what stands in the cells of all columns.
+#[tactic(auto, using(crate::proofs::Extends::extends_on))]
+fn write_labels(columns: &[Vec<Owner>], text: &mut String) -> Result<(), AllocError>
+    ensures { OnOk result (Extends (string_bytes text.old) (string_bytes text.new)) }
+{
+    let mut before: &[Owner] = &[];
+    for place in 0..columns.len() {
+        let owners = columns[place].as_slice();
+        write_column_labels(place, owners, before, text)?;
+        before = owners;
+    }
+    Ok(())
+}
+
+/// Adds what stands in the cells of a column. `before` has the owners of the column before.
+#[tactic(auto, using(crate::proofs::Extends::extends_on))]
+fn write_column_labels(
+    place: usize,
+    owners: &[Owner],
+    before: &[Owner],
+    text: &mut String,
+) -> Result<(), AllocError>
+    requires { place < 2 ^ 59 }
+    ensures { OnOk result (Extends (string_bytes text.old) (string_bytes text.new)) }
+{
+    for page in 0..owners.len() {
+        write_label(
+            column_at(place) + 12,
+            row_at(page) + 13,
+            owners[page],
+            before.get(page).copied(),
+            text,
+        )?;
+    }
+    Ok(())
+}
+
+/// Adds the number of the class where a page comes to it, as the colour alone doesn't tell it, and p where it comes to the pool.
+#[tactic(auto, using(crate::proofs::Extends::extends, crate::proofs::Extends::extends_same))]
+fn write_label(
+    x: usize,
+    y: usize,
+    owner: Owner,
+    before: Option<Owner>,
+    text: &mut String,
+) -> Result<(), AllocError>
+    ensures { OnOk result (Extends (string_bytes text.old) (string_bytes text.new)) }
+{
+    if before == Some(owner) {
+        return Ok(());
+    }
+    match owner {
+        Owner::Untouched | Owner::Moving { .. } => Ok(()),
+        Owner::Pool => Ok(writeln!(text, "<text class=\"c m\" x=\"{x}\" y=\"{y}\">p</text>")?),
+        Owner::Class(class) => Ok(writeln!(
+            text,
+            "<text class=\"c m\" x=\"{x}\" y=\"{y}\">{class}</text>"
+        )?),
+    }
+}
+
+/// Adds the axis: the number of each entry, and what it did.
+#[tactic(auto, using(crate::proofs::Extends::extends, crate::proofs::Extends::extends_on))]
+fn write_axis(ledger: &[Entry], below: usize, text: &mut String) -> Result<(), AllocError>
+    requires ledger { length ledger.now ≤ 4096 }
+    requires below { below ≤ 100000 }
+    ensures { OnOk result (Extends (string_bytes text.old) (string_bytes text.new)) }
+{
+    for place in 0..ledger.len() {
+        write_tick(
+            column_at(place + 1) + 12,
+            below,
+            place + 1,
+            ledger[place],
+            text,
+        )?;
+    }
+    let (right, y) = (LEFT - 8, below + 14);
+    writeln!(
+        text,
+        "<text class=\"s r\" x=\"{right}\" y=\"{y}\">entry</text>"
+    )?;
+    Ok(())
+}
+
+/// Adds the number of an entry, and what it did.
+#[tactic(auto, using(crate::proofs::Extends::extends, crate::proofs::Extends::extends_on))]
+fn write_tick(
+    x: usize,
+    below: usize,
+    number: usize,
+    entry: Entry,
+    text: &mut String,
+) -> Result<(), AllocError>
+    requires below { below ≤ 100000 }
+    ensures { OnOk result (Extends (string_bytes text.old) (string_bytes text.new)) }
+{
+    let (upper, lower, letter) = (below + 14, below + 28, letter_of(entry));
+    writeln!(
+        text,
+        "<text class=\"s m\" x=\"{x}\" y=\"{upper}\">{number}</text>"
+    )?;
+    writeln!(
+        text,
+        "<text class=\"c m\" x=\"{x}\" y=\"{lower}\">{letter}</text>"
+    )?;
+    Ok(())
+}
+
+/// What an entry did: a page was granted, taken from the pool, began to move, or came to its end.
+fn letter_of(entry: Entry) -> &'static str {
+    match entry {
+        Entry::Granted(_, _) => "G",
+        Entry::Taken(_, _) => "T",
+        Entry::Began(_, _, _) => "B",
+        Entry::Ended(_, _) => "E",
+    }
+}
