@@ -317,6 +317,166 @@ check_drawn() {
     fi
 }
 
+# What mcmap shows of examples stands beside them, as .map and .classes, and in docs/, as .svg, which is well-formed XML.
+check_maps() {
+    for stored in examples/*.map examples/*.classes docs/*.svg; do
+        case $stored in *.svg) view=--svg ;; *.classes) view=--classes ;; *) view= ;; esac
+        cp "$stored" "$room/want"
+        : >"$room/want-stderr"
+        # shellcheck disable=SC2086
+        run_on "examples/$(basename "${stored%.*}").txt" $view
+        wants "$stored" 0
+    done
+    if python3 -c 'import sys, xml.dom.minidom as x; [x.parse(p) for p in sys.argv[1:]]' docs/*.svg 2>"$room/stderr"; then
+        ok "$build: the charts are well-formed"
+    else
+        bad "$build: the charts are well-formed" "$(tail -n 1 "$room/stderr")"
+    fi
+    run_on /dev/null --help
+    if [ "$status" -eq 0 ] && grep -q -- '--classes' "$room/stdout" && [ ! -s "$room/stderr" ]; then
+        ok "$build: --help"
+    else
+        bad "$build: --help" "status $status; standard error: $(head -c 300 "$room/stderr")"
+    fi
+}
+
+# What mcmap refuses. The script is refused, too, and isn't read where the options are.
+check_map_refusals() {
+    printf '1 set 1 3 7\n1 frob\n' >"$room/script"
+    while read -r wanted line arguments; do
+        told "mcmap: $(echo "$line" | tr _ ' ')"
+        # shellcheck disable=SC2086
+        run_on "$room/script" $arguments
+        wants "refused: $arguments" "$wanted"
+    done <<'ROWS'
+2 script:_line_2
+2 script:_line_2 --svg
+1 config:_3 --factor 1.25
+1 config:_3 --svg --factor 1.25
+1 config:_3 --classes --factor 1.25
+1 config:_6 --stripes 0
+1 --threads:_a_map_is_of_one_thread;_mcslab_has_threads --threads
+ROWS
+    for arguments in '--page x' '--frob' 'more'; do
+        # shellcheck disable=SC2086
+        run_on "$room/script" $arguments
+        if [ "$status" -eq 1 ] && [ ! -s "$room/stdout" ] && grep -q '^mcmap: error' "$room/stderr"; then
+            ok "$build: refused: $arguments"
+        else
+            bad "$build: refused: $arguments" "status $status; standard error: $(head -c 300 "$room/stderr")"
+        fi
+    done
+    head -c 1048577 /dev/zero | tr '\0' '#' >"$room/script"
+    for view in '' --svg --check; do
+        told 'mcmap: script: too long'
+        # shellcheck disable=SC2086
+        run_on "$room/script" $view
+        wants "a comment of 1,048,577 bytes $view" 2
+    done
+    { sed '/^stats/d' examples/how-a-page-moves.txt; printf 'reassign 4 1\n1 hold 3\n%s\nturn 1\n' 'turn 1000000'; } >"$room/script"
+    sed '/^map at the end/,$d' examples/how-a-page-moves.map >"$room/want"
+    echo 'mcmap: turns' >"$room/want-stderr"
+    run_on "$room/script"
+    wants "a turn more than 1,000,000, behind a map" 5
+    told 'mcmap: turns'
+    run_on "$room/script" --svg
+    wants "a turn more than 1,000,000 --svg" 5
+}
+
+# What --check says: of options and of a script that are right, of each kind of wrong line, and of options.
+check_words() {
+    told
+    echo 'nothing is wrong' >"$room/want"
+    run_on examples/how-a-page-moves.txt --check
+    wants "--check" 0
+    cat >"$room/script" <<'ROWS'
+# each line but this one and the next is wrong
+1 get 1
+0 get 1
+64 set 1 3 7
+1 set x 3 7
+1 set 1 4097 7
+1 set 1 3 -7
+1 set 1 3
+1 hold
+reassign 4
+reassign 4 x
+reassign x 1
+automove 3
+turn 0
+window 1
+stats items
+1 frob 1
+frob
+ROWS
+    cat >"$room/want" <<'ROWS'
+line 3: a worker is 1 to 63
+line 4: a worker is 1 to 63
+line 5: a key is a number below 2^64
+line 6: an item has 0 to 4096 words
+line 7: a base is a number below 2^64
+line 8: set has a key, a count of words and a base: <worker> set <key> <n> <base>
+line 9: one key stands behind get, del, hold, drop and touch
+line 10: reassign has two classes: reassign <src> <dst>
+line 11: a destination is a class, or 0 for the pool
+line 12: a source is a class, or -1 for any
+line 13: a mode is 0, 1 or 2: automove <mode>
+line 14: a line has 1 to 1000000 turns: turn <n>
+line 15: nothing stands behind window
+line 16: behind stats stands nothing, or slabs
+line 17: it is a worker with set, get, del, hold, drop or touch, or reassign, automove, window, turn or stats
+line 18: it is a worker with set, get, del, hold, drop or touch, or reassign, automove, window, turn or stats
+ROWS
+    echo 'mcmap: 16 lines of the script are wrong' >"$room/want-stderr"
+    run_on "$room/script" --check
+    wants "--check of each kind of wrong line" 2
+    echo 'mcmap: the options are wrong' >"$room/want-stderr"
+    while read -r line arguments; do
+        echo "$line" | tr _ ' ' >"$room/want"
+        # shellcheck disable=SC2086
+        run_on "$room/script" --check $arguments
+        wants "--check $arguments" 1
+    done <<'ROWS'
+--factor:_1.25_isn't_NUM/DEN;_write_5/4 --factor 1.25
+--factor:_2_isn't_NUM/DEN;_write_2/1 --factor=2
+--factor:_1.0625_isn't_NUM/DEN;_write_17/16 --factor 1.0625
+--factor:_x_isn't_NUM/DEN --factor x
+--factor:_.5_isn't_NUM/DEN --factor .5
+--factor:_1:_the_growth_factor_must_be_above_1,_with_a_numerator_of_at_most_65535 --factor 1/1
+--page:_7:_the_page_size_must_be_a_multiple_of_8_from_64_to_16384_bytes --page 7
+--first:_23:_the_first_size_must_be_from_24_bytes_to_the_page_size --first 23
+--max:_511:_the_greatest_size_must_be_a_multiple_of_8_from_the_first_size_to_the_page_size --max 511
+--limit:_1023:_the_limit_must_have_room_for_1_to_64_pages --limit 1023
+--stripes:_65:_the_number_of_stripes_must_be_from_1_to_64 --stripes 65
+--bulk:_0:_the_number_of_chunks_a_turn_must_be_from_1_to_256 --bulk 0
+ROWS
+}
+
+# Streams of mcmap that fail.
+check_map_streams() {
+    for view in '' --svg --check; do
+        told 'mcmap: read'
+        # shellcheck disable=SC2086
+        run_on "$room" $view
+        wants "a directory as standard input $view" 3
+    done
+    if [ -c /dev/full ]; then
+        for view in '' --svg --classes --check --help; do
+            told 'mcmap: write'
+            # shellcheck disable=SC2086
+            timeout 60 "$program" $view <examples/how-a-page-moves.txt >/dev/full 2>"$room/stderr"
+            status=$?
+            : >"$room/stdout"
+            wants "a full device $view" 3
+        done
+    fi
+    told 'mcmap: write'
+    awk 'BEGIN { for (i = 0; i < 2000; i++) print "# map" }' >"$room/script"
+    { timeout 60 "$program" <"$room/script" 2>"$room/stderr"; echo $? >"$room/status"; } | head -c 1 >"$room/first"
+    status=$(cat "$room/status")
+    wants "a closed pipe" 3
+}
+
 check_program() {
     find_builds mcslab
     for program in $builds; do
@@ -334,5 +494,17 @@ check_program() {
         check_streams
         check_threads
         check_drawn
+    done
+    find_builds mcmap
+    for program in $builds; do
+        build=$(basename "$program")
+        if [ ! -x "$program" ]; then
+            bad "$build" "it isn't built"
+            continue
+        fi
+        check_maps
+        check_map_refusals
+        check_words
+        check_map_streams
     done
 }

@@ -1,3 +1,4 @@
 pub mod Ranges
 pub mod Columns
 pub mod Extends
+pub mod FewRows

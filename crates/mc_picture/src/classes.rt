@@ -1,5 +1,5 @@
 //! The class table, before anything runs.
-ghost use Rattle.std.specs.Prelude.{◌≡◌, IfOk, length};
+ghost use Rattle.std.specs.Prelude.{◌≡◌, ◌≤◌, IfOk, length};
 ghost use Rattle.mc_classes.specs.Classes.{IsClass};
 ghost use Rattle.mc_picture.specs.Rows.{row_of, rows_of};
 
@@ -41,6 +41,7 @@ fn class_row(table: &ClassTable, class: ClassId) -> ClassRow
 /// What is known of all classes, class 1 first.
 pub fn class_rows(alloc: Global, table: &ClassTable) -> Result<Vec<ClassRow>, Refused>
     ensures rows { IfOk result (λ rows. rows.items ≡ rows_of table.now (length table.now.sizes)) }
+    ensures few { IfOk result (λ rows. length rows.items ≤ 63) }
 {
     let mut rows = Vec::new(alloc);
     for place in 0..table.count() {

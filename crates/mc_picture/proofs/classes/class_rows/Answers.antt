@@ -1,8 +1,9 @@
-use Rattle.std.proofs.Common.{◌≡◌, ℕ, ◌+◌, List, [], ◌∷◌, ◌++◌, ap₂, sym, ◌∙◌, arith, rules}
+use Rattle.std.proofs.Common.{◌≡◌, ℕ, ◌+◌, List, [], ◌∷◌, ◌++◌, length, ap₂, sym, ◌∙◌, arith, rules}
 use Rattle.std.proofs.lemmas.List.FromFn.{map-range_with_len_more}
 use Rattle.mc_classes.specs.Classes.{Classes}
 use Rattle.mc_picture.specs.declared.classes.ClassRow.{ClassRow}
 use Rattle.mc_picture.specs.Rows.{row_of, rows_of}
+use Rattle.mc_picture.proofs.FewRows.{few_rows}
 use Rattle.mc_picture.proofs.classes.class_rows.Goals as goal
 
 -- one row behind those that are there
@@ -15,3 +16,8 @@ pub loop-place-preserved : goal.loop-place-preserved
 loop-place-preserved c =
     let pushed : c.push.new.list.items ≡ c.loop-place.rows.items ++ c.class_row.result ∷ [] = search rules in
     next_row c.args.table.now c.loop-place.place c.loop-place.rows.items c.push.new.list.items c.class_row.result pushed c.loop-place.invariant c.class_row.ensures.row
+
+pub returns-clause-few : goal.returns-clause-few
+returns-clause-few c =
+    let all : c.loop-place.rows.items ≡ rows_of c.args.table.now (length c.args.table.now.sizes) = search rules in
+    few_rows c.args.table.now c.loop-place.rows.items all c.count-place-end.ensures.sound

@@ -1,0 +1,114 @@
+//! What is shown: maps, pages over time, and the class table.
+ghost use Rattle.std.specs.Prelude.{◌≤◌, All, OnOk, string_bytes};
+ghost use Rattle.mc_script.specs.Command.{IsValid};
+
+use crate::fault::Fault;
+use mc_map::{ClassTable, Command, Player, Script};
+use mc_options::Run;
+use mc_picture::{class_rows, write_chart, write_classes, write_map};
+use std::alloc::Global;
+
+/// Shows the class table, before anything runs.
+pub fn show_classes(alloc: Global, run: &Run, text: &mut String) -> Result<(), Fault> {
+    let table = ClassTable::build(alloc, &run.config)?;
+    let rows = class_rows(alloc, &table)?;
+    write_classes(&table, &rows, text)?;
+    Ok(())
+}
+
+/// Shows a map at each mark of the script, and at its end.
+pub fn show_maps(alloc: Global, run: &Run, script: &Script, text: &mut String) -> Result<(), Fault>
+    requires mode { run.now.automove ≤ 2 }
+    requires valid { All IsValid script.now.commands.items }
+{
+    let mut player = Player::new(alloc, run)?;
+    let done = play_maps(alloc, &mut player, run, script, text);
+    drop(player);
+    done
+}
+
+/// Does all commands, and shows a map at each mark and at the end.
+fn play_maps(
+    alloc: Global,
+    player: &mut Player,
+    run: &Run,
+    script: &Script,
+    text: &mut String,
+) -> Result<(), Fault>
+    requires mode { run.now.automove ≤ 2 }
+    requires valid { All IsValid script.now.commands.items }
+{
+    let commands = script.commands.as_slice();
+    let mut done = 0;
+    for mark in &script.marks {
+        let place = (mark.done as usize).min(commands.len()).max(done);
+        play_all(player, &commands[done..place])?;
+        done = place;
+        let line = mark.line;
+        let heading = format!(in alloc; "at line {line}")?;
+        show_map(player, run, &commands[..done], heading.as_str(), text)?;
+    }
+    play_all(player, &commands[done..])?;
+    show_map(player, run, commands, "at the end", text)
+}
+
+/// Shows a map under this heading. `commands` are those that were done.
+fn show_map(
+    player: &Player,
+    run: &Run,
+    commands: &[Command],
+    heading: &str,
+    text: &mut String,
+) -> Result<(), Fault>
+    requires mode { run.now.automove ≤ 2 }
+    requires valid { All IsValid commands.now }
+{
+    let map = player.map(run, commands)?;
+    let written = write_map(&map, heading, text);
+    drop(map);
+    Ok(written?)
+}
+
+/// Does these commands.
+fn play_all(player: &mut Player, commands: &[Command]) -> Result<(), Fault>
+    requires { All IsValid commands.now }
+{
+    for command in commands {
+        player.play(*command)?;
+    }
+    Ok(())
+}
+
+/// Shows pages over time.
+pub fn show_chart(alloc: Global, run: &Run, script: &Script, text: &mut String) -> Result<(), Fault>
+    requires mode { run.now.automove ≤ 2 }
+    requires valid { All IsValid script.now.commands.items }
+{
+    let mut player = Player::new(alloc, run)?;
+    let done = play_chart(alloc, &mut player, script, text);
+    drop(player);
+    done
+}
+
+/// Does all commands, and shows what became of the pages.
+fn play_chart(
+    alloc: Global,
+    player: &mut Player,
+    script: &Script,
+    text: &mut String,
+) -> Result<(), Fault>
+    requires { All IsValid script.now.commands.items }
+{
+    play_all(player, &script.commands)?;
+    let table = player.keeper().table();
+    let rows = class_rows(alloc, table)?;
+    write_chart(
+        alloc,
+        player.owners().len(),
+        player.ledger(),
+        &rows,
+        table.page(),
+        text,
+    )?;
+    Ok(())
+}
