@@ -23,7 +23,7 @@ use crate::help::HELP;
 use crate::show::{show_chart, show_classes, show_maps};
 use mc_map::{Config, Script, read_script};
 use std::env::Env;
-use std::io::Read;
+use std::io::{ErrorKind, Read};
 use std::process::ExitCode;
 
 /// The most bytes of a script, and one more, by which a longer one is seen.
@@ -34,6 +34,7 @@ fn read_bytes<R: Input + AllocGlobal>(rt: &R) -> Result<Vec<u8>, Fault> {
     let mut bytes = Vec::new(rt.alloc());
     match rt.reader().take(MOST).read_to_end(&mut bytes) {
         Ok(_count) => Ok(bytes),
+        Err(error) if error.kind() == ErrorKind::OutOfMemory => Err(Fault::Memory),
         Err(_error) => Err(Fault::Read),
     }
 }
