@@ -1,5 +1,7 @@
 //! What is shown: maps, pages over time, and the class table.
-ghost use Rattle.std.specs.Prelude.{◌≤◌, All, OnOk, string_bytes};
+ghost use Rattle.std.specs.Prelude.{◌≤◌, All, OnOk, length, string_bytes};
+ghost use Rattle.mc_picture.specs.Charts.{IsChart};
+ghost use Rattle.mcmap.specs.Played.{IsChartOf, IsShown, LeadTo};
 ghost use Rattle.mc_script.specs.Command.{IsValid};
 
 use crate::fault::Fault;
@@ -62,16 +64,19 @@ fn show_map(
 ) -> Result<(), Fault>
     requires mode { run.now.automove ≤ 2 }
     requires valid { All IsValid commands.now }
+    ensures shown { OnOk result (IsShown player.now.keeper player.now.books (string_bytes text.old) (string_bytes text.new)) }
 {
     let map = player.map(run, commands)?;
     let written = write_map(&map, heading, text);
     drop(map);
-    Ok(written?)
+    written?;
+    Ok(())
 }
 
 /// Does these commands.
 fn play_all(player: &mut Player, commands: &[Command]) -> Result<(), Fault>
     requires { All IsValid commands.now }
+    ensures played { OnOk result (LeadTo commands.now player.old.keeper player.old.books player.new.keeper player.new.books) }
 {
     for command in commands {
         player.play(*command)?;
@@ -83,6 +88,7 @@ fn play_all(player: &mut Player, commands: &[Command]) -> Result<(), Fault>
 pub fn show_chart(alloc: Global, run: &Run, script: &Script, text: &mut String) -> Result<(), Fault>
     requires mode { run.now.automove ≤ 2 }
     requires valid { All IsValid script.now.commands.items }
+    ensures chart { OnOk result (IsChartOf run.now script.now.commands.items (string_bytes text.old) (string_bytes text.new)) }
 {
     let mut player = Player::new(alloc, run)?;
     let done = play_chart(alloc, &mut player, script, text);
@@ -98,6 +104,8 @@ fn play_chart(
     text: &mut String,
 ) -> Result<(), Fault>
     requires { All IsValid script.now.commands.items }
+    ensures played { OnOk result (LeadTo script.now.commands.items player.old.keeper player.old.books player.new.keeper player.new.books) }
+    ensures chart { OnOk result (IsChart (length player.new.books.owners) player.new.books.ledger (string_bytes text.old) (string_bytes text.new)) }
 {
     play_all(player, &script.commands)?;
     let table = player.keeper().table();
