@@ -1,0 +1,2 @@
+//! Bytes in words.
+mod packing;

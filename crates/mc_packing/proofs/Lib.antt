@@ -1,0 +1,4 @@
+pub mod Bytes
+pub mod Whole
+pub mod Loops
+pub mod Packs

@@ -1,0 +1,53 @@
+-- A key and a value of bytes as the words of an item.
+use Rattle.std.specs.Prelude.{◌≡◌, ℕ, zero, suc, ◌+◌, ◌-◌, ◌/◌, ◌<◌, List, [], ◌∷◌, ◌++◌, length, take, drop, slice_index}
+use Rattle.std.specs.Int.{w64, from_le_bytes, to_le_bytes}
+
+-- each of these numbers is a byte
+abbrev pub AreBytes : List ℕ → Type 0
+AreBytes bytes = (place : ℕ) → slice_index bytes place < 256
+
+-- the word of the first eight of these bytes, the first lowest: where bytes are wanting, it has zeros
+unfoldable pub word_of : List ℕ → ℕ
+word_of bytes = from_le_bytes w64 bytes
+
+-- the eight bytes of a word, the lowest first
+unfoldable pub bytes_in : ℕ → List ℕ
+bytes_in word = to_le_bytes w64 word
+
+-- how many words so many bytes fill, the last one perhaps in part
+abbrev pub words_for : ℕ → ℕ
+words_for bytes = (bytes + 7) / 8
+
+-- so many words of these bytes, eight bytes a word
+unfoldable pub words_from : ℕ → List ℕ → List ℕ
+words_from zero bytes = []
+words_from (suc more) bytes = word_of bytes ∷ words_from more (drop 8 bytes)
+
+-- these bytes as words
+abbrev pub words_of : List ℕ → List ℕ
+words_of bytes = words_from (words_for (length bytes)) bytes
+
+-- the words of an item: the lengths of key and value, the key's bytes, and from a new word on the value's
+unfoldable pub packed : List ℕ → List ℕ → List ℕ
+packed key value = length key ∷ length value ∷ words_of key ++ words_of value
+
+-- so many bytes of these words, or eight of each where there are fewer
+unfoldable pub bytes_of : ℕ → List ℕ → List ℕ
+bytes_of count [] = []
+bytes_of count (word ∷ words) = take count (bytes_in word) ++ bytes_of (count - 8) words
+
+-- the words are just those of so many bytes: none is wanting or too many, and behind the last byte its word has zeros
+abbrev pub AreWhole : ℕ → List ℕ → Type 0
+AreWhole count words = (words ≡ words_of (bytes_of count words)) × (length (bytes_of count words) ≡ count)
+
+-- the key of an item's words
+abbrev pub key_in : List ℕ → List ℕ
+key_in words = bytes_of (slice_index words 0) (drop 2 words)
+
+-- the value of an item's words
+abbrev pub value_in : List ℕ → List ℕ
+value_in words = bytes_of (slice_index words 1) (drop (2 + words_for (slice_index words 0)) words)
+
+-- the words are those of an item of this key, with some value
+abbrev pub IsPackingOf : List ℕ → List ℕ → Type 0
+IsPackingOf key words = words ≡ packed key (value_in words)

@@ -1,0 +1,29 @@
+//! Laws of packings, each the contract of a function with nothing to do.
+ghost use Rattle.std.specs.Prelude.{◌≡◌, ◌+◌, ℕ, List, length};
+ghost use Rattle.mc_packing.specs.Cases.{NineBytes, NoPackings, NoValue, ValueRead, ZerosCount};
+ghost use Rattle.mc_packing.specs.Packing.{AreBytes, IsPackingOf, key_in, packed, value_in, words_for};
+
+/// Unpacking gives back the very key and the very value. A packing has two words for the lengths, and a word for each eight bytes of
+/// the key and of the value, or a part of eight.
+pub fn packings_unpack()
+    ensures key { (key value : List ℕ) → AreBytes key → key_in (packed key value) ≡ key }
+    ensures value { (key value : List ℕ) → AreBytes value → value_in (packed key value) ≡ value }
+    ensures own { (key value : List ℕ) → AreBytes value → IsPackingOf key (packed key value) }
+    ensures len { (key value : List ℕ) → length (packed key value) ≡ 2 + words_for (length key) + words_for (length value) }
+{}
+
+/// Two packings that are the same words are of one key and one value. So words are a packing of one key at most.
+pub fn packings_are_apart()
+    ensures keys { (k l v w : List ℕ) → AreBytes k → AreBytes l → packed k v ≡ packed l w → k ≡ l }
+    ensures values { (k l v w : List ℕ) → AreBytes v → AreBytes w → packed k v ≡ packed l w → v ≡ w }
+    ensures one { (k l words : List ℕ) → AreBytes k → AreBytes l → IsPackingOf k words → IsPackingOf l words → k ≡ l }
+{}
+
+/// Worked packings, which the prover computes.
+pub fn worked_packings()
+    ensures no_value { NoValue }
+    ensures nine_bytes { NineBytes }
+    ensures zeros_count { ZerosCount }
+    ensures no_packings { NoPackings }
+    ensures value_read { ValueRead }
+{}

@@ -1,0 +1,43 @@
+//! Whether words are a packing of a key, and the value that they pack.
+ghost use Rattle.std.specs.Prelude.{◌++◌, ◌≡◌, ◌≤◌, true, false, OnErr, OnOk, drop, length, slice_index};
+ghost use Rattle.mc_packing.specs.Packing.{IsPackingOf, bytes_of, value_in};
+
+use crate::words::{are_whole, are_words_of, count_words, push_bytes};
+use mc_memory::Refused;
+
+/// Whether the words are a packing of this key, with some value. Any words may be asked about. Where they are of another key, no more
+/// of them is read than up to the first that differs.
+#[tactic(auto, using(crate::proofs::Packs::is_packing_at, crate::proofs::Packs::packing_len, crate::proofs::Packs::packing_key_len, crate::proofs::Packs::packing_key_at, crate::proofs::Packs::packing_whole_at))]
+pub fn is_packing_of(words: &[u64], key: &[u8]) -> bool
+    ensures own { result ≡ true → IsPackingOf key.now words.now }
+    ensures other { result ≡ false → ¬ IsPackingOf key.now words.now }
+{
+    let begin = 2 + count_words(key);
+    if words.len() < begin || words[0] != key.len() as u64 {
+        return false;
+    }
+    if !are_words_of(&words[2..begin], key) {
+        return false;
+    }
+    are_whole(&words[begin..], words[1])
+}
+
+/// Puts the value that the words pack behind the bytes that are there. Where there is no room, these stay.
+pub fn unpack(words: &[u64], key: &[u8], into: &mut Vec<u8>) -> Result<(), Refused>
+    requires { IsPackingOf key.now words.now }
+    ensures value { OnOk result (into.new.items ≡ into.old.items ++ value_in words.now) }
+    ensures refused { OnErr result (into.new.items ≡ into.old.items) }
+{
+    push_value(words, 2 + count_words(key), into)
+}
+
+/// The same for a value that begins at the place `begin`.
+fn push_value(words: &[u64], begin: usize, into: &mut Vec<u8>) -> Result<(), Refused>
+    requires lengths { 2 ≤ begin }
+    requires begin { begin ≤ length words.now }
+    ensures value { OnOk result (into.new.items ≡ into.old.items ++ bytes_of (slice_index words.now 1) (drop begin words.now)) }
+    ensures refused { OnErr result (into.new.items ≡ into.old.items) }
+{
+    let len = words[1] as usize;
+    push_bytes(into, &words[begin..], len)
+}

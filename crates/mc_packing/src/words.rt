@@ -1,0 +1,109 @@
+//! Bytes that become words, and words that become bytes.
+ghost use Rattle.std.specs.Prelude.{◌++◌, ◌≡◌, ◌≢◌, ◌≤◌, ◌^◌, true, false, OnErr, OnOk, drop, length};
+ghost use Rattle.mc_packing.specs.Packing.{AreWhole, bytes_in, bytes_of, word_of, words_for, words_of};
+
+use mc_memory::{Refused, extend_from_slice, reserve};
+
+/// The bytes of a word.
+const WORD: usize = 8;
+
+/// How many words the bytes fill, the last one perhaps in part.
+pub(crate) fn count_words(bytes: &[u8]) -> usize
+    ensures words { result ≡ words_for (length bytes.now) }
+    ensures small { result ≤ 2 ^ 60 }
+{
+    bytes.len().div_ceil(WORD)
+}
+
+/// The word that the first eight of these bytes make, the first lowest. Where bytes are wanting, it has zeros.
+#[tactic(auto, unfolding(crate::specs::Packing::word_of))]
+fn first_word(bytes: &[u8]) -> u64
+    ensures { result ≡ word_of bytes.now }
+{
+    if let Some(eight) = bytes.first_chunk::<WORD>() {
+        return u64::from_le_bytes(*eight);
+    }
+    let mut eight = [0; WORD];
+    eight[..bytes.len()].copy_from_slice(bytes);
+    u64::from_le_bytes(eight)
+}
+
+/// The eight bytes of a word, the lowest first.
+#[tactic(auto, unfolding(crate::specs::Packing::bytes_in))]
+fn eight_bytes(word: u64) -> [u8; WORD]
+    ensures { result ≡ bytes_in word }
+{
+    word.to_le_bytes()
+}
+
+/// What follows the first eight of these bytes.
+fn after_word(bytes: &[u8]) -> &[u8]
+    ensures { result.now ≡ drop 8 bytes.now }
+{
+    &bytes[WORD.min(bytes.len())..]
+}
+
+/// Writes the bytes as words, over whatever stands there.
+#[tactic(auto, using(crate::proofs::Loops::write_more, crate::proofs::Loops::all_written))]
+pub(crate) fn write_words(into: &mut [u64], bytes: &[u8])
+    requires { length into.old ≡ words_for (length bytes.now) }
+    ensures { into.new ≡ words_of bytes.now }
+{
+    let mut rest = bytes;
+    for word in into.iter_mut() {
+        *word = first_word(rest);
+        rest = after_word(rest);
+    }
+}
+
+/// Whether the words are those that the bytes make. It reads no further than the first that differs.
+#[tactic(auto, using(crate::proofs::Loops::same_more, crate::proofs::Loops::all_written, crate::proofs::Loops::differs))]
+pub(crate) fn are_words_of(words: &[u64], bytes: &[u8]) -> bool
+    requires { length words.now ≡ words_for (length bytes.now) }
+    ensures same { result ≡ true → words.now ≡ words_of bytes.now }
+    ensures other { result ≡ false → words.now ≢ words_of bytes.now }
+{
+    let mut rest = bytes;
+    for word in words {
+        if *word != first_word(rest) {
+            return false;
+        }
+        rest = after_word(rest);
+    }
+    true
+}
+
+/// Whether the words have just so many bytes: no word is wanting or too many, and behind the last byte its word has zeros.
+#[tactic(auto, using(crate::proofs::Whole::full, crate::proofs::Whole::as_many, crate::proofs::Whole::last, crate::proofs::Whole::last_back))]
+pub(crate) fn are_whole(words: &[u64], count: u64) -> bool
+    ensures whole { result ≡ true → AreWhole count words.now }
+    ensures other { result ≡ false → ¬ AreWhole count words.now }
+{
+    let full = count / 8;
+    let more = (count % 8) as usize;
+    if more == 0 {
+        return words.len() as u64 == full;
+    }
+    if words.len() as u64 != full + 1 {
+        return false;
+    }
+    let last = words[full as usize];
+    first_word(&eight_bytes(last)[..more]) == last
+}
+
+/// Puts so many bytes of the words behind those that are there, or eight of each where the words are fewer. Where there is no room,
+/// these stay.
+pub(crate) fn push_bytes(into: &mut Vec<u8>, words: &[u64], count: usize) -> Result<(), Refused>
+    ensures bytes { OnOk result (into.new.items ≡ into.old.items ++ bytes_of count words.now) }
+    ensures refused { OnErr result (into.new.items ≡ into.old.items) }
+{
+    reserve(into, count)?;
+    let mut left = count;
+    for word in words {
+        let bytes = eight_bytes(*word);
+        let some = WORD.min(left);
+        extend_from_slice(into, &bytes[..some])?;
+        left -= some;
+    }
+    Ok(())
+}
