@@ -1,0 +1,54 @@
+-- What is found under a hash: the words of an item, and whether they are a packing of a key.
+use Rattle.std.specs.Prelude.{◌≡◌, ℕ, Bool, List, Option, Some, IfSome}
+use Rattle.std.specs.Option.{option_map}
+use Rattle.mc_packing.specs.Packing.{IsPackingOf, packed}
+use Rattle.mc_words.specs.declared.hand.Hand.{Hand}
+use Rattle.mc_words.specs.Arenas.{view}
+use Rattle.mc_words.specs.Observers.{number_of}
+use Rattle.mc_words.specs.View.{Setup}
+use Rattle.mc_items.specs.declared.refs.Ref.{Ref}
+use Rattle.mc_items.specs.ItemRefs.{item_words}
+use Rattle.mc_items.specs.OnKeys.{ActsOn, Gets, stripe_of_key}
+use Rattle.mc_items.specs.Calls.{Deletes, FindsNone, Touches}
+use Rattle.mc_items.specs.Storing.{item_with}
+use Rattle.mc_byte_items.specs.Hands.{WereSaid, sayings_of}
+
+-- the hand got the item under the hash, and these are its words, which somebody said; or there was none
+pub record FindsWords (setup : Setup) (hash : ℕ) (before : Hand) (words : Option (List ℕ)) : Type 0 where
+  pub got : Hand
+  pub item : Option Ref
+  pub gets : Gets setup hash item before got
+  pub words_are : words ≡ option_map (item_words (view got)) item
+  pub said : IfSome words (λ words. (stamp : ℕ) × WereSaid setup (sayings_of before) stamp (item_with hash stamp words))
+
+-- it is of this key and this value
+abbrev pub FindsValue : Setup → ℕ → List ℕ → List ℕ → Hand → Type 0
+FindsValue setup hash key value before = FindsWords setup hash before (Some (packed key value))
+
+-- it is of this key, with some value
+abbrev pub FindsKey : Setup → ℕ → List ℕ → Hand → Type 0
+FindsKey setup hash key before = (value : List ℕ) × FindsValue setup hash key value before
+
+-- there is no item under the hash, or it is of another key
+pub record FindsOther (setup : Setup) (hash : ℕ) (key : List ℕ) (before : Hand) : Type 0 where
+  pub words : Option (List ℕ)
+  pub finds : FindsWords setup hash before words
+  pub other : IfSome words (λ words. ¬ IsPackingOf key words)
+
+-- the item under the hash was of this key; and then it was deleted, if it was still there
+pub record DeletesKey (setup : Setup) (hash : ℕ) (key : List ℕ) (there : Bool) (before now : Hand) : Type 0 where
+  pub finds : FindsKey setup hash key before
+  pub between : Hand
+  pub deletes : ActsOn setup hash (λ number stripe. Deletes number stripe hash there) between now
+
+-- the item under the hash was of this key; and then it was touched
+pub record TouchesKey (setup : Setup) (hash : ℕ) (key : List ℕ) (before now : Hand) : Type 0 where
+  pub finds : FindsKey setup hash key before
+  pub between : Hand
+  pub touches : Touches (number_of between) (stripe_of_key setup hash) hash (view between) (view now)
+
+-- the item under the hash was of this key; and then it was gone
+pub record LosesKey (setup : Setup) (hash : ℕ) (key : List ℕ) (before now : Hand) : Type 0 where
+  pub finds : FindsKey setup hash key before
+  pub between : Hand
+  pub none : ActsOn setup hash (λ number stripe. FindsNone number stripe hash) between now

@@ -1,0 +1,28 @@
+-- Hands between two calls, and what hands of the arena said.
+use Rattle.std.specs.Prelude.{◌≡◌, ℕ, List, []}
+use Rattle.mc_core.specs.Past.{Saying}
+use Rattle.mc_words.specs.declared.arena.Arena.{Arena}
+use Rattle.mc_words.specs.declared.hand.Hand.{Hand}
+use Rattle.mc_words.specs.Arenas.{IsHandOf, view}
+use Rattle.mc_words.specs.Happens.{LawfulView}
+use Rattle.mc_words.specs.Ready.{IsReady}
+use Rattle.mc_words.specs.View.{Setup, View}
+use Rattle.mc_items.specs.Keeping.{AreSaid}
+
+-- the hand is one of the arena's, may make any call, and holds nothing
+pub record IsIdleHandOf (arena : Arena) (hand : Hand) : Type 0 where
+  pub of_arena : IsHandOf arena hand
+  pub ready : IsReady (view hand)
+  pub none : (view hand).row.holdings ≡ []
+
+-- what the hand said so far
+abbrev pub sayings_of : Hand → List Saying
+sayings_of hand = (view hand).row.knows.said
+
+-- in a lawful moment of such an arena, to a hand that had said this much, these words were said with the stamp
+pub record WereSaid (setup : Setup) (own : List Saying) (stamp : ℕ) (words : List ℕ) : Type 0 where
+  pub seen : View
+  pub setup_is : seen.setup ≡ setup
+  pub lawful : LawfulView seen
+  pub own_is : seen.row.knows.said ≡ own
+  pub said : AreSaid seen stamp words
