@@ -18,6 +18,8 @@ mod snapshot;
 mod steps;
 mod stripes;
 mod told;
+mod trimmed;
+mod trims;
 
 use mc_classes::Config;
 use std::fmt::Debug;

@@ -3,9 +3,9 @@ ghost use Rattle.mc_refusal_trials.specs.Hands.{IsReadyHandOf};
 
 use mc_classes::ClassId;
 use mc_items::{GetError, SetError, TryGetError, delete, get, release, set, touch, try_get};
-use mc_mover::{Counts, Survey, TryTurn, Turn, reassign, set_mode, survey, try_turn, turn};
+use mc_mover::{Counts, Survey, TryTurn, Turn, reassign, set_mode, survey, trim, try_turn, turn};
 use mc_pages::Reassign;
-use mc_stripe::Key;
+use mc_stripe::{Key, Trim};
 use mc_words::{Arena, Hand};
 use std::alloc::Global;
 use std::sync::Wait;
@@ -30,6 +30,8 @@ pub enum Call {
     TryTurn,
     /// With a sweep, or without.
     Survey(bool),
+    /// The history of each stripe is trimmed.
+    Trim,
     /// The automover's mode 2. It takes no memory.
     ModeTwo,
 }
@@ -89,6 +91,7 @@ impl Call {
             Call::Turn => "turn",
             Call::TryTurn => "try_turn",
             Call::Survey(_) => "survey",
+            Call::Trim => "trim",
             Call::ModeTwo => "set_mode",
         }
     }
@@ -128,6 +131,7 @@ fn answer_of_mover<R: Wait>(rt: &R, arena: &Arena, hand: &mut Hand, call: Call) 
         Call::Reassign(src, dst) => reassigned(reassign(rt, arena, hand, src, dst)),
         Call::Turn => turned(turn(rt, arena, hand).ok()),
         Call::TryTurn => tried(try_turn(arena, hand)),
+        Call::Trim => trimmed(trim(rt, arena, hand)),
         _ => {
             set_mode(rt, arena, hand, 2);
             Answer::Done
@@ -155,6 +159,14 @@ fn tried(turn: Result<Turn, TryTurn>) -> Answer {
         Ok(turn) => Answer::Turned(turn),
         Err(TryTurn::NoMemory(_)) => Answer::NoMemory,
         Err(TryTurn::Held) => Answer::Refused,
+    }
+}
+
+fn trimmed(answer: Result<(), Trim>) -> Answer {
+    match answer {
+        Ok(()) => Answer::Done,
+        Err(Trim::NoMemory(_)) => Answer::NoMemory,
+        Err(Trim::Full) => Answer::Refused,
     }
 }
 

@@ -8,10 +8,12 @@ use super::snapshot::{
     rise_of_classes,
 };
 use super::told::{EVICT, Lead, RESCUE, calls_told, entries_told, leads};
+use super::trimmed::is_left_by_trim;
 use mc_mover::Counts;
 
 /// Whether the call left what it may: a set dead chunks that were put back, a page that was granted, one item evicted, the chunk that was
-/// got dead, and a move begun in mode 2; a turn dead chunks that were put back, and earlier chunks done; and any other call nothing.
+/// got dead, and a move begun in mode 2; a turn dead chunks that were put back, and earlier chunks done; a trim the first stripes trimmed;
+/// and any other call nothing.
 pub fn is_left(call: Call, before: &[u64], after: &[u64]) -> bool {
     if before == after {
         return true;
@@ -22,6 +24,7 @@ pub fn is_left(call: Call, before: &[u64], after: &[u64]) -> bool {
             is_left_by_set(class, before, after)
         }
         Call::Turn | Call::TryTurn => is_left_by_turn(before, after),
+        Call::Trim => is_left_by_trim(before, after),
         _ => false,
     }
 }

@@ -20,7 +20,7 @@ use std::sync::Wait;
 use std::test::Fail;
 
 /// A call of each kind.
-const CALLS: [Call; 9] = [
+const CALLS: [Call; 10] = [
     Call::Set(9, 61),
     Call::Get(1),
     Call::TryGet(1),
@@ -30,6 +30,7 @@ const CALLS: [Call; 9] = [
     Call::Turn,
     Call::TryTurn,
     Call::Survey(true),
+    Call::Trim,
 ];
 
 /// A hint of the key's item, whose reference is given up.
@@ -124,7 +125,7 @@ fn look_around_a_fault<R: Abort + Wait + Print>(
     assert_same(
         rt,
         (seen, again, right),
-        (true, true, 9),
+        (true, true, 10),
         "nothing is changed",
     );
     assert_found(rt, &looker.before, &mut looker.after);

@@ -57,17 +57,24 @@ pub const FREE_OF: usize = 1;
 pub const EVICTIONS_OF: usize = 2;
 
 pub const LISTS_OF: usize = 3;
-/// Then one for each stripe: chunk and stamp of each of its keys, its history, and whether it has room for a call and an entry aside.
-const STRIPE_BLOCKS: usize = 639;
+/// Then one for each stripe: chunk and stamp of each of its keys, its history, whether it has room for a call and an entry aside, how
+/// many calls aren't recorded, and how many keys these left.
+pub const STRIPE_BLOCKS: usize = 639;
 
-const STRIPE_BLOCK: usize = 61;
+pub const STRIPE_BLOCK: usize = 63;
 
 pub const HISTORY: usize = 10;
 
 pub const READY: usize = 59;
 
+pub const ASIDE: usize = 60;
+
+pub const TRIMMED: usize = 61;
+
+pub const BASED: usize = 62;
+
 /// How many numbers a snapshot has.
-pub const LENGTH: usize = 883;
+pub const LENGTH: usize = 891;
 
 /// The number at this place.
 pub fn at(seen: &[u64], place: usize) -> u64 {

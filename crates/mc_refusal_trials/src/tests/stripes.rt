@@ -49,7 +49,7 @@ fn see_keys(stripe: &Stripe, number: u64, seen: &mut Vec<u64>) {
     }
 }
 
-// Its history, whether it has room for one more call, and whether an entry is aside.
+// Its history, whether it has room for one more call, whether an entry is aside, and what isn't recorded.
 fn see_history(stripe: &Stripe, seen: &mut Vec<u64>) {
     let history = stripe.history();
     note(seen, history.len() as u64);
@@ -58,4 +58,10 @@ fn see_history(stripe: &Stripe, seen: &mut Vec<u64>) {
     }
     note(seen, u64::from(stripe.is_ready()));
     note(seen, u64::from(stripe.aside().is_some()));
+    note(seen, stripe.trimmed());
+    let based = match stripe.base() {
+        Some(base) => base.len(),
+        None => 0,
+    };
+    note(seen, based as u64);
 }

@@ -32,7 +32,7 @@ pub fn calls_told(before: &[u64], after: &[u64], kinds: (u64, u64)) -> Option<u6
     Some(sum)
 }
 
-// Whether a stripe's history begins as it was, and goes on with these kinds of calls alone, and it has room or not as before.
+// Whether a stripe's history begins as it was, and goes on with these kinds of calls alone, and all else of it but its keys is as before.
 fn are_told(before: &[u64], after: &[u64], stripe: u64, kinds: (u64, u64)) -> bool {
     let known = at(before, in_stripe(stripe, HISTORY));
     let told = at(after, in_stripe(stripe, HISTORY));
@@ -47,7 +47,7 @@ fn are_told(before: &[u64], after: &[u64], stripe: u64, kinds: (u64, u64)) -> bo
             return false;
         }
     }
-    are_same(before, after, in_stripe(stripe, READY), 2)
+    are_same(before, after, in_stripe(stripe, READY), 4)
 }
 
 /// What became of a key.
