@@ -317,10 +317,10 @@ check_drawn() {
     fi
 }
 
-# What mcmap shows of examples stands beside them, as .map and .classes, and in docs/, as .svg, which is well-formed XML.
+# What mcmap shows of examples stands beside them, as .map, .json and .classes, and in docs/, as .svg. Readers of XML and of JSON take them.
 check_maps() {
-    for stored in examples/*.map examples/*.classes docs/*.svg; do
-        case $stored in *.svg) view=--svg ;; *.classes) view=--classes ;; *) view= ;; esac
+    for stored in examples/*.map examples/*.json examples/*.classes docs/*.svg; do
+        case $stored in *.svg) view=--svg ;; *.json) view=--json ;; *.classes) view=--classes ;; *) view= ;; esac
         cp "$stored" "$room/want"
         : >"$room/want-stderr"
         # shellcheck disable=SC2086
@@ -331,6 +331,11 @@ check_maps() {
         ok "$build: the charts are well-formed"
     else
         bad "$build: the charts are well-formed" "$(tail -n 1 "$room/stderr")"
+    fi
+    if python3 -c 'import sys, json; [json.loads(line) for p in sys.argv[1:] for line in open(p)]' examples/*.json 2>"$room/stderr"; then
+        ok "$build: the maps are JSON, one in a line"
+    else
+        bad "$build: the maps are JSON, one in a line" "$(tail -n 1 "$room/stderr")"
     fi
     run_on /dev/null --help
     if [ "$status" -eq 0 ] && grep -q -- '--classes' "$room/stdout" && [ ! -s "$room/stderr" ]; then
@@ -351,6 +356,7 @@ check_map_refusals() {
     done <<'ROWS'
 2 script:_line_2
 2 script:_line_2 --svg
+2 script:_line_2 --json
 1 config:_3 --factor 1.25
 1 config:_3 --svg --factor 1.25
 1 config:_3 --classes --factor 1.25
@@ -461,7 +467,7 @@ check_map_streams() {
         wants "a directory as standard input $view" 3
     done
     if [ -c /dev/full ]; then
-        for view in '' --svg --classes --check --help; do
+        for view in '' --json --svg --classes --check --help; do
             told 'mcmap: write'
             # shellcheck disable=SC2086
             timeout 60 "$program" $view <examples/how-a-page-moves.txt >/dev/full 2>"$room/stderr"

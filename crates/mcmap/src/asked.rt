@@ -11,6 +11,8 @@ use std::env::{self, Env};
 pub enum View {
     /// A map at each mark and at the end.
     Maps,
+    /// The same maps as JSON, one in a line.
+    Json,
     /// Pages over time.
     Chart,
     /// The class table, before anything runs.
@@ -33,6 +35,7 @@ pub struct Asked {
 /// The view that a word names, if it names one.
 fn view_of(word: &str) -> Option<View> {
     match word {
+        "--json" => Some(View::Json),
         "--svg" => Some(View::Chart),
         "--classes" => Some(View::Classes),
         "--check" => Some(View::Check),

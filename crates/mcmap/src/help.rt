@@ -3,8 +3,9 @@
 /// The text of `--help`.
 pub const HELP: &str = "mcmap: shows a slab memory at each line '# map' of a script, and at its end
 
-usage: mcmap [--svg | --classes | --check] [OPTIONS of mcslab] < script
+usage: mcmap [--json | --svg | --classes | --check] [OPTIONS of mcslab] < script
 
+  --json      the same maps as JSON, one in a line; at the end its line is 0
   --svg       pages over time as an SVG, a column for each entry of the ledger
   --classes   the class table with each class's worst waste, before anything runs; no script is read
   --check     what is wrong with the options or the script, in words, and what would be right; nothing runs

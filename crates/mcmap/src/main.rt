@@ -13,6 +13,7 @@ mod asked;
 mod check;
 mod fault;
 mod help;
+mod json;
 mod lines;
 mod show;
 
@@ -20,7 +21,7 @@ use crate::asked::{Asked, View, read_words};
 use crate::check::{check_options, check_script};
 use crate::fault::Fault;
 use crate::help::HELP;
-use crate::show::{show_chart, show_classes, show_maps};
+use crate::show::{Form, show_chart, show_classes, show_maps};
 use mc_map::{Config, Script, read_script};
 use std::env::Env;
 use std::io::{ErrorKind, Read};
@@ -70,7 +71,8 @@ fn show_view<R: Input + AllocGlobal>(rt: &R, asked: &Asked, text: &mut String) -
         View::Help => Ok(text.push_str(HELP)?),
         View::Classes => show_classes(alloc, run, text),
         View::Chart => show_chart(alloc, run, &script_read(rt, &run.config)?, text),
-        View::Maps => show_maps(alloc, run, &script_read(rt, &run.config)?, text),
+        View::Maps => show_maps(alloc, Form::Text, run, &script_read(rt, &run.config)?, text),
+        View::Json => show_maps(alloc, Form::Json, run, &script_read(rt, &run.config)?, text),
         View::Check => show_faults(rt, asked, text),
     }
 }

@@ -5,6 +5,7 @@ ghost use Rattle.mcmap.specs.Played.{IsChartOf, IsShown, LeadTo};
 ghost use Rattle.mc_script.specs.Command.{IsValid};
 
 use crate::fault::Fault;
+use crate::json::write_json;
 use mc_map::{ClassTable, Command, Player, Script};
 use mc_options::Run;
 use mc_picture::{class_rows, write_chart, write_classes, write_map};
@@ -18,13 +19,26 @@ pub fn show_classes(alloc: Global, run: &Run, text: &mut String) -> Result<(), F
     Ok(())
 }
 
+/// How maps are shown.
+#[derive(Clone, Copy, Debug, PartialEq, Eq)]
+pub enum Form {
+    Text,
+    Json,
+}
+
 /// Shows a map at each mark of the script, and at its end.
-pub fn show_maps(alloc: Global, run: &Run, script: &Script, text: &mut String) -> Result<(), Fault>
+pub fn show_maps(
+    alloc: Global,
+    form: Form,
+    run: &Run,
+    script: &Script,
+    text: &mut String,
+) -> Result<(), Fault>
     requires mode { run.now.automove ≤ 2 }
     requires valid { All IsValid script.now.commands.items }
 {
     let mut player = Player::new(alloc, run)?;
-    let done = play_maps(alloc, &mut player, run, script, text);
+    let done = play_maps(alloc, form, &mut player, run, script, text);
     drop(player);
     done
 }
@@ -32,6 +46,7 @@ pub fn show_maps(alloc: Global, run: &Run, script: &Script, text: &mut String) -
 /// Does all commands, and shows a map at each mark and at the end.
 fn play_maps(
     alloc: Global,
+    form: Form,
     player: &mut Player,
     run: &Run,
     script: &Script,
@@ -46,12 +61,51 @@ fn play_maps(
         let place = (mark.done as usize).min(commands.len()).max(done);
         play_all(player, &commands[done..place])?;
         done = place;
-        let line = mark.line;
-        let heading = format!(in alloc; "at line {line}")?;
-        show_map(player, run, &commands[..done], heading.as_str(), text)?;
+        show_form(alloc, form, player, run, &commands[..done], mark.line, text)?;
     }
     play_all(player, &commands[done..])?;
-    show_map(player, run, commands, "at the end", text)
+    show_form(alloc, form, player, run, commands, 0, text)
+}
+
+/// Shows a map in this form. `commands` are those that were done; `line` is that of the mark, or 0 at the end.
+fn show_form(
+    alloc: Global,
+    form: Form,
+    player: &Player,
+    run: &Run,
+    commands: &[Command],
+    line: u64,
+    text: &mut String,
+) -> Result<(), Fault>
+    requires mode { run.now.automove ≤ 2 }
+    requires valid { All IsValid commands.now }
+{
+    if form == Form::Json {
+        return show_json(alloc, player, run, commands, line, text);
+    }
+    if line == 0 {
+        return show_map(player, run, commands, "at the end", text);
+    }
+    let heading = format!(in alloc; "at line {line}")?;
+    show_map(player, run, commands, heading.as_str(), text)
+}
+
+/// Shows a map as JSON.
+fn show_json(
+    alloc: Global,
+    player: &Player,
+    run: &Run,
+    commands: &[Command],
+    line: u64,
+    text: &mut String,
+) -> Result<(), Fault>
+    requires mode { run.now.automove ≤ 2 }
+    requires valid { All IsValid commands.now }
+{
+    let map = player.map(run, commands)?;
+    let written = write_json(alloc, &map, line, text);
+    drop(map);
+    written
 }
 
 /// Shows a map under this heading. `commands` are those that were done.

@@ -1,0 +1,203 @@
+//! A map as JSON: an object in a line.
+use crate::fault::Fault;
+use mc_map::{Blocker, ClassLine, Entry, Hang, Map, Moving, Owner, Totals};
+use serde_json::{Map as Object, Value, put};
+use std::alloc::{AllocError, Global};
+
+/// Adds a map as a line of JSON. `line` is that of its mark, or 0 at the end.
+pub fn write_json(alloc: Global, map: &Map, line: u64, text: &mut String) -> Result<(), Fault> {
+    let value = map_value(alloc, map, line)?;
+    let written = value.to_string(alloc);
+    drop(value);
+    text.push_str(written?.as_str())?;
+    text.push_str("\n")?;
+    Ok(())
+}
+
+/// The map.
+fn map_value(alloc: Global, map: &Map, line: u64) -> Result<Value, AllocError> {
+    let mut object = Object::new(alloc);
+    let built = put_map(alloc, map, line, &mut object);
+    match built {
+        Ok(()) => Ok(Value::Object(object)),
+        Err(full) => Err(full),
+    }
+}
+
+/// Puts what a map has into an object.
+fn put_map(
+    alloc: Global,
+    map: &Map,
+    line: u64,
+    object: &mut Object<String, Value>,
+) -> Result<(), AllocError> {
+    put(object, alloc, "line", Value::from(line))?;
+    put(object, alloc, "done", Value::from(map.done))?;
+    put(object, alloc, "page", Value::from(map.page))?;
+    put(object, alloc, "chunks", Value::from(map.chunks))?;
+    put(object, alloc, "owners", owners_value(alloc, &map.owners)?)?;
+    put(object, alloc, "pool", numbers(alloc, &map.pool)?)?;
+    put(
+        object,
+        alloc,
+        "classes",
+        classes_value(alloc, &map.classes)?,
+    )?;
+    put(object, alloc, "totals", totals_value(alloc, map.totals)?)?;
+    put(object, alloc, "ledger", ledger_value(alloc, &map.ledger)?)?;
+    put(object, alloc, "moving", moving_value(alloc, map.moving)?)?;
+    put(object, alloc, "blockers", hang_value(alloc, &map.hang)?)
+}
+
+/// These numbers by their names.
+fn named(alloc: Global, pairs: &[(&str, u64)]) -> Result<Value, AllocError> {
+    let mut object = Object::new(alloc);
+    for (name, number) in pairs {
+        put(&mut object, alloc, name, Value::from(*number))?;
+    }
+    Ok(Value::Object(object))
+}
+
+/// These numbers in a row.
+fn numbers(alloc: Global, numbers: &[u64]) -> Result<Value, AllocError> {
+    let mut list = Vec::new(alloc);
+    for number in numbers {
+        list.push(Value::from(*number))?;
+    }
+    Ok(Value::Array(list))
+}
+
+/// Who owns each page: null where nobody was given it, 0 for the pool, or a class; two of these where it moves.
+fn owners_value(alloc: Global, owners: &[Owner]) -> Result<Value, AllocError> {
+    let mut list = Vec::new(alloc);
+    for owner in owners {
+        list.push(owner_value(alloc, *owner)?)?;
+    }
+    Ok(Value::Array(list))
+}
+
+/// Who owns a page.
+fn owner_value(alloc: Global, owner: Owner) -> Result<Value, AllocError> {
+    match owner {
+        Owner::Untouched => Ok(Value::Null),
+        Owner::Pool => Ok(Value::from(0u64)),
+        Owner::Class(class) => Ok(Value::from(class)),
+        Owner::Moving { src, dst } => numbers(alloc, &[src, dst]),
+    }
+}
+
+/// The lines of the classes.
+fn classes_value(alloc: Global, lines: &[ClassLine]) -> Result<Value, AllocError> {
+    let mut list = Vec::new(alloc);
+    for line in lines {
+        list.push(class_value(alloc, line)?)?;
+    }
+    Ok(Value::Array(list))
+}
+
+/// The line of a class.
+fn class_value(alloc: Global, line: &ClassLine) -> Result<Value, AllocError> {
+    named(
+        alloc,
+        &[
+            ("class", line.class),
+            ("size", line.size),
+            ("per_page", line.per_page),
+            ("pages", line.pages),
+            ("linked", line.linked),
+            ("held", line.held),
+            ("unlinked", line.unlinked),
+            ("dead", line.dead),
+            ("free", line.free),
+            ("cleared", line.cleared),
+            ("asked", line.asked),
+            ("bytes", line.bytes),
+            ("evictions", line.evictions),
+        ],
+    )
+}
+
+/// The numbers of the whole.
+fn totals_value(alloc: Global, totals: Totals) -> Result<Value, AllocError> {
+    named(
+        alloc,
+        &[
+            ("granted", totals.granted),
+            ("pool", totals.pool),
+            ("moved", totals.moved),
+            ("rescues", totals.rescues),
+            ("evictions_nomem", totals.evictions_nomem),
+            ("busy", totals.busy),
+        ],
+    )
+}
+
+/// How pages changed hands.
+fn ledger_value(alloc: Global, ledger: &[Entry]) -> Result<Value, AllocError> {
+    let mut list = Vec::new(alloc);
+    for entry in ledger {
+        list.push(entry_value(alloc, *entry)?)?;
+    }
+    Ok(Value::Array(list))
+}
+
+/// How a page changed hands: what was done to it, and with which classes, of which 0 is the pool.
+fn entry_value(alloc: Global, entry: Entry) -> Result<Value, AllocError> {
+    match entry {
+        Entry::Granted(page, class) => named(alloc, &[("granted", page), ("class", class)]),
+        Entry::Taken(page, class) => named(alloc, &[("taken", page), ("class", class)]),
+        Entry::Began(page, src, dst) => {
+            named(alloc, &[("began", page), ("src", src), ("dst", dst)])
+        }
+        Entry::Ended(page, dst) => named(alloc, &[("ended", page), ("dst", dst)]),
+    }
+}
+
+/// The page on the move, or null.
+fn moving_value(alloc: Global, moving: Option<Moving>) -> Result<Value, AllocError> {
+    match moving {
+        Some(moving) => named(
+            alloc,
+            &[
+                ("page", moving.page),
+                ("src", moving.src),
+                ("dst", moving.dst),
+                ("at", moving.at),
+                ("busy", moving.busy),
+            ],
+        ),
+        None => Ok(Value::Null),
+    }
+}
+
+/// The chunks that hold a move up. It is null where no page moves, or where to find them takes too many looks.
+fn hang_value(alloc: Global, hang: &Hang) -> Result<Value, AllocError> {
+    match hang {
+        Hang::Idle | Hang::Unknown => Ok(Value::Null),
+        Hang::Found(blockers) => blockers_value(alloc, blockers),
+    }
+}
+
+/// The chunks that hold a move up.
+fn blockers_value(alloc: Global, blockers: &[Blocker]) -> Result<Value, AllocError> {
+    let mut list = Vec::new(alloc);
+    for blocker in blockers {
+        list.push(blocker_value(alloc, blocker)?)?;
+    }
+    Ok(Value::Array(list))
+}
+
+/// A chunk that holds a move up.
+fn blocker_value(alloc: Global, blocker: &Blocker) -> Result<Value, AllocError> {
+    let mut object = Object::new(alloc);
+    put(&mut object, alloc, "chunk", Value::from(blocker.chunk))?;
+    put(&mut object, alloc, "key", Value::from(blocker.key))?;
+    put(&mut object, alloc, "linked", Value::from(blocker.linked))?;
+    put(
+        &mut object,
+        alloc,
+        "workers",
+        numbers(alloc, &blocker.workers)?,
+    )?;
+    Ok(Value::Object(object))
+}
