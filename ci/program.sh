@@ -137,7 +137,9 @@ check_options() {
 more
 ROWS
     run_on "$room/refused" --help
-    if [ "$status" -eq 0 ] && [ -s "$room/stdout" ] && [ ! -s "$room/stderr" ]; then
+    # the options, the eight refusals, and the forms of lines
+    if [ "$status" -eq 0 ] && grep -q -- '--stripes <' "$room/stdout" && grep -q '^  8  --bulk ' "$room/stdout" &&
+        grep -q '^  reassign SRC DST ' "$room/stdout" && [ ! -s "$room/stderr" ]; then
         ok "$build: --help"
     else
         bad "$build: --help" "status $status; standard error: $(head -c 300 "$room/stderr")"

@@ -5,9 +5,12 @@
 //! of the mover.
 #![tactic(auto)]
 
+mod help;
+
 ghost use Rattle.std.specs.Prelude.{◌≡◌, ◌<◌, ◌≤◌, IfOk};
 ghost use Rattle.mc_driver.specs.Status.{status_of};
 
+use help::FORMS;
 use mc_classes::{Failures, Fault};
 use mc_driver::{
     Free, Input as Standard, Options, Output, RecordedWriter, RunFault, options, run_serial,
@@ -121,6 +124,12 @@ fn tell(rt: &impl Eprint, fault: RunFault) -> u8
     fault.status()
 }
 
+/// Prints the options, and then what they and a script's lines have to be.
+fn print_help(rt: &impl Print, options: clap::Error) -> io::Result<()> {
+    rt.print(options)?;
+    rt.print(FORMS)
+}
+
 /// Prints what was asked for or what is wrong, and gives the status to end with.
 fn end(rt: &(impl Print + Eprint), stop: Stop) -> u8 {
     match stop {
@@ -129,7 +138,7 @@ fn end(rt: &(impl Print + Eprint), stop: Stop) -> u8 {
                 let _ = rt.eprint(error);
                 return 1;
             }
-            match rt.print(error) {
+            match print_help(rt, error) {
                 Ok(()) => 0,
                 Err(_) => tell(rt, RunFault::Write),
             }
