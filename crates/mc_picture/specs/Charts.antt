@@ -15,7 +15,7 @@ use Rattle.mc_picture.specs.Moves.{move_text}
 -- why no chart is drawn where entries make no owners
 abbrev pub chart_error_of : misfit.Misfit → ChartError
 chart_error_of misfits.Entry = errors.Misfit
-chart_error_of (misfits.NoMemory refused) = errors.NoMemory
+chart_error_of (misfits.NoMemory refused) = errors.Memory
 
 -- behind the old text stands a chart in which column k shows what the first k entries make of so many untouched pages
 pub record IsChart (pages : ℕ) (entries : List Entry) (old new : List ℕ) : Type 0 where

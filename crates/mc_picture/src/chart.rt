@@ -27,8 +27,8 @@ pub enum ChartError {
     Large,
     /// An entry finds its page otherwise.
     Misfit,
-    /// Memory ran out.
-    NoMemory,
+    /// Memory ran out, as std's strings say by an error that is no evidence.
+    Memory,
 }
 
 impl From<Misfit> for ChartError {
@@ -40,19 +40,19 @@ impl From<Misfit> for ChartError {
     fn from(misfit: Misfit) -> ChartError {
         match misfit {
             Misfit::Entry => ChartError::Misfit,
-            Misfit::NoMemory(_) => ChartError::NoMemory,
+            Misfit::NoMemory(_) => ChartError::Memory,
         }
     }
 }
 
 impl From<AllocError> for ChartError {
     ghost use Rattle.std.specs.Prelude.{◌≡◌};
-    ghost use Rattle.mc_picture.specs.declared.chart.ChartError.TheVariants.{NoMemory};
+    ghost use Rattle.mc_picture.specs.declared.chart.ChartError.TheVariants.{Memory};
 
-    ghost from_gives = { λ full error. error ≡ NoMemory };
+    ghost from_gives = { λ full error. error ≡ Memory };
 
     fn from(_full: AllocError) -> ChartError {
-        ChartError::NoMemory
+        ChartError::Memory
     }
 }
 

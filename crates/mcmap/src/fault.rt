@@ -132,7 +132,7 @@ impl From<ChartError> for Fault {
         match error {
             ChartError::Large => Fault::Chart,
             ChartError::Misfit => Fault::Books,
-            ChartError::NoMemory => Fault::Memory,
+            ChartError::Memory => Fault::Memory,
         }
     }
 }
