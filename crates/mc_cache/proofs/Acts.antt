@@ -1,0 +1,44 @@
+-- What one call does on one shard.
+use Rattle.std.proofs.Common.{◌≡◌, ◌<◌, ◌∙◌, ℕ, List, Ok, Result, ap, arith, get_or, length, refl, set, subst}
+use Rattle.std.proofs.lemmas.Option.{slice_get_read}
+use Rattle.mc_words.specs.declared.arena.Arena.{Arena}
+use Rattle.mc_words.specs.declared.hand.Hand.{Hand}
+use Rattle.mc_byte_items.specs.Hands.{IsIdleHandOf}
+use Rattle.mc_cache.specs.declared.cache.Cache.{Cache}
+use Rattle.mc_cache.specs.Belonging.{hash_in, shard_in}
+use Rattle.mc_cache.specs.Hashing.{hash_of, shard_of}
+use Rattle.mc_cache.specs.Shards.{ActsOnShard, AreIdleHands}
+use Rattle.mc_cache.proofs.Pairs.{pair_set}
+
+-- the hand of a shard is idle
+pub idle_at : (arenas : List Arena) (hands : List Hand) (shard : ℕ) (arena : Arena) (hand : Hand) → AreIdleHands arenas hands → shard < length arenas → IsIdleHandOf (get_or arenas shard arena) (get_or hands shard hand)
+idle_at arenas hands shard arena hand are near = are.each shard arena hand near
+
+-- with another in its place all are idle still
+pub idle_after : (arenas : List Arena) (hands : List Hand) (shard : ℕ) (arena : Arena) (after : Hand) → shard < length arenas → arena ≡ get_or arenas shard arena → IsIdleHandOf arena after → AreIdleHands arenas hands → AreIdleHands arenas (set hands shard after)
+idle_after arenas hands shard arena after near is idle are = pair_set IsIdleHandOf arenas hands shard arena after near is idle are
+
+pub acts : (arenas : List Arena) (hands : List Hand) (shard : ℕ) (arena : Arena) (hand after : Hand) (Does : Arena → Hand → Hand → Type 0) → shard < length arenas → length hands ≡ length arenas
+    → arena ≡ get_or arenas shard arena → hand ≡ get_or hands shard hand → Does arena hand after → ActsOnShard arenas shard Does hands (set hands shard after)
+acts arenas hands shard arena hand after Does near count is_arena is_hand does = record {
+  arena = arena;
+  is_arena = slice_get_read arenas (length arenas) shard arena refl near is_arena;
+  hand = hand;
+  is_hand = slice_get_read hands (length hands) shard hand refl (omega arith) is_hand;
+  after = after;
+  others = refl;
+  does = does;
+}
+
+pub same_ok : {T E : Type 0} (x y : T) → ◌≡◌ {A = Result T E} (Ok x) (Ok y) → x ≡ y
+same_ok x y is = cc
+
+-- a worker's call on the shard of a key, by the parts that its code has
+pub acted : (cache : Cache) (key : List ℕ) (hands : List Hand) (hash shard : ℕ) (arena : Arena) (hand after : Hand) (Does : ℕ → Arena → Hand → Hand → Type 0) → AreIdleHands cache.arenas.items hands → hash ≡ hash_of cache.hashing key
+    → shard ≡ shard_of (length cache.arenas.items) hash → shard < length cache.arenas.items → arena ≡ get_or cache.arenas.items shard arena → hand ≡ get_or hands shard hand → Does hash arena hand after
+    → ActsOnShard cache.arenas.items (shard_in cache key) (Does (hash_in cache key)) hands (set hands shard after)
+acted cache key hands hash shard arena hand after Does are is_hash is_shard near is_arena is_hand does =
+    let same : shard ≡ shard_in cache key = is_shard ∙ ap (shard_of (length cache.arenas.items)) is_hash in
+    let done : Does (hash_in cache key) arena hand after = subst (λ (h : ℕ). Does h arena hand after) is_hash does in
+    subst (λ (s : ℕ). ActsOnShard cache.arenas.items s (Does (hash_in cache key)) hands (set hands shard after)) same
+    (acts cache.arenas.items hands shard arena hand after (Does (hash_in cache key)) near are.count is_arena is_hand done)

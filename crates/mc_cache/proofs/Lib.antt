@@ -1,0 +1,4 @@
+pub mod Pairs
+pub mod Dealt
+pub mod Acts
+pub mod Opened

@@ -1,0 +1,48 @@
+-- The hands of a new arena, and lists to which one comes.
+use Rattle.std.proofs.Common.{◌≡◌, ◌<◌, ◌+◌, ◌-◌, ◌++◌, ◌∷◌, ◌∙◌, [], ℕ, zero, suc, List, ap, arith, get_or, length, length-append, subst, sym, take}
+use Rattle.std.proofs.lemmas.List.{get_or_at, take_at}
+use Rattle.mc_words.specs.declared.arena.Arena.{Arena}
+use Rattle.mc_words.specs.declared.hand.Hand.{Hand}
+use Rattle.mc_words.specs.Arenas.{IsHandOf, view}
+use Rattle.mc_words.specs.Hands.{AreHandsFrom, AreNewHands}
+use Rattle.mc_words.specs.Ready.{IsReady}
+use Rattle.mc_words.specs.View.{View}
+use Rattle.mc_byte_items.specs.Hands.{IsIdleHandOf}
+use Rattle.mc_cache.specs.declared.cache.Worker.{Worker}
+use Rattle.mc_cache.specs.Belonging.{HaveIdleHands}
+use Rattle.mc_cache.specs.Shards.{AreIdleHands, AreIdleHandsOf}
+use Rattle.mc_cache.proofs.Dealt.{each_push}
+
+idle_in : (arena : Arena) (number : ℕ) (hands : List Hand) (place : ℕ) (hand : Hand) → AreHandsFrom arena number hands → place < length hands → IsIdleHandOf arena (get_or hands place hand)
+idle_in arena number [] place hand are near = absurd (omega arith)
+idle_in arena number (first ∷ hands) zero hand are near = record { of_arena = are.0.of_arena; ready = are.0.ready; none = ap (λ (v : View). v.row.holdings) are.0.new }
+idle_in arena number (first ∷ hands) (suc place) hand are near = idle_in arena (1 + number) hands place hand are.1 (omega arith)
+
+pub new_hands_are_idle : (arena : Arena) (hands : List Hand) → AreNewHands arena hands → AreIdleHandsOf arena hands
+new_hands_are_idle arena hands are = λ place hand near. idle_in arena 0 hands place hand are.1 near
+
+-- a hand that holds what it held is idle still
+pub stays_idle : (arena : Arena) (hand after : Hand) → IsIdleHandOf arena hand → IsHandOf arena after → IsReady (view after) → (view after).row.holdings ≡ (view hand).row.holdings → IsIdleHandOf arena after
+stays_idle arena hand after idle of ready same = record { of_arena = of; ready = ready; none = same ∙ idle.none }
+
+without_hands : (worker : Worker) → worker.hands.items ≡ [] → AreIdleHands [] worker.hands.items
+without_hands worker none = record { count = ap length none; each = λ place arena hand near. absurd (omega arith) }
+
+-- one worker more, who has no hands, as there are no arenas
+pub one_worker_more : (workers : List Worker) (worker : Worker) → worker.hands.items ≡ [] → HaveIdleHands [] workers → HaveIdleHands [] (workers ++ worker ∷ [])
+one_worker_more workers worker none all = each_push (λ (w : Worker). AreIdleHands [] w.hands.items) workers worker (without_hands worker none) all
+
+-- the last of a list, and those before it
+pub last_of : {A : Type 0} (xs : List A) (x d : A) → get_or (xs ++ x ∷ []) (length (xs ++ x ∷ []) - 1) d ≡ x
+last_of xs x d = get_or_at xs x [] d (length (xs ++ x ∷ []) - 1) (let e : length xs ≡ length (xs ++ x ∷ []) - 1 = omega (arith, length-append xs (x ∷ [])) in e)
+
+pub front_of : {A : Type 0} (xs : List A) (x : A) → take (length (xs ++ x ∷ []) - 1) (xs ++ x ∷ []) ≡ xs
+front_of xs x = take_at xs (x ∷ []) (length (xs ++ x ∷ []) - 1) (let e : length xs ≡ length (xs ++ x ∷ []) - 1 = omega (arith, length-append xs (x ∷ [])) in e)
+
+-- the hands of an arena that came last are of the last of all
+pub own_last : (arenas all : List Arena) (arena : Arena) (hands : List Hand) → all ≡ arenas ++ arena ∷ [] → AreIdleHandsOf arena hands → (last : Arena) → AreIdleHandsOf (get_or all (length all - 1) last) hands
+own_last arenas all arena hands is own last = subst (λ (a : Arena). AreIdleHandsOf a hands) (sym (ap (λ (list : List Arena). get_or list (length list - 1) last) is ∙ last_of arenas arena last)) own
+
+-- and who has hands of those before has hands of all but the last
+pub have_front : (arenas all : List Arena) (arena : Arena) (workers : List Worker) → all ≡ arenas ++ arena ∷ [] → HaveIdleHands arenas workers → HaveIdleHands (take (length all - 1) all) workers
+have_front arenas all arena workers is have = subst (λ (list : List Arena). HaveIdleHands list workers) (sym (ap (λ (list : List Arena). take (length list - 1) list) is ∙ front_of arenas arena)) have

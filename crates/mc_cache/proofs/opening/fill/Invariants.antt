@@ -1,0 +1,10 @@
+use Rattle.std.proofs.Common.{◌≡◌, length}
+use Rattle.mc_cache.specs.Belonging.{HaveIdleHands}
+use Rattle.mc_cache.proofs.opening.fill.Given as goal
+
+abbrev pub invariant-loop : goal.invariant-loop
+invariant-loop g l = record {
+  shards : length l.arenas.items ≡ l.counter;
+  count : length l.workers.items ≡ l.config.workers;
+  hands : HaveIdleHands l.arenas.items l.workers.items;
+}

@@ -1,0 +1,5 @@
+pub mod Hashing
+pub mod Pairs
+pub mod Shards
+pub mod Opening
+pub mod Belonging

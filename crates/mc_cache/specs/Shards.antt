@@ -1,0 +1,77 @@
+-- Hands of the arenas of all shards, and what a call does on one of them.
+use Rattle.std.specs.Prelude.{◌≡◌, ◌≤◌, ℕ, Bool, List, All, length, slice_get, slice_set, Some}
+use Rattle.mc_packing.specs.Packing.{packed}
+use Rattle.mc_words.specs.declared.arena.Arena.{Arena}
+use Rattle.mc_words.specs.declared.hand.Hand.{Hand}
+use Rattle.mc_words.specs.Arenas.{setup_of, view}
+use Rattle.mc_words.specs.Observers.{number_of}
+use Rattle.mc_items.specs.Keeping.{Says, SaysNothing}
+use Rattle.mc_items.specs.OnKeys.{FindsStripeHeld}
+use Rattle.mc_items.specs.Storing.{item_with}
+use Rattle.mc_items.specs.declared.setting.SetError.{SetError}
+use Rattle.mc_byte_items.specs.Finding.{DeletesKey, FindsKey, FindsOther, FindsValue, LosesKey, TouchesKey}
+use Rattle.mc_byte_items.specs.Hands.{IsIdleHandOf}
+use Rattle.mc_byte_items.specs.Setting.{RefusesBytes}
+use Rattle.mc_cache.specs.Pairs.{ArePaired}
+
+-- there is one hand for each arena: an idle one of that arena
+abbrev pub AreIdleHands : List Arena → List Hand → Type 0
+AreIdleHands arenas hands = ArePaired IsIdleHandOf arenas hands
+
+-- each of these hands is an idle one of the arena
+abbrev pub AreIdleHandsOf : Arena → List Hand → Type 0
+AreIdleHandsOf arena hands = All (IsIdleHandOf arena) hands
+
+-- the hand of one shard did this on its arena; the hands of the others are as they were
+pub record ActsOnShard (arenas : List Arena) (shard : ℕ) (Does : Arena → Hand → Hand → Type 0) (before now : List Hand) : Type 0 where
+  pub arena : Arena
+  pub is_arena : slice_get arenas shard ≡ Some arena
+  pub hand : Hand
+  pub is_hand : slice_get before shard ≡ Some hand
+  pub after : Hand
+  pub others : now ≡ slice_set before shard after
+  pub does : Does arena hand after
+
+-- a key has 1 to 250 bytes
+abbrev pub IsKey : List ℕ → Type 0
+IsKey key = (1 ≤ length key) × (length key ≤ 250)
+
+-- the hand stored this value under the key, and said so
+abbrev pub StoresValue : ℕ → List ℕ → List ℕ → Arena → Hand → Hand → Type 0
+StoresValue hash key value arena hand now = (stamp : ℕ) × Says (item_with hash stamp (packed key value)) stamp (view hand) (view now)
+
+-- it was refused to store it
+abbrev pub RefusesValue : ℕ → List ℕ → List ℕ → SetError → Arena → Hand → Hand → Type 0
+RefusesValue hash key value error arena hand now = RefusesBytes (number_of hand) hash (packed key value) error (view hand) (view now)
+
+-- it found the key with this value
+abbrev pub ReadsValue : ℕ → List ℕ → List ℕ → Arena → Hand → Hand → Type 0
+ReadsValue hash key value arena hand now = FindsValue (setup_of arena) hash key value hand × SaysNothing (view hand) (view now)
+
+-- it found the key
+abbrev pub ReadsKey : ℕ → List ℕ → Arena → Hand → Hand → Type 0
+ReadsKey hash key arena hand now = FindsKey (setup_of arena) hash key hand × SaysNothing (view hand) (view now)
+
+-- it found nothing under the hash, or another key
+abbrev pub ReadsOther : ℕ → List ℕ → Arena → Hand → Hand → Type 0
+ReadsOther hash key arena hand now = FindsOther (setup_of arena) hash key hand × SaysNothing (view hand) (view now)
+
+-- it found the key, and deleted it, if it was still there
+abbrev pub DeletesThere : ℕ → List ℕ → Bool → Arena → Hand → Hand → Type 0
+DeletesThere hash key there arena hand now = DeletesKey (setup_of arena) hash key there hand now × SaysNothing (view hand) (view now)
+
+-- it found the key, and touched it
+abbrev pub TouchesThere : ℕ → List ℕ → Arena → Hand → Hand → Type 0
+TouchesThere hash key arena hand now = TouchesKey (setup_of arena) hash key hand now × SaysNothing (view hand) (view now)
+
+-- it found the key, which was gone when it was to be touched
+abbrev pub LosesThere : ℕ → List ℕ → Arena → Hand → Hand → Type 0
+LosesThere hash key arena hand now = LosesKey (setup_of arena) hash key hand now × SaysNothing (view hand) (view now)
+
+-- it said nothing
+abbrev pub SaysNoMore : Arena → Hand → Hand → Type 0
+SaysNoMore arena hand now = SaysNothing (view hand) (view now)
+
+-- it found the lock of the hash's stripe with another hand
+abbrev pub FindsHeld : ℕ → Arena → Hand → Hand → Type 0
+FindsHeld hash arena hand now = FindsStripeHeld (setup_of arena) hash hand now

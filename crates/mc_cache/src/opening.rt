@@ -1,0 +1,187 @@
+//! Caches that are made.
+ghost use Rattle.std.specs.Prelude.{◌≡◌, ◌≤◌, ◌+◌, ◌-◌, ◌++◌, ◌∷◌, [], All, IfErr, IfOk, List, None, OnOk, Some, length, slice_index_or, take, unwrap_or};
+ghost use Rattle.mc_words.specs.declared.arena.Arena.{Arena};
+ghost use Rattle.mc_cache.specs.Belonging.{BelongsTo, HaveIdleHands};
+ghost use Rattle.mc_cache.specs.Opening.{cache_refusal};
+ghost use Rattle.mc_cache.specs.Shards.{AreIdleHandsOf};
+ghost use Rattle.mc_cache.specs.declared.opening.NewError.TheVariants as refused;
+
+use crate::cache::{Cache, Worker};
+use crate::hashing::HashKey;
+use mc_classes::{Config, ConfigError};
+use mc_memory::{Refused, push};
+use mc_mover::forget;
+use mc_words::{Arena, Hand};
+use std::alloc::Global;
+use std::sync::Wait;
+
+/// What a cache is made with.
+#[derive(Clone, Copy)]
+pub struct CacheConfig {
+    /// What each shard's arena is made with.
+    pub arena: Config,
+    /// How many arenas there are, 1 to 4,096.
+    pub shards: u64,
+    /// How many workers, 1 to 63.
+    pub workers: u64,
+}
+
+/// Why no cache was made.
+#[derive(Debug, PartialEq, Eq, Drop)]
+pub enum NewError {
+    /// There are no shards, or more than 4,096.
+    Shards,
+    /// There are no workers, or more than 63.
+    Workers,
+    /// The arenas' configuration is refused.
+    Config(ConfigError),
+    /// Memory was refused.
+    NoMemory(Refused),
+}
+
+/// The tests of the configuration, in their order. Nothing is allocated.
+fn test(config: &CacheConfig) -> Result<(), NewError>
+    ensures accepted { OnOk result (cache_refusal config.now ≡ None) }
+    ensures refused { IfErr result (λ error. cache_refusal config.now ≡ Some error) }
+{
+    if config.shards < 1 || config.shards > 4096 {
+        return Err(NewError::Shards);
+    }
+    if config.workers < 1 || config.workers > 63 {
+        return Err(NewError::Workers);
+    }
+    match config.arena.test() {
+        Ok(()) => Ok(()),
+        Err(error) => Err(NewError::Config(error)),
+    }
+}
+
+impl Cache {
+    /// A cache in which nothing is stored, and its workers. Its arenas keep no history. The configuration is refused by the first of its
+    /// tests that it fails, before anything is allocated. It waits for locks that nobody has yet.
+    pub fn new<R: Wait>(
+        rt: &R,
+        alloc: Global,
+        config: &CacheConfig,
+        hashing: HashKey,
+    ) -> Result<(Cache, Vec<Worker>), NewError>
+        ensures shards { IfOk result (λ made. length made.0.arenas.items ≡ config.now.shards) }
+        ensures workers { IfOk result (λ made. length made.1.items ≡ config.now.workers) }
+        ensures hashing { IfOk result (λ made. made.0.hashing ≡ hashing) }
+        ensures belongs { IfOk result (λ made. All (BelongsTo made.0) made.1.items) }
+        ensures refused { IfErr result (λ error. error ≡ unwrap_or (cache_refusal config.now) (refused.NoMemory tt)) }
+    {
+        if let Err(error) = test(config) {
+            return Err(error);
+        }
+        let mut arenas = Vec::new(alloc);
+        let mut workers = Vec::new(alloc);
+        match fill(rt, alloc, config, &mut arenas, &mut workers) {
+            Ok(()) => Ok((Cache { arenas, hashing }, workers)),
+            Err(refused) => Err(NewError::NoMemory(refused)),
+        }
+    }
+}
+
+// Makes the workers, and then a shard after the other.
+fn fill<R: Wait>(
+    rt: &R,
+    alloc: Global,
+    config: &CacheConfig,
+    arenas: &mut Vec<Arena>,
+    workers: &mut Vec<Worker>,
+) -> Result<(), Refused>
+    requires accepted { cache_refusal config.now ≡ None }
+    requires no_arenas { arenas.old.items ≡ [] }
+    requires no_workers { workers.old.items ≡ [] }
+    ensures shards { OnOk result (length arenas.new.items ≡ config.now.shards) }
+    ensures count { OnOk result (length workers.new.items ≡ config.now.workers) }
+    ensures hands { OnOk result (HaveIdleHands arenas.new.items workers.new.items) }
+{
+    add_workers(alloc, config, workers)?;
+    for _ in 0..config.shards {
+        add_shard(rt, alloc, config, arenas, workers)?;
+    }
+    Ok(())
+}
+
+// As many workers as there are to be, who have no hands yet.
+#[tactic(auto, using(crate::proofs::Opened::one_worker_more))]
+fn add_workers(
+    alloc: Global,
+    config: &CacheConfig,
+    workers: &mut Vec<Worker>,
+) -> Result<(), Refused>
+    requires { workers.old.items ≡ [] }
+    ensures count { OnOk result (length workers.new.items ≡ config.now.workers) }
+    ensures hands { OnOk result (HaveIdleHands [] workers.new.items) }
+{
+    for _ in 0..config.workers {
+        let worker = Worker {
+            hands: Vec::new(alloc),
+            words: Vec::new(alloc),
+            alloc,
+        };
+        push(workers, worker)?;
+    }
+    Ok(())
+}
+
+// One arena more, which keeps no history, and one hand of it more for each worker.
+fn add_shard<R: Wait>(
+    rt: &R,
+    alloc: Global,
+    config: &CacheConfig,
+    arenas: &mut Vec<Arena>,
+    workers: &mut Vec<Worker>,
+) -> Result<(), Refused>
+    requires accepted { cache_refusal config.now ≡ None }
+    requires count { length workers.old.items ≡ config.now.workers }
+    requires hands { HaveIdleHands arenas.old.items workers.old.items }
+    ensures arenas { OnOk result (length arenas.new.items ≡ length arenas.old.items + 1) }
+    ensures count { OnOk result (length workers.new.items ≡ config.now.workers) }
+    ensures hands { OnOk result (HaveIdleHands arenas.new.items workers.new.items) }
+{
+    let (arena, mut hands) = open_arena(rt, alloc, config)?;
+    match push(arenas, arena) {
+        Ok(()) => deal(arenas.as_slice(), workers.as_mut_slice(), &mut hands),
+        Err(refused) => Err(refused),
+    }
+}
+
+// An arena that keeps no history, and its hands.
+fn open_arena<R: Wait>(
+    rt: &R,
+    alloc: Global,
+    config: &CacheConfig,
+) -> Result<(Arena, Vec<Hand>), Refused>
+    requires { cache_refusal config.now ≡ None }
+    ensures count { IfOk result (λ made. length made.1.items ≡ config.now.workers) }
+    ensures hands { IfOk result (λ made. AreIdleHandsOf made.0 made.1.items) }
+{
+    match Arena::new(alloc, &config.arena, config.workers) {
+        Ok((arena, mut hands)) => {
+            forget(rt, &arena, &mut hands[0]);
+            Ok((arena, hands))
+        }
+        Err(mc_words::NewError::NoMemory(refused)) => Err(refused),
+        Err(_) => unreachable!(),
+    }
+}
+
+// A hand of the last arena for each worker, behind those of the arenas before.
+fn deal(arenas: &[Arena], workers: &mut [Worker], hands: &mut Vec<Hand>) -> Result<(), Refused>
+    requires some { 1 ≤ length arenas.now }
+    requires enough { length workers.old ≤ length hands.old.items }
+    requires own { (last : Arena) → AreIdleHandsOf (slice_index_or arenas.now (length arenas.now - 1) last) hands.old.items }
+    requires workers { HaveIdleHands (take (length arenas.now - 1) arenas.now) workers.old }
+    ensures { OnOk result (HaveIdleHands arenas.now workers.new) }
+{
+    for worker in workers.iter_mut() {
+        let Some(hand) = hands.pop() else {
+            unreachable!();
+        };
+        push(&mut worker.hands, hand)?;
+    }
+    Ok(())
+}

@@ -1,0 +1,229 @@
+//! The calls of a worker.
+ghost use Rattle.std.specs.Prelude.{◌↔◌, IsTrue};
+ghost use Rattle.mc_cache.specs.Shards.{IsKey};
+
+use crate::cache::{Cache, Worker};
+use mc_memory::Refused;
+use std::sync::Wait;
+
+/// Why a set was refused.
+#[derive(Debug, PartialEq, Eq, Drop)]
+pub enum SetError {
+    /// The key has no byte, or more than 250. Nothing was done.
+    KeyLength,
+    /// The value has more than 16,384 bytes, as no chunk has. Nothing was done.
+    ValueLength,
+    /// The item isn't stored. The key has what it had, unless its item was the one that was evicted.
+    Item(mc_items::SetError),
+}
+
+/// Why another call was refused. The key has what it had.
+#[derive(Debug, PartialEq, Eq, Drop)]
+pub enum CallError {
+    /// The key has no byte, or more than 250. Nothing was done.
+    KeyLength,
+    /// Memory was refused.
+    NoMemory(Refused),
+}
+
+/// Why a get that doesn't wait was refused. The key has what it had.
+#[derive(Debug, PartialEq, Eq, Drop)]
+pub enum TryGetError {
+    /// The key has no byte, or more than 250. Nothing was done.
+    KeyLength,
+    /// Memory was refused.
+    NoMemory(Refused),
+    /// Another hand has the lock.
+    Held,
+}
+
+/// Whether the bytes may be a key: there are 1 to 250. (memcached's `KEY_MAX_LENGTH`)
+fn is_key(key: &[u8]) -> bool
+    ensures { IsTrue result ↔ IsKey key.now }
+{
+    !key.is_empty() && key.len() <= 250
+}
+
+impl Worker {
+    ghost use Rattle.std.specs.Prelude.{◌≡◌, ◌<◌, ◌↔◌, ◌++◌, ◌⊎◌, Err, List, Ok, OnErr, OnOk, ℕ, false, length, true};
+    ghost use Rattle.mc_items.specs.declared.setting.SetError as items;
+    ghost use Rattle.mc_cache.specs.Belonging.{ActsOnKey, BelongsTo, KeepsHands, hash_in};
+    ghost use Rattle.mc_cache.specs.Shards.{DeletesThere, FindsHeld, IsKey, LosesThere, ReadsKey, ReadsOther, ReadsValue, RefusesValue, SaysNoMore, StoresValue, TouchesThere};
+    ghost use Rattle.mc_cache.specs.declared.working.CallError.TheVariants as call_error;
+    ghost use Rattle.mc_cache.specs.declared.working.SetError.TheVariants as set_error;
+    ghost use Rattle.mc_cache.specs.declared.working.TryGetError.TheVariants as try_error;
+
+    /// Stores the value under the key, in the place of what the key had. An item of another key with the same hash goes, as by an
+    /// eviction. It waits for locks of the key's shard. (memcached's `set`)
+    pub fn set<R: Wait>(
+        &mut self,
+        rt: &R,
+        cache: &Cache,
+        key: &[u8],
+        value: &[u8],
+    ) -> Result<(), SetError>
+        requires { BelongsTo cache.now self.old }
+        ensures belongs { BelongsTo cache.now self.new }
+        ensures key { (result ≡ Err set_error.KeyLength) ↔ ¬ IsKey key.now }
+        ensures value { (result ≡ Err set_error.ValueLength) ↔ IsKey key.now × (16384 < length value.now) }
+        ensures same { ¬ IsKey key.now ⊎ (16384 < length value.now) → KeepsHands self.old self.new }
+        ensures stores { OnOk result (ActsOnKey cache.now key.now (StoresValue (hash_in cache.now key.now) key.now value.now) self.old self.new) }
+        ensures refused { (error : items.SetError) → result ≡ Err (set_error.Item error) → ActsOnKey cache.now key.now (RefusesValue (hash_in cache.now key.now) key.now value.now error) self.old self.new }
+    {
+        if !is_key(key) {
+            return Err(SetError::KeyLength);
+        }
+        if value.len() > 16_384 {
+            return Err(SetError::ValueLength);
+        }
+        let hash = cache.hash(key);
+        let shard = cache.shard(hash);
+        let arena = &cache.arenas[shard];
+        let hand = &mut self.hands[shard];
+        match mc_byte_items::set(rt, arena, hand, hash, key, value, &mut self.words) {
+            Ok(_stamp) => Ok(()),
+            Err(error) => Err(SetError::Item(error)),
+        }
+    }
+
+    /// Puts the key's value behind the bytes that are there, and says whether the key has one. Where it has none, or the call is
+    /// refused, the bytes stay. The item's words are copied once before, into a vector of their own. It waits for a lock of the key's
+    /// shard. (memcached's `get`)
+    pub fn get<R: Wait>(
+        &mut self,
+        rt: &R,
+        cache: &Cache,
+        key: &[u8],
+        into: &mut Vec<u8>,
+    ) -> Result<bool, CallError>
+        requires { BelongsTo cache.now self.old }
+        ensures belongs { BelongsTo cache.now self.new }
+        ensures key { (result ≡ Err call_error.KeyLength) ↔ ¬ IsKey key.now }
+        ensures same { result ≡ Err call_error.KeyLength → KeepsHands self.old self.new }
+        ensures value { result ≡ Ok true → (value : List ℕ) × ActsOnKey cache.now key.now (ReadsValue (hash_in cache.now key.now) key.now value) self.old self.new × (into.new.items ≡ into.old.items ++ value) }
+        ensures none { result ≡ Ok false → ActsOnKey cache.now key.now (ReadsOther (hash_in cache.now key.now) key.now) self.old self.new }
+        ensures kept { (result ≡ Ok true → ⊥) → into.new.items ≡ into.old.items }
+        ensures refused { OnErr result (IsKey key.now → ActsOnKey cache.now key.now SaysNoMore self.old self.new) }
+    {
+        if !is_key(key) {
+            return Err(CallError::KeyLength);
+        }
+        let hash = cache.hash(key);
+        let shard = cache.shard(hash);
+        let arena = &cache.arenas[shard];
+        let hand = &mut self.hands[shard];
+        match mc_byte_items::get(rt, self.alloc, arena, hand, hash, key, into) {
+            Ok(found) => Ok(found),
+            Err(refused) => Err(CallError::NoMemory(refused)),
+        }
+    }
+
+    /// The same as `get`, but refused where another hand has the lock that it wants. It doesn't wait. (own)
+    pub fn try_get(
+        &mut self,
+        cache: &Cache,
+        key: &[u8],
+        into: &mut Vec<u8>,
+    ) -> Result<bool, TryGetError>
+        requires { BelongsTo cache.now self.old }
+        ensures belongs { BelongsTo cache.now self.new }
+        ensures key { (result ≡ Err try_error.KeyLength) ↔ ¬ IsKey key.now }
+        ensures same { result ≡ Err try_error.KeyLength → KeepsHands self.old self.new }
+        ensures value { result ≡ Ok true → (value : List ℕ) × ActsOnKey cache.now key.now (ReadsValue (hash_in cache.now key.now) key.now value) self.old self.new × (into.new.items ≡ into.old.items ++ value) }
+        ensures none { result ≡ Ok false → ActsOnKey cache.now key.now (ReadsOther (hash_in cache.now key.now) key.now) self.old self.new }
+        ensures kept { (result ≡ Ok true → ⊥) → into.new.items ≡ into.old.items }
+        ensures held { result ≡ Err try_error.Held → ActsOnKey cache.now key.now (FindsHeld (hash_in cache.now key.now)) self.old self.new }
+        ensures refused { OnErr result (IsKey key.now → ActsOnKey cache.now key.now SaysNoMore self.old self.new) }
+    {
+        if !is_key(key) {
+            return Err(TryGetError::KeyLength);
+        }
+        let hash = cache.hash(key);
+        let shard = cache.shard(hash);
+        let arena = &cache.arenas[shard];
+        let hand = &mut self.hands[shard];
+        match mc_byte_items::try_get(self.alloc, arena, hand, hash, key, into) {
+            Ok(found) => Ok(found),
+            Err(mc_byte_items::TryGetError::NoMemory(refused)) => {
+                Err(TryGetError::NoMemory(refused))
+            }
+            Err(mc_byte_items::TryGetError::Held) => Err(TryGetError::Held),
+        }
+    }
+
+    /// Whether the key has a value. It waits for a lock of the key's shard.
+    pub fn contains<R: Wait>(
+        &mut self,
+        rt: &R,
+        cache: &Cache,
+        key: &[u8],
+    ) -> Result<bool, CallError>
+        requires { BelongsTo cache.now self.old }
+        ensures belongs { BelongsTo cache.now self.new }
+        ensures key { (result ≡ Err call_error.KeyLength) ↔ ¬ IsKey key.now }
+        ensures same { result ≡ Err call_error.KeyLength → KeepsHands self.old self.new }
+        ensures there { result ≡ Ok true → ActsOnKey cache.now key.now (ReadsKey (hash_in cache.now key.now) key.now) self.old self.new }
+        ensures none { result ≡ Ok false → ActsOnKey cache.now key.now (ReadsOther (hash_in cache.now key.now) key.now) self.old self.new }
+        ensures refused { OnErr result (IsKey key.now → ActsOnKey cache.now key.now SaysNoMore self.old self.new) }
+    {
+        if !is_key(key) {
+            return Err(CallError::KeyLength);
+        }
+        let hash = cache.hash(key);
+        let shard = cache.shard(hash);
+        let arena = &cache.arenas[shard];
+        let hand = &mut self.hands[shard];
+        match mc_byte_items::contains(rt, self.alloc, arena, hand, hash, key) {
+            Ok(there) => Ok(there),
+            Err(refused) => Err(CallError::NoMemory(refused)),
+        }
+    }
+
+    /// Deletes the key, and says whether it had a value. An item of another key with the same hash stays; where one is stored between the
+    /// look and the delete it goes, as by an eviction. It waits for a lock of the key's shard. (memcached's `delete`)
+    pub fn delete<R: Wait>(&mut self, rt: &R, cache: &Cache, key: &[u8]) -> Result<bool, CallError>
+        requires { BelongsTo cache.now self.old }
+        ensures belongs { BelongsTo cache.now self.new }
+        ensures key { (result ≡ Err call_error.KeyLength) ↔ ¬ IsKey key.now }
+        ensures same { result ≡ Err call_error.KeyLength → KeepsHands self.old self.new }
+        ensures deletes { result ≡ Ok true → ActsOnKey cache.now key.now (DeletesThere (hash_in cache.now key.now) key.now true) self.old self.new }
+        ensures none { result ≡ Ok false → ActsOnKey cache.now key.now (ReadsOther (hash_in cache.now key.now) key.now) self.old self.new ⊎ ActsOnKey cache.now key.now (DeletesThere (hash_in cache.now key.now) key.now false) self.old self.new }
+        ensures refused { OnErr result (IsKey key.now → ActsOnKey cache.now key.now SaysNoMore self.old self.new) }
+    {
+        if !is_key(key) {
+            return Err(CallError::KeyLength);
+        }
+        let hash = cache.hash(key);
+        let shard = cache.shard(hash);
+        let arena = &cache.arenas[shard];
+        let hand = &mut self.hands[shard];
+        match mc_byte_items::delete(rt, self.alloc, arena, hand, hash, key) {
+            Ok(there) => Ok(there),
+            Err(refused) => Err(CallError::NoMemory(refused)),
+        }
+    }
+
+    /// Makes the key's item the one of its class that is evicted last, and says whether the key has a value. It waits for locks of the
+    /// key's shard. (memcached's `touch`, of which it has the bump and no time)
+    pub fn touch<R: Wait>(&mut self, rt: &R, cache: &Cache, key: &[u8]) -> Result<bool, CallError>
+        requires { BelongsTo cache.now self.old }
+        ensures belongs { BelongsTo cache.now self.new }
+        ensures key { (result ≡ Err call_error.KeyLength) ↔ ¬ IsKey key.now }
+        ensures same { result ≡ Err call_error.KeyLength → KeepsHands self.old self.new }
+        ensures touches { result ≡ Ok true → ActsOnKey cache.now key.now (TouchesThere (hash_in cache.now key.now) key.now) self.old self.new }
+        ensures none { result ≡ Ok false → ActsOnKey cache.now key.now (ReadsOther (hash_in cache.now key.now) key.now) self.old self.new ⊎ ActsOnKey cache.now key.now (LosesThere (hash_in cache.now key.now) key.now) self.old self.new }
+        ensures refused { OnErr result (IsKey key.now → ActsOnKey cache.now key.now SaysNoMore self.old self.new) }
+    {
+        if !is_key(key) {
+            return Err(CallError::KeyLength);
+        }
+        let hash = cache.hash(key);
+        let shard = cache.shard(hash);
+        let arena = &cache.arenas[shard];
+        let hand = &mut self.hands[shard];
+        match mc_byte_items::touch(rt, self.alloc, arena, hand, hash, key) {
+            Ok(there) => Ok(there),
+            Err(refused) => Err(CallError::NoMemory(refused)),
+        }
+    }
+}
