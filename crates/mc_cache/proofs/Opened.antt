@@ -1,15 +1,16 @@
 -- The hands of a new arena, and lists to which one comes.
-use Rattle.std.proofs.Common.{◌≡◌, ◌<◌, ◌+◌, ◌-◌, ◌++◌, ◌∷◌, ◌∙◌, [], ℕ, zero, suc, List, ap, arith, get_or, length, length-append, subst, sym, take}
+use Rattle.std.proofs.Common.{◌≡◌, ◌<◌, ◌+◌, ◌-◌, ◌++◌, ◌∷◌, ◌∙◌, [], ℕ, zero, suc, All, Err, List, Ok, OnOk, Result, ap, arith, get_or, length, length-append, subst, sym, take}
 use Rattle.std.proofs.lemmas.List.{get_or_at, take_at}
 use Rattle.mc_words.specs.declared.arena.Arena.{Arena}
 use Rattle.mc_words.specs.declared.hand.Hand.{Hand}
 use Rattle.mc_words.specs.Arenas.{IsHandOf, view}
-use Rattle.mc_words.specs.Hands.{AreHandsFrom, AreNewHands}
+use Rattle.mc_words.specs.Hands.{AreHandsFrom, AreNewHands, IsNewHand}
 use Rattle.mc_words.specs.Ready.{IsReady}
 use Rattle.mc_words.specs.View.{View}
 use Rattle.mc_byte_items.specs.Hands.{IsIdleHandOf}
 use Rattle.mc_cache.specs.declared.cache.Worker.{Worker}
 use Rattle.mc_cache.specs.Belonging.{HaveIdleHands}
+use Rattle.mc_cache.specs.Opening.{KeepsNoHistory}
 use Rattle.mc_cache.specs.Shards.{AreIdleHands, AreIdleHandsOf}
 use Rattle.mc_cache.proofs.Dealt.{each_push}
 
@@ -20,6 +21,10 @@ idle_in arena number (first ∷ hands) (suc place) hand are near = idle_in arena
 
 pub new_hands_are_idle : (arena : Arena) (hands : List Hand) → AreNewHands arena hands → AreIdleHandsOf arena hands
 new_hands_are_idle arena hands are = λ place hand near. idle_in arena 0 hands place hand are.1 near
+
+pub first_is_new : (arena : Arena) (hands : List Hand) (hand : Hand) → AreNewHands arena hands → 0 < length hands → IsNewHand arena 0 (get_or hands 0 hand)
+first_is_new arena [] hand are some = absurd (omega arith)
+first_is_new arena (first ∷ hands) hand are some = are.1.0
 
 -- a hand that holds what it held is idle still
 pub stays_idle : (arena : Arena) (hand after : Hand) → IsIdleHandOf arena hand → IsHandOf arena after → IsReady (view after) → (view after).row.holdings ≡ (view hand).row.holdings → IsIdleHandOf arena after
@@ -46,3 +51,11 @@ own_last arenas all arena hands is own last = subst (λ (a : Arena). AreIdleHand
 -- and who has hands of those before has hands of all but the last
 pub have_front : (arenas all : List Arena) (arena : Arena) (workers : List Worker) → all ≡ arenas ++ arena ∷ [] → HaveIdleHands arenas workers → HaveIdleHands (take (length all - 1) all) workers
 have_front arenas all arena workers is have = subst (λ (list : List Arena). HaveIdleHands list workers) (sym (ap (λ (list : List Arena). take (length list - 1) list) is ∙ front_of arenas arena)) have
+
+-- one arena more that keeps no history
+pub one_arena_more : {T E : Type 0} (result : Result T E) (arenas all : List Arena) (arena : Arena) → all ≡ arenas ++ arena ∷ [] → KeepsNoHistory arena → All KeepsNoHistory arenas → OnOk result (All KeepsNoHistory all)
+one_arena_more (Ok value) arenas all arena is own none = subst (All KeepsNoHistory) (sym is) (each_push KeepsNoHistory arenas arena own none)
+one_arena_more (Err error) arenas all arena is own none = tt
+
+pub no_arenas : (arenas : List Arena) → arenas ≡ [] → All KeepsNoHistory arenas
+no_arenas arenas none = λ place arena near. absurd (omega (arith, ap length none))

@@ -1,7 +1,15 @@
--- Which caches are refused.
+-- Which caches are refused, and what is so of the arenas of a new one.
 use Rattle.std.specs.Prelude.{not, if◌then◌else◌, Option, Some}
+use Rattle.std.specs.List.{range_with_len}
 use Rattle.std.specs.Option.{option_map}
 use Rattle.mc_classes.specs.Refusals.{is_between, refusal_of}
+use Rattle.mc_core.specs.declared.event.StripeChange.TheVariants.{Forget}
+use Rattle.mc_words.specs.declared.arena.Arena.{Arena}
+use Rattle.mc_words.specs.declared.hand.Hand.{Hand}
+use Rattle.mc_words.specs.Arenas.{setup_of, view}
+use Rattle.mc_words.specs.Hands.{IsNewHand}
+use Rattle.mc_words.specs.Observers.{number_of}
+use Rattle.mc_mover.specs.Recording.{ChangesEach}
 use Rattle.mc_cache.specs.declared.opening.CacheConfig.{CacheConfig}
 use Rattle.mc_cache.specs.declared.opening.NewError.{NewError}
 use Rattle.mc_cache.specs.declared.opening.NewError.TheVariants.{Shards, Workers, Config}
@@ -12,3 +20,10 @@ cache_refusal config =
     if not (is_between 1 4096 config.shards) then Some Shards
     else if not (is_between 1 63 config.workers) then Some Workers
     else option_map (λ error. Config error) (refusal_of config.arena)
+
+-- the first thing that the arena's first hand did was to forget the history of each stripe
+pub record KeepsNoHistory (arena : Arena) : Type 0 where
+  pub hand : Hand
+  pub new : IsNewHand arena 0 hand
+  pub after : Hand
+  pub forgets : ChangesEach Forget (number_of hand) (range_with_len 0 (setup_of arena).config.stripes) (view hand) (view after)

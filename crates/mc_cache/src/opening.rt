@@ -2,7 +2,7 @@
 ghost use Rattle.std.specs.Prelude.{◌≡◌, ◌≤◌, ◌+◌, ◌-◌, ◌++◌, ◌∷◌, [], All, IfErr, IfOk, List, None, OnOk, Some, length, slice_index_or, take, unwrap_or};
 ghost use Rattle.mc_words.specs.declared.arena.Arena.{Arena};
 ghost use Rattle.mc_cache.specs.Belonging.{BelongsTo, HaveIdleHands};
-ghost use Rattle.mc_cache.specs.Opening.{cache_refusal};
+ghost use Rattle.mc_cache.specs.Opening.{KeepsNoHistory, cache_refusal};
 ghost use Rattle.mc_cache.specs.Shards.{AreIdleHandsOf};
 ghost use Rattle.mc_cache.specs.declared.opening.NewError.TheVariants as refused;
 
@@ -69,6 +69,7 @@ impl Cache {
         ensures workers { IfOk result (λ made. length made.1.items ≡ config.now.workers) }
         ensures hashing { IfOk result (λ made. made.0.hashing ≡ hashing) }
         ensures belongs { IfOk result (λ made. All (BelongsTo made.0) made.1.items) }
+        ensures history { IfOk result (λ made. All KeepsNoHistory made.0.arenas.items) }
         ensures refused { IfErr result (λ error. error ≡ unwrap_or (cache_refusal config.now) (refused.NoMemory tt)) }
     {
         if let Err(error) = test(config) {
@@ -84,6 +85,7 @@ impl Cache {
 }
 
 // Makes the workers, and then a shard after the other.
+#[tactic(auto, using(crate::proofs::Opened::no_arenas))]
 fn fill<R: Wait>(
     rt: &R,
     alloc: Global,
@@ -97,6 +99,7 @@ fn fill<R: Wait>(
     ensures shards { OnOk result (length arenas.new.items ≡ config.now.shards) }
     ensures count { OnOk result (length workers.new.items ≡ config.now.workers) }
     ensures hands { OnOk result (HaveIdleHands arenas.new.items workers.new.items) }
+    ensures history { OnOk result (All KeepsNoHistory arenas.new.items) }
 {
     add_workers(alloc, config, workers)?;
     for _ in 0..config.shards {
@@ -138,9 +141,11 @@ fn add_shard<R: Wait>(
     requires accepted { cache_refusal config.now ≡ None }
     requires count { length workers.old.items ≡ config.now.workers }
     requires hands { HaveIdleHands arenas.old.items workers.old.items }
+    requires history { All KeepsNoHistory arenas.old.items }
     ensures arenas { OnOk result (length arenas.new.items ≡ length arenas.old.items + 1) }
     ensures count { OnOk result (length workers.new.items ≡ config.now.workers) }
     ensures hands { OnOk result (HaveIdleHands arenas.new.items workers.new.items) }
+    ensures history { OnOk result (All KeepsNoHistory arenas.new.items) }
 {
     let (arena, mut hands) = open_arena(rt, alloc, config)?;
     match push(arenas, arena) {
@@ -158,6 +163,7 @@ fn open_arena<R: Wait>(
     requires { cache_refusal config.now ≡ None }
     ensures count { IfOk result (λ made. length made.1.items ≡ config.now.workers) }
     ensures hands { IfOk result (λ made. AreIdleHandsOf made.0 made.1.items) }
+    ensures history { IfOk result (λ made. KeepsNoHistory made.0) }
 {
     match Arena::new(alloc, &config.arena, config.workers) {
         Ok((arena, mut hands)) => {

@@ -4,7 +4,7 @@ use Rattle.std.proofs.lemmas.Result.{on_ok_weaker}
 use Rattle.mc_words.specs.declared.arena.Arena.{Arena}
 use Rattle.mc_cache.specs.declared.cache.Worker.{Worker}
 use Rattle.mc_cache.specs.Belonging.{HaveIdleHands}
-use Rattle.mc_cache.proofs.Opened.{have_front, own_last}
+use Rattle.mc_cache.proofs.Opened.{have_front, one_arena_more, own_last}
 use Rattle.mc_cache.proofs.opening.add_shard.Goals as goal
 
 pub deal-requires-clause-own : goal.deal-requires-clause-own
@@ -23,3 +23,6 @@ returns-in-Ok-clause-hands g c =
     (λ (have : HaveIdleHands c.as_slice.result.now c.deal.new.workers).
     subst (λ (workers : List Worker). HaveIdleHands c.push.new.list.items workers) (sym same) (subst (λ (arenas : List Arena). HaveIdleHands arenas c.deal.new.workers) c.as_slice.ensures.value have))
     c.deal.ensures
+
+pub returns-in-Ok-clause-history : goal.returns-in-Ok-clause-history
+returns-in-Ok-clause-history g c = one_arena_more c.deal.result c.args.arenas.now.items c.push.new.list.items c.in_ok-arena.arena c.in-Ok.ensures.items c.in_ok-arena.ensures.history c.requires.history

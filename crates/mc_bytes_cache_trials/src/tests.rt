@@ -1,0 +1,6 @@
+//! Keys and values that are drawn, threads among them.
+mod collided;
+mod drawn;
+mod made;
+mod threads;
+mod values;

@@ -1,0 +1,73 @@
+//! Drawn calls of one worker: what it finds is what was stored last, and absence is allowed.
+ghost use Rattle.mc_cache.specs.Belonging.{BelongsTo};
+
+use super::made::{HASH_KEY, config_of, next_worker};
+use super::values::{Drawn, KEYS, Known, key_of, value_of};
+use mc_cache::{Cache, Worker};
+use std::alloc::Global;
+use std::sync::Wait;
+use std::test::Fail;
+
+/// How many calls are made.
+const CALLS: u64 = 4000;
+
+/// One drawn call. True if all that was found was right.
+fn act<R: Wait>(
+    rt: &R,
+    alloc: Global,
+    cache: &Cache,
+    worker: &mut Worker,
+    known: &mut Known,
+    call: (u64, u64),
+) -> Result<bool, Fail>
+    requires { BelongsTo cache.now worker.old }
+    ensures { BelongsTo cache.now worker.new }
+{
+    let (drawn, version) = call;
+    let number = drawn / 8 % KEYS;
+    let key = key_of(alloc, number)?;
+    match drawn % 8 {
+        0 | 1 | 2 => {
+            let value = value_of(alloc, number, version)?;
+            if worker.set(rt, cache, &key, &value) == Ok(()) {
+                known.note(number, Some(version));
+            }
+            Ok(true)
+        }
+        3 => {
+            if worker.delete(rt, cache, &key).is_err() {
+                return Ok(true);
+            }
+            known.note(number, None);
+            Ok(worker.contains(rt, cache, &key) != Ok(true))
+        }
+        4 => {
+            let _touched = worker.touch(rt, cache, &key);
+            Ok(true)
+        }
+        _ => {
+            let mut bytes = Vec::new(alloc);
+            match worker.get(rt, cache, &key, &mut bytes) {
+                Ok(true) => Ok(known.is_value(alloc, number, &bytes)?),
+                _ => Ok(bytes.is_empty()),
+            }
+        }
+    }
+}
+
+/// Drawn calls over four shards, of which each has room for a part of its keys.
+#[test]
+fn what_is_there_is_what_was_stored(rt: HostRuntime) -> Result<(), Fail> {
+    let (cache, mut workers) = Cache::new(&rt, rt.alloc(), &config_of(4, 1), HASH_KEY)?;
+    let Some(mut worker) = next_worker(&cache, &mut workers) else {
+        return Err(Fail::new("there is a worker"));
+    };
+    let mut known = Known::new(rt.alloc())?;
+    let mut drawn = Drawn(1);
+    for version in 0..CALLS {
+        let call = (drawn.next(), version);
+        let right = act(&rt, rt.alloc(), &cache, &mut worker, &mut known, call)?;
+        assert!(rt; right, "other bytes were found than were stored");
+    }
+    Ok(())
+}

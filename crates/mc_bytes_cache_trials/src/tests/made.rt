@@ -1,0 +1,79 @@
+//! Caches that are made, and their workers.
+ghost use Rattle.std.specs.Prelude.{All, IfSome};
+ghost use Rattle.mc_cache.specs.Belonging.{BelongsTo};
+
+use mc_cache::{Cache, CacheConfig, HashKey, NewError, Worker};
+use mc_classes::Config;
+use std::sync::Wait;
+use std::test::Fail;
+
+/// Eight pages of 1,024 bytes, and chunks up to a page.
+pub const SMALL: Config = Config {
+    page: 1024,
+    limit: 8192,
+    first: 64,
+    num: 2,
+    den: 1,
+    max: 1024,
+    stripes: 4,
+    bulk: 64,
+};
+
+/// Numbers for the hashes.
+pub const HASH_KEY: HashKey = HashKey {
+    first: 0x0123_4567_89ab_cdef,
+    second: 42,
+};
+
+/// The worker that is left last.
+pub fn next_worker(cache: &Cache, workers: &mut Vec<Worker>) -> Option<Worker>
+    requires { All (BelongsTo cache.now) workers.old.items }
+    ensures workers { All (BelongsTo cache.now) workers.new.items }
+    ensures worker { IfSome result (λ worker. BelongsTo cache.now worker) }
+{
+    if workers.is_empty() {
+        None
+    } else {
+        Some(workers.remove(0))
+    }
+}
+
+/// A configuration of so many shards and workers.
+pub fn config_of(shards: u64, workers: u64) -> CacheConfig {
+    CacheConfig {
+        arena: SMALL,
+        shards,
+        workers,
+    }
+}
+
+/// How a cache of so many shards and workers is refused.
+fn refusal_of<R: Wait + AllocGlobal>(rt: &R, config: &CacheConfig) -> Option<NewError> {
+    Cache::new(rt, rt.alloc(), config, HASH_KEY).err()
+}
+
+/// The numbers of shards and workers are tested first, then the arenas' configuration.
+#[test]
+fn configurations_are_refused(rt: HostRuntime) -> Result<(), Fail> {
+    assert!(rt;
+        refusal_of(&rt, &config_of(0, 0)) == Some(NewError::Shards),
+        "no shards"
+    );
+    assert!(rt;
+        refusal_of(&rt, &config_of(4097, 1)) == Some(NewError::Shards),
+        "4,097 shards"
+    );
+    assert!(rt;
+        refusal_of(&rt, &config_of(1, 0)) == Some(NewError::Workers),
+        "no workers"
+    );
+    assert!(rt;
+        refusal_of(&rt, &config_of(1, 64)) == Some(NewError::Workers),
+        "64 workers"
+    );
+    let mut config = config_of(1, 1);
+    config.arena.page = 63;
+    let wanted = Some(NewError::Config(mc_classes::ConfigError::PageSize));
+    assert!(rt; refusal_of(&rt, &config) == wanted, "a page of 63 bytes");
+    Ok(())
+}

@@ -1,0 +1,92 @@
+//! Threads whose values are a function of their keys: no thread finds another value.
+ghost use Rattle.std.specs.Thread.{IsSync};
+ghost use Rattle.mc_cache.specs.Belonging.{BelongsTo};
+
+use super::made::{HASH_KEY, config_of, next_worker};
+use super::values::{Drawn, KEYS, key_of, value_of};
+use mc_cache::{Cache, Worker};
+use std::alloc::{AllocError, Global};
+use std::sync::Wait;
+use std::test::Fail;
+use std::thread::{Threads, join};
+
+/// How often each thread acts.
+const ROUNDS: u64 = 2000;
+
+/// One drawn call of a thread. False if another value was found than the key's.
+fn act<R: Wait>(
+    rt: &R,
+    alloc: Global,
+    cache: &Cache,
+    worker: &mut Worker,
+    drawn: u64,
+) -> Result<bool, AllocError>
+    requires { BelongsTo cache.now worker.old }
+    ensures { BelongsTo cache.now worker.new }
+{
+    let number = drawn / 8 % KEYS;
+    let key = key_of(alloc, number)?;
+    let value = value_of(alloc, number, 0)?;
+    match drawn % 8 {
+        0 | 1 | 2 => {
+            let _stored = worker.set(rt, cache, &key, &value);
+            Ok(true)
+        }
+        3 => {
+            let _deleted = worker.delete(rt, cache, &key);
+            Ok(true)
+        }
+        4 => {
+            let mut bytes = Vec::new(alloc);
+            let found = worker.try_get(cache, &key, &mut bytes);
+            Ok(found != Ok(true) || bytes.as_slice() == value.as_slice())
+        }
+        _ => {
+            let mut bytes = Vec::new(alloc);
+            let found = worker.get(rt, cache, &key, &mut bytes);
+            Ok(found != Ok(true) || bytes.as_slice() == value.as_slice())
+        }
+    }
+}
+
+/// A thread's rounds: how many found another value, or wanted memory.
+fn work<R: Wait>(rt: &R, alloc: Global, cache: &Cache, worker: Worker, seed: u64) -> u64
+    requires { BelongsTo cache.now worker }
+{
+    let mut worker = worker;
+    let mut drawn = Drawn(seed);
+    let mut wrong = 0;
+    for _ in 0..ROUNDS {
+        match act(rt, alloc, cache, &mut worker, drawn.next()) {
+            Ok(true) => {}
+            _ => wrong += 1,
+        }
+    }
+    wrong
+}
+
+/// Two threads at once over two shards of few pages.
+#[test]
+fn threads_find_their_values(rt: HostRuntime) -> Result<(), Fail> {
+    let (cache, mut workers) = Cache::new(&rt, rt.alloc(), &config_of(2, 2), HASH_KEY)?;
+    let (Some(first), Some(second)) = (
+        next_worker(&cache, &mut workers),
+        next_worker(&cache, &mut workers),
+    ) else {
+        return Err(Fail::new("there are two workers"));
+    };
+    let (one, other) = join(
+        &rt,
+        || -> u64
+            requires { BelongsTo cache first }
+        { work(&rt, rt.alloc(), &cache, first, 1) },
+        || -> u64
+            requires { BelongsTo cache second }
+        { work(&rt, rt.alloc(), &cache, second, 2) },
+    );
+    assert!(rt;
+        one == 0 && other == 0,
+        "another value was found, or memory was wanted"
+    );
+    Ok(())
+}

@@ -1,0 +1,44 @@
+//! A value that is in the cache, or is put there.
+ghost use Rattle.std.specs.Prelude.{◌≡◌, ◌++◌, Ok, List, ℕ};
+ghost use Rattle.mc_cache.specs.Belonging.{ActsOnKey, BelongsTo, hash_in};
+ghost use Rattle.mc_cache.specs.Shards.{ReadsValue};
+ghost use Rattle.mc_cache_clients.specs.declared.remembered.Answer.TheVariants as answer;
+
+use mc_cache::{Cache, CallError, Worker};
+use std::sync::Wait;
+
+/// Where the value came from.
+#[derive(Debug, PartialEq, Eq, Clone, Copy)]
+pub enum Answer {
+    /// The cache had it.
+    Found,
+    /// The cache was given it, if there was room.
+    Made,
+}
+
+/// Puts the key's value behind the bytes that are there: the cache's, or else this one, which the cache is given for the next time.
+pub fn remember<R: Wait>(
+    rt: &R,
+    cache: &Cache,
+    worker: &mut Worker,
+    key: &[u8],
+    value: &[u8],
+    into: &mut Vec<u8>,
+) -> Result<Answer, CallError>
+    requires { BelongsTo cache.now worker.old }
+    ensures belongs { BelongsTo cache.now worker.new }
+    ensures found { result ≡ Ok answer.Found → (found : List ℕ) × ActsOnKey cache.now key.now (ReadsValue (hash_in cache.now key.now) key.now found) worker.old worker.new × (into.new.items ≡ into.old.items ++ found) }
+    ensures made { result ≡ Ok answer.Made → into.new.items ≡ into.old.items ++ value.now }
+{
+    match worker.get(rt, cache, key, into) {
+        Ok(true) => Ok(Answer::Found),
+        Ok(false) => {
+            let _stored = worker.set(rt, cache, key, value); // a refusal leaves the value to the next call
+            match mc_memory::extend_from_slice(into, value) {
+                Ok(()) => Ok(Answer::Made),
+                Err(refused) => Err(CallError::NoMemory(refused)),
+            }
+        }
+        Err(error) => Err(error),
+    }
+}
