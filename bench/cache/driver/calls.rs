@@ -1,0 +1,115 @@
+//! One thread's calls: eight parts that are timed as a whole, and two tenths of which each call is timed by itself.
+use super::trace::{call_of, key_of, Call};
+use super::{Setting, Store};
+use std::time::Instant;
+
+pub const TENTHS: usize = 10;
+pub const PARTS: usize = 8;
+
+/// What the calls of a part found.
+#[derive(Clone, Copy, Default)]
+pub struct Part {
+    pub gets: u64,
+    pub hits: u64,
+    pub sets: u64,
+    pub refused: u64,
+    /// Values that aren't their key's.
+    pub wrong: u64,
+}
+
+/// What a thread found, in nanoseconds.
+#[derive(Default)]
+pub struct Tally {
+    pub parts: [Part; PARTS],
+    pub took: u128,
+    pub longest_get: u128,
+    pub longest_set: u128,
+}
+
+/// What one thread calls with: the bytes of a value begin with its key's.
+struct Caller<'a, S: Store> {
+    store: &'a S,
+    worker: &'a mut S::Worker,
+    value: Vec<u8>,
+    into: Vec<u8>,
+}
+
+impl<'a, S: Store> Caller<'a, S> {
+    fn new(store: &'a S, worker: &'a mut S::Worker, setting: &Setting) -> Caller<'a, S> {
+        let most = setting.sizes[0].max(setting.sizes[1]).max(16);
+        Caller { store, worker, value: vec![7; most], into: Vec::with_capacity(most) }
+    }
+
+    fn set(&mut self, key: &[u8; 16], size: usize) -> bool {
+        self.value[..16].copy_from_slice(key);
+        self.store.set(self.worker, key, &self.value[..size])
+    }
+
+    /// The value stands in `into` then.
+    fn get(&mut self, key: &[u8; 16], touch: bool) -> bool {
+        self.into.clear();
+        self.store.get(self.worker, key, &mut self.into, touch)
+    }
+
+    fn call(&mut self, number: u32, size: usize, part: &mut Part) {
+        let (number, call) = call_of(number);
+        let key = key_of(number);
+        if call == Call::Set {
+            part.sets += 1;
+            part.refused += u64::from(!self.set(&key, size));
+            return;
+        }
+        part.gets += 1;
+        if self.get(&key, call == Call::GetAndTouch) {
+            part.hits += 1;
+            part.wrong += u64::from(!self.into.starts_with(&key));
+        }
+    }
+}
+
+/// Stores each key, the ones that are drawn most often last.
+pub fn fill<S: Store>(store: &S, worker: &mut S::Worker, setting: &Setting) {
+    let mut caller = Caller::new(store, worker, setting);
+    for number in (0..setting.keys).rev() {
+        caller.set(&key_of(number), setting.sizes[0]);
+    }
+}
+
+/// How many keys have a value, and of how many bytes, keys included.
+pub fn held<S: Store>(store: &S, worker: &mut S::Worker, setting: &Setting) -> (u64, u64) {
+    let mut caller = Caller::new(store, worker, setting);
+    let (mut items, mut bytes) = (0, 0);
+    for number in 0..setting.keys {
+        if caller.get(&key_of(number), false) {
+            items += 1;
+            bytes += 16 + caller.into.len() as u64;
+        }
+    }
+    (items, bytes)
+}
+
+/// The thread's calls. What they took is counted from when the first thread started.
+pub fn work<S: Store>(store: &S, mut worker: S::Worker, setting: &Setting, calls: &[u32], started: Instant) -> Tally {
+    let (mut tally, tenth) = (Tally::default(), calls.len() / TENTHS);
+    let mut caller = Caller::new(store, &mut worker, setting);
+    for (place, part) in tally.parts.iter_mut().enumerate() {
+        let size = setting.sizes[usize::from(place >= PARTS / 2)];
+        for number in &calls[place * tenth..][..tenth] {
+            caller.call(*number, size, part);
+        }
+    }
+    tally.took = started.elapsed().as_nanos();
+    time_each(&mut caller, setting.sizes[1], &calls[PARTS * tenth..], &mut tally);
+    tally
+}
+
+/// What the longest get and the longest set took.
+fn time_each<S: Store>(caller: &mut Caller<S>, size: usize, calls: &[u32], tally: &mut Tally) {
+    for number in calls {
+        let started = Instant::now();
+        caller.call(*number, size, &mut Part::default());
+        let took = started.elapsed().as_nanos();
+        let longest = if call_of(*number).1 == Call::Set { &mut tally.longest_set } else { &mut tally.longest_get };
+        *longest = took.max(*longest);
+    }
+}

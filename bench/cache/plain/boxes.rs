@@ -1,0 +1,180 @@
+//! A shard whose values are in boxes, each with its key. All that it takes is counted, as far as it can be known.
+use crate::hashing::Places;
+use crate::order::{Linked, Links, Order};
+use crate::shards::Shard;
+
+struct Entry {
+    hash: u64,
+    links: Links,
+    /// The key's length, the key and the value.
+    bytes: Box<[u8]>,
+}
+
+impl Linked for Entry {
+    fn links(&mut self) -> &mut Links {
+        &mut self.links
+    }
+}
+
+impl Entry {
+    /// The value, if it is of this key.
+    fn value(&self, key: &[u8]) -> Option<&[u8]> {
+        let (length, rest) = self.bytes.split_first()?;
+        let (own, value) = rest.split_at(usize::from(*length));
+        (own == key).then_some(value)
+    }
+}
+
+pub struct Boxes {
+    places: Places,
+    entries: Vec<Entry>,
+    /// From the newest to the one that is evicted next.
+    used: Order,
+    /// The entries that have no box.
+    unused: Order,
+    /// What the boxes take.
+    boxed: usize,
+    limit: usize,
+}
+
+/// What the allocator takes for a box: its own eight bytes more, in steps of 16, and 32 at least (glibc's malloc).
+fn allocated(bytes: usize) -> usize {
+    (bytes + 8).next_multiple_of(16).max(32)
+}
+
+/// What the map takes: a hash, a place and a byte in each bucket, of which one in eight stays free.
+fn bytes_of(places: &Places) -> usize {
+    places.capacity() * 8 / 7 * (size_of::<(u64, u32)>() + 1)
+}
+
+fn write(bytes: &mut [u8], key: &[u8], value: &[u8]) {
+    let (length, rest) = bytes.split_first_mut().expect("a byte for the length");
+    *length = key.len() as u8;
+    let (own, room) = rest.split_at_mut(key.len());
+    own.copy_from_slice(key);
+    room.copy_from_slice(value);
+}
+
+fn boxed(key: &[u8], value: &[u8]) -> Box<[u8]> {
+    let mut bytes = Vec::with_capacity(1 + key.len() + value.len());
+    bytes.push(key.len() as u8);
+    bytes.extend_from_slice(key);
+    bytes.extend_from_slice(value);
+    bytes.into_boxed_slice()
+}
+
+impl Boxes {
+    fn taken(&self) -> usize {
+        self.boxed + self.entries.capacity() * size_of::<Entry>() + bytes_of(&self.places)
+    }
+
+    /// The entry has no box any more.
+    fn empty(&mut self, place: u32) {
+        let entry = &mut self.entries[place as usize];
+        self.boxed -= allocated(entry.bytes.len());
+        entry.bytes = Box::default();
+        self.places.remove(&entry.hash);
+        self.used.take_out(&mut self.entries, place);
+        self.unused.push(&mut self.entries, place);
+    }
+
+    /// Evicts until so many bytes more are within the limit. False where they can't be.
+    fn make_room(&mut self, bytes: usize) -> bool {
+        while self.taken() + bytes > self.limit {
+            let Some(oldest) = self.used.oldest() else {
+                return false;
+            };
+            self.empty(oldest);
+        }
+        true
+    }
+
+    /// An entry without a box, in no list. The entries grow by an eighth, not to take much more than they need.
+    fn entry(&mut self) -> u32 {
+        if let Some(place) = self.unused.pop(&mut self.entries) {
+            return place;
+        }
+        let count = self.entries.len();
+        if count == self.entries.capacity() {
+            self.entries.reserve_exact((count / 8).max(16));
+        }
+        self.entries.push(Entry { hash: 0, links: Links::NONE, bytes: Box::default() });
+        count as u32
+    }
+
+    fn store_new(&mut self, hash: u64, key: &[u8], value: &[u8]) -> bool {
+        let bytes = allocated(1 + key.len() + value.len());
+        if !self.make_room(bytes) {
+            return false;
+        }
+        let place = self.entry();
+        let entry = &mut self.entries[place as usize];
+        entry.hash = hash;
+        entry.bytes = boxed(key, value);
+        self.boxed += bytes;
+        self.used.push(&mut self.entries, place);
+        self.places.insert(hash, place);
+        self.make_room(0)
+    }
+}
+
+impl Shard for Boxes {
+    fn new(limit: usize) -> Boxes {
+        Boxes { places: Places::default(), entries: Vec::new(), used: Order::new(), unused: Order::new(), boxed: 0, limit }
+    }
+
+    fn set(&mut self, hash: u64, key: &[u8], value: &[u8]) -> bool {
+        let Some(&place) = self.places.get(&hash) else {
+            return self.store_new(hash, key, value);
+        };
+        let entry = &mut self.entries[place as usize];
+        if entry.bytes.len() != 1 + key.len() + value.len() {
+            self.empty(place);
+            return self.store_new(hash, key, value);
+        }
+        write(&mut entry.bytes, key, value);
+        self.used.bump(&mut self.entries, place);
+        true
+    }
+
+    fn get(&mut self, hash: u64, key: &[u8], into: &mut Vec<u8>, touch: bool) -> bool {
+        let Some(&place) = self.places.get(&hash) else {
+            return false;
+        };
+        let Some(value) = self.entries[place as usize].value(key) else {
+            return false;
+        };
+        into.extend_from_slice(value);
+        if touch {
+            self.used.bump(&mut self.entries, place);
+        }
+        true
+    }
+}
+
+#[cfg(test)]
+mod tests {
+    use super::{allocated, Boxes};
+    use crate::shards::Shard;
+
+    #[test]
+    fn counts_as_the_allocator_does() {
+        assert_eq!([1, 24, 25, 40, 41].map(allocated), [32, 32, 48, 48, 64]);
+    }
+
+    #[test]
+    fn stays_within_the_limit() {
+        let mut shard = Boxes::new(20_000);
+        for hash in 0..1_000_u64 {
+            let value = vec![7; hash as usize % 500];
+            assert!(shard.set(hash % 300, &hash.to_le_bytes(), &value));
+            assert!(shard.taken() <= 20_000);
+        }
+        assert!(shard.places.len() > 20);
+    }
+
+    #[test]
+    fn refuses_what_has_no_room() {
+        assert!(!Boxes::new(1_000).set(1, b"key", &[0; 1_000]));
+    }
+}

@@ -1,0 +1,66 @@
+//! The hash of a key, and a map by hashes.
+use std::collections::HashMap;
+use std::hash::{BuildHasherDefault, DefaultHasher, Hasher};
+
+/// Two numbers that go before each key.
+#[derive(Clone, Copy)]
+pub struct HashKey {
+    pub first: u64,
+    pub second: u64,
+}
+
+impl HashKey {
+    /// SipHash-1-3 of the two numbers and then of the key.
+    pub fn hash(&self, key: &[u8]) -> u64 {
+        let mut hasher = DefaultHasher::new();
+        hasher.write_u64(self.first);
+        hasher.write_u64(self.second);
+        hasher.write(key);
+        hasher.finish()
+    }
+}
+
+/// Which of so many shards has the keys of this hash: its upper half says so.
+pub fn choose_shard(shards: usize, hash: u64) -> usize {
+    ((hash >> 32) * shards as u64 >> 32) as usize
+}
+
+/// A hash is hashed already. The map's tags are its hashes' uppermost bits, which are alike in all of a shard; so its halves change places.
+#[derive(Default)]
+pub struct Halves(u64);
+
+impl Hasher for Halves {
+    fn finish(&self) -> u64 {
+        self.0
+    }
+
+    fn write(&mut self, _bytes: &[u8]) {
+        unreachable!("only hashes are hashed");
+    }
+
+    fn write_u64(&mut self, hash: u64) {
+        self.0 = hash.rotate_left(32);
+    }
+}
+
+/// The place of each hash.
+pub type Places = HashMap<u64, u32, BuildHasherDefault<Halves>>;
+
+#[cfg(test)]
+mod tests {
+    use super::{choose_shard, HashKey};
+
+    #[test]
+    fn depends_on_each_number() {
+        let hash = |first, second| HashKey { first, second }.hash(b"key");
+        assert_ne!(hash(1, 2), hash(1, 3));
+        assert_ne!(hash(1, 2), hash(3, 2));
+    }
+
+    #[test]
+    fn has_a_shard_for_each_hash() {
+        let shards: Vec<usize> = [0, 1 << 62, 1 << 63, u64::MAX].iter().map(|hash| choose_shard(4, *hash)).collect();
+        assert_eq!(shards, [0, 1, 2, 3]);
+        assert_eq!(choose_shard(1, u64::MAX), 0);
+    }
+}

@@ -1,0 +1,40 @@
+//! A plain cache of slabs whose pages never move: what is lost where the values' sizes change.
+mod driver;
+#[path = "plain/hashing.rs"]
+mod hashing;
+#[path = "plain/order.rs"]
+mod order;
+#[path = "plain/shards.rs"]
+mod shards;
+#[path = "plain/slabs.rs"]
+mod slabs;
+#[cfg(test)]
+#[path = "plain/tests.rs"]
+mod tests;
+
+use shards::Shards;
+use slabs::Slabs;
+
+fn main() {
+    driver::main::<Shards<Slabs>>();
+}
+
+#[cfg(test)]
+mod drawn {
+    use super::Slabs;
+
+    #[test]
+    fn answers_as_a_map_does() {
+        crate::tests::answers_as_a_map_does::<Slabs>();
+    }
+
+    #[test]
+    fn evicts_what_was_used_first() {
+        crate::tests::evicts_what_was_used_first::<Slabs>();
+    }
+
+    #[test]
+    fn takes_the_place_of_another_key() {
+        crate::tests::takes_the_place_of_another_key::<Slabs>();
+    }
+}
