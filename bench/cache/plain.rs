@@ -1,6 +1,8 @@
 //! The best plain sharded cache: a mutex, a hash map and a list in the order of use for each shard, and values in boxes.
 #[path = "plain/boxes.rs"]
 mod boxes;
+#[path = "plain/chains.rs"]
+mod chains;
 mod driver;
 #[path = "plain/hashing.rs"]
 mod hashing;
@@ -34,7 +36,7 @@ mod drawn {
     }
 
     #[test]
-    fn takes_the_place_of_another_key() {
-        crate::tests::takes_the_place_of_another_key::<Boxes>();
+    fn keeps_keys_of_one_hash_apart() {
+        crate::tests::keeps_keys_of_one_hash_apart::<Boxes>();
     }
 }

@@ -1,4 +1,6 @@
 //! A plain cache of slabs whose pages never move: what is lost where the values' sizes change.
+#[path = "plain/chains.rs"]
+mod chains;
 mod driver;
 #[path = "plain/hashing.rs"]
 mod hashing;
@@ -34,7 +36,7 @@ mod drawn {
     }
 
     #[test]
-    fn takes_the_place_of_another_key() {
-        crate::tests::takes_the_place_of_another_key::<Slabs>();
+    fn keeps_keys_of_one_hash_apart() {
+        crate::tests::keeps_keys_of_one_hash_apart::<Slabs>();
     }
 }

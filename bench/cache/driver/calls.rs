@@ -40,9 +40,14 @@ impl<'a, S: Store> Caller<'a, S> {
         Caller { store, worker, value: vec![7; most], into: Vec::with_capacity(most) }
     }
 
+    /// False where it was refused. The key is deleted then, so that nobody finds an old value. (memcached's `process_update_command`)
     fn set(&mut self, key: &[u8; 16], size: usize) -> bool {
         self.value[..16].copy_from_slice(key);
-        self.store.set(self.worker, key, &self.value[..size])
+        let was_stored = self.store.set(self.worker, key, &self.value[..size]);
+        if !was_stored {
+            self.store.delete(self.worker, key);
+        }
+        was_stored
     }
 
     /// The value stands in `into` then.

@@ -27,6 +27,8 @@ pub trait Store: Sized + Sync {
 
     /// Puts the value behind the bytes that are there, and may make it the one that is evicted last. False where the key has none.
     fn get(&self, worker: &mut Self::Worker, key: &[u8], into: &mut Vec<u8>, touch: bool) -> bool;
+
+    fn delete(&self, worker: &mut Self::Worker, key: &[u8]);
 }
 
 /// The numbers of the command line.

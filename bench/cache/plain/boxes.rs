@@ -1,10 +1,11 @@
 //! A shard whose values are in boxes, each with its key. All that it takes is counted, as far as it can be known.
-use crate::hashing::Places;
+use crate::chains::{Chained, Chains};
 use crate::order::{Linked, Links, Order};
 use crate::shards::Shard;
 
 struct Entry {
-    hash: u64,
+    hash: u32,
+    next: u32,
     links: Links,
     /// The key's length, the key and the value.
     bytes: Box<[u8]>,
@@ -16,19 +17,31 @@ impl Linked for Entry {
     }
 }
 
+impl Chained for Entry {
+    fn hash(&self) -> u32 {
+        self.hash
+    }
+
+    fn next(&mut self) -> &mut u32 {
+        &mut self.next
+    }
+}
+
 impl Entry {
-    /// The value, if it is of this key.
-    fn value(&self, key: &[u8]) -> Option<&[u8]> {
-        let (length, rest) = self.bytes.split_first()?;
-        let (own, value) = rest.split_at(usize::from(*length));
-        (own == key).then_some(value)
+    fn is_of(&self, key: &[u8]) -> bool {
+        usize::from(self.bytes[0]) == key.len() && self.bytes[1..].starts_with(key)
+    }
+
+    /// What stands behind a key of this length.
+    fn value(&self, key: usize) -> &[u8] {
+        &self.bytes[1 + key..]
     }
 }
 
 pub struct Boxes {
-    places: Places,
+    chains: Chains,
     entries: Vec<Entry>,
-    /// From the newest to the one that is evicted next.
+    /// Those that have a box. The oldest is evicted next.
     used: Order,
     /// The entries that have no box.
     unused: Order,
@@ -40,11 +53,6 @@ pub struct Boxes {
 /// What the allocator takes for a box: its own eight bytes more, in steps of 16, and 32 at least (glibc's malloc).
 fn allocated(bytes: usize) -> usize {
     (bytes + 8).next_multiple_of(16).max(32)
-}
-
-/// What the map takes: a hash, a place and a byte in each bucket, of which one in eight stays free.
-fn bytes_of(places: &Places) -> usize {
-    places.capacity() * 8 / 7 * (size_of::<(u64, u32)>() + 1)
 }
 
 fn write(bytes: &mut [u8], key: &[u8], value: &[u8]) {
@@ -65,15 +73,19 @@ fn boxed(key: &[u8], value: &[u8]) -> Box<[u8]> {
 
 impl Boxes {
     fn taken(&self) -> usize {
-        self.boxed + self.entries.capacity() * size_of::<Entry>() + bytes_of(&self.places)
+        self.boxed + self.entries.capacity() * size_of::<Entry>() + self.chains.bytes()
+    }
+
+    fn find(&mut self, hash: u32, key: &[u8]) -> Option<u32> {
+        self.chains.find(&mut self.entries, hash, |entry| entry.is_of(key))
     }
 
     /// The entry has no box any more.
     fn empty(&mut self, place: u32) {
+        self.chains.take_out(&mut self.entries, place);
         let entry = &mut self.entries[place as usize];
         self.boxed -= allocated(entry.bytes.len());
         entry.bytes = Box::default();
-        self.places.remove(&entry.hash);
         self.used.take_out(&mut self.entries, place);
         self.unused.push(&mut self.entries, place);
     }
@@ -98,11 +110,11 @@ impl Boxes {
         if count == self.entries.capacity() {
             self.entries.reserve_exact((count / 8).max(16));
         }
-        self.entries.push(Entry { hash: 0, links: Links::NONE, bytes: Box::default() });
+        self.entries.push(Entry { hash: 0, next: 0, links: Links::NONE, bytes: Box::default() });
         count as u32
     }
 
-    fn store_new(&mut self, hash: u64, key: &[u8], value: &[u8]) -> bool {
+    fn store_new(&mut self, hash: u32, key: &[u8], value: &[u8]) -> bool {
         let bytes = allocated(1 + key.len() + value.len());
         if !self.make_room(bytes) {
             return false;
@@ -113,18 +125,18 @@ impl Boxes {
         entry.bytes = boxed(key, value);
         self.boxed += bytes;
         self.used.push(&mut self.entries, place);
-        self.places.insert(hash, place);
+        self.chains.put(&mut self.entries, place);
         self.make_room(0)
     }
 }
 
 impl Shard for Boxes {
     fn new(limit: usize) -> Boxes {
-        Boxes { places: Places::default(), entries: Vec::new(), used: Order::new(), unused: Order::new(), boxed: 0, limit }
+        Boxes { chains: Chains::new(), entries: Vec::new(), used: Order::new(), unused: Order::new(), boxed: 0, limit }
     }
 
-    fn set(&mut self, hash: u64, key: &[u8], value: &[u8]) -> bool {
-        let Some(&place) = self.places.get(&hash) else {
+    fn set(&mut self, hash: u32, key: &[u8], value: &[u8]) -> bool {
+        let Some(place) = self.find(hash, key) else {
             return self.store_new(hash, key, value);
         };
         let entry = &mut self.entries[place as usize];
@@ -137,18 +149,21 @@ impl Shard for Boxes {
         true
     }
 
-    fn get(&mut self, hash: u64, key: &[u8], into: &mut Vec<u8>, touch: bool) -> bool {
-        let Some(&place) = self.places.get(&hash) else {
+    fn get(&mut self, hash: u32, key: &[u8], into: &mut Vec<u8>, touch: bool) -> bool {
+        let Some(place) = self.find(hash, key) else {
             return false;
         };
-        let Some(value) = self.entries[place as usize].value(key) else {
-            return false;
-        };
-        into.extend_from_slice(value);
+        into.extend_from_slice(self.entries[place as usize].value(key.len()));
         if touch {
             self.used.bump(&mut self.entries, place);
         }
         true
+    }
+
+    fn delete(&mut self, hash: u32, key: &[u8]) {
+        if let Some(place) = self.find(hash, key) {
+            self.empty(place);
+        }
     }
 }
 
@@ -165,12 +180,12 @@ mod tests {
     #[test]
     fn stays_within_the_limit() {
         let mut shard = Boxes::new(20_000);
-        for hash in 0..1_000_u64 {
+        for hash in 0..1_000_u32 {
             let value = vec![7; hash as usize % 500];
             assert!(shard.set(hash % 300, &hash.to_le_bytes(), &value));
             assert!(shard.taken() <= 20_000);
         }
-        assert!(shard.places.len() > 20);
+        assert!(shard.chains.count() > 20);
     }
 
     #[test]

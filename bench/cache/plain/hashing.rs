@@ -1,6 +1,5 @@
-//! The hash of a key, and a map by hashes.
-use std::collections::HashMap;
-use std::hash::{BuildHasherDefault, DefaultHasher, Hasher};
+//! The hash of a key, and its shard.
+use std::hash::{DefaultHasher, Hasher};
 
 /// Two numbers that go before each key.
 #[derive(Clone, Copy)]
@@ -24,27 +23,6 @@ impl HashKey {
 pub fn choose_shard(shards: usize, hash: u64) -> usize {
     ((hash >> 32) * shards as u64 >> 32) as usize
 }
-
-/// A hash is hashed already. The map's tags are its hashes' uppermost bits, which are alike in all of a shard; so its halves change places.
-#[derive(Default)]
-pub struct Halves(u64);
-
-impl Hasher for Halves {
-    fn finish(&self) -> u64 {
-        self.0
-    }
-
-    fn write(&mut self, _bytes: &[u8]) {
-        unreachable!("only hashes are hashed");
-    }
-
-    fn write_u64(&mut self, hash: u64) {
-        self.0 = hash.rotate_left(32);
-    }
-}
-
-/// The place of each hash.
-pub type Places = HashMap<u64, u32, BuildHasherDefault<Halves>>;
 
 #[cfg(test)]
 mod tests {

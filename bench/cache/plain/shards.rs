@@ -3,16 +3,19 @@ use crate::driver::{Store, HASH_KEY};
 use crate::hashing::{choose_shard, HashKey};
 use std::sync::Mutex;
 
-/// A cache for one thread at a time, by hashes.
+/// A cache for one thread at a time. It has the lower halves of its keys' hashes; the upper halves chose the shard.
 pub trait Shard: Send {
     /// One that may take so many bytes.
     fn new(limit: usize) -> Self;
 
     /// False where there is no room for such a value.
-    fn set(&mut self, hash: u64, key: &[u8], value: &[u8]) -> bool;
+    fn set(&mut self, hash: u32, key: &[u8], value: &[u8]) -> bool;
 
     /// Puts the value behind the bytes that are there. It may be made the one that is evicted last. False where the key has none.
-    fn get(&mut self, hash: u64, key: &[u8], into: &mut Vec<u8>, touch: bool) -> bool;
+    fn get(&mut self, hash: u32, key: &[u8], into: &mut Vec<u8>, touch: bool) -> bool;
+
+    /// The key has no value any more.
+    fn delete(&mut self, hash: u32, key: &[u8]);
 }
 
 /// So that no two mutexes share a line of the cache, or a pair of lines.
@@ -25,10 +28,10 @@ pub struct Shards<S> {
 }
 
 impl<S: Shard> Shards<S> {
-    fn call<T>(&self, key: &[u8], call: impl FnOnce(&mut S, u64) -> T) -> T {
+    fn call<T>(&self, key: &[u8], call: impl FnOnce(&mut S, u32) -> T) -> T {
         let hash = self.hashing.hash(key);
         let shard = &self.shards[choose_shard(self.shards.len(), hash)];
-        call(&mut shard.0.lock().expect("a thread panicked in the shard"), hash)
+        call(&mut shard.0.lock().expect("a thread panicked in the shard"), hash as u32)
     }
 }
 
@@ -47,6 +50,10 @@ impl<S: Shard> Store for Shards<S> {
 
     fn get(&self, _worker: &mut (), key: &[u8], into: &mut Vec<u8>, touch: bool) -> bool {
         self.call(key, |shard, hash| shard.get(hash, key, into, touch))
+    }
+
+    fn delete(&self, _worker: &mut (), key: &[u8]) {
+        self.call(key, |shard, hash| shard.delete(hash, key));
     }
 }
 

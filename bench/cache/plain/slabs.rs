@@ -1,5 +1,5 @@
 //! A shard whose values are in chunks of some sizes, in pages of which each is cut for one size, and stays so.
-use crate::hashing::Places;
+use crate::chains::{Chained, Chains};
 use crate::order::{Linked, Links, Order};
 use crate::shards::Shard;
 
@@ -9,7 +9,8 @@ const HEADER: usize = size_of::<Header>();
 
 /// What is known of a chunk. It counts as a part of it, as the arena's does.
 struct Header {
-    hash: u64,
+    hash: u32,
+    next: u32,
     links: Links,
     page: u16,
     /// Where the chunk's bytes begin in the page.
@@ -25,6 +26,16 @@ impl Linked for Header {
     }
 }
 
+impl Chained for Header {
+    fn hash(&self) -> u32 {
+        self.hash
+    }
+
+    fn next(&mut self) -> &mut u32 {
+        &mut self.next
+    }
+}
+
 /// The chunks of one size.
 struct Class {
     size: usize,
@@ -33,7 +44,7 @@ struct Class {
 }
 
 pub struct Slabs {
-    places: Places,
+    chains: Chains,
     classes: Vec<Class>,
     headers: Vec<Header>,
     /// The chunks' bytes, without their headers.
@@ -62,20 +73,18 @@ impl Slabs {
         let (page, size) = (self.pages.len() as u16, self.classes[class].size);
         let count = PAGE / size;
         self.pages.push(vec![0; count * (size - HEADER)].into_boxed_slice());
-        self.headers.reserve_exact(count);
         for place in 0..count {
             let begin = (place * (size - HEADER)) as u16;
             let chunk = self.headers.len() as u32;
-            self.headers.push(Header { hash: 0, links: Links::NONE, page, begin, value: 0, key: 0, class: class as u8 });
+            self.headers.push(Header { hash: 0, next: 0, links: Links::NONE, page, begin, value: 0, key: 0, class: class as u8 });
             self.classes[class].free.push(&mut self.headers, chunk);
         }
     }
 
     /// The chunk has no item any more.
     fn empty(&mut self, chunk: u32) {
-        let header = &self.headers[chunk as usize];
-        let class = &mut self.classes[usize::from(header.class)];
-        self.places.remove(&header.hash);
+        self.chains.take_out(&mut self.headers, chunk);
+        let class = &mut self.classes[usize::from(self.headers[chunk as usize].class)];
         class.used.take_out(&mut self.headers, chunk);
         class.free.push(&mut self.headers, chunk);
     }
@@ -92,15 +101,20 @@ impl Slabs {
         self.classes[class].free.pop(&mut self.headers)
     }
 
-    /// The key's bytes and the value's.
-    fn item(&self, chunk: u32) -> (&[u8], &[u8]) {
-        let header = &self.headers[chunk as usize];
-        let bytes = &self.pages[usize::from(header.page)][usize::from(header.begin)..];
-        let (key, rest) = bytes.split_at(usize::from(header.key));
-        (key, &rest[..usize::from(header.value)])
+    fn find(&mut self, hash: u32, key: &[u8]) -> Option<u32> {
+        let pages = &self.pages;
+        self.chains.find(&mut self.headers, hash, |header| {
+            usize::from(header.key) == key.len() && pages[usize::from(header.page)][usize::from(header.begin)..].starts_with(key)
+        })
     }
 
-    fn write(&mut self, chunk: u32, hash: u64, key: &[u8], value: &[u8]) {
+    fn value(&self, chunk: u32) -> &[u8] {
+        let header = &self.headers[chunk as usize];
+        let begin = usize::from(header.begin) + usize::from(header.key);
+        &self.pages[usize::from(header.page)][begin..][..usize::from(header.value)]
+    }
+
+    fn write(&mut self, chunk: u32, hash: u32, key: &[u8], value: &[u8]) {
         let header = &mut self.headers[chunk as usize];
         (header.hash, header.key, header.value) = (hash, key.len() as u8, value.len() as u16);
         let bytes = &mut self.pages[usize::from(header.page)][usize::from(header.begin)..];
@@ -113,15 +127,15 @@ impl Slabs {
 impl Shard for Slabs {
     fn new(limit: usize) -> Slabs {
         let classes = sizes().into_iter().map(|size| Class { size, used: Order::new(), free: Order::new() }).collect();
-        Slabs { places: Places::default(), classes, headers: Vec::new(), pages: Vec::new(), limit }
+        Slabs { chains: Chains::new(), classes, headers: Vec::with_capacity(limit / FIRST), pages: Vec::new(), limit }
     }
 
     /// Where it is refused, the key has what it had.
-    fn set(&mut self, hash: u64, key: &[u8], value: &[u8]) -> bool {
+    fn set(&mut self, hash: u32, key: &[u8], value: &[u8]) -> bool {
         let Some(class) = self.class_for(key.len() + value.len()) else {
             return false;
         };
-        let old = self.places.get(&hash).copied();
+        let old = self.find(hash, key);
         if let Some(chunk) = old.filter(|chunk| usize::from(self.headers[*chunk as usize].class) == class) {
             self.write(chunk, hash, key, value);
             self.classes[class].used.bump(&mut self.headers, chunk);
@@ -135,24 +149,26 @@ impl Shard for Slabs {
         }
         self.write(chunk, hash, key, value);
         self.classes[class].used.push(&mut self.headers, chunk);
-        self.places.insert(hash, chunk);
+        self.chains.put(&mut self.headers, chunk);
         true
     }
 
-    fn get(&mut self, hash: u64, key: &[u8], into: &mut Vec<u8>, touch: bool) -> bool {
-        let Some(&chunk) = self.places.get(&hash) else {
+    fn get(&mut self, hash: u32, key: &[u8], into: &mut Vec<u8>, touch: bool) -> bool {
+        let Some(chunk) = self.find(hash, key) else {
             return false;
         };
-        let (own, value) = self.item(chunk);
-        if own != key {
-            return false;
-        }
-        into.extend_from_slice(value);
+        into.extend_from_slice(self.value(chunk));
         if touch {
             let class = usize::from(self.headers[chunk as usize].class);
             self.classes[class].used.bump(&mut self.headers, chunk);
         }
         true
+    }
+
+    fn delete(&mut self, hash: u32, key: &[u8]) {
+        if let Some(chunk) = self.find(hash, key) {
+            self.empty(chunk);
+        }
     }
 }
 
@@ -171,12 +187,12 @@ mod tests {
     #[test]
     fn has_no_page_for_other_sizes_when_all_are_cut() {
         let mut shard = Slabs::new(2 * PAGE);
-        for hash in 0..1_000_u64 {
+        for hash in 0..1_000_u32 {
             assert!(shard.set(hash, &hash.to_le_bytes(), &[7; 8]));
         }
-        assert_eq!(shard.places.len(), 512);
-        assert!(!shard.set(999, &999_u64.to_le_bytes(), &[7; 1_000]));
-        assert!(shard.get(999, &999_u64.to_le_bytes(), &mut Vec::new(), false));
+        assert_eq!(shard.chains.count(), 512);
+        assert!(!shard.set(999, &999_u32.to_le_bytes(), &[7; 1_000]));
+        assert!(shard.get(999, &999_u32.to_le_bytes(), &mut Vec::new(), false));
     }
 
     #[test]
@@ -186,6 +202,6 @@ mod tests {
         let mut value = Vec::new();
         assert!(shard.get(1, b"key", &mut value, true));
         assert_eq!(value, [8; 100]);
-        assert_eq!(shard.places.len(), 1);
+        assert_eq!(shard.chains.count(), 1);
     }
 }

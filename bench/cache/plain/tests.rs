@@ -9,7 +9,10 @@ pub fn answers_as_a_map_does<S: Shard>() {
     let (mut model, mut numbers, mut found) = (HashMap::new(), Numbers::new(1), 0);
     for _ in 0..200_000 {
         let key = numbers.below(2_000).to_le_bytes();
-        if numbers.below(2) == 0 {
+        if numbers.below(20) == 0 {
+            store.delete(&mut (), &key);
+            model.remove(&key);
+        } else if numbers.below(2) == 0 {
             let value = vec![numbers.below(256) as u8; numbers.below(300) as usize];
             if store.set(&mut (), &key, &value) {
                 model.insert(key, value);
@@ -29,8 +32,8 @@ pub fn answers_as_a_map_does<S: Shard>() {
 /// The key of a get that touches stays longer than the others that were stored with it.
 pub fn evicts_what_was_used_first<S: Shard>() {
     let mut shard = S::new(65_536);
-    let set = |shard: &mut S, hash: u64| assert!(shard.set(hash, &hash.to_le_bytes(), &[7; 100]));
-    let get = |shard: &mut S, hash: u64, touch| shard.get(hash, &hash.to_le_bytes(), &mut Vec::new(), touch);
+    let set = |shard: &mut S, hash: u32| assert!(shard.set(hash, &hash.to_le_bytes(), &[7; 100]));
+    let get = |shard: &mut S, hash: u32, touch| shard.get(hash, &hash.to_le_bytes(), &mut Vec::new(), touch);
     (0..200).for_each(|hash| set(&mut shard, hash));
     assert!(get(&mut shard, 0, true) && get(&mut shard, 1, false));
     let mut hash = 200;
@@ -41,11 +44,12 @@ pub fn evicts_what_was_used_first<S: Shard>() {
     assert!(get(&mut shard, 0, false) && get(&mut shard, 2, false) && hash < 1_000);
 }
 
-pub fn takes_the_place_of_another_key<S: Shard>() {
+pub fn keeps_keys_of_one_hash_apart<S: Shard>() {
     let mut shard = S::new(65_536);
     let mut into = Vec::new();
     assert!(shard.set(9, b"one", b"first") && !shard.get(9, b"two", &mut into, true));
-    assert!(shard.set(9, b"two", b"second") && !shard.get(9, b"one", &mut into, true));
-    assert!(into.is_empty() && shard.get(9, b"two", &mut into, true));
-    assert_eq!(into, b"second");
+    assert!(shard.set(9, b"two", b"second") && shard.get(9, b"one", &mut into, true));
+    shard.delete(9, b"one");
+    assert!(!shard.get(9, b"one", &mut into, true) && shard.get(9, b"two", &mut into, true));
+    assert_eq!(into, b"firstsecond");
 }
