@@ -1,4 +1,6 @@
 //! A plain cache of slabs whose pages never move: what is lost where the values' sizes change.
+// What the chains take is counted by boxes alone.
+#[allow(dead_code)]
 #[path = "plain/chains.rs"]
 mod chains;
 mod driver;

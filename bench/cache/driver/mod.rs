@@ -53,16 +53,23 @@ fn run<S: Store>(setting: &Setting, trace: &Trace) {
     let (store, mut workers) = S::open(setting.shards, SHARD_BYTES, setting.threads + 1);
     let mut own = workers.pop().expect("a worker");
     fill(&store, &mut own, setting);
-    let started = Instant::now();
-    let tallies: Vec<Tally> = thread::scope(|scope| {
-        let store = &store;
-        let begin = |(place, worker)| scope.spawn(move || work(store, worker, setting, trace.of_thread(place, setting.threads), started));
-        let threads: Vec<_> = (0..).zip(workers).map(begin).collect();
-        threads.into_iter().map(|thread| thread.join().expect("a thread's calls")).collect()
-    });
+    let tallies = work_at_once(&store, workers, setting, trace);
     show(&tallies);
     let (items, bytes) = held(&store, &mut own, setting);
     println!("held {items} {bytes}");
+}
+
+/// A thread for each worker. The first of them is this one, so that one thread alone has one heap.
+fn work_at_once<S: Store>(store: &S, workers: Vec<S::Worker>, setting: &Setting, trace: &Trace) -> Vec<Tally> {
+    let started = Instant::now();
+    let part = |(place, worker)| move || work(store, worker, setting, trace.of_thread(place, setting.threads), started);
+    let mut parts = (0..).zip(workers).map(part);
+    let first = parts.next();
+    thread::scope(|scope| {
+        let others: Vec<_> = parts.map(|part| scope.spawn(part)).collect();
+        let own = first.map(|part| part());
+        own.into_iter().chain(others.into_iter().map(|other| other.join().expect("a thread's calls"))).collect()
+    })
 }
 
 fn show(tallies: &[Tally]) {

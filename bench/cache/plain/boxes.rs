@@ -40,6 +40,7 @@ impl Entry {
 
 pub struct Boxes {
     chains: Chains,
+    /// There is room for as many as there can be. What of it was never used takes no memory.
     entries: Vec<Entry>,
     /// Those that have a box. The oldest is evicted next.
     used: Order,
@@ -73,7 +74,7 @@ fn boxed(key: &[u8], value: &[u8]) -> Box<[u8]> {
 
 impl Boxes {
     fn taken(&self) -> usize {
-        self.boxed + self.entries.capacity() * size_of::<Entry>() + self.chains.bytes()
+        self.boxed + self.entries.len() * size_of::<Entry>() + self.chains.bytes()
     }
 
     fn find(&mut self, hash: u32, key: &[u8]) -> Option<u32> {
@@ -101,17 +102,13 @@ impl Boxes {
         true
     }
 
-    /// An entry without a box, in no list. The entries grow by an eighth, not to take much more than they need.
+    /// An entry without a box, in no list.
     fn entry(&mut self) -> u32 {
         if let Some(place) = self.unused.pop(&mut self.entries) {
             return place;
         }
-        let count = self.entries.len();
-        if count == self.entries.capacity() {
-            self.entries.reserve_exact((count / 8).max(16));
-        }
         self.entries.push(Entry { hash: 0, next: 0, links: Links::NONE, bytes: Box::default() });
-        count as u32
+        self.entries.len() as u32 - 1
     }
 
     fn store_new(&mut self, hash: u32, key: &[u8], value: &[u8]) -> bool {
@@ -132,7 +129,8 @@ impl Boxes {
 
 impl Shard for Boxes {
     fn new(limit: usize) -> Boxes {
-        Boxes { chains: Chains::new(), entries: Vec::new(), used: Order::new(), unused: Order::new(), boxed: 0, limit }
+        let most = limit / (size_of::<Entry>() + allocated(1));
+        Boxes { chains: Chains::new(), entries: Vec::with_capacity(most), used: Order::new(), unused: Order::new(), boxed: 0, limit }
     }
 
     fn set(&mut self, hash: u32, key: &[u8], value: &[u8]) -> bool {
