@@ -33,7 +33,10 @@ fn assert_unpacks(
     unpack(words, key, &mut into)?;
     let mut wanted = Vec::from_slice(alloc, b"> ")?;
     wanted.extend_from_slice(value)?;
-    assert!(rt; into.as_slice() == wanted.as_slice(), "the value is another");
+    assert!(rt;
+        into.as_slice() == wanted.as_slice(),
+        "the value is another"
+    );
     Ok(())
 }
 
@@ -41,10 +44,16 @@ fn assert_unpacks(
 #[test]
 fn words_are_as_they_should_lie(rt: HostRuntime) -> Result<(), Fail> {
     let short = packed(rt.alloc(), b"k", b"")?;
-    assert!(rt; short.as_slice() == [1, 0, 0x6b].as_slice(), "a key of one byte");
+    assert!(rt;
+        short.as_slice() == [1, 0, 0x6b].as_slice(),
+        "a key of one byte"
+    );
     let long = packed(rt.alloc(), b"hello world", b"\x01\x02")?;
     let wanted = [11, 2, 0x6f77_206f_6c6c_6568, 0x0064_6c72, 0x0201];
-    assert!(rt; long.as_slice() == wanted.as_slice(), "a key of eleven bytes");
+    assert!(rt;
+        long.as_slice() == wanted.as_slice(),
+        "a key of eleven bytes"
+    );
     Ok(())
 }
 
@@ -69,7 +78,13 @@ fn all_lengths_come_back(rt: HostRuntime) -> Result<(), Fail> {
 #[test]
 fn other_keys_are_not_found(rt: HostRuntime) -> Result<(), Fail> {
     let words = packed(rt.alloc(), b"a long key", b"value")?;
-    for other in [b"a long kez".as_slice(), b"b long key", b"a long ke", b"a long key\0", b""] {
+    for other in [
+        b"a long kez".as_slice(),
+        b"b long key",
+        b"a long ke",
+        b"a long key\0",
+        b"",
+    ] {
         assert!(rt; !is_packing_of(&words, other), "another key is found");
     }
     Ok(())
