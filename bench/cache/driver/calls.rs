@@ -1,6 +1,7 @@
 //! One thread's calls: eight parts that are timed as a whole, and two tenths of which each call is timed by itself.
 use super::trace::{call_of, key_of, Call};
 use super::{Setting, Store};
+use std::sync::Barrier;
 use std::time::Instant;
 
 pub const TENTHS: usize = 10;
@@ -93,11 +94,19 @@ pub fn held<S: Store>(store: &S, worker: &mut S::Worker, setting: &Setting) -> (
     (items, bytes)
 }
 
+/// The threads wait for each other before the values' sizes change.
+fn meet(meeting: &Barrier, setting: &Setting, place: usize) {
+    if place == PARTS / 2 && setting.sizes[0] != setting.sizes[1] {
+        meeting.wait();
+    }
+}
+
 /// The thread's calls. What they took is counted from when the first thread started.
-pub fn work<S: Store>(store: &S, mut worker: S::Worker, setting: &Setting, calls: &[u32], started: Instant) -> Tally {
+pub fn work<S: Store>(store: &S, mut worker: S::Worker, setting: &Setting, calls: &[u32], meeting: &Barrier, started: Instant) -> Tally {
     let (mut tally, tenth) = (Tally::default(), calls.len() / TENTHS);
     let mut caller = Caller::new(store, &mut worker, setting);
     for (place, part) in tally.parts.iter_mut().enumerate() {
+        meet(meeting, setting, place);
         let size = setting.sizes[usize::from(place >= PARTS / 2)];
         for number in &calls[place * tenth..][..tenth] {
             caller.call(*number, size, part);

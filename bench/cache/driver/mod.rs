@@ -5,6 +5,7 @@ mod trace;
 
 use calls::{fill, held, work, Tally, PARTS};
 use std::io::Read;
+use std::sync::Barrier;
 use std::thread;
 use std::time::Instant;
 use trace::Trace;
@@ -61,8 +62,8 @@ fn run<S: Store>(setting: &Setting, trace: &Trace) {
 
 /// A thread for each worker. The first of them is this one, so that one thread alone has one heap.
 fn work_at_once<S: Store>(store: &S, workers: Vec<S::Worker>, setting: &Setting, trace: &Trace) -> Vec<Tally> {
-    let started = Instant::now();
-    let part = |(place, worker)| move || work(store, worker, setting, trace.of_thread(place, setting.threads), started);
+    let (meeting, started) = (&Barrier::new(workers.len()), Instant::now());
+    let part = |(place, worker)| move || work(store, worker, setting, trace.of_thread(place, setting.threads), meeting, started);
     let mut parts = (0..).zip(workers).map(part);
     let first = parts.next();
     thread::scope(|scope| {
