@@ -127,3 +127,57 @@ fn time_each<S: Store>(caller: &mut Caller<S>, size: usize, calls: &[u32], tally
         *longest = took.max(*longest);
     }
 }
+
+#[cfg(test)]
+mod tests {
+    use super::{fill, held, work, PARTS};
+    use crate::driver::trace::Trace;
+    use crate::driver::{Setting, Store};
+    use std::collections::HashMap;
+    use std::sync::{Barrier, Mutex};
+    use std::time::Instant;
+
+    /// It refuses values of 32 bytes.
+    struct Model(Mutex<HashMap<Vec<u8>, Vec<u8>>>);
+
+    impl Store for Model {
+        type Worker = ();
+
+        fn open(_shards: u64, _shard_bytes: u64, workers: u64) -> (Model, Vec<()>) {
+            (Model(Mutex::default()), vec![(); workers as usize])
+        }
+
+        fn set(&self, _worker: &mut (), key: &[u8], value: &[u8]) -> bool {
+            let is_stored = value.len() != 32;
+            if is_stored {
+                self.0.lock().unwrap().insert(key.to_vec(), value.to_vec());
+            }
+            is_stored
+        }
+
+        fn get(&self, _worker: &mut (), key: &[u8], into: &mut Vec<u8>, _touch: bool) -> bool {
+            self.0.lock().unwrap().get(key).map(|value| into.extend_from_slice(value)).is_some()
+        }
+
+        fn delete(&self, _worker: &mut (), key: &[u8]) {
+            self.0.lock().unwrap().remove(key);
+        }
+    }
+
+    /// In each tenth: a get of key 1, a get of key 9, which there is none of, and a set of key 2.
+    #[test]
+    fn counts_what_each_part_finds() {
+        let setting = Setting { shards: 1, keys: 3, threads: 1, sizes: [16, 32] };
+        let (model, _) = Model::open(1, 0, 1);
+        fill(&model, &mut (), &setting);
+        assert_eq!(held(&model, &mut (), &setting), (3, 96));
+        let bytes: Vec<u8> = [1 << 2, 9 << 2 | 1, 2 << 2 | 2_u32].repeat(10).into_iter().flat_map(u32::to_le_bytes).collect();
+        let trace = Trace::read(&bytes);
+        let tally = work(&model, (), &setting, trace.of_thread(0, 1), &Barrier::new(1), Instant::now());
+        for (place, part) in tally.parts.iter().enumerate() {
+            assert_eq!([part.gets, part.hits, part.sets, part.wrong], [2, 1, 1, 0]);
+            assert_eq!(part.refused, u64::from(place >= PARTS / 2));
+        }
+        assert_eq!(held(&model, &mut (), &setting), (2, 64));
+    }
+}
