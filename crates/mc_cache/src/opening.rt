@@ -2,6 +2,7 @@
 ghost use Rattle.std.specs.Prelude.{◌≡◌, ◌≤◌, ◌+◌, ◌-◌, ◌++◌, ◌∷◌, [], All, IfErr, IfOk, List, None, OnOk, Some, length, slice_index_or, take, unwrap_or};
 ghost use Rattle.mc_words.specs.declared.arena.Arena.{Arena};
 ghost use Rattle.mc_cache.specs.Belonging.{BelongsTo, HaveIdleHands};
+ghost use Rattle.mc_cache.specs.Observers.{arenas_of, hash_key, shard_count};
 ghost use Rattle.mc_cache.specs.Opening.{KeepsNoHistory, cache_refusal};
 ghost use Rattle.mc_cache.specs.Shards.{AreIdleHandsOf};
 ghost use Rattle.mc_cache.specs.declared.opening.NewError.TheVariants as refused;
@@ -65,11 +66,11 @@ impl Cache {
         config: &CacheConfig,
         hashing: HashKey,
     ) -> Result<(Cache, Vec<Worker>), NewError>
-        ensures shards { IfOk result (λ made. length made.0.arenas.items ≡ config.now.shards) }
+        ensures shards { IfOk result (λ made. shard_count made.0 ≡ config.now.shards) }
         ensures workers { IfOk result (λ made. length made.1.items ≡ config.now.workers) }
-        ensures hashing { IfOk result (λ made. made.0.hashing ≡ hashing) }
+        ensures hashing { IfOk result (λ made. hash_key made.0 ≡ hashing) }
         ensures belongs { IfOk result (λ made. All (BelongsTo made.0) made.1.items) }
-        ensures history { IfOk result (λ made. All KeepsNoHistory made.0.arenas.items) }
+        ensures history { IfOk result (λ made. All KeepsNoHistory (arenas_of made.0)) }
         ensures refused { IfErr result (λ error. error ≡ unwrap_or (cache_refusal config.now) (refused.NoMemory tt)) }
     {
         if let Err(error) = test(config) {

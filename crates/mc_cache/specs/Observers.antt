@@ -1,0 +1,17 @@
+-- What clauses of other crates read of a cache.
+use Rattle.std.specs.Prelude.{ℕ, List, length}
+use Rattle.mc_words.specs.declared.arena.Arena.{Arena}
+use Rattle.mc_cache.specs.declared.cache.Cache.{Cache}
+use Rattle.mc_cache.specs.declared.hashing.HashKey.{HashKey}
+
+-- its arenas, shard by shard
+abbrev pub arenas_of : Cache → List Arena
+arenas_of cache = cache.arenas.items
+
+-- how many shards it has
+abbrev pub shard_count : Cache → ℕ
+shard_count cache = length (arenas_of cache)
+
+-- the numbers that its keys are hashed with
+abbrev pub hash_key : Cache → HashKey
+hash_key cache = cache.hashing
