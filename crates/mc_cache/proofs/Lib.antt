@@ -2,3 +2,4 @@ pub mod Pairs
 pub mod Dealt
 pub mod Acts
 pub mod Opened
+pub mod TableWords

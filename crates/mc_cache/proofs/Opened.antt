@@ -9,8 +9,9 @@ use Rattle.mc_words.specs.Ready.{IsReady}
 use Rattle.mc_words.specs.View.{View}
 use Rattle.mc_byte_items.specs.Hands.{IsIdleHandOf}
 use Rattle.mc_cache.specs.declared.cache.Worker.{Worker}
+use Rattle.mc_cache.specs.declared.opening.CacheConfig.{CacheConfig}
 use Rattle.mc_cache.specs.Belonging.{HaveIdleHands}
-use Rattle.mc_cache.specs.Opening.{KeepsNoHistory}
+use Rattle.mc_cache.specs.Opening.{IsNewShard}
 use Rattle.mc_cache.specs.Shards.{AreIdleHands, AreIdleHandsOf}
 use Rattle.mc_cache.proofs.Dealt.{each_push}
 
@@ -52,10 +53,10 @@ own_last arenas all arena hands is own last = subst (λ (a : Arena). AreIdleHand
 pub have_front : (arenas all : List Arena) (arena : Arena) (workers : List Worker) → all ≡ arenas ++ arena ∷ [] → HaveIdleHands arenas workers → HaveIdleHands (take (length all - 1) all) workers
 have_front arenas all arena workers is have = subst (λ (list : List Arena). HaveIdleHands list workers) (sym (ap (λ (list : List Arena). take (length list - 1) list) is ∙ front_of arenas arena)) have
 
--- one arena more that keeps no history
-pub one_arena_more : {T E : Type 0} (result : Result T E) (arenas all : List Arena) (arena : Arena) → all ≡ arenas ++ arena ∷ [] → KeepsNoHistory arena → All KeepsNoHistory arenas → OnOk result (All KeepsNoHistory all)
-one_arena_more (Ok value) arenas all arena is own none = subst (All KeepsNoHistory) (sym is) (each_push KeepsNoHistory arenas arena own none)
-one_arena_more (Err error) arenas all arena is own none = tt
+-- one shard more
+pub one_arena_more : {T E : Type 0} (config : CacheConfig) (result : Result T E) (arenas all : List Arena) (arena : Arena) → all ≡ arenas ++ arena ∷ [] → IsNewShard config arena → All (IsNewShard config) arenas → OnOk result (All (IsNewShard config) all)
+one_arena_more config (Ok value) arenas all arena is own none = subst (All (IsNewShard config)) (sym is) (each_push (IsNewShard config) arenas arena own none)
+one_arena_more config (Err error) arenas all arena is own none = tt
 
-pub no_arenas : (arenas : List Arena) → arenas ≡ [] → All KeepsNoHistory arenas
-no_arenas arenas none = λ place arena near. absurd (omega (arith, ap length none))
+pub no_arenas : (config : CacheConfig) (arenas : List Arena) → arenas ≡ [] → All (IsNewShard config) arenas
+no_arenas config arenas none = λ place arena near. absurd (omega (arith, ap length none))

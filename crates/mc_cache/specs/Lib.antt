@@ -4,3 +4,4 @@ pub mod Shards
 pub mod Observers
 pub mod Opening
 pub mod Belonging
+pub mod Bytes

@@ -7,7 +7,7 @@ use Rattle.mc_core.specs.declared.event.StripeChange.TheVariants.{Forget}
 use Rattle.mc_words.specs.declared.arena.Arena.{Arena}
 use Rattle.mc_words.specs.declared.hand.Hand.{Hand}
 use Rattle.mc_words.specs.Arenas.{setup_of, view}
-use Rattle.mc_words.specs.Hands.{IsNewHand}
+use Rattle.mc_words.specs.Hands.{IsMadeWith, IsNewHand}
 use Rattle.mc_words.specs.Observers.{number_of}
 use Rattle.mc_mover.specs.Recording.{ChangesEach}
 use Rattle.mc_cache.specs.declared.opening.CacheConfig.{CacheConfig}
@@ -27,3 +27,8 @@ pub record KeepsNoHistory (arena : Arena) : Type 0 where
   pub new : IsNewHand arena 0 hand
   pub after : Hand
   pub forgets : ChangesEach Forget (number_of hand) (range_with_len 0 (setup_of arena).config.stripes) (view hand) (view after)
+
+-- the arena is made with the cache's configuration, with a hand for each worker, and keeps no history
+pub record IsNewShard (config : CacheConfig) (arena : Arena) : Type 0 where
+  pub made : IsMadeWith config.arena config.workers 0 (setup_of arena)
+  pub history : KeepsNoHistory arena

@@ -3,11 +3,13 @@
 //! [`Cache::new`] makes the cache and its workers. A thread has the cache by `&`, and a worker of its own, whose calls take both.
 #![tactic(auto)]
 
+mod bytes;
 mod cache;
 mod hashing;
 mod opening;
 mod working;
 
+pub use bytes::worked_bytes;
 pub use cache::{Cache, Worker};
 pub use hashing::HashKey;
 pub use opening::{CacheConfig, NewError};

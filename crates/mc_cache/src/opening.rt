@@ -1,9 +1,12 @@
 //! Caches that are made.
 ghost use Rattle.std.specs.Prelude.{◌≡◌, ◌≤◌, ◌+◌, ◌-◌, ◌++◌, ◌∷◌, [], All, IfErr, IfOk, List, None, OnOk, Some, length, slice_index_or, take, unwrap_or};
 ghost use Rattle.mc_words.specs.declared.arena.Arena.{Arena};
+ghost use Rattle.mc_words.specs.Arenas.{setup_of};
+ghost use Rattle.mc_words.specs.Hands.{IsMadeWith};
 ghost use Rattle.mc_cache.specs.Belonging.{BelongsTo, HaveIdleHands};
 ghost use Rattle.mc_cache.specs.Observers.{arenas_of, hash_key, shard_count};
-ghost use Rattle.mc_cache.specs.Opening.{KeepsNoHistory, cache_refusal};
+ghost use Rattle.mc_cache.specs.Bytes.{bytes_of, table_bytes};
+ghost use Rattle.mc_cache.specs.Opening.{IsNewShard, KeepsNoHistory, cache_refusal};
 ghost use Rattle.mc_cache.specs.Shards.{AreIdleHandsOf};
 ghost use Rattle.mc_cache.specs.declared.opening.NewError.TheVariants as refused;
 
@@ -41,7 +44,7 @@ pub enum NewError {
 }
 
 /// The tests of the configuration, in their order. Nothing is allocated.
-fn test(config: &CacheConfig) -> Result<(), NewError>
+pub(crate) fn test(config: &CacheConfig) -> Result<(), NewError>
     ensures accepted { OnOk result (cache_refusal config.now ≡ None) }
     ensures refused { IfErr result (λ error. cache_refusal config.now ≡ Some error) }
 {
@@ -70,7 +73,8 @@ impl Cache {
         ensures workers { IfOk result (λ made. length made.1.items ≡ config.now.workers) }
         ensures hashing { IfOk result (λ made. hash_key made.0 ≡ hashing) }
         ensures belongs { IfOk result (λ made. All (BelongsTo made.0) made.1.items) }
-        ensures history { IfOk result (λ made. All KeepsNoHistory (arenas_of made.0)) }
+        ensures arenas { IfOk result (λ made. All (IsNewShard config.now) (arenas_of made.0)) }
+        ensures bytes { IfOk result (λ made. table_bytes made.0 ≡ bytes_of config.now) }
         ensures refused { IfErr result (λ error. error ≡ unwrap_or (cache_refusal config.now) (refused.NoMemory tt)) }
     {
         if let Err(error) = test(config) {
@@ -100,7 +104,7 @@ fn fill<R: Wait>(
     ensures shards { OnOk result (length arenas.new.items ≡ config.now.shards) }
     ensures count { OnOk result (length workers.new.items ≡ config.now.workers) }
     ensures hands { OnOk result (HaveIdleHands arenas.new.items workers.new.items) }
-    ensures history { OnOk result (All KeepsNoHistory arenas.new.items) }
+    ensures new { OnOk result (All (IsNewShard config.now) arenas.new.items) }
 {
     add_workers(alloc, config, workers)?;
     for _ in 0..config.shards {
@@ -142,11 +146,11 @@ fn add_shard<R: Wait>(
     requires accepted { cache_refusal config.now ≡ None }
     requires count { length workers.old.items ≡ config.now.workers }
     requires hands { HaveIdleHands arenas.old.items workers.old.items }
-    requires history { All KeepsNoHistory arenas.old.items }
+    requires new { All (IsNewShard config.now) arenas.old.items }
     ensures arenas { OnOk result (length arenas.new.items ≡ length arenas.old.items + 1) }
     ensures count { OnOk result (length workers.new.items ≡ config.now.workers) }
     ensures hands { OnOk result (HaveIdleHands arenas.new.items workers.new.items) }
-    ensures history { OnOk result (All KeepsNoHistory arenas.new.items) }
+    ensures new { OnOk result (All (IsNewShard config.now) arenas.new.items) }
 {
     let (arena, mut hands) = open_arena(rt, alloc, config)?;
     match push(arenas, arena) {
@@ -164,6 +168,7 @@ fn open_arena<R: Wait>(
     requires { cache_refusal config.now ≡ None }
     ensures count { IfOk result (λ made. length made.1.items ≡ config.now.workers) }
     ensures hands { IfOk result (λ made. AreIdleHandsOf made.0 made.1.items) }
+    ensures made { IfOk result (λ made. IsMadeWith config.now.arena config.now.workers 0 (setup_of made.0)) }
     ensures history { IfOk result (λ made. KeepsNoHistory made.0) }
 {
     match Arena::new(alloc, &config.arena, config.workers) {

@@ -24,5 +24,6 @@ returns-in-Ok-clause-hands g c =
     subst (λ (workers : List Worker). HaveIdleHands c.push.new.list.items workers) (sym same) (subst (λ (arenas : List Arena). HaveIdleHands arenas c.deal.new.workers) c.as_slice.ensures.value have))
     c.deal.ensures
 
-pub returns-in-Ok-clause-history : goal.returns-in-Ok-clause-history
-returns-in-Ok-clause-history g c = one_arena_more c.deal.result c.args.arenas.now.items c.push.new.list.items c.in_ok-arena.arena c.in-Ok.ensures.items c.in_ok-arena.ensures.history c.requires.history
+pub returns-in-Ok-clause-new : goal.returns-in-Ok-clause-new
+returns-in-Ok-clause-new g c =
+    one_arena_more c.args.config.now c.deal.result c.args.arenas.now.items c.push.new.list.items c.in_ok-arena.arena c.in-Ok.ensures.items (record { made = c.in_ok-arena.ensures.made; history = c.in_ok-arena.ensures.history }) c.requires.new

@@ -1,6 +1,6 @@
 use Rattle.std.proofs.Common.{◌≡◌, All, length}
 use Rattle.mc_cache.specs.Belonging.{HaveIdleHands}
-use Rattle.mc_cache.specs.Opening.{KeepsNoHistory}
+use Rattle.mc_cache.specs.Opening.{IsNewShard}
 use Rattle.mc_cache.proofs.opening.fill.Given as goal
 
 abbrev pub invariant-loop : goal.invariant-loop
@@ -8,5 +8,5 @@ invariant-loop g l = record {
   shards : length l.arenas.items ≡ l.counter;
   count : length l.workers.items ≡ l.config.workers;
   hands : HaveIdleHands l.arenas.items l.workers.items;
-  history : All KeepsNoHistory l.arenas.items;
+  new : All (IsNewShard l.config) l.arenas.items;
 }

@@ -1,0 +1,82 @@
+-- The words of an arena's table, by its configuration.
+use Rattle.std.proofs.Common.{Bool, Option, Some, cond, not, ◌≡◌, ◌+◌, ◌-◌, ◌*◌, ◌/◌, ◌<◌, ◌≤◌, ◌∷◌, ◌∙◌, [], ℕ, suc, All, List, None, true, false, ap, arith, get_or, length, refl, subst, sym, ⊎_elim}
+use Rattle.std.proofs.lemmas.Bool.{cases_lt, cond-true, cond-false, le-ltb}
+use Rattle.std.proofs.lemmas.Option.{get_or_from_slice_get, none-some}
+use Rattle.std.specs.Option.{option_map}
+use Rattle.mc_classes.specs.declared.config.Config.{Config}
+use Rattle.mc_classes.specs.declared.config.ConfigError.{ConfigError}
+use Rattle.mc_classes.specs.Classes.{ComesFrom}
+use Rattle.mc_classes.specs.Refusals.{first_size, is_below_max, is_between, refusal_of, rounded_up}
+use Rattle.mc_classes.proofs.Accepted.{IsAccepted, accepted}
+use Rattle.mc_classes.proofs.Sizes.{last_size, some_class}
+use Rattle.mc_words.specs.declared.arena.Arena.{Arena}
+use Rattle.mc_words.specs.Arenas.{setup_of}
+use Rattle.mc_words.specs.Hands.{IsMadeWith}
+use Rattle.mc_words.specs.Layout.{word_count}
+use Rattle.mc_words.specs.View.{Setup}
+use Rattle.mc_cache.specs.declared.opening.CacheConfig.{CacheConfig}
+use Rattle.mc_cache.specs.declared.opening.NewError.{NewError}
+use Rattle.mc_cache.specs.declared.opening.NewError.TheVariants as refused
+use Rattle.mc_cache.specs.Bytes.{bytes_of, words_an_arena, words_of_arenas}
+use Rattle.mc_cache.specs.Opening.{IsNewShard, cache_refusal}
+
+-- the first of a table's sizes is the one that the configuration tells
+first_is : (config : Config) (raws sizes : List ℕ) → IsAccepted config → ComesFrom config raws sizes → get_or sizes 0 0 ≡ first_size config
+first_is config raws sizes acc comes =
+    let some = some_class config raws sizes acc comes in
+    ⊎_elim
+    (λ (more : 0 + 1 < length sizes).
+    let first : get_or raws 0 0 ≡ config.first = get_or_from_slice_get raws 0 config.first 0 comes.begins in
+    let step = comes.steps 0 more in
+    let below : is_below_max config config.first ≡ true = ap (is_below_max config) (sym first) ∙ step.below in
+    let raised : get_or sizes 0 0 ≡ rounded_up config.first = step.raised ∙ ap rounded_up first in
+    raised ∙ sym (cond-true (is_below_max config config.first) (rounded_up config.first) config.max below))
+    (λ (one : length sizes ≤ 0 + 1).
+    let first : get_or raws (length raws - 1) 0 ≡ config.first = ap (λ (k : ℕ). get_or raws k 0) (omega (arith, comes.paired)) ∙ get_or_from_slice_get raws 0 config.first 0 comes.begins in
+    let ends : config.max * config.den ≤ config.first * config.num = subst (λ (r : ℕ). config.max * config.den ≤ r * config.num) first (comes.ends (omega arith)) in
+    let above : is_below_max config config.first ≡ false = le-ltb (config.first * config.num) (config.max * config.den) ends in
+    let top : get_or sizes 0 0 ≡ config.max = ap (λ (k : ℕ). get_or sizes k 0) (omega arith) ∙ last_size config raws sizes acc comes in
+    top ∙ sym (cond-false (is_below_max config config.first) (rounded_up config.first) config.max above))
+    (cases_lt (0 + 1) (length sizes))
+
+-- the groups of words, and a page's words together
+regrouped : (stripes page limit size stripes' page' limit' size' : ℕ) → stripes ≡ stripes' → page ≡ page' → limit ≡ limit' → size ≡ size'
+    → 16 * (2 + stripes) + limit / page + limit / page * (page / size) + limit / page * (page / 8) + 8 ≡ 16 * (2 + stripes') + limit' / page' * (1 + page' / size' + page' / 8) + 8
+regrouped stripes page limit size stripes' page' limit' size' s p l f = rw (s, p, l, f) (omega arith)
+
+pub words_are : (config : Config) (hands : ℕ) (setup : Setup) → refusal_of config ≡ None → IsMadeWith config hands 0 setup → word_count setup ≡ words_an_arena config
+words_are config hands setup none made =
+    regrouped setup.config.stripes setup.table.page setup.table.limit (get_or setup.table.sizes 0 0) config.stripes config.page config.limit (first_size config)
+    (ap (λ (c : Config). c.stripes) made.config_is) made.table.page made.table.limit (first_is config made.table.raws setup.table.sizes (accepted config none) made.table.comes)
+
+words_of_all : (arenas : List Arena) (words : ℕ) → ((place : ℕ) (arena : Arena) → place < length arenas → word_count (setup_of (get_or arenas place arena)) ≡ words) → words_of_arenas arenas ≡ length arenas * words
+unfolding words_of_arenas
+words_of_all [] words all =
+    let none : words_of_arenas [] ≡ 0 = refl in
+    rw none (omega arith)
+words_of_all (arena ∷ arenas) words all =
+    let first : word_count (setup_of arena) ≡ words = all 0 arena (omega arith) in
+    let rest : words_of_arenas arenas ≡ length arenas * words = words_of_all arenas words (λ place a near. all (suc place) a (omega arith)) in
+    let more : words_of_arenas (arena ∷ arenas) ≡ word_count (setup_of arena) + words_of_arenas arenas = refl in
+    rw (more, first, rest) (omega arith)
+
+-- where the cache isn't refused, its arenas aren't
+passed : (test : Bool) (error : NewError) (rest : Option NewError) → cond (not test) (Some error) rest ≡ None → rest ≡ None
+passed true error rest h = h
+passed false error rest h = absurd (none-some error (sym h))
+
+unmapped : (refusal : Option ConfigError) → option_map (λ error. refused.Config error) refusal ≡ None → refusal ≡ None
+unmapped None h = refl
+unmapped (Some error) h = absurd (none-some (refused.Config error) (sym h))
+
+pub arena_accepted : (config : CacheConfig) → cache_refusal config ≡ None → refusal_of config.arena ≡ None
+arena_accepted config h =
+    let workers = passed (is_between 1 4096 config.shards) refused.Shards _ h in
+    unmapped _ (passed (is_between 1 63 config.workers) refused.Workers _ workers)
+
+-- the tables of all shards of a new cache
+pub bytes_are : (config : CacheConfig) (arenas : List Arena) → refusal_of config.arena ≡ None → length arenas ≡ config.shards → All (IsNewShard config) arenas → 8 * words_of_arenas arenas ≡ bytes_of config
+bytes_are config arenas none count new =
+    let all : words_of_arenas arenas ≡ length arenas * words_an_arena config.arena =
+        words_of_all arenas (words_an_arena config.arena) (λ place arena near. words_are config.arena config.workers (setup_of (get_or arenas place arena)) none (new place arena near).made) in
+    rw (all, count) (omega arith)

@@ -1,0 +1,31 @@
+-- How many bytes the tables of a cache's arenas take.
+use Rattle.std.specs.Prelude.{ℕ, ◌+◌, ◌*◌, ◌/◌, List, [], ◌∷◌}
+use Rattle.mc_classes.specs.declared.config.Config.{Config}
+use Rattle.mc_classes.specs.Refusals.{first_size}
+use Rattle.mc_words.specs.declared.arena.Arena.{Arena}
+use Rattle.mc_words.specs.Arenas.{setup_of}
+use Rattle.mc_words.specs.Layout.{word_count, words_apart}
+use Rattle.mc_cache.specs.declared.cache.Cache.{Cache}
+use Rattle.mc_cache.specs.declared.opening.CacheConfig.{CacheConfig}
+use Rattle.mc_cache.specs.Observers.{arenas_of}
+
+-- the words of a page: one for its class, a header for each chunk that the first class has of it, and its data
+abbrev pub words_a_page : Config → ℕ
+words_a_page config = 1 + config.page / first_size config + config.page / 8
+
+-- the words of an arena's table: those of the locks, of all pages that may be granted, and the eight numbers of the configuration
+abbrev pub words_an_arena : Config → ℕ
+words_an_arena config = words_apart * (2 + config.stripes) + config.limit / config.page * words_a_page config + 8
+
+-- the bytes of all tables, at eight a word
+abbrev pub bytes_of : CacheConfig → ℕ
+bytes_of config = config.shards * (8 * words_an_arena config.arena)
+
+-- the words of these arenas' tables, as they stand
+unfoldable pub words_of_arenas : List Arena → ℕ
+words_of_arenas [] = 0
+words_of_arenas (arena ∷ arenas) = word_count (setup_of arena) + words_of_arenas arenas
+
+-- the bytes of a cache's tables, as they stand
+abbrev pub table_bytes : Cache → ℕ
+table_bytes cache = 8 * words_of_arenas (arenas_of cache)

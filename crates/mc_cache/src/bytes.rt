@@ -1,0 +1,70 @@
+//! How many bytes a cache takes.
+ghost use Rattle.std.specs.Prelude.{◌≡◌, ◌≤◌, ◌*◌, ◌+◌, ◌^◌, IfErr, IfOk, None, OnOk, Some};
+ghost use Rattle.mc_classes.specs.Refusals.{first_size, refusal_of};
+ghost use Rattle.mc_cache.specs.Bytes.{bytes_of, words_a_page, words_an_arena};
+ghost use Rattle.mc_cache.specs.Opening.{cache_refusal};
+
+use crate::cache::Cache;
+use crate::opening::{CacheConfig, NewError, test};
+use mc_classes::Config;
+
+// How many words a lock's word stands from the next one.
+const WORDS_APART: u64 = 16;
+
+// The numbers of a configuration, which stand in the table.
+const CONFIG_WORDS: u64 = 8;
+
+// The size of class 1.
+fn first_size(config: &Config) -> u64
+    requires accepted { refusal_of config.now ≡ None }
+    ensures size { result ≡ first_size config.now }
+    ensures some { 1 ≤ result }
+{
+    if config.first * config.num < config.max * config.den {
+        config.first.div_ceil(8) * 8
+    } else {
+        config.max
+    }
+}
+
+// The words of a page: its class, its headers, its data.
+fn words_a_page(config: &Config) -> u64
+    requires accepted { refusal_of config.now ≡ None }
+    ensures words { result ≡ words_a_page config.now }
+    ensures few { result ≤ 2305 }
+{
+    1 + config.page / first_size(config) + config.page / 8
+}
+
+// The words of an arena's table.
+fn words_an_arena(config: &Config) -> u64
+    requires accepted { refusal_of config.now ≡ None }
+    ensures words { result ≡ words_an_arena config.now }
+    ensures few { result ≤ 2 ^ 18 }
+{
+    let pages = config.limit / config.page;
+    WORDS_APART * (2 + config.stripes) + pages * words_a_page(config) + CONFIG_WORDS
+}
+
+impl Cache {
+    /// How many bytes the tables of a cache with this configuration take, from its making on: the pages of all its arenas, whether they
+    /// are granted or not, the headers of all chunks, and the words of the locks. Lists, indexes and what a worker packs into come beside
+    /// that as they grow. The configuration is refused as by `new`. (own)
+    pub fn bytes(config: &CacheConfig) -> Result<u64, NewError>
+        ensures bytes { IfOk result (λ bytes. bytes ≡ bytes_of config.now) }
+        ensures accepted { OnOk result (cache_refusal config.now ≡ None) }
+        ensures refused { IfErr result (λ error. cache_refusal config.now ≡ Some error) }
+    {
+        match test(config) {
+            Ok(()) => Ok(config.shards * (8 * words_an_arena(&config.arena))),
+            Err(error) => Err(error),
+        }
+    }
+}
+
+/// A worked case: of two pages of 64 bytes, with chunks of 24 bytes at least and one stripe, an arena's table has 78 words: 48 of locks, 11
+/// a page, and 8. So three of them take 1,872 bytes.
+pub fn worked_bytes()
+    ensures { bytes_of (record { arena = record { page = 64; limit = 128; first = 24; num = 5; den = 4; max = 64; stripes = 1; bulk = 1 }; shards = 3; workers = 2 }) ≡ 1872 }
+{
+}
