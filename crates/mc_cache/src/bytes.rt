@@ -66,5 +66,4 @@ impl Cache {
 /// a page, and 8. So three of them take 1,872 bytes.
 pub fn worked_bytes()
     ensures { bytes_of (record { arena = record { page = 64; limit = 128; first = 24; num = 5; den = 4; max = 64; stripes = 1; bulk = 1 }; shards = 3; workers = 2 }) ≡ 1872 }
-{
-}
+{}
