@@ -5,3 +5,6 @@ pub mod Observers
 pub mod Opening
 pub mod Belonging
 pub mod Bytes
+pub mod Surveyed
+pub mod Windows
+pub mod Tending

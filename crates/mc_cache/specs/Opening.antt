@@ -1,5 +1,5 @@
 -- Which caches are refused, and what is so of the arenas of a new one.
-use Rattle.std.specs.Prelude.{not, if◌then◌else◌, Option, Some}
+use Rattle.std.specs.Prelude.{◌+◌, not, if◌then◌else◌, Option, Some}
 use Rattle.std.specs.List.{range_with_len}
 use Rattle.std.specs.Option.{option_map}
 use Rattle.mc_classes.specs.Refusals.{is_between, refusal_of}
@@ -28,7 +28,7 @@ pub record KeepsNoHistory (arena : Arena) : Type 0 where
   pub after : Hand
   pub forgets : ChangesEach Forget (number_of hand) (range_with_len 0 (setup_of arena).config.stripes) (view hand) (view after)
 
--- the arena is made with the cache's configuration, with a hand for each worker, and keeps no history
+-- the arena is made with the cache's configuration, with a hand for each worker and one for the tender, and keeps no history
 pub record IsNewShard (config : CacheConfig) (arena : Arena) : Type 0 where
-  pub made : IsMadeWith config.arena config.workers 0 (setup_of arena)
+  pub made : IsMadeWith config.arena (config.workers + 1) 0 (setup_of arena)
   pub history : KeepsNoHistory arena

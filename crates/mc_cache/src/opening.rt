@@ -7,14 +7,18 @@ ghost use Rattle.mc_cache.specs.Belonging.{BelongsTo, HaveIdleHands};
 ghost use Rattle.mc_cache.specs.Observers.{arenas_of, hash_key, shard_count};
 ghost use Rattle.mc_cache.specs.Bytes.{bytes_of, table_bytes};
 ghost use Rattle.mc_cache.specs.Opening.{IsNewShard, KeepsNoHistory, cache_refusal};
-ghost use Rattle.mc_cache.specs.Shards.{AreIdleHandsOf};
+ghost use Rattle.mc_cache.specs.Pairs.{ArePaired};
+ghost use Rattle.mc_cache.specs.Tending.{IsFreshDecider, IsTenderOf, deciders_of, hands_of};
+ghost use Rattle.mc_cache.specs.Shards.{AreIdleHands, AreIdleHandsOf};
 ghost use Rattle.mc_cache.specs.declared.opening.NewError.TheVariants as refused;
 
 use crate::cache::{Cache, Worker};
 use crate::hashing::HashKey;
+use crate::tending::Tender;
 use mc_classes::{Config, ConfigError};
 use mc_memory::{Refused, push};
 use mc_mover::forget;
+use mc_watch::Decider;
 use mc_words::{Arena, Hand};
 use std::alloc::Global;
 use std::sync::Wait;
@@ -61,18 +65,20 @@ pub(crate) fn test(config: &CacheConfig) -> Result<(), NewError>
 }
 
 impl Cache {
-    /// A cache in which nothing is stored, and its workers. Its arenas keep no history. The configuration is refused by the first of its
+    /// A cache in which nothing is stored, its workers, and its tender. Its arenas keep no history. The configuration is refused by the first of its
     /// tests that it fails, before anything is allocated. It waits for locks that nobody has yet.
     pub fn new<R: Wait>(
         rt: &R,
         alloc: Global,
         config: &CacheConfig,
         hashing: HashKey,
-    ) -> Result<(Cache, Vec<Worker>), NewError>
+    ) -> Result<(Cache, Vec<Worker>, Tender), NewError>
         ensures shards { IfOk result (λ made. shard_count made.0 ≡ config.now.shards) }
         ensures workers { IfOk result (λ made. length made.1.items ≡ config.now.workers) }
         ensures hashing { IfOk result (λ made. hash_key made.0 ≡ hashing) }
         ensures belongs { IfOk result (λ made. All (BelongsTo made.0) made.1.items) }
+        ensures tender { IfOk result (λ made. IsTenderOf made.0 made.2) }
+        ensures deciders { IfOk result (λ made. ArePaired IsFreshDecider (arenas_of made.0) (deciders_of made.2)) }
         ensures arenas { IfOk result (λ made. All (IsNewShard config.now) (arenas_of made.0)) }
         ensures bytes { IfOk result (λ made. table_bytes made.0 ≡ bytes_of config.now) }
         ensures refused { IfErr result (λ error. error ≡ unwrap_or (cache_refusal config.now) (refused.NoMemory tt)) }
@@ -80,13 +86,46 @@ impl Cache {
         if let Err(error) = test(config) {
             return Err(error);
         }
-        let mut arenas = Vec::new(alloc);
-        let mut workers = Vec::new(alloc);
-        match fill(rt, alloc, config, &mut arenas, &mut workers) {
-            Ok(()) => Ok((Cache { arenas, hashing }, workers)),
+        match open(rt, alloc, config) {
+            Ok((arenas, workers, tender)) => Ok((Cache { arenas, hashing }, workers, tender)),
             Err(refused) => Err(NewError::NoMemory(refused)),
         }
     }
+}
+
+// The arenas, the workers, and the tender, who has the hands of one worker more.
+fn open<R: Wait>(
+    rt: &R,
+    alloc: Global,
+    config: &CacheConfig,
+) -> Result<(Vec<Arena>, Vec<Worker>, Tender), Refused>
+    requires accepted { cache_refusal config.now ≡ None }
+    ensures shards { IfOk result (λ made. length made.0.items ≡ config.now.shards) }
+    ensures count { IfOk result (λ made. length made.1.items ≡ config.now.workers) }
+    ensures hands { IfOk result (λ made. HaveIdleHands made.0.items made.1.items) }
+    ensures tender { IfOk result (λ made. AreIdleHands made.0.items (hands_of made.2)) }
+    ensures deciders { IfOk result (λ made. ArePaired IsFreshDecider made.0.items (deciders_of made.2)) }
+    ensures new { IfOk result (λ made. All (IsNewShard config.now) made.0.items) }
+{
+    let mut arenas = Vec::new(alloc);
+    let mut workers = Vec::new(alloc);
+    fill(rt, alloc, config, &mut arenas, &mut workers)?;
+    let deciders = make_deciders(alloc, &arenas)?;
+    let Some(worker) = workers.pop() else {
+        unreachable!();
+    };
+    Ok((arenas, workers, Tender { worker, deciders }))
+}
+
+// A decider for each arena, which was fed no window yet.
+fn make_deciders(alloc: Global, arenas: &[Arena]) -> Result<Vec<Decider>, Refused>
+    ensures { IfOk result (λ deciders. ArePaired IsFreshDecider arenas.now deciders.items) }
+{
+    let mut deciders = Vec::new(alloc);
+    for arena in arenas {
+        push(&mut deciders, Decider::new(alloc, arena.classes())?)?;
+    }
+    Ok(deciders)
 }
 
 // Makes the workers, and then a shard after the other.
@@ -102,11 +141,11 @@ fn fill<R: Wait>(
     requires no_arenas { arenas.old.items ≡ [] }
     requires no_workers { workers.old.items ≡ [] }
     ensures shards { OnOk result (length arenas.new.items ≡ config.now.shards) }
-    ensures count { OnOk result (length workers.new.items ≡ config.now.workers) }
+    ensures count { OnOk result (length workers.new.items ≡ config.now.workers + 1) }
     ensures hands { OnOk result (HaveIdleHands arenas.new.items workers.new.items) }
     ensures new { OnOk result (All (IsNewShard config.now) arenas.new.items) }
 {
-    add_workers(alloc, config, workers)?;
+    add_workers(alloc, config.workers + 1, workers)?;
     for _ in 0..config.shards {
         add_shard(rt, alloc, config, arenas, workers)?;
     }
@@ -115,16 +154,12 @@ fn fill<R: Wait>(
 
 // As many workers as there are to be, who have no hands yet.
 #[tactic(auto, using(crate::proofs::Opened::one_worker_more))]
-fn add_workers(
-    alloc: Global,
-    config: &CacheConfig,
-    workers: &mut Vec<Worker>,
-) -> Result<(), Refused>
+fn add_workers(alloc: Global, count: u64, workers: &mut Vec<Worker>) -> Result<(), Refused>
     requires { workers.old.items ≡ [] }
-    ensures count { OnOk result (length workers.new.items ≡ config.now.workers) }
+    ensures count { OnOk result (length workers.new.items ≡ count) }
     ensures hands { OnOk result (HaveIdleHands [] workers.new.items) }
 {
-    for _ in 0..config.workers {
+    for _ in 0..count {
         let worker = Worker {
             hands: Vec::new(alloc),
             words: Vec::new(alloc),
@@ -144,11 +179,11 @@ fn add_shard<R: Wait>(
     workers: &mut Vec<Worker>,
 ) -> Result<(), Refused>
     requires accepted { cache_refusal config.now ≡ None }
-    requires count { length workers.old.items ≡ config.now.workers }
+    requires count { length workers.old.items ≡ config.now.workers + 1 }
     requires hands { HaveIdleHands arenas.old.items workers.old.items }
     requires new { All (IsNewShard config.now) arenas.old.items }
     ensures arenas { OnOk result (length arenas.new.items ≡ length arenas.old.items + 1) }
-    ensures count { OnOk result (length workers.new.items ≡ config.now.workers) }
+    ensures count { OnOk result (length workers.new.items ≡ config.now.workers + 1) }
     ensures hands { OnOk result (HaveIdleHands arenas.new.items workers.new.items) }
     ensures new { OnOk result (All (IsNewShard config.now) arenas.new.items) }
 {
@@ -166,12 +201,12 @@ fn open_arena<R: Wait>(
     config: &CacheConfig,
 ) -> Result<(Arena, Vec<Hand>), Refused>
     requires { cache_refusal config.now ≡ None }
-    ensures count { IfOk result (λ made. length made.1.items ≡ config.now.workers) }
+    ensures count { IfOk result (λ made. length made.1.items ≡ config.now.workers + 1) }
     ensures hands { IfOk result (λ made. AreIdleHandsOf made.0 made.1.items) }
-    ensures made { IfOk result (λ made. IsMadeWith config.now.arena config.now.workers 0 (setup_of made.0)) }
+    ensures made { IfOk result (λ made. IsMadeWith config.now.arena (config.now.workers + 1) 0 (setup_of made.0)) }
     ensures history { IfOk result (λ made. KeepsNoHistory made.0) }
 {
-    match Arena::new(alloc, &config.arena, config.workers) {
+    match Arena::new(alloc, &config.arena, config.workers + 1) {
         Ok((arena, mut hands)) => {
             forget(rt, &arena, &mut hands[0]);
             Ok((arena, hands))

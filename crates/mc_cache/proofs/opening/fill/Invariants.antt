@@ -1,4 +1,4 @@
-use Rattle.std.proofs.Common.{◌≡◌, All, length}
+use Rattle.std.proofs.Common.{◌≡◌, ◌+◌, All, length}
 use Rattle.mc_cache.specs.Belonging.{HaveIdleHands}
 use Rattle.mc_cache.specs.Opening.{IsNewShard}
 use Rattle.mc_cache.proofs.opening.fill.Given as goal
@@ -6,7 +6,7 @@ use Rattle.mc_cache.proofs.opening.fill.Given as goal
 abbrev pub invariant-loop : goal.invariant-loop
 invariant-loop g l = record {
   shards : length l.arenas.items ≡ l.counter;
-  count : length l.workers.items ≡ l.config.workers;
+  count : length l.workers.items ≡ l.config.workers + 1;
   hands : HaveIdleHands l.arenas.items l.workers.items;
   new : All (IsNewShard l.config) l.arenas.items;
 }

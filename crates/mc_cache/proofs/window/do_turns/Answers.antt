@@ -1,0 +1,21 @@
+use Rattle.std.proofs.Common.{◌+◌, ◌∙◌, arith, refl}
+use Rattle.mc_cache.proofs.TurnsDone.{done_within, none_done, one_more}
+use Rattle.mc_cache.proofs.window.do_turns.Goals as goal
+
+pub loop-init : goal.loop-init
+loop-init g c = record { idle = c.requires; unsaid = refl; done = none_done c.args.hand.now c.new-done.result c.new-done.ensures.none }
+
+pub returns-then-not-is_under_way-clause-does : goal.returns-then-not-is_under_way-clause-does
+returns-then-not-is_under_way-clause-does g c =
+    done_within (c.loop.counter + 1) 16 c.args.hand.now c.turn.new.hand c.count.new.self (omega (arith, c.loop-test.true))
+    (one_more c.loop.counter c.args.hand.now c.loop.hand c.turn.new.hand c.loop.done c.count.new.self c.in_ok-turn.turn c.loop.invariant.done (c.in_ok-turn.ensures.turns, c.in_ok-turn.ensures.told) c.count.ensures.counted)
+
+pub returns-clause-does : goal.returns-clause-does
+returns-clause-does g c = done_within c.loop.counter 16 c.args.hand.now c.loop.hand c.loop.done (omega arith) c.loop.invariant.done
+
+pub loop-preserved : goal.loop-preserved
+loop-preserved g c = record {
+  idle = record { of_arena = c.turn.ensures.arena; ready = c.turn.ensures.ready; none = c.turn.ensures.holdings ∙ c.loop.invariant.idle.none };
+  unsaid = c.turn.ensures.unsaid ∙ c.loop.invariant.unsaid;
+  done = one_more c.loop.counter c.args.hand.now c.loop.hand c.turn.new.hand c.loop.done c.count.new.self c.in_ok-turn.turn c.loop.invariant.done (c.in_ok-turn.ensures.turns, c.in_ok-turn.ensures.told) c.count.ensures.counted;
+}

@@ -1,0 +1,12 @@
+use Rattle.std.proofs.Common.{◌≡◌}
+use Rattle.mc_words.specs.Arenas.{view}
+use Rattle.mc_byte_items.specs.Hands.{IsIdleHandOf}
+use Rattle.mc_cache.proofs.TurnsDone.{AreDone}
+use Rattle.mc_cache.proofs.window.do_turns.Given as goal
+
+abbrev pub invariant-loop : goal.invariant-loop
+invariant-loop g l = record {
+  idle : IsIdleHandOf l.arena l.hand;
+  unsaid : (view l.hand).row.knows.said ≡ (view l.fn.hand).row.knows.said;
+  done : AreDone l.counter l.fn.hand l.hand l.done;
+}

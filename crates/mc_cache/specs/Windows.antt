@@ -1,0 +1,90 @@
+-- A window of one shard: its survey, what its decider makes of that, and turns of its mover.
+use Rattle.std.specs.Prelude.{◌≡◌, ◌≤◌, ℕ, ◌+◌, ◌-◌, ◌^◌, true, is_some, is_none, min, if◌then◌else◌, List, [], ◌∷◌, length, Option, Some, None, Result, Ok, Err}
+use Rattle.mc_pages.specs.declared.moves.Reassign.{Reassign}
+use Rattle.mc_words.specs.declared.hand.Hand.{Hand}
+use Rattle.mc_words.specs.Reassigning.{Reassigns}
+use Rattle.mc_mover.specs.declared.counts.Turn.{Turn}
+use Rattle.mc_mover.specs.declared.numbers.Survey.{Survey}
+use Rattle.mc_mover.specs.Acting.{ActsOnce, TellsTurn}
+use Rattle.mc_mover.specs.Answering.{is_finished}
+use Rattle.mc_mover.specs.Surveying.{Surveys}
+use Rattle.mc_mover.specs.Telling.{counts_in}
+use Rattle.mc_mover.specs.Turning.{Turns}
+use Rattle.mc_watch.specs.declared.decider.Decision.{Decision}
+use Rattle.mc_watch.specs.declared.refusal.Feed.{Feed}
+use Rattle.mc_watch.specs.Decider.{DeciderState, after_window, decision_of, refusal_of}
+use Rattle.mc_cache.specs.declared.tended.Tended.{Tended}
+use Rattle.mc_cache.specs.Surveyed.{evictions_in, free_in, pages_in}
+
+-- why the decider doesn't take the numbers of a survey
+abbrev pub refusal_for : DeciderState → Survey → Option Feed
+refusal_for decider survey = refusal_of decider (evictions_in survey) (pages_in survey) (free_in survey)
+
+-- the decider at the end of a window with these numbers; it stays where it doesn't take them
+abbrev pub decider_after : DeciderState → Survey → DeciderState
+decider_after decider survey =
+    if is_some (refusal_for decider survey) then decider else after_window decider (evictions_in survey) (pages_in survey) (free_in survey)
+
+-- the decision then; there is none where it didn't take them
+abbrev pub decision_after : DeciderState → Survey → Option Decision
+decision_after decider survey = if is_none (refusal_for decider survey) then decision_of (decider_after decider survey) else None
+
+-- the page of the decision was asked for, and this was answered; or there is none, and nothing was done
+abbrev pub ActsOnDecision : Option Decision → Option (Result (Unit {0}) Reassign) → Hand → Hand → Type 0
+ActsOnDecision None None before now = now ≡ before
+ActsOnDecision (Some decision) (Some answer) before now = ActsOnce (λ number. Reassigns number (Some decision.src) decision.dst answer) before now
+ActsOnDecision decision answer before now = ⊥
+
+-- the dead of all classes were put back, the decider was fed what was left then, and its decision was acted on
+pub record EndsWindow (answer : Option (Result (Unit {0}) Reassign)) (decider : DeciderState) (before : Hand) (left : DeciderState) (now : Hand) : Type 0 where
+  pub survey : Survey
+  pub surveyed : Hand
+  pub surveys : ActsOnce (λ number. Surveys true survey) before surveyed
+  pub feeds : left ≡ decider_after decider survey
+  pub acts : ActsOnDecision (decision_after decider survey) answer surveyed now
+
+-- a turn was done, and of the hand's own calls just those came that it counts
+abbrev pub MakesTurn : Turn → Hand → Hand → Type 0
+MakesTurn turn before now = ActsOnce (λ number. Turns number turn) before now × TellsTurn before now turn
+
+-- these turns were done, one after another; the newest stands first
+unfoldable pub DoesTurns : List Turn → Hand → Hand → Type 0
+DoesTurns [] before now = now ≡ before
+DoesTurns (turn ∷ turns) before now = (between : Hand) × DoesTurns turns before between × MakesTurn turn between now
+
+-- a count to which more comes stays at 2^64 - 1 once there
+abbrev pub count_with : ℕ → ℕ → ℕ
+count_with more count = min (count + more) (2 ^ 64 - 1)
+
+-- nothing was done
+abbrev pub nothing_tended : Tended
+nothing_tended = record { began = 0; ended = 0; rescued = 0; evicted = 0 }
+
+-- what one more turn did is counted, too
+abbrev pub with_turn : Turn → Tended → Tended
+with_turn turn done = record {
+  began = done.began;
+  ended = count_with (if is_finished turn then 1 else 0) done.ended;
+  rescued = count_with (counts_in turn).rescued done.rescued;
+  evicted = count_with (counts_in turn).evicted done.evicted;
+}
+
+-- what these turns did
+unfoldable pub turns_tended : List Turn → Tended
+turns_tended [] = nothing_tended
+turns_tended (turn ∷ turns) = with_turn turn (turns_tended turns)
+
+-- how many moves began by this answer
+abbrev pub began_by : Option (Result (Unit {0}) Reassign) → ℕ
+began_by (Some (Ok _)) = 1
+began_by other = 0
+
+-- a window of a shard: it ended, at most 16 turns were done, and this is what they did
+pub record TendsShard (done : Tended) (decider : DeciderState) (before : Hand) (left : DeciderState) (now : Hand) : Type 0 where
+  pub answer : Option (Result (Unit {0}) Reassign)
+  pub asked : Hand
+  pub window : EndsWindow answer decider before left asked
+  pub turns : List Turn
+  pub few : length turns ≤ 16
+  pub does : DoesTurns turns asked now
+  pub counted : done ≡ record (turns_tended turns) { began = began_by answer }

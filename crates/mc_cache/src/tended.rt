@@ -1,0 +1,57 @@
+//! What a tender did.
+ghost use Rattle.std.specs.Prelude.{◌≡◌};
+ghost use Rattle.mc_cache.specs.Tending.{tended_with};
+ghost use Rattle.mc_cache.specs.Windows.{nothing_tended, with_turn};
+
+use mc_mover::Turn;
+
+/// What a tender did on all shards. Each number stays at 2^64 - 1 once there.
+#[derive(Debug, Clone, Copy, PartialEq, Eq)]
+pub struct Tended {
+    /// How many moves of a page began.
+    pub began: u64,
+    /// How many came to their end.
+    pub ended: u64,
+    /// How many items went to another chunk of their class.
+    pub rescued: u64,
+    /// How many items were evicted, as their class had no other chunk.
+    pub evicted: u64,
+}
+
+impl Tended {
+    // Nothing was done.
+    pub(crate) fn new() -> Tended
+        ensures none { result ≡ nothing_tended }
+    {
+        Tended {
+            began: 0,
+            ended: 0,
+            rescued: 0,
+            evicted: 0,
+        }
+    }
+
+    // Counts what the turn did, too.
+    pub(crate) fn count(&mut self, turn: Turn)
+        ensures counted { self.new ≡ with_turn turn self.old }
+    {
+        let (ended, rescued, evicted) = match turn {
+            Turn::Idle => (0, 0, 0),
+            Turn::Went(done) => (0, done.rescued, done.evicted),
+            Turn::Finished(done) => (1, done.rescued, done.evicted),
+        };
+        self.ended = self.ended.saturating_add(ended);
+        self.rescued = self.rescued.saturating_add(rescued);
+        self.evicted = self.evicted.saturating_add(evicted);
+    }
+
+    // Counts what was done on one shard more, too.
+    pub(crate) fn add(&mut self, more: Tended)
+        ensures added { self.new ≡ tended_with self.old more }
+    {
+        self.began = self.began.saturating_add(more.began);
+        self.ended = self.ended.saturating_add(more.ended);
+        self.rescued = self.rescued.saturating_add(more.rescued);
+        self.evicted = self.evicted.saturating_add(more.evicted);
+    }
+}

@@ -1,0 +1,113 @@
+//! A window of one shard.
+ghost use Rattle.std.specs.Prelude.{◌≡◌, ◌≤◌, IfOk, List, OnErr, OnOk, length};
+ghost use Rattle.mc_mover.specs.declared.counts.Turn.{Turn as TurnState};
+ghost use Rattle.mc_words.specs.Arenas.{view};
+ghost use Rattle.mc_items.specs.Keeping.{SaysNothing};
+ghost use Rattle.mc_byte_items.specs.Hands.{IsIdleHandOf};
+ghost use Rattle.mc_cache.specs.Windows.{DoesTurns, EndsWindow, TendsShard, began_by, decider_after, decision_after, turns_tended};
+
+use crate::numbers::{evictions_in, free_in, pages_in};
+use crate::tended::Tended;
+use mc_memory::Refused;
+use mc_mover::{Survey, Turn, reassign, survey, turn};
+use mc_pages::Reassign;
+use mc_watch::{Decider, Decision};
+use mc_words::{Arena, Hand};
+use std::alloc::Global;
+use std::sync::Wait;
+
+// How many turns a window has at most (own).
+const TURNS: u64 = 16;
+
+// A window of one shard, by a hand of its arena and by its own decider: the survey, the move that is decided on, and turns.
+pub(crate) fn tend_shard<R: Wait>(
+    rt: &R,
+    alloc: Global,
+    arena: &Arena,
+    hand: &mut Hand,
+    decider: &mut Decider,
+) -> Result<Tended, Refused>
+    requires { IsIdleHandOf arena.now hand.old }
+    ensures idle { IsIdleHandOf arena.now hand.new }
+    ensures unsaid { SaysNothing (view hand.old) (view hand.new) }
+    ensures tends { IfOk result (λ done. TendsShard done decider.old hand.old decider.new hand.new) }
+{
+    let answer = end_window(rt, alloc, arena, hand, decider)?;
+    let mut done = do_turns(rt, arena, hand)?;
+    done.began = count_begun(answer);
+    Ok(done)
+}
+
+// Puts the dead of all classes back, feeds the decider what is left then, and asks for the page that it decides on. Gives what was
+// answered. (slabs.c's automover)
+fn end_window<R: Wait>(
+    rt: &R,
+    alloc: Global,
+    arena: &Arena,
+    hand: &mut Hand,
+    decider: &mut Decider,
+) -> Result<Option<Result<(), Reassign>>, Refused>
+    requires { IsIdleHandOf arena.now hand.old }
+    ensures idle { IsIdleHandOf arena.now hand.new }
+    ensures unsaid { SaysNothing (view hand.old) (view hand.new) }
+    ensures ends { IfOk result (λ answer. EndsWindow answer decider.old hand.old decider.new hand.new) }
+{
+    let survey = survey(rt, alloc, arena, hand, true)?;
+    let Some(decision) = decide(alloc, decider, &survey)? else {
+        return Ok(None);
+    };
+    let Decision { src, dst } = decision;
+    Ok(Some(reassign(rt, arena, hand, Some(src), dst)))
+}
+
+// Feeds the decider the numbers of a window. Gives what it decides.
+fn decide(
+    alloc: Global,
+    decider: &mut Decider,
+    survey: &Survey,
+) -> Result<Option<Decision>, Refused>
+    ensures fed { OnOk result (decider.new ≡ decider_after decider.old survey.now) }
+    ensures decided { IfOk result (λ decided. decided ≡ decision_after decider.old survey.now) }
+    ensures kept { OnErr result (decider.new ≡ decider.old) }
+{
+    let evictions = evictions_in(alloc, survey)?;
+    let pages = pages_in(alloc, survey)?;
+    let free = free_in(alloc, survey)?;
+    match decider.feed(&evictions, &pages, &free) {
+        Ok(decision) => Ok(decision),
+        Err(_) => Ok(None),
+    }
+}
+
+// Does turns until one finds no move or ends one, as many as a window has at most.
+fn do_turns<R: Wait>(rt: &R, arena: &Arena, hand: &mut Hand) -> Result<Tended, Refused>
+    requires { IsIdleHandOf arena.now hand.old }
+    ensures idle { IsIdleHandOf arena.now hand.new }
+    ensures unsaid { SaysNothing (view hand.old) (view hand.new) }
+    ensures does { IfOk result (λ done. (turns : List TurnState) × (length turns ≤ 16) × DoesTurns turns hand.old hand.new × (done ≡ turns_tended turns)) }
+{
+    let mut done = Tended::new();
+    for _ in 0..TURNS {
+        let turn = turn(rt, arena, hand)?;
+        done.count(turn);
+        if !is_under_way(turn) {
+            return Ok(done);
+        }
+    }
+    Ok(done)
+}
+
+// How many moves began by this answer.
+fn count_begun(answer: Option<Result<(), Reassign>>) -> u64
+    ensures begun { result ≡ began_by answer }
+{
+    match answer {
+        Some(Ok(())) => 1,
+        Some(Err(_)) | None => 0,
+    }
+}
+
+// Whether the page moves still.
+fn is_under_way(turn: Turn) -> bool {
+    matches!(turn, Turn::Went(_))
+}
