@@ -1,17 +1,13 @@
 -- Turns of a window, one after another.
-use Rattle.std.proofs.Common.{◌≡◌, ◌≤◌, ◌+◌, ◌∷◌, ◌∙◌, [], ℕ, List, ap, arith, length, refl}
+use Rattle.std.proofs.Common.{◌≡◌, ◌<◌, false, ◌+◌, ◌∷◌, ◌∙◌, [], ℕ, List, ap, arith, length, refl}
 use Rattle.mc_mover.specs.declared.counts.Turn.{Turn}
 use Rattle.mc_words.specs.declared.hand.Hand.{Hand}
 use Rattle.mc_cache.specs.declared.tended.Tended.{Tended}
-use Rattle.mc_cache.specs.Windows.{DoesTurns, MakesTurn, nothing_tended, turns_tended, with_turn}
+use Rattle.mc_cache.specs.Windows.{DoesTurns, DoesWindowTurns, MakesTurn, is_under_way, nothing_tended, turns_tended, with_turn}
 
 -- so many turns were done, and did this
 abbrev pub AreDone : ℕ → Hand → Hand → Tended → Type 0
 AreDone count before now done = (turns : List Turn) × (length turns ≡ count) × DoesTurns turns before now × (done ≡ turns_tended turns)
-
--- at most so many
-abbrev pub AreDoneWithin : ℕ → Hand → Hand → Tended → Type 0
-AreDoneWithin most before now done = (turns : List Turn) × (length turns ≤ most) × DoesTurns turns before now × (done ≡ turns_tended turns)
 
 pub none_done : (hand : Hand) (done : Tended) → done ≡ nothing_tended → AreDone 0 hand hand done
 unfolding DoesTurns turns_tended
@@ -21,5 +17,17 @@ pub one_more : (count : ℕ) (before between now : Hand) (done after : Tended) (
 unfolding DoesTurns turns_tended
 one_more count before between now done after turn h makes is = (turn ∷ h.0, omega (arith, h.1), (between, h.2, makes), is ∙ ap (with_turn turn) h.3)
 
-pub done_within : (count most : ℕ) (before now : Hand) (done : Tended) → count ≤ most → AreDone count before now done → AreDoneWithin most before now done
-done_within count most before now done few h = (h.0, omega (arith, h.1, few), h.2, h.3)
+-- the last one found no move, or ended one
+pub last_done : (count : ℕ) (before between now : Hand) (done after : Tended) (turn : Turn) → count < 16 → AreDone count before between done → MakesTurn turn between now → after ≡ with_turn turn done → is_under_way turn ≡ false → DoesWindowTurns after before now
+unfolding DoesTurns turns_tended
+last_done count before between now done after turn less h makes is over = record {
+  turns = turn ∷ h.0;
+  most = omega (arith, h.1, less);
+  fewer = λ fewer. over;
+  does = (between, h.2, makes);
+  counted = is ∙ ap (with_turn turn) h.3;
+}
+
+-- or so many were done
+pub all_done : (count : ℕ) (before now : Hand) (done : Tended) → count ≡ 16 → AreDone count before now done → DoesWindowTurns done before now
+all_done count before now done all h = record { turns = h.0; most = omega (arith, h.1, all); fewer = λ fewer. absurd (omega (arith, h.1, all, fewer)); does = h.2; counted = h.3 }

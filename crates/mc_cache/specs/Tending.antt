@@ -1,5 +1,5 @@
 -- A tender and its cache, and what it does on all shards.
-use Rattle.std.specs.Prelude.{◌≡◌, ◌<◌, ◌+◌, ℕ, List, [], ◌∷◌, fold, length, slice_index_or}
+use Rattle.std.specs.Prelude.{◌≡◌, ◌<◌, ℕ, List, fold, length, slice_index_or}
 use Rattle.mc_watch.specs.Decider.{DeciderState, fresh_decider}
 use Rattle.mc_words.specs.declared.arena.Arena.{Arena}
 use Rattle.mc_words.specs.declared.hand.Hand.{Hand}
@@ -9,7 +9,7 @@ use Rattle.mc_cache.specs.declared.cache.Cache.{Cache}
 use Rattle.mc_cache.specs.declared.tended.Tended.{Tended}
 use Rattle.mc_cache.specs.declared.tending.Tender.{Tender}
 use Rattle.mc_cache.specs.Belonging.{BelongsTo}
-use Rattle.mc_cache.specs.Observers.{arenas_of, shard_count}
+use Rattle.mc_cache.specs.Observers.{shard_count}
 use Rattle.mc_cache.specs.Windows.{TendsShard, count_with, nothing_tended}
 
 -- the tender's hands and deciders, shard by shard

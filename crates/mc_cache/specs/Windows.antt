@@ -1,9 +1,10 @@
 -- A window of one shard: its survey, what its decider makes of that, and turns of its mover.
-use Rattle.std.specs.Prelude.{◌≡◌, ◌≤◌, ℕ, ◌+◌, ◌-◌, ◌^◌, true, is_some, is_none, min, if◌then◌else◌, List, [], ◌∷◌, length, Option, Some, None, Result, Ok, Err}
+use Rattle.std.specs.Prelude.{◌≡◌, ◌<◌, ◌≤◌, ℕ, ◌+◌, ◌-◌, ◌^◌, Bool, true, false, is_some, is_none, min, if◌then◌else◌, List, [], ◌∷◌, length, Option, Some, None, Result, Ok}
 use Rattle.mc_pages.specs.declared.moves.Reassign.{Reassign}
 use Rattle.mc_words.specs.declared.hand.Hand.{Hand}
 use Rattle.mc_words.specs.Reassigning.{Reassigns}
 use Rattle.mc_mover.specs.declared.counts.Turn.{Turn}
+use Rattle.mc_mover.specs.declared.counts.Turn.TheVariants.{Went}
 use Rattle.mc_mover.specs.declared.numbers.Survey.{Survey}
 use Rattle.mc_mover.specs.Acting.{ActsOnce, TellsTurn}
 use Rattle.mc_mover.specs.Answering.{is_finished}
@@ -43,6 +44,11 @@ pub record EndsWindow (answer : Option (Result (Unit {0}) Reassign)) (decider : 
   pub feeds : left ≡ decider_after decider survey
   pub acts : ActsOnDecision (decision_after decider survey) answer surveyed now
 
+-- the page that the turn found on the move is so still
+abbrev pub is_under_way : Turn → Bool
+is_under_way (Went counts) = true
+is_under_way other = false
+
 -- a turn was done, and of the hand's own calls just those came that it counts
 abbrev pub MakesTurn : Turn → Hand → Hand → Type 0
 MakesTurn turn before now = ActsOnce (λ number. Turns number turn) before now × TellsTurn before now turn
@@ -79,12 +85,24 @@ abbrev pub began_by : Option (Result (Unit {0}) Reassign) → ℕ
 began_by (Some (Ok _)) = 1
 began_by other = 0
 
--- a window of a shard: it ended, at most 16 turns were done, and this is what they did
+-- the newest of these turns found no move, or ended one
+abbrev pub HasEnded : List Turn → Type 0
+HasEnded [] = ⊥
+HasEnded (turn ∷ turns) = is_under_way turn ≡ false
+
+-- the turns of a window, and what they did: 16, or fewer where one found no move or ended one
+pub record DoesWindowTurns (done : Tended) (before now : Hand) : Type 0 where
+  pub turns : List Turn
+  pub most : length turns ≤ 16
+  pub fewer : length turns < 16 → HasEnded turns
+  pub does : DoesTurns turns before now
+  pub counted : done ≡ turns_tended turns
+
+-- a window of a shard: it ended, turns were done, and this is what was done in all
 pub record TendsShard (done : Tended) (decider : DeciderState) (before : Hand) (left : DeciderState) (now : Hand) : Type 0 where
   pub answer : Option (Result (Unit {0}) Reassign)
   pub asked : Hand
   pub window : EndsWindow answer decider before left asked
-  pub turns : List Turn
-  pub few : length turns ≤ 16
-  pub does : DoesTurns turns asked now
-  pub counted : done ≡ record (turns_tended turns) { began = began_by answer }
+  pub counts : Tended
+  pub turns : DoesWindowTurns counts asked now
+  pub counted : done ≡ record counts { began = began_by answer }

@@ -1,10 +1,9 @@
 //! A window of one shard.
-ghost use Rattle.std.specs.Prelude.{◌≡◌, ◌≤◌, IfOk, List, OnErr, OnOk, length};
-ghost use Rattle.mc_mover.specs.declared.counts.Turn.{Turn as TurnState};
+ghost use Rattle.std.specs.Prelude.{◌≡◌, IfOk, OnErr, OnOk};
 ghost use Rattle.mc_words.specs.Arenas.{view};
 ghost use Rattle.mc_items.specs.Keeping.{SaysNothing};
 ghost use Rattle.mc_byte_items.specs.Hands.{IsIdleHandOf};
-ghost use Rattle.mc_cache.specs.Windows.{DoesTurns, EndsWindow, TendsShard, began_by, decider_after, decision_after, turns_tended};
+ghost use Rattle.mc_cache.specs.Windows.{DoesWindowTurns, EndsWindow, TendsShard, began_by, decider_after, decision_after, is_under_way};
 
 use crate::numbers::{evictions_in, free_in, pages_in};
 use crate::tended::Tended;
@@ -84,7 +83,7 @@ fn do_turns<R: Wait>(rt: &R, arena: &Arena, hand: &mut Hand) -> Result<Tended, R
     requires { IsIdleHandOf arena.now hand.old }
     ensures idle { IsIdleHandOf arena.now hand.new }
     ensures unsaid { SaysNothing (view hand.old) (view hand.new) }
-    ensures does { IfOk result (λ done. (turns : List TurnState) × (length turns ≤ 16) × DoesTurns turns hand.old hand.new × (done ≡ turns_tended turns)) }
+    ensures does { IfOk result (λ done. DoesWindowTurns done hand.old hand.new) }
 {
     let mut done = Tended::new();
     for _ in 0..TURNS {
@@ -108,6 +107,8 @@ fn count_begun(answer: Option<Result<(), Reassign>>) -> u64
 }
 
 // Whether the page moves still.
-fn is_under_way(turn: Turn) -> bool {
+fn is_under_way(turn: Turn) -> bool
+    ensures under_way { result ≡ is_under_way turn }
+{
     matches!(turn, Turn::Went(_))
 }

@@ -58,7 +58,7 @@ fn act<R: Wait>(
 /// Drawn calls over four shards, of which each has room for a part of its keys.
 #[test]
 fn what_is_there_is_what_was_stored(rt: HostRuntime) -> Result<(), Fail> {
-    let (cache, mut workers) = Cache::new(&rt, rt.alloc(), &config_of(4, 1), HASH_KEY)?;
+    let (cache, mut workers, _tender) = Cache::new(&rt, rt.alloc(), &config_of(4, 1), HASH_KEY)?;
     let Some(mut worker) = next_worker(&cache, &mut workers) else {
         return Err(Fail::new("there is a worker"));
     };

@@ -68,7 +68,7 @@ fn work<R: Wait>(rt: &R, alloc: Global, cache: &Cache, worker: Worker, seed: u64
 /// Two threads at once over two shards of few pages.
 #[test]
 fn threads_find_their_values(rt: HostRuntime) -> Result<(), Fail> {
-    let (cache, mut workers) = Cache::new(&rt, rt.alloc(), &config_of(2, 2), HASH_KEY)?;
+    let (cache, mut workers, _tender) = Cache::new(&rt, rt.alloc(), &config_of(2, 2), HASH_KEY)?;
     let (Some(first), Some(second)) = (
         next_worker(&cache, &mut workers),
         next_worker(&cache, &mut workers),

@@ -1,5 +1,5 @@
-use Rattle.std.proofs.Common.{◌+◌, ◌∙◌, arith, refl}
-use Rattle.mc_cache.proofs.TurnsDone.{done_within, none_done, one_more}
+use Rattle.std.proofs.Common.{◌∙◌, arith, refl, sym}
+use Rattle.mc_cache.proofs.TurnsDone.{all_done, last_done, none_done, one_more}
 use Rattle.mc_cache.proofs.window.do_turns.Goals as goal
 
 pub loop-init : goal.loop-init
@@ -7,11 +7,11 @@ loop-init g c = record { idle = c.requires; unsaid = refl; done = none_done c.ar
 
 pub returns-then-not-is_under_way-clause-does : goal.returns-then-not-is_under_way-clause-does
 returns-then-not-is_under_way-clause-does g c =
-    done_within (c.loop.counter + 1) 16 c.args.hand.now c.turn.new.hand c.count.new.self (omega (arith, c.loop-test.true))
-    (one_more c.loop.counter c.args.hand.now c.loop.hand c.turn.new.hand c.loop.done c.count.new.self c.in_ok-turn.turn c.loop.invariant.done (c.in_ok-turn.ensures.turns, c.in_ok-turn.ensures.told) c.count.ensures.counted)
+    last_done c.loop.counter c.args.hand.now c.loop.hand c.turn.new.hand c.loop.done c.count.new.self c.in_ok-turn.turn (omega (arith, c.loop-test.true)) c.loop.invariant.done (c.in_ok-turn.ensures.turns, c.in_ok-turn.ensures.told) c.count.ensures.counted
+    (sym c.is_under_way.ensures.under_way ∙ c.if-not-is_under_way.true)
 
 pub returns-clause-does : goal.returns-clause-does
-returns-clause-does g c = done_within c.loop.counter 16 c.args.hand.now c.loop.hand c.loop.done (omega arith) c.loop.invariant.done
+returns-clause-does g c = all_done c.loop.counter c.args.hand.now c.loop.hand c.loop.done (omega arith) c.loop.invariant.done
 
 pub loop-preserved : goal.loop-preserved
 loop-preserved g c = record {

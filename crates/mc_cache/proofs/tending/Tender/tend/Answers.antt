@@ -1,4 +1,4 @@
-use Rattle.std.proofs.Common.{◌≡◌, ◌<◌, ◌∙◌, arith, length, refl}
+use Rattle.std.proofs.Common.{◌<◌, ◌∙◌, arith, length, refl}
 use Rattle.std.proofs.lemmas.List.{length-set}
 use Rattle.mc_cache.specs.Tending.{deciders_of, hands_of}
 use Rattle.mc_cache.proofs.Acts.{idle_after}
