@@ -78,5 +78,5 @@ arena_accepted config h =
 pub bytes_are : (config : CacheConfig) (arenas : List Arena) → refusal_of config.arena ≡ None → length arenas ≡ config.shards → All (IsNewShard config) arenas → 8 * words_of_arenas arenas ≡ bytes_of config
 bytes_are config arenas none count new =
     let all : words_of_arenas arenas ≡ length arenas * words_an_arena config.arena =
-        words_of_all arenas (words_an_arena config.arena) (λ place arena near. words_are config.arena (config.workers + 1) (setup_of (get_or arenas place arena)) none (new place arena near).made) in
+    words_of_all arenas (words_an_arena config.arena) (λ place arena near. words_are config.arena (config.workers + 1) (setup_of (get_or arenas place arena)) none (new place arena near).made) in
     rw (all, count) (omega arith)
