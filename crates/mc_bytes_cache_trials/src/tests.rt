@@ -2,5 +2,6 @@
 mod collided;
 mod drawn;
 mod made;
+mod tended;
 mod threads;
 mod values;
