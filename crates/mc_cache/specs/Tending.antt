@@ -12,10 +12,11 @@ use Rattle.mc_cache.specs.Belonging.{BelongsTo}
 use Rattle.mc_cache.specs.Observers.{shard_count}
 use Rattle.mc_cache.specs.Windows.{TendsShard, count_with, nothing_tended}
 
--- the tender's hands and deciders, shard by shard
+-- the tender's hands, shard by shard
 abbrev pub hands_of : Tender → List Hand
 hands_of tender = tender.worker.hands.items
 
+-- and its deciders
 abbrev pub deciders_of : Tender → List DeciderState
 deciders_of tender = tender.deciders.items
 
