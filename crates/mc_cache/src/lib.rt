@@ -18,6 +18,6 @@ pub use bytes::worked_bytes;
 pub use cache::{Cache, Worker};
 pub use hashing::HashKey;
 pub use opening::{CacheConfig, NewError};
-pub use tended::Tended;
+pub use tended::{Tended, worked_tended};
 pub use tending::Tender;
 pub use working::{CallError, SetError, TryGetError};
