@@ -64,5 +64,4 @@ pub fn worked_tended()
     ensures turns { turns_tended (Finished (record { cleared = 5; rescued = 2; evicted = 3; busy = 0; locked = 0 }) ∷ Went (record { cleared = 4; rescued = 1; evicted = 0; busy = 6; locked = 7 }) ∷ []) ≡ record { began = 0; ended = 1; rescued = 3; evicted = 3 } }
     ensures shards { tended_in_all (record { began = 1; ended = 0; rescued = 2; evicted = 3 } ∷ record { began = 1; ended = 1; rescued = 0; evicted = 1 } ∷ []) ≡ record { began = 2; ended = 1; rescued = 2; evicted = 4 } }
     ensures stays { count_with 3 (2 ^ 64 - 2) ≡ 2 ^ 64 - 1 }
-{
-}
+{}
