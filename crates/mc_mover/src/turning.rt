@@ -25,6 +25,9 @@ use std::sync::Wait;
 /// The dead of the class are put back once a turn, before its first rescue or eviction, and once more before each later item that finds
 /// no free chunk, as an eviction has to have seen that none is dead. So a turn of rescues alone looks at each chunk of the class once. (own)
 ///
+/// Where hands have waited for that lock, the turn lets other threads run before it takes it, as often as it looks at chunks: turns that
+/// follow each other at once leave nobody else in between. (own)
+///
 /// Of the hand's own calls just the evictions and the rescues that it counts come, each in its key's stripe; it says nothing, and gives out
 /// no stamp.
 ///
@@ -46,6 +49,7 @@ pub fn turn<R: Wait>(rt: &R, arena: &Arena, hand: &mut Hand) -> Result<Turn, NoM
     ensures keeps { KeepsRefs (view hand.old) (view hand.new) }
     ensures unsaid { (view hand.new).row.knows.said ≡ (view hand.old).row.knows.said }
 {
+    arena.rest(arena.config().bulk);
     let mut held = arena.lock_slabs(rt, hand);
     let answer = turn_held(arena, hand, &mut held);
     arena.give_slabs(hand, held);

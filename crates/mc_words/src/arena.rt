@@ -6,6 +6,7 @@ ghost use Rattle.mc_core.specs.State.{most_of, page_words};
 ghost use Rattle.mc_words.specs.Layout.{data_from, heads_from, pages_from, word_count};
 ghost use Rattle.mc_words.specs.Slots.{slot_count};
 
+use crate::contention::Contention;
 use crate::hints::Hints;
 use crate::plan::Plan;
 use crate::rule::SharedTable;
@@ -26,6 +27,8 @@ pub struct Arena {
     pub(crate) words_a_page: u64,
     /// Where dead chunks may be.
     pub(crate) hints: Hints,
+    /// Whether hands wait for the lock of the slabs.
+    pub(crate) contention: Contention,
     ghost planned: { table.shared.key ≡ plan },
     ghost words: { table.shared.table_id.words ≡ word_count plan },
     ghost slots: { table.shared.table_id.slots ≡ slot_count plan.config.stripes },

@@ -7,6 +7,7 @@ mod changing;
 mod clearing;
 mod closing;
 mod condemning;
+mod contention;
 mod copying;
 mod cutting;
 mod dead;

@@ -11,6 +11,7 @@ ghost use Rattle.mc_words.specs.Opening.{first_slots, first_view, first_words};
 
 use crate::arena::Arena;
 use crate::boxed::BoxedStripe;
+use crate::contention::Contention;
 use crate::hand::Hand;
 use crate::header::ISSUE_UNIT;
 use crate::hints::Hints;
@@ -124,6 +125,7 @@ impl Arena {
             first_head: places.heads,
             first_data: places.data,
             hints,
+            contention: Contention::new(),
             table,
             plan,
         };

@@ -44,7 +44,7 @@ impl Arena {
     }
 
     /// Takes the lock of the slabs. Where it isn't free it reads the lock's word until it is, and tries again. After some looks it lets other
-    /// threads run.
+    /// threads run. That it waits is noted, for `rest`.
     pub fn lock_slabs<R: Wait>(&self, rt: &R, hand: &mut Hand) -> SlabsHeld
         requires arena { IsHandOf self.now hand.old }
         requires unlocked { is_unlocked (view hand.old) ≡ true }
@@ -61,6 +61,7 @@ impl Arena {
                     return held;
                 }
             }
+            self.contention.note();
             backoff.snooze();
             free = self.slabs_word(hand) == 0;
         }
@@ -92,5 +93,17 @@ impl Arena {
             free = self.stripe_word(hand, stripe) == 0;
         }
         unreachable!()
+    }
+
+    /// Where a hand has waited for the lock of the slabs since the last rest, this lets other threads run, so many times. To be called by
+    /// who takes that lock again and again and has it long, as a mover does: on what comes at once after it gave the lock, nobody else gets
+    /// in. It changes nothing that is proved, and no lock is to be held meanwhile. (own)
+    pub fn rest(&self, times: u64) {
+        if self.contention.take() {
+            let backoff = Backoff::new();
+            for _ in 0..times {
+                backoff.snooze();
+            }
+        }
     }
 }
