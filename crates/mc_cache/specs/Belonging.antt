@@ -19,6 +19,7 @@ HaveIdleHands arenas workers = All (λ worker. AreIdleHands arenas worker.hands.
 abbrev pub hash_in : Cache → List ℕ → ℕ
 hash_in cache key = hash_of cache.hashing key
 
+-- the shard of a key: the place of the arena that has it, counted from 0
 abbrev pub shard_in : Cache → List ℕ → ℕ
 shard_in cache key = shard_of (length cache.arenas.items) (hash_in cache key)
 

@@ -53,16 +53,20 @@ new_holding state chunk purpose = record {
 abbrev pub with_fresh : State → ℕ → ChunkId → Purpose → State
 with_fresh state hand chunk purpose = with_holding (with_head state chunk (handed_out (head_at state chunk))) hand (new_holding state chunk purpose)
 
+-- the chunk that the class hands out next, none where its free list is empty
 abbrev pub next_free : State → ℕ → Option ChunkId
 next_free state class = first_free (class_at state.slabs class)
 
+-- the hand has the slabs lock and a place left, and the class's next free chunk can be handed out
 abbrev pub can_pop : State → ℕ → ℕ → Bool
 can_pop state hand class = has_slabs state hand && is_class state.table class && has_place state hand && can_hand_out state (next_free state class)
 
+-- header, holdings and looks after this chunk went to the hand for its own item; without one nothing changes
 abbrev pub popped : State → ℕ → Option ChunkId → State
 popped state hand None = state
 popped state hand (Some chunk) = with_look (with_fresh state hand chunk Item) hand (Popped chunk (handed_out (head_at state chunk)))
 
+-- the class's next free chunk is handed out to the hand, for an item of its own
 abbrev pub after_pop : State → ℕ → ℕ → State
 after_pop state hand class = popped (with_slabs state (slabs_changes.after_pop state.slabs class)) hand (next_free state class)
 
@@ -78,16 +82,19 @@ is_target table heads page chunk = not (chunk.page == page) && nat_lt (head_in t
 abbrev pub target_of : Classes → List Head → SlabState → ℕ → Option ChunkId
 target_of table heads slabs page = find (is_target table heads page) (class_at slabs (class_of_page slabs page)).free
 
+-- the hand has the slabs lock and a place left; the old chunk is handed out, its page moves, a chunk can replace it
 abbrev pub can_pop_off : State → ℕ → ChunkId → Bool
 can_pop_off state hand old =
     has_slabs state hand && is_moving_page state.slabs old.page && is_handed_out state.slabs old && has_place state hand && can_hand_out state (target_of state.table state.heads state.slabs old.page)
 
+-- this free chunk takes the old one's place and goes to the hand for a copy; without one nothing changes
 abbrev pub popped_off : State → ℕ → ChunkId → Option ChunkId → State
 popped_off state hand old None = state
 popped_off state hand old (Some chunk) =
     with_look (with_fresh (with_slabs state (slabs_changes.after_replace state.slabs chunk old)) hand chunk (Copy old)) hand
     (PoppedOff chunk old (handed_out (head_at state chunk)))
 
+-- the first free chunk to which the old one's item can be taken gets its place, and goes to the hand for a copy
 abbrev pub after_pop_off : State → ℕ → ChunkId → State
 after_pop_off state hand old = popped_off state hand old (target_of state.table state.heads state.slabs old.page)
 
@@ -96,6 +103,7 @@ abbrev pub can_fill_in : ℕ → Option Holding → Bool
 can_fill_in place None = false
 can_fill_in place (Some holding) = is_fresh holding && nat_lt place (length (words_of holding))
 
+-- the hand's first holding of the chunk is fresh, and the chunk has such a place
 abbrev pub can_fill : State → ℕ → ChunkId → ℕ → Bool
 can_fill state hand chunk place = can_fill_in place (holding_of chunk (holdings_at state hand))
 
@@ -108,6 +116,7 @@ filled_kind place word (Fresh purpose words) = Fresh purpose (slice_set words pl
 abbrev pub filled : ℕ → ℕ → Holding → Holding
 filled place word holding = record holding { kind = filled_kind place word holding.kind }
 
+-- the word stands at this place of the chunk, and the hand's fresh holding of it knows so
 abbrev pub after_fill : State → ℕ → ChunkId → ℕ → ℕ → State
 after_fill state hand chunk place word = with_word (with_changed state hand (is_of chunk) (filled place word)) chunk place word
 
@@ -120,9 +129,11 @@ abbrev pub holds_as : Bool → Option Holding → Bool
 holds_as fresh None = false
 holds_as fresh (Some holding) = is_fresh holding && fresh || not (is_fresh holding) && not fresh
 
+-- the hand's first holding of the chunk is fresh
 abbrev pub can_discard : State → ℕ → ChunkId → Bool
 can_discard state hand chunk = holds_as true (holding_of chunk (holdings_at state hand))
 
+-- the hand's first holding of the chunk is a reference
 abbrev pub can_release : State → ℕ → ChunkId → Bool
 can_release state hand chunk = holds_as false (holding_of chunk (holdings_at state hand))
 
@@ -130,25 +141,31 @@ can_release state hand chunk = holds_as false (holding_of chunk (holdings_at sta
 abbrev pub after_drop : State → ℕ → ChunkId → State
 after_drop state hand chunk = without_holding (with_head state chunk (let_go (head_at state chunk))) hand (is_of chunk)
 
+-- a header whose chunk came to its free list: issue and count are as they were
 abbrev pub with_tag_free : Head → Head
 with_tag_free head = record head { tag = Free }
 
+-- a header whose chunk was cleared: issue and count are as they were
 abbrev pub with_tag_out : Head → Head
 with_tag_out head = record head { tag = Out }
 
+-- the hand has the slabs lock, and the chunk is dead and in the hand-out order of its class
 abbrev pub can_put_back : State → ℕ → ChunkId → Bool
 can_put_back state hand chunk = has_slabs state hand && has_chunk state.table chunk && is_dead (head_at state chunk) && is_handed_out state.slabs chunk
 
+-- the dead chunk goes from the hand-out order to the head of the free list, with the issue that it had
 abbrev pub after_put_back : State → ℕ → ChunkId → State
 after_put_back state hand chunk =
     with_look (with_head (with_slabs state (slabs_changes.after_back state.slabs chunk)) chunk (with_tag_free (head_at state chunk))) hand
     (PutBack chunk (with_tag_free (head_at state chunk)))
 
+-- the hand has the slabs lock, and the chunk is free or dead, in a list of its class, and on the moving page
 abbrev pub can_clear : State → ℕ → ChunkId → Bool
 can_clear state hand chunk =
     has_slabs state hand && has_chunk state.table chunk && is_moving_page state.slabs chunk.page && (is_free (head_at state chunk).tag || is_dead (head_at state chunk))
     && is_listed state.slabs (class_of_page state.slabs chunk.page) chunk
 
+-- the chunk of the moving page leaves the list that it is in and is out, with the issue that it had
 abbrev pub after_clear : State → ℕ → ChunkId → State
 after_clear state hand chunk =
     with_look (with_head (with_slabs state (slabs_changes.after_clear state.slabs chunk)) chunk (with_tag_out (head_at state chunk))) hand
@@ -158,9 +175,11 @@ after_clear state hand chunk =
 abbrev pub is_next_uncut : SlabState → ChunkId → Bool
 is_next_uncut slabs chunk = option_map_or (λ next. is_chunk next chunk) slabs.uncut false
 
+-- the hand has the slabs lock, and the chunk is the one to be cut next, and out
 abbrev pub can_cut : State → ℕ → ChunkId → Bool
 can_cut state hand chunk = has_slabs state hand && has_chunk state.table chunk && is_next_uncut state.slabs chunk && is_out (head_at state chunk).tag
 
+-- the chunk is cut: it goes to the head of its class's free list, with the issue that it had
 abbrev pub after_cut : State → ℕ → ChunkId → State
 after_cut state hand chunk =
     with_look (with_head (with_slabs state (slabs_changes.after_cut state.slabs chunk)) chunk (with_tag_free (head_at state chunk))) hand

@@ -34,6 +34,7 @@ Each P = All (All P)
 abbrev pub holds : ChunkId → List Holding → ℕ
 holds chunk holdings = count_by (is_of chunk) holdings
 
+-- how often all hands together hold the chunk, each counted as often as it holds it
 abbrev pub holders : ChunkId → List (List Holding) → ℕ
 holders chunk [] = 0
 holders chunk (row ∷ rows) = holds chunk row + holders chunk rows

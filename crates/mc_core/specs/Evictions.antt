@@ -58,6 +58,7 @@ is_linked_unheld head = is_linked head.tag && head.count == 1
 abbrev pub can_lose_entry : ReadyStripe → ℕ → Bool → Bool
 can_lose_entry stripe key rescues = stripe.ready && is_some (place_of stripe.state key) && (not rescues || is_none stripe.state.aside)
 
+-- under both locks: the chunk is linked and unheld, its key's entry can go, and there is a reason to take the item away
 abbrev pub can_condemn : State → ℕ → ChunkId → Bool
 can_condemn state hand chunk =
     has_slabs state hand && has_chunk state.table chunk && is_linked_unheld (head_at state chunk) && has_stripe state hand (stripe_of state (key_at state chunk))
@@ -86,6 +87,7 @@ abbrev pub with_told : State → ℕ → ChunkId → ℕ → State
 with_told state hand chunk key =
     with_stripe state (stripe_of state key) (stripe_condemned (stripe_at state (stripe_of state key)) (has_copy (holdings_at state hand) chunk) (writer_of state hand) key)
 
+-- the chunk is dead, its key's entry evicted, or put aside where the hand has a copy, which is to have its words
 abbrev pub after_condemn : State → ℕ → ChunkId → State
 after_condemn state hand chunk =
     with_look (with_head (with_bound (with_told state hand chunk (key_at state chunk)) hand chunk (item_at state chunk)) chunk (condemned (head_at state chunk)))

@@ -12,6 +12,7 @@ abbrev pub is_idle : State → ℕ → Bool
 is_idle state hand =
     not (has_slabs state hand) && has_no_stripe state hand && length (holdings_at state hand) == 0
 
+-- the kept hand is the one that steps, the spent one another that is there, and neither has a lock or a chunk
 abbrev pub can_join : State → ℕ → ℕ → ℕ → Bool
 can_join state hand kept spent = hand == kept && not (kept == spent) && is_hand state spent && is_idle state kept && is_idle state spent
 

@@ -4,6 +4,7 @@ use Rattle.mc_core.specs.declared.head.Head.{Head}
 use Rattle.mc_core.specs.declared.head.Tag.{Tag}
 use Rattle.mc_core.specs.declared.head.Tag.TheVariants.{Out, Free, Unlinked, Linked}
 
+-- the number of a tag, as it stands in a header's word
 abbrev pub number_of : Tag → ℕ
 number_of Out = 0
 number_of Free = 1
@@ -30,14 +31,17 @@ abbrev pub is_free : Tag → Bool
 is_free Free = true
 is_free tag = false
 
+-- the chunk is in no list: it wasn't cut for its page's class, or was cleared as its page moves
 abbrev pub is_out : Tag → Bool
 is_out Out = true
 is_out tag = false
 
+-- the chunk is handed out, and no key leads to it, whether a hand holds it or not
 abbrev pub is_unlinked : Tag → Bool
 is_unlinked Unlinked = true
 is_unlinked tag = false
 
+-- the chunk is handed out, and the key in its first word leads to it
 abbrev pub is_linked : Tag → Bool
 is_linked Linked = true
 is_linked tag = false

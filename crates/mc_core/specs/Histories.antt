@@ -32,6 +32,7 @@ abbrev pub is_set_of : ℕ → Call → Bool
 is_set_of stamp (Set hand key own) = own == stamp
 is_set_of stamp other = false
 
+-- how often the stamp was stored in the histories of all these stripes together
 abbrev pub set_count : ℕ → List ReadyStripe → ℕ
 set_count stamp [] = 0
 set_count stamp (stripe ∷ stripes) = count_by (is_set_of stamp) stripe.state.history + set_count stamp stripes

@@ -24,9 +24,11 @@ numbers words = map (λ word. unwrap_or word 0) words
 abbrev pub key_of : List ℕ → ℕ
 key_of item = slice_index item 0
 
+-- the stamp of an item, which is its second word; 0 where it has none
 abbrev pub stamp_of : List ℕ → ℕ
 stamp_of item = slice_index item 1
 
+-- how many words an item takes: key, stamp and length, and then as many as its third word says
 abbrev pub length_of : List ℕ → ℕ
 length_of item = 3 + slice_index item 2
 
@@ -34,9 +36,11 @@ length_of item = 3 + slice_index item 2
 abbrev pub word_in : Words → ℕ → ℕ
 word_in words place = unwrap_or (slice_index_or words place None) 0
 
+-- the key among these words, which is the first; 0 where it isn't known
 abbrev pub key_in : Words → ℕ
 key_in words = word_in words 0
 
+-- the stamp among these words, which is the second; 0 where it isn't known
 abbrev pub stamp_in : Words → ℕ
 stamp_in words = word_in words 1
 
@@ -78,6 +82,7 @@ abbrev pub words_of_kind : Kind → Words
 words_of_kind (Reference item) = all_known item
 words_of_kind (Fresh purpose words) = words
 
+-- what is known of the chunk's words by this holding: all of its item, or those that were filled
 abbrev pub words_of : Holding → Words
 words_of holding = words_of_kind holding.kind
 
@@ -86,13 +91,16 @@ abbrev pub item_of_kind : Kind → List ℕ
 item_of_kind (Reference item) = item
 item_of_kind (Fresh purpose words) = numbers words
 
+-- what is known of the chunk's words by this holding, as numbers, with 0 for each that wasn't filled
 abbrev pub item_of : Holding → List ℕ
 item_of holding = item_of_kind holding.kind
 
+-- the chunk wasn't linked yet since the hand got it
 abbrev pub is_fresh_kind : Kind → Bool
 is_fresh_kind (Reference item) = false
 is_fresh_kind (Fresh purpose words) = true
 
+-- the holding is of a chunk that the hand got and hasn't linked yet, and is no reference
 abbrev pub is_fresh : Holding → Bool
 is_fresh holding = is_fresh_kind holding.kind
 
@@ -101,6 +109,7 @@ abbrev pub is_copy_kind : ChunkId → Kind → Bool
 is_copy_kind old (Fresh (Copy chunk) words) = is_chunk chunk old
 is_copy_kind old kind = false
 
+-- the holding is a fresh chunk for a copy of the item in this chunk, which wasn't condemned yet
 abbrev pub is_copy_of : ChunkId → Holding → Bool
 is_copy_of old holding = is_copy_kind old holding.kind
 

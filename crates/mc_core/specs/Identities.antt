@@ -11,6 +11,7 @@ use Rattle.mc_core.specs.State.{gone, is_held_by}
 abbrev pub number_in : List Ids → ℕ → Option ℕ
 number_in ids hand = (slice_index_or ids hand gone).number
 
+-- how many stamps a hand gave out, 0 where it is gone or was never there
 abbrev pub stamps_in : List Ids → ℕ → ℕ
 stamps_in ids hand = (slice_index_or ids hand gone).stamps
 
@@ -44,6 +45,7 @@ pub record HaveRows (ids : List Ids) (stripes : ℕ) (past : Past) : Type 0 wher
 abbrev pub owns : ℕ → List Own → ℕ
 owns number row = count_by (λ (own : Own). own.number == number) row
 
+-- how often the number stands among those of all hands, those taken over counted in
 abbrev pub owners : ℕ → List (List Own) → ℕ
 owners number [] = 0
 owners number (row ∷ rows) = owns number row + owners number rows
@@ -52,6 +54,7 @@ owners number (row ∷ rows) = owns number row + owners number rows
 abbrev pub said_times : ℕ → List Saying → ℕ
 said_times stamp row = count_by (λ (s : Saying). s.stamp == stamp) row
 
+-- how often all hands together said the stamp
 abbrev pub said_count : ℕ → List (List Saying) → ℕ
 said_count stamp [] = 0
 said_count stamp (row ∷ rows) = said_times stamp row + said_count stamp rows

@@ -35,6 +35,7 @@ pub record IsOfTable (table : Classes) (slabs : SlabState) : Type 0 where
 abbrev pub AreIssued : List Head → Type 0
 AreIssued heads = (place : ℕ) → (slice_index_or heads place never_cut).issue < 2 ^ 46
 
+-- the table is sound, pages and lists are its own, issue numbers fit, and no lock and no row of a hand is missing
 pub record IsInOrder (state : State) : Type 0 where
   pub sound : IsSound state.table
   pub slabs : IsOfTable state.table state.slabs

@@ -78,11 +78,13 @@ can_link_key state hand key =
 abbrev pub can_tell_link : State → ℕ → Holding → Bool
 can_tell_link state hand holding = can_link_key state hand (key_in (words_of holding)) && suits state hand (words_of holding) holding.kind
 
+-- the holding's item is complete, its stripe may be told, and the chunk is unlinked with room in its count
 abbrev pub can_link_holding : State → ℕ → ChunkId → Option Holding → Bool
 can_link_holding state hand chunk None = false
 can_link_holding state hand chunk (Some holding) =
     is_complete (words_of holding) && can_tell_link state hand holding && is_unlinked (head_at state chunk).tag && can_count (head_at state chunk)
 
+-- the hand's first holding of the chunk can be linked, under the key in its first word
 abbrev pub can_link : State → ℕ → ChunkId → Bool
 can_link state hand chunk = can_link_holding state hand chunk (holding_of chunk (holdings_at state hand))
 
@@ -108,6 +110,7 @@ with_set state hand holding =
     (used_up (stripe_changes.after_link (stripe_at state stripe).state (writer_of state hand) (key_in (words_of holding)) holding.chunk (stamp_in (words_of holding)))))
     hand (stamped (ids_at state hand))
 
+-- what the stripe is told, by what the chunk was for: a rescued item's entry comes back, any other is stored
 abbrev pub told_link : State → ℕ → Holding → Kind → State
 told_link state hand holding (Fresh (Rescue old item) own) = with_rescued state hand holding
 told_link state hand holding kind = with_set state hand holding
@@ -116,11 +119,13 @@ told_link state hand holding kind = with_set state hand holding
 abbrev pub with_told_link : State → ℕ → Holding → State
 with_told_link state hand holding = told_link state hand holding holding.kind
 
+-- this holding is linked, and stands last among the hand's, as a reference; without one nothing changes
 abbrev pub after_link_of : State → ℕ → ChunkId → Option Holding → State
 after_link_of state hand chunk None = state
 after_link_of state hand chunk (Some holding) =
     with_holding (with_head (with_told_link state hand holding) chunk (linked (head_at state chunk))) hand (as_reference holding)
 
+-- the hand's first holding of the chunk is linked, and stands last among the hand's, as a reference
 abbrev pub after_link : State → ℕ → ChunkId → State
 after_link state hand chunk = after_link_of (without_holding state hand (is_of chunk)) hand chunk (holding_of chunk (holdings_at state hand))
 
@@ -128,6 +133,7 @@ after_link state hand chunk = after_link_of (without_holding state hand (is_of c
 abbrev pub new_reference : State → ChunkId → Holding
 new_reference state chunk = record { chunk = chunk; issue = (head_at state chunk).issue; kind = Reference (item_at state chunk) }
 
+-- the hand gets a reference to the item in the chunk, whose header counts it
 abbrev pub with_reference : State → ℕ → ChunkId → State
 with_reference state hand chunk = with_holding (with_head state chunk (referred (head_at state chunk))) hand (new_reference state chunk)
 
@@ -145,17 +151,21 @@ abbrev pub can_look_up : State → ℕ → ℕ → Bool
 can_look_up state hand key =
     has_stripe state hand (stripe_of state key) && (stripe_at state (stripe_of state key)).ready && not (is_aside (stripe_at state (stripe_of state key)).state key)
 
+-- the hand can look the key up and has a place left, and the key leads to a linked chunk with room in its count
 abbrev pub can_refer : State → ℕ → ℕ → Bool
 can_refer state hand key = can_look_up state hand key && has_place state hand && can_refer_to state (chunk_of state key)
 
+-- the hand gets a reference to the chunk to which a key leads; where it leads nowhere nothing changes
 abbrev pub referred_to : State → ℕ → Option (ChunkId × ℕ) → State
 referred_to state hand None = state
 referred_to state hand (Some place) = with_reference state hand place.0
 
+-- the key's stripe is told that the key was looked up, and its room for a call is used up
 abbrev pub with_got : State → ℕ → ℕ → State
 with_got state hand key =
     with_stripe state (stripe_of state key) (used_up (after_got (stripe_at state (stripe_of state key)).state (writer_of state hand) key))
 
+-- the key's stripe is told that the key was looked up, and the hand gets a reference to its item, if it has one
 abbrev pub after_refer : State → ℕ → ℕ → State
 after_refer state hand key = referred_to (with_got state hand key) hand (chunk_of state key)
 
@@ -163,10 +173,12 @@ after_refer state hand key = referred_to (with_got state hand key) hand (chunk_o
 abbrev pub can_lift : State → ℕ → ℕ → Bool
 can_lift state hand key = not (has_fresh (holdings_at state hand)) || is_none (stripe_at state (stripe_of state key)).state.aside
 
+-- the chunk to which a key leads is linked; false where it leads nowhere
 abbrev pub is_linked_at : State → Option (ChunkId × ℕ) → Bool
 is_linked_at state None = false
 is_linked_at state (Some place) = is_linked (head_at state place.0).tag
 
+-- the hand can look the key up and, where it has to, put its entry aside, and the key leads to a linked chunk
 abbrev pub can_unlink : State → ℕ → ℕ → Bool
 can_unlink state hand key = can_look_up state hand key && can_lift state hand key && is_linked_at state (chunk_of state key)
 
@@ -175,10 +187,12 @@ abbrev pub stripe_unlinked : ReadyStripe → Bool → ℕ → ℕ → ReadyStrip
 stripe_unlinked stripe lifts writer key =
     if lifts then record stripe { state = after_lift stripe.state key } else used_up (stripe_changes.after_unlink stripe.state writer key)
 
+-- the chunk to which a key leads is unlinked, less the link's count; where it leads nowhere nothing changes
 abbrev pub with_unlinked : State → Option (ChunkId × ℕ) → State
 with_unlinked state None = state
 with_unlinked state (Some place) = with_head state place.0 (unlinked (head_at state place.0))
 
+-- the key leads nowhere: it is deleted, or its entry aside where the hand has a fresh chunk; its chunk is unlinked
 abbrev pub after_unlink : State → ℕ → ℕ → State
 after_unlink state hand key =
     with_unlinked (with_stripe state (stripe_of state key)
@@ -189,10 +203,12 @@ after_unlink state hand key =
 abbrev pub has_place_unlocked : State → ℕ → Bool
 has_place_unlocked state hand = nat_lt (length (holdings_at state hand)) 255
 
+-- the hand has a place without a lock, and the chunk is linked with this issue, with room in its count
 abbrev pub can_again : State → ℕ → ChunkId → ℕ → Bool
 can_again state hand chunk issue =
     has_chunk state.table chunk && has_place_unlocked state hand && is_linked (head_at state chunk).tag && (head_at state chunk).issue == issue && can_count (head_at state chunk)
 
+-- the hand gets a reference to the item in the chunk, and no stripe is told
 abbrev pub after_again : State → ℕ → ChunkId → State
 after_again state hand chunk = with_reference state hand chunk
 
@@ -201,6 +217,7 @@ abbrev pub can_read_in : ℕ → Option Holding → Bool
 can_read_in place None = false
 can_read_in place (Some holding) = not (is_fresh holding) && nat_lt place (length (item_of holding))
 
+-- the hand's first holding of the chunk is a reference, and its item has this place; place 0 has the key
 abbrev pub can_word : State → ℕ → ChunkId → ℕ → Bool
 can_word state hand chunk place = can_read_in place (holding_of chunk (holdings_at state hand))
 
@@ -209,5 +226,6 @@ abbrev pub can_word_held : State → ℕ → ChunkId → ℕ → Bool
 can_word_held state hand chunk place =
     has_slabs state hand && has_chunk state.table chunk && was_linked (looks_at state hand) chunk && nat_lt place (room_at state chunk)
 
+-- what the hand saw under the slabs lock ends with this word of the chunk, as it stands
 abbrev pub after_word_held : State → ℕ → ChunkId → ℕ → State
 after_word_held state hand chunk place = with_look state hand (Read chunk place (word_at state chunk place))

@@ -14,33 +14,43 @@ use Rattle.mc_core.specs.Knowing.{AreKnown, IsRescue}
 use Rattle.mc_core.specs.Histories.{AreTold}
 use Rattle.mc_core.specs.Holdings.{words_of}
 
+-- in this moment each index of each page has its header, and each page all its data words
 abbrev pub SizedIn : Moment → Type 0
 SizedIn m = AreSized m.state.table m.state.heads m.state.words
 
+-- in this moment pages and lists are accounted for, and no page is half cut while the slabs lock is free
 abbrev pub PagedIn : Moment → Type 0
 PagedIn m = ArePaged m.state.table m.state.slabs m.state.slabs_lock
 
+-- in this moment free lists have the free chunks, hand-out orders those handed out, and all others are out
 abbrev pub PlacedIn : Moment → Type 0
 PlacedIn m = ArePlaced m.state.table m.state.slabs m.state.heads
 
+-- in this moment each header counts its holders, and one more where its chunk is linked
 abbrev pub CountedIn : Moment → Type 0
 CountedIn m = AreCounted m.state.table m.state.heads m.state.holdings
 
+-- in this moment a holding has its header's issue and its chunk's words, and a fresh one is its chunk's only one
 abbrev pub HeldIn : Moment → Type 0
 HeldIn m = AreHeld m.state.table m.state.slabs m.state.heads m.state.words m.state.holdings
 
+-- in this moment the entries of the stripes are the linked chunks, each in its key's stripe
 abbrev pub IndexedIn : Moment → Type 0
 IndexedIn m = AreIndexed m.state.table m.state.slabs m.state.heads m.state.words m.state.stripes
 
+-- in this moment each history is legal and makes its index, and a free stripe has nothing aside
 abbrev pub LegalIn : Moment → Type 0
 LegalIn m = AreLegal m.state.stripes m.state.stripe_locks
 
+-- in this moment the hands' numbers are apart, a lock is free or one hand's, and a hand that is gone holds nothing
 abbrev pub HandsIn : Moment → Type 0
 HandsIn m = AreHands m.state.ids m.state.slabs_lock m.state.stripe_locks m.state.holdings m.state.looks
 
+-- in this moment there is a row for each hand, and in that of a live one a history for each stripe
 abbrev pub RowsIn : Moment → Type 0
 RowsIn m = HaveRows m.state.ids (length m.state.stripes) m.past
 
+-- in this moment a number is one hand's at most, and the stamps that hands said are counted without a gap
 abbrev pub NumberedIn : Moment → Type 0
 NumberedIn m = AreNumbered m.state.ids m.past.mine m.past.said m.past.known
 
@@ -50,15 +60,19 @@ IsSeenBy state past hand =
     AreSeen state.table state.slabs state.heads state.words past.known (slice_index_or past.holds hand no_hold).found
     (slice_index_or state.looks hand [])
 
+-- in this moment what the hand that has the slabs lock saw or did under it holds still
 abbrev pub SeenIn : Moment → Type 0
 SeenIn m = (hand : ℕ) → has_slabs m.state hand ≡ true → IsSeenBy m.state m.past hand
 
+-- in this moment a known item is whole, was said, and stands in its chunk while that is handed out with its issue
 abbrev pub KnownIn : Moment → Type 0
 KnownIn m = AreKnown m.state.table m.state.slabs m.state.heads m.state.words m.state.holdings m.past.said m.past.known
 
+-- in this moment a chunk for a copy is off the old one's page, and what is being rescued was said with its stamp
 abbrev pub RescuedIn : Moment → Type 0
 RescuedIn m = Each (λ holding. IsRescue m.past.said holding.chunk holding.kind) m.state.holdings
 
+-- in this moment a hand's own calls are the histories', which begin with what was seen and store what was said
 abbrev pub ToldIn : Moment → Type 0
 ToldIn m = AreTold m.state.stripes m.past.mine m.past.seen m.past.said
 

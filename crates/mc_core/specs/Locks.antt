@@ -11,15 +11,19 @@ use Rattle.mc_core.specs.Silent.{none_half_cut}
 abbrev pub looked : State → ℕ → Look → State
 looked state hand look = if has_slabs state hand then with_look state hand look else state
 
+-- the arena has the chunk, so any hand may look at its header, with a lock or without
 abbrev pub can_look : State → ChunkId → Bool
 can_look state chunk = has_chunk state.table chunk
 
+-- the hand looked at the chunk's header, which counts under the slabs lock alone
 abbrev pub after_look : State → ℕ → ChunkId → State
 after_look state hand chunk = looked state hand (Saw chunk (head_at state chunk))
 
+-- the arena has a stripe of this number; they are numbered from 0
 abbrev pub has_stripes : State → ℕ → Bool
 has_stripes state stripe = nat_lt stripe (length state.stripe_locks)
 
+-- the hand looked at the word of the stripe's lock, which counts under the slabs lock alone
 abbrev pub after_miss_stripe : State → ℕ → ℕ → State
 after_miss_stripe state hand stripe = looked state hand (SawStripe stripe (slice_index state.stripe_locks stripe))
 
@@ -27,6 +31,7 @@ after_miss_stripe state hand stripe = looked state hand (SawStripe stripe (slice
 abbrev pub lock_word : State → ℕ → ℕ
 lock_word state hand = option_map_or (λ number. number + 1) (number_at state hand) 0
 
+-- no hand has the slabs lock
 abbrev pub can_take_slabs : State → Bool
 can_take_slabs state = state.slabs_lock == 0
 
@@ -34,12 +39,15 @@ can_take_slabs state = state.slabs_lock == 0
 abbrev pub after_take_slabs : State → ℕ → State
 after_take_slabs state hand = with_looks (record state { slabs_lock = lock_word state hand }) hand []
 
+-- there is such a stripe, and no hand has its lock
 abbrev pub can_take_stripe : State → ℕ → Bool
 can_take_stripe state stripe = has_stripes state stripe && slice_index state.stripe_locks stripe == 0
 
+-- the word of the stripe's lock is now this
 abbrev pub with_stripe_lock : State → ℕ → ℕ → State
 with_stripe_lock state stripe word = record state { stripe_locks = slice_set state.stripe_locks stripe word }
 
+-- the hand has the stripe's lock; the stripe itself is as it was
 abbrev pub after_take_stripe : State → ℕ → ℕ → State
 after_take_stripe state hand stripe = with_stripe_lock state stripe (lock_word state hand)
 
@@ -47,6 +55,7 @@ after_take_stripe state hand stripe = with_stripe_lock state stripe (lock_word s
 abbrev pub can_give_slabs : State → ℕ → Bool
 can_give_slabs state hand = has_slabs state hand && none_half_cut state.slabs
 
+-- no hand has the slabs lock; pages and lists are as they were, and so is what was seen under it
 abbrev pub after_give_slabs : State → State
 after_give_slabs state = record state { slabs_lock = 0 }
 
@@ -54,5 +63,6 @@ after_give_slabs state = record state { slabs_lock = 0 }
 abbrev pub can_give_stripe : State → ℕ → ℕ → Bool
 can_give_stripe state hand stripe = has_stripe state hand stripe && is_none (stripe_at state stripe).state.aside
 
+-- no hand has the stripe's lock; the stripe itself is as it was
 abbrev pub after_give_stripe : State → ℕ → State
 after_give_stripe state stripe = with_stripe_lock state stripe 0

@@ -92,6 +92,7 @@ abbrev pub saying_of : Kind → Words → List Saying
 saying_of (Fresh (Rescue old item) own) words = []
 saying_of kind words = record { stamp = stamp_in words; words = numbers (item_in words) } ∷ []
 
+-- what the link of this holding says: nothing where its item was rescued, or where there is none
 abbrev pub said_by : Option Holding → List Saying
 said_by None = []
 said_by (Some holding) = saying_of holding.kind (words_of holding)
@@ -101,13 +102,16 @@ abbrev pub sayings_of : State → ℕ → Step → List Saying
 sayings_of state hand (Link chunk) = said_by (holding_of chunk (holdings_at state hand))
 sayings_of state hand other = []
 
+-- what is known by a reference: its chunk, issue and item, and for how many words the chunk has room
 abbrev pub known_by : ℕ → Holding → Known
 known_by room holding = record { chunk = holding.chunk; issue = holding.issue; room = room; words = item_of holding }
 
+-- what is known once this holding is linked: its item, without words of the chunk behind it; nothing for none
 abbrev pub known_of_holding : ℕ → Option Holding → List Known
 known_of_holding room None = []
 known_of_holding room (Some holding) = record { chunk = holding.chunk; issue = holding.issue; room = room; words = numbers (item_in (words_of holding)) } ∷ []
 
+-- what is known by a reference to the chunk to which a key leads; nothing where it leads nowhere
 abbrev pub known_of_place : State → Option (ChunkId × ℕ) → List Known
 known_of_place state None = []
 known_of_place state (Some place) = known_by (room_at state place.0) (new_reference state place.0) ∷ []
@@ -119,6 +123,7 @@ known_of state hand (Refer key) = known_of_place state (chunk_of state key)
 known_of state hand (Again chunk issue) = known_by (room_at state chunk) (new_reference state chunk) ∷ []
 known_of state hand other = []
 
+-- all calls of the stripe so far, recorded or not, the oldest first
 abbrev pub history_at : State → ℕ → List Call
 history_at state stripe = (stripe_at state stripe).state.history
 
@@ -146,6 +151,7 @@ seen_after state other seen = seen
 abbrev pub longer : List Call → List Call → List Call
 longer a b = if nat_le (length b) (length a) then a else b
 
+-- stripe by stripe the longer of two histories, for as many stripes as the first row has
 abbrev pub longer_each : List (List Call) → List (List Call) → List (List Call)
 longer_each [] ys = ys
 longer_each (x ∷ xs) [] = x ∷ xs
@@ -184,6 +190,7 @@ pub record Knowledge : Type 0 where
   pub said : List Saying
   pub known : List Known
 
+-- what this hand knows; nothing where there is no such hand
 abbrev pub knowledge_at : Past → ℕ → Knowledge
 knowledge_at past hand = record {
   saw = slice_index_or past.saw hand [];
@@ -194,6 +201,7 @@ knowledge_at past hand = record {
   known = slice_index_or past.known hand [];
 }
 
+-- this hand now knows this, and each other what it knew
 abbrev pub with_knowledge : Past → ℕ → Knowledge → Past
 with_knowledge past hand knows = record {
   saw = slice_set past.saw hand knows.saw;
@@ -233,6 +241,7 @@ abbrev pub moment_changed : Moment → ℕ → Change → Moment
 moment_changed moment hand change =
     record { state = after_change moment.state hand change; past = with_calls moment.state (after_change moment.state hand change) moment.past hand }
 
+-- the moment after these changes by one hand, one after another
 abbrev pub moment_changes : Moment → ℕ → List Change → Moment
 moment_changes moment hand [] = moment
 moment_changes moment hand (change ∷ changes) = moment_changes (moment_changed moment hand change) hand changes

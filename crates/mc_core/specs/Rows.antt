@@ -21,6 +21,7 @@ four_classes = record { page = 1024; limit = 4096; sizes = 48 ∷ 96 ∷ 192 ∷
 abbrev pub does : List Change → Step → Event
 does before step = record { hand = 0; before = before; step = step }
 
+-- so many chunks of page 0 are cut, from this index on
 abbrev pub cuts_from : ℕ → ℕ → List Event
 cuts_from first count = map (λ index. does [] (Cut 0 index)) (range_with_len first count)
 
@@ -33,6 +34,7 @@ abbrev pub ledger_of : Result State ℕ → Result (List Entry) ℕ
 ledger_of (Ok state) = Ok state.slabs.ledger
 ledger_of (Err place) = Err place
 
+-- the ledger after one hand did this over the four classes, or the place of the first event that isn't allowed
 abbrev pub played : List Event → Result (List Entry) ℕ
 played events = ledger_of (play (new_state four_classes 4 1 0) events)
 
@@ -49,6 +51,7 @@ one_class pages = record { page = 64; limit = pages * 64; sizes = 32 ∷ [] }
 abbrev pub played_on : ℕ → List Event → Result (List Entry) ℕ
 played_on pages events = ledger_of (play (new_state (one_class pages) 1 1 0) (does [] TakeSlabs ∷ does [] (TakeStripe 0) ∷ events))
 
+-- the chunk of this page at this index
 abbrev pub chunk_at : ℕ → ℕ → ChunkId
 chunk_at page index = record { page = page; index = index }
 
@@ -84,6 +87,7 @@ looks_at page = does [] (Head (chunk_at page 1)) ∷ does [] (Head (chunk_at pag
 abbrev pub one_of_four : List Event
 one_of_four = gets 0 ++ stores (chunk_at 0 1) 1 ++ gets 1
 
+-- two pages, of whose four chunks all have items but chunk 0 of page 0, which is free
 abbrev pub three_of_four : List Event
 three_of_four = one_of_four ++ stores (chunk_at 1 1) 2 ++ stores (chunk_at 1 0) 3
 
@@ -91,6 +95,7 @@ three_of_four = one_of_four ++ stores (chunk_at 1 1) 2 ++ stores (chunk_at 1 0) 
 abbrev pub begins_move : List Event
 begins_move = does (BeginMove (Some 1) 0 ∷ []) (Head (chunk_at 0 1)) ∷ []
 
+-- page 0 begins to move to the pool, and a chunk is handed out for a copy of the item in its chunk 1
 abbrev pub begins_rescue : List Event
 begins_rescue = does (BeginMove (Some 1) 0 ∷ []) (PopOff (chunk_at 0 1)) ∷ []
 

@@ -82,6 +82,7 @@ abbrev pub play_from : ℕ → State → List Event → Result State ℕ
 play_from place state [] = Ok state
 play_from place state (event ∷ events) = if is_allowed state event then play_from (place + 1) (after state event) events else Err place
 
+-- the state after these events, or the place of the first that isn't allowed, counted from 0
 abbrev pub play : State → List Event → Result State ℕ
 play state events = play_from 0 state events
 

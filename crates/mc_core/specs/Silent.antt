@@ -46,6 +46,7 @@ has_listed slabs class page = has_page (class_at slabs class).free page || has_p
 abbrev pub none_half_cut : SlabState → Bool
 none_half_cut slabs = is_none slabs.uncut
 
+-- the class may get a page: there is such a class, no page is half cut, and a pooled or untouched one is left
 abbrev pub can_grow : Classes → SlabState → ℕ → Bool
 can_grow table slabs class = is_class table class && none_half_cut slabs && is_some (next_page slabs)
 
@@ -153,6 +154,7 @@ abbrev pub allows_changes : State → ℕ → List Change → Bool
 allows_changes state hand [] = true
 allows_changes state hand (change ∷ changes) = allows_change state hand change && allows_changes (after_change state hand change) hand changes
 
+-- the state after all these changes, one after another, whether they are allowed or not
 abbrev pub after_changes : State → ℕ → List Change → State
 after_changes state hand [] = state
 after_changes state hand (change ∷ changes) = after_changes (after_change state hand change) hand changes

@@ -12,6 +12,7 @@ use Rattle.mc_core.specs.declared.look.Look.{Look}
 use Rattle.mc_core.specs.Head.{never_cut, uncut_from}
 use Rattle.mc_core.specs.Holdings.{change_each, lose}
 
+-- all words of the arena, the values behind its locks, and what each hand is, holds and saw
 pub record State : Type 0 where
   -- the size classes, which never change
   pub table : Classes
@@ -38,6 +39,7 @@ most_of table = per_page_of table 1
 abbrev pub page_words : Classes → ℕ
 page_words table = table.page / 8
 
+-- there is such a class; they are numbered from 1
 abbrev pub is_class : Classes → ℕ → Bool
 is_class table class = nat_le 1 class && nat_le class (length table.sizes)
 
@@ -53,9 +55,11 @@ has_chunk table chunk = nat_lt chunk.page (pages_of table) && nat_lt chunk.index
 abbrev pub head_place : Classes → ChunkId → ℕ
 head_place table chunk = chunk.page * most_of table + chunk.index
 
+-- the header that stands at the chunk's place, and that of a chunk never cut where none stands there
 abbrev pub head_at : State → ChunkId → Head
 head_at state chunk = slice_index_or state.heads (head_place state.table chunk) never_cut
 
+-- the header at the chunk's place is now this
 abbrev pub with_head : State → ChunkId → Head → State
 with_head state chunk head = record state { heads = slice_set state.heads (head_place state.table chunk) head }
 
@@ -67,9 +71,11 @@ room_at state chunk = room_in state.table (class_of_page state.slabs chunk.page)
 abbrev pub word_place : State → ChunkId → ℕ → ℕ
 word_place state chunk place = chunk.page * page_words state.table + chunk.index * room_at state chunk + place
 
+-- the data word that stands at this place of the chunk; place 0 has the key
 abbrev pub word_at : State → ChunkId → ℕ → ℕ
 word_at state chunk place = slice_index state.words (word_place state chunk place)
 
+-- the data word at this place of the chunk is now this
 abbrev pub with_word : State → ChunkId → ℕ → ℕ → State
 with_word state chunk place word = record state { words = slice_set state.words (word_place state chunk place) word }
 
@@ -81,6 +87,7 @@ item_at state chunk = map (λ place. word_at state chunk place) (range_with_len 
 abbrev pub gone : Ids
 gone = record { number = None; stamps = 0 }
 
+-- the number of a hand, and how many stamps it gave out; gone where there is no such hand
 abbrev pub ids_at : State → ℕ → Ids
 ids_at state hand = slice_index_or state.ids hand gone
 
@@ -88,9 +95,11 @@ ids_at state hand = slice_index_or state.ids hand gone
 abbrev pub number_at : State → ℕ → Option ℕ
 number_at state hand = (ids_at state hand).number
 
+-- the hand is one of the arena's, and no other one took it over
 abbrev pub is_hand : State → ℕ → Bool
 is_hand state hand = is_some (number_at state hand)
 
+-- the hand's number, and how many stamps it gave out, are now these
 abbrev pub with_ids : State → ℕ → Ids → State
 with_ids state hand ids = record state { ids = slice_set state.ids hand ids }
 
@@ -99,9 +108,11 @@ abbrev pub is_held_by : ℕ → Option ℕ → Bool
 is_held_by word None = false
 is_held_by word (Some number) = word == number + 1
 
+-- the hand has the slabs lock: the lock's word is the hand's number plus 1
 abbrev pub has_slabs : State → ℕ → Bool
 has_slabs state hand = is_held_by state.slabs_lock (number_at state hand)
 
+-- the hand has the lock of this stripe: the lock's word is the hand's number plus 1
 abbrev pub has_stripe : State → ℕ → ℕ → Bool
 has_stripe state hand stripe = is_held_by (slice_index state.stripe_locks stripe) (number_at state hand)
 
@@ -109,18 +120,23 @@ has_stripe state hand stripe = is_held_by (slice_index state.stripe_locks stripe
 abbrev pub stripe_of : State → ℕ → ℕ
 stripe_of state key = key % length state.stripes
 
+-- the stripe of this number, with its room; a new one where there is none
 abbrev pub stripe_at : State → ℕ → ReadyStripe
 stripe_at state stripe = slice_index_or state.stripes stripe new_stripe
 
+-- the stripe of this number, with its room, is now this
 abbrev pub with_stripe : State → ℕ → ReadyStripe → State
 with_stripe state stripe value = record state { stripes = slice_set state.stripes stripe value }
 
+-- pages and lists are now these
 abbrev pub with_slabs : State → SlabState → State
 with_slabs state slabs = record state { slabs = slabs }
 
+-- what the hand holds, with what it got last at the end; nothing where there is no such hand
 abbrev pub holdings_at : State → ℕ → List Holding
 holdings_at state hand = slice_index_or state.holdings hand []
 
+-- the hand has this holding, too, behind all others of its own
 abbrev pub with_holding : State → ℕ → Holding → State
 with_holding state hand holding = record state { holdings = slice_set state.holdings hand (holdings_at state hand ++ holding ∷ []) }
 
@@ -132,9 +148,11 @@ with_changed state hand test change = record state { holdings = slice_set state.
 abbrev pub without_holding : State → ℕ → (Holding → Bool) → State
 without_holding state hand test = record state { holdings = slice_set state.holdings hand (lose test (holdings_at state hand)) }
 
+-- what the hand saw or did under its last hold of the slabs lock, the oldest first; it stays until the next hold
 abbrev pub looks_at : State → ℕ → List Look
 looks_at state hand = slice_index_or state.looks hand []
 
+-- what the hand saw or did under the slabs lock is now this, the oldest first
 abbrev pub with_looks : State → ℕ → List Look → State
 with_looks state hand looks = record state { looks = slice_set state.looks hand looks }
 

@@ -60,9 +60,11 @@ pub record LacksEntry (number : ℕ) (chunks : List ChunkId) (view now : View) :
 abbrev pub FreesOneOfFive : ℕ → ℕ → Supply → SlabsDoing
 FreesOneOfFive number class supply view slabs now left = FreesOne number class (first_five slabs class) supply view slabs now left
 
+-- the oldest five of the class, or all of fewer, were passed, and pages and lists are as they were
 abbrev pub PassesFive : ℕ → ℕ → SlabsDoing
 PassesFive number class view slabs now left = PassesEach number (first_five slabs class) view now × (left ≡ slabs)
 
+-- of the oldest five one had no memory for the entry of its eviction, those before it were passed, and lists stay
 abbrev pub LacksEntryOfFive : ℕ → ℕ → SlabsDoing
 LacksEntryOfFive number class view slabs now left = LacksEntry number (first_five slabs class) view now × (left ≡ slabs)
 

@@ -13,6 +13,7 @@ use Rattle.mc_words.specs.Observers.{ref_chunk, ref_issue, ref_room}
 abbrev pub item_reference : Ref → words.Ref
 item_reference item = item.reference
 
+-- the chunk that the item is in
 abbrev pub item_chunk : Ref → ChunkId
 item_chunk item = ref_chunk (item_reference item)
 
@@ -24,9 +25,11 @@ item_issue item = ref_issue (item_reference item)
 abbrev pub item_key : Ref → ℕ
 item_key item = item.key
 
+-- the item's stamp
 abbrev pub item_stamp : Ref → ℕ
 item_stamp item = item.stamp
 
+-- how many words the item has behind key, stamp and length
 abbrev pub item_len : Ref → ℕ
 item_len item = item.len
 

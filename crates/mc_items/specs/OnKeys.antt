@@ -98,6 +98,7 @@ IsAsKnown view hint words = (k : Known) → Contains view.row.knows.known k → 
 abbrev pub HasSlabs : Hand → SlabsHeld → Type 0
 HasSlabs hand held = (view hand).slabs ≡ Some (slabs_lent held)
 
+-- the hand has the lock of this stripe, and this value behind it
 abbrev pub HasStripe : Hand → StripeHeld → Type 0
 HasStripe hand held = slice_index_or (view hand).stripes (stripe_number held) None ≡ Some (stripe_lent held)
 

@@ -31,6 +31,7 @@ abbrev pub kind_with : List ℕ → Kind → Kind
 kind_with item (Reference own) = Reference own
 kind_with item (Fresh purpose words) = Fresh purpose (written_over item words)
 
+-- a holding of a fresh chunk, into which these were written from its first word on; a reference stays
 abbrev pub holding_with : List ℕ → Holding → Holding
 holding_with item holding = record holding { kind = kind_with item holding.kind }
 

@@ -37,6 +37,7 @@ pub record SuppliesFree (class : ℕ) (view : View) (slabs : SlabState) (chunk :
   pub pops : PopsFirst swept between class chunk now
   pub left_is : left ≡ after_pop between class
 
+-- this chunk, the first free one of its class, was handed out; where none was free, dead ones were put back before
 abbrev pub HandsOutFree : ℕ → ChunkId → SlabsDoing
 HandsOutFree class chunk view slabs now left = SuppliesFree class view slabs chunk now left
 

@@ -26,6 +26,7 @@ use Rattle.mc_mover.specs.Telling.{TellsAsCounted, TellsOfFewer, counts_in}
 abbrev pub HasSlabs : Hand → SlabsHeld → Type 0
 HasSlabs hand held = (view hand).slabs ≡ Some (slabs_lent held)
 
+-- the hand has the lock of this stripe, and this value behind it
 abbrev pub HasStripe : Hand → StripeHeld → Type 0
 HasStripe hand held = slice_index_or (view hand).stripes (stripe_number held) None ≡ Some (stripe_lent held)
 
@@ -74,6 +75,7 @@ HasBlankCopy hand chunk fresh = (issue : ℕ) × (holding_of (fresh_chunk fresh)
 abbrev pub EvictsAs : ChunkId → Found → ℕ → StripeDoing
 EvictsAs chunk found number stripe value view slabs now left = GivesEvicted number stripe value chunk found view now
 
+-- by what was found: the item was moved to the fresh chunk; or it was unlinked or held, and that chunk given up
 abbrev pub RescuesAs : ChunkId → Fresh → Found → ℕ → StripeDoing
 RescuesAs chunk fresh found number stripe value = GivesRescued number stripe value chunk (fresh_chunk fresh) (fresh_room fresh) found
 

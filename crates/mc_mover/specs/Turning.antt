@@ -20,6 +20,7 @@ use Rattle.mc_mover.specs.declared.sweep.Sweep.{Sweep}
 use Rattle.mc_mover.specs.declared.sweep.Sweep.TheVariants.{Due}
 use Rattle.mc_mover.specs.Visiting.{LacksCall, Visits}
 
+-- nothing was counted yet
 abbrev pub no_counts : Counts
 no_counts = record { cleared = 0; rescued = 0; evicted = 0; busy = 0; locked = 0 }
 

@@ -22,10 +22,12 @@ is_of_class class Pool = false
 is_of_class class (Class own) = own == class
 is_of_class class (owner.Moving src dst) = src == class
 
+-- the page lies in the pool; one that was never granted doesn't
 abbrev pub is_pool : Owner → Bool
 is_pool Pool = true
 is_pool other = false
 
+-- the page is on the move from a class, to another one or to the pool
 abbrev pub is_moving : Owner → Bool
 is_moving (owner.Moving src dst) = true
 is_moving other = false
@@ -80,6 +82,7 @@ pub record IsMove (slabs : SlabState) (move : Moving) : Type 0 where
   -- each chunk before the position is cleared, or counted as busy
   pub passed : left_behind slabs move ≤ move.busy
 
+-- the owners are the ledger's, a page is in its owner's list alone, and each cut chunk is in one place
 pub record IsAccounted (slabs : SlabState) : Type 0 where
   -- the owners are what the ledger's entries made of untouched pages
   pub replays : replay (all_untouched (slabs.limit / slabs.page)) slabs.ledger ≡ Some slabs.owners

@@ -45,6 +45,7 @@ abbrev pub answer_if : SlabState → Option ℕ → ℕ → Option Moving → Re
 answer_if slabs src dst (Some move) = Err Busy
 answer_if slabs src dst None = answer_at_rest slabs src dst
 
+-- whether a page may begin to move now, and then the class that gives it; none may while another moves
 abbrev pub answer_of : SlabState → Option ℕ → ℕ → Result ℕ Reassign
 answer_of slabs src dst = answer_if slabs src dst slabs.moving
 

@@ -54,6 +54,7 @@ pub record IsBeingCut (slabs : SlabState) (chunk : ChunkId) : Type 0 where
   pub within : chunk.index < (class_of_chunk slabs chunk).per_page
   pub newest : slice_get (class_of_chunk slabs chunk).pages (length (class_of_chunk slabs chunk).pages - 1) ≡ Some chunk.page
 
+-- all is accounted for; of at most 64 pages, with 1 to 256 chunks each, the lowest so many were granted
 pub record IsInOrder (slabs : SlabState) (granted : ℕ) : Type 0 where
   pub accounted : IsAccounted slabs
   pub lowest : AreGranted slabs.owners granted
@@ -79,6 +80,7 @@ pub record HasRows (classes : List ClassState) (pages : ℕ) (sizes : Sizes) : T
   pub free_lengths : sizes.free_lengths ≡ length classes
   pub handed_out_lengths : sizes.handed_out_lengths ≡ length classes
 
+-- what is in memory is in order: its lists stand in the rows, by age, and what a move's end adds has room
 pub record AreKept (slabs : Inside) : Type 0 where
   pub order : IsInOrder (slabs_of slabs) slabs.granted
   -- there is room for what the end of a move adds

@@ -79,6 +79,7 @@ pub record Sizes : Type 0 where
   pub free_lengths : ℕ
   pub handed_out_lengths : ℕ
 
+-- how many rows, own rows of lists and lengths there are here, and the most chunks of a page
 abbrev pub sizes_of : RowsState → Sizes
 sizes_of rows = record {
   most = rows.most;

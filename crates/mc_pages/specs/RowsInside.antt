@@ -3,6 +3,7 @@ use Rattle.std.specs.Prelude.{◌≤◌, vec_len}
 use Rattle.mc_pages.specs.declared.rows.fields.Rows.TheInside.{Inside}
 use Rattle.mc_pages.specs.Rows.{RowsState}
 
+-- the rows, and the lists' own rows and lengths, that are in memory; and how many fields were ever written
 abbrev pub rows_of : Inside → RowsState
 rows_of rows = record {
   most = rows.most;

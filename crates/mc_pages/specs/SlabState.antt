@@ -11,6 +11,7 @@ use Rattle.mc_pages.specs.declared.numbers.Totals.{Totals}
 use Rattle.mc_pages.specs.Ledger.{all_untouched, owner_at}
 use Rattle.mc_pages.specs.ClassState.{ClassState, new_class}
 
+-- a slab memory as its callers see it: pages and who owns them, classes with their chunks, the move, counters
 pub record SlabState : Type 0 where
   -- the bytes of a page, and the bytes of pages that may be granted
   pub page : ℕ

@@ -25,6 +25,7 @@ number_step name number =
     else if bytes_eq name (codes "Unlink") then Some (step.Unlink number)
     else None
 
+-- the chunk of this page at this index
 abbrev pub chunk : ℕ → ℕ → ChunkId
 chunk page index = record { page = page; index = index }
 

@@ -38,6 +38,7 @@ entry_text (entry.Taken page class) = codes "Taken " ++ decimal page ++ codes " 
 entry_text (entry.Began page src dst) = codes "Began " ++ decimal page ++ codes " " ++ decimal src ++ codes " " ++ decimal dst ++ codes "\n"
 entry_text (entry.Ended page class) = codes "Ended " ++ decimal page ++ codes " " ++ decimal class ++ codes "\n"
 
+-- the line of an entry of the ledger
 abbrev pub entry_line : Entry → List ℕ
 entry_line entry = codes "ledger " ++ entry_text entry
 
@@ -111,6 +112,7 @@ slabs_text table slabs =
 abbrev pub word_text : ChunkId → ℕ → List ℕ
 word_text chunk word = if word == 0 then [] else codes "head " ++ decimal chunk.page ++ codes " " ++ decimal chunk.index ++ codes " " ++ decimal word ++ codes "\n"
 
+-- the line of the header of the page's chunk at this index, none where its word is 0
 abbrev pub head_text : State → ℕ → ℕ → List ℕ
 head_text state page index = word_text (record { page = page; index = index }) (code (head_at state (record { page = page; index = index })))
 

@@ -113,6 +113,7 @@ stats_slabs_of words = None
 
 -- one form or else another
 infixr 20 ◌or◌
+-- the command of the one form, or else that of the other, none where there is neither
 abbrev pub ◌or◌ : Option Command → Option Command → Option Command
 one or other = option_or one other
 

@@ -17,6 +17,7 @@ calls_of calls = record {
   room = vec_capacity calls.tail - vec_len calls.tail;
 }
 
+-- of the calls that aren't in memory there is a count, and, where calls are recorded, the stamps that they left
 pub record IsRecorded (calls : RecordedInside) : Type 0 where
   -- so many calls aren't in memory, as far as 64 bits can tell
   pub trimmed : calls.trimmed ≡ min (length calls.past.calls) (2 ^ 64 - 1)
@@ -35,6 +36,7 @@ state_of stripe = record { index = by_key stripe.index.entries; aside = stripe.a
 abbrev pub ready_of : Inside → ReadyStripe
 ready_of stripe = record { state = state_of stripe; ready = stripe.ready }
 
+-- the stripe is legal; and where it is ready there is room for one more entry and one more call
 pub record IsInOrder (stripe : Inside) : Type 0 where
   pub legal : IsLegal (state_of stripe)
   -- there is room where it says so

@@ -5,6 +5,7 @@ use Rattle.mc_stripe.specs.Entries.{AreRising}
 use Rattle.mc_stripe.specs.History.{replay}
 use Rattle.mc_stripe.specs.StripeState.{StripeState, place_of, stamps_of, trimmed_of}
 
+-- the history is right, from no key on, and leaves the stamps of the index, an entry aside counted in
 pub record IsLegal (stripe : StripeState) : Type 0 where
   -- the index is in its one form
   pub rising : AreRising stripe.index

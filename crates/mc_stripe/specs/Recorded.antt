@@ -4,6 +4,7 @@ use Rattle.std.specs.Option.{option_map, option_map_or}
 use Rattle.mc_stripe.specs.declared.history.Call.{Call}
 use Rattle.mc_stripe.specs.History.{Stamps, replay}
 
+-- all calls of a stripe, which of them are recorded, and the room to record more
 pub record Calls : Type 0 where
   -- all that there were, the oldest first
   pub all : List Call

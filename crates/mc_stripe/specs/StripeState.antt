@@ -11,6 +11,7 @@ use Rattle.mc_stripe.specs.Recorded.{count_trimmed, left_by_trimmed, recorded}
 abbrev pub Index : Type 0
 Index = List (ℕ × (ChunkId × ℕ))
 
+-- a stripe: the index of its keys, the entry that is aside, if one is, and all calls, recorded or not
 pub record StripeState : Type 0 where
   pub index : Index
   -- an entry that was lifted out of the index, until its key comes back

@@ -36,10 +36,12 @@ abbrev pub evictions_of : List Window → ℕ → ℕ
 evictions_of [] class = 0
 evictions_of (newest ∷ before) class = number_of newest.evictions class
 
+-- how many pages the class has in the newest of these windows, 0 before the first
 abbrev pub pages_of : List Window → ℕ → ℕ
 pages_of [] class = 0
 pages_of (newest ∷ before) class = number_of newest.pages class
 
+-- how many free chunks the class has in the newest of these windows, 0 before the first
 abbrev pub free_of : List Window → ℕ → ℕ
 free_of [] class = 0
 free_of (newest ∷ before) class = number_of newest.free class

@@ -41,6 +41,7 @@ ThreeWindows =
 abbrev pub five_windows : List (List ℕ)
 five_windows = four 0 0 0 5 ∷ four 0 7 0 6 ∷ four 0 7 0 9 ∷ four 0 7 0 10 ∷ four 0 7 0 11 ∷ []
 
+-- a page is to go from class 1 to class 4 after the fifth window, and none after the four before it
 abbrev pub ThreeRunning : Type 0
 ThreeRunning = decisions fresh_four five_windows ≡ None ∷ None ∷ None ∷ None ∷ moves 1 4 ∷ []
 
@@ -57,5 +58,6 @@ ShortList = refusal_of (after_all_evictions fresh_four five_windows) (four 0 7 0
 abbrev pub SparePage : Type 0
 SparePage = decision_of (after_window fresh_four (four 0 0 0 0) (four 3 0 0 0) (four 53 0 0 0)) ≡ moves 1 0
 
+-- with 52 of the 63 chunks free class 1 gives up no page
 abbrev pub NoSparePage : Type 0
 NoSparePage = decision_of (after_window fresh_four (four 0 0 0 0) (four 3 0 0 0) (four 52 0 0 0)) ≡ None

@@ -38,6 +38,7 @@ abbrev pub slabs_in : Slot → Option SlabState
 slabs_in (OfSlabs slabs) = Some slabs
 slabs_in other = None
 
+-- the stripe that is in a slot, none where it has the slabs or nothing
 abbrev pub stripe_in : Slot → Option ReadyStripe
 stripe_in (OfStripe value) = Some value
 stripe_in other = None
@@ -46,6 +47,7 @@ stripe_in other = None
 abbrev pub slabs_left : List ℕ → List Slot → Option SlabState
 slabs_left words slots = if slice_index words (lock_word zero) == 0 then slabs_in (slice_index_or slots (slot_at zero) Empty) else None
 
+-- the stripe in the slot of its lock, none where the lock's word isn't 0
 abbrev pub stripe_left : List ℕ → List Slot → ℕ → Option ReadyStripe
 stripe_left words slots stripe = if slice_index words (lock_word (suc stripe)) == 0 then stripe_in (slice_index_or slots (slot_at (suc stripe)) Empty) else None
 

@@ -30,6 +30,7 @@ pub record LawfulView (view : View) : Type 0 where
   pub are : WordsOf view.setup cuts words moment.state
   pub cut : AreCut cuts moment.state.slabs
 
+-- the event by which this hand makes these changes and then this step
 abbrev pub event_of : ℕ → List Change → Step → Event
 event_of hand before step = record { hand = hand; before = before; step = step }
 

@@ -23,6 +23,7 @@ spread between other (x ∷ xs) = x ∷ (replicate between other ++ spread betwe
 abbrev pub lock_word : ℕ → ℕ
 lock_word lock = words_apart * (1 + lock)
 
+-- where the word of the slabs lock stands
 abbrev pub slabs_word : ℕ
 slabs_word = lock_word 0
 
@@ -38,9 +39,11 @@ page_word setup page = pages_from setup + page
 abbrev pub heads_from : Setup → ℕ
 heads_from setup = pages_from setup + pages_of setup.table
 
+-- how many headers there are: one for each index of each page
 abbrev pub head_count : Setup → ℕ
 head_count setup = pages_of setup.table * most_of setup.table
 
+-- where the header of a chunk stands
 abbrev pub head_word : Setup → ChunkId → ℕ
 head_word setup chunk = heads_from setup + head_place setup.table chunk
 
@@ -48,6 +51,7 @@ head_word setup chunk = heads_from setup + head_place setup.table chunk
 abbrev pub data_from : Setup → ℕ
 data_from setup = heads_from setup + head_count setup
 
+-- how many data words all pages have
 abbrev pub data_count : Setup → ℕ
 data_count setup = pages_of setup.table * page_words setup.table
 
@@ -59,8 +63,10 @@ data_word setup room chunk place = data_from setup + (chunk.page * page_words se
 abbrev pub config_from : Setup → ℕ
 config_from setup = data_from setup + data_count setup
 
+-- the configuration as eight words
 abbrev pub config_words : Config → List ℕ
 config_words config = config.page ∷ config.limit ∷ config.first ∷ config.num ∷ config.den ∷ config.max ∷ config.stripes ∷ config.bulk ∷ []
 
+-- how many words the table has, the configuration's counted in
 abbrev pub word_count : Setup → ℕ
 word_count setup = config_from setup + 8

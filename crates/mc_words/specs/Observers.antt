@@ -27,6 +27,7 @@ slabs_lent held = held.shared
 abbrev pub stripe_number : StripeHeld → ℕ
 stripe_number held = held.number
 
+-- the stripe with its room, as the holder of its lock has it
 abbrev pub stripe_lent : StripeHeld → ReadyStripe
 stripe_lent held = held.stripe
 
@@ -34,12 +35,15 @@ stripe_lent held = held.stripe
 abbrev pub fresh_chunk : Fresh → ChunkId
 fresh_chunk fresh = fresh.chunk
 
+-- how many words a fresh chunk has
 abbrev pub fresh_room : Fresh → ℕ
 fresh_room fresh = fresh.room
 
+-- the word that was written at place 0 of a fresh chunk, an item's key; 0 before
 abbrev pub fresh_key : Fresh → ℕ
 fresh_key fresh = fresh.key
 
+-- the word that was written at place 1 of a fresh chunk, an item's stamp; 0 before
 abbrev pub fresh_stamp : Fresh → ℕ
 fresh_stamp fresh = fresh.stamp
 
@@ -47,9 +51,11 @@ fresh_stamp fresh = fresh.stamp
 abbrev pub ref_chunk : Ref → ChunkId
 ref_chunk reference = reference.chunk
 
+-- the issue number with which the chunk of a reference was handed out
 abbrev pub ref_issue : Ref → ℕ
 ref_issue reference = reference.issue
 
+-- how many words the chunk of a reference has
 abbrev pub ref_room : Ref → ℕ
 ref_room reference = reference.room
 
@@ -57,5 +63,6 @@ ref_room reference = reference.room
 abbrev pub hint_chunk : Hint → ChunkId
 hint_chunk hint = hint.chunk
 
+-- the issue number with which the chunk of a hint was handed out for its item
 abbrev pub hint_issue : Hint → ℕ
 hint_issue hint = hint.issue

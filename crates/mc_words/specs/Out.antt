@@ -12,6 +12,7 @@ use Rattle.mc_words.specs.Told.{Sits}
 abbrev pub slots_out : List (ℕ × Slot) → List ℕ
 slots_out out = map (λ entry. entry.0) out
 
+-- the slots of the values behind these locks, that of the last taken first
 abbrev pub slots_in : Locks → List ℕ
 slots_in Neither = []
 slots_in Slabs = slot_at zero ∷ []
@@ -19,6 +20,7 @@ slots_in (Stripe stripe) = slot_at (suc stripe) ∷ []
 slots_in (SlabsLast stripe) = slot_at zero ∷ slot_at (suc stripe) ∷ []
 slots_in (StripeLast stripe) = slot_at (suc stripe) ∷ slot_at zero ∷ []
 
+-- the lock of the slabs is one of these
 abbrev pub has_slabs_in : Locks → Bool
 has_slabs_in Neither = false
 has_slabs_in Slabs = true
@@ -26,6 +28,7 @@ has_slabs_in (Stripe stripe) = false
 has_slabs_in (SlabsLast stripe) = true
 has_slabs_in (StripeLast stripe) = true
 
+-- the lock of this stripe is one of these
 abbrev pub has_stripe_in : Locks → ℕ → Bool
 has_stripe_in Neither other = false
 has_stripe_in Slabs other = false

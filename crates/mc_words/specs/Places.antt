@@ -4,6 +4,7 @@ use Rattle.mc_words.specs.declared.opening.Places.{Places}
 use Rattle.mc_words.specs.View.{Setup}
 use Rattle.mc_words.specs.Layout.{pages_from, heads_from, data_from, config_from}
 
+-- these are the places of the first word of pages, headers, data words and configuration
 pub record ArePlaces (setup : Setup) (places : Places) : Type 0 where
   pub pages : places.pages ≡ pages_from setup
   pub heads : places.heads ≡ heads_from setup

@@ -21,10 +21,12 @@ abbrev pub take_of : Lock → Step
 take_of SlabsLock = step.TakeSlabs
 take_of (StripeLock stripe) = step.TakeStripe stripe
 
+-- the event by which the lock's word is looked at, as by a try that fails
 abbrev pub miss_of : Lock → Step
 miss_of SlabsLock = step.MissSlabs
 miss_of (StripeLock stripe) = step.MissStripe stripe
 
+-- the event by which the lock is given back
 abbrev pub give_of : Lock → Step
 give_of SlabsLock = step.GiveSlabs
 give_of (StripeLock stripe) = step.GiveStripe stripe

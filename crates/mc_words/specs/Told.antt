@@ -11,6 +11,7 @@ use Rattle.mc_words.specs.Happens.{LawfulView, Happens, HappensAt, IsSameHand}
 abbrev pub Sits : Type 0
 Sits = table.Me Slot View
 
+-- a step on the table: which word it is on, its two operands, and the value that it announces, if it does
 abbrev pub At : Type 0
 At = table.Step Slot
 

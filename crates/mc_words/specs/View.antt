@@ -26,6 +26,7 @@ pub data OwnEvent : Type 0 where
   made : List Change → Step → OwnEvent
   joined : OwnEvent
 
+-- these changes and this step as an event of the hand's own; of a join neither is kept
 abbrev pub own_event : List Change → Step → OwnEvent
 own_event before (Join kept spent) = joined
 own_event before step = made before step

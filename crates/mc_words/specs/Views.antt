@@ -35,6 +35,7 @@ with_knowledge knows view = record view { row = record view.row { knows = knows 
 abbrev pub saw : Sight → View → View
 saw sight view = with_knowledge (record view.row.knows { saw = view.row.knows.saw ++ sight ∷ [] }) view
 
+-- what the hand saw or did under the slabs lock is now this, the oldest first
 abbrev pub with_looks : List Look → View → View
 with_looks looks view = record view { row = record view.row { looks = looks } }
 
@@ -46,9 +47,11 @@ looked look view = with_looks (view.row.looks ++ look ∷ []) view
 abbrev pub looked_if_held : Look → View → View
 looked_if_held look view = with_looks (if is_some view.slabs then view.row.looks ++ look ∷ [] else view.row.looks) view
 
+-- the hand's holdings are now these
 abbrev pub with_holdings : List Holding → View → View
 with_holdings holdings view = record view { row = record view.row { holdings = holdings } }
 
+-- the hand has pages and lists, which are now these
 abbrev pub with_slabs : SlabState → View → View
 with_slabs slabs view = record view { slabs = Some slabs }
 
@@ -82,6 +85,7 @@ stripe_given stripe value view =
 abbrev pub slabs_told : List Change → ℕ → View → View
 slabs_told before word view = with_event before step.MissSlabs (saw (slabs_word word) view)
 
+-- the word of a stripe's lock was seen, after these changes
 abbrev pub stripe_told : List Change → ℕ → ℕ → View → View
 stripe_told before stripe word view = with_event before (step.MissStripe stripe) (looked_if_held (SawStripe stripe word) (saw (stripe_word stripe word) view))
 
@@ -89,6 +93,7 @@ stripe_told before stripe word view = with_event before (step.MissStripe stripe)
 abbrev pub slabs_missed : ℕ → View → View
 slabs_missed word view = slabs_told [] word view
 
+-- the word of a stripe's lock was seen, and nothing was changed
 abbrev pub stripe_missed : ℕ → ℕ → View → View
 stripe_missed stripe word view = stripe_told [] stripe word view
 

@@ -9,6 +9,7 @@ pub record Asked : Type 0 where
   pub worker : ℕ
   pub key : ℕ
 
+-- the worker and the key of a worker's line, none where the line is the mover's
 abbrev pub asked_by : Command → Option Asked
 asked_by (Set worker key words base) = Some (record { worker = worker; key = key })
 asked_by (Delete worker key) = Some (record { worker = worker; key = key })
@@ -30,9 +31,11 @@ is_asked_by worker command = option_map_or (λ asked. asked.worker == worker) (a
 abbrev pub lines_of : ℕ → List Command → List Command
 lines_of worker commands = filter (is_asked_by worker) commands
 
+-- the line is no worker's, and so the mover's
 abbrev pub is_movers : Command → Bool
 is_movers command = not (is_workers command)
 
+-- the lines of the mover, in order
 abbrev pub lines_of_mover : List Command → List Command
 lines_of_mover commands = filter is_movers commands
 

@@ -16,6 +16,7 @@ pub record Hold : Type 0 where
 abbrev pub hold_of : View → Ref → Hold
 hold_of view item = record { item = item; words = item_words view item }
 
+-- the holds by these references, in the same order
 abbrev pub holds_of : View → List Ref → List Hold
 holds_of view kept = map (hold_of view) kept
 

@@ -56,6 +56,7 @@ DecisionsAreActedOn = (decision : Decision) (acted : Acted) (before now : Hand) 
 abbrev pub first_counts : turns.Counts
 first_counts = record { cleared = 3; rescued = 1; evicted = 0; busy = 2; locked = 0 }
 
+-- what a turn counted that cleared 4 chunks, one of them by an eviction, and found 5 with their stripe locked
 abbrev pub last_counts : turns.Counts
 last_counts = record { cleared = 4; rescued = 0; evicted = 1; busy = 0; locked = 5 }
 

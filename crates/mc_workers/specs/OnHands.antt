@@ -17,6 +17,7 @@ abbrev pub AnswersHoldBy : Arena → ℕ → Reply → Hand → List Ref → Han
 AnswersHoldBy arena key reply before kept now left =
     AnswersHold (setup_of arena) key reply (holds_of (view before) kept) before (holds_of (view now) left) now
 
+-- a drop of this key, by the reply: what it made of the hand and of the references that it keeps
 abbrev pub AnswersDropBy : ℕ → Reply → Hand → List Ref → Hand → List Ref → Type 0
 AnswersDropBy key reply before kept now left = AnswersDrop key reply (holds_of (view before) kept) before (holds_of (view now) left) now
 
@@ -25,6 +26,7 @@ abbrev pub ServesBy : Arena → Command → Reply → Hand → List Ref → Hand
 ServesBy arena command reply before kept now left =
     Serves (setup_of arena) command reply (holds_of (view before) kept) before (holds_of (view now) left) now
 
+-- a line of a worker was done, and the line that tells its reply was added to the text
 abbrev pub AddsReplyBy : Arena → Command → Hand → List Ref → List ℕ → Hand → List Ref → List ℕ → Type 0
 AddsReplyBy arena command before kept text now left longer =
     AddsReply (setup_of arena) command (holds_of (view before) kept) before text (holds_of (view now) left) now longer
@@ -38,5 +40,6 @@ ServesLinesBy arena worker commands before kept text now left longer =
 abbrev pub AddsMoveBy : Arena → Command → Hand → Mover → List ℕ → Hand → Mover → List ℕ → Type 0
 AddsMoveBy arena command before mover text now left longer = AddsMove (setup_of arena).table command mover before text left now longer
 
+-- all lines of the mover were done, in order, and the lines that tell their replies were added to the text
 abbrev pub AddsMovesBy : Arena → List Command → Hand → Mover → List ℕ → Hand → Mover → List ℕ → Type 0
 AddsMovesBy arena commands before mover text now left longer = AddsMoves (setup_of arena).table commands mover before text left now longer
