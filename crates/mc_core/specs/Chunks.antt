@@ -32,7 +32,7 @@ most_holdings = 256
 abbrev pub has_place : State → ℕ → Bool
 has_place state hand = nat_lt (length (holdings_at state hand)) most_holdings
 
--- the chunk is free and isn't used up
+-- there is such a chunk, and it is free and isn't used up
 abbrev pub can_hand_out : State → Option ChunkId → Bool
 can_hand_out state None = false
 can_hand_out state (Some chunk) = is_free (head_at state chunk).tag && nat_lt (head_at state chunk).issue most_issue
@@ -41,7 +41,7 @@ can_hand_out state (Some chunk) = is_free (head_at state chunk).tag && nat_lt (h
 abbrev pub handed_out : Head → Head
 handed_out head = record { issue = head.issue + 1; tag = Unlinked; count = 1 }
 
--- a chunk that nobody has filled yet
+-- the holding of a chunk that is handed out for this purpose, with its next issue number, and none of its words filled
 abbrev pub new_holding : State → ChunkId → Purpose → Holding
 new_holding state chunk purpose = record {
   chunk = chunk;
@@ -107,7 +107,7 @@ can_fill_in place (Some holding) = is_fresh holding && nat_lt place (length (wor
 abbrev pub can_fill : State → ℕ → ChunkId → ℕ → Bool
 can_fill state hand chunk place = can_fill_in place (holding_of chunk (holdings_at state hand))
 
--- a fresh chunk with one more word
+-- a fresh chunk with one more of its words known; a reference stays as it is
 abbrev pub filled_kind : ℕ → ℕ → Kind → Kind
 filled_kind place word (Reference item) = Reference item
 filled_kind place word (Fresh purpose words) = Fresh purpose (slice_set words place (Some word))
@@ -120,11 +120,11 @@ filled place word holding = record holding { kind = filled_kind place word holdi
 abbrev pub after_fill : State → ℕ → ChunkId → ℕ → ℕ → State
 after_fill state hand chunk place word = with_word (with_changed state hand (is_of chunk) (filled place word)) chunk place word
 
--- one holder less
+-- a header with one holder less
 abbrev pub let_go : Head → Head
 let_go head = record head { count = head.count - 1 }
 
--- the first holding of the chunk is fresh, or isn't
+-- there is such a holding, and it is fresh, or a reference, as is asked
 abbrev pub holds_as : Bool → Option Holding → Bool
 holds_as fresh None = false
 holds_as fresh (Some holding) = is_fresh holding && fresh || not (is_fresh holding) && not fresh
@@ -137,7 +137,7 @@ can_discard state hand chunk = holds_as true (holding_of chunk (holdings_at stat
 abbrev pub can_release : State → ℕ → ChunkId → Bool
 can_release state hand chunk = holds_as false (holding_of chunk (holdings_at state hand))
 
--- a holding is given up
+-- the hand gives up its first holding of the chunk, whose header counts one holder less
 abbrev pub after_drop : State → ℕ → ChunkId → State
 after_drop state hand chunk = without_holding (with_head state chunk (let_go (head_at state chunk))) hand (is_of chunk)
 

@@ -16,7 +16,7 @@ use Rattle.mc_core.specs.Items as items
 use Rattle.mc_core.specs.Evictions as evictions
 use Rattle.mc_core.specs.Hands as hands
 
--- the hand may do this
+-- the hand may take this step
 abbrev pub allows_step : State → ℕ → Step → Bool
 allows_step state hand TakeSlabs = locks.can_take_slabs state
 allows_step state hand (TakeStripe stripe) = locks.can_take_stripe state stripe

@@ -9,7 +9,7 @@ use Rattle.mc_words.specs.declared.refs.Ref as words
 use Rattle.mc_items.specs.declared.refs.Ref.{Ref}
 use Rattle.mc_words.specs.Observers.{ref_chunk, ref_issue, ref_room}
 
--- the reference to its chunk, and that chunk
+-- the reference to the chunk that the item is in
 abbrev pub item_reference : Ref → words.Ref
 item_reference item = item.reference
 
@@ -17,11 +17,11 @@ item_reference item = item.reference
 abbrev pub item_chunk : Ref → ChunkId
 item_chunk item = ref_chunk (item_reference item)
 
--- the issue number with which the chunk was handed out
+-- the issue number with which the item's chunk was handed out
 abbrev pub item_issue : Ref → ℕ
 item_issue item = ref_issue (item_reference item)
 
--- its key, its stamp, and how many words it has
+-- the item's key
 abbrev pub item_key : Ref → ℕ
 item_key item = item.key
 

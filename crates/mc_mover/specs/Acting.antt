@@ -71,7 +71,7 @@ KnowsReason setup hand held chunk = knows_reason setup.table (slabs_lent held) (
 abbrev pub HasBlankCopy : Hand → ChunkId → Fresh → Type 0
 HasBlankCopy hand chunk fresh = (issue : ℕ) × (holding_of (fresh_chunk fresh) (view hand).row.holdings ≡ Some (copy_holding chunk (fresh_chunk fresh) issue (fresh_room fresh)))
 
--- the item was evicted, or moved to the fresh chunk, by what was found
+-- by what was found: the item was evicted, or was unlinked or held; and the stripe's lock was given back
 abbrev pub EvictsAs : ChunkId → Found → ℕ → StripeDoing
 EvictsAs chunk found number stripe value view slabs now left = GivesEvicted number stripe value chunk found view now
 

@@ -24,7 +24,7 @@ use Rattle.mc_words.specs.Owner.{SeesOther}
 abbrev pub key_read : View → ChunkId → Option ℕ
 key_read view chunk = word_read view chunk 0
 
--- the stripe of that key
+-- the stripe of the key of the chunk's item, as the hand read it under this hold of the slabs lock
 abbrev pub stripe_read : View → ChunkId → Option ℕ
 stripe_read view chunk = option_map (λ key. key % view.setup.config.stripes) (key_read view chunk)
 
@@ -54,11 +54,11 @@ pub record Condemns (view : View) (number stripe : ℕ) (value : ReadyStripe) (c
   pub is : now ≡ item_condemned number stripe value key chunk head (head_seen chunk head (key_seen chunk key view))
   pub left_is : left ≡ used_up (after_evict value.state number key)
 
--- it saw that the chunk isn't linked, or is held
+-- the hand saw that the chunk isn't linked, or is held
 abbrev pub SeesHeld : View → ChunkId → View → Type 0
 SeesHeld view chunk now = SeesOther view (Some chunk) (λ head. is_linked_unheld head ≡ false) now
 
--- it saw so, at once or by a second look
+-- the hand read the chunk's key again, and saw that the chunk isn't linked, or is held: at once, or by a second look
 pub record FindsHeld (view : View) (chunk : ChunkId) (now : View) : Type 0 where
   pub key : ℕ
   pub is_key : key_read view chunk ≡ Some key

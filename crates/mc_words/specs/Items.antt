@@ -14,7 +14,7 @@ use Rattle.mc_words.specs.View.{View}
 abbrev pub held_item : View → ChunkId → List ℕ
 held_item view chunk = option_map_or item_of (holding_of chunk view.row.holdings) []
 
--- a word of a chunk, as the hand read it under this hold of the slabs lock
+-- a word of a chunk, as the hand read it under this hold of the slabs lock; none where it didn't
 abbrev pub word_read : View → ChunkId → ℕ → Option ℕ
 word_read view chunk place = fold (last_read chunk place) None view.row.looks
 
@@ -22,7 +22,7 @@ word_read view chunk place = fold (last_read chunk place) None view.row.looks
 abbrev pub words_in : View → ChunkId → Words
 words_in view chunk = option_map_or words_of (holding_of chunk view.row.holdings) []
 
--- the issue number with which that chunk was handed out
+-- the issue number with which the chunk that the hand holds was handed out, 0 where it doesn't hold it
 abbrev pub issue_in : View → ChunkId → ℕ
 issue_in view chunk = option_map_or (λ (holding : Holding). holding.issue) (holding_of chunk view.row.holdings) 0
 

@@ -15,7 +15,7 @@ use Rattle.mc_words.specs.declared.refs.Ref.{Ref}
 abbrev pub locks_of : Hand → Locks
 locks_of hand = hand.locks
 
--- its number, with which it makes its stamps
+-- the hand's number, with which it makes its stamps
 abbrev pub number_of : Hand → ℕ
 number_of hand = hand.number
 
@@ -23,7 +23,7 @@ number_of hand = hand.number
 abbrev pub slabs_lent : SlabsHeld → SlabState
 slabs_lent held = held.shared
 
--- which stripe is held, and its value
+-- which stripe is held: its number, counted from 0
 abbrev pub stripe_number : StripeHeld → ℕ
 stripe_number held = held.number
 
@@ -31,7 +31,7 @@ stripe_number held = held.number
 abbrev pub stripe_lent : StripeHeld → ReadyStripe
 stripe_lent held = held.stripe
 
--- a fresh chunk, how many words it has, and the key and the stamp that were written into it
+-- which chunk it is that the hand fills
 abbrev pub fresh_chunk : Fresh → ChunkId
 fresh_chunk fresh = fresh.chunk
 
@@ -47,7 +47,7 @@ fresh_key fresh = fresh.key
 abbrev pub fresh_stamp : Fresh → ℕ
 fresh_stamp fresh = fresh.stamp
 
--- the chunk of a reference, the issue number with which it was handed out, and how many words it has
+-- the chunk of a reference
 abbrev pub ref_chunk : Ref → ChunkId
 ref_chunk reference = reference.chunk
 
@@ -59,7 +59,7 @@ ref_issue reference = reference.issue
 abbrev pub ref_room : Ref → ℕ
 ref_room reference = reference.room
 
--- the chunk of a hint, and its issue number
+-- the chunk of a hint
 abbrev pub hint_chunk : Hint → ChunkId
 hint_chunk hint = hint.chunk
 

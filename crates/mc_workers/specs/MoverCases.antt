@@ -52,7 +52,7 @@ abbrev pub DecisionsAreActedOn : Type 0
 DecisionsAreActedOn = (decision : Decision) (acted : Acted) (before now : Hand) →
     (ActsOnDecision (Some decision) None before now → ⊥) × (ActsOnDecision None (Some acted) before now → ⊥)
 
--- what a turn counted that cleared 3 chunks, one of them by a rescue, and found 2 busy; and one that cleared 4, one by an eviction
+-- what a turn counted that cleared 3 chunks, one of them by a rescue, and found 2 busy
 abbrev pub first_counts : turns.Counts
 first_counts = record { cleared = 3; rescued = 1; evicted = 0; busy = 2; locked = 0 }
 
