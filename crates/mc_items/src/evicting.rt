@@ -15,10 +15,10 @@ ghost use Rattle.mc_words.specs.Arenas.{IsHandOf, setup_of, view};
 ghost use Rattle.mc_words.specs.Condemning.{knows_reason, stripe_read};
 ghost use Rattle.mc_words.specs.Idle.{has_no_stripes};
 ghost use Rattle.mc_words.specs.Lent.{IsLentStripe};
-ghost use Rattle.mc_words.specs.Observers.{locks_of, number_of, slabs_lent, stripe_lent, stripe_number};
+ghost use Rattle.mc_words.specs.Observers.{HasSlabs, locks_of, number_of, slabs_lent, stripe_lent, stripe_number};
 ghost use Rattle.mc_words.specs.Out.{without_stripe};
 ghost use Rattle.mc_items.specs.Evicting.{FreesChunk, FreesOneOfFive, LacksEntryOfFive, PassesFive, PassesOne};
-ghost use Rattle.mc_items.specs.OnKeys.{Acts, AreUnchanged, DoesOn, GivesBack, HasSlabs};
+ghost use Rattle.mc_items.specs.OnKeys.{Acts, AreUnchanged, DoesOn, GivesBack};
 ghost use Rattle.mc_items.specs.Supplying.{FindsItemHeld, FreesEvicted, LacksCall, PassesItem, TakesAtOnce, TakesItem};
 
 use mc_classes::ClassId;

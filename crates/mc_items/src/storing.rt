@@ -6,7 +6,7 @@ ghost use Rattle.mc_words.specs.Fresh.{IsFreshOf};
 ghost use Rattle.mc_words.specs.Idle.{is_unlocked};
 ghost use Rattle.mc_words.specs.Items.{words_in};
 ghost use Rattle.mc_words.specs.Lent.{IsLentStripe};
-ghost use Rattle.mc_words.specs.Observers.{fresh_chunk, fresh_key, fresh_room, fresh_stamp, locks_of, number_of, ref_chunk, ref_room, stripe_lent};
+ghost use Rattle.mc_words.specs.Observers.{HasStripe, fresh_chunk, fresh_key, fresh_room, fresh_stamp, locks_of, number_of, ref_chunk, ref_room, stripe_lent};
 ghost use Rattle.mc_words.specs.Observers.{stripe_number};
 ghost use Rattle.mc_words.specs.Out.{without_stripe};
 ghost use Rattle.mc_words.specs.Refs.{IsRefOf};
@@ -14,7 +14,7 @@ ghost use Rattle.mc_words.specs.Tallies.{next_stamp};
 ghost use Rattle.mc_items.specs.Calls.{TellsNoCall};
 ghost use Rattle.mc_items.specs.FreshChunks.{GivesBackBoth, IsFilledWith, IsRefInto, LosesFresh, StoresFresh, filled_with};
 ghost use Rattle.mc_items.specs.Keeping.{Says};
-ghost use Rattle.mc_items.specs.OnKeys.{DoesOn, HasStripe, TellsOn, stripe_of_key};
+ghost use Rattle.mc_items.specs.OnKeys.{DoesOn, TellsOn, stripe_of_key};
 ghost use Rattle.mc_items.specs.Storing.{IsOwnItem, Stores, item_with, key_put_aside, stripe_lifted};
 ghost use Rattle.mc_stripe.specs.declared.history.Call.TheVariants as call;
 

@@ -14,10 +14,10 @@ ghost use Rattle.mc_words.specs.Arenas.{IsHandOf, setup_of, view};
 ghost use Rattle.mc_words.specs.Condemning.{stripe_read};
 ghost use Rattle.mc_words.specs.Idle.{has_no_stripes};
 ghost use Rattle.mc_words.specs.Lent.{IsLentStripe};
-ghost use Rattle.mc_words.specs.Observers.{locks_of, slabs_lent, stripe_lent, stripe_number};
+ghost use Rattle.mc_words.specs.Observers.{HasSlabs, HasStripe, locks_of, slabs_lent, stripe_lent, stripe_number};
 ghost use Rattle.mc_words.specs.Out.{without_stripe};
 ghost use Rattle.mc_mover.specs.declared.sweep.Sweep.TheVariants.{Done};
-ghost use Rattle.mc_mover.specs.Acting.{Acts, ActsOnStripe, HasSlabs, HasStripe, IsLedTo, SeesDead};
+ghost use Rattle.mc_mover.specs.Acting.{Acts, ActsOnStripe, IsLedTo, SeesDead};
 ghost use Rattle.mc_mover.specs.Linked.{LacksCall, OnlyGives, SavesAs, VisitsLinked};
 ghost use Rattle.mc_mover.specs.Saving.{FindsNoTarget, RescuesToTarget, SweepsAndSaves};
 

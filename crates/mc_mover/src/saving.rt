@@ -10,9 +10,9 @@ ghost use Rattle.mc_core.specs.State.{has_chunk, room_in};
 ghost use Rattle.mc_words.specs.Arenas.{IsHandOf, setup_of, view};
 ghost use Rattle.mc_words.specs.Condemning.{stripe_read};
 ghost use Rattle.mc_words.specs.Fresh.{IsFreshOf};
-ghost use Rattle.mc_words.specs.Observers.{fresh_chunk, fresh_room, locks_of, slabs_lent, stripe_lent, stripe_number};
+ghost use Rattle.mc_words.specs.Observers.{HasSlabs, HasStripe, fresh_chunk, fresh_room, locks_of, slabs_lent, stripe_lent, stripe_number};
 ghost use Rattle.mc_words.specs.Out.{without_stripe};
-ghost use Rattle.mc_mover.specs.Acting.{ActsOnStripe, EvictsAs, HasBlankCopy, HasSlabs, HasStripe, KnowsReason, MovesInto, RescuesAs, SeesDead};
+ghost use Rattle.mc_mover.specs.Acting.{ActsOnStripe, EvictsAs, HasBlankCopy, KnowsReason, MovesInto, RescuesAs, SeesDead};
 ghost use Rattle.mc_mover.specs.Saving.{FailsToMove};
 
 use crate::copying::copy_item;

@@ -1,5 +1,5 @@
 -- What clauses of other crates read of hands, and of what a call of the arena gives.
-use Rattle.std.specs.Prelude.{ℕ}
+use Rattle.std.specs.Prelude.{◌≡◌, ℕ, slice_index_or, Some, None}
 use Rattle.mc_pages.specs.declared.ids.ChunkId.{ChunkId}
 use Rattle.mc_pages.specs.SlabState.{SlabState}
 use Rattle.mc_stripe.specs.StripeState.{ReadyStripe}
@@ -10,6 +10,7 @@ use Rattle.mc_words.specs.declared.held.StripeHeld.{StripeHeld}
 use Rattle.mc_words.specs.declared.locks.Locks.{Locks}
 use Rattle.mc_words.specs.declared.refs.Hint.{Hint}
 use Rattle.mc_words.specs.declared.refs.Ref.{Ref}
+use Rattle.mc_words.specs.Arenas.{view}
 
 -- which locks the hand has
 abbrev pub locks_of : Hand → Locks
@@ -30,6 +31,14 @@ stripe_number held = held.number
 -- the stripe with its room, as the holder of its lock has it
 abbrev pub stripe_lent : StripeHeld → ReadyStripe
 stripe_lent held = held.stripe
+
+-- the hand has the lock of the slabs, and these pages and lists behind it
+abbrev pub HasSlabs : Hand → SlabsHeld → Type 0
+HasSlabs hand held = (view hand).slabs ≡ Some (slabs_lent held)
+
+-- the hand has the lock of this stripe, and this value behind it
+abbrev pub HasStripe : Hand → StripeHeld → Type 0
+HasStripe hand held = slice_index_or (view hand).stripes (stripe_number held) None ≡ Some (stripe_lent held)
 
 -- which chunk it is that the hand fills
 abbrev pub fresh_chunk : Fresh → ChunkId

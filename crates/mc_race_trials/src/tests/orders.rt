@@ -4,10 +4,9 @@ ghost use Rattle.mc_pages.specs.SlabState.{class_of_page};
 ghost use Rattle.mc_core.specs.Chunks.{is_moving_page};
 ghost use Rattle.mc_core.specs.State.{has_chunk, is_class};
 ghost use Rattle.mc_words.specs.Arenas.{IsHandOf, setup_of, view};
-ghost use Rattle.mc_words.specs.Observers.{slabs_lent};
+ghost use Rattle.mc_words.specs.Observers.{HasSlabs, slabs_lent};
 ghost use Rattle.mc_words.specs.Ready.{IsReady};
 ghost use Rattle.mc_items.specs.ItemRefs.{IsItemRef};
-ghost use Rattle.mc_mover.specs.Acting.{HasSlabs};
 ghost use Rattle.mc_calls.specs.Hands.{IsReadyHandOf};
 ghost use Rattle.mc_race_trials.specs.Keepers.{IsNear};
 

@@ -13,8 +13,8 @@ ghost use Rattle.mc_words.specs.Condemning.{stripe_read};
 ghost use Rattle.mc_words.specs.Fresh.{IsFreshOf};
 ghost use Rattle.mc_words.specs.Idle.{has_no_stripes};
 ghost use Rattle.mc_words.specs.Lent.{IsLentStripe};
-ghost use Rattle.mc_words.specs.Observers.{fresh_chunk, fresh_room, slabs_lent, stripe_lent, stripe_number};
-ghost use Rattle.mc_mover.specs.Acting.{HasBlankCopy, HasSlabs, HasStripe, KnowsReason};
+ghost use Rattle.mc_words.specs.Observers.{HasSlabs, HasStripe, fresh_chunk, fresh_room, slabs_lent, stripe_lent, stripe_number};
+ghost use Rattle.mc_mover.specs.Acting.{HasBlankCopy, KnowsReason};
 
 use mc_classes::ClassId;
 use mc_pages::ChunkId;
