@@ -134,7 +134,7 @@ after_link state hand chunk = after_link_of (without_holding state hand (is_of c
 abbrev pub new_reference : State → ChunkId → Holding
 new_reference state chunk = record { chunk = chunk; issue = (head_at state chunk).issue; kind = Reference (item_at state chunk) }
 
--- the hand gets a reference to the item in the chunk, whose header counts it
+-- the hand gets a reference to the item in the chunk, whose header counts it; no stripe is told
 abbrev pub with_reference : State → ℕ → ChunkId → State
 with_reference state hand chunk = with_holding (with_head state chunk (referred (head_at state chunk))) hand (new_reference state chunk)
 
@@ -208,10 +208,6 @@ has_place_unlocked state hand = nat_lt (length (holdings_at state hand)) 255
 abbrev pub can_again : State → ℕ → ChunkId → ℕ → Bool
 can_again state hand chunk issue =
     has_chunk state.table chunk && has_place_unlocked state hand && is_linked (head_at state chunk).tag && (head_at state chunk).issue == issue && can_count (head_at state chunk)
-
--- the hand gets a reference to the item in the chunk, and no stripe is told
-abbrev pub after_again : State → ℕ → ChunkId → State
-after_again state hand chunk = with_reference state hand chunk
 
 -- the first holding of the chunk is a reference, and its item has such a word
 abbrev pub can_read_in : ℕ → Option Holding → Bool

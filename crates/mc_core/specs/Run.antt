@@ -65,7 +65,7 @@ after_step state hand (Condemn chunk) = evictions.after_condemn state hand chunk
 after_step state hand (PutBack chunk) = chunks.after_put_back state hand chunk
 after_step state hand (Clear chunk) = chunks.after_clear state hand chunk
 after_step state hand (Cut page index) = chunks.after_cut state hand (record { page = page; index = index })
-after_step state hand (Again chunk issue) = items.after_again state hand chunk
+after_step state hand (Again chunk issue) = items.with_reference state hand chunk
 after_step state hand (Join kept spent) = hands.after_join state spent
 
 -- the event may come next: its hand is there, the changes before it are allowed one after another, and then its step
