@@ -13,7 +13,7 @@ use Rattle.mc_core.specs.Chunks.{most_issue}
 use Rattle.mc_core.specs.Evictions.{is_linked_unheld}
 use Rattle.mc_stripe.specs.StripeState.{ReadyStripe}
 use Rattle.mc_core.specs.Looks.{is_found_alive}
-use Rattle.mc_words.specs.Doing.{Doing, IsDone, SlabsDoing}
+use Rattle.mc_words.specs.Doing.{Doing, IsDone}
 use Rattle.mc_words.specs.View.{View}
 use Rattle.mc_words.specs.Happens.{Happens}
 use Rattle.mc_words.specs.Cutting.{CutsEach}
@@ -29,19 +29,15 @@ SweepsEmpty class view slabs now left =
     ((is_some (first_free (class_at slabs class)) ≡ true) × (now ≡ view) × (left ≡ slabs))
     ⊎ ((first_free (class_at slabs class) ≡ None) × Recovers (class_at slabs class).order view slabs now left)
 
--- so, and then the first free chunk was handed out
-pub record SuppliesFree (class : ℕ) (view : View) (slabs : SlabState) (chunk : ChunkId) (now : View) (left : SlabState) : Type 0 where
+-- this chunk, the first free one of its class, was handed out; where none was free, dead ones were put back before
+pub record SuppliesFree (class : ℕ) (chunk : ChunkId) (view : View) (slabs : SlabState) (now : View) (left : SlabState) : Type 0 where
   pub swept : View
   pub between : SlabState
   pub sweeps : SweepsEmpty class view slabs swept between
   pub pops : PopsFirst swept between class chunk now
   pub left_is : left ≡ after_pop between class
 
--- this chunk, the first free one of its class, was handed out; where none was free, dead ones were put back before
-abbrev pub HandsOutFree : ℕ → ChunkId → SlabsDoing
-HandsOutFree class chunk view slabs now left = SuppliesFree class view slabs chunk now left
-
--- so, and then the first free chunk was seen to be worn out
+-- the class's first free chunk was seen to be worn out; where none was free, dead ones were put back before
 pub record FindsWorn (class : ℕ) (view : View) (slabs : SlabState) (now : View) (left : SlabState) : Type 0 where
   pub swept : View
   pub sweeps : SweepsEmpty class view slabs swept left
