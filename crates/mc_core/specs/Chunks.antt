@@ -5,6 +5,7 @@ use Rattle.mc_classes.specs.Classes.{Classes}
 use Rattle.mc_pages.specs.declared.ids.ChunkId.{ChunkId}
 use Rattle.mc_pages.specs.ClassState.{is_chunk, first_free}
 use Rattle.mc_pages.specs.SlabState.{SlabState, class_at, class_of_page}
+use Rattle.mc_pages.specs.Pages.{is_on_the_move}
 use Rattle.mc_pages.specs.Changes as slabs_changes
 use Rattle.mc_core.specs.declared.head.Head.{Head}
 use Rattle.mc_core.specs.declared.head.Tag.TheVariants.{Out, Free, Unlinked}
@@ -70,10 +71,6 @@ popped state hand (Some chunk) = with_look (with_fresh state hand chunk Item) ha
 abbrev pub after_pop : State → ℕ → ℕ → State
 after_pop state hand class = popped (with_slabs state (slabs_changes.after_pop state.slabs class)) hand (next_free state class)
 
--- the page is on the move
-abbrev pub is_moving_page : SlabState → ℕ → Bool
-is_moving_page slabs page = option_map_or (λ move. move.page == page) slabs.moving false
-
 -- the chunk is off the page and isn't used up
 abbrev pub is_target : Classes → List Head → ℕ → ChunkId → Bool
 is_target table heads page chunk = not (chunk.page == page) && nat_lt (head_in table heads chunk).issue most_issue
@@ -85,7 +82,7 @@ target_of table heads slabs page = find (is_target table heads page) (class_at s
 -- the hand has the slabs lock and a place left; the old chunk is handed out, its page moves, a chunk can replace it
 abbrev pub can_pop_off : State → ℕ → ChunkId → Bool
 can_pop_off state hand old =
-    has_slabs state hand && is_moving_page state.slabs old.page && is_handed_out state.slabs old && has_place state hand && can_hand_out state (target_of state.table state.heads state.slabs old.page)
+    has_slabs state hand && is_on_the_move state.slabs old.page && is_handed_out state.slabs old && has_place state hand && can_hand_out state (target_of state.table state.heads state.slabs old.page)
 
 -- this free chunk takes the old one's place and goes to the hand for a copy; without one nothing changes
 abbrev pub popped_off : State → ℕ → ChunkId → Option ChunkId → State
@@ -162,7 +159,7 @@ after_put_back state hand chunk =
 -- the hand has the slabs lock, and the chunk is free or dead, in a list of its class, and on the moving page
 abbrev pub can_clear : State → ℕ → ChunkId → Bool
 can_clear state hand chunk =
-    has_slabs state hand && has_chunk state.table chunk && is_moving_page state.slabs chunk.page && (is_free (head_at state chunk).tag || is_dead (head_at state chunk))
+    has_slabs state hand && has_chunk state.table chunk && is_on_the_move state.slabs chunk.page && (is_free (head_at state chunk).tag || is_dead (head_at state chunk))
     && is_listed state.slabs (class_of_page state.slabs chunk.page) chunk
 
 -- the chunk of the moving page leaves the list that it is in and is out, with the issue that it had

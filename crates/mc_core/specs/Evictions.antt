@@ -4,6 +4,7 @@ use Rattle.std.specs.List.{list_all, list_any}
 use Rattle.mc_classes.specs.Classes.{Classes, pages_of}
 use Rattle.mc_pages.specs.declared.ids.ChunkId.{ChunkId}
 use Rattle.mc_pages.specs.ClassState.{first_free}
+use Rattle.mc_pages.specs.Pages.{is_on_the_move}
 use Rattle.mc_pages.specs.SlabState.{SlabState, class_of_chunk, totals_of}
 use Rattle.mc_stripe.specs.StripeState.{ReadyStripe, place_of}
 use Rattle.mc_stripe.specs.Changes.{after_evict, after_lift, used_up}
@@ -19,7 +20,7 @@ use Rattle.mc_core.specs.Holdings.{is_copy_of, words_of}
 use Rattle.mc_core.specs.Looks.{is_found_alive}
 use Rattle.mc_core.specs.State.{State, has_chunk, head_at, with_head, word_at, item_at, has_slabs, has_stripe, stripe_of, stripe_at, with_stripe, holdings_at, with_changed, looks_at, with_look}
 use Rattle.mc_core.specs.Silent.{none_half_cut, writer_of}
-use Rattle.mc_core.specs.Chunks.{is_moving_page, target_of}
+use Rattle.mc_core.specs.Chunks.{target_of}
 
 -- the hand got a fresh chunk for a copy of the item in this one, which it hasn't condemned yet
 abbrev pub has_copy : List Holding → ChunkId → Bool
@@ -35,7 +36,7 @@ has_no_page table slabs = (totals_of slabs).pool == 0 && (totals_of slabs).grant
 
 -- the chunk's page moves, each chunk that its class handed out was found not dead, and no free one can take its item
 abbrev pub must_leave : Classes → List Head → SlabState → List Look → ChunkId → Bool
-must_leave table heads slabs looks chunk = is_moving_page slabs chunk.page && none_dead slabs looks chunk && is_none (target_of table heads slabs chunk.page)
+must_leave table heads slabs looks chunk = is_on_the_move slabs chunk.page && none_dead slabs looks chunk && is_none (target_of table heads slabs chunk.page)
 
 -- the class has no free chunk, each that it handed out was found not dead, and no page is pooled, left or half cut
 abbrev pub lacks_room : Classes → SlabState → List Look → ChunkId → Bool
@@ -44,7 +45,7 @@ lacks_room table slabs looks chunk = is_none (first_free (class_of_chunk slabs c
 -- why an item may be taken away: it goes to another chunk, its page moves, or room is needed
 abbrev pub has_reason : Classes → List Head → SlabState → List Look → List Holding → ChunkId → Bool
 has_reason table heads slabs looks holdings chunk =
-    is_moving_page slabs chunk.page && has_copy holdings chunk || must_leave table heads slabs looks chunk || lacks_room table slabs looks chunk
+    is_on_the_move slabs chunk.page && has_copy holdings chunk || must_leave table heads slabs looks chunk || lacks_room table slabs looks chunk
 
 -- the key of the item in the chunk
 abbrev pub key_at : State → ChunkId → ℕ

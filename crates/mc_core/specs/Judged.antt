@@ -2,6 +2,7 @@
 use Rattle.std.specs.Prelude.{◌≡◌, ◌≢◌, ℕ, ◌<◌, ◌==◌, Bool, true, false, not, ◌||◌, nat_lt, List, ◌∷◌, ◌++◌, Some, None}
 use Rattle.std.specs.List.{fold, list_all}
 use Rattle.std.specs.Option.{option_map_or}
+use Rattle.mc_pages.specs.Pages.{is_on_the_move}
 use Rattle.mc_pages.specs.declared.ids.ChunkId.{ChunkId}
 use Rattle.mc_pages.specs.SlabState.{SlabState, class_at, class_of_page}
 use Rattle.mc_core.specs.declared.head.Head.{Head}
@@ -9,7 +10,7 @@ use Rattle.mc_core.specs.declared.look.Look.{Look}
 use Rattle.mc_core.specs.Head.{is_free, is_dead}
 use Rattle.mc_core.specs.State.{is_class, has_chunk, head_at, has_slabs, looks_at}
 use Rattle.mc_core.specs.Silent.{is_handed_out}
-use Rattle.mc_core.specs.Chunks.{most_issue, has_place, next_free, can_pop, is_moving_page, target_of, can_pop_off, can_put_back, can_clear, can_cut}
+use Rattle.mc_core.specs.Chunks.{most_issue, has_place, next_free, can_pop, target_of, can_pop_off, can_put_back, can_clear, can_cut}
 use Rattle.mc_core.specs.Evictions.{none_dead, must_leave, key_at}
 use Rattle.mc_core.specs.Seen.{seen_head, last_read}
 use Rattle.mc_core.specs.Past.{Moment}
@@ -43,22 +44,22 @@ pub record IsJudged (m : Moment) (hand : ℕ) : Type 0 where
   pub pop : (class : ℕ) (chunk : ChunkId) (seen : Head) → is_class m.state.table class ≡ true → has_place m.state hand ≡ true → next_free m.state class ≡ Some chunk →
       seen_head (looks_at m.state hand) chunk ≡ Some seen → seen.issue < most_issue → can_pop m.state hand class ≡ true
   -- a target that was seen is the target, and its header the one that was seen
-  pub target : (page : ℕ) (chunk : ChunkId) → is_moving_page m.state.slabs page ≡ true → (sees : SeesTarget m.state.slabs (looks_at m.state hand) page chunk) →
+  pub target : (page : ℕ) (chunk : ChunkId) → is_on_the_move m.state.slabs page ≡ true → (sees : SeesTarget m.state.slabs (looks_at m.state hand) page chunk) →
       (target_of m.state.table m.state.heads m.state.slabs page ≡ Some chunk) × (head_at m.state chunk ≡ sees.seen)
   -- a target that was seen can be handed out in an old chunk's place
-  pub pop_off : (old chunk : ChunkId) → is_moving_page m.state.slabs old.page ≡ true → is_handed_out m.state.slabs old ≡ true → has_place m.state hand ≡ true →
+  pub pop_off : (old chunk : ChunkId) → is_on_the_move m.state.slabs old.page ≡ true → is_handed_out m.state.slabs old ≡ true → has_place m.state hand ≡ true →
       SeesTarget m.state.slabs (looks_at m.state hand) old.page chunk → can_pop_off m.state hand old ≡ true
   -- where no target was seen there is none
-  pub none : (page : ℕ) → is_moving_page m.state.slabs page ≡ true → sees_no_target m.state.slabs (looks_at m.state hand) page ≡ true →
+  pub none : (page : ℕ) → is_on_the_move m.state.slabs page ≡ true → sees_no_target m.state.slabs (looks_at m.state hand) page ≡ true →
       target_of m.state.table m.state.heads m.state.slabs page ≡ None
   -- where no target was seen, and each chunk that the class handed out was found not dead, the item must leave
-  pub leave : (chunk : ChunkId) → is_moving_page m.state.slabs chunk.page ≡ true → none_dead m.state.slabs (looks_at m.state hand) chunk ≡ true →
+  pub leave : (chunk : ChunkId) → is_on_the_move m.state.slabs chunk.page ≡ true → none_dead m.state.slabs (looks_at m.state hand) chunk ≡ true →
       sees_no_target m.state.slabs (looks_at m.state hand) chunk.page ≡ true → must_leave m.state.table m.state.heads m.state.slabs (looks_at m.state hand) chunk ≡ true
   -- what was seen dead is as it was seen, and can go back
   pub put_back : (chunk : ChunkId) (seen : Head) → has_chunk m.state.table chunk ≡ true → seen_head (looks_at m.state hand) chunk ≡ Some seen → is_dead seen ≡ true →
       (head_at m.state chunk ≡ seen) × (can_put_back m.state hand chunk ≡ true)
   -- what was seen free or dead on the moving page is as it was seen, and can be cleared
-  pub clear : (chunk : ChunkId) (seen : Head) → has_chunk m.state.table chunk ≡ true → is_moving_page m.state.slabs chunk.page ≡ true → seen_head (looks_at m.state hand) chunk ≡ Some seen →
+  pub clear : (chunk : ChunkId) (seen : Head) → has_chunk m.state.table chunk ≡ true → is_on_the_move m.state.slabs chunk.page ≡ true → seen_head (looks_at m.state hand) chunk ≡ Some seen →
       (is_free seen.tag || is_dead seen) ≡ true → (head_at m.state chunk ≡ seen) × (can_clear m.state hand chunk ≡ true)
   -- what is cut next needs no look
   pub cut : (chunk : ChunkId) → m.state.slabs.uncut ≡ Some chunk → can_cut m.state hand chunk ≡ true

@@ -1,5 +1,6 @@
 -- Tests of events that need not be made, since the law answers them.
 use Rattle.std.specs.Prelude.{◌≡◌, ℕ, ◌+◌, ◌*◌, ◌≤◌, true, ◌||◌, Some}
+use Rattle.mc_pages.specs.Pages.{is_on_the_move}
 use Rattle.mc_pages.specs.declared.ids.ChunkId.{ChunkId}
 use Rattle.mc_core.specs.declared.head.Tag.TheVariants.{Out, Free, Unlinked, Linked}
 use Rattle.mc_core.specs.declared.holding.Holding.{Holding}
@@ -8,7 +9,7 @@ use Rattle.mc_core.specs.Head.{is_free, is_dead}
 use Rattle.mc_core.specs.Holdings.{is_fresh, holding_of}
 use Rattle.mc_core.specs.State.{is_class, has_chunk, head_at, holdings_at}
 use Rattle.mc_core.specs.Silent.{is_handed_out, is_listed}
-use Rattle.mc_core.specs.Chunks.{most_holdings, next_free, is_moving_page, target_of}
+use Rattle.mc_core.specs.Chunks.{most_holdings, next_free, target_of}
 use Rattle.mc_core.specs.Items.{can_count, chunk_of}
 use Rattle.mc_core.specs.Codes.{FitsBits}
 use Rattle.mc_core.specs.Past.{Moment}
@@ -30,7 +31,7 @@ pub record AreNeedless (m : Moment) : Type 0 where
   pub next : (class : ℕ) (chunk : ChunkId) → is_class m.state.table class ≡ true → next_free m.state class ≡ Some chunk →
       (has_chunk m.state.table chunk ≡ true) × ((head_at m.state chunk).tag ≡ Free)
   -- a target is free
-  pub target : (page : ℕ) (chunk : ChunkId) → is_moving_page m.state.slabs page ≡ true → target_of m.state.table m.state.heads m.state.slabs page ≡ Some chunk →
+  pub target : (page : ℕ) (chunk : ChunkId) → is_on_the_move m.state.slabs page ≡ true → target_of m.state.table m.state.heads m.state.slabs page ≡ Some chunk →
       (has_chunk m.state.table chunk ≡ true) × ((head_at m.state chunk).tag ≡ Free)
   -- what is dead is in its class's hand-out order
   pub dead : (chunk : ChunkId) → has_chunk m.state.table chunk ≡ true → is_dead (head_at m.state chunk) ≡ true → is_handed_out m.state.slabs chunk ≡ true

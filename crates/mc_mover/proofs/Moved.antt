@@ -7,6 +7,7 @@ use Rattle.mc_pages.specs.declared.ids.ChunkId.{ChunkId}
 use Rattle.mc_pages.specs.ClassState.{is_chunk}
 use Rattle.mc_pages.specs.SlabState.{SlabState}
 use Rattle.mc_pages.proofs.Chunks.{is_chunk-same}
+use Rattle.mc_pages.specs.Pages.{is_on_the_move}
 use Rattle.mc_stripe.specs.Entries.{AreRising, entry_at}
 use Rattle.mc_stripe.specs.StripeState.{ReadyStripe, new_stripe, place_of}
 use Rattle.mc_stripe.specs.Changes.{after_rescue, stamp_aside}
@@ -14,7 +15,7 @@ use Rattle.mc_stripe.proofs.Entries.{at_with_entry, at_without_entry, nat_eq_sam
 use Rattle.mc_core.specs.declared.holding.Holding.{Holding}
 use Rattle.mc_core.specs.declared.holding.Kind.TheVariants.{Fresh, Reference}
 use Rattle.mc_core.specs.declared.holding.Purpose.TheVariants.{Copy, Rescue}
-use Rattle.mc_core.specs.Chunks.{filled, is_moving_page}
+use Rattle.mc_core.specs.Chunks.{filled}
 use Rattle.mc_core.specs.Evictions.{as_rescue, has_copy, lacks_room, none_dead}
 use Rattle.mc_core.specs.Holdings.{Words, all_known, change_each, holding_of, is_complete, is_copy_of, is_of, item_in, key_in, lose, numbers, stamp_in, stamp_of, words_of}
 use Rattle.mc_core.specs.Items.{are_same}
@@ -125,9 +126,9 @@ module _ (chunk copy : ChunkId) (key stamp : ℕ) (words : List ℕ) (view fille
     pub copy_there : has_copy filled.row.holdings chunk ≡ true
     copy_there = found_among copy (is_copy_of chunk) filled.row.holdings copied found_filled (is_chunk-same chunk)
 
-    pub reason_there : (table : Classes) (slabs : SlabState) → is_moving_page slabs chunk.page ≡ true → knows_reason table slabs filled.row.looks filled.row.holdings chunk ≡ true
+    pub reason_there : (table : Classes) (slabs : SlabState) → is_on_the_move slabs chunk.page ≡ true → knows_reason table slabs filled.row.looks filled.row.holdings chunk ≡ true
     reason_there table slabs moves =
-        λ k. moves k && copy_there k || is_moving_page slabs chunk.page && none_dead slabs filled.row.looks chunk && sees_no_target slabs filled.row.looks chunk.page || lacks_room table slabs filled.row.looks chunk
+        λ k. moves k && copy_there k || is_on_the_move slabs chunk.page && none_dead slabs filled.row.looks chunk && sees_no_target slabs filled.row.looks chunk.page || lacks_room table slabs filled.row.looks chunk
 
     module _ (fits : 3 + length words ≤ room) (stripe : ℕ) (value left : ReadyStripe) (now : View) (took : CondemnsOriginal filled stripe value chunk left now) where
       -- the key that was read again is the one that was copied

@@ -2,6 +2,7 @@
 use Rattle.std.specs.Prelude.{◌≡◌, ◌⊎◌, ℕ, ◌%◌, Bool, true, false, ◌&&◌, ◌||◌, List, [], Option, Some}
 use Rattle.std.specs.Option.{option_map}
 use Rattle.mc_classes.specs.Classes.{Classes}
+use Rattle.mc_pages.specs.Pages.{is_on_the_move}
 use Rattle.mc_pages.specs.declared.ids.ChunkId.{ChunkId}
 use Rattle.mc_pages.specs.SlabState.{SlabState}
 use Rattle.mc_stripe.specs.StripeState.{ReadyStripe, place_of}
@@ -10,7 +11,6 @@ use Rattle.mc_core.specs.declared.head.Head.{Head}
 use Rattle.mc_core.specs.declared.holding.Holding.{Holding}
 use Rattle.mc_core.specs.declared.look.Look.{Look}
 use Rattle.mc_core.specs.declared.event.Step.TheVariants as step
-use Rattle.mc_core.specs.Chunks.{is_moving_page}
 use Rattle.mc_core.specs.Evictions.{has_copy, is_linked_unheld, lacks_room, none_dead}
 use Rattle.mc_core.specs.Judged.{sees_no_target}
 use Rattle.mc_words.specs.View.{View}
@@ -32,8 +32,8 @@ stripe_read view chunk = option_map (λ key. key % view.setup.config.stripes) (k
 -- or room is needed
 abbrev pub knows_reason : Classes → SlabState → List Look → List Holding → ChunkId → Bool
 knows_reason table slabs looks holdings chunk =
-    is_moving_page slabs chunk.page && has_copy holdings chunk
-    || is_moving_page slabs chunk.page && none_dead slabs looks chunk && sees_no_target slabs looks chunk.page
+    is_on_the_move slabs chunk.page && has_copy holdings chunk
+    || is_on_the_move slabs chunk.page && none_dead slabs looks chunk && sees_no_target slabs looks chunk.page
     || lacks_room table slabs looks chunk
 
 -- the hand read the chunk's key again
