@@ -4,7 +4,7 @@ ghost use Rattle.mc_core.specs.Holdings.{has_fresh, item_in, numbers};
 ghost use Rattle.mc_words.specs.Arenas.{IsHandOf, setup_of, view};
 ghost use Rattle.mc_words.specs.Fresh.{IsFreshOf};
 ghost use Rattle.mc_words.specs.Idle.{is_unlocked};
-ghost use Rattle.mc_words.specs.Items.{words_in};
+ghost use Rattle.mc_words.specs.Items.{item_with, words_in};
 ghost use Rattle.mc_words.specs.Lent.{IsLentStripe};
 ghost use Rattle.mc_words.specs.Observers.{HasStripe, fresh_chunk, fresh_key, fresh_room, fresh_stamp, locks_of, number_of, ref_chunk, ref_room, stripe_lent};
 ghost use Rattle.mc_words.specs.Observers.{stripe_number};
@@ -15,7 +15,7 @@ ghost use Rattle.mc_items.specs.Calls.{TellsNoCall};
 ghost use Rattle.mc_items.specs.FreshChunks.{GivesBackBoth, IsFilledWith, IsRefInto, LosesFresh, StoresFresh, filled_with};
 ghost use Rattle.mc_items.specs.Keeping.{Says};
 ghost use Rattle.mc_items.specs.OnKeys.{DoesOn, TellsOn, stripe_of_key};
-ghost use Rattle.mc_items.specs.Storing.{IsOwnItem, Stores, item_with, key_put_aside, stripe_lifted};
+ghost use Rattle.mc_items.specs.Storing.{IsOwnItem, Stores, key_put_aside, stripe_lifted};
 ghost use Rattle.mc_stripe.specs.declared.history.Call.TheVariants as call;
 
 use crate::filling::fill_item;

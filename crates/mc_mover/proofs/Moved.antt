@@ -25,7 +25,7 @@ use Rattle.mc_words.specs.View.{View}
 use Rattle.mc_words.specs.Condemning.{key_read, key_seen, knows_reason, stripe_read}
 use Rattle.mc_words.specs.Fresh.{IsFreshIn}
 use Rattle.mc_words.specs.Happens.{LawfulView}
-use Rattle.mc_words.specs.Items.{issue_in, word_read, words_in}
+use Rattle.mc_words.specs.Items.{issue_in, item_with, word_read, words_in}
 use Rattle.mc_words.specs.Linking.{IsCopyFilled, copied_item, copy_linked}
 use Rattle.mc_words.specs.Originals.{CondemnsOriginal}
 use Rattle.mc_words.specs.Referring.{reference_to}
@@ -33,7 +33,7 @@ use Rattle.mc_words.specs.Views.{chunk_released, copy_holding, head_seen}
 use Rattle.mc_words.proofs.LockViews.{holdings_were}
 use Rattle.mc_words.proofs.OwnerViews.{holding_rows}
 use Rattle.mc_words.proofs.StripeChanges.{stripe_here, stripe_near}
-use Rattle.mc_mover.specs.Copying.{item_of, words_copied}
+use Rattle.mc_mover.specs.Copying.{words_copied}
 use Rattle.mc_mover.proofs.Copied.{copied_keeps, one_longer, read_copied, word_copied}
 use Rattle.mc_mover.proofs.Writes.{all_more, found_among, found_changed, holding_with, item_is, lose_changed, lose_last, none_of, none_yet, same_list, same_words, unchanged, whole_with, written_long, written_over}
 
@@ -59,9 +59,9 @@ holdings_copied chunk copy done (word ∷ words) place view now so at =
     holdings_copied chunk copy (done ++ word ∷ []) words (place + 1) view (word_copied chunk copy place word now) next (let long = one_longer done word in omega (arith, at, long))
     ∙ ap (λ (l : List ℕ). change_each (is_of copy) (holding_with l) view.row.holdings) (append_assoc done (word ∷ []) words)
 
-module _ (chunk copy : ChunkId) (key stamp : ℕ) (words : List ℕ) (view filled : View) (is : filled ≡ words_copied chunk copy 0 (item_of key stamp words) view) where
+module _ (chunk copy : ChunkId) (key stamp : ℕ) (words : List ℕ) (view filled : View) (is : filled ≡ words_copied chunk copy 0 (item_with key stamp words) view) where
   abbrev item : List ℕ
-  item = item_of key stamp words
+  item = item_with key stamp words
 
   -- each word that was copied was read
   read_each : (i : ℕ) → i < length item → word_read filled chunk i ≡ Some (slice_index item i)

@@ -1,5 +1,5 @@
 -- The items of chunks, as a hand knows them.
-use Rattle.std.specs.Prelude.{◌≡◌, ◌<◌, ℕ, List, [], length, slice_index, slice_index_or, Option, None, Contains}
+use Rattle.std.specs.Prelude.{◌≡◌, ◌<◌, ℕ, List, [], ◌∷◌, length, slice_index, slice_index_or, Option, None, Contains}
 use Rattle.mc_core.specs.Knowing.{IsSaid}
 use Rattle.mc_core.specs.Past.{Known, Moment}
 use Rattle.std.specs.List.{fold}
@@ -9,6 +9,10 @@ use Rattle.mc_core.specs.declared.holding.Holding.{Holding}
 use Rattle.mc_core.specs.Holdings.{Words, holding_of, item_of, stamp_of, words_of}
 use Rattle.mc_core.specs.Seen.{last_read}
 use Rattle.mc_words.specs.View.{View}
+
+-- an item: key, stamp, how many words, and these
+abbrev pub item_with : ℕ → ℕ → List ℕ → List ℕ
+item_with key stamp words = key ∷ stamp ∷ length words ∷ words
 
 -- the words of the item in this chunk: key, stamp, length, and as many as that says; none where the hand doesn't hold the chunk
 abbrev pub held_item : View → ChunkId → List ℕ
