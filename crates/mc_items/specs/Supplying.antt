@@ -70,10 +70,6 @@ pub record Grows (number class : ℕ) (view : View) (slabs : SlabState) (now : V
   pub happens : Happens view (change.Grow class ∷ []) step.MissSlabs grown
   pub cuts : CutsEach (first_chunks page (class_at slabs class).per_page) grown (after_grow slabs class page) now left
 
--- the chunk's item was taken away under the lock of its key's stripe
-abbrev pub TakesItem : ℕ → ℕ → ChunkId → Doing
-TakesItem number stripe chunk value view left now = Condemns view number stripe value chunk left now
-
 -- it was found unlinked, or held
 abbrev pub FindsItemHeld : ChunkId → Doing
 FindsItemHeld chunk value view left now = FindsHeld view chunk now × (left ≡ value)
@@ -95,7 +91,7 @@ pub record ReachesItem (number : ℕ) (chunk : ChunkId) (Does : ℕ → ℕ → 
 
 -- its item was taken away so
 abbrev pub TakesAtOnce : ℕ → ChunkId → View → View → Type 0
-TakesAtOnce number chunk view now = ReachesItem number chunk (λ number stripe. TakesItem number stripe chunk) view now
+TakesAtOnce number chunk view now = ReachesItem number chunk (λ number stripe. Condemns number stripe chunk) view now
 
 -- so, but another hand had the lock of its key's stripe
 pub record MissesItem (chunk : ChunkId) (view now : View) : Type 0 where

@@ -130,7 +130,7 @@ module _ (chunk copy : ChunkId) (key stamp : ℕ) (words : List ℕ) (view fille
     reason_there table slabs moves =
         λ k. moves k && copy_there k || is_on_the_move slabs chunk.page && none_dead slabs filled.row.looks chunk && sees_no_target slabs filled.row.looks chunk.page || lacks_room table slabs filled.row.looks chunk
 
-    module _ (fits : 3 + length words ≤ room) (stripe : ℕ) (value left : ReadyStripe) (now : View) (took : CondemnsOriginal filled stripe value chunk left now) where
+    module _ (fits : 3 + length words ≤ room) (stripe : ℕ) (value left : ReadyStripe) (now : View) (took : CondemnsOriginal stripe chunk value filled left now) where
       -- the key that was read again is the one that was copied
       same_key : took.key ≡ key
       same_key = some_same (sym took.is_key ∙ key_copied)

@@ -41,7 +41,7 @@ abbrev pub key_seen : ChunkId → ℕ → View → View
 key_seen chunk key view = held_word_seen chunk 0 key view
 
 -- the hand saw that the chunk is linked and held by nobody, and took its item away; the key led to it, and leads nowhere any more
-pub record Condemns (view : View) (number stripe : ℕ) (value : ReadyStripe) (chunk : ChunkId) (left : ReadyStripe) (now : View) : Type 0 where
+pub record Condemns (number stripe : ℕ) (chunk : ChunkId) (value : ReadyStripe) (view : View) (left : ReadyStripe) (now : View) : Type 0 where
   pub key : ℕ
   pub is_key : key_read view chunk ≡ Some key
   pub stamp : ℕ

@@ -22,7 +22,7 @@ original_condemned stripe value key chunk item head view =
     (looked (Condemned chunk (condemned head)) (key_lifted stripe value key (with_holdings (change_each (is_copy_of chunk) (as_rescue chunk item) view.row.holdings) view)))
 
 -- the hand saw that the chunk is linked and held by nobody, and took its item away, of which it has a copy; the key led to it, and its entry is aside then
-pub record CondemnsOriginal (view : View) (stripe : ℕ) (value : ReadyStripe) (chunk : ChunkId) (left : ReadyStripe) (now : View) : Type 0 where
+pub record CondemnsOriginal (stripe : ℕ) (chunk : ChunkId) (value : ReadyStripe) (view : View) (left : ReadyStripe) (now : View) : Type 0 where
   pub key : ℕ
   pub is_key : key_read view chunk ≡ Some key
   pub stamp : ℕ
