@@ -26,7 +26,7 @@ pub record Shows (table : Classes) (slabs : SlabState) (words : List ℕ) (chunk
   pub fits : length known ≤ room_in table (class_of_page slabs chunk.page)
   pub known_words : (place word : ℕ) → slice_get known place ≡ Some (Some word) → slice_index words (place_in table slabs chunk place) ≡ word
 
--- it holds of each entry of each row
+-- this is so of each entry of each row
 abbrev pub Each : {X : Type 0} → (X → Type 0) → List (List X) → Type 0
 Each P = All (All P)
 

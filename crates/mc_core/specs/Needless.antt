@@ -23,7 +23,7 @@ most_count = 1 + 64 * most_holdings
 pub record AreNeedless (m : Moment) : Type 0 where
   -- a count is far below what fits
   pub most : (chunk : ChunkId) → has_chunk m.state.table chunk ≡ true → (head_at m.state chunk).count ≤ most_count
-  -- so there is room for one more
+  -- there is room in a count for one more
   pub room : (chunk : ChunkId) → has_chunk m.state.table chunk ≡ true → can_count (head_at m.state chunk) ≡ true
   -- a header is one word
   pub fits : (chunk : ChunkId) → has_chunk m.state.table chunk ≡ true → FitsBits (head_at m.state chunk)

@@ -32,7 +32,7 @@ pub record CondemnsOriginal (stripe : ℕ) (chunk : ChunkId) (value : ReadyStrip
   pub whole : length item ≡ length_of item
   pub key_is : key_of item ≡ key
   pub stamp_is : stamp_of item ≡ stamp
-  -- and each word of it that the hand read under this hold of the slabs lock is so
+  -- each word of the item that the hand read under this hold of the slabs lock is so
   pub read_is : (place word : ℕ) → word_read view chunk place ≡ Some word → place < length item → slice_index item place ≡ word
   pub head : Head
   pub unheld : is_linked_unheld head ≡ true
