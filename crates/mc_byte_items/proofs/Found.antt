@@ -4,6 +4,7 @@ use Rattle.mc_core.specs.Past.{Saying}
 use Rattle.mc_words.specs.declared.arena.Arena.{Arena}
 use Rattle.mc_words.specs.declared.hand.Hand.{Hand}
 use Rattle.mc_words.specs.Arenas.{IsHandOf, setup_of, view}
+use Rattle.mc_words.specs.Items.{item_with}
 use Rattle.mc_words.specs.Observers.{number_of}
 use Rattle.mc_words.specs.View.{Setup}
 use Rattle.mc_items.specs.declared.refs.Ref.{Ref}
@@ -11,7 +12,6 @@ use Rattle.mc_items.specs.Calls.{Deletes, FindsNone, Touches}
 use Rattle.mc_items.specs.ItemRefs.{item_key, item_stamp, item_words}
 use Rattle.mc_items.specs.Keeping.{AreSaid, SaysNothing}
 use Rattle.mc_items.specs.OnKeys.{ActsOn, Gets, stripe_of_key}
-use Rattle.mc_items.specs.Storing.{item_with}
 use Rattle.mc_byte_items.specs.Finding.{DeletesKey, FindsKey, FindsWords, LosesKey, TouchesKey}
 use Rattle.mc_byte_items.specs.Hands.{WereSaid, sayings_of}
 

@@ -4,13 +4,13 @@ use Rattle.std.specs.Option.{option_map}
 use Rattle.mc_packing.specs.Packing.{IsPackingOf, packed}
 use Rattle.mc_words.specs.declared.hand.Hand.{Hand}
 use Rattle.mc_words.specs.Arenas.{view}
+use Rattle.mc_words.specs.Items.{item_with}
 use Rattle.mc_words.specs.Observers.{number_of}
 use Rattle.mc_words.specs.View.{Setup}
 use Rattle.mc_items.specs.declared.refs.Ref.{Ref}
 use Rattle.mc_items.specs.ItemRefs.{item_words}
 use Rattle.mc_items.specs.OnKeys.{ActsOn, Gets, stripe_of_key}
 use Rattle.mc_items.specs.Calls.{Deletes, FindsNone, Touches}
-use Rattle.mc_items.specs.Storing.{item_with}
 use Rattle.mc_byte_items.specs.Hands.{WereSaid, sayings_of}
 
 -- the hand got the item under the hash, and these are its words, which somebody said; or there was none

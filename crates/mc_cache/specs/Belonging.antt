@@ -15,7 +15,7 @@ BelongsTo cache worker = AreIdleHands cache.arenas.items worker.hands.items
 abbrev pub HaveIdleHands : List Arena → List Worker → Type 0
 HaveIdleHands arenas workers = All (λ worker. AreIdleHands arenas worker.hands.items) workers
 
--- the hash of a key, and its shard
+-- the hash of a key, by which the cache finds its shard
 abbrev pub hash_in : Cache → List ℕ → ℕ
 hash_in cache key = hash_of cache.hashing key
 

@@ -5,6 +5,5 @@ pub mod Observers
 pub mod Opening
 pub mod Belonging
 pub mod Bytes
-pub mod Surveyed
 pub mod Windows
 pub mod Tending

@@ -4,10 +4,10 @@ use Rattle.mc_packing.specs.Packing.{packed}
 use Rattle.mc_words.specs.declared.arena.Arena.{Arena}
 use Rattle.mc_words.specs.declared.hand.Hand.{Hand}
 use Rattle.mc_words.specs.Arenas.{setup_of, view}
+use Rattle.mc_words.specs.Items.{item_with}
 use Rattle.mc_words.specs.Observers.{number_of}
 use Rattle.mc_items.specs.Keeping.{Says, SaysNothing}
 use Rattle.mc_items.specs.OnKeys.{FindsStripeHeld}
-use Rattle.mc_items.specs.Storing.{item_with}
 use Rattle.mc_items.specs.declared.setting.SetError.{SetError}
 use Rattle.mc_byte_items.specs.Finding.{DeletesKey, FindsKey, FindsOther, FindsValue, LosesKey, TouchesKey}
 use Rattle.mc_byte_items.specs.Hands.{IsIdleHandOf}

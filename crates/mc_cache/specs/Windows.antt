@@ -8,14 +8,13 @@ use Rattle.mc_mover.specs.declared.counts.Turn.TheVariants.{Went}
 use Rattle.mc_mover.specs.declared.numbers.Survey.{Survey}
 use Rattle.mc_mover.specs.Acting.{ActsOnce, TellsTurn}
 use Rattle.mc_mover.specs.Answering.{is_finished}
-use Rattle.mc_mover.specs.Surveying.{Surveys}
+use Rattle.mc_mover.specs.Surveying.{Surveys, evictions_in, free_in, pages_in}
 use Rattle.mc_mover.specs.Telling.{counts_in}
 use Rattle.mc_mover.specs.Turning.{Turns}
 use Rattle.mc_watch.specs.declared.decider.Decision.{Decision}
 use Rattle.mc_watch.specs.declared.refusal.Feed.{Feed}
 use Rattle.mc_watch.specs.Decider.{DeciderState, after_window, decision_of, refusal_of}
 use Rattle.mc_cache.specs.declared.tended.Tended.{Tended}
-use Rattle.mc_cache.specs.Surveyed.{evictions_in, free_in, pages_in}
 
 -- why the decider doesn't take the numbers of a survey
 abbrev pub refusal_for : DeciderState → Survey → Option Feed

@@ -1,6 +1,6 @@
 //! Numbers of all classes, as a survey tells them, class 1 first.
 ghost use Rattle.std.specs.Prelude.{◌≡◌, IfOk};
-ghost use Rattle.mc_cache.specs.Surveyed.{evictions_in, free_in, pages_in};
+ghost use Rattle.mc_mover.specs.Surveying.{evictions_in, free_in, pages_in};
 
 use mc_memory::{Refused, with_capacity};
 use mc_mover::Survey;

@@ -4,12 +4,13 @@ use Rattle.std.proofs.lemmas.Bool.{and_parts, or_cases}
 use Rattle.mc_pages.specs.declared.ids.ChunkId.{ChunkId}
 use Rattle.mc_pages.specs.SlabState.{SlabState, class_of_page}
 use Rattle.mc_pages.specs.Changes as slabs_changes
+use Rattle.mc_pages.specs.Pages.{is_on_the_move}
 use Rattle.mc_core.specs.declared.head.Head.{Head}
 use Rattle.mc_core.specs.declared.holding.Holding.{Holding}
 use Rattle.mc_core.specs.Head.{is_free, is_out, is_unlinked, is_dead}
 use Rattle.mc_core.specs.State.{has_chunk, head_place, head_at, with_head, has_slabs, with_slabs}
 use Rattle.mc_core.specs.Silent.{is_handed_out, is_listed}
-use Rattle.mc_core.specs.Chunks.{is_moving_page, with_tag_free, with_tag_out, can_put_back, after_put_back, can_clear, after_clear, is_next_uncut, can_cut, after_cut}
+use Rattle.mc_core.specs.Chunks.{with_tag_free, with_tag_out, can_put_back, after_put_back, can_clear, after_clear, is_next_uncut, can_cut, after_cut}
 use Rattle.mc_core.specs.Columns.{holders, link_of}
 use Rattle.mc_core.specs.Past.{Moment}
 use Rattle.mc_core.specs.Lawful.{IsLawful}
@@ -65,7 +66,7 @@ module _ (m : Moment) (l : IsLawful m) (hand : ℕ) where
   clear_tallied chunk can =
       let listed = and_parts _ (is_listed m.state.slabs (class_of_page m.state.slabs chunk.page) chunk) can in
       let closed = and_parts _ (is_free (head_at m.state chunk).tag || is_dead (head_at m.state chunk)) listed.0 in
-      let moving = and_parts _ (is_moving_page m.state.slabs chunk.page) closed.0 in
+      let moving = and_parts _ (is_on_the_move m.state.slabs chunk.page) closed.0 in
       let near = and_parts (has_slabs m.state hand) (has_chunk m.state.table chunk) moving.0 in
       let none : (head_at m.state chunk).count ≡ 0 = elim (or_cases (is_free (head_at m.state chunk).tag) (is_dead (head_at m.state chunk)) closed.1) [
         | inl free ↦ l.counted.shut chunk near.1 (inl free)

@@ -5,6 +5,7 @@ use Rattle.mc_pages.specs.declared.ids.ChunkId.{ChunkId}
 use Rattle.mc_pages.specs.SlabState.{SlabState, class_of_page}
 use Rattle.mc_pages.specs.Changes as slabs_changes
 use Rattle.mc_pages.proofs.Chunks.{same_from_is_chunk}
+use Rattle.mc_pages.specs.Pages.{is_on_the_move}
 use Rattle.mc_core.specs.declared.head.Head.{Head}
 use Rattle.mc_core.specs.declared.head.Tag.{Tag}
 use Rattle.mc_core.specs.declared.head.Tag.TheVariants.{Unlinked, Linked}
@@ -12,7 +13,7 @@ use Rattle.mc_core.specs.Holdings.{is_of, holding_of}
 use Rattle.mc_core.specs.Head.{is_free, is_out, is_unlinked, is_dead, is_linked}
 use Rattle.mc_core.specs.State.{has_chunk, head_place, head_at, has_slabs, holdings_at}
 use Rattle.mc_core.specs.Silent.{is_handed_out, is_listed}
-use Rattle.mc_core.specs.Chunks.{handed_out, holds_as, after_drop, let_go, can_pop, after_pop, can_pop_off, after_pop_off, with_tag_free, with_tag_out, can_put_back, after_put_back, can_clear, after_clear, is_next_uncut, can_cut, after_cut, is_moving_page}
+use Rattle.mc_core.specs.Chunks.{handed_out, holds_as, after_drop, let_go, can_pop, after_pop, can_pop_off, after_pop_off, with_tag_free, with_tag_out, can_put_back, after_put_back, can_clear, after_clear, is_next_uncut, can_cut, after_cut}
 use Rattle.mc_core.specs.Items.{can_count, referred, with_reference, can_again, has_place_unlocked}
 use Rattle.mc_core.specs.Indexed.{AreIndexed}
 use Rattle.mc_core.specs.Past.{Moment}
@@ -87,7 +88,7 @@ module _ (m : Moment) (l : IsLawful m) where
   clear_indexed hand chunk can =
       let listed = and_parts _ (is_listed m.state.slabs (class_of_page m.state.slabs chunk.page) chunk) can in
       let closed = and_parts _ (is_free (head_at m.state chunk).tag || is_dead (head_at m.state chunk)) listed.0 in
-      let moving = and_parts _ (is_moving_page m.state.slabs chunk.page) closed.0 in
+      let moving = and_parts _ (is_on_the_move m.state.slabs chunk.page) closed.0 in
       let near = and_parts (has_slabs m.state hand) (has_chunk m.state.table chunk) moving.0 in
       closed_indexed (slabs_changes.after_clear m.state.slabs chunk) (λ page. refl) chunk (with_tag_out (head_at m.state chunk)) near.1
       (λ linked. elim (or_cases (is_free (head_at m.state chunk).tag) (is_dead (head_at m.state chunk)) closed.1) [

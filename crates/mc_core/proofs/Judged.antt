@@ -7,6 +7,7 @@ use Rattle.mc_pages.specs.declared.ids.ChunkId.{ChunkId}
 use Rattle.mc_pages.specs.ClassState.{is_chunk}
 use Rattle.mc_pages.specs.SlabState.{SlabState, class_at, class_of_page}
 use Rattle.mc_pages.proofs.Chunks.{is_chunk-same, same_from_is_chunk}
+use Rattle.mc_pages.specs.Pages.{is_on_the_move}
 use Rattle.mc_core.specs.declared.head.Head.{Head}
 use Rattle.mc_core.specs.declared.head.Tag.{Tag}
 use Rattle.mc_core.specs.declared.head.Tag.TheVariants.{Free, Unlinked, Linked}
@@ -14,7 +15,7 @@ use Rattle.mc_core.specs.declared.look.Look.{Look}
 use Rattle.mc_core.specs.Head.{is_free, is_out, is_dead}
 use Rattle.mc_core.specs.State.{is_class, has_chunk, head_at, has_slabs, looks_at}
 use Rattle.mc_core.specs.Silent.{is_among, is_handed_out}
-use Rattle.mc_core.specs.Chunks.{most_issue, has_place, can_hand_out, next_free, is_moving_page, is_target, target_of, is_next_uncut, can_pop, can_pop_off, can_put_back, can_clear}
+use Rattle.mc_core.specs.Chunks.{most_issue, has_place, can_hand_out, next_free, is_target, target_of, is_next_uncut, can_pop, can_pop_off, can_put_back, can_clear}
 use Rattle.mc_core.specs.Seen.{seen_head, IsStill}
 use Rattle.mc_core.specs.Past.{Moment}
 use Rattle.mc_core.specs.Lawful.{IsLawful}
@@ -102,7 +103,7 @@ module _ (m : Moment) (l : IsLawful m) (hand : ℕ) (has : has_slabs m.state han
       and_from _ _ (and_from _ _ (and_from _ _ has is) place)
       (ap (can_hand_out m.state) first ∙ may_hand_out chunk seen free (next class chunk seen is first last) unused)
 
-  module _ (page : ℕ) (moves : is_moving_page slabs page ≡ true) where
+  module _ (page : ℕ) (moves : is_on_the_move slabs page ≡ true) where
     abbrev free : List ChunkId
     free = (class_at slabs (class_of_page slabs page)).free
 
@@ -146,7 +147,7 @@ module _ (m : Moment) (l : IsLawful m) (hand : ℕ) (has : has_slabs m.state han
         unfit other (subst (λ cs. is_among cs other ≡ true) (sym sees.stands) (among_left sees.before (chunk ∷ sees.after) other before)) (all_among (is_seen_unfit looks page) sees.before other sees.unfit before) in
         (ap (find test) sees.stands ∙ find_first test sees.before sees.after chunk fails passes, same)
 
-  pop_off : (old chunk : ChunkId) → is_moving_page slabs old.page ≡ true → is_handed_out slabs old ≡ true → has_place m.state hand ≡ true → SeesTarget slabs looks old.page chunk → can_pop_off m.state hand old ≡ true
+  pop_off : (old chunk : ChunkId) → is_on_the_move slabs old.page ≡ true → is_handed_out slabs old ≡ true → has_place m.state hand ≡ true → SeesTarget slabs looks old.page chunk → can_pop_off m.state hand old ≡ true
   pop_off old chunk moves out place sees =
       let found = target old.page moves chunk sees in
       let free = ((are_needless m l).target old.page chunk moves found.0).1 in
@@ -159,7 +160,7 @@ module _ (m : Moment) (l : IsLawful m) (hand : ℕ) (has : has_slabs m.state han
       let is : is_dead (head_at m.state chunk) ≡ true = ap is_dead same ∙ dead in
       (same, and_from _ _ (and_from _ _ (and_from _ _ has near) is) ((are_needless m l).dead chunk near is))
 
-  clear : (chunk : ChunkId) (seen : Head) → has_chunk m.state.table chunk ≡ true → is_moving_page slabs chunk.page ≡ true → seen_head looks chunk ≡ Some seen →
+  clear : (chunk : ChunkId) (seen : Head) → has_chunk m.state.table chunk ≡ true → is_on_the_move slabs chunk.page ≡ true → seen_head looks chunk ≡ Some seen →
       (is_free seen.tag || is_dead seen) ≡ true → (head_at m.state chunk ≡ seen) × (can_clear m.state hand chunk ≡ true)
   clear chunk seen near moves last shut =
       let same = same_shut chunk seen near last shut in

@@ -8,6 +8,7 @@ use Rattle.mc_pages.specs.SlabState.{SlabState, class_at, class_of_page}
 use Rattle.mc_pages.specs.Changes as slabs_changes
 use Rattle.mc_pages.proofs.Chunks.{same_from_is_chunk}
 use Rattle.mc_pages.proofs.HandedOut.{IsClass-handed_out}
+use Rattle.mc_pages.specs.Pages.{is_on_the_move}
 use Rattle.mc_core.specs.declared.event.Step.TheVariants.{Pop, PopOff, Unlink, Release, Discard, PutBack, Clear, Cut}
 use Rattle.mc_core.specs.declared.head.Head.{Head}
 use Rattle.mc_core.specs.declared.head.Tag.TheVariants.{Unlinked}
@@ -20,7 +21,7 @@ use Rattle.mc_core.specs.Holdings.{is_of, holding_of, has_fresh}
 use Rattle.mc_core.specs.State.{State, has_chunk, head_at, has_slabs, with_head, with_slabs, with_look, with_stripe, stripe_at, stripe_of, is_class, holdings_at}
 use Rattle.mc_core.specs.Silent.{writer_of, is_handed_out, is_listed}
 use Rattle.mc_core.specs.Locks.{looked}
-use Rattle.mc_core.specs.Chunks.{handed_out, let_go, with_tag_free, with_tag_out, new_holding, with_fresh, next_free, popped, popped_off, target_of, is_target, has_place, can_hand_out, after_drop, holds_as, is_next_uncut, is_moving_page}
+use Rattle.mc_core.specs.Chunks.{handed_out, let_go, with_tag_free, with_tag_out, new_holding, with_fresh, next_free, popped, popped_off, target_of, is_target, has_place, can_hand_out, after_drop, holds_as, is_next_uncut}
 use Rattle.mc_core.specs.Items.{unlinked, stripe_unlinked, chunk_of, is_linked_at, with_unlinked}
 use Rattle.mc_core.specs.Past.{Moment, Known, Saying, with_more, moment_stepped}
 use Rattle.mc_core.specs.Columns.{head_in}
@@ -73,7 +74,7 @@ module _ (m : Moment) (hand : ℕ) where
   known_clear chunk may =
       let parts = and_parts _ (is_listed m.state.slabs (class_of_page m.state.slabs chunk.page) chunk) may.allowed in
       let dead = and_parts _ (is_free (head_at m.state chunk).tag || is_dead (head_at m.state chunk)) parts.0 in
-      let moving = and_parts _ (is_moving_page m.state.slabs chunk.page) dead.0 in
+      let moving = and_parts _ (is_on_the_move m.state.slabs chunk.page) dead.0 in
       let near = (and_parts (has_slabs m.state hand) (has_chunk m.state.table chunk) moving.0).1 in
       known_header may.lawful (slabs_changes.after_clear m.state.slabs chunk) chunk (with_tag_out (head_at m.state chunk)) (λ page. refl) near (younger_out (head_at m.state chunk)) refl
 

@@ -11,6 +11,7 @@ use Rattle.mc_pages.specs.SlabState.{SlabState, IsClass, class_at, class_of_page
 use Rattle.mc_pages.specs.Ledger.{owner_at}
 use Rattle.mc_pages.specs.Accounted.{truth, is_of_class, is_cut, cut_count}
 use Rattle.mc_pages.proofs.Chunks.{same_from_is_chunk}
+use Rattle.mc_pages.specs.Pages.{is_on_the_move}
 use Rattle.mc_core.specs.declared.head.Tag.{Tag}
 use Rattle.mc_core.specs.declared.head.Tag.TheVariants.{Out, Free, Unlinked, Linked}
 use Rattle.mc_core.specs.declared.holding.Holding.{Holding}
@@ -18,7 +19,7 @@ use Rattle.mc_core.specs.Head.{is_free, is_unlinked, is_linked, is_dead}
 use Rattle.mc_core.specs.Holdings.{is_of, is_fresh, holding_of}
 use Rattle.mc_core.specs.State.{is_class, has_chunk, head_at, holdings_at}
 use Rattle.mc_core.specs.Silent.{is_among, is_handed_out, is_listed}
-use Rattle.mc_core.specs.Chunks.{next_free, is_moving_page, is_target, target_of}
+use Rattle.mc_core.specs.Chunks.{next_free, is_target, target_of}
 use Rattle.mc_core.specs.Items.{can_count, chunk_of}
 use Rattle.mc_core.specs.Columns.{head_in, holders}
 use Rattle.mc_core.specs.Places.{is_cut_there}
@@ -93,10 +94,10 @@ module _ (m : Moment) (l : IsLawful m) where
       let same : class_of_page slabs page ≡ move.src = ap (class_of_page slabs) (sym (eqb-true move.page page h)) ∙ ap class_of_owner of_move.owner in
       subst (IsClass slabs) (sym same) of_move.src
 
-  pub source_is : (page : ℕ) → is_moving_page slabs page ≡ true → IsClass slabs (class_of_page slabs page)
+  pub source_is : (page : ℕ) → is_on_the_move slabs page ≡ true → IsClass slabs (class_of_page slabs page)
   source_is page moves = source_of slabs.moving page refl moves
 
-  target : (page : ℕ) (chunk : ChunkId) → is_moving_page slabs page ≡ true → target_of m.state.table m.state.heads slabs page ≡ Some chunk →
+  target : (page : ℕ) (chunk : ChunkId) → is_on_the_move slabs page ≡ true → target_of m.state.table m.state.heads slabs page ≡ Some chunk →
       (has_chunk m.state.table chunk ≡ true) × ((head_at m.state chunk).tag ≡ Free)
   target page chunk moves found =
       let at = found_placed m l (class_of_page slabs page) chunk (is_target m.state.table m.state.heads page) (source_is page moves) found in

@@ -12,13 +12,14 @@ use Rattle.mc_pages.specs.SlabState.{SlabState, class_at, class_of_page, class_o
 use Rattle.mc_pages.specs.Changes as slabs_changes
 use Rattle.mc_pages.proofs.Fresh.{IsInOrder-fresh}
 use Rattle.mc_pages.proofs.Kept.{IsInOrder-after_pop, IsInOrder-after_back, IsInOrder-after_replace, IsInOrder-after_clear, IsInOrder-after_cut}
+use Rattle.mc_pages.specs.Pages.{is_on_the_move}
 use Rattle.mc_core.specs.declared.event.Step.{Step}
 use Rattle.mc_core.specs.declared.event.Step.TheVariants.{TakeSlabs, TakeStripe, MissSlabs, MissStripe, GiveSlabs, GiveStripe, Pop, PopOff, Fill, Word, WordHeld, Link, Refer, Unlink, Release, Discard, Condemn, PutBack, Clear, Cut, Again, Join}
 use Rattle.mc_core.specs.declared.event.Step.TheVariants as step
 use Rattle.mc_core.specs.Holdings.{is_of, holding_of}
 use Rattle.mc_core.specs.State.{State, is_class, number_at, has_slabs, with_slabs, holdings_at, without_holding}
 use Rattle.mc_core.specs.Silent.{is_handed_out, is_listed, none_half_cut}
-use Rattle.mc_core.specs.Chunks.{next_free, is_moving_page, is_target, target_of, is_next_uncut, popped_off, can_pop, after_pop, can_pop_off, after_pop_off, can_put_back, after_put_back, can_clear, after_clear, can_cut, after_cut}
+use Rattle.mc_core.specs.Chunks.{next_free, is_target, target_of, is_next_uncut, popped_off, can_pop, after_pop, can_pop_off, after_pop_off, can_put_back, after_put_back, can_clear, after_clear, can_cut, after_cut}
 use Rattle.mc_core.specs.Items.{with_got, chunk_of}
 use Rattle.mc_core.specs.Run.{after_step}
 use Rattle.mc_core.specs.Places.{ArePaged}
@@ -57,7 +58,7 @@ module _ (table : Classes) (slabs : SlabState) (lock : ℕ) (paged : ArePaged ta
         order = (paged.order.0, IsInOrder-after_back slabs paged.order.0 chunk paged.order.1 handed);
       }
 
-  cleared_paged : (chunk : ChunkId) → is_moving_page slabs chunk.page ≡ true → is_listed slabs (class_of_page slabs chunk.page) chunk ≡ true → StayPaged slabs (slabs_changes.after_clear slabs chunk)
+  cleared_paged : (chunk : ChunkId) → is_on_the_move slabs chunk.page ≡ true → is_listed slabs (class_of_page slabs chunk.page) chunk ≡ true → StayPaged slabs (slabs_changes.after_clear slabs chunk)
   cleared_paged chunk moves listed =
       let placed = places_from_listed slabs (class_of_page slabs chunk.page) chunk listed in
       let all = paged.order.1.accounted in

@@ -12,13 +12,14 @@ use Rattle.mc_pages.specs.SlabState.{SlabState, IsClass, class_at, class_of_page
 use Rattle.mc_pages.specs.Changes as slabs_changes
 use Rattle.mc_pages.specs.Accounted.{truth, is_of_class, is_moving, is_cut, places_in, IsAccounted}
 use Rattle.mc_pages.proofs.HandedOut.{IsClass-handed_out, IsClass-placed}
+use Rattle.mc_pages.specs.Pages.{is_on_the_move}
 use Rattle.mc_core.specs.declared.head.Head.{Head}
 use Rattle.mc_core.specs.declared.head.Tag.{Tag}
 use Rattle.mc_core.specs.declared.head.Tag.TheVariants.{Out, Free, Unlinked, Linked}
 use Rattle.mc_core.specs.Head.{never_cut, is_free, is_out, is_unlinked, is_linked, is_dead}
 use Rattle.mc_core.specs.State.{State, is_class, has_chunk, head_place, most_of, head_at, has_slabs, with_slabs, item_at, holdings_at, without_holding}
 use Rattle.mc_core.specs.Silent.{is_handed_out, is_listed}
-use Rattle.mc_core.specs.Chunks.{has_place, can_hand_out, next_free, is_moving_page, is_target, target_of, is_next_uncut, handed_out, let_go, with_tag_free, with_tag_out, popped, popped_off, can_put_back, after_put_back, can_clear, after_clear, can_cut, after_cut}
+use Rattle.mc_core.specs.Chunks.{has_place, can_hand_out, next_free, is_target, target_of, is_next_uncut, handed_out, let_go, with_tag_free, with_tag_out, popped, popped_off, can_put_back, after_put_back, can_clear, after_clear, can_cut, after_cut}
 use Rattle.mc_core.specs.declared.event.Step.{Step}
 use Rattle.mc_core.specs.declared.event.Step.TheVariants.{TakeSlabs, TakeStripe, MissSlabs, MissStripe, GiveSlabs, GiveStripe, Pop, PopOff, Fill, Word, WordHeld, Link, Refer, Unlink, Release, Discard, Condemn, PutBack, Clear, Cut, Again, Join}
 use Rattle.mc_core.specs.declared.event.Step.TheVariants as step
@@ -119,7 +120,7 @@ module _ (m : Moment) (l : IsLawful m) where
       let lists = back_lists table slabs heads l.placed class chunk is here cut (dead_in_hand (head_in table heads chunk) dead) in
       written class (put_back state chunk) slabs.uncut chunk head (subst (λ t. Changes table slabs class (put_back state chunk) slabs.uncut chunk t) (sym tag) lists)
 
-  clear_placed : (chunk : ChunkId) (head : Head) → head.tag ≡ Out → has_chunk table chunk ≡ true → is_moving_page slabs chunk.page ≡ true → is_listed slabs (class_of_page slabs chunk.page) chunk ≡ true →
+  clear_placed : (chunk : ChunkId) (head : Head) → head.tag ≡ Out → has_chunk table chunk ≡ true → is_on_the_move slabs chunk.page ≡ true → is_listed slabs (class_of_page slabs chunk.page) chunk ≡ true →
       ArePlaced table (slabs_changes.after_clear slabs chunk) (slice_set heads (head_place table chunk) head)
   clear_placed chunk head tag here moves listed =
       let class = class_of_page slabs chunk.page in
@@ -213,7 +214,7 @@ module _ (m : Moment) (l : IsLawful m) (hand : ℕ) where
       popped_placed m l class chunk (handed_out (head_at state chunk)) refl (IsClass_from state.table state.slabs class l.paged.of_table (pop_tests state hand class (Some chunk) can).1) is
 
   pop_off_placed : (old : ChunkId) (next : Option ChunkId) → target_of state.table state.heads state.slabs old.page ≡ next →
-      (has_slabs state hand && is_moving_page state.slabs old.page && is_handed_out state.slabs old && has_place state hand && can_hand_out state next) ≡ true → Placed (frame (popped_off state hand old next)) (popped_off state hand old next).heads
+      (has_slabs state hand && is_on_the_move state.slabs old.page && is_handed_out state.slabs old && has_place state hand && can_hand_out state next) ≡ true → Placed (frame (popped_off state hand old next)) (popped_off state hand old next).heads
   pop_off_placed old None is can = l.placed
   pop_off_placed old (Some chunk) is can = replaced_placed m l old chunk (handed_out (head_at state chunk)) refl (pop_off_tests state hand old (Some chunk) can).2 is
 

@@ -16,6 +16,7 @@ use Rattle.mc_pages.specs.ClassState.{is_chunk, first_free}
 use Rattle.mc_pages.specs.Ledger.{owner_at}
 use Rattle.mc_pages.specs.SlabState.{SlabState, class_at, class_of_page, class_of_chunk, is_untouched, totals_of}
 use Rattle.mc_pages.proofs.Chunks.{same_from_is_chunk}
+use Rattle.mc_pages.specs.Pages.{is_on_the_move}
 use Rattle.mc_core.specs.declared.head.Head.{Head}
 use Rattle.mc_core.specs.declared.head.Tag.{Tag}
 use Rattle.mc_core.specs.declared.head.Tag.TheVariants.{Unlinked}
@@ -29,7 +30,7 @@ use Rattle.mc_core.specs.Holdings.{Words, is_copy_of}
 use Rattle.mc_core.specs.Looks.{stays_alive, is_found_alive}
 use Rattle.mc_core.specs.State.{has_slabs, head_at, holdings_at, looks_at}
 use Rattle.mc_core.specs.Silent.{none_half_cut}
-use Rattle.mc_core.specs.Chunks.{is_moving_page, is_target, target_of, most_issue}
+use Rattle.mc_core.specs.Chunks.{is_target, target_of, most_issue}
 use Rattle.mc_core.specs.Evictions.{has_copy, none_dead, has_no_page, must_leave, lacks_room, has_reason}
 use Rattle.mc_core.specs.Knowing.{IsRescue}
 use Rattle.mc_core.specs.Past.{Moment}
@@ -147,7 +148,7 @@ module _ (m : Moment) (l : IsLawful m) (hand : ℕ) (chunk : ChunkId) (has : has
   abbrev class : ℕ
   class = class_of_page m.state.slabs chunk.page
 
-  moving : is_moving_page m.state.slabs chunk.page ≡ true → Moves m.state.slabs chunk.page
+  moving : is_on_the_move m.state.slabs chunk.page ≡ true → Moves m.state.slabs chunk.page
   moving is = moves_is m.state.slabs chunk.page m.state.slabs.moving refl is
 
   swept : none_dead m.state.slabs (looks_at m.state hand) chunk ≡ true → IsSwept m.state hand class
@@ -211,11 +212,11 @@ module _ (m : Moment) (l : IsLawful m) (hand : ℕ) (chunk : ChunkId) (has : has
   reason is =
       elim (or_cases _ (lacks_room m.state.table m.state.slabs (looks_at m.state hand) chunk) is) [
         | inl leaves ↦
-            elim (or_cases (is_moving_page m.state.slabs chunk.page && has_copy (holdings_at m.state hand) chunk) (must_leave m.state.table m.state.heads m.state.slabs (looks_at m.state hand) chunk) leaves) [
-              | inl copies ↦ let both = and_parts (is_moving_page m.state.slabs chunk.page) (has_copy (holdings_at m.state hand) chunk) copies in inl (moving both.0, copied both.1)
+            elim (or_cases (is_on_the_move m.state.slabs chunk.page && has_copy (holdings_at m.state hand) chunk) (must_leave m.state.table m.state.heads m.state.slabs (looks_at m.state hand) chunk) leaves) [
+              | inl copies ↦ let both = and_parts (is_on_the_move m.state.slabs chunk.page) (has_copy (holdings_at m.state hand) chunk) copies in inl (moving both.0, copied both.1)
               | inr must ↦
                   let target = and_parts _ (is_none (target_of m.state.table m.state.heads m.state.slabs chunk.page)) must in
-                  let both = and_parts (is_moving_page m.state.slabs chunk.page) (none_dead m.state.slabs (looks_at m.state hand) chunk) target.0 in
+                  let both = and_parts (is_on_the_move m.state.slabs chunk.page) (none_dead m.state.slabs (looks_at m.state hand) chunk) target.0 in
                   inr (swept both.1, inl (moving both.0, none_off target.1))
             ]
         | inr lacks ↦ let both = out_of_room lacks in inr (both.0, inr both.1)

@@ -6,6 +6,7 @@ use Rattle.mc_pages.specs.declared.ids.ChunkId.{ChunkId}
 use Rattle.mc_pages.specs.SlabState.{SlabState, class_at, class_of_page}
 use Rattle.mc_pages.specs.Changes as slabs_changes
 use Rattle.mc_pages.proofs.HandedOut.{IsClass-handed_out}
+use Rattle.mc_pages.specs.Pages.{is_on_the_move}
 use Rattle.mc_core.specs.declared.event.Step.TheVariants.{MissStripe, Pop, PopOff, WordHeld, Condemn, PutBack, Clear, Cut}
 use Rattle.mc_core.specs.declared.event.Step.TheVariants as step
 use Rattle.mc_core.specs.declared.head.Head.{Head}
@@ -17,7 +18,7 @@ use Rattle.mc_core.specs.Head.{is_out, is_free, is_dead}
 use Rattle.mc_core.specs.Looks.{was_linked}
 use Rattle.mc_core.specs.Silent.{is_handed_out, is_listed}
 use Rattle.mc_core.specs.Locks.{looked}
-use Rattle.mc_core.specs.Chunks.{handed_out, with_tag_free, with_tag_out, next_free, popped, target_of, is_target, popped_off, has_place, can_hand_out, is_moving_page, is_next_uncut}
+use Rattle.mc_core.specs.Chunks.{handed_out, with_tag_free, with_tag_out, next_free, popped, target_of, is_target, popped_off, has_place, can_hand_out, is_next_uncut}
 use Rattle.mc_core.specs.Evictions.{condemned}
 use Rattle.mc_core.specs.State.{has_slabs, is_hand, has_chunk, is_class, head_at, head_place, room_at, looks_at, with_slabs, with_head, with_look}
 use Rattle.mc_core.specs.Run.{after_step}
@@ -82,7 +83,7 @@ module _ (m : Moment) (hand : ℕ) where
       let l = may.lawful in
       let parts = and_parts _ (is_listed m.state.slabs (class_of_page m.state.slabs chunk.page) chunk) may.allowed in
       let dead = and_parts _ (is_free (head_at m.state chunk).tag || is_dead (head_at m.state chunk)) parts.0 in
-      let moving = and_parts _ (is_moving_page m.state.slabs chunk.page) dead.0 in
+      let moving = and_parts _ (is_on_the_move m.state.slabs chunk.page) dead.0 in
       let both = and_parts (has_slabs m.state hand) (has_chunk m.state.table chunk) moving.0 in
       let head = with_tag_out (head_at m.state chunk) in
       turns m hand l may.there both.0 (slabs_changes.after_clear m.state.slabs chunk) chunk head (look.Cleared chunk head)
@@ -168,7 +169,7 @@ module _ (m : Moment) (hand : ℕ) where
       let parts = and_parts _ (can_hand_out m.state (target_of m.state.table m.state.heads m.state.slabs old.page)) may.allowed in
       let more = and_parts _ (has_place m.state hand) parts.0 in
       let out = and_parts _ (is_handed_out m.state.slabs old) more.0 in
-      let mine = (and_parts (has_slabs m.state hand) (is_moving_page m.state.slabs old.page) out.0).0 in
+      let mine = (and_parts (has_slabs m.state hand) (is_on_the_move m.state.slabs old.page) out.0).0 in
       let class = class_of_page m.state.slabs old.page in
       let is = IsClass-handed_out m.state.slabs old l.paged.of_table.accounted (Contains_from_among (class_at m.state.slabs class).order old out.1) in
       elim (target_of m.state.table m.state.heads m.state.slabs old.page) as (λ o. target_of m.state.table m.state.heads m.state.slabs old.page ≡ o → can_hand_out m.state o ≡ true → SeenBy m hand l [] (popped_off m.state hand old o) h) [

@@ -1,12 +1,13 @@
 -- What an allowed step of lists and pages has passed, test by test.
 use Rattle.std.proofs.Common.{◌≡◌, ℕ, ◌&&◌, ◌||◌, true, Option}
 use Rattle.std.proofs.lemmas.Bool.{and_parts}
+use Rattle.mc_pages.specs.Pages.{is_on_the_move}
 use Rattle.mc_pages.specs.declared.ids.ChunkId.{ChunkId}
 use Rattle.mc_pages.specs.SlabState.{class_of_page}
 use Rattle.mc_core.specs.Head.{is_free, is_out, is_dead}
 use Rattle.mc_core.specs.State.{State, is_class, has_chunk, head_at, has_slabs, has_stripe, stripe_of, stripe_at, holdings_at, looks_at}
 use Rattle.mc_core.specs.Silent.{is_handed_out, is_listed}
-use Rattle.mc_core.specs.Chunks.{has_place, can_hand_out, is_moving_page, is_next_uncut, can_put_back, can_clear, can_cut}
+use Rattle.mc_core.specs.Chunks.{has_place, can_hand_out, is_next_uncut, can_put_back, can_clear, can_cut}
 use Rattle.mc_core.specs.Evictions.{is_linked_unheld, key_at, can_lose_entry, has_copy, has_reason, can_condemn}
 
 module _ (state : State) (hand : ℕ) where
@@ -20,10 +21,10 @@ module _ (state : State) (hand : ℕ) where
       (third.0, third.1, first.1)
 
   -- in the place of this one
-  pub pop_off_tests : (old : ChunkId) (next : Option ChunkId) → (has_slabs state hand && is_moving_page state.slabs old.page && is_handed_out state.slabs old && has_place state hand && can_hand_out state next) ≡ true →
-      (has_slabs state hand ≡ true) × (is_moving_page state.slabs old.page ≡ true) × (is_handed_out state.slabs old ≡ true)
+  pub pop_off_tests : (old : ChunkId) (next : Option ChunkId) → (has_slabs state hand && is_on_the_move state.slabs old.page && is_handed_out state.slabs old && has_place state hand && can_hand_out state next) ≡ true →
+      (has_slabs state hand ≡ true) × (is_on_the_move state.slabs old.page ≡ true) × (is_handed_out state.slabs old ≡ true)
   pop_off_tests old next can =
-      let moves = is_moving_page state.slabs old.page in
+      let moves = is_on_the_move state.slabs old.page in
       let out = is_handed_out state.slabs old in
       let first = and_parts (has_slabs state hand && moves && out && has_place state hand) (can_hand_out state next) can in
       let second = and_parts (has_slabs state hand && moves && out) (has_place state hand) first.0 in
@@ -40,9 +41,9 @@ module _ (state : State) (hand : ℕ) where
       (third.0, third.1, second.1, first.1)
 
   pub clear_tests : (chunk : ChunkId) → can_clear state hand chunk ≡ true →
-      (has_slabs state hand ≡ true) × (has_chunk state.table chunk ≡ true) × (is_moving_page state.slabs chunk.page ≡ true) × (is_listed state.slabs (class_of_page state.slabs chunk.page) chunk ≡ true)
+      (has_slabs state hand ≡ true) × (has_chunk state.table chunk ≡ true) × (is_on_the_move state.slabs chunk.page ≡ true) × (is_listed state.slabs (class_of_page state.slabs chunk.page) chunk ≡ true)
   clear_tests chunk can =
-      let moves = is_moving_page state.slabs chunk.page in
+      let moves = is_on_the_move state.slabs chunk.page in
       let idle = is_free (head_at state chunk).tag || is_dead (head_at state chunk) in
       let first = and_parts (has_slabs state hand && has_chunk state.table chunk && moves && idle) (is_listed state.slabs (class_of_page state.slabs chunk.page) chunk) can in
       let second = and_parts (has_slabs state hand && has_chunk state.table chunk && moves) idle first.0 in

@@ -5,6 +5,7 @@ use Rattle.mc_classes.specs.Classes.{Classes}
 use Rattle.mc_pages.specs.declared.ids.ChunkId.{ChunkId}
 use Rattle.mc_pages.specs.ClassState.{is_chunk, first_free}
 use Rattle.mc_pages.specs.SlabState.{SlabState, class_at, class_of_page}
+use Rattle.mc_pages.specs.Pages.{is_on_the_move}
 use Rattle.mc_pages.specs.Changes as slabs_changes
 use Rattle.mc_core.specs.declared.head.Head.{Head}
 use Rattle.mc_core.specs.declared.head.Tag.TheVariants.{Out, Free, Unlinked}
@@ -32,7 +33,7 @@ most_holdings = 256
 abbrev pub has_place : State → ℕ → Bool
 has_place state hand = nat_lt (length (holdings_at state hand)) most_holdings
 
--- the chunk is free and isn't used up
+-- there is such a chunk, and it is free and isn't used up
 abbrev pub can_hand_out : State → Option ChunkId → Bool
 can_hand_out state None = false
 can_hand_out state (Some chunk) = is_free (head_at state chunk).tag && nat_lt (head_at state chunk).issue most_issue
@@ -41,7 +42,7 @@ can_hand_out state (Some chunk) = is_free (head_at state chunk).tag && nat_lt (h
 abbrev pub handed_out : Head → Head
 handed_out head = record { issue = head.issue + 1; tag = Unlinked; count = 1 }
 
--- a chunk that nobody has filled yet
+-- the holding of a chunk that is handed out for this purpose, with its next issue number, and none of its words filled
 abbrev pub new_holding : State → ChunkId → Purpose → Holding
 new_holding state chunk purpose = record {
   chunk = chunk;
@@ -70,10 +71,6 @@ popped state hand (Some chunk) = with_look (with_fresh state hand chunk Item) ha
 abbrev pub after_pop : State → ℕ → ℕ → State
 after_pop state hand class = popped (with_slabs state (slabs_changes.after_pop state.slabs class)) hand (next_free state class)
 
--- the page is on the move
-abbrev pub is_moving_page : SlabState → ℕ → Bool
-is_moving_page slabs page = option_map_or (λ move. move.page == page) slabs.moving false
-
 -- the chunk is off the page and isn't used up
 abbrev pub is_target : Classes → List Head → ℕ → ChunkId → Bool
 is_target table heads page chunk = not (chunk.page == page) && nat_lt (head_in table heads chunk).issue most_issue
@@ -85,7 +82,7 @@ target_of table heads slabs page = find (is_target table heads page) (class_at s
 -- the hand has the slabs lock and a place left; the old chunk is handed out, its page moves, a chunk can replace it
 abbrev pub can_pop_off : State → ℕ → ChunkId → Bool
 can_pop_off state hand old =
-    has_slabs state hand && is_moving_page state.slabs old.page && is_handed_out state.slabs old && has_place state hand && can_hand_out state (target_of state.table state.heads state.slabs old.page)
+    has_slabs state hand && is_on_the_move state.slabs old.page && is_handed_out state.slabs old && has_place state hand && can_hand_out state (target_of state.table state.heads state.slabs old.page)
 
 -- this free chunk takes the old one's place and goes to the hand for a copy; without one nothing changes
 abbrev pub popped_off : State → ℕ → ChunkId → Option ChunkId → State
@@ -107,7 +104,7 @@ can_fill_in place (Some holding) = is_fresh holding && nat_lt place (length (wor
 abbrev pub can_fill : State → ℕ → ChunkId → ℕ → Bool
 can_fill state hand chunk place = can_fill_in place (holding_of chunk (holdings_at state hand))
 
--- a fresh chunk with one more word
+-- a fresh chunk with one more of its words known; a reference stays as it is
 abbrev pub filled_kind : ℕ → ℕ → Kind → Kind
 filled_kind place word (Reference item) = Reference item
 filled_kind place word (Fresh purpose words) = Fresh purpose (slice_set words place (Some word))
@@ -120,11 +117,11 @@ filled place word holding = record holding { kind = filled_kind place word holdi
 abbrev pub after_fill : State → ℕ → ChunkId → ℕ → ℕ → State
 after_fill state hand chunk place word = with_word (with_changed state hand (is_of chunk) (filled place word)) chunk place word
 
--- one holder less
+-- a header with one holder less
 abbrev pub let_go : Head → Head
 let_go head = record head { count = head.count - 1 }
 
--- the first holding of the chunk is fresh, or isn't
+-- there is such a holding, and it is fresh, or a reference, as is asked
 abbrev pub holds_as : Bool → Option Holding → Bool
 holds_as fresh None = false
 holds_as fresh (Some holding) = is_fresh holding && fresh || not (is_fresh holding) && not fresh
@@ -137,7 +134,7 @@ can_discard state hand chunk = holds_as true (holding_of chunk (holdings_at stat
 abbrev pub can_release : State → ℕ → ChunkId → Bool
 can_release state hand chunk = holds_as false (holding_of chunk (holdings_at state hand))
 
--- a holding is given up
+-- the hand gives up its first holding of the chunk, whose header counts one holder less
 abbrev pub after_drop : State → ℕ → ChunkId → State
 after_drop state hand chunk = without_holding (with_head state chunk (let_go (head_at state chunk))) hand (is_of chunk)
 
@@ -162,7 +159,7 @@ after_put_back state hand chunk =
 -- the hand has the slabs lock, and the chunk is free or dead, in a list of its class, and on the moving page
 abbrev pub can_clear : State → ℕ → ChunkId → Bool
 can_clear state hand chunk =
-    has_slabs state hand && has_chunk state.table chunk && is_moving_page state.slabs chunk.page && (is_free (head_at state chunk).tag || is_dead (head_at state chunk))
+    has_slabs state hand && has_chunk state.table chunk && is_on_the_move state.slabs chunk.page && (is_free (head_at state chunk).tag || is_dead (head_at state chunk))
     && is_listed state.slabs (class_of_page state.slabs chunk.page) chunk
 
 -- the chunk of the moving page leaves the list that it is in and is out, with the issue that it had

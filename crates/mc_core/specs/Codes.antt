@@ -11,7 +11,7 @@ use Rattle.mc_core.specs.Evictions.{is_linked_unheld, condemned}
 abbrev pub plus : ℕ → ℕ → ℕ
 plus more word = (word + more) % 2 ^ 64
 
--- and after so much is taken from it
+-- a word of 64 bits after so much is taken from it
 abbrev pub minus : ℕ → ℕ → ℕ
 minus less word = (word + (2 ^ 64 - less)) % 2 ^ 64
 
@@ -27,7 +27,7 @@ pub record AreOneWord : Type 0 where
   pub again : (word : ℕ) → code (decode word) ≡ word
   pub fits : (word : ℕ) → word < 2 ^ 64 → FitsBits (decode word)
 
--- each change of a header is one sum
+-- each change of this header adds one number to its word, or takes one from it
 pub record AreSums (head : Head) : Type 0 where
   pub hand_out : head.tag ≡ Free → head.count ≡ 0 → head.issue < most_issue → code (handed_out head) ≡ plus 327681 (code head)
   pub refer : head.count < 65535 → code (referred head) ≡ plus 1 (code head)
@@ -40,6 +40,6 @@ pub record AreSums (head : Head) : Type 0 where
   pub clear_dead : is_dead head ≡ true → code (with_tag_out head) ≡ minus 131072 (code head)
   pub cut : head.tag ≡ Out → code (with_tag_free head) ≡ plus 65536 (code head)
 
--- so it is of each that fits
+-- each change of each header that fits its bits adds one number to its word, or takes one from it
 abbrev pub AllAreSums : Type 0
 AllAreSums = (head : Head) → FitsBits head → AreSums head

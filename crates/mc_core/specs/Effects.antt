@@ -44,11 +44,11 @@ pub record HasGrown (number : ℕ) (before now : List Call) : Type 0 where
   pub grown : now ≡ before ++ more
   pub own : All (λ call. hand_of call ≡ number) more
 
--- so each history grew by calls of the hand's number
+-- each history grew by calls of the hand's number alone
 abbrev pub HaveGrown : State → State → ℕ → Type 0
 HaveGrown before now hand = (number stripe : ℕ) → number_at before hand ≡ Some number → HasGrown number (history_at before stripe) (history_at now stripe)
 
--- so it is of each change, each step and each event
+-- each change, each step and each event of a hand adds to histories calls of its own number alone
 pub record HistoriesGrow : Type 0 where
   pub changes : (moment : Moment) (hand : ℕ) (change : Change) → MayChange moment hand change → HaveGrown moment.state (moment_changed moment hand change).state hand
   pub steps : (moment : Moment) (hand : ℕ) (step : Step) → MayStep moment hand step → HaveGrown moment.state (moment_stepped moment hand step).state hand

@@ -4,6 +4,7 @@ use Rattle.std.specs.List.{list_all, list_any}
 use Rattle.mc_classes.specs.Classes.{Classes, pages_of}
 use Rattle.mc_pages.specs.declared.ids.ChunkId.{ChunkId}
 use Rattle.mc_pages.specs.ClassState.{first_free}
+use Rattle.mc_pages.specs.Pages.{is_on_the_move}
 use Rattle.mc_pages.specs.SlabState.{SlabState, class_of_chunk, totals_of}
 use Rattle.mc_stripe.specs.StripeState.{ReadyStripe, place_of}
 use Rattle.mc_stripe.specs.Changes.{after_evict, after_lift, used_up}
@@ -19,42 +20,42 @@ use Rattle.mc_core.specs.Holdings.{is_copy_of, words_of}
 use Rattle.mc_core.specs.Looks.{is_found_alive}
 use Rattle.mc_core.specs.State.{State, has_chunk, head_at, with_head, word_at, item_at, has_slabs, has_stripe, stripe_of, stripe_at, with_stripe, holdings_at, with_changed, looks_at, with_look}
 use Rattle.mc_core.specs.Silent.{none_half_cut, writer_of}
-use Rattle.mc_core.specs.Chunks.{is_moving_page, target_of}
+use Rattle.mc_core.specs.Chunks.{target_of}
 
--- the hand got a fresh chunk for a copy of this one
+-- the hand got a fresh chunk for a copy of the item in this one, which it hasn't condemned yet
 abbrev pub has_copy : List Holding → ChunkId → Bool
 has_copy holdings chunk = list_any (is_copy_of chunk) holdings
 
--- no handed-out chunk of the chunk's class is dead, as far as the hand saw
+-- the hand found each chunk that this one's class handed out not dead, and since then handed out, condemned and cleared nothing
 abbrev pub none_dead : SlabState → List Look → ChunkId → Bool
 none_dead slabs looks chunk = list_all (is_found_alive looks) (class_of_chunk slabs chunk).order
 
--- neither a pooled page nor a page left
+-- no page is in the pool, and none is left that was never granted
 abbrev pub has_no_page : Classes → SlabState → Bool
 has_no_page table slabs = (totals_of slabs).pool == 0 && (totals_of slabs).granted == pages_of table
 
--- the page moves, and there is no other chunk for the item
+-- the chunk's page moves, each chunk that its class handed out was found not dead, and no free one can take its item
 abbrev pub must_leave : Classes → List Head → SlabState → List Look → ChunkId → Bool
-must_leave table heads slabs looks chunk = is_moving_page slabs chunk.page && none_dead slabs looks chunk && is_none (target_of table heads slabs chunk.page)
+must_leave table heads slabs looks chunk = is_on_the_move slabs chunk.page && none_dead slabs looks chunk && is_none (target_of table heads slabs chunk.page)
 
--- the class has neither a free chunk nor a dead one, and no page is to be had
+-- the class has no free chunk, each that it handed out was found not dead, and no page is pooled, left or half cut
 abbrev pub lacks_room : Classes → SlabState → List Look → ChunkId → Bool
 lacks_room table slabs looks chunk = is_none (first_free (class_of_chunk slabs chunk)) && none_dead slabs looks chunk && has_no_page table slabs && none_half_cut slabs
 
 -- why an item may be taken away: it goes to another chunk, its page moves, or room is needed
 abbrev pub has_reason : Classes → List Head → SlabState → List Look → List Holding → ChunkId → Bool
 has_reason table heads slabs looks holdings chunk =
-    is_moving_page slabs chunk.page && has_copy holdings chunk || must_leave table heads slabs looks chunk || lacks_room table slabs looks chunk
+    is_on_the_move slabs chunk.page && has_copy holdings chunk || must_leave table heads slabs looks chunk || lacks_room table slabs looks chunk
 
 -- the key of the item in the chunk
 abbrev pub key_at : State → ChunkId → ℕ
 key_at state chunk = word_at state chunk 0
 
--- a linked chunk that nobody holds
+-- the chunk is linked and nobody holds it, so its header counts the link alone
 abbrev pub is_linked_unheld : Head → Bool
 is_linked_unheld head = is_linked head.tag && head.count == 1
 
--- the stripe of the key is held and has room for a call, the key is there, and its entry can be put aside where it must
+-- the stripe has room for a call, the key leads somewhere, and where its entry is to be put aside none is aside
 abbrev pub can_lose_entry : ReadyStripe → ℕ → Bool → Bool
 can_lose_entry stripe key rescues = stripe.ready && is_some (place_of stripe.state key) && (not rescues || is_none stripe.state.aside)
 
@@ -73,7 +74,7 @@ condemned head = record { issue = head.issue; tag = Unlinked; count = 0 }
 abbrev pub as_rescue : ChunkId → List ℕ → Holding → Holding
 as_rescue old item holding = record holding { kind = Fresh (Rescue old item) (words_of holding) }
 
--- the stripe of the key: its entry is put aside for a rescue, and else evicted
+-- the stripe after a key's item was taken away: the key's entry is put aside for a rescue, and else evicted
 abbrev pub stripe_condemned : ReadyStripe → Bool → ℕ → ℕ → ReadyStripe
 stripe_condemned stripe rescues writer key =
     if rescues then record stripe { state = after_lift stripe.state key } else used_up (after_evict stripe.state writer key)

@@ -16,7 +16,7 @@ use Rattle.mc_core.specs.Indexed.{stripe_for}
 use Rattle.mc_core.specs.Knowing.{IsSaid}
 use Rattle.mc_core.specs.Lawful.{IsLawful, IsKept}
 
--- each holding is kept
+-- in every lawful moment each holding of each hand is kept
 abbrev pub AreKept : Type 0
 AreKept = (moment : Moment) → IsLawful moment → (hand : ℕ) → All (IsKept moment.state) (holdings_at moment.state hand)
 
@@ -28,7 +28,7 @@ pub record IsSaidItem (moment : Moment) (chunk : ChunkId) : Type 0 where
   pub said : IsSaid moment.past.said (stamp_of words) words
   pub entry : place_of (stripe_for moment.state.stripes (key_of words)).state (key_of words) ≡ Some (chunk, stamp_of words)
 
--- so it is of each
+-- in every lawful moment the words of each linked chunk are a whole item, said with the stamp of its key's entry
 abbrev pub AreSaidItems : Type 0
 AreSaidItems = (moment : Moment) → IsLawful moment → (chunk : ChunkId) → has_chunk moment.state.table chunk ≡ true → (head_in moment.state.table moment.state.heads chunk).tag ≡ Linked →
     IsSaidItem moment chunk

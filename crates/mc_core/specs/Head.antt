@@ -18,7 +18,7 @@ tag_of (suc zero) = Free
 tag_of (suc (suc zero)) = Unlinked
 tag_of (suc (suc (suc n))) = Linked
 
--- the header as a word
+-- the header as a word: its count in the lowest 16 bits, the number of its tag in the next 2, and above them its issue
 unfoldable pub code : Head → ℕ
 code head = head.issue * 262144 + number_of head.tag * 65536 + head.count
 
@@ -46,7 +46,7 @@ abbrev pub is_linked : Tag → Bool
 is_linked Linked = true
 is_linked tag = false
 
--- nobody holds the chunk, and no key leads to it
+-- the chunk is handed out, but nobody holds it and no key leads to it
 abbrev pub is_dead : Head → Bool
 is_dead head = is_unlinked head.tag && head.count == 0
 
@@ -54,6 +54,7 @@ is_dead head = is_unlinked head.tag && head.count == 0
 abbrev pub uncut_from : ℕ → Head
 uncut_from start = record { issue = start; tag = Out; count = 0 }
 
--- what is read of a chunk that the arena doesn't have
+-- the header of a chunk that was never cut, with issue 0, which is read behind the last header. No bounds of a page are tested: an index too high
+-- reads the header of a later page's chunk, where there is one
 abbrev pub never_cut : Head
 never_cut = uncut_from 0

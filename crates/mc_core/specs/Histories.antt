@@ -10,7 +10,7 @@ use Rattle.mc_core.specs.Identities.{owners, said_count}
 use Rattle.mc_core.specs.Indexed.{stripe_for}
 use Rattle.mc_core.specs.Columns.{Each}
 
--- the hand of a call
+-- the number of the hand that made the call
 abbrev pub hand_of : Call → ℕ
 hand_of (Set hand key stamp) = hand
 hand_of (Get hand key found) = hand
@@ -18,7 +18,7 @@ hand_of (Delete hand key was_there) = hand
 hand_of (Evict hand key) = hand
 hand_of (call.Rescue hand key) = hand
 
--- one history begins another
+-- the second history begins with the first
 abbrev pub IsBeginning : List Call → List Call → Type 0
 IsBeginning a b = (more : List Call) × (b ≡ a ++ more)
 
@@ -27,7 +27,7 @@ abbrev pub IsSetIn : ℕ → ℕ → Call → Type 0
 IsSetIn stripes stripe (Set hand key stamp) = (key % stripes ≡ stripe) × (stamp / 2 ^ 48 ≡ hand)
 IsSetIn stripes stripe other = ⊤
 
--- how often the stamp was stored, in one history and in all
+-- the call stored the stamp
 abbrev pub is_set_of : ℕ → Call → Bool
 is_set_of stamp (Set hand key own) = own == stamp
 is_set_of stamp other = false

@@ -20,7 +20,7 @@ all_known item = map (λ word. Some word) item
 abbrev pub numbers : Words → List ℕ
 numbers words = map (λ word. unwrap_or word 0) words
 
--- the key and the stamp of an item, and how many words it takes: these two, its length, and as many as that says
+-- the key of an item, which is its first word; 0 where it has none
 abbrev pub key_of : List ℕ → ℕ
 key_of item = slice_index item 0
 
@@ -48,7 +48,7 @@ stamp_in words = word_in words 1
 abbrev pub item_length : Words → ℕ
 item_length words = 3 + word_in words 2
 
--- the words of the item
+-- the words of the item among these: as many as it takes, or all where there are fewer
 abbrev pub item_in : Words → Words
 item_in words = take (item_length words) words
 
@@ -68,7 +68,7 @@ is_of chunk holding = is_chunk holding.chunk chunk
 abbrev pub holding_of : ChunkId → List Holding → Option Holding
 holding_of chunk holdings = find (is_of chunk) holdings
 
--- less the first holding that passes the test
+-- these holdings without the first that passes the test
 abbrev pub lose : (Holding → Bool) → List Holding → List Holding
 lose test [] = []
 lose test (holding ∷ holdings) = if test holding then holdings else holding ∷ lose test holdings
@@ -86,7 +86,8 @@ words_of_kind (Fresh purpose words) = words
 abbrev pub words_of : Holding → Words
 words_of holding = words_of_kind holding.kind
 
--- the same as numbers
+-- what is known of the words of a holding's chunk, as numbers: of a reference its item, of a fresh chunk those that were filled, with 0 for each
+-- other
 abbrev pub item_of_kind : Kind → List ℕ
 item_of_kind (Reference item) = item
 item_of_kind (Fresh purpose words) = numbers words
@@ -95,7 +96,7 @@ item_of_kind (Fresh purpose words) = numbers words
 abbrev pub item_of : Holding → List ℕ
 item_of holding = item_of_kind holding.kind
 
--- the chunk wasn't linked yet since the hand got it
+-- the hand fills the chunk, and hasn't linked it yet since it got it
 abbrev pub is_fresh_kind : Kind → Bool
 is_fresh_kind (Reference item) = false
 is_fresh_kind (Fresh purpose words) = true

@@ -7,7 +7,7 @@ use Rattle.mc_core.specs.declared.look.Look.{Look}
 use Rattle.mc_core.specs.Past.{Own, Saying, Known, Past}
 use Rattle.mc_core.specs.State.{gone, is_held_by}
 
--- the number of a hand, and how many stamps it gave out
+-- the number of a hand, none where it is gone or was never there
 abbrev pub number_in : List Ids → ℕ → Option ℕ
 number_in ids hand = (slice_index_or ids hand gone).number
 
@@ -41,7 +41,7 @@ pub record HaveRows (ids : List Ids) (stripes : ℕ) (past : Past) : Type 0 wher
   pub known : length past.known ≡ length ids
   pub histories : (hand : ℕ) → is_some (number_in ids hand) ≡ true → length (slice_index_or past.seen hand []) ≡ stripes
 
--- how often one hand, and all hands, have the number
+-- how often the number stands among one hand's, those of hands that it took over counted in
 abbrev pub owns : ℕ → List Own → ℕ
 owns number row = count_by (λ (own : Own). own.number == number) row
 
@@ -50,7 +50,7 @@ abbrev pub owners : ℕ → List (List Own) → ℕ
 owners number [] = 0
 owners number (row ∷ rows) = owns number row + owners number rows
 
--- how often one hand, and all hands, said the stamp
+-- how often one hand said the stamp
 abbrev pub said_times : ℕ → List Saying → ℕ
 said_times stamp row = count_by (λ (s : Saying). s.stamp == stamp) row
 

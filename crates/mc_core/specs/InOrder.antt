@@ -23,7 +23,7 @@ state_of state = record {
   looks = state.looks.items;
 }
 
--- the pages and chunks, and the limit, are those of the table
+-- pages and lists have the page size, the limit and the classes of the table, and are accounted for
 pub record IsOfTable (table : Classes) (slabs : SlabState) : Type 0 where
   pub page : slabs.page ≡ table.page
   pub limit : slabs.limit ≡ table.limit

@@ -29,7 +29,7 @@ linked head = record { issue = head.issue; tag = Linked; count = head.count + 1 
 abbrev pub unlinked : Head → Head
 unlinked head = record { issue = head.issue; tag = Unlinked; count = head.count - 1 }
 
--- one holder more
+-- a header with one holder more
 abbrev pub referred : Head → Head
 referred head = record head { count = head.count + 1 }
 
@@ -57,11 +57,12 @@ are_same (x ∷ xs) (y ∷ ys) = option_eq nat_eq x (Some y) && are_same xs ys
 abbrev pub is_entry_aside : StripeState → ℕ → ChunkId → ℕ → Bool
 is_entry_aside stripe key chunk stamp = option_map_or (λ entry. entry.0 == key && is_chunk entry.1.0 chunk && entry.1.1 == stamp) stripe.aside false
 
--- no other key is aside
+-- no other key's entry is aside
 abbrev pub is_none_else_aside : StripeState → ℕ → Bool
 is_none_else_aside stripe key = is_none stripe.aside || is_aside stripe key
 
--- an item of the hand's own has its next stamp; a copy has the words of the item that was condemned, whose entry is aside
+-- the words suit what the chunk is for. Of an item that is being rescued they are those that were condemned, and its entry is aside; any other that
+-- a hand fills has its next stamp, and no other key's entry is aside; a reference never suits
 abbrev pub suits : State → ℕ → Words → Kind → Bool
 suits state hand words (Reference own) = false
 suits state hand words (Fresh (Rescue old item) own) =
@@ -74,7 +75,7 @@ abbrev pub can_link_key : State → ℕ → ℕ → Bool
 can_link_key state hand key =
     has_stripe state hand (stripe_of state key) && (stripe_at state (stripe_of state key)).ready && is_none (place_of (stripe_at state (stripe_of state key)).state key)
 
--- the stripe of the key may come to know of the link
+-- the key's stripe can be told of the link, and the words suit what the chunk is for
 abbrev pub can_tell_link : State → ℕ → Holding → Bool
 can_tell_link state hand holding = can_link_key state hand (key_in (words_of holding)) && suits state hand (words_of holding) holding.kind
 
@@ -92,17 +93,17 @@ can_link state hand chunk = can_link_holding state hand chunk (holding_of chunk 
 abbrev pub stamped : Ids → Ids
 stamped ids = record ids { stamps = ids.stamps + 1 }
 
--- the hand refers to the item
+-- the holding as a reference to the item that the chunk was filled with
 abbrev pub as_reference : Holding → Holding
 as_reference holding = record holding { kind = Reference (numbers (item_in (words_of holding))) }
 
--- the entry aside comes back with the new chunk
+-- the key's entry that was aside comes back, and leads to the holding's chunk
 abbrev pub with_rescued : State → ℕ → Holding → State
 with_rescued state hand holding =
     let stripe = stripe_of state (key_in (words_of holding)) in
     with_stripe state stripe (used_up (after_rescue (stripe_at state stripe).state (writer_of state hand) (key_in (words_of holding)) holding.chunk))
 
--- an item is stored, and a stamp given out
+-- the key's stripe stores the item, and the hand gave out one more stamp
 abbrev pub with_set : State → ℕ → Holding → State
 with_set state hand holding =
     let stripe = stripe_of state (key_in (words_of holding)) in
@@ -133,15 +134,15 @@ after_link state hand chunk = after_link_of (without_holding state hand (is_of c
 abbrev pub new_reference : State → ChunkId → Holding
 new_reference state chunk = record { chunk = chunk; issue = (head_at state chunk).issue; kind = Reference (item_at state chunk) }
 
--- the hand gets a reference to the item in the chunk, whose header counts it
+-- the hand gets a reference to the item in the chunk, whose header counts it; no stripe is told
 abbrev pub with_reference : State → ℕ → ChunkId → State
 with_reference state hand chunk = with_holding (with_head state chunk (referred (head_at state chunk))) hand (new_reference state chunk)
 
--- the chunk to which the key leads
+-- the chunk to which the key leads, and its item's stamp; none where it leads nowhere
 abbrev pub chunk_of : State → ℕ → Option (ChunkId × ℕ)
 chunk_of state key = place_of (stripe_at state (stripe_of state key)).state key
 
--- a linked chunk, with room in its count
+-- the key leads somewhere, to a linked chunk with room in its count
 abbrev pub can_refer_to : State → Option (ChunkId × ℕ) → Bool
 can_refer_to state None = false
 can_refer_to state (Some place) = is_linked (head_at state place.0).tag && can_count (head_at state place.0)
@@ -169,7 +170,7 @@ with_got state hand key =
 abbrev pub after_refer : State → ℕ → ℕ → State
 after_refer state hand key = referred_to (with_got state hand key) hand (chunk_of state key)
 
--- a hand with a fresh chunk puts the entry aside, and so none may be there
+-- the hand has no fresh chunk, or no entry of the key's stripe is aside: a hand with a fresh chunk puts the key's entry there
 abbrev pub can_lift : State → ℕ → ℕ → Bool
 can_lift state hand key = not (has_fresh (holdings_at state hand)) || is_none (stripe_at state (stripe_of state key)).state.aside
 
@@ -182,7 +183,7 @@ is_linked_at state (Some place) = is_linked (head_at state place.0).tag
 abbrev pub can_unlink : State → ℕ → ℕ → Bool
 can_unlink state hand key = can_look_up state hand key && can_lift state hand key && is_linked_at state (chunk_of state key)
 
--- the stripe after the key is deleted, or its entry put aside
+-- the stripe after the key's entry was put aside, or else the key deleted
 abbrev pub stripe_unlinked : ReadyStripe → Bool → ℕ → ℕ → ReadyStripe
 stripe_unlinked stripe lifts writer key =
     if lifts then record stripe { state = after_lift stripe.state key } else used_up (stripe_changes.after_unlink stripe.state writer key)
@@ -199,7 +200,7 @@ after_unlink state hand key =
     (stripe_unlinked (stripe_at state (stripe_of state key)) (has_fresh (holdings_at state hand)) (writer_of state hand) key))
     (chunk_of state key)
 
--- the hand may take one more reference without a lock: it leaves a place that a lock gives
+-- the hand may take one more reference without a lock: it holds fewer than 255 chunks, so a place is left for one that it gets under a lock
 abbrev pub has_place_unlocked : State → ℕ → Bool
 has_place_unlocked state hand = nat_lt (length (holdings_at state hand)) 255
 
@@ -207,10 +208,6 @@ has_place_unlocked state hand = nat_lt (length (holdings_at state hand)) 255
 abbrev pub can_again : State → ℕ → ChunkId → ℕ → Bool
 can_again state hand chunk issue =
     has_chunk state.table chunk && has_place_unlocked state hand && is_linked (head_at state chunk).tag && (head_at state chunk).issue == issue && can_count (head_at state chunk)
-
--- the hand gets a reference to the item in the chunk, and no stripe is told
-abbrev pub after_again : State → ℕ → ChunkId → State
-after_again state hand chunk = with_reference state hand chunk
 
 -- the first holding of the chunk is a reference, and its item has such a word
 abbrev pub can_read_in : ℕ → Option Holding → Bool
@@ -221,7 +218,7 @@ can_read_in place (Some holding) = not (is_fresh holding) && nat_lt place (lengt
 abbrev pub can_word : State → ℕ → ChunkId → ℕ → Bool
 can_word state hand chunk place = can_read_in place (holding_of chunk (holdings_at state hand))
 
--- a word of a chunk that the hand found linked under the slabs lock
+-- the hand has the slabs lock and found the chunk linked since it took it, and the chunk has this place
 abbrev pub can_word_held : State → ℕ → ChunkId → ℕ → Bool
 can_word_held state hand chunk place =
     has_slabs state hand && has_chunk state.table chunk && was_linked (looks_at state hand) chunk && nat_lt place (room_at state chunk)

@@ -15,7 +15,7 @@ use Rattle.mc_core.specs.Identities.{said_count}
 use Rattle.mc_core.specs.State.{room_in, has_chunk}
 use Rattle.mc_core.specs.Columns.{head_in, Shows, Each, IsHandedOut}
 
--- somebody said this
+-- some hand said these words with this stamp
 abbrev pub IsSaid : List (List Saying) → ℕ → List ℕ → Type 0
 IsSaid said stamp words = (hand : ℕ) × (s : Saying) × Contains (slice_index_or said hand []) s × (s.stamp ≡ stamp) × (s.words ≡ words)
 
@@ -29,7 +29,8 @@ pub record IsTrueStill (table : Classes) (slabs : SlabState) (heads : List Head)
   pub room : IsHandedOut (head_in table heads k.chunk) k.issue → room_in table (class_of_page slabs k.chunk.page) ≡ k.room
   pub apart : Each (λ holding. is_fresh holding ≡ true → holding.chunk ≡ k.chunk → holding.issue ≡ k.issue → ⊥) holdings
 
--- known: what hands said and know
+-- known: a stamp was said once at most; a known item was said, is true still, and is the only one of its chunk and issue; and each reference, and
+-- each linked chunk, is known
 pub record AreKnown (table : Classes) (slabs : SlabState) (heads : List Head) (words : List ℕ) (holdings : List (List Holding)) (said : List (List Saying)) (known : List (List Known)) : Type 0 where
   pub once : (stamp : ℕ) → said_count stamp said ≤ 1
   pub agree : Each (λ k. (words : List ℕ) → IsSaid said (stamp_of k.words) words → words ≡ k.words) known

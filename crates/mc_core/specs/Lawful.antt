@@ -54,7 +54,7 @@ RowsIn m = HaveRows m.state.ids (length m.state.stripes) m.past
 abbrev pub NumberedIn : Moment → Type 0
 NumberedIn m = AreNumbered m.state.ids m.past.mine m.past.said m.past.known
 
--- the looks of a hand that has the slabs lock
+-- what this hand saw or did under its last hold of the slabs lock holds still
 abbrev pub IsSeenBy : State → Past → ℕ → Type 0
 IsSeenBy state past hand =
     AreSeen state.table state.slabs state.heads state.words past.known (slice_index_or past.holds hand no_hold).found
@@ -76,7 +76,7 @@ RescuedIn m = Each (λ holding. IsRescue m.past.said holding.chunk holding.kind)
 abbrev pub ToldIn : Moment → Type 0
 ToldIn m = AreTold m.state.stripes m.past.mine m.past.seen m.past.said
 
--- *lawful*, by subject
+-- *lawful*: what holds of the moment, subject by subject
 pub record IsLawful (moment : Moment) : Type 0 where
   pub sized : SizedIn moment
   pub paged : PagedIn moment

@@ -7,7 +7,7 @@ use Rattle.mc_core.specs.declared.look.Look.TheVariants.{Saw, SawStripe}
 use Rattle.mc_core.specs.State.{State, has_chunk, head_at, number_at, has_slabs, has_stripe, stripe_at, with_looks, with_look}
 use Rattle.mc_core.specs.Silent.{none_half_cut}
 
--- a look counts under the slabs lock alone
+-- the hand saw or did this, which counts under the slabs lock alone
 abbrev pub looked : State → ℕ → Look → State
 looked state hand look = if has_slabs state hand then with_look state hand look else state
 
@@ -27,7 +27,7 @@ has_stripes state stripe = nat_lt stripe (length state.stripe_locks)
 abbrev pub after_miss_stripe : State → ℕ → ℕ → State
 after_miss_stripe state hand stripe = looked state hand (SawStripe stripe (slice_index state.stripe_locks stripe))
 
--- the word of a lock that the hand has
+-- the word of a lock that the hand has: its number plus 1
 abbrev pub lock_word : State → ℕ → ℕ
 lock_word state hand = option_map_or (λ number. number + 1) (number_at state hand) 0
 
@@ -51,7 +51,7 @@ with_stripe_lock state stripe word = record state { stripe_locks = slice_set sta
 abbrev pub after_take_stripe : State → ℕ → ℕ → State
 after_take_stripe state hand stripe = with_stripe_lock state stripe (lock_word state hand)
 
--- what is given back has no page half cut
+-- the hand has the slabs lock, and no page is half cut
 abbrev pub can_give_slabs : State → ℕ → Bool
 can_give_slabs state hand = has_slabs state hand && none_half_cut state.slabs
 
@@ -59,7 +59,7 @@ can_give_slabs state hand = has_slabs state hand && none_half_cut state.slabs
 abbrev pub after_give_slabs : State → State
 after_give_slabs state = record state { slabs_lock = 0 }
 
--- what is given back has no entry aside
+-- the hand has the stripe's lock, and no entry of the stripe is aside
 abbrev pub can_give_stripe : State → ℕ → ℕ → Bool
 can_give_stripe state hand stripe = has_stripe state hand stripe && is_none (stripe_at state stripe).state.aside
 

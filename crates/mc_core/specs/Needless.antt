@@ -1,5 +1,6 @@
 -- Tests of events that need not be made, since the law answers them.
 use Rattle.std.specs.Prelude.{◌≡◌, ℕ, ◌+◌, ◌*◌, ◌≤◌, true, ◌||◌, Some}
+use Rattle.mc_pages.specs.Pages.{is_on_the_move}
 use Rattle.mc_pages.specs.declared.ids.ChunkId.{ChunkId}
 use Rattle.mc_core.specs.declared.head.Tag.TheVariants.{Out, Free, Unlinked, Linked}
 use Rattle.mc_core.specs.declared.holding.Holding.{Holding}
@@ -8,7 +9,7 @@ use Rattle.mc_core.specs.Head.{is_free, is_dead}
 use Rattle.mc_core.specs.Holdings.{is_fresh, holding_of}
 use Rattle.mc_core.specs.State.{is_class, has_chunk, head_at, holdings_at}
 use Rattle.mc_core.specs.Silent.{is_handed_out, is_listed}
-use Rattle.mc_core.specs.Chunks.{most_holdings, next_free, is_moving_page, target_of}
+use Rattle.mc_core.specs.Chunks.{most_holdings, next_free, target_of}
 use Rattle.mc_core.specs.Items.{can_count, chunk_of}
 use Rattle.mc_core.specs.Codes.{FitsBits}
 use Rattle.mc_core.specs.Past.{Moment}
@@ -20,18 +21,21 @@ most_count = 1 + 64 * most_holdings
 
 -- what the law says of headers that events find
 pub record AreNeedless (m : Moment) : Type 0 where
-  -- a count is far below what fits, so there is room for one more
+  -- a count is far below what fits
   pub most : (chunk : ChunkId) → has_chunk m.state.table chunk ≡ true → (head_at m.state chunk).count ≤ most_count
+  -- there is room in a count for one more
   pub room : (chunk : ChunkId) → has_chunk m.state.table chunk ≡ true → can_count (head_at m.state chunk) ≡ true
-  -- and a header is one word
+  -- a header is one word
   pub fits : (chunk : ChunkId) → has_chunk m.state.table chunk ≡ true → FitsBits (head_at m.state chunk)
-  -- the head of a free list is free, and so is a target
+  -- the head of a free list is free
   pub next : (class : ℕ) (chunk : ChunkId) → is_class m.state.table class ≡ true → next_free m.state class ≡ Some chunk →
       (has_chunk m.state.table chunk ≡ true) × ((head_at m.state chunk).tag ≡ Free)
-  pub target : (page : ℕ) (chunk : ChunkId) → is_moving_page m.state.slabs page ≡ true → target_of m.state.table m.state.heads m.state.slabs page ≡ Some chunk →
+  -- a target is free
+  pub target : (page : ℕ) (chunk : ChunkId) → is_on_the_move m.state.slabs page ≡ true → target_of m.state.table m.state.heads m.state.slabs page ≡ Some chunk →
       (has_chunk m.state.table chunk ≡ true) × ((head_at m.state chunk).tag ≡ Free)
-  -- what is dead is in its class's hand-out order, and what is free or dead in one of its lists
+  -- what is dead is in its class's hand-out order
   pub dead : (chunk : ChunkId) → has_chunk m.state.table chunk ≡ true → is_dead (head_at m.state chunk) ≡ true → is_handed_out m.state.slabs chunk ≡ true
+  -- what is free or dead is in one of its class's lists
   pub unused : (chunk : ChunkId) → has_chunk m.state.table chunk ≡ true → (is_free (head_at m.state chunk).tag || is_dead (head_at m.state chunk)) ≡ true →
       is_listed m.state.slabs (class_of_page m.state.slabs chunk.page) chunk ≡ true
   -- what is cut next is out
@@ -42,6 +46,6 @@ pub record AreNeedless (m : Moment) : Type 0 where
   pub fresh : (hand : ℕ) (chunk : ChunkId) (holding : Holding) → holding_of chunk (holdings_at m.state hand) ≡ Some holding → is_fresh holding ≡ true →
       (has_chunk m.state.table chunk ≡ true) × ((head_at m.state chunk).tag ≡ Unlinked)
 
--- so it is of every lawful moment
+-- in every lawful moment the law answers these tests of headers
 abbrev pub AllAreNeedless : Type 0
 AllAreNeedless = (m : Moment) → IsLawful m → AreNeedless m

@@ -70,18 +70,18 @@ pub record Moment : Type 0 where
   pub past : Past
 
 module _ {X : Type 0} where
-  -- one more entry in the row of a hand
+  -- in the row of a hand these entries stand behind all others
   abbrev pub with_more : List (List X) → ℕ → List X → List (List X)
   with_more rows hand more = slice_set rows hand (slice_index_or rows hand [] ++ more)
 
--- what a step finds by a look
+-- the word that a step finds by a look; nothing where the step is no look
 abbrev pub sights_of : State → Step → List Sight
 sights_of state MissSlabs = slabs_word state.slabs_lock ∷ []
 sights_of state (MissStripe stripe) = stripe_word stripe (slice_index state.stripe_locks stripe) ∷ []
 sights_of state (step.Head chunk) = header chunk (head_at state chunk) ∷ []
 sights_of state other = []
 
--- a hold begins or ends
+-- the hand's hold after its step: one begins as the slabs lock is taken, and ends as it is given back
 abbrev pub hold_after : SlabState → Step → Hold → Hold
 hold_after slabs TakeSlabs hold = record hold { found = slabs; count = hold.count + 1 }
 hold_after slabs GiveSlabs hold = record hold { left = slabs }
@@ -97,7 +97,7 @@ abbrev pub said_by : Option Holding → List Saying
 said_by None = []
 said_by (Some holding) = saying_of holding.kind (words_of holding)
 
--- what a link says
+-- what a step says: a link what its holding says, and any other step nothing
 abbrev pub sayings_of : State → ℕ → Step → List Saying
 sayings_of state hand (Link chunk) = said_by (holding_of chunk (holdings_at state hand))
 sayings_of state hand other = []
@@ -116,7 +116,7 @@ abbrev pub known_of_place : State → Option (ChunkId × ℕ) → List Known
 known_of_place state None = []
 known_of_place state (Some place) = known_by (room_at state place.0) (new_reference state place.0) ∷ []
 
--- the item to which the hand gets a reference
+-- what the hand knows by its step: the item to which it gets a reference, by a link, a key or a hint; by any other step nothing
 abbrev pub known_of : State → ℕ → Step → List Known
 known_of state hand (Link chunk) = known_of_holding (room_at state chunk) (holding_of chunk (holdings_at state hand))
 known_of state hand (Refer key) = known_of_place state (chunk_of state key)
@@ -131,27 +131,27 @@ history_at state stripe = (stripe_at state stripe).state.history
 abbrev pub new_calls : State → State → ℕ → List Call
 new_calls before now stripe = drop (length (history_at before stripe)) (history_at now stripe)
 
--- the calls of the stripes, with those that came in
+-- these lists of calls, of the stripes from this place on, each with the calls that came into its stripe's history
 abbrev pub told : State → State → ℕ → List (List Call) → List (List Call)
 told before now place [] = []
 told before now place (calls ∷ rows) = (calls ++ new_calls before now place) ∷ told before now (place + 1) rows
 
--- the number's own calls, with those that came in
+-- a number's own calls, with those that came in, where it is the number of the hand that made them
 abbrev pub own_after : State → State → Option ℕ → Own → Own
 own_after before now None own = own
 own_after before now (Some number) own = if own.number == number then record own { calls = told before now 0 own.calls } else own
 
--- a history that is seen as a lock is taken or given
+-- the histories that the hand saw, after its step: it sees that of a stripe as it takes or gives its lock
 abbrev pub seen_after : State → Step → List (List Call) → List (List Call)
 seen_after state (TakeStripe stripe) seen = slice_set seen stripe (history_at state stripe)
 seen_after state (GiveStripe stripe) seen = slice_set seen stripe (history_at state stripe)
 seen_after state other seen = seen
 
--- the longer of two
+-- the longer of two histories, the first where they are as long
 abbrev pub longer : List Call → List Call → List Call
 longer a b = if nat_le (length b) (length a) then a else b
 
--- stripe by stripe the longer of two histories, for as many stripes as the first row has
+-- stripe by stripe the longer of two histories; of a stripe that one row alone has, the history there
 abbrev pub longer_each : List (List Call) → List (List Call) → List (List Call)
 longer_each [] ys = ys
 longer_each (x ∷ xs) [] = x ∷ xs
@@ -165,7 +165,8 @@ no_slabs = fresh_slabs (record { page = 0; limit = 0; sizes = [] })
 abbrev pub no_hold : Hold
 no_hold = record { found = no_slabs; left = no_slabs; count = 0 }
 
--- the first hand knows what the second knew, which knows nothing any more
+-- the first hand has the numbers and calls, sayings and items of both, and saw of each history the longer that either saw; the second knows nothing
+-- any more
 abbrev pub joined : Past → ℕ → ℕ → Past
 joined past kept spent = record {
   saw = slice_set past.saw spent [];
@@ -176,7 +177,7 @@ joined past kept spent = record {
   known = slice_set (with_more past.known kept (slice_index_or past.known spent [])) spent [];
 }
 
--- the calls that came into histories are the hand's own
+-- the calls that came into histories are added to the hand's own
 abbrev pub with_calls : State → State → Past → ℕ → Past
 with_calls before now past hand =
     record past { mine = slice_set past.mine hand (map (own_after before now (number_at before hand)) (slice_index_or past.mine hand [])) }
@@ -266,6 +267,6 @@ no_past stripes hands = record {
   known = replicate hands [];
 }
 
--- nothing was done yet
+-- the moment in which nothing was done yet
 abbrev pub first_moment : Classes → ℕ → ℕ → ℕ → Moment
 first_moment table stripes hands start = record { state = new_state table stripes hands start; past = no_past stripes hands }

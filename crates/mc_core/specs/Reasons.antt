@@ -20,7 +20,7 @@ use Rattle.mc_core.specs.State.{State, has_slabs, head_at, holdings_at, looks_at
 use Rattle.mc_core.specs.Past.{Moment}
 use Rattle.mc_core.specs.Laws.{MayStep}
 
--- a chunk was handed out, condemned or cleared
+-- by this look a chunk was handed out, condemned or cleared
 abbrev pub takes : Look → Bool
 takes (Popped chunk head) = true
 takes (PoppedOff chunk old head) = true
@@ -28,7 +28,7 @@ takes (Condemned chunk head) = true
 takes (Cleared chunk head) = true
 takes look = false
 
--- the chunk's header was seen
+-- by this look the chunk's header was seen
 abbrev pub sees : ChunkId → Look → Bool
 sees chunk (Saw seen head) = is_chunk seen chunk
 sees chunk look = false
@@ -42,7 +42,8 @@ pub record WasFoundAlive (looks : List Look) (chunk : ChunkId) : Type 0 where
   pub alive : head.tag ≡ Unlinked → head.count ≡ 0 → ⊥
   pub quiet : All (λ look. (takes look ≡ false) × (sees chunk look ≡ false)) since
 
--- so it is, under this hold of the slabs lock, of each chunk that the class handed out
+-- the hand has the slabs lock, and under this hold found each chunk that the class handed out not dead, and handed out, condemned and cleared
+-- nothing since
 abbrev pub IsSwept : State → ℕ → ℕ → Type 0
 IsSwept state hand class = (has_slabs state hand ≡ true) × All (WasFoundAlive (looks_at state hand)) (class_at state.slabs class).order
 
@@ -69,7 +70,7 @@ pub record HasCopyOff (state : State) (hand : ℕ) (chunk : ChunkId) : Type 0 wh
   pub meant : copy.kind ≡ Fresh (Copy chunk) words
   pub off : copy.chunk.page ≢ chunk.page
 
--- the item must leave its moving page, or makes room
+-- an item must leave this page, which moves, and has no free chunk to go to; or its class is out of room
 abbrev pub MustGo : State → ℕ → Type 0
 MustGo state page = (Moves state.slabs page × HasNoneOff state (class_of_page state.slabs page) page) ⊎ IsOutOfRoom state (class_of_page state.slabs page)
 
@@ -78,6 +79,6 @@ pub record IsReasoned (state : State) (hand : ℕ) (chunk : ChunkId) : Type 0 wh
   pub reason : (Moves state.slabs chunk.page × HasCopyOff state hand chunk) ⊎ (IsSwept state hand (class_of_page state.slabs chunk.page) × MustGo state chunk.page)
   pub copies : All (λ copy. (words : Words) → copy.kind ≡ Fresh (Copy chunk) words → copy.chunk.page ≢ chunk.page) (holdings_at state hand)
 
--- no item is taken away without such a reason
+-- an item is taken away for a reason alone: it goes to a copy, must leave its page, or makes room
 abbrev pub CondemnsAreReasoned : Type 0
 CondemnsAreReasoned = (moment : Moment) (hand : ℕ) (chunk : ChunkId) → MayStep moment hand (Condemn chunk) → IsReasoned moment.state hand chunk

@@ -25,7 +25,7 @@ does before step = record { hand = 0; before = before; step = step }
 abbrev pub cuts_from : ℕ → ℕ → List Event
 cuts_from first count = map (λ index. does [] (Cut 0 index)) (range_with_len first count)
 
--- class 1 gets a page, and so many of its chunks are cut
+-- class 1 gets page 0, and its first chunk and so many more are cut
 abbrev pub grows : ℕ → List Event
 grows more = does [] TakeSlabs ∷ does (Grow 1 ∷ []) (Cut 0 0) ∷ cuts_from 1 more ++ does [] GiveSlabs ∷ []
 
@@ -38,7 +38,8 @@ ledger_of (Err place) = Err place
 abbrev pub played : List Event → Result (List Entry) ℕ
 played events = ledger_of (play (new_state four_classes 4 1 0) events)
 
--- the same, where issue numbers count on from this one, and a chunk of class 1 is handed out twice
+-- the ledger after a chunk of class 1 was handed out twice over the four classes, where issue numbers count on from this one; or the place of the
+-- first event that isn't allowed
 abbrev pub pops_from : ℕ → Result (List Entry) ℕ
 pops_from start = ledger_of (play (new_state four_classes 4 1 start) (grows 20 ++ does [] TakeSlabs ∷ does [] (Pop 1) ∷ does [] (Discard (record { page = 0; index = 20 })) ∷
     does [] (PutBack (record { page = 0; index = 20 })) ∷ does [] (Pop 1) ∷ []))
@@ -47,7 +48,8 @@ pops_from start = ledger_of (play (new_state four_classes 4 1 start) (grows 20 +
 abbrev pub one_class : ℕ → Classes
 one_class pages = record { page = 64; limit = pages * 64; sizes = 32 ∷ [] }
 
--- the events of one hand that takes both locks of an arena of so many pages and one stripe
+-- the ledger after one hand took both locks of an arena of so many pages and one stripe, and did this; or the place of the first event that isn't
+-- allowed
 abbrev pub played_on : ℕ → List Event → Result (List Entry) ℕ
 played_on pages events = ledger_of (play (new_state (one_class pages) 1 1 0) (does [] TakeSlabs ∷ does [] (TakeStripe 0) ∷ events))
 
@@ -55,7 +57,7 @@ played_on pages events = ledger_of (play (new_state (one_class pages) 1 1 0) (do
 abbrev pub chunk_at : ℕ → ℕ → ChunkId
 chunk_at page index = record { page = page; index = index }
 
--- the class gets the page, and its two chunks are cut
+-- class 1 gets the page, and its two chunks are cut
 abbrev pub gets : ℕ → List Event
 gets page = does (Grow 1 ∷ []) (Cut page 0) ∷ does [] (Cut page 1) ∷ []
 
@@ -67,7 +69,7 @@ fills_with chunk key = does [] (Fill chunk 0 key) ∷ does [] (Fill chunk 1 key)
 abbrev pub puts : ChunkId → ℕ → List Event
 puts chunk key = fills_with chunk key ++ does (OfStripe 0 Reserve ∷ []) (Link chunk) ∷ does [] (Release chunk) ∷ []
 
--- it is handed out before
+-- the chunk, which is the next free one, is handed out, filled, linked and let go
 abbrev pub stores : ChunkId → ℕ → List Event
 stores chunk key = does [] (Pop 1) ∷ puts chunk key
 
@@ -83,7 +85,7 @@ takes_away chunk = does (OfStripe 0 Reserve ∷ []) (Condemn chunk) ∷ []
 abbrev pub looks_at : ℕ → List Event
 looks_at page = does [] (Head (chunk_at page 1)) ∷ does [] (Head (chunk_at page 0)) ∷ []
 
--- two pages, of whose four chunks one has an item, or all but one on its page
+-- two pages, of whose four chunks one has an item: chunk 1 of page 0
 abbrev pub one_of_four : List Event
 one_of_four = gets 0 ++ stores (chunk_at 0 1) 1 ++ gets 1
 
@@ -91,7 +93,7 @@ one_of_four = gets 0 ++ stores (chunk_at 0 1) 1 ++ gets 1
 abbrev pub three_of_four : List Event
 three_of_four = one_of_four ++ stores (chunk_at 1 1) 2 ++ stores (chunk_at 1 0) 3
 
--- page 0 begins to move, and its item is looked at, or gets another chunk
+-- page 0 begins to move to the pool, and its chunk 1 is looked at
 abbrev pub begins_move : List Event
 begins_move = does (BeginMove (Some 1) 0 ∷ []) (Head (chunk_at 0 1)) ∷ []
 
@@ -99,7 +101,7 @@ begins_move = does (BeginMove (Some 1) 0 ∷ []) (Head (chunk_at 0 1)) ∷ []
 abbrev pub begins_rescue : List Event
 begins_rescue = does (BeginMove (Some 1) 0 ∷ []) (PopOff (chunk_at 0 1)) ∷ []
 
--- the item is taken to that chunk, and both chunks of the page are cleared
+-- the item in chunk 1 of page 0 is taken to chunk 1 of page 1, and both chunks of page 0 are cleared
 abbrev pub rescues : List Event
 rescues =
     fills_with (chunk_at 1 1) 1 ++ takes_away (chunk_at 0 1) ++ does [] (Link (chunk_at 1 1)) ∷ does [] (Release (chunk_at 1 1)) ∷ does [] (Clear (chunk_at 0 1)) ∷ does [] (Clear (chunk_at 0 0)) ∷ []

@@ -16,7 +16,7 @@ use Rattle.mc_core.specs.Items as items
 use Rattle.mc_core.specs.Evictions as evictions
 use Rattle.mc_core.specs.Hands as hands
 
--- the hand may do this
+-- the hand may take this step
 abbrev pub allows_step : State → ℕ → Step → Bool
 allows_step state hand TakeSlabs = locks.can_take_slabs state
 allows_step state hand (TakeStripe stripe) = locks.can_take_stripe state stripe
@@ -65,7 +65,7 @@ after_step state hand (Condemn chunk) = evictions.after_condemn state hand chunk
 after_step state hand (PutBack chunk) = chunks.after_put_back state hand chunk
 after_step state hand (Clear chunk) = chunks.after_clear state hand chunk
 after_step state hand (Cut page index) = chunks.after_cut state hand (record { page = page; index = index })
-after_step state hand (Again chunk issue) = items.after_again state hand chunk
+after_step state hand (Again chunk issue) = items.with_reference state hand chunk
 after_step state hand (Join kept spent) = hands.after_join state spent
 
 -- the event may come next: its hand is there, the changes before it are allowed one after another, and then its step

@@ -15,11 +15,11 @@ use Rattle.mc_core.specs.State.{room_in, has_chunk}
 use Rattle.mc_core.specs.Silent.{slabs_after}
 use Rattle.mc_core.specs.Columns.{head_in, place_in, IsHandedOut}
 
--- the newer of two headers, where the look is at this chunk
+-- the header of this look, where it is at this chunk, and else the one before it
 abbrev pub newer : ChunkId → ChunkId → Head → Option Head → Option Head
 newer chunk seen head before = if is_chunk seen chunk then Some head else before
 
--- what a hand last saw of a header, or wrote itself
+-- the header of the chunk as the hand last saw it, or wrote it itself, after this look
 abbrev pub last_head : ChunkId → Option Head → Look → Option Head
 last_head chunk before (Saw seen head) = newer chunk seen head before
 last_head chunk before (Popped seen head) = newer chunk seen head before
@@ -34,21 +34,21 @@ last_head chunk before other = before
 abbrev pub seen_head : List Look → ChunkId → Option Head
 seen_head looks chunk = fold (last_head chunk) None looks
 
--- the issue number with which the chunk was found linked, unless it was put back or cleared since
+-- the issue number with which the chunk was found linked, unless it was put back or cleared since, after this look
 abbrev pub linked_issue : ChunkId → Option ℕ → Look → Option ℕ
 linked_issue chunk before (Saw seen head) = if is_chunk seen chunk && is_linked head.tag then Some head.issue else before
 linked_issue chunk before (PutBack seen head) = if is_chunk seen chunk then None else before
 linked_issue chunk before (Cleared seen head) = if is_chunk seen chunk then None else before
 linked_issue chunk before other = before
 
--- the word that was read of the chunk, unless it was put back or cleared since
+-- the word that was read of the chunk, unless it was put back or cleared since, after this look
 abbrev pub last_read : ChunkId → ℕ → Option ℕ → Look → Option ℕ
 last_read chunk place before (Read seen at word) = if is_chunk seen chunk && at == place then Some word else before
 last_read chunk place before (PutBack seen head) = if is_chunk seen chunk then None else before
 last_read chunk place before (Cleared seen head) = if is_chunk seen chunk then None else before
 last_read chunk place before other = before
 
--- pages and lists after what the hand did
+-- pages and lists after what the hand did by this look
 abbrev pub told_by_look : SlabState → Look → SlabState
 told_by_look slabs (Popped chunk head) = after_pop slabs (class_of_page slabs chunk.page)
 told_by_look slabs (PoppedOff chunk old head) = after_replace slabs chunk old

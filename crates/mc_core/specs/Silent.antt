@@ -26,11 +26,11 @@ use Rattle.mc_core.specs.State.{State, is_class, number_at, has_slabs, has_strip
 abbrev pub is_among : List ChunkId → ChunkId → Bool
 is_among chunks chunk = list_any (λ c. is_chunk c chunk) chunks
 
--- the chunk is handed out
+-- the chunk stands in the hand-out order of the class that has its page
 abbrev pub is_handed_out : SlabState → ChunkId → Bool
 is_handed_out slabs chunk = is_among (class_of_chunk slabs chunk).order chunk
 
--- the chunk is in a list of the class
+-- the chunk stands on the free list or in the hand-out order of the class
 abbrev pub is_listed : SlabState → ℕ → ChunkId → Bool
 is_listed slabs class chunk = is_among (class_at slabs class).free chunk || is_among (class_at slabs class).order chunk
 
@@ -38,7 +38,7 @@ is_listed slabs class chunk = is_among (class_at slabs class).free chunk || is_a
 abbrev pub has_page : List ChunkId → ℕ → Bool
 has_page chunks page = list_any (λ c. c.page == page) chunks
 
--- some chunk of the page is in a list of the class
+-- some chunk of the page stands on the free list or in the hand-out order of the class
 abbrev pub has_listed : SlabState → ℕ → ℕ → Bool
 has_listed slabs class page = has_page (class_at slabs class).free page || has_page (class_at slabs class).order page
 
@@ -50,27 +50,27 @@ none_half_cut slabs = is_none slabs.uncut
 abbrev pub can_grow : Classes → SlabState → ℕ → Bool
 can_grow table slabs class = is_class table class && none_half_cut slabs && is_some (next_page slabs)
 
--- each chunk of the moving page is cleared
+-- a move runs, no page is half cut, and no chunk of the moving page stands in a list of its source
 abbrev pub can_finish : SlabState → Option Moving → Bool
 can_finish slabs None = false
 can_finish slabs (Some move) = none_half_cut slabs && not (has_listed slabs move.src move.page)
 
--- the move that runs, with the chunks of a page of its source
+-- the move that runs, and how many chunks a page of its source has; none where no move runs
 abbrev pub run_of : Classes → Option Moving → Option (Moving × ℕ)
 run_of table None = None
 run_of table (Some move) = Some (move, per_page_of table move.src)
 
--- the chunk at the position was cut and is in no list
+-- the chunk at the move's position was cut, and stands in no list of the move's source
 abbrev pub is_cleared_at : SlabState → ℕ → Moving → Bool
 is_cleared_at slabs per_page move =
     nat_lt move.at (cut_count slabs.uncut move.page per_page) && not (is_listed slabs move.src (chunk_at_position move))
 
--- the chunk at the position is cleared, or holds up the move
+-- a move runs and isn't at its page's end, and the chunk at its position was found to hold it up, or is cleared
 abbrev pub can_pass : SlabState → Found → Option (Moving × ℕ) → Bool
 can_pass slabs found None = false
 can_pass slabs found (Some run) = nat_lt run.0.at run.1 && (is_held_up found || is_cleared_at slabs run.1 run.0)
 
--- the pass is at the page's end, and something held it up
+-- a move runs, is at its page's end, and something held it up
 abbrev pub can_wrap : Option (Moving × ℕ) → Bool
 can_wrap None = false
 can_wrap (Some run) = run.0.at == run.1 && nat_le 1 run.0.busy
@@ -92,7 +92,7 @@ abbrev pub grown : SlabState → ℕ → Option ℕ → SlabState
 grown slabs class None = slabs
 grown slabs class (Some page) = after_grow slabs class page
 
--- the page began to move, where the answer is OK
+-- the first page of the class that is the answer began to move; where the answer is a refusal nothing changes
 abbrev pub begun : SlabState → Option ℕ → ℕ → Result ℕ Reassign → SlabState
 begun slabs src dst (Err refusal) = slabs
 begun slabs src dst (Ok source) = after_begin slabs src source dst
@@ -113,7 +113,7 @@ slabs_after slabs change = slabs
 abbrev pub is_aside : StripeState → ℕ → Bool
 is_aside stripe key = option_map_or (λ other. other == key) (key_aside stripe) false
 
--- there is room for a call, and the key leads nowhere
+-- there is room for a call, the key leads nowhere, and its entry isn't aside
 abbrev pub can_tell_none : ReadyStripe → ℕ → Bool
 can_tell_none stripe key = stripe.ready && not (is_aside stripe.state key) && is_none (place_of stripe.state key)
 
@@ -129,7 +129,7 @@ stripe_after Reserve stripe = record stripe { ready = true }
 stripe_after Trim stripe = record stripe { state = after_trim stripe.state }
 stripe_after Forget stripe = record stripe { state = after_forget stripe.state }
 
--- the number that a hand writes into histories
+-- the number that a hand writes into histories, 0 where it is gone
 abbrev pub writer_of : State → ℕ → ℕ
 writer_of state hand = unwrap_or (number_at state hand) 0
 
@@ -159,10 +159,10 @@ abbrev pub after_changes : State → ℕ → List Change → State
 after_changes state hand [] = state
 after_changes state hand (change ∷ changes) = after_changes (after_change state hand change) hand changes
 
--- the stripe after it was told of a key that isn't there
+-- the stripe after it was told of a key that isn't there: that it was deleted, or else looked up
 abbrev pub told_none : Bool → StripeState → ℕ → ℕ → StripeState
 told_none deletes stripe writer key = if deletes then after_unlink stripe writer key else after_got stripe writer key
 
--- the change by which that is told
+-- the change by which a stripe is told of a key that isn't there: that it was deleted, or else looked up
 abbrev pub call_of : Bool → ℕ → Change
 call_of deletes key = if deletes then DeletedNone key else GotNone key

@@ -20,15 +20,19 @@ pub record State : Type 0 where
   pub heads : List Head
   -- the data words, page 0 first
   pub words : List ℕ
-  -- 0, or the number of the hand that has the lock, plus 1
+  -- the word of the slabs lock: 0, or the number of the hand that has it, plus 1
   pub slabs_lock : ℕ
+  -- the word of each stripe's lock, stripe 0 first: 0, or the number of the hand that has it, plus 1
   pub stripe_locks : List ℕ
-  -- the values behind the locks, wherever they are
+  -- pages and lists, the value behind the slabs lock, wherever it is
   pub slabs : SlabState
+  -- the value behind each stripe's lock, wherever it is
   pub stripes : List ReadyStripe
-  -- of each hand: who it is, what it holds, and what it saw under its last hold of the slabs lock
+  -- of each hand its number, and how many stamps it gave out
   pub ids : List Ids
+  -- what each hand holds
   pub holdings : List (List Holding)
+  -- what each hand saw or did under its last hold of the slabs lock
   pub looks : List (List Look)
 
 -- the most chunks of a page
@@ -47,11 +51,11 @@ is_class table class = nat_le 1 class && nat_le class (length table.sizes)
 abbrev pub room_in : Classes → ℕ → ℕ
 room_in table class = if is_class table class then size_of table class / 8 else 0
 
--- the arena has such a chunk
+-- the arena has such a chunk: its page is one of the arena's, and its index is below the most chunks of a page
 abbrev pub has_chunk : Classes → ChunkId → Bool
 has_chunk table chunk = nat_lt chunk.page (pages_of table) && nat_lt chunk.index (most_of table)
 
--- where the header of a chunk stands
+-- where the header of a chunk stands among all headers
 abbrev pub head_place : Classes → ChunkId → ℕ
 head_place table chunk = chunk.page * most_of table + chunk.index
 
@@ -67,7 +71,7 @@ with_head state chunk head = record state { heads = slice_set state.heads (head_
 abbrev pub room_at : State → ChunkId → ℕ
 room_at state chunk = room_in state.table (class_of_page state.slabs chunk.page)
 
--- where a word of a chunk stands
+-- where a word of a chunk stands among all data words
 abbrev pub word_place : State → ChunkId → ℕ → ℕ
 word_place state chunk place = chunk.page * page_words state.table + chunk.index * room_at state chunk + place
 
@@ -83,7 +87,7 @@ with_word state chunk place word = record state { words = slice_set state.words 
 abbrev pub item_at : State → ChunkId → List ℕ
 item_at state chunk = map (λ place. word_at state chunk place) (range_with_len 0 (min (3 + word_at state chunk 2) (room_at state chunk)))
 
--- a hand that another took over
+-- what stands for a hand that another took over: no number, and no stamps
 abbrev pub gone : Ids
 gone = record { number = None; stamps = 0 }
 
@@ -144,7 +148,7 @@ with_holding state hand holding = record state { holdings = slice_set state.hold
 abbrev pub with_changed : State → ℕ → (Holding → Bool) → (Holding → Holding) → State
 with_changed state hand test change = record state { holdings = slice_set state.holdings hand (change_each test change (holdings_at state hand)) }
 
--- less the hand's first holding that passes the test
+-- the hand lost its first holding that passes the test
 abbrev pub without_holding : State → ℕ → (Holding → Bool) → State
 without_holding state hand test = record state { holdings = slice_set state.holdings hand (lose test (holdings_at state hand)) }
 
@@ -156,7 +160,7 @@ looks_at state hand = slice_index_or state.looks hand []
 abbrev pub with_looks : State → ℕ → List Look → State
 with_looks state hand looks = record state { looks = slice_set state.looks hand looks }
 
--- what the hand saw or did under the slabs lock
+-- the hand saw or did this, too, under the slabs lock
 abbrev pub with_look : State → ℕ → Look → State
 with_look state hand look = with_looks state hand (looks_at state hand ++ look ∷ [])
 

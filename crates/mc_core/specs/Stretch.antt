@@ -34,7 +34,7 @@ abbrev pub fills_chunk : ChunkId → Step → Bool
 fills_chunk chunk (Fill filled place word) = is_chunk filled chunk
 fills_chunk chunk other = false
 
--- the hand writes a word of the chunk
+-- by this event the hand writes a word of the chunk
 abbrev pub fills : ℕ → ChunkId → Event → Bool
 fills hand chunk event = event.hand == hand && fills_chunk chunk event.step
 
@@ -51,7 +51,7 @@ pub record StaysKept (before now : Moment) (hand : ℕ) (chunk : ChunkId) (issue
   pub unfilled : list_all (λ event. not (fills hand chunk event)) events ≡ true → HasSameWords before.state now.state chunk
   pub referred : (held : Holds before hand chunk issue) → is_fresh held.holding ≡ false → HasSameWords before.state now.state chunk
 
--- *kept*: so it is over every stretch that begins lawfully
+-- *kept*: over every stretch that begins in a lawful moment, and in which a hand keeps a holding, its chunk stays kept
 abbrev pub StretchesKeep : Type 0
 StretchesKeep = (moment : Moment) (hand : ℕ) (chunk : ChunkId) (issue : ℕ) (events : List Event) → IsLawful moment → KeepsHolding moment hand chunk issue events
     → StaysKept moment (moment_at_end moment events) hand chunk issue events

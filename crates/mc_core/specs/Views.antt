@@ -15,7 +15,7 @@ pub record Row : Type 0 where
   pub looks : List Look
   pub knows : Knowledge
 
--- the row of a hand
+-- all that the moment has of this hand
 abbrev pub row_at : Moment → ℕ → Row
 row_at moment hand = record {
   ids = ids_at moment.state hand;
@@ -24,10 +24,10 @@ row_at moment hand = record {
   knows = knowledge_at moment.past hand;
 }
 
--- pages and lists, where the hand has their lock
+-- pages and lists, where the hand has their lock; none where it hasn't
 abbrev pub held_slabs : State → ℕ → Option SlabState
 held_slabs state hand = if has_slabs state hand then Some state.slabs else None
 
--- a stripe's value, where the hand has its lock
+-- a stripe's value, where the hand has its lock; none where it hasn't
 abbrev pub held_stripe : State → ℕ → ℕ → Option ReadyStripe
 held_stripe state hand stripe = if has_stripe state hand stripe then Some (stripe_at state stripe) else None

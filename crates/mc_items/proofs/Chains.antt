@@ -21,7 +21,7 @@ use Rattle.mc_words.specs.declared.hand.Hand.{Hand}
 use Rattle.mc_words.specs.View.{View}
 use Rattle.mc_words.specs.Arenas.{view}
 use Rattle.mc_words.specs.Happens.{LawfulView}
-use Rattle.mc_words.specs.Items.{held_item}
+use Rattle.mc_words.specs.Items.{held_item, item_with}
 use Rattle.mc_words.specs.Out.{is_neither}
 use Rattle.mc_words.specs.Ready.{IsReady}
 use Rattle.mc_words.specs.Refs.{IsRefOf, KeepsHeld, KeepsRefs}
@@ -30,7 +30,6 @@ use Rattle.mc_words.proofs.Unlocked.{unlocked_from}
 use Rattle.mc_items.specs.declared.refs.Ref.{Ref}
 use Rattle.mc_items.specs.ItemRefs.{IsItemRef, item_chunk, item_len, item_stamp, item_words}
 use Rattle.mc_items.specs.Keeping.{AreSaid, HeldRefsKeepItems, HoldsLess, HoldsTheSame, HoldsToo, IsAsSaid, KeepingGoesOn, KeptRefsKeepItems, ReleasingKeepsOthers, StaysItemRef, holding_by}
-use Rattle.mc_items.specs.Storing.{item_with}
 use Rattle.mc_items.proofs.Rows.{chunk_found, found_among, fresh_less, fresh_more, left_among, none_fresh, still_found}
 
 -- a hand with the locks of a ready one

@@ -16,10 +16,10 @@ use Rattle.mc_core.specs.Holdings.{Words, all_known, change_each, holding_of, is
 use Rattle.mc_words.specs.View.{View}
 use Rattle.mc_stripe.proofs.Entries.{nat_eq_other}
 use Rattle.mc_words.specs.Fresh.{IsFreshOf}
-use Rattle.mc_words.specs.Items.{issue_in, words_in}
+use Rattle.mc_words.specs.Items.{issue_in, item_with, words_in}
 use Rattle.mc_words.specs.Linking.{IsItemFilled, own_item}
 use Rattle.mc_words.specs.Views.{with_holdings, word_filled}
-use Rattle.mc_items.specs.Storing.{IsOwnItem, holding_with, item_filled, item_with, kind_with, written_over, fills_of}
+use Rattle.mc_items.specs.Storing.{IsOwnItem, holding_with, item_filled, kind_with, written_over, fills_of}
 
 -- one word more behind those that were written
 written_more : (item : List ℕ) (words : Words) (word : ℕ) → slice_set (written_over item words) (length item) (Some word) ≡ written_over (item ++ word ∷ []) words

@@ -13,10 +13,11 @@ use Rattle.mc_core.specs.Past.{Own, Saying}
 use Rattle.mc_words.specs.Doing.{IsDone}
 use Rattle.mc_words.specs.View.{View}
 use Rattle.mc_words.specs.Called.{with_own_call}
+use Rattle.mc_words.specs.Condemning.{Condemns}
 use Rattle.mc_items.specs.declared.evicting.Supply.{Supply}
 use Rattle.mc_items.specs.declared.evicting.Supply.TheVariants.{Page, Dead, Evicted}
 use Rattle.mc_items.specs.Evicting.{FreesChunk, FreesOne, LacksEntry, TellsEvict}
-use Rattle.mc_items.specs.Supplying.{FreesEvicted, ReachesItem, TakesItem}
+use Rattle.mc_items.specs.Supplying.{FreesEvicted, ReachesItem}
 use Rattle.mc_items.proofs.Passes.{OwnTuple, each_keeps, lacks_spares, own_of, passed_spares, reach_spares}
 
 -- the hand has the chunks, the words said and the numbers that it had, and of its own calls at most an eviction came
@@ -72,7 +73,7 @@ evicts_before number view next now first own = record {
     by (inr (stripe, key, tells)) = inr (stripe, key, mine ∙ tells)
 
 -- an item was taken away
-taken_done : (number stripe : ℕ) (chunk : ChunkId) (value : ReadyStripe) (view now : View) → IsDone number stripe value (TakesItem number stripe chunk) view now → Evicts number view now
+taken_done : (number stripe : ℕ) (chunk : ChunkId) (value : ReadyStripe) (view now : View) → IsDone number stripe value (Condemns number stripe chunk) view now → Evicts number view now
 taken_done number stripe chunk value view now done = record {
   holdings = ap (λ (v : View). v.row.holdings) done.given ∙ ap (λ (v : View). v.row.holdings) done.does.is;
   said = ap (λ (v : View). v.row.knows.said) done.given ∙ ap (λ (v : View). v.row.knows.said) done.does.is;
@@ -81,9 +82,9 @@ taken_done number stripe chunk value view now done = record {
   calls = inr (stripe, done.does.key, ap (λ (v : View). v.row.knows.mine) done.given ∙ ap (λ (v : View). v.row.knows.mine) done.does.is);
 }
 
-pub takes_keep : (number : ℕ) (chunk : ChunkId) (view now : View) → ReachesItem number chunk (λ number stripe. TakesItem number stripe chunk) view now → Evicts number view now
+pub takes_keep : (number : ℕ) (chunk : ChunkId) (view now : View) → ReachesItem number chunk (λ number stripe. Condemns number stripe chunk) view now → Evicts number view now
 takes_keep number chunk view now reaches =
-    evicts_after number view reaches.taken now (reach_spares number chunk (λ number stripe. TakesItem number stripe chunk) view now reaches).own
+    evicts_after number view reaches.taken now (reach_spares number chunk (λ number stripe. Condemns number stripe chunk) view now reaches).own
     (taken_done number (reaches.key % view.setup.config.stripes) chunk reaches.value reaches.taken now reaches.done)
 
 freed_keeps : (number class : ℕ) (chunk : ChunkId) (view : View) (slabs : SlabState) (now : View) (left : SlabState) → FreesEvicted number class chunk view slabs now left → own_of now ≡ own_of view

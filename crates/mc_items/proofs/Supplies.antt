@@ -50,7 +50,7 @@ worn_seen view now asked IsOther sees = sees.is ∙ (λ k. with_seen view (sym s
 
 -- there was a free chunk
 module _ (class : ℕ) (view : View) (slabs : SlabState) (now : View) (left : SlabState) where
-  pub at_once : (chunk : ChunkId) → PopsFirst view slabs class chunk now → left ≡ after_pop slabs class → SuppliesFree class view slabs chunk now left
+  pub at_once : (chunk : ChunkId) → PopsFirst view slabs class chunk now → left ≡ after_pop slabs class → SuppliesFree class chunk view slabs now left
   at_once chunk pops is = record { swept = view; between = slabs; sweeps = inl (ap is_some pops.first, refl, refl); pops = pops; left_is = is }
 
   pub worn_at_once : SeesOther view (first_free (class_at slabs class)) (λ head. most_issue ≤ head.issue) now → left ≡ slabs → FindsWorn class view slabs now left × (now ≡ with_seen view now)
@@ -71,7 +71,7 @@ module _ (class : ℕ) (view tried swept now : View) (slabs before between left 
   pub seen_recovered : swept ≡ with_seen view swept
   seen_recovered = seen ∙ ap (λ (v : View). with_seen v swept) none.2
 
-  pub by_recover : (chunk : ChunkId) → PopsFirst swept between class chunk now → left ≡ after_pop between class → SuppliesFree class view slabs chunk now left
+  pub by_recover : (chunk : ChunkId) → PopsFirst swept between class chunk now → left ≡ after_pop between class → SuppliesFree class chunk view slabs now left
   by_recover chunk pops is = record { swept = swept; between = between; sweeps = inr (none.0, recovers_here); pops = pops; left_is = is }
 
   pub worn_by_recover : SeesOther swept (first_free (class_at between class)) (λ head. most_issue ≤ head.issue) now → left ≡ between → FindsWorn class view slabs now left × (now ≡ with_seen view now)
@@ -112,7 +112,7 @@ module _ (class : ℕ) (view tried swept now : View) (slabs before between left 
   pub seen_here : swept ≡ with_seen view swept
   seen_here = seen ∙ ap (λ (v : View). with_seen v swept) (sees_headers_alone none.looked view tried none.sees)
 
-  pub by_sweep : (chunk : ChunkId) → PopsFirst swept between class chunk now → left ≡ after_pop between class → SuppliesFree class view slabs chunk now left
+  pub by_sweep : (chunk : ChunkId) → PopsFirst swept between class chunk now → left ≡ after_pop between class → SuppliesFree class chunk view slabs now left
   by_sweep chunk pops is = record { swept = swept; between = between; sweeps = inr (none.empty, sweeps_here.recovers); pops = pops; left_is = is }
 
   pub worn_by_sweep : SeesOther swept (first_free (class_at between class)) (λ head. most_issue ≤ head.issue) now → left ≡ between → FindsWorn class view slabs now left × (now ≡ with_seen view now)

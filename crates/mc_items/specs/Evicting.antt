@@ -5,13 +5,14 @@ use Rattle.mc_pages.specs.Changes.{after_back}
 use Rattle.mc_pages.specs.SlabState.{SlabState, class_at}
 use Rattle.mc_core.specs.Head.{is_dead}
 use Rattle.mc_stripe.specs.declared.history.Call.TheVariants as call
+use Rattle.mc_words.specs.Condemning.{Condemns}
 use Rattle.mc_words.specs.Doing.{SlabsDoing}
 use Rattle.mc_words.specs.Owner.{PutsBack, SeesOther}
 use Rattle.mc_words.specs.View.{View}
 use Rattle.mc_items.specs.declared.evicting.Supply.{Supply}
 use Rattle.mc_items.specs.declared.evicting.Supply.TheVariants.{Page, Dead, Evicted}
 use Rattle.mc_items.specs.Calls.{TellsCall, TellsNoCall}
-use Rattle.mc_items.specs.Supplying.{FreesEvicted, LacksCall, PassesItem, ReachesItem, TakesItem}
+use Rattle.mc_items.specs.Supplying.{FreesEvicted, LacksCall, PassesItem, ReachesItem}
 
 -- the oldest five that the class handed out
 abbrev pub first_five : SlabState → ℕ → List ChunkId
@@ -34,7 +35,7 @@ FreesChunk number class chunk Page view slabs now left = ⊥
 FreesChunk number class chunk Dead view slabs now left =
     (tried : View) × PassesItem number chunk view tried × PutsBack tried slabs chunk now × (left ≡ after_back slabs chunk)
 FreesChunk number class chunk Evicted view slabs now left =
-    (taken : View) × ReachesItem number chunk (λ number stripe. TakesItem number stripe chunk) view taken × FreesEvicted number class chunk taken slabs now left
+    (taken : View) × ReachesItem number chunk (λ number stripe. Condemns number stripe chunk) view taken × FreesEvicted number class chunk taken slabs now left
 
 -- the first of these chunks that could be had was freed so, and those before it were passed
 pub record FreesOne (number class : ℕ) (chunks : List ChunkId) (supply : Supply) (view : View) (slabs : SlabState) (now : View) (left : SlabState) : Type 0 where

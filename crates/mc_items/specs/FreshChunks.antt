@@ -7,13 +7,13 @@ use Rattle.mc_words.specs.declared.held.StripeHeld.{StripeHeld}
 use Rattle.mc_words.specs.declared.refs.Ref as words
 use Rattle.mc_words.specs.Arenas.{view}
 use Rattle.mc_words.specs.Fresh.{IsFreshOf}
-use Rattle.mc_words.specs.Items.{issue_in, words_in}
+use Rattle.mc_words.specs.Items.{issue_in, item_with, words_in}
 use Rattle.mc_words.specs.Linking.{IsItemFilled}
 use Rattle.mc_words.specs.Observers.{fresh_chunk, fresh_room, fresh_stamp, number_of, ref_chunk, ref_issue, ref_room, stripe_lent, stripe_number}
 use Rattle.mc_words.specs.View.{Setup, View}
 use Rattle.mc_words.specs.Views.{chunk_discarded, stripe_given}
 use Rattle.mc_items.specs.OnKeys.{stripe_of_key}
-use Rattle.mc_items.specs.Storing.{LeavesDead, StoresItem, item_filled, item_with}
+use Rattle.mc_items.specs.Storing.{LeavesDead, StoresItem, item_filled}
 
 -- it is the hand's, and has the room of chunks of the class
 abbrev pub IsFreshFor : Setup → ℕ → View → Fresh → Type 0

@@ -1,6 +1,8 @@
 -- References to items, and what is known of each.
-use Rattle.std.specs.Prelude.{◌≡◌, ℕ, ◌+◌, List, drop, length}
+use Rattle.std.specs.Prelude.{◌≡◌, ℕ, ◌+◌, Bool, List, All, count_by, drop, length}
 use Rattle.mc_pages.specs.declared.ids.ChunkId.{ChunkId}
+use Rattle.mc_pages.specs.ClassState.{is_chunk}
+use Rattle.mc_core.specs.Columns.{holds}
 use Rattle.mc_core.specs.Holdings.{key_of, stamp_of}
 use Rattle.mc_words.specs.View.{View}
 use Rattle.mc_words.specs.Items.{held_item}
@@ -9,7 +11,7 @@ use Rattle.mc_words.specs.declared.refs.Ref as words
 use Rattle.mc_items.specs.declared.refs.Ref.{Ref}
 use Rattle.mc_words.specs.Observers.{ref_chunk, ref_issue, ref_room}
 
--- the reference to its chunk, and that chunk
+-- the reference to the chunk that the item is in
 abbrev pub item_reference : Ref → words.Ref
 item_reference item = item.reference
 
@@ -17,11 +19,11 @@ item_reference item = item.reference
 abbrev pub item_chunk : Ref → ChunkId
 item_chunk item = ref_chunk (item_reference item)
 
--- the issue number with which the chunk was handed out
+-- the issue number with which the item's chunk was handed out
 abbrev pub item_issue : Ref → ℕ
 item_issue item = ref_issue (item_reference item)
 
--- its key, its stamp, and how many words it has
+-- the item's key
 abbrev pub item_key : Ref → ℕ
 item_key item = item.key
 
@@ -44,3 +46,12 @@ pub record IsItemRef (view : View) (item : Ref) : Type 0 where
   pub key : key_of (held_item view (item_chunk item)) ≡ item_key item
   pub stamp : stamp_of (held_item view (item_chunk item)) ≡ item_stamp item
   pub len : length (held_item view (item_chunk item)) ≡ 3 + item_len item
+
+-- the reference is to an item in the chunk
+abbrev pub refers_to : ChunkId → Ref → Bool
+refers_to chunk item = is_chunk (item_chunk item) chunk
+
+-- the hand refers to the item of each of these references, and has as many holdings of each chunk as there are references to it among them
+pub record AreKept (view : View) (kept : List Ref) : Type 0 where
+  pub items : All (IsItemRef view) kept
+  pub counts : (chunk : ChunkId) → holds chunk view.row.holdings ≡ count_by (refers_to chunk) kept

@@ -1,5 +1,5 @@
 -- What clauses say of a call on a key: of the hand, and of what was lent to it, before and after.
-use Rattle.std.specs.Prelude.{◌≡◌, ◌≢◌, ℕ, ◌%◌, Bool, slice_index_or, is_some, List, Option, Some, None, Contains}
+use Rattle.std.specs.Prelude.{◌≡◌, ◌≢◌, ℕ, ◌%◌, Bool, is_some, List, Option, Some, Contains}
 use Rattle.std.specs.Option.{option_map}
 use Rattle.mc_stripe.specs.declared.history.Call.{Call}
 use Rattle.mc_stripe.specs.declared.history.Call.TheVariants as call
@@ -93,14 +93,6 @@ GetsByHint hint item view now = AndReads (Some (hint_chunk hint)) (λ view now. 
 -- where the hand knew an item of the hint, its words are these
 abbrev pub IsAsKnown : View → Hint → List ℕ → Type 0
 IsAsKnown view hint words = (k : Known) → Contains view.row.knows.known k → k.chunk ≡ hint_chunk hint → k.issue ≡ hint_issue hint → words ≡ k.words
-
--- the hand has these pages and lists, and this stripe
-abbrev pub HasSlabs : Hand → SlabsHeld → Type 0
-HasSlabs hand held = (view hand).slabs ≡ Some (slabs_lent held)
-
--- the hand has the lock of this stripe, and this value behind it
-abbrev pub HasStripe : Hand → StripeHeld → Type 0
-HasStripe hand held = slice_index_or (view hand).stripes (stripe_number held) None ≡ Some (stripe_lent held)
 
 -- with the lock of the slabs the hand did this
 abbrev pub Acts : SlabsDoing → Hand → SlabsHeld → Hand → SlabsHeld → Type 0

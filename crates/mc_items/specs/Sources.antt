@@ -57,7 +57,7 @@ pub record SuppliesMade (number class : ℕ) (chunk : ChunkId) (view : View) (sl
 -- a chunk was got: a free or a dead one, or else one of a new page, or else an evicted item's
 abbrev pub SuppliesChunk : ℕ → ℕ → ChunkId → SlabsDoing
 SuppliesChunk number class chunk view slabs now left =
-    SuppliesFree class view slabs chunk now left ⊎ SuppliesMade number class chunk view slabs now left
+    SuppliesFree class chunk view slabs now left ⊎ SuppliesMade number class chunk view slabs now left
 
 -- no page was left, none of its oldest five chunks could be had, each that it handed out was found alive, and nothing was changed
 pub record MakesNone (number class : ℕ) (view : View) (slabs : SlabState) (now : View) (left : SlabState) : Type 0 where

@@ -1,5 +1,5 @@
 -- Items that are stored: what the hand writes into its fresh chunk, and how that comes to its key.
-use Rattle.std.specs.Prelude.{◌≡◌, ℕ, ◌+◌, List, [], ◌∷◌, ◌++◌, if◌then◌else◌, is_some, length, Some}
+use Rattle.std.specs.Prelude.{◌≡◌, ℕ, ◌+◌, List, [], ◌∷◌, ◌++◌, if◌then◌else◌, is_some, Some}
 use Rattle.mc_pages.specs.declared.ids.ChunkId.{ChunkId}
 use Rattle.mc_stripe.specs.StripeState.{ReadyStripe, place_of}
 use Rattle.mc_stripe.specs.Changes.{after_lift, after_link, used_up}
@@ -15,10 +15,6 @@ use Rattle.mc_words.specs.Items.{issue_in, words_in}
 use Rattle.mc_words.specs.Linking.{item_linked, own_item}
 use Rattle.mc_words.specs.Views.{chunk_discarded, chunk_released, with_holdings}
 use Rattle.mc_items.specs.Calls.{CallsOn, OnlyWaits}
-
--- an item: key, stamp, how many words, and these
-abbrev pub item_with : ℕ → ℕ → List ℕ → List ℕ
-item_with key stamp words = key ∷ stamp ∷ length words ∷ words
 
 -- the words of a chunk, with these in place of the first, as far as there is room
 abbrev pub written_over : List ℕ → Words → Words

@@ -13,7 +13,7 @@ use Rattle.mc_core.specs.Chunks.{most_issue}
 use Rattle.mc_core.specs.Evictions.{is_linked_unheld}
 use Rattle.mc_stripe.specs.StripeState.{ReadyStripe}
 use Rattle.mc_core.specs.Looks.{is_found_alive}
-use Rattle.mc_words.specs.Doing.{Doing, IsDone, SlabsDoing}
+use Rattle.mc_words.specs.Doing.{Doing, IsDone}
 use Rattle.mc_words.specs.View.{View}
 use Rattle.mc_words.specs.Happens.{Happens}
 use Rattle.mc_words.specs.Cutting.{CutsEach}
@@ -29,19 +29,15 @@ SweepsEmpty class view slabs now left =
     ((is_some (first_free (class_at slabs class)) ≡ true) × (now ≡ view) × (left ≡ slabs))
     ⊎ ((first_free (class_at slabs class) ≡ None) × Recovers (class_at slabs class).order view slabs now left)
 
--- so, and then the first free chunk was handed out
-pub record SuppliesFree (class : ℕ) (view : View) (slabs : SlabState) (chunk : ChunkId) (now : View) (left : SlabState) : Type 0 where
+-- this chunk, the first free one of its class, was handed out; where none was free, dead ones were put back before
+pub record SuppliesFree (class : ℕ) (chunk : ChunkId) (view : View) (slabs : SlabState) (now : View) (left : SlabState) : Type 0 where
   pub swept : View
   pub between : SlabState
   pub sweeps : SweepsEmpty class view slabs swept between
   pub pops : PopsFirst swept between class chunk now
   pub left_is : left ≡ after_pop between class
 
--- this chunk, the first free one of its class, was handed out; where none was free, dead ones were put back before
-abbrev pub HandsOutFree : ℕ → ChunkId → SlabsDoing
-HandsOutFree class chunk view slabs now left = SuppliesFree class view slabs chunk now left
-
--- so, and then the first free chunk was seen to be worn out
+-- the class's first free chunk was seen to be worn out; where none was free, dead ones were put back before
 pub record FindsWorn (class : ℕ) (view : View) (slabs : SlabState) (now : View) (left : SlabState) : Type 0 where
   pub swept : View
   pub sweeps : SweepsEmpty class view slabs swept left
@@ -74,10 +70,6 @@ pub record Grows (number class : ℕ) (view : View) (slabs : SlabState) (now : V
   pub happens : Happens view (change.Grow class ∷ []) step.MissSlabs grown
   pub cuts : CutsEach (first_chunks page (class_at slabs class).per_page) grown (after_grow slabs class page) now left
 
--- the chunk's item was taken away under the lock of its key's stripe
-abbrev pub TakesItem : ℕ → ℕ → ChunkId → Doing
-TakesItem number stripe chunk value view left now = Condemns view number stripe value chunk left now
-
 -- it was found unlinked, or held
 abbrev pub FindsItemHeld : ChunkId → Doing
 FindsItemHeld chunk value view left now = FindsHeld view chunk now × (left ≡ value)
@@ -99,7 +91,7 @@ pub record ReachesItem (number : ℕ) (chunk : ChunkId) (Does : ℕ → ℕ → 
 
 -- its item was taken away so
 abbrev pub TakesAtOnce : ℕ → ChunkId → View → View → Type 0
-TakesAtOnce number chunk view now = ReachesItem number chunk (λ number stripe. TakesItem number stripe chunk) view now
+TakesAtOnce number chunk view now = ReachesItem number chunk (λ number stripe. Condemns number stripe chunk) view now
 
 -- so, but another hand had the lock of its key's stripe
 pub record MissesItem (chunk : ChunkId) (view now : View) : Type 0 where

@@ -12,14 +12,14 @@ ghost use Rattle.mc_core.specs.Looks.{is_found_alive};
 ghost use Rattle.mc_core.specs.Seen.{seen_head};
 ghost use Rattle.mc_core.specs.State.{has_chunk, is_class};
 ghost use Rattle.mc_words.specs.Arenas.{IsHandOf, setup_of, view};
-ghost use Rattle.mc_words.specs.Condemning.{knows_reason, stripe_read};
+ghost use Rattle.mc_words.specs.Condemning.{Condemns, knows_reason, stripe_read};
 ghost use Rattle.mc_words.specs.Idle.{has_no_stripes};
 ghost use Rattle.mc_words.specs.Lent.{IsLentStripe};
-ghost use Rattle.mc_words.specs.Observers.{locks_of, number_of, slabs_lent, stripe_lent, stripe_number};
+ghost use Rattle.mc_words.specs.Observers.{HasSlabs, locks_of, number_of, slabs_lent, stripe_lent, stripe_number};
 ghost use Rattle.mc_words.specs.Out.{without_stripe};
 ghost use Rattle.mc_items.specs.Evicting.{FreesChunk, FreesOneOfFive, LacksEntryOfFive, PassesFive, PassesOne};
-ghost use Rattle.mc_items.specs.OnKeys.{Acts, AreUnchanged, DoesOn, GivesBack, HasSlabs};
-ghost use Rattle.mc_items.specs.Supplying.{FindsItemHeld, FreesEvicted, LacksCall, PassesItem, TakesAtOnce, TakesItem};
+ghost use Rattle.mc_items.specs.OnKeys.{Acts, AreUnchanged, DoesOn, GivesBack};
+ghost use Rattle.mc_items.specs.Supplying.{FindsItemHeld, FreesEvicted, LacksCall, PassesItem, TakesAtOnce};
 
 use mc_classes::ClassId;
 use mc_pages::ChunkId;
@@ -47,7 +47,7 @@ pub(crate) fn condemn_at(
     ensures locks { locks_of hand.new ≡ without_stripe (locks_of hand.old) }
     ensures slabs { HasSlabs hand.new slabs.new }
     ensures same_slabs { slabs.new ≡ slabs.old }
-    ensures taken { result ≡ Ok true → DoesOn (λ number stripe. TakesItem number stripe chunk) hand.old held hand.new }
+    ensures taken { result ≡ Ok true → DoesOn (λ number stripe. Condemns number stripe chunk) hand.old held hand.new }
     ensures dead { result ≡ Ok true → option_map is_dead (seen_head (view hand.new).row.looks chunk) ≡ Some true }
     ensures moved { result ≡ Ok false → DoesOn (λ number stripe. FindsItemHeld chunk) hand.old held hand.new }
     ensures no_memory { OnErr result (GivesBack hand.old held hand.new) }

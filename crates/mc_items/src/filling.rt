@@ -3,10 +3,10 @@ ghost use Rattle.std.specs.Prelude.{◌+◌, ◌≡◌, ◌≤◌, length};
 ghost use Rattle.mc_core.specs.Holdings.{all_known, item_in};
 ghost use Rattle.mc_words.specs.Arenas.{IsHandOf, view};
 ghost use Rattle.mc_words.specs.Fresh.{IsFreshOf};
-ghost use Rattle.mc_words.specs.Items.{words_in};
+ghost use Rattle.mc_words.specs.Items.{item_with, words_in};
 ghost use Rattle.mc_words.specs.Observers.{fresh_chunk, fresh_key, fresh_room, fresh_stamp, locks_of};
 ghost use Rattle.mc_items.specs.FreshChunks.{IsFilledWith, filled_with};
-ghost use Rattle.mc_items.specs.Storing.{IsOwnItem, item_with};
+ghost use Rattle.mc_items.specs.Storing.{IsOwnItem};
 
 use mc_words::{Arena, Fresh, Hand};
 

@@ -2,6 +2,7 @@
 ghost use Rattle.std.specs.Prelude.{◌≡◌, [], IfOk, OnErr};
 ghost use Rattle.mc_words.specs.Arenas.{IsHandOf, view};
 ghost use Rattle.mc_words.specs.Happens.{Happens};
+ghost use Rattle.mc_words.specs.Items.{item_with};
 ghost use Rattle.mc_words.specs.Observers.{locks_of, number_of};
 ghost use Rattle.mc_words.specs.Ready.{IsReady};
 ghost use Rattle.mc_words.specs.Refs.{KeepsHeld, KeepsRefs};
@@ -9,7 +10,6 @@ ghost use Rattle.mc_words.specs.Views.{chunk_released};
 ghost use Rattle.mc_items.specs.ItemRefs.{IsItemRef, item_chunk, item_key, item_len, item_stamp, item_words};
 ghost use Rattle.mc_items.specs.Keeping.{AreSaid, HoldsLess, HoldsTheSame, SaysNothing};
 ghost use Rattle.mc_items.specs.Reading.{words_seen};
-ghost use Rattle.mc_items.specs.Storing.{item_with};
 ghost use Rattle.mc_core.specs.declared.event.Step.TheVariants as step;
 
 use crate::refs::Ref;

@@ -4,6 +4,7 @@ ghost use Rattle.mc_core.specs.Holdings.{has_fresh};
 ghost use Rattle.mc_core.specs.State.{is_class};
 ghost use Rattle.mc_words.specs.Arenas.{IsHandOf, setup_of, view};
 ghost use Rattle.mc_words.specs.Idle.{is_unlocked};
+ghost use Rattle.mc_words.specs.Items.{item_with};
 ghost use Rattle.mc_words.specs.Observers.{fresh_chunk, locks_of, number_of};
 ghost use Rattle.mc_words.specs.Ready.{IsReady};
 ghost use Rattle.mc_words.specs.Refs.{KeepsRefs};
@@ -13,7 +14,7 @@ ghost use Rattle.mc_items.specs.Keeping.{HoldsTheSame, Says, SaysNothing};
 ghost use Rattle.mc_items.specs.OnKeys.{ActsOnce};
 ghost use Rattle.mc_items.specs.Setting.{RefusesSet, SetsItem, TellsSet};
 ghost use Rattle.mc_items.specs.Sources.{SuppliesChunk, SuppliesNone};
-ghost use Rattle.mc_items.specs.Storing.{IsOwnItem, item_with};
+ghost use Rattle.mc_items.specs.Storing.{IsOwnItem};
 
 use crate::storing::store_words;
 use crate::supplying::supply_chunk;

@@ -9,12 +9,12 @@ ghost use Rattle.mc_core.specs.Looks.{is_found_alive};
 ghost use Rattle.mc_core.specs.State.{is_class};
 ghost use Rattle.mc_words.specs.Arenas.{IsHandOf, setup_of, view};
 ghost use Rattle.mc_words.specs.Idle.{has_no_stripes};
-ghost use Rattle.mc_words.specs.Observers.{fresh_chunk, fresh_room, locks_of, number_of, slabs_lent};
+ghost use Rattle.mc_words.specs.Observers.{HasSlabs, fresh_chunk, fresh_room, locks_of, number_of, slabs_lent};
 ghost use Rattle.mc_items.specs.FreshChunks.{IsFreshFor};
-ghost use Rattle.mc_items.specs.OnKeys.{Acts, AreUnchanged, HasSlabs, SeesMore};
+ghost use Rattle.mc_items.specs.OnKeys.{Acts, AreUnchanged, SeesMore};
 ghost use Rattle.mc_items.specs.Sources.{AsksMove, LacksMore, MakesFree, MakesNone, SuppliesChunk, SuppliesNone};
 ghost use Rattle.mc_items.specs.Storing.{IsOwnItem};
-ghost use Rattle.mc_items.specs.Supplying.{FindsNoFree, FindsNoneDead, FindsWorn, GainsFresh, Grows, HandsOutFree};
+ghost use Rattle.mc_items.specs.Supplying.{FindsNoFree, FindsNoneDead, FindsWorn, GainsFresh, Grows, SuppliesFree};
 
 use crate::evicting::{Supply, evict_one};
 use crate::setting::SetError;
@@ -37,7 +37,7 @@ fn pop_or_recover(
     ensures arena { IsHandOf arena.now hand.new }
     ensures locks { locks_of hand.new ≡ locks_of hand.old }
     ensures held { HasSlabs hand.new held.new }
-    ensures supplied { IfOk result (λ popped. IfSome popped (λ fresh. Acts (HandsOutFree class (fresh_chunk fresh)) hand.old held.old hand.new held.new)) }
+    ensures supplied { IfOk result (λ popped. IfSome popped (λ fresh. Acts (SuppliesFree class (fresh_chunk fresh)) hand.old held.old hand.new held.new)) }
     ensures fresh { IfOk result (λ popped. IfSome popped (IsFreshFor (setup_of arena.now) class (view hand.new))) }
     ensures gains { IfOk result (λ popped. IfSome popped (λ fresh. GainsFresh (view hand.old) (fresh_chunk fresh) (fresh_room fresh) (view hand.new))) }
     ensures none { result ≡ Ok None → Acts (FindsNoneDead class) hand.old held.old hand.new held.new × SeesMore hand.old hand.new }
@@ -69,7 +69,7 @@ pub(crate) fn pop_or_sweep(
     ensures arena { IsHandOf arena.now hand.new }
     ensures locks { locks_of hand.new ≡ locks_of hand.old }
     ensures held { HasSlabs hand.new held.new }
-    ensures supplied { IfOk result (λ popped. IfSome popped (λ fresh. Acts (HandsOutFree class (fresh_chunk fresh)) hand.old held.old hand.new held.new)) }
+    ensures supplied { IfOk result (λ popped. IfSome popped (λ fresh. Acts (SuppliesFree class (fresh_chunk fresh)) hand.old held.old hand.new held.new)) }
     ensures fresh { IfOk result (λ popped. IfSome popped (IsFreshFor (setup_of arena.now) class (view hand.new))) }
     ensures gains { IfOk result (λ popped. IfSome popped (λ fresh. GainsFresh (view hand.old) (fresh_chunk fresh) (fresh_room fresh) (view hand.new))) }
     ensures none { result ≡ Ok None → Acts (FindsNoFree class) hand.old held.old hand.new held.new × SeesMore hand.old hand.new }

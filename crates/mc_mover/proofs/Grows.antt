@@ -14,7 +14,7 @@ use Rattle.mc_core.specs.State.{room_in}
 use Rattle.mc_words.specs.View.{View}
 use Rattle.mc_words.specs.Condemning.{FindsHeld}
 use Rattle.mc_words.specs.Cutting.{CutsEach}
-use Rattle.mc_words.specs.Items.{issue_in, words_in}
+use Rattle.mc_words.specs.Items.{issue_in, item_with, words_in}
 use Rattle.mc_words.specs.Referring.{reference_to}
 use Rattle.mc_words.specs.Rescuing.{PassesAll, PopsOff}
 use Rattle.mc_words.specs.Doing.{SlabsDoing}
@@ -22,7 +22,7 @@ use Rattle.mc_words.specs.Sweeping.{SweepsOne}
 use Rattle.mc_words.specs.Views.{head_seen}
 use Rattle.mc_mover.specs.declared.counts.Turn.{Turn}
 use Rattle.mc_mover.specs.declared.counts.Turn.TheVariants.{Idle, Went, Finished}
-use Rattle.mc_mover.specs.Copying.{Copies, item_of}
+use Rattle.mc_mover.specs.Copying.{Copies}
 use Rattle.mc_mover.specs.declared.sweep.Sweep.{Sweep}
 use Rattle.mc_mover.specs.declared.sweep.Sweep.TheVariants.{Due}
 use Rattle.mc_mover.specs.Saving.{BothDoing, Evicts, FailsToEvict, FailsToRescue, Rescues, SweepsToEvict, SweepsToRescue}
@@ -86,7 +86,7 @@ pops_kept : (view : View) (slabs : SlabState) (old chunk : ChunkId) (now : View)
 pops_kept view slabs old chunk now pops = ap kept_of pops.is ∙ (ap kept_of pops.finds.fit.is ∙ passes_kept old.page pops.finds.before view pops.finds.passed pops.finds.passes)
 
 copies_kept : (chunk copy : ChunkId) (key stamp : ℕ) (view now : View) → Copies chunk copy key stamp view now → kept_of now ≡ kept_of view
-copies_kept chunk copy key stamp view now copies = ap kept_of copies.is ∙ copied_keeps chunk copy kept_of (λ place word v. refl) 0 (item_of key stamp copies.words) view
+copies_kept chunk copy key stamp view now copies = ap kept_of copies.is ∙ copied_keeps chunk copy kept_of (λ place word v. refl) 0 (item_with key stamp copies.words) view
 
 -- an eviction leaves it, too
 evicts_grow : (number stripe : ℕ) (chunk : ChunkId) (slabs : SlabState) (value : ReadyStripe) (view : View) (kept : SlabState) (left : ReadyStripe) (now : View) → Evicts number stripe chunk slabs value view kept left now → Grows view now

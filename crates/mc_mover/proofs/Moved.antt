@@ -7,6 +7,7 @@ use Rattle.mc_pages.specs.declared.ids.ChunkId.{ChunkId}
 use Rattle.mc_pages.specs.ClassState.{is_chunk}
 use Rattle.mc_pages.specs.SlabState.{SlabState}
 use Rattle.mc_pages.proofs.Chunks.{is_chunk-same}
+use Rattle.mc_pages.specs.Pages.{is_on_the_move}
 use Rattle.mc_stripe.specs.Entries.{AreRising, entry_at}
 use Rattle.mc_stripe.specs.StripeState.{ReadyStripe, new_stripe, place_of}
 use Rattle.mc_stripe.specs.Changes.{after_rescue, stamp_aside}
@@ -14,7 +15,7 @@ use Rattle.mc_stripe.proofs.Entries.{at_with_entry, at_without_entry, nat_eq_sam
 use Rattle.mc_core.specs.declared.holding.Holding.{Holding}
 use Rattle.mc_core.specs.declared.holding.Kind.TheVariants.{Fresh, Reference}
 use Rattle.mc_core.specs.declared.holding.Purpose.TheVariants.{Copy, Rescue}
-use Rattle.mc_core.specs.Chunks.{filled, is_moving_page}
+use Rattle.mc_core.specs.Chunks.{filled}
 use Rattle.mc_core.specs.Evictions.{as_rescue, has_copy, lacks_room, none_dead}
 use Rattle.mc_core.specs.Holdings.{Words, all_known, change_each, holding_of, is_complete, is_copy_of, is_of, item_in, key_in, lose, numbers, stamp_in, stamp_of, words_of}
 use Rattle.mc_core.specs.Items.{are_same}
@@ -24,7 +25,7 @@ use Rattle.mc_words.specs.View.{View}
 use Rattle.mc_words.specs.Condemning.{key_read, key_seen, knows_reason, stripe_read}
 use Rattle.mc_words.specs.Fresh.{IsFreshIn}
 use Rattle.mc_words.specs.Happens.{LawfulView}
-use Rattle.mc_words.specs.Items.{issue_in, word_read, words_in}
+use Rattle.mc_words.specs.Items.{issue_in, item_with, word_read, words_in}
 use Rattle.mc_words.specs.Linking.{IsCopyFilled, copied_item, copy_linked}
 use Rattle.mc_words.specs.Originals.{CondemnsOriginal}
 use Rattle.mc_words.specs.Referring.{reference_to}
@@ -32,7 +33,7 @@ use Rattle.mc_words.specs.Views.{chunk_released, copy_holding, head_seen}
 use Rattle.mc_words.proofs.LockViews.{holdings_were}
 use Rattle.mc_words.proofs.OwnerViews.{holding_rows}
 use Rattle.mc_words.proofs.StripeChanges.{stripe_here, stripe_near}
-use Rattle.mc_mover.specs.Copying.{item_of, words_copied}
+use Rattle.mc_mover.specs.Copying.{words_copied}
 use Rattle.mc_mover.proofs.Copied.{copied_keeps, one_longer, read_copied, word_copied}
 use Rattle.mc_mover.proofs.Writes.{all_more, found_among, found_changed, holding_with, item_is, lose_changed, lose_last, none_of, none_yet, same_list, same_words, unchanged, whole_with, written_long, written_over}
 
@@ -58,9 +59,9 @@ holdings_copied chunk copy done (word ∷ words) place view now so at =
     holdings_copied chunk copy (done ++ word ∷ []) words (place + 1) view (word_copied chunk copy place word now) next (let long = one_longer done word in omega (arith, at, long))
     ∙ ap (λ (l : List ℕ). change_each (is_of copy) (holding_with l) view.row.holdings) (append_assoc done (word ∷ []) words)
 
-module _ (chunk copy : ChunkId) (key stamp : ℕ) (words : List ℕ) (view filled : View) (is : filled ≡ words_copied chunk copy 0 (item_of key stamp words) view) where
+module _ (chunk copy : ChunkId) (key stamp : ℕ) (words : List ℕ) (view filled : View) (is : filled ≡ words_copied chunk copy 0 (item_with key stamp words) view) where
   abbrev item : List ℕ
-  item = item_of key stamp words
+  item = item_with key stamp words
 
   -- each word that was copied was read
   read_each : (i : ℕ) → i < length item → word_read filled chunk i ≡ Some (slice_index item i)
@@ -125,11 +126,11 @@ module _ (chunk copy : ChunkId) (key stamp : ℕ) (words : List ℕ) (view fille
     pub copy_there : has_copy filled.row.holdings chunk ≡ true
     copy_there = found_among copy (is_copy_of chunk) filled.row.holdings copied found_filled (is_chunk-same chunk)
 
-    pub reason_there : (table : Classes) (slabs : SlabState) → is_moving_page slabs chunk.page ≡ true → knows_reason table slabs filled.row.looks filled.row.holdings chunk ≡ true
+    pub reason_there : (table : Classes) (slabs : SlabState) → is_on_the_move slabs chunk.page ≡ true → knows_reason table slabs filled.row.looks filled.row.holdings chunk ≡ true
     reason_there table slabs moves =
-        λ k. moves k && copy_there k || is_moving_page slabs chunk.page && none_dead slabs filled.row.looks chunk && sees_no_target slabs filled.row.looks chunk.page || lacks_room table slabs filled.row.looks chunk
+        λ k. moves k && copy_there k || is_on_the_move slabs chunk.page && none_dead slabs filled.row.looks chunk && sees_no_target slabs filled.row.looks chunk.page || lacks_room table slabs filled.row.looks chunk
 
-    module _ (fits : 3 + length words ≤ room) (stripe : ℕ) (value left : ReadyStripe) (now : View) (took : CondemnsOriginal filled stripe value chunk left now) where
+    module _ (fits : 3 + length words ≤ room) (stripe : ℕ) (value left : ReadyStripe) (now : View) (took : CondemnsOriginal stripe chunk value filled left now) where
       -- the key that was read again is the one that was copied
       same_key : took.key ≡ key
       same_key = some_same (sym took.is_key ∙ key_copied)

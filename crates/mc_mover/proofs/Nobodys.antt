@@ -2,6 +2,7 @@
 use Rattle.std.proofs.Common.{◌≡◌, ℕ, ◌==◌, ◌&&◌, ◌||◌, ◌⊎◌, Bool, true, false, not, [], refl, sym, ap, subst, ◌∙◌, inl, inr, arith, eqb-true}
 use Rattle.std.proofs.lemmas.Bool.{and_parts, cases_Bool}
 use Rattle.mc_pages.specs.Accounted.{truth}
+use Rattle.mc_pages.specs.Pages.{is_on_the_move}
 use Rattle.mc_pages.specs.declared.ids.ChunkId.{ChunkId}
 use Rattle.mc_pages.specs.declared.moves.Found.{Found}
 use Rattle.mc_pages.specs.declared.moves.Found.TheVariants.{Cleared, Rescued, Evicted, Busy, Locked, Already}
@@ -12,7 +13,6 @@ use Rattle.mc_core.specs.declared.head.Tag.TheVariants.{Free, Linked, Out, Unlin
 use Rattle.mc_core.specs.declared.head.Head.{Head}
 use Rattle.mc_core.specs.Columns.{holders}
 use Rattle.mc_core.specs.Counts.{AreCounted}
-use Rattle.mc_core.specs.Chunks.{is_moving_page}
 use Rattle.mc_core.specs.Evictions.{can_lose_entry, has_copy, has_reason, is_linked_unheld, key_at}
 use Rattle.mc_core.specs.Silent.{is_listed}
 use Rattle.mc_core.specs.Head.{is_dead, is_free, is_linked, is_out, is_unlinked}
@@ -42,7 +42,7 @@ clear_unheld chunk view now h = by h.was.moment.state h.was.lawful.counted (head
     parts : (has_chunk h.was.moment.state.table chunk ≡ true) × ((is_free (head_at h.was.moment.state chunk).tag || is_dead (head_at h.was.moment.state chunk)) ≡ true)
     parts =
         let state = h.was.moment.state in
-        clear_parts (has_slabs state h.was.hand) (has_chunk state.table chunk) (is_moving_page state.slabs chunk.page) (is_free (head_at state chunk).tag || is_dead (head_at state chunk))
+        clear_parts (has_slabs state h.was.hand) (has_chunk state.table chunk) (is_on_the_move state.slabs chunk.page) (is_free (head_at state chunk).tag || is_dead (head_at state chunk))
         (is_listed state.slabs (class_of_page state.slabs chunk.page) chunk) (may_step h).allowed
 
     by : (state : State) → AreCounted state.table state.heads state.holdings → (head : Head) → head_at state chunk ≡ head → has_chunk state.table chunk ≡ true → (is_free head.tag ≡ true) ⊎ (is_free head.tag ≡ false) → (is_free head.tag || is_dead head) ≡ true → holders chunk state.holdings ≡ 0

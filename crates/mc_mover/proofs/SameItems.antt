@@ -22,9 +22,9 @@ use Rattle.mc_core.proofs.Base.{each_row, holds_row}
 use Rattle.mc_core.proofs.LawKept.{lawful_events}
 use Rattle.mc_words.specs.View.{Setup, View}
 use Rattle.mc_words.specs.Happens.{event_of}
+use Rattle.mc_words.specs.Items.{item_with}
 use Rattle.mc_words.specs.Rescuing.{PopsOff}
 use Rattle.mc_words.specs.Views.{copy_holding}
-use Rattle.mc_mover.specs.Copying.{item_of}
 use Rattle.mc_mover.specs.SameItems.{KeepsItem, RescuesKeepItems}
 use Rattle.mc_mover.proofs.Grows.{known_copy, known_rescued}
 use Rattle.mc_mover.proofs.Kept.{passes_keep}
@@ -104,7 +104,7 @@ rescues_keep number stripe chunk slabs value view kept left now rescues =
     let issue : ℕ = rescues.pops.finds.fit.head.issue + 1 in
     let room : ℕ = room_in view.setup.table (class_of_page slabs chunk.page) in
     let found = copy_found view rescues.popped slabs chunk copy rescues.pops in
-    let there : item_at moves.condemns.happens.was.moment.state chunk ≡ item_of key stamp words =
+    let there : item_at moves.condemns.happens.was.moment.state chunk ≡ item_with key stamp words =
     item_there chunk copy key stamp words rescues.popped moves.filled moves.copies.is issue room found moves.fits stripe value moves.lifted moves.condemned moves.condemns in
     let led = led_before chunk copy key stamp words rescues.popped moves.filled moves.copies.is issue room found moves.fits stripe value moves.lifted moves.condemned moves.condemns in
     let leads = ap (λ (v : ReadyStripe). place_of v.state key) moves.left_is

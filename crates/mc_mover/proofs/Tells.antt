@@ -18,12 +18,12 @@ use Rattle.mc_words.specs.Condemning.{FindsHeld}
 use Rattle.mc_words.specs.Cutting.{CutsEach}
 use Rattle.mc_words.specs.Doing.{HoldsSlabs, SlabsDoing}
 use Rattle.mc_words.specs.Happens.{LawfulView}
+use Rattle.mc_words.specs.Items.{item_with}
 use Rattle.mc_words.specs.Rescuing.{PassesAll, PopsOff}
 use Rattle.mc_words.specs.Sweeping.{SweepsOne}
 use Rattle.mc_mover.specs.declared.counts.Counts.{Counts}
 use Rattle.mc_mover.specs.declared.counts.Turn.{Turn}
 use Rattle.mc_mover.specs.declared.counts.Turn.TheVariants.{Idle, Went, Finished}
-use Rattle.mc_mover.specs.Copying.{item_of}
 use Rattle.mc_mover.specs.declared.sweep.Sweep.{Sweep}
 use Rattle.mc_mover.specs.declared.sweep.Sweep.TheVariants.{Due}
 use Rattle.mc_mover.specs.Saving.{BothDoing, Evicts, FailsToEvict, FailsToMove, FailsToRescue, Rescues, SweepsToEvict, SweepsToRescue}
@@ -98,7 +98,7 @@ rescues_tell number stripe chunk slabs value view kept left now rescues =
     let read = key_copied chunk rescues.copy moves.key moves.stamp copies.words rescues.popped moves.filled copies.is in
     let same : took.key ≡ moves.key = one (sym took.is_key ∙ read) in
     let filled : told_of moves.filled ≡ told_of rescues.popped =
-    ap told_of copies.is ∙ copied_keeps chunk rescues.copy told_of (λ place word v. refl) 0 (item_of moves.key moves.stamp copies.words) rescues.popped in (
+    ap told_of copies.is ∙ copied_keeps chunk rescues.copy told_of (λ place word v. refl) 0 (item_with moves.key moves.stamp copies.words) rescues.popped in (
       moves.key,
       (chunk, took.stamp),
       ap (λ k. place_of value.state k) (sym same) ∙ took.led,
@@ -112,7 +112,7 @@ fails_told : (chunk copy : ChunkId) (view now : View) → FailsToMove chunk copy
 fails_told chunk copy view now fails =
     ap told_of fails.dropped
     ∙ (finds_told chunk fails.filled fails.found fails.finds
-    ∙ (ap told_of fails.copies.is ∙ copied_keeps chunk copy told_of (λ place word v. refl) 0 (item_of fails.key fails.stamp fails.copies.words) view))
+    ∙ (ap told_of fails.copies.is ∙ copied_keeps chunk copy told_of (λ place word v. refl) 0 (item_with fails.key fails.stamp fails.copies.words) view))
 
 -- under the stripe's lock, behind a sweep
 saves_tell : (number stripe : ℕ) (Swept : SlabsDoing) → LeavesTold Swept → (Does : ℕ → BothDoing) (call : ℕ → Call) → ((slabs : SlabState) (value : ReadyStripe) (view : View) (kept : SlabState) (left : ReadyStripe) (now : View) → Does stripe slabs value view kept left now → TellsKey number stripe call value view now)

@@ -13,7 +13,7 @@ use Rattle.mc_core.specs.declared.holding.Kind.TheVariants.{Reference, Fresh}
 use Rattle.mc_core.specs.Chunks.{filled, filled_kind}
 use Rattle.mc_core.specs.Holdings.{Words, all_known, change_each, holding_of, is_complete, is_of, item_in, key_in, lose, stamp_in}
 use Rattle.mc_core.specs.Items.{are_same}
-use Rattle.mc_mover.specs.Copying.{item_of}
+use Rattle.mc_words.specs.Items.{item_with}
 
 -- the words of a chunk, with these in place of the first, as far as there is room
 abbrev pub written_over : List ℕ → Words → Words
@@ -54,24 +54,24 @@ all_are_known [] = refl
 all_are_known (a ∷ item) = all_are_known item
 
 -- the item that was written is the chunk's
-pub item_is : (key stamp : ℕ) (item : List ℕ) (words : Words) → 3 + length item ≤ length words → item_in (written_over (item_of key stamp item) words) ≡ all_known (item_of key stamp item)
+pub item_is : (key stamp : ℕ) (item : List ℕ) (words : Words) → 3 + length item ≤ length words → item_in (written_over (item_with key stamp item) words) ≡ all_known (item_with key stamp item)
 item_is key stamp item [] fits = absurd (omega arith)
 item_is key stamp item (a ∷ []) fits = absurd (omega arith)
 item_is key stamp item (a ∷ b ∷ []) fits = absurd (omega arith)
 item_is key stamp item (a ∷ b ∷ c ∷ words) fits =
-    let count : 3 + length item ≡ length (item_of key stamp item) = omega arith in
-    ap (λ (n : ℕ). take n (written_over (item_of key stamp item) (a ∷ b ∷ c ∷ words))) count ∙ written_first (item_of key stamp item) (a ∷ b ∷ c ∷ words) (omega arith)
+    let count : 3 + length item ≡ length (item_with key stamp item) = omega arith in
+    ap (λ (n : ℕ). take n (written_over (item_with key stamp item) (a ∷ b ∷ c ∷ words))) count ∙ written_first (item_with key stamp item) (a ∷ b ∷ c ∷ words) (omega arith)
 
 -- and it is whole, with this key and stamp
 pub whole_with : (key stamp : ℕ) (item : List ℕ) (words : Words) → 3 + length item ≤ length words
-    → (is_complete (written_over (item_of key stamp item) words) ≡ true) × (key_in (written_over (item_of key stamp item) words) ≡ key) × (stamp_in (written_over (item_of key stamp item) words) ≡ stamp)
+    → (is_complete (written_over (item_with key stamp item) words) ≡ true) × (key_in (written_over (item_with key stamp item) words) ≡ key) × (stamp_in (written_over (item_with key stamp item) words) ≡ stamp)
 whole_with key stamp item [] fits = absurd (omega arith)
 whole_with key stamp item (a ∷ []) fits = absurd (omega arith)
 whole_with key stamp item (a ∷ b ∷ []) fits = absurd (omega arith)
 whole_with key stamp item (a ∷ b ∷ c ∷ words) fits =
-    let long : length (written_over (item_of key stamp item) (a ∷ b ∷ c ∷ words)) ≡ length (a ∷ b ∷ c ∷ words) = written_long (item_of key stamp item) (a ∷ b ∷ c ∷ words) in
-    let known = ap (list_all is_some) (item_is key stamp item (a ∷ b ∷ c ∷ words) fits) ∙ all_are_known (item_of key stamp item) in (
-      and_from _ _ (le-leb (3 + length item) (length (written_over (item_of key stamp item) (a ∷ b ∷ c ∷ words))) (omega arith)) known,
+    let long : length (written_over (item_with key stamp item) (a ∷ b ∷ c ∷ words)) ≡ length (a ∷ b ∷ c ∷ words) = written_long (item_with key stamp item) (a ∷ b ∷ c ∷ words) in
+    let known = ap (list_all is_some) (item_is key stamp item (a ∷ b ∷ c ∷ words) fits) ∙ all_are_known (item_with key stamp item) in (
+      and_from _ _ (le-leb (3 + length item) (length (written_over (item_with key stamp item) (a ∷ b ∷ c ∷ words))) (omega arith)) known,
       refl,
       refl,
     )

@@ -1,5 +1,5 @@
 -- What clauses say of a call: of the hand, and of what was lent to it, before and after.
-use Rattle.std.specs.Prelude.{◌≡◌, ◌≢◌, ℕ, ◌%◌, true, slice_index_or, Some, None}
+use Rattle.std.specs.Prelude.{◌≡◌, ◌≢◌, ℕ, ◌%◌, true, Some}
 use Rattle.std.specs.Option.{option_map}
 use Rattle.mc_pages.specs.declared.ids.ChunkId.{ChunkId}
 use Rattle.mc_pages.specs.declared.moves.Found.{Found}
@@ -21,14 +21,6 @@ use Rattle.mc_mover.specs.declared.counts.Turn.{Turn}
 use Rattle.mc_mover.specs.Linked.{StripeDoing}
 use Rattle.mc_mover.specs.Saving.{GivesEvicted, GivesRescued, MovesItem}
 use Rattle.mc_mover.specs.Telling.{TellsAsCounted, TellsOfFewer, counts_in}
-
--- the hand has these pages and lists, and this stripe
-abbrev pub HasSlabs : Hand → SlabsHeld → Type 0
-HasSlabs hand held = (view hand).slabs ≡ Some (slabs_lent held)
-
--- the hand has the lock of this stripe, and this value behind it
-abbrev pub HasStripe : Hand → StripeHeld → Type 0
-HasStripe hand held = slice_index_or (view hand).stripes (stripe_number held) None ≡ Some (stripe_lent held)
 
 -- a key of this stripe leads to the chunk
 abbrev pub IsLedTo : Hand → StripeHeld → ChunkId → Type 0
@@ -71,7 +63,7 @@ KnowsReason setup hand held chunk = knows_reason setup.table (slabs_lent held) (
 abbrev pub HasBlankCopy : Hand → ChunkId → Fresh → Type 0
 HasBlankCopy hand chunk fresh = (issue : ℕ) × (holding_of (fresh_chunk fresh) (view hand).row.holdings ≡ Some (copy_holding chunk (fresh_chunk fresh) issue (fresh_room fresh)))
 
--- the item was evicted, or moved to the fresh chunk, by what was found
+-- by what was found: the item was evicted, or was unlinked or held; and the stripe's lock was given back
 abbrev pub EvictsAs : ChunkId → Found → ℕ → StripeDoing
 EvictsAs chunk found number stripe value view slabs now left = GivesEvicted number stripe value chunk found view now
 

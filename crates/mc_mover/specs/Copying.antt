@@ -1,6 +1,7 @@
 -- Copies of items: each word of the one chunk is read once, and written into the other at its place.
-use Rattle.std.specs.Prelude.{◌≡◌, ℕ, ◌+◌, List, [], ◌∷◌, length}
+use Rattle.std.specs.Prelude.{◌≡◌, ℕ, ◌+◌, List, [], ◌∷◌}
 use Rattle.mc_pages.specs.declared.ids.ChunkId.{ChunkId}
+use Rattle.mc_words.specs.Items.{item_with}
 use Rattle.mc_words.specs.View.{View}
 use Rattle.mc_words.specs.Views.{held_word_seen, word_filled}
 
@@ -9,11 +10,7 @@ abbrev pub words_copied : ChunkId → ChunkId → ℕ → List ℕ → View → 
 words_copied chunk copy place [] view = view
 words_copied chunk copy place (word ∷ words) view = words_copied chunk copy (place + 1) words (word_filled copy place word (held_word_seen chunk place word view))
 
--- an item: key, stamp, how many words, and these
-abbrev pub item_of : ℕ → ℕ → List ℕ → List ℕ
-item_of key stamp words = key ∷ stamp ∷ length words ∷ words
-
 -- an item of this key and stamp was copied whole
 pub record Copies (chunk copy : ChunkId) (key stamp : ℕ) (view now : View) : Type 0 where
   pub words : List ℕ
-  pub is : now ≡ words_copied chunk copy 0 (item_of key stamp words) view
+  pub is : now ≡ words_copied chunk copy 0 (item_with key stamp words) view

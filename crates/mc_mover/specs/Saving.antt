@@ -57,7 +57,7 @@ pub record Sweeping (Swept : SlabsDoing) (Does : BothDoing) (slabs : SlabState) 
 pub record Evicts (number stripe : ℕ) (chunk : ChunkId) (slabs : SlabState) (value : ReadyStripe) (view : View) (kept : SlabState) (left : ReadyStripe) (now : View) : Type 0 where
   pub passed : View
   pub passes : FindsNoTarget chunk slabs view passed
-  pub condemns : Condemns passed number stripe value chunk left now
+  pub condemns : Condemns number stripe chunk value passed left now
   pub same : kept ≡ slabs
 
 -- so, but the item was found unlinked or held
@@ -77,7 +77,7 @@ pub record MovesItem (number stripe : ℕ) (chunk copy : ChunkId) (room : ℕ) (
   pub fits : 3 + length copies.words ≤ room
   pub condemned : View
   pub lifted : ReadyStripe
-  pub condemns : CondemnsOriginal filled stripe value chunk lifted condemned
+  pub condemns : CondemnsOriginal stripe chunk value filled lifted condemned
   pub is : now ≡ chunk_released copy (copy_linked number stripe lifted key copy (issue_in condemned copy) (words_in condemned copy) room condemned)
   pub left_is : left ≡ used_up (after_rescue lifted.state number key copy)
 
@@ -110,7 +110,7 @@ pub record FailsToRescue (chunk copy : ChunkId) (slabs : SlabState) (value : Rea
 -- the item was evicted, or found unlinked or held, by what was found; and the stripe's lock was given back
 abbrev pub GivesEvicted : ℕ → ℕ → ReadyStripe → ChunkId → Found → View → View → Type 0
 GivesEvicted number stripe value chunk Evicted view now =
-    (left : ReadyStripe) × (last : View) × Condemns view number stripe value chunk left last × (now ≡ stripe_given stripe left last)
+    (left : ReadyStripe) × (last : View) × Condemns number stripe chunk value view left last × (now ≡ stripe_given stripe left last)
 GivesEvicted number stripe value chunk Busy view now = (last : View) × FindsHeld view chunk last × (now ≡ stripe_given stripe value last)
 GivesEvicted number stripe value chunk found view now = ⊥
 

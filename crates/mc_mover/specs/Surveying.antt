@@ -25,6 +25,18 @@ pub record IsSurvey (slabs : SlabState) (survey : Survey) : Type 0 where
   pub running : survey.running ≡ is_some slabs.moving
   pub mode : survey.mode ≡ slabs.automove
 
+-- of each class, class 1 first, how many of its items were ever evicted to make room
+abbrev pub evictions_in : Survey → List ℕ
+evictions_in survey = map (λ numbers. numbers.evictions) survey.classes.items
+
+-- of each class, class 1 first, how many pages it has
+abbrev pub pages_in : Survey → List ℕ
+pages_in survey = map (λ numbers. numbers.pages) survey.classes.items
+
+-- of each class, class 1 first, how many free chunks it has
+abbrev pub free_in : Survey → List ℕ
+free_in survey = map (λ numbers. numbers.free) survey.classes.items
+
 -- the dead were put back, if that was asked for, and the survey says what was left then
 pub record Surveys (sweep : Bool) (survey : Survey) (view : View) (slabs : SlabState) (now : View) (left : SlabState) : Type 0 where
   pub sweeps : SweepsClasses (classes_swept sweep slabs) view slabs now left

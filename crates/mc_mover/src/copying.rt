@@ -7,9 +7,8 @@ ghost use Rattle.mc_words.specs.Arenas.{IsHandOf, setup_of, view};
 ghost use Rattle.mc_words.specs.Condemning.{key_read};
 ghost use Rattle.mc_words.specs.Fresh.{IsFreshOf};
 ghost use Rattle.mc_words.specs.Items.{word_read};
-ghost use Rattle.mc_words.specs.Observers.{fresh_chunk, fresh_key, fresh_room, fresh_stamp, locks_of, slabs_lent};
+ghost use Rattle.mc_words.specs.Observers.{HasSlabs, fresh_chunk, fresh_key, fresh_room, fresh_stamp, locks_of, slabs_lent};
 ghost use Rattle.mc_words.specs.Views.{held_word_seen, word_filled};
-ghost use Rattle.mc_mover.specs.Acting.{HasSlabs};
 ghost use Rattle.mc_mover.specs.Copying.{Copies};
 
 use mc_pages::ChunkId;

@@ -3,9 +3,9 @@ ghost use Rattle.std.specs.Prelude.{◌≡◌, ◌≢◌, ◌<◌, ◌≤◌, �
 ghost use Rattle.std.specs.Option.{option_map};
 ghost use Rattle.mc_pages.specs.Accounted.{is_cleared, is_cut};
 ghost use Rattle.mc_pages.specs.Moves.{is_held_up};
+ghost use Rattle.mc_pages.specs.Pages.{is_on_the_move};
 ghost use Rattle.mc_pages.specs.SlabState.{class_at, class_of_page};
 ghost use Rattle.mc_stripe.specs.StripeState.{place_of};
-ghost use Rattle.mc_core.specs.Chunks.{is_moving_page};
 ghost use Rattle.mc_core.specs.Holdings.{has_fresh};
 ghost use Rattle.mc_core.specs.Judged.{sees_no_target};
 ghost use Rattle.mc_core.specs.Looks.{was_linked};
@@ -14,10 +14,10 @@ ghost use Rattle.mc_words.specs.Arenas.{IsHandOf, setup_of, view};
 ghost use Rattle.mc_words.specs.Condemning.{stripe_read};
 ghost use Rattle.mc_words.specs.Idle.{has_no_stripes};
 ghost use Rattle.mc_words.specs.Lent.{IsLentStripe};
-ghost use Rattle.mc_words.specs.Observers.{locks_of, slabs_lent, stripe_lent, stripe_number};
+ghost use Rattle.mc_words.specs.Observers.{HasSlabs, HasStripe, locks_of, slabs_lent, stripe_lent, stripe_number};
 ghost use Rattle.mc_words.specs.Out.{without_stripe};
 ghost use Rattle.mc_mover.specs.declared.sweep.Sweep.TheVariants.{Done};
-ghost use Rattle.mc_mover.specs.Acting.{Acts, ActsOnStripe, HasSlabs, HasStripe, IsLedTo, SeesDead};
+ghost use Rattle.mc_mover.specs.Acting.{Acts, ActsOnStripe, IsLedTo, SeesDead};
 ghost use Rattle.mc_mover.specs.Linked.{LacksCall, OnlyGives, SavesAs, VisitsLinked};
 ghost use Rattle.mc_mover.specs.Saving.{FindsNoTarget, RescuesToTarget, SweepsAndSaves};
 
@@ -45,7 +45,7 @@ pub(crate) fn visit_linked(
     requires class { is_class (setup_of arena.now).table class ≡ true }
     requires held { HasSlabs hand.old held.old }
     requires own { class_of_page (slabs_lent held.old) chunk.page ≡ class }
-    requires moving { is_moving_page (slabs_lent held.old) chunk.page ≡ true }
+    requires moving { is_on_the_move (slabs_lent held.old) chunk.page ≡ true }
     requires cut { is_cut (slabs_lent held.old) class chunk ≡ true }
     requires linked { was_linked (view hand.old).row.looks chunk ≡ true }
     requires one { has_no_stripes (view hand.old) ≡ true }
@@ -111,7 +111,7 @@ fn save(
     requires key { stripe_read (view hand.old) chunk ≡ Some (stripe_number stripe) }
     requires leads { (key : ℕ) × (stamp : ℕ) × (place_of (stripe_lent stripe).state key ≡ Some (chunk, stamp)) }
     requires own { class_of_page (slabs_lent slabs.old) chunk.page ≡ class }
-    requires moving { is_moving_page (slabs_lent slabs.old) chunk.page ≡ true }
+    requires moving { is_on_the_move (slabs_lent slabs.old) chunk.page ≡ true }
     requires linked { was_linked (view hand.old).row.looks chunk ≡ true }
     requires fresh { has_fresh (view hand.old).row.holdings ≡ false }
     requires few { length (view hand.old).row.holdings ≤ 255 }
@@ -168,7 +168,7 @@ fn sweep_and_save(
     requires inside { stripe_number stripe < (setup_of arena.now).config.stripes }
     requires key { stripe_read (view hand.old) chunk ≡ Some (stripe_number stripe) }
     requires own { class_of_page (slabs_lent slabs.old) chunk.page ≡ class }
-    requires moving { is_moving_page (slabs_lent slabs.old) chunk.page ≡ true }
+    requires moving { is_on_the_move (slabs_lent slabs.old) chunk.page ≡ true }
     requires linked { was_linked (view hand.old).row.looks chunk ≡ true }
     requires fresh { has_fresh (view hand.old).row.holdings ≡ false }
     requires few { length (view hand.old).row.holdings ≤ 255 }
@@ -205,7 +205,7 @@ fn rescue_to_target(
     requires leads { IsLedTo hand.old stripe chunk }
     requires inside { stripe_number stripe < (setup_of arena.now).config.stripes }
     requires key { stripe_read (view hand.old) chunk ≡ Some (stripe_number stripe) }
-    requires moving { is_moving_page (slabs_lent slabs.old) chunk.page ≡ true }
+    requires moving { is_on_the_move (slabs_lent slabs.old) chunk.page ≡ true }
     requires linked { was_linked (view hand.old).row.looks chunk ≡ true }
     requires fresh { has_fresh (view hand.old).row.holdings ≡ false }
     requires few { length (view hand.old).row.holdings ≤ 255 }

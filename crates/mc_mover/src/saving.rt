@@ -1,8 +1,8 @@
 //! Items of the moving page that are taken to another chunk of their class, or evicted where there is none.
 ghost use Rattle.std.specs.Prelude.{◌≡◌, ◌<◌, true, false, None, Some, OnOk, OnErr};
 ghost use Rattle.mc_pages.specs.Moves.{is_held_up};
+ghost use Rattle.mc_pages.specs.Pages.{is_on_the_move};
 ghost use Rattle.mc_pages.specs.SlabState.{class_of_page};
-ghost use Rattle.mc_core.specs.Chunks.{is_moving_page};
 ghost use Rattle.mc_core.specs.Evictions.{has_copy};
 ghost use Rattle.mc_core.specs.Holdings.{holding_of, is_of, lose};
 ghost use Rattle.mc_core.specs.Looks.{was_linked};
@@ -10,9 +10,9 @@ ghost use Rattle.mc_core.specs.State.{has_chunk, room_in};
 ghost use Rattle.mc_words.specs.Arenas.{IsHandOf, setup_of, view};
 ghost use Rattle.mc_words.specs.Condemning.{stripe_read};
 ghost use Rattle.mc_words.specs.Fresh.{IsFreshOf};
-ghost use Rattle.mc_words.specs.Observers.{fresh_chunk, fresh_room, locks_of, slabs_lent, stripe_lent, stripe_number};
+ghost use Rattle.mc_words.specs.Observers.{HasSlabs, HasStripe, fresh_chunk, fresh_room, locks_of, slabs_lent, stripe_lent, stripe_number};
 ghost use Rattle.mc_words.specs.Out.{without_stripe};
-ghost use Rattle.mc_mover.specs.Acting.{ActsOnStripe, EvictsAs, HasBlankCopy, HasSlabs, HasStripe, KnowsReason, MovesInto, RescuesAs, SeesDead};
+ghost use Rattle.mc_mover.specs.Acting.{ActsOnStripe, EvictsAs, HasBlankCopy, KnowsReason, MovesInto, RescuesAs, SeesDead};
 ghost use Rattle.mc_mover.specs.Saving.{FailsToMove};
 
 use crate::copying::copy_item;
@@ -75,7 +75,7 @@ pub(crate) fn rescue(
     requires ready { (stripe_lent stripe).ready ≡ true }
     requires empty { (stripe_lent stripe).state.aside ≡ None }
     requires key { stripe_read (view hand.old) chunk ≡ Some (stripe_number stripe) }
-    requires moving { is_moving_page (slabs_lent slabs.old) chunk.page ≡ true }
+    requires moving { is_on_the_move (slabs_lent slabs.old) chunk.page ≡ true }
     requires linked { was_linked (view hand.old).row.looks chunk ≡ true }
     requires fresh { IsFreshOf (view hand.old) (fresh_chunk fresh) (fresh_room fresh) }
     requires copy { HasBlankCopy hand.old chunk fresh }
@@ -121,7 +121,7 @@ pub(crate) fn move_item(
     requires ready { (stripe_lent stripe.old).ready ≡ true }
     requires empty { (stripe_lent stripe.old).state.aside ≡ None }
     requires key { stripe_read (view hand.old) chunk ≡ Some (stripe_number stripe.old) }
-    requires moving { is_moving_page (slabs_lent slabs.old) chunk.page ≡ true }
+    requires moving { is_on_the_move (slabs_lent slabs.old) chunk.page ≡ true }
     requires linked { was_linked (view hand.old).row.looks chunk ≡ true }
     requires fresh { IsFreshOf (view hand.old) (fresh_chunk fresh) (fresh_room fresh) }
     requires copy { HasBlankCopy hand.old chunk fresh }

@@ -2,14 +2,14 @@
 ghost use Rattle.std.specs.Prelude.{◌≡◌, ◌≤◌, true, false, length, IfOk, OnErr};
 ghost use Rattle.mc_pages.specs.Accounted.{is_cleared, is_cut};
 ghost use Rattle.mc_pages.specs.Moves.{is_held_up};
+ghost use Rattle.mc_pages.specs.Pages.{is_on_the_move};
 ghost use Rattle.mc_pages.specs.SlabState.{class_at, class_of_page};
-ghost use Rattle.mc_core.specs.Chunks.{is_moving_page};
 ghost use Rattle.mc_core.specs.Holdings.{has_fresh};
 ghost use Rattle.mc_core.specs.State.{has_chunk, is_class};
 ghost use Rattle.mc_words.specs.Arenas.{IsHandOf, setup_of, view};
 ghost use Rattle.mc_words.specs.Idle.{has_no_stripes};
-ghost use Rattle.mc_words.specs.Observers.{locks_of, slabs_lent};
-ghost use Rattle.mc_mover.specs.Acting.{Acts, HasSlabs};
+ghost use Rattle.mc_words.specs.Observers.{HasSlabs, locks_of, slabs_lent};
+ghost use Rattle.mc_mover.specs.Acting.{Acts};
 ghost use Rattle.mc_mover.specs.Visiting.{LacksCall, Visits};
 
 use crate::linked::visit_linked;
@@ -35,7 +35,7 @@ pub(crate) fn visit(
     requires class { is_class (setup_of arena.now).table class ≡ true }
     requires held { HasSlabs hand.old held.old }
     requires own { class_of_page (slabs_lent held.old) chunk.page ≡ class }
-    requires moving { is_moving_page (slabs_lent held.old) chunk.page ≡ true }
+    requires moving { is_on_the_move (slabs_lent held.old) chunk.page ≡ true }
     requires cut { is_cut (slabs_lent held.old) class chunk ≡ true }
     requires one { has_no_stripes (view hand.old) ≡ true }
     requires fresh { has_fresh (view hand.old).row.holdings ≡ false }

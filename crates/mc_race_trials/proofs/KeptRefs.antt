@@ -15,11 +15,10 @@ use Rattle.mc_core.proofs.Holders.{holds-cons, holds-lose, holds-push}
 use Rattle.mc_words.specs.View.{View}
 use Rattle.mc_words.specs.Refs.{KeepsHeld, KeepsRefs}
 use Rattle.mc_items.specs.declared.refs.Ref.{Ref}
-use Rattle.mc_items.specs.ItemRefs.{IsItemRef, item_chunk}
+use Rattle.mc_items.specs.ItemRefs.{AreKept, IsItemRef, item_chunk, refers_to}
 use Rattle.mc_items.specs.Keeping.{HoldsAsOften, HoldsLess, HoldsTheSame, HoldsToo, holding_by}
 use Rattle.mc_items.proofs.Rows.{chunk_found}
 use Rattle.mc_items.proofs.Chains.{held_refs_keep_items, kept_refs_keep_items}
-use Rattle.mc_race_trials.specs.Keepers.{AreKept, refers_to}
 
 -- each is a reference still
 refs_stay : (view now : View) (kept : List Ref) → KeepsRefs view now → All (IsItemRef view) kept → All (IsItemRef now) kept

@@ -1,27 +1,14 @@
 -- Hands that keep references, and hints of items that they knew.
-use Rattle.std.specs.Prelude.{◌≡◌, ℕ, List, true, Bool, count_by, All, Option, IfSome}
-use Rattle.mc_pages.specs.declared.ids.ChunkId.{ChunkId}
-use Rattle.mc_pages.specs.ClassState.{is_chunk}
-use Rattle.mc_core.specs.Columns.{holds}
+use Rattle.std.specs.Prelude.{◌≡◌, ℕ, List, true, All, Option, IfSome}
 use Rattle.mc_core.specs.State.{has_chunk}
 use Rattle.mc_words.specs.declared.arena.Arena.{Arena}
 use Rattle.mc_words.specs.declared.hand.Hand.{Hand}
 use Rattle.mc_words.specs.declared.refs.Hint.{Hint}
 use Rattle.mc_words.specs.Arenas.{setup_of, view}
 use Rattle.mc_words.specs.Observers.{hint_chunk}
-use Rattle.mc_words.specs.View.{View}
 use Rattle.mc_items.specs.declared.refs.Ref.{Ref}
-use Rattle.mc_items.specs.ItemRefs.{IsItemRef, item_chunk}
+use Rattle.mc_items.specs.ItemRefs.{AreKept}
 use Rattle.mc_calls.specs.Hands.{IsReadyHandOf}
-
--- the reference is to the chunk
-abbrev pub refers_to : ChunkId → Ref → Bool
-refers_to chunk item = is_chunk (item_chunk item) chunk
-
--- the hand refers to the item of each, and holds each chunk as often as references to it are kept
-pub record AreKept (view : View) (kept : List Ref) : Type 0 where
-  pub items : All (IsItemRef view) kept
-  pub counts : (chunk : ChunkId) → holds chunk view.row.holdings ≡ count_by (refers_to chunk) kept
 
 -- the hand may make any call, and keeps these references
 abbrev pub IsKeeperOf : Arena → Hand → List Ref → Type 0

@@ -17,7 +17,7 @@ use Rattle.mc_words.specs.Hands.{AreHandsFrom, AreNewHands}
 use Rattle.mc_words.specs.Out.{is_neither, with_slabs, with_stripe, without_slabs, without_stripe}
 use Rattle.mc_words.specs.Ready.{IsReady}
 use Rattle.mc_words.proofs.Unlocked.{unlocked_from}
-use Rattle.mc_refusal_trials.specs.Hands.{AreHandsOf}
+use Rattle.mc_calls.specs.Hands.{AreHandsOf}
 
 hands_from : (arena : Arena) (number : ℕ) (hands : List Hand) → AreHandsFrom arena number hands → AreHandsOf arena hands
 hands_from arena number [] are = record {}

@@ -7,9 +7,9 @@ use Rattle.mc_pages.specs.declared.moves.Found.TheVariants as found
 use Rattle.mc_core.specs.declared.event.Change.{Change}
 use Rattle.mc_core.specs.declared.event.Change.TheVariants as change
 use Rattle.mc_core.specs.declared.event.StripeChange.TheVariants.{Reserve}
+use Rattle.mc_core.specs.Rows.{chunk_at}
 use Rattle.mc_script.specs.Words.{◌>>=◌, number_of, words_of}
 use Rattle.mc_script.specs.Forms.{source_of}
-use Rattle.mc_replay.specs.Steps.{chunk}
 
 -- the changes without arguments
 unfoldable pub bare_change : List ℕ → Option Change
@@ -58,7 +58,7 @@ change_of (name ∷ one ∷ two ∷ []) =
     else if bytes_eq name (codes "Touch") then (do
       page ← number_of one
       index ← number_of two
-      Some (change.Touch (chunk page index)))
+      Some (change.Touch (chunk_at page index)))
     else None
 change_of words = None
 

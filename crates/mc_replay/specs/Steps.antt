@@ -1,9 +1,9 @@
 -- The steps of events, by their names and arguments.
 use Rattle.std.specs.Prelude.{ℕ, codes, if◌then◌else◌, List, [], ◌∷◌, Option, Some, None}
 use Rattle.std.specs.Str.{bytes_eq}
-use Rattle.mc_pages.specs.declared.ids.ChunkId.{ChunkId}
 use Rattle.mc_core.specs.declared.event.Step.{Step}
 use Rattle.mc_core.specs.declared.event.Step.TheVariants as step
+use Rattle.mc_core.specs.Rows.{chunk_at}
 use Rattle.mc_script.specs.Words.{◌>>=◌, number_of}
 
 -- the steps without arguments
@@ -25,21 +25,17 @@ number_step name number =
     else if bytes_eq name (codes "Unlink") then Some (step.Unlink number)
     else None
 
--- the chunk of this page at this index
-abbrev pub chunk : ℕ → ℕ → ChunkId
-chunk page index = record { page = page; index = index }
-
 -- those on a chunk, and a join of two hands
 unfoldable pub chunk_step : List ℕ → ℕ → ℕ → Option Step
 chunk_step name page index =
-    if bytes_eq name (codes "Head") then Some (step.Head (chunk page index))
-    else if bytes_eq name (codes "PopOff") then Some (step.PopOff (chunk page index))
-    else if bytes_eq name (codes "Link") then Some (step.Link (chunk page index))
-    else if bytes_eq name (codes "Release") then Some (step.Release (chunk page index))
-    else if bytes_eq name (codes "Discard") then Some (step.Discard (chunk page index))
-    else if bytes_eq name (codes "Condemn") then Some (step.Condemn (chunk page index))
-    else if bytes_eq name (codes "PutBack") then Some (step.PutBack (chunk page index))
-    else if bytes_eq name (codes "Clear") then Some (step.Clear (chunk page index))
+    if bytes_eq name (codes "Head") then Some (step.Head (chunk_at page index))
+    else if bytes_eq name (codes "PopOff") then Some (step.PopOff (chunk_at page index))
+    else if bytes_eq name (codes "Link") then Some (step.Link (chunk_at page index))
+    else if bytes_eq name (codes "Release") then Some (step.Release (chunk_at page index))
+    else if bytes_eq name (codes "Discard") then Some (step.Discard (chunk_at page index))
+    else if bytes_eq name (codes "Condemn") then Some (step.Condemn (chunk_at page index))
+    else if bytes_eq name (codes "PutBack") then Some (step.PutBack (chunk_at page index))
+    else if bytes_eq name (codes "Clear") then Some (step.Clear (chunk_at page index))
     else if bytes_eq name (codes "Cut") then Some (step.Cut page index)
     else if bytes_eq name (codes "Join") then Some (step.Join page index)
     else None
@@ -47,9 +43,9 @@ chunk_step name page index =
 -- those on a chunk with a place in it or an issue number
 unfoldable pub place_step : List ℕ → ℕ → ℕ → ℕ → Option Step
 place_step name page index place =
-    if bytes_eq name (codes "Word") then Some (step.Word (chunk page index) place)
-    else if bytes_eq name (codes "WordHeld") then Some (step.WordHeld (chunk page index) place)
-    else if bytes_eq name (codes "Again") then Some (step.Again (chunk page index) place)
+    if bytes_eq name (codes "Word") then Some (step.Word (chunk_at page index) place)
+    else if bytes_eq name (codes "WordHeld") then Some (step.WordHeld (chunk_at page index) place)
+    else if bytes_eq name (codes "Again") then Some (step.Again (chunk_at page index) place)
     else None
 
 -- the step of this name with these arguments
@@ -73,6 +69,6 @@ step_of name (one ∷ two ∷ three ∷ four ∷ []) =
       index ← number_of two
       place ← number_of three
       word ← number_of four
-      Some (step.Fill (chunk page index) place word))
+      Some (step.Fill (chunk_at page index) place word))
     else None
 step_of name arguments = None

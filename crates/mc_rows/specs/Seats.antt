@@ -4,8 +4,8 @@ use Rattle.mc_words.specs.declared.arena.Arena.{Arena}
 use Rattle.mc_words.specs.declared.hand.Hand.{Hand}
 use Rattle.mc_words.specs.Arenas.{IsHandOf, view}
 use Rattle.mc_words.specs.Ready.{IsReady}
+use Rattle.mc_items.specs.ItemRefs.{AreKept}
 use Rattle.mc_items.specs.declared.refs.Ref.{Ref}
-use Rattle.mc_workers.specs.Kept.{AreKept}
 
 -- the hand is one of the arena's, and may make any call
 abbrev pub IsReadyHand : Arena → Hand → Type 0

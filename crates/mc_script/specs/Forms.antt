@@ -111,7 +111,6 @@ unfoldable pub stats_slabs_of : List (List ℕ) → Option Command
 stats_slabs_of (verb ∷ what ∷ []) = if bytes_eq verb (codes "stats") && bytes_eq what (codes "slabs") then Some StatsSlabs else None
 stats_slabs_of words = None
 
--- one form or else another
 infixr 20 ◌or◌
 -- the command of the one form, or else that of the other, none where there is neither
 abbrev pub ◌or◌ : Option Command → Option Command → Option Command

@@ -5,9 +5,8 @@ use Rattle.std.specs.Option.{option_and_then}
 use Rattle.std.specs.Str.{all_ascii_digits}
 use Rattle.std.specs.Str.Parse.{digits_value}
 
--- a `do` goes on with the value, where there is one, and gives nothing where there is none
 infixl 10 ◌>>=◌
--- what the second makes of the value that the first has, none where the first has none
+-- what the second makes of the value that the first has, none where the first has none: so goes a `do` on
 abbrev pub ◌>>=◌ : {A B : Type 0} → Option A → (A → Option B) → Option B
 found >>= next = option_and_then next found
 

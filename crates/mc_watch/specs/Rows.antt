@@ -54,10 +54,10 @@ FewerEvictions =
 abbrev pub ShortList : Type 0
 ShortList = refusal_of (after_all_evictions fresh_four five_windows) (four 0 7 0 10) (four 3 1 1 2) [] ≡ Some Length
 
--- 3 pages of class 1 have 63 chunks; with 53 of them free one is given up, with 52 none
+-- 3 pages of class 1 have 63 chunks; with 53 of them free the class gives up one
 abbrev pub SparePage : Type 0
 SparePage = decision_of (after_window fresh_four (four 0 0 0 0) (four 3 0 0 0) (four 53 0 0 0)) ≡ moves 1 0
 
--- with 52 of the 63 chunks free class 1 gives up no page
+-- 3 pages of class 1 have 63 chunks; with 52 of them free the class gives up none
 abbrev pub NoSparePage : Type 0
 NoSparePage = decision_of (after_window fresh_four (four 0 0 0 0) (four 3 0 0 0) (four 52 0 0 0)) ≡ None

@@ -4,12 +4,13 @@ use Rattle.std.specs.Option.{option_map}
 use Rattle.std.proofs.lemmas.Bool.{and_parts, cases_Bool}
 use Rattle.mc_pages.specs.declared.ids.ChunkId.{ChunkId}
 use Rattle.mc_pages.specs.Accounted.{places_in}
+use Rattle.mc_pages.specs.Pages.{is_on_the_move}
 use Rattle.mc_pages.specs.SlabState.{SlabState, class_of_page}
 use Rattle.mc_core.specs.declared.head.Head.{Head}
 use Rattle.mc_core.specs.declared.head.Tag.{Tag}
 use Rattle.mc_core.specs.declared.head.Tag.TheVariants.{Free}
 use Rattle.mc_core.specs.declared.event.Step.TheVariants as core
-use Rattle.mc_core.specs.Chunks.{can_clear, is_moving_page, with_tag_out}
+use Rattle.mc_core.specs.Chunks.{can_clear, with_tag_out}
 use Rattle.mc_core.specs.Codes.{FitsBits, minus}
 use Rattle.mc_core.specs.Head.{code, decode, tag_of, is_dead, is_free, is_unlinked}
 use Rattle.mc_core.specs.Seen.{seen_head}
@@ -76,12 +77,12 @@ unused_sum word fits small unused = elim (cases_Bool (is_free (decode word).tag)
       (all_are_sums (decode word) small).clear_dead dead ∙ ap (λ (n : ℕ). minus (n * 65536) (code (decode word))) (sym tag)
 ]
 
-module _ (view : View) (slabs : SlabState) (chunk : ChunkId) (seen : ℕ) (mine : view.slabs ≡ Some slabs) (near : has_chunk view.setup.table chunk ≡ true) (moves : is_moving_page slabs chunk.page ≡ true) (last : seen_head view.row.looks chunk ≡ Some (decode seen)) (unused : is_unused (decode seen) ≡ true) where
+module _ (view : View) (slabs : SlabState) (chunk : ChunkId) (seen : ℕ) (mine : view.slabs ≡ Some slabs) (near : has_chunk view.setup.table chunk ≡ true) (moves : is_on_the_move slabs chunk.page ≡ true) (last : seen_head view.row.looks chunk ≡ Some (decode seen)) (unused : is_unused (decode seen) ≡ true) where
   -- what was seen is so, and may be cleared
   judged_clear : (was : LawfulView view) → (head_at was.moment.state chunk ≡ decode seen) × (can_clear was.moment.state was.hand chunk ≡ true)
   judged_clear was =
       let held = slabs_here view was slabs mine in
-      (judged view was slabs mine).clear chunk (decode seen) (near_here view chunk near was) (ap (λ (x : SlabState). is_moving_page x chunk.page) held.1 ∙ moves) (ap (λ looks. seen_head looks chunk) (looks_here view was) ∙ last) unused
+      (judged view was slabs mine).clear chunk (decode seen) (near_here view chunk near was) (ap (λ (x : SlabState). is_on_the_move x chunk.page) held.1 ∙ moves) (ap (λ looks. seen_head looks chunk) (looks_here view was) ∙ last) unused
 
   pub may_clear : MayWrite view (core.Clear chunk) (head_word view.setup chunk) (minus (seen / 65536 % 4 * 65536))
   may_clear was fits =
@@ -110,7 +111,7 @@ module _ (view : View) (slabs : SlabState) (chunk : ChunkId) (seen : ℕ) (mine 
 
 -- a look, and the clear that follows it
 module _ (view seen now : View) (slabs : SlabState) (chunk : ChunkId) (word : ℕ) (mine : view.slabs ≡ Some slabs) (is : seen ≡ head_seen chunk (decode word) view) (looks : Happens view [] (core.Head chunk) seen) where
-  pub clear_after : has_chunk seen.setup.table chunk ≡ true → is_moving_page slabs chunk.page ≡ true → is_unused (decode word) ≡ true → Happens seen [] (core.Clear chunk) now → Clears view slabs chunk now
+  pub clear_after : has_chunk seen.setup.table chunk ≡ true → is_on_the_move slabs chunk.page ≡ true → is_unused (decode word) ≡ true → Happens seen [] (core.Clear chunk) now → Clears view slabs chunk now
   clear_after near moves unused h = record {
     head = decode word;
     unused = unused;
@@ -129,14 +130,14 @@ same_head : (a b : Head) → Some a ≡ Some b → a ≡ b
 same_head a b e = cc
 
 -- what was seen free or dead is found so again
-pub found_unused : (view now : View) (slabs : SlabState) (chunk : ChunkId) (head : Head) → view.slabs ≡ Some slabs → has_chunk view.setup.table chunk ≡ true → is_moving_page slabs chunk.page ≡ true → option_map is_unused (seen_head view.row.looks chunk) ≡ Some true
+pub found_unused : (view now : View) (slabs : SlabState) (chunk : ChunkId) (head : Head) → view.slabs ≡ Some slabs → has_chunk view.setup.table chunk ≡ true → is_on_the_move slabs chunk.page ≡ true → option_map is_unused (seen_head view.row.looks chunk) ≡ Some true
     → Happens view [] (core.Head chunk) now → now ≡ head_seen chunk head view → is_unused head ≡ true
 found_unused view now slabs chunk head mine near moves unused h is =
     let (seen, last, so) = seen_unused (seen_head view.row.looks chunk) unused in
     let word = slice_index h.was.words (head_word view.setup chunk) in
     let held = slabs_here view h.was slabs mine in
     let still : head_at h.was.moment.state chunk ≡ seen =
-    ((judged view h.was slabs mine).clear chunk seen (near_here view chunk near h.was) (ap (λ (x : SlabState). is_moving_page x chunk.page) held.1 ∙ moves) (ap (λ looks. seen_head looks chunk) (looks_here view h.was) ∙ last) so).0 in
+    ((judged view h.was slabs mine).clear chunk seen (near_here view chunk near h.was) (ap (λ (x : SlabState). is_on_the_move x chunk.page) held.1 ∙ moves) (ap (λ looks. seen_head looks chunk) (looks_here view h.was) ∙ last) so).0 in
     let found : now ≡ head_seen chunk (decode word) view = views.seen_head view now chunk word near (h, refl) in
     let same : head ≡ decode word =
     same_head head (decode word) (sym (seen_last view chunk head slabs mine) ∙ (ap (λ (v : View). seen_head v.row.looks chunk) (sym is ∙ found) ∙ seen_last view chunk (decode word) slabs mine)) in

@@ -217,7 +217,7 @@ module _ (view read seen : View) (slabs : SlabState) (stripe : ℕ) (value : Rea
     module _ (reads : Happens view [] (core.WordHeld chunk 0) read) (looks : Happens read [] (core.Head chunk) seen) where
       -- the item was taken away
       pub condemns : (number : ℕ) (now : View) (left : ReadyStripe) → seen.row.ids.number ≡ Some number → has_copy view.row.holdings chunk ≡ false → left ≡ used_up (after_evict value.state number key)
-          → HappensAt (head_word seen.setup chunk) word seen [] (core.Condemn chunk) now → Condemns view number stripe value chunk left now
+          → HappensAt (head_word seen.setup chunk) word seen [] (core.Condemn chunk) now → Condemns number stripe chunk value view left now
       condemns number now left numbered none left_is at =
           let h = at.0 in
           let is : head_at h.was.moment.state chunk ≡ decode word = head_is seen chunk has_still.near h.was ∙ ap decode at.1 in record {
@@ -236,7 +236,7 @@ module _ (view read seen : View) (slabs : SlabState) (stripe : ℕ) (value : Rea
 
       -- or the original was, of which the hand has a copy
       pub condemns_original : (now : View) (left : ReadyStripe) → has_copy view.row.holdings chunk ≡ true → left ≡ record value { state = after_lift value.state key } → HappensAt (head_word seen.setup chunk) word seen [] (core.Condemn chunk) now
-          → CondemnsOriginal view stripe value chunk left now
+          → CondemnsOriginal stripe chunk value view left now
       condemns_original now left copies left_is at =
           let h = at.0 in
           let is : head_at h.was.moment.state chunk ≡ decode word = head_is seen chunk has_still.near h.was ∙ ap decode at.1 in
@@ -349,22 +349,22 @@ condemned_dead number stripe value key chunk head view =
     (fold-append (last_head chunk) None view.row.looks (Condemned chunk (condemned head) ∷ []) ∙ ap (λ (b : Bool). if b then Some (condemned head) else seen_head view.row.looks chunk) (is_chunk-same chunk))
 
 -- what is left of the stripe, and of pages and lists
-pub left_by_condemn : (view : View) (number stripe : ℕ) (value left : ReadyStripe) (chunk : ChunkId) (now : View) → slice_index_or view.stripes stripe None ≡ Some value → Condemns view number stripe value chunk left now → slice_index_or now.stripes stripe None ≡ Some left
+pub left_by_condemn : (view : View) (number stripe : ℕ) (value left : ReadyStripe) (chunk : ChunkId) (now : View) → slice_index_or view.stripes stripe None ≡ Some value → Condemns number stripe chunk value view left now → slice_index_or now.stripes stripe None ≡ Some left
 left_by_condemn view number stripe value left chunk now held done =
     ap (λ (v : View). slice_index_or v.stripes stripe None) done.is
     ∙ (get_or-set_same view.stripes stripe (Some (used_up (after_evict value.state number done.key))) None (inside view.stripes stripe value held) ∙ ap Some (sym done.left_is))
 
-pub dead_by_condemn : (view : View) (number stripe : ℕ) (value left : ReadyStripe) (chunk : ChunkId) (now : View) → Condemns view number stripe value chunk left now → option_map is_dead (seen_head now.row.looks chunk) ≡ Some true
+pub dead_by_condemn : (view : View) (number stripe : ℕ) (value left : ReadyStripe) (chunk : ChunkId) (now : View) → Condemns number stripe chunk value view left now → option_map is_dead (seen_head now.row.looks chunk) ≡ Some true
 dead_by_condemn view number stripe value left chunk now done =
     ap (λ (v : View). option_map is_dead (seen_head v.row.looks chunk)) done.is ∙ condemned_dead number stripe value done.key chunk done.head (head_seen chunk done.head (key_seen chunk done.key view))
 
 -- and what is left where the original was
-pub left_by_original : (view : View) (stripe : ℕ) (value left : ReadyStripe) (chunk : ChunkId) (now : View) → slice_index_or view.stripes stripe None ≡ Some value → CondemnsOriginal view stripe value chunk left now → slice_index_or now.stripes stripe None ≡ Some left
+pub left_by_original : (view : View) (stripe : ℕ) (value left : ReadyStripe) (chunk : ChunkId) (now : View) → slice_index_or view.stripes stripe None ≡ Some value → CondemnsOriginal stripe chunk value view left now → slice_index_or now.stripes stripe None ≡ Some left
 left_by_original view stripe value left chunk now held done =
     ap (λ (v : View). slice_index_or v.stripes stripe None) done.is
     ∙ (get_or-set_same view.stripes stripe (Some (record value { state = after_lift value.state done.key })) None (inside view.stripes stripe value held) ∙ ap Some (sym done.left_is))
 
-pub dead_by_original : (view : View) (stripe : ℕ) (value left : ReadyStripe) (chunk : ChunkId) (now : View) → CondemnsOriginal view stripe value chunk left now → option_map is_dead (seen_head now.row.looks chunk) ≡ Some true
+pub dead_by_original : (view : View) (stripe : ℕ) (value left : ReadyStripe) (chunk : ChunkId) (now : View) → CondemnsOriginal stripe chunk value view left now → option_map is_dead (seen_head now.row.looks chunk) ≡ Some true
 dead_by_original view stripe value left chunk now done =
     let before = (head_seen chunk done.head (key_seen chunk done.key view)).row.looks in
     ap (λ (v : View). option_map is_dead (seen_head v.row.looks chunk)) done.is

@@ -12,12 +12,13 @@ use Rattle.mc_pages.specs.Accounted.{IsMove}
 use Rattle.mc_pages.specs.SlabState.{SlabState, class_of_owner, class_of_page}
 use Rattle.mc_pages.proofs.Chunks.{is_chunk-same}
 use Rattle.mc_pages.proofs.RoomyFinish.{moving_within}
+use Rattle.mc_pages.specs.Pages.{is_on_the_move}
 use Rattle.mc_core.specs.declared.head.Head.{Head}
 use Rattle.mc_core.specs.declared.head.Tag.TheVariants.{Free}
 use Rattle.mc_core.specs.declared.holding.Holding.{Holding}
 use Rattle.mc_core.specs.declared.event.Step.TheVariants as core
 use Rattle.mc_core.specs.Chunks as chunks
-use Rattle.mc_core.specs.Chunks.{handed_out, has_place, is_moving_page, most_holdings, most_issue, popped_off, target_of}
+use Rattle.mc_core.specs.Chunks.{handed_out, has_place, most_holdings, most_issue, popped_off, target_of}
 use Rattle.mc_core.specs.Codes.{FitsBits, plus}
 use Rattle.mc_core.specs.Columns.{holders}
 use Rattle.mc_core.specs.Head.{decode, is_free}
@@ -57,13 +58,13 @@ moving_of table slabs page (Some move) of runs is =
       subst (λ (p : ℕ). p < length slabs.owners) at (moving_within slabs move moves),
     )
 
-pub moving_class : (view : View) → LawfulView view → (slabs : SlabState) (page : ℕ) → view.slabs ≡ Some slabs → is_moving_page slabs page ≡ true → (is_class view.setup.table (class_of_page slabs page) ≡ true) × (page < length slabs.owners)
+pub moving_class : (view : View) → LawfulView view → (slabs : SlabState) (page : ℕ) → view.slabs ≡ Some slabs → is_on_the_move slabs page ≡ true → (is_class view.setup.table (class_of_page slabs page) ≡ true) × (page < length slabs.owners)
 moving_class view was slabs page mine moves = moving_of view.setup.table slabs page slabs.moving (of_table_here view was slabs mine) refl moves
 
-module _ (view : View) (slabs : SlabState) (old chunk : ChunkId) (mine : view.slabs ≡ Some slabs) (moves : is_moving_page slabs old.page ≡ true) (sees : SeesTarget slabs view.row.looks old.page chunk) where
+module _ (view : View) (slabs : SlabState) (old chunk : ChunkId) (mine : view.slabs ≡ Some slabs) (moves : is_on_the_move slabs old.page ≡ true) (sees : SeesTarget slabs view.row.looks old.page chunk) where
   module _ (was : LawfulView view) where
-    moves_here : is_moving_page was.moment.state.slabs old.page ≡ true
-    moves_here = ap (λ (x : SlabState). is_moving_page x old.page) (slabs_here view was slabs mine).1 ∙ moves
+    moves_here : is_on_the_move was.moment.state.slabs old.page ≡ true
+    moves_here = ap (λ (x : SlabState). is_on_the_move x old.page) (slabs_here view was slabs mine).1 ∙ moves
 
     abbrev target_here : SeesTarget was.moment.state.slabs (looks_at was.moment.state was.hand) old.page chunk
     target_here =

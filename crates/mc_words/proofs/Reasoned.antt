@@ -12,11 +12,12 @@ use Rattle.mc_pages.specs.declared.ledger.Owner.{Owner}
 use Rattle.mc_pages.specs.Changes.{next_page, pooled_page}
 use Rattle.mc_pages.specs.SlabState.{SlabState, class_at, class_of_page, class_of_chunk, granted_count, is_untouched, untouched_page}
 use Rattle.mc_pages.proofs.Chunks.{same_from_is_chunk}
+use Rattle.mc_pages.specs.Pages.{is_on_the_move}
 use Rattle.mc_core.specs.declared.head.Head.{Head}
 use Rattle.mc_core.specs.declared.holding.Holding.{Holding}
 use Rattle.mc_core.specs.declared.look.Look.{Look}
 use Rattle.mc_core.specs.declared.look.Look.TheVariants.{Changed, Cleared, Condemned, Cut, Popped, PoppedOff, PutBack, Read, Saw, SawStripe}
-use Rattle.mc_core.specs.Chunks.{is_moving_page, most_issue}
+use Rattle.mc_core.specs.Chunks.{most_issue}
 use Rattle.mc_core.specs.Evictions.{has_copy, has_no_page, has_reason, lacks_room, must_leave, none_dead}
 use Rattle.mc_core.specs.Head.{is_dead}
 use Rattle.mc_core.specs.Judged.{IsJudged, is_seen_unfit, sees_no_target}
@@ -94,7 +95,7 @@ pub room_needed : (table : Classes) (slabs : SlabState) (looks : List Look) (hol
 room_needed table slabs looks holdings class chunk own free alive page whole =
     let free' : is_none (first_free (class_of_chunk slabs chunk)) ≡ true = ap (λ (n : ℕ). is_none (first_free (class_at slabs n))) own ∙ ap is_none free in
     let alive' : none_dead slabs looks chunk ≡ true = ap (λ (n : ℕ). list_all (is_found_alive looks) (class_at slabs n).order) own ∙ alive in
-    or_right (is_moving_page slabs chunk.page && has_copy holdings chunk || is_moving_page slabs chunk.page && none_dead slabs looks chunk && sees_no_target slabs looks chunk.page) (lacks_room table slabs looks chunk)
+    or_right (is_on_the_move slabs chunk.page && has_copy holdings chunk || is_on_the_move slabs chunk.page && none_dead slabs looks chunk && sees_no_target slabs looks chunk.page) (lacks_room table slabs looks chunk)
     (and_from _ _ (and_from _ _ (and_from _ _ free' alive') page) whole)
 
 -- where no page comes next, none is to be had
@@ -146,11 +147,11 @@ module _ (table : Classes) (slabs : SlabState) (looks more : List Look) (holding
 
   pub reason_after : knows_reason table slabs looks holdings chunk ≡ true → knows_reason table slabs more holdings chunk ≡ true
   reason_after knows =
-      or_three (is_moving_page slabs chunk.page && has_copy holdings chunk) (is_moving_page slabs chunk.page && none_dead slabs looks chunk && sees_no_target slabs looks chunk.page) (lacks_room table slabs looks chunk)
-      (is_moving_page slabs chunk.page && none_dead slabs more chunk && sees_no_target slabs more chunk.page) (lacks_room table slabs more chunk)
+      or_three (is_on_the_move slabs chunk.page && has_copy holdings chunk) (is_on_the_move slabs chunk.page && none_dead slabs looks chunk && sees_no_target slabs looks chunk.page) (lacks_room table slabs looks chunk)
+      (is_on_the_move slabs chunk.page && none_dead slabs more chunk && sees_no_target slabs more chunk.page) (lacks_room table slabs more chunk)
       (λ leaves.
-      let parts = and_parts (is_moving_page slabs chunk.page && none_dead slabs looks chunk) (sees_no_target slabs looks chunk.page) leaves in
-      let first = and_parts (is_moving_page slabs chunk.page) (none_dead slabs looks chunk) parts.0 in
+      let parts = and_parts (is_on_the_move slabs chunk.page && none_dead slabs looks chunk) (sees_no_target slabs looks chunk.page) leaves in
+      let first = and_parts (is_on_the_move slabs chunk.page) (none_dead slabs looks chunk) parts.0 in
       and_from _ _ (and_from _ _ first.0 (dead_after first.1)) (all_weaker (is_seen_unfit looks chunk.page) (is_seen_unfit more chunk.page) (class_at slabs (class_of_page slabs chunk.page)).free unfit parts.1))
       (λ lacks.
       let whole = and_parts _ (none_half_cut slabs) lacks in
@@ -165,11 +166,11 @@ pub reason_here : (m : Moment) (hand : ℕ) → IsJudged m hand → (chunk : Chu
 reason_here m hand judged chunk knows =
     let slabs = m.state.slabs in
     let looks = looks_at m.state hand in
-    or_three (is_moving_page slabs chunk.page && has_copy (holdings_at m.state hand) chunk) (is_moving_page slabs chunk.page && none_dead slabs looks chunk && sees_no_target slabs looks chunk.page) (lacks_room m.state.table slabs looks chunk)
+    or_three (is_on_the_move slabs chunk.page && has_copy (holdings_at m.state hand) chunk) (is_on_the_move slabs chunk.page && none_dead slabs looks chunk && sees_no_target slabs looks chunk.page) (lacks_room m.state.table slabs looks chunk)
     (must_leave m.state.table m.state.heads slabs looks chunk) (lacks_room m.state.table slabs looks chunk)
     (λ leaves.
-    let parts = and_parts (is_moving_page slabs chunk.page && none_dead slabs looks chunk) (sees_no_target slabs looks chunk.page) leaves in
-    let first = and_parts (is_moving_page slabs chunk.page) (none_dead slabs looks chunk) parts.0 in
+    let parts = and_parts (is_on_the_move slabs chunk.page && none_dead slabs looks chunk) (sees_no_target slabs looks chunk.page) leaves in
+    let first = and_parts (is_on_the_move slabs chunk.page) (none_dead slabs looks chunk) parts.0 in
     judged.leave chunk first.0 first.1 parts.1)
     (λ lacks. lacks)
     knows

@@ -24,43 +24,43 @@ with_own_call number stripe call own = if own.number == number then record own {
 abbrev pub called : ℕ → ℕ → Call → View → View
 called number stripe call view = with_knowledge (record view.row.knows { mine = map (with_own_call number stripe call) view.row.knows.mine }) view
 
--- it looked a key up, whose stripe had this value
+-- the hand of this number looked a key up, whose stripe had this value
 abbrev pub key_got : ℕ → ℕ → ReadyStripe → ℕ → View → View
 key_got number stripe value key view =
     record (called number stripe (Get number key (stamp_of value.state key)) view) { stripes = slice_set view.stripes stripe (Some (used_up (after_got value.state number key))) }
 
--- it evicted a key, whose stripe had this value
+-- the hand of this number evicted a key, whose stripe had this value
 abbrev pub key_evicted : ℕ → ℕ → ReadyStripe → ℕ → View → View
 key_evicted number stripe value key view =
     record (called number stripe (Evict number key) view) { stripes = slice_set view.stripes stripe (Some (used_up (after_evict value.state number key))) }
 
--- and took the key's item away from this chunk, whose header was this
+-- the hand of this number evicted a key, and took its item away from this chunk, whose header was this
 abbrev pub item_condemned : ℕ → ℕ → ReadyStripe → ℕ → ChunkId → Head → View → View
 item_condemned number stripe value key chunk head view = with_event [] (step.Condemn chunk) (looked (Condemned chunk (condemned head)) (key_evicted number stripe value key view))
 
--- it got this reference, to an item in a chunk with room for so many words
+-- the hand got this reference, to an item in a chunk with room for so many words
 abbrev pub item_referred : Holding → ℕ → View → View
 item_referred holding room view =
     with_knowledge (record view.row.knows { known = view.row.knows.known ++ known_by room holding ∷ [] }) (with_holdings (view.row.holdings ++ holding ∷ []) view)
 
--- it looked a key up that leads nowhere, which was told by a look at the word of the stripe's lock
+-- the hand of this number looked a key up that leads nowhere, which was told by a look at the word of the stripe's lock
 abbrev pub key_missed : ℕ → ℕ → ReadyStripe → ℕ → View → View
 key_missed number stripe value key view = stripe_told (change.GotNone key ∷ []) stripe (number + 1) (key_got number stripe value key view)
 
--- it deleted a key, which was there or not
+-- the hand of this number deleted a key, which was there or not
 abbrev pub key_deleted : ℕ → ℕ → ReadyStripe → ℕ → Bool → View → View
 key_deleted number stripe value key there view =
     record (called number stripe (Delete number key there) view) { stripes = slice_set view.stripes stripe (Some (used_up (after_unlink value.state number key))) }
 
--- it deleted a key that leads nowhere, which was told by a look at the word of the stripe's lock
+-- the hand of this number deleted a key that leads nowhere, which was told by a look at the word of the stripe's lock
 abbrev pub key_not_deleted : ℕ → ℕ → ReadyStripe → ℕ → View → View
 key_not_deleted number stripe value key view = stripe_told (change.DeletedNone key ∷ []) stripe (number + 1) (key_deleted number stripe value key false view)
 
--- it put a key's entry aside, which is no call
+-- the hand put a key's entry aside, which is no call
 abbrev pub key_lifted : ℕ → ReadyStripe → ℕ → View → View
 key_lifted stripe value key view = record view { stripes = slice_set view.stripes stripe (Some (record value { state = after_lift value.state key })) }
 
--- it unlinked a key's item: where it fills a chunk the entry is put aside, and otherwise the key is deleted
+-- the hand of this number unlinked a key's item: where it fills a chunk the entry is put aside, and otherwise the key is deleted
 abbrev pub key_unlinked : ℕ → ℕ → ReadyStripe → ℕ → View → View
 key_unlinked number stripe value key view =
     with_event [] (step.Unlink key) (if has_fresh view.row.holdings then key_lifted stripe value key view else key_deleted number stripe value key true view)

@@ -13,7 +13,7 @@ use Rattle.mc_words.specs.Happens.{LawfulView}
 use Rattle.mc_words.specs.Layout.{lock_word, heads_from, head_count, word_count}
 use Rattle.mc_words.specs.Slots.{slot_at, slot_count}
 
--- the words of the headers, page 0 first, and the values behind the locks that no hand has
+-- what is left of an arena: the words of the headers, page 0 first, and the values behind the locks that no hand has
 pub record Left : Type 0 where
   pub setup : Setup
   pub heads : List ℕ
@@ -21,11 +21,12 @@ pub record Left : Type 0 where
   -- stripe 0 first
   pub stripes : List (Option ReadyStripe)
 
--- the value behind a lock with this word
+-- the value behind a lock with this word, where the word is 0; otherwise it isn't at home
 abbrev pub at_home : {X : Type 0} → ℕ → X → Option X
 at_home word value = if word == 0 then Some value else None
 
--- the hand that closed the arena knew this in its last moment, which is lawful and was reached from the arena's beginning, and of which these headers and values are left
+-- the hand that closed the arena knew this in its last moment, which is lawful and was reached from the arena's beginning, and of which these
+-- headers and values are left
 pub record Closes (view : View) (left : Left) : Type 0 where
   pub was : LawfulView view
   pub setup : left.setup ≡ view.setup
@@ -33,7 +34,7 @@ pub record Closes (view : View) (left : Left) : Type 0 where
   pub slabs : left.slabs ≡ at_home was.moment.state.slabs_lock was.moment.state.slabs
   pub stripes : left.stripes ≡ map (λ stripe. at_home (slice_index was.moment.state.stripe_locks stripe) (stripe_at was.moment.state stripe)) (range_with_len 0 view.setup.config.stripes)
 
--- which value is in a slot
+-- pages and lists that are in a slot, none where it has a stripe or nothing
 abbrev pub slabs_in : Slot → Option SlabState
 slabs_in (OfSlabs slabs) = Some slabs
 slabs_in other = None
@@ -43,7 +44,7 @@ abbrev pub stripe_in : Slot → Option ReadyStripe
 stripe_in (OfStripe value) = Some value
 stripe_in other = None
 
--- the value in the slot of a lock, where its word is 0
+-- pages and lists in the slot of their lock, none where the lock's word isn't 0
 abbrev pub slabs_left : List ℕ → List Slot → Option SlabState
 slabs_left words slots = if slice_index words (lock_word zero) == 0 then slabs_in (slice_index_or slots (slot_at zero) Empty) else None
 
@@ -60,7 +61,7 @@ left_of setup words slots = record {
   stripes = map (stripe_left words slots) (range_with_len 0 setup.config.stripes);
 }
 
--- there are as many words and slots as the setup says, and pages and lists are accounted for
+-- there are as many words and slots as the setup says, and pages and lists, where they are left, are accounted for
 pub record IsLeftOf (setup : Setup) (words : List ℕ) (slots : List Slot) : Type 0 where
   pub wide : length words ≡ word_count setup
   pub small : word_count setup < 2 ^ 63

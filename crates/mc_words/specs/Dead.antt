@@ -16,11 +16,11 @@ pub record NotedChunks : Type 0 where
 abbrev pub Notes : ChunkId → NotedChunks → NotedChunks → Type 0
 Notes chunk dead now = (now ≡ record dead { chunks = dead.chunks ++ chunk ∷ [] }) ⊎ (now ≡ record dead { are_more = true })
 
--- one class handed them all out
+-- one class handed out all these chunks
 abbrev pub ShareAnOrder : SlabState → List ChunkId → Type 0
 ShareAnOrder slabs chunks = (chunk other : ChunkId) → Contains chunks chunk → Contains chunks other → (class_of_page slabs other.page ≡ class_of_page slabs chunk.page) × Contains (class_of_chunk slabs chunk).order other
 
--- the chunk was found alive, or is one of the dead that were noted; unless more were dead
+-- the chunk was found alive, or is one of the dead that were noted; unless more were dead than are noted
 abbrev pub IsJudged : List Look → NotedChunks → ChunkId → Type 0
 IsJudged looks dead chunk = dead.are_more ≡ false → (is_found_alive looks chunk ≡ true) ⊎ Contains dead.chunks chunk
 
@@ -30,6 +30,6 @@ pub record IsOut (table : Classes) (slabs : SlabState) (class : ℕ) (chunk : Ch
   pub own : class_of_page slabs chunk.page ≡ class
   pub listed : Contains (class_at slabs class).order chunk
 
--- so it is with each chunk that was noted
+-- each chunk that was noted is one of the arena's, and the class handed it out
 abbrev pub AreHandedOut : Classes → SlabState → ℕ → NotedChunks → Type 0
 AreHandedOut table slabs class dead = (chunk : ChunkId) → Contains dead.chunks chunk → IsOut table slabs class chunk

@@ -21,7 +21,7 @@ pub record IsDone (number stripe : ℕ) (value : ReadyStripe) (Does : Doing) (vi
 abbrev pub SlabsDoing : Type 1
 SlabsDoing = View → SlabState → View → SlabState → Type 0
 
--- the lock of the slabs was waited for, this was done, and it was given back
+-- the hand waited for the lock of the slabs, this was done, and the lock was given back
 pub record HoldsSlabs (Does : SlabsDoing) (view now : View) : Type 0 where
   pub found : SlabState
   pub taken : View
@@ -31,7 +31,7 @@ pub record HoldsSlabs (Does : SlabsDoing) (view now : View) : Type 0 where
   pub does : Does taken found last left
   pub given : now ≡ slabs_given left last
 
--- the lock of a stripe was waited for, this was done, and it was given back
+-- the hand waited for the lock of a stripe, this was done, and the lock was given back
 pub record HoldsStripe (stripe : ℕ) (Does : Doing) (view now : View) : Type 0 where
   pub found : ReadyStripe
   pub taken : View

@@ -5,7 +5,7 @@ use Rattle.mc_core.specs.declared.holding.Holding.{Holding}
 use Rattle.mc_core.specs.Holdings.{holding_of, is_fresh, words_of}
 use Rattle.mc_words.specs.View.{View}
 
--- among these holdings is this chunk, which is filled and has so many words
+-- the first of these holdings that is of this chunk is fresh, and has so many words
 pub record IsFreshIn (holdings : List Holding) (chunk : ChunkId) (room : ℕ) : Type 0 where
   pub holding : Holding
   pub found : holding_of chunk holdings ≡ Some holding

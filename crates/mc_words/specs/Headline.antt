@@ -54,19 +54,19 @@ IsWithinLimit setup slabs = granted_count slabs * setup.table.page ≤ setup.tab
 abbrev pub Stands : SlabState → ℕ → ChunkId → ℕ → ℕ → Type 0
 Stands slabs class chunk free out = (times chunk (class_at slabs class).free ≡ free) × (times chunk (class_at slabs class).order ≡ out)
 
--- once on the free list, and free
+-- the chunk is free, and stands once on the class's free list, and not in its hand-out order
 abbrev pub IsFreeChunk : SlabState → ℕ → ChunkId → Head → Type 0
 IsFreeChunk slabs class chunk head = (head.tag ≡ Free) × Stands slabs class chunk 1 0
 
--- cleared: out, and in no list, while its page moves
+-- the chunk is cleared: out, and in neither list of the class, while its page moves
 abbrev pub IsClearedChunk : SlabState → ℕ → ChunkId → Head → Type 0
 IsClearedChunk slabs class chunk head = (head.tag ≡ Out) × Stands slabs class chunk 0 0 × (is_moving (owner_at slabs.owners chunk.page) ≡ true)
 
--- once in the hand-out order, and handed out
+-- the chunk is handed out, and stands once in the class's hand-out order, and not on its free list
 abbrev pub IsChunkOut : SlabState → ℕ → ChunkId → Head → Type 0
 IsChunkOut slabs class chunk head = ((head.tag ≡ Unlinked) ⊎ (head.tag ≡ Linked)) × Stands slabs class chunk 0 1
 
--- a chunk of a page that a class has, which is cut, is in one of these places
+-- the chunk is in one place of the class: free, cleared, or handed out
 abbrev pub IsInOnePlace : SlabState → ℕ → ChunkId → Head → Type 0
 IsInOnePlace slabs class chunk head = IsFreeChunk slabs class chunk head ⊎ IsClearedChunk slabs class chunk head ⊎ IsChunkOut slabs class chunk head
 

@@ -27,14 +27,14 @@ pub record RefersAgain (view : View) (chunk : ChunkId) (issue room : ℕ) (now :
   pub happens : Happens view [] (step.Again chunk issue) now
   pub is : now ≡ with_event [] (step.Again chunk issue) (item_referred (reference_to chunk issue item) room view)
 
--- it saw the item there, and then got the reference
+-- the hand saw the item there, and then got a reference to it, by one exchange
 pub record GetsAgain (view : View) (chunk : ChunkId) (issue room : ℕ) (now : View) : Type 0 where
   pub head : Head
   pub there : is_there issue head ≡ true
   pub looks : Happens view [] (step.Head chunk) (head_seen chunk head view)
   pub refers : RefersAgain (head_seen chunk head view) chunk issue room now
 
--- it saw the item there by a first header of its chunk, and then another one, which is so
+-- the hand saw the item there by a first header of its chunk, and then another header, and this is so of the two
 pub record FindsOther (view : View) (chunk : ChunkId) (issue : ℕ) (IsOther : Head → Head → Type 0) (now : View) : Type 0 where
   pub head : Head
   pub there : is_there issue head ≡ true
@@ -45,11 +45,11 @@ pub record FindsOther (view : View) (chunk : ChunkId) (issue : ℕ) (IsOther : H
   pub happens : Happens (head_seen chunk head view) [] (step.Head chunk) now
   pub is : now ≡ head_seen chunk other (head_seen chunk head view)
 
--- it saw that the item is gone: by its first look, or by one after the item was seen there
+-- the hand saw that the item is gone: by its first look, or by one after the item was seen there
 abbrev pub FindsGone : View → ChunkId → ℕ → View → Type 0
 FindsGone view chunk issue now =
     SeesOther view (Some chunk) (λ head. is_there issue head ≡ false) now ⊎ FindsOther view chunk issue (λ head other. is_there issue other ≡ false) now
 
--- it saw the item there twice, with another count the second time
+-- the hand saw the item there twice, with another count the second time
 abbrev pub FindsContended : View → ChunkId → ℕ → View → Type 0
 FindsContended view chunk issue now = FindsOther view chunk issue (λ head other. (is_there issue other ≡ true) × (other.count ≢ head.count)) now

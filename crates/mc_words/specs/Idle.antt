@@ -7,10 +7,10 @@ use Rattle.mc_words.specs.View.{View}
 abbrev pub has_no_stripes : View → Bool
 has_no_stripes view = list_all is_none view.stripes
 
--- it has no lock
+-- the hand has no lock
 abbrev pub is_unlocked : View → Bool
 is_unlocked view = is_none view.slabs && has_no_stripes view
 
--- it has no lock, and holds no chunk
+-- the hand has no lock, and holds no chunk
 abbrev pub is_idle : View → Bool
 is_idle view = is_unlocked view && (length view.row.holdings == 0)

@@ -1,5 +1,5 @@
 -- The items of chunks, as a hand knows them.
-use Rattle.std.specs.Prelude.{◌≡◌, ◌<◌, ℕ, List, [], length, slice_index, slice_index_or, Option, None, Contains}
+use Rattle.std.specs.Prelude.{◌≡◌, ◌<◌, ℕ, List, [], ◌∷◌, length, slice_index, slice_index_or, Option, None, Contains}
 use Rattle.mc_core.specs.Knowing.{IsSaid}
 use Rattle.mc_core.specs.Past.{Known, Moment}
 use Rattle.std.specs.List.{fold}
@@ -10,11 +10,15 @@ use Rattle.mc_core.specs.Holdings.{Words, holding_of, item_of, stamp_of, words_o
 use Rattle.mc_core.specs.Seen.{last_read}
 use Rattle.mc_words.specs.View.{View}
 
+-- an item: key, stamp, how many words, and these
+abbrev pub item_with : ℕ → ℕ → List ℕ → List ℕ
+item_with key stamp words = key ∷ stamp ∷ length words ∷ words
+
 -- the words of the item in this chunk: key, stamp, length, and as many as that says; none where the hand doesn't hold the chunk
 abbrev pub held_item : View → ChunkId → List ℕ
 held_item view chunk = option_map_or item_of (holding_of chunk view.row.holdings) []
 
--- a word of a chunk, as the hand read it under this hold of the slabs lock
+-- a word of a chunk, as the hand read it under this hold of the slabs lock; none where it didn't
 abbrev pub word_read : View → ChunkId → ℕ → Option ℕ
 word_read view chunk place = fold (last_read chunk place) None view.row.looks
 
@@ -22,7 +26,7 @@ word_read view chunk place = fold (last_read chunk place) None view.row.looks
 abbrev pub words_in : View → ChunkId → Words
 words_in view chunk = option_map_or words_of (holding_of chunk view.row.holdings) []
 
--- the issue number with which that chunk was handed out
+-- the issue number with which the chunk that the hand holds was handed out, 0 where it doesn't hold it
 abbrev pub issue_in : View → ChunkId → ℕ
 issue_in view chunk = option_map_or (λ (holding : Holding). holding.issue) (holding_of chunk view.row.holdings) 0
 

@@ -29,7 +29,7 @@ pub record Agrees (knows : Knowledge) : Type 0 where
   pub known : (a b : Known) → Contains knows.known a → Contains knows.known b → a.chunk ≡ b.chunk → a.issue ≡ b.issue → a.words ≡ b.words
   pub both : (s : Saying) (k : Known) → Contains knows.said s → Contains knows.known k → s.stamp ≡ stamp_of k.words → s.words ≡ k.words
 
--- what was made of two rows was made by a join
+-- a view that was made of two rows was made by a join
 abbrev pub IsMade : View → Type 0
 IsMade view = (kept spent : Row) (own others : List OwnEvent) → view.made_of ≡ Some (kept, spent, own, others) → Joins (record view { events = own; row = kept; made_of = None }) spent others (settled view)
 

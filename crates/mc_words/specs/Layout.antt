@@ -6,11 +6,12 @@ use Rattle.mc_pages.specs.declared.ids.ChunkId.{ChunkId}
 use Rattle.mc_core.specs.State.{most_of, page_words, head_place}
 use Rattle.mc_words.specs.View.{Setup}
 
--- a lock's word stands so many words of 8 bytes from the next, and from what is written before and behind: 128 bytes, so that no two are in one line of a cache
+-- a lock's word stands so many words of 8 bytes from the next, and from what is written before and behind: 128 bytes, so that no two are in one
+-- line of a cache
 abbrev pub words_apart : ℕ
 words_apart = 16
 
--- how many words stand between two of them
+-- how many words stand between those of two locks
 abbrev pub words_between : ℕ
 words_between = words_apart - 1
 
@@ -19,7 +20,8 @@ abbrev pub spread : {A : Type 0} → ℕ → A → List A → List A
 spread between other [] = []
 spread between other (x ∷ xs) = x ∷ (replicate between other ++ spread between other xs)
 
--- word 0 makes and joins hands; then come the lock of the slabs, which is number 0, and that of stripe i, number i + 1
+-- where the word of the lock of this number stands. The lock of the slabs is number 0, and that of stripe i number i + 1; before them stands word
+-- 0, which makes and joins hands
 abbrev pub lock_word : ℕ → ℕ
 lock_word lock = words_apart * (1 + lock)
 
@@ -27,15 +29,15 @@ lock_word lock = words_apart * (1 + lock)
 abbrev pub slabs_word : ℕ
 slabs_word = lock_word 0
 
--- behind the locks a word for each page
+-- where the words of pages begin, behind those of the locks; each page has one
 abbrev pub pages_from : Setup → ℕ
 pages_from setup = words_apart * (2 + setup.config.stripes)
 
--- the word of a page: the class that the page was last cut for
+-- where the word of a page stands, which is the class that has the page; 0 where none has
 abbrev pub page_word : Setup → ℕ → ℕ
 page_word setup page = pages_from setup + page
 
--- then the headers
+-- where the headers begin, behind the words of pages
 abbrev pub heads_from : Setup → ℕ
 heads_from setup = pages_from setup + pages_of setup.table
 
@@ -47,7 +49,7 @@ head_count setup = pages_of setup.table * most_of setup.table
 abbrev pub head_word : Setup → ChunkId → ℕ
 head_word setup chunk = heads_from setup + head_place setup.table chunk
 
--- then the data words
+-- where the data words begin, behind the headers
 abbrev pub data_from : Setup → ℕ
 data_from setup = heads_from setup + head_count setup
 
@@ -59,7 +61,7 @@ data_count setup = pages_of setup.table * page_words setup.table
 abbrev pub data_word : Setup → ℕ → ChunkId → ℕ → ℕ
 data_word setup room chunk place = data_from setup + (chunk.page * page_words setup.table + chunk.index * room + place)
 
--- and last the configuration, which never changes
+-- where the configuration begins, which stands last and never changes
 abbrev pub config_from : Setup → ℕ
 config_from setup = data_from setup + data_count setup
 

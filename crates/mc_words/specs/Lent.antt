@@ -11,7 +11,7 @@ use Rattle.mc_core.specs.Past.{Own}
 use Rattle.mc_core.specs.InOrder.{IsOfTable}
 use Rattle.mc_words.specs.View.{View}
 
--- pages and lists are whole, and agree with what the hand holds
+-- these pages and lists are the hand's, are whole, and agree with what it holds
 pub record IsLent (view : View) (slabs : SlabState) : Type 0 where
   pub mine : view.slabs ≡ Some slabs
   -- they are of the arena's classes and limit, and every page and every chunk is accounted for
@@ -37,6 +37,6 @@ pub record IsLentStripe (view : View) (number : ℕ) (stripe : ReadyStripe) : Ty
 abbrev pub BeginsWithSeen : View → ℕ → ReadyStripe → Type 0
 BeginsWithSeen view number stripe = (seen : List Call) → slice_get view.row.knows.seen number ≡ Some seen → IsBeginning seen stripe.state.history
 
--- the stripe of this number that the hand has
+-- the stripe of this number that the hand has; a new one where it hasn't its lock
 abbrev pub lent_stripe : View → ℕ → ReadyStripe
 lent_stripe view number = unwrap_or (slice_index_or view.stripes number None) new_stripe

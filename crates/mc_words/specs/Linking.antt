@@ -16,7 +16,7 @@ use Rattle.mc_words.specs.View.{View, made}
 use Rattle.mc_words.specs.Called.{with_own_call}
 use Rattle.mc_words.specs.Referring.{reference_to}
 
--- a chunk that the hand fills with an item of its own, as far as these words
+-- the holding of a chunk that the hand fills with an item of its own, as far as these words
 abbrev pub own_item : ChunkId → ℕ → Words → Holding
 own_item chunk issue words = record { chunk = chunk; issue = issue; kind = Fresh Item words }
 
@@ -44,7 +44,7 @@ item_linked number stripe value key stamp chunk issue words room view = record v
   stripes = slice_set view.stripes stripe (Some (used_up (after_link value.state number key chunk stamp)));
 }
 
--- a chunk that the hand fills with the item that it took away from another one
+-- the holding of a chunk that the hand fills with the item that it took away from another one, as far as these words
 abbrev pub copied_item : ChunkId → ChunkId → ℕ → List ℕ → Words → Holding
 copied_item old chunk issue item words = record { chunk = chunk; issue = issue; kind = Fresh (purpose.Rescue old item) words }
 

@@ -18,11 +18,11 @@ use Rattle.mc_words.specs.View.{Setup, View, events_of, view_at, new_view, spent
 use Rattle.mc_words.specs.Layout.{words_between, spread, lock_word, pages_from, heads_from, head_count, data_from, data_count, config_from, config_words, word_count}
 use Rattle.mc_words.specs.Slots.{slot_at, slot_count}
 
--- words of 64 bits, values at home, and views
+-- the table of an arena: words of 64 bits, values at home, and views
 abbrev pub Words : Type 0
 Words = table.State Slot View
 
--- the words are these columns
+-- the words are these columns, and the configuration of the setup
 pub record AreWords (setup : Setup) (cuts words : List ℕ) (lock : ℕ) (stripe_locks : List ℕ) (headers : List Head) (stored : List ℕ) : Type 0 where
   pub wide : length words ≡ word_count setup
   -- the word of the hands, into which nothing is written, and those of the locks: each is followed by words that are 0 always
@@ -36,7 +36,7 @@ pub record AreWords (setup : Setup) (cuts words : List ℕ) (lock : ℕ) (stripe
 abbrev pub WordsOf : Setup → List ℕ → List ℕ → State → Type 0
 WordsOf setup cuts words state = AreWords setup cuts words state.slabs_lock state.stripe_locks state.heads state.words
 
--- lock 0 is that of the slabs, and lock i + 1 that of stripe i
+-- the slot has the value behind the lock of this number: of lock 0 pages and lists, and of lock i + 1 stripe i
 abbrev pub Has : State → ℕ → Slot → Type 0
 Has state zero (OfSlabs slabs) = slabs ≡ state.slabs
 Has state (suc stripe) (OfStripe value) = value ≡ stripe_at state stripe
@@ -49,7 +49,7 @@ Has state (suc stripe) Empty = ⊥
 abbrev pub AreHome : Setup → List ℕ → List (mathlib.Core.Option.Option Slot) → State → Type 0
 AreHome setup words homes state = (lock : ℕ) → lock ≤ setup.config.stripes → slice_index words (lock_word lock) ≡ 0 → (slot : Slot) × (get_elem? homes (slot_at lock) ≡ some (some slot)) × Has state lock slot
 
--- before anything was done in an arena
+-- the moment before anything was done in an arena
 abbrev pub beginning_of : Setup → Moment
 beginning_of setup = first_moment setup.table setup.config.stripes setup.hands setup.start
 

@@ -1,5 +1,5 @@
 -- What clauses of other crates read of hands, and of what a call of the arena gives.
-use Rattle.std.specs.Prelude.{ℕ}
+use Rattle.std.specs.Prelude.{◌≡◌, ℕ, slice_index_or, Some, None}
 use Rattle.mc_pages.specs.declared.ids.ChunkId.{ChunkId}
 use Rattle.mc_pages.specs.SlabState.{SlabState}
 use Rattle.mc_stripe.specs.StripeState.{ReadyStripe}
@@ -10,12 +10,13 @@ use Rattle.mc_words.specs.declared.held.StripeHeld.{StripeHeld}
 use Rattle.mc_words.specs.declared.locks.Locks.{Locks}
 use Rattle.mc_words.specs.declared.refs.Hint.{Hint}
 use Rattle.mc_words.specs.declared.refs.Ref.{Ref}
+use Rattle.mc_words.specs.Arenas.{view}
 
 -- which locks the hand has
 abbrev pub locks_of : Hand → Locks
 locks_of hand = hand.locks
 
--- its number, with which it makes its stamps
+-- the hand's number, with which it makes its stamps
 abbrev pub number_of : Hand → ℕ
 number_of hand = hand.number
 
@@ -23,7 +24,7 @@ number_of hand = hand.number
 abbrev pub slabs_lent : SlabsHeld → SlabState
 slabs_lent held = held.shared
 
--- which stripe is held, and its value
+-- which stripe is held: its number, counted from 0
 abbrev pub stripe_number : StripeHeld → ℕ
 stripe_number held = held.number
 
@@ -31,7 +32,15 @@ stripe_number held = held.number
 abbrev pub stripe_lent : StripeHeld → ReadyStripe
 stripe_lent held = held.stripe
 
--- a fresh chunk, how many words it has, and the key and the stamp that were written into it
+-- the hand has the lock of the slabs, and these pages and lists behind it
+abbrev pub HasSlabs : Hand → SlabsHeld → Type 0
+HasSlabs hand held = (view hand).slabs ≡ Some (slabs_lent held)
+
+-- the hand has the lock of this stripe, and this value behind it
+abbrev pub HasStripe : Hand → StripeHeld → Type 0
+HasStripe hand held = slice_index_or (view hand).stripes (stripe_number held) None ≡ Some (stripe_lent held)
+
+-- which chunk it is that the hand fills
 abbrev pub fresh_chunk : Fresh → ChunkId
 fresh_chunk fresh = fresh.chunk
 
@@ -47,7 +56,7 @@ fresh_key fresh = fresh.key
 abbrev pub fresh_stamp : Fresh → ℕ
 fresh_stamp fresh = fresh.stamp
 
--- the chunk of a reference, the issue number with which it was handed out, and how many words it has
+-- the chunk of a reference
 abbrev pub ref_chunk : Ref → ChunkId
 ref_chunk reference = reference.chunk
 
@@ -59,7 +68,7 @@ ref_issue reference = reference.issue
 abbrev pub ref_room : Ref → ℕ
 ref_room reference = reference.room
 
--- the chunk of a hint, and its issue number
+-- the chunk of a hint
 abbrev pub hint_chunk : Hint → ChunkId
 hint_chunk hint = hint.chunk
 

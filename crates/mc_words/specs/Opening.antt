@@ -20,7 +20,7 @@ first_slots setup = spread slots_between Empty (OfSlabs (fresh_slabs setup.table
 abbrev pub first_view : Setup → View
 first_view setup = new_view setup 0 (setup.hands - 1)
 
--- the hand that makes another, and the hand that is made
+-- the hand that makes another, and may make one less from then on
 abbrev pub one_made : View → View
 one_made view = record view { spare = view.spare - 1 }
 

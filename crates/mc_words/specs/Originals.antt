@@ -22,7 +22,7 @@ original_condemned stripe value key chunk item head view =
     (looked (Condemned chunk (condemned head)) (key_lifted stripe value key (with_holdings (change_each (is_copy_of chunk) (as_rescue chunk item) view.row.holdings) view)))
 
 -- the hand saw that the chunk is linked and held by nobody, and took its item away, of which it has a copy; the key led to it, and its entry is aside then
-pub record CondemnsOriginal (view : View) (stripe : ℕ) (value : ReadyStripe) (chunk : ChunkId) (left : ReadyStripe) (now : View) : Type 0 where
+pub record CondemnsOriginal (stripe : ℕ) (chunk : ChunkId) (value : ReadyStripe) (view : View) (left : ReadyStripe) (now : View) : Type 0 where
   pub key : ℕ
   pub is_key : key_read view chunk ≡ Some key
   pub stamp : ℕ
@@ -32,7 +32,7 @@ pub record CondemnsOriginal (view : View) (stripe : ℕ) (value : ReadyStripe) (
   pub whole : length item ≡ length_of item
   pub key_is : key_of item ≡ key
   pub stamp_is : stamp_of item ≡ stamp
-  -- and each word of it that the hand read under this hold of the slabs lock is so
+  -- each word of the item that the hand read under this hold of the slabs lock is so
   pub read_is : (place word : ℕ) → word_read view chunk place ≡ Some word → place < length item → slice_index item place ≡ word
   pub head : Head
   pub unheld : is_linked_unheld head ≡ true

@@ -36,7 +36,7 @@ has_stripe_in (Stripe stripe) other = stripe == other
 has_stripe_in (SlabsLast stripe) other = stripe == other
 has_stripe_in (StripeLast stripe) other = stripe == other
 
--- the stripe among these locks is one of so many
+-- the stripe among these locks, if there is one, is one of so many
 abbrev pub is_within : ℕ → Locks → Bool
 is_within stripes Neither = true
 is_within stripes Slabs = true
@@ -50,12 +50,12 @@ HasLocks view locks =
     (is_some view.slabs ≡ has_slabs_in locks) × (map is_some view.stripes ≡ map (has_stripe_in locks) (range_with_len 0 view.setup.config.stripes))
     × (is_within view.setup.config.stripes locks ≡ true)
 
--- a hand's notes: its number, how many chunks it holds, and its locks
+-- a hand's notes are right: its number, how many chunks it holds, and its locks
 abbrev pub IsNoted : Sits → ℕ → ℕ → Locks → Type 0
 IsNoted me number chunks locks =
     (me.0.row.ids.number ≡ Some number) × (number < 64) × (chunks ≡ length me.0.row.holdings) × (slots_out me.1 ≡ slots_in locks) × HasLocks me.0 locks
 
--- with the lock of the slabs, too
+-- these locks and that of the slabs, which was taken last, unless it was there
 abbrev pub with_slabs : Locks → Locks
 with_slabs Neither = Slabs
 with_slabs Slabs = Slabs
@@ -63,7 +63,7 @@ with_slabs (Stripe stripe) = SlabsLast stripe
 with_slabs (SlabsLast stripe) = SlabsLast stripe
 with_slabs (StripeLast stripe) = StripeLast stripe
 
--- without it
+-- these locks without that of the slabs
 abbrev pub without_slabs : Locks → Locks
 without_slabs Neither = Neither
 without_slabs Slabs = Neither
@@ -71,7 +71,7 @@ without_slabs (Stripe stripe) = Stripe stripe
 without_slabs (SlabsLast stripe) = Stripe stripe
 without_slabs (StripeLast stripe) = Stripe stripe
 
--- with the lock of this stripe, too
+-- these locks and that of this stripe, which was taken last, unless a stripe's was there
 abbrev pub with_stripe : ℕ → Locks → Locks
 with_stripe stripe Neither = Stripe stripe
 with_stripe stripe Slabs = StripeLast stripe
@@ -79,7 +79,7 @@ with_stripe stripe (Stripe other) = Stripe other
 with_stripe stripe (SlabsLast other) = SlabsLast other
 with_stripe stripe (StripeLast other) = StripeLast other
 
--- without the stripe's lock
+-- these locks without the stripe's
 abbrev pub without_stripe : Locks → Locks
 without_stripe Neither = Neither
 without_stripe Slabs = Slabs
@@ -87,7 +87,7 @@ without_stripe (Stripe stripe) = Neither
 without_stripe (SlabsLast stripe) = Slabs
 without_stripe (StripeLast stripe) = Slabs
 
--- the hand has no stripe's lock
+-- no stripe's lock is among these
 abbrev pub has_no_stripe : Locks → Bool
 has_no_stripe Neither = true
 has_no_stripe Slabs = true
@@ -95,7 +95,7 @@ has_no_stripe (Stripe stripe) = false
 has_no_stripe (SlabsLast stripe) = false
 has_no_stripe (StripeLast stripe) = false
 
--- the hand has no lock
+-- no lock is among these
 abbrev pub is_neither : Locks → Bool
 is_neither Neither = true
 is_neither Slabs = false
@@ -103,7 +103,7 @@ is_neither (Stripe stripe) = false
 is_neither (SlabsLast stripe) = false
 is_neither (StripeLast stripe) = false
 
--- the lock of this number was taken before the other one
+-- there are two locks, of which that of this number was taken first; the slabs' is number 0
 abbrev pub is_behind : Locks → ℕ → Bool
 is_behind (SlabsLast stripe) zero = false
 is_behind (SlabsLast stripe) (suc number) = true
@@ -111,7 +111,7 @@ is_behind (StripeLast stripe) zero = true
 is_behind (StripeLast stripe) (suc number) = false
 is_behind other number = false
 
--- the two in the other order
+-- two locks in the other order; one, or none, as it is
 abbrev pub turned_locks : Locks → Locks
 turned_locks (SlabsLast stripe) = StripeLast stripe
 turned_locks (StripeLast stripe) = SlabsLast stripe

@@ -12,7 +12,7 @@ use Rattle.mc_words.specs.View.{View}
 use Rattle.mc_words.specs.Happens.{Happens}
 use Rattle.mc_words.specs.Views.{head_seen, chunk_popped, chunk_put_back, chunk_cleared, chunk_cut}
 
--- the hand saw this header, and the first chunk of the free list, which isn't used up, was handed out
+-- the hand saw the header of the class's first free chunk, which isn't used up, and the chunk was handed out to it
 pub record PopsFirst (view : View) (slabs : SlabState) (class : ℕ) (chunk : ChunkId) (now : View) : Type 0 where
   pub first : first_free (class_at slabs class) ≡ Some chunk
   pub head : Head
@@ -21,7 +21,7 @@ pub record PopsFirst (view : View) (slabs : SlabState) (class : ℕ) (chunk : Ch
   pub happens : Happens (head_seen chunk head view) [] (step.Pop class) now
   pub is : now ≡ chunk_popped slabs class chunk head (head_seen chunk head view)
 
--- it saw a header, and it is the chunk's, which isn't as was asked
+-- the hand saw the header of the chunk that was asked for, of which this is so: it isn't one that was wanted
 pub record SeesOther (view : View) (asked : Option ChunkId) (IsOther : Head → Type 0) (now : View) : Type 0 where
   pub chunk : ChunkId
   pub is_asked : asked ≡ Some chunk
@@ -30,7 +30,7 @@ pub record SeesOther (view : View) (asked : Option ChunkId) (IsOther : Head → 
   pub happens : Happens view [] (step.Head chunk) now
   pub is : now ≡ head_seen chunk head view
 
--- it saw that the chunk is dead, and put it back
+-- the hand saw that the chunk is dead, and put it back
 pub record PutsBack (view : View) (slabs : SlabState) (chunk : ChunkId) (now : View) : Type 0 where
   pub head : Head
   pub dead : is_dead head ≡ true
@@ -42,7 +42,7 @@ pub record PutsBack (view : View) (slabs : SlabState) (chunk : ChunkId) (now : V
 abbrev pub is_unused : Head → Bool
 is_unused head = is_free head.tag || is_dead head
 
--- it saw that the chunk is free or dead, and cleared it
+-- the hand saw that the chunk is free or dead, and cleared it
 pub record Clears (view : View) (slabs : SlabState) (chunk : ChunkId) (now : View) : Type 0 where
   pub head : Head
   pub unused : is_unused head ≡ true

@@ -12,7 +12,7 @@ use Rattle.mc_words.specs.Doing.{SlabsDoing}
 use Rattle.mc_words.specs.Happens.{Happens}
 use Rattle.mc_words.specs.Views.{slabs_changed}
 
--- pages and lists were changed so, once, and it was told
+-- the hand of this number changed pages and lists so, once, which was told by a look at the word of their lock
 abbrev pub ChangesOnce : ℕ → Change → View → SlabState → View → Type 0
 ChangesOnce number change view slabs now = Happens view (change ∷ []) step.MissSlabs now × (now ≡ slabs_changed slabs change (number + 1) view)
 

@@ -7,7 +7,7 @@ use Rattle.mc_core.specs.Holdings.{holding_of, is_fresh}
 use Rattle.mc_core.specs.Past.{Known, known_by}
 use Rattle.mc_words.specs.View.{View}
 
--- among these holdings is a reference to this chunk, which is known to have room for so many words
+-- the first of these holdings that is of this chunk is a reference, and is known to have room for so many words
 pub record IsRefIn (holdings : List Holding) (known : List Known) (chunk : ChunkId) (room : ℕ) : Type 0 where
   pub holding : Holding
   pub found : holding_of chunk holdings ≡ Some holding
@@ -27,7 +27,7 @@ pub record KeepsRefs (view now : View) : Type 0 where
   pub refers : (chunk : ChunkId) (room : ℕ) → IsRefOf view chunk room → IsRefOf now chunk room
   pub same : (chunk : ChunkId) (room : ℕ) → IsRefOf view chunk room → holding_of chunk now.row.holdings ≡ holding_of chunk view.row.holdings
 
--- so of each that it holds still, whatever it gave up
+-- each chunk that the hand refers to, and still holds, it refers to still, whatever it gave up: it finds the same holding of it
 pub record KeepsHeld (view now : View) : Type 0 where
   pub refers : (chunk : ChunkId) (room : ℕ) → IsRefOf view chunk room → is_some (holding_of chunk now.row.holdings) ≡ true → IsRefOf now chunk room
   pub same : (chunk : ChunkId) (room : ℕ) → IsRefOf view chunk room → is_some (holding_of chunk now.row.holdings) ≡ true →

@@ -7,7 +7,7 @@ use Rattle.mc_core.specs.Chunks.{most_issue}
 use Rattle.mc_words.specs.declared.refusal.NewError.{NewError}
 use Rattle.mc_words.specs.declared.refusal.NewError.TheVariants as refused
 
--- a refused configuration comes before all others
+-- why no arena is made: the refusal of its configuration, which comes before all others, or one of those
 abbrev pub or_refused : Option ConfigError → Option NewError → Option NewError
 or_refused (Some error) others = Some (refused.Config error)
 or_refused None others = others
@@ -20,7 +20,7 @@ arena_refusal config hands start =
     else if not (nat_le start most_issue) then Some refused.Issue
     else None)
 
--- 1 to 9 as for a configuration, then 10 and 11
+-- the number of a refusal: 1 to 9 as for a configuration, 10 of the number of hands, and 11 of the first issue number
 abbrev pub refusal_number : NewError → ℕ
 refusal_number (refused.Config error) = classes.number_of error
 refusal_number (refused.NoMemory _) = 9

@@ -15,7 +15,7 @@ abbrev pub PassesOver : ℕ → ChunkId → View → View → Type 0
 PassesOver page chunk view now =
     ((chunk.page ≡ page) × (now ≡ view)) ⊎ ((chunk.page ≢ page) × SeesOther view (Some chunk) (λ head. most_issue ≤ head.issue) now)
 
--- so it was with each of these, one after another
+-- the hand passed over each of these free chunks, one after another
 abbrev pub PassesAll : ℕ → List ChunkId → View → View → Type 0
 PassesAll page [] view now = now ≡ view
 PassesAll page (chunk ∷ chunks) view now = (next : View) × PassesOver page chunk view next × PassesAll page chunks next now
@@ -28,7 +28,7 @@ pub record SeesFit (page : ℕ) (chunk : ChunkId) (view now : View) : Type 0 whe
   pub looks : Happens view [] (step.Head chunk) now
   pub is : now ≡ head_seen chunk head view
 
--- it is the first such free chunk of the class, and the hand passed over each before it
+-- the chunk is the first free one of the class that an item of the page can be taken to: the hand saw so, and passed over each before it
 pub record FindsFit (slabs : SlabState) (class page : ℕ) (chunk : ChunkId) (view now : View) : Type 0 where
   pub before : List ChunkId
   pub after : List ChunkId

@@ -14,12 +14,12 @@ use Rattle.mc_words.specs.View.{View}
 use Rattle.mc_words.specs.Views.{head_seen}
 use Rattle.mc_words.specs.Owner.{PutsBack, SeesOther}
 
--- the chunk was seen dead and put back, or seen otherwise
+-- the chunk was seen dead and put back, or seen alive
 abbrev pub SweepsOne : ChunkId → View → SlabState → View → SlabState → Type 0
 SweepsOne chunk view slabs now left =
     (PutsBack view slabs chunk now × (left ≡ after_back slabs chunk)) ⊎ (SeesOther view (Some chunk) (λ head. is_dead head ≡ false) now × (left ≡ slabs))
 
--- so it was with each of these chunks, one after another
+-- each of these chunks was seen dead and put back, or seen alive, one after another
 abbrev pub SweepsEach : List ChunkId → View → SlabState → View → SlabState → Type 0
 SweepsEach [] view slabs now left = (now ≡ view) × (left ≡ slabs)
 SweepsEach (chunk ∷ chunks) view slabs now left = (next : View) × (between : SlabState) × SweepsOne chunk view slabs next between × SweepsEach chunks next between now left
@@ -30,7 +30,7 @@ pub record SeesHeader (view : View) (chunk : ChunkId) (now : View) : Type 0 wher
   pub happens : Happens view [] (step.Head chunk) now
   pub is : now ≡ head_seen chunk head view
 
--- so it was with each of these chunks, one after another
+-- the header of each of these chunks was looked at, one after another, whatever it was
 abbrev pub SeesHeaders : List ChunkId → View → View → Type 0
 SeesHeaders [] view now = now ≡ view
 SeesHeaders (chunk ∷ chunks) view now = (next : View) × SeesHeader view chunk next × SeesHeaders chunks next now
@@ -54,7 +54,7 @@ pub record Recovers (order : List ChunkId) (view : View) (slabs : SlabState) (no
   pub oldest_first : follows order again ≡ true
   pub each : SweepsEach again seen slabs now left
 
--- so, and each chunk of the hand-out order was looked at
+-- each chunk of the hand-out order was looked at, and then some of them, oldest first, were each put back or seen alive
 pub record Sweeps (order : List ChunkId) (view : View) (slabs : SlabState) (now : View) (left : SlabState) : Type 0 where
   pub recovers : Recovers order view slabs now left
   pub whole : list_all (is_among recovers.looked) order ≡ true

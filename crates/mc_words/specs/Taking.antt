@@ -16,7 +16,7 @@ use Rattle.mc_words.specs.Happens.{LawfulView, Happens, HappensAt}
 use Rattle.mc_words.specs.Slots.{number_of, slot_of}
 use Rattle.mc_words.specs.Told.{Sits, At, StaysOut}
 
--- the events by which it is taken, missed and given
+-- the event by which the lock is taken
 abbrev pub take_of : Lock → Step
 take_of SlabsLock = step.TakeSlabs
 take_of (StripeLock stripe) = step.TakeStripe stripe
@@ -31,7 +31,7 @@ abbrev pub give_of : Lock → Step
 give_of SlabsLock = step.GiveSlabs
 give_of (StripeLock stripe) = step.GiveStripe stripe
 
--- what a look at its word adds to what the hand saw
+-- what a look at the lock's word adds to what the hand saw
 abbrev pub sight_of : Lock → ℕ → Sight
 sight_of SlabsLock word = past.slabs_word word
 sight_of (StripeLock stripe) word = past.stripe_word stripe word
@@ -49,31 +49,31 @@ HasValue view (StripeLock number) (OfSlabs slabs) = ⊥
 HasValue view (StripeLock number) (OfStripe stripe) = slice_index_or view.stripes number None ≡ Some stripe
 HasValue view (StripeLock number) Empty = ⊥
 
--- it may be given back: no page is half cut, and no entry is aside
+-- the value may be given back: pages and lists with no page half cut, or a stripe with no entry aside
 abbrev pub can_give : Slot → Bool
 can_give (OfSlabs slabs) = none_half_cut slabs
 can_give (OfStripe stripe) = is_none stripe.state.aside
 can_give Empty = false
 
--- the hand has the locks of these stripes
+-- the hand has the locks of these stripes, and of no others
 abbrev pub HasStripes : View → (ℕ → Bool) → Type 0
 HasStripes view has = map is_some view.stripes ≡ map has (range_with_len 0 view.setup.config.stripes)
 
--- the hand has the lock, which it hadn't, and otherwise what it had
+-- the hand has the lock, which it hadn't, and otherwise what it had; of a stripe's lock this is said where it had no other stripe's
 abbrev pub Gains : Lock → View → View → Type 0
 Gains SlabsLock view now = (is_some view.slabs ≡ false) × (is_some now.slabs ≡ true) × (map is_some now.stripes ≡ map is_some view.stripes)
 Gains (StripeLock stripe) view now = (is_some now.slabs ≡ is_some view.slabs) × (HasStripes view (λ other. false) → HasStripes now (λ other. stripe == other))
 
--- it hasn't the lock any more, and otherwise what it had
+-- the hand hasn't the lock any more, and otherwise what it had; of a stripe's lock this is said where it had no other stripe's
 abbrev pub Loses : Lock → View → View → Type 0
 Loses SlabsLock view now = (is_some now.slabs ≡ false) × (map is_some now.stripes ≡ map is_some view.stripes)
 Loses (StripeLock stripe) view now = (is_some now.slabs ≡ is_some view.slabs) × (HasStripes view (λ other. stripe == other) → HasStripes now (λ other. false))
 
--- the views are of one hand
+-- the views are of one hand, whichever locks it has
 abbrev pub IsOneHand : View → View → Type 0
 IsOneHand view now = (now.setup ≡ view.setup) × (now.spare ≡ view.spare) × (now.row.ids.number ≡ view.row.ids.number)
 
--- the word was 0, and the value is out with the hand
+-- the hand took the lock, and the value behind it is out with the hand
 pub record TakesValue (lock : Lock) (me now : Sits) : Type 0 where
   pub slot : Slot
   pub out : now.1 ≡ (slot_of lock, slot) ∷ me.1
@@ -83,11 +83,11 @@ pub record TakesValue (lock : Lock) (me now : Sits) : Type 0 where
   pub lawful : LawfulView now.0
   pub happens : Happens me.0 [] (take_of lock) now.0
 
--- so it is where the word was 0; otherwise the word was seen
+-- a try of the lock: where its word was 0 the hand took it, and otherwise it saw the word
 abbrev pub Takes : Lock → At → Sits → ℕ → Sits → Type 0
 Takes lock at me found now = (found ≡ 0 → TakesValue lock me now) × (found ≢ 0 → StaysOut me now × HappensAt at.word found me.0 [] (miss_of lock) now.0)
 
--- the value is home
+-- the hand gave the lock back, and the value that it took last is home
 pub record GivesValue (lock : Lock) (me now : Sits) : Type 0 where
   pub out : now.1 ≡ rest me.1
   pub loses : Loses lock me.0 now.0

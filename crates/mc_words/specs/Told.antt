@@ -19,19 +19,19 @@ At = table.Step Slot
 abbrev pub StaysOut : Sits → Sits → Type 0
 StaysOut me now = (now.1 ≡ me.1) × IsSameHand me.0 now.0 × LawfulView now.0
 
--- the step was this event, and found the word so
+-- the step on the table was this event, and found its word to be this
 abbrev pub TellsFound : Step → At → Sits → ℕ → Sits → Type 0
 TellsFound step at me found now = StaysOut me now × HappensAt at.word found me.0 [] step now.0
 
--- the step was this event
+-- the step on the table was this event
 abbrev pub TellsEvent : Step → At → Sits → ℕ → Sits → Type 0
 TellsEvent step at me written now = StaysOut me now × Happens me.0 [] step now.0
 
--- the step was the one event where it found the word as expected, and else the other, which looks at it
+-- the step on the table was the one event where it found its word as expected, and else the other, which looks at it
 abbrev pub TellsExchange : Step → Step → At → Sits → ℕ → Sits → Type 0
 TellsExchange step look at me found now =
     StaysOut me now × (found ≡ at.first → HappensAt at.word found me.0 [] step now.0) × (found ≢ at.first → HappensAt at.word found me.0 [] look now.0)
 
--- the step was this event, before which the change was made
+-- the step on the table was this event, before which the change was made
 abbrev pub TellsChange : Change → Step → Sits → Sits → Type 0
 TellsChange change step me now = StaysOut me now × Happens me.0 (change ∷ []) step now.0

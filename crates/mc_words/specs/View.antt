@@ -31,7 +31,7 @@ abbrev pub own_event : List Change → Step → OwnEvent
 own_event before (Join kept spent) = joined
 own_event before step = made before step
 
--- those that this hand made of a run, the first first
+-- the events of a run that this hand made, the first first
 abbrev pub events_of : ℕ → List Event → List OwnEvent
 events_of hand [] = []
 events_of hand (event ∷ run) = if event.hand == hand then own_event event.before event.step ∷ events_of hand run else events_of hand run
@@ -54,7 +54,7 @@ pub record View : Type 0 where
 abbrev pub held_stripes : Setup → State → ℕ → List (Option ReadyStripe)
 held_stripes setup state hand = map (held_stripe state hand) (range_with_len 0 setup.config.stripes)
 
--- all that a moment has of a hand that made these events
+-- the view of a hand that made these events, by all that the moment has of it
 abbrev pub view_at : Setup → ℕ → List OwnEvent → Moment → ℕ → View
 view_at setup spare events moment hand = record {
   setup = setup;
@@ -66,7 +66,7 @@ view_at setup spare events moment hand = record {
   made_of = None;
 }
 
--- who saw, said and knows nothing
+-- what a new hand of this number knows: it saw and said nothing, and of so many stripes no call
 abbrev pub new_knowledge : ℕ → ℕ → Knowledge
 new_knowledge stripes number = record {
   saw = [];
@@ -77,7 +77,7 @@ new_knowledge stripes number = record {
   known = [];
 }
 
--- a hand that did nothing yet
+-- the view of a hand of this number that did nothing yet, and may make so many others
 abbrev pub new_view : Setup → ℕ → ℕ → View
 new_view setup number spare = record {
   setup = setup;
@@ -89,7 +89,7 @@ new_view setup number spare = record {
   made_of = None;
 }
 
--- of no arena
+-- the setup of no arena
 abbrev pub no_setup : Setup
 no_setup = record {
   config = record { page = 0; limit = 0; first = 0; num = 0; den = 0; max = 0; stripes = 0; bulk = 0 };
@@ -98,18 +98,18 @@ no_setup = record {
   start = 0;
 }
 
--- a hand that another took over: one constant, whatever the arena is
+-- the view of a hand that another took over: one constant, whatever the arena is
 abbrev pub spent_view : View
 spent_view = record { setup = no_setup; spare = 0; events = []; row = record { ids = gone; holdings = []; looks = []; knows = knows_nothing }; slabs = None; stripes = []; made_of = None }
 
--- a hand that took another one over
+-- the view of a hand that took another one over
 abbrev pub both_views : View → View → View
 both_views kept spent = record kept { events = kept.events ++ joined ∷ []; row = record kept.row { knows = both_know kept.row.knows spent.row.knows } }
 
--- the same, before it is told of that
+-- the view of a hand that took another one over, and isn't told of that yet
 abbrev pub just_made : View → View → View
 just_made kept spent = record (both_views kept spent) { made_of = Some (kept.row, spent.row, kept.events, spent.events) }
 
--- what a hand knows once it is told
+-- the view of a hand that is told how it was made
 abbrev pub settled : View → View
 settled view = record view { made_of = None }

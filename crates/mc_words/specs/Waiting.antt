@@ -18,7 +18,7 @@ abbrev pub MissesSlabs : List ℕ → View → View → Type 0
 MissesSlabs [] view now = now ≡ view
 MissesSlabs (word ∷ words) view now = IsTriedNext word words × Happens view [] step.MissSlabs (slabs_missed word view) × MissesSlabs words (slabs_missed word view) now
 
--- after these looks it was taken, and these are its pages and lists
+-- the hand waited for the slabs lock: after some looks at its word it was taken, with these pages and lists behind it
 pub record WaitsForSlabs (view : View) (slabs : SlabState) (now : View) : Type 0 where
   pub words : List ℕ
   pub before : View
@@ -26,13 +26,13 @@ pub record WaitsForSlabs (view : View) (slabs : SlabState) (now : View) : Type 0
   pub taken : Happens before [] step.TakeSlabs now
   pub is : now ≡ slabs_taken slabs before
 
--- these words were seen at the lock of a stripe, by such tries and reads
+-- these words were seen at the lock of a stripe, one after another: by tries that missed it, and by reads, which go on until one finds 0
 abbrev pub MissesStripe : ℕ → List ℕ → View → View → Type 0
 MissesStripe stripe [] view now = now ≡ view
 MissesStripe stripe (word ∷ words) view now =
     IsTriedNext word words × Happens view [] (step.MissStripe stripe) (stripe_missed stripe word view) × MissesStripe stripe words (stripe_missed stripe word view) now
 
--- after these looks it was taken, and this is its value
+-- the hand waited for a stripe's lock: after some looks at its word it was taken, with this value behind it
 pub record WaitsForStripe (stripe : ℕ) (view : View) (value : ReadyStripe) (now : View) : Type 0 where
   pub words : List ℕ
   pub before : View

@@ -2,7 +2,7 @@
 ghost use Rattle.std.specs.Prelude.{◌≡◌, [], true, false, Some, IsOk, OnOk, OnErr};
 ghost use Rattle.std.specs.Option.{option_map};
 ghost use Rattle.mc_pages.specs.Changes.{after_clear};
-ghost use Rattle.mc_core.specs.Chunks.{is_moving_page};
+ghost use Rattle.mc_pages.specs.Pages.{is_on_the_move};
 ghost use Rattle.mc_core.specs.Seen.{seen_head};
 ghost use Rattle.mc_core.specs.State.{has_chunk};
 ghost use Rattle.mc_core.specs.declared.event.Step.TheVariants as step;
@@ -25,7 +25,7 @@ impl Arena {
         requires arena { IsHandOf self.now hand.old }
         requires near { has_chunk (setup_of self.now).table chunk ≡ true }
         requires held { (view hand.old).slabs ≡ Some held.old.shared }
-        requires moving { is_moving_page held.old.shared chunk.page ≡ true }
+        requires moving { is_on_the_move held.old.shared chunk.page ≡ true }
         ensures arena { IsHandOf self.now hand.new }
         ensures locks { hand.new.locks ≡ hand.old.locks }
         ensures held { (view hand.new).slabs ≡ Some held.new.shared }

@@ -40,7 +40,7 @@ impl Arena {
         ensures same_slabs { slabs.new ≡ slabs.old }
         ensures stripe { slice_index_or (view hand.new).stripes stripe.new.number None ≡ Some stripe.new.stripe }
         ensures number { stripe.new.number ≡ stripe.old.number }
-        ensures condemned { OnOk result (Condemns (view hand.old) hand.old.number stripe.old.number stripe.old.stripe chunk stripe.new.stripe (view hand.new)) }
+        ensures condemned { OnOk result (Condemns hand.old.number stripe.old.number chunk stripe.old.stripe (view hand.old) stripe.new.stripe (view hand.new)) }
         ensures dead { OnOk result (option_map is_dead (seen_head (view hand.new).row.looks chunk) ≡ Some true) }
         ensures moved { OnErr result (FindsHeld (view hand.old) chunk (view hand.new) × (stripe.new ≡ stripe.old)) }
     {

@@ -1,8 +1,8 @@
 //! Chunks that are handed out for copies of items on the moving page.
 ghost use Rattle.std.specs.Prelude.{◌≡◌, ◌≤◌, true, false, length, None, Some, IfSome};
 ghost use Rattle.mc_pages.specs.Changes.{after_replace};
+ghost use Rattle.mc_pages.specs.Pages.{is_on_the_move};
 ghost use Rattle.mc_pages.specs.SlabState.{class_at, class_of_page};
-ghost use Rattle.mc_core.specs.Chunks.{is_moving_page};
 ghost use Rattle.mc_core.specs.Judged.{sees_no_target};
 ghost use Rattle.mc_core.specs.Silent.{is_handed_out};
 ghost use Rattle.mc_core.specs.State.{has_chunk, is_class, room_in};
@@ -25,7 +25,7 @@ impl Arena {
     pub fn pop_off(&self, hand: &mut Hand, held: &mut SlabsHeld, old: ChunkId) -> Option<Fresh>
         requires arena { IsHandOf self.now hand.old }
         requires held { (view hand.old).slabs ≡ Some held.old.shared }
-        requires moving { is_moving_page held.old.shared old.page ≡ true }
+        requires moving { is_on_the_move held.old.shared old.page ≡ true }
         requires out { is_handed_out held.old.shared old ≡ true }
         requires room { length (view hand.old).row.holdings ≤ 255 }
         ensures arena { IsHandOf self.now hand.new }

@@ -19,13 +19,13 @@ use Rattle.mc_words.specs.Idle.{is_idle}
 use Rattle.mc_words.specs.Ready.{IsReady}
 use Rattle.mc_words.specs.Refs.{KeepsHeld, KeepsRefs}
 use Rattle.mc_items.specs.declared.refs.Ref.{Ref}
-use Rattle.mc_items.specs.ItemRefs.{IsItemRef, item_chunk}
+use Rattle.mc_items.specs.ItemRefs.{AreKept, IsItemRef, item_chunk, refers_to}
 use Rattle.mc_items.specs.Keeping.{HoldsAsOften, HoldsLess, HoldsTheSame, HoldsToo, StaysItemRef, holding_by}
 use Rattle.mc_items.proofs.Rows as rows
 use Rattle.mc_items.proofs.Rows.{chunk_found}
 use Rattle.mc_items.proofs.Chains.{held_refs_keep_items, keeping_goes_on, kept_refs_keep_items, releasing_keeps_others}
 use Rattle.mc_workers.specs.Lines.{all_released}
-use Rattle.mc_workers.specs.Kept.{AreKept, Hold, hold_of, holds_of, refers_to}
+use Rattle.mc_workers.specs.Kept.{Hold, hold_of, holds_of}
 
 -- each is a reference still, and its words are the same
 pub refs_stay : (view now : View) (kept : List Ref) → KeepsRefs view now → All (IsItemRef view) kept → All (IsItemRef now) kept

@@ -8,10 +8,11 @@ use Rattle.mc_words.specs.Arenas.{IsHandOf, setup_of, view}
 use Rattle.mc_words.specs.Observers.{number_of}
 use Rattle.mc_words.specs.Ready.{IsReady}
 use Rattle.mc_words.specs.View.{Setup}
+use Rattle.mc_items.specs.ItemRefs.{AreKept}
 use Rattle.mc_items.specs.declared.refs.Ref.{Ref}
 use Rattle.mc_script.specs.declared.command.Command.{Command}
 use Rattle.mc_workers.specs.declared.reply.Reply.{Reply}
-use Rattle.mc_workers.specs.Kept.{AreKept, Hold, holds_of}
+use Rattle.mc_workers.specs.Kept.{Hold, holds_of}
 use Rattle.mc_workers.specs.Asking.{Asked, asked_by, is_asked_by, lines_of}
 use Rattle.mc_workers.specs.Lines.{AddsReply, ServesEach, ServesLines, replies_to, reply_to}
 use Rattle.mc_workers.specs.Replies.{reply_text}

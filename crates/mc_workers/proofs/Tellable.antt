@@ -29,10 +29,10 @@ use Rattle.mc_words.specs.Waiting.{WaitsForSlabs}
 use Rattle.mc_words.proofs.Lent.{lent_slabs}
 use Rattle.mc_words.proofs.TakeAndGive.{held_from}
 use Rattle.mc_mover.specs.declared.numbers.Survey.{Survey}
-use Rattle.mc_mover.specs.Surveying.{IsSurvey, Surveys, SweepsClasses, classes_swept}
+use Rattle.mc_mover.specs.Surveying.{IsSurvey, Surveys, SweepsClasses, classes_swept, free_in, pages_in}
 use Rattle.mc_mover.proofs.HoldsSlabs.{wait_keeps}
 use Rattle.mc_workers.specs.Script.{SurveysWhole}
-use Rattle.mc_workers.specs.Surveyed.{AreTellable, free_in, granted_in, pages_in}
+use Rattle.mc_workers.specs.Surveyed.{AreTellable, granted_in}
 
 -- pages and lists that are taken are of the arena's table, and that is sound
 pub taken_of_table : (view : View) (slabs : SlabState) (now : View) → WaitsForSlabs view slabs now → IsOfTable now.setup.table slabs × IsSound now.setup.table

@@ -27,7 +27,7 @@ is_workers command = is_some (asked_by command)
 abbrev pub is_asked_by : ℕ → Command → Bool
 is_asked_by worker command = option_map_or (λ asked. asked.worker == worker) (asked_by command) false
 
--- the lines of the worker, and those of no worker, which are the mover's
+-- the lines of this worker, in order
 abbrev pub lines_of : ℕ → List Command → List Command
 lines_of worker commands = filter (is_asked_by worker) commands
 

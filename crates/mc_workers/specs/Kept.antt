@@ -1,11 +1,8 @@
 -- The references that a worker keeps by `hold`, until its `drop`.
-use Rattle.std.specs.Prelude.{◌≡◌, ◌≢◌, ◌<◌, ℕ, ◌+◌, List, ◌∷◌, ◌++◌, Bool, drop, length, map, count_by, slice_index_or, All}
-use Rattle.mc_pages.specs.declared.ids.ChunkId.{ChunkId}
-use Rattle.mc_pages.specs.ClassState.{is_chunk}
-use Rattle.mc_core.specs.Columns.{holds}
+use Rattle.std.specs.Prelude.{◌≡◌, ◌≢◌, ◌<◌, ℕ, ◌+◌, List, ◌∷◌, ◌++◌, drop, length, map, slice_index_or, All}
 use Rattle.mc_words.specs.View.{View}
 use Rattle.mc_items.specs.declared.refs.Ref.{Ref}
-use Rattle.mc_items.specs.ItemRefs.{IsItemRef, item_chunk, item_key, item_words}
+use Rattle.mc_items.specs.ItemRefs.{item_key, item_words}
 
 -- a reference that is kept, and the words of its item
 pub record Hold : Type 0 where
@@ -19,15 +16,6 @@ hold_of view item = record { item = item; words = item_words view item }
 -- the holds by these references, in the same order
 abbrev pub holds_of : View → List Ref → List Hold
 holds_of view kept = map (hold_of view) kept
-
--- the reference is to the chunk
-abbrev pub refers_to : ChunkId → Ref → Bool
-refers_to chunk item = is_chunk (item_chunk item) chunk
-
--- the hand refers to the item of each, and holds each chunk as often as references to it are kept
-pub record AreKept (view : View) (kept : List Ref) : Type 0 where
-  pub items : All (IsItemRef view) kept
-  pub counts : (chunk : ChunkId) → holds chunk view.row.holdings ≡ count_by (refers_to chunk) kept
 
 -- the reference is to an item of another key
 abbrev pub IsToOther : ℕ → Ref → Type 0

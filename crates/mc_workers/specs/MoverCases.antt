@@ -4,6 +4,7 @@ use Rattle.mc_classes.specs.Classes.{Classes}
 use Rattle.mc_pages.specs.declared.moves.Reassign.{Reassign}
 use Rattle.mc_pages.specs.declared.moves.Reassign.TheVariants.{NoMemory, NoSpare}
 use Rattle.mc_words.specs.declared.hand.Hand.{Hand}
+use Rattle.mc_mover.specs.Surveying.{evictions_in, free_in, pages_in}
 use Rattle.mc_mover.specs.declared.counts.Counts as turns
 use Rattle.mc_mover.specs.declared.counts.Turn.{Turn}
 use Rattle.mc_mover.specs.declared.counts.Turn.TheVariants as turn
@@ -21,7 +22,7 @@ use Rattle.mc_workers.specs.declared.mover_reply.Acted.{Acted}
 use Rattle.mc_workers.specs.declared.mover_reply.MoverReply.TheVariants as reply
 use Rattle.mc_workers.specs.MoverReplies.{totals_text, window_text}
 use Rattle.mc_workers.specs.Moving.{ActsOnDecision, AreTurnsOf, DoesTurns, RunsOutOfTurns, ServesMover, TurnsEach, counts_of_all, decider_after, decision_after, refusal_for, turns_of}
-use Rattle.mc_workers.specs.Surveyed.{AreTellable, evictions_in, free_in, granted_in, pages_in}
+use Rattle.mc_workers.specs.Surveyed.{AreTellable, granted_in}
 
 -- a page was to go from class 3 to the pool, and this was answered
 abbrev pub pooled : Result (Unit {0}) Reassign → Option Acted
@@ -52,7 +53,7 @@ abbrev pub DecisionsAreActedOn : Type 0
 DecisionsAreActedOn = (decision : Decision) (acted : Acted) (before now : Hand) →
     (ActsOnDecision (Some decision) None before now → ⊥) × (ActsOnDecision None (Some acted) before now → ⊥)
 
--- what a turn counted that cleared 3 chunks, one of them by a rescue, and found 2 busy; and one that cleared 4, one by an eviction
+-- what a turn counted that cleared 3 chunks, one of them by a rescue, and found 2 busy
 abbrev pub first_counts : turns.Counts
 first_counts = record { cleared = 3; rescued = 1; evicted = 0; busy = 2; locked = 0 }
 

@@ -3,6 +3,7 @@ use Rattle.std.specs.Prelude.{ℕ, List, [], ◌∷◌, ◌++◌, codes, Option,
 use Rattle.mc_classes.specs.Classes.{Classes}
 use Rattle.mc_pages.specs.declared.moves.Reassign.{Reassign}
 use Rattle.mc_pages.specs.Accounted.{truth}
+use Rattle.mc_mover.specs.Surveying.{free_in, pages_in}
 use Rattle.mc_mover.specs.declared.numbers.Survey.{Survey}
 use Rattle.mc_watch.specs.Texts.{general_text, line, slabs_text}
 use Rattle.mc_machine.specs.Lines.{name_of}
@@ -10,7 +11,7 @@ use Rattle.mc_machine.specs.Texts.{spaced, turn_line}
 use Rattle.mc_workers.specs.declared.mover_reply.Acted.{Acted}
 use Rattle.mc_workers.specs.declared.mover_reply.MoverReply.{MoverReply}
 use Rattle.mc_workers.specs.declared.mover_reply.MoverReply.TheVariants.{Answer, Mode, Window, Turned, Totals, Classes as OfClasses}
-use Rattle.mc_workers.specs.Surveyed.{AreTellable, free_in, granted_in, pages_in}
+use Rattle.mc_workers.specs.Surveyed.{AreTellable, granted_in}
 
 -- the word for whether a page began to move
 abbrev pub told_name : Result (Unit {0}) Reassign → List ℕ

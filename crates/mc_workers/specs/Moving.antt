@@ -10,7 +10,7 @@ use Rattle.mc_mover.specs.declared.numbers.Survey.{Survey}
 use Rattle.mc_mover.specs.Acting.{ActsOnce, TellsTurn}
 use Rattle.mc_mover.specs.Recording.{TrimsStripes}
 use Rattle.mc_mover.specs.Reassigning.{SetsMode}
-use Rattle.mc_mover.specs.Surveying.{Surveys}
+use Rattle.mc_mover.specs.Surveying.{Surveys, evictions_in, free_in, pages_in}
 use Rattle.mc_mover.specs.Telling.{counts_in}
 use Rattle.mc_mover.specs.Turning.{Turns}
 use Rattle.mc_script.specs.declared.command.Command.{Command}
@@ -26,7 +26,6 @@ use Rattle.mc_workers.specs.declared.mover.Mover.{Mover}
 use Rattle.mc_workers.specs.declared.mover_reply.Acted.{Acted}
 use Rattle.mc_workers.specs.declared.mover_reply.MoverReply.{MoverReply}
 use Rattle.mc_workers.specs.declared.mover_reply.MoverReply.TheVariants.{Answer, Mode, Window, Turned, Totals, Classes}
-use Rattle.mc_workers.specs.Surveyed.{evictions_in, free_in, pages_in}
 
 -- the mover's decider, with the windows that it was fed
 abbrev pub decider_of : Mover → DeciderState

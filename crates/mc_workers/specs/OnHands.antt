@@ -12,7 +12,7 @@ use Rattle.mc_workers.specs.Lines.{AddsReply, ServesLines}
 use Rattle.mc_workers.specs.Moves.{AddsMove, AddsMoves}
 use Rattle.mc_workers.specs.Serving.{AnswersDrop, AnswersHold, Serves}
 
--- a hold and a drop, by the reply
+-- a hold of this key, by the reply: what it made of the hand and of the references that it keeps
 abbrev pub AnswersHoldBy : Arena → ℕ → Reply → Hand → List Ref → Hand → List Ref → Type 0
 AnswersHoldBy arena key reply before kept now left =
     AnswersHold (setup_of arena) key reply (holds_of (view before) kept) before (holds_of (view now) left) now
@@ -21,7 +21,7 @@ AnswersHoldBy arena key reply before kept now left =
 abbrev pub AnswersDropBy : ℕ → Reply → Hand → List Ref → Hand → List Ref → Type 0
 AnswersDropBy key reply before kept now left = AnswersDrop key reply (holds_of (view before) kept) before (holds_of (view now) left) now
 
--- any line of a worker, by the reply; and with the line that tells it added to a text
+-- any line of a worker, by the reply: what it made of the hand and of the references that it keeps
 abbrev pub ServesBy : Arena → Command → Reply → Hand → List Ref → Hand → List Ref → Type 0
 ServesBy arena command reply before kept now left =
     Serves (setup_of arena) command reply (holds_of (view before) kept) before (holds_of (view now) left) now
@@ -31,12 +31,12 @@ abbrev pub AddsReplyBy : Arena → Command → Hand → List Ref → List ℕ �
 AddsReplyBy arena command before kept text now left longer =
     AddsReply (setup_of arena) command (holds_of (view before) kept) before text (holds_of (view now) left) now longer
 
--- all lines of a worker so
+-- all lines of a worker were done, in order, and the lines that tell their replies were added to the text
 abbrev pub ServesLinesBy : Arena → ℕ → List Command → Hand → List Ref → List ℕ → Hand → List Ref → List ℕ → Type 0
 ServesLinesBy arena worker commands before kept text now left longer =
     ServesLines (setup_of arena) worker commands (holds_of (view before) kept) before text (holds_of (view now) left) now longer
 
--- a line of the mover, and all of them, so
+-- a line of the mover was done, and the line that tells its reply was added to the text
 abbrev pub AddsMoveBy : Arena → Command → Hand → Mover → List ℕ → Hand → Mover → List ℕ → Type 0
 AddsMoveBy arena command before mover text now left longer = AddsMove (setup_of arena).table command mover before text left now longer
 

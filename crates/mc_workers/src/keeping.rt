@@ -4,7 +4,8 @@ ghost use Rattle.mc_words.specs.Arenas.{IsHandOf, view};
 ghost use Rattle.mc_words.specs.Idle.{is_idle};
 ghost use Rattle.mc_words.specs.Observers.{number_of};
 ghost use Rattle.mc_words.specs.Ready.{IsReady};
-ghost use Rattle.mc_workers.specs.Kept.{AreKept, IsLastAt, IsToOther};
+ghost use Rattle.mc_items.specs.ItemRefs.{AreKept};
+ghost use Rattle.mc_workers.specs.Kept.{IsLastAt, IsToOther};
 ghost use Rattle.mc_workers.specs.Lines.{all_released};
 ghost use Rattle.mc_workers.specs.OnHands.{AnswersDropBy, AnswersHoldBy};
 

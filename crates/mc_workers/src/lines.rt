@@ -6,7 +6,7 @@ ghost use Rattle.mc_words.specs.Arenas.{IsHandOf, setup_of, view};
 ghost use Rattle.mc_words.specs.Idle.{is_idle};
 ghost use Rattle.mc_words.specs.Observers.{number_of};
 ghost use Rattle.mc_words.specs.Ready.{IsReady};
-ghost use Rattle.mc_workers.specs.Kept.{AreKept};
+ghost use Rattle.mc_items.specs.ItemRefs.{AreKept};
 ghost use Rattle.mc_workers.specs.Asking.{asked_by, is_asked_by, is_workers, lines_of};
 ghost use Rattle.mc_workers.specs.Gates.{Passed, PassedEach};
 ghost use Rattle.mc_workers.specs.Lines.{DoesLines};

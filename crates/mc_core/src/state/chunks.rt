@@ -1,9 +1,10 @@
 //! Chunks that are handed out, filled, given up, put back, cleared and cut.
 ghost use Rattle.std.specs.Prelude.{◌≡◌, ◌<◌, true, length, None, Some, IfOk, OnOk, replicate};
 ghost use Rattle.std.specs.Option.{option_map};
+ghost use Rattle.mc_pages.specs.Pages.{is_on_the_move};
 ghost use Rattle.mc_core.specs.Holdings.{holding_of};
 ghost use Rattle.mc_core.specs.State.{head_at, room_at, holdings_at};
-ghost use Rattle.mc_core.specs.Chunks.{has_place, can_hand_out, with_fresh, next_free, can_pop, after_pop, is_moving_page, target_of, can_pop_off, after_pop_off, can_fill, after_fill, holds_as, can_discard, can_release, after_drop, can_put_back, after_put_back, can_clear, after_clear, can_cut, after_cut, handed_out, let_go, with_tag_free, with_tag_out, most_issue};
+ghost use Rattle.mc_core.specs.Chunks.{has_place, can_hand_out, with_fresh, next_free, can_pop, after_pop, target_of, can_pop_off, after_pop_off, can_fill, after_fill, holds_as, can_discard, can_release, after_drop, can_put_back, after_put_back, can_clear, after_clear, can_cut, after_cut, handed_out, let_go, with_tag_free, with_tag_out, most_issue};
 
 use super::State;
 use crate::head::{Head, Tag};
@@ -157,8 +158,8 @@ impl State {
     }
 
     /// Whether the page is on the move.
-    pub(super) fn is_moving_page(&self, page: PageId) -> bool
-        ensures { result ≡ is_moving_page self.now.slabs page }
+    pub(super) fn is_on_the_move(&self, page: PageId) -> bool
+        ensures { result ≡ is_on_the_move self.now.slabs page }
     {
         self.slabs
             .moving()
@@ -182,7 +183,7 @@ impl State {
         ensures { IfOk result (λ can. can ≡ can_pop_off self.now hand old) }
     {
         if !self.has_slabs(hand)
-            || !self.is_moving_page(old.page)
+            || !self.is_on_the_move(old.page)
             || !self.is_handed_out(old)?
             || !self.has_place(hand)
         {
@@ -296,7 +297,7 @@ impl State {
         let is_unused = head.tag == Tag::Free || head.is_dead();
         if !self.has_slabs(hand)
             || !self.has_chunk(chunk)
-            || !self.is_moving_page(chunk.page)
+            || !self.is_on_the_move(chunk.page)
             || !is_unused
         {
             return Ok(false);

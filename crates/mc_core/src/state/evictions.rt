@@ -69,7 +69,7 @@ impl State {
         requires { hand < length self.now.ids }
         ensures { IfOk result (λ must. must ≡ must_leave self.now.table self.now.heads self.now.slabs (looks_at self.now hand) chunk) }
     {
-        if !self.is_moving_page(chunk.page) || !self.none_dead(hand, chunk)? {
+        if !self.is_on_the_move(chunk.page) || !self.none_dead(hand, chunk)? {
             return Ok(false);
         }
         Ok(self.target(chunk.page)?.is_none())
@@ -92,7 +92,7 @@ impl State {
         requires { hand < length self.now.ids }
         ensures { IfOk result (λ has. has ≡ has_reason self.now.table self.now.heads self.now.slabs (looks_at self.now hand) (holdings_at self.now hand) chunk) }
     {
-        if self.is_moving_page(chunk.page) && self.has_copy(hand, chunk) {
+        if self.is_on_the_move(chunk.page) && self.has_copy(hand, chunk) {
             return Ok(true);
         }
         if self.must_leave(hand, chunk)? {

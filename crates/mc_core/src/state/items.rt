@@ -3,7 +3,7 @@ ghost use Rattle.std.specs.Prelude.{◌≡◌, ◌<◌, true, length, Some, OnOk
 ghost use Rattle.mc_stripe.specs.StripeState.{key_aside};
 ghost use Rattle.mc_core.specs.Holdings.{has_fresh, is_complete, key_in, words_of};
 ghost use Rattle.mc_core.specs.State.{head_at, holdings_at, ids_at, stripe_of, stripe_at};
-ghost use Rattle.mc_core.specs.Items.{linked, unlinked, referred, can_count, is_next_stamp, suits, can_link_key, can_link_holding, can_link, after_link, can_tell_link, with_told_link, with_rescued, with_set, is_none_else_aside, most_stamps, with_reference, chunk_of, can_look_up, can_refer, after_refer, with_got, can_unlink, after_unlink, can_again, after_again, can_word, can_word_held, after_word_held};
+ghost use Rattle.mc_core.specs.Items.{linked, unlinked, referred, can_count, is_next_stamp, suits, can_link_key, can_link_holding, can_link, after_link, can_tell_link, with_told_link, with_rescued, with_set, is_none_else_aside, most_stamps, with_reference, chunk_of, can_look_up, can_refer, after_refer, with_got, can_unlink, after_unlink, can_again, can_word, can_word_held, after_word_held};
 
 use super::State;
 use crate::head::{Head, Tag};
@@ -324,7 +324,7 @@ impl State {
     pub(super) fn again(&mut self, hand: u64, chunk: ChunkId, issue: u64) -> Result<(), Refused>
         requires here { hand < length self.old.ids }
         requires allowed { can_again self.old hand chunk issue ≡ true }
-        ensures { OnOk result (self.new ≡ after_again self.old hand chunk) }
+        ensures { OnOk result (self.new ≡ with_reference self.old hand chunk) }
     {
         self.gain_reference(hand, chunk)
     }

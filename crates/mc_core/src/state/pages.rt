@@ -3,9 +3,10 @@ ghost use Rattle.std.specs.Prelude.{◌≡◌, true};
 ghost use Rattle.mc_pages.specs.SlabState.{class_of_page, class_of_chunk};
 ghost use Rattle.mc_pages.specs.Changes.{after_pop, after_back, after_touch, after_replace, after_clear, after_cut};
 ghost use Rattle.mc_pages.specs.Moves.{after_finish, after_passed, after_wrap};
+ghost use Rattle.mc_pages.specs.Pages.{is_on_the_move};
 ghost use Rattle.mc_core.specs.State.{is_class, with_slabs};
 ghost use Rattle.mc_core.specs.Silent.{is_among, is_handed_out, is_listed, run_of, can_finish, can_pass, can_wrap};
-ghost use Rattle.mc_core.specs.Chunks.{next_free, is_moving_page, is_next_uncut};
+ghost use Rattle.mc_core.specs.Chunks.{next_free, is_next_uncut};
 
 use super::State;
 use mc_classes::ClassId;
@@ -48,7 +49,7 @@ impl State {
 
     /// A chunk of the moving page leaves the list that it is in.
     pub(super) fn list_clear(&mut self, chunk: ChunkId)
-        requires moving { is_moving_page self.old.slabs chunk.page ≡ true }
+        requires moving { is_on_the_move self.old.slabs chunk.page ≡ true }
         requires listed { is_listed self.old.slabs (class_of_page self.old.slabs chunk.page) chunk ≡ true }
         ensures { self.new ≡ with_slabs self.old (after_clear self.old.slabs chunk) }
     {

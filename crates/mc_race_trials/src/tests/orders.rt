@@ -1,13 +1,12 @@
 //! Both orders in which a hand has an item again while another one takes it away, and what the next turns find then.
 ghost use Rattle.std.specs.Prelude.{◌≡◌, IfOk, IfSome, true};
+ghost use Rattle.mc_pages.specs.Pages.{is_on_the_move};
 ghost use Rattle.mc_pages.specs.SlabState.{class_of_page};
-ghost use Rattle.mc_core.specs.Chunks.{is_moving_page};
 ghost use Rattle.mc_core.specs.State.{has_chunk, is_class};
 ghost use Rattle.mc_words.specs.Arenas.{IsHandOf, setup_of, view};
-ghost use Rattle.mc_words.specs.Observers.{slabs_lent};
+ghost use Rattle.mc_words.specs.Observers.{HasSlabs, slabs_lent};
 ghost use Rattle.mc_words.specs.Ready.{IsReady};
 ghost use Rattle.mc_items.specs.ItemRefs.{IsItemRef};
-ghost use Rattle.mc_mover.specs.Acting.{HasSlabs};
 ghost use Rattle.mc_calls.specs.Hands.{IsReadyHandOf};
 ghost use Rattle.mc_race_trials.specs.Keepers.{IsNear};
 
@@ -56,7 +55,7 @@ fn class_on_move(arena: &Arena, _hand: &Hand, held: &SlabsHeld, chunk: ChunkId) 
     requires held { HasSlabs _hand.now held.now }
     requires near { has_chunk (setup_of arena.now).table chunk ≡ true }
     ensures own { IfSome result (λ class. class_of_page (slabs_lent held.now) chunk.page ≡ class) }
-    ensures moving { IfSome result (λ class. is_moving_page (slabs_lent held.now) chunk.page ≡ true) }
+    ensures moving { IfSome result (λ class. is_on_the_move (slabs_lent held.now) chunk.page ≡ true) }
     ensures class { IfSome result (λ class. is_class (setup_of arena.now).table class ≡ true) }
 {
     let moving = held.moving()?;

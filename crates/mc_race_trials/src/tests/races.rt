@@ -2,8 +2,8 @@
 //! it away, or doesn't. In each order one of the two is told so.
 ghost use Rattle.std.specs.Prelude.{◌≡◌, ◌<◌, ◌≤◌, ℕ, IfSome, None, Some, false, length, true};
 ghost use Rattle.mc_stripe.specs.StripeState.{place_of};
+ghost use Rattle.mc_pages.specs.Pages.{is_on_the_move};
 ghost use Rattle.mc_pages.specs.SlabState.{class_of_page};
-ghost use Rattle.mc_core.specs.Chunks.{is_moving_page};
 ghost use Rattle.mc_core.specs.Evictions.{has_copy};
 ghost use Rattle.mc_core.specs.Holdings.{has_fresh};
 ghost use Rattle.mc_core.specs.Looks.{was_linked};
@@ -13,8 +13,8 @@ ghost use Rattle.mc_words.specs.Condemning.{stripe_read};
 ghost use Rattle.mc_words.specs.Fresh.{IsFreshOf};
 ghost use Rattle.mc_words.specs.Idle.{has_no_stripes};
 ghost use Rattle.mc_words.specs.Lent.{IsLentStripe};
-ghost use Rattle.mc_words.specs.Observers.{fresh_chunk, fresh_room, slabs_lent, stripe_lent, stripe_number};
-ghost use Rattle.mc_mover.specs.Acting.{HasBlankCopy, HasSlabs, HasStripe, KnowsReason};
+ghost use Rattle.mc_words.specs.Observers.{HasSlabs, HasStripe, fresh_chunk, fresh_room, slabs_lent, stripe_lent, stripe_number};
+ghost use Rattle.mc_mover.specs.Acting.{HasBlankCopy, KnowsReason};
 
 use mc_classes::ClassId;
 use mc_pages::ChunkId;
@@ -155,7 +155,7 @@ fn rescue<R: Abort>(
     requires ready { (stripe_lent stripe).ready ≡ true }
     requires empty { (stripe_lent stripe).state.aside ≡ None }
     requires key { stripe_read (view hand.old) chunk ≡ Some (stripe_number stripe) }
-    requires moving { is_moving_page (slabs_lent slabs.old) chunk.page ≡ true }
+    requires moving { is_on_the_move (slabs_lent slabs.old) chunk.page ≡ true }
     requires fresh { IsFreshOf (view hand.old) (fresh_chunk fresh) (fresh_room fresh) }
     requires copy { HasBlankCopy hand.old chunk fresh }
     ensures arena { IsHandOf arena.now hand.new }
@@ -196,7 +196,7 @@ pub fn take_away<R: Abort>(
     requires key { stripe_read (view hand.old) chunk ≡ Some (stripe_number stripe) }
     requires leads { (key : ℕ) × (stamp : ℕ) × (place_of (stripe_lent stripe).state key ≡ Some (chunk, stamp)) }
     requires own { class_of_page (slabs_lent slabs.old) chunk.page ≡ class }
-    requires moving { is_moving_page (slabs_lent slabs.old) chunk.page ≡ true }
+    requires moving { is_on_the_move (slabs_lent slabs.old) chunk.page ≡ true }
     requires linked { was_linked (view hand.old).row.looks chunk ≡ true }
     requires fresh { has_fresh (view hand.old).row.holdings ≡ false }
     requires few { length (view hand.old).row.holdings ≤ 255 }

@@ -2,7 +2,7 @@
 ghost use Rattle.std.specs.Prelude.{IfSome};
 ghost use Rattle.mc_words.specs.Arenas.{view};
 ghost use Rattle.mc_items.specs.ItemRefs.{IsItemRef};
-ghost use Rattle.mc_refusal_trials.specs.Hands.{IsReadyHandOf};
+ghost use Rattle.mc_calls.specs.Hands.{IsReadyHandOf};
 
 use super::looking::{Looker, look_after, look_before};
 use super::marks::{tell_call, tell_done, tell_refused};

@@ -1,6 +1,6 @@
 //! Arenas with three hands: one that acts, one that reads, and one that looks.
 ghost use Rattle.std.specs.Prelude.{IfSome, IfOk};
-ghost use Rattle.mc_refusal_trials.specs.Hands.{AreHandsOf, IsIdleHandOf, IsReadyHandOf};
+ghost use Rattle.mc_calls.specs.Hands.{AreHandsOf, IsIdleHandOf, IsReadyHandOf};
 
 use super::looking::{Looker, room};
 use super::marks::{tell_call, tell_done, tell_refused};

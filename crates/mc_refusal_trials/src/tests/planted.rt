@@ -3,7 +3,7 @@ ghost use Rattle.std.specs.Prelude.{◌≡◌, true, IfSome};
 ghost use Rattle.mc_core.specs.State.{has_chunk};
 ghost use Rattle.mc_words.specs.Arenas.{setup_of};
 ghost use Rattle.mc_words.specs.Observers.{hint_chunk};
-ghost use Rattle.mc_refusal_trials.specs.Hands.{IsReadyHandOf};
+ghost use Rattle.mc_calls.specs.Hands.{IsReadyHandOf};
 
 use super::calls::{Answer, Call};
 use super::looking::{Looker, look_after, look_before};

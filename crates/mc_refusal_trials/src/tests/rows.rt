@@ -1,5 +1,5 @@
 //! Pages that move: the worked lists of calls, in which each call that takes memory is made.
-ghost use Rattle.mc_refusal_trials.specs.Hands.{IsReadyHandOf};
+ghost use Rattle.mc_calls.specs.Hands.{IsReadyHandOf};
 
 use super::FOUR_CLASSES;
 use super::calls::{Answer, Call, IDLE, finished, went};

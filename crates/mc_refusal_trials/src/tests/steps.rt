@@ -1,5 +1,5 @@
 //! Calls with what each is to give. One that is refused memory is made again, once what the refusal left was looked at.
-ghost use Rattle.mc_refusal_trials.specs.Hands.{IsReadyHandOf};
+ghost use Rattle.mc_calls.specs.Hands.{IsReadyHandOf};
 
 use super::assert_same;
 use super::calls::{Answer, Call, answer_of};

@@ -1,5 +1,5 @@
 //! What is seen behind the locks of stripes.
-ghost use Rattle.mc_refusal_trials.specs.Hands.{IsReadyHandOf};
+ghost use Rattle.mc_calls.specs.Hands.{IsReadyHandOf};
 
 use super::snapshot::{CALLS, KEYS, STRIPES, chunk_number, note, note_call};
 use mc_stripe::Stripe;

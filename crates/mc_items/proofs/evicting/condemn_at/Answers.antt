@@ -1,9 +1,9 @@
 use Rattle.std.proofs.Common.{Some, ap, sym, ◌∙◌}
 use Rattle.mc_words.specs.declared.held.StripeHeld.{StripeHeld}
 use Rattle.mc_words.specs.View.{View}
-use Rattle.mc_items.specs.Supplying.{TakesItem}
 use Rattle.mc_items.proofs.Evicts.{done_so, reason_still, stripe_still}
 use Rattle.mc_words.proofs.HandNumbers.{number_stays}
+use Rattle.mc_words.specs.Condemning.{Condemns}
 use Rattle.mc_items.proofs.Freed.{full_from}
 use Rattle.mc_items.proofs.evicting.condemn_at.Goals as goal
 
@@ -20,7 +20,7 @@ pub returns-in-Ok-clause-taken : goal.returns-in-Ok-clause-taken
 returns-in-Ok-clause-taken c _ =
     let made = c.reserve.new.hand in
     let number = number_stays c.args.hand.now made (ap (λ (v : View). v.row.ids) c.in_default.ensures.view) in
-    done_so (λ number stripe. TakesItem number stripe c.args.chunk) c.args.hand.now.number c.args.held.number c.args.held.stripe c.args.hand.now.seat.me.0 made.seat.me.0 c.condemn.new.hand.seat.me.0 c.give_stripe-in-Ok.new.hand.seat.me.0
+    done_so (λ number stripe. Condemns number stripe c.args.chunk) c.args.hand.now.number c.args.held.number c.args.held.stripe c.args.hand.now.seat.me.0 made.seat.me.0 c.condemn.new.hand.seat.me.0 c.give_stripe-in-Ok.new.hand.seat.me.0
     made.number c.reserve.new.held.number c.condemn.new.stripe.number c.reserve.new.held.stripe c.condemn.new.stripe.stripe number c.reserve.ensures.number (c.condemn.ensures.number ∙ c.reserve.ensures.number)
     (ap (λ (h : StripeHeld). h.stripe) c.in_default.ensures.reserved) c.in_default.ensures.view c.in-Ok.ensures.condemned c.give_stripe-in-Ok.ensures.left
 

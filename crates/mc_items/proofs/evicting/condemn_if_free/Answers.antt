@@ -2,14 +2,14 @@ use Rattle.std.proofs.Common.{◌≡◌, ◌<◌, ◌%◌, ℕ, true, false, Som
 use Rattle.mc_classes.specs.declared.config.Config.{Config}
 use Rattle.mc_core.specs.Head.{decode}
 use Rattle.mc_core.specs.State.{has_chunk, is_class, room_in}
-use Rattle.mc_words.specs.Condemning.{key_seen, knows_reason}
+use Rattle.mc_words.specs.Condemning.{Condemns, key_seen, knows_reason}
 use Rattle.mc_core.specs.declared.event.Step.TheVariants as step
 use Rattle.mc_words.specs.Happens.{Happens}
 use Rattle.mc_words.specs.View.{Setup, View}
 use Rattle.mc_words.specs.Out.{with_stripe, without_stripe}
 use Rattle.mc_words.specs.Views.{stripe_given, stripe_missed}
 use Rattle.mc_words.proofs.SweepViews.{stands_out}
-use Rattle.mc_items.specs.Supplying.{FindsItemHeld, TakesItem}
+use Rattle.mc_items.specs.Supplying.{FindsItemHeld}
 use Rattle.mc_words.proofs.HandNumbers.{number_stays}
 use Rattle.mc_items.proofs.Reaches.{found_linked, holdings_stay, lacked, no_copies, reached, reason_found, some_room, stripe_back, stripe_found}
 use Rattle.mc_items.proofs.Freed.{error_both}
@@ -91,7 +91,7 @@ returns-clause-taken c e =
     let key = c.word_held-key.result in
     let at : key % c.config.result.now.stripes ≡ key % view.setup.config.stripes = ap (λ (g : Config). key % g.stripes) (c.config.ensures.config ∙ ap (λ (s : Setup). s.config) (sym c.requires.arena.setup)) in
     let ids = ap (λ (v : View). v.row.ids) c.in-Ok.ensures.lent ∙ (ap (λ (v : View). v.row.ids) c.word_held-key.ensures.view ∙ ap (λ (v : View). v.row.ids) c.head-head.ensures.seen) in
-    reached (λ number stripe. TakesItem number stripe c.args.chunk) c.args.hand.now.number c.try_stripe.new.hand.number view c.args.chunk (decode c.head-head.result) c.head-head.new.hand.seat.me.0 c.word_held-key.new.hand.seat.me.0 c.try_stripe.new.hand.seat.me.0 c.condemn_at.new.hand.seat.me.0
+    reached (λ number stripe. Condemns number stripe c.args.chunk) c.args.hand.now.number c.try_stripe.new.hand.number view c.args.chunk (decode c.head-head.result) c.head-head.new.hand.seat.me.0 c.word_held-key.new.hand.seat.me.0 c.try_stripe.new.hand.seat.me.0 c.condemn_at.new.hand.seat.me.0
     key (key % c.config.result.now.stripes) c.in-Ok.held.number c.in-Ok.held.stripe (sym c.is_unheld.ensures.unheld ∙ c.if-not-is_unheld.false) c.head-head.ensures.seen c.word_held-key.ensures.view at c.in-Ok.ensures.number (number_stays c.args.hand.now c.try_stripe.new.hand ids)
     c.head-head.ensures.happens c.word_held-key.ensures.happens c.in-Ok.ensures.taken c.in-Ok.ensures.lent c.in-Ok.ensures.whole c.in-Ok.ensures.seen (c.condemn_at.ensures.taken e)
 

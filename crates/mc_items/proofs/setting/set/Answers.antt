@@ -9,8 +9,9 @@ use Rattle.mc_items.specs.Calls.{TellsCall}
 use Rattle.mc_pages.specs.declared.ids.ChunkId.{ChunkId}
 use Rattle.mc_items.specs.Setting.{class_for_words}
 use Rattle.mc_items.specs.Sources.{SuppliesChunk}
-use Rattle.mc_items.specs.Storing.{LeavesDead, StoresItem, item_filled, item_with}
+use Rattle.mc_items.specs.Storing.{LeavesDead, StoresItem, item_filled}
 use Rattle.mc_words.proofs.HandNumbers.{number_stays}
+use Rattle.mc_words.specs.Items.{item_with}
 use Rattle.mc_core.specs.declared.ids.Ids.{Ids}
 use Rattle.mc_core.specs.Items.{stamped}
 use Rattle.mc_items.proofs.Chains.{number_kept, ready_still, refs_stay}

@@ -3,8 +3,9 @@ use Rattle.mc_core.specs.Holdings.{numbers}
 use Rattle.mc_core.specs.Past.{Own, Saying}
 use Rattle.mc_words.specs.View.{View}
 use Rattle.mc_words.specs.declared.held.Fresh.{Fresh}
-use Rattle.mc_items.specs.Storing.{StoresItem, item_with}
+use Rattle.mc_items.specs.Storing.{StoresItem}
 use Rattle.mc_words.proofs.HandNumbers.{number_stays}
+use Rattle.mc_words.specs.Items.{item_with}
 use Rattle.mc_items.proofs.Stored.{numbers_known}
 use Rattle.mc_items.proofs.storing.store_words.Goals as goal
 

@@ -43,7 +43,7 @@ returns-clause-supplied c =
     let now : View = c.pop-2.new.hand.seat.me.0 in
     let between = c.recover.new.held.shared in
     let left = c.pop-2.new.held.shared in
-    if_some (λ (fresh : Fresh). PopsFirst swept between class fresh.chunk now × (left ≡ after_pop between class)) (λ (fresh : Fresh). SuppliesFree class c.args.hand.now.seat.me.0 c.args.held.now.shared fresh.chunk now left) c.pop-2.result
+    if_some (λ (fresh : Fresh). PopsFirst swept between class fresh.chunk now × (left ≡ after_pop between class)) (λ (fresh : Fresh). SuppliesFree class fresh.chunk c.args.hand.now.seat.me.0 c.args.held.now.shared now left) c.pop-2.result
     (λ fresh popped. by_recover class c.args.hand.now.seat.me.0 c.pop.new.hand.seat.me.0 swept now c.args.held.now.shared c.pop.new.held.shared between left
     (c.pop.ensures.none (c.in-Ok-None.is ∙ ap (λ o. Ok o) c.in-Ok-None.field-0-is)) c.recover.ensures.recovers c.recover.ensures.view fresh.chunk popped.0 popped.1)
     c.pop-2.ensures.popped

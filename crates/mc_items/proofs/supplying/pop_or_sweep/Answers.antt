@@ -20,7 +20,7 @@ returns-clause-supplied c =
     let now : View = c.pop.new.hand.seat.me.0 in
     let between = c.sweep.new.held.shared in
     let left = c.pop.new.held.shared in
-    if_some (λ (fresh : Fresh). PopsFirst swept between class fresh.chunk now × (left ≡ after_pop between class)) (λ (fresh : Fresh). SuppliesFree class c.args.hand.now.seat.me.0 c.args.held.now.shared fresh.chunk now left) c.pop.result
+    if_some (λ (fresh : Fresh). PopsFirst swept between class fresh.chunk now × (left ≡ after_pop between class)) (λ (fresh : Fresh). SuppliesFree class fresh.chunk c.args.hand.now.seat.me.0 c.args.held.now.shared now left) c.pop.result
     (λ fresh popped. by_sweep class c.args.hand.now.seat.me.0 c.pop_or_recover.new.hand.seat.me.0 swept now c.args.held.now.shared c.pop_or_recover.new.held.shared between left
     (c.pop_or_recover.ensures.none (c.in-Ok-None.is ∙ ap (λ o. Ok o) c.in-Ok-None.field-0-is)).0 c.sweep.ensures.swept c.sweep.ensures.view fresh.chunk popped.0 popped.1)
     c.pop.ensures.popped

@@ -2,8 +2,8 @@ use Rattle.std.proofs.Common.{◌≡◌, ℕ, ◌+◌, List, [], ◌∷◌, ◌+
 use Rattle.mc_pages.specs.Changes.{after_replace}
 use Rattle.mc_pages.specs.SlabState.{SlabState, class_at, class_of_page}
 use Rattle.mc_pages.proofs.Chunks.{is_chunk-same}
+use Rattle.mc_pages.specs.Pages.{is_on_the_move}
 use Rattle.mc_core.specs.declared.holding.Holding.{Holding}
-use Rattle.mc_core.specs.Chunks.{is_moving_page}
 use Rattle.mc_core.specs.Evictions.{has_copy}
 use Rattle.mc_core.specs.Holdings.{holding_of, is_of, lose}
 use Rattle.mc_core.specs.State.{room_in}
@@ -53,7 +53,7 @@ rescue-requires-clause-key c =
     stripe_reached view popped (after_replace slabs copy chunk) number number value key chunk stamp there (c.pop_off.ensures.arena.setup ∙ sym c.requires.arena.setup) c.requires.key refl
 
 pub rescue-requires-clause-moving : goal.rescue-requires-clause-moving
-rescue-requires-clause-moving c = ap (λ (s : SlabState). is_moving_page s c.args.chunk.page) c.in-Some.ensures.popped.1 ∙ c.requires.moving
+rescue-requires-clause-moving c = ap (λ (s : SlabState). is_on_the_move s c.args.chunk.page) c.in-Some.ensures.popped.1 ∙ c.requires.moving
 
 pub rescue-requires-clause-linked : goal.rescue-requires-clause-linked
 rescue-requires-clause-linked c =

@@ -3,8 +3,8 @@ use Rattle.std.specs.List.{list_all}
 use Rattle.std.proofs.lemmas.Bool.{and_from, or_left, or_right}
 use Rattle.mc_pages.specs.declared.ids.ChunkId.{ChunkId}
 use Rattle.mc_pages.specs.ClassState.{times}
+use Rattle.mc_pages.specs.Pages.{is_on_the_move}
 use Rattle.mc_pages.specs.SlabState.{IsClass, SlabState, class_at, class_of_page}
-use Rattle.mc_core.specs.Chunks.{is_moving_page}
 use Rattle.mc_core.specs.Evictions.{has_copy, lacks_room, none_dead}
 use Rattle.mc_core.specs.Judged.{sees_no_target}
 use Rattle.mc_core.specs.Looks.{is_found_alive}
@@ -59,7 +59,7 @@ rescue_to_target-requires-clause-key c =
 pub rescue_to_target-requires-clause-moving : goal.rescue_to_target-requires-clause-moving
 rescue_to_target-requires-clause-moving c =
     let slabs = c.args.slabs.now.shared in
-    sweeps_slabs (λ (s : SlabState). is_moving_page s c.args.chunk.page) (λ s chunk. refl) (class_at slabs c.args.class).order c.args.hand.now.seat.me.0 slabs c.sweep.new.hand.seat.me.0 c.sweep.new.held.shared c.sweep.ensures.swept ∙ c.requires.moving
+    sweeps_slabs (λ (s : SlabState). is_on_the_move s c.args.chunk.page) (λ s chunk. refl) (class_at slabs c.args.class).order c.args.hand.now.seat.me.0 slabs c.sweep.new.hand.seat.me.0 c.sweep.new.held.shared c.sweep.ensures.swept ∙ c.requires.moving
 
 pub rescue_to_target-requires-clause-linked : goal.rescue_to_target-requires-clause-linked
 rescue_to_target-requires-clause-linked c =
@@ -121,7 +121,7 @@ evict-requires-clause-reason c =
     let table = c.args.arena.now.table.shared.key.table in
     let order = (class_at slabs c.args.class).order in
     let owned : own ≡ c.args.class = sweeps_slabs (λ (s : SlabState). class_of_page s chunk.page) (λ s chunk. refl) order view slabs swept kept c.sweep.ensures.swept ∙ c.requires.own in
-    let moving : is_moving_page kept chunk.page ≡ true = sweeps_slabs (λ (s : SlabState). is_moving_page s chunk.page) (λ s chunk. refl) order view slabs swept kept c.sweep.ensures.swept ∙ c.requires.moving in
+    let moving : is_on_the_move kept chunk.page ≡ true = sweeps_slabs (λ (s : SlabState). is_on_the_move s chunk.page) (λ s chunk. refl) order view slabs swept kept c.sweep.ensures.swept ∙ c.requires.moving in
     let is : is_class swept.setup.table c.args.class ≡ true = ap (λ (x : Setup). is_class x.table c.args.class) c.sweep.ensures.arena.setup ∙ c.requires.class in
     let valid = class_of_slabs swept c.sweep.ensures.arena.lawful kept c.args.class c.sweep.ensures.held is in
     let alive : list_all (is_found_alive swept.row.looks) (class_at kept own).order ≡ true = ap (λ n. list_all (is_found_alive swept.row.looks) (class_at kept n).order) owned ∙ c.sweep.ensures.alive in
@@ -129,8 +129,8 @@ evict-requires-clause-reason c =
     let none = alive_passed chunk.page kept (class_at kept own).order (class_at kept own).free swept passed c.sweep.ensures.held apart alive c.in-Err.ensures.lacks in
     let target : sees_no_target kept passed.row.looks chunk.page ≡ true = c.in-Err.ensures.no_target in
     ap (λ (x : SlabState). knows_reason table x passed.row.looks passed.row.holdings chunk) c.in-Err.ensures.same_slabs
-    ∙ or_left (is_moving_page kept chunk.page && has_copy passed.row.holdings chunk || is_moving_page kept chunk.page && none_dead kept passed.row.looks chunk && sees_no_target kept passed.row.looks chunk.page) (lacks_room table kept passed.row.looks chunk)
-    (or_right (is_moving_page kept chunk.page && has_copy passed.row.holdings chunk) (is_moving_page kept chunk.page && none_dead kept passed.row.looks chunk && sees_no_target kept passed.row.looks chunk.page) (and_from _ _ (and_from _ _ moving none) target))
+    ∙ or_left (is_on_the_move kept chunk.page && has_copy passed.row.holdings chunk || is_on_the_move kept chunk.page && none_dead kept passed.row.looks chunk && sees_no_target kept passed.row.looks chunk.page) (lacks_room table kept passed.row.looks chunk)
+    (or_right (is_on_the_move kept chunk.page && has_copy passed.row.holdings chunk) (is_on_the_move kept chunk.page && none_dead kept passed.row.looks chunk && sees_no_target kept passed.row.looks chunk.page) (and_from _ _ (and_from _ _ moving none) target))
 
 pub evict-requires-clause-no_copy : goal.evict-requires-clause-no_copy
 evict-requires-clause-no_copy c =

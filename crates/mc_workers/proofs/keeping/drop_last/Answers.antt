@@ -3,9 +3,9 @@ use Rattle.std.proofs.lemmas.List.{get_or_default}
 use Rattle.mc_words.specs.Arenas.{view}
 use Rattle.mc_words.specs.Views.{chunk_released}
 use Rattle.mc_items.specs.declared.refs.Ref.{Ref}
-use Rattle.mc_items.specs.ItemRefs.{item_chunk, item_len, item_words}
+use Rattle.mc_items.specs.ItemRefs.{AreKept, item_chunk, item_len, item_words}
 use Rattle.mc_items.specs.Reading.{words_seen}
-use Rattle.mc_workers.specs.Kept.{AreKept, IsLastAt, IsLastOf, IsToOther, hold_of, holds_of}
+use Rattle.mc_workers.specs.Kept.{IsLastAt, IsLastOf, IsToOther, hold_of, holds_of}
 use Rattle.mc_workers.proofs.LastKept.{last_held, none_held}
 use Rattle.mc_workers.proofs.KeptRefs.{holds_without, kept_without}
 use Rattle.mc_workers.proofs.keeping.drop_last.Goals as goal

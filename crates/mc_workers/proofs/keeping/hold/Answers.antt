@@ -1,9 +1,9 @@
 use Rattle.std.proofs.Common.{◌≡◌, List, [], ◌∷◌, ◌++◌, Option, IfSome, ap, sym, subst, ◌∙◌}
 use Rattle.mc_words.specs.Arenas.{setup_of, view}
 use Rattle.mc_items.specs.declared.refs.Ref.{Ref}
-use Rattle.mc_items.specs.ItemRefs.{IsItemRef, item_key}
+use Rattle.mc_items.specs.ItemRefs.{AreKept, IsItemRef, item_key}
 use Rattle.mc_items.specs.Keeping.{HoldsToo}
-use Rattle.mc_workers.specs.Kept.{AreKept, holds_of}
+use Rattle.mc_workers.specs.Kept.{holds_of}
 use Rattle.mc_workers.specs.Serving.{Finds}
 use Rattle.mc_workers.proofs.KeptRefs.{as_often, holds_stay, holds_too, kept_stay, kept_too}
 use Rattle.mc_workers.proofs.keeping.hold.Goals as goal

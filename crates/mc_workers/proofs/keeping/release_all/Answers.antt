@@ -1,8 +1,8 @@
 use Rattle.std.proofs.Common.{List, ap, sym, subst, ◌∙◌, arith}
 use Rattle.std.proofs.lemmas.List.{nil_from_length}
 use Rattle.mc_words.specs.Arenas.{view}
+use Rattle.mc_items.specs.ItemRefs.{AreKept}
 use Rattle.mc_items.specs.declared.refs.Ref.{Ref}
-use Rattle.mc_workers.specs.Kept.{AreKept}
 use Rattle.mc_workers.specs.Lines.{all_released}
 use Rattle.mc_workers.proofs.KeptRefs.{idle_then, kept_but_last, last_kept, released_last}
 use Rattle.mc_workers.proofs.keeping.release_all.Goals as goal

@@ -1,9 +1,9 @@
 use Rattle.std.proofs.Common.{◌≡◌, true, sym, subst}
+use Rattle.mc_pages.specs.Pages.{is_on_the_move}
 use Rattle.mc_pages.specs.SlabState.{class_of_page}
 use Rattle.mc_core.specs.InOrder.{state_of}
 use Rattle.mc_core.specs.State.{State}
 use Rattle.mc_core.specs.Silent.{is_listed}
-use Rattle.mc_core.specs.Chunks.{is_moving_page}
 use Rattle.mc_core.proofs.OfTable.{clear_shape}
 use Rattle.mc_core.proofs.Listed.{page_of_move, places_from_listed}
 use Rattle.mc_core.proofs.Kept.{changed}
@@ -12,7 +12,7 @@ use Rattle.mc_core.proofs.state.State.list_clear.Goals as goal
 pub clear-requires-clause-moving : goal.clear-requires-clause-moving
 clear-requires-clause-moving c =
     page_of_move c.self.inside.slabs.state.moving c.args.chunk.page
-    (subst (λ (state : State). is_moving_page state.slabs c.args.chunk.page ≡ true) (sym c.self.view_is) c.requires.moving)
+    (subst (λ (state : State). is_on_the_move state.slabs c.args.chunk.page ≡ true) (sym c.self.view_is) c.requires.moving)
 
 pub clear-requires-clause-listed : goal.clear-requires-clause-listed
 clear-requires-clause-listed c =

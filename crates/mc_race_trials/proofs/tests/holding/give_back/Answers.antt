@@ -1,8 +1,7 @@
 use Rattle.std.proofs.Common.{◌<◌, length, rules, sym, subst}
 use Rattle.std.proofs.lemmas.List.Elements.{All-get_or}
 use Rattle.mc_words.specs.Arenas.{view}
-use Rattle.mc_items.specs.ItemRefs.{IsItemRef}
-use Rattle.mc_race_trials.specs.Keepers.{AreKept}
+use Rattle.mc_items.specs.ItemRefs.{AreKept, IsItemRef}
 use Rattle.mc_race_trials.proofs.KeptRefs.{kept_without}
 use Rattle.mc_race_trials.proofs.tests.holding.give_back.Goals as goal
 

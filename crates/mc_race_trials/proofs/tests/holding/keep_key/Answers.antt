@@ -1,9 +1,8 @@
 use Rattle.std.proofs.Common.{List, [], ◌∷◌, ◌++◌, Option, IfSome, ap, sym, subst, ◌∙◌}
 use Rattle.mc_words.specs.Arenas.{view}
 use Rattle.mc_items.specs.declared.refs.Ref.{Ref}
-use Rattle.mc_items.specs.ItemRefs.{IsItemRef}
+use Rattle.mc_items.specs.ItemRefs.{AreKept, IsItemRef}
 use Rattle.mc_items.specs.Keeping.{HoldsToo}
-use Rattle.mc_race_trials.specs.Keepers.{AreKept}
 use Rattle.mc_race_trials.proofs.KeptRefs.{as_often, kept_beside, kept_stay, kept_too}
 use Rattle.mc_race_trials.proofs.tests.holding.keep_key.Goals as goal
 

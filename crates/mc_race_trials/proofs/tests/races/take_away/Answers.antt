@@ -3,9 +3,9 @@ use Rattle.std.specs.List.{list_all}
 use Rattle.std.proofs.lemmas.Bool.{and_from, or_left, or_right}
 use Rattle.mc_pages.specs.declared.ids.ChunkId.{ChunkId}
 use Rattle.mc_pages.specs.ClassState.{times}
+use Rattle.mc_pages.specs.Pages.{is_on_the_move}
 use Rattle.mc_pages.specs.SlabState.{SlabState, class_at, class_of_page}
 use Rattle.mc_core.specs.declared.holding.Holding.{Holding}
-use Rattle.mc_core.specs.Chunks.{is_moving_page}
 use Rattle.mc_core.specs.Evictions.{has_copy, lacks_room, none_dead}
 use Rattle.mc_core.specs.Holdings.{has_fresh, holding_of}
 use Rattle.mc_core.specs.Judged.{sees_no_target}
@@ -33,7 +33,7 @@ pop_off-requires-clause-moving g c =
     let (key, stamp, leads) = c.requires.leads in
     let number = c.reserve.new.held.number in
     let value = c.reserve.new.held.stripe in
-    sweeps_slabs (λ (s : SlabState). is_moving_page s chunk.page) (λ s chunk. refl) (class_at slabs c.args.class).order made slabs swept kept c.sweep.ensures.swept ∙ c.requires.moving
+    sweeps_slabs (λ (s : SlabState). is_on_the_move s chunk.page) (λ s chunk. refl) (class_at slabs c.args.class).order made slabs swept kept c.sweep.ensures.swept ∙ c.requires.moving
 
 pub pop_off-requires-clause-out : goal.pop_off-requires-clause-out
 pop_off-requires-clause-out g c =
@@ -102,7 +102,7 @@ rescue-requires-clause-moving g c =
     let (key, stamp, leads) = c.requires.leads in
     let number = c.reserve.new.held.number in
     let value = c.reserve.new.held.stripe in
-    ap (λ (s : SlabState). is_moving_page s chunk.page) c.in-Some.ensures.popped.1 ∙ (sweeps_slabs (λ (s : SlabState). is_moving_page s chunk.page) (λ s chunk. refl) (class_at slabs c.args.class).order made slabs swept kept c.sweep.ensures.swept ∙ c.requires.moving)
+    ap (λ (s : SlabState). is_on_the_move s chunk.page) c.in-Some.ensures.popped.1 ∙ (sweeps_slabs (λ (s : SlabState). is_on_the_move s chunk.page) (λ s chunk. refl) (class_at slabs c.args.class).order made slabs swept kept c.sweep.ensures.swept ∙ c.requires.moving)
 
 pub rescue-requires-clause-copy : goal.rescue-requires-clause-copy
 rescue-requires-clause-copy g c =
@@ -187,7 +187,7 @@ evict-requires-clause-reason g c =
     let same = (c.in-None.ensures.none refl).1 in
     let table = c.args.arena.now.table.shared.key.table in
     let owned : own ≡ c.args.class = sweeps_slabs (λ (s : SlabState). class_of_page s chunk.page) (λ s chunk. refl) (class_at slabs c.args.class).order made slabs swept kept c.sweep.ensures.swept ∙ c.requires.own in
-    let moving : is_moving_page kept chunk.page ≡ true = sweeps_slabs (λ (s : SlabState). is_moving_page s chunk.page) (λ s chunk. refl) (class_at slabs c.args.class).order made slabs swept kept c.sweep.ensures.swept ∙ c.requires.moving in
+    let moving : is_on_the_move kept chunk.page ≡ true = sweeps_slabs (λ (s : SlabState). is_on_the_move s chunk.page) (λ s chunk. refl) (class_at slabs c.args.class).order made slabs swept kept c.sweep.ensures.swept ∙ c.requires.moving in
     let is : is_class swept.setup.table c.args.class ≡ true = ap (λ (x : Setup). is_class x.table c.args.class) c.sweep.ensures.arena.setup ∙ c.requires.class in
     let valid = class_of_slabs swept c.sweep.ensures.arena.lawful kept c.args.class c.sweep.ensures.held is in
     let alive : list_all (is_found_alive swept.row.looks) (class_at kept own).order ≡ true = ap (λ n. list_all (is_found_alive swept.row.looks) (class_at kept n).order) owned ∙ c.sweep.ensures.alive in
@@ -195,8 +195,8 @@ evict-requires-clause-reason g c =
     let none = alive_passed chunk.page kept (class_at kept own).order (class_at kept own).free swept passed c.sweep.ensures.held apart alive passes in
     let target : sees_no_target kept passed.row.looks chunk.page ≡ true = c.in-None.ensures.no_target refl in
     ap (λ (x : SlabState). Rattle.mc_words.specs.Condemning.knows_reason table x passed.row.looks passed.row.holdings chunk) same
-    ∙ or_left (is_moving_page kept chunk.page && has_copy passed.row.holdings chunk || is_moving_page kept chunk.page && none_dead kept passed.row.looks chunk && sees_no_target kept passed.row.looks chunk.page) (lacks_room table kept passed.row.looks chunk)
-    (or_right (is_moving_page kept chunk.page && has_copy passed.row.holdings chunk) (is_moving_page kept chunk.page && none_dead kept passed.row.looks chunk && sees_no_target kept passed.row.looks chunk.page) (and_from _ _ (and_from _ _ moving none) target))
+    ∙ or_left (is_on_the_move kept chunk.page && has_copy passed.row.holdings chunk || is_on_the_move kept chunk.page && none_dead kept passed.row.looks chunk && sees_no_target kept passed.row.looks chunk.page) (lacks_room table kept passed.row.looks chunk)
+    (or_right (is_on_the_move kept chunk.page && has_copy passed.row.holdings chunk) (is_on_the_move kept chunk.page && none_dead kept passed.row.looks chunk && sees_no_target kept passed.row.looks chunk.page) (and_from _ _ (and_from _ _ moving none) target))
 
 pub evict-requires-clause-no_copy : goal.evict-requires-clause-no_copy
 evict-requires-clause-no_copy g c =

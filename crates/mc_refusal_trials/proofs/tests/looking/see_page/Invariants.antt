@@ -1,4 +1,4 @@
-use Rattle.mc_refusal_trials.specs.Hands.{IsReadyHandOf}
+use Rattle.mc_calls.specs.Hands.{IsReadyHandOf}
 use Rattle.mc_refusal_trials.proofs.tests.looking.see_page.Given as goal
 
 abbrev pub invariant-loop-index : goal.invariant-loop-index

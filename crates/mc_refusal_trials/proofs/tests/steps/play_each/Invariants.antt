@@ -1,4 +1,4 @@
-use Rattle.mc_refusal_trials.specs.Hands.{IsReadyHandOf}
+use Rattle.mc_calls.specs.Hands.{IsReadyHandOf}
 use Rattle.mc_refusal_trials.proofs.tests.steps.play_each.Given as goal
 
 abbrev pub invariant-loop-place : goal.invariant-loop-place

@@ -1,8 +1,8 @@
 use Rattle.std.proofs.Common.{◌≡◌, ◌*◌, ◌/◌, ◌%◌, ℕ, true, false, Some, refl, ap, sym, subst, ◌∙◌, length, ◌≤◌}
 use Rattle.mc_pages.specs.Accounted.{places_in}
 use Rattle.mc_pages.specs.Changes.{after_clear}
+use Rattle.mc_pages.specs.Pages.{is_on_the_move}
 use Rattle.mc_pages.specs.SlabState.{SlabState, class_of_page}
-use Rattle.mc_core.specs.Chunks.{is_moving_page}
 use Rattle.mc_core.specs.Codes.{minus}
 use Rattle.mc_core.specs.Head.{decode}
 use Rattle.mc_core.specs.State.{has_chunk}
@@ -55,7 +55,7 @@ invariant_of-hand c =
 
 pub clear-requires-clause-moving : goal.clear-requires-clause-moving
 clear-requires-clause-moving c =
-    page_of_move c.slabs_mut.result.now.state.moving c.args.chunk.page (subst (λ (x : SlabState). is_moving_page x c.args.chunk.page ≡ true) (sym c.slabs_mut.ensures.slabs) c.requires.moving)
+    page_of_move c.slabs_mut.result.now.state.moving c.args.chunk.page (subst (λ (x : SlabState). is_on_the_move x c.args.chunk.page ≡ true) (sym c.slabs_mut.ensures.slabs) c.requires.moving)
 
 pub clear-requires-clause-listed : goal.clear-requires-clause-listed
 clear-requires-clause-listed c =

@@ -257,7 +257,7 @@ returns-clause-condemned c =
     let a = c.head-head.new.hand in
     let left = c.evict.ensures.evicted ∙ ap (λ (v : ReadyStripe). used_up (after_evict v.state a.number key)) c.stripe_mut.ensures.stripe in
     let same = same_number view read seen slabs stripe value chunk key word has read_is seen_is c.args.hand.now.number a.number c.args.hand.now.noted.0 a.noted.0 in
-    subst (λ (n : ℕ). Condemns view n stripe value chunk c.evict.new.self now) same (condemns view read seen slabs stripe value chunk key word has read_is seen_is unheld c.word_held-key.ensures.happens c.head-head.ensures.happens a.number now c.evict.new.self a.noted.0 c.requires.no_copy left hit)
+    subst (λ (n : ℕ). Condemns n stripe chunk value view c.evict.new.self now) same (condemns view read seen slabs stripe value chunk key word has read_is seen_is unheld c.word_held-key.ensures.happens c.head-head.ensures.happens a.number now c.evict.new.self a.noted.0 c.requires.no_copy left hit)
 
 pub returns-clause-dead : goal.returns-clause-dead
 returns-clause-dead c =
