@@ -23,9 +23,9 @@ use Rattle.mc_core.specs.State.{State, has_chunk, head_at, head_place, is_hand, 
 use Rattle.mc_core.proofs.Base.{head_place_within}
 use Rattle.mc_core.proofs.Plays.{hand_there}
 use Rattle.mc_core.proofs.SameSlabs.{looked_keeps}
-use Rattle.mc_words.specs.Happens.{LawfulView}
-use Rattle.mc_words.specs.Meaning.{beginning_of}
-use Rattle.mc_words.specs.View.{OwnEvent, View, events_of, own_event}
+use Rattle.mc_words.specs.rule.Happens.{LawfulView}
+use Rattle.mc_words.specs.rule.Meaning.{beginning_of}
+use Rattle.mc_words.specs.hand.View.{OwnEvent, View, events_of, own_event}
 use Rattle.mc_arena_clients.specs.Preparing.{has_prepared, prepares}
 
 -- the issue number of the header at this place

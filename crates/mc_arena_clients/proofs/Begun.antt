@@ -17,13 +17,13 @@ use Rattle.mc_core.specs.Past.{Knowledge, Moment, Sight, moment_stepped, slabs_w
 use Rattle.mc_core.specs.State.{has_slabs, is_hand}
 use Rattle.mc_core.specs.Views.{held_slabs}
 use Rattle.mc_core.proofs.Plays.{hand_there}
-use Rattle.mc_words.specs.Happens.{Happens, LawfulView}
-use Rattle.mc_words.specs.Meaning.{beginning_of}
-use Rattle.mc_words.specs.View.{OwnEvent, View, events_of, own_event}
-use Rattle.mc_words.specs.Views.{slabs_missed}
-use Rattle.mc_words.proofs.Knows.{knows_after}
-use Rattle.mc_words.proofs.LockViews.{knew, may_step}
-use Rattle.mc_words.proofs.TakeAndGive.{held_from}
+use Rattle.mc_words.specs.rule.Happens.{Happens, LawfulView}
+use Rattle.mc_words.specs.rule.Meaning.{beginning_of}
+use Rattle.mc_words.specs.hand.View.{OwnEvent, View, events_of, own_event}
+use Rattle.mc_words.specs.hand.Views.{slabs_missed}
+use Rattle.mc_words.proofs.Hands.Knows.{knows_after}
+use Rattle.mc_words.proofs.Locks.LockViews.{knew, may_step}
+use Rattle.mc_words.proofs.Locks.TakeAndGive.{held_from}
 
 -- a run of one hand, which did nothing
 no_run : (m : Moment) (run : List Event) → IsRun m run → length m.state.ids ≡ 1 → events_of 0 run ≡ [] → run ≡ []

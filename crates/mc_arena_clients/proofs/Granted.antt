@@ -15,10 +15,10 @@ use Rattle.mc_pages.proofs.Cuts.{chunk_at, cuts_more}
 use Rattle.mc_pages.proofs.NextPage.{class_at-grown, classes-grown, nobody_next, owners-grown}
 use Rattle.mc_pages.proofs.OneClass.{class_at-with_class_same}
 use Rattle.mc_core.specs.declared.event.Step.TheVariants as step
-use Rattle.mc_words.specs.Cutting.{CutsEach}
-use Rattle.mc_words.specs.Happens.{LawfulView}
-use Rattle.mc_words.specs.View.{View, made}
-use Rattle.mc_words.proofs.Owners.{slabs_here}
+use Rattle.mc_words.specs.page.Cuts.{CutsEach}
+use Rattle.mc_words.specs.rule.Happens.{LawfulView}
+use Rattle.mc_words.specs.hand.View.{View, made}
+use Rattle.mc_words.proofs.Pages.Owners.{slabs_here}
 use Rattle.mc_arena_clients.specs.Preparing.{has_prepared}
 use Rattle.mc_arena_clients.proofs.Alone.{one_more}
 

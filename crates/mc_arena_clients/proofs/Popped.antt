@@ -17,14 +17,14 @@ use Rattle.mc_core.specs.Holdings.{holding_of, is_fresh, is_of}
 use Rattle.mc_core.specs.State.{State, has_chunk, head_at, holdings_at, is_class, room_in}
 use Rattle.mc_core.proofs.Codes.{are_one_word}
 use Rattle.mc_core.proofs.Holders.{found_each}
-use Rattle.mc_words.specs.Happens.{Happens, LawfulView}
-use Rattle.mc_words.specs.Owner.{PopsFirst, SeesOther}
-use Rattle.mc_words.specs.View.{View}
-use Rattle.mc_words.specs.Views.{fresh_holding, head_seen}
-use Rattle.mc_words.proofs.Agains.{seen_is}
-use Rattle.mc_words.proofs.Heads.{near_here}
-use Rattle.mc_words.proofs.Judging.{not_held}
-use Rattle.mc_words.proofs.Owners.{first_near, holdings_here}
+use Rattle.mc_words.specs.rule.Happens.{Happens, LawfulView}
+use Rattle.mc_words.specs.page.Owner.{PopsFirst, SeesOther}
+use Rattle.mc_words.specs.hand.View.{View}
+use Rattle.mc_words.specs.hand.Views.{fresh_holding, head_seen}
+use Rattle.mc_words.proofs.Items.Agains.{seen_is}
+use Rattle.mc_words.proofs.Chunks.Heads.{near_here}
+use Rattle.mc_words.proofs.Chunks.Judging.{not_held}
+use Rattle.mc_words.proofs.Pages.Owners.{first_near, holdings_here}
 use Rattle.mc_arena_clients.specs.Preparing.{first_out, has_prepared}
 use Rattle.mc_arena_clients.proofs.Alone.{issue_here}
 

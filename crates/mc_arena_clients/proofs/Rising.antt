@@ -23,13 +23,13 @@ use Rattle.mc_core.specs.Run.{after_step}
 use Rattle.mc_core.specs.State.{State, has_chunk, head_at, head_place, holdings_at, is_class, most_of, with_head, without_holding}
 use Rattle.mc_core.proofs.Base.{head_place_within}
 use Rattle.mc_core.proofs.SameSlabs.{looked_keeps}
-use Rattle.mc_words.specs.Happens.{LawfulView}
-use Rattle.mc_words.specs.Meaning.{beginning_of}
-use Rattle.mc_words.specs.Owner.{PopsFirst}
-use Rattle.mc_words.specs.View.{View}
-use Rattle.mc_words.specs.Views.{head_seen}
-use Rattle.mc_words.proofs.Agains.{seen_is}
-use Rattle.mc_words.proofs.Owners.{first_near}
+use Rattle.mc_words.specs.rule.Happens.{LawfulView}
+use Rattle.mc_words.specs.rule.Meaning.{beginning_of}
+use Rattle.mc_words.specs.page.Owner.{PopsFirst}
+use Rattle.mc_words.specs.hand.View.{View}
+use Rattle.mc_words.specs.hand.Views.{head_seen}
+use Rattle.mc_words.proofs.Items.Agains.{seen_is}
+use Rattle.mc_words.proofs.Pages.Owners.{first_near}
 use Rattle.mc_arena_clients.proofs.Alone.{calm_changes, issue_at}
 
 -- each issue number is as it was, or greater

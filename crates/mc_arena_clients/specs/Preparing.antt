@@ -6,7 +6,7 @@ use Rattle.mc_core.specs.declared.event.Step.TheVariants.{TakeSlabs, MissSlabs, 
 use Rattle.mc_core.specs.declared.event.Step.TheVariants as step
 use Rattle.mc_core.specs.declared.head.Head.{Head}
 use Rattle.mc_core.specs.declared.head.Tag.TheVariants.{Unlinked}
-use Rattle.mc_words.specs.View.{OwnEvent, View, made, joined}
+use Rattle.mc_words.specs.hand.View.{OwnEvent, View, made, joined}
 
 -- the slabs lock is taken, looked at or given, a header is looked at, or a chunk is cut
 abbrev pub is_preparing : Step → Bool

@@ -6,10 +6,10 @@ ghost use Rattle.mc_pages.specs.SlabState.{class_at};
 ghost use Rattle.mc_core.specs.Chunks.{most_issue};
 ghost use Rattle.mc_core.specs.Head.{code};
 ghost use Rattle.mc_core.specs.State.{is_class};
-ghost use Rattle.mc_words.specs.Arenas.{IsHandOf, setup_of, view};
-ghost use Rattle.mc_words.specs.Observers.{slabs_lent};
-ghost use Rattle.mc_words.specs.View.{new_view};
-ghost use Rattle.mc_words.specs.declared.refusal.NewError.TheVariants as refused;
+ghost use Rattle.mc_words.specs.hand.Arenas.{IsHandOf, setup_of, view};
+ghost use Rattle.mc_words.specs.hand.Observers.{slabs_lent};
+ghost use Rattle.mc_words.specs.hand.View.{new_view};
+ghost use Rattle.mc_words.specs.declared.arena.refusal.NewError.TheVariants as refused;
 ghost use Rattle.mc_arena_clients.specs.Preparing.{first_out, has_prepared};
 
 use mc_classes::{ClassId, Config};

@@ -6,7 +6,7 @@ use Rattle.mc_stripe.specs.StripeState.{StripeState}
 use Rattle.mc_core.specs.Silent.{is_aside}
 use Rattle.mc_words.specs.declared.arena.Arena.{Arena}
 use Rattle.mc_words.specs.declared.hand.Hand.{Hand}
-use Rattle.mc_words.specs.Hands.{AreHandsFrom, AreNewHands}
+use Rattle.mc_words.specs.hand.Hands.{AreHandsFrom, AreNewHands}
 use Rattle.mc_arena_trials.specs.Hands.{AreHandsOf}
 
 hands_from : (arena : Arena) (number : ℕ) (hands : List Hand) → AreHandsFrom arena number hands → AreHandsOf arena hands

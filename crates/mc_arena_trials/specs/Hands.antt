@@ -2,7 +2,7 @@
 use Rattle.std.specs.Prelude.{List, [], ◌∷◌, ⊤}
 use Rattle.mc_words.specs.declared.arena.Arena.{Arena}
 use Rattle.mc_words.specs.declared.hand.Hand.{Hand}
-use Rattle.mc_words.specs.Arenas.{IsHandOf}
+use Rattle.mc_words.specs.hand.Arenas.{IsHandOf}
 
 -- all are hands of the arena
 abbrev pub AreHandsOf : Arena → List Hand → Type 0

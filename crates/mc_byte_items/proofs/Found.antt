@@ -3,10 +3,10 @@ use Rattle.std.proofs.Common.{◌≡◌, ℕ, Bool, List, Option, None, Some, Er
 use Rattle.mc_core.specs.Past.{Saying}
 use Rattle.mc_words.specs.declared.arena.Arena.{Arena}
 use Rattle.mc_words.specs.declared.hand.Hand.{Hand}
-use Rattle.mc_words.specs.Arenas.{IsHandOf, setup_of, view}
-use Rattle.mc_words.specs.Items.{item_with}
-use Rattle.mc_words.specs.Observers.{number_of}
-use Rattle.mc_words.specs.View.{Setup}
+use Rattle.mc_words.specs.hand.Arenas.{IsHandOf, setup_of, view}
+use Rattle.mc_words.specs.item.Items.{item_with}
+use Rattle.mc_words.specs.hand.Observers.{number_of}
+use Rattle.mc_words.specs.hand.View.{Setup}
 use Rattle.mc_items.specs.declared.refs.Ref.{Ref}
 use Rattle.mc_items.specs.Calls.{Deletes, FindsNone, Touches}
 use Rattle.mc_items.specs.ItemRefs.{item_key, item_stamp, item_words}

@@ -7,7 +7,7 @@ use Rattle.mc_core.specs.Holdings.{is_of, lose}
 use Rattle.mc_core.proofs.Holders.{holds-cons}
 use Rattle.mc_pages.specs.Accounted.{truth}
 use Rattle.mc_pages.proofs.Chunks.{is_chunk-same}
-use Rattle.mc_words.specs.View.{View}
+use Rattle.mc_words.specs.hand.View.{View}
 use Rattle.mc_items.specs.declared.refs.Ref.{Ref}
 use Rattle.mc_items.specs.ItemRefs.{item_chunk}
 use Rattle.mc_items.specs.Keeping.{HoldsAsOften, HoldsLess, HoldsTheSame, HoldsToo, holding_by}

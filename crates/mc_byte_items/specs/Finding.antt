@@ -3,10 +3,10 @@ use Rattle.std.specs.Prelude.{◌≡◌, ℕ, Bool, List, Option, Some, IfSome}
 use Rattle.std.specs.Option.{option_map}
 use Rattle.mc_packing.specs.Packing.{IsPackingOf, packed}
 use Rattle.mc_words.specs.declared.hand.Hand.{Hand}
-use Rattle.mc_words.specs.Arenas.{view}
-use Rattle.mc_words.specs.Items.{item_with}
-use Rattle.mc_words.specs.Observers.{number_of}
-use Rattle.mc_words.specs.View.{Setup}
+use Rattle.mc_words.specs.hand.Arenas.{view}
+use Rattle.mc_words.specs.item.Items.{item_with}
+use Rattle.mc_words.specs.hand.Observers.{number_of}
+use Rattle.mc_words.specs.hand.View.{Setup}
 use Rattle.mc_items.specs.declared.refs.Ref.{Ref}
 use Rattle.mc_items.specs.ItemRefs.{item_words}
 use Rattle.mc_items.specs.OnKeys.{ActsOn, Gets, stripe_of_key}

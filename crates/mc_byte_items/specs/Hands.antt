@@ -3,10 +3,10 @@ use Rattle.std.specs.Prelude.{◌≡◌, ℕ, List, []}
 use Rattle.mc_core.specs.Past.{Saying}
 use Rattle.mc_words.specs.declared.arena.Arena.{Arena}
 use Rattle.mc_words.specs.declared.hand.Hand.{Hand}
-use Rattle.mc_words.specs.Arenas.{IsHandOf, view}
-use Rattle.mc_words.specs.Happens.{LawfulView}
-use Rattle.mc_words.specs.Ready.{IsReady}
-use Rattle.mc_words.specs.View.{Setup, View}
+use Rattle.mc_words.specs.hand.Arenas.{IsHandOf, view}
+use Rattle.mc_words.specs.rule.Happens.{LawfulView}
+use Rattle.mc_words.specs.hand.Ready.{IsReady}
+use Rattle.mc_words.specs.hand.View.{Setup, View}
 use Rattle.mc_items.specs.Keeping.{AreSaid}
 
 -- the hand is one of the arena's, may make any call, and holds nothing

@@ -2,10 +2,10 @@
 ghost use Rattle.std.specs.Option.{option_map};
 ghost use Rattle.std.specs.Prelude.{◌++◌, ◌≡◌, [], ◌∷◌, Err, IfOk, IfSome, Ok, OnOk, Some, List, ℕ, false, true};
 ghost use Rattle.mc_packing.specs.Packing.{IsPackingOf, packed};
-ghost use Rattle.mc_words.specs.Arenas.{IsHandOf, setup_of, view};
-ghost use Rattle.mc_words.specs.Items.{item_with};
-ghost use Rattle.mc_words.specs.Observers.{number_of};
-ghost use Rattle.mc_words.specs.Ready.{IsReady};
+ghost use Rattle.mc_words.specs.hand.Arenas.{IsHandOf, setup_of, view};
+ghost use Rattle.mc_words.specs.item.Items.{item_with};
+ghost use Rattle.mc_words.specs.hand.Observers.{number_of};
+ghost use Rattle.mc_words.specs.hand.Ready.{IsReady};
 ghost use Rattle.mc_items.specs.ItemRefs.{IsItemRef, item_key, item_stamp, item_words};
 ghost use Rattle.mc_items.specs.Keeping.{SaysNothing, holding_by};
 ghost use Rattle.mc_items.specs.OnKeys.{FindsStripeHeld};

@@ -1,9 +1,9 @@
 //! Items of bytes that are set.
 ghost use Rattle.std.specs.Prelude.{◌≡◌, IfErr, IfOk, OnErr};
 ghost use Rattle.mc_packing.specs.Packing.{packed};
-ghost use Rattle.mc_words.specs.Arenas.{view};
-ghost use Rattle.mc_words.specs.Items.{item_with};
-ghost use Rattle.mc_words.specs.Observers.{number_of};
+ghost use Rattle.mc_words.specs.hand.Arenas.{view};
+ghost use Rattle.mc_words.specs.item.Items.{item_with};
+ghost use Rattle.mc_words.specs.hand.Observers.{number_of};
 ghost use Rattle.mc_items.specs.Keeping.{Says, SaysNothing};
 ghost use Rattle.mc_items.specs.Setting.{RefusesSet, SetsItem};
 ghost use Rattle.mc_byte_items.specs.Hands.{IsIdleHandOf};

@@ -1,7 +1,7 @@
 //! Keys that are touched.
 ghost use Rattle.std.specs.Prelude.{◌≡◌, ◌⊎◌, Ok, false, true};
-ghost use Rattle.mc_words.specs.Arenas.{setup_of, view};
-ghost use Rattle.mc_words.specs.Observers.{number_of};
+ghost use Rattle.mc_words.specs.hand.Arenas.{setup_of, view};
+ghost use Rattle.mc_words.specs.hand.Observers.{number_of};
 ghost use Rattle.mc_items.specs.Keeping.{SaysNothing};
 ghost use Rattle.mc_byte_items.specs.Finding.{FindsOther, LosesKey, TouchesKey};
 ghost use Rattle.mc_byte_items.specs.Hands.{IsIdleHandOf};

@@ -2,8 +2,8 @@
 use Rattle.std.proofs.Common.{ℕ, ap}
 use Rattle.mc_words.specs.declared.arena.Arena.{Arena}
 use Rattle.mc_words.specs.declared.hand.Hand.{Hand}
-use Rattle.mc_words.specs.Hands.{IsNewHand}
-use Rattle.mc_words.specs.View.{View}
+use Rattle.mc_words.specs.hand.Hands.{IsNewHand}
+use Rattle.mc_words.specs.hand.View.{View}
 use Rattle.mc_byte_items.specs.Hands.{IsIdleHandOf}
 
 pub idle : (arena : Arena) (number : ℕ) (hand : Hand) → IsNewHand arena number hand → IsIdleHandOf arena hand

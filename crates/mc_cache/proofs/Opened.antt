@@ -3,10 +3,10 @@ use Rattle.std.proofs.Common.{◌≡◌, ◌<◌, ◌+◌, ◌-◌, ◌++◌, �
 use Rattle.std.proofs.lemmas.List.{get_or_at, take_at}
 use Rattle.mc_words.specs.declared.arena.Arena.{Arena}
 use Rattle.mc_words.specs.declared.hand.Hand.{Hand}
-use Rattle.mc_words.specs.Arenas.{IsHandOf, view}
-use Rattle.mc_words.specs.Hands.{AreHandsFrom, AreNewHands, IsNewHand}
-use Rattle.mc_words.specs.Ready.{IsReady}
-use Rattle.mc_words.specs.View.{View}
+use Rattle.mc_words.specs.hand.Arenas.{IsHandOf, view}
+use Rattle.mc_words.specs.hand.Hands.{AreHandsFrom, AreNewHands, IsNewHand}
+use Rattle.mc_words.specs.hand.Ready.{IsReady}
+use Rattle.mc_words.specs.hand.View.{View}
 use Rattle.mc_byte_items.specs.Hands.{IsIdleHandOf}
 use Rattle.mc_cache.specs.declared.cache.Worker.{Worker}
 use Rattle.mc_cache.specs.declared.opening.CacheConfig.{CacheConfig}

@@ -10,10 +10,10 @@ use Rattle.mc_classes.specs.Refusals.{first_size, is_below_max, is_between, refu
 use Rattle.mc_classes.proofs.Accepted.{IsAccepted, accepted}
 use Rattle.mc_classes.proofs.Sizes.{last_size, some_class}
 use Rattle.mc_words.specs.declared.arena.Arena.{Arena}
-use Rattle.mc_words.specs.Arenas.{setup_of}
-use Rattle.mc_words.specs.Hands.{IsMadeWith}
-use Rattle.mc_words.specs.Layout.{word_count}
-use Rattle.mc_words.specs.View.{Setup}
+use Rattle.mc_words.specs.hand.Arenas.{setup_of}
+use Rattle.mc_words.specs.hand.Hands.{IsMadeWith}
+use Rattle.mc_words.specs.rule.Layout.{word_count}
+use Rattle.mc_words.specs.hand.View.{Setup}
 use Rattle.mc_cache.specs.declared.opening.CacheConfig.{CacheConfig}
 use Rattle.mc_cache.specs.declared.opening.NewError.{NewError}
 use Rattle.mc_cache.specs.declared.opening.NewError.TheVariants as refused

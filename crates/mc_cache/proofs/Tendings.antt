@@ -5,7 +5,7 @@ use Rattle.std.proofs.lemmas.List.{get_or-set_other, get_or-set_same, get_or_app
 use Rattle.std.proofs.lemmas.List.Sums.{fold-append}
 use Rattle.mc_watch.specs.Decider.{DeciderState}
 use Rattle.mc_words.specs.declared.hand.Hand.{Hand}
-use Rattle.mc_words.specs.Arenas.{view}
+use Rattle.mc_words.specs.hand.Arenas.{view}
 use Rattle.mc_items.specs.Keeping.{SaysNothing}
 use Rattle.mc_cache.specs.declared.tended.Tended.{Tended}
 use Rattle.mc_cache.specs.Tending.{SayNothing, TendsFirst, tended_in_all, tended_with}

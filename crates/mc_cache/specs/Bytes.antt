@@ -3,8 +3,8 @@ use Rattle.std.specs.Prelude.{ℕ, ◌+◌, ◌*◌, ◌/◌, List, [], ◌∷�
 use Rattle.mc_classes.specs.declared.config.Config.{Config}
 use Rattle.mc_classes.specs.Refusals.{first_size}
 use Rattle.mc_words.specs.declared.arena.Arena.{Arena}
-use Rattle.mc_words.specs.Arenas.{setup_of}
-use Rattle.mc_words.specs.Layout.{word_count, words_apart}
+use Rattle.mc_words.specs.hand.Arenas.{setup_of}
+use Rattle.mc_words.specs.rule.Layout.{word_count, words_apart}
 use Rattle.mc_cache.specs.declared.cache.Cache.{Cache}
 use Rattle.mc_cache.specs.declared.opening.CacheConfig.{CacheConfig}
 use Rattle.mc_cache.specs.Observers.{arenas_of}

@@ -6,9 +6,9 @@ use Rattle.mc_classes.specs.Refusals.{is_between, refusal_of}
 use Rattle.mc_core.specs.declared.event.StripeChange.TheVariants.{Forget}
 use Rattle.mc_words.specs.declared.arena.Arena.{Arena}
 use Rattle.mc_words.specs.declared.hand.Hand.{Hand}
-use Rattle.mc_words.specs.Arenas.{setup_of, view}
-use Rattle.mc_words.specs.Hands.{IsMadeWith, IsNewHand}
-use Rattle.mc_words.specs.Observers.{number_of}
+use Rattle.mc_words.specs.hand.Arenas.{setup_of, view}
+use Rattle.mc_words.specs.hand.Hands.{IsMadeWith, IsNewHand}
+use Rattle.mc_words.specs.hand.Observers.{number_of}
 use Rattle.mc_mover.specs.Recording.{ChangesEach}
 use Rattle.mc_cache.specs.declared.opening.CacheConfig.{CacheConfig}
 use Rattle.mc_cache.specs.declared.opening.NewError.{NewError}

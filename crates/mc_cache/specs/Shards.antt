@@ -3,9 +3,9 @@ use Rattle.std.specs.Prelude.{◌≡◌, ◌≤◌, ℕ, Bool, List, All, length
 use Rattle.mc_packing.specs.Packing.{packed}
 use Rattle.mc_words.specs.declared.arena.Arena.{Arena}
 use Rattle.mc_words.specs.declared.hand.Hand.{Hand}
-use Rattle.mc_words.specs.Arenas.{setup_of, view}
-use Rattle.mc_words.specs.Items.{item_with}
-use Rattle.mc_words.specs.Observers.{number_of}
+use Rattle.mc_words.specs.hand.Arenas.{setup_of, view}
+use Rattle.mc_words.specs.item.Items.{item_with}
+use Rattle.mc_words.specs.hand.Observers.{number_of}
 use Rattle.mc_items.specs.Keeping.{Says, SaysNothing}
 use Rattle.mc_items.specs.OnKeys.{FindsStripeHeld}
 use Rattle.mc_items.specs.declared.setting.SetError.{SetError}

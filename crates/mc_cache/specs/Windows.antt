@@ -2,7 +2,7 @@
 use Rattle.std.specs.Prelude.{◌≡◌, ◌<◌, ◌≤◌, ℕ, ◌+◌, ◌-◌, ◌^◌, Bool, true, false, is_some, is_none, min, if◌then◌else◌, List, [], ◌∷◌, length, Option, Some, None, Result, Ok}
 use Rattle.mc_pages.specs.declared.moves.Reassign.{Reassign}
 use Rattle.mc_words.specs.declared.hand.Hand.{Hand}
-use Rattle.mc_words.specs.Reassigning.{Reassigns}
+use Rattle.mc_words.specs.page.Moves.{Reassigns}
 use Rattle.mc_mover.specs.declared.counts.Turn.{Turn}
 use Rattle.mc_mover.specs.declared.counts.Turn.TheVariants.{Went}
 use Rattle.mc_mover.specs.declared.numbers.Survey.{Survey}

@@ -1,8 +1,8 @@
 //! Caches that are made.
 ghost use Rattle.std.specs.Prelude.{◌≡◌, ◌≤◌, ◌+◌, ◌-◌, ◌++◌, ◌∷◌, [], All, IfErr, IfOk, List, None, OnOk, Some, length, slice_index_or, take, unwrap_or};
 ghost use Rattle.mc_words.specs.declared.arena.Arena.{Arena};
-ghost use Rattle.mc_words.specs.Arenas.{setup_of};
-ghost use Rattle.mc_words.specs.Hands.{IsMadeWith};
+ghost use Rattle.mc_words.specs.hand.Arenas.{setup_of};
+ghost use Rattle.mc_words.specs.hand.Hands.{IsMadeWith};
 ghost use Rattle.mc_cache.specs.Belonging.{BelongsTo, HaveIdleHands};
 ghost use Rattle.mc_cache.specs.Observers.{arenas_of, hash_key, shard_count};
 ghost use Rattle.mc_cache.specs.Bytes.{bytes_of, table_bytes};

@@ -7,11 +7,11 @@ use Rattle.mc_core.specs.Holdings.{is_of, lose}
 use Rattle.mc_pages.proofs.Chunks.{is_chunk-same}
 use Rattle.mc_words.specs.declared.arena.Arena.{Arena}
 use Rattle.mc_words.specs.declared.hand.Hand.{Hand}
-use Rattle.mc_words.specs.View.{View, both_views}
-use Rattle.mc_words.specs.Idle.{is_idle}
-use Rattle.mc_words.specs.Views.{head_seen}
-use Rattle.mc_words.specs.Hands.{AreHandsFrom, AreNewHands}
-use Rattle.mc_words.specs.Ready.{IsReady}
+use Rattle.mc_words.specs.hand.View.{View, both_views}
+use Rattle.mc_words.specs.hand.Idle.{is_idle}
+use Rattle.mc_words.specs.hand.Views.{head_seen}
+use Rattle.mc_words.specs.hand.Hands.{AreHandsFrom, AreNewHands}
+use Rattle.mc_words.specs.hand.Ready.{IsReady}
 use Rattle.mc_items.specs.declared.refs.Ref.{Ref}
 use Rattle.mc_items.specs.ItemRefs.{item_chunk}
 use Rattle.mc_items.specs.Keeping.{HoldsLess, HoldsTheSame, HoldsToo, holding_by}

@@ -2,9 +2,9 @@
 use Rattle.std.specs.Prelude.{◌≡◌, List, [], ◌∷◌, ⊤}
 use Rattle.mc_words.specs.declared.arena.Arena.{Arena}
 use Rattle.mc_words.specs.declared.hand.Hand.{Hand}
-use Rattle.mc_words.specs.Arenas.{IsHandOf, view}
-use Rattle.mc_words.specs.View.{View}
-use Rattle.mc_words.specs.Ready.{IsReady}
+use Rattle.mc_words.specs.hand.Arenas.{IsHandOf, view}
+use Rattle.mc_words.specs.hand.View.{View}
+use Rattle.mc_words.specs.hand.Ready.{IsReady}
 
 -- the hand is one of the arena's, and may make any call
 abbrev pub IsReadyHandOf : Arena → Hand → Type 0

@@ -1,8 +1,8 @@
 //! Hints of items, which lead to them again.
 ghost use Rattle.std.specs.Prelude.{◌≡◌, true, IfSome};
 ghost use Rattle.mc_core.specs.State.{has_chunk};
-ghost use Rattle.mc_words.specs.Arenas.{setup_of};
-ghost use Rattle.mc_words.specs.Observers.{hint_chunk};
+ghost use Rattle.mc_words.specs.hand.Arenas.{setup_of};
+ghost use Rattle.mc_words.specs.hand.Observers.{hint_chunk};
 ghost use Rattle.mc_calls.specs.Hands.{IsReadyHandOf};
 
 use crate::items::get_key;

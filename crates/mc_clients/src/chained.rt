@@ -1,9 +1,9 @@
 //! Calls one after another, with no test of the hand between them.
 ghost use Rattle.std.specs.Prelude.{◌≡◌, IfSome, true};
 ghost use Rattle.mc_core.specs.State.{has_chunk};
-ghost use Rattle.mc_words.specs.Arenas.{IsHandOf, setup_of, view};
-ghost use Rattle.mc_words.specs.Observers.{hint_chunk, number_of};
-ghost use Rattle.mc_words.specs.Ready.{IsReady};
+ghost use Rattle.mc_words.specs.hand.Arenas.{IsHandOf, setup_of, view};
+ghost use Rattle.mc_words.specs.hand.Observers.{hint_chunk, number_of};
+ghost use Rattle.mc_words.specs.hand.Ready.{IsReady};
 
 use mc_items::{again, delete, get, hint, read, release, set, touch, try_get};
 use mc_mover::{forget, reassign, set_mode, survey, trim, try_turn, turn};

@@ -1,8 +1,8 @@
 //! A reference that is held over other calls.
 ghost use Rattle.std.specs.Prelude.{◌≡◌, IfOk};
-ghost use Rattle.mc_words.specs.Arenas.{IsHandOf, view};
-ghost use Rattle.mc_words.specs.Ready.{IsReady};
-ghost use Rattle.mc_words.specs.Refs.{KeepsRefs};
+ghost use Rattle.mc_words.specs.hand.Arenas.{IsHandOf, view};
+ghost use Rattle.mc_words.specs.hand.Ready.{IsReady};
+ghost use Rattle.mc_words.specs.item.Refs.{KeepsRefs};
 ghost use Rattle.mc_items.specs.ItemRefs.{IsItemRef, item_words};
 
 use mc_items::{Ref, delete, get, read, release, set, touch};

@@ -1,7 +1,7 @@
 //! What a hand set it reads.
 ghost use Rattle.std.specs.Prelude.{◌≡◌, IfOk, IfSome};
-ghost use Rattle.mc_words.specs.Arenas.{IsHandOf, view};
-ghost use Rattle.mc_words.specs.Ready.{IsReady};
+ghost use Rattle.mc_words.specs.hand.Arenas.{IsHandOf, view};
+ghost use Rattle.mc_words.specs.hand.Ready.{IsReady};
 
 use mc_items::{GetError, SetError, get, read, release, set};
 use mc_words::{Arena, Hand};

@@ -1,7 +1,7 @@
 //! A reference that is held while the stripes let go of what was told.
 ghost use Rattle.std.specs.Prelude.{◌≡◌, IfOk};
-ghost use Rattle.mc_words.specs.Arenas.{IsHandOf, view};
-ghost use Rattle.mc_words.specs.Ready.{IsReady};
+ghost use Rattle.mc_words.specs.hand.Arenas.{IsHandOf, view};
+ghost use Rattle.mc_words.specs.hand.Ready.{IsReady};
 ghost use Rattle.mc_items.specs.ItemRefs.{IsItemRef, item_words};
 
 use mc_items::{Ref, read};

@@ -18,22 +18,22 @@ use Rattle.mc_core.proofs.KnownQuiet.{IsStill}
 use Rattle.mc_core.proofs.MoreRows.{each_contained, row_of}
 use Rattle.mc_core.proofs.SeenLooks.{some_is}
 use Rattle.mc_words.specs.declared.hand.Hand.{Hand}
-use Rattle.mc_words.specs.View.{View}
-use Rattle.mc_words.specs.Arenas.{view}
-use Rattle.mc_words.specs.Happens.{LawfulView}
-use Rattle.mc_words.specs.Items.{held_item, item_with}
-use Rattle.mc_words.specs.Out.{is_neither}
-use Rattle.mc_words.specs.Ready.{IsReady}
-use Rattle.mc_words.specs.Refs.{IsRefOf, KeepsHeld, KeepsRefs}
-use Rattle.mc_words.proofs.Owners.{holdings_here}
-use Rattle.mc_words.proofs.Unlocked.{unlocked_from}
+use Rattle.mc_words.specs.hand.View.{View}
+use Rattle.mc_words.specs.hand.Arenas.{view}
+use Rattle.mc_words.specs.rule.Happens.{LawfulView}
+use Rattle.mc_words.specs.item.Items.{held_item, item_with}
+use Rattle.mc_words.specs.lock.Out.{is_neither}
+use Rattle.mc_words.specs.hand.Ready.{IsReady}
+use Rattle.mc_words.specs.item.Refs.{IsRefOf, KeepsHeld, KeepsRefs}
+use Rattle.mc_words.proofs.Pages.Owners.{holdings_here}
+use Rattle.mc_words.proofs.Locks.Unlocked.{unlocked_from}
 use Rattle.mc_items.specs.declared.refs.Ref.{Ref}
 use Rattle.mc_items.specs.ItemRefs.{IsItemRef, item_chunk, item_len, item_stamp, item_words}
 use Rattle.mc_items.specs.Keeping.{AreSaid, HeldRefsKeepItems, HoldsLess, HoldsTheSame, HoldsToo, IsAsSaid, KeepingGoesOn, KeptRefsKeepItems, ReleasingKeepsOthers, StaysItemRef, holding_by}
 use Rattle.mc_items.proofs.Rows.{chunk_found, found_among, fresh_less, fresh_more, left_among, none_fresh, still_found}
 
 -- a hand with the locks of a ready one
-unlocked_still : (before now : Hand) → now.locks ≡ before.locks → IsReady (view before) → Rattle.mc_words.specs.Idle.is_unlocked (view now) ≡ true
+unlocked_still : (before now : Hand) → now.locks ≡ before.locks → IsReady (view before) → Rattle.mc_words.specs.hand.Idle.is_unlocked (view now) ≡ true
 unlocked_still before now locks ready = sym (unlocked_from now.seat.me.0 now.locks now.noted.4) ∙ (ap is_neither locks ∙ (unlocked_from before.seat.me.0 before.locks before.noted.4 ∙ ready.unlocked))
 
 -- that holds the same is ready
@@ -212,7 +212,7 @@ module _ (view : View) (was : LawfulView view) (item : Ref) (is : IsItemRef view
 
       own : (saying : Saying) → Contains view.row.knows.said saying → saying.stamp ≡ item_stamp item → saying.words ≡ held_item view (item_chunk item)
       own saying has stamp =
-          (Rattle.mc_words.proofs.Joined.agrees view was).both saying (known_by item.reference.room is.reference.holding) has is.reference.knows (stamp ∙ (sym is.stamp ∙ ap stamp_of item_is)) ∙ sym item_is
+          (Rattle.mc_words.proofs.Hands.Joined.agrees view was).both saying (known_by item.reference.room is.reference.holding) has is.reference.knows (stamp ∙ (sym is.stamp ∙ ap stamp_of item_is)) ∙ sym item_is
 
 -- an item is its key, its stamp, how many words it has, and these
 item_from : (item : List ℕ) (key stamp len : ℕ) → key_of item ≡ key → stamp_of item ≡ stamp → length item ≡ 3 + len → length item ≡ length_of item → item ≡ item_with key stamp (drop 3 item)

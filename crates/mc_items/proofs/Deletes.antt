@@ -3,11 +3,11 @@ use Rattle.std.proofs.Common.{◌≡◌, ℕ, [], ◌+◌, Bool, true, false, �
 use Rattle.mc_stripe.specs.StripeState.{ReadyStripe, place_of}
 use Rattle.mc_stripe.specs.Changes.{after_unlink, used_up}
 use Rattle.mc_core.specs.Holdings.{has_fresh}
-use Rattle.mc_words.specs.Doing.{IsDone}
-use Rattle.mc_words.specs.View.{View}
-use Rattle.mc_words.specs.Called.{key_deleted, key_lifted, key_not_deleted, key_unlinked}
+use Rattle.mc_words.specs.lock.Doing.{IsDone}
+use Rattle.mc_words.specs.hand.View.{View}
+use Rattle.mc_words.specs.item.Calls.{key_deleted, key_lifted, key_not_deleted, key_unlinked}
 use Rattle.mc_core.specs.declared.event.Step.TheVariants as step
-use Rattle.mc_words.specs.Views.{stripe_given, stripe_reserved, with_event}
+use Rattle.mc_words.specs.hand.Views.{stripe_given, stripe_reserved, with_event}
 use Rattle.mc_items.specs.Calls.{Deletes}
 
 -- a hand that fills no chunk deletes what it unlinks

@@ -11,12 +11,12 @@ use Rattle.mc_core.specs.declared.look.Look.{Look}
 use Rattle.mc_core.specs.declared.look.Look.TheVariants.{SawStripe}
 use Rattle.mc_core.specs.Chunks.{most_issue}
 use Rattle.mc_core.specs.Seen.{last_head, last_read}
-use Rattle.mc_words.specs.Doing.{Doing, IsDone}
-use Rattle.mc_words.specs.View.{View}
-use Rattle.mc_words.specs.Condemning.{knows_reason, stripe_read}
-use Rattle.mc_words.specs.Items.{word_read}
-use Rattle.mc_words.specs.Views.{stripe_given, stripe_reserved}
-use Rattle.mc_words.proofs.Reasoned.{alive_after_other, reason_after}
+use Rattle.mc_words.specs.lock.Doing.{Doing, IsDone}
+use Rattle.mc_words.specs.hand.View.{View}
+use Rattle.mc_words.specs.item.Removal.{knows_reason, stripe_read}
+use Rattle.mc_words.specs.item.Items.{word_read}
+use Rattle.mc_words.specs.hand.Views.{stripe_given, stripe_reserved}
+use Rattle.mc_words.proofs.Items.Reasoned.{alive_after_other, reason_after}
 
 -- room was made in a stripe, under the slabs lock
 module _ (view made : View) (slabs : SlabState) (mine : view.slabs ≡ Some slabs) (stripe word : ℕ) (value : ReadyStripe) (is : made ≡ stripe_reserved stripe value word view) where

@@ -2,7 +2,7 @@
 use Rattle.std.proofs.Common.{zero-add, ◌≡◌, ℕ, ◌+◌, ◌≤◌, ◌==◌, Bool, true, false, List, [], ◌∷◌, ◌++◌, length, take, is_some, Option, Some, refl, ap, sym, ◌∙◌, cond, arith, slice_set, le-leb, if◌then◌else◌}
 use Rattle.std.proofs.lemmas.List.{append-nil, append_assoc}
 use Rattle.mc_core.specs.declared.event.Step.TheVariants as step
-use Rattle.mc_words.specs.View.{OwnEvent, made}
+use Rattle.mc_words.specs.hand.View.{OwnEvent, made}
 use Rattle.std.specs.List.{list_all}
 use Rattle.std.specs.Option.{option_map, option_map_or}
 use Rattle.std.proofs.lemmas.Bool.{and_from}
@@ -13,12 +13,12 @@ use Rattle.mc_core.specs.declared.holding.Kind.{Kind}
 use Rattle.mc_core.specs.declared.holding.Kind.TheVariants.{Reference, Fresh}
 use Rattle.mc_core.specs.Chunks.{filled, filled_kind}
 use Rattle.mc_core.specs.Holdings.{Words, all_known, change_each, holding_of, is_complete, is_of, item_in, key_in, stamp_in, words_of}
-use Rattle.mc_words.specs.View.{View}
+use Rattle.mc_words.specs.hand.View.{View}
 use Rattle.mc_stripe.proofs.Entries.{nat_eq_other}
-use Rattle.mc_words.specs.Fresh.{IsFreshOf}
-use Rattle.mc_words.specs.Items.{issue_in, item_with, words_in}
-use Rattle.mc_words.specs.Linking.{IsItemFilled, own_item}
-use Rattle.mc_words.specs.Views.{with_holdings, word_filled}
+use Rattle.mc_words.specs.item.Fresh.{IsFreshOf}
+use Rattle.mc_words.specs.item.Items.{issue_in, item_with, words_in}
+use Rattle.mc_words.specs.item.Links.{IsItemFilled, own_item}
+use Rattle.mc_words.specs.hand.Views.{with_holdings, word_filled}
 use Rattle.mc_items.specs.Storing.{IsOwnItem, holding_with, item_filled, kind_with, written_over, fills_of}
 
 -- one word more behind those that were written

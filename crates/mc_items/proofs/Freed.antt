@@ -10,10 +10,10 @@ use Rattle.mc_stripe.specs.declared.history.Call.TheVariants.{Evict}
 use Rattle.mc_core.specs.declared.ids.Ids.{Ids}
 use Rattle.mc_core.specs.declared.holding.Holding.{Holding}
 use Rattle.mc_core.specs.Past.{Own, Saying}
-use Rattle.mc_words.specs.Doing.{IsDone}
-use Rattle.mc_words.specs.View.{View}
-use Rattle.mc_words.specs.Called.{with_own_call}
-use Rattle.mc_words.specs.Condemning.{Condemns}
+use Rattle.mc_words.specs.lock.Doing.{IsDone}
+use Rattle.mc_words.specs.hand.View.{View}
+use Rattle.mc_words.specs.item.Calls.{with_own_call}
+use Rattle.mc_words.specs.item.Removal.{Condemns}
 use Rattle.mc_items.specs.declared.evicting.Supply.{Supply}
 use Rattle.mc_items.specs.declared.evicting.Supply.TheVariants.{Page, Dead, Evicted}
 use Rattle.mc_items.specs.Evicting.{FreesChunk, FreesOne, LacksEntry, TellsEvict}

@@ -10,10 +10,10 @@ use Rattle.mc_core.specs.declared.event.Change.TheVariants as change
 use Rattle.mc_core.specs.declared.event.Step.TheVariants as step
 use Rattle.mc_core.specs.Head.{is_dead}
 use Rattle.mc_core.specs.Seen.{last_head, seen_head}
-use Rattle.mc_words.specs.View.{View}
-use Rattle.mc_words.specs.Happens.{Happens}
-use Rattle.mc_words.specs.Owner.{PutsBack}
-use Rattle.mc_words.specs.Views.{slabs_changed}
+use Rattle.mc_words.specs.hand.View.{View}
+use Rattle.mc_words.specs.rule.Happens.{Happens}
+use Rattle.mc_words.specs.page.Owner.{PutsBack}
+use Rattle.mc_words.specs.hand.Views.{slabs_changed}
 use Rattle.mc_items.specs.Supplying.{FreesEvicted}
 
 -- what is so where it went well, and it did

@@ -3,18 +3,18 @@ use Rattle.std.proofs.Common.{◌≡◌, ◌≤◌, ◌<◌, ℕ, Bool, true, fa
 use Rattle.std.specs.Option.{option_map}
 use Rattle.mc_pages.specs.declared.ids.ChunkId.{ChunkId}
 use Rattle.mc_core.specs.Past.{known_by}
-use Rattle.mc_words.specs.declared.refs.Again.{Again}
-use Rattle.mc_words.specs.declared.refs.Again.TheVariants.{Gone, Contended, TooManyRefs}
-use Rattle.mc_words.specs.declared.refs.Ref as words
-use Rattle.mc_words.specs.Hinting.{FindsContended, FindsGone}
+use Rattle.mc_words.specs.declared.item.refs.Again.{Again}
+use Rattle.mc_words.specs.declared.item.refs.Again.TheVariants.{Gone, Contended, TooManyRefs}
+use Rattle.mc_words.specs.declared.item.refs.Ref as words
+use Rattle.mc_words.specs.item.Again.{FindsContended, FindsGone}
 use Rattle.mc_core.specs.State.{has_chunk}
 use Rattle.mc_words.specs.declared.hand.Hand.{Hand}
-use Rattle.mc_words.specs.Arenas.{view}
-use Rattle.mc_words.specs.Happens.{LawfulView}
-use Rattle.mc_words.specs.Ready.{IsReady}
-use Rattle.mc_words.specs.Referring.{reference_to}
-use Rattle.mc_words.specs.Refs.{KeepsRefs}
-use Rattle.mc_words.specs.View.{Setup, View}
+use Rattle.mc_words.specs.hand.Arenas.{view}
+use Rattle.mc_words.specs.rule.Happens.{LawfulView}
+use Rattle.mc_words.specs.hand.Ready.{IsReady}
+use Rattle.mc_words.specs.item.References.{reference_to}
+use Rattle.mc_words.specs.item.Refs.{KeepsRefs}
+use Rattle.mc_words.specs.hand.View.{Setup, View}
 use Rattle.mc_items.specs.declared.refs.Ref.{Ref}
 use Rattle.mc_items.specs.Calls.{CallsOn, Deletes, LooksUp, OnlyWaits}
 use Rattle.mc_items.specs.ItemRefs.{IsItemRef, item_chunk, item_issue, item_key, item_reference}

@@ -8,17 +8,17 @@ use Rattle.mc_core.specs.declared.holding.Holding.{Holding}
 use Rattle.std.specs.Option.{option_map}
 use Rattle.mc_core.specs.Holdings as items
 use Rattle.mc_core.specs.Past.{known_by}
-use Rattle.mc_words.specs.Doing.{Doing, IsDone}
-use Rattle.mc_words.specs.View.{View}
-use Rattle.mc_words.specs.Called.{key_missed}
-use Rattle.mc_words.specs.Happens.{LawfulView}
-use Rattle.mc_words.specs.Items.{held_item}
-use Rattle.mc_words.specs.Lent.{IsLentStripe}
-use Rattle.mc_words.specs.Waiting.{WaitsForStripe}
-use Rattle.mc_words.specs.Referring.{reference_to, GetsItem}
-use Rattle.mc_words.specs.Views.{stripe_given, stripe_reserved}
-use Rattle.mc_words.proofs.References.{is_item}
-use Rattle.mc_words.specs.declared.refs.Ref.{Ref}
+use Rattle.mc_words.specs.lock.Doing.{Doing, IsDone}
+use Rattle.mc_words.specs.hand.View.{View}
+use Rattle.mc_words.specs.item.Calls.{key_missed}
+use Rattle.mc_words.specs.rule.Happens.{LawfulView}
+use Rattle.mc_words.specs.item.Items.{held_item}
+use Rattle.mc_words.specs.lock.Lent.{IsLentStripe}
+use Rattle.mc_words.specs.lock.Wait.{WaitsForStripe}
+use Rattle.mc_words.specs.item.References.{reference_to, GetsItem}
+use Rattle.mc_words.specs.hand.Views.{stripe_given, stripe_reserved}
+use Rattle.mc_words.proofs.Items.References.{is_item}
+use Rattle.mc_words.specs.declared.item.refs.Ref.{Ref}
 use Rattle.mc_items.specs.Calls.{CallsOn, LooksUp, OnlyWaits}
 use Rattle.mc_items.specs.Reading.{AndReads}
 

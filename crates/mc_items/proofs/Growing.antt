@@ -13,8 +13,8 @@ use Rattle.mc_pages.specs.SlabState.{SlabState, IsClass, class_at, class_of_chun
 use Rattle.mc_pages.proofs.Cuts.{chunk_at}
 use Rattle.mc_pages.proofs.NextPage.{class_at-grown, nobody_next, owners-grown}
 use Rattle.mc_pages.proofs.OneClass.{class_at-with_class_same}
-use Rattle.mc_words.specs.View.{View}
-use Rattle.mc_words.specs.Sweeping.{with_seen}
+use Rattle.mc_words.specs.hand.View.{View}
+use Rattle.mc_words.specs.chunk.Sweeps.{with_seen}
 
 -- the page that a class was given is the class's
 pub given_own : (slabs : SlabState) (class page : ℕ) → IsAccounted slabs → next_page slabs ≡ Some page → class_of_page (after_grow slabs class page) page ≡ class
@@ -60,7 +60,7 @@ class_grown slabs class page is =
     (is.0, subst (λ n. class ≤ n) (sym (ap length (Rattle.mc_pages.proofs.NextPage.classes-grown slabs class page) ∙ Rattle.std.proofs.lemmas.List.length-set slabs.classes (class - 1) (with_page (class_at slabs class) page))) is.1)
 
 -- the change is seen alone
-pub change_seen : (view : View) (slabs : SlabState) (change : Rattle.mc_core.specs.declared.event.Change.Change) (word : ℕ) (now : View) → now ≡ Rattle.mc_words.specs.Views.slabs_changed slabs change word view → now ≡ with_seen view now
+pub change_seen : (view : View) (slabs : SlabState) (change : Rattle.mc_core.specs.declared.event.Change.Change) (word : ℕ) (now : View) → now ≡ Rattle.mc_words.specs.hand.Views.slabs_changed slabs change word view → now ≡ with_seen view now
 change_seen view slabs change word now is = is ∙ (λ k. with_seen view (sym is k))
 
 -- first the one, then the other
@@ -68,11 +68,11 @@ pub seen_twice : (view next now : View) → next ≡ with_seen view next → now
 seen_twice view next now first second = second ∙ ap (λ (v : View). with_seen v now) first
 
 -- what is accounted for, and how many chunks a page of the class has
-module _ (view : View) (was : Rattle.mc_words.specs.Happens.LawfulView view) (slabs : SlabState) (mine : view.slabs ≡ Some slabs) where
+module _ (view : View) (was : Rattle.mc_words.specs.rule.Happens.LawfulView view) (slabs : SlabState) (mine : view.slabs ≡ Some slabs) where
   pub accounted_here : IsAccounted slabs
-  accounted_here = subst IsAccounted (Rattle.mc_words.proofs.Owners.slabs_here view was slabs mine).1 was.lawful.paged.of_table.accounted
+  accounted_here = subst IsAccounted (Rattle.mc_words.proofs.Pages.Owners.slabs_here view was slabs mine).1 was.lawful.paged.of_table.accounted
 
   pub some_here : (class : ℕ) → IsClass slabs class → 1 ≤ (class_at slabs class).per_page
   some_here class is =
-      let same = (Rattle.mc_words.proofs.Owners.slabs_here view was slabs mine).1 in
+      let same = (Rattle.mc_words.proofs.Pages.Owners.slabs_here view was slabs mine).1 in
       subst (λ (s : SlabState). 1 ≤ (class_at s class).per_page) same (was.lawful.paged.order.1.per_page class (subst (λ (s : SlabState). IsClass s class) (sym same) is))

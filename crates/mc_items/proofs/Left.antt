@@ -7,14 +7,14 @@ use Rattle.mc_core.specs.declared.event.Step.TheVariants as step
 use Rattle.mc_core.specs.declared.holding.Holding.{Holding}
 use Rattle.mc_core.specs.declared.ids.Ids.{Ids}
 use Rattle.mc_core.specs.Past.{Known, Saying, known_by}
-use Rattle.mc_words.specs.View.{View}
-use Rattle.mc_words.specs.Called.{key_deleted, key_not_deleted}
-use Rattle.mc_words.specs.Hinting.{FindsContended, FindsGone, GetsAgain}
-use Rattle.mc_words.specs.Items.{held_item}
-use Rattle.mc_words.specs.Referring.{reference_to}
-use Rattle.mc_words.specs.Views.{stripe_reserved, with_event}
-use Rattle.mc_words.specs.Waiting.{WaitsForSlabs, WaitsForStripe}
-use Rattle.mc_words.specs.declared.refs.Ref as words
+use Rattle.mc_words.specs.hand.View.{View}
+use Rattle.mc_words.specs.item.Calls.{key_deleted, key_not_deleted}
+use Rattle.mc_words.specs.item.Again.{FindsContended, FindsGone, GetsAgain}
+use Rattle.mc_words.specs.item.Items.{held_item}
+use Rattle.mc_words.specs.item.References.{reference_to}
+use Rattle.mc_words.specs.hand.Views.{stripe_reserved, with_event}
+use Rattle.mc_words.specs.lock.Wait.{WaitsForSlabs, WaitsForStripe}
+use Rattle.mc_words.specs.declared.item.refs.Ref as words
 use Rattle.mc_items.specs.declared.refs.Ref.{Ref}
 use Rattle.mc_items.specs.Calls.{CallsOn, Deletes, Finds, FindsNone, OnlyWaits}
 use Rattle.mc_items.specs.ItemRefs.{item_chunk, item_issue, item_reference}

@@ -3,18 +3,18 @@ use Rattle.std.proofs.Common.{◌≡◌, ℕ, true, List, [], ◌∷◌, refl, s
 use Rattle.mc_pages.specs.SlabState.{SlabState}
 use Rattle.mc_stripe.specs.StripeState.{ReadyStripe}
 use Rattle.mc_words.specs.declared.hand.Hand.{Hand}
-use Rattle.mc_words.specs.declared.locks.Locks.{Locks}
-use Rattle.mc_words.specs.declared.locks.Locks.TheVariants.{Neither, Slabs, Stripe, SlabsLast, StripeLast}
-use Rattle.mc_words.specs.View.{View}
-use Rattle.mc_words.specs.Arenas.{view}
+use Rattle.mc_words.specs.declared.lock.locks.Locks.{Locks}
+use Rattle.mc_words.specs.declared.lock.locks.Locks.TheVariants.{Neither, Slabs, Stripe, SlabsLast, StripeLast}
+use Rattle.mc_words.specs.hand.View.{View}
+use Rattle.mc_words.specs.hand.Arenas.{view}
 use Rattle.mc_core.specs.declared.event.Step.TheVariants as step
-use Rattle.mc_words.specs.Happens.{Happens}
-use Rattle.mc_words.specs.Idle.{is_unlocked}
-use Rattle.mc_words.specs.Out.{is_neither, with_slabs, with_stripe, without_slabs, without_stripe}
-use Rattle.mc_words.specs.Views.{slabs_missed, slabs_taken, stripe_missed, stripe_taken}
-use Rattle.mc_words.specs.Lent.{BeginsWithSeen}
-use Rattle.mc_words.specs.Waiting.{MissesSlabs, MissesStripe, WaitsForSlabs, WaitsForStripe}
-use Rattle.mc_words.proofs.Unlocked.{unlocked_from}
+use Rattle.mc_words.specs.rule.Happens.{Happens}
+use Rattle.mc_words.specs.hand.Idle.{is_unlocked}
+use Rattle.mc_words.specs.lock.Out.{is_neither, with_slabs, with_stripe, without_slabs, without_stripe}
+use Rattle.mc_words.specs.hand.Views.{slabs_missed, slabs_taken, stripe_missed, stripe_taken}
+use Rattle.mc_words.specs.lock.Lent.{BeginsWithSeen}
+use Rattle.mc_words.specs.lock.Wait.{MissesSlabs, MissesStripe, WaitsForSlabs, WaitsForStripe}
+use Rattle.mc_words.proofs.Locks.Unlocked.{unlocked_from}
 
 -- whatever misses and takes leave stays
 module _ {X : Type 0} (part : View → X) (stripe : ℕ) (missed : (word : ℕ) (v : View) → part (stripe_missed stripe word v) ≡ part v) (took : (value : ReadyStripe) (v : View) → part (stripe_taken stripe value v) ≡ part v) where

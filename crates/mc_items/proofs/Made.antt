@@ -15,26 +15,26 @@ use Rattle.mc_core.specs.declared.ids.Ids.{Ids}
 use Rattle.mc_core.specs.declared.holding.Holding.{Holding}
 use Rattle.mc_core.specs.Past.{Known, Own, Saying}
 use Rattle.mc_core.specs.State.{is_class, room_in}
-use Rattle.mc_words.specs.Views.{fresh_holding}
-use Rattle.mc_words.specs.Doing.{HoldsSlabs}
-use Rattle.mc_words.specs.View.{View}
-use Rattle.mc_words.specs.Happens.{LawfulView}
-use Rattle.mc_words.specs.Owner.{PopsFirst, SeesOther}
-use Rattle.mc_words.specs.Sweeping.{Recovers, SeesHeader, SeesHeaders, Sweeps, SweepsEach, follows, with_seen}
-use Rattle.mc_words.proofs.LookedOver.{sees_both, sees_headers_alone}
-use Rattle.mc_words.proofs.SweepViews.{class_here, sees_alone, stands_out}
+use Rattle.mc_words.specs.hand.Views.{fresh_holding}
+use Rattle.mc_words.specs.lock.Doing.{HoldsSlabs}
+use Rattle.mc_words.specs.hand.View.{View}
+use Rattle.mc_words.specs.rule.Happens.{LawfulView}
+use Rattle.mc_words.specs.page.Owner.{PopsFirst, SeesOther}
+use Rattle.mc_words.specs.chunk.Sweeps.{Recovers, SeesHeader, SeesHeaders, Sweeps, SweepsEach, follows, with_seen}
+use Rattle.mc_words.proofs.Pages.LookedOver.{sees_both, sees_headers_alone}
+use Rattle.mc_words.proofs.Chunks.SweepViews.{class_here, sees_alone, stands_out}
 use Rattle.mc_items.specs.Evicting.{FreesOne, TellsEvict, first_five}
 use Rattle.mc_pages.specs.declared.moves.Reassign.{Reassign}
-use Rattle.mc_words.specs.Reassigning.{Reassigns}
+use Rattle.mc_words.specs.page.Moves.{Reassigns}
 use Rattle.mc_items.specs.declared.evicting.Supply.{Supply}
 use Rattle.mc_items.specs.declared.evicting.Supply.TheVariants.{Page, Dead, Evicted}
 use Rattle.mc_items.specs.Sources.{AsksMove, ComesToFree, MakesFree, SuppliesChunk, SuppliesNone}
-use Rattle.mc_words.specs.Cutting.{CutsEach}
+use Rattle.mc_words.specs.page.Cuts.{CutsEach}
 use Rattle.mc_items.specs.Supplying.{FindsNoFree, Grows, SweepsEmpty}
 use Rattle.mc_items.specs.declared.setting.SetError.{SetError}
 use Rattle.mc_items.specs.declared.setting.SetError.TheVariants.{TooLarge, NoRoom, WornOut, NoMemory}
 use Rattle.mc_words.specs.declared.hand.Hand.{Hand}
-use Rattle.mc_words.proofs.HandNumbers.{number_stays}
+use Rattle.mc_words.proofs.Hands.HandNumbers.{number_stays}
 use Rattle.mc_items.proofs.Locks.{waits_slabs_keep}
 use Rattle.mc_items.proofs.Freed.{Evicts, back_is_free, entry_keeps, evicts_after, evicts_before, evicts_none, one_keeps}
 use Rattle.mc_items.proofs.Passes.{OwnTuple, each_keeps, own_of}
@@ -191,7 +191,7 @@ tells_after number view next now told second = record {
 
     by : TellsEvict number next now → TellsEvict number view now
     by (inl none) = inl (none ∙ mine)
-    by (inr (stripe, key, tells)) = inr (stripe, key, tells ∙ ap (λ (m : List Own). map (Rattle.mc_words.specs.Called.with_own_call number stripe (Rattle.mc_stripe.specs.declared.history.Call.TheVariants.Evict number key)) m) mine)
+    by (inr (stripe, key, tells)) = inr (stripe, key, tells ∙ ap (λ (m : List Own). map (Rattle.mc_words.specs.item.Calls.with_own_call number stripe (Rattle.mc_stripe.specs.declared.history.Call.TheVariants.Evict number key)) m) mine)
 
 pops_tell : (view : View) (slabs : SlabState) (class : ℕ) (chunk : ChunkId) (now : View) → PopsFirst view slabs class chunk now → told_of now ≡ told_of view
 pops_tell view slabs class chunk now pops = ap told_of pops.is
@@ -258,11 +258,11 @@ none_tells number class (NoMemory _) view slabs now left lacks =
     by (inr (page, entry)) = entry_keeps number _ lacks.swept now entry
 
 -- what was done under the lock, from the parts of the call
-pub holds_so : (Does : Rattle.mc_words.specs.Doing.SlabsDoing) (view taken last now : View) (found left : SlabState) → Rattle.mc_words.specs.Waiting.WaitsForSlabs view found taken → Does taken found last left → now ≡ Rattle.mc_words.specs.Views.slabs_given left last → HoldsSlabs Does view now
+pub holds_so : (Does : Rattle.mc_words.specs.lock.Doing.SlabsDoing) (view taken last now : View) (found left : SlabState) → Rattle.mc_words.specs.lock.Wait.WaitsForSlabs view found taken → Does taken found last left → now ≡ Rattle.mc_words.specs.hand.Views.slabs_given left last → HoldsSlabs Does view now
 holds_so Does view taken last now found left waits does given = record { found = found; taken = taken; waits = waits; left = left; last = last; does = does; given = given }
 
 -- the lock was waited for and given back
-module _ (number : ℕ) (Does : Rattle.mc_words.specs.Doing.SlabsDoing) (view now : View) (holds : HoldsSlabs Does view now) where
+module _ (number : ℕ) (Does : Rattle.mc_words.specs.lock.Doing.SlabsDoing) (view now : View) (holds : HoldsSlabs Does view now) where
   pub holds_told : told_of holds.taken ≡ told_of view
   holds_told = waits_slabs_keep told_of (λ word v. refl) (λ slabs v. refl) view holds.found holds.taken holds.waits
 

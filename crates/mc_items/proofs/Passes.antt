@@ -15,12 +15,12 @@ use Rattle.mc_core.specs.declared.look.Look.TheVariants.{Read, Saw, SawStripe}
 use Rattle.mc_core.specs.Head.{is_dead}
 use Rattle.mc_core.specs.Looks.{is_found_alive, stays_alive}
 use Rattle.mc_core.specs.Past.{Known, Own, Saying}
-use Rattle.mc_words.specs.Doing.{Doing, IsDone}
-use Rattle.mc_words.specs.View.{View}
-use Rattle.mc_words.specs.Condemning.{FindsHeld, key_seen}
-use Rattle.mc_words.specs.Owner.{SeesOther}
-use Rattle.mc_words.specs.Views.{head_seen, stripe_given, stripe_missed, stripe_reserved, stripe_taken}
-use Rattle.mc_words.proofs.Reasoned.{all_weaker}
+use Rattle.mc_words.specs.lock.Doing.{Doing, IsDone}
+use Rattle.mc_words.specs.hand.View.{View}
+use Rattle.mc_words.specs.item.Removal.{FindsHeld, key_seen}
+use Rattle.mc_words.specs.page.Owner.{SeesOther}
+use Rattle.mc_words.specs.hand.Views.{head_seen, stripe_given, stripe_missed, stripe_reserved, stripe_taken}
+use Rattle.mc_words.proofs.Items.Reasoned.{all_weaker}
 use Rattle.mc_items.specs.Evicting.{PassesEach, PassesOne}
 use Rattle.mc_items.specs.Supplying.{FindsItemHeld, LacksCall, PassesItem, ReachesItem}
 
@@ -100,7 +100,7 @@ finds_spares chunk view now finds = spares_on chunk view (key_seen chunk finds.k
     seen : View
     seen = key_seen chunk finds.key view
 
-    by : Rattle.mc_words.specs.Condemning.SeesHeld seen chunk now ⊎ ((head : Head) × Rattle.mc_words.specs.Happens.Happens seen [] (Rattle.mc_core.specs.declared.event.Step.TheVariants.Head chunk) (head_seen chunk head seen) × Rattle.mc_words.specs.Condemning.SeesHeld (head_seen chunk head seen) chunk now) → Spares chunk seen now
+    by : Rattle.mc_words.specs.item.Removal.SeesHeld seen chunk now ⊎ ((head : Head) × Rattle.mc_words.specs.rule.Happens.Happens seen [] (Rattle.mc_core.specs.declared.event.Step.TheVariants.Head chunk) (head_seen chunk head seen) × Rattle.mc_words.specs.item.Removal.SeesHeld (head_seen chunk head seen) chunk now) → Spares chunk seen now
     by (inl sees) = sees_spares chunk _ seen now sees
     by (inr (head, happens, sees)) = spares_on chunk seen (head_seen chunk head seen) now (looked_spares chunk head seen) (sees_spares chunk _ (head_seen chunk head seen) now sees)
 

@@ -8,14 +8,14 @@ use Rattle.mc_pages.proofs.Chunks.{is_chunk-same}
 use Rattle.mc_core.specs.declared.holding.Holding.{Holding}
 use Rattle.mc_core.specs.Holdings.{holding_of, is_of, words_of}
 use Rattle.mc_core.specs.State.{is_class, room_in}
-use Rattle.mc_words.specs.View.{View}
-use Rattle.mc_words.specs.Happens.{LawfulView}
-use Rattle.mc_words.specs.Items.{issue_in, words_in}
-use Rattle.mc_words.specs.Linking.{own_item}
-use Rattle.mc_words.specs.Owner.{PopsFirst}
-use Rattle.mc_words.specs.Views.{fresh_holding}
-use Rattle.mc_words.proofs.Judging.{not_held}
-use Rattle.mc_words.proofs.Owners.{first_near}
+use Rattle.mc_words.specs.hand.View.{View}
+use Rattle.mc_words.specs.rule.Happens.{LawfulView}
+use Rattle.mc_words.specs.item.Items.{issue_in, words_in}
+use Rattle.mc_words.specs.item.Links.{own_item}
+use Rattle.mc_words.specs.page.Owner.{PopsFirst}
+use Rattle.mc_words.specs.hand.Views.{fresh_holding}
+use Rattle.mc_words.proofs.Chunks.Judging.{not_held}
+use Rattle.mc_words.proofs.Pages.Owners.{first_near}
 use Rattle.mc_items.specs.Storing.{IsOwnItem}
 
 pub popped_own : (view now : View) (slabs : SlabState) (class : ℕ) (chunk : ChunkId) → LawfulView view → view.slabs ≡ Some slabs → is_class view.setup.table class ≡ true → PopsFirst view slabs class chunk now → IsOwnItem now chunk

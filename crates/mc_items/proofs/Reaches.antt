@@ -26,21 +26,21 @@ use Rattle.mc_core.specs.Holdings.{has_fresh, is_copy_kind, is_fresh_kind}
 use Rattle.mc_core.specs.Looks.{is_found_alive, stays_linked, was_linked}
 use Rattle.mc_core.specs.Seen.{last_read}
 use Rattle.mc_core.specs.State.{is_class, room_in}
-use Rattle.mc_words.specs.Doing.{Doing, IsDone}
-use Rattle.mc_words.specs.View.{View}
-use Rattle.mc_words.specs.Condemning.{key_seen, knows_reason, stripe_read}
-use Rattle.mc_words.specs.Happens.{Happens, LawfulView}
-use Rattle.mc_words.specs.Items.{word_read}
-use Rattle.mc_words.specs.Lent.{BeginsWithSeen, IsLentStripe}
-use Rattle.mc_words.specs.Views.{head_seen, stripe_given, stripe_taken}
+use Rattle.mc_words.specs.lock.Doing.{Doing, IsDone}
+use Rattle.mc_words.specs.hand.View.{View}
+use Rattle.mc_words.specs.item.Removal.{key_seen, knows_reason, stripe_read}
+use Rattle.mc_words.specs.rule.Happens.{Happens, LawfulView}
+use Rattle.mc_words.specs.item.Items.{word_read}
+use Rattle.mc_words.specs.lock.Lent.{BeginsWithSeen, IsLentStripe}
+use Rattle.mc_words.specs.hand.Views.{head_seen, stripe_given, stripe_taken}
 use Rattle.mc_words.specs.declared.hand.Hand.{Hand}
-use Rattle.mc_words.specs.declared.locks.Locks.{Locks}
-use Rattle.mc_words.specs.declared.locks.Locks.TheVariants.{Neither, Slabs, Stripe, SlabsLast, StripeLast}
-use Rattle.mc_words.specs.Idle.{has_no_stripes}
-use Rattle.mc_words.specs.Out.{has_no_stripe, with_stripe, without_stripe}
-use Rattle.mc_words.proofs.Unlocked.{no_stripe_from}
-use Rattle.mc_words.proofs.Judging.{class_of_table, room_of, seen_is}
-use Rattle.mc_words.proofs.Reasoned.{alive_after_look, alive_after_read, all_weaker, no_page_left, room_needed}
+use Rattle.mc_words.specs.declared.lock.locks.Locks.{Locks}
+use Rattle.mc_words.specs.declared.lock.locks.Locks.TheVariants.{Neither, Slabs, Stripe, SlabsLast, StripeLast}
+use Rattle.mc_words.specs.hand.Idle.{has_no_stripes}
+use Rattle.mc_words.specs.lock.Out.{has_no_stripe, with_stripe, without_stripe}
+use Rattle.mc_words.proofs.Locks.Unlocked.{no_stripe_from}
+use Rattle.mc_words.proofs.Chunks.Judging.{class_of_table, room_of, seen_is}
+use Rattle.mc_words.proofs.Items.Reasoned.{alive_after_look, alive_after_read, all_weaker, no_page_left, room_needed}
 use Rattle.mc_items.specs.Supplying.{LacksCall, ReachesItem}
 
 -- a linked chunk isn't dead

@@ -6,10 +6,10 @@ use Rattle.mc_stripe.specs.declared.history.Call.TheVariants.{Set}
 use Rattle.mc_core.specs.declared.holding.Holding.{Holding}
 use Rattle.mc_core.specs.Holdings.{Words, all_known, holding_of, is_complete, item_in, key_in, numbers, stamp_in, words_of}
 use Rattle.mc_core.specs.Past.{Own, Saying}
-use Rattle.mc_words.specs.View.{View}
-use Rattle.mc_words.specs.Called.{with_own_call}
-use Rattle.mc_words.specs.Items.{issue_in, words_in}
-use Rattle.mc_words.specs.Linking.{IsItemFilled, own_item}
+use Rattle.mc_words.specs.hand.View.{View}
+use Rattle.mc_words.specs.item.Calls.{with_own_call}
+use Rattle.mc_words.specs.item.Items.{issue_in, words_in}
+use Rattle.mc_words.specs.item.Links.{IsItemFilled, own_item}
 use Rattle.mc_items.specs.Calls.{TellsNoCall}
 use Rattle.mc_items.specs.Storing.{LeavesDead, StoresItem}
 use Rattle.mc_items.proofs.Tells.{told_none}

@@ -7,11 +7,11 @@ use Rattle.mc_core.specs.declared.holding.Holding.{Holding}
 use Rattle.mc_core.specs.Holdings.{has_fresh, holding_of, is_fresh, is_of, item_in, lose, numbers}
 use Rattle.mc_core.specs.Items.{stamped}
 use Rattle.mc_core.specs.Past.{Known, known_by}
-use Rattle.mc_words.specs.View.{View}
-use Rattle.mc_words.specs.Items.{issue_in, words_in}
-use Rattle.mc_words.specs.Linking.{own_item}
-use Rattle.mc_words.specs.Referring.{reference_to}
-use Rattle.mc_words.specs.Refs.{KeepsRefs}
+use Rattle.mc_words.specs.hand.View.{View}
+use Rattle.mc_words.specs.item.Items.{issue_in, words_in}
+use Rattle.mc_words.specs.item.Links.{own_item}
+use Rattle.mc_words.specs.item.References.{reference_to}
+use Rattle.mc_words.specs.item.Refs.{KeepsRefs}
 use Rattle.mc_items.specs.Storing.{IsOwnItem, LeavesDead, StoresItem, holding_with, item_filled}
 use Rattle.mc_items.proofs.Chains.{refs_kept, refs_stay}
 use Rattle.mc_items.proofs.Left.{Kept, kept_of, only_keeps, waited}

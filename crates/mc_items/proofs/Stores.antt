@@ -10,12 +10,12 @@ use Rattle.mc_core.specs.Items.{is_none_else_aside}
 use Rattle.mc_stripe.specs.StripeState.{Index, ReadyStripe, place_of}
 use Rattle.mc_core.specs.declared.holding.Holding.{Holding}
 use Rattle.mc_core.specs.Holdings.{has_fresh, holding_of, is_fresh, is_of}
-use Rattle.mc_words.specs.View.{View}
+use Rattle.mc_words.specs.hand.View.{View}
 use Rattle.mc_core.specs.Holdings.{has_fresh}
 use Rattle.mc_core.specs.declared.event.Step.TheVariants as step
-use Rattle.mc_words.specs.Called.{key_deleted, key_lifted, key_unlinked}
-use Rattle.mc_words.specs.Views.{with_event}
-use Rattle.mc_words.specs.View.{made}
+use Rattle.mc_words.specs.item.Calls.{key_deleted, key_lifted, key_unlinked}
+use Rattle.mc_words.specs.hand.Views.{with_event}
+use Rattle.mc_words.specs.hand.View.{made}
 use Rattle.mc_items.specs.Storing.{key_put_aside, stripe_lifted}
 
 or_true : (b : Bool) → (b || true) ≡ true

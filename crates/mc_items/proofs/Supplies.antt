@@ -10,12 +10,12 @@ use Rattle.mc_core.specs.Chunks.{most_issue}
 use Rattle.mc_core.specs.Looks.{is_found_alive}
 use Rattle.mc_core.specs.Silent.{is_among}
 use Rattle.mc_core.specs.State.{room_in}
-use Rattle.mc_words.specs.View.{View}
-use Rattle.mc_words.specs.Owner.{PopsFirst, SeesOther}
-use Rattle.mc_words.specs.Sweeping.{Recovers, Sweeps, with_seen}
-use Rattle.mc_words.specs.Views.{chunk_popped, fresh_holding, head_seen, with_holdings}
+use Rattle.mc_words.specs.hand.View.{View}
+use Rattle.mc_words.specs.page.Owner.{PopsFirst, SeesOther}
+use Rattle.mc_words.specs.chunk.Sweeps.{Recovers, Sweeps, with_seen}
+use Rattle.mc_words.specs.hand.Views.{chunk_popped, fresh_holding, head_seen, with_holdings}
 use Rattle.std.proofs.lemmas.Bool.{and_from, and_parts}
-use Rattle.mc_words.proofs.LookedOver.{among_behind, sees_both, sees_headers_alone}
+use Rattle.mc_words.proofs.Pages.LookedOver.{among_behind, sees_both, sees_headers_alone}
 use Rattle.mc_items.specs.Supplying.{FindsNoFree, FindsNoneDead, FindsWorn, GainsFresh, SuppliesFree}
 
 -- what follows of a chunk that there may be

@@ -3,8 +3,8 @@ use Rattle.std.proofs.Common.{◌≡◌, ℕ, List, [], ◌∷◌, Option, Some,
 use Rattle.mc_pages.specs.declared.ids.ChunkId.{ChunkId}
 use Rattle.mc_pages.specs.Changes.{after_pop}
 use Rattle.mc_pages.specs.SlabState.{SlabState}
-use Rattle.mc_words.specs.View.{View}
-use Rattle.mc_words.specs.Sweeping.{Recovers, SweepsEach, SweepsOne}
+use Rattle.mc_words.specs.hand.View.{View}
+use Rattle.mc_words.specs.chunk.Sweeps.{Recovers, SweepsEach, SweepsOne}
 
 -- no page is cut, or begun to be
 each_uncut : (chunks : List ChunkId) (view : View) (slabs : SlabState) (now : View) (left : SlabState) → SweepsEach chunks view slabs now left → left.uncut ≡ slabs.uncut

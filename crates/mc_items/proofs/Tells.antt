@@ -3,11 +3,11 @@ use Rattle.std.proofs.Common.{◌≡◌, ℕ, Bool, true, false, map, Option, So
 use Rattle.mc_stripe.specs.declared.history.Call.{Call}
 use Rattle.mc_stripe.specs.declared.history.Call.TheVariants.{Delete, Get}
 use Rattle.mc_stripe.specs.StripeState.{ReadyStripe, stamp_of}
-use Rattle.mc_words.specs.Doing.{IsDone}
-use Rattle.mc_words.specs.declared.refs.Ref.{Ref}
-use Rattle.mc_words.specs.View.{View}
-use Rattle.mc_words.specs.Called.{with_own_call}
-use Rattle.mc_words.specs.Waiting.{WaitsForStripe}
+use Rattle.mc_words.specs.lock.Doing.{IsDone}
+use Rattle.mc_words.specs.declared.item.refs.Ref.{Ref}
+use Rattle.mc_words.specs.hand.View.{View}
+use Rattle.mc_words.specs.item.Calls.{with_own_call}
+use Rattle.mc_words.specs.lock.Wait.{WaitsForStripe}
 use Rattle.mc_items.specs.Calls.{Deletes, LooksUp, OnlyWaits, TellsCall, TellsNoCall}
 use Rattle.mc_items.proofs.Locks.{waits_keep}
 

@@ -3,8 +3,8 @@ use Rattle.std.proofs.Common.{◌≡◌, ℕ, zero, suc, ◌+◌, ◌<◌, ◌�
 use Rattle.std.proofs.lemmas.List.{append_assoc, take_more, take_all, get_or-drop, length-drop}
 use Rattle.mc_pages.specs.declared.ids.ChunkId.{ChunkId}
 use Rattle.mc_core.specs.declared.event.Step.TheVariants as step
-use Rattle.mc_words.specs.View.{OwnEvent, View, made}
-use Rattle.mc_words.specs.Views.{word_seen}
+use Rattle.mc_words.specs.hand.View.{OwnEvent, View, made}
+use Rattle.mc_words.specs.hand.Views.{word_seen}
 use Rattle.mc_items.specs.Reading.{reads_of, words_seen}
 
 -- one word more is read

@@ -7,15 +7,15 @@ use Rattle.mc_core.specs.declared.event.Step.TheVariants as step
 use Rattle.mc_stripe.specs.declared.history.Call.{Call}
 use Rattle.mc_stripe.specs.StripeState.{ReadyStripe, place_of}
 use Rattle.mc_stripe.specs.Changes.{after_got, after_unlink, used_up}
-use Rattle.mc_words.specs.Doing.{Doing, IsDone}
-use Rattle.mc_words.specs.View.{View}
-use Rattle.mc_words.specs.Called.{with_own_call, key_deleted, key_missed, key_not_deleted}
-use Rattle.mc_words.specs.Lent.{IsLentStripe}
-use Rattle.mc_words.specs.Referring.{GetsItem}
-use Rattle.mc_words.specs.Views.{chunk_released, with_event, slabs_changed, slabs_given, stripe_given}
-use Rattle.mc_words.specs.Waiting.{WaitsForSlabs, WaitsForStripe}
-use Rattle.mc_words.specs.declared.refs.Ref as words
-use Rattle.mc_words.specs.Observers.{ref_chunk, ref_issue, ref_room}
+use Rattle.mc_words.specs.lock.Doing.{Doing, IsDone}
+use Rattle.mc_words.specs.hand.View.{View}
+use Rattle.mc_words.specs.item.Calls.{with_own_call, key_deleted, key_missed, key_not_deleted}
+use Rattle.mc_words.specs.lock.Lent.{IsLentStripe}
+use Rattle.mc_words.specs.item.References.{GetsItem}
+use Rattle.mc_words.specs.hand.Views.{chunk_released, with_event, slabs_changed, slabs_given, stripe_given}
+use Rattle.mc_words.specs.lock.Wait.{WaitsForSlabs, WaitsForStripe}
+use Rattle.mc_words.specs.declared.item.refs.Ref as words
+use Rattle.mc_words.specs.hand.Observers.{ref_chunk, ref_issue, ref_room}
 
 -- the stripe's lock was waited for, and this was done
 pub record CallsOn (number stripe : ℕ) (Does : Doing) (view now : View) : Type 0 where

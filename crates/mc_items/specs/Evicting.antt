@@ -5,10 +5,10 @@ use Rattle.mc_pages.specs.Changes.{after_back}
 use Rattle.mc_pages.specs.SlabState.{SlabState, class_at}
 use Rattle.mc_core.specs.Head.{is_dead}
 use Rattle.mc_stripe.specs.declared.history.Call.TheVariants as call
-use Rattle.mc_words.specs.Condemning.{Condemns}
-use Rattle.mc_words.specs.Doing.{SlabsDoing}
-use Rattle.mc_words.specs.Owner.{PutsBack, SeesOther}
-use Rattle.mc_words.specs.View.{View}
+use Rattle.mc_words.specs.item.Removal.{Condemns}
+use Rattle.mc_words.specs.lock.Doing.{SlabsDoing}
+use Rattle.mc_words.specs.page.Owner.{PutsBack, SeesOther}
+use Rattle.mc_words.specs.hand.View.{View}
 use Rattle.mc_items.specs.declared.evicting.Supply.{Supply}
 use Rattle.mc_items.specs.declared.evicting.Supply.TheVariants.{Page, Dead, Evicted}
 use Rattle.mc_items.specs.Calls.{TellsCall, TellsNoCall}

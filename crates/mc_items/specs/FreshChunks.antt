@@ -2,16 +2,16 @@
 use Rattle.std.specs.Prelude.{◌≡◌, ℕ, List}
 use Rattle.mc_core.specs.State.{room_in}
 use Rattle.mc_words.specs.declared.hand.Hand.{Hand}
-use Rattle.mc_words.specs.declared.held.Fresh.{Fresh}
-use Rattle.mc_words.specs.declared.held.StripeHeld.{StripeHeld}
-use Rattle.mc_words.specs.declared.refs.Ref as words
-use Rattle.mc_words.specs.Arenas.{view}
-use Rattle.mc_words.specs.Fresh.{IsFreshOf}
-use Rattle.mc_words.specs.Items.{issue_in, item_with, words_in}
-use Rattle.mc_words.specs.Linking.{IsItemFilled}
-use Rattle.mc_words.specs.Observers.{fresh_chunk, fresh_room, fresh_stamp, number_of, ref_chunk, ref_issue, ref_room, stripe_lent, stripe_number}
-use Rattle.mc_words.specs.View.{Setup, View}
-use Rattle.mc_words.specs.Views.{chunk_discarded, stripe_given}
+use Rattle.mc_words.specs.declared.hand.held.Fresh.{Fresh}
+use Rattle.mc_words.specs.declared.hand.held.StripeHeld.{StripeHeld}
+use Rattle.mc_words.specs.declared.item.refs.Ref as words
+use Rattle.mc_words.specs.hand.Arenas.{view}
+use Rattle.mc_words.specs.item.Fresh.{IsFreshOf}
+use Rattle.mc_words.specs.item.Items.{issue_in, item_with, words_in}
+use Rattle.mc_words.specs.item.Links.{IsItemFilled}
+use Rattle.mc_words.specs.hand.Observers.{fresh_chunk, fresh_room, fresh_stamp, number_of, ref_chunk, ref_issue, ref_room, stripe_lent, stripe_number}
+use Rattle.mc_words.specs.hand.View.{Setup, View}
+use Rattle.mc_words.specs.hand.Views.{chunk_discarded, stripe_given}
 use Rattle.mc_items.specs.OnKeys.{stripe_of_key}
 use Rattle.mc_items.specs.Storing.{LeavesDead, StoresItem, item_filled}
 

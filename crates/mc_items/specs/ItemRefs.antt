@@ -4,12 +4,12 @@ use Rattle.mc_pages.specs.declared.ids.ChunkId.{ChunkId}
 use Rattle.mc_pages.specs.ClassState.{is_chunk}
 use Rattle.mc_core.specs.Columns.{holds}
 use Rattle.mc_core.specs.Holdings.{key_of, stamp_of}
-use Rattle.mc_words.specs.View.{View}
-use Rattle.mc_words.specs.Items.{held_item}
-use Rattle.mc_words.specs.Refs.{IsIssueOf, IsRefOf}
-use Rattle.mc_words.specs.declared.refs.Ref as words
+use Rattle.mc_words.specs.hand.View.{View}
+use Rattle.mc_words.specs.item.Items.{held_item}
+use Rattle.mc_words.specs.item.Refs.{IsIssueOf, IsRefOf}
+use Rattle.mc_words.specs.declared.item.refs.Ref as words
 use Rattle.mc_items.specs.declared.refs.Ref.{Ref}
-use Rattle.mc_words.specs.Observers.{ref_chunk, ref_issue, ref_room}
+use Rattle.mc_words.specs.hand.Observers.{ref_chunk, ref_issue, ref_room}
 
 -- the reference to the chunk that the item is in
 abbrev pub item_reference : Ref → words.Ref

@@ -6,11 +6,11 @@ use Rattle.mc_core.specs.Columns.{holds}
 use Rattle.mc_core.specs.Holdings.{holding_of, is_of, lose}
 use Rattle.mc_core.specs.Knowing.{IsSaid}
 use Rattle.mc_core.specs.Past.{Saying}
-use Rattle.mc_words.specs.View.{View}
-use Rattle.mc_words.specs.Happens.{LawfulView}
-use Rattle.mc_words.specs.Items.{held_item}
-use Rattle.mc_words.specs.Referring.{reference_to}
-use Rattle.mc_words.specs.Refs.{KeepsHeld, KeepsRefs}
+use Rattle.mc_words.specs.hand.View.{View}
+use Rattle.mc_words.specs.rule.Happens.{LawfulView}
+use Rattle.mc_words.specs.item.Items.{held_item}
+use Rattle.mc_words.specs.item.References.{reference_to}
+use Rattle.mc_words.specs.item.Refs.{KeepsHeld, KeepsRefs}
 use Rattle.mc_items.specs.declared.refs.Ref.{Ref}
 use Rattle.mc_items.specs.ItemRefs.{IsItemRef, item_chunk, item_issue, item_stamp, item_words}
 

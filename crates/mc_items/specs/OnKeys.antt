@@ -6,19 +6,19 @@ use Rattle.mc_stripe.specs.declared.history.Call.TheVariants as call
 use Rattle.mc_core.specs.Holdings.{key_of, stamp_of}
 use Rattle.mc_core.specs.Past.{Known}
 use Rattle.mc_words.specs.declared.hand.Hand.{Hand}
-use Rattle.mc_words.specs.declared.held.SlabsHeld.{SlabsHeld}
-use Rattle.mc_words.specs.declared.held.StripeHeld.{StripeHeld}
-use Rattle.mc_words.specs.declared.refs.Hint.{Hint}
-use Rattle.mc_words.specs.declared.refs.Ref as words
-use Rattle.mc_words.specs.Arenas.{view}
-use Rattle.mc_words.specs.Doing.{Doing, IsDone, SlabsDoing, HoldsSlabs}
-use Rattle.mc_words.specs.Hinting.{GetsAgain}
-use Rattle.mc_words.specs.Items.{held_item}
-use Rattle.mc_words.specs.Observers.{hint_chunk, hint_issue, number_of, ref_chunk, ref_issue, ref_room, slabs_lent, stripe_lent, stripe_number}
-use Rattle.mc_words.specs.Refs.{IsIssueOf, IsRefOf}
-use Rattle.mc_words.specs.Sweeping.{with_seen}
-use Rattle.mc_words.specs.View.{Setup, View}
-use Rattle.mc_words.specs.Views.{stripe_given, stripe_missed}
+use Rattle.mc_words.specs.declared.hand.held.SlabsHeld.{SlabsHeld}
+use Rattle.mc_words.specs.declared.hand.held.StripeHeld.{StripeHeld}
+use Rattle.mc_words.specs.declared.item.refs.Hint.{Hint}
+use Rattle.mc_words.specs.declared.item.refs.Ref as words
+use Rattle.mc_words.specs.hand.Arenas.{view}
+use Rattle.mc_words.specs.lock.Doing.{Doing, IsDone, SlabsDoing, HoldsSlabs}
+use Rattle.mc_words.specs.item.Again.{GetsAgain}
+use Rattle.mc_words.specs.item.Items.{held_item}
+use Rattle.mc_words.specs.hand.Observers.{hint_chunk, hint_issue, number_of, ref_chunk, ref_issue, ref_room, slabs_lent, stripe_lent, stripe_number}
+use Rattle.mc_words.specs.item.Refs.{IsIssueOf, IsRefOf}
+use Rattle.mc_words.specs.chunk.Sweeps.{with_seen}
+use Rattle.mc_words.specs.hand.View.{Setup, View}
+use Rattle.mc_words.specs.hand.Views.{stripe_given, stripe_missed}
 use Rattle.mc_items.specs.declared.refs.Ref.{Ref}
 use Rattle.mc_items.specs.Calls.{CallsOn, LooksUp, OnlyWaits, TellsCall}
 use Rattle.mc_items.specs.ItemRefs.{item_chunk, item_reference}

@@ -2,8 +2,8 @@
 use Rattle.std.specs.Prelude.{◌≡◌, ℕ, zero, suc, ◌+◌, List, [], ◌∷◌, ◌++◌, Option, Some, None}
 use Rattle.mc_pages.specs.declared.ids.ChunkId.{ChunkId}
 use Rattle.mc_core.specs.declared.event.Step.TheVariants as step
-use Rattle.mc_words.specs.View.{OwnEvent, View, made}
-use Rattle.mc_words.specs.Views.{word_seen}
+use Rattle.mc_words.specs.hand.View.{OwnEvent, View, made}
+use Rattle.mc_words.specs.hand.Views.{word_seen}
 
 -- reads of so many words of the chunk, from this place on
 abbrev pub reads_of : ChunkId → ℕ → ℕ → List OwnEvent

@@ -3,10 +3,10 @@ use Rattle.std.specs.Prelude.{◌≡◌, ◌⊎◌, ℕ, ◌+◌, ◌*◌, List,
 use Rattle.mc_classes.specs.Classes.{class_of}
 use Rattle.mc_pages.specs.declared.ids.ChunkId.{ChunkId}
 use Rattle.mc_stripe.specs.declared.history.Call.TheVariants as call
-use Rattle.mc_words.specs.Doing.{HoldsSlabs}
-use Rattle.mc_words.specs.Items.{item_with}
-use Rattle.mc_words.specs.View.{View}
-use Rattle.mc_words.specs.Tallies.{next_stamp}
+use Rattle.mc_words.specs.lock.Doing.{HoldsSlabs}
+use Rattle.mc_words.specs.item.Items.{item_with}
+use Rattle.mc_words.specs.hand.View.{View}
+use Rattle.mc_words.specs.hand.Tallies.{next_stamp}
 use Rattle.mc_items.specs.Calls.{TellsCall}
 use Rattle.mc_items.specs.OnKeys.{stripe_of_key}
 use Rattle.mc_items.specs.Evicting.{TellsEvict}

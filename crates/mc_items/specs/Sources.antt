@@ -8,10 +8,10 @@ use Rattle.mc_pages.specs.ClassState.{first_free}
 use Rattle.mc_pages.specs.SlabState.{SlabState, class_at}
 use Rattle.mc_core.specs.Chunks.{most_issue}
 use Rattle.mc_core.specs.Looks.{is_found_alive}
-use Rattle.mc_words.specs.Doing.{SlabsDoing}
-use Rattle.mc_words.specs.Owner.{PopsFirst, SeesOther}
-use Rattle.mc_words.specs.Reassigning.{Reassigns}
-use Rattle.mc_words.specs.View.{View}
+use Rattle.mc_words.specs.lock.Doing.{SlabsDoing}
+use Rattle.mc_words.specs.page.Owner.{PopsFirst, SeesOther}
+use Rattle.mc_words.specs.page.Moves.{Reassigns}
+use Rattle.mc_words.specs.hand.View.{View}
 use Rattle.mc_items.specs.Evicting.{FreesOne, LacksEntry, PassesEach, first_five}
 use Rattle.mc_items.specs.Supplying.{FindsNoFree, FindsWorn, Grows, SuppliesFree}
 use Rattle.mc_items.specs.declared.evicting.Supply.{Supply}

@@ -7,13 +7,13 @@ use Rattle.mc_core.specs.declared.holding.Holding.{Holding}
 use Rattle.mc_core.specs.declared.holding.Kind.{Kind}
 use Rattle.mc_core.specs.declared.holding.Kind.TheVariants.{Reference, Fresh}
 use Rattle.mc_core.specs.Holdings.{Words, change_each, holding_of, is_of}
-use Rattle.mc_words.specs.Doing.{Doing}
-use Rattle.mc_words.specs.View.{OwnEvent, View, made}
+use Rattle.mc_words.specs.lock.Doing.{Doing}
+use Rattle.mc_words.specs.hand.View.{OwnEvent, View, made}
 use Rattle.mc_core.specs.declared.event.Step.TheVariants as step
-use Rattle.mc_words.specs.Called.{key_lifted}
-use Rattle.mc_words.specs.Items.{issue_in, words_in}
-use Rattle.mc_words.specs.Linking.{item_linked, own_item}
-use Rattle.mc_words.specs.Views.{chunk_discarded, chunk_released, with_holdings}
+use Rattle.mc_words.specs.item.Calls.{key_lifted}
+use Rattle.mc_words.specs.item.Items.{issue_in, words_in}
+use Rattle.mc_words.specs.item.Links.{item_linked, own_item}
+use Rattle.mc_words.specs.hand.Views.{chunk_discarded, chunk_released, with_holdings}
 use Rattle.mc_items.specs.Calls.{CallsOn, OnlyWaits}
 
 -- the words of a chunk, with these in place of the first, as far as there is room

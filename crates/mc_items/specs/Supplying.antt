@@ -13,15 +13,15 @@ use Rattle.mc_core.specs.Chunks.{most_issue}
 use Rattle.mc_core.specs.Evictions.{is_linked_unheld}
 use Rattle.mc_stripe.specs.StripeState.{ReadyStripe}
 use Rattle.mc_core.specs.Looks.{is_found_alive}
-use Rattle.mc_words.specs.Doing.{Doing, IsDone}
-use Rattle.mc_words.specs.View.{View}
-use Rattle.mc_words.specs.Happens.{Happens}
-use Rattle.mc_words.specs.Cutting.{CutsEach}
-use Rattle.mc_words.specs.Owner.{PopsFirst, PutsBack, SeesOther}
-use Rattle.mc_words.specs.Sweeping.{Recovers, SeesHeaders, Sweeps, with_seen}
-use Rattle.mc_words.specs.Condemning.{Condemns, FindsHeld, SeesHeld, key_seen}
-use Rattle.mc_words.specs.Lent.{BeginsWithSeen, IsLentStripe}
-use Rattle.mc_words.specs.Views.{fresh_holding, head_seen, slabs_changed, stripe_given, stripe_missed, stripe_taken, with_holdings}
+use Rattle.mc_words.specs.lock.Doing.{Doing, IsDone}
+use Rattle.mc_words.specs.hand.View.{View}
+use Rattle.mc_words.specs.rule.Happens.{Happens}
+use Rattle.mc_words.specs.page.Cuts.{CutsEach}
+use Rattle.mc_words.specs.page.Owner.{PopsFirst, PutsBack, SeesOther}
+use Rattle.mc_words.specs.chunk.Sweeps.{Recovers, SeesHeaders, Sweeps, with_seen}
+use Rattle.mc_words.specs.item.Removal.{Condemns, FindsHeld, SeesHeld, key_seen}
+use Rattle.mc_words.specs.lock.Lent.{BeginsWithSeen, IsLentStripe}
+use Rattle.mc_words.specs.hand.Views.{fresh_holding, head_seen, slabs_changed, stripe_given, stripe_missed, stripe_taken, with_holdings}
 
 -- the class has a free chunk, and nothing was done; or it has none, and dead chunks of it were put back
 abbrev pub SweepsEmpty : ℕ → View → SlabState → View → SlabState → Type 0

@@ -1,12 +1,12 @@
 //! Keys that are deleted.
 ghost use Rattle.std.specs.Prelude.{◌≡◌, IfOk, OnErr, false};
 ghost use Rattle.mc_core.specs.Holdings.{has_fresh};
-ghost use Rattle.mc_words.specs.Arenas.{IsHandOf, setup_of, view};
-ghost use Rattle.mc_words.specs.Lent.{IsLentStripe};
-ghost use Rattle.mc_words.specs.Observers.{locks_of, number_of, stripe_lent, stripe_number};
-ghost use Rattle.mc_words.specs.Out.{without_stripe};
-ghost use Rattle.mc_words.specs.Ready.{IsReady};
-ghost use Rattle.mc_words.specs.Refs.{KeepsRefs};
+ghost use Rattle.mc_words.specs.hand.Arenas.{IsHandOf, setup_of, view};
+ghost use Rattle.mc_words.specs.lock.Lent.{IsLentStripe};
+ghost use Rattle.mc_words.specs.hand.Observers.{locks_of, number_of, stripe_lent, stripe_number};
+ghost use Rattle.mc_words.specs.lock.Out.{without_stripe};
+ghost use Rattle.mc_words.specs.hand.Ready.{IsReady};
+ghost use Rattle.mc_words.specs.item.Refs.{KeepsRefs};
 ghost use Rattle.mc_items.specs.Calls.{Deletes, TellsNoCall};
 ghost use Rattle.mc_items.specs.Keeping.{HoldsTheSame, SaysNothing};
 ghost use Rattle.mc_items.specs.OnKeys.{ActsOn, DoesOn, FindsNoRoomFor, GivesBack, TellsOn, stripe_of_key};

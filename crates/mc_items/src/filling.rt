@@ -1,10 +1,10 @@
 //! Fresh chunks that are filled with items.
 ghost use Rattle.std.specs.Prelude.{◌+◌, ◌≡◌, ◌≤◌, length};
 ghost use Rattle.mc_core.specs.Holdings.{all_known, item_in};
-ghost use Rattle.mc_words.specs.Arenas.{IsHandOf, view};
-ghost use Rattle.mc_words.specs.Fresh.{IsFreshOf};
-ghost use Rattle.mc_words.specs.Items.{item_with, words_in};
-ghost use Rattle.mc_words.specs.Observers.{fresh_chunk, fresh_key, fresh_room, fresh_stamp, locks_of};
+ghost use Rattle.mc_words.specs.hand.Arenas.{IsHandOf, view};
+ghost use Rattle.mc_words.specs.item.Fresh.{IsFreshOf};
+ghost use Rattle.mc_words.specs.item.Items.{item_with, words_in};
+ghost use Rattle.mc_words.specs.hand.Observers.{fresh_chunk, fresh_key, fresh_room, fresh_stamp, locks_of};
 ghost use Rattle.mc_items.specs.FreshChunks.{IsFilledWith, filled_with};
 ghost use Rattle.mc_items.specs.Storing.{IsOwnItem};
 

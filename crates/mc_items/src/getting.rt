@@ -2,12 +2,12 @@
 ghost use Rattle.std.specs.Option.{option_map};
 ghost use Rattle.std.specs.Prelude.{◌<◌, ◌↔◌, ◌≡◌, ◌≤◌, Err, IfOk, IfSome, OnErr, false, length, true};
 ghost use Rattle.mc_core.specs.State.{has_chunk};
-ghost use Rattle.mc_words.specs.Arenas.{IsHandOf, setup_of, view};
-ghost use Rattle.mc_words.specs.Lent.{IsLentStripe};
-ghost use Rattle.mc_words.specs.Observers.{locks_of, number_of, stripe_lent, stripe_number};
-ghost use Rattle.mc_words.specs.Out.{without_stripe};
-ghost use Rattle.mc_words.specs.Ready.{IsReady};
-ghost use Rattle.mc_words.specs.Refs.{KeepsRefs};
+ghost use Rattle.mc_words.specs.hand.Arenas.{IsHandOf, setup_of, view};
+ghost use Rattle.mc_words.specs.lock.Lent.{IsLentStripe};
+ghost use Rattle.mc_words.specs.hand.Observers.{locks_of, number_of, stripe_lent, stripe_number};
+ghost use Rattle.mc_words.specs.lock.Out.{without_stripe};
+ghost use Rattle.mc_words.specs.hand.Ready.{IsReady};
+ghost use Rattle.mc_words.specs.item.Refs.{KeepsRefs};
 ghost use Rattle.mc_items.specs.Calls.{LooksUp, TellsNoCall};
 ghost use Rattle.mc_items.specs.ItemRefs.{IsItemRef, item_chunk, item_key, item_stamp};
 ghost use Rattle.mc_items.specs.Keeping.{HoldsTheSame, HoldsToo, IsAsSaid, SaysNothing};

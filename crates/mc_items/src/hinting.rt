@@ -1,12 +1,12 @@
 //! References to items that are had again by hints, with no lock.
 ghost use Rattle.std.specs.Prelude.{◌↔◌, ◌≡◌, ◌≤◌, Err, IfOk, OnErr, Some, length, true};
 ghost use Rattle.mc_core.specs.State.{has_chunk};
-ghost use Rattle.mc_words.specs.Arenas.{IsHandOf, setup_of, view};
-ghost use Rattle.mc_words.specs.Hinting.{FindsContended, FindsGone};
-ghost use Rattle.mc_words.specs.Items.{held_item};
-ghost use Rattle.mc_words.specs.Observers.{hint_chunk, hint_issue, locks_of, number_of};
-ghost use Rattle.mc_words.specs.Ready.{IsReady};
-ghost use Rattle.mc_words.specs.Refs.{KeepsRefs};
+ghost use Rattle.mc_words.specs.hand.Arenas.{IsHandOf, setup_of, view};
+ghost use Rattle.mc_words.specs.item.Again.{FindsContended, FindsGone};
+ghost use Rattle.mc_words.specs.item.Items.{held_item};
+ghost use Rattle.mc_words.specs.hand.Observers.{hint_chunk, hint_issue, locks_of, number_of};
+ghost use Rattle.mc_words.specs.hand.Ready.{IsReady};
+ghost use Rattle.mc_words.specs.item.Refs.{KeepsRefs};
 ghost use Rattle.mc_items.specs.ItemRefs.{IsItemRef, item_chunk, item_issue};
 ghost use Rattle.mc_items.specs.Keeping.{HoldsTheSame, HoldsToo, IsAsSaid, SaysNothing};
 ghost use Rattle.mc_items.specs.OnKeys.{GetsByHint, IsAsKnown};

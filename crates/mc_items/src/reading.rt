@@ -1,12 +1,12 @@
 //! The words of an item, and references that are given up.
 ghost use Rattle.std.specs.Prelude.{◌≡◌, [], IfOk, OnErr};
-ghost use Rattle.mc_words.specs.Arenas.{IsHandOf, view};
-ghost use Rattle.mc_words.specs.Happens.{Happens};
-ghost use Rattle.mc_words.specs.Items.{item_with};
-ghost use Rattle.mc_words.specs.Observers.{locks_of, number_of};
-ghost use Rattle.mc_words.specs.Ready.{IsReady};
-ghost use Rattle.mc_words.specs.Refs.{KeepsHeld, KeepsRefs};
-ghost use Rattle.mc_words.specs.Views.{chunk_released};
+ghost use Rattle.mc_words.specs.hand.Arenas.{IsHandOf, view};
+ghost use Rattle.mc_words.specs.rule.Happens.{Happens};
+ghost use Rattle.mc_words.specs.item.Items.{item_with};
+ghost use Rattle.mc_words.specs.hand.Observers.{locks_of, number_of};
+ghost use Rattle.mc_words.specs.hand.Ready.{IsReady};
+ghost use Rattle.mc_words.specs.item.Refs.{KeepsHeld, KeepsRefs};
+ghost use Rattle.mc_words.specs.hand.Views.{chunk_released};
 ghost use Rattle.mc_items.specs.ItemRefs.{IsItemRef, item_chunk, item_key, item_len, item_stamp, item_words};
 ghost use Rattle.mc_items.specs.Keeping.{AreSaid, HoldsLess, HoldsTheSame, SaysNothing};
 ghost use Rattle.mc_items.specs.Reading.{words_seen};

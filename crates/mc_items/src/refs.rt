@@ -1,8 +1,8 @@
 //! References to items, with what is read of each at once.
 ghost use Rattle.std.specs.Prelude.{◌≡◌};
-ghost use Rattle.mc_words.specs.Arenas.{IsHandOf, view};
-ghost use Rattle.mc_words.specs.Observers.{locks_of, ref_chunk, ref_issue, ref_room};
-ghost use Rattle.mc_words.specs.Refs.{IsIssueOf, IsRefOf};
+ghost use Rattle.mc_words.specs.hand.Arenas.{IsHandOf, view};
+ghost use Rattle.mc_words.specs.hand.Observers.{locks_of, ref_chunk, ref_issue, ref_room};
+ghost use Rattle.mc_words.specs.item.Refs.{IsIssueOf, IsRefOf};
 ghost use Rattle.mc_items.specs.ItemRefs.{IsItemRef, item_key, item_len, item_stamp};
 ghost use Rattle.mc_items.specs.Reading.{item_seen};
 

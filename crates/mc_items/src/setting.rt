@@ -2,12 +2,12 @@
 ghost use Rattle.std.specs.Prelude.{◌≡◌, ◌≤◌, IfErr, IfOk, OnErr, false, length, true};
 ghost use Rattle.mc_core.specs.Holdings.{has_fresh};
 ghost use Rattle.mc_core.specs.State.{is_class};
-ghost use Rattle.mc_words.specs.Arenas.{IsHandOf, setup_of, view};
-ghost use Rattle.mc_words.specs.Idle.{is_unlocked};
-ghost use Rattle.mc_words.specs.Items.{item_with};
-ghost use Rattle.mc_words.specs.Observers.{fresh_chunk, locks_of, number_of};
-ghost use Rattle.mc_words.specs.Ready.{IsReady};
-ghost use Rattle.mc_words.specs.Refs.{KeepsRefs};
+ghost use Rattle.mc_words.specs.hand.Arenas.{IsHandOf, setup_of, view};
+ghost use Rattle.mc_words.specs.hand.Idle.{is_unlocked};
+ghost use Rattle.mc_words.specs.item.Items.{item_with};
+ghost use Rattle.mc_words.specs.hand.Observers.{fresh_chunk, locks_of, number_of};
+ghost use Rattle.mc_words.specs.hand.Ready.{IsReady};
+ghost use Rattle.mc_words.specs.item.Refs.{KeepsRefs};
 ghost use Rattle.mc_items.specs.Evicting.{TellsEvict};
 ghost use Rattle.mc_items.specs.FreshChunks.{IsFreshFor};
 ghost use Rattle.mc_items.specs.Keeping.{HoldsTheSame, Says, SaysNothing};

@@ -1,16 +1,16 @@
 //! Items that are linked to their keys, in place of those that were there.
 ghost use Rattle.std.specs.Prelude.{◌+◌, ◌≡◌, ◌≤◌, IfOk, None, OnErr, OnOk, Some, false, length, true};
 ghost use Rattle.mc_core.specs.Holdings.{has_fresh, item_in, numbers};
-ghost use Rattle.mc_words.specs.Arenas.{IsHandOf, setup_of, view};
-ghost use Rattle.mc_words.specs.Fresh.{IsFreshOf};
-ghost use Rattle.mc_words.specs.Idle.{is_unlocked};
-ghost use Rattle.mc_words.specs.Items.{item_with, words_in};
-ghost use Rattle.mc_words.specs.Lent.{IsLentStripe};
-ghost use Rattle.mc_words.specs.Observers.{HasStripe, fresh_chunk, fresh_key, fresh_room, fresh_stamp, locks_of, number_of, ref_chunk, ref_room, stripe_lent};
-ghost use Rattle.mc_words.specs.Observers.{stripe_number};
-ghost use Rattle.mc_words.specs.Out.{without_stripe};
-ghost use Rattle.mc_words.specs.Refs.{IsRefOf};
-ghost use Rattle.mc_words.specs.Tallies.{next_stamp};
+ghost use Rattle.mc_words.specs.hand.Arenas.{IsHandOf, setup_of, view};
+ghost use Rattle.mc_words.specs.item.Fresh.{IsFreshOf};
+ghost use Rattle.mc_words.specs.hand.Idle.{is_unlocked};
+ghost use Rattle.mc_words.specs.item.Items.{item_with, words_in};
+ghost use Rattle.mc_words.specs.lock.Lent.{IsLentStripe};
+ghost use Rattle.mc_words.specs.hand.Observers.{HasStripe, fresh_chunk, fresh_key, fresh_room, fresh_stamp, locks_of, number_of, ref_chunk, ref_room, stripe_lent};
+ghost use Rattle.mc_words.specs.hand.Observers.{stripe_number};
+ghost use Rattle.mc_words.specs.lock.Out.{without_stripe};
+ghost use Rattle.mc_words.specs.item.Refs.{IsRefOf};
+ghost use Rattle.mc_words.specs.hand.Tallies.{next_stamp};
 ghost use Rattle.mc_items.specs.Calls.{TellsNoCall};
 ghost use Rattle.mc_items.specs.FreshChunks.{GivesBackBoth, IsFilledWith, IsRefInto, LosesFresh, StoresFresh, filled_with};
 ghost use Rattle.mc_items.specs.Keeping.{Says};

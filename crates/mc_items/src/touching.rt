@@ -1,9 +1,9 @@
 //! Keys that are touched.
 ghost use Rattle.std.specs.Prelude.{◌≡◌, IfOk, Ok, OnErr, false, true};
-ghost use Rattle.mc_words.specs.Arenas.{IsHandOf, setup_of, view};
-ghost use Rattle.mc_words.specs.Observers.{locks_of, number_of};
-ghost use Rattle.mc_words.specs.Ready.{IsReady};
-ghost use Rattle.mc_words.specs.Refs.{KeepsRefs};
+ghost use Rattle.mc_words.specs.hand.Arenas.{IsHandOf, setup_of, view};
+ghost use Rattle.mc_words.specs.hand.Observers.{locks_of, number_of};
+ghost use Rattle.mc_words.specs.hand.Ready.{IsReady};
+ghost use Rattle.mc_words.specs.item.Refs.{KeepsRefs};
 ghost use Rattle.mc_items.specs.Calls.{FindsNone, TellsNoCall, Touches};
 ghost use Rattle.mc_items.specs.Keeping.{HoldsAsOften, SaysNothing};
 ghost use Rattle.mc_items.specs.OnKeys.{ActsOn, FindsNoRoomFor, TellsOfGet, stripe_of_key};

@@ -7,8 +7,8 @@ use Rattle.mc_pages.specs.Changes.{after_cut}
 use Rattle.mc_pages.specs.Moves.{after_finish, begun_anew, finished}
 use Rattle.mc_pages.specs.SlabState.{SlabState}
 use Rattle.mc_core.proofs.SamePages.{arrived_if}
-use Rattle.mc_words.specs.View.{View}
-use Rattle.mc_words.specs.Cutting.{CutsEach}
+use Rattle.mc_words.specs.hand.View.{View}
+use Rattle.mc_words.specs.page.Cuts.{CutsEach}
 use Rattle.mc_mover.specs.declared.counts.Counts.{Counts}
 use Rattle.mc_mover.specs.declared.counts.Turn.{Turn}
 use Rattle.mc_mover.specs.declared.counts.Turn.TheVariants.{Idle, Went, Finished}

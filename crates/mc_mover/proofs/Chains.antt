@@ -9,16 +9,16 @@ use Rattle.mc_core.specs.declared.holding.Holding.{Holding}
 use Rattle.mc_core.specs.Holdings.{has_fresh, holding_of}
 use Rattle.mc_core.specs.Past.{Known, known_by}
 use Rattle.mc_words.specs.declared.hand.Hand.{Hand}
-use Rattle.mc_words.specs.View.{View}
-use Rattle.mc_words.specs.Arenas.{view}
-use Rattle.mc_words.specs.Doing.{HoldsSlabs}
-use Rattle.mc_words.specs.Out.{is_neither}
-use Rattle.mc_words.specs.Ready.{IsReady}
-use Rattle.mc_words.specs.Reassigning.{Reassigns}
-use Rattle.mc_words.specs.Refs.{KeepsRefs}
-use Rattle.mc_words.specs.Views.{slabs_changed, slabs_given}
-use Rattle.mc_words.specs.Waiting.{WaitsForSlabs}
-use Rattle.mc_words.proofs.Unlocked.{unlocked_from}
+use Rattle.mc_words.specs.hand.View.{View}
+use Rattle.mc_words.specs.hand.Arenas.{view}
+use Rattle.mc_words.specs.lock.Doing.{HoldsSlabs}
+use Rattle.mc_words.specs.lock.Out.{is_neither}
+use Rattle.mc_words.specs.hand.Ready.{IsReady}
+use Rattle.mc_words.specs.page.Moves.{Reassigns}
+use Rattle.mc_words.specs.item.Refs.{KeepsRefs}
+use Rattle.mc_words.specs.hand.Views.{slabs_changed, slabs_given}
+use Rattle.mc_words.specs.lock.Wait.{WaitsForSlabs}
+use Rattle.mc_words.proofs.Locks.Unlocked.{unlocked_from}
 use Rattle.mc_mover.specs.declared.counts.Turn.{Turn}
 use Rattle.mc_mover.specs.Answering.{AnswersMove, IsAnswerOf}
 use Rattle.mc_mover.specs.Turning.{LacksMemory, Turns}

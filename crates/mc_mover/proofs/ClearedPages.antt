@@ -18,13 +18,13 @@ use Rattle.mc_core.specs.Chunks.{can_clear}
 use Rattle.mc_core.specs.Head.{is_free, is_out}
 use Rattle.mc_core.specs.State.{head_at}
 use Rattle.mc_core.proofs.Listed.{places_from_listed}
-use Rattle.mc_words.specs.View.{View}
-use Rattle.mc_words.specs.Happens.{LawfulView}
-use Rattle.mc_words.specs.Owner.{Clears}
-use Rattle.mc_words.specs.Views.{head_seen}
-use Rattle.mc_words.proofs.Judging.{seen_slabs}
-use Rattle.mc_words.proofs.LockViews.{may_step}
-use Rattle.mc_words.proofs.Owners.{slabs_here}
+use Rattle.mc_words.specs.hand.View.{View}
+use Rattle.mc_words.specs.rule.Happens.{LawfulView}
+use Rattle.mc_words.specs.page.Owner.{Clears}
+use Rattle.mc_words.specs.hand.Views.{head_seen}
+use Rattle.mc_words.proofs.Chunks.Judging.{seen_slabs}
+use Rattle.mc_words.proofs.Locks.LockViews.{may_step}
+use Rattle.mc_words.proofs.Pages.Owners.{slabs_here}
 
 -- a chunk that was cleared away
 cleared_after : (slabs : SlabState) (chunk : ChunkId) → IsAccounted slabs → IsAccounted (after_clear slabs chunk)

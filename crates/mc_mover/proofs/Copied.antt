@@ -17,13 +17,13 @@ use Rattle.mc_core.proofs.Base.{placed_at}
 use Rattle.mc_core.proofs.OfTable.{class_count}
 use Rattle.mc_core.proofs.SeenAdds.{was_linked_is}
 use Rattle.mc_core.proofs.SeenLooks.{some_is}
-use Rattle.mc_words.specs.Happens.{LawfulView}
-use Rattle.mc_words.specs.Items.{word_read}
-use Rattle.mc_words.specs.View.{Setup, View}
-use Rattle.mc_words.specs.Views.{held_word_seen, word_filled}
-use Rattle.mc_words.proofs.Heads.{near_here}
-use Rattle.mc_words.proofs.Judging.{room_of}
-use Rattle.mc_words.proofs.Owners.{looks_here, slabs_here}
+use Rattle.mc_words.specs.rule.Happens.{LawfulView}
+use Rattle.mc_words.specs.item.Items.{word_read}
+use Rattle.mc_words.specs.hand.View.{Setup, View}
+use Rattle.mc_words.specs.hand.Views.{held_word_seen, word_filled}
+use Rattle.mc_words.proofs.Chunks.Heads.{near_here}
+use Rattle.mc_words.proofs.Chunks.Judging.{room_of}
+use Rattle.mc_words.proofs.Pages.Owners.{looks_here, slabs_here}
 use Rattle.mc_mover.specs.Copying.{words_copied}
 
 -- a linked chunk has room for key, stamp and length, and for no more words than a page has

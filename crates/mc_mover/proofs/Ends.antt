@@ -13,10 +13,10 @@ use Rattle.mc_pages.proofs.ClassChanges.{per_pages-with_class}
 use Rattle.mc_pages.proofs.Cuts.{per_page-map}
 use Rattle.mc_pages.proofs.Kept.{all_cleared_at_end}
 use Rattle.mc_core.proofs.SamePages.{arrived_if}
-use Rattle.mc_words.specs.View.{View}
-use Rattle.mc_words.specs.Happens.{LawfulView}
-use Rattle.mc_words.proofs.MoveChanges.{move_near}
-use Rattle.mc_words.proofs.Owners.{slabs_here}
+use Rattle.mc_words.specs.hand.View.{View}
+use Rattle.mc_words.specs.rule.Happens.{LawfulView}
+use Rattle.mc_words.proofs.Pages.MoveChanges.{move_near}
+use Rattle.mc_words.proofs.Pages.Owners.{slabs_here}
 use Rattle.mc_mover.specs.Turning.{IsAtEnd}
 
 -- a move's end leaves how many chunks a page of a class has

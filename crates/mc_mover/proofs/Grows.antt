@@ -11,15 +11,15 @@ use Rattle.mc_core.specs.declared.ids.Ids.{Ids}
 use Rattle.mc_core.specs.Holdings.{item_in, numbers}
 use Rattle.mc_core.specs.Past.{Hold, Known, Saying, known_by}
 use Rattle.mc_core.specs.State.{room_in}
-use Rattle.mc_words.specs.View.{View}
-use Rattle.mc_words.specs.Condemning.{FindsHeld}
-use Rattle.mc_words.specs.Cutting.{CutsEach}
-use Rattle.mc_words.specs.Items.{issue_in, item_with, words_in}
-use Rattle.mc_words.specs.Referring.{reference_to}
-use Rattle.mc_words.specs.Rescuing.{PassesAll, PopsOff}
-use Rattle.mc_words.specs.Doing.{SlabsDoing}
-use Rattle.mc_words.specs.Sweeping.{SweepsOne}
-use Rattle.mc_words.specs.Views.{head_seen}
+use Rattle.mc_words.specs.hand.View.{View}
+use Rattle.mc_words.specs.item.Removal.{FindsHeld}
+use Rattle.mc_words.specs.page.Cuts.{CutsEach}
+use Rattle.mc_words.specs.item.Items.{issue_in, item_with, words_in}
+use Rattle.mc_words.specs.item.References.{reference_to}
+use Rattle.mc_words.specs.chunk.Copies.{PassesAll, PopsOff}
+use Rattle.mc_words.specs.lock.Doing.{SlabsDoing}
+use Rattle.mc_words.specs.chunk.Sweeps.{SweepsOne}
+use Rattle.mc_words.specs.hand.Views.{head_seen}
 use Rattle.mc_mover.specs.declared.counts.Turn.{Turn}
 use Rattle.mc_mover.specs.declared.counts.Turn.TheVariants.{Idle, Went, Finished}
 use Rattle.mc_mover.specs.Copying.{Copies}

@@ -3,16 +3,16 @@ use Rattle.std.proofs.Common.{◌≡◌, ℕ, true, List, [], ◌∷◌, Some, r
 use Rattle.mc_pages.specs.SlabState.{SlabState}
 use Rattle.mc_core.specs.declared.ids.Ids.{Ids}
 use Rattle.mc_words.specs.declared.hand.Hand.{Hand}
-use Rattle.mc_words.specs.declared.locks.Locks.{Locks}
-use Rattle.mc_words.specs.declared.locks.Locks.TheVariants.{Neither, Slabs, Stripe, SlabsLast, StripeLast}
-use Rattle.mc_words.specs.View.{View}
-use Rattle.mc_words.specs.Arenas.{view}
-use Rattle.mc_words.specs.Doing.{HoldsSlabs, SlabsDoing}
-use Rattle.mc_words.specs.Idle.{is_unlocked}
-use Rattle.mc_words.specs.Out.{is_neither, with_slabs, without_slabs}
-use Rattle.mc_words.specs.Views.{slabs_given, slabs_missed, slabs_taken}
-use Rattle.mc_words.specs.Waiting.{MissesSlabs, WaitsForSlabs}
-use Rattle.mc_words.proofs.Unlocked.{unlocked_from}
+use Rattle.mc_words.specs.declared.lock.locks.Locks.{Locks}
+use Rattle.mc_words.specs.declared.lock.locks.Locks.TheVariants.{Neither, Slabs, Stripe, SlabsLast, StripeLast}
+use Rattle.mc_words.specs.hand.View.{View}
+use Rattle.mc_words.specs.hand.Arenas.{view}
+use Rattle.mc_words.specs.lock.Doing.{HoldsSlabs, SlabsDoing}
+use Rattle.mc_words.specs.hand.Idle.{is_unlocked}
+use Rattle.mc_words.specs.lock.Out.{is_neither, with_slabs, without_slabs}
+use Rattle.mc_words.specs.hand.Views.{slabs_given, slabs_missed, slabs_taken}
+use Rattle.mc_words.specs.lock.Wait.{MissesSlabs, WaitsForSlabs}
+use Rattle.mc_words.proofs.Locks.Unlocked.{unlocked_from}
 
 -- whatever misses and the take leave stays
 module _ {X : Type 0} (part : View → X) (missed : (word : ℕ) (v : View) → part (slabs_missed word v) ≡ part v) (took : (slabs : SlabState) (v : View) → part (slabs_taken slabs v) ≡ part v) where

@@ -3,17 +3,17 @@ use Rattle.std.proofs.Common.{◌≡◌, ◌⊎◌, ℕ, List, [], ◌∷◌, ap
 use Rattle.mc_pages.specs.declared.ids.ChunkId.{ChunkId}
 use Rattle.mc_pages.specs.SlabState.{SlabState}
 use Rattle.mc_core.specs.declared.head.Head.{Head}
-use Rattle.mc_words.specs.View.{View}
-use Rattle.mc_words.specs.Condemning.{FindsHeld, SeesHeld}
-use Rattle.mc_words.specs.Rescuing.{PassesAll, PassesOver}
-use Rattle.mc_words.specs.Sweeping.{SeesHeaders, Sweeps, SweepsEach, SweepsOne}
-use Rattle.mc_words.specs.Views.{chunk_put_back, head_seen}
+use Rattle.mc_words.specs.hand.View.{View}
+use Rattle.mc_words.specs.item.Removal.{FindsHeld, SeesHeld}
+use Rattle.mc_words.specs.chunk.Copies.{PassesAll, PassesOver}
+use Rattle.mc_words.specs.chunk.Sweeps.{SeesHeaders, Sweeps, SweepsEach, SweepsOne}
+use Rattle.mc_words.specs.hand.Views.{chunk_put_back, head_seen}
 use Rattle.mc_mover.specs.declared.sweep.Sweep.{Sweep}
 use Rattle.mc_mover.specs.declared.sweep.Sweep.TheVariants.{Due, Done}
 use Rattle.mc_mover.specs.Saving.{SweepsForTarget, SweepsToEvict, SweepsToRescue}
 
 -- a part that neither a key nor a header changes that is seen
-module _ {X : Type 0} (part : View → X) (look : (one : ChunkId × ℕ) (v : View) → part (Rattle.mc_words.specs.Condemning.key_seen one.0 one.1 v) ≡ part v) (head : (chunk : ChunkId) (one : Head) (v : View) → part (head_seen chunk one v) ≡ part v) where
+module _ {X : Type 0} (part : View → X) (look : (one : ChunkId × ℕ) (v : View) → part (Rattle.mc_words.specs.item.Removal.key_seen one.0 one.1 v) ≡ part v) (head : (chunk : ChunkId) (one : Head) (v : View) → part (head_seen chunk one v) ≡ part v) where
   sees_keep : (chunk : ChunkId) (view now : View) → SeesHeld view chunk now → part now ≡ part view
   sees_keep chunk view now sees = ap part sees.is ∙ head sees.chunk sees.head view
 
@@ -21,9 +21,9 @@ module _ {X : Type 0} (part : View → X) (look : (one : ChunkId × ℕ) (v : Vi
   pub finds_keep : (chunk : ChunkId) (view now : View) → FindsHeld view chunk now → part now ≡ part view
   finds_keep chunk view now finds = by finds.finds
     where
-      by : (SeesHeld (Rattle.mc_words.specs.Condemning.key_seen chunk finds.key view) chunk now
-          ⊎ ((one : Head) × Rattle.mc_words.specs.Happens.Happens (Rattle.mc_words.specs.Condemning.key_seen chunk finds.key view) [] (Rattle.mc_core.specs.declared.event.Step.TheVariants.Head chunk) (head_seen chunk one (Rattle.mc_words.specs.Condemning.key_seen chunk finds.key view))
-          × SeesHeld (head_seen chunk one (Rattle.mc_words.specs.Condemning.key_seen chunk finds.key view)) chunk now)) → part now ≡ part view
+      by : (SeesHeld (Rattle.mc_words.specs.item.Removal.key_seen chunk finds.key view) chunk now
+          ⊎ ((one : Head) × Rattle.mc_words.specs.rule.Happens.Happens (Rattle.mc_words.specs.item.Removal.key_seen chunk finds.key view) [] (Rattle.mc_core.specs.declared.event.Step.TheVariants.Head chunk) (head_seen chunk one (Rattle.mc_words.specs.item.Removal.key_seen chunk finds.key view))
+          × SeesHeld (head_seen chunk one (Rattle.mc_words.specs.item.Removal.key_seen chunk finds.key view)) chunk now)) → part now ≡ part view
       by (inl sees) = sees_keep chunk _ now sees ∙ look (chunk, finds.key) view
       by (inr (one, happens, sees)) = sees_keep chunk _ now sees ∙ (head chunk one _ ∙ look (chunk, finds.key) view)
 

@@ -23,19 +23,19 @@ use Rattle.mc_core.specs.Silent.{is_among, is_handed_out}
 use Rattle.mc_core.specs.State.{head_at}
 use Rattle.mc_core.proofs.Base.{placed_at}
 use Rattle.mc_core.proofs.Listed.{none_among}
-use Rattle.mc_words.specs.View.{View}
-use Rattle.mc_words.specs.Happens.{LawfulView}
-use Rattle.mc_words.specs.Items.{word_read}
-use Rattle.mc_words.specs.Owner.{PutsBack}
-use Rattle.mc_words.specs.Rescuing.{PassesAll, PassesOver}
-use Rattle.mc_words.specs.Sweeping.{SeesHeaders, Sweeps, SweepsEach, SweepsOne}
-use Rattle.mc_words.specs.Views.{head_seen, looked, saw, with_event}
+use Rattle.mc_words.specs.hand.View.{View}
+use Rattle.mc_words.specs.rule.Happens.{LawfulView}
+use Rattle.mc_words.specs.item.Items.{word_read}
+use Rattle.mc_words.specs.page.Owner.{PutsBack}
+use Rattle.mc_words.specs.chunk.Copies.{PassesAll, PassesOver}
+use Rattle.mc_words.specs.chunk.Sweeps.{SeesHeaders, Sweeps, SweepsEach, SweepsOne}
+use Rattle.mc_words.specs.hand.Views.{head_seen, looked, saw, with_event}
 use Rattle.mc_core.specs.declared.event.Step.TheVariants as core
-use Rattle.mc_words.proofs.Heads.{near_here}
-use Rattle.mc_words.proofs.Judging.{seen_is}
-use Rattle.mc_words.proofs.LockViews.{may_step}
-use Rattle.mc_words.proofs.Owners.{needless, slabs_here}
-use Rattle.mc_words.proofs.Refers.{LeadsTo, entry_near, leads_here}
+use Rattle.mc_words.proofs.Chunks.Heads.{near_here}
+use Rattle.mc_words.proofs.Chunks.Judging.{seen_is}
+use Rattle.mc_words.proofs.Locks.LockViews.{may_step}
+use Rattle.mc_words.proofs.Pages.Owners.{needless, slabs_here}
+use Rattle.mc_words.proofs.Items.Refers.{LeadsTo, entry_near, leads_here}
 
 -- what is counted stands there
 among_once : (chunks : List ChunkId) (chunk : ChunkId) → times chunk chunks ≡ 1 → is_among chunks chunk ≡ true

@@ -3,16 +3,16 @@ use Rattle.std.proofs.Common.{◌≡◌, true, [], refl, ◌∙◌}
 use Rattle.mc_pages.specs.SlabState.{SlabState}
 use Rattle.mc_core.specs.declared.event.Step.TheVariants as step
 use Rattle.mc_words.specs.declared.hand.Hand.{Hand}
-use Rattle.mc_words.specs.declared.locks.Locks.{Locks}
-use Rattle.mc_words.specs.declared.locks.Locks.TheVariants.{Neither, Slabs, Stripe, SlabsLast, StripeLast}
-use Rattle.mc_words.specs.View.{View}
-use Rattle.mc_words.specs.Arenas.{view}
-use Rattle.mc_words.specs.Happens.{Happens}
-use Rattle.mc_words.specs.Idle.{is_unlocked}
-use Rattle.mc_words.specs.Out.{has_no_stripe, is_neither, with_slabs}
-use Rattle.mc_words.specs.Views.{slabs_taken}
-use Rattle.mc_words.specs.Waiting.{WaitsForSlabs}
-use Rattle.mc_words.proofs.Unlocked.{unlocked_from}
+use Rattle.mc_words.specs.declared.lock.locks.Locks.{Locks}
+use Rattle.mc_words.specs.declared.lock.locks.Locks.TheVariants.{Neither, Slabs, Stripe, SlabsLast, StripeLast}
+use Rattle.mc_words.specs.hand.View.{View}
+use Rattle.mc_words.specs.hand.Arenas.{view}
+use Rattle.mc_words.specs.rule.Happens.{Happens}
+use Rattle.mc_words.specs.hand.Idle.{is_unlocked}
+use Rattle.mc_words.specs.lock.Out.{has_no_stripe, is_neither, with_slabs}
+use Rattle.mc_words.specs.hand.Views.{slabs_taken}
+use Rattle.mc_words.specs.lock.Wait.{WaitsForSlabs}
+use Rattle.mc_words.proofs.Locks.Unlocked.{unlocked_from}
 
 -- a hand that took the lock of the slabs alone has no stripe's
 pub none_with_slabs : (hand : Hand) → is_unlocked (view hand) ≡ true → has_no_stripe (with_slabs hand.locks) ≡ true

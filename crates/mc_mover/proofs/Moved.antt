@@ -21,18 +21,18 @@ use Rattle.mc_core.specs.Holdings.{Words, all_known, change_each, holding_of, is
 use Rattle.mc_core.specs.Items.{are_same}
 use Rattle.mc_core.specs.Judged.{sees_no_target}
 use Rattle.mc_core.specs.State.{State, holdings_at, item_at}
-use Rattle.mc_words.specs.View.{View}
-use Rattle.mc_words.specs.Condemning.{key_read, key_seen, knows_reason, stripe_read}
-use Rattle.mc_words.specs.Fresh.{IsFreshIn}
-use Rattle.mc_words.specs.Happens.{LawfulView}
-use Rattle.mc_words.specs.Items.{issue_in, item_with, word_read, words_in}
-use Rattle.mc_words.specs.Linking.{IsCopyFilled, copied_item, copy_linked}
-use Rattle.mc_words.specs.Originals.{CondemnsOriginal}
-use Rattle.mc_words.specs.Referring.{reference_to}
-use Rattle.mc_words.specs.Views.{chunk_released, copy_holding, head_seen}
-use Rattle.mc_words.proofs.LockViews.{holdings_were}
-use Rattle.mc_words.proofs.OwnerViews.{holding_rows}
-use Rattle.mc_words.proofs.StripeChanges.{stripe_here, stripe_near}
+use Rattle.mc_words.specs.hand.View.{View}
+use Rattle.mc_words.specs.item.Removal.{key_read, key_seen, knows_reason, stripe_read}
+use Rattle.mc_words.specs.item.Fresh.{IsFreshIn}
+use Rattle.mc_words.specs.rule.Happens.{LawfulView}
+use Rattle.mc_words.specs.item.Items.{issue_in, item_with, word_read, words_in}
+use Rattle.mc_words.specs.item.Links.{IsCopyFilled, copied_item, copy_linked}
+use Rattle.mc_words.specs.item.Originals.{CondemnsOriginal}
+use Rattle.mc_words.specs.item.References.{reference_to}
+use Rattle.mc_words.specs.hand.Views.{chunk_released, copy_holding, head_seen}
+use Rattle.mc_words.proofs.Locks.LockViews.{holdings_were}
+use Rattle.mc_words.proofs.Pages.OwnerViews.{holding_rows}
+use Rattle.mc_words.proofs.Locks.StripeChanges.{stripe_here, stripe_near}
 use Rattle.mc_mover.specs.Copying.{words_copied}
 use Rattle.mc_mover.proofs.Copied.{copied_keeps, one_longer, read_copied, word_copied}
 use Rattle.mc_mover.proofs.Writes.{all_more, found_among, found_changed, holding_with, item_is, lose_changed, lose_last, none_of, none_yet, same_list, same_words, unchanged, whole_with, written_long, written_over}

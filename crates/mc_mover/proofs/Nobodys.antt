@@ -17,9 +17,9 @@ use Rattle.mc_core.specs.Evictions.{can_lose_entry, has_copy, has_reason, is_lin
 use Rattle.mc_core.specs.Silent.{is_listed}
 use Rattle.mc_core.specs.Head.{is_dead, is_free, is_linked, is_out, is_unlinked}
 use Rattle.mc_core.specs.State.{State, has_chunk, has_slabs, has_stripe, head_at, holdings_at, looks_at, stripe_at, stripe_of}
-use Rattle.mc_words.specs.View.{View}
-use Rattle.mc_words.specs.Happens.{Happens}
-use Rattle.mc_words.proofs.LockViews.{may_step}
+use Rattle.mc_words.specs.hand.View.{View}
+use Rattle.mc_words.specs.rule.Happens.{Happens}
+use Rattle.mc_words.proofs.Locks.LockViews.{may_step}
 use Rattle.mc_mover.specs.declared.sweep.Sweep.{Sweep}
 use Rattle.mc_mover.specs.Unheld.{BusyIsUncleared, ClearsUnheld, IsUnheldAt, NobodyHolds, SeesUncleared}
 use Rattle.mc_mover.specs.Visiting.{Visits}

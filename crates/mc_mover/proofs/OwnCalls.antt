@@ -14,9 +14,9 @@ use Rattle.mc_core.specs.Histories.{hand_of}
 use Rattle.mc_core.specs.Identities.{owns}
 use Rattle.mc_core.specs.Past.{Own, with_more}
 use Rattle.mc_core.proofs.Base.{each_row}
-use Rattle.mc_words.specs.View.{View}
-use Rattle.mc_words.specs.Called.{with_own_call}
-use Rattle.mc_words.specs.Happens.{LawfulView}
+use Rattle.mc_words.specs.hand.View.{View}
+use Rattle.mc_words.specs.item.Calls.{with_own_call}
+use Rattle.mc_words.specs.rule.Happens.{LawfulView}
 use Rattle.mc_mover.specs.Telling.{IsSaving, TellingsAreCounted, called_key, calls_told, is_eviction, is_other, is_rescue, with_own_calls}
 
 -- one more

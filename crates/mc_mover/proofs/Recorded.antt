@@ -12,19 +12,19 @@ use Rattle.mc_core.specs.declared.ids.Ids.{Ids}
 use Rattle.mc_core.specs.Past.{Known, Own, Saying}
 use Rattle.mc_core.specs.Silent.{stripe_after}
 use Rattle.mc_words.specs.declared.hand.Hand.{Hand}
-use Rattle.mc_words.specs.declared.locks.Locks.{Locks}
-use Rattle.mc_words.specs.declared.locks.Locks.TheVariants.{Neither, Slabs, Stripe, SlabsLast, StripeLast}
-use Rattle.mc_words.specs.View.{View}
-use Rattle.mc_words.specs.Arenas.{view}
-use Rattle.mc_words.specs.Doing.{Doing, HoldsStripe}
-use Rattle.mc_words.specs.Idle.{is_unlocked}
-use Rattle.mc_words.specs.Out.{is_neither, with_stripe, without_stripe}
-use Rattle.mc_words.specs.Views.{stripe_changed, stripe_given}
-use Rattle.mc_words.specs.Waiting.{WaitsForStripe}
-use Rattle.mc_words.specs.Refs.{KeepsRefs}
-use Rattle.mc_words.proofs.HandNumbers.{number_stays}
-use Rattle.mc_words.proofs.Unlocked.{unlocked_from}
-use Rattle.mc_words.proofs.Waited.{waits_keep}
+use Rattle.mc_words.specs.declared.lock.locks.Locks.{Locks}
+use Rattle.mc_words.specs.declared.lock.locks.Locks.TheVariants.{Neither, Slabs, Stripe, SlabsLast, StripeLast}
+use Rattle.mc_words.specs.hand.View.{View}
+use Rattle.mc_words.specs.hand.Arenas.{view}
+use Rattle.mc_words.specs.lock.Doing.{Doing, HoldsStripe}
+use Rattle.mc_words.specs.hand.Idle.{is_unlocked}
+use Rattle.mc_words.specs.lock.Out.{is_neither, with_stripe, without_stripe}
+use Rattle.mc_words.specs.hand.Views.{stripe_changed, stripe_given}
+use Rattle.mc_words.specs.lock.Wait.{WaitsForStripe}
+use Rattle.mc_words.specs.item.Refs.{KeepsRefs}
+use Rattle.mc_words.proofs.Hands.HandNumbers.{number_stays}
+use Rattle.mc_words.proofs.Locks.Unlocked.{unlocked_from}
+use Rattle.mc_words.proofs.Locks.Waited.{waits_keep}
 use Rattle.mc_mover.proofs.Chains.{refs_stay}
 use Rattle.mc_mover.specs.Recording.{Changes, ChangesEach, FindsFull, Leaves, StopsTrimming}
 

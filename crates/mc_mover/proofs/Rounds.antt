@@ -13,10 +13,10 @@ use Rattle.mc_core.specs.Past.{Moment}
 use Rattle.mc_core.specs.State.{has_chunk}
 use Rattle.mc_core.proofs.FreeChunks.{near_in}
 use Rattle.mc_core.proofs.Listed.{per_page_is, source_of_move}
-use Rattle.mc_words.specs.View.{Setup, View}
-use Rattle.mc_words.specs.Happens.{LawfulView}
-use Rattle.mc_words.proofs.MoveChanges.{of_table_here}
-use Rattle.mc_words.proofs.Owners.{slabs_here}
+use Rattle.mc_words.specs.hand.View.{Setup, View}
+use Rattle.mc_words.specs.rule.Happens.{LawfulView}
+use Rattle.mc_words.proofs.Pages.MoveChanges.{of_table_here}
+use Rattle.mc_words.proofs.Pages.Owners.{slabs_here}
 use Rattle.mc_mover.specs.declared.counts.Counts.{Counts}
 use Rattle.mc_mover.specs.declared.counts.Turn.{Turn}
 use Rattle.mc_mover.specs.declared.counts.Turn.TheVariants.{Idle, Went, Finished}

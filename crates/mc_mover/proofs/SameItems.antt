@@ -20,11 +20,11 @@ use Rattle.mc_core.specs.Past.{Moment, moment_after}
 use Rattle.mc_core.specs.State.{item_at, room_in}
 use Rattle.mc_core.proofs.Base.{each_row, holds_row}
 use Rattle.mc_core.proofs.LawKept.{lawful_events}
-use Rattle.mc_words.specs.View.{Setup, View}
-use Rattle.mc_words.specs.Happens.{event_of}
-use Rattle.mc_words.specs.Items.{item_with}
-use Rattle.mc_words.specs.Rescuing.{PopsOff}
-use Rattle.mc_words.specs.Views.{copy_holding}
+use Rattle.mc_words.specs.hand.View.{Setup, View}
+use Rattle.mc_words.specs.rule.Happens.{event_of}
+use Rattle.mc_words.specs.item.Items.{item_with}
+use Rattle.mc_words.specs.chunk.Copies.{PopsOff}
+use Rattle.mc_words.specs.hand.Views.{copy_holding}
 use Rattle.mc_mover.specs.SameItems.{KeepsItem, RescuesKeepItems}
 use Rattle.mc_mover.proofs.Grows.{known_copy, known_rescued}
 use Rattle.mc_mover.proofs.Kept.{passes_keep}

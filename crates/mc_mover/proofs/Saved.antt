@@ -7,10 +7,10 @@ use Rattle.mc_pages.specs.Changes.{after_back, after_replace}
 use Rattle.mc_pages.specs.SlabState.{SlabState, class_at, class_of_page}
 use Rattle.mc_stripe.specs.StripeState.{ReadyStripe}
 use Rattle.mc_core.specs.State.{room_in}
-use Rattle.mc_words.specs.View.{View}
-use Rattle.mc_words.specs.Doing.{SlabsDoing}
-use Rattle.mc_words.specs.Sweeping.{SweepsOne}
-use Rattle.mc_words.specs.Views.{stripe_given, stripe_reserved}
+use Rattle.mc_words.specs.hand.View.{View}
+use Rattle.mc_words.specs.lock.Doing.{SlabsDoing}
+use Rattle.mc_words.specs.chunk.Sweeps.{SweepsOne}
+use Rattle.mc_words.specs.hand.Views.{stripe_given, stripe_reserved}
 use Rattle.mc_mover.specs.declared.sweep.Sweep.{Sweep}
 use Rattle.mc_mover.specs.declared.sweep.Sweep.TheVariants.{Due, Done}
 use Rattle.mc_mover.specs.Linked.{SavesAs, SavesWith}

@@ -25,20 +25,20 @@ use Rattle.mc_core.specs.Head.{is_dead}
 use Rattle.mc_core.specs.Holdings.{has_fresh, holding_of, is_copy_kind, is_fresh, is_fresh_kind, is_of}
 use Rattle.mc_core.specs.Looks.{is_found_alive, stays_alive, stays_linked, was_linked}
 use Rattle.mc_core.specs.Seen.{last_read}
-use Rattle.mc_words.specs.View.{View}
-use Rattle.mc_words.specs.Condemning.{stripe_read}
-use Rattle.mc_words.specs.Fresh.{IsFreshIn}
-use Rattle.mc_words.specs.Happens.{LawfulView}
-use Rattle.mc_words.specs.Items.{word_read}
-use Rattle.mc_words.specs.Lent.{IsLentStripe}
-use Rattle.mc_words.specs.Rescuing.{PassesAll, PassesOver, PopsOff}
-use Rattle.mc_words.specs.Sweeping.{Sweeps, SweepsEach, SweepsOne}
-use Rattle.mc_words.specs.Views.{copy_holding, stripe_reserved}
-use Rattle.mc_words.proofs.FreeWalks.{passed_holds}
-use Rattle.mc_words.proofs.Judging.{seen_is, seen_slabs}
-use Rattle.mc_words.proofs.Owners.{slabs_here}
-use Rattle.mc_words.proofs.Refers.{LeadsTo}
-use Rattle.mc_words.proofs.Sweeps.{other_first}
+use Rattle.mc_words.specs.hand.View.{View}
+use Rattle.mc_words.specs.item.Removal.{stripe_read}
+use Rattle.mc_words.specs.item.Fresh.{IsFreshIn}
+use Rattle.mc_words.specs.rule.Happens.{LawfulView}
+use Rattle.mc_words.specs.item.Items.{word_read}
+use Rattle.mc_words.specs.lock.Lent.{IsLentStripe}
+use Rattle.mc_words.specs.chunk.Copies.{PassesAll, PassesOver, PopsOff}
+use Rattle.mc_words.specs.chunk.Sweeps.{Sweeps, SweepsEach, SweepsOne}
+use Rattle.mc_words.specs.hand.Views.{copy_holding, stripe_reserved}
+use Rattle.mc_words.proofs.Chunks.FreeWalks.{passed_holds}
+use Rattle.mc_words.proofs.Chunks.Judging.{seen_is, seen_slabs}
+use Rattle.mc_words.proofs.Pages.Owners.{slabs_here}
+use Rattle.mc_words.proofs.Items.Refers.{LeadsTo}
+use Rattle.mc_words.proofs.Chunks.Sweeps.{other_first}
 use Rattle.mc_mover.proofs.Kept.{passes_keep}
 use Rattle.mc_mover.proofs.Leads.{Reaches, reaches_passed, reaches_seen}
 

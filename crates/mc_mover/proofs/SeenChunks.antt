@@ -18,12 +18,12 @@ use Rattle.mc_core.specs.Head.{is_dead, is_free, is_linked, is_out}
 use Rattle.mc_core.specs.Looks.{stays_linked, was_linked}
 use Rattle.mc_core.specs.Seen.{seen_head}
 use Rattle.mc_core.specs.State.{has_chunk, head_at}
-use Rattle.mc_words.specs.View.{View}
-use Rattle.mc_words.specs.Happens.{Happens, LawfulView}
-use Rattle.mc_words.specs.Views.{head_seen}
-use Rattle.mc_words.proofs.Heads.{near_here}
-use Rattle.mc_words.proofs.Judging.{seen_is, seen_last, seen_slabs}
-use Rattle.mc_words.proofs.Owners.{looks_here, slabs_here}
+use Rattle.mc_words.specs.hand.View.{View}
+use Rattle.mc_words.specs.rule.Happens.{Happens, LawfulView}
+use Rattle.mc_words.specs.hand.Views.{head_seen}
+use Rattle.mc_words.proofs.Chunks.Heads.{near_here}
+use Rattle.mc_words.proofs.Chunks.Judging.{seen_is, seen_last, seen_slabs}
+use Rattle.mc_words.proofs.Pages.Owners.{looks_here, slabs_here}
 use Rattle.mc_mover.specs.declared.sweep.Sweep.{Sweep}
 use Rattle.mc_mover.specs.Linked.{VisitsLinked}
 use Rattle.mc_mover.specs.Visiting.{SeesLinked, Visits}

@@ -7,12 +7,12 @@ use Rattle.mc_classes.specs.Classes.{Classes}
 use Rattle.mc_pages.specs.declared.ids.ChunkId.{ChunkId}
 use Rattle.mc_pages.specs.SlabState.{SlabState, class_at}
 use Rattle.mc_core.proofs.OfTable.{class_count}
-use Rattle.mc_words.specs.View.{View}
-use Rattle.mc_words.specs.Happens.{LawfulView}
-use Rattle.mc_words.specs.Sweeping.{Sweeps, SweepsEach, SweepsOne, with_seen}
-use Rattle.mc_words.proofs.Owners.{slabs_here}
-use Rattle.mc_words.proofs.LookedOver.{sees_headers_alone}
-use Rattle.mc_words.proofs.SweepViews.{sees_alone}
+use Rattle.mc_words.specs.hand.View.{View}
+use Rattle.mc_words.specs.rule.Happens.{LawfulView}
+use Rattle.mc_words.specs.chunk.Sweeps.{Sweeps, SweepsEach, SweepsOne, with_seen}
+use Rattle.mc_words.proofs.Pages.Owners.{slabs_here}
+use Rattle.mc_words.proofs.Pages.LookedOver.{sees_headers_alone}
+use Rattle.mc_words.proofs.Chunks.SweepViews.{sees_alone}
 use Rattle.mc_mover.specs.Surveying.{SweepsClasses, classes_swept}
 
 -- there are as many classes as the arena's table has

@@ -12,15 +12,15 @@ use Rattle.mc_stripe.specs.declared.history.Call.TheVariants.{Evict, Rescue}
 use Rattle.mc_stripe.specs.StripeState.{ReadyStripe, place_of}
 use Rattle.mc_core.specs.declared.ids.Ids.{Ids}
 use Rattle.mc_core.specs.Past.{Own, Saying}
-use Rattle.mc_words.specs.View.{Setup, View}
-use Rattle.mc_words.specs.Called.{with_own_call}
-use Rattle.mc_words.specs.Condemning.{FindsHeld}
-use Rattle.mc_words.specs.Cutting.{CutsEach}
-use Rattle.mc_words.specs.Doing.{HoldsSlabs, SlabsDoing}
-use Rattle.mc_words.specs.Happens.{LawfulView}
-use Rattle.mc_words.specs.Items.{item_with}
-use Rattle.mc_words.specs.Rescuing.{PassesAll, PopsOff}
-use Rattle.mc_words.specs.Sweeping.{SweepsOne}
+use Rattle.mc_words.specs.hand.View.{Setup, View}
+use Rattle.mc_words.specs.item.Calls.{with_own_call}
+use Rattle.mc_words.specs.item.Removal.{FindsHeld}
+use Rattle.mc_words.specs.page.Cuts.{CutsEach}
+use Rattle.mc_words.specs.lock.Doing.{HoldsSlabs, SlabsDoing}
+use Rattle.mc_words.specs.rule.Happens.{LawfulView}
+use Rattle.mc_words.specs.item.Items.{item_with}
+use Rattle.mc_words.specs.chunk.Copies.{PassesAll, PopsOff}
+use Rattle.mc_words.specs.chunk.Sweeps.{SweepsOne}
 use Rattle.mc_mover.specs.declared.counts.Counts.{Counts}
 use Rattle.mc_mover.specs.declared.counts.Turn.{Turn}
 use Rattle.mc_mover.specs.declared.counts.Turn.TheVariants.{Idle, Went, Finished}

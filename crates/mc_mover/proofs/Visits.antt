@@ -17,19 +17,19 @@ use Rattle.mc_core.specs.declared.look.Look.{Look}
 use Rattle.mc_core.specs.declared.look.Look.TheVariants.{Read}
 use Rattle.mc_core.specs.declared.event.Step.TheVariants as step
 use Rattle.mc_core.specs.Seen.{last_read}
-use Rattle.mc_words.specs.View.{View}
+use Rattle.mc_words.specs.hand.View.{View}
 use Rattle.mc_words.specs.declared.hand.Hand.{Hand}
-use Rattle.mc_words.specs.declared.locks.Locks.{Locks}
-use Rattle.mc_words.specs.declared.locks.Locks.TheVariants.{Neither, Slabs, Stripe, SlabsLast, StripeLast}
-use Rattle.mc_words.specs.Condemning.{stripe_read}
-use Rattle.mc_words.specs.Happens.{Happens}
-use Rattle.mc_words.specs.Idle.{has_no_stripes}
-use Rattle.mc_words.specs.Items.{word_read}
-use Rattle.mc_words.specs.Lent.{IsLentStripe}
-use Rattle.mc_words.specs.Out.{has_no_stripe, with_stripe, without_stripe}
-use Rattle.mc_words.specs.Owner.{is_unused}
-use Rattle.mc_words.specs.Views.{stripe_given, stripe_taken}
-use Rattle.mc_words.proofs.Unlocked.{no_stripe_from}
+use Rattle.mc_words.specs.declared.lock.locks.Locks.{Locks}
+use Rattle.mc_words.specs.declared.lock.locks.Locks.TheVariants.{Neither, Slabs, Stripe, SlabsLast, StripeLast}
+use Rattle.mc_words.specs.item.Removal.{stripe_read}
+use Rattle.mc_words.specs.rule.Happens.{Happens}
+use Rattle.mc_words.specs.hand.Idle.{has_no_stripes}
+use Rattle.mc_words.specs.item.Items.{word_read}
+use Rattle.mc_words.specs.lock.Lent.{IsLentStripe}
+use Rattle.mc_words.specs.lock.Out.{has_no_stripe, with_stripe, without_stripe}
+use Rattle.mc_words.specs.page.Owner.{is_unused}
+use Rattle.mc_words.specs.hand.Views.{stripe_given, stripe_taken}
+use Rattle.mc_words.proofs.Locks.Unlocked.{no_stripe_from}
 use Rattle.mc_mover.specs.declared.sweep.Sweep.{Sweep}
 use Rattle.mc_mover.specs.declared.sweep.Sweep.TheVariants.{Done}
 use Rattle.mc_mover.specs.Linked.{FindsGone, HoldsUp, OnlyGives, ReachesStripe, ReadsKey, SavesAs, SavesAndClears, StripeDoing, VisitsLinked}

@@ -13,7 +13,7 @@ use Rattle.mc_core.specs.declared.holding.Kind.TheVariants.{Reference, Fresh}
 use Rattle.mc_core.specs.Chunks.{filled, filled_kind}
 use Rattle.mc_core.specs.Holdings.{Words, all_known, change_each, holding_of, is_complete, is_of, item_in, key_in, lose, stamp_in}
 use Rattle.mc_core.specs.Items.{are_same}
-use Rattle.mc_words.specs.Items.{item_with}
+use Rattle.mc_words.specs.item.Items.{item_with}
 
 -- the words of a chunk, with these in place of the first, as far as there is room
 abbrev pub written_over : List ℕ → Words → Words

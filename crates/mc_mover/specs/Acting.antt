@@ -8,15 +8,15 @@ use Rattle.mc_core.specs.Head.{is_dead}
 use Rattle.mc_core.specs.Holdings.{holding_of}
 use Rattle.mc_core.specs.Seen.{seen_head}
 use Rattle.mc_words.specs.declared.hand.Hand.{Hand}
-use Rattle.mc_words.specs.declared.held.Fresh.{Fresh}
-use Rattle.mc_words.specs.declared.held.SlabsHeld.{SlabsHeld}
-use Rattle.mc_words.specs.declared.held.StripeHeld.{StripeHeld}
-use Rattle.mc_words.specs.View.{Setup}
-use Rattle.mc_words.specs.Arenas.{view}
-use Rattle.mc_words.specs.Condemning.{knows_reason}
-use Rattle.mc_words.specs.Doing.{HoldsSlabs, SlabsDoing}
-use Rattle.mc_words.specs.Observers.{fresh_chunk, fresh_room, number_of, slabs_lent, stripe_lent, stripe_number}
-use Rattle.mc_words.specs.Views.{copy_holding, slabs_missed}
+use Rattle.mc_words.specs.declared.hand.held.Fresh.{Fresh}
+use Rattle.mc_words.specs.declared.hand.held.SlabsHeld.{SlabsHeld}
+use Rattle.mc_words.specs.declared.hand.held.StripeHeld.{StripeHeld}
+use Rattle.mc_words.specs.hand.View.{Setup}
+use Rattle.mc_words.specs.hand.Arenas.{view}
+use Rattle.mc_words.specs.item.Removal.{knows_reason}
+use Rattle.mc_words.specs.lock.Doing.{HoldsSlabs, SlabsDoing}
+use Rattle.mc_words.specs.hand.Observers.{fresh_chunk, fresh_room, number_of, slabs_lent, stripe_lent, stripe_number}
+use Rattle.mc_words.specs.hand.Views.{copy_holding, slabs_missed}
 use Rattle.mc_mover.specs.declared.counts.Turn.{Turn}
 use Rattle.mc_mover.specs.Linked.{StripeDoing}
 use Rattle.mc_mover.specs.Saving.{GivesEvicted, GivesRescued, MovesItem}

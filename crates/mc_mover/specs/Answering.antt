@@ -1,7 +1,7 @@
 -- What a turn's answer says of the move: none ran, the page moves still, or it came to its destination.
 use Rattle.std.specs.Prelude.{◌≡◌, Bool, true, false, ◌&&◌, is_none, is_some, Option, Some, None}
 use Rattle.mc_pages.specs.declared.ids.Moving.{Moving}
-use Rattle.mc_words.specs.View.{View}
+use Rattle.mc_words.specs.hand.View.{View}
 use Rattle.mc_mover.specs.declared.counts.Turn.{Turn}
 use Rattle.mc_mover.specs.declared.counts.Turn.TheVariants.{Idle, Went, Finished}
 

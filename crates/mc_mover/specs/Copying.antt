@@ -1,9 +1,9 @@
 -- Copies of items: each word of the one chunk is read once, and written into the other at its place.
 use Rattle.std.specs.Prelude.{◌≡◌, ℕ, ◌+◌, List, [], ◌∷◌}
 use Rattle.mc_pages.specs.declared.ids.ChunkId.{ChunkId}
-use Rattle.mc_words.specs.Items.{item_with}
-use Rattle.mc_words.specs.View.{View}
-use Rattle.mc_words.specs.Views.{held_word_seen, word_filled}
+use Rattle.mc_words.specs.item.Items.{item_with}
+use Rattle.mc_words.specs.hand.View.{View}
+use Rattle.mc_words.specs.hand.Views.{held_word_seen, word_filled}
 
 -- these words were read of the one chunk, from this place on, and each was written into the copy
 abbrev pub words_copied : ChunkId → ChunkId → ℕ → List ℕ → View → View

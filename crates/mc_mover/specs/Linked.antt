@@ -8,14 +8,14 @@ use Rattle.mc_pages.specs.Changes.{after_clear}
 use Rattle.mc_pages.specs.SlabState.{SlabState}
 use Rattle.mc_stripe.specs.StripeState.{ReadyStripe, place_of}
 use Rattle.mc_core.specs.declared.event.Step.TheVariants as step
-use Rattle.mc_words.specs.View.{View}
-use Rattle.mc_words.specs.Condemning.{key_seen}
-use Rattle.mc_words.specs.Doing.{IsDone, SlabsDoing}
-use Rattle.mc_words.specs.Happens.{Happens}
-use Rattle.mc_words.specs.Lent.{IsLentStripe}
-use Rattle.mc_words.specs.Owner.{Clears}
-use Rattle.mc_words.specs.Sweeping.{SweepsOne}
-use Rattle.mc_words.specs.Views.{stripe_given, stripe_missed, stripe_taken}
+use Rattle.mc_words.specs.hand.View.{View}
+use Rattle.mc_words.specs.item.Removal.{key_seen}
+use Rattle.mc_words.specs.lock.Doing.{IsDone, SlabsDoing}
+use Rattle.mc_words.specs.rule.Happens.{Happens}
+use Rattle.mc_words.specs.lock.Lent.{IsLentStripe}
+use Rattle.mc_words.specs.page.Owner.{Clears}
+use Rattle.mc_words.specs.chunk.Sweeps.{SweepsOne}
+use Rattle.mc_words.specs.hand.Views.{stripe_given, stripe_missed, stripe_taken}
 use Rattle.mc_mover.specs.declared.sweep.Sweep.{Sweep}
 use Rattle.mc_mover.specs.declared.sweep.Sweep.TheVariants.{Done}
 use Rattle.mc_mover.specs.Saving.{BothDoing, Evicts, FailsToEvict, FailsToRescue, Rescues, SweepsToEvict, SweepsToRescue, Sweeping}

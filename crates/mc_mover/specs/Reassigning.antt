@@ -1,8 +1,8 @@
 -- The automover's mode: what is done under the lock of the slabs.
 use Rattle.std.specs.Prelude.{◌≡◌, ℕ}
 use Rattle.mc_core.specs.declared.event.Change.TheVariants as change
-use Rattle.mc_words.specs.Doing.{SlabsDoing}
-use Rattle.mc_words.specs.Reassigning.{ChangesOnce}
+use Rattle.mc_words.specs.lock.Doing.{SlabsDoing}
+use Rattle.mc_words.specs.page.Moves.{ChangesOnce}
 
 -- the automover's mode was set, and nothing else
 abbrev pub SetsMode : ℕ → ℕ → SlabsDoing

@@ -6,11 +6,11 @@ use Rattle.mc_core.specs.declared.event.StripeChange.{StripeChange}
 use Rattle.mc_core.specs.declared.event.StripeChange.TheVariants.{Trim}
 use Rattle.mc_core.specs.Silent.{stripe_after}
 use Rattle.mc_words.specs.declared.hand.Hand.{Hand}
-use Rattle.mc_words.specs.View.{View}
-use Rattle.mc_words.specs.Arenas.{view}
-use Rattle.mc_words.specs.Observers.{number_of}
-use Rattle.mc_words.specs.Doing.{Doing, HoldsStripe}
-use Rattle.mc_words.specs.Views.{stripe_changed}
+use Rattle.mc_words.specs.hand.View.{View}
+use Rattle.mc_words.specs.hand.Arenas.{view}
+use Rattle.mc_words.specs.hand.Observers.{number_of}
+use Rattle.mc_words.specs.lock.Doing.{Doing, HoldsStripe}
+use Rattle.mc_words.specs.hand.Views.{stripe_changed}
 
 -- by the hand of this number the stripe changed so
 abbrev pub Changes : StripeChange → ℕ → ℕ → Doing

@@ -6,7 +6,7 @@ use Rattle.mc_stripe.specs.StripeState.{ReadyStripe, place_of}
 use Rattle.mc_core.specs.Holdings.{key_of, stamp_of}
 use Rattle.mc_core.specs.Past.{Known}
 use Rattle.mc_core.specs.State.{item_at}
-use Rattle.mc_words.specs.View.{View}
+use Rattle.mc_words.specs.hand.View.{View}
 use Rattle.mc_mover.specs.Saving.{Rescues}
 
 -- this item went from the one chunk to the other, under its key and with its stamp

@@ -9,15 +9,15 @@ use Rattle.mc_pages.specs.SlabState.{SlabState, class_at, class_of_page}
 use Rattle.mc_stripe.specs.StripeState.{ReadyStripe}
 use Rattle.mc_stripe.specs.Changes.{after_rescue, used_up}
 use Rattle.mc_core.specs.State.{room_in}
-use Rattle.mc_words.specs.View.{View}
-use Rattle.mc_words.specs.Condemning.{Condemns, FindsHeld}
-use Rattle.mc_words.specs.Doing.{SlabsDoing}
-use Rattle.mc_words.specs.Items.{issue_in, words_in}
-use Rattle.mc_words.specs.Linking.{copy_linked}
-use Rattle.mc_words.specs.Originals.{CondemnsOriginal}
-use Rattle.mc_words.specs.Rescuing.{PassesAll, PopsOff}
-use Rattle.mc_words.specs.Sweeping.{Sweeps, SweepsOne}
-use Rattle.mc_words.specs.Views.{chunk_discarded, chunk_released, stripe_given}
+use Rattle.mc_words.specs.hand.View.{View}
+use Rattle.mc_words.specs.item.Removal.{Condemns, FindsHeld}
+use Rattle.mc_words.specs.lock.Doing.{SlabsDoing}
+use Rattle.mc_words.specs.item.Items.{issue_in, words_in}
+use Rattle.mc_words.specs.item.Links.{copy_linked}
+use Rattle.mc_words.specs.item.Originals.{CondemnsOriginal}
+use Rattle.mc_words.specs.chunk.Copies.{PassesAll, PopsOff}
+use Rattle.mc_words.specs.chunk.Sweeps.{Sweeps, SweepsOne}
+use Rattle.mc_words.specs.hand.Views.{chunk_discarded, chunk_released, stripe_given}
 use Rattle.mc_mover.specs.declared.sweep.Sweep.{Sweep}
 use Rattle.mc_mover.specs.declared.sweep.Sweep.TheVariants.{Due, Done}
 use Rattle.mc_mover.specs.Copying.{Copies}

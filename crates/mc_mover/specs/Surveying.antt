@@ -3,9 +3,9 @@ use Rattle.std.specs.Prelude.{◌≡◌, ℕ, Bool, List, [], ◌∷◌, length,
 use Rattle.std.specs.List.{range_with_len}
 use Rattle.mc_pages.specs.ClassState.{numbers_of}
 use Rattle.mc_pages.specs.SlabState.{SlabState, class_at, totals_of}
-use Rattle.mc_words.specs.View.{View}
-use Rattle.mc_words.specs.Doing.{SlabsDoing}
-use Rattle.mc_words.specs.Sweeping.{Sweeps}
+use Rattle.mc_words.specs.hand.View.{View}
+use Rattle.mc_words.specs.lock.Doing.{SlabsDoing}
+use Rattle.mc_words.specs.chunk.Sweeps.{Sweeps}
 use Rattle.mc_mover.specs.declared.numbers.Survey.{Survey}
 
 -- the dead of these classes were put back, class by class

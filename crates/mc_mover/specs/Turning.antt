@@ -8,11 +8,11 @@ use Rattle.mc_pages.specs.Moves.{after_finish, after_passed, after_wrap, chunk_a
 use Rattle.mc_pages.specs.SlabState.{SlabState, class_at}
 use Rattle.mc_core.specs.declared.event.Change.TheVariants as change
 use Rattle.mc_core.specs.declared.event.Step.TheVariants as step
-use Rattle.mc_words.specs.View.{View}
-use Rattle.mc_words.specs.Cutting.{CutsEach}
-use Rattle.mc_words.specs.Doing.{SlabsDoing}
-use Rattle.mc_words.specs.Happens.{Happens}
-use Rattle.mc_words.specs.Views.{slabs_changed}
+use Rattle.mc_words.specs.hand.View.{View}
+use Rattle.mc_words.specs.page.Cuts.{CutsEach}
+use Rattle.mc_words.specs.lock.Doing.{SlabsDoing}
+use Rattle.mc_words.specs.rule.Happens.{Happens}
+use Rattle.mc_words.specs.hand.Views.{slabs_changed}
 use Rattle.mc_mover.specs.declared.counts.Counts.{Counts}
 use Rattle.mc_mover.specs.declared.counts.Turn.{Turn}
 use Rattle.mc_mover.specs.declared.counts.Turn.TheVariants.{Idle, Went, Finished}

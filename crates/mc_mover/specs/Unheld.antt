@@ -10,9 +10,9 @@ use Rattle.mc_core.specs.declared.event.Step.TheVariants as step
 use Rattle.mc_core.specs.declared.head.Head.{Head}
 use Rattle.mc_core.specs.Columns.{holders}
 use Rattle.mc_core.specs.Head.{is_out}
-use Rattle.mc_words.specs.View.{View}
-use Rattle.mc_words.specs.Happens.{Happens}
-use Rattle.mc_words.specs.Views.{head_seen}
+use Rattle.mc_words.specs.hand.View.{View}
+use Rattle.mc_words.specs.rule.Happens.{Happens}
+use Rattle.mc_words.specs.hand.Views.{head_seen}
 use Rattle.mc_mover.specs.declared.sweep.Sweep.{Sweep}
 use Rattle.mc_mover.specs.Turning.{Section}
 use Rattle.mc_mover.specs.Visiting.{Visits}

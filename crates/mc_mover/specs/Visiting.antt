@@ -9,11 +9,11 @@ use Rattle.mc_core.specs.declared.head.Head.{Head}
 use Rattle.mc_core.specs.declared.event.Step.TheVariants as step
 use Rattle.mc_core.specs.Evictions.{is_linked_unheld}
 use Rattle.mc_core.specs.Head.{is_linked, is_out}
-use Rattle.mc_words.specs.View.{View}
-use Rattle.mc_words.specs.Doing.{SlabsDoing}
-use Rattle.mc_words.specs.Happens.{Happens}
-use Rattle.mc_words.specs.Owner.{Clears, SeesOther, is_unused}
-use Rattle.mc_words.specs.Views.{head_seen}
+use Rattle.mc_words.specs.hand.View.{View}
+use Rattle.mc_words.specs.lock.Doing.{SlabsDoing}
+use Rattle.mc_words.specs.rule.Happens.{Happens}
+use Rattle.mc_words.specs.page.Owner.{Clears, SeesOther, is_unused}
+use Rattle.mc_words.specs.hand.Views.{head_seen}
 use Rattle.mc_mover.specs.declared.sweep.Sweep.{Sweep}
 use Rattle.mc_mover.specs.Linked as linked
 use Rattle.mc_mover.specs.Linked.{VisitsLinked}

@@ -3,12 +3,12 @@ ghost use Rattle.std.specs.Prelude.{◌≡◌, ◌+◌, ◌<◌, ◌≤◌, ◌=
 ghost use Rattle.mc_pages.specs.SlabState.{class_of_page};
 ghost use Rattle.mc_core.specs.Looks.{was_linked};
 ghost use Rattle.mc_core.specs.State.{has_chunk, room_in};
-ghost use Rattle.mc_words.specs.Arenas.{IsHandOf, setup_of, view};
-ghost use Rattle.mc_words.specs.Condemning.{key_read};
-ghost use Rattle.mc_words.specs.Fresh.{IsFreshOf};
-ghost use Rattle.mc_words.specs.Items.{word_read};
-ghost use Rattle.mc_words.specs.Observers.{HasSlabs, fresh_chunk, fresh_key, fresh_room, fresh_stamp, locks_of, slabs_lent};
-ghost use Rattle.mc_words.specs.Views.{held_word_seen, word_filled};
+ghost use Rattle.mc_words.specs.hand.Arenas.{IsHandOf, setup_of, view};
+ghost use Rattle.mc_words.specs.item.Removal.{key_read};
+ghost use Rattle.mc_words.specs.item.Fresh.{IsFreshOf};
+ghost use Rattle.mc_words.specs.item.Items.{word_read};
+ghost use Rattle.mc_words.specs.hand.Observers.{HasSlabs, fresh_chunk, fresh_key, fresh_room, fresh_stamp, locks_of, slabs_lent};
+ghost use Rattle.mc_words.specs.hand.Views.{held_word_seen, word_filled};
 ghost use Rattle.mc_mover.specs.Copying.{Copies};
 
 use mc_pages::ChunkId;

@@ -1,7 +1,7 @@
 //! The end of a turn: at the page's end the pass begins anew, or the move ends.
 ghost use Rattle.std.specs.Prelude.{◌≡◌, is_some, true, None, Some};
-ghost use Rattle.mc_words.specs.Arenas.{IsHandOf, view};
-ghost use Rattle.mc_words.specs.Observers.{HasSlabs, locks_of, slabs_lent};
+ghost use Rattle.mc_words.specs.hand.Arenas.{IsHandOf, view};
+ghost use Rattle.mc_words.specs.hand.Observers.{HasSlabs, locks_of, slabs_lent};
 ghost use Rattle.mc_mover.specs.Acting.{Acts};
 ghost use Rattle.mc_mover.specs.Turning.{EndsTurn, Finishes, IsAtEnd};
 

@@ -7,11 +7,11 @@ ghost use Rattle.mc_core.specs.Evictions.{has_copy};
 ghost use Rattle.mc_core.specs.Holdings.{holding_of, is_of, lose};
 ghost use Rattle.mc_core.specs.Looks.{was_linked};
 ghost use Rattle.mc_core.specs.State.{has_chunk, room_in};
-ghost use Rattle.mc_words.specs.Arenas.{IsHandOf, setup_of, view};
-ghost use Rattle.mc_words.specs.Condemning.{stripe_read};
-ghost use Rattle.mc_words.specs.Fresh.{IsFreshOf};
-ghost use Rattle.mc_words.specs.Observers.{HasSlabs, HasStripe, fresh_chunk, fresh_room, locks_of, slabs_lent, stripe_lent, stripe_number};
-ghost use Rattle.mc_words.specs.Out.{without_stripe};
+ghost use Rattle.mc_words.specs.hand.Arenas.{IsHandOf, setup_of, view};
+ghost use Rattle.mc_words.specs.item.Removal.{stripe_read};
+ghost use Rattle.mc_words.specs.item.Fresh.{IsFreshOf};
+ghost use Rattle.mc_words.specs.hand.Observers.{HasSlabs, HasStripe, fresh_chunk, fresh_room, locks_of, slabs_lent, stripe_lent, stripe_number};
+ghost use Rattle.mc_words.specs.lock.Out.{without_stripe};
 ghost use Rattle.mc_mover.specs.Acting.{ActsOnStripe, EvictsAs, HasBlankCopy, KnowsReason, MovesInto, RescuesAs, SeesDead};
 ghost use Rattle.mc_mover.specs.Saving.{FailsToMove};
 

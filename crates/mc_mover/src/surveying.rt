@@ -1,11 +1,11 @@
 //! Surveys of the slab memory, for statistics and for the automover.
 ghost use Rattle.std.specs.Prelude.{◌≡◌, ◌≤◌, [], length, map, vec_capacity, IfOk, OnErr};
 ghost use Rattle.mc_pages.specs.ClassState.{numbers_of};
-ghost use Rattle.mc_words.specs.Arenas.{IsHandOf, view};
-ghost use Rattle.mc_words.specs.Observers.{HasSlabs, locks_of, number_of, slabs_lent};
-ghost use Rattle.mc_words.specs.Ready.{IsReady};
-ghost use Rattle.mc_words.specs.Refs.{KeepsRefs};
-ghost use Rattle.mc_words.specs.Sweeping.{with_seen};
+ghost use Rattle.mc_words.specs.hand.Arenas.{IsHandOf, view};
+ghost use Rattle.mc_words.specs.hand.Observers.{HasSlabs, locks_of, number_of, slabs_lent};
+ghost use Rattle.mc_words.specs.hand.Ready.{IsReady};
+ghost use Rattle.mc_words.specs.item.Refs.{KeepsRefs};
+ghost use Rattle.mc_words.specs.chunk.Sweeps.{with_seen};
 ghost use Rattle.mc_mover.specs.Acting.{Acts, ActsOnce};
 ghost use Rattle.mc_mover.specs.Surveying.{IsSurvey, Surveys, SweepsClasses, classes_swept};
 

@@ -1,11 +1,11 @@
 //! Turns of the mover.
 ghost use Rattle.std.specs.Prelude.{◌≡◌, ◌≤◌, true, false, length, None, Err, IfOk, OnErr};
 ghost use Rattle.mc_core.specs.Holdings.{has_fresh};
-ghost use Rattle.mc_words.specs.Arenas.{IsHandOf, view};
-ghost use Rattle.mc_words.specs.Idle.{has_no_stripes};
-ghost use Rattle.mc_words.specs.Observers.{HasSlabs, locks_of, number_of, slabs_lent};
-ghost use Rattle.mc_words.specs.Ready.{IsReady};
-ghost use Rattle.mc_words.specs.Refs.{KeepsRefs};
+ghost use Rattle.mc_words.specs.hand.Arenas.{IsHandOf, view};
+ghost use Rattle.mc_words.specs.hand.Idle.{has_no_stripes};
+ghost use Rattle.mc_words.specs.hand.Observers.{HasSlabs, locks_of, number_of, slabs_lent};
+ghost use Rattle.mc_words.specs.hand.Ready.{IsReady};
+ghost use Rattle.mc_words.specs.item.Refs.{KeepsRefs};
 ghost use Rattle.mc_mover.specs.Acting.{Acts, ActsOnce, FindsSlabsHeld, TellsTurn, TellsUntilStopped};
 ghost use Rattle.mc_mover.specs.Answering.{AnswersMove, IsAnswerOf};
 ghost use Rattle.mc_mover.specs.Turning.{LacksMemory, Turns};

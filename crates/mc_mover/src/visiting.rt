@@ -6,9 +6,9 @@ ghost use Rattle.mc_pages.specs.Pages.{is_on_the_move};
 ghost use Rattle.mc_pages.specs.SlabState.{class_at, class_of_page};
 ghost use Rattle.mc_core.specs.Holdings.{has_fresh};
 ghost use Rattle.mc_core.specs.State.{has_chunk, is_class};
-ghost use Rattle.mc_words.specs.Arenas.{IsHandOf, setup_of, view};
-ghost use Rattle.mc_words.specs.Idle.{has_no_stripes};
-ghost use Rattle.mc_words.specs.Observers.{HasSlabs, locks_of, slabs_lent};
+ghost use Rattle.mc_words.specs.hand.Arenas.{IsHandOf, setup_of, view};
+ghost use Rattle.mc_words.specs.hand.Idle.{has_no_stripes};
+ghost use Rattle.mc_words.specs.hand.Observers.{HasSlabs, locks_of, slabs_lent};
 ghost use Rattle.mc_mover.specs.Acting.{Acts};
 ghost use Rattle.mc_mover.specs.Visiting.{LacksCall, Visits};
 

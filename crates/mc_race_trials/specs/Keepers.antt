@@ -3,9 +3,9 @@ use Rattle.std.specs.Prelude.{◌≡◌, ℕ, List, true, All, Option, IfSome}
 use Rattle.mc_core.specs.State.{has_chunk}
 use Rattle.mc_words.specs.declared.arena.Arena.{Arena}
 use Rattle.mc_words.specs.declared.hand.Hand.{Hand}
-use Rattle.mc_words.specs.declared.refs.Hint.{Hint}
-use Rattle.mc_words.specs.Arenas.{setup_of, view}
-use Rattle.mc_words.specs.Observers.{hint_chunk}
+use Rattle.mc_words.specs.declared.item.refs.Hint.{Hint}
+use Rattle.mc_words.specs.hand.Arenas.{setup_of, view}
+use Rattle.mc_words.specs.hand.Observers.{hint_chunk}
 use Rattle.mc_items.specs.declared.refs.Ref.{Ref}
 use Rattle.mc_items.specs.ItemRefs.{AreKept}
 use Rattle.mc_calls.specs.Hands.{IsReadyHandOf}

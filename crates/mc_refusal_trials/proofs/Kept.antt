@@ -8,15 +8,15 @@ use Rattle.mc_core.specs.declared.holding.Holding.{Holding}
 use Rattle.mc_core.specs.Holdings.{has_fresh}
 use Rattle.mc_words.specs.declared.arena.Arena.{Arena}
 use Rattle.mc_words.specs.declared.hand.Hand.{Hand}
-use Rattle.mc_words.specs.declared.locks.Locks.{Locks}
-use Rattle.mc_words.specs.declared.locks.Locks.TheVariants.{Neither, Slabs, Stripe, SlabsLast, StripeLast}
-use Rattle.mc_words.specs.Arenas.{view}
-use Rattle.mc_words.specs.View.{View}
-use Rattle.mc_words.specs.Views.{head_seen, slabs_given, slabs_taken, stripe_given, stripe_taken}
-use Rattle.mc_words.specs.Hands.{AreHandsFrom, AreNewHands}
-use Rattle.mc_words.specs.Out.{is_neither, with_slabs, with_stripe, without_slabs, without_stripe}
-use Rattle.mc_words.specs.Ready.{IsReady}
-use Rattle.mc_words.proofs.Unlocked.{unlocked_from}
+use Rattle.mc_words.specs.declared.lock.locks.Locks.{Locks}
+use Rattle.mc_words.specs.declared.lock.locks.Locks.TheVariants.{Neither, Slabs, Stripe, SlabsLast, StripeLast}
+use Rattle.mc_words.specs.hand.Arenas.{view}
+use Rattle.mc_words.specs.hand.View.{View}
+use Rattle.mc_words.specs.hand.Views.{head_seen, slabs_given, slabs_taken, stripe_given, stripe_taken}
+use Rattle.mc_words.specs.hand.Hands.{AreHandsFrom, AreNewHands}
+use Rattle.mc_words.specs.lock.Out.{is_neither, with_slabs, with_stripe, without_slabs, without_stripe}
+use Rattle.mc_words.specs.hand.Ready.{IsReady}
+use Rattle.mc_words.proofs.Locks.Unlocked.{unlocked_from}
 use Rattle.mc_calls.specs.Hands.{AreHandsOf}
 
 hands_from : (arena : Arena) (number : ℕ) (hands : List Hand) → AreHandsFrom arena number hands → AreHandsOf arena hands

@@ -15,11 +15,11 @@ use Rattle.mc_core.specs.Columns.{IsHandedOut, holds, link_of}
 use Rattle.mc_core.specs.Head.{decode}
 use Rattle.mc_core.specs.Holdings.{words_of}
 use Rattle.mc_core.specs.State.{has_chunk, room_in}
-use Rattle.mc_words.specs.declared.slot.Slot.TheVariants.{OfSlabs}
-use Rattle.mc_words.specs.Joining.{Rule}
-use Rattle.mc_words.specs.Layout.{data_word, head_word, page_word, slabs_word}
-use Rattle.mc_words.specs.Meaning.{Words}
-use Rattle.mc_words.specs.View.{Setup, View}
+use Rattle.mc_words.specs.declared.lock.slot.Slot.TheVariants.{OfSlabs}
+use Rattle.mc_words.specs.rule.Joins.{Rule}
+use Rattle.mc_words.specs.rule.Layout.{data_word, head_word, page_word, slabs_word}
+use Rattle.mc_words.specs.rule.Meaning.{Words}
+use Rattle.mc_words.specs.hand.View.{Setup, View}
 
 -- a chunk's header, as its word has it
 abbrev pub header_in : Setup → List ℕ → ChunkId → Head

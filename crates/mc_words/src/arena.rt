@@ -1,14 +1,20 @@
 //! The arena.
+pub(crate) mod beginning;
+pub(crate) mod creation;
+pub(crate) mod end;
+pub(crate) mod plan;
+pub(crate) mod refusal;
+
 ghost use Rattle.std.specs.Prelude.{◌≡◌, ◌+◌, ◌^◌, ◌<◌, ◌≤◌};
 ghost use Rattle.mc_classes.specs.Classes.{IsSound};
 ghost use Rattle.mc_core.specs.Chunks.{most_issue};
 ghost use Rattle.mc_core.specs.State.{most_of, page_words};
-ghost use Rattle.mc_words.specs.Layout.{data_from, heads_from, pages_from, word_count};
-ghost use Rattle.mc_words.specs.Slots.{slot_count};
+ghost use Rattle.mc_words.specs.rule.Layout.{data_from, heads_from, pages_from, word_count};
+ghost use Rattle.mc_words.specs.lock.Slots.{slot_count};
 
-use crate::contention::Contention;
-use crate::hints::Hints;
-use crate::plan::Plan;
+use crate::arena::plan::Plan;
+use crate::chunk::hints::Hints;
+use crate::lock::contention::Contention;
 use crate::rule::SharedTable;
 use mc_classes::{ClassTable, Config};
 
@@ -43,7 +49,7 @@ pub struct Arena {
 }
 
 impl Arena {
-    ghost use Rattle.mc_words.specs.Arenas.{setup_of};
+    ghost use Rattle.mc_words.specs.hand.Arenas.{setup_of};
 
     /// What it was configured with.
     pub fn config(&self) -> &Config

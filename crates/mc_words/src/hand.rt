@@ -1,8 +1,11 @@
 //! The hands of an arena.
-ghost use Rattle.mc_words.specs.Out.{IsNoted};
-ghost use Rattle.mc_words.specs.Tallies.{IsTallied};
+pub(crate) mod held;
+pub(crate) mod join;
 
-use crate::locks::{Lock, Locks};
+ghost use Rattle.mc_words.specs.lock.Out.{IsNoted};
+ghost use Rattle.mc_words.specs.hand.Tallies.{IsTallied};
+
+use crate::lock::locks::{Lock, Locks};
 use crate::rule::HandSeat;
 
 /// A hand's stamps begin at this times its number.
@@ -30,12 +33,12 @@ pub struct Hand {
 impl Hand {
     ghost use Rattle.std.specs.Prelude.{◌≡◌, ◌≤◌, length};
     ghost use Rattle.mc_core.specs.Holdings.{has_fresh};
-    ghost use Rattle.mc_words.specs.Arenas.{view};
-    ghost use Rattle.mc_words.specs.Happens.{LawfulView};
-    ghost use Rattle.mc_words.specs.Idle.{is_idle, is_unlocked};
-    ghost use Rattle.mc_words.specs.Out.{with_last};
-    ghost use Rattle.mc_words.specs.Slots.{number_of};
-    ghost use Rattle.mc_words.specs.Tallies.{next_stamp};
+    ghost use Rattle.mc_words.specs.hand.Arenas.{view};
+    ghost use Rattle.mc_words.specs.rule.Happens.{LawfulView};
+    ghost use Rattle.mc_words.specs.hand.Idle.{is_idle, is_unlocked};
+    ghost use Rattle.mc_words.specs.lock.Out.{with_last};
+    ghost use Rattle.mc_words.specs.lock.Slots.{number_of};
+    ghost use Rattle.mc_words.specs.hand.Tallies.{next_stamp};
 
     /// How many chunks it holds, 256 at most: fresh ones, and those that it has references to.
     pub fn refs(&self) -> u64

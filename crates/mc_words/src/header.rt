@@ -2,8 +2,8 @@
 ghost use Rattle.std.specs.Prelude.{◌≡◌};
 ghost use Rattle.mc_core.specs.Evictions.{is_linked_unheld};
 ghost use Rattle.mc_core.specs.Head.{decode, is_linked, is_out};
-ghost use Rattle.mc_words.specs.Hinting.{is_there};
-ghost use Rattle.mc_words.specs.Owner.{is_unused};
+ghost use Rattle.mc_words.specs.item.Again.{is_there};
+ghost use Rattle.mc_words.specs.page.Owner.{is_unused};
 
 /// What an issue number is multiplied by.
 pub(crate) const ISSUE_UNIT: u64 = 262_144;

@@ -1,6 +1,9 @@
 //! The rule of the table: its words, the values at home and what the hands know mean a lawful moment of the core.
-use crate::plan::Plan;
-use crate::slot::Slot;
+pub(crate) mod places;
+pub(crate) mod steps;
+
+use crate::arena::plan::Plan;
+use crate::lock::slot::Slot;
 use atomic_table::{Join, Play, Seat, Table, TableRule};
 use std::alloc::Global;
 use std::marker::{Brand, Model};
@@ -11,7 +14,7 @@ pub struct HandView {
 }
 
 impl Model for HandView {
-    ghost use Rattle.mc_words.specs.View.{View, spent_view};
+    ghost use Rattle.mc_words.specs.hand.View.{View, spent_view};
 
     ghost Value = { View };
 
@@ -23,8 +26,8 @@ pub struct LawfulTable;
 
 impl TableRule<Slot, HandView, Plan> for LawfulTable {
     ghost use Rattle.std.specs.Prelude.{◌-◌};
-    ghost use Rattle.mc_words.specs.View.{new_view};
-    ghost use Rattle.mc_words.specs.Joining.{Rule};
+    ghost use Rattle.mc_words.specs.hand.View.{new_view};
+    ghost use Rattle.mc_words.specs.rule.Joins.{Rule};
 
     ghost holds = { Rule };
 
@@ -47,7 +50,7 @@ impl Play<Slot, HandView> for Brand {
 pub struct BothHands;
 
 impl Join<HandView> for BothHands {
-    ghost use Rattle.mc_words.specs.View.{just_made, spent_view};
+    ghost use Rattle.mc_words.specs.hand.View.{just_made, spent_view};
 
     ghost both = { just_made };
 
@@ -58,7 +61,7 @@ impl Join<HandView> for BothHands {
 pub struct ToldOfBoth;
 
 impl Play<Slot, HandView> for ToldOfBoth {
-    ghost use Rattle.mc_words.specs.Joining.{TellsMade};
+    ghost use Rattle.mc_words.specs.rule.Joins.{TellsMade};
 
     ghost then = { TellsMade };
 }
@@ -67,7 +70,7 @@ impl Play<Slot, HandView> for ToldOfBoth {
 pub struct ShownWord;
 
 impl Play<Slot, HandView> for ShownWord {
-    ghost use Rattle.mc_words.specs.Shown.{TellsShown};
+    ghost use Rattle.mc_words.specs.rule.Shown.{TellsShown};
 
     ghost then = { TellsShown };
 }

@@ -4,11 +4,11 @@ use Rattle.std.proofs.lemmas.Bool.{and_parts}
 use Rattle.std.proofs.lemmas.List.{nil_from_length}
 use Rattle.mc_words.specs.declared.arena.Arena.{Arena}
 use Rattle.mc_words.specs.declared.hand.Hand.{Hand}
-use Rattle.mc_words.specs.Arenas.{setup_of, view}
+use Rattle.mc_words.specs.hand.Arenas.{setup_of, view}
 use Rattle.mc_core.specs.Holdings.{has_fresh}
-use Rattle.mc_words.specs.Idle.{is_idle}
-use Rattle.mc_words.specs.Ready.{IsReady}
-use Rattle.mc_words.specs.View.{View}
+use Rattle.mc_words.specs.hand.Idle.{is_idle}
+use Rattle.mc_words.specs.hand.Ready.{IsReady}
+use Rattle.mc_words.specs.hand.View.{View}
 use Rattle.mc_script.specs.declared.command.Command.{Command}
 use Rattle.mc_workers.specs.declared.threads.Joined.{Joined}
 use Rattle.mc_workers.specs.declared.threads.Served.{Served}

@@ -13,11 +13,11 @@ use Rattle.mc_core.specs.declared.holding.Holding.{Holding}
 use Rattle.mc_core.specs.Columns.{holds}
 use Rattle.mc_core.specs.Holdings.{holding_of, is_of, lose}
 use Rattle.mc_core.proofs.Holders.{holds-cons, holds-lose, holds-push}
-use Rattle.mc_words.specs.View.{View}
-use Rattle.mc_words.specs.Views.{chunk_released}
-use Rattle.mc_words.specs.Idle.{is_idle}
-use Rattle.mc_words.specs.Ready.{IsReady}
-use Rattle.mc_words.specs.Refs.{KeepsHeld, KeepsRefs}
+use Rattle.mc_words.specs.hand.View.{View}
+use Rattle.mc_words.specs.hand.Views.{chunk_released}
+use Rattle.mc_words.specs.hand.Idle.{is_idle}
+use Rattle.mc_words.specs.hand.Ready.{IsReady}
+use Rattle.mc_words.specs.item.Refs.{KeepsHeld, KeepsRefs}
 use Rattle.mc_items.specs.declared.refs.Ref.{Ref}
 use Rattle.mc_items.specs.ItemRefs.{AreKept, IsItemRef, item_chunk, refers_to}
 use Rattle.mc_items.specs.Keeping.{HoldsAsOften, HoldsLess, HoldsTheSame, HoldsToo, StaysItemRef, holding_by}

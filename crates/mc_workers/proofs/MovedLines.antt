@@ -5,9 +5,9 @@ use Rattle.std.proofs.lemmas.List.Elements.{filter_more}
 use Rattle.mc_classes.specs.Classes.{Classes}
 use Rattle.mc_words.specs.declared.arena.Arena.{Arena}
 use Rattle.mc_words.specs.declared.hand.Hand.{Hand}
-use Rattle.mc_words.specs.Arenas.{IsHandOf, setup_of, view}
-use Rattle.mc_words.specs.Observers.{number_of}
-use Rattle.mc_words.specs.Ready.{IsReady}
+use Rattle.mc_words.specs.hand.Arenas.{IsHandOf, setup_of, view}
+use Rattle.mc_words.specs.hand.Observers.{number_of}
+use Rattle.mc_words.specs.hand.Ready.{IsReady}
 use Rattle.mc_script.specs.declared.command.Command.{Command}
 use Rattle.mc_workers.specs.declared.mover.Mover.{Mover}
 use Rattle.mc_workers.specs.declared.mover_reply.MoverReply.{MoverReply}

@@ -4,10 +4,10 @@ use Rattle.std.specs.Option.{option_map, option_map_or}
 use Rattle.std.proofs.lemmas.List.Elements.{filter_more}
 use Rattle.mc_words.specs.declared.arena.Arena.{Arena}
 use Rattle.mc_words.specs.declared.hand.Hand.{Hand}
-use Rattle.mc_words.specs.Arenas.{IsHandOf, setup_of, view}
-use Rattle.mc_words.specs.Observers.{number_of}
-use Rattle.mc_words.specs.Ready.{IsReady}
-use Rattle.mc_words.specs.View.{Setup}
+use Rattle.mc_words.specs.hand.Arenas.{IsHandOf, setup_of, view}
+use Rattle.mc_words.specs.hand.Observers.{number_of}
+use Rattle.mc_words.specs.hand.Ready.{IsReady}
+use Rattle.mc_words.specs.hand.View.{Setup}
 use Rattle.mc_items.specs.ItemRefs.{AreKept}
 use Rattle.mc_items.specs.declared.refs.Ref.{Ref}
 use Rattle.mc_script.specs.declared.command.Command.{Command}

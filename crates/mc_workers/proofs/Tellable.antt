@@ -20,14 +20,14 @@ use Rattle.mc_core.proofs.LawKept.{lawful_events}
 use Rattle.mc_core.proofs.Listed.{per_page_is}
 use Rattle.mc_core.proofs.OfTable.{class_count}
 use Rattle.mc_watch.specs.Texts.{AreCounts}
-use Rattle.mc_words.specs.View.{Setup, View}
-use Rattle.mc_words.specs.Doing.{HoldsSlabs}
-use Rattle.mc_words.specs.Happens.{event_of}
-use Rattle.mc_words.specs.Owner.{PutsBack}
-use Rattle.mc_words.specs.Sweeping.{SeesHeaders, Sweeps, SweepsEach, SweepsOne}
-use Rattle.mc_words.specs.Waiting.{WaitsForSlabs}
-use Rattle.mc_words.proofs.Lent.{lent_slabs}
-use Rattle.mc_words.proofs.TakeAndGive.{held_from}
+use Rattle.mc_words.specs.hand.View.{Setup, View}
+use Rattle.mc_words.specs.lock.Doing.{HoldsSlabs}
+use Rattle.mc_words.specs.rule.Happens.{event_of}
+use Rattle.mc_words.specs.page.Owner.{PutsBack}
+use Rattle.mc_words.specs.chunk.Sweeps.{SeesHeaders, Sweeps, SweepsEach, SweepsOne}
+use Rattle.mc_words.specs.lock.Wait.{WaitsForSlabs}
+use Rattle.mc_words.proofs.Locks.Lent.{lent_slabs}
+use Rattle.mc_words.proofs.Locks.TakeAndGive.{held_from}
 use Rattle.mc_mover.specs.declared.numbers.Survey.{Survey}
 use Rattle.mc_mover.specs.Surveying.{IsSurvey, Surveys, SweepsClasses, classes_swept, free_in, pages_in}
 use Rattle.mc_mover.proofs.HoldsSlabs.{wait_keeps}

@@ -6,8 +6,8 @@ use Rattle.mc_pages.specs.declared.moves.Found.TheVariants.{Cleared, Rescued, Ev
 use Rattle.mc_pages.specs.SlabState.{SlabState}
 use Rattle.mc_core.specs.InOrder.{IsOfTable}
 use Rattle.mc_core.proofs.Listed.{per_page_is, source_of_move}
-use Rattle.mc_words.specs.View.{View}
-use Rattle.mc_words.specs.Doing.{HoldsSlabs}
+use Rattle.mc_words.specs.hand.View.{View}
+use Rattle.mc_words.specs.lock.Doing.{HoldsSlabs}
 use Rattle.mc_mover.specs.declared.counts.Counts as mover
 use Rattle.mc_mover.specs.declared.counts.Turn.{Turn}
 use Rattle.mc_mover.specs.declared.counts.Turn.TheVariants.{Idle, Went, Finished}

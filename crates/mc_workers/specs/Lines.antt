@@ -2,9 +2,9 @@
 use Rattle.std.specs.Prelude.{◌≡◌, ℕ, List, [], ◌∷◌, ◌++◌, map}
 use Rattle.std.specs.Option.{option_map_or}
 use Rattle.mc_words.specs.declared.hand.Hand.{Hand}
-use Rattle.mc_words.specs.Arenas.{view}
-use Rattle.mc_words.specs.View.{Setup, View}
-use Rattle.mc_words.specs.Views.{chunk_released}
+use Rattle.mc_words.specs.hand.Arenas.{view}
+use Rattle.mc_words.specs.hand.View.{Setup, View}
+use Rattle.mc_words.specs.hand.Views.{chunk_released}
 use Rattle.mc_items.specs.declared.refs.Ref.{Ref}
 use Rattle.mc_items.specs.ItemRefs.{item_chunk}
 use Rattle.mc_script.specs.declared.command.Command.{Command}

@@ -2,7 +2,7 @@
 use Rattle.std.specs.Prelude.{ℕ, List}
 use Rattle.mc_words.specs.declared.arena.Arena.{Arena}
 use Rattle.mc_words.specs.declared.hand.Hand.{Hand}
-use Rattle.mc_words.specs.Arenas.{setup_of, view}
+use Rattle.mc_words.specs.hand.Arenas.{setup_of, view}
 use Rattle.mc_items.specs.declared.refs.Ref.{Ref}
 use Rattle.mc_script.specs.declared.command.Command.{Command}
 use Rattle.mc_workers.specs.declared.mover.Mover.{Mover}

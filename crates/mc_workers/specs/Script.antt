@@ -5,9 +5,9 @@ use Rattle.mc_classes.specs.Classes.{Classes}
 use Rattle.mc_core.specs.InOrder.{IsOfTable}
 use Rattle.mc_words.specs.declared.arena.Arena.{Arena}
 use Rattle.mc_words.specs.declared.hand.Hand.{Hand}
-use Rattle.mc_words.specs.Arenas.{setup_of}
-use Rattle.mc_words.specs.Doing.{SlabsDoing}
-use Rattle.mc_words.specs.Hands.{AreHandsFrom, IsMadeWith, IsNewHand}
+use Rattle.mc_words.specs.hand.Arenas.{setup_of}
+use Rattle.mc_words.specs.lock.Doing.{SlabsDoing}
+use Rattle.mc_words.specs.hand.Hands.{AreHandsFrom, IsMadeWith, IsNewHand}
 use Rattle.mc_mover.specs.declared.numbers.Survey.{Survey}
 use Rattle.mc_mover.specs.Acting.{ActsOnce}
 use Rattle.mc_mover.specs.Reassigning.{SetsMode}

@@ -2,11 +2,11 @@
 use Rattle.std.specs.Prelude.{◌≡◌, ◌⊎◌, ℕ, ◌+◌, true, List, [], ◌∷◌, ◌++◌}
 use Rattle.mc_words.specs.declared.arena.Arena.{Arena}
 use Rattle.mc_words.specs.declared.hand.Hand.{Hand}
-use Rattle.mc_words.specs.Arenas.{IsHandOf, setup_of, view}
-use Rattle.mc_words.specs.Idle.{is_idle}
-use Rattle.mc_words.specs.Joining.{Agrees}
-use Rattle.mc_words.specs.Ready.{IsReady}
-use Rattle.mc_words.specs.View.{Setup, both_views}
+use Rattle.mc_words.specs.hand.Arenas.{IsHandOf, setup_of, view}
+use Rattle.mc_words.specs.hand.Idle.{is_idle}
+use Rattle.mc_words.specs.rule.Joins.{Agrees}
+use Rattle.mc_words.specs.hand.Ready.{IsReady}
+use Rattle.mc_words.specs.hand.View.{Setup, both_views}
 use Rattle.mc_script.specs.declared.command.Command.{Command}
 use Rattle.mc_workers.specs.declared.threads.Joined.{Joined}
 use Rattle.mc_workers.specs.declared.threads.Served.{Served}

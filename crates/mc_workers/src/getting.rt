@@ -1,9 +1,9 @@
 //! Lines that read a key's item.
 ghost use Rattle.std.specs.Prelude.{◌≡◌, IfOk};
-ghost use Rattle.mc_words.specs.Arenas.{IsHandOf, setup_of, view};
-ghost use Rattle.mc_words.specs.Observers.{number_of};
-ghost use Rattle.mc_words.specs.Ready.{IsReady};
-ghost use Rattle.mc_words.specs.Refs.{KeepsRefs};
+ghost use Rattle.mc_words.specs.hand.Arenas.{IsHandOf, setup_of, view};
+ghost use Rattle.mc_words.specs.hand.Observers.{number_of};
+ghost use Rattle.mc_words.specs.hand.Ready.{IsReady};
+ghost use Rattle.mc_words.specs.item.Refs.{KeepsRefs};
 ghost use Rattle.mc_items.specs.Keeping.{HoldsAsOften};
 ghost use Rattle.mc_workers.specs.Serving.{AnswersGet};
 

@@ -1,9 +1,9 @@
 //! Lines that take and give back references which the worker keeps meanwhile.
 ghost use Rattle.std.specs.Prelude.{◌≡◌, All, IfOk, IfSome, None, OnErr, true};
-ghost use Rattle.mc_words.specs.Arenas.{IsHandOf, view};
-ghost use Rattle.mc_words.specs.Idle.{is_idle};
-ghost use Rattle.mc_words.specs.Observers.{number_of};
-ghost use Rattle.mc_words.specs.Ready.{IsReady};
+ghost use Rattle.mc_words.specs.hand.Arenas.{IsHandOf, view};
+ghost use Rattle.mc_words.specs.hand.Idle.{is_idle};
+ghost use Rattle.mc_words.specs.hand.Observers.{number_of};
+ghost use Rattle.mc_words.specs.hand.Ready.{IsReady};
 ghost use Rattle.mc_items.specs.ItemRefs.{AreKept};
 ghost use Rattle.mc_workers.specs.Kept.{IsLastAt, IsToOther};
 ghost use Rattle.mc_workers.specs.Lines.{all_released};

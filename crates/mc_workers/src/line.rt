@@ -1,10 +1,10 @@
 //! One line of a worker, on its hand.
 ghost use Rattle.std.specs.Prelude.{◌≡◌, IfOk, OnErr, true};
 ghost use Rattle.mc_script.specs.Command.{IsValid};
-ghost use Rattle.mc_words.specs.Arenas.{IsHandOf, setup_of, view};
-ghost use Rattle.mc_words.specs.Observers.{number_of};
-ghost use Rattle.mc_words.specs.Ready.{IsReady};
-ghost use Rattle.mc_words.specs.Refs.{KeepsRefs};
+ghost use Rattle.mc_words.specs.hand.Arenas.{IsHandOf, setup_of, view};
+ghost use Rattle.mc_words.specs.hand.Observers.{number_of};
+ghost use Rattle.mc_words.specs.hand.Ready.{IsReady};
+ghost use Rattle.mc_words.specs.item.Refs.{KeepsRefs};
 ghost use Rattle.mc_items.specs.ItemRefs.{AreKept};
 ghost use Rattle.mc_items.specs.Keeping.{HoldsAsOften, HoldsTheSame};
 ghost use Rattle.mc_workers.specs.Asking.{is_workers};

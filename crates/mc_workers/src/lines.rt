@@ -2,10 +2,10 @@
 ghost use Rattle.std.specs.Prelude.{◌≡◌, [], All, length, OnOk, Some, true};
 ghost use Rattle.std.specs.Option.{option_map};
 ghost use Rattle.mc_script.specs.Command.{IsValid};
-ghost use Rattle.mc_words.specs.Arenas.{IsHandOf, setup_of, view};
-ghost use Rattle.mc_words.specs.Idle.{is_idle};
-ghost use Rattle.mc_words.specs.Observers.{number_of};
-ghost use Rattle.mc_words.specs.Ready.{IsReady};
+ghost use Rattle.mc_words.specs.hand.Arenas.{IsHandOf, setup_of, view};
+ghost use Rattle.mc_words.specs.hand.Idle.{is_idle};
+ghost use Rattle.mc_words.specs.hand.Observers.{number_of};
+ghost use Rattle.mc_words.specs.hand.Ready.{IsReady};
 ghost use Rattle.mc_items.specs.ItemRefs.{AreKept};
 ghost use Rattle.mc_workers.specs.Asking.{asked_by, is_asked_by, is_workers, lines_of};
 ghost use Rattle.mc_workers.specs.Gates.{Passed, PassedEach};

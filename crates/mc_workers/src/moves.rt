@@ -1,9 +1,9 @@
 //! All lines of the mover, in order.
 ghost use Rattle.std.specs.Prelude.{◌≡◌, [], All, length, OnOk, false};
 ghost use Rattle.mc_script.specs.Command.{IsValid};
-ghost use Rattle.mc_words.specs.Arenas.{IsHandOf, setup_of, view};
-ghost use Rattle.mc_words.specs.Observers.{number_of};
-ghost use Rattle.mc_words.specs.Ready.{IsReady};
+ghost use Rattle.mc_words.specs.hand.Arenas.{IsHandOf, setup_of, view};
+ghost use Rattle.mc_words.specs.hand.Observers.{number_of};
+ghost use Rattle.mc_words.specs.hand.Ready.{IsReady};
 ghost use Rattle.mc_workers.specs.Asking.{is_movers, is_workers, lines_of_mover};
 ghost use Rattle.mc_workers.specs.Gates.{Passed, PassedEach};
 ghost use Rattle.mc_workers.specs.Moves.{MovesLines};

@@ -2,8 +2,8 @@
 ghost use Rattle.std.specs.Prelude.{◌≡◌, ◌≤◌, [], All, IfOk, None};
 ghost use Rattle.mc_classes.specs.Refusals.{refusal_of};
 ghost use Rattle.mc_script.specs.Command.{IsValid};
-ghost use Rattle.mc_words.specs.Arenas.{IsHandOf, view};
-ghost use Rattle.mc_words.specs.Ready.{IsReady};
+ghost use Rattle.mc_words.specs.hand.Arenas.{IsHandOf, view};
+ghost use Rattle.mc_words.specs.hand.Ready.{IsReady};
 ghost use Rattle.mc_workers.specs.Asking.{greatest_worker, worker_of};
 ghost use Rattle.mc_workers.specs.Script.{IsOpened, ServesScript, TellsAll};
 

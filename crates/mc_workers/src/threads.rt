@@ -2,10 +2,10 @@
 ghost use Rattle.std.specs.Prelude.{◌≡◌, ◌≢◌, ◌≤◌, ◌+◌, [], ◌∷◌, All, Err, IfOk, IfSome, None, Ok, true, vec_len};
 ghost use Rattle.std.specs.Thread.{IsSync};
 ghost use Rattle.mc_script.specs.Command.{IsValid};
-ghost use Rattle.mc_words.specs.Arenas.{IsHandOf, view};
-ghost use Rattle.mc_words.specs.Hands.{AreHandsFrom, IsNewHand};
-ghost use Rattle.mc_words.specs.Idle.{is_idle};
-ghost use Rattle.mc_words.specs.Ready.{IsReady};
+ghost use Rattle.mc_words.specs.hand.Arenas.{IsHandOf, view};
+ghost use Rattle.mc_words.specs.hand.Hands.{AreHandsFrom, IsNewHand};
+ghost use Rattle.mc_words.specs.hand.Idle.{is_idle};
+ghost use Rattle.mc_words.specs.hand.Ready.{IsReady};
 ghost use Rattle.mc_workers.specs.Threads.{AreDone, IsMoved, IsServed, JoinsBoth};
 
 use crate::ended::Ended;

@@ -3,9 +3,9 @@ ghost use Rattle.std.specs.Prelude.{◌≡◌, ◌≢◌, ◌≤◌, ◌^◌, If
 ghost use Rattle.mc_machine.specs.Mover.{AreAtMost};
 ghost use Rattle.mc_mover.specs.Telling.{counts_in};
 ghost use Rattle.mc_mover.specs.Turning.{AreBelow};
-ghost use Rattle.mc_words.specs.Arenas.{IsHandOf, view};
-ghost use Rattle.mc_words.specs.Observers.{number_of};
-ghost use Rattle.mc_words.specs.Ready.{IsReady};
+ghost use Rattle.mc_words.specs.hand.Arenas.{IsHandOf, view};
+ghost use Rattle.mc_words.specs.hand.Observers.{number_of};
+ghost use Rattle.mc_words.specs.hand.Ready.{IsReady};
 ghost use Rattle.mc_workers.specs.Moving.{DoesTurns, RunsOutOfTurns, counts_with, ending_of};
 
 use crate::ended::Ended;

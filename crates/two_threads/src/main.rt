@@ -6,7 +6,7 @@
 #![tactic(auto)]
 
 ghost use Rattle.std.specs.Prelude.{◌≡◌, [], ◌∷◌, IfSome};
-ghost use Rattle.mc_words.specs.Hands.{IsNewHand};
+ghost use Rattle.mc_words.specs.hand.Hands.{IsNewHand};
 
 use mc_classes::Config;
 use mc_items::{delete, get, read, release, set};

@@ -1,7 +1,7 @@
 //! Calls on the arena whose conditions are tested when they are made.
 ghost use Rattle.std.specs.Prelude.{◌≡◌, Some, IfSome, IfOk};
 ghost use Rattle.mc_core.specs.State.{has_chunk, is_class};
-ghost use Rattle.mc_words.specs.Arenas.{IsHandOf, setup_of, view};
+ghost use Rattle.mc_words.specs.hand.Arenas.{IsHandOf, setup_of, view};
 ghost use Rattle.mc_arena_trials.specs.Hands.{AreHandsOf};
 
 use super::FOUR_CLASSES;

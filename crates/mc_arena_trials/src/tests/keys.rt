@@ -1,6 +1,6 @@
 //! Keys that lead nowhere: they are looked up and deleted all the same, which their stripes note.
 ghost use Rattle.std.specs.Prelude.{◌≡◌, ◌<◌, ◌%◌, true, None, Some, slice_index_or, IfSome};
-ghost use Rattle.mc_words.specs.Arenas.{IsHandOf, setup_of, view};
+ghost use Rattle.mc_words.specs.hand.Arenas.{IsHandOf, setup_of, view};
 
 use super::calls::{next_hand, opened};
 use super::{assert_equal, assert_same};

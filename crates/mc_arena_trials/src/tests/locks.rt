@@ -1,6 +1,6 @@
 //! Locks: one hand has each, and the others are told so; what is lost with a hand stays held.
 ghost use Rattle.std.specs.Prelude.{IfSome};
-ghost use Rattle.mc_words.specs.Arenas.{IsHandOf};
+ghost use Rattle.mc_words.specs.hand.Arenas.{IsHandOf};
 ghost use Rattle.mc_arena_trials.specs.Hands.{AreHandsOf};
 
 use super::calls::{

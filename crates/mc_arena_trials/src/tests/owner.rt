@@ -1,6 +1,6 @@
 //! The owner's pass: pages that are granted and cut, and chunks that go out and come back.
 ghost use Rattle.std.specs.Prelude.{◌≡◌, IfOk, Some};
-ghost use Rattle.mc_words.specs.Arenas.{IsHandOf, view};
+ghost use Rattle.mc_words.specs.hand.Arenas.{IsHandOf, view};
 
 use super::calls::{first_free, give, go_round, grow_page, is_worn, sweep_around};
 use super::{FOUR_CLASSES, assert_equal, assert_same};

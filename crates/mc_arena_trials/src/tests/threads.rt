@@ -2,8 +2,8 @@
 ghost use Rattle.std.specs.Prelude.{◌≡◌, IfSome};
 ghost use Rattle.mc_arena_trials.specs.Hands.{AreHandsOf};
 ghost use Rattle.std.specs.Thread.{IsSync};
-ghost use Rattle.mc_words.specs.Arenas.{IsHandOf, setup_of, view};
-ghost use Rattle.mc_words.specs.Fresh.{IsFreshOf};
+ghost use Rattle.mc_words.specs.hand.Arenas.{IsHandOf, setup_of, view};
+ghost use Rattle.mc_words.specs.item.Fresh.{IsFreshOf};
 ghost use Rattle.mc_core.specs.State.{is_class};
 
 use super::calls::{give, grow_page, has_chunk, head, is_class, listed_free, next_hand, opened};

@@ -1,5 +1,5 @@
 //! Items that are set, looked up and given up, and what their headers are meanwhile.
-ghost use Rattle.mc_words.specs.Arenas.{IsHandOf, view};
+ghost use Rattle.mc_words.specs.hand.Arenas.{IsHandOf, view};
 ghost use Rattle.mc_items.specs.ItemRefs.{IsItemRef};
 ghost use Rattle.mc_calls.specs.Hands.{IsReadyHandOf};
 

@@ -1,8 +1,8 @@
 //! References that are had again by hints.
 ghost use Rattle.std.specs.Prelude.{◌≡◌, true, IfOk};
 ghost use Rattle.mc_core.specs.State.{has_chunk};
-ghost use Rattle.mc_words.specs.Arenas.{setup_of};
-ghost use Rattle.mc_words.specs.Observers.{hint_chunk};
+ghost use Rattle.mc_words.specs.hand.Arenas.{setup_of};
+ghost use Rattle.mc_words.specs.hand.Observers.{hint_chunk};
 ghost use Rattle.mc_calls.specs.Hands.{IsReadyHandOf};
 
 use super::calls::Getter;

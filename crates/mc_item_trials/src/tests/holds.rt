@@ -1,5 +1,5 @@
 //! A reference keeps the words of its item, whatever is stored meanwhile.
-ghost use Rattle.mc_words.specs.Arenas.{view};
+ghost use Rattle.mc_words.specs.hand.Arenas.{view};
 ghost use Rattle.mc_items.specs.ItemRefs.{IsItemRef};
 ghost use Rattle.mc_calls.specs.Hands.{IsReadyHandOf};
 

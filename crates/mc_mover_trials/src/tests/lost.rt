@@ -1,6 +1,6 @@
 //! Hands that are lost with what they have: a value stays out with its lock, and a chunk stays held.
 ghost use Rattle.std.specs.Prelude.{IfOk};
-ghost use Rattle.mc_words.specs.Arenas.{IsHandOf};
+ghost use Rattle.mc_words.specs.hand.Arenas.{IsHandOf};
 ghost use Rattle.mc_calls.specs.Hands.{IsReadyHandOf};
 
 use super::moves::try_turn_by;

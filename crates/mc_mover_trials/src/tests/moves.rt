@@ -1,5 +1,5 @@
 //! Calls of the mover, of hands that may make any.
-ghost use Rattle.mc_words.specs.Arenas.{view};
+ghost use Rattle.mc_words.specs.hand.Arenas.{view};
 ghost use Rattle.mc_items.specs.Keeping.{HoldsTheSame};
 ghost use Rattle.mc_calls.specs.Hands.{IsReadyHandOf};
 

@@ -2,8 +2,8 @@
 //! item tells its key and stamp, so a word of another item would be seen.
 ghost use Rattle.std.specs.Prelude.{◌≡◌, true};
 ghost use Rattle.mc_core.specs.State.{has_chunk};
-ghost use Rattle.mc_words.specs.Arenas.{setup_of, view};
-ghost use Rattle.mc_words.specs.Observers.{hint_chunk};
+ghost use Rattle.mc_words.specs.hand.Arenas.{setup_of, view};
+ghost use Rattle.mc_words.specs.hand.Observers.{hint_chunk};
 ghost use Rattle.mc_items.specs.ItemRefs.{IsItemRef};
 ghost use Rattle.mc_items.specs.Keeping.{HoldsTheSame};
 ghost use Rattle.mc_calls.specs.Hands.{IsIdleHandOf, IsReadyHandOf};

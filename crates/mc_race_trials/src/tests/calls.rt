@@ -1,6 +1,6 @@
 //! Calls of hands that may make any, and which refs they keep.
-ghost use Rattle.mc_words.specs.Arenas.{view};
-ghost use Rattle.mc_words.specs.Refs.{KeepsRefs};
+ghost use Rattle.mc_words.specs.hand.Arenas.{view};
+ghost use Rattle.mc_words.specs.item.Refs.{KeepsRefs};
 ghost use Rattle.mc_items.specs.Keeping.{HoldsAsOften, HoldsTheSame};
 ghost use Rattle.mc_calls.specs.Hands.{IsReadyHandOf};
 

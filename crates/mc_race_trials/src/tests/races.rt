@@ -8,12 +8,12 @@ ghost use Rattle.mc_core.specs.Evictions.{has_copy};
 ghost use Rattle.mc_core.specs.Holdings.{has_fresh};
 ghost use Rattle.mc_core.specs.Looks.{was_linked};
 ghost use Rattle.mc_core.specs.State.{has_chunk, is_class};
-ghost use Rattle.mc_words.specs.Arenas.{IsHandOf, setup_of, view};
-ghost use Rattle.mc_words.specs.Condemning.{stripe_read};
-ghost use Rattle.mc_words.specs.Fresh.{IsFreshOf};
-ghost use Rattle.mc_words.specs.Idle.{has_no_stripes};
-ghost use Rattle.mc_words.specs.Lent.{IsLentStripe};
-ghost use Rattle.mc_words.specs.Observers.{HasSlabs, HasStripe, fresh_chunk, fresh_room, slabs_lent, stripe_lent, stripe_number};
+ghost use Rattle.mc_words.specs.hand.Arenas.{IsHandOf, setup_of, view};
+ghost use Rattle.mc_words.specs.item.Removal.{stripe_read};
+ghost use Rattle.mc_words.specs.item.Fresh.{IsFreshOf};
+ghost use Rattle.mc_words.specs.hand.Idle.{has_no_stripes};
+ghost use Rattle.mc_words.specs.lock.Lent.{IsLentStripe};
+ghost use Rattle.mc_words.specs.hand.Observers.{HasSlabs, HasStripe, fresh_chunk, fresh_room, slabs_lent, stripe_lent, stripe_number};
 ghost use Rattle.mc_mover.specs.Acting.{HasBlankCopy, KnowsReason};
 
 use mc_classes::ClassId;

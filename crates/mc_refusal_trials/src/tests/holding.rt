@@ -1,6 +1,6 @@
 //! Items that are held while others act.
 ghost use Rattle.std.specs.Prelude.{IfSome};
-ghost use Rattle.mc_words.specs.Arenas.{view};
+ghost use Rattle.mc_words.specs.hand.Arenas.{view};
 ghost use Rattle.mc_items.specs.ItemRefs.{IsItemRef};
 ghost use Rattle.mc_calls.specs.Hands.{IsReadyHandOf};
 

@@ -2,7 +2,7 @@
 ghost use Rattle.std.specs.Prelude.{◌≡◌, Some};
 ghost use Rattle.mc_pages.specs.SlabState.{IsClass};
 ghost use Rattle.mc_core.specs.State.{is_class};
-ghost use Rattle.mc_words.specs.Arenas.{IsHandOf, setup_of, view};
+ghost use Rattle.mc_words.specs.hand.Arenas.{IsHandOf, setup_of, view};
 ghost use Rattle.mc_calls.specs.Hands.{IsReadyHandOf};
 
 use super::snapshot::{CLASSES, ENTRIES, LISTED, chunk_number, entry_number, note, note_move};

@@ -1,8 +1,8 @@
 //! A row fails where a refused call left what it may not.
 ghost use Rattle.std.specs.Prelude.{◌≡◌, true, IfSome};
 ghost use Rattle.mc_core.specs.State.{has_chunk};
-ghost use Rattle.mc_words.specs.Arenas.{setup_of};
-ghost use Rattle.mc_words.specs.Observers.{hint_chunk};
+ghost use Rattle.mc_words.specs.hand.Arenas.{setup_of};
+ghost use Rattle.mc_words.specs.hand.Observers.{hint_chunk};
 ghost use Rattle.mc_calls.specs.Hands.{IsReadyHandOf};
 
 use super::calls::{Answer, Call};

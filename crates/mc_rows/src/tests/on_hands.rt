@@ -1,7 +1,7 @@
 //! Scripts on hands of the arena, line after line on one thread: they write what the serial run writes.
 ghost use Rattle.std.specs.Prelude.{◌≤◌, All, IfOk};
 ghost use Rattle.mc_script.specs.Command.{IsValid};
-ghost use Rattle.mc_words.specs.Hands.{AreHandsFrom};
+ghost use Rattle.mc_words.specs.hand.Hands.{AreHandsFrom};
 ghost use Rattle.mc_rows.specs.Seats.{IsReadyHand, IsSeat};
 
 use super::Played;

@@ -1,8 +1,8 @@
 //! Seats at an arena: a hand for each worker, with the references that it keeps, and one for the mover.
 ghost use Rattle.std.specs.Prelude.{◌≡◌, [], All, IfOk, false, is_some, true};
 ghost use Rattle.mc_script.specs.Command.{IsValid};
-ghost use Rattle.mc_words.specs.Arenas.{view};
-ghost use Rattle.mc_words.specs.Hands.{AreHandsFrom};
+ghost use Rattle.mc_words.specs.hand.Arenas.{view};
+ghost use Rattle.mc_words.specs.hand.Hands.{AreHandsFrom};
 ghost use Rattle.mc_workers.specs.Asking.{is_workers};
 ghost use Rattle.mc_rows.specs.Seats.{IsReadyHand, IsSeat};
 

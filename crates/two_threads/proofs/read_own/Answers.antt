@@ -3,8 +3,8 @@ use Rattle.std.specs.Result.{result_ok}
 use Rattle.std.proofs.lemmas.List.Elements.{Contains-push}
 use Rattle.std.proofs.lemmas.Result.{IfOk-weaker}
 use Rattle.mc_core.specs.Past.{Saying}
-use Rattle.mc_words.specs.Arenas.{view}
-use Rattle.mc_words.specs.Items.{item_with}
+use Rattle.mc_words.specs.hand.Arenas.{view}
+use Rattle.mc_words.specs.item.Items.{item_with}
 use Rattle.mc_items.specs.ItemRefs.{item_key, item_stamp}
 use Rattle.mc_items.specs.Keeping.{AreSaid}
 use Rattle.two_threads.proofs.read_own.Goals as goal

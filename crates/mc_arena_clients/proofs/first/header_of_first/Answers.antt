@@ -6,11 +6,11 @@ use Rattle.mc_core.specs.Chunks.{most_issue}
 use Rattle.mc_core.specs.Head.{code, decode}
 use Rattle.mc_core.specs.declared.event.Step.TheVariants as step
 use Rattle.mc_core.specs.State.{is_class}
-use Rattle.mc_words.specs.Happens.{Happens}
-use Rattle.mc_words.specs.Owner.{PopsFirst}
-use Rattle.mc_words.specs.View.{Setup, View}
-use Rattle.mc_words.specs.Views.{head_seen}
-use Rattle.mc_words.specs.declared.held.Fresh.{Fresh}
+use Rattle.mc_words.specs.rule.Happens.{Happens}
+use Rattle.mc_words.specs.page.Owner.{PopsFirst}
+use Rattle.mc_words.specs.hand.View.{Setup, View}
+use Rattle.mc_words.specs.hand.Views.{head_seen}
+use Rattle.mc_words.specs.declared.hand.held.Fresh.{Fresh}
 use Rattle.mc_arena_clients.specs.Preparing.{first_out}
 use Rattle.mc_arena_clients.proofs.Popped.{header_is, start_left, worn_start}
 use Rattle.mc_arena_clients.proofs.first.header_of_first.Goals as goal

@@ -2,9 +2,9 @@ use Rattle.std.proofs.Common.{◌≡◌, ◌∙◌, ℕ, Option, IfSome, ap, sub
 use Rattle.mc_pages.specs.Changes.{after_pop}
 use Rattle.mc_pages.specs.SlabState.{SlabState}
 use Rattle.mc_core.specs.State.{is_class}
-use Rattle.mc_words.specs.Owner.{PopsFirst}
-use Rattle.mc_words.specs.View.{Setup, View}
-use Rattle.mc_words.specs.declared.held.Fresh.{Fresh}
+use Rattle.mc_words.specs.page.Owner.{PopsFirst}
+use Rattle.mc_words.specs.hand.View.{Setup, View}
+use Rattle.mc_words.specs.declared.hand.held.Fresh.{Fresh}
 use Rattle.mc_arena_clients.proofs.Rising.{none_popped}
 use Rattle.mc_arena_clients.proofs.first.pop_worn.Goals as goal
 

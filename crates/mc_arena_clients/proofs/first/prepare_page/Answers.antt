@@ -7,8 +7,8 @@ use Rattle.mc_pages.proofs.Cuts.{chunk_at}
 use Rattle.mc_core.specs.State.{is_class}
 use Rattle.mc_core.specs.declared.event.Change.TheVariants.{Grow}
 use Rattle.mc_core.specs.declared.event.Step.TheVariants.{MissSlabs}
-use Rattle.mc_words.specs.View.{Setup, View, made}
-use Rattle.mc_words.proofs.Judging.{class_of_slabs}
+use Rattle.mc_words.specs.hand.View.{Setup, View, made}
+use Rattle.mc_words.proofs.Chunks.Judging.{class_of_slabs}
 use Rattle.mc_arena_clients.specs.Preparing.{has_prepared}
 use Rattle.mc_arena_clients.proofs.Alone.{one_more}
 use Rattle.mc_arena_clients.proofs.Granted.{accounted_here, cuts_prepare, free_granted, grown_uncut, per_page_given, some_here}

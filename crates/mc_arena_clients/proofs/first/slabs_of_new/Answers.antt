@@ -2,7 +2,7 @@ use Rattle.std.proofs.Common.{◌∙◌, is_some, ap, subst}
 use Rattle.mc_classes.specs.Classes.{IsSound}
 use Rattle.mc_pages.specs.Changes.{next_page}
 use Rattle.mc_pages.specs.SlabState.{SlabState}
-use Rattle.mc_words.specs.View.{Setup, View}
+use Rattle.mc_words.specs.hand.View.{Setup, View}
 use Rattle.mc_arena_clients.proofs.Begun.{lock_free, next_fresh, taken_fresh}
 use Rattle.mc_arena_clients.proofs.first.slabs_of_new.Goals as goal
 

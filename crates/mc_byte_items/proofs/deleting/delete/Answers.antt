@@ -1,5 +1,5 @@
 use Rattle.std.proofs.Common.{ap, false, inr, Ok, true}
-use Rattle.mc_words.specs.Arenas.{setup_of}
+use Rattle.mc_words.specs.hand.Arenas.{setup_of}
 use Rattle.mc_byte_items.proofs.Found.{deletes_key}
 use Rattle.mc_byte_items.proofs.deleting.delete.Goals as goal
 

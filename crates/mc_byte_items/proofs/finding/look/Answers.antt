@@ -1,6 +1,6 @@
 use Rattle.std.proofs.Common.{◌≡◌, ℕ, Global, IfSome, Option, Some, Vec, subst}
 use Rattle.std.specs.Option.{option_map}
-use Rattle.mc_words.specs.Arenas.{setup_of, view}
+use Rattle.mc_words.specs.hand.Arenas.{setup_of, view}
 use Rattle.mc_items.specs.declared.refs.Ref.{Ref}
 use Rattle.mc_items.specs.ItemRefs.{IsItemRef, item_key}
 use Rattle.mc_items.specs.OnKeys.{Gets}

@@ -1,6 +1,6 @@
 use Rattle.std.proofs.Common.{ℕ, List, subst}
-use Rattle.mc_words.specs.Arenas.{setup_of}
-use Rattle.mc_words.specs.Items.{item_with}
+use Rattle.mc_words.specs.hand.Arenas.{setup_of}
+use Rattle.mc_words.specs.item.Items.{item_with}
 use Rattle.mc_items.specs.ItemRefs.{item_key, item_stamp}
 use Rattle.mc_byte_items.specs.Hands.{WereSaid, sayings_of}
 use Rattle.mc_byte_items.proofs.Found.{were_said}

@@ -1,5 +1,5 @@
 use Rattle.std.proofs.Common.{◌≡◌, ℕ, IfSome, List, Option, Some, subst, sym}
-use Rattle.mc_words.specs.Arenas.{setup_of, view}
+use Rattle.mc_words.specs.hand.Arenas.{setup_of, view}
 use Rattle.mc_items.specs.declared.refs.Ref.{Ref}
 use Rattle.mc_items.specs.ItemRefs.{IsItemRef, item_key}
 use Rattle.mc_items.specs.OnKeys.{Gets}

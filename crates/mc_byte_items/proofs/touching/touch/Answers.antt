@@ -1,5 +1,5 @@
 use Rattle.std.proofs.Common.{ap, inr, Ok}
-use Rattle.mc_words.specs.Arenas.{setup_of, view}
+use Rattle.mc_words.specs.hand.Arenas.{setup_of, view}
 use Rattle.mc_byte_items.proofs.Found.{loses_key, touches_key}
 use Rattle.mc_byte_items.proofs.Idle.{none_as_often}
 use Rattle.mc_byte_items.proofs.touching.touch.Goals as goal

@@ -2,7 +2,7 @@ use Rattle.std.proofs.Common.{◌≡◌, Option, Result, Some, None, refl, sym, 
 use Rattle.mc_pages.specs.declared.moves.Reassign.{Reassign}
 use Rattle.mc_watch.specs.declared.decider.Decision.{Decision}
 use Rattle.mc_words.specs.declared.hand.Hand.{Hand}
-use Rattle.mc_words.specs.Reassigning.{Reassigns}
+use Rattle.mc_words.specs.page.Moves.{Reassigns}
 use Rattle.mc_mover.specs.Acting.{ActsOnce}
 use Rattle.mc_cache.specs.Windows.{ActsOnDecision}
 use Rattle.mc_cache.proofs.window.end_window.Goals as goal

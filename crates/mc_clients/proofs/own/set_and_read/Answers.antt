@@ -1,8 +1,8 @@
 use Rattle.std.proofs.Common.{◌≡◌, [], ◌∷◌, ◌++◌, ◌∙◌, List, Contains, ap, drop, subst, sym}
 use Rattle.std.proofs.lemmas.List.Elements.{Contains-push}
 use Rattle.mc_core.specs.Past.{Saying}
-use Rattle.mc_words.specs.Arenas.{view}
-use Rattle.mc_words.specs.Items.{item_with}
+use Rattle.mc_words.specs.hand.Arenas.{view}
+use Rattle.mc_words.specs.item.Items.{item_with}
 use Rattle.mc_clients.proofs.own.set_and_read.Goals as goal
 
 pub returns-in-Ok-found-clause-words : goal.returns-in-Ok-found-clause-words

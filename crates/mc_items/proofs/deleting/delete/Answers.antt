@@ -1,12 +1,12 @@
 use Rattle.std.proofs.Common.{◌≡◌, ◌%◌, ℕ, false, refl, ap, subst, ◌∙◌}
 use Rattle.mc_classes.specs.declared.config.Config.{Config}
 use Rattle.mc_core.specs.Holdings.{has_fresh}
-use Rattle.mc_words.specs.Doing.{IsDone}
-use Rattle.mc_words.specs.Lent.{IsLentStripe}
-use Rattle.mc_words.specs.Out.{without_stripe}
-use Rattle.mc_words.specs.View.{View}
-use Rattle.mc_words.specs.Views.{stripe_given}
-use Rattle.mc_words.specs.Waiting.{WaitsForStripe}
+use Rattle.mc_words.specs.lock.Doing.{IsDone}
+use Rattle.mc_words.specs.lock.Lent.{IsLentStripe}
+use Rattle.mc_words.specs.lock.Out.{without_stripe}
+use Rattle.mc_words.specs.hand.View.{View}
+use Rattle.mc_words.specs.hand.Views.{stripe_given}
+use Rattle.mc_words.specs.lock.Wait.{WaitsForStripe}
 use Rattle.mc_stripe.specs.declared.history.Call.TheVariants.{Delete}
 use Rattle.mc_items.specs.Calls.{CallsOn, Deletes, OnlyWaits, TellsCall, TellsNoCall}
 use Rattle.mc_items.proofs.Chains.{ready_still, refs_stay}
@@ -15,7 +15,7 @@ use Rattle.mc_items.proofs.GetLeaves.{delete_kept}
 use Rattle.mc_items.proofs.Deletes.{ok_map, err_map}
 use Rattle.mc_items.proofs.Freed.{error_both}
 use Rattle.mc_items.proofs.Gets.{called_on, only_waits}
-use Rattle.mc_words.proofs.HandNumbers.{number_stays}
+use Rattle.mc_words.proofs.Hands.HandNumbers.{number_stays}
 use Rattle.mc_items.proofs.Locks.{locks_back, waits_keep}
 use Rattle.mc_items.proofs.Tells.{deleted_tells, told_none, told_on}
 use Rattle.mc_items.proofs.deleting.delete.Goals as goal

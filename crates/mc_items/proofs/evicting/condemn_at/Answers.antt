@@ -1,9 +1,9 @@
 use Rattle.std.proofs.Common.{Some, ap, sym, ◌∙◌}
-use Rattle.mc_words.specs.declared.held.StripeHeld.{StripeHeld}
-use Rattle.mc_words.specs.View.{View}
+use Rattle.mc_words.specs.declared.hand.held.StripeHeld.{StripeHeld}
+use Rattle.mc_words.specs.hand.View.{View}
 use Rattle.mc_items.proofs.Evicts.{done_so, reason_still, stripe_still}
-use Rattle.mc_words.proofs.HandNumbers.{number_stays}
-use Rattle.mc_words.specs.Condemning.{Condemns}
+use Rattle.mc_words.proofs.Hands.HandNumbers.{number_stays}
+use Rattle.mc_words.specs.item.Removal.{Condemns}
 use Rattle.mc_items.proofs.Freed.{full_from}
 use Rattle.mc_items.proofs.evicting.condemn_at.Goals as goal
 

@@ -2,15 +2,15 @@ use Rattle.std.proofs.Common.{◌≡◌, ◌<◌, ◌%◌, ℕ, true, false, Som
 use Rattle.mc_classes.specs.declared.config.Config.{Config}
 use Rattle.mc_core.specs.Head.{decode}
 use Rattle.mc_core.specs.State.{has_chunk, is_class, room_in}
-use Rattle.mc_words.specs.Condemning.{Condemns, key_seen, knows_reason}
+use Rattle.mc_words.specs.item.Removal.{Condemns, key_seen, knows_reason}
 use Rattle.mc_core.specs.declared.event.Step.TheVariants as step
-use Rattle.mc_words.specs.Happens.{Happens}
-use Rattle.mc_words.specs.View.{Setup, View}
-use Rattle.mc_words.specs.Out.{with_stripe, without_stripe}
-use Rattle.mc_words.specs.Views.{stripe_given, stripe_missed}
-use Rattle.mc_words.proofs.SweepViews.{stands_out}
+use Rattle.mc_words.specs.rule.Happens.{Happens}
+use Rattle.mc_words.specs.hand.View.{Setup, View}
+use Rattle.mc_words.specs.lock.Out.{with_stripe, without_stripe}
+use Rattle.mc_words.specs.hand.Views.{stripe_given, stripe_missed}
+use Rattle.mc_words.proofs.Chunks.SweepViews.{stands_out}
 use Rattle.mc_items.specs.Supplying.{FindsItemHeld}
-use Rattle.mc_words.proofs.HandNumbers.{number_stays}
+use Rattle.mc_words.proofs.Hands.HandNumbers.{number_stays}
 use Rattle.mc_items.proofs.Reaches.{found_linked, holdings_stay, lacked, no_copies, reached, reason_found, some_room, stripe_back, stripe_found}
 use Rattle.mc_items.proofs.Freed.{error_both}
 use Rattle.mc_items.proofs.Supplies.{if_error}

@@ -10,18 +10,18 @@ use Rattle.mc_core.specs.declared.look.Look.TheVariants.{Saw}
 use Rattle.mc_core.specs.Holdings.{has_fresh}
 use Rattle.mc_core.specs.Past.{Own, Saying}
 use Rattle.mc_core.specs.State.{is_class}
-use Rattle.mc_words.specs.View.{Setup, View}
-use Rattle.mc_words.specs.Out.{has_no_stripe}
+use Rattle.mc_words.specs.hand.View.{Setup, View}
+use Rattle.mc_words.specs.lock.Out.{has_no_stripe}
 use Rattle.mc_words.specs.declared.hand.Hand.{Hand}
-use Rattle.mc_words.proofs.Sweeps.{is_empty, stands_there, sweep_passes, swept_at}
-use Rattle.mc_words.proofs.SweepViews.{class_here, order_once, stands_out}
-use Rattle.mc_words.proofs.Unlocked.{no_stripe_from, no_stripes_there}
+use Rattle.mc_words.proofs.Chunks.Sweeps.{is_empty, stands_there, sweep_passes, swept_at}
+use Rattle.mc_words.proofs.Chunks.SweepViews.{class_here, order_once, stands_out}
+use Rattle.mc_words.proofs.Locks.Unlocked.{no_stripe_from, no_stripes_there}
 use Rattle.std.specs.Prelude.{⊤}
 use Rattle.mc_items.specs.declared.evicting.Supply.{Supply}
 use Rattle.mc_items.specs.Evicting.{FreesChunk, PassesEach, PassesOne}
 use Rattle.mc_items.proofs.FirstFive.{five_of_all, five_passed, five_with, rest_begins}
 use Rattle.mc_items.proofs.Freed.{as_error, frees_uncut, on_error}
-use Rattle.mc_words.proofs.HandNumbers.{number_stays}
+use Rattle.mc_words.proofs.Hands.HandNumbers.{number_stays}
 use Rattle.mc_items.proofs.Passes.{OwnTuple, each_keeps, passed_alive, passes_on}
 use Rattle.mc_items.proofs.evicting.evict_one.Goals as goal
 

@@ -2,15 +2,15 @@ use Rattle.std.proofs.Common.{◌≡◌, ℕ, true, Ok, ap, subst, ◌∙◌}
 use Rattle.mc_pages.specs.SlabState.{SlabState}
 use Rattle.mc_pages.specs.Changes.{after_back}
 use Rattle.mc_core.specs.State.{has_chunk, is_class}
-use Rattle.mc_words.specs.View.{Setup, View}
-use Rattle.mc_words.specs.declared.held.SlabsHeld.{SlabsHeld}
-use Rattle.mc_words.specs.Owner.{PutsBack}
-use Rattle.mc_words.proofs.SweepViews.{class_here, stands_out}
+use Rattle.mc_words.specs.hand.View.{Setup, View}
+use Rattle.mc_words.specs.declared.hand.held.SlabsHeld.{SlabsHeld}
+use Rattle.mc_words.specs.page.Owner.{PutsBack}
+use Rattle.mc_words.proofs.Chunks.SweepViews.{class_here, stands_out}
 use Rattle.mc_items.specs.declared.evicting.Supply.TheVariants.{Dead, Evicted}
 use Rattle.mc_items.specs.Evicting.{FreesChunk}
 use Rattle.mc_items.specs.Supplying.{FreesEvicted}
 use Rattle.mc_items.proofs.Freed.{frees_free, takes_keep}
-use Rattle.mc_words.proofs.HandNumbers.{number_stays}
+use Rattle.mc_words.proofs.Hands.HandNumbers.{number_stays}
 use Rattle.mc_items.proofs.evicting.free_one.Goals as goal
 
 -- the item was evicted

@@ -2,10 +2,10 @@ use Rattle.std.proofs.Common.{◌≡◌, ℕ, ◌+◌, List, [], ◌∷◌, leng
 use Rattle.std.proofs.lemmas.List.{take_more}
 use Rattle.mc_pages.specs.declared.ids.ChunkId.{ChunkId}
 use Rattle.mc_core.specs.Holdings.{item_in}
-use Rattle.mc_words.specs.View.{View}
-use Rattle.mc_words.specs.Items.{issue_in, item_with, words_in}
-use Rattle.mc_words.specs.Linking.{IsItemFilled}
-use Rattle.mc_words.specs.Views.{word_filled}
+use Rattle.mc_words.specs.hand.View.{View}
+use Rattle.mc_words.specs.item.Items.{issue_in, item_with, words_in}
+use Rattle.mc_words.specs.item.Links.{IsItemFilled}
+use Rattle.mc_words.specs.hand.Views.{word_filled}
 use Rattle.mc_items.specs.Storing.{item_filled}
 use Rattle.mc_items.proofs.Fills.{filled_item, filled_more, filled_none, filled_words, long_enough, not_first, not_second}
 use Rattle.mc_items.proofs.filling.fill_item.Goals as goal

@@ -1,6 +1,6 @@
 use Rattle.std.proofs.Common.{◌≡◌, ◌∷◌, length, take}
-use Rattle.mc_words.specs.Arenas.{IsHandOf, view}
-use Rattle.mc_words.specs.Fresh.{IsFreshOf}
+use Rattle.mc_words.specs.hand.Arenas.{IsHandOf, view}
+use Rattle.mc_words.specs.item.Fresh.{IsFreshOf}
 use Rattle.mc_items.specs.Storing.{item_filled}
 use Rattle.mc_items.proofs.filling.fill_item.Given as goal
 

@@ -5,10 +5,10 @@ use Rattle.std.proofs.Common.{[]}
 use Rattle.std.specs.Option.{option_map_or}
 use Rattle.mc_core.specs.Views.{Row}
 use Rattle.mc_core.specs.Holdings.{holding_of, item_of, stamp_of}
-use Rattle.mc_words.specs.declared.refs.Ref.{Ref}
-use Rattle.mc_words.specs.View.{View}
-use Rattle.mc_words.specs.Called.{with_own_call}
-use Rattle.mc_words.specs.Items.{held_item}
+use Rattle.mc_words.specs.declared.item.refs.Ref.{Ref}
+use Rattle.mc_words.specs.hand.View.{View}
+use Rattle.mc_words.specs.item.Calls.{with_own_call}
+use Rattle.mc_words.specs.item.Items.{held_item}
 use Rattle.mc_items.proofs.Tells.{looked_tells}
 use Rattle.mc_items.proofs.getting.look_up.Goals as goal
 

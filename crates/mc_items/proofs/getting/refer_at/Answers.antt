@@ -1,12 +1,12 @@
 use Rattle.std.proofs.Common.{◌≡◌, Ok, ap, sym, subst, ◌∙◌}
 use Rattle.mc_core.specs.Holdings.{key_of}
-use Rattle.mc_words.specs.declared.held.StripeHeld.{StripeHeld}
-use Rattle.mc_words.specs.View.{View}
-use Rattle.mc_words.specs.Items.{held_item}
-use Rattle.mc_words.specs.Referring.{GetsItem}
-use Rattle.mc_words.specs.Refs.{IsIssueOf, IsRefOf}
+use Rattle.mc_words.specs.declared.hand.held.StripeHeld.{StripeHeld}
+use Rattle.mc_words.specs.hand.View.{View}
+use Rattle.mc_words.specs.item.Items.{held_item}
+use Rattle.mc_words.specs.item.References.{GetsItem}
+use Rattle.mc_words.specs.item.Refs.{IsIssueOf, IsRefOf}
 use Rattle.mc_items.proofs.Gets.{got_item, looked_up, some_both, stamp_found}
-use Rattle.mc_words.proofs.HandNumbers.{number_stays}
+use Rattle.mc_words.proofs.Hands.HandNumbers.{number_stays}
 use Rattle.mc_items.proofs.Freed.{full_from}
 use Rattle.mc_items.proofs.getting.refer_at.Goals as goal
 

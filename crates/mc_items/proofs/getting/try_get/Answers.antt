@@ -1,12 +1,12 @@
 use Rattle.std.proofs.Common.{◌<◌, arith, refl, ◌≡◌, ◌%◌, ℕ, ap, subst, ◌∙◌}
 use Rattle.mc_classes.specs.declared.config.Config.{Config}
-use Rattle.mc_words.specs.Lent.{IsLentStripe}
-use Rattle.mc_words.specs.Out.{without_stripe}
-use Rattle.mc_words.specs.View.{View}
-use Rattle.mc_words.specs.Waiting.{WaitsForStripe}
+use Rattle.mc_words.specs.lock.Lent.{IsLentStripe}
+use Rattle.mc_words.specs.lock.Out.{without_stripe}
+use Rattle.mc_words.specs.hand.View.{View}
+use Rattle.mc_words.specs.lock.Wait.{WaitsForStripe}
 use Rattle.std.specs.Option.{option_map}
 use Rattle.mc_items.specs.declared.refs.Ref.{Ref}
-use Rattle.mc_words.specs.Doing.{IsDone}
+use Rattle.mc_words.specs.lock.Doing.{IsDone}
 use Rattle.mc_items.specs.Calls.{CallsOn, LooksUp}
 use Rattle.mc_items.specs.ItemRefs.{item_chunk}
 use Rattle.mc_stripe.specs.declared.history.Call.TheVariants.{Get}
@@ -14,7 +14,7 @@ use Rattle.mc_items.proofs.Chains.{ready_still, refs_stay}
 use Rattle.mc_items.proofs.Left.{Kept, only_keeps}
 use Rattle.mc_items.proofs.GetLeaves.{get_leaves, get_near, get_ready, get_said}
 use Rattle.mc_items.proofs.Gets.{and_reads, called_on, only_waits}
-use Rattle.mc_words.proofs.HandNumbers.{number_stays}
+use Rattle.mc_words.proofs.Hands.HandNumbers.{number_stays}
 use Rattle.mc_items.proofs.Locks.{locks_back, taken_at_once}
 use Rattle.mc_items.proofs.Tells.{told_none, told_on}
 use Rattle.mc_items.proofs.getting.try_get.Goals as goal

@@ -1,15 +1,15 @@
 use Rattle.std.proofs.Common.{◌≡◌, ◌∷◌, Err, ap, refl, ◌∙◌}
-use Rattle.mc_words.specs.declared.refs.Again.TheVariants as refused
-use Rattle.mc_words.specs.declared.refs.Ref.{Ref}
-use Rattle.mc_words.specs.View.{View}
+use Rattle.mc_words.specs.declared.item.refs.Again.TheVariants as refused
+use Rattle.mc_words.specs.declared.item.refs.Ref.{Ref}
+use Rattle.mc_words.specs.hand.View.{View}
 use Rattle.std.proofs.Common.{[]}
 use Rattle.std.specs.Option.{option_map_or}
 use Rattle.mc_core.specs.Holdings.{holding_of, item_of}
 use Rattle.mc_core.specs.Views.{Row}
-use Rattle.mc_words.specs.Items.{held_item}
+use Rattle.mc_words.specs.item.Items.{held_item}
 use Rattle.mc_pages.specs.declared.ids.ChunkId.{ChunkId}
 use Rattle.mc_core.specs.Past.{known_by}
-use Rattle.mc_words.specs.Referring.{reference_to}
+use Rattle.mc_words.specs.item.References.{reference_to}
 use Rattle.mc_items.specs.Reading.{item_seen}
 use Rattle.std.proofs.Math.Nat.{lt_of_not-le}
 use Rattle.mc_items.proofs.Chains.{item_said, ready_more, refs_and_more, refs_stay}

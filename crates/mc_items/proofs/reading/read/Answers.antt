@@ -1,7 +1,7 @@
 use Rattle.std.proofs.Common.{◌≡◌, ◌+◌, ◌<◌, ◌≤◌, ℕ, List, [], ◌∷◌, ◌++◌, ap, sym, subst, ◌∙◌, arith, length}
-use Rattle.mc_words.specs.View.{View}
-use Rattle.mc_words.specs.Items.{held_item, item_with}
-use Rattle.mc_words.specs.Views.{word_seen}
+use Rattle.mc_words.specs.hand.View.{View}
+use Rattle.mc_words.specs.item.Items.{held_item, item_with}
+use Rattle.mc_words.specs.hand.Views.{word_seen}
 use Rattle.mc_items.specs.Keeping.{AreSaid}
 use Rattle.mc_items.proofs.Chains.{kept_refs_keep_items, refs_stay, words_said}
 use Rattle.mc_items.proofs.Words.{one_more, one_read, all_read}

@@ -1,6 +1,6 @@
 use Rattle.std.proofs.Common.{◌≡◌, ◌≤◌, drop, take}
-use Rattle.mc_words.specs.Arenas.{IsHandOf, view}
-use Rattle.mc_words.specs.Items.{held_item}
+use Rattle.mc_words.specs.hand.Arenas.{IsHandOf, view}
+use Rattle.mc_words.specs.item.Items.{held_item}
 use Rattle.mc_items.specs.Reading.{words_seen}
 use Rattle.mc_items.proofs.reading.read.Given as goal
 

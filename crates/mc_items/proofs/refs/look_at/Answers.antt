@@ -1,12 +1,12 @@
 use Rattle.std.proofs.Common.{◌≡◌, ◌+◌, ◌<◌, ℕ, length, ap, sym, subst, ◌∙◌, arith}
-use Rattle.mc_words.specs.View.{View}
+use Rattle.mc_words.specs.hand.View.{View}
 use Rattle.mc_core.specs.declared.holding.Holding.{Holding}
 use Rattle.mc_core.specs.Holdings.{holding_of, item_of}
 use Rattle.mc_core.specs.Views.{Row}
 use Rattle.std.proofs.Common.{[], List, Some}
 use Rattle.std.specs.Option.{option_map, option_map_or}
 use Rattle.mc_pages.specs.declared.ids.ChunkId.{ChunkId}
-use Rattle.mc_words.proofs.References.{ref_whole}
+use Rattle.mc_words.proofs.Items.References.{ref_whole}
 use Rattle.mc_items.proofs.refs.look_at.Goals as goal
 
 -- the item in a chunk, as the row has it

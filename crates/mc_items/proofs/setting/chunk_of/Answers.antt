@@ -1,19 +1,19 @@
 use Rattle.std.proofs.Common.{◌≡◌, ◌≤◌, length, List, true, Result, Ok, Err, IfOk, IfErr, refl, ap, sym, subst, ◌∙◌}
 use Rattle.mc_core.specs.declared.holding.Holding.{Holding}
 use Rattle.mc_core.specs.Holdings.{has_fresh}
-use Rattle.mc_words.specs.Doing.{HoldsSlabs}
-use Rattle.mc_words.specs.Out.{has_no_stripe, with_slabs, without_slabs}
-use Rattle.mc_words.specs.View.{View}
-use Rattle.mc_words.specs.declared.held.Fresh.{Fresh}
+use Rattle.mc_words.specs.lock.Doing.{HoldsSlabs}
+use Rattle.mc_words.specs.lock.Out.{has_no_stripe, with_slabs, without_slabs}
+use Rattle.mc_words.specs.hand.View.{View}
+use Rattle.mc_words.specs.declared.hand.held.Fresh.{Fresh}
 use Rattle.mc_words.specs.declared.hand.Hand.{Hand}
-use Rattle.mc_words.specs.declared.locks.Locks.{Locks}
-use Rattle.mc_words.specs.declared.locks.Locks.TheVariants.{Neither, Slabs, Stripe, SlabsLast, StripeLast}
-use Rattle.mc_words.specs.Idle.{is_unlocked}
-use Rattle.mc_words.specs.Out.{is_neither}
-use Rattle.mc_words.proofs.Unlocked.{no_stripes_there, unlocked_from}
+use Rattle.mc_words.specs.declared.lock.locks.Locks.{Locks}
+use Rattle.mc_words.specs.declared.lock.locks.Locks.TheVariants.{Neither, Slabs, Stripe, SlabsLast, StripeLast}
+use Rattle.mc_words.specs.hand.Idle.{is_unlocked}
+use Rattle.mc_words.specs.lock.Out.{is_neither}
+use Rattle.mc_words.proofs.Locks.Unlocked.{no_stripes_there, unlocked_from}
 use Rattle.mc_items.specs.Sources.{SuppliesChunk, SuppliesNone}
 use Rattle.mc_items.specs.declared.setting.SetError.{SetError}
-use Rattle.mc_words.proofs.HandNumbers.{number_stays}
+use Rattle.mc_words.proofs.Hands.HandNumbers.{number_stays}
 use Rattle.mc_items.proofs.Locks.{slabs_back, waits_slabs_keep}
 use Rattle.mc_items.proofs.Made.{holds_so}
 use Rattle.mc_items.proofs.setting.chunk_of.Goals as goal

@@ -2,16 +2,16 @@ use Rattle.std.proofs.Common.{◌≡◌, ◌+◌, ◌*◌, ◌≤◌, ◌%◌, �
 use Rattle.mc_classes.specs.Classes.{Classes, IsClass, class_of, size_of}
 use Rattle.mc_core.specs.Past.{Saying}
 use Rattle.mc_stripe.specs.declared.history.Call.TheVariants.{Set}
-use Rattle.mc_words.specs.Doing.{HoldsSlabs}
-use Rattle.mc_words.specs.View.{Setup, View}
-use Rattle.mc_words.specs.Tallies.{next_stamp}
+use Rattle.mc_words.specs.lock.Doing.{HoldsSlabs}
+use Rattle.mc_words.specs.hand.View.{Setup, View}
+use Rattle.mc_words.specs.hand.Tallies.{next_stamp}
 use Rattle.mc_items.specs.Calls.{TellsCall}
 use Rattle.mc_pages.specs.declared.ids.ChunkId.{ChunkId}
 use Rattle.mc_items.specs.Setting.{class_for_words}
 use Rattle.mc_items.specs.Sources.{SuppliesChunk}
 use Rattle.mc_items.specs.Storing.{LeavesDead, StoresItem, item_filled}
-use Rattle.mc_words.proofs.HandNumbers.{number_stays}
-use Rattle.mc_words.specs.Items.{item_with}
+use Rattle.mc_words.proofs.Hands.HandNumbers.{number_stays}
+use Rattle.mc_words.specs.item.Items.{item_with}
 use Rattle.mc_core.specs.declared.ids.Ids.{Ids}
 use Rattle.mc_core.specs.Items.{stamped}
 use Rattle.mc_items.proofs.Chains.{number_kept, ready_still, refs_stay}

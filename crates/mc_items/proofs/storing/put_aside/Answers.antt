@@ -1,6 +1,6 @@
 use Rattle.std.proofs.Common.{ap, sym, ◌∙◌, is_some, ◌≡◌, true}
 use Rattle.mc_stripe.specs.StripeState.{ReadyStripe, place_of}
-use Rattle.mc_words.specs.View.{View}
+use Rattle.mc_words.specs.hand.View.{View}
 use Rattle.mc_items.proofs.Stores.{none_from, none_lifted, nothing_aside, some_aside}
 use Rattle.mc_items.proofs.storing.put_aside.Goals as goal
 

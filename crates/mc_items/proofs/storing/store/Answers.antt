@@ -2,16 +2,16 @@ use Rattle.std.proofs.Common.{◌≡◌, ◌%◌, ℕ, List, refl, ap, sym, subs
 use Rattle.mc_classes.specs.declared.config.Config.{Config}
 use Rattle.mc_pages.specs.declared.ids.ChunkId.{ChunkId}
 use Rattle.mc_core.specs.declared.holding.Holding.{Holding}
-use Rattle.mc_words.specs.Fresh.{IsFreshIn}
-use Rattle.mc_words.specs.Lent.{IsLentStripe}
-use Rattle.mc_words.specs.Out.{without_stripe}
-use Rattle.mc_words.specs.Tallies.{next_stamp}
-use Rattle.mc_words.specs.View.{View}
-use Rattle.mc_words.specs.Views.{chunk_released, stripe_given}
-use Rattle.mc_words.specs.Waiting.{WaitsForStripe}
+use Rattle.mc_words.specs.item.Fresh.{IsFreshIn}
+use Rattle.mc_words.specs.lock.Lent.{IsLentStripe}
+use Rattle.mc_words.specs.lock.Out.{without_stripe}
+use Rattle.mc_words.specs.hand.Tallies.{next_stamp}
+use Rattle.mc_words.specs.hand.View.{View}
+use Rattle.mc_words.specs.hand.Views.{chunk_released, stripe_given}
+use Rattle.mc_words.specs.lock.Wait.{WaitsForStripe}
 use Rattle.mc_items.specs.Storing.{LeavesDead, Stores, StoresItem}
 use Rattle.mc_items.proofs.Gets.{called_on, only_waits}
-use Rattle.mc_words.proofs.HandNumbers.{number_stays}
+use Rattle.mc_words.proofs.Hands.HandNumbers.{number_stays}
 use Rattle.mc_items.proofs.Locks.{locks_back, waits_keep}
 use Rattle.mc_items.proofs.Stored.{dead_told, filled_still, stored_mine, stored_said}
 use Rattle.mc_items.proofs.storing.store.Goals as goal

@@ -3,8 +3,8 @@ use Rattle.mc_stripe.specs.Entries.{AreRising}
 use Rattle.mc_stripe.specs.StripeState.{ReadyStripe, place_of}
 use Rattle.mc_core.specs.Holdings.{has_fresh}
 use Rattle.mc_core.specs.Items.{is_none_else_aside}
-use Rattle.mc_words.specs.View.{View}
-use Rattle.mc_words.specs.declared.held.StripeHeld.{StripeHeld}
+use Rattle.mc_words.specs.hand.View.{View}
+use Rattle.mc_words.specs.declared.hand.held.StripeHeld.{StripeHeld}
 use Rattle.mc_items.proofs.Stores.{fresh_among, lifted_alone, lifted_nowhere}
 use Rattle.mc_items.proofs.Freed.{full_from}
 use Rattle.mc_items.proofs.storing.store_at.Goals as goal

@@ -1,11 +1,11 @@
 use Rattle.std.proofs.Common.{◌≡◌, ◌%◌, ℕ, List, [], ◌∷◌, ◌++◌, OnErr, OnOk, ap, subst, ◌∙◌}
 use Rattle.mc_core.specs.Holdings.{numbers}
 use Rattle.mc_core.specs.Past.{Own, Saying}
-use Rattle.mc_words.specs.View.{View}
-use Rattle.mc_words.specs.declared.held.Fresh.{Fresh}
+use Rattle.mc_words.specs.hand.View.{View}
+use Rattle.mc_words.specs.declared.hand.held.Fresh.{Fresh}
 use Rattle.mc_items.specs.Storing.{StoresItem}
-use Rattle.mc_words.proofs.HandNumbers.{number_stays}
-use Rattle.mc_words.specs.Items.{item_with}
+use Rattle.mc_words.proofs.Hands.HandNumbers.{number_stays}
+use Rattle.mc_words.specs.item.Items.{item_with}
 use Rattle.mc_items.proofs.Stored.{numbers_known}
 use Rattle.mc_items.proofs.storing.store_words.Goals as goal
 

@@ -1,7 +1,7 @@
 use Rattle.std.proofs.Common.{◌≡◌, ◌==◌, None, sym, ap, ◌∙◌, inl}
 use Rattle.mc_pages.specs.SlabState.{SlabState}
-use Rattle.mc_words.specs.Reassigning.{Reassigns}
-use Rattle.mc_words.proofs.BegunMoves.{reassigns_from, reassigns_holdings, reassigns_uncut}
+use Rattle.mc_words.specs.page.Moves.{Reassigns}
+use Rattle.mc_words.proofs.Pages.BegunMoves.{reassigns_from, reassigns_holdings, reassigns_uncut}
 use Rattle.mc_items.specs.declared.evicting.Supply.{Supply}
 use Rattle.mc_items.specs.Sources.{asks_move}
 use Rattle.mc_items.proofs.supplying.ask_move.Goals as goal

@@ -4,8 +4,8 @@ use Rattle.mc_pages.specs.Changes.{after_grow}
 use Rattle.mc_pages.specs.SlabState.{SlabState, class_at, class_of_chunk}
 use Rattle.mc_pages.proofs.Cuts.{chunk_at}
 use Rattle.mc_core.specs.State.{is_class}
-use Rattle.mc_words.specs.View.{Setup, View}
-use Rattle.mc_words.proofs.Judging.{class_of_slabs}
+use Rattle.mc_words.specs.hand.View.{Setup, View}
+use Rattle.mc_words.proofs.Chunks.Judging.{class_of_slabs}
 use Rattle.mc_items.proofs.Growing.{accounted_here, class_grown, free_after_cuts, given_own, grown_uncut, per_page_given, some_here}
 use Rattle.mc_items.proofs.supplying.grow_for.Goals as goal
 

@@ -1,9 +1,9 @@
 use Rattle.std.proofs.Common.{ℕ, Ok, ap, subst, ◌∙◌, inr}
 use Rattle.mc_pages.specs.SlabState.{SlabState}
-use Rattle.mc_words.specs.View.{View}
+use Rattle.mc_words.specs.hand.View.{View}
 use Rattle.mc_items.specs.Evicting.{FreesOne, LacksEntry, first_five}
 use Rattle.mc_items.specs.Sources.{MakesFree, MakesNone}
-use Rattle.mc_words.proofs.HandNumbers.{number_stays}
+use Rattle.mc_words.proofs.Hands.HandNumbers.{number_stays}
 use Rattle.mc_items.proofs.Made.{made_by}
 use Rattle.mc_items.proofs.Supplies.{if_error, if_some}
 use Rattle.mc_items.proofs.supplying.make_free.Goals as goal

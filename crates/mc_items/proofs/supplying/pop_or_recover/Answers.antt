@@ -1,16 +1,16 @@
 use Rattle.std.proofs.Common.{◌≡◌, ◌≤◌, ◌∙◌, Ok, Option, IfSome, ap, sym, subst}
 use Rattle.mc_pages.specs.Changes.{after_pop}
 use Rattle.mc_core.specs.State.{room_in}
-use Rattle.mc_words.specs.Fresh.{IsFreshOf}
-use Rattle.mc_words.specs.Owner.{PopsFirst}
-use Rattle.mc_words.specs.View.{Setup, View}
-use Rattle.mc_words.specs.declared.held.Fresh.{Fresh}
+use Rattle.mc_words.specs.item.Fresh.{IsFreshOf}
+use Rattle.mc_words.specs.page.Owner.{PopsFirst}
+use Rattle.mc_words.specs.hand.View.{Setup, View}
+use Rattle.mc_words.specs.declared.hand.held.Fresh.{Fresh}
 use Rattle.mc_items.specs.Supplying.{GainsFresh, SuppliesFree}
 use Rattle.mc_items.proofs.Supplies.{at_once, by_recover, gains_fresh, if_error, if_some, recovers_here, seen_recovered, worn_at_once, worn_by_recover}
 use Rattle.mc_core.specs.State.{is_class}
 use Rattle.mc_items.specs.Storing.{IsOwnItem}
 use Rattle.mc_items.proofs.Popped.{popped_own}
-use Rattle.mc_words.specs.Sweeping.{SeesHeaders, with_seen}
+use Rattle.mc_words.specs.chunk.Sweeps.{SeesHeaders, with_seen}
 use Rattle.mc_items.proofs.Made.{none_recovered}
 use Rattle.mc_items.proofs.Swept.{pop_uncut, recovers_uncut}
 use Rattle.mc_items.proofs.supplying.pop_or_recover.Goals as goal

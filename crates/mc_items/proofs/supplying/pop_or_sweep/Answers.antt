@@ -1,10 +1,10 @@
 use Rattle.std.proofs.Common.{◌≡◌, ◌≤◌, ◌∙◌, Ok, Option, IfSome, ap, sym, subst}
 use Rattle.mc_pages.specs.Changes.{after_pop}
 use Rattle.mc_core.specs.State.{room_in}
-use Rattle.mc_words.specs.Fresh.{IsFreshOf}
-use Rattle.mc_words.specs.Owner.{PopsFirst}
-use Rattle.mc_words.specs.View.{Setup, View}
-use Rattle.mc_words.specs.declared.held.Fresh.{Fresh}
+use Rattle.mc_words.specs.item.Fresh.{IsFreshOf}
+use Rattle.mc_words.specs.page.Owner.{PopsFirst}
+use Rattle.mc_words.specs.hand.View.{Setup, View}
+use Rattle.mc_words.specs.declared.hand.held.Fresh.{Fresh}
 use Rattle.mc_items.specs.Supplying.{GainsFresh, SuppliesFree}
 use Rattle.mc_items.proofs.Supplies.{by_sweep, gains_fresh, if_error, if_some, none_by_sweep, seen_here, worn_by_sweep}
 use Rattle.mc_core.specs.State.{is_class}

@@ -5,14 +5,14 @@ use Rattle.mc_pages.specs.SlabState.{SlabState, class_at}
 use Rattle.mc_core.specs.declared.holding.Holding.{Holding}
 use Rattle.mc_core.specs.Chunks.{most_issue}
 use Rattle.mc_core.specs.State.{is_class, room_in}
-use Rattle.mc_words.specs.Fresh.{IsFreshIn, IsFreshOf}
-use Rattle.mc_words.specs.Owner.{PopsFirst, SeesOther}
-use Rattle.mc_words.specs.View.{Setup, View}
-use Rattle.mc_words.specs.declared.held.Fresh.{Fresh}
+use Rattle.mc_words.specs.item.Fresh.{IsFreshIn, IsFreshOf}
+use Rattle.mc_words.specs.page.Owner.{PopsFirst, SeesOther}
+use Rattle.mc_words.specs.hand.View.{Setup, View}
+use Rattle.mc_words.specs.declared.hand.held.Fresh.{Fresh}
 use Rattle.mc_items.specs.declared.evicting.Supply.{Supply}
 use Rattle.mc_items.specs.Sources.{AsksMove, ComesToFree, LacksMore, MakesFree, MakesNone}
 use Rattle.mc_items.specs.Supplying.{FindsNoFree}
-use Rattle.mc_words.proofs.HandNumbers.{number_stays}
+use Rattle.mc_words.proofs.Hands.HandNumbers.{number_stays}
 use Rattle.mc_items.proofs.Made.{comes_keep, comes_so, makes_keep, none_changed}
 use Rattle.mc_items.proofs.Popped.{own_still, popped_own}
 use Rattle.mc_items.proofs.supplying.supply_chunk.Goals as goal

@@ -4,22 +4,22 @@ use Rattle.mc_pages.specs.Changes.{after_touch}
 use Rattle.mc_core.specs.declared.holding.Holding.{Holding}
 use Rattle.mc_core.specs.declared.event.Change.TheVariants.{Touch}
 use Rattle.mc_core.specs.Silent.{is_handed_out}
-use Rattle.mc_words.specs.Doing.{IsDone}
-use Rattle.mc_words.specs.Lent.{IsLentStripe}
-use Rattle.mc_words.specs.Out.{without_slabs, without_stripe}
+use Rattle.mc_words.specs.lock.Doing.{IsDone}
+use Rattle.mc_words.specs.lock.Lent.{IsLentStripe}
+use Rattle.mc_words.specs.lock.Out.{without_slabs, without_stripe}
 use Rattle.mc_core.specs.Holdings.{key_of, stamp_of, has_fresh, is_of, lose}
-use Rattle.mc_words.specs.declared.refs.Ref.{Ref}
-use Rattle.mc_words.specs.Items.{held_item}
-use Rattle.mc_words.specs.Refs.{IsIssueOf, IsRefOf}
-use Rattle.mc_words.specs.View.{View}
-use Rattle.mc_words.specs.Views.{chunk_released, slabs_changed, slabs_given}
-use Rattle.mc_words.specs.Waiting.{WaitsForStripe}
-use Rattle.mc_words.proofs.HeldOut.{held_is_out}
+use Rattle.mc_words.specs.declared.item.refs.Ref.{Ref}
+use Rattle.mc_words.specs.item.Items.{held_item}
+use Rattle.mc_words.specs.item.Refs.{IsIssueOf, IsRefOf}
+use Rattle.mc_words.specs.hand.View.{View}
+use Rattle.mc_words.specs.hand.Views.{chunk_released, slabs_changed, slabs_given}
+use Rattle.mc_words.specs.lock.Wait.{WaitsForStripe}
+use Rattle.mc_words.proofs.Chunks.HeldOut.{held_is_out}
 use Rattle.mc_items.specs.Calls.{Finds, FindsNone, LooksUp}
 use Rattle.std.specs.Option.{option_map}
 use Rattle.mc_stripe.specs.declared.history.Call.TheVariants.{Get}
 use Rattle.mc_stripe.specs.StripeState.{stamp_of as stripe_stamp}
-use Rattle.mc_words.specs.Referring.{reference_to}
+use Rattle.mc_words.specs.item.References.{reference_to}
 use Rattle.mc_core.specs.Columns.{holds}
 use Rattle.mc_core.specs.Past.{Known, known_by}
 use Rattle.mc_pages.specs.declared.ids.ChunkId.{ChunkId}
@@ -28,7 +28,7 @@ use Rattle.mc_items.proofs.Chains.{kept_past, number_kept, ready_less, ready_sti
 use Rattle.mc_items.proofs.Left.{Kept, finds_one, kept_of, none_keeps, only_keeps, waited_for_slabs}
 use Rattle.mc_items.proofs.Gets.{called_on, only_waits}
 use Rattle.mc_items.proofs.Tells.{looked_tells, told_none, told_on}
-use Rattle.mc_words.proofs.HandNumbers.{number_stays}
+use Rattle.mc_words.proofs.Hands.HandNumbers.{number_stays}
 use Rattle.mc_items.proofs.Locks.{locks_back, slabs_back, still_unlocked, waits_keep, waits_slabs_keep}
 use Rattle.mc_items.proofs.touching.touch.Goals as goal
 
@@ -81,7 +81,7 @@ release-requires-clause-reference g c =
     let taken : View = held.new.hand.seat.me.0 in
     let slabs = held.result.shared in
     let ref = (subst (λ (o : Option Ref). IfSome o (λ r. IsRefOf got r.chunk r.room × IsIssueOf got r.chunk r.issue × (key_of (held_item got r.chunk) ≡ c.args.key))) c.in-Ok-Some.field-0-is c.in-Ok-Some.ensures.reference).0 in
-    let first = subst (λ (p : List Holding × List Rattle.mc_core.specs.Past.Known). Rattle.mc_words.specs.Refs.IsRefIn p.0 p.1 r.chunk r.room)
+    let first = subst (λ (p : List Holding × List Rattle.mc_core.specs.Past.Known). Rattle.mc_words.specs.item.Refs.IsRefIn p.0 p.1 r.chunk r.room)
     (λ k. (sym (waits_slabs_keep (λ (v : View). v.row.holdings) (λ word v. refl) (λ slabs v. refl) got slabs taken held.ensures.waits) k, sym (waits_slabs_keep (λ (v : View). v.row.knows.known) (λ word v. refl) (λ slabs v. refl) got slabs taken held.ensures.waits) k)) ref in
     subst (λ (v : View). IsRefOf v r.chunk r.room) (sym c.give_slabs.ensures.left) (subst (λ (v : View). IsRefOf v r.chunk r.room) (sym c.touch.ensures.view) first)
 

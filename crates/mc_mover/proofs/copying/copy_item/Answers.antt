@@ -1,8 +1,8 @@
 use Rattle.std.proofs.Common.{◌≡◌, ℕ, ◌+◌, ◌≤◌, List, [], ◌∷◌, ◌++◌, length, Option, Some, IfSome, refl, sym, ap, subst, ◌∙◌, arith, if◌then◌else◌, Bool}
 use Rattle.mc_pages.specs.declared.ids.ChunkId.{ChunkId}
-use Rattle.mc_words.specs.Condemning.{key_read}
-use Rattle.mc_words.specs.Items.{word_read}
-use Rattle.mc_words.specs.View.{View}
+use Rattle.mc_words.specs.item.Removal.{key_read}
+use Rattle.mc_words.specs.item.Items.{word_read}
+use Rattle.mc_words.specs.hand.View.{View}
 use Rattle.mc_mover.specs.Copying.{words_copied}
 use Rattle.mc_mover.proofs.Copied.{copied_more, not_first, not_second, one_longer, read_copied, three_places, word_copied}
 use Rattle.mc_mover.proofs.copying.copy_item.Goals as goal

@@ -1,8 +1,8 @@
 use Rattle.std.proofs.Common.{◌≡◌, ℕ, ◌+◌, ◌≤◌, ◌∷◌, List, true, Some, IfSome, length}
 use Rattle.mc_core.specs.Looks.{was_linked}
-use Rattle.mc_words.specs.Arenas.{IsHandOf, view}
-use Rattle.mc_words.specs.Condemning.{key_read}
-use Rattle.mc_words.specs.Fresh.{IsFreshOf}
+use Rattle.mc_words.specs.hand.Arenas.{IsHandOf, view}
+use Rattle.mc_words.specs.item.Removal.{key_read}
+use Rattle.mc_words.specs.item.Fresh.{IsFreshOf}
 use Rattle.mc_mover.specs.Copying.{words_copied}
 use Rattle.mc_mover.proofs.copying.copy_item.Given as goal
 

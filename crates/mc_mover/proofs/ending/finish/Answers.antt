@@ -5,8 +5,8 @@ use Rattle.mc_pages.specs.declared.ids.Moving.{Moving}
 use Rattle.mc_pages.specs.Accounted.{first_chunks}
 use Rattle.mc_pages.specs.Moves.{after_finish, finished}
 use Rattle.mc_pages.specs.SlabState.{SlabState, class_at, class_of_chunk}
-use Rattle.mc_words.specs.View.{View}
-use Rattle.mc_words.specs.Cutting.{CutsEach}
+use Rattle.mc_words.specs.hand.View.{View}
+use Rattle.mc_words.specs.page.Cuts.{CutsEach}
 use Rattle.mc_mover.proofs.Ends.{can_finish_here, class_come, per_page_come, per_page_finished, some_here}
 use Rattle.mc_mover.proofs.ending.finish.Goals as goal
 

@@ -7,11 +7,11 @@ use Rattle.mc_core.specs.declared.holding.Holding.{Holding}
 use Rattle.mc_core.specs.Evictions.{has_copy}
 use Rattle.mc_core.specs.Holdings.{holding_of, is_of, lose}
 use Rattle.mc_core.specs.State.{room_in}
-use Rattle.mc_words.specs.View.{Setup, View}
-use Rattle.mc_words.specs.Fresh.{IsFreshIn}
-use Rattle.mc_words.specs.Items.{word_read}
-use Rattle.mc_words.specs.Views.{copy_holding}
-use Rattle.mc_words.proofs.HandNumbers.{number_stays}
+use Rattle.mc_words.specs.hand.View.{Setup, View}
+use Rattle.mc_words.specs.item.Fresh.{IsFreshIn}
+use Rattle.mc_words.specs.item.Items.{word_read}
+use Rattle.mc_words.specs.hand.Views.{copy_holding}
+use Rattle.mc_words.proofs.Hands.HandNumbers.{number_stays}
 use Rattle.mc_mover.specs.Saving.{GivesRescued}
 use Rattle.mc_mover.proofs.Kept.{passes_keep}
 use Rattle.mc_mover.proofs.Leads.{Reaches, out_now}

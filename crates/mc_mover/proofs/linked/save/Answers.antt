@@ -4,10 +4,10 @@ use Rattle.mc_pages.specs.SlabState.{SlabState, class_at, class_of_page}
 use Rattle.mc_pages.proofs.ClassChanges.{per_pages-with_class}
 use Rattle.mc_pages.proofs.Cuts.{per_page-map}
 use Rattle.mc_stripe.specs.StripeState.{ReadyStripe, place_of}
-use Rattle.mc_words.specs.declared.held.StripeHeld.{StripeHeld}
-use Rattle.mc_words.specs.Items.{word_read}
-use Rattle.mc_words.specs.View.{View}
-use Rattle.mc_words.proofs.HandNumbers.{number_stays}
+use Rattle.mc_words.specs.declared.hand.held.StripeHeld.{StripeHeld}
+use Rattle.mc_words.specs.item.Items.{word_read}
+use Rattle.mc_words.specs.hand.View.{View}
+use Rattle.mc_words.proofs.Hands.HandNumbers.{number_stays}
 use Rattle.mc_mover.specs.declared.sweep.Sweep.{Sweep}
 use Rattle.mc_mover.specs.Linked.{SavesAs}
 use Rattle.mc_mover.specs.Saving.{RescuesToTarget, SweepsAndSaves}

@@ -9,13 +9,13 @@ use Rattle.mc_core.specs.Evictions.{has_copy, lacks_room, none_dead}
 use Rattle.mc_core.specs.Judged.{sees_no_target}
 use Rattle.mc_core.specs.Looks.{is_found_alive}
 use Rattle.mc_core.specs.State.{is_class}
-use Rattle.mc_words.specs.declared.held.SlabsHeld.{SlabsHeld}
-use Rattle.mc_words.specs.declared.held.StripeHeld.{StripeHeld}
-use Rattle.mc_words.specs.Condemning.{knows_reason}
-use Rattle.mc_words.specs.Items.{word_read}
-use Rattle.mc_words.specs.View.{Setup, View}
-use Rattle.mc_words.proofs.HandNumbers.{number_stays}
-use Rattle.mc_words.proofs.Judging.{class_of_slabs}
+use Rattle.mc_words.specs.declared.hand.held.SlabsHeld.{SlabsHeld}
+use Rattle.mc_words.specs.declared.hand.held.StripeHeld.{StripeHeld}
+use Rattle.mc_words.specs.item.Removal.{knows_reason}
+use Rattle.mc_words.specs.item.Items.{word_read}
+use Rattle.mc_words.specs.hand.View.{Setup, View}
+use Rattle.mc_words.proofs.Hands.HandNumbers.{number_stays}
+use Rattle.mc_words.proofs.Chunks.Judging.{class_of_slabs}
 use Rattle.mc_mover.specs.Saving.{GivesEvicted}
 use Rattle.mc_mover.proofs.Leads.{Reaches, reaches_passed, reaches_swept}
 use Rattle.mc_mover.proofs.Saves.{alive_passed, free_apart, no_copies, stripe_reached, sweeps_slabs}

@@ -10,14 +10,14 @@ use Rattle.mc_pages.specs.SlabState.{SlabState, class_at, class_of_page}
 use Rattle.mc_pages.proofs.ClassChanges.{per_pages-with_class}
 use Rattle.mc_pages.proofs.Cuts.{per_page-map}
 use Rattle.mc_core.specs.State.{room_in}
-use Rattle.mc_words.specs.View.{Setup, View}
-use Rattle.mc_words.specs.Idle.{has_no_stripes}
-use Rattle.mc_words.specs.Out.{without_stripe}
-use Rattle.mc_words.specs.Views.{stripe_given, stripe_missed}
+use Rattle.mc_words.specs.hand.View.{Setup, View}
+use Rattle.mc_words.specs.hand.Idle.{has_no_stripes}
+use Rattle.mc_words.specs.lock.Out.{without_stripe}
+use Rattle.mc_words.specs.hand.Views.{stripe_given, stripe_missed}
 use Rattle.mc_mover.specs.Linked.{GivesThere, OnlyGives, ReadsKey, SavesAs, VisitsLinked}
 use Rattle.mc_mover.proofs.ClearedPages.{cleared_after_clear}
 use Rattle.mc_mover.proofs.Copied.{three_places}
-use Rattle.mc_words.proofs.HandNumbers.{number_stays}
+use Rattle.mc_words.proofs.Hands.HandNumbers.{number_stays}
 use Rattle.mc_mover.proofs.Refusals.{as_error}
 use Rattle.mc_mover.proofs.Visits.{dead_unused, held_found, held_up, of_ok, reached, saved_found, stripe_back, stripe_found, visited_saved}
 use Rattle.mc_mover.proofs.linked.visit_linked.Goals.{then-not-unheld-via-then-not-unheld, then-not-unheld-via-else-not-unheld+then-not-leads_to}

@@ -1,9 +1,9 @@
 use Rattle.std.proofs.Common.{ap, refl, subst, ◌∙◌}
-use Rattle.mc_words.specs.Out.{without_slabs}
-use Rattle.mc_words.specs.View.{View}
-use Rattle.mc_words.specs.Reassigning.{Reassigns}
-use Rattle.mc_words.proofs.BegunMoves.{reassigns_from, reassigns_holdings}
-use Rattle.mc_words.proofs.HandNumbers.{number_stays}
+use Rattle.mc_words.specs.lock.Out.{without_slabs}
+use Rattle.mc_words.specs.hand.View.{View}
+use Rattle.mc_words.specs.page.Moves.{Reassigns}
+use Rattle.mc_words.proofs.Pages.BegunMoves.{reassigns_from, reassigns_holdings}
+use Rattle.mc_words.proofs.Hands.HandNumbers.{number_stays}
 use Rattle.mc_mover.proofs.Chains.{held_ids, held_known_same, held_said, ready_still, refs_stay, reassigns_keep}
 use Rattle.mc_mover.proofs.HoldsSlabs.{lock_back, held_for, held_holdings, wait_number}
 use Rattle.mc_mover.proofs.reassigning.reassign.Goals as goal

@@ -1,8 +1,8 @@
 use Rattle.std.proofs.Common.{ap, subst, ◌∙◌}
-use Rattle.mc_words.specs.Out.{without_slabs}
-use Rattle.mc_words.specs.View.{View}
+use Rattle.mc_words.specs.lock.Out.{without_slabs}
+use Rattle.mc_words.specs.hand.View.{View}
 use Rattle.mc_mover.specs.Reassigning.{SetsMode}
-use Rattle.mc_words.proofs.HandNumbers.{number_stays}
+use Rattle.mc_words.proofs.Hands.HandNumbers.{number_stays}
 use Rattle.mc_mover.proofs.Chains.{held_ids, held_known_same, held_said, ready_still, refs_stay}
 use Rattle.mc_mover.proofs.HoldsSlabs.{lock_back, held_for, held_holdings, wait_number}
 use Rattle.mc_mover.proofs.reassigning.set_mode.Goals as goal

@@ -1,8 +1,8 @@
 use Rattle.std.proofs.Common.{◌≡◌, ℕ, List, ap, sym, subst, ◌∙◌, Result, Ok, Err, OnErr}
 use Rattle.std.specs.List.{range_with_len}
 use Rattle.mc_core.specs.declared.event.StripeChange.TheVariants.{Trim}
-use Rattle.mc_words.specs.View.{View}
-use Rattle.mc_words.specs.Doing.{HoldsStripe}
+use Rattle.mc_words.specs.hand.View.{View}
+use Rattle.mc_words.specs.lock.Doing.{HoldsStripe}
 use Rattle.mc_mover.specs.Recording.{Changes, ChangesEach, Leaves}
 use Rattle.mc_mover.proofs.Recorded.{each_keeps, each_more, hold_keeps, holdings_kept, mine_kept, numbers_more, refs_kept, said_kept, leaves_quiet}
 use Rattle.mc_mover.proofs.recording.trim.Goals as goal

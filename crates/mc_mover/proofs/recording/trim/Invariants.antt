@@ -1,8 +1,8 @@
 use Rattle.std.proofs.Common.{◌≡◌}
 use Rattle.std.specs.List.{range_with_len}
 use Rattle.mc_core.specs.declared.event.StripeChange.TheVariants.{Trim}
-use Rattle.mc_words.specs.Arenas.{IsHandOf, view}
-use Rattle.mc_words.specs.Ready.{IsReady}
+use Rattle.mc_words.specs.hand.Arenas.{IsHandOf, view}
+use Rattle.mc_words.specs.hand.Ready.{IsReady}
 use Rattle.mc_mover.specs.Recording.{ChangesEach}
 use Rattle.mc_mover.proofs.recording.trim.Given as goal
 

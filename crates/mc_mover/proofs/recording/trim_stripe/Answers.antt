@@ -1,8 +1,8 @@
 use Rattle.std.proofs.Common.{◌≡◌, ap, ◌∙◌, subst}
 use Rattle.mc_stripe.specs.StripeState.{ReadyStripe}
 use Rattle.mc_core.specs.declared.event.StripeChange.TheVariants.{Trim}
-use Rattle.mc_words.specs.Out.{without_stripe}
-use Rattle.mc_words.specs.declared.held.StripeHeld.{StripeHeld}
+use Rattle.mc_words.specs.lock.Out.{without_stripe}
+use Rattle.mc_words.specs.declared.hand.held.StripeHeld.{StripeHeld}
 use Rattle.mc_mover.proofs.Chains.{ready_still}
 use Rattle.mc_mover.specs.Recording.{Changes, Leaves}
 use Rattle.mc_mover.proofs.Recorded.{changes_quiet, held_for, hold_keeps, holdings_kept, leaves_quiet, number_kept, stripe_back, waited_number}
@@ -21,7 +21,7 @@ returns-in-Err-clause-leaves g c =
       left = c.trim.new.held.stripe;
       last = c.trim.new.hand.seat.me.0;
       does = (ap (λ (h : StripeHeld). h.stripe) c.in-Err.ensures.refused.0, c.in-Err.ensures.refused.1);
-      given = c.give_stripe.ensures.left ∙ ap (λ n. Rattle.mc_words.specs.Views.stripe_given n c.trim.new.held.stripe c.trim.new.hand.seat.me.0) (c.trim.ensures.number ∙ held.ensures.number);
+      given = c.give_stripe.ensures.left ∙ ap (λ n. Rattle.mc_words.specs.hand.Views.stripe_given n c.trim.new.held.stripe c.trim.new.hand.seat.me.0) (c.trim.ensures.number ∙ held.ensures.number);
     }
 
 pub returns-in-Err-clause-number : goal.returns-in-Err-clause-number

@@ -1,6 +1,6 @@
 use Rattle.std.proofs.Common.{refl, ap, ◌∙◌}
-use Rattle.mc_words.specs.View.{View}
-use Rattle.mc_words.specs.Views.{stripe_given}
+use Rattle.mc_words.specs.hand.View.{View}
+use Rattle.mc_words.specs.hand.Views.{stripe_given}
 use Rattle.mc_mover.proofs.Kept.{finds_keep}
 use Rattle.mc_mover.proofs.saving.evict.Goals as goal
 

@@ -4,12 +4,12 @@ use Rattle.mc_stripe.specs.Changes.{after_rescue, used_up}
 use Rattle.mc_stripe.specs.StripeState.{ReadyStripe}
 use Rattle.mc_core.specs.declared.holding.Holding.{Holding}
 use Rattle.mc_core.specs.Holdings.{is_of, lose}
-use Rattle.mc_words.specs.Fresh.{IsFreshIn}
-use Rattle.mc_words.specs.Items.{issue_in, words_in}
-use Rattle.mc_words.specs.Linking.{IsCopyFilled, copy_linked}
-use Rattle.mc_words.specs.View.{Setup, View}
-use Rattle.mc_words.specs.Views.{chunk_discarded, chunk_released}
-use Rattle.mc_words.proofs.HandNumbers.{number_stays}
+use Rattle.mc_words.specs.item.Fresh.{IsFreshIn}
+use Rattle.mc_words.specs.item.Items.{issue_in, words_in}
+use Rattle.mc_words.specs.item.Links.{IsCopyFilled, copy_linked}
+use Rattle.mc_words.specs.hand.View.{Setup, View}
+use Rattle.mc_words.specs.hand.Views.{chunk_discarded, chunk_released}
+use Rattle.mc_words.proofs.Hands.HandNumbers.{number_stays}
 use Rattle.mc_mover.proofs.Kept.{finds_keep}
 use Rattle.mc_mover.proofs.Moved.{copy_filled, copy_there, dropped_holdings, fresh_still, ids_now, ids_stay, leads_nowhere, length_fits, others_filled, reason_there, stripe_copied, stripes_stay}
 use Rattle.mc_mover.proofs.saving.move_item.Goals as goal

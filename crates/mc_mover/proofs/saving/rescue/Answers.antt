@@ -2,11 +2,11 @@ use Rattle.std.proofs.Common.{◌≡◌, ℕ, refl, ap, subst, ◌∙◌}
 use Rattle.mc_pages.specs.declared.ids.ChunkId.{ChunkId}
 use Rattle.mc_pages.specs.SlabState.{SlabState}
 use Rattle.mc_stripe.specs.StripeState.{ReadyStripe}
-use Rattle.mc_words.specs.declared.held.SlabsHeld.{SlabsHeld}
-use Rattle.mc_words.specs.Sweeping.{SweepsOne}
-use Rattle.mc_words.specs.View.{View}
-use Rattle.mc_words.specs.Views.{stripe_given}
-use Rattle.mc_words.proofs.SweepViews.{swept_one}
+use Rattle.mc_words.specs.declared.hand.held.SlabsHeld.{SlabsHeld}
+use Rattle.mc_words.specs.chunk.Sweeps.{SweepsOne}
+use Rattle.mc_words.specs.hand.View.{View}
+use Rattle.mc_words.specs.hand.Views.{stripe_given}
+use Rattle.mc_words.proofs.Chunks.SweepViews.{swept_one}
 use Rattle.mc_mover.proofs.Kept.{swept_keep}
 use Rattle.mc_mover.proofs.saving.rescue.Goals as goal
 

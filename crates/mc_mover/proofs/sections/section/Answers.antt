@@ -2,9 +2,9 @@ use Rattle.std.proofs.Common.{◌≡◌, ◌+◌, true, ap, subst, ◌∙◌, �
 use Rattle.mc_pages.specs.Moves.{chunk_at_position}
 use Rattle.mc_core.specs.declared.event.Change.TheVariants as change
 use Rattle.mc_core.specs.State.{has_chunk}
-use Rattle.mc_words.specs.View.{Setup, View}
-use Rattle.mc_words.specs.Views.{slabs_changed}
-use Rattle.mc_words.proofs.HandNumbers.{number_stays}
+use Rattle.mc_words.specs.hand.View.{Setup, View}
+use Rattle.mc_words.specs.hand.Views.{slabs_changed}
+use Rattle.mc_words.proofs.Hands.HandNumbers.{number_stays}
 use Rattle.mc_mover.proofs.Refusals.{as_error, on_error}
 use Rattle.mc_mover.proofs.Rounds.{position_near}
 use Rattle.mc_mover.proofs.sections.section.Goals as goal

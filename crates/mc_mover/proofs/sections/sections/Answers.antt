@@ -1,13 +1,13 @@
 use Rattle.std.proofs.Common.{◌∙◌, ap, sym, subst, refl, arith}
 use Rattle.mc_classes.specs.declared.config.Config.{Config}
 use Rattle.mc_pages.specs.SlabState.{SlabState, IsClass, class_at}
-use Rattle.mc_words.specs.View.{Setup, View}
-use Rattle.mc_words.specs.Arenas.{setup_of}
-use Rattle.mc_words.specs.Out.{has_no_stripe}
-use Rattle.mc_words.proofs.Unlocked.{no_stripe_from, no_stripes_there}
+use Rattle.mc_words.specs.hand.View.{Setup, View}
+use Rattle.mc_words.specs.hand.Arenas.{setup_of}
+use Rattle.mc_words.specs.lock.Out.{has_no_stripe}
+use Rattle.mc_words.proofs.Locks.Unlocked.{no_stripe_from, no_stripes_there}
 use Rattle.mc_mover.specs.Turning.{Section}
 use Rattle.mc_mover.proofs.Ends.{move_here}
-use Rattle.mc_words.proofs.HandNumbers.{number_stays}
+use Rattle.mc_words.proofs.Hands.HandNumbers.{number_stays}
 use Rattle.mc_mover.proofs.Refusals.{as_error, on_error}
 use Rattle.mc_mover.proofs.Rounds.{all_of_bulk, all_of_page, counts_small, gone_more, gone_none, gone_runs, lacks_next, some_move}
 use Rattle.mc_mover.proofs.sections.sections.Goals as goal

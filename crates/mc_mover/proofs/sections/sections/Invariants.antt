@@ -1,5 +1,5 @@
 use Rattle.std.proofs.Common.{◌≡◌, Some}
-use Rattle.mc_words.specs.Arenas.{IsHandOf, view}
+use Rattle.mc_words.specs.hand.Arenas.{IsHandOf, view}
 use Rattle.mc_mover.proofs.Rounds.{GoneThrough}
 use Rattle.mc_mover.proofs.sections.sections.Given as goal
 

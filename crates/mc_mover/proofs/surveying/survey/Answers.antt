@@ -1,9 +1,9 @@
 use Rattle.std.proofs.Common.{length, ap, sym, ◌∙◌}
 use Rattle.mc_classes.specs.Classes.{Classes}
 use Rattle.mc_pages.specs.SlabState.{SlabState}
-use Rattle.mc_words.specs.Out.{without_slabs}
-use Rattle.mc_words.specs.View.{Setup, View}
-use Rattle.mc_words.proofs.HandNumbers.{number_stays}
+use Rattle.mc_words.specs.lock.Out.{without_slabs}
+use Rattle.mc_words.specs.hand.View.{Setup, View}
+use Rattle.mc_words.proofs.Hands.HandNumbers.{number_stays}
 use Rattle.mc_mover.proofs.Chains.{held_ids, held_known_same, held_said, ready_still, refs_stay}
 use Rattle.mc_mover.proofs.HoldsSlabs.{lock_back, held_holdings}
 use Rattle.mc_mover.proofs.Surveys.{classes_here}

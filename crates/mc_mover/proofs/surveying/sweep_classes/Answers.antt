@@ -1,7 +1,7 @@
 use Rattle.std.proofs.Common.{◌≡◌, ◌+◌, ℕ, List, length, ap, sym, subst, ◌∙◌, arith}
 use Rattle.std.specs.List.{range_with_len}
 use Rattle.mc_classes.specs.Classes.{Classes}
-use Rattle.mc_words.specs.View.{Setup, View}
+use Rattle.mc_words.specs.hand.View.{Setup, View}
 use Rattle.mc_mover.specs.Surveying.{SweepsClasses}
 use Rattle.mc_mover.proofs.Surveys.{all_swept, class_more, classes_alone, classes_here, classes_uncut, none_swept, numbers_more}
 use Rattle.mc_mover.proofs.surveying.sweep_classes.Goals as goal

@@ -1,6 +1,6 @@
 use Rattle.std.proofs.Common.{◌≡◌, Some}
 use Rattle.std.specs.List.{range_with_len}
-use Rattle.mc_words.specs.Arenas.{IsHandOf, view}
+use Rattle.mc_words.specs.hand.Arenas.{IsHandOf, view}
 use Rattle.mc_mover.specs.Surveying.{SweepsClasses}
 use Rattle.mc_mover.proofs.surveying.sweep_classes.Given as goal
 

@@ -1,8 +1,8 @@
 use Rattle.std.proofs.Common.{ap, refl, subst, ◌∙◌}
-use Rattle.mc_words.specs.Out.{without_slabs}
-use Rattle.mc_words.specs.View.{View}
+use Rattle.mc_words.specs.lock.Out.{without_slabs}
+use Rattle.mc_words.specs.hand.View.{View}
 use Rattle.mc_mover.specs.Turning.{LacksMemory, Turns}
-use Rattle.mc_words.proofs.HandNumbers.{number_stays}
+use Rattle.mc_words.proofs.Hands.HandNumbers.{number_stays}
 use Rattle.mc_mover.proofs.Chains.{held_answer, lacks_leaves, ready_still, refs_kept, turn_leaves}
 use Rattle.mc_mover.proofs.Grows.{turns_grow}
 use Rattle.mc_mover.proofs.HoldsSlabs.{held_for, lock_back}

@@ -1,11 +1,11 @@
 use Rattle.std.proofs.Common.{◌≤◌, length, List, ap, sym, subst, ◌∙◌}
 use Rattle.mc_core.specs.declared.holding.Holding.{Holding}
 use Rattle.mc_core.specs.Holdings.{has_fresh}
-use Rattle.mc_words.specs.Doing.{HoldsSlabs}
-use Rattle.mc_words.specs.Out.{has_no_stripe, without_slabs}
-use Rattle.mc_words.specs.View.{View}
-use Rattle.mc_words.proofs.HandNumbers.{number_stays}
-use Rattle.mc_words.proofs.Unlocked.{no_stripes_there}
+use Rattle.mc_words.specs.lock.Doing.{HoldsSlabs}
+use Rattle.mc_words.specs.lock.Out.{has_no_stripe, without_slabs}
+use Rattle.mc_words.specs.hand.View.{View}
+use Rattle.mc_words.proofs.Hands.HandNumbers.{number_stays}
+use Rattle.mc_words.proofs.Locks.Unlocked.{no_stripes_there}
 use Rattle.mc_mover.specs.declared.counts.Turn.{Turn}
 use Rattle.mc_mover.specs.Answering.{AnswersMove, IsAnswerOf}
 use Rattle.mc_mover.specs.Telling.{TellsAsCounted, counts_in}

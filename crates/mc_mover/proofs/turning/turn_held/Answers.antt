@@ -1,7 +1,7 @@
 use Rattle.std.proofs.Common.{subst}
-use Rattle.mc_words.specs.View.{View}
+use Rattle.mc_words.specs.hand.View.{View}
 use Rattle.mc_mover.specs.Turning.{EndsTurn}
-use Rattle.mc_words.proofs.HandNumbers.{number_stays}
+use Rattle.mc_words.proofs.Hands.HandNumbers.{number_stays}
 use Rattle.mc_mover.proofs.Answered.{answers_end}
 use Rattle.mc_mover.proofs.Refusals.{as_error, on_error}
 use Rattle.mc_mover.proofs.Rounds.{turns_so}

@@ -6,13 +6,13 @@ use Rattle.mc_pages.proofs.ClassChanges.{per_pages-with_class}
 use Rattle.mc_pages.proofs.Cuts.{per_page-map}
 use Rattle.mc_core.specs.Head.{decode}
 use Rattle.mc_core.specs.State.{has_chunk, is_class}
-use Rattle.mc_words.specs.View.{Setup, View}
-use Rattle.mc_words.proofs.Judging.{class_of_slabs, seen_slabs}
+use Rattle.mc_words.specs.hand.View.{Setup, View}
+use Rattle.mc_words.proofs.Chunks.Judging.{class_of_slabs, seen_slabs}
 use Rattle.mc_mover.specs.Linked as linked
 use Rattle.mc_mover.specs.Linked.{VisitsLinked}
 use Rattle.mc_mover.specs.Visiting.{Visits}
 use Rattle.mc_mover.proofs.ClearedPages.{cleared_after_clear}
-use Rattle.mc_words.proofs.HandNumbers.{number_stays}
+use Rattle.mc_words.proofs.Hands.HandNumbers.{number_stays}
 use Rattle.mc_mover.proofs.Refusals.{if_ok, on_err}
 use Rattle.mc_mover.proofs.SeenChunks.{linked_found, out_found, sees_linked, visited}
 use Rattle.mc_mover.proofs.visiting.visit.Goals as goal

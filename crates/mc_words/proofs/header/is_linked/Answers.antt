@@ -1,6 +1,6 @@
 use Rattle.std.proofs.Common.{◌≡◌, ℕ, ◌/◌, ◌%◌, nat_eq, sym, arith}
 use Rattle.mc_core.specs.Head.{decode, is_linked}
-use Rattle.mc_words.proofs.Agains.{three_linked}
+use Rattle.mc_words.proofs.Items.Agains.{three_linked}
 use Rattle.mc_words.proofs.header.is_linked.Goals as goal
 
 word_linked : (word : ℕ) → nat_eq (word / 65536 % 4) 3 ≡ is_linked (decode word).tag

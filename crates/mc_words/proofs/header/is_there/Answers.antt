@@ -1,5 +1,5 @@
 use Rattle.std.proofs.Common.{◌&&◌, ◌/◌, ◌%◌, Bool, nat_eq, sym, ap, ◌∙◌, eq-eqb, ne_eqb}
-use Rattle.mc_words.proofs.Agains.{word_there}
+use Rattle.mc_words.proofs.Items.Agains.{word_there}
 use Rattle.mc_words.proofs.header.is_there.Goals as goal
 
 pub returns-then-word-eq-LINKED_TAG : goal.returns-then-word-eq-LINKED_TAG

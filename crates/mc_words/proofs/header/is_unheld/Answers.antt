@@ -1,6 +1,6 @@
 use Rattle.std.proofs.Common.{◌≡◌, ◌%◌, true, false, nat_eq, sym, ◌∙◌, eq-eqb, inl, inr, eqb-true}
 use Rattle.std.proofs.lemmas.Bool.{cases_Bool}
-use Rattle.mc_words.proofs.CondemnCalls.{word_held, word_unheld}
+use Rattle.mc_words.proofs.Items.CondemnCalls.{word_held, word_unheld}
 use Rattle.mc_words.proofs.header.is_unheld.Goals as goal
 
 pub returns : goal.returns

@@ -1,4 +1,4 @@
-use Rattle.mc_words.proofs.Headlines.{held_stays_the_same}
+use Rattle.mc_words.proofs.Rules.Headlines.{held_stays_the_same}
 use Rattle.mc_words.proofs.laws.held_stays_the_same.Goals as goal
 
 pub returns : goal.returns

@@ -1,6 +1,6 @@
 use Rattle.std.proofs.Common.{Option, ap, subst, ◌∙◌}
-use Rattle.mc_words.specs.Arenas.{setup_of, view}
-use Rattle.mc_words.specs.Views.{chunk_released}
+use Rattle.mc_words.specs.hand.Arenas.{setup_of, view}
+use Rattle.mc_words.specs.hand.Views.{chunk_released}
 use Rattle.mc_items.specs.declared.refs.Ref.{Ref}
 use Rattle.mc_items.specs.ItemRefs.{item_chunk}
 use Rattle.mc_workers.specs.Serving.{Finds}

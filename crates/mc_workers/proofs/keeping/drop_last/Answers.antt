@@ -1,7 +1,7 @@
 use Rattle.std.proofs.Common.{◌≡◌, suc, List, ◌++◌, take, drop, All, ap, refl, sym, subst, ◌∙◌}
 use Rattle.std.proofs.lemmas.List.{get_or_default}
-use Rattle.mc_words.specs.Arenas.{view}
-use Rattle.mc_words.specs.Views.{chunk_released}
+use Rattle.mc_words.specs.hand.Arenas.{view}
+use Rattle.mc_words.specs.hand.Views.{chunk_released}
 use Rattle.mc_items.specs.declared.refs.Ref.{Ref}
 use Rattle.mc_items.specs.ItemRefs.{AreKept, item_chunk, item_len, item_words}
 use Rattle.mc_items.specs.Reading.{words_seen}

@@ -1,7 +1,7 @@
 use Rattle.std.proofs.Common.{◌≡◌, vec_len}
-use Rattle.mc_words.specs.Arenas.{IsHandOf, view}
-use Rattle.mc_words.specs.Observers.{number_of}
-use Rattle.mc_words.specs.Ready.{IsReady}
+use Rattle.mc_words.specs.hand.Arenas.{IsHandOf, view}
+use Rattle.mc_words.specs.hand.Observers.{number_of}
+use Rattle.mc_words.specs.hand.Ready.{IsReady}
 use Rattle.mc_items.specs.ItemRefs.{AreKept}
 use Rattle.mc_workers.specs.Lines.{all_released}
 use Rattle.mc_workers.proofs.keeping.release_all.Given as goal

@@ -1,5 +1,5 @@
 use Rattle.std.proofs.Common.{Bool, Ok, ap, subst}
-use Rattle.mc_words.specs.Arenas.{setup_of}
+use Rattle.mc_words.specs.hand.Arenas.{setup_of}
 use Rattle.mc_items.specs.OnKeys.{TellsOfGet}
 use Rattle.mc_workers.proofs.line.touch_key.Goals as goal
 

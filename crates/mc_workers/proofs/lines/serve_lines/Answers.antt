@@ -1,5 +1,5 @@
 use Rattle.std.proofs.Common.{ℕ, List, ◌++◌, ap, sym, subst, ◌∙◌}
-use Rattle.mc_words.specs.Arenas.{setup_of, view}
+use Rattle.mc_words.specs.hand.Arenas.{setup_of, view}
 use Rattle.mc_items.specs.declared.refs.Ref.{Ref}
 use Rattle.mc_workers.specs.Kept.{Hold, holds_of}
 use Rattle.mc_workers.specs.Asking.{lines_of}

@@ -1,5 +1,5 @@
 use Rattle.std.proofs.Common.{subst}
-use Rattle.mc_words.specs.View.{Setup}
+use Rattle.mc_words.specs.hand.View.{Setup}
 use Rattle.mc_workers.specs.Surveyed.{AreTellable}
 use Rattle.mc_workers.proofs.Tellable.{survey_tellable}
 use Rattle.mc_workers.proofs.mover_line.survey_all.Goals as goal

@@ -1,8 +1,8 @@
 use Rattle.std.proofs.Common.{◌≡◌, ℕ, List, ◌++◌, ap, subst, ◌∙◌}
 use Rattle.mc_classes.specs.Classes.{Classes}
-use Rattle.mc_words.specs.Arenas.{setup_of, view}
-use Rattle.mc_words.specs.Doing.{HoldsSlabs}
-use Rattle.mc_words.specs.View.{Setup}
+use Rattle.mc_words.specs.hand.Arenas.{setup_of, view}
+use Rattle.mc_words.specs.lock.Doing.{HoldsSlabs}
+use Rattle.mc_words.specs.hand.View.{Setup}
 use Rattle.mc_workers.specs.MoverReplies.{statistics_text}
 use Rattle.mc_workers.specs.Script.{SurveysWhole}
 use Rattle.mc_workers.proofs.Tellable.{survey_whole}

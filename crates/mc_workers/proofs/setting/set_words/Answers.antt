@@ -1,6 +1,6 @@
 use Rattle.std.proofs.Common.{List, ℕ, subst, ◌∙◌}
-use Rattle.mc_words.specs.Arenas.{view}
-use Rattle.mc_words.specs.Observers.{number_of}
+use Rattle.mc_words.specs.hand.Arenas.{view}
+use Rattle.mc_words.specs.hand.Observers.{number_of}
 use Rattle.mc_items.specs.Setting.{RefusesSet}
 use Rattle.mc_items.specs.declared.setting.SetError.{SetError}
 use Rattle.mc_items.specs.declared.setting.SetError.TheVariants.{WornOut}

@@ -1,7 +1,7 @@
 use Rattle.std.proofs.Common.{◌⊎◌, Result, Ok, Err, OnErr, OnOk, inl, inr, subst, sym}
 use Rattle.std.specs.List.{range_with_len}
 use Rattle.mc_core.specs.declared.event.StripeChange.TheVariants.{Trim}
-use Rattle.mc_words.specs.View.{Setup, View}
+use Rattle.mc_words.specs.hand.View.{Setup, View}
 use Rattle.mc_mover.specs.Recording.{ChangesEach, Leaves, StopsTrimming}
 use Rattle.mc_workers.proofs.window.end_window.Goals as goal
 

@@ -1,4 +1,4 @@
-use Rattle.mc_words.specs.Arenas.{IsHandOf}
+use Rattle.mc_words.specs.hand.Arenas.{IsHandOf}
 use Rattle.mc_arena_trials.proofs.tests.locks.lose_both.Given as goal
 
 abbrev pub invariant-loop-stripe : goal.invariant-loop-stripe

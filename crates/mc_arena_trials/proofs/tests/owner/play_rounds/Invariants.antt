@@ -1,5 +1,5 @@
 use Rattle.std.proofs.Common.{◌≡◌, Some}
-use Rattle.mc_words.specs.Arenas.{IsHandOf, view}
+use Rattle.mc_words.specs.hand.Arenas.{IsHandOf, view}
 use Rattle.mc_arena_trials.proofs.tests.owner.play_rounds.Given as goal
 
 abbrev pub invariant-loop-popped : goal.invariant-loop-popped

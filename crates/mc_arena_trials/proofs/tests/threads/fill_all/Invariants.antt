@@ -1,6 +1,6 @@
 use Rattle.std.proofs.Common.{◌≡◌}
-use Rattle.mc_words.specs.Arenas.{IsHandOf, view}
-use Rattle.mc_words.specs.Fresh.{IsFreshOf}
+use Rattle.mc_words.specs.hand.Arenas.{IsHandOf, view}
+use Rattle.mc_words.specs.item.Fresh.{IsFreshOf}
 use Rattle.mc_arena_trials.proofs.tests.threads.fill_all.Given as goal
 
 abbrev pub invariant-loop-place : goal.invariant-loop-place

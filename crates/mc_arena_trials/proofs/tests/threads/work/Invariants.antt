@@ -1,5 +1,5 @@
 use Rattle.std.proofs.Common.{◌≤◌}
-use Rattle.mc_words.specs.Arenas.{IsHandOf}
+use Rattle.mc_words.specs.hand.Arenas.{IsHandOf}
 use Rattle.mc_arena_trials.proofs.tests.threads.work.Given as goal
 
 abbrev pub invariant-loop-round : goal.invariant-loop-round

@@ -1,4 +1,4 @@
-use Rattle.mc_words.specs.Arenas.{view}
+use Rattle.mc_words.specs.hand.Arenas.{view}
 use Rattle.mc_calls.proofs.Kept.{nothing_left_later}
 use Rattle.mc_mover_trials.proofs.tests.workers.read_again.Goals as goal
 

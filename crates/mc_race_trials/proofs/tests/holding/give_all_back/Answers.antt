@@ -1,6 +1,6 @@
 use Rattle.std.proofs.Common.{subst, arith}
 use Rattle.std.proofs.lemmas.List.{nil_from_length}
-use Rattle.mc_words.specs.Arenas.{view}
+use Rattle.mc_words.specs.hand.Arenas.{view}
 use Rattle.mc_items.specs.ItemRefs.{AreKept}
 use Rattle.mc_race_trials.proofs.KeptRefs.{kept_but_last, last_kept, none_kept}
 use Rattle.mc_race_trials.proofs.tests.holding.give_all_back.Goals as goal

@@ -1,6 +1,6 @@
 use Rattle.std.proofs.Common.{◌<◌, length, rules, sym, subst}
 use Rattle.std.proofs.lemmas.List.Elements.{All-get_or}
-use Rattle.mc_words.specs.Arenas.{view}
+use Rattle.mc_words.specs.hand.Arenas.{view}
 use Rattle.mc_items.specs.ItemRefs.{AreKept, IsItemRef}
 use Rattle.mc_race_trials.proofs.KeptRefs.{kept_without}
 use Rattle.mc_race_trials.proofs.tests.holding.give_back.Goals as goal

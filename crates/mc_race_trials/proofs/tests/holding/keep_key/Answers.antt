@@ -1,5 +1,5 @@
 use Rattle.std.proofs.Common.{List, [], ◌∷◌, ◌++◌, Option, IfSome, ap, sym, subst, ◌∙◌}
-use Rattle.mc_words.specs.Arenas.{view}
+use Rattle.mc_words.specs.hand.Arenas.{view}
 use Rattle.mc_items.specs.declared.refs.Ref.{Ref}
 use Rattle.mc_items.specs.ItemRefs.{AreKept, IsItemRef}
 use Rattle.mc_items.specs.Keeping.{HoldsToo}

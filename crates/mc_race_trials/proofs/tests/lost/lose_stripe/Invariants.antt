@@ -1,4 +1,4 @@
-use Rattle.mc_words.specs.Arenas.{IsHandOf}
+use Rattle.mc_words.specs.hand.Arenas.{IsHandOf}
 use Rattle.mc_race_trials.proofs.tests.lost.lose_stripe.Given as goal
 
 abbrev pub invariant-loop-try : goal.invariant-loop-try

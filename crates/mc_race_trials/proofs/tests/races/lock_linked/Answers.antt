@@ -2,7 +2,7 @@ use Rattle.std.proofs.Common.{◌≡◌, ◌%◌, Some, refl, sym, ap, ◌∙◌
 use Rattle.mc_classes.specs.declared.config.Config.{Config}
 use Rattle.mc_pages.specs.SlabState.{class_of_page}
 use Rattle.mc_core.specs.State.{room_in}
-use Rattle.mc_words.specs.View.{Setup, View}
+use Rattle.mc_words.specs.hand.View.{Setup, View}
 use Rattle.mc_mover.specs.Linked.{ReadsKey}
 use Rattle.mc_mover.proofs.Copied.{three_places}
 use Rattle.mc_mover.proofs.Visits.{stripe_found}

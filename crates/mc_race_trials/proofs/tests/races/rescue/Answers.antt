@@ -5,9 +5,9 @@ use Rattle.mc_core.specs.declared.holding.Holding.{Holding}
 use Rattle.mc_core.specs.Evictions.{has_copy, lacks_room, none_dead}
 use Rattle.mc_core.specs.Holdings.{is_copy_of}
 use Rattle.mc_core.specs.Judged.{sees_no_target}
-use Rattle.mc_words.specs.Fresh.{IsFreshIn}
-use Rattle.mc_words.specs.View.{View}
-use Rattle.mc_words.specs.Views.{copy_holding}
+use Rattle.mc_words.specs.item.Fresh.{IsFreshIn}
+use Rattle.mc_words.specs.hand.View.{View}
+use Rattle.mc_words.specs.hand.Views.{copy_holding}
 use Rattle.mc_mover.proofs.Kept.{finds_keep}
 use Rattle.mc_mover.proofs.Writes.{found_among}
 use Rattle.mc_race_trials.proofs.tests.races.rescue.Goals as goal

@@ -11,12 +11,12 @@ use Rattle.mc_core.specs.Holdings.{has_fresh, holding_of}
 use Rattle.mc_core.specs.Judged.{sees_no_target}
 use Rattle.mc_core.specs.Looks.{is_found_alive}
 use Rattle.mc_core.specs.State.{is_class, room_in}
-use Rattle.mc_words.specs.View.{Setup, View}
-use Rattle.mc_words.specs.declared.held.StripeHeld.{StripeHeld}
-use Rattle.mc_words.specs.Fresh.{IsFreshIn}
-use Rattle.mc_words.specs.Items.{word_read}
-use Rattle.mc_words.specs.Views.{copy_holding}
-use Rattle.mc_words.proofs.Judging.{class_of_slabs}
+use Rattle.mc_words.specs.hand.View.{Setup, View}
+use Rattle.mc_words.specs.declared.hand.held.StripeHeld.{StripeHeld}
+use Rattle.mc_words.specs.item.Fresh.{IsFreshIn}
+use Rattle.mc_words.specs.item.Items.{word_read}
+use Rattle.mc_words.specs.hand.Views.{copy_holding}
+use Rattle.mc_words.proofs.Chunks.Judging.{class_of_slabs}
 use Rattle.mc_mover.proofs.Kept.{passes_keep}
 use Rattle.mc_mover.proofs.Leads.{out_now, reaches_passed, reaches_swept}
 use Rattle.mc_mover.proofs.Saves.{alive_passed, free_apart, found_last, made_reaches, no_copies, popped_holds, popped_reaches, stripe_reached, sweeps_slabs}
@@ -194,7 +194,7 @@ evict-requires-clause-reason g c =
     let apart : (other : ChunkId) → 1 ≤ times other (class_at kept own).free → times other (class_at kept own).order ≡ 0 = λ other there. free_apart swept c.sweep.ensures.arena.lawful kept c.sweep.ensures.held own (subst (λ n. Rattle.mc_pages.specs.SlabState.IsClass kept n) (sym owned) valid) other there in
     let none = alive_passed chunk.page kept (class_at kept own).order (class_at kept own).free swept passed c.sweep.ensures.held apart alive passes in
     let target : sees_no_target kept passed.row.looks chunk.page ≡ true = c.in-None.ensures.no_target refl in
-    ap (λ (x : SlabState). Rattle.mc_words.specs.Condemning.knows_reason table x passed.row.looks passed.row.holdings chunk) same
+    ap (λ (x : SlabState). Rattle.mc_words.specs.item.Removal.knows_reason table x passed.row.looks passed.row.holdings chunk) same
     ∙ or_left (is_on_the_move kept chunk.page && has_copy passed.row.holdings chunk || is_on_the_move kept chunk.page && none_dead kept passed.row.looks chunk && sees_no_target kept passed.row.looks chunk.page) (lacks_room table kept passed.row.looks chunk)
     (or_right (is_on_the_move kept chunk.page && has_copy passed.row.holdings chunk) (is_on_the_move kept chunk.page && none_dead kept passed.row.looks chunk && sees_no_target kept passed.row.looks chunk.page) (and_from _ _ (and_from _ _ moving none) target))
 

@@ -1,4 +1,4 @@
-use Rattle.mc_words.specs.Arenas.{view}
+use Rattle.mc_words.specs.hand.Arenas.{view}
 use Rattle.mc_race_trials.proofs.KeptRefs.{kept_beside, kept_stay}
 use Rattle.mc_race_trials.proofs.tests.workers.change.Goals as goal
 

@@ -1,8 +1,8 @@
 use Rattle.std.proofs.Common.{sym, ap, subst, ◌∙◌}
 use Rattle.mc_pages.specs.SlabState.{SlabState, IsClass}
 use Rattle.mc_core.specs.State.{is_class}
-use Rattle.mc_words.specs.View.{Setup}
-use Rattle.mc_words.proofs.Judging.{class_of_slabs}
+use Rattle.mc_words.specs.hand.View.{Setup}
+use Rattle.mc_words.proofs.Chunks.Judging.{class_of_slabs}
 use Rattle.mc_refusal_trials.proofs.tests.lists.see_classes.Goals as goal
 
 pub see_class-requires : goal.see_class-requires

@@ -1,7 +1,7 @@
 use native.Mathlib.Omega.{arith}
 use Rattle.std.proofs.Common.{ℕ, All, sym, subst}
 use Rattle.std.proofs.lemmas.List.Elements.{All-push}
-use Rattle.mc_words.specs.Hands.{AreHandsFrom}
+use Rattle.mc_words.specs.hand.Hands.{AreHandsFrom}
 use Rattle.mc_rows.specs.declared.tests.seats.Seat.{Seat}
 use Rattle.mc_rows.specs.Seats.{IsSeat}
 use Rattle.mc_rows.proofs.tests.seats.seats_of.Goals as goal

@@ -1,5 +1,5 @@
 use Rattle.std.proofs.Common.{All}
-use Rattle.mc_words.specs.Hands.{AreHandsFrom}
+use Rattle.mc_words.specs.hand.Hands.{AreHandsFrom}
 use Rattle.mc_rows.specs.Seats.{IsSeat}
 use Rattle.mc_rows.proofs.tests.seats.seats_of.Given as goal
 

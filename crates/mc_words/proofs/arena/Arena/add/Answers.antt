@@ -1,5 +1,5 @@
 use Rattle.mc_core.specs.Codes.{plus}
-use Rattle.mc_words.proofs.Quiet.{changes, has_number}
+use Rattle.mc_words.proofs.Rules.Quiet.{changes, has_number}
 use Rattle.mc_words.proofs.arena.Arena.add.Goals as goal
 
 pub fetch_add-requires : goal.fetch_add-requires

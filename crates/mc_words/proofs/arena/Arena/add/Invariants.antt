@@ -1,4 +1,4 @@
-use Rattle.mc_words.specs.Told.{TellsEvent}
+use Rattle.mc_words.specs.rule.Told.{TellsEvent}
 use Rattle.mc_words.proofs.arena.Arena.add.Given as goal
 
 abbrev pub ghosts-fetch_add : goal.ghosts-fetch_add

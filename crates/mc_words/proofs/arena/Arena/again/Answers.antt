@@ -2,9 +2,9 @@ use Rattle.std.proofs.Common.{◌≡◌, ◌≢◌, true, false, sym, subst, inr
 use Rattle.mc_core.specs.Head.{decode}
 use Rattle.mc_core.specs.State.{has_chunk}
 use Rattle.std.specs.Prelude.{Contains}
-use Rattle.mc_words.specs.View.{View, Setup}
-use Rattle.mc_words.specs.Hinting.{is_there}
-use Rattle.mc_words.proofs.Agains.{seen_small, finds_other, other_count, other_header}
+use Rattle.mc_words.specs.hand.View.{View, Setup}
+use Rattle.mc_words.specs.item.Again.{is_there}
+use Rattle.mc_words.proofs.Items.Agains.{seen_small, finds_other, other_count, other_header}
 use Rattle.mc_words.proofs.arena.Arena.again.Goals as goal
 
 pub refer_again-requires-clause-small : goal.refer_again-requires-clause-small

@@ -1,10 +1,10 @@
 use Rattle.std.proofs.Common.{◌≡◌, ℕ, ◌+◌, ◌-◌, zero, suc, [], ◌∷◌, ◌++◌, List, length, length-append, sym, ap, subst, ◌∙◌, arith}
 use Rattle.mc_words.specs.declared.arena.Arena.{Arena}
 use Rattle.mc_words.specs.declared.hand.Hand.{Hand}
-use Rattle.mc_words.specs.View.{Setup, new_view}
-use Rattle.mc_words.specs.Arenas.{setup_of}
-use Rattle.mc_words.specs.Hands.{AreHandsFrom}
-use Rattle.mc_words.proofs.Splits.{hands_more, new_hand}
+use Rattle.mc_words.specs.hand.View.{Setup, new_view}
+use Rattle.mc_words.specs.hand.Arenas.{setup_of}
+use Rattle.mc_words.specs.hand.Hands.{AreHandsFrom}
+use Rattle.mc_words.proofs.Hands.Splits.{hands_more, new_hand}
 use Rattle.mc_words.proofs.arena.Arena.all_hands.Goals as goal
 
 pub loop-number-init : goal.loop-number-init

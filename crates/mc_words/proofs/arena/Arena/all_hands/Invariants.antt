@@ -1,8 +1,8 @@
 use Rattle.std.proofs.Common.{◌≡◌, ◌+◌, ◌-◌, ◌≤◌, length}
 use Rattle.std.specs.Vec.{vec_len, vec_capacity}
-use Rattle.mc_words.specs.Arenas.{IsHandOf, setup_of, view}
-use Rattle.mc_words.specs.Hands.{AreHandsFrom}
-use Rattle.mc_words.specs.View.{new_view}
+use Rattle.mc_words.specs.hand.Arenas.{IsHandOf, setup_of, view}
+use Rattle.mc_words.specs.hand.Hands.{AreHandsFrom}
+use Rattle.mc_words.specs.hand.View.{new_view}
 use Rattle.mc_words.proofs.arena.Arena.all_hands.Given as goal
 
 -- the hands from 1 up to this number are made

@@ -2,11 +2,11 @@ use Rattle.std.proofs.Common.{◌≡◌, true, is_ok, refl, ap, sym, subst, ◌�
 use Rattle.mc_pages.specs.Answer.{answer_of}
 use Rattle.mc_pages.specs.SlabState.{SlabState}
 use Rattle.mc_core.specs.declared.event.Change.TheVariants.{BeginMove}
-use Rattle.mc_words.specs.View.{View}
-use Rattle.mc_words.proofs.MoveChanges.{answered, may_begin}
-use Rattle.mc_words.proofs.ChangeViews.{changed_slabs}
-use Rattle.mc_words.proofs.Locked.{noted_same}
-use Rattle.mc_words.proofs.Tallies.{tallied_same}
+use Rattle.mc_words.specs.hand.View.{View}
+use Rattle.mc_words.proofs.Pages.MoveChanges.{answered, may_begin}
+use Rattle.mc_words.proofs.Locks.ChangeViews.{changed_slabs}
+use Rattle.mc_words.proofs.Locks.Locked.{noted_same}
+use Rattle.mc_words.proofs.Hands.Tallies.{tallied_same}
 use Rattle.mc_words.proofs.arena.Arena.begin_move.Goals as goal
 
 pub tell-requires : goal.tell-requires

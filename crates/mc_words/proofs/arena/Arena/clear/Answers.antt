@@ -8,13 +8,13 @@ use Rattle.mc_core.specs.Head.{decode}
 use Rattle.mc_core.specs.State.{has_chunk}
 use Rattle.mc_core.specs.declared.event.Step.TheVariants as core
 use Rattle.mc_core.proofs.Listed.{page_of_move}
-use Rattle.mc_words.specs.View.{View, Setup}
-use Rattle.mc_words.specs.Layout.{head_word}
-use Rattle.mc_words.specs.Happens.{MayWrite}
-use Rattle.mc_words.proofs.Clears.{clear_after, clears_it, found_unused, may_clear, stands_listed}
-use Rattle.mc_words.proofs.Judging.{after_slabs, after_last}
-use Rattle.mc_words.proofs.Locked.{noted_same}
-use Rattle.mc_words.proofs.Tallies.{tallied_same}
+use Rattle.mc_words.specs.hand.View.{View, Setup}
+use Rattle.mc_words.specs.rule.Layout.{head_word}
+use Rattle.mc_words.specs.rule.Happens.{MayWrite}
+use Rattle.mc_words.proofs.Chunks.Clears.{clear_after, clears_it, found_unused, may_clear, stands_listed}
+use Rattle.mc_words.proofs.Chunks.Judging.{after_slabs, after_last}
+use Rattle.mc_words.proofs.Locks.Locked.{noted_same}
+use Rattle.mc_words.proofs.Hands.Tallies.{tallied_same}
 use Rattle.mc_words.proofs.arena.Arena.clear.Goals as goal
 
 pub subtract-requires : goal.subtract-requires

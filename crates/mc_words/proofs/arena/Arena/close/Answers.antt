@@ -1,7 +1,7 @@
 use Rattle.std.proofs.Common.{sym, ◌∙◌}
 use Rattle.std.specs.Slots.{slots_counts, slots_items}
-use Rattle.mc_words.proofs.Quiet.{has_number}
-use Rattle.mc_words.proofs.Ends.{closes, lists}
+use Rattle.mc_words.proofs.Rules.Quiet.{has_number}
+use Rattle.mc_words.proofs.Rules.Ends.{closes, lists}
 use Rattle.mc_words.proofs.arena.Arena.close.Goals as goal
 
 pub invariant_of-result : goal.invariant_of-result

@@ -7,15 +7,15 @@ use Rattle.mc_core.specs.State.{room_in}
 use Rattle.mc_core.specs.declared.event.Step.TheVariants as core
 use Rattle.mc_pages.specs.declared.ids.ChunkId.{ChunkId}
 use Rattle.mc_pages.specs.SlabState.{class_of_page}
-use Rattle.mc_words.specs.View.{Setup}
-use Rattle.mc_words.specs.Layout.{head_word}
-use Rattle.mc_words.specs.Happens.{HappensAt, MayExchange, MayWrite}
-use Rattle.mc_words.specs.Condemning.{Condemns}
-use Rattle.mc_words.proofs.Condemns.{may_condemn}
-use Rattle.mc_words.proofs.CondemnCalls.{asks, condemns, dead_by_condemn, finds_held, has_still, held_after, key_found, led_there, left_by_condemn, left_by_miss, none_still, read_before, reason_still, same_number, sees_held, word_condemned, word_held, word_unheld}
-use Rattle.mc_words.proofs.Heads.{may_look}
-use Rattle.mc_words.proofs.Locked.{noted_same}
-use Rattle.mc_words.proofs.Tallies.{tallied_same}
+use Rattle.mc_words.specs.hand.View.{Setup}
+use Rattle.mc_words.specs.rule.Layout.{head_word}
+use Rattle.mc_words.specs.rule.Happens.{HappensAt, MayExchange, MayWrite}
+use Rattle.mc_words.specs.item.Removal.{Condemns}
+use Rattle.mc_words.proofs.Items.Condemns.{may_condemn}
+use Rattle.mc_words.proofs.Items.CondemnCalls.{asks, condemns, dead_by_condemn, finds_held, has_still, held_after, key_found, led_there, left_by_condemn, left_by_miss, none_still, read_before, reason_still, same_number, sees_held, word_condemned, word_held, word_unheld}
+use Rattle.mc_words.proofs.Chunks.Heads.{may_look}
+use Rattle.mc_words.proofs.Locks.Locked.{noted_same}
+use Rattle.mc_words.proofs.Hands.Tallies.{tallied_same}
 use Rattle.mc_words.proofs.arena.Arena.condemn.Goals as goal
 
 pub word_held-key-requires-clause-linked : goal.word_held-key-requires-clause-linked

@@ -7,14 +7,14 @@ use Rattle.mc_core.specs.State.{room_in}
 use Rattle.mc_core.specs.declared.event.Step.TheVariants as core
 use Rattle.mc_pages.specs.declared.ids.ChunkId.{ChunkId}
 use Rattle.mc_pages.specs.SlabState.{class_of_page}
-use Rattle.mc_words.specs.View.{Setup}
-use Rattle.mc_words.specs.Layout.{head_word}
-use Rattle.mc_words.specs.Happens.{HappensAt, MayExchange, MayWrite}
-use Rattle.mc_words.proofs.Condemns.{may_condemn_original}
-use Rattle.mc_words.proofs.CondemnCalls.{asks, condemns_original, dead_by_original, finds_held, has_still, counts_after, key_found, led_there, left_by_original, left_by_miss, copy_still, read_before, reason_still, sees_held, word_condemned, word_held, word_unheld}
-use Rattle.mc_words.proofs.Heads.{may_look}
-use Rattle.mc_words.proofs.Locked.{noted_same}
-use Rattle.mc_words.proofs.Tallies.{tallied_fresh}
+use Rattle.mc_words.specs.hand.View.{Setup}
+use Rattle.mc_words.specs.rule.Layout.{head_word}
+use Rattle.mc_words.specs.rule.Happens.{HappensAt, MayExchange, MayWrite}
+use Rattle.mc_words.proofs.Items.Condemns.{may_condemn_original}
+use Rattle.mc_words.proofs.Items.CondemnCalls.{asks, condemns_original, dead_by_original, finds_held, has_still, counts_after, key_found, led_there, left_by_original, left_by_miss, copy_still, read_before, reason_still, sees_held, word_condemned, word_held, word_unheld}
+use Rattle.mc_words.proofs.Chunks.Heads.{may_look}
+use Rattle.mc_words.proofs.Locks.Locked.{noted_same}
+use Rattle.mc_words.proofs.Hands.Tallies.{tallied_fresh}
 use Rattle.mc_words.proofs.arena.Arena.condemn_original.Goals as goal
 
 pub word_held-key-requires-clause-linked : goal.word_held-key-requires-clause-linked

@@ -3,13 +3,13 @@ use Rattle.mc_pages.specs.declared.ids.ChunkId.{ChunkId}
 use Rattle.mc_core.specs.Codes.{plus}
 use Rattle.mc_core.specs.State.{has_chunk}
 use Rattle.mc_core.specs.declared.event.Step.TheVariants as core
-use Rattle.mc_words.specs.View.{View, Setup}
-use Rattle.mc_words.specs.Layout.{head_word}
-use Rattle.mc_words.specs.Happens.{MayWrite}
-use Rattle.mc_words.proofs.Owners.{may_cut, uncut_near}
-use Rattle.mc_words.proofs.Judging.{cuts}
-use Rattle.mc_words.proofs.Locked.{noted_same}
-use Rattle.mc_words.proofs.Tallies.{tallied_same}
+use Rattle.mc_words.specs.hand.View.{View, Setup}
+use Rattle.mc_words.specs.rule.Layout.{head_word}
+use Rattle.mc_words.specs.rule.Happens.{MayWrite}
+use Rattle.mc_words.proofs.Pages.Owners.{may_cut, uncut_near}
+use Rattle.mc_words.proofs.Chunks.Judging.{cuts}
+use Rattle.mc_words.proofs.Locks.Locked.{noted_same}
+use Rattle.mc_words.proofs.Hands.Tallies.{tallied_same}
 use Rattle.mc_words.proofs.arena.Arena.cut.Goals as goal
 
 pub head_word-word-requires : goal.head_word-word-requires

@@ -2,9 +2,9 @@ use Rattle.std.proofs.Common.{◌∙◌, List, ap, sym, subst}
 use Rattle.mc_pages.specs.declared.ids.ChunkId.{ChunkId}
 use Rattle.mc_pages.specs.SlabState.{SlabState}
 use Rattle.mc_pages.proofs.Cuts.{chunk_at, cuts_more, next_after_cut}
-use Rattle.mc_words.specs.View.{View}
-use Rattle.mc_words.specs.Cutting.{CutsEach}
-use Rattle.mc_words.proofs.WholeCuts.{cut_seen, cuts_on, first_more}
+use Rattle.mc_words.specs.hand.View.{View}
+use Rattle.mc_words.specs.page.Cuts.{CutsEach}
+use Rattle.mc_words.proofs.Pages.WholeCuts.{cut_seen, cuts_on, first_more}
 use Rattle.mc_words.proofs.arena.Arena.cut_page.Goals as goal
 
 pub loop-index-preserved : goal.loop-index-preserved

@@ -3,9 +3,9 @@ use Rattle.std.specs.Prelude.{fold}
 use Rattle.mc_pages.specs.Accounted.{first_chunks}
 use Rattle.mc_pages.specs.Changes.{after_cut}
 use Rattle.mc_pages.proofs.Cuts.{next_cut}
-use Rattle.mc_words.specs.Arenas.{IsHandOf, view}
-use Rattle.mc_words.specs.Sweeping.{with_seen}
-use Rattle.mc_words.specs.Cutting.{CutsEach}
+use Rattle.mc_words.specs.hand.Arenas.{IsHandOf, view}
+use Rattle.mc_words.specs.chunk.Sweeps.{with_seen}
+use Rattle.mc_words.specs.page.Cuts.{CutsEach}
 use Rattle.mc_words.proofs.arena.Arena.cut_page.Given as goal
 
 -- the chunks below are cut, and the next one is the lowest that isn't

@@ -3,14 +3,14 @@ use Rattle.mc_pages.specs.Accounted.{truth}
 use Rattle.mc_core.specs.Codes.{minus}
 use Rattle.mc_core.specs.State.{has_chunk}
 use Rattle.mc_core.specs.declared.event.Step.TheVariants as core
-use Rattle.mc_words.specs.View.{View, Setup}
-use Rattle.mc_words.specs.Layout.{head_word}
-use Rattle.mc_words.specs.Tallies.{fresh_count}
-use Rattle.mc_words.specs.Happens.{MayWrite}
-use Rattle.mc_words.proofs.Owners.{may_discard, holding_near, one_less}
-use Rattle.mc_words.proofs.OwnerViews.{discarded_chunk}
-use Rattle.mc_words.proofs.Locked.{noted_same}
-use Rattle.mc_words.proofs.Tallies.{fresh_less, tallied_fresh}
+use Rattle.mc_words.specs.hand.View.{View, Setup}
+use Rattle.mc_words.specs.rule.Layout.{head_word}
+use Rattle.mc_words.specs.hand.Tallies.{fresh_count}
+use Rattle.mc_words.specs.rule.Happens.{MayWrite}
+use Rattle.mc_words.proofs.Pages.Owners.{may_discard, holding_near, one_less}
+use Rattle.mc_words.proofs.Pages.OwnerViews.{discarded_chunk}
+use Rattle.mc_words.proofs.Locks.Locked.{noted_same}
+use Rattle.mc_words.proofs.Hands.Tallies.{fresh_less, tallied_fresh}
 use Rattle.mc_words.proofs.arena.Arena.discard.Goals as goal
 
 pub head_word-word-requires : goal.head_word-word-requires

@@ -1,13 +1,13 @@
 use Rattle.std.proofs.Common.{◌≡◌, true, refl, ap, sym, subst, ◌∙◌, length, arith}
 use Rattle.mc_core.specs.State.{is_class}
-use Rattle.mc_words.proofs.Judging.{class_of_slabs}
+use Rattle.mc_words.proofs.Chunks.Judging.{class_of_slabs}
 use Rattle.mc_pages.specs.SlabState.{SlabState, IsClass}
 use Rattle.mc_core.specs.declared.event.Change.TheVariants.{Evicted}
-use Rattle.mc_words.specs.View.{View, Setup}
-use Rattle.mc_words.proofs.Pages.{may_evicted}
-use Rattle.mc_words.proofs.ChangeViews.{changed_slabs}
-use Rattle.mc_words.proofs.Locked.{noted_same}
-use Rattle.mc_words.proofs.Tallies.{tallied_same}
+use Rattle.mc_words.specs.hand.View.{View, Setup}
+use Rattle.mc_words.proofs.Pages.PageWords.{may_evicted}
+use Rattle.mc_words.proofs.Locks.ChangeViews.{changed_slabs}
+use Rattle.mc_words.proofs.Locks.Locked.{noted_same}
+use Rattle.mc_words.proofs.Hands.Tallies.{tallied_same}
 use Rattle.mc_words.proofs.arena.Arena.evicted.Goals as goal
 
 pub evicted-requires : goal.evicted-requires

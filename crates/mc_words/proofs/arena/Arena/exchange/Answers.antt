@@ -1,4 +1,4 @@
-use Rattle.mc_words.proofs.Quiet.{exchanges, has_number}
+use Rattle.mc_words.proofs.Rules.Quiet.{exchanges, has_number}
 use Rattle.mc_words.proofs.arena.Arena.exchange.Goals as goal
 
 pub compare_exchange-requires : goal.compare_exchange-requires

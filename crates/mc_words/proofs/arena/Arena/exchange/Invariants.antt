@@ -1,4 +1,4 @@
-use Rattle.mc_words.specs.Told.{TellsExchange}
+use Rattle.mc_words.specs.rule.Told.{TellsExchange}
 use Rattle.mc_words.proofs.arena.Arena.exchange.Given as goal
 
 abbrev pub ghosts-compare_exchange : goal.ghosts-compare_exchange

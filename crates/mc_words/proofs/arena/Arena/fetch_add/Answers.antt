@@ -1,5 +1,5 @@
 use Rattle.mc_core.specs.Codes.{plus}
-use Rattle.mc_words.proofs.Quiet.{finds, has_number}
+use Rattle.mc_words.proofs.Rules.Quiet.{finds, has_number}
 use Rattle.mc_words.proofs.arena.Arena.fetch_add.Goals as goal
 
 pub fetch_add-requires : goal.fetch_add-requires

@@ -1,4 +1,4 @@
-use Rattle.mc_words.specs.Told.{TellsFound}
+use Rattle.mc_words.specs.rule.Told.{TellsFound}
 use Rattle.mc_words.proofs.arena.Arena.fetch_add.Given as goal
 
 abbrev pub ghosts-fetch_add : goal.ghosts-fetch_add

@@ -2,16 +2,16 @@ use Rattle.std.proofs.Common.{◌≡◌, ◌<◌, ℕ, refl, ap, sym, subst, len
 use Rattle.mc_pages.specs.declared.ids.ChunkId.{ChunkId}
 use Rattle.mc_core.specs.Holdings.{words_of}
 use Rattle.mc_core.specs.declared.event.Step.TheVariants as core
-use Rattle.mc_words.specs.View.{View, Setup}
-use Rattle.mc_words.specs.Layout.{data_word, config_from}
-use Rattle.mc_words.specs.Happens.{MayWrite}
-use Rattle.mc_words.specs.Fresh.{IsFreshOf}
-use Rattle.mc_words.specs.Tallies.{fresh_count}
-use Rattle.mc_words.proofs.Owners.{may_fill, fill_near}
-use Rattle.mc_words.proofs.OwnerViews.{filled_word}
-use Rattle.mc_words.proofs.Filled.{fill_holds, still_fresh}
-use Rattle.mc_words.proofs.Locked.{noted_same}
-use Rattle.mc_words.proofs.Tallies.{fresh_filled, tallied_fresh}
+use Rattle.mc_words.specs.hand.View.{View, Setup}
+use Rattle.mc_words.specs.rule.Layout.{data_word, config_from}
+use Rattle.mc_words.specs.rule.Happens.{MayWrite}
+use Rattle.mc_words.specs.item.Fresh.{IsFreshOf}
+use Rattle.mc_words.specs.hand.Tallies.{fresh_count}
+use Rattle.mc_words.proofs.Pages.Owners.{may_fill, fill_near}
+use Rattle.mc_words.proofs.Pages.OwnerViews.{filled_word}
+use Rattle.mc_words.proofs.Items.Filled.{fill_holds, still_fresh}
+use Rattle.mc_words.proofs.Locks.Locked.{noted_same}
+use Rattle.mc_words.proofs.Hands.Tallies.{fresh_filled, tallied_fresh}
 use Rattle.mc_words.proofs.arena.Arena.fill.Goals as goal
 
 pub data_word-at-requires : goal.data_word-at-requires

@@ -5,10 +5,10 @@ use Rattle.mc_pages.specs.ClassState.{behind, times}
 use Rattle.mc_pages.specs.SlabState.{SlabState, class_at, class_of_chunk}
 use Rattle.mc_pages.proofs.RestOfList.{rest_from}
 use Rattle.mc_core.specs.State.{has_chunk, is_class}
-use Rattle.mc_words.specs.View.{Setup}
-use Rattle.mc_words.specs.Rescuing.{PassesAll}
-use Rattle.mc_words.proofs.Sweeps.{begins_with, behind_is, elsewhere, is_empty, left_is}
-use Rattle.mc_words.proofs.FreeWalks.{free_once, passes_again, stands_free}
+use Rattle.mc_words.specs.hand.View.{Setup}
+use Rattle.mc_words.specs.chunk.Copies.{PassesAll}
+use Rattle.mc_words.proofs.Chunks.Sweeps.{begins_with, behind_is, elsewhere, is_empty, left_is}
+use Rattle.mc_words.proofs.Chunks.FreeWalks.{free_once, passes_again, stands_free}
 use Rattle.mc_words.proofs.arena.Arena.find_fit.Goals as goal
 
 pub is_fit-requires-clause-near : goal.is_fit-requires-clause-near

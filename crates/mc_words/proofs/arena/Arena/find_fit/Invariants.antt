@@ -2,8 +2,8 @@ use Rattle.std.proofs.Common.{◌≡◌, ◌++◌, List, Some, length, slice_get
 use Rattle.mc_pages.specs.declared.ids.ChunkId.{ChunkId}
 use Rattle.mc_pages.specs.SlabState.{class_at}
 use Rattle.mc_pages.proofs.RestOfList.{rest_from}
-use Rattle.mc_words.specs.Arenas.{IsHandOf, view}
-use Rattle.mc_words.specs.Rescuing.{PassesAll}
+use Rattle.mc_words.specs.hand.Arenas.{IsHandOf, view}
+use Rattle.mc_words.specs.chunk.Copies.{PassesAll}
 use Rattle.mc_words.proofs.arena.Arena.find_fit.Given as goal
 
 -- the walk passed over these, and the rest is to come

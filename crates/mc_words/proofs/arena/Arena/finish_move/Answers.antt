@@ -4,15 +4,15 @@ use Rattle.mc_pages.specs.declared.ids.Moving.{Moving}
 use Rattle.mc_pages.specs.Moves.{CanFinish}
 use Rattle.mc_pages.specs.SlabState.{SlabState}
 use Rattle.mc_core.specs.declared.event.Change.TheVariants.{FinishMove}
-use Rattle.mc_words.specs.View.{View, Setup}
-use Rattle.mc_words.proofs.MoveChanges.{can_finish_from, may_finish, move_near, of_table_here}
-use Rattle.mc_words.proofs.ChangeViews.{changed_slabs}
-use Rattle.mc_words.proofs.Locked.{noted_same}
-use Rattle.mc_words.proofs.Tallies.{tallied_same}
+use Rattle.mc_words.specs.hand.View.{View, Setup}
+use Rattle.mc_words.proofs.Pages.MoveChanges.{can_finish_from, may_finish, move_near, of_table_here}
+use Rattle.mc_words.proofs.Locks.ChangeViews.{changed_slabs}
+use Rattle.mc_words.proofs.Locks.Locked.{noted_same}
+use Rattle.mc_words.proofs.Hands.Tallies.{tallied_same}
 use Rattle.mc_words.proofs.arena.Arena.finish_move.Goals as goal
 use Rattle.mc_core.specs.declared.event.Step.TheVariants as core
-use Rattle.mc_words.specs.Happens.{MayTell}
-use Rattle.mc_words.specs.Layout.{page_word}
+use Rattle.mc_words.specs.rule.Happens.{MayTell}
+use Rattle.mc_words.specs.rule.Layout.{page_word}
 
 pub page_word-word-requires : goal.page_word-word-requires
 page_word-word-requires c =

@@ -1,15 +1,15 @@
 use Rattle.std.proofs.Common.{◌≡◌, ℕ, ◌∷◌, refl, sym, ap, subst, ◌∙◌, arith}
 use Rattle.atomic_table.specs.Table.{Allows, rest}
-use Rattle.mc_words.specs.View.{Setup}
-use Rattle.mc_words.specs.Joining.{Rule}
-use Rattle.mc_words.specs.Told.{Sits}
-use Rattle.mc_words.specs.declared.locks.Lock.{Lock}
-use Rattle.mc_words.specs.Layout.{lock_word}
-use Rattle.mc_words.specs.Slots.{number_of, slot_of}
-use Rattle.mc_words.specs.Taking.{GivesValue}
-use Rattle.mc_words.proofs.Quiet.{has_number}
-use Rattle.mc_words.proofs.OutFirst.{few_locks, first_slot}
-use Rattle.mc_words.proofs.TakeAndGive.{gives_back}
+use Rattle.mc_words.specs.hand.View.{Setup}
+use Rattle.mc_words.specs.rule.Joins.{Rule}
+use Rattle.mc_words.specs.rule.Told.{Sits}
+use Rattle.mc_words.specs.declared.lock.locks.Lock.{Lock}
+use Rattle.mc_words.specs.rule.Layout.{lock_word}
+use Rattle.mc_words.specs.lock.Slots.{number_of, slot_of}
+use Rattle.mc_words.specs.lock.Tries.{GivesValue}
+use Rattle.mc_words.proofs.Rules.Quiet.{has_number}
+use Rattle.mc_words.proofs.Locks.OutFirst.{few_locks, first_slot}
+use Rattle.mc_words.proofs.Locks.TakeAndGive.{gives_back}
 use Rattle.mc_words.proofs.arena.Arena.give.Goals as goal
 
 pub word-word-requires : goal.word-word-requires

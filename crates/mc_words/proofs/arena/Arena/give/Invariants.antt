@@ -1,4 +1,4 @@
-use Rattle.mc_words.specs.Taking.{GivesValue}
+use Rattle.mc_words.specs.lock.Tries.{GivesValue}
 use Rattle.mc_words.proofs.arena.Arena.give.Given as goal
 
 abbrev pub ghosts-store : goal.ghosts-store

@@ -1,12 +1,12 @@
 use Rattle.std.proofs.Common.{zero, [], refl, sym, ap, subst, arith, ◌∙◌}
 use Rattle.mc_core.specs.declared.event.Step.TheVariants as core
-use Rattle.mc_words.specs.View.{View}
-use Rattle.mc_words.specs.Happens.{Happens, LawfulView}
-use Rattle.mc_words.specs.Out.{IsNoted, HasLocks, with_last, without_slabs}
-use Rattle.mc_words.specs.Views.{slabs_given}
-use Rattle.mc_words.proofs.Locked.{has_slabs_lock, slabs_last, left_slabs, noted_gave_slabs}
-use Rattle.mc_words.proofs.LockViews.{given_slabs}
-use Rattle.mc_words.proofs.Tallies.{tallied_same}
+use Rattle.mc_words.specs.hand.View.{View}
+use Rattle.mc_words.specs.rule.Happens.{Happens, LawfulView}
+use Rattle.mc_words.specs.lock.Out.{IsNoted, HasLocks, with_last, without_slabs}
+use Rattle.mc_words.specs.hand.Views.{slabs_given}
+use Rattle.mc_words.proofs.Locks.Locked.{has_slabs_lock, slabs_last, left_slabs, noted_gave_slabs}
+use Rattle.mc_words.proofs.Locks.LockViews.{given_slabs}
+use Rattle.mc_words.proofs.Hands.Tallies.{tallied_same}
 use Rattle.mc_words.proofs.arena.Arena.give_slabs.Goals as goal
 
 pub give-requires : goal.give-requires

@@ -1,12 +1,12 @@
 use Rattle.std.proofs.Common.{suc, ◌<◌, [], None, slice_index_or, is_none, refl, sym, ap, subst, arith, ◌∙◌}
 use Rattle.mc_core.specs.declared.event.Step.TheVariants as core
-use Rattle.mc_words.specs.View.{View, Setup}
-use Rattle.mc_words.specs.Happens.{Happens, LawfulView}
-use Rattle.mc_words.specs.Out.{IsNoted, HasLocks, with_last, without_stripe}
-use Rattle.mc_words.specs.Views.{stripe_given}
-use Rattle.mc_words.proofs.Locked.{has_stripe_lock, stripe_last, left_stripe, noted_gave_stripe}
-use Rattle.mc_words.proofs.LockViews.{given_stripe}
-use Rattle.mc_words.proofs.Tallies.{tallied_same}
+use Rattle.mc_words.specs.hand.View.{View, Setup}
+use Rattle.mc_words.specs.rule.Happens.{Happens, LawfulView}
+use Rattle.mc_words.specs.lock.Out.{IsNoted, HasLocks, with_last, without_stripe}
+use Rattle.mc_words.specs.hand.Views.{stripe_given}
+use Rattle.mc_words.proofs.Locks.Locked.{has_stripe_lock, stripe_last, left_stripe, noted_gave_stripe}
+use Rattle.mc_words.proofs.Locks.LockViews.{given_stripe}
+use Rattle.mc_words.proofs.Hands.Tallies.{tallied_same}
 use Rattle.mc_words.proofs.arena.Arena.give_stripe.Goals as goal
 
 pub give-requires : goal.give-requires

@@ -6,14 +6,14 @@ use Rattle.mc_core.specs.Silent.{grown}
 use Rattle.mc_core.specs.State.{is_class}
 use Rattle.mc_core.specs.declared.event.Change.TheVariants.{Grow}
 use Rattle.mc_core.specs.declared.event.Step.TheVariants as core
-use Rattle.mc_words.specs.View.{View, Setup}
-use Rattle.mc_words.specs.Layout.{page_word}
-use Rattle.mc_words.specs.Happens.{MayTell}
-use Rattle.mc_words.proofs.Judging.{class_of_slabs}
-use Rattle.mc_words.proofs.Pages.{may_grow, next_near, can_grow_here}
-use Rattle.mc_words.proofs.ChangeViews.{changed_slabs}
-use Rattle.mc_words.proofs.Locked.{noted_same}
-use Rattle.mc_words.proofs.Tallies.{tallied_same}
+use Rattle.mc_words.specs.hand.View.{View, Setup}
+use Rattle.mc_words.specs.rule.Layout.{page_word}
+use Rattle.mc_words.specs.rule.Happens.{MayTell}
+use Rattle.mc_words.proofs.Chunks.Judging.{class_of_slabs}
+use Rattle.mc_words.proofs.Pages.PageWords.{may_grow, next_near, can_grow_here}
+use Rattle.mc_words.proofs.Locks.ChangeViews.{changed_slabs}
+use Rattle.mc_words.proofs.Locks.Locked.{noted_same}
+use Rattle.mc_words.proofs.Hands.Tallies.{tallied_same}
 use Rattle.mc_words.proofs.arena.Arena.grow.Goals as goal
 
 pub grow-requires : goal.grow-requires

@@ -4,14 +4,14 @@ use Rattle.mc_core.specs.Head.{decode}
 use Rattle.mc_core.specs.State.{has_chunk}
 use Rattle.mc_core.specs.declared.look.Look.TheVariants.{Saw}
 use Rattle.mc_core.specs.declared.event.Step.TheVariants as core
-use Rattle.mc_words.specs.View.{View, Setup}
-use Rattle.mc_words.specs.Layout.{head_word}
-use Rattle.mc_words.specs.Happens.{MayWrite, HappensAt}
-use Rattle.mc_words.specs.Views.{saw}
-use Rattle.mc_words.proofs.Heads.{may_look}
-use Rattle.mc_words.proofs.Locked.{noted_same}
-use Rattle.mc_words.proofs.LockViews.{seen_head, look_holds}
-use Rattle.mc_words.proofs.Tallies.{tallied_same}
+use Rattle.mc_words.specs.hand.View.{View, Setup}
+use Rattle.mc_words.specs.rule.Layout.{head_word}
+use Rattle.mc_words.specs.rule.Happens.{MayWrite, HappensAt}
+use Rattle.mc_words.specs.hand.Views.{saw}
+use Rattle.mc_words.proofs.Chunks.Heads.{may_look}
+use Rattle.mc_words.proofs.Locks.Locked.{noted_same}
+use Rattle.mc_words.proofs.Locks.LockViews.{seen_head, look_holds}
+use Rattle.mc_words.proofs.Hands.Tallies.{tallied_same}
 use Rattle.mc_words.proofs.arena.Arena.head_at.Goals as goal
 
 pub look-requires : goal.look-requires

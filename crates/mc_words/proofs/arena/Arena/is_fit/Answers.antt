@@ -1,6 +1,6 @@
 use Rattle.std.proofs.Common.{◌/◌, refl, inr, ltb-true, ltb-false}
 use Rattle.mc_core.specs.Head.{decode}
-use Rattle.mc_words.proofs.Judging.{issue_left, issue_worn}
+use Rattle.mc_words.proofs.Chunks.Judging.{issue_left, issue_worn}
 use Rattle.mc_words.proofs.arena.Arena.is_fit.Goals as goal
 
 pub returns-clause-fit : goal.returns-clause-fit

@@ -1,7 +1,7 @@
 use Rattle.std.proofs.Common.{ap}
-use Rattle.mc_words.specs.View.{View}
-use Rattle.mc_words.proofs.Joined.{agrees, noted_both, none_out}
-use Rattle.mc_words.proofs.Tallies.{tallied_same}
+use Rattle.mc_words.specs.hand.View.{View}
+use Rattle.mc_words.proofs.Hands.Joined.{agrees, noted_both, none_out}
+use Rattle.mc_words.proofs.Hands.Tallies.{tallied_same}
 use Rattle.mc_words.proofs.arena.Arena.join_hands.Goals as goal
 
 pub unite-requires-clause-none : goal.unite-requires-clause-none

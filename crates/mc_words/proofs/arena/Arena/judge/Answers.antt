@@ -7,13 +7,13 @@ use Rattle.mc_core.specs.State.{has_chunk}
 use Rattle.mc_core.specs.declared.event.Step.TheVariants as core
 use Rattle.mc_core.specs.declared.look.Look.{Look}
 use Rattle.mc_core.specs.declared.look.Look.TheVariants.{Saw}
-use Rattle.mc_words.specs.Arenas.{setup_of}
-use Rattle.mc_words.specs.Dead.{IsJudged}
-use Rattle.mc_words.specs.Happens.{Happens, LawfulView}
-use Rattle.mc_words.specs.View.{View, Setup}
-use Rattle.mc_words.specs.Views.{head_seen}
-use Rattle.mc_words.proofs.Judged.{alive_judged, alive_kept, noted_judged, noted_kept, noted_out}
-use Rattle.mc_words.proofs.Judging.{after_last, after_slabs, seen_is, stands_out, word_alive, word_dead}
+use Rattle.mc_words.specs.hand.Arenas.{setup_of}
+use Rattle.mc_words.specs.chunk.Dead.{IsJudged}
+use Rattle.mc_words.specs.rule.Happens.{Happens, LawfulView}
+use Rattle.mc_words.specs.hand.View.{View, Setup}
+use Rattle.mc_words.specs.hand.Views.{head_seen}
+use Rattle.mc_words.proofs.Pages.Judged.{alive_judged, alive_kept, noted_judged, noted_kept, noted_out}
+use Rattle.mc_words.proofs.Chunks.Judging.{after_last, after_slabs, seen_is, stands_out, word_alive, word_dead}
 use Rattle.mc_words.proofs.arena.Arena.judge.Goals as goal
 
 -- the look that the hand has then

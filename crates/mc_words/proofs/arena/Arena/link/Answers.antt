@@ -8,19 +8,19 @@ use Rattle.mc_core.specs.Holdings.{is_of, item_in, lose, numbers, words_of}
 use Rattle.mc_core.specs.State.{has_chunk}
 use Rattle.mc_core.specs.declared.holding.Holding.{Holding}
 use Rattle.mc_core.specs.declared.event.Step.TheVariants as core
-use Rattle.mc_words.specs.View.{View, Setup}
-use Rattle.mc_words.specs.Layout.{head_word}
-use Rattle.mc_words.specs.Happens.{MayWrite, HappensAt}
-use Rattle.mc_words.specs.Items.{issue_in, words_in}
-use Rattle.mc_words.specs.Linking.{item_linked, own_item}
-use Rattle.mc_words.specs.Referring.{reference_to}
-use Rattle.mc_words.specs.Refs.{IsRefOf}
-use Rattle.mc_words.specs.Tallies.{fresh_count}
-use Rattle.mc_words.proofs.Owners.{holding_near, one_less}
-use Rattle.mc_words.proofs.Links.{MayStore, alone_from, issue_was, linked_ref, linked_room, linked_room_is, linked_view, may_link}
-use Rattle.mc_words.proofs.StripeChanges.{set_found}
-use Rattle.mc_words.proofs.Locked.{noted_same}
-use Rattle.mc_words.proofs.Tallies.{fresh_less, fresh_more}
+use Rattle.mc_words.specs.hand.View.{View, Setup}
+use Rattle.mc_words.specs.rule.Layout.{head_word}
+use Rattle.mc_words.specs.rule.Happens.{MayWrite, HappensAt}
+use Rattle.mc_words.specs.item.Items.{issue_in, words_in}
+use Rattle.mc_words.specs.item.Links.{item_linked, own_item}
+use Rattle.mc_words.specs.item.References.{reference_to}
+use Rattle.mc_words.specs.item.Refs.{IsRefOf}
+use Rattle.mc_words.specs.hand.Tallies.{fresh_count}
+use Rattle.mc_words.proofs.Pages.Owners.{holding_near, one_less}
+use Rattle.mc_words.proofs.Items.Links.{MayStore, alone_from, issue_was, linked_ref, linked_room, linked_room_is, linked_view, may_link}
+use Rattle.mc_words.proofs.Locks.StripeChanges.{set_found}
+use Rattle.mc_words.proofs.Locks.Locked.{noted_same}
+use Rattle.mc_words.proofs.Hands.Tallies.{fresh_less, fresh_more}
 use Rattle.mc_words.proofs.arena.Arena.link.Goals as goal
 
 pub head_word-word-requires : goal.head_word-word-requires

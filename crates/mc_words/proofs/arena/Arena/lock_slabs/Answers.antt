@@ -1,8 +1,8 @@
 use Rattle.std.proofs.Common.{◌≡◌, ◌≢◌, ℕ, List, [], ◌∷◌, ◌++◌, sym, ap, subst, ◌∙◌}
 use Rattle.mc_words.specs.declared.hand.Hand.{Hand}
-use Rattle.mc_words.specs.Arenas.{IsHandOf}
-use Rattle.mc_words.specs.Waiting.{MissesSlabs}
-use Rattle.mc_words.proofs.Waits.{last_or, last_added, missed_again, not_free}
+use Rattle.mc_words.specs.hand.Arenas.{IsHandOf}
+use Rattle.mc_words.specs.lock.Wait.{MissesSlabs}
+use Rattle.mc_words.proofs.Locks.Waits.{last_or, last_added, missed_again, not_free}
 use Rattle.mc_words.proofs.arena.Arena.lock_slabs.Goals as goal
 use Rattle.mc_words.proofs.arena.Arena.lock_slabs.Goals.{then-free+in_default, else-free}
 

@@ -1,11 +1,11 @@
 use Rattle.std.proofs.Common.{◌≡◌, ◌≢◌, ℕ, List, [], ◌∷◌, ◌++◌, sym, ap, subst, ◌∙◌, slice_get}
 use Rattle.mc_stripe.specs.declared.history.Call.{Call}
 use Rattle.mc_words.specs.declared.hand.Hand.{Hand}
-use Rattle.mc_words.specs.Arenas.{IsHandOf}
-use Rattle.mc_words.specs.Out.{has_no_stripe}
-use Rattle.mc_words.specs.Waiting.{MissesStripe}
-use Rattle.mc_words.proofs.Unlocked.{unlocked_from, no_stripe_unlocked, no_stripes_there}
-use Rattle.mc_words.proofs.Waits.{last_or, last_added, missed_stripe_again, misses_seen, not_free}
+use Rattle.mc_words.specs.hand.Arenas.{IsHandOf}
+use Rattle.mc_words.specs.lock.Out.{has_no_stripe}
+use Rattle.mc_words.specs.lock.Wait.{MissesStripe}
+use Rattle.mc_words.proofs.Locks.Unlocked.{unlocked_from, no_stripe_unlocked, no_stripes_there}
+use Rattle.mc_words.proofs.Locks.Waits.{last_or, last_added, missed_stripe_again, misses_seen, not_free}
 use Rattle.mc_words.proofs.arena.Arena.lock_stripe.Goals as goal
 use Rattle.mc_words.proofs.arena.Arena.lock_stripe.Goals.{then-free+in_default, else-free}
 

@@ -1,7 +1,7 @@
 use Rattle.std.proofs.Common.{◌≡◌, ◌≢◌, ℕ, false, List}
-use Rattle.mc_words.specs.Arenas.{IsHandOf, view}
-use Rattle.mc_words.specs.Waiting.{MissesStripe}
-use Rattle.mc_words.proofs.Waits.{last_or}
+use Rattle.mc_words.specs.hand.Arenas.{IsHandOf, view}
+use Rattle.mc_words.specs.lock.Wait.{MissesStripe}
+use Rattle.mc_words.proofs.Locks.Waits.{last_or}
 use Rattle.mc_words.proofs.arena.Arena.lock_stripe.Given as goal
 
 abbrev pub invariant-loop : goal.invariant-loop

@@ -1,4 +1,4 @@
-use Rattle.mc_words.proofs.Quiet.{finds, has_number}
+use Rattle.mc_words.proofs.Rules.Quiet.{finds, has_number}
 use Rattle.mc_words.proofs.arena.Arena.look.Goals as goal
 
 pub load-requires : goal.load-requires

@@ -1,4 +1,4 @@
-use Rattle.mc_words.specs.Told.{TellsFound}
+use Rattle.mc_words.specs.rule.Told.{TellsFound}
 use Rattle.mc_words.proofs.arena.Arena.look.Given as goal
 
 abbrev pub ghosts-load : goal.ghosts-load

@@ -2,9 +2,9 @@ use Rattle.std.proofs.Common.{◌≡◌, ◌∙◌, ◌+◌, ◌-◌, ◌*◌, �
 use Rattle.std.proofs.lemmas.Bool.{cases_lt}
 use Rattle.mc_pages.specs.declared.ids.ChunkId.{ChunkId}
 use Rattle.mc_pages.specs.Accounted.{first_chunks}
-use Rattle.mc_words.specs.Dead.{IsJudged}
-use Rattle.mc_words.specs.Sweeping.{SeesHeaders, chunks_from}
-use Rattle.mc_words.proofs.LookedOver.{first_both, sees_both}
+use Rattle.mc_words.specs.chunk.Dead.{IsJudged}
+use Rattle.mc_words.specs.chunk.Sweeps.{SeesHeaders, chunks_from}
+use Rattle.mc_words.proofs.Pages.LookedOver.{first_both, sees_both}
 use Rattle.mc_words.proofs.arena.Arena.look_along.Goals as goal
 
 -- one block more
@@ -44,7 +44,7 @@ returns-clause-sees c =
     let next = c.look_from-2.new.hand.seat.me.0 in
     let all : from + (per_page - from) ≡ per_page = omega (arith, div-mul-le_self per_page 4) in
     subst (λ (cs : List ChunkId). SeesHeaders cs was next) (first_both page from (per_page - from) ∙ ap (first_chunks page) all)
-      (sees_both (first_chunks page from) (chunks_from page from (per_page - from)) was now next (subst (λ (n : ℕ). SeesHeaders (first_chunks page (n * 4)) was now) same c.loop-block.invariant.sees) c.look_from-2.ensures.sees)
+    (sees_both (first_chunks page from) (chunks_from page from (per_page - from)) was now next (subst (λ (n : ℕ). SeesHeaders (first_chunks page (n * 4)) was now) same c.loop-block.invariant.sees) c.look_from-2.ensures.sees)
 
 pub returns-clause-judged : goal.returns-clause-judged
 returns-clause-judged c index below =

@@ -1,6 +1,6 @@
 use Rattle.std.proofs.Common.{◌+◌, ◌∙◌, [], ◌∷◌, ◌++◌}
 use Rattle.mc_pages.specs.declared.ids.ChunkId.{ChunkId}
-use Rattle.mc_words.proofs.LookedOver.{sees_more}
+use Rattle.mc_words.proofs.Pages.LookedOver.{sees_more}
 use Rattle.mc_words.proofs.arena.Arena.look_at_each.Goals as goal
 
 pub loop-preserved : goal.loop-preserved

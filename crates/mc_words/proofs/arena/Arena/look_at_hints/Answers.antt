@@ -1,11 +1,11 @@
 use Rattle.std.proofs.Common.{◌∙◌, ℕ, ◌≤◌, ◌++◌, ap, sym, subst}
 use Rattle.mc_pages.specs.SlabState.{SlabState, class_at, class_of_owner}
 use Rattle.mc_core.specs.State.{is_class, most_of}
-use Rattle.mc_words.specs.Arenas.{setup_of}
-use Rattle.mc_words.specs.Dead.{AreHandedOut}
-use Rattle.mc_words.specs.View.{Setup}
-use Rattle.mc_words.proofs.LookedOver.{sees_both}
-use Rattle.mc_words.proofs.SweepViews.{chunks_at_most, own_page}
+use Rattle.mc_words.specs.hand.Arenas.{setup_of}
+use Rattle.mc_words.specs.chunk.Dead.{AreHandedOut}
+use Rattle.mc_words.specs.hand.View.{Setup}
+use Rattle.mc_words.proofs.Pages.LookedOver.{sees_both}
+use Rattle.mc_words.proofs.Chunks.SweepViews.{chunks_at_most, own_page}
 use Rattle.mc_words.proofs.arena.Arena.look_at_hints.Goals as goal
 
 pub look_at_page-requires-clause-most : goal.look_at_page-requires-clause-most

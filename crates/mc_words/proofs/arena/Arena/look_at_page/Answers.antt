@@ -1,5 +1,5 @@
 use Rattle.std.proofs.Common.{◌∙◌, ◌++◌}
-use Rattle.mc_words.proofs.LookedOver.{sees_both}
+use Rattle.mc_words.proofs.Pages.LookedOver.{sees_both}
 use Rattle.mc_words.proofs.arena.Arena.look_at_page.Goals as goal
 
 pub loop-word-preserved : goal.loop-word-preserved

@@ -1,9 +1,9 @@
 use Rattle.std.proofs.Common.{◌≡◌, List, Some}
 use Rattle.mc_pages.specs.declared.ids.ChunkId.{ChunkId}
 use Rattle.mc_pages.specs.SlabState.{class_of_page}
-use Rattle.mc_words.specs.Arenas.{IsHandOf, setup_of, view}
-use Rattle.mc_words.specs.Dead.{AreHandedOut}
-use Rattle.mc_words.specs.Sweeping.{SeesHeaders}
+use Rattle.mc_words.specs.hand.Arenas.{IsHandOf, setup_of, view}
+use Rattle.mc_words.specs.chunk.Dead.{AreHandedOut}
+use Rattle.mc_words.specs.chunk.Sweeps.{SeesHeaders}
 use Rattle.mc_words.proofs.arena.Arena.look_at_page.Given as goal
 
 -- some chunks were looked at

@@ -4,10 +4,10 @@ use Rattle.mc_classes.specs.Classes.{pages_of}
 use Rattle.mc_pages.specs.declared.ids.ChunkId.{ChunkId}
 use Rattle.mc_pages.proofs.Cuts.{chunk_at}
 use Rattle.mc_core.specs.State.{most_of}
-use Rattle.mc_words.specs.Arenas.{setup_of}
-use Rattle.mc_words.specs.Dead.{IsJudged}
-use Rattle.mc_words.specs.Sweeping.{SeesHeaders, chunks_from}
-use Rattle.mc_words.proofs.LookedOver.{from_more, sees_more}
+use Rattle.mc_words.specs.hand.Arenas.{setup_of}
+use Rattle.mc_words.specs.chunk.Dead.{IsJudged}
+use Rattle.mc_words.specs.chunk.Sweeps.{SeesHeaders, chunks_from}
+use Rattle.mc_words.proofs.Pages.LookedOver.{from_more, sees_more}
 use Rattle.mc_words.proofs.arena.Arena.look_from.Goals as goal
 
 pub judge-requires-clause-near : goal.judge-requires-clause-near

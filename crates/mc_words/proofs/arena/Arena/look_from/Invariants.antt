@@ -1,9 +1,9 @@
 use Rattle.std.proofs.Common.{◌≡◌, ℕ, ◌+◌, ◌<◌, Some}
 use Rattle.mc_pages.specs.declared.ids.ChunkId.{ChunkId}
 use Rattle.mc_pages.specs.SlabState.{class_of_page}
-use Rattle.mc_words.specs.Arenas.{IsHandOf, setup_of, view}
-use Rattle.mc_words.specs.Dead.{AreHandedOut, IsJudged}
-use Rattle.mc_words.specs.Sweeping.{SeesHeaders, chunks_from}
+use Rattle.mc_words.specs.hand.Arenas.{IsHandOf, setup_of, view}
+use Rattle.mc_words.specs.chunk.Dead.{AreHandedOut, IsJudged}
+use Rattle.mc_words.specs.chunk.Sweeps.{SeesHeaders, chunks_from}
 use Rattle.mc_words.proofs.arena.Arena.look_from.Given as goal
 
 -- so many chunks were looked at and judged, and those that were judged before still are

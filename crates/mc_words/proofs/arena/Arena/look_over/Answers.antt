@@ -7,12 +7,12 @@ use Rattle.mc_pages.specs.Accounted.{first_chunks}
 use Rattle.mc_pages.specs.SlabState.{SlabState, class_at, class_of_owner, class_of_page}
 use Rattle.mc_core.specs.Silent.{is_among}
 use Rattle.mc_core.specs.State.{is_class, most_of}
-use Rattle.mc_words.specs.Arenas.{setup_of}
-use Rattle.mc_words.specs.Dead.{AreHandedOut, IsJudged}
-use Rattle.mc_words.specs.View.{Setup, View}
-use Rattle.mc_words.specs.Happens.{LawfulView}
-use Rattle.mc_words.proofs.LookedOver.{all_pass, among_before, among_behind, first_among, sees_both}
-use Rattle.mc_words.proofs.SweepViews.{StandsOut, chunks_at_most, own_page, stands_out}
+use Rattle.mc_words.specs.hand.Arenas.{setup_of}
+use Rattle.mc_words.specs.chunk.Dead.{AreHandedOut, IsJudged}
+use Rattle.mc_words.specs.hand.View.{Setup, View}
+use Rattle.mc_words.specs.rule.Happens.{LawfulView}
+use Rattle.mc_words.proofs.Pages.LookedOver.{all_pass, among_before, among_behind, first_among, sees_both}
+use Rattle.mc_words.proofs.Chunks.SweepViews.{StandsOut, chunks_at_most, own_page, stands_out}
 use Rattle.mc_words.proofs.arena.Arena.look_over.Goals as goal
 
 pub look_along-requires-clause-most : goal.look_along-requires-clause-most

@@ -2,9 +2,9 @@ use Rattle.std.proofs.Common.{◌≡◌, ◌<◌, true, List, Some}
 use Rattle.mc_pages.specs.declared.ids.ChunkId.{ChunkId}
 use Rattle.mc_pages.specs.SlabState.{class_at, class_of_page}
 use Rattle.mc_core.specs.Silent.{is_among}
-use Rattle.mc_words.specs.Arenas.{IsHandOf, setup_of, view}
-use Rattle.mc_words.specs.Dead.{AreHandedOut, IsJudged}
-use Rattle.mc_words.specs.Sweeping.{SeesHeaders}
+use Rattle.mc_words.specs.hand.Arenas.{IsHandOf, setup_of, view}
+use Rattle.mc_words.specs.chunk.Dead.{AreHandedOut, IsJudged}
+use Rattle.mc_words.specs.chunk.Sweeps.{SeesHeaders}
 use Rattle.mc_words.proofs.arena.Arena.look_over.Given as goal
 
 -- each chunk of the class on a page below was looked at and judged

@@ -2,15 +2,15 @@ use Rattle.std.proofs.Common.{◌≡◌, ℕ, ◌-◌, ◌≤◌, [], sym, ap, s
 use Rattle.mc_classes.specs.Classes.{IsSound}
 use Rattle.mc_core.specs.Chunks.{most_issue}
 use Rattle.mc_words.specs.declared.arena.Arena.{Arena}
-use Rattle.mc_words.specs.declared.locks.Locks.TheVariants.{Neither}
-use Rattle.mc_words.specs.View.{Setup, View, new_view}
-use Rattle.mc_words.specs.Happens.{LawfulView}
-use Rattle.mc_words.specs.Opening.{next_view}
-use Rattle.mc_words.specs.Out.{IsNoted}
-use Rattle.mc_words.specs.Tallies.{IsTallied}
-use Rattle.mc_words.specs.Told.{Sits}
-use Rattle.mc_words.proofs.Opens.{new_lawful, new_noted}
-use Rattle.mc_words.proofs.Splits.{splits, one_lawful, next_is}
+use Rattle.mc_words.specs.declared.lock.locks.Locks.TheVariants.{Neither}
+use Rattle.mc_words.specs.hand.View.{Setup, View, new_view}
+use Rattle.mc_words.specs.rule.Happens.{LawfulView}
+use Rattle.mc_words.specs.rule.Beginning.{next_view}
+use Rattle.mc_words.specs.lock.Out.{IsNoted}
+use Rattle.mc_words.specs.hand.Tallies.{IsTallied}
+use Rattle.mc_words.specs.rule.Told.{Sits}
+use Rattle.mc_words.proofs.Rules.Opens.{new_lawful, new_noted}
+use Rattle.mc_words.proofs.Hands.Splits.{splits, one_lawful, next_is}
 use Rattle.mc_words.proofs.arena.Arena.make.Goals as goal
 
 pub split_seat-seat-requires : goal.split_seat-seat-requires

@@ -1,15 +1,15 @@
 use Rattle.std.proofs.Common.{List, ℕ, ◌-◌, length, arith, ap, sym, subst, ◌∙◌, refl}
 use Rattle.atomic_table.specs.Table.{opening}
-use Rattle.mc_words.specs.declared.slot.Slot.{Slot}
-use Rattle.mc_words.specs.declared.locks.Locks.TheVariants.{Neither}
-use Rattle.mc_words.specs.View.{Setup, View}
-use Rattle.mc_words.specs.Joining.{Rule}
-use Rattle.mc_words.specs.Happens.{LawfulView}
-use Rattle.mc_words.specs.Opening.{first_view}
-use Rattle.mc_words.specs.Out.{IsNoted}
-use Rattle.mc_words.specs.Tallies.{IsTallied}
-use Rattle.mc_words.specs.Told.{Sits}
-use Rattle.mc_words.proofs.Opens.{rule_first, new_lawful, new_noted, slots_long}
+use Rattle.mc_words.specs.declared.lock.slot.Slot.{Slot}
+use Rattle.mc_words.specs.declared.lock.locks.Locks.TheVariants.{Neither}
+use Rattle.mc_words.specs.hand.View.{Setup, View}
+use Rattle.mc_words.specs.rule.Joins.{Rule}
+use Rattle.mc_words.specs.rule.Happens.{LawfulView}
+use Rattle.mc_words.specs.rule.Beginning.{first_view}
+use Rattle.mc_words.specs.lock.Out.{IsNoted}
+use Rattle.mc_words.specs.hand.Tallies.{IsTallied}
+use Rattle.mc_words.specs.rule.Told.{Sits}
+use Rattle.mc_words.proofs.Rules.Opens.{rule_first, new_lawful, new_noted, slots_long}
 use Rattle.mc_words.proofs.arena.Arena.open.Goals as goal
 
 pub table-requires : goal.table-requires

@@ -3,11 +3,11 @@ use Rattle.mc_pages.specs.declared.ids.Moving.{Moving}
 use Rattle.mc_pages.specs.Moves.{CanPass}
 use Rattle.mc_pages.specs.SlabState.{SlabState}
 use Rattle.mc_core.specs.declared.event.Change.TheVariants.{Passed}
-use Rattle.mc_words.specs.View.{View}
-use Rattle.mc_words.proofs.MoveChanges.{can_pass_from, may_pass, of_table_here}
-use Rattle.mc_words.proofs.ChangeViews.{changed_slabs}
-use Rattle.mc_words.proofs.Locked.{noted_same}
-use Rattle.mc_words.proofs.Tallies.{tallied_same}
+use Rattle.mc_words.specs.hand.View.{View}
+use Rattle.mc_words.proofs.Pages.MoveChanges.{can_pass_from, may_pass, of_table_here}
+use Rattle.mc_words.proofs.Locks.ChangeViews.{changed_slabs}
+use Rattle.mc_words.proofs.Locks.Locked.{noted_same}
+use Rattle.mc_words.proofs.Hands.Tallies.{tallied_same}
 use Rattle.mc_words.proofs.arena.Arena.passed.Goals as goal
 
 pub passed-requires : goal.passed-requires

@@ -1,5 +1,5 @@
-use Rattle.mc_words.proofs.Peeks.{shows}
-use Rattle.mc_words.proofs.Quiet.{has_number}
+use Rattle.mc_words.proofs.Rules.Peeks.{shows}
+use Rattle.mc_words.proofs.Rules.Quiet.{has_number}
 use Rattle.mc_words.proofs.arena.Arena.peek.Goals as goal
 
 pub load-requires : goal.load-requires

@@ -7,16 +7,16 @@ use Rattle.mc_core.specs.Codes.{plus}
 use Rattle.mc_core.specs.Head.{decode}
 use Rattle.mc_core.specs.State.{has_chunk, is_class, room_in}
 use Rattle.mc_core.specs.declared.event.Step.TheVariants as core
-use Rattle.mc_words.specs.View.{View, Setup}
-use Rattle.mc_words.specs.Layout.{head_word}
-use Rattle.mc_words.specs.Fresh.{IsFreshOf}
-use Rattle.mc_words.specs.Tallies.{fresh_count}
-use Rattle.mc_words.specs.Happens.{MayWrite}
-use Rattle.mc_words.specs.Views.{fresh_holding}
-use Rattle.mc_words.proofs.Owners.{may_pop, first_near}
-use Rattle.mc_words.proofs.Judging.{after_slabs, after_last, after_holds, pop_after, pops, is_fresh_of, issue_left, issue_worn, class_of_slabs, class_of_table, room_of}
-use Rattle.mc_words.proofs.Locked.{noted_same}
-use Rattle.mc_words.proofs.Tallies.{fresh_more, fresh_most, tallied_fresh}
+use Rattle.mc_words.specs.hand.View.{View, Setup}
+use Rattle.mc_words.specs.rule.Layout.{head_word}
+use Rattle.mc_words.specs.item.Fresh.{IsFreshOf}
+use Rattle.mc_words.specs.hand.Tallies.{fresh_count}
+use Rattle.mc_words.specs.rule.Happens.{MayWrite}
+use Rattle.mc_words.specs.hand.Views.{fresh_holding}
+use Rattle.mc_words.proofs.Pages.Owners.{may_pop, first_near}
+use Rattle.mc_words.proofs.Chunks.Judging.{after_slabs, after_last, after_holds, pop_after, pops, is_fresh_of, issue_left, issue_worn, class_of_slabs, class_of_table, room_of}
+use Rattle.mc_words.proofs.Locks.Locked.{noted_same}
+use Rattle.mc_words.proofs.Hands.Tallies.{fresh_more, fresh_most, tallied_fresh}
 use Rattle.mc_words.proofs.arena.Arena.pop.Goals as goal
 
 pub head-head-requires : goal.head-head-requires

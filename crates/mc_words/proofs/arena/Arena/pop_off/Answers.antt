@@ -8,18 +8,18 @@ use Rattle.mc_core.specs.Codes.{plus}
 use Rattle.mc_core.specs.State.{has_chunk, is_class, room_in}
 use Rattle.mc_core.specs.declared.event.Step.TheVariants as core
 use Rattle.mc_core.proofs.Listed.{Contains_from_among}
-use Rattle.mc_words.specs.View.{View, Setup}
-use Rattle.mc_words.specs.Layout.{head_word}
-use Rattle.mc_words.specs.Fresh.{IsFreshOf}
-use Rattle.mc_words.specs.Rescuing.{FindsFit, PassesAll}
-use Rattle.mc_words.specs.Tallies.{fresh_count}
-use Rattle.mc_words.specs.Happens.{MayWrite}
-use Rattle.mc_words.specs.Views.{copy_holding}
-use Rattle.mc_words.proofs.Copies.{is_fresh_copy, may_pop_off, moving_class, pops_off}
-use Rattle.mc_words.proofs.FreeWalks.{free_once, passed_holds, sees_none, sees_target, stands_free}
-use Rattle.mc_words.proofs.Judging.{class_of_table, room_of}
-use Rattle.mc_words.proofs.Locked.{noted_same}
-use Rattle.mc_words.proofs.Tallies.{fresh_more, fresh_most, tallied_fresh}
+use Rattle.mc_words.specs.hand.View.{View, Setup}
+use Rattle.mc_words.specs.rule.Layout.{head_word}
+use Rattle.mc_words.specs.item.Fresh.{IsFreshOf}
+use Rattle.mc_words.specs.chunk.Copies.{FindsFit, PassesAll}
+use Rattle.mc_words.specs.hand.Tallies.{fresh_count}
+use Rattle.mc_words.specs.rule.Happens.{MayWrite}
+use Rattle.mc_words.specs.hand.Views.{copy_holding}
+use Rattle.mc_words.proofs.Chunks.Copies.{is_fresh_copy, may_pop_off, moving_class, pops_off}
+use Rattle.mc_words.proofs.Chunks.FreeWalks.{free_once, passed_holds, sees_none, sees_target, stands_free}
+use Rattle.mc_words.proofs.Chunks.Judging.{class_of_table, room_of}
+use Rattle.mc_words.proofs.Locks.Locked.{noted_same}
+use Rattle.mc_words.proofs.Hands.Tallies.{fresh_more, fresh_most, tallied_fresh}
 use Rattle.mc_words.proofs.arena.Arena.pop_off.Goals as goal
 
 pub owner-requires : goal.owner-requires

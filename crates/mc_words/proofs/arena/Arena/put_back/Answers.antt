@@ -6,14 +6,14 @@ use Rattle.mc_core.specs.Codes.{minus}
 use Rattle.mc_core.specs.Head.{decode}
 use Rattle.mc_core.specs.State.{has_chunk}
 use Rattle.mc_core.specs.declared.event.Step.TheVariants as core
-use Rattle.mc_words.specs.View.{View, Setup}
-use Rattle.mc_words.specs.Layout.{head_word}
-use Rattle.mc_words.specs.Happens.{MayWrite}
-use Rattle.mc_words.proofs.Owners.{may_put_back}
-use Rattle.mc_words.proofs.DeadAgain.{found_dead}
-use Rattle.mc_words.proofs.Judging.{after_slabs, after_last, put_back_after, puts_back, stands_out, word_dead, word_alive}
-use Rattle.mc_words.proofs.Locked.{noted_same}
-use Rattle.mc_words.proofs.Tallies.{tallied_same}
+use Rattle.mc_words.specs.hand.View.{View, Setup}
+use Rattle.mc_words.specs.rule.Layout.{head_word}
+use Rattle.mc_words.specs.rule.Happens.{MayWrite}
+use Rattle.mc_words.proofs.Pages.Owners.{may_put_back}
+use Rattle.mc_words.proofs.Chunks.DeadAgain.{found_dead}
+use Rattle.mc_words.proofs.Chunks.Judging.{after_slabs, after_last, put_back_after, puts_back, stands_out, word_dead, word_alive}
+use Rattle.mc_words.proofs.Locks.Locked.{noted_same}
+use Rattle.mc_words.proofs.Hands.Tallies.{tallied_same}
 use Rattle.mc_words.proofs.arena.Arena.put_back.Goals as goal
 
 pub subtract-requires : goal.subtract-requires

@@ -4,14 +4,14 @@ use Rattle.std.proofs.lemmas.List.Sorted.{Contains-permutation, IsPermutation-sy
 use Rattle.mc_pages.specs.declared.ids.ChunkId.{ChunkId}
 use Rattle.mc_pages.specs.SlabState.{SlabState, class_at, class_of_chunk}
 use Rattle.mc_core.specs.State.{is_class}
-use Rattle.mc_words.specs.Arenas.{setup_of}
-use Rattle.mc_words.specs.Dead.{ShareAnOrder}
-use Rattle.mc_words.specs.Sweeping.{SweepsEach, follows}
-use Rattle.mc_words.specs.View.{Setup}
-use Rattle.mc_words.proofs.DeadOrders.{in_order_of}
-use Rattle.mc_words.proofs.FewDead.{AreAliveBut, all_alive, contains_from_times, each_alive, follows_all}
-use Rattle.mc_words.proofs.Judged.{shared_order}
-use Rattle.mc_words.proofs.SweepViews.{class_here, order_once}
+use Rattle.mc_words.specs.hand.Arenas.{setup_of}
+use Rattle.mc_words.specs.chunk.Dead.{ShareAnOrder}
+use Rattle.mc_words.specs.chunk.Sweeps.{SweepsEach, follows}
+use Rattle.mc_words.specs.hand.View.{Setup}
+use Rattle.mc_words.proofs.Chunks.DeadOrders.{in_order_of}
+use Rattle.mc_words.proofs.Chunks.FewDead.{AreAliveBut, all_alive, contains_from_times, each_alive, follows_all}
+use Rattle.mc_words.proofs.Pages.Judged.{shared_order}
+use Rattle.mc_words.proofs.Chunks.SweepViews.{class_here, order_once}
 use Rattle.mc_words.proofs.arena.Arena.put_back_dead.Goals as goal
 
 pub put_in_order-requires : goal.put_in_order-requires

@@ -1,8 +1,8 @@
 use Rattle.std.proofs.Common.{◌∙◌, List, get_or, take, sym, subst}
 use Rattle.std.proofs.lemmas.List.{take_more}
 use Rattle.mc_pages.specs.declared.ids.ChunkId.{ChunkId}
-use Rattle.mc_words.specs.Sweeping.{SweepsEach}
-use Rattle.mc_words.proofs.SweepViews.{swept_again, swept_one}
+use Rattle.mc_words.specs.chunk.Sweeps.{SweepsEach}
+use Rattle.mc_words.proofs.Chunks.SweepViews.{swept_again, swept_one}
 use Rattle.mc_words.proofs.arena.Arena.put_back_each.Goals as goal
 
 pub loop-chunk-preserved : goal.loop-chunk-preserved

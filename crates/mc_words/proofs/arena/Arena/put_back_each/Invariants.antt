@@ -1,6 +1,6 @@
 use Rattle.std.proofs.Common.{◌≡◌, Some, take}
-use Rattle.mc_words.specs.Arenas.{IsHandOf, view}
-use Rattle.mc_words.specs.Sweeping.{SweepsEach}
+use Rattle.mc_words.specs.hand.Arenas.{IsHandOf, view}
+use Rattle.mc_words.specs.chunk.Sweeps.{SweepsEach}
 use Rattle.mc_words.proofs.arena.Arena.put_back_each.Given as goal
 
 -- those so far were put back where they were dead

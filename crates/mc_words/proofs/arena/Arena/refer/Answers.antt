@@ -1,7 +1,7 @@
 use Rattle.std.proofs.Common.{Some, None, ap, sym, ◌∙◌, slice_index_or}
 use Rattle.mc_stripe.specs.Changes.{after_got, used_up}
-use Rattle.mc_words.specs.View.{View}
-use Rattle.mc_words.proofs.StripeChanges.{set_found}
+use Rattle.mc_words.specs.hand.View.{View}
+use Rattle.mc_words.proofs.Locks.StripeChanges.{set_found}
 use Rattle.mc_words.proofs.arena.Arena.refer.Goals as goal
 
 pub returns-in_default-clause-held : goal.returns-in_default-clause-held

@@ -1,18 +1,18 @@
 use Rattle.std.proofs.Common.{◌≡◌, ℕ, ◌+◌, true, [], ◌∷◌, refl, ap, sym, subst, ◌∙◌, length, length-append, arith}
 use Rattle.mc_core.specs.State.{has_chunk}
 use Rattle.mc_core.specs.declared.event.Step.TheVariants as core
-use Rattle.mc_words.specs.View.{View, Setup}
-use Rattle.mc_words.specs.Layout.{head_word}
-use Rattle.mc_words.specs.Items.{held_item}
-use Rattle.mc_words.specs.Refs.{IsRefOf, IsIssueOf}
-use Rattle.mc_words.specs.Hinting.{RefersAgain}
-use Rattle.mc_words.specs.Happens.{MayWrite, MayExchange, HappensAt}
-use Rattle.mc_words.specs.Tallies.{fresh_count}
-use Rattle.mc_words.proofs.Agains.{may_again, again_one, again_view, again_ref, again_issue, again_known, refers_again}
-use Rattle.mc_words.proofs.Heads.{may_look}
-use Rattle.mc_words.proofs.LockViews.{seen_head}
-use Rattle.mc_words.proofs.Tallies.{fresh_more, tallied_fresh, tallied_same}
-use Rattle.mc_words.proofs.Locked.{noted_same}
+use Rattle.mc_words.specs.hand.View.{View, Setup}
+use Rattle.mc_words.specs.rule.Layout.{head_word}
+use Rattle.mc_words.specs.item.Items.{held_item}
+use Rattle.mc_words.specs.item.Refs.{IsRefOf, IsIssueOf}
+use Rattle.mc_words.specs.item.Again.{RefersAgain}
+use Rattle.mc_words.specs.rule.Happens.{MayWrite, MayExchange, HappensAt}
+use Rattle.mc_words.specs.hand.Tallies.{fresh_count}
+use Rattle.mc_words.proofs.Items.Agains.{may_again, again_one, again_view, again_ref, again_issue, again_known, refers_again}
+use Rattle.mc_words.proofs.Chunks.Heads.{may_look}
+use Rattle.mc_words.proofs.Locks.LockViews.{seen_head}
+use Rattle.mc_words.proofs.Hands.Tallies.{fresh_more, tallied_fresh, tallied_same}
+use Rattle.mc_words.proofs.Locks.Locked.{noted_same}
 use Rattle.mc_words.proofs.arena.Arena.refer_again.Goals as goal
 
 pub exchange-found-requires : goal.exchange-found-requires

@@ -2,16 +2,16 @@ use Rattle.std.proofs.Common.{◌≡◌, ℕ, ◌+◌, ◌/◌, ◌%◌, true, [
 use Rattle.mc_core.specs.Codes.{plus}
 use Rattle.mc_core.specs.State.{has_chunk}
 use Rattle.mc_core.specs.declared.event.Step.TheVariants as core
-use Rattle.mc_words.specs.View.{View, Setup}
-use Rattle.mc_words.specs.Layout.{head_word}
-use Rattle.mc_words.specs.Refs.{IsRefOf, IsIssueOf}
-use Rattle.mc_words.specs.Referring.{GetsItem}
-use Rattle.mc_words.specs.Happens.{MayWrite, HappensAt}
-use Rattle.mc_words.proofs.GetsItems.{got_ref, got_issue, gets_item}
-use Rattle.mc_words.proofs.Refers.{LeadsTo, entry_near, may_refer, new_one, referred_view}
-use Rattle.mc_words.specs.Tallies.{fresh_count}
-use Rattle.mc_words.proofs.Tallies.{fresh_more, tallied_fresh}
-use Rattle.mc_words.proofs.Locked.{noted_same}
+use Rattle.mc_words.specs.hand.View.{View, Setup}
+use Rattle.mc_words.specs.rule.Layout.{head_word}
+use Rattle.mc_words.specs.item.Refs.{IsRefOf, IsIssueOf}
+use Rattle.mc_words.specs.item.References.{GetsItem}
+use Rattle.mc_words.specs.rule.Happens.{MayWrite, HappensAt}
+use Rattle.mc_words.proofs.Items.GetsItems.{got_ref, got_issue, gets_item}
+use Rattle.mc_words.proofs.Items.Refers.{LeadsTo, entry_near, may_refer, new_one, referred_view}
+use Rattle.mc_words.specs.hand.Tallies.{fresh_count}
+use Rattle.mc_words.proofs.Hands.Tallies.{fresh_more, tallied_fresh}
+use Rattle.mc_words.proofs.Locks.Locked.{noted_same}
 use Rattle.mc_words.proofs.arena.Arena.refer_to.Goals as goal
 
 pub head_word-word-requires : goal.head_word-word-requires

@@ -1,13 +1,13 @@
 use Rattle.std.proofs.Common.{◌≡◌, ◌<◌, ◌/◌, ℕ, true, sym, ap, subst, ◌∙◌}
 use Rattle.mc_classes.specs.Classes.{Classes, pages_of}
 use Rattle.mc_core.specs.State.{is_class, room_in}
-use Rattle.mc_words.specs.View.{View, Setup}
-use Rattle.mc_words.specs.Layout.{page_word}
-use Rattle.mc_words.specs.Refs.{IsRefOf}
-use Rattle.mc_words.specs.Shown.{IsShown}
-use Rattle.mc_words.specs.Told.{Sits}
-use Rattle.mc_words.proofs.Judging.{class_of_table, room_of}
-use Rattle.mc_words.proofs.Peeks.{page_near, class_shown}
+use Rattle.mc_words.specs.hand.View.{View, Setup}
+use Rattle.mc_words.specs.rule.Layout.{page_word}
+use Rattle.mc_words.specs.item.Refs.{IsRefOf}
+use Rattle.mc_words.specs.rule.Shown.{IsShown}
+use Rattle.mc_words.specs.rule.Told.{Sits}
+use Rattle.mc_words.proofs.Chunks.Judging.{class_of_table, room_of}
+use Rattle.mc_words.proofs.Rules.Peeks.{page_near, class_shown}
 use Rattle.mc_words.proofs.arena.Arena.room.Goals as goal
 
 pub page_word-word-requires : goal.page_word-word-requires

@@ -1,10 +1,10 @@
 use Rattle.std.proofs.Common.{refl, ap, sym, ◌∙◌, length, arith, le-leb}
 use Rattle.mc_core.specs.declared.event.Change.TheVariants.{SetAutomove}
-use Rattle.mc_words.specs.View.{View}
-use Rattle.mc_words.proofs.Pages.{may_set_automove}
-use Rattle.mc_words.proofs.ChangeViews.{changed_slabs}
-use Rattle.mc_words.proofs.Locked.{noted_same}
-use Rattle.mc_words.proofs.Tallies.{tallied_same}
+use Rattle.mc_words.specs.hand.View.{View}
+use Rattle.mc_words.proofs.Pages.PageWords.{may_set_automove}
+use Rattle.mc_words.proofs.Locks.ChangeViews.{changed_slabs}
+use Rattle.mc_words.proofs.Locks.Locked.{noted_same}
+use Rattle.mc_words.proofs.Hands.Tallies.{tallied_same}
 use Rattle.mc_words.proofs.arena.Arena.set_automove.Goals as goal
 
 pub tell-requires : goal.tell-requires

@@ -1,9 +1,9 @@
 use Rattle.std.proofs.Common.{refl, ap, sym, ◌∙◌, length, arith}
-use Rattle.mc_words.specs.View.{View}
-use Rattle.mc_words.proofs.Locked.{noted_same}
-use Rattle.mc_words.proofs.LockViews.{missed_slabs}
-use Rattle.mc_words.proofs.Tallies.{tallied_same}
-use Rattle.mc_words.proofs.Waits.{may_look_at_slabs}
+use Rattle.mc_words.specs.hand.View.{View}
+use Rattle.mc_words.proofs.Locks.Locked.{noted_same}
+use Rattle.mc_words.proofs.Locks.LockViews.{missed_slabs}
+use Rattle.mc_words.proofs.Hands.Tallies.{tallied_same}
+use Rattle.mc_words.proofs.Locks.Waits.{may_look_at_slabs}
 use Rattle.mc_words.proofs.arena.Arena.slabs_word.Goals as goal
 
 pub look-requires : goal.look-requires

@@ -2,14 +2,14 @@ use Rattle.std.proofs.Common.{◌≡◌, ◌<◌, ℕ, suc, refl, ap, sym, subst
 use Rattle.mc_core.specs.declared.event.Step.TheVariants as core
 use Rattle.mc_core.specs.declared.look.Look.TheVariants.{SawStripe}
 use Rattle.mc_core.specs.Past.{stripe_word}
-use Rattle.mc_words.specs.View.{View, Setup}
-use Rattle.mc_words.specs.Layout.{lock_word}
-use Rattle.mc_words.specs.Happens.{MayWrite, HappensAt}
-use Rattle.mc_words.specs.Views.{saw}
-use Rattle.mc_words.proofs.Locked.{noted_same}
-use Rattle.mc_words.proofs.LockViews.{look_holds, missed_stripe}
-use Rattle.mc_words.proofs.Tallies.{tallied_same}
-use Rattle.mc_words.proofs.Waits.{may_look_at_stripe}
+use Rattle.mc_words.specs.hand.View.{View, Setup}
+use Rattle.mc_words.specs.rule.Layout.{lock_word}
+use Rattle.mc_words.specs.rule.Happens.{MayWrite, HappensAt}
+use Rattle.mc_words.specs.hand.Views.{saw}
+use Rattle.mc_words.proofs.Locks.Locked.{noted_same}
+use Rattle.mc_words.proofs.Locks.LockViews.{look_holds, missed_stripe}
+use Rattle.mc_words.proofs.Hands.Tallies.{tallied_same}
+use Rattle.mc_words.proofs.Locks.Waits.{may_look_at_stripe}
 use Rattle.mc_words.proofs.arena.Arena.stripe_word.Goals as goal
 
 pub word-word-requires : goal.word-word-requires

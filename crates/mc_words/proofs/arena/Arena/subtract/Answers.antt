@@ -1,5 +1,5 @@
 use Rattle.mc_core.specs.Codes.{minus}
-use Rattle.mc_words.proofs.Quiet.{changes, has_number}
+use Rattle.mc_words.proofs.Rules.Quiet.{changes, has_number}
 use Rattle.mc_words.proofs.arena.Arena.subtract.Goals as goal
 
 pub fetch_sub-requires : goal.fetch_sub-requires

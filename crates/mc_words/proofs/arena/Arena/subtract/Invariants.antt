@@ -1,4 +1,4 @@
-use Rattle.mc_words.specs.Told.{TellsEvent}
+use Rattle.mc_words.specs.rule.Told.{TellsEvent}
 use Rattle.mc_words.proofs.arena.Arena.subtract.Given as goal
 
 abbrev pub ghosts-fetch_sub : goal.ghosts-fetch_sub

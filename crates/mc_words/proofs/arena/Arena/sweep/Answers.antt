@@ -1,8 +1,8 @@
 use Rattle.std.proofs.Common.{◌∙◌, ap}
-use Rattle.mc_words.specs.Sweeping.{with_seen}
-use Rattle.mc_words.specs.View.{View}
-use Rattle.mc_words.proofs.LookedOver.{sees_headers_alone}
-use Rattle.mc_words.proofs.SweepViews.{sees_alone}
+use Rattle.mc_words.specs.chunk.Sweeps.{with_seen}
+use Rattle.mc_words.specs.hand.View.{View}
+use Rattle.mc_words.proofs.Pages.LookedOver.{sees_headers_alone}
+use Rattle.mc_words.proofs.Chunks.SweepViews.{sees_alone}
 use Rattle.mc_words.proofs.arena.Arena.sweep.Goals as goal
 
 pub returns-clause-swept : goal.returns-clause-swept

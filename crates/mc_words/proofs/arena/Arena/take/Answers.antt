@@ -2,16 +2,16 @@ use Rattle.std.proofs.Common.{◌≡◌, ℕ, ◌+◌, eqb, [], sym, ap, subst, 
 use mathlib.Core.Option.{none}
 use prog.Atomic.{either}
 use Rattle.atomic_table.specs.Table.{Allows, step}
-use Rattle.mc_words.specs.View.{Setup, View}
-use Rattle.mc_words.specs.Joining.{Rule}
-use Rattle.mc_words.specs.Happens.{Happens, HappensAt}
-use Rattle.mc_words.specs.declared.locks.Lock.{Lock}
-use Rattle.mc_words.specs.Layout.{lock_word}
-use Rattle.mc_words.specs.Slots.{number_of}
-use Rattle.mc_words.specs.Taking.{take_of, miss_of, Takes}
-use Rattle.mc_words.proofs.Quiet.{has_number}
-use Rattle.mc_words.proofs.OutFirst.{few_locks}
-use Rattle.mc_words.proofs.TakeAndGive.{tries}
+use Rattle.mc_words.specs.hand.View.{Setup, View}
+use Rattle.mc_words.specs.rule.Joins.{Rule}
+use Rattle.mc_words.specs.rule.Happens.{Happens, HappensAt}
+use Rattle.mc_words.specs.declared.lock.locks.Lock.{Lock}
+use Rattle.mc_words.specs.rule.Layout.{lock_word}
+use Rattle.mc_words.specs.lock.Slots.{number_of}
+use Rattle.mc_words.specs.lock.Tries.{take_of, miss_of, Takes}
+use Rattle.mc_words.proofs.Rules.Quiet.{has_number}
+use Rattle.mc_words.proofs.Locks.OutFirst.{few_locks}
+use Rattle.mc_words.proofs.Locks.TakeAndGive.{tries}
 use Rattle.mc_words.proofs.arena.Arena.take.Goals as goal
 
 pub word-word-requires : goal.word-word-requires

@@ -1,4 +1,4 @@
-use Rattle.mc_words.specs.Taking.{Takes}
+use Rattle.mc_words.specs.lock.Tries.{Takes}
 use Rattle.mc_words.proofs.arena.Arena.take.Given as goal
 
 abbrev pub ghosts-compare_exchange : goal.ghosts-compare_exchange

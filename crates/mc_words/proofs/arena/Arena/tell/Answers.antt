@@ -1,4 +1,4 @@
-use Rattle.mc_words.proofs.Quiet.{tells_looking, has_number}
+use Rattle.mc_words.proofs.Rules.Quiet.{tells_looking, has_number}
 use Rattle.mc_words.proofs.arena.Arena.tell.Goals as goal
 
 pub load-requires : goal.load-requires

@@ -4,15 +4,15 @@ use Rattle.mc_core.specs.declared.event.Step.TheVariants as core
 use Rattle.mc_core.specs.declared.look.Look.TheVariants.{SawStripe}
 use Rattle.mc_core.specs.Past.{stripe_word}
 use Rattle.mc_core.specs.Silent.{stripe_after}
-use Rattle.mc_words.specs.View.{View, Setup}
-use Rattle.mc_words.specs.Layout.{lock_word}
-use Rattle.mc_words.specs.Happens.{MayTell}
-use Rattle.mc_words.specs.Lent.{lent_stripe}
-use Rattle.mc_words.specs.Views.{saw}
-use Rattle.mc_words.proofs.Locked.{noted_same}
-use Rattle.mc_words.proofs.LockViews.{look_holds}
-use Rattle.mc_words.proofs.StripeChanges.{stripe_near, may_change, made, changed_stripe, set_found}
-use Rattle.mc_words.proofs.Tallies.{tallied_same}
+use Rattle.mc_words.specs.hand.View.{View, Setup}
+use Rattle.mc_words.specs.rule.Layout.{lock_word}
+use Rattle.mc_words.specs.rule.Happens.{MayTell}
+use Rattle.mc_words.specs.lock.Lent.{lent_stripe}
+use Rattle.mc_words.specs.hand.Views.{saw}
+use Rattle.mc_words.proofs.Locks.Locked.{noted_same}
+use Rattle.mc_words.proofs.Locks.LockViews.{look_holds}
+use Rattle.mc_words.proofs.Locks.StripeChanges.{stripe_near, may_change, made, changed_stripe, set_found}
+use Rattle.mc_words.proofs.Hands.Tallies.{tallied_same}
 use Rattle.mc_words.proofs.arena.Arena.tell_change.Goals as goal
 
 pub word-word-requires : goal.word-word-requires

@@ -1,13 +1,13 @@
 use Rattle.std.proofs.Common.{◌≡◌, ℕ, suc, ◌%◌, refl, ap, sym, subst, ◌∙◌, length, arith, [], ◌∷◌}
 use Rattle.mc_core.specs.declared.event.Change.{Change}
 use Rattle.mc_core.specs.declared.event.Step.TheVariants as core
-use Rattle.mc_words.specs.View.{View, Setup}
-use Rattle.mc_words.specs.Layout.{lock_word}
-use Rattle.mc_words.specs.Happens.{Happens, MayTell}
-use Rattle.mc_words.proofs.Tallies.{tallied_same}
-use Rattle.mc_words.proofs.Locked.{noted_same}
-use Rattle.mc_words.proofs.NoneTold.{LeadsNowhere, may_tell_none, none_told, told_keeps}
-use Rattle.mc_words.proofs.StripeChanges.{stripe_near}
+use Rattle.mc_words.specs.hand.View.{View, Setup}
+use Rattle.mc_words.specs.rule.Layout.{lock_word}
+use Rattle.mc_words.specs.rule.Happens.{Happens, MayTell}
+use Rattle.mc_words.proofs.Hands.Tallies.{tallied_same}
+use Rattle.mc_words.proofs.Locks.Locked.{noted_same}
+use Rattle.mc_words.proofs.Items.NoneTold.{LeadsNowhere, may_tell_none, none_told, told_keeps}
+use Rattle.mc_words.proofs.Locks.StripeChanges.{stripe_near}
 use Rattle.mc_words.proofs.arena.Arena.tell_none.Goals as goal
 
 pub word-word-requires : goal.word-word-requires

@@ -1,4 +1,4 @@
-use Rattle.mc_words.proofs.Quiet.{tells_storing, has_number}
+use Rattle.mc_words.proofs.Rules.Quiet.{tells_storing, has_number}
 use Rattle.mc_words.proofs.arena.Arena.tell_page.Goals as goal
 
 pub store-requires : goal.store-requires

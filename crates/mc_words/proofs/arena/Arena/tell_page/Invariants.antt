@@ -1,4 +1,4 @@
-use Rattle.mc_words.specs.Told.{TellsChange}
+use Rattle.mc_words.specs.rule.Told.{TellsChange}
 use Rattle.mc_words.proofs.arena.Arena.tell_page.Given as goal
 
 abbrev pub ghosts-store : goal.ghosts-store

@@ -3,11 +3,11 @@ use Rattle.mc_core.proofs.Listed.{Contains_from_among}
 use Rattle.mc_pages.specs.SlabState.{SlabState, class_of_chunk}
 use Rattle.std.specs.Prelude.{Contains}
 use Rattle.mc_core.specs.declared.event.Change.TheVariants.{Touch}
-use Rattle.mc_words.specs.View.{View}
-use Rattle.mc_words.proofs.Pages.{may_touch}
-use Rattle.mc_words.proofs.ChangeViews.{changed_slabs}
-use Rattle.mc_words.proofs.Locked.{noted_same}
-use Rattle.mc_words.proofs.Tallies.{tallied_same}
+use Rattle.mc_words.specs.hand.View.{View}
+use Rattle.mc_words.proofs.Pages.PageWords.{may_touch}
+use Rattle.mc_words.proofs.Locks.ChangeViews.{changed_slabs}
+use Rattle.mc_words.proofs.Locks.Locked.{noted_same}
+use Rattle.mc_words.proofs.Hands.Tallies.{tallied_same}
 use Rattle.mc_words.proofs.arena.Arena.touch.Goals as goal
 
 pub touch-requires : goal.touch-requires

@@ -1,12 +1,12 @@
 use Rattle.std.proofs.Common.{◌≡◌, Some, refl, sym, ap, subst}
-use Rattle.mc_words.specs.declared.locks.Lock.TheVariants.{SlabsLock}
-use Rattle.mc_words.specs.View.{View}
-use Rattle.mc_words.specs.Out.{IsNoted}
-use Rattle.mc_words.specs.Taking.{HasValue}
-use Rattle.mc_words.proofs.Locked.{noted_slabs}
-use Rattle.mc_words.proofs.Lent.{lent_slabs}
-use Rattle.mc_words.proofs.LockViews.{taken_slabs, missed_slabs}
-use Rattle.mc_words.proofs.Tallies.{tallied_same}
+use Rattle.mc_words.specs.declared.lock.locks.Lock.TheVariants.{SlabsLock}
+use Rattle.mc_words.specs.hand.View.{View}
+use Rattle.mc_words.specs.lock.Out.{IsNoted}
+use Rattle.mc_words.specs.lock.Tries.{HasValue}
+use Rattle.mc_words.proofs.Locks.Locked.{noted_slabs}
+use Rattle.mc_words.proofs.Locks.Lent.{lent_slabs}
+use Rattle.mc_words.proofs.Locks.LockViews.{taken_slabs, missed_slabs}
+use Rattle.mc_words.proofs.Hands.Tallies.{tallied_same}
 use Rattle.mc_words.proofs.arena.Arena.try_slabs.Goals as goal
 
 pub invariant_of-hand : goal.invariant_of-hand

@@ -1,16 +1,16 @@
 use Rattle.std.proofs.Common.{◌≡◌, ◌<◌, Some, None, length, slice_index_or, refl, sym, ap, subst, arith, ◌∙◌, lt-ltb}
-use Rattle.mc_words.specs.declared.locks.Lock.TheVariants.{StripeLock}
+use Rattle.mc_words.specs.declared.lock.locks.Lock.TheVariants.{StripeLock}
 use Rattle.mc_core.specs.declared.look.Look.TheVariants.{SawStripe}
 use Rattle.mc_core.specs.Past.{stripe_word}
-use Rattle.mc_words.specs.View.{View, Setup}
-use Rattle.mc_words.specs.Views.{saw}
-use Rattle.mc_words.specs.Out.{IsNoted}
-use Rattle.mc_words.specs.Taking.{HasValue}
-use Rattle.mc_words.proofs.Lent.{begins_with_seen, lent_stripe}
-use Rattle.mc_words.proofs.Unlocked.{no_stripe_from}
-use Rattle.mc_words.proofs.Locked.{noted_stripe, noted_same}
-use Rattle.mc_words.proofs.LockViews.{taken_stripe, missed_stripe, look_holds}
-use Rattle.mc_words.proofs.Tallies.{tallied_same}
+use Rattle.mc_words.specs.hand.View.{View, Setup}
+use Rattle.mc_words.specs.hand.Views.{saw}
+use Rattle.mc_words.specs.lock.Out.{IsNoted}
+use Rattle.mc_words.specs.lock.Tries.{HasValue}
+use Rattle.mc_words.proofs.Locks.Lent.{begins_with_seen, lent_stripe}
+use Rattle.mc_words.proofs.Locks.Unlocked.{no_stripe_from}
+use Rattle.mc_words.proofs.Locks.Locked.{noted_stripe, noted_same}
+use Rattle.mc_words.proofs.Locks.LockViews.{taken_stripe, missed_stripe, look_holds}
+use Rattle.mc_words.proofs.Hands.Tallies.{tallied_same}
 use Rattle.mc_words.proofs.arena.Arena.try_stripe.Goals as goal
 
 pub invariant_of-hand : goal.invariant_of-hand

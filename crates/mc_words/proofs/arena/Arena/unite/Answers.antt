@@ -1,9 +1,9 @@
 use Rattle.std.proofs.Common.{◌≡◌, ◌<◌, refl, sym, ap, subst, ◌∙◌, is_some, arith}
-use Rattle.mc_words.specs.View.{View, just_made}
-use Rattle.mc_words.specs.Told.{Sits}
-use Rattle.mc_words.specs.Joining.{IsMade, Joins}
-use Rattle.mc_words.proofs.Quiet.{has_number}
-use Rattle.mc_words.proofs.Joined.{unites, tells_made}
+use Rattle.mc_words.specs.hand.View.{View, just_made}
+use Rattle.mc_words.specs.rule.Told.{Sits}
+use Rattle.mc_words.specs.rule.Joins.{IsMade, Joins}
+use Rattle.mc_words.proofs.Rules.Quiet.{has_number}
+use Rattle.mc_words.proofs.Hands.Joined.{unites, tells_made}
 use Rattle.mc_words.proofs.arena.Arena.unite.Goals as goal
 
 pub join_seat-requires : goal.join_seat-requires

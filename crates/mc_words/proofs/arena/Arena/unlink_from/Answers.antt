@@ -2,13 +2,13 @@ use Rattle.std.proofs.Common.{◌≡◌, ℕ, ◌%◌, true, refl, ap, sym, subs
 use Rattle.mc_core.specs.Codes.{minus}
 use Rattle.mc_core.specs.State.{has_chunk}
 use Rattle.mc_core.specs.declared.event.Step.TheVariants as core
-use Rattle.mc_words.specs.View.{Setup}
-use Rattle.mc_words.specs.Layout.{head_word}
-use Rattle.mc_words.specs.Happens.{MayWrite}
-use Rattle.mc_words.proofs.Refers.{LeadsTo, entry_near}
-use Rattle.mc_words.proofs.Unlinks.{may_unlink, unlinked_view, unlinked_keeps}
-use Rattle.mc_words.proofs.Tallies.{tallied_same}
-use Rattle.mc_words.proofs.Locked.{noted_same}
+use Rattle.mc_words.specs.hand.View.{Setup}
+use Rattle.mc_words.specs.rule.Layout.{head_word}
+use Rattle.mc_words.specs.rule.Happens.{MayWrite}
+use Rattle.mc_words.proofs.Items.Refers.{LeadsTo, entry_near}
+use Rattle.mc_words.proofs.Items.Unlinks.{may_unlink, unlinked_view, unlinked_keeps}
+use Rattle.mc_words.proofs.Hands.Tallies.{tallied_same}
+use Rattle.mc_words.proofs.Locks.Locked.{noted_same}
 use Rattle.mc_words.proofs.arena.Arena.unlink_from.Goals as goal
 
 pub head_word-word-requires : goal.head_word-word-requires

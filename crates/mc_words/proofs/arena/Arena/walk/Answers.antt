@@ -5,11 +5,11 @@ use Rattle.mc_pages.specs.ClassState.{behind}
 use Rattle.mc_pages.specs.SlabState.{SlabState, class_at, class_of_chunk}
 use Rattle.mc_pages.proofs.RestOfList.{rest_from}
 use Rattle.mc_core.specs.State.{has_chunk, is_class}
-use Rattle.mc_words.specs.View.{Setup, View}
-use Rattle.mc_words.specs.Happens.{LawfulView}
-use Rattle.mc_words.specs.Sweeping.{SweepsEach}
-use Rattle.mc_words.proofs.Sweeps.{IsSweptTo, is_empty, stands_there, sweep_ends, sweep_left, swept_at}
-use Rattle.mc_words.proofs.SweepViews.{StandsOut, class_here, order_once, stands_out, swept_again, swept_on, swept_one}
+use Rattle.mc_words.specs.hand.View.{Setup, View}
+use Rattle.mc_words.specs.rule.Happens.{LawfulView}
+use Rattle.mc_words.specs.chunk.Sweeps.{SweepsEach}
+use Rattle.mc_words.proofs.Chunks.Sweeps.{IsSweptTo, is_empty, stands_there, sweep_ends, sweep_left, swept_at}
+use Rattle.mc_words.proofs.Chunks.SweepViews.{StandsOut, class_here, order_once, stands_out, swept_again, swept_on, swept_one}
 use Rattle.mc_words.proofs.arena.Arena.walk.Goals as goal
 
 -- what holds of the chunk that the walk is at

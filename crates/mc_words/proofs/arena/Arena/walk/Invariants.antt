@@ -2,9 +2,9 @@ use Rattle.std.proofs.Common.{◌≡◌, ◌++◌, List, Some, length}
 use Rattle.mc_pages.specs.declared.ids.ChunkId.{ChunkId}
 use Rattle.mc_pages.specs.SlabState.{class_at}
 use Rattle.mc_pages.proofs.RestOfList.{rest_from}
-use Rattle.mc_words.specs.Arenas.{IsHandOf, view}
-use Rattle.mc_words.specs.Sweeping.{SweepsEach}
-use Rattle.mc_words.proofs.Sweeps.{IsSweptTo}
+use Rattle.mc_words.specs.hand.Arenas.{IsHandOf, view}
+use Rattle.mc_words.specs.chunk.Sweeps.{SweepsEach}
+use Rattle.mc_words.proofs.Chunks.Sweeps.{IsSweptTo}
 use Rattle.mc_words.proofs.arena.Arena.walk.Given as goal
 
 -- the walk came so far, and what is left of the order is what was to come at first

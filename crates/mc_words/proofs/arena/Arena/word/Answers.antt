@@ -1,10 +1,10 @@
 use Rattle.std.proofs.Common.{◌≡◌, ℕ, ◌<◌, refl, ap, sym, subst, length, slice_index, ◌∙◌}
-use Rattle.mc_words.specs.View.{View, Setup}
-use Rattle.mc_words.specs.Layout.{data_word, config_from}
-use Rattle.mc_words.specs.Refs.{IsRefOf}
-use Rattle.mc_words.proofs.WordReads.{item_found, word_near, word_is, may_read, read_word}
-use Rattle.mc_words.proofs.Locked.{noted_same}
-use Rattle.mc_words.proofs.Tallies.{tallied_same}
+use Rattle.mc_words.specs.hand.View.{View, Setup}
+use Rattle.mc_words.specs.rule.Layout.{data_word, config_from}
+use Rattle.mc_words.specs.item.Refs.{IsRefOf}
+use Rattle.mc_words.proofs.Items.WordReads.{item_found, word_near, word_is, may_read, read_word}
+use Rattle.mc_words.proofs.Locks.Locked.{noted_same}
+use Rattle.mc_words.proofs.Hands.Tallies.{tallied_same}
 use Rattle.mc_words.proofs.arena.Arena.word.Goals as goal
 
 pub data_word-at-requires : goal.data_word-at-requires

@@ -2,11 +2,11 @@ use Rattle.std.proofs.Common.{◌≡◌, ◌+◌, ◌<◌, ◌≤◌, ℕ, [], t
 use Rattle.mc_pages.specs.SlabState.{SlabState, class_of_owner, class_of_page}
 use Rattle.mc_core.specs.State.{has_chunk, room_in}
 use Rattle.mc_core.specs.declared.event.Step.TheVariants as core
-use Rattle.mc_words.specs.View.{Setup}
-use Rattle.mc_words.specs.Layout.{data_word, config_from}
-use Rattle.mc_words.specs.Happens.{HappensAt}
-use Rattle.mc_words.proofs.HeldReads.{known_word, held_near, held_room, length_fits, may_read_held, owner_near, read_again, read_held}
-use Rattle.mc_words.proofs.Judging.{class_of_table}
+use Rattle.mc_words.specs.hand.View.{Setup}
+use Rattle.mc_words.specs.rule.Layout.{data_word, config_from}
+use Rattle.mc_words.specs.rule.Happens.{HappensAt}
+use Rattle.mc_words.proofs.Items.HeldReads.{known_word, held_near, held_room, length_fits, may_read_held, owner_near, read_again, read_held}
+use Rattle.mc_words.proofs.Chunks.Judging.{class_of_table}
 use Rattle.mc_words.proofs.arena.Arena.word_held.Goals as goal
 
 pub owner-requires : goal.owner-requires

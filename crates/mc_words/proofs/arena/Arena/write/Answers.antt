@@ -1,4 +1,4 @@
-use Rattle.mc_words.proofs.Quiet.{writes, has_number}
+use Rattle.mc_words.proofs.Rules.Quiet.{writes, has_number}
 use Rattle.mc_words.proofs.arena.Arena.write.Goals as goal
 
 pub store-requires : goal.store-requires

@@ -1,4 +1,4 @@
-use Rattle.mc_words.specs.Told.{TellsEvent}
+use Rattle.mc_words.specs.rule.Told.{TellsEvent}
 use Rattle.mc_words.proofs.arena.Arena.write.Given as goal
 
 abbrev pub ghosts-store : goal.ghosts-store

@@ -1,5 +1,5 @@
 use Rattle.std.proofs.Common.{nat_lt, ap, ◌∙◌}
-use Rattle.mc_words.proofs.Tallies.{fresh_any}
+use Rattle.mc_words.proofs.Hands.Tallies.{fresh_any}
 use Rattle.mc_words.proofs.hand.Hand.has_fresh.Goals as goal
 
 pub returns : goal.returns

@@ -1,5 +1,5 @@
 use Rattle.std.proofs.Common.{◌∙◌}
-use Rattle.mc_words.proofs.Unlocked.{unlocked_from}
+use Rattle.mc_words.proofs.Locks.Unlocked.{unlocked_from}
 use Rattle.mc_words.proofs.hand.Hand.unlocked.Goals as goal
 
 pub returns : goal.returns

@@ -1,0 +1,258 @@
+-- A copy that is linked in place of its original: what the core allows of a hand that filled it and has its key's stripe, and what it knows then.
+use Rattle.std.proofs.Common.{◌≡◌, ◌≢◌, ℕ, ◌+◌, ◌/◌, ◌<◌, ◌≤◌, true, false, ◌&&◌, ◌||◌, List, [], ◌∷◌, ◌++◌, length, Option, Some, None, Contains, ◌==◌, eqb-true, leb-true, is_none, refl, sym, ap, subst, ◌∙◌, arith, unwrap_or, length-set, slice_set, slice_index, slice_index_or, get_or-set_same, get_or-set_other, if◌then◌else◌, append-nil}
+use Rattle.std.specs.Option.{option_eq, option_map, option_map_or}
+use Rattle.std.proofs.lemmas.List.Elements.{Contains-push}
+use Rattle.std.proofs.lemmas.Bool.{and_from, and_parts}
+use Rattle.mc_pages.specs.declared.ids.ChunkId.{ChunkId}
+use Rattle.mc_stripe.specs.declared.history.Call.TheVariants.{Rescue}
+use Rattle.mc_stripe.specs.StripeState.{ReadyStripe, StripeState, key_aside, place_of, new_stripe}
+use Rattle.mc_stripe.specs.Changes.{after_rescue, used_up}
+use Rattle.mc_core.specs.declared.head.Head.{Head}
+use Rattle.mc_core.specs.declared.holding.Holding.{Holding}
+use Rattle.mc_core.specs.declared.ids.Ids.{Ids}
+use Rattle.mc_core.specs.declared.event.Step.TheVariants as core
+use Rattle.mc_core.specs.Head.{decode, is_unlinked}
+use Rattle.mc_core.specs.Holdings.{Words, fits, holding_of, is_of, item_in, key_in, lose, numbers, word_in}
+use Rattle.mc_core.specs.State.{State, is_held_by, has_stripe, head_at, head_place, holdings_at, ids_at, looks_at, number_at, room_at, stripe_at, stripe_of, without_holding}
+use Rattle.mc_core.specs.Silent.{writer_of}
+use Rattle.mc_core.specs.Items as items
+use Rattle.mc_core.specs.Items.{after_link_of, are_same, can_link, can_link_holding, is_entry_aside, is_none_else_aside, linked}
+use Rattle.mc_core.specs.Codes.{plus, FitsBits}
+use Rattle.mc_core.specs.Past.{Moment, Knowledge, Own, history_at, knowledge_at, known_by, known_of_holding, moment_stepped, own_calls_after, said_by, Saying}
+use Rattle.mc_core.specs.Views.{held_slabs}
+use Rattle.mc_core.proofs.Codes.{all_are_sums}
+use Rattle.mc_core.proofs.Learns.{are_learned}
+use Rattle.mc_core.proofs.SeenQuiet.{held_handed_out}
+use Rattle.mc_words.specs.hand.View.{View, held_stripes, made}
+use Rattle.mc_words.specs.rule.Layout.{head_word}
+use Rattle.mc_words.specs.rule.Happens.{LawfulView, Happens, MayWrite}
+use Rattle.mc_words.specs.item.Calls.{with_own_call}
+use Rattle.mc_words.specs.item.Links.{IsCopyFilled, copied_item, copy_linked}
+use Rattle.mc_words.specs.item.References.{reference_to}
+use Rattle.mc_words.specs.item.Items.{held_item}
+use Rattle.mc_words.specs.item.Refs.{IsRefOf, IsIssueOf}
+use Rattle.mc_words.proofs.Items.Calls.{mine_called}
+use Rattle.mc_words.proofs.Items.GetsItems.{word_issue}
+use Rattle.mc_words.proofs.Items.References.{is_ref, is_issue, is_item}
+use Rattle.mc_words.proofs.Chunks.Heads.{AreAll, head_is, header_written, near_here}
+use Rattle.mc_words.proofs.Locks.LockViews.{may_step, stripes_set, holdings_were, looks_were, knew, slabs_were, stripes_were}
+use Rattle.mc_words.proofs.Pages.Owners.{holdings_here, holding_near, fits_here, needless, room_is, summed}
+use Rattle.mc_words.proofs.Pages.OwnerViews.{holding_rows}
+use Rattle.mc_words.proofs.Rules.Quiet.{columns}
+use Rattle.mc_words.proofs.Locks.StripeChanges.{stripe_near, stripe_here}
+use Rattle.mc_words.proofs.Items.Links.{MayStore, stripe_is, value_is}
+use Rattle.mc_pages.specs.ClassState.{is_chunk}
+
+-- a copy is linked
+pub may_link_copy : (view : View) (stripe : ℕ) (value : ReadyStripe) (key stamp number : ℕ) (chunk : ChunkId) (issue : ℕ) (words : Words) → MayStore view stripe value key → IsCopyFilled view value.state chunk issue words key stamp
+    → MayWrite view (core.Link chunk) (head_word view.setup chunk) (plus 65537)
+may_link_copy view stripe value key stamp number chunk issue words may item was fits =
+    let m = was.moment in
+    let s : State = m.state in
+    let word = slice_index was.words (head_word view.setup chunk) in
+    let near = holding_near view was chunk (copied_item item.old chunk issue item.item words) item.found refl in
+    let here = near_here view chunk near was in
+    let all = needless view was in
+    let found : holding_of chunk (holdings_at s was.hand) ≡ Some (copied_item item.old chunk issue item.item words) = ap (holding_of chunk) (holdings_here view was) ∙ item.found in
+    let is : head_at s chunk ≡ decode word = head_is view chunk near was in
+    let small : FitsBits (decode word) = subst FitsBits is (fits_here view was chunk near) in
+    let most : (decode word).count ≤ 16385 = subst (λ (h : Head). h.count ≤ 16385) is (all.most chunk here) in
+    let fresh = (all.fresh was.hand chunk (copied_item item.old chunk issue item.item words) found refl).1 in
+    let more : decode (plus 65537 word) ≡ linked (head_at s chunk) =
+    summed word fits linked (plus 65537) ((all_are_sums (decode word) small).link (sym (ap (λ (h : Head). h.tag) is) ∙ fresh) (omega arith)) (record { issue = small.issue; count = omega arith }) ∙ ap linked (sym is) in
+    let at = stripe_is view stripe value key may was in
+    let same = value_is view stripe value key may was in
+    let has : has_stripe s was.hand (stripe_of s key) ≡ true = ap (has_stripe s was.hand) at ∙ (stripe_here view stripe value may.mine was).0 in
+    let can_key : items.can_link_key s was.hand key ≡ true =
+    and_from _ _ (and_from _ _ has (ap (λ (v : ReadyStripe). v.ready) same ∙ may.ready)) (ap (λ (v : ReadyStripe). is_none (place_of v.state key)) same ∙ ap is_none may.new) in
+    let suits : are_same (item_in words) item.item && is_entry_aside (stripe_at s (stripe_of s key)).state key item.old stamp ≡ true =
+    and_from _ _ item.same (ap (λ (v : ReadyStripe). is_entry_aside v.state key item.old stamp) same ∙ item.aside) in
+    let tells : items.can_tell_link s was.hand (copied_item item.old chunk issue item.item words) ≡ true =
+    (λ k. items.can_link_key s was.hand (item.same_key k) && (are_same (item_in words) item.item && is_entry_aside (stripe_at s (stripe_of s (item.same_key k))).state (item.same_key k) item.old (item.same_stamp k))) ∙ and_from _ _ can_key suits in
+    let can : can_link s was.hand chunk ≡ true = ap (can_link_holding s was.hand chunk) found ∙ and_from _ _ (and_from _ _ (and_from _ _ item.complete tells) (ap is_unlinked fresh)) (all.room chunk here) in
+    let after : columns (items.after_link s was.hand chunk) ≡ (s.slabs_lock, s.stripe_locks, slice_set s.heads (head_place s.table chunk) (linked (head_at s chunk)), s.words) =
+    ap (λ (o : Option Holding). columns (after_link_of (without_holding s was.hand (is_of chunk)) was.hand chunk o)) found in (
+      can,
+      subst (AreAll view.setup was.cuts (slice_set was.words (head_word view.setup chunk) (plus 65537 word))) (sym after) (header_written view chunk near was (plus 65537 word) (linked (head_at s chunk)) more),
+    )
+
+-- what the hand has and knows after it linked the item
+module _ (view : View) (stripe : ℕ) (value : ReadyStripe) (key stamp number : ℕ) (chunk : ChunkId) (issue : ℕ) (words : Words) (may : MayStore view stripe value key) (item : IsCopyFilled view value.state chunk issue words key stamp) (numbered : view.row.ids.number ≡ Some number) (now : View) (h : Happens view [] (core.Link chunk) now) where
+  abbrev m : Moment
+  m = h.was.moment
+
+  abbrev id : ℕ
+  id = h.was.hand
+
+  -- the room of the chunk
+  abbrev pub linked_room : ℕ
+  linked_room = room_at m.state chunk
+
+  abbrev stored : ReadyStripe
+  stored = used_up (after_rescue value.state number key chunk)
+
+  abbrev next : State
+  next = items.after_link m.state id chunk
+
+  found : holding_of chunk (holdings_at m.state id) ≡ Some (copied_item item.old chunk issue item.item words)
+  found = ap (holding_of chunk) (holdings_here view h.was) ∙ item.found
+
+  number_is : number_at m.state id ≡ Some number
+  number_is = ap (λ (v : View). v.row.ids.number) (sym h.was.is) ∙ numbered
+
+  writer : writer_of m.state id ≡ number
+  writer = ap (λ o. unwrap_or o 0) number_is
+
+  -- the state, with all that is known put in
+  abbrev lost : State
+  lost = without_holding m.state id (is_of chunk)
+
+  next_is_of : next ≡ after_link_of lost id chunk (Some (copied_item item.old chunk issue item.item words))
+  next_is_of = ap (λ (o : Option Holding). after_link_of lost id chunk o) found
+
+  key_at : stripe_of m.state (key_in words) ≡ stripe
+  key_at = ap (stripe_of m.state) item.same_key ∙ stripe_is view stripe value key may h.was
+
+  abbrev told_value : ReadyStripe
+  told_value = used_up (after_rescue (stripe_at m.state (stripe_of m.state (key_in words))).state (writer_of m.state id) (key_in words) chunk)
+
+  told_is : told_value ≡ stored
+  told_is = λ k. used_up (after_rescue ((ap (stripe_at m.state) key_at ∙ (stripe_here view stripe value may.mine h.was).1) k).state (writer k) (item.same_key k) chunk)
+
+  stored_here : stripe_at next stripe ≡ stored
+  stored_here =
+      ap (λ (s : State). stripe_at s stripe) next_is_of
+      ∙ (ap (λ (i : ℕ). slice_index_or (slice_set m.state.stripes i told_value) stripe new_stripe) key_at
+      ∙ (get_or-set_same m.state.stripes stripe told_value new_stripe (let near = stripe_near view stripe value may.mine h.was in let count = h.was.stripes in omega arith) ∙ told_is))
+
+  stored_other : (i : ℕ) → i ≢ stripe → stripe_at next i ≡ stripe_at m.state i
+  stored_other i apart =
+      ap (λ (s : State). stripe_at s i) next_is_of
+      ∙ (ap (λ (j : ℕ). slice_index_or (slice_set m.state.stripes j told_value) i new_stripe) key_at
+      ∙ get_or-set_other m.state.stripes stripe i told_value new_stripe apart)
+
+  ids_were : ids_at m.state id ≡ view.row.ids
+  ids_were = ap (λ (v : View). v.row.ids) (sym h.was.is)
+
+  ids_linked : ids_at next id ≡ view.row.ids
+  ids_linked = ap (λ (s : State). ids_at s id) next_is_of ∙ ids_were
+
+  number_stays : number_at next id ≡ number_at m.state id
+  number_stays = ap (λ (i : Ids). i.number) ids_linked ∙ ap (λ (i : Ids). i.number) (sym ids_were)
+
+  slabs_stay : held_slabs next id ≡ view.slabs
+  slabs_stay =
+      (λ k. if is_held_by (ap (λ (s : State). s.slabs_lock) next_is_of k) (number_stays k) then Some (ap (λ (s : State). s.slabs) next_is_of k) else None)
+      ∙ slabs_were view view h.was
+
+  stripes_stored : held_stripes view.setup next id ≡ slice_set view.stripes stripe (Some stored)
+  stripes_stored =
+      let locks : (i : ℕ) → has_stripe next id i ≡ has_stripe m.state id i = λ i k. is_held_by (slice_index (ap (λ (s : State). s.stripe_locks) next_is_of k) i) (number_stays k) in
+      let held = stripe_here view stripe value may.mine h.was in
+      stripes_set view.setup m.state next id stripe (Some stored) (stripe_near view stripe value may.mine h.was) ((λ k. if (locks stripe ∙ held.0) k then Some (stored_here k) else None))
+      (λ i apart k. if locks i k then Some (stored_other i apart k) else None)
+      ∙ ap (λ (all : List (Option ReadyStripe)). slice_set all stripe (Some stored)) (stripes_were view view h.was)
+
+  -- the call came into the stripe's history
+  history_stored : history_at next stripe ≡ history_at m.state stripe ++ Rescue number key ∷ []
+  history_stored =
+      ap (λ (v : ReadyStripe). v.state.history) stored_here
+      ∙ ap (λ (v : ReadyStripe). v.state.history ++ Rescue number key ∷ []) (sym (stripe_here view stripe value may.mine h.was).1)
+
+  mine_stored : (mine : List Own) → own_calls_after m.state next id mine ≡ Rattle.std.specs.Prelude.map (with_own_call number stripe (Rescue number key)) mine
+  mine_stored mine = mine_called m.state next stripe (Rescue number key) history_stored (λ i apart. ap (λ (v : ReadyStripe). v.state.history) (stored_other i apart)) id number number_is mine
+
+  abbrev after : Moment
+  after = moment_stepped m id (core.Link chunk)
+
+  abbrev told : View
+  told = copy_linked number stripe value key chunk issue words linked_room view
+
+  said_is : said_by (holding_of chunk (holdings_at m.state id)) ≡ []
+  said_is = ap said_by found
+
+  knows_linked : knowledge_at after.past id ≡ told.row.knows
+  knows_linked =
+      are_learned.steps m id (core.Link chunk) (may_step h) (λ kept spent e. absurd (cc))
+      ∙ (λ k. let knows : Knowledge = knew view view h.was k in record {
+        saw = append-nil knows.saw k;
+        hold = knows.hold;
+        mine = mine_stored knows.mine k;
+        seen = knows.seen;
+        said = (ap (λ (more : List Saying). knows.said ++ more) said_is ∙ append-nil knows.said) k;
+        known = knows.known ++ known_of_holding linked_room (found k);
+      })
+
+  holdings_linked : holdings_at next id ≡ told.row.holdings
+  holdings_linked =
+      let lost_row = get_or-set_same m.state.holdings id (lose (is_of chunk) (holdings_at m.state id)) [] (holding_rows view h.was) in
+      let near : id < length lost.holdings = let near = holding_rows view h.was in let long = length-set m.state.holdings id (lose (is_of chunk) (holdings_at m.state id)) in omega arith in
+      ap (λ (s : State). holdings_at s id) next_is_of
+      ∙ (get_or-set_same lost.holdings id (holdings_at lost id ++ reference_to chunk issue (numbers (item_in words)) ∷ []) [] near
+      ∙ ap (λ (l : List Holding). l ++ reference_to chunk issue (numbers (item_in words)) ∷ []) (lost_row ∙ ap (lose (is_of chunk)) (holdings_were view view h.was)))
+
+  -- all that the hand has then
+  pub linked_view : now ≡ told
+  linked_view = h.is ∙ (λ k. record {
+    setup = view.setup;
+    spare = view.spare;
+    events = view.events ++ made [] (core.Link chunk) ∷ [];
+    row = record {
+      ids = ids_linked k;
+      holdings = holdings_linked k;
+      looks = (ap (λ (s : State). looks_at s id) next_is_of ∙ looks_were view view h.was) k;
+      knows = knows_linked k;
+    };
+    slabs = slabs_stay k;
+    stripes = stripes_stored k;
+    made_of = ap (λ (v : View). v.made_of) (sym h.was.is) k;
+  })
+
+  -- the chunk has the room of what fills it
+  pub linked_room_is : linked_room ≡ length words
+  linked_room_is =
+      let long = fits_length words (and_parts _ _ item.complete).0 in
+      room_is view chunk (copied_item item.old chunk issue item.item words) 0 item.found refl (omega arith) h.was
+    where
+      fits_length : (words : Words) → fits words ≡ true → 3 ≤ length words
+      fits_length words fit = let at = leb-true (3 + word_in words 2) (length words) fit in omega arith
+
+  module _ (lawful : LawfulView now) where
+    abbrev one : Holding
+    one = reference_to chunk issue (numbers (item_in words))
+
+    has : Contains now.row.holdings one
+    has = subst (λ (v : View). Contains v.row.holdings one) (sym linked_view) (Contains-push (lose (is_of chunk) view.row.holdings) one)
+
+    knows : Contains now.row.knows.known (known_by linked_room one)
+    knows = subst (λ (v : View). Contains v.row.knows.known (known_by linked_room one)) (sym linked_view) (Contains-push view.row.knows.known (known_by linked_room one))
+
+    -- it refers to the item
+    pub linked_ref : IsRefOf now chunk linked_room
+    linked_ref = is_ref now lawful one linked_room refl has knows
+
+    pub linked_issue : IsIssueOf now chunk issue
+    linked_issue = is_issue now lawful one linked_room refl has knows
+
+    -- which has the words that were filled
+    pub linked_item : held_item now chunk ≡ numbers (item_in words)
+    linked_item = is_item now lawful one linked_room refl has knows
+
+  -- the issue number that the header had
+  pub issue_was : (word : ℕ) → slice_index h.was.words (head_word view.setup chunk) ≡ word → word / 262144 ≡ issue
+  issue_was word at =
+      let near = holding_near view h.was chunk (copied_item item.old chunk issue item.item words) item.found refl in
+      let out = held_handed_out m h.was.lawful id chunk (copied_item item.old chunk issue item.item words) found in
+      sym (ap (λ (head : Head). head.issue) (head_is view chunk near h.was) ∙ (ap (λ (n : ℕ). (decode n).issue) at ∙ word_issue word)) ∙ out.1
+
+-- who has the key's own entry aside has no other
+pub aside_alone : (state : StripeState) (key : ℕ) (old : ChunkId) (stamp : ℕ) → is_entry_aside state key old stamp ≡ true → (is_none_else_aside state key ≡ true) × (key_aside state ≡ Some key)
+aside_alone state key old stamp aside = by state.aside aside
+  where
+    by : (aside : Option (ℕ × (ChunkId × ℕ))) → option_map_or (λ entry. entry.0 == key && is_chunk entry.1.0 old && entry.1.1 == stamp) aside false ≡ true
+        → ((is_none aside || option_map_or (λ other. other == key) (option_map (λ entry. entry.0) aside) false) ≡ true) × (option_map (λ entry. entry.0) aside ≡ Some key)
+    by None is = absurd (cc)
+    by (Some entry) is =
+        let both = and_parts (entry.0 == key && is_chunk entry.1.0 old) (entry.1.1 == stamp) is in
+        let first = and_parts (entry.0 == key) (is_chunk entry.1.0 old) both.0 in
+        (first.0, ap Some (eqb-true entry.0 key first.0))

@@ -1,0 +1,70 @@
+-- What a look along the pages says of the chunks: which were found alive, and which were noted as dead.
+use Rattle.std.proofs.Common.{◌≡◌, ℕ, true, false, List, [], ◌∷◌, ◌++◌, sym, ap, subst, ◌∙◌, inl, inr}
+use Rattle.std.specs.Prelude.{Contains}
+use Rattle.std.proofs.lemmas.Bool.{cases_Bool}
+use Rattle.std.proofs.lemmas.List.Elements.{Contains-append_left, Contains-push, Contains-push_cases}
+use Rattle.mc_classes.specs.Classes.{Classes}
+use Rattle.mc_pages.specs.declared.ids.ChunkId.{ChunkId}
+use Rattle.mc_pages.specs.ClassState.{is_chunk}
+use Rattle.mc_pages.specs.SlabState.{SlabState, class_at}
+use Rattle.mc_pages.proofs.Chunks.{same_from_is_chunk}
+use Rattle.mc_core.specs.declared.head.Head.{Head}
+use Rattle.mc_core.specs.declared.look.Look.{Look}
+use Rattle.mc_core.specs.declared.look.Look.TheVariants.{Saw}
+use Rattle.mc_core.specs.Head.{is_dead}
+use Rattle.mc_core.specs.Looks.{is_found_alive}
+use Rattle.mc_words.specs.chunk.Dead.{AreHandedOut, IsJudged, IsOut, NotedChunks, Notes, ShareAnOrder}
+use Rattle.mc_words.proofs.Chunks.Sweeps.{chunk_alive, other_alive}
+
+module _ (looks : List Look) (chunk : ChunkId) (head : Head) (dead : NotedChunks) where
+  abbrev after : List Look
+  after = looks ++ Saw chunk head ∷ []
+
+  -- it was found alive
+  pub alive_judged : is_dead head ≡ false → IsJudged after dead chunk
+  alive_judged alive few = inl (chunk_alive looks chunk head alive)
+
+  pub alive_kept : is_dead head ≡ false → (other : ChunkId) → IsJudged looks dead other → IsJudged after dead other
+  alive_kept alive other judged few = elim (cases_Bool (is_chunk other chunk)) [
+    | inl same ↦ inl (ap (is_found_alive after) (same_from_is_chunk other chunk same) ∙ chunk_alive looks chunk head alive)
+    | inr apart ↦ elim (judged few) [
+      | inl found ↦ inl (other_alive looks chunk head other apart ∙ found)
+      | inr among ↦ inr among
+    ]
+  ]
+
+  -- it was found dead, and noted
+  module _ (now : NotedChunks) (notes : Notes chunk dead now) where
+    pub noted_judged : IsJudged after now chunk
+    noted_judged few = elim notes [
+      | inl is ↦ inr (subst (λ (d : NotedChunks). Contains d.chunks chunk) (sym is) (Contains-push dead.chunks chunk))
+      | inr is ↦ absurd (let never : true ≡ false = sym (ap (λ (d : NotedChunks). d.are_more) is) ∙ few in cc)
+    ]
+
+    pub noted_kept : (other : ChunkId) → IsJudged looks dead other → IsJudged after now other
+    noted_kept other judged few = elim notes [
+      | inl is ↦ elim (judged (sym (ap (λ (d : NotedChunks). d.are_more) is) ∙ few)) [
+        | inl found ↦ elim (cases_Bool (is_chunk other chunk)) [
+          | inl alike ↦ inr (subst (λ (c : ChunkId). Contains now.chunks c) (sym (same_from_is_chunk other chunk alike)) (subst (λ (d : NotedChunks). Contains d.chunks chunk) (sym is) (Contains-push dead.chunks chunk)))
+          | inr apart ↦ inl (other_alive looks chunk head other apart ∙ found)
+        ]
+        | inr among ↦ inr (subst (λ (d : NotedChunks). Contains d.chunks other) (sym is) (Contains-append_left dead.chunks (chunk ∷ []) other among))
+      ]
+      | inr is ↦ absurd (let never : true ≡ false = sym (ap (λ (d : NotedChunks). d.are_more) is) ∙ few in cc)
+    ]
+
+-- one more that the class handed out
+pub noted_out : (table : Classes) (slabs : SlabState) (class : ℕ) (chunk : ChunkId) (dead now : NotedChunks) → Notes chunk dead now → AreHandedOut table slabs class dead → IsOut table slabs class chunk → AreHandedOut table slabs class now
+noted_out table slabs class chunk dead now notes out here other there = elim notes [
+  | inl is ↦ elim (Contains-push_cases dead.chunks chunk other (subst (λ (d : NotedChunks). Contains d.chunks other) is there)) [
+    | inl before ↦ out other before
+    | inr alike ↦ subst (λ (c : ChunkId). IsOut table slabs class c) alike here
+  ]
+  | inr is ↦ out other (subst (λ (d : NotedChunks). Contains d.chunks other) is there)
+]
+
+-- what one class handed out shares its order
+pub shared_order : (table : Classes) (slabs : SlabState) (class : ℕ) (dead : NotedChunks) → AreHandedOut table slabs class dead → ShareAnOrder slabs dead.chunks
+shared_order table slabs class dead out chunk other here there =
+    let own = (out chunk here).own in
+    ((out other there).own ∙ sym own, subst (λ (n : ℕ). Contains (class_at slabs n).order other) (sym own) (out other there).listed)

@@ -1,0 +1,64 @@
+-- Sweeps: each chunk that a class handed out is looked at, and the dead ones are put back, oldest first.
+use Rattle.std.specs.Prelude.{◌≡◌, ◌⊎◌, ℕ, true, false, Bool, if◌then◌else◌, List, [], ◌∷◌, map, Some}
+use Rattle.std.specs.List.{list_all, range_with_len}
+use Rattle.mc_pages.specs.declared.ids.ChunkId.{ChunkId}
+use Rattle.mc_pages.specs.Changes.{after_back}
+use Rattle.mc_pages.specs.ClassState.{is_chunk}
+use Rattle.mc_pages.specs.SlabState.{SlabState}
+use Rattle.mc_core.specs.declared.event.Step.TheVariants as step
+use Rattle.mc_core.specs.declared.head.Head.{Head}
+use Rattle.mc_core.specs.Head.{is_dead}
+use Rattle.mc_core.specs.Silent.{is_among}
+use Rattle.mc_words.specs.rule.Happens.{Happens}
+use Rattle.mc_words.specs.hand.View.{View}
+use Rattle.mc_words.specs.hand.Views.{head_seen}
+use Rattle.mc_words.specs.page.Owner.{PutsBack, SeesOther}
+
+-- the chunk was seen dead and put back, or seen alive
+abbrev pub SweepsOne : ChunkId → View → SlabState → View → SlabState → Type 0
+SweepsOne chunk view slabs now left =
+    (PutsBack view slabs chunk now × (left ≡ after_back slabs chunk)) ⊎ (SeesOther view (Some chunk) (λ head. is_dead head ≡ false) now × (left ≡ slabs))
+
+-- each of these chunks was seen dead and put back, or seen alive, one after another
+abbrev pub SweepsEach : List ChunkId → View → SlabState → View → SlabState → Type 0
+SweepsEach [] view slabs now left = (now ≡ view) × (left ≡ slabs)
+SweepsEach (chunk ∷ chunks) view slabs now left = (next : View) × (between : SlabState) × SweepsOne chunk view slabs next between × SweepsEach chunks next between now left
+
+-- the chunk's header was looked at, whatever it was
+pub record SeesHeader (view : View) (chunk : ChunkId) (now : View) : Type 0 where
+  pub head : Head
+  pub happens : Happens view [] (step.Head chunk) now
+  pub is : now ≡ head_seen chunk head view
+
+-- the header of each of these chunks was looked at, one after another, whatever it was
+abbrev pub SeesHeaders : List ChunkId → View → View → Type 0
+SeesHeaders [] view now = now ≡ view
+SeesHeaders (chunk ∷ chunks) view now = (next : View) × SeesHeader view chunk next × SeesHeaders chunks next now
+
+-- so many chunks of a page, from the one of this index on
+abbrev pub chunks_from : ℕ → ℕ → ℕ → List ChunkId
+chunks_from page from count = map (λ index. record { page = page; index = index }) (range_with_len from count)
+
+-- the chunks stand in the order in this sequence, with or without others between
+abbrev pub follows : List ChunkId → List ChunkId → Bool
+follows order [] = true
+follows [] (chunk ∷ chunks) = false
+follows (other ∷ order) (chunk ∷ chunks) = if is_chunk other chunk then follows order chunks else follows order (chunk ∷ chunks)
+
+-- chunks were looked at, and then some of the hand-out order, oldest first, were each put back or seen alive
+pub record Recovers (order : List ChunkId) (view : View) (slabs : SlabState) (now : View) (left : SlabState) : Type 0 where
+  pub looked : List ChunkId
+  pub seen : View
+  pub sees : SeesHeaders looked view seen
+  pub again : List ChunkId
+  pub oldest_first : follows order again ≡ true
+  pub each : SweepsEach again seen slabs now left
+
+-- each chunk of the hand-out order was looked at, and then some of them, oldest first, were each put back or seen alive
+pub record Sweeps (order : List ChunkId) (view : View) (slabs : SlabState) (now : View) (left : SlabState) : Type 0 where
+  pub recovers : Recovers order view slabs now left
+  pub whole : list_all (is_among recovers.looked) order ≡ true
+
+-- the one view, but for what the other saw and did, and for its pages and lists
+abbrev pub with_seen : View → View → View
+with_seen view now = record view { events = now.events; slabs = now.slabs; row = record view.row { looks = now.row.looks; knows = record view.row.knows { saw = now.row.knows.saw } } }

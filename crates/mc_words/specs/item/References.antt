@@ -1,0 +1,31 @@
+-- References to items that a hand gets.
+use Rattle.std.specs.Prelude.{◌≡◌, ℕ, [], List, length, Some}
+use Rattle.mc_pages.specs.declared.ids.ChunkId.{ChunkId}
+use Rattle.mc_stripe.specs.StripeState.{ReadyStripe, place_of}
+use Rattle.mc_core.specs.declared.holding.Holding.{Holding}
+use Rattle.mc_core.specs.declared.holding.Kind.TheVariants.{Reference}
+use Rattle.mc_core.specs.declared.event.Step.TheVariants as step
+use Rattle.mc_core.specs.Holdings.{key_of, stamp_of, length_of}
+use Rattle.mc_words.specs.hand.View.{View}
+use Rattle.mc_words.specs.rule.Happens.{Happens}
+use Rattle.mc_words.specs.item.Items.{held_item}
+use Rattle.mc_words.specs.item.Calls.{item_referred, key_got}
+use Rattle.mc_words.specs.hand.Views.{with_event}
+
+-- a reference to the item with these words, whose chunk was handed out with this issue number
+abbrev pub reference_to : ChunkId → ℕ → List ℕ → Holding
+reference_to chunk issue item = record { chunk = chunk; issue = issue; kind = Reference item }
+
+-- the hand of this number looked the key up, whose stripe had this value and leads it to this chunk, and got a reference to its item
+pub record GetsItem (view : View) (number stripe : ℕ) (value : ReadyStripe) (key : ℕ) (chunk : ChunkId) (issue room : ℕ) (now : View) : Type 0 where
+  pub stamp : ℕ
+  pub leads : place_of value.state key ≡ Some (chunk, stamp)
+  -- the item that the hand finds in the chunk
+  pub item : List ℕ
+  pub held : held_item now chunk ≡ item
+  -- has as many words as it says, and is the one that the stripe knows
+  pub whole : length item ≡ length_of item
+  pub key_is : key_of item ≡ key
+  pub stamp_is : stamp_of item ≡ stamp
+  pub happens : Happens view [] (step.Refer key) now
+  pub is : now ≡ with_event [] (step.Refer key) (item_referred (reference_to chunk issue item) room (key_got number stripe value key view))

@@ -1,0 +1,34 @@
+-- References that a hand holds.
+use Rattle.std.specs.Prelude.{◌≡◌, ℕ, true, false, List, Contains, is_some, Some}
+use Rattle.std.specs.Option.{option_map}
+use Rattle.mc_pages.specs.declared.ids.ChunkId.{ChunkId}
+use Rattle.mc_core.specs.declared.holding.Holding.{Holding}
+use Rattle.mc_core.specs.Holdings.{holding_of, is_fresh}
+use Rattle.mc_core.specs.Past.{Known, known_by}
+use Rattle.mc_words.specs.hand.View.{View}
+
+-- the first of these holdings that is of this chunk is a reference, and is known to have room for so many words
+pub record IsRefIn (holdings : List Holding) (known : List Known) (chunk : ChunkId) (room : ℕ) : Type 0 where
+  pub holding : Holding
+  pub found : holding_of chunk holdings ≡ Some holding
+  pub linked : is_fresh holding ≡ false
+  pub knows : Contains known (known_by room holding)
+
+-- the hand has a reference to this chunk, with room for so many words
+abbrev pub IsRefOf : View → ChunkId → ℕ → Type 0
+IsRefOf view chunk room = IsRefIn view.row.holdings view.row.knows.known chunk room
+
+-- the holding that is found of this chunk has this issue number
+abbrev pub IsIssueOf : View → ChunkId → ℕ → Type 0
+IsIssueOf view chunk issue = option_map (λ holding. holding.issue) (holding_of chunk view.row.holdings) ≡ Some issue
+
+-- each chunk that the hand refers to it refers to still: it finds the same holding of it
+pub record KeepsRefs (view now : View) : Type 0 where
+  pub refers : (chunk : ChunkId) (room : ℕ) → IsRefOf view chunk room → IsRefOf now chunk room
+  pub same : (chunk : ChunkId) (room : ℕ) → IsRefOf view chunk room → holding_of chunk now.row.holdings ≡ holding_of chunk view.row.holdings
+
+-- each chunk that the hand refers to, and still holds, it refers to still, whatever it gave up: it finds the same holding of it
+pub record KeepsHeld (view now : View) : Type 0 where
+  pub refers : (chunk : ChunkId) (room : ℕ) → IsRefOf view chunk room → is_some (holding_of chunk now.row.holdings) ≡ true → IsRefOf now chunk room
+  pub same : (chunk : ChunkId) (room : ℕ) → IsRefOf view chunk room → is_some (holding_of chunk now.row.holdings) ≡ true →
+      holding_of chunk now.row.holdings ≡ holding_of chunk view.row.holdings

@@ -1,0 +1,42 @@
+-- Waiting for a lock: some looks at its word, and then a try that takes it.
+use Rattle.std.specs.Prelude.{◌≡◌, ◌≢◌, ℕ, List, [], ◌∷◌, ⊤}
+use Rattle.mc_pages.specs.SlabState.{SlabState}
+use Rattle.mc_stripe.specs.StripeState.{ReadyStripe}
+use Rattle.mc_core.specs.declared.event.Step.TheVariants as step
+use Rattle.mc_words.specs.hand.View.{View}
+use Rattle.mc_words.specs.rule.Happens.{Happens}
+use Rattle.mc_words.specs.lock.Lent.{BeginsWithSeen}
+use Rattle.mc_words.specs.hand.Views.{slabs_missed, slabs_taken, stripe_missed, stripe_taken}
+
+-- where a read found the word 0, the next look is that of a try, which missed: its word isn't 0
+abbrev pub IsTriedNext : ℕ → List ℕ → Type 0
+IsTriedNext word [] = ⊤
+IsTriedNext word (next ∷ words) = word ≡ 0 → next ≢ 0
+
+-- these words were seen at the lock of the slabs, one after another: by tries that missed it, and by reads, which go on until one finds 0
+abbrev pub MissesSlabs : List ℕ → View → View → Type 0
+MissesSlabs [] view now = now ≡ view
+MissesSlabs (word ∷ words) view now = IsTriedNext word words × Happens view [] step.MissSlabs (slabs_missed word view) × MissesSlabs words (slabs_missed word view) now
+
+-- the hand waited for the slabs lock: after some looks at its word it was taken, with these pages and lists behind it
+pub record WaitsForSlabs (view : View) (slabs : SlabState) (now : View) : Type 0 where
+  pub words : List ℕ
+  pub before : View
+  pub misses : MissesSlabs words view before
+  pub taken : Happens before [] step.TakeSlabs now
+  pub is : now ≡ slabs_taken slabs before
+
+-- these words were seen at the lock of a stripe, one after another: by tries that missed it, and by reads, which go on until one finds 0
+abbrev pub MissesStripe : ℕ → List ℕ → View → View → Type 0
+MissesStripe stripe [] view now = now ≡ view
+MissesStripe stripe (word ∷ words) view now =
+    IsTriedNext word words × Happens view [] (step.MissStripe stripe) (stripe_missed stripe word view) × MissesStripe stripe words (stripe_missed stripe word view) now
+
+-- the hand waited for a stripe's lock: after some looks at its word it was taken, with this value behind it
+pub record WaitsForStripe (stripe : ℕ) (view : View) (value : ReadyStripe) (now : View) : Type 0 where
+  pub words : List ℕ
+  pub before : View
+  pub misses : MissesStripe stripe words view before
+  pub taken : Happens before [] (step.TakeStripe stripe) now
+  pub is : now ≡ stripe_taken stripe value before
+  pub begins : BeginsWithSeen view stripe value

@@ -1,0 +1,83 @@
+-- Events of the core, as the hand that makes them knows them.
+use Rattle.std.specs.Prelude.{◌≡◌, ℕ, ◌<◌, ◌^◌, Bool, true, false, List, [], ◌∷◌, ◌++◌, length, is_some, map, slice_index, slice_set}
+use Rattle.mc_core.specs.declared.event.Change.{Change}
+use Rattle.mc_core.specs.declared.event.Event.{Event}
+use Rattle.mc_core.specs.declared.event.Step.{Step}
+use Rattle.mc_core.specs.declared.event.Step.TheVariants.{TakeSlabs, TakeStripe, GiveSlabs, GiveStripe, Join}
+use Rattle.mc_core.specs.State.{is_hand}
+use Rattle.mc_core.specs.Past.{Moment, moment_after}
+use Rattle.mc_core.specs.Lawful.{IsLawful}
+use Rattle.mc_core.specs.Silent.{allows_change, after_change}
+use Rattle.mc_core.specs.Run.{allows_step, after_step, is_allowed}
+use Rattle.mc_words.specs.hand.View.{View, events_of, own_event, view_at}
+use Rattle.mc_words.specs.rule.Meaning.{WordsOf, AreCut, LeadsTo}
+
+-- the view is what a lawful moment has of a hand; with the words that the table had then, and the classes of its pages
+pub record LawfulView (view : View) : Type 0 where
+  pub moment : Moment
+  pub hand : ℕ
+  pub lawful : IsLawful moment
+  pub same_table : moment.state.table ≡ view.setup.table
+  pub hands : length moment.state.ids ≡ view.setup.hands
+  pub stripes : length moment.state.stripes ≡ view.setup.config.stripes
+  pub there : is_hand moment.state hand ≡ true
+  -- it comes after these events, from the arena's beginning on, of which the view has those that the hand made
+  pub run : List Event
+  pub reached : LeadsTo view.setup run moment
+  pub is : view ≡ view_at view.setup view.spare (events_of hand run) moment hand
+  pub words : List ℕ
+  pub cuts : List ℕ
+  pub are : WordsOf view.setup cuts words moment.state
+  pub cut : AreCut cuts moment.state.slabs
+
+-- the event by which this hand makes these changes and then this step
+abbrev pub event_of : ℕ → List Change → Step → Event
+event_of hand before step = record { hand = hand; before = before; step = step }
+
+-- these changes and this step were one event of the core by this hand, in a lawful moment in which it was allowed: the hand knew
+-- the one view before it, and the other after it
+pub record Happens (view : View) (before : List Change) (step : Step) (now : View) : Type 0 where
+  pub was : LawfulView view
+  pub allowed : is_allowed was.moment.state (event_of was.hand before step) ≡ true
+  pub is : now ≡ view_at view.setup view.spare (view.events ++ own_event before step ∷ []) (moment_after was.moment (event_of was.hand before step)) was.hand
+
+-- the changes and the step were one event of the core by this hand, and before it the word at this place was this
+abbrev pub HappensAt : ℕ → ℕ → View → List Change → Step → View → Type 0
+HappensAt place word view before step now = (happens : Happens view before step now) × (slice_index happens.was.words place ≡ word)
+
+-- the step takes and gives no lock, and joins no hands
+abbrev pub is_quiet : Step → Bool
+is_quiet TakeSlabs = false
+is_quiet (TakeStripe stripe) = false
+is_quiet GiveSlabs = false
+is_quiet (GiveStripe stripe) = false
+is_quiet (Join kept spent) = false
+is_quiet other = true
+
+-- wherever a hand knows this view the core allows the step, by which the word at this place becomes so
+abbrev pub MayWrite : View → Step → ℕ → (ℕ → ℕ) → Type 0
+MayWrite view step place written =
+    (was : LawfulView view) → slice_index was.words place < 2 ^ 64 →
+    (allows_step was.moment.state was.hand step ≡ true) × WordsOf view.setup was.cuts (slice_set was.words place (written (slice_index was.words place))) (after_step was.moment.state was.hand step)
+
+-- wherever a hand knows this view, and the word at this place is as expected, the core allows the step, by which the word becomes this one
+abbrev pub MayExchange : View → Step → ℕ → ℕ → ℕ → Type 0
+MayExchange view step place expected word =
+    (was : LawfulView view) → slice_index was.words place < 2 ^ 64 → slice_index was.words place ≡ expected →
+    (allows_step was.moment.state was.hand step ≡ true) × WordsOf view.setup was.cuts (slice_set was.words place word) (after_step was.moment.state was.hand step)
+
+-- wherever a hand knows this view the core allows this change and then the step, and the word at this place becomes so
+pub record MayTell (view : View) (change : Change) (step : Step) (place : ℕ) (written : ℕ → ℕ) : Type 0 where
+  pub allowed : (was : LawfulView view) → allows_change was.moment.state was.hand change ≡ true
+  pub step_allowed : (was : LawfulView view) → allows_step (after_change was.moment.state was.hand change) was.hand step ≡ true
+  pub writes : (was : LawfulView view) →
+      let now = after_step (after_change was.moment.state was.hand change) was.hand step in
+      (cuts : List ℕ) × WordsOf view.setup cuts (slice_set was.words place (written (slice_index was.words place))) now × AreCut cuts now.slabs
+
+-- the views are of one hand, which has the same locks
+pub record IsSameHand (view now : View) : Type 0 where
+  pub setup : now.setup ≡ view.setup
+  pub spare : now.spare ≡ view.spare
+  pub number : now.row.ids.number ≡ view.row.ids.number
+  pub slabs : is_some now.slabs ≡ is_some view.slabs
+  pub stripes : map is_some now.stripes ≡ map is_some view.stripes

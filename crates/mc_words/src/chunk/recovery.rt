@@ -1,0 +1,135 @@
+//! Dead chunks that are found by hints, and put back.
+ghost use Rattle.std.specs.Prelude.{◌≡◌, ◌<◌, ◌≤◌, List, [], Some, true};
+ghost use Rattle.mc_classes.specs.Classes.{pages_of};
+ghost use Rattle.mc_pages.specs.declared.ids.ChunkId.{ChunkId};
+ghost use Rattle.mc_pages.specs.SlabState.{class_at, class_of_page};
+ghost use Rattle.mc_core.specs.State.{is_class, most_of};
+ghost use Rattle.mc_words.specs.hand.Arenas.{IsHandOf, setup_of, view};
+ghost use Rattle.mc_words.specs.chunk.Dead.{AreHandedOut};
+ghost use Rattle.mc_words.specs.chunk.Sweeps.{Recovers, SeesHeaders, with_seen};
+
+use crate::arena::Arena;
+use crate::chunk::dead::DeadChunks;
+use crate::chunk::hints::{BITS, WORDS_A_PAGE};
+use crate::hand::Hand;
+use crate::hand::held::SlabsHeld;
+use mc_classes::{ClassId, PageId};
+use mc_pages::ChunkId;
+
+impl Arena {
+    /// Looks at those chunks of the class of which hints say that they may be dead, and puts back those that are, the oldest first. A
+    /// chunk that died is hinted at by the call that left it dead; but one that dies meanwhile may be missed. (own, as slabs.c frees a
+    /// chunk when its last reference goes)
+    pub fn recover(&self, hand: &mut Hand, held: &mut SlabsHeld, class: ClassId)
+        requires arena { IsHandOf self.now hand.old }
+        requires class { is_class (setup_of self.now).table class ≡ true }
+        requires held { (view hand.old).slabs ≡ Some held.old.shared }
+        ensures arena { IsHandOf self.now hand.new }
+        ensures locks { hand.new.locks ≡ hand.old.locks }
+        ensures held { (view hand.new).slabs ≡ Some held.new.shared }
+        ensures recovers { Recovers (class_at held.old.shared class).order (view hand.old) held.old.shared (view hand.new) held.new.shared }
+        ensures view { view hand.new ≡ with_seen (view hand.old) (view hand.new) }
+    {
+        let mut dead = DeadChunks::new();
+        self.look_at_hints(hand, held, class, &mut dead);
+        self.put_back_dead(hand, held, class, &mut dead);
+    }
+
+    // Follows the hints on the class's pages, and notes which chunks are dead.
+    fn look_at_hints(
+        &self,
+        hand: &mut Hand,
+        held: &SlabsHeld,
+        class: ClassId,
+        dead: &mut DeadChunks,
+    )
+        requires arena { IsHandOf self.now hand.old }
+        requires class { is_class (setup_of self.now).table class ≡ true }
+        requires held { (view hand.old).slabs ≡ Some held.now.shared }
+        requires none { dead.old.chunks ≡ [] }
+        ensures arena { IsHandOf self.now hand.new }
+        ensures locks { hand.new.locks ≡ hand.old.locks }
+        ensures held { (view hand.new).slabs ≡ Some held.now.shared }
+        ensures sees { (looked : List ChunkId) × SeesHeaders looked (view hand.old) (view hand.new) }
+        ensures out { AreHandedOut (setup_of self.now).table held.now.shared class dead.new }
+    {
+        let per_page = held.slabs().per_page(class);
+        let mut pages = self.hints.pages();
+        for _ in 0..BITS {
+            let page = u64::from(pages.trailing_zeros());
+            if page >= self.classes().pages() {
+                return;
+            }
+            pages &= pages.wrapping_sub(1);
+            if held.slabs().owner(page).class() != class {
+                continue;
+            }
+            self.hints.take_page(page);
+            self.look_at_page(hand, held, page, per_page, dead);
+        }
+    }
+
+    // Follows the hints on a page, which has so many chunks.
+    fn look_at_page(
+        &self,
+        hand: &mut Hand,
+        held: &SlabsHeld,
+        page: PageId,
+        per_page: u64,
+        dead: &mut DeadChunks,
+    )
+        requires arena { IsHandOf self.now hand.old }
+        requires page { page < pages_of (setup_of self.now).table }
+        requires most { per_page ≤ most_of (setup_of self.now).table }
+        requires held { (view hand.old).slabs ≡ Some held.now.shared }
+        requires out { AreHandedOut (setup_of self.now).table held.now.shared (class_of_page held.now.shared page) dead.old }
+        ensures arena { IsHandOf self.now hand.new }
+        ensures locks { hand.new.locks ≡ hand.old.locks }
+        ensures held { (view hand.new).slabs ≡ Some held.now.shared }
+        ensures sees { (looked : List ChunkId) × SeesHeaders looked (view hand.old) (view hand.new) }
+        ensures out { AreHandedOut (setup_of self.now).table held.now.shared (class_of_page held.now.shared page) dead.new }
+    {
+        for word in 0..WORDS_A_PAGE {
+            let first = ChunkId {
+                page,
+                index: word * BITS,
+            };
+            let hinted = self.hints.take_chunks(page, word);
+            self.look_at_each(hand, held, first, hinted, per_page, dead);
+        }
+    }
+
+    // Looks at those of 64 chunks of a page, from the first on, of which a bit is set. The page has so many chunks.
+    fn look_at_each(
+        &self,
+        hand: &mut Hand,
+        held: &SlabsHeld,
+        first: ChunkId,
+        hinted: u64,
+        per_page: u64,
+        dead: &mut DeadChunks,
+    )
+        requires arena { IsHandOf self.now hand.old }
+        requires page { first.page < pages_of (setup_of self.now).table }
+        requires few { first.index ≤ 256 }
+        requires most { per_page ≤ most_of (setup_of self.now).table }
+        requires held { (view hand.old).slabs ≡ Some held.now.shared }
+        requires out { AreHandedOut (setup_of self.now).table held.now.shared (class_of_page held.now.shared first.page) dead.old }
+        ensures arena { IsHandOf self.now hand.new }
+        ensures locks { hand.new.locks ≡ hand.old.locks }
+        ensures held { (view hand.new).slabs ≡ Some held.now.shared }
+        ensures sees { (looked : List ChunkId) × SeesHeaders looked (view hand.old) (view hand.new) }
+        ensures out { AreHandedOut (setup_of self.now).table held.now.shared (class_of_page held.now.shared first.page) dead.new }
+    {
+        let mut hinted = hinted;
+        for _ in 0..BITS {
+            let index = first.index + u64::from(hinted.trailing_zeros());
+            if hinted == 0 || index >= per_page {
+                return;
+            }
+            hinted &= hinted.wrapping_sub(1);
+            let chunk = ChunkId { index, ..first };
+            self.judge(hand, held, self.head_word(chunk), chunk, dead);
+        }
+    }
+}

@@ -1,0 +1,62 @@
+//! Words of items that are read.
+ghost use Rattle.std.specs.Prelude.{◌≡◌, ◌+◌, ◌<◌, ◌≤◌, [], true, length, slice_index, Some, IfSome};
+ghost use Rattle.mc_pages.specs.SlabState.{class_of_page};
+ghost use Rattle.mc_core.specs.Looks.{was_linked};
+ghost use Rattle.mc_core.specs.State.{has_chunk, room_in};
+ghost use Rattle.mc_core.specs.declared.event.Step.TheVariants as step;
+ghost use Rattle.mc_words.specs.hand.Arenas.{IsHandOf, setup_of, view};
+ghost use Rattle.mc_words.specs.rule.Happens.{Happens, LawfulView};
+ghost use Rattle.mc_words.specs.item.Items.{IsWordOfItem, held_item, word_read};
+ghost use Rattle.mc_words.specs.item.Refs.{IsRefOf};
+ghost use Rattle.mc_words.specs.hand.Views.{held_word_seen, word_seen};
+
+use crate::arena::Arena;
+use crate::hand::Hand;
+use crate::hand::held::SlabsHeld;
+use crate::item::refs::Ref;
+use mc_core::Step;
+use mc_pages::ChunkId;
+
+impl Arena {
+    /// A word of the item: 0 is its key, 1 its stamp, 2 how many words come after these three.
+    #[inline(always)]
+    pub fn word(&self, hand: &mut Hand, reference: &Ref, place: u64) -> u64
+        requires arena { IsHandOf self.now hand.old }
+        requires reference { IsRefOf (view hand.old) reference.now.chunk reference.now.room }
+        requires near { place < length (held_item (view hand.old) reference.now.chunk) }
+        ensures arena { IsHandOf self.now hand.new }
+        ensures locks { hand.new.locks ≡ hand.old.locks }
+        ensures happens { Happens (view hand.old) [] (step.Word reference.now.chunk place) (view hand.new) }
+        ensures word { result ≡ slice_index (held_item (view hand.old) reference.now.chunk) place }
+        ensures view { view hand.new ≡ word_seen reference.now.chunk place (view hand.old) }
+        ensures reference { IsRefOf (view hand.new) reference.now.chunk reference.now.room }
+    {
+        let at = self.data_word(reference.room, reference.chunk, place);
+        let step = Step::Word(reference.chunk, place);
+        self.look(&mut hand.seat, at, step)
+    }
+
+    /// A word of a chunk that this hand found linked under this hold of the slabs lock: 0 is the key of its item, 1 its stamp, and 2 how
+    /// many words come after these three, which fit the chunk. It is a word of an item that some hand knows. The read counts as a look. (own, for the key that items.c's `do_item_alloc_pull` finds in an item)
+    pub fn word_held(&self, hand: &mut Hand, held: &SlabsHeld, chunk: ChunkId, place: u64) -> u64
+        requires arena { IsHandOf self.now hand.old }
+        requires near { has_chunk (setup_of self.now).table chunk ≡ true }
+        requires held { (view hand.old).slabs ≡ Some held.now.shared }
+        requires linked { was_linked (view hand.old).row.looks chunk ≡ true }
+        requires inside { place < room_in (setup_of self.now).table (class_of_page held.now.shared chunk.page) }
+        ensures arena { IsHandOf self.now hand.new }
+        ensures locks { hand.new.locks ≡ hand.old.locks }
+        ensures held { (view hand.new).slabs ≡ Some held.now.shared }
+        ensures happens { Happens (view hand.old) [] (step.WordHeld chunk place) (view hand.new) }
+        ensures fits { place ≡ 2 → 3 + result ≤ room_in (setup_of self.now).table (class_of_page held.now.shared chunk.page) }
+        ensures known { (was : LawfulView (view hand.old)) × IsWordOfItem was.moment chunk place result }
+        ensures again { IfSome (word_read (view hand.old) chunk place) (λ before. result ≡ before) }
+        ensures view { view hand.new ≡ held_word_seen chunk place result (view hand.old) }
+    {
+        let class = held.slabs().owner(chunk.page).class();
+        let room = self.classes().size(class) / 8;
+        let at = self.data_word(room, chunk, place);
+        let step = Step::WordHeld(chunk, place);
+        self.look(&mut hand.seat, at, step)
+    }
+}

@@ -1,0 +1,147 @@
+//! Which locks there are, where each stands, and which a hand has.
+ghost use Rattle.std.specs.Prelude.{◌≡◌, ◌<◌, ◌^◌};
+ghost use Rattle.mc_words.specs.rule.Layout.{lock_word};
+ghost use Rattle.mc_words.specs.lock.Out.{is_behind, is_neither, turned_locks, with_slabs, with_stripe, without_slabs, without_stripe};
+ghost use Rattle.mc_words.specs.lock.Slots.{number_of, slot_of};
+
+use crate::lock::slot::Slot;
+
+/// How many words the words of locks stand apart, from one another and from what lies around them: 128 bytes, so that no two share
+/// a line of a cache, nor one of the pairs of lines that are fetched together. (own)
+pub(crate) const WORDS_APART: usize = 16;
+
+/// How many slots the values behind locks stand apart: 128 bytes, too. (own)
+pub(crate) const SLOTS_APART: usize = 8;
+
+/// The slots from one of them to the next, which are empty.
+pub(crate) const SLOTS_BETWEEN: usize = SLOTS_APART - 1;
+
+/// The word of the lock of the slabs.
+pub(crate) const SLABS_WORD: usize = WORDS_APART;
+
+const _: () = prove!(WORDS_APART * size_of::<u64>() == 128);
+
+const _: () = prove!(SLOTS_APART * size_of::<Slot>() == 128);
+
+/// A lock: that of the slabs, or of a stripe.
+#[derive(Clone, Copy)]
+pub enum Lock {
+    SlabsLock,
+    StripeLock(u64),
+}
+
+impl Lock {
+    /// Its number.
+    pub(crate) fn number(self) -> usize
+        requires few { number_of self < 2 ^ 59 }
+        ensures number { result ≡ number_of self }
+    {
+        match self {
+            Lock::SlabsLock => 0,
+            Lock::StripeLock(stripe) => stripe as usize + 1,
+        }
+    }
+
+    /// Its word.
+    pub(crate) fn word(self) -> usize
+        requires few { number_of self < 2 ^ 59 }
+        ensures word { result ≡ lock_word (number_of self) }
+    {
+        WORDS_APART * (1 + self.number())
+    }
+
+    /// The slot of the value behind it.
+    pub(crate) fn slot(self) -> usize
+        requires few { number_of self < 2 ^ 59 }
+        ensures slot { result ≡ slot_of self }
+    {
+        SLOTS_APART * self.number()
+    }
+}
+
+/// The locks of a hand.
+#[derive(Clone, Copy)]
+pub enum Locks {
+    Neither,
+    Slabs,
+    Stripe(u64),
+    /// Both, of which the lock of the slabs was taken last.
+    SlabsLast(u64),
+    /// Both, of which the stripe's was taken last.
+    StripeLast(u64),
+}
+
+impl Locks {
+    /// With the lock of the slabs, too.
+    pub(crate) fn with_slabs(self) -> Locks
+        ensures locks { result ≡ with_slabs self }
+    {
+        match self {
+            Locks::Neither | Locks::Slabs => Locks::Slabs,
+            Locks::Stripe(stripe) => Locks::SlabsLast(stripe),
+            both => both,
+        }
+    }
+
+    /// Without it.
+    pub(crate) fn without_slabs(self) -> Locks
+        ensures locks { result ≡ without_slabs self }
+    {
+        match self {
+            Locks::Neither | Locks::Slabs => Locks::Neither,
+            Locks::Stripe(stripe) | Locks::SlabsLast(stripe) | Locks::StripeLast(stripe) => {
+                Locks::Stripe(stripe)
+            }
+        }
+    }
+
+    /// With the lock of this stripe, too.
+    pub(crate) fn with_stripe(self, stripe: u64) -> Locks
+        ensures locks { result ≡ with_stripe stripe self }
+    {
+        match self {
+            Locks::Neither => Locks::Stripe(stripe),
+            Locks::Slabs => Locks::StripeLast(stripe),
+            other => other,
+        }
+    }
+
+    /// Without the stripe's lock.
+    pub(crate) fn without_stripe(self) -> Locks
+        ensures locks { result ≡ without_stripe self }
+    {
+        match self {
+            Locks::Neither | Locks::Stripe(_) => Locks::Neither,
+            Locks::Slabs | Locks::SlabsLast(_) | Locks::StripeLast(_) => Locks::Slabs,
+        }
+    }
+
+    /// Whether there is none.
+    pub(crate) fn is_neither(self) -> bool
+        ensures neither { result ≡ is_neither self }
+    {
+        matches!(self, Locks::Neither)
+    }
+
+    /// Whether this lock, which is one of them, was taken before the other.
+    pub(crate) fn is_behind(self, lock: Lock) -> bool
+        ensures behind { result ≡ is_behind self (number_of lock) }
+    {
+        match self {
+            Locks::SlabsLast(_) => matches!(lock, Lock::StripeLock(_)),
+            Locks::StripeLast(_) => matches!(lock, Lock::SlabsLock),
+            _ => false,
+        }
+    }
+
+    /// The two in the other order.
+    pub(crate) fn turned(self) -> Locks
+        ensures locks { result ≡ turned_locks self }
+    {
+        match self {
+            Locks::SlabsLast(stripe) => Locks::StripeLast(stripe),
+            Locks::StripeLast(stripe) => Locks::SlabsLast(stripe),
+            other => other,
+        }
+    }
+}
