@@ -1,13 +1,11 @@
 //! The tests, and what they have in common.
 mod calls;
 mod eviction;
-mod four;
 mod gets;
 mod hints;
 mod holds;
 mod refusals;
 mod steps;
-mod stress;
 
 use std::fmt::Debug;
 use std::process::Abort;

@@ -1,5 +1,4 @@
 //! The tests, and what they have in common.
-mod driver;
 mod evicting;
 mod full;
 mod hints;
@@ -7,15 +6,11 @@ mod holding;
 mod locks;
 mod lost;
 mod mode_two;
-mod moves;
 mod refusals;
 mod rescuing;
-mod stats;
 mod steps;
-mod stress;
 mod surveys;
 mod trims;
-mod workers;
 
 use std::fmt::Debug;
 use std::process::Abort;

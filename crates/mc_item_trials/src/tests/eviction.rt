@@ -1,8 +1,7 @@
 //! Which item is evicted: the oldest of five that nobody holds.
 use super::MOST_WORDS;
-use super::calls::{GETTERS, Getter};
 use super::steps::{Step, play_all, run};
-use mc_calls::{FOUR_CLASSES, opened_two};
+use mc_calls::{FOUR_CLASSES, GETTERS, Getter, opened_two};
 use mc_items::SetError;
 use std::alloc::Global;
 use std::process::Abort;

@@ -3,10 +3,9 @@ ghost use Rattle.mc_words.specs.hand.Arenas.{IsHandOf, view};
 ghost use Rattle.mc_items.specs.ItemRefs.{IsItemRef};
 ghost use Rattle.mc_calls.specs.Hands.{IsReadyHandOf};
 
-use super::calls::{GETTERS, Getter, get_by};
 use super::steps::{Step, play_all, run};
 use super::{MOST_WORDS, assert_same};
-use mc_calls::{FOUR_CLASSES, header, opened_two};
+use mc_calls::{FOUR_CLASSES, GETTERS, Getter, get_by, header, opened_two};
 use mc_items::{Ref, SetError, release};
 use mc_pages::ChunkId;
 use mc_words::{Arena, Hand};

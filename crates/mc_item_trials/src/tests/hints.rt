@@ -5,10 +5,9 @@ ghost use Rattle.mc_words.specs.hand.Arenas.{setup_of};
 ghost use Rattle.mc_words.specs.hand.Observers.{hint_chunk};
 ghost use Rattle.mc_calls.specs.Hands.{IsReadyHandOf};
 
-use super::calls::Getter;
 use super::steps::{Step, play_all};
 use super::{MOST_WORDS, assert_equal, assert_same};
-use mc_calls::{FOUR_CLASSES, follow, hint_of, opened_two};
+use mc_calls::{FOUR_CLASSES, Getter, follow, hint_of, opened_two};
 use mc_items::again;
 use mc_words::{Again, Arena, Hand, Hint};
 use std::alloc::Global;

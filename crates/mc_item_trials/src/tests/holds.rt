@@ -4,9 +4,8 @@ ghost use Rattle.mc_items.specs.ItemRefs.{IsItemRef};
 ghost use Rattle.mc_calls.specs.Hands.{IsReadyHandOf};
 
 use super::assert_same;
-use super::calls::{GETTERS, Getter, get_by};
 use super::steps::{Step, play_all};
-use mc_calls::{FOUR_CLASSES, are_from, opened_two};
+use mc_calls::{FOUR_CLASSES, GETTERS, Getter, are_from, get_by, opened_two};
 use mc_items::{Ref, read, release};
 use mc_memory::Refused;
 use mc_pages::ChunkId;

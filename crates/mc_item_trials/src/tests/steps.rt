@@ -2,8 +2,8 @@
 ghost use Rattle.mc_calls.specs.Hands.{IsReadyHandOf};
 
 use super::assert_same;
-use super::calls::{Getter, are_there, hold_all, hold_often, refusal_of_set};
-use mc_calls::{FOUR_CLASSES, delete_key, header, opened_two, store_all, touch_key};
+use super::calls::{are_there, hold_all, hold_often, refusal_of_set};
+use mc_calls::{FOUR_CLASSES, Getter, delete_key, header, opened_two, store_all, touch_key};
 use mc_items::SetError;
 use mc_memory::Refused;
 use mc_pages::ChunkId;

@@ -3,9 +3,8 @@ ghost use Rattle.mc_words.specs.hand.Arenas.{IsHandOf};
 ghost use Rattle.mc_calls.specs.Hands.{IsReadyHandOf};
 
 use super::assert_equal;
-use super::moves::try_turn_by;
 use super::steps::{Step, play_all};
-use mc_calls::{FOUR_CLASSES, opened_two};
+use mc_calls::{FOUR_CLASSES, opened_two, try_turn_by};
 use mc_mover::{Counts, TryTurn, Turn};
 use mc_words::{Arena, Hand};
 use std::alloc::Global;

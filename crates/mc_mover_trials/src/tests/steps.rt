@@ -2,9 +2,10 @@
 ghost use Rattle.mc_calls.specs.Hands.{IsReadyHandOf};
 
 use super::assert_same;
-use super::moves::{reassign_by, set_mode_by, turn_by};
-use super::stats::{Chunks, stats_of};
-use mc_calls::{delete_key, opened_two, store_all, touch_key};
+use mc_calls::{
+    Chunks, delete_key, opened_two, reassign_by, set_mode_by, stats_of, store_all, touch_key,
+    turn_by,
+};
 use mc_classes::{ClassId, Config};
 use mc_memory::Refused;
 use mc_mover::{Counts, Turn, forget, trim};

@@ -2,9 +2,8 @@
 ghost use Rattle.mc_calls.specs.Hands.{IsReadyHandOf};
 
 use super::assert_same;
-use super::stats::Chunks;
 use super::steps::{Step, has_chunks, play_all, run};
-use mc_calls::{FOUR_CLASSES, opened_two};
+use mc_calls::{Chunks, FOUR_CLASSES, opened_two};
 use mc_words::{Arena, Hand};
 use std::alloc::Global;
 use std::process::Abort;

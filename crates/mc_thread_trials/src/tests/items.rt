@@ -8,9 +8,9 @@ ghost use Rattle.mc_items.specs.Keeping.{HoldsTheSame};
 ghost use Rattle.mc_calls.specs.Hands.{AreHandsOf, IsIdleHandOf, IsReadyHandOf};
 
 use super::assert_same;
-use super::calls::{Getter, get_by};
 use mc_calls::{
-    are_from, count_keys, delete_key, head, one_of, opened, set_words, two_of, words_from,
+    Getter, are_from, count_keys, delete_key, get_by, head, one_of, opened, set_words, two_of,
+    words_from,
 };
 use mc_classes::{Config, PageId};
 use mc_items::{Ref, read, release};

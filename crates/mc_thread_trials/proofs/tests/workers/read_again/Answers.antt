@@ -1,6 +1,6 @@
 use Rattle.mc_words.specs.hand.Arenas.{view}
 use Rattle.mc_calls.proofs.Kept.{nothing_left_later}
-use Rattle.mc_mover_trials.proofs.tests.workers.read_again.Goals as goal
+use Rattle.mc_thread_trials.proofs.tests.workers.read_again.Goals as goal
 
 -- src/tests/workers.rt
 pub returns : goal.returns

@@ -1,8 +1,8 @@
 //! The mover's thread of the stress: it begins moves between all classes and the pool, and turns without a pause.
 ghost use Rattle.mc_calls.specs.Hands.{IsIdleHandOf, IsReadyHandOf};
 
-use super::moves::{reassign_by, turn_by};
 use super::workers::draw;
+use mc_calls::{reassign_by, turn_by};
 use mc_mover::{Counts, Turn};
 use mc_words::{Arena, Hand};
 use std::sync::Wait;

@@ -4,8 +4,7 @@ ghost use Rattle.std.specs.Thread.{IsSync};
 ghost use Rattle.mc_calls.specs.Hands.{AreHandsOf, IsIdleHandOf};
 
 use super::assert_same;
-use super::calls::{Getter, is_there};
-use mc_calls::{FOUR_CLASSES, one_of, opened, two_of};
+use mc_calls::{FOUR_CLASSES, Getter, is_there, one_of, opened, two_of};
 use mc_stripe::{Call, Key};
 use mc_words::{Arena, Final, Hand};
 use std::sync::Wait;

@@ -5,11 +5,10 @@ ghost use Rattle.mc_calls.specs.Hands.{AreHandsOf, IsIdleHandOf};
 
 use super::assert_same;
 use super::driver::{Mover, Tally, drive, end_if};
-use super::moves::set_mode_by;
-use super::stats::{Stats, stats_of};
 use super::workers::{KEYS, Worker, gather, store_each, work};
 use mc_calls::{
-    NO_SUMS, Sums, all_sums, class_sums, count_keys, count_pages, next_hand, opened, two_of,
+    NO_SUMS, Stats, Sums, all_sums, class_sums, count_keys, count_pages, next_hand, opened,
+    set_mode_by, stats_of, two_of,
 };
 use mc_classes::{ClassId, Config};
 use mc_words::{Arena, Final, Hand};

@@ -1,0 +1,14 @@
+//! The tests, and what they have in common.
+mod driver;
+mod gets;
+mod items;
+mod pages;
+mod workers;
+
+use std::fmt::Debug;
+use std::process::Abort;
+
+/// What was found is what was wanted. Both are printed where they differ.
+fn assert_same<T: Copy + PartialEq + Debug>(rt: &impl Abort, found: T, wanted: T, what: &str) {
+    assert_eq!(rt; found, wanted, "{what}");
+}
