@@ -1,5 +1,5 @@
-//! The work that is timed, of any cache. The command line has the numbers of shards, keys and threads, and how many bytes values have in the
-//! first half of the calls and in the second; standard input has the calls, of four bytes each.
+//! The work that is timed, of any cache. The command line has the numbers of shards, of a shard's pages, of keys and of threads, and how many bytes values
+//! have in the first half of the calls and in the second; standard input has the calls, of four bytes each.
 mod calls;
 mod trace;
 
@@ -10,8 +10,8 @@ use std::thread;
 use std::time::Instant;
 use trace::Trace;
 
-/// What the pages of a shard take.
-const SHARD_BYTES: u64 = 1 << 20;
+/// What a page of a shard takes.
+const PAGE_BYTES: u64 = 1 << 14;
 
 /// What keys are hashed with.
 pub const HASH_KEY: (u64, u64) = (0x243f_6a88_85a3_08d3, 0x1319_8a2e_0370_7344);
@@ -35,6 +35,8 @@ pub trait Store: Sized + Sync {
 /// The numbers of the command line.
 pub struct Setting {
     pub shards: u64,
+    /// What the pages of a shard take.
+    pub shard_bytes: u64,
     pub keys: u64,
     pub threads: u64,
     /// How many bytes values have at first, and then.
@@ -43,15 +45,15 @@ pub struct Setting {
 
 fn setting() -> Setting {
     let numbers: Vec<u64> = std::env::args().skip(1).map(|word| word.parse().expect("a number")).collect();
-    let [shards, keys, threads, first, second] = numbers[..] else {
-        panic!("SHARDS KEYS THREADS FIRST SECOND, and calls at standard input");
+    let [shards, pages, keys, threads, first, second] = numbers[..] else {
+        panic!("SHARDS PAGES KEYS THREADS FIRST SECOND, and calls at standard input");
     };
-    Setting { shards, keys, threads, sizes: [first as usize, second as usize] }
+    Setting { shards, shard_bytes: pages * PAGE_BYTES, keys, threads, sizes: [first as usize, second as usize] }
 }
 
 /// The calls of all threads, behind which it says what each part of them found.
 fn run<S: Store>(setting: &Setting, trace: &Trace) {
-    let (store, mut workers) = S::open(setting.shards, SHARD_BYTES, setting.threads + 1);
+    let (store, mut workers) = S::open(setting.shards, setting.shard_bytes, setting.threads + 1);
     let mut own = workers.pop().expect("a worker");
     fill(&store, &mut own, setting);
     let tallies = work_at_once(&store, workers, setting, trace);
