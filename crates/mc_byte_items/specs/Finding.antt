@@ -1,5 +1,5 @@
 -- What is found under a hash: the words of an item, and whether they are a packing of a key.
-use Rattle.std.specs.Prelude.{◌≡◌, ℕ, Bool, List, Option, Some, IfSome}
+use Rattle.std.specs.Prelude.{◌≡◌, ◌⊎◌, ℕ, Bool, false, List, ◌++◌, Option, Some, IfSome}
 use Rattle.std.specs.Option.{option_map}
 use Rattle.mc_packing.specs.Packing.{IsPackingOf, packed}
 use Rattle.mc_words.specs.declared.hand.Hand.{Hand}
@@ -24,6 +24,14 @@ pub record FindsWords (setup : Setup) (hash : ℕ) (before : Hand) (words : Opti
 -- it is of this key and this value
 abbrev pub FindsValue : Setup → ℕ → List ℕ → List ℕ → Hand → Type 0
 FindsValue setup hash key value before = FindsWords setup hash before (Some (packed key value))
+
+-- these words are the packing of the key and a value, which stands behind the bytes that were there
+abbrev pub PutsValue : List ℕ → List ℕ → List ℕ → List ℕ → Type 0
+PutsValue key words old new = (value : List ℕ) × (words ≡ packed key value) × (new ≡ old ++ value)
+
+-- the item under the hash is of this key and a value, which stands behind the bytes that were there
+abbrev pub GivesValue : Setup → ℕ → List ℕ → Hand → List ℕ → List ℕ → Type 0
+GivesValue setup hash key before old new = (value : List ℕ) × FindsValue setup hash key value before × (new ≡ old ++ value)
 
 -- it is of this key, with some value
 abbrev pub FindsKey : Setup → ℕ → List ℕ → Hand → Type 0
@@ -52,3 +60,11 @@ pub record LosesKey (setup : Setup) (hash : ℕ) (key : List ℕ) (before now : 
   pub finds : FindsKey setup hash key before
   pub between : Hand
   pub none : ActsOn setup hash (λ number stripe. FindsNone number stripe hash) between now
+
+-- there was no item of this key, or it was gone when it was to be deleted
+abbrev pub DeletesNone : Setup → ℕ → List ℕ → Hand → Hand → Type 0
+DeletesNone setup hash key before now = FindsOther setup hash key before ⊎ DeletesKey setup hash key false before now
+
+-- there was no item of this key, or it was gone when it was to be touched
+abbrev pub TouchesNone : Setup → ℕ → List ℕ → Hand → Hand → Type 0
+TouchesNone setup hash key before now = FindsOther setup hash key before ⊎ LosesKey setup hash key before now

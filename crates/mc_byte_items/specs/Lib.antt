@@ -1,3 +1,4 @@
 pub mod Hands
+pub mod Reading
 pub mod Finding
 pub mod Setting

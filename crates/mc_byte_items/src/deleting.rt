@@ -1,22 +1,20 @@
 //! Keys that are deleted.
-ghost use Rattle.std.specs.Prelude.{◌≡◌, ◌⊎◌, Ok, false, true};
+ghost use Rattle.std.specs.Prelude.{◌≡◌, Ok, false, true};
 ghost use Rattle.mc_words.specs.hand.Arenas.{setup_of, view};
 ghost use Rattle.mc_words.specs.hand.Observers.{number_of};
 ghost use Rattle.mc_items.specs.Keeping.{SaysNothing};
-ghost use Rattle.mc_byte_items.specs.Finding.{DeletesKey, FindsOther};
+ghost use Rattle.mc_byte_items.specs.Finding.{DeletesKey, DeletesNone};
 ghost use Rattle.mc_byte_items.specs.Hands.{IsIdleHandOf};
 
 use crate::finding::contains;
 use mc_memory::Refused;
 use mc_words::{Arena, Hand};
-use std::alloc::Global;
 use std::sync::Wait;
 
 /// Deletes the key, and says whether it had an item. An item of another key under the hash stays; but where one is stored there between
 /// the look and the delete, it is deleted, as an eviction would take it. (memcached's `process_delete_command`)
 pub fn delete<R: Wait>(
     rt: &R,
-    alloc: Global,
     arena: &Arena,
     hand: &mut Hand,
     hash: u64,
@@ -26,10 +24,10 @@ pub fn delete<R: Wait>(
     ensures idle { IsIdleHandOf arena.now hand.new }
     ensures number { number_of hand.new ≡ number_of hand.old }
     ensures deletes { result ≡ Ok true → DeletesKey (setup_of arena.now) hash key.now true hand.old hand.new }
-    ensures none { result ≡ Ok false → FindsOther (setup_of arena.now) hash key.now hand.old ⊎ DeletesKey (setup_of arena.now) hash key.now false hand.old hand.new }
+    ensures none { result ≡ Ok false → DeletesNone (setup_of arena.now) hash key.now hand.old hand.new }
     ensures unsaid { SaysNothing (view hand.old) (view hand.new) }
 {
-    match contains(rt, alloc, arena, hand, hash, key) {
+    match contains(rt, arena, hand, hash, key) {
         Ok(true) => mc_items::delete(rt, arena, hand, hash),
         Ok(false) => Ok(false),
         Err(refused) => Err(refused),

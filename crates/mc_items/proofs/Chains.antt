@@ -1,5 +1,5 @@
 -- What a call leaves so that the next one may come: a ready hand, its number, and each of its references.
-use Rattle.std.proofs.Common.{◌≡◌, ◌≤◌, ◌<◌, ℕ, ◌+◌, Bool, true, false, List, [], ◌∷◌, ◌++◌, length, is_some, drop, Option, Some, None, Contains, refl, sym, ap, subst, ◌∙◌, arith, slice_index}
+use Rattle.std.proofs.Common.{◌≡◌, ◌≤◌, ◌<◌, ℕ, ◌+◌, true, false, List, [], ◌∷◌, ◌++◌, length, is_some, drop, Option, Some, Contains, refl, sym, ap, subst, ◌∙◌, arith}
 use Rattle.std.specs.Option.{option_map, option_map_or, option_or}
 use Rattle.std.proofs.lemmas.List.{append-nil, length-append}
 use Rattle.std.proofs.lemmas.List.Folds.{find-append}
@@ -8,7 +8,6 @@ use Rattle.mc_pages.specs.declared.ids.ChunkId.{ChunkId}
 use Rattle.mc_core.specs.declared.holding.Holding.{Holding}
 use Rattle.mc_core.specs.declared.holding.Kind.{Kind}
 use Rattle.mc_core.specs.declared.holding.Kind.TheVariants.{Fresh, Reference}
-use Rattle.mc_core.specs.declared.ids.Ids.{Ids}
 use Rattle.mc_core.specs.Columns.{Each, head_in}
 use Rattle.mc_core.specs.Holdings.{has_fresh, holding_of, is_fresh, is_fresh_kind, is_of, item_of, item_of_kind, key_of, length_of, lose, stamp_of}
 use Rattle.mc_core.specs.Knowing.{IsSaid}
@@ -21,16 +20,17 @@ use Rattle.mc_words.specs.declared.hand.Hand.{Hand}
 use Rattle.mc_words.specs.hand.View.{View}
 use Rattle.mc_words.specs.hand.Arenas.{view}
 use Rattle.mc_words.specs.rule.Happens.{LawfulView}
-use Rattle.mc_words.specs.item.Items.{held_item, item_with}
+use Rattle.mc_words.specs.item.Items.{held_item}
 use Rattle.mc_words.specs.lock.Out.{is_neither}
 use Rattle.mc_words.specs.hand.Ready.{IsReady}
 use Rattle.mc_words.specs.item.Refs.{IsRefOf, KeepsHeld, KeepsRefs}
 use Rattle.mc_words.proofs.Pages.Owners.{holdings_here}
 use Rattle.mc_words.proofs.Locks.Unlocked.{unlocked_from}
 use Rattle.mc_items.specs.declared.refs.Ref.{Ref}
-use Rattle.mc_items.specs.ItemRefs.{IsItemRef, item_chunk, item_len, item_stamp, item_words}
-use Rattle.mc_items.specs.Keeping.{AreSaid, HeldRefsKeepItems, HoldsLess, HoldsTheSame, HoldsToo, IsAsSaid, KeepingGoesOn, KeptRefsKeepItems, ReleasingKeepsOthers, StaysItemRef, holding_by}
-use Rattle.mc_items.proofs.Rows.{chunk_found, found_among, fresh_less, fresh_more, left_among, none_fresh, still_found}
+use Rattle.mc_items.specs.ItemRefs.{IsItemRef, item_chunk, item_stamp, item_words}
+use Rattle.mc_items.specs.Keeping.{AreSaid, HeldRefsKeepItems, IsAsSaid, KeepingGoesOn, KeptRefsKeepItems, ReleasingKeepsOthers, StaysItemRef, holding_by}
+use Rattle.mc_words.specs.item.Items.{item_with}
+use Rattle.mc_items.proofs.Rows.{chunk_found, found_among, fresh_more, left_among, none_fresh, still_found}
 
 -- a hand with the locks of a ready one
 unlocked_still : (before now : Hand) → now.locks ≡ before.locks → IsReady (view before) → Rattle.mc_words.specs.hand.Idle.is_unlocked (view now) ≡ true

@@ -7,9 +7,7 @@ use Rattle.mc_pages.specs.SlabState.{SlabState, IsClass, class_at, class_of_page
 use Rattle.mc_pages.proofs.OneClass.{IsClass-with_class, class_at-with_class_same}
 use Rattle.mc_stripe.specs.StripeState.{ReadyStripe}
 use Rattle.mc_stripe.specs.declared.history.Call.TheVariants.{Evict}
-use Rattle.mc_core.specs.declared.ids.Ids.{Ids}
-use Rattle.mc_core.specs.declared.holding.Holding.{Holding}
-use Rattle.mc_core.specs.Past.{Own, Saying}
+use Rattle.mc_core.specs.Past.{Own}
 use Rattle.mc_words.specs.lock.Doing.{IsDone}
 use Rattle.mc_words.specs.hand.View.{View}
 use Rattle.mc_words.specs.item.Calls.{with_own_call}

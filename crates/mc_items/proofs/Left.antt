@@ -1,5 +1,5 @@
 -- What calls on keys leave of a hand's row, but for looks, sights and calls.
-use Rattle.std.proofs.Common.{◌≡◌, ℕ, ◌+◌, Bool, true, false, List, [], ◌∷◌, ◌++◌, Option, Some, None, refl, ap, sym, subst, ◌∙◌, inl, inr, if◌then◌else◌}
+use Rattle.std.proofs.Common.{◌≡◌, ℕ, ◌+◌, Bool, true, false, List, [], ◌∷◌, ◌++◌, Some, refl, ap, sym, ◌∙◌, inl, inr, if◌then◌else◌}
 use Rattle.mc_pages.specs.declared.ids.ChunkId.{ChunkId}
 use Rattle.mc_pages.specs.SlabState.{SlabState}
 use Rattle.mc_stripe.specs.StripeState.{ReadyStripe}
@@ -17,10 +17,9 @@ use Rattle.mc_words.specs.lock.Wait.{WaitsForSlabs, WaitsForStripe}
 use Rattle.mc_words.specs.declared.item.refs.Ref as words
 use Rattle.mc_items.specs.declared.refs.Ref.{Ref}
 use Rattle.mc_items.specs.Calls.{CallsOn, Deletes, Finds, FindsNone, OnlyWaits}
-use Rattle.mc_items.specs.ItemRefs.{item_chunk, item_issue, item_reference}
+use Rattle.mc_items.specs.ItemRefs.{item_chunk, item_issue}
 use Rattle.mc_items.specs.Keeping.{HoldsToo}
 use Rattle.mc_items.specs.Reading.{AndReads, item_seen}
-use Rattle.std.specs.Option.{option_map}
 use Rattle.mc_items.proofs.Locks.{waits_keep, waits_slabs_keep}
 
 -- what is held, known and said, and the numbers

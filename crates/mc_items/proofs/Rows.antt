@@ -1,7 +1,6 @@
 -- Lists of holdings: one more at the end, and the first of a chunk lost.
-use Rattle.std.proofs.Common.{◌≡◌, ℕ, zero, suc, ◌+◌, ◌≤◌, Bool, true, false, ◌||◌, List, [], ◌∷◌, ◌++◌, length, is_some, find, map, Option, Some, None, refl, ap, sym, subst, ◌∙◌, arith, inl, inr, cond, if◌then◌else◌, Contains}
+use Rattle.std.proofs.Common.{◌≡◌, zero, suc, ◌≤◌, Bool, true, false, ◌||◌, List, [], ◌∷◌, ◌++◌, length, is_some, find, Option, Some, None, refl, ap, sym, ◌∙◌, arith, if◌then◌else◌, Contains}
 use Rattle.std.specs.Option.{option_or}
-use Rattle.std.proofs.lemmas.Bool.{cases_Bool, false≢true}
 use Rattle.std.proofs.lemmas.Option.{none-some}
 use Rattle.std.proofs.lemmas.List.Folds.{find-append}
 use Rattle.std.proofs.lemmas.List.{length-append}
@@ -15,7 +14,7 @@ use Rattle.mc_core.specs.Holdings.{change_each, has_fresh, holding_of, is_fresh,
 use Rattle.mc_pages.specs.Accounted.{truth}
 use Rattle.mc_core.proofs.Base.{all_lose}
 use Rattle.mc_core.proofs.SeenLooks.{some_is}
-use Rattle.mc_core.proofs.Holders.{found_all, found_passes, holds-lose, holds-push, length-lose, length-lose-le}
+use Rattle.mc_core.proofs.Holders.{found_all, found_passes, holds-lose, holds-push, length-lose}
 
 -- what is found is among them
 pub found_among : (test : Holding → Bool) (row : List Holding) (one : Holding) → find test row ≡ Some one → Contains row one

@@ -9,7 +9,7 @@ use Rattle.mc_words.specs.hand.Arenas.{view}
 use Rattle.mc_words.specs.item.Fresh.{IsFreshOf}
 use Rattle.mc_words.specs.item.Items.{issue_in, item_with, words_in}
 use Rattle.mc_words.specs.item.Links.{IsItemFilled}
-use Rattle.mc_words.specs.hand.Observers.{fresh_chunk, fresh_room, fresh_stamp, number_of, ref_chunk, ref_issue, ref_room, stripe_lent, stripe_number}
+use Rattle.mc_words.specs.hand.Observers.{fresh_chunk, fresh_room, ref_chunk, ref_issue, ref_room, stripe_lent, stripe_number}
 use Rattle.mc_words.specs.hand.View.{Setup, View}
 use Rattle.mc_words.specs.hand.Views.{chunk_discarded, stripe_given}
 use Rattle.mc_items.specs.OnKeys.{stripe_of_key}

@@ -21,7 +21,7 @@ pub use deleting::delete;
 pub use evicting::Supply;
 pub use getting::{GetError, TryGetError, get, try_get};
 pub use hinting::{again, hint};
-pub use reading::{read, release};
+pub use reading::{read, release, word};
 pub use refs::Ref;
 pub use setting::{SetError, set};
 pub use touching::touch;

@@ -1,12 +1,12 @@
 //! The words of an item, and references that are given up.
-ghost use Rattle.std.specs.Prelude.{◌≡◌, [], IfOk, OnErr};
+ghost use Rattle.std.specs.Prelude.{◌≡◌, ◌+◌, ◌<◌, [], IfOk, OnErr, slice_index};
 ghost use Rattle.mc_words.specs.hand.Arenas.{IsHandOf, view};
 ghost use Rattle.mc_words.specs.rule.Happens.{Happens};
 ghost use Rattle.mc_words.specs.item.Items.{item_with};
 ghost use Rattle.mc_words.specs.hand.Observers.{locks_of, number_of};
 ghost use Rattle.mc_words.specs.hand.Ready.{IsReady};
 ghost use Rattle.mc_words.specs.item.Refs.{KeepsHeld, KeepsRefs};
-ghost use Rattle.mc_words.specs.hand.Views.{chunk_released};
+ghost use Rattle.mc_words.specs.hand.Views.{chunk_released, word_seen};
 ghost use Rattle.mc_items.specs.ItemRefs.{IsItemRef, item_chunk, item_key, item_len, item_stamp, item_words};
 ghost use Rattle.mc_items.specs.Keeping.{AreSaid, HoldsLess, HoldsTheSame, SaysNothing};
 ghost use Rattle.mc_items.specs.Reading.{words_seen};
@@ -40,6 +40,31 @@ pub fn read(alloc: Global, arena: &Arena, hand: &mut Hand, item: &Ref) -> Result
         words.push_reserved(arena.word(hand, &item.reference, 3 + place));
     }
     Ok(words)
+}
+
+/// The item's word at this place, where 0 is the first behind key, stamp and length. It takes no lock and no memory, and the reference
+/// stays.
+#[inline(always)]
+pub fn word(arena: &Arena, hand: &mut Hand, item: &Ref, place: u64) -> u64
+    requires arena { IsHandOf arena.now hand.old }
+    requires ready { IsReady (view hand.old) }
+    requires item { IsItemRef (view hand.old) item.now }
+    requires near { place < item_len item.now }
+    ensures arena { IsHandOf arena.now hand.new }
+    ensures ready { IsReady (view hand.new) }
+    ensures locks { locks_of hand.new ≡ locks_of hand.old }
+    ensures number { number_of hand.new ≡ number_of hand.old }
+    ensures item { IsItemRef (view hand.new) item.now }
+    ensures happens { Happens (view hand.old) [] (step.Word (item_chunk item.now) (3 + place)) (view hand.new) }
+    ensures view { view hand.new ≡ word_seen (item_chunk item.now) (3 + place) (view hand.old) }
+    ensures word { result ≡ slice_index (item_words (view hand.old) item.now) place }
+    ensures words { item_words (view hand.new) item.now ≡ item_words (view hand.old) item.now }
+    ensures said { AreSaid (view hand.new) (item_stamp item.now) (item_with (item_key item.now) (item_stamp item.now) (item_words (view hand.old) item.now)) }
+    ensures holdings { HoldsTheSame (view hand.old) (view hand.new) }
+    ensures keeps { KeepsRefs (view hand.old) (view hand.new) }
+    ensures unsaid { SaysNothing (view hand.old) (view hand.new) }
+{
+    arena.word(hand, &item.reference, 3 + place)
 }
 
 /// Gives a reference up, by one subtraction and no lock. The last reference of an item that no key leads to leaves its chunk dead.

@@ -22,6 +22,10 @@ pub length_bytes_in : (word : ℕ) → length (bytes_in word) ≡ 8
 unfolding bytes_in
 length_bytes_in word = refl
 
+-- asked for eight of its bytes or more, a word gives all
+pub all_eight : (count word : ℕ) → 8 ≤ count → take count (bytes_in word) ≡ bytes_in word
+all_eight count word many = take_all count (bytes_in word) (omega (arith, length_bytes_in word))
+
 pub word_again : (word : ℕ) → word < 2 ^ 64 → word_of (bytes_in word) ≡ word
 unfolding word_of bytes_in
 word_again word fits = from_le_bytes-to_le_bytes_8 word fits

@@ -2,3 +2,4 @@ pub mod Bytes
 pub mod Whole
 pub mod Loops
 pub mod Packs
+pub mod Looks

@@ -1,8 +1,8 @@
 -- Steps of the loops over words.
-use Rattle.std.proofs.Common.{◌≡◌, ℕ, ◌+◌, ◌-◌, ◌<◌, ◌≤◌, min, List, [], ◌∷◌, ◌++◌, length, take, drop, get_or, set, ap, sym, ◌∙◌, arith, append_assoc, append-nil}
-use Rattle.std.proofs.lemmas.List.{drop_all, drop_more, get_or_at, length-take-le, length-set, take_all, take_min, take_more, take_more_set}
+use Rattle.std.proofs.Common.{◌≡◌, ℕ, ◌+◌, ◌-◌, ◌<◌, ◌≤◌, List, [], ◌∷◌, ◌++◌, length, take, drop, get_or, set, ap, sym, ◌∙◌, arith, append_assoc, append-nil}
+use Rattle.std.proofs.lemmas.List.{drop_all, drop_more, get_or_at, length-take-le, length-set, take_all, take_more, take_more_set}
 use Rattle.mc_packing.specs.Packing.{bytes_in, bytes_of, word_of, words_for, words_from, words_of}
-use Rattle.mc_packing.proofs.Bytes.{length_bytes_in, words_step}
+use Rattle.mc_packing.proofs.Bytes.{words_step}
 
 -- the words up to a place, and behind them those of what is left of the bytes
 pub record IsWritten (bytes words : List ℕ) (place : ℕ) (rest : List ℕ) : Type 0 where
@@ -45,14 +45,12 @@ differs bytes words place rest within other h same =
 pub record ArePut (old : List ℕ) (count : ℕ) (words now : List ℕ) (left place : ℕ) : Type 0 where
   pub all : now ++ bytes_of left (drop place words) ≡ old ++ bytes_of count words
 
-pub put_more : (old : List ℕ) (count : ℕ) (words now more : List ℕ) (left place some : ℕ) → place < length words → some ≡ min 8 left → more ≡ take some (bytes_in (get_or words place 0)) → ArePut old count words now left place → ArePut old count words (now ++ more) (left - some) (place + 1)
+pub put_more : (old : List ℕ) (count : ℕ) (words now : List ℕ) (left next place : ℕ) → place < length words → next ≡ left - 8 → ArePut old count words now left place → ArePut old count words (now ++ take left (bytes_in (get_or words place 0))) next (place + 1)
 unfolding bytes_of
-put_more old count words now more left place some within is taken h =
+put_more old count words now left next place within is h =
     let word : ℕ = get_or words place 0 in
-    let same : left - some ≡ left - 8 = omega arith in
-    let front : more ≡ take left (bytes_in word) = taken ∙ ap (λ (n : ℕ). take n (bytes_in word)) (let e : some ≡ min left (length (bytes_in word)) = omega (arith, length_bytes_in word) in e) ∙ take_min left (bytes_in word) in
     let step : bytes_of left (drop place words) ≡ take left (bytes_in word) ++ bytes_of (left - 8) (drop (place + 1) words) = ap (λ (ws : List ℕ). bytes_of left ws) (drop_more words place 0 within) in
-    record { all = (λ i. (now ++ front i) ++ bytes_of (same i) (drop (place + 1) words)) ∙ append_assoc now (take left (bytes_in word)) (bytes_of (left - 8) (drop (place + 1) words)) ∙ ap (λ (b : List ℕ). now ++ b) (sym step) ∙ h.all }
+    record { all = (λ i. (now ++ take left (bytes_in word)) ++ bytes_of (is i) (drop (place + 1) words)) ∙ append_assoc now (take left (bytes_in word)) (bytes_of (left - 8) (drop (place + 1) words)) ∙ ap (λ (b : List ℕ). now ++ b) (sym step) ∙ h.all }
 
 pub all_put : (old : List ℕ) (count : ℕ) (words now : List ℕ) (left place : ℕ) → length words ≤ place → ArePut old count words now left place → now ≡ old ++ bytes_of count words
 unfolding bytes_of

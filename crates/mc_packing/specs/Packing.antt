@@ -1,10 +1,14 @@
 -- A key and a value of bytes as the words of an item.
-use Rattle.std.specs.Prelude.{◌≡◌, ℕ, zero, suc, ◌+◌, ◌-◌, ◌/◌, ◌<◌, List, [], ◌∷◌, ◌++◌, length, take, drop, slice_index}
+use Rattle.std.specs.Prelude.{◌≡◌, ℕ, zero, suc, ◌+◌, ◌-◌, ◌/◌, ◌%◌, ◌^◌, ◌<◌, List, [], ◌∷◌, ◌++◌, length, take, drop, slice_index}
 use Rattle.std.specs.Int.{w64, from_le_bytes, to_le_bytes}
 
 -- each of these numbers is a byte
 abbrev pub AreBytes : List ℕ → Type 0
 AreBytes bytes = (place : ℕ) → slice_index bytes place < 256
+
+-- each of these numbers is a word
+abbrev pub AreWords : List ℕ → Type 0
+AreWords words = (place : ℕ) → slice_index words place < 2 ^ 64
 
 -- the word of the first eight of these bytes, the first lowest: where bytes are wanting, it has zeros
 unfoldable pub word_of : List ℕ → ℕ
@@ -51,3 +55,27 @@ value_in words = bytes_of (slice_index words 1) (drop (2 + words_for (slice_inde
 -- the words are those of an item of this key, with some value
 abbrev pub IsPackingOf : List ℕ → List ℕ → Type 0
 IsPackingOf key words = words ≡ packed key (value_in words)
+
+-- behind the lengths, as many words as the key fills
+abbrev pub key_words : List ℕ → List ℕ → List ℕ
+key_words key words = take (words_for (length key)) (drop 2 words)
+
+-- the words behind those of the key
+abbrev pub value_words : List ℕ → List ℕ → List ℕ
+value_words key words = drop (2 + words_for (length key)) words
+
+-- the word has zeros behind so many of its bytes
+abbrev pub EndsInZeros : ℕ → ℕ → Type 0
+EndsInZeros bytes word = word_of (take bytes (bytes_in word)) ≡ word
+
+-- so many bytes fill the words from this place on: there are as many, and behind the last byte its word has zeros
+pub record FillsFrom (place count : ℕ) (words : List ℕ) : Type 0 where
+  pub len : length words ≡ place + words_for count
+  pub zeros : 0 < count % 8 → EndsInZeros (count % 8) (slice_index words (length words - 1))
+
+-- by lengths, key, number and last word they are those of an item of this key, with a value of so many bytes
+pub record LooksPacked (key : List ℕ) (count : ℕ) (words : List ℕ) : Type 0 where
+  pub key_len : slice_index words 0 ≡ length key
+  pub value_len : slice_index words 1 ≡ count
+  pub own : key_words key words ≡ words_of key
+  pub value : FillsFrom (2 + words_for (length key)) count words

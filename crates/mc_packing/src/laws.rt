@@ -1,7 +1,7 @@
 //! Laws of packings, each the contract of a function with nothing to do.
-ghost use Rattle.std.specs.Prelude.{◌≡◌, ◌+◌, ℕ, List, length};
+ghost use Rattle.std.specs.Prelude.{◌≡◌, ◌+◌, ℕ, List, length, slice_index};
 ghost use Rattle.mc_packing.specs.Cases.{NineBytes, NoPackings, NoValue, ValueRead, ZerosCount};
-ghost use Rattle.mc_packing.specs.Packing.{AreBytes, IsPackingOf, key_in, packed, value_in, words_for};
+ghost use Rattle.mc_packing.specs.Packing.{AreBytes, AreWords, IsPackingOf, LooksPacked, bytes_of, key_in, packed, value_in, value_words, words_for};
 
 /// Unpacking gives back the very key and the very value. A packing has two words for the lengths, and a word for each eight bytes of
 /// the key and of the value, or a part of eight.
@@ -17,6 +17,14 @@ pub fn packings_are_apart()
     ensures keys { (k l v w : List ℕ) → AreBytes k → AreBytes l → packed k v ≡ packed l w → k ≡ l }
     ensures values { (k l v w : List ℕ) → AreBytes v → AreBytes w → packed k v ≡ packed l w → v ≡ w }
     ensures one { (k l words : List ℕ) → AreBytes k → AreBytes l → IsPackingOf k words → IsPackingOf l words → k ≡ l }
+{}
+
+/// Words are a packing of a key just where they look so: where lengths, key and number of words are those of one, and the last word ends
+/// in zeros. The other words of the value may be any.
+pub fn packings_by_looks()
+    ensures looks { (key words : List ℕ) → IsPackingOf key words → LooksPacked key (slice_index words 1) words }
+    ensures packing { (key words : List ℕ) (count : ℕ) → AreWords (value_words key words) → LooksPacked key count words → IsPackingOf key words }
+    ensures value { (key words : List ℕ) (count : ℕ) → LooksPacked key count words → value_in words ≡ bytes_of count (value_words key words) }
 {}
 
 /// Worked packings, which the prover computes.

@@ -1,5 +1,5 @@
 //! The words of an item, written from its key and its value.
-ghost use Rattle.std.specs.Prelude.{◌+◌, ◌≡◌, OnErr, OnOk, length};
+ghost use Rattle.std.specs.Prelude.{◌+◌, ◌<◌, ◌^◌, ◌≡◌, OnErr, OnOk, length};
 ghost use Rattle.mc_packing.specs.Packing.{packed, words_for};
 
 use crate::words::{count_words, write_words};
@@ -12,6 +12,15 @@ pub fn packed_len(key: &[u8], value: &[u8]) -> usize
     ensures { result ≡ length (packed key.now value.now) }
 {
     2 + count_words(key) + count_words(value)
+}
+
+/// The place of the first word of the value in a packing of this key, behind the lengths and the key's words.
+#[inline(always)]
+pub fn value_place(key: &[u8]) -> u64
+    ensures place { result ≡ 2 + words_for (length key.now) }
+    ensures small { result < 2 ^ 62 }
+{
+    2 + count_words(key) as u64
 }
 
 /// Writes the packing of this key and this value in the place of the words that are there. A vector that had room for as many takes

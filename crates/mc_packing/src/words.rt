@@ -1,6 +1,6 @@
 //! Bytes that become words, and words that become bytes.
-ghost use Rattle.std.specs.Prelude.{◌++◌, ◌≡◌, ◌≢◌, ◌≤◌, ◌^◌, true, false, OnErr, OnOk, drop, length};
-ghost use Rattle.mc_packing.specs.Packing.{AreWhole, bytes_in, bytes_of, word_of, words_for, words_of};
+ghost use Rattle.std.specs.Prelude.{◌++◌, ◌+◌, ◌≡◌, ◌≢◌, ◌≤◌, ◌^◌, ◌↔◌, IsTrue, true, false, OnErr, OnOk, drop, length, min, take, vec_capacity, vec_len};
+ghost use Rattle.mc_packing.specs.Packing.{AreWhole, EndsInZeros, bytes_in, bytes_of, word_of, words_for, words_of};
 
 use mc_memory::{Refused, extend_from_slice, reserve};
 
@@ -15,9 +15,19 @@ pub(crate) fn count_words(bytes: &[u8]) -> usize
     bytes.len().div_ceil(WORD)
 }
 
+/// How many words so many bytes fill, the last one perhaps in part.
+#[inline(always)]
+pub fn words_for_bytes(bytes: u64) -> u64
+    ensures words { result ≡ words_for bytes }
+    ensures small { result ≤ 2 ^ 61 }
+{
+    bytes.div_ceil(WORD as u64)
+}
+
 /// The word that the first eight of these bytes make, the first lowest. Where bytes are wanting, it has zeros.
+#[inline(always)]
 #[tactic(auto, unfolding(crate::specs::Packing::word_of))]
-fn first_word(bytes: &[u8]) -> u64
+pub fn first_word(bytes: &[u8]) -> u64
     ensures { result ≡ word_of bytes.now }
 {
     if let Some(eight) = bytes.first_chunk::<WORD>() {
@@ -37,7 +47,8 @@ fn eight_bytes(word: u64) -> [u8; WORD]
 }
 
 /// What follows the first eight of these bytes.
-fn after_word(bytes: &[u8]) -> &[u8]
+#[inline(always)]
+pub fn after_word(bytes: &[u8]) -> &[u8]
     ensures { result.now ≡ drop 8 bytes.now }
 {
     &bytes[WORD.min(bytes.len())..]
@@ -87,8 +98,33 @@ pub(crate) fn are_whole(words: &[u64], count: u64) -> bool
     if words.len() as u64 != full + 1 {
         return false;
     }
-    let last = words[full as usize];
-    first_word(&eight_bytes(last)[..more]) == last
+    ends_in_zeros(words[full as usize], more)
+}
+
+/// Whether the word has zeros behind so many of its bytes.
+pub fn ends_in_zeros(word: u64, bytes: usize) -> bool
+    requires { bytes ≤ 8 }
+    ensures { IsTrue result ↔ EndsInZeros bytes word }
+{
+    first_word(&eight_bytes(word)[..bytes]) == word
+}
+
+/// Puts so many bytes of the word behind those that are there, or all eight where it is asked for more. There is room for as many as
+/// are asked for.
+#[inline(always)]
+#[tactic(auto, using(crate::proofs::Bytes::all_eight))]
+pub fn push_word(into: &mut Vec<u8>, word: u64, count: usize)
+    requires { vec_len into.old + count ≤ vec_capacity into.old }
+    ensures bytes { into.new.items ≡ into.old.items ++ take count (bytes_in word) }
+    ensures len { vec_len into.new ≡ vec_len into.old + min 8 count }
+    ensures capacity { vec_capacity into.old ≤ vec_capacity into.new }
+{
+    let bytes = eight_bytes(word);
+    if count < WORD {
+        extend_from_slice(into, &bytes[..count]).unwrap();
+    } else {
+        extend_from_slice(into, &bytes).unwrap();
+    }
 }
 
 /// Puts so many bytes of the words behind those that are there, or eight of each where the words are fewer. Where there is no room,
@@ -100,10 +136,8 @@ pub(crate) fn push_bytes(into: &mut Vec<u8>, words: &[u64], count: usize) -> Res
     reserve(into, count)?;
     let mut left = count;
     for word in words {
-        let bytes = eight_bytes(*word);
-        let some = WORD.min(left);
-        extend_from_slice(into, &bytes[..some])?;
-        left -= some;
+        push_word(into, *word, left);
+        left = left.saturating_sub(WORD);
     }
     Ok(())
 }

@@ -10,7 +10,7 @@ use Rattle.mc_words.specs.lock.Wait.{WaitsForStripe}
 use Rattle.mc_stripe.specs.declared.history.Call.TheVariants.{Delete}
 use Rattle.mc_items.specs.Calls.{CallsOn, Deletes, OnlyWaits, TellsCall, TellsNoCall}
 use Rattle.mc_items.proofs.Chains.{ready_still, refs_stay}
-use Rattle.mc_items.proofs.Left.{Kept, kept_of}
+use Rattle.mc_items.proofs.Left.{Kept}
 use Rattle.mc_items.proofs.GetLeaves.{delete_kept}
 use Rattle.mc_items.proofs.Deletes.{ok_map, err_map}
 use Rattle.mc_items.proofs.Freed.{error_both}

@@ -4,11 +4,8 @@ use Rattle.std.proofs.lemmas.List.{length-append}
 use Rattle.mc_pages.specs.declared.ids.ChunkId.{ChunkId}
 use Rattle.mc_pages.specs.ClassState.{behind}
 use Rattle.mc_pages.specs.SlabState.{SlabState, class_at, class_of_chunk}
-use Rattle.mc_core.specs.declared.holding.Holding.{Holding}
-use Rattle.mc_core.specs.declared.ids.Ids.{Ids}
 use Rattle.mc_core.specs.declared.look.Look.TheVariants.{Saw}
 use Rattle.mc_core.specs.Holdings.{has_fresh}
-use Rattle.mc_core.specs.Past.{Own, Saying}
 use Rattle.mc_core.specs.State.{is_class}
 use Rattle.mc_words.specs.hand.View.{Setup, View}
 use Rattle.mc_words.specs.lock.Out.{has_no_stripe}

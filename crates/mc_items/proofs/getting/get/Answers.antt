@@ -1,4 +1,4 @@
-use Rattle.std.proofs.Common.{◌<◌, ◌≡◌, ◌%◌, ℕ, refl, ap, subst, ◌∙◌, arith, length, List}
+use Rattle.std.proofs.Common.{◌≡◌, ◌%◌, ℕ, refl, ap, subst, ◌∙◌, arith, length, List}
 use Rattle.mc_classes.specs.declared.config.Config.{Config}
 use Rattle.mc_core.specs.declared.holding.Holding.{Holding}
 use Rattle.mc_words.specs.lock.Lent.{IsLentStripe}

@@ -1,4 +1,4 @@
-use Rattle.std.proofs.Common.{◌<◌, arith, refl, ◌≡◌, ◌%◌, ℕ, ap, subst, ◌∙◌}
+use Rattle.std.proofs.Common.{arith, refl, ◌≡◌, ◌%◌, ℕ, ap, subst, ◌∙◌}
 use Rattle.mc_classes.specs.declared.config.Config.{Config}
 use Rattle.mc_words.specs.lock.Lent.{IsLentStripe}
 use Rattle.mc_words.specs.lock.Out.{without_stripe}

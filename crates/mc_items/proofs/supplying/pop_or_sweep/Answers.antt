@@ -1,4 +1,4 @@
-use Rattle.std.proofs.Common.{◌≡◌, ◌≤◌, ◌∙◌, Ok, Option, IfSome, ap, sym, subst}
+use Rattle.std.proofs.Common.{◌≡◌, ◌∙◌, Ok, ap, sym}
 use Rattle.mc_pages.specs.Changes.{after_pop}
 use Rattle.mc_core.specs.State.{room_in}
 use Rattle.mc_words.specs.item.Fresh.{IsFreshOf}

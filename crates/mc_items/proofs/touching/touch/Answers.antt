@@ -1,4 +1,4 @@
-use Rattle.std.proofs.Common.{◌≤◌, [], ◌∷◌, ◌++◌, ◌≡◌, ◌%◌, ◌+◌, ℕ, List, Option, IfSome, is_some, refl, ap, sym, subst, ◌∙◌, arith, length}
+use Rattle.std.proofs.Common.{[], ◌∷◌, ◌++◌, ◌≡◌, ◌%◌, ◌+◌, ℕ, List, Option, IfSome, is_some, refl, ap, sym, subst, ◌∙◌, arith, length}
 use Rattle.mc_classes.specs.declared.config.Config.{Config}
 use Rattle.mc_pages.specs.Changes.{after_touch}
 use Rattle.mc_core.specs.declared.holding.Holding.{Holding}
@@ -22,9 +22,8 @@ use Rattle.mc_stripe.specs.StripeState.{stamp_of as stripe_stamp}
 use Rattle.mc_words.specs.item.References.{reference_to}
 use Rattle.mc_core.specs.Columns.{holds}
 use Rattle.mc_core.specs.Past.{Known, known_by}
-use Rattle.mc_pages.specs.declared.ids.ChunkId.{ChunkId}
 use Rattle.mc_items.proofs.Rows.{as_many, as_often, fresh_less, fresh_more}
-use Rattle.mc_items.proofs.Chains.{kept_past, number_kept, ready_less, ready_still, refs_and_more, refs_less, refs_stay}
+use Rattle.mc_items.proofs.Chains.{kept_past, ready_less, ready_still, refs_and_more, refs_less, refs_stay}
 use Rattle.mc_items.proofs.Left.{Kept, finds_one, kept_of, none_keeps, only_keeps, waited_for_slabs}
 use Rattle.mc_items.proofs.Gets.{called_on, only_waits}
 use Rattle.mc_items.proofs.Tells.{looked_tells, told_none, told_on}

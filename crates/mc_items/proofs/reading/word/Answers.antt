@@ -1,0 +1,35 @@
+use Rattle.std.proofs.Common.{List, ap, arith, subst, sym, ◌∙◌, ℕ}
+use Rattle.std.proofs.lemmas.List.{get_or-drop}
+use Rattle.mc_words.specs.hand.View.{View}
+use Rattle.mc_words.specs.item.Items.{held_item}
+use Rattle.mc_items.specs.Keeping.{AreSaid}
+use Rattle.mc_words.specs.item.Items.{item_with}
+use Rattle.mc_items.proofs.Chains.{kept_refs_keep_items, refs_stay, words_said}
+use Rattle.mc_items.proofs.Words.{place_small}
+use Rattle.mc_items.proofs.reading.word.Goals as goal
+
+pub overflow_add-place : goal.overflow_add-place
+overflow_add-place c = let small = place_small c.args.arena.now c.args.hand.now c.args.item.now c.args.place c.requires.arena c.requires.item c.requires.near in omega arith
+
+pub word-requires-clause-near : goal.word-requires-clause-near
+word-requires-clause-near c = let len = c.requires.item.len in omega (arith, c.requires.near)
+
+pub returns-clause-word : goal.returns-clause-word
+returns-clause-word c = c.word.ensures.word ∙ sym (get_or-drop 3 (held_item c.args.hand.now.seat.me.0 c.args.item.now.reference.chunk) c.args.place 0)
+
+pub returns-clause-keeps : goal.returns-clause-keeps
+returns-clause-keeps c =
+    let same = c.word.ensures.view in
+    refs_stay c.args.hand.now.seat.me.0 c.word.new.hand.seat.me.0 (ap (λ (v : View). v.row.holdings) same) (ap (λ (v : View). v.row.knows.known) same)
+
+pub returns-clause-item : goal.returns-clause-item
+returns-clause-item c = (kept_refs_keep_items c.args.hand.now.seat.me.0 c.word.new.hand.seat.me.0 c.args.item.now (returns-clause-keeps c) c.requires.item).refers
+
+pub returns-clause-words : goal.returns-clause-words
+returns-clause-words c = (kept_refs_keep_items c.args.hand.now.seat.me.0 c.word.new.hand.seat.me.0 c.args.item.now (returns-clause-keeps c) c.requires.item).words
+
+pub returns-clause-said : goal.returns-clause-said
+returns-clause-said c =
+    let item = c.args.item.now in
+    let now : View = c.word.new.hand.seat.me.0 in
+    subst (λ (l : List ℕ). AreSaid now item.stamp (item_with item.key item.stamp l)) (returns-clause-words c) (words_said now c.word.ensures.arena.lawful item (returns-clause-item c))
