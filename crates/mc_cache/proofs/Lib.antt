@@ -6,3 +6,5 @@ pub mod TableWords
 pub mod TurnsDone
 pub mod Tendings
 pub mod Deciders
+pub mod EachShard
+pub mod Counted

@@ -12,10 +12,10 @@ use Rattle.mc_cache.specs.Tending.{SayNothing, TendsFirst, tended_in_all, tended
 use Rattle.mc_cache.specs.Windows.{TendsShard, nothing_tended}
 
 -- what has another in one place, where it is this and that it was
-at_place : {A : Type 0} (xs : List A) (place k : ℕ) (y d : A) → k ≡ place → place < length xs → get_or (set xs place y) k d ≡ y
+pub at_place : {A : Type 0} (xs : List A) (place k : ℕ) (y d : A) → k ≡ place → place < length xs → get_or (set xs place y) k d ≡ y
 at_place xs place k y d same near = ap (λ (n : ℕ). get_or (set xs place y) n d) same ∙ get_or-set_same xs place y d near
 
-was_there : {A : Type 0} (xs ys : List A) (place k : ℕ) (x d : A) → k ≡ place → place < length xs → x ≡ get_or xs place x → ((shard : ℕ) (e : A) → place ≤ shard → get_or xs shard e ≡ get_or ys shard e) → get_or ys k d ≡ x
+pub was_there : {A : Type 0} (xs ys : List A) (place k : ℕ) (x d : A) → k ≡ place → place < length xs → x ≡ get_or xs place x → ((shard : ℕ) (e : A) → place ≤ shard → get_or xs shard e ≡ get_or ys shard e) → get_or ys k d ≡ x
 was_there xs ys place k x d same near is rest = sym (rest k d (omega arith)) ∙ ap (λ (n : ℕ). get_or xs n d) same ∙ sym (is ∙ get_or_default xs place x d near)
 
 -- up to a shard windows were done, and from there on all is as it was

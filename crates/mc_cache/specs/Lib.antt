@@ -7,3 +7,4 @@ pub mod Belonging
 pub mod Bytes
 pub mod Windows
 pub mod Tending
+pub mod Stats
