@@ -1,4 +1,5 @@
-//! Sets and gets beside a mover that moves pages to and fro without pause. Each call is timed by itself, and has a line of its own.
+//! Sets and gets before a mover begins, and beside it as it moves pages to and fro without pause. Each call is timed by itself, and has a line
+//! of its own.
 use super::numbers::Numbers;
 use super::{get_and_release, set_keys, show, Memory, Turn, PAGE, PER_PAGE};
 use std::thread;
@@ -54,7 +55,7 @@ fn move_pages<M: Memory>(memory: &M, hand: &mut M::Hand) -> u64 {
     pages
 }
 
-/// What each set and each get took, in nanoseconds. The last call takes the sign away.
+/// What each set and each get took, in nanoseconds.
 fn time_calls<M: Memory>(memory: &M, hand: &mut M::Hand) -> (Vec<u128>, Vec<u128>) {
     let mut numbers = Numbers::new(1);
     let (mut sets, mut gets) = (Vec::with_capacity(CALLS), Vec::with_capacity(CALLS));
@@ -68,7 +69,6 @@ fn time_calls<M: Memory>(memory: &M, hand: &mut M::Hand) -> (Vec<u128>, Vec<u128
         get_and_release(memory, hand, key);
         gets.push(started.elapsed().as_nanos());
     }
-    assert!(memory.delete(hand, SIGN));
     (sets, gets)
 }
 
@@ -76,13 +76,16 @@ pub fn run<M: Memory>() {
     let (memory, mut hands) = M::open(PAGE, PAGES, 2);
     let (memory, mut mover, mut worker) = (&memory, hands.remove(1), hands.remove(0));
     prepare(memory, &mut worker);
+    let (sets_before, gets_before) = time_calls(memory, &mut worker);
     let started = Instant::now();
     let (pages, (sets, gets)) = thread::scope(|scope| {
         let moving = scope.spawn(|| move_pages(memory, &mut mover));
         let times = time_calls(memory, &mut worker);
+        assert!(memory.delete(&mut worker, SIGN));
         (moving.join().unwrap(), times)
     });
     show("move-beside", KEYS, started.elapsed(), pages);
-    sets.iter().for_each(|took| println!("set-beside-{KEYS} {took} 1"));
-    gets.iter().for_each(|took| println!("get-beside-{KEYS} {took} 1"));
+    for (name, times) in [("set-before", sets_before), ("get-before", gets_before), ("set-beside", sets), ("get-beside", gets)] {
+        times.iter().for_each(|took| println!("{name}-{KEYS} {took} 1"));
+    }
 }
