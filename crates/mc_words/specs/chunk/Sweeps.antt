@@ -1,6 +1,6 @@
 -- Sweeps: each chunk that a class handed out is looked at, and the dead ones are put back, oldest first.
-use Rattle.std.specs.Prelude.{◌≡◌, ◌⊎◌, ℕ, true, false, Bool, if◌then◌else◌, List, [], ◌∷◌, map, Some}
-use Rattle.std.specs.List.{list_all, range_with_len}
+use Rattle.std.specs.Prelude.{◌≡◌, ◌⊎◌, true, false, Bool, if◌then◌else◌, List, [], ◌∷◌, Some}
+use Rattle.std.specs.List.{list_all}
 use Rattle.mc_pages.specs.declared.ids.ChunkId.{ChunkId}
 use Rattle.mc_pages.specs.Changes.{after_back}
 use Rattle.mc_pages.specs.ClassState.{is_chunk}
@@ -34,10 +34,6 @@ pub record SeesHeader (view : View) (chunk : ChunkId) (now : View) : Type 0 wher
 abbrev pub SeesHeaders : List ChunkId → View → View → Type 0
 SeesHeaders [] view now = now ≡ view
 SeesHeaders (chunk ∷ chunks) view now = (next : View) × SeesHeader view chunk next × SeesHeaders chunks next now
-
--- so many chunks of a page, from the one of this index on
-abbrev pub chunks_from : ℕ → ℕ → ℕ → List ChunkId
-chunks_from page from count = map (λ index. record { page = page; index = index }) (range_with_len from count)
 
 -- the chunks stand in the order in this sequence, with or without others between
 abbrev pub follows : List ChunkId → List ChunkId → Bool

@@ -1,6 +1,6 @@
 //! Looks along the pages of a class, on which the headers of chunks stand side by side.
 ghost use Rattle.std.specs.List.{list_all};
-ghost use Rattle.std.specs.Prelude.{◌≡◌, ℕ, ◌+◌, ◌<◌, ◌≤◌, Contains, List, [], Some, true};
+ghost use Rattle.std.specs.Prelude.{◌≡◌, ℕ, ◌<◌, ◌≤◌, Contains, List, [], Some, true};
 ghost use Rattle.mc_classes.specs.Classes.{pages_of};
 ghost use Rattle.mc_pages.specs.declared.ids.ChunkId.{ChunkId};
 ghost use Rattle.mc_pages.specs.Accounted.{first_chunks};
@@ -10,7 +10,7 @@ ghost use Rattle.mc_core.specs.State.{has_chunk, is_class, most_of};
 ghost use Rattle.mc_words.specs.hand.Arenas.{IsHandOf, setup_of, view};
 ghost use Rattle.mc_words.specs.chunk.Dead.{AreHandedOut, IsJudged};
 ghost use Rattle.mc_words.specs.rule.Layout.{head_word};
-ghost use Rattle.mc_words.specs.chunk.Sweeps.{SeesHeader, SeesHeaders, chunks_from};
+ghost use Rattle.mc_words.specs.chunk.Sweeps.{SeesHeader, SeesHeaders};
 
 use crate::arena::Arena;
 use crate::chunk::dead::DeadChunks;
@@ -19,9 +19,6 @@ use crate::hand::held::SlabsHeld;
 use crate::header::{DEAD, ISSUE_UNIT};
 use mc_classes::{ClassId, PageId};
 use mc_pages::ChunkId;
-
-/// So many chunks are looked at in a row, with no test between them whether there is one more, as that costs as much as the look. (own)
-const AT_ONCE: u64 = 4;
 
 impl Arena {
     // Looks at each chunk of the class's pages, free ones too, and notes which are dead.
@@ -52,7 +49,7 @@ impl Arena {
         }
     }
 
-    // Looks at so many chunks of a page, from its first on, four at a time.
+    // Looks at so many chunks of a page, from its first on.
     fn look_along(
         &self,
         hand: &mut Hand,
@@ -75,50 +72,14 @@ impl Arena {
         ensures kept { (other : ChunkId) → IsJudged (view hand.old).row.looks dead.old other → IsJudged (view hand.new).row.looks dead.new other }
     {
         let first = self.heads_of_page(page);
-        let whole = per_page / AT_ONCE;
-        for block in 0..whole {
-            let index = block * AT_ONCE;
-            self.look_from(hand, held, first, ChunkId { page, index }, AT_ONCE, dead);
-        }
-        let index = whole * AT_ONCE;
-        let rest = per_page - index;
-        self.look_from(hand, held, first, ChunkId { page, index }, rest, dead);
-    }
-
-    // Looks at so many chunks of a page, from this one on. The headers of the page begin at this word.
-    #[inline(always)]
-    fn look_from(
-        &self,
-        hand: &mut Hand,
-        held: &SlabsHeld,
-        first: usize,
-        chunk: ChunkId,
-        count: u64,
-        dead: &mut DeadChunks,
-    )
-        requires arena { IsHandOf self.now hand.old }
-        requires page { chunk.page < pages_of (setup_of self.now).table }
-        requires most { chunk.index + count ≤ most_of (setup_of self.now).table }
-        requires words { (index : ℕ) → head_word (setup_of self.now) (record { page = chunk.page; index = index }) ≡ first + index }
-        requires near { first + most_of (setup_of self.now).table ≤ self.now.table.shared.table_id.words }
-        requires held { (view hand.old).slabs ≡ Some held.now.shared }
-        requires out { AreHandedOut (setup_of self.now).table held.now.shared (class_of_page held.now.shared chunk.page) dead.old }
-        ensures arena { IsHandOf self.now hand.new }
-        ensures locks { hand.new.locks ≡ hand.old.locks }
-        ensures held { (view hand.new).slabs ≡ Some held.now.shared }
-        ensures sees { SeesHeaders (chunks_from chunk.page chunk.index count) (view hand.old) (view hand.new) }
-        ensures out { AreHandedOut (setup_of self.now).table held.now.shared (class_of_page held.now.shared chunk.page) dead.new }
-        ensures judged { (n : ℕ) → n < count → IsJudged (view hand.new).row.looks dead.new (record { page = chunk.page; index = chunk.index + n }) }
-        ensures kept { (other : ChunkId) → IsJudged (view hand.old).row.looks dead.old other → IsJudged (view hand.new).row.looks dead.new other }
-    {
-        for n in 0..count {
-            let index = chunk.index + n;
-            let word = first + index as usize;
-            let chunk = ChunkId {
-                page: chunk.page,
-                index,
-            };
-            self.judge(hand, held, word, chunk, dead);
+        for index in 0..per_page {
+            self.judge(
+                hand,
+                held,
+                first + index as usize,
+                ChunkId { page, index },
+                dead,
+            );
         }
     }
 

@@ -1,66 +1,45 @@
-use Rattle.std.proofs.Common.{◌≡◌, ◌∙◌, ◌+◌, ◌-◌, ◌*◌, ◌/◌, ◌<◌, ◌≤◌, ◌++◌, ℕ, List, sym, ap, subst, inl, inr, arith, div-mul-le_self}
-use Rattle.std.proofs.lemmas.Bool.{cases_lt}
+use Rattle.std.proofs.Common.{◌∙◌, ℕ, List, sym, subst, inl, inr, arith, lt-ltb}
+use Rattle.std.proofs.lemmas.Bool.{and_from, cases_eq}
+use Rattle.mc_classes.specs.Classes.{pages_of}
 use Rattle.mc_pages.specs.declared.ids.ChunkId.{ChunkId}
-use Rattle.mc_pages.specs.Accounted.{first_chunks}
+use Rattle.mc_pages.proofs.Cuts.{chunk_at}
+use Rattle.mc_core.specs.State.{most_of}
+use Rattle.mc_words.specs.hand.Arenas.{setup_of}
 use Rattle.mc_words.specs.chunk.Dead.{IsJudged}
-use Rattle.mc_words.specs.chunk.Sweeps.{SeesHeaders, chunks_from}
-use Rattle.mc_words.proofs.Pages.LookedOver.{first_both, sees_both}
+use Rattle.mc_words.specs.chunk.Sweeps.{SeesHeaders}
+use Rattle.mc_words.proofs.Pages.LookedOver.{sees_more}
+use Rattle.mc_words.proofs.Pages.WholeCuts.{first_more}
 use Rattle.mc_words.proofs.arena.Arena.look_along.Goals as goal
 
--- one block more
-pub loop-block-preserved : goal.loop-block-preserved
-loop-block-preserved c =
-    let inv = c.loop-block.invariant in
-    let from = c.loop-block.block * 4 in
-    let page = c.args.page in
-    let was = c.args.hand.now.seat.me.0 in
-    let now = c.loop-block.hand.seat.me.0 in
-    let next = c.look_from.new.hand.seat.me.0 in
-    let more : from + 4 ≡ (c.loop-block.block + 1) * 4 = omega arith in record {
-      arena = c.look_from.ensures.arena;
-      locks = c.look_from.ensures.locks ∙ inv.locks;
-      held = c.look_from.ensures.held;
-      out = c.look_from.ensures.out;
-      sees = subst (λ (cs : List ChunkId). SeesHeaders cs was next) (first_both page from 4 ∙ ap (first_chunks page) more) (sees_both (first_chunks page from) (chunks_from page from 4) was now next inv.sees c.look_from.ensures.sees);
-      judged = λ index below. elim (cases_lt index from) [
-        | inl before ↦ c.look_from.ensures.kept (record { page = page; index = index }) (inv.judged index before)
-        | inr behind ↦
-            let is : from + (index - from) ≡ index = omega (arith, behind) in
-            subst (λ (n : ℕ). IsJudged next.row.looks c.look_from.new.dead (record { page = page; index = n })) is (c.look_from.ensures.judged (index - from) (omega (arith, below, behind)))
+pub judge-requires-clause-near : goal.judge-requires-clause-near
+judge-requires-clause-near c =
+    let table = (setup_of c.args.self.now).table in
+    let page = c.requires.page in
+    let most = c.requires.most in
+    let below = c.loop-index-test.true in
+    and_from _ _ (lt-ltb c.args.page (pages_of table) page) (lt-ltb c.loop-index.index (most_of table) (omega arith))
+
+pub loop-index-preserved : goal.loop-index-preserved
+loop-index-preserved c =
+    let inv = c.loop-index.invariant in
+    let index = c.loop-index.index in
+    let chunk = chunk_at c.args.page index in
+    let now = c.loop-index.hand.seat.me.0 in
+    let next = c.judge.new.hand.seat.me.0 in record {
+      arena = c.judge.ensures.arena;
+      locks = c.judge.ensures.locks ∙ inv.locks;
+      held = c.judge.ensures.held;
+      out = c.judge.ensures.out;
+      sees = subst (λ (cs : List ChunkId). SeesHeaders cs c.args.hand.now.seat.me.0 next) (sym (first_more c.args.page index)) (sees_more (Rattle.mc_pages.specs.Accounted.first_chunks c.args.page index) chunk c.args.hand.now.seat.me.0 now next inv.sees c.judge.ensures.sees);
+      judged = λ other below. elim (cases_eq other index) [
+        | inl same ↦ subst (λ (n : ℕ). IsJudged next.row.looks c.judge.new.dead (record { page = c.args.page; index = n })) (sym same) c.judge.ensures.judged
+        | inr apart ↦ c.judge.ensures.kept (record { page = c.args.page; index = other }) (inv.judged other (omega (arith, below, apart)))
       ];
-      kept = λ other judged. c.look_from.ensures.kept other (inv.kept other judged);
+      kept = λ other judged. c.judge.ensures.kept other (inv.kept other judged);
     }
 
-pub returns-clause-sees : goal.returns-clause-sees
-returns-clause-sees c =
-    let page = c.args.page in
-    let per_page = c.args.per_page in
-    let past = c.loop-block-test.false in
-    let until = c.loop-block.auto.block-end in
-    let same : c.loop-block.block ≡ per_page / 4 = omega (arith, past, until) in
-    let from = per_page / 4 * 4 in
-    let was = c.args.hand.now.seat.me.0 in
-    let now = c.loop-block.hand.seat.me.0 in
-    let next = c.look_from-2.new.hand.seat.me.0 in
-    let all : from + (per_page - from) ≡ per_page = omega (arith, div-mul-le_self per_page 4) in
-    subst (λ (cs : List ChunkId). SeesHeaders cs was next) (first_both page from (per_page - from) ∙ ap (first_chunks page) all)
-    (sees_both (first_chunks page from) (chunks_from page from (per_page - from)) was now next (subst (λ (n : ℕ). SeesHeaders (first_chunks page (n * 4)) was now) same c.loop-block.invariant.sees) c.look_from-2.ensures.sees)
-
 pub returns-clause-judged : goal.returns-clause-judged
-returns-clause-judged c index below =
-    let page = c.args.page in
-    let per_page = c.args.per_page in
-    let past = c.loop-block-test.false in
-    let until = c.loop-block.auto.block-end in
-    let same : c.loop-block.block ≡ per_page / 4 = omega (arith, past, until) in
-    let from = per_page / 4 * 4 in
-    let next = c.look_from-2.new.hand.seat.me.0 in
-    elim (cases_lt index from) [
-      | inl before ↦ c.look_from-2.ensures.kept (record { page = page; index = index }) (c.loop-block.invariant.judged index (subst (λ (n : ℕ). index < n * 4) (sym same) before))
-      | inr behind ↦
-          let is : from + (index - from) ≡ index = omega (arith, behind) in
-          subst (λ (n : ℕ). IsJudged next.row.looks c.look_from-2.new.dead (record { page = page; index = n })) is (c.look_from-2.ensures.judged (index - from) (omega (arith, below, behind)))
-    ]
+returns-clause-judged c index below = let past = c.loop-index-test.false in c.loop-index.invariant.judged index (omega (arith, below, past))
 
-pub returns-clause-kept : goal.returns-clause-kept
-returns-clause-kept c other judged = c.look_from-2.ensures.kept other (c.loop-block.invariant.kept other judged)
+pub judge-requires-clause-word : goal.judge-requires-clause-word
+judge-requires-clause-word c = sym (c.heads_of_page-first.ensures.words c.loop-index.index)
