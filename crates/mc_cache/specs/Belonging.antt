@@ -1,11 +1,12 @@
 -- A cache and its workers: who belongs to whom, and what a call of a worker does on the shard of its key.
-use Rattle.std.specs.Prelude.{◌≡◌, ℕ, List, All, length}
+use Rattle.std.specs.Prelude.{◌≡◌, ◌⊎◌, ℕ, false, List, ◌++◌, All, length}
 use Rattle.mc_words.specs.declared.arena.Arena.{Arena}
 use Rattle.mc_words.specs.declared.hand.Hand.{Hand}
+use Rattle.mc_items.specs.declared.setting.SetError.{SetError}
 use Rattle.mc_cache.specs.declared.cache.Cache.{Cache}
 use Rattle.mc_cache.specs.declared.cache.Worker.{Worker}
 use Rattle.mc_cache.specs.Hashing.{hash_of, shard_of}
-use Rattle.mc_cache.specs.Shards.{ActsOnShard, AreIdleHands}
+use Rattle.mc_cache.specs.Shards.{ActsOnShard, AreIdleHands, DeletesThere, LosesThere, ReadsOther, ReadsValue, RefusesValue}
 
 -- the worker has an idle hand of each of the cache's arenas
 abbrev pub BelongsTo : Cache → Worker → Type 0
@@ -30,3 +31,19 @@ ActsOnKey cache key Does before now = ActsOnShard cache.arenas.items (shard_in c
 -- the worker has the hands that it had
 abbrev pub KeepsHands : Worker → Worker → Type 0
 KeepsHands before now = now.hands.items ≡ before.hands.items
+
+-- the worker found the key with a value, which stands behind the bytes that were there
+abbrev pub GivesValueOf : Cache → List ℕ → List ℕ → List ℕ → Worker → Worker → Type 0
+GivesValueOf cache key old new before now = (value : List ℕ) × ActsOnKey cache key (ReadsValue (hash_in cache key) key value) before now × (new ≡ old ++ value)
+
+-- it found no such key, or one that was gone when it was to be deleted
+abbrev pub DeletesNoneOf : Cache → List ℕ → Worker → Worker → Type 0
+DeletesNoneOf cache key before now = ActsOnKey cache key (ReadsOther (hash_in cache key) key) before now ⊎ ActsOnKey cache key (DeletesThere (hash_in cache key) key false) before now
+
+-- it found no such key, or one that was gone when it was to be touched
+abbrev pub TouchesNoneOf : Cache → List ℕ → Worker → Worker → Type 0
+TouchesNoneOf cache key before now = ActsOnKey cache key (ReadsOther (hash_in cache key) key) before now ⊎ ActsOnKey cache key (LosesThere (hash_in cache key) key) before now
+
+-- it was refused to store the value
+abbrev pub RefusesValueOf : Cache → List ℕ → List ℕ → SetError → Worker → Worker → Type 0
+RefusesValueOf cache key value error before now = ActsOnKey cache key (RefusesValue (hash_in cache key) key value error) before now

@@ -8,3 +8,4 @@ pub mod Bytes
 pub mod Windows
 pub mod Tending
 pub mod Stats
+pub mod Cases

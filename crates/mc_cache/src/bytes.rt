@@ -2,6 +2,7 @@
 ghost use Rattle.std.specs.Prelude.{◌≡◌, ◌≤◌, ◌*◌, ◌+◌, ◌^◌, IfErr, IfOk, None, OnOk, Some};
 ghost use Rattle.mc_classes.specs.Refusals.{first_size, refusal_of};
 ghost use Rattle.mc_cache.specs.Bytes.{bytes_of, words_a_page, words_an_arena};
+ghost use Rattle.mc_cache.specs.Cases.{SmallTables};
 ghost use Rattle.mc_cache.specs.Opening.{cache_refusal};
 
 use crate::cache::Cache;
@@ -65,5 +66,5 @@ impl Cache {
 /// A worked case: of two pages of 64 bytes, with chunks of 24 bytes at least and one stripe, an arena's table has 78 words: 48 of locks, 11
 /// a page, and 8. So three of them take 1,872 bytes.
 pub fn worked_bytes()
-    ensures { bytes_of (record { arena = record { page = 64; limit = 128; first = 24; num = 5; den = 4; max = 64; stripes = 1; bulk = 1 }; shards = 3; workers = 2 }) ≡ 1872 }
+    ensures { SmallTables }
 {}

@@ -4,7 +4,6 @@ ghost use Rattle.mc_cache.specs.Shards.{AreIdleHands};
 
 use crate::hashing::{HashKey, choose_shard};
 use mc_words::{Arena, Hand};
-use std::alloc::Global;
 
 /// The memory of a cache that threads share: 1 to 4,096 arenas side by side, of which each has the keys of some hashes.
 #[derive(Drop)]
@@ -20,7 +19,6 @@ pub struct Cache {
 pub struct Worker {
     pub(crate) hands: Vec<Hand>,
     pub(crate) words: Vec<u64>,
-    pub(crate) alloc: Global,
 }
 
 impl Cache {

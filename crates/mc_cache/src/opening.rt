@@ -114,7 +114,12 @@ fn open<R: Wait>(
     let Some(worker) = workers.pop() else {
         unreachable!();
     };
-    Ok((arenas, workers, Tender { worker, deciders }))
+    let tender = Tender {
+        worker,
+        deciders,
+        alloc,
+    };
+    Ok((arenas, workers, tender))
 }
 
 // A decider for each arena, which was fed no window yet.
@@ -163,7 +168,6 @@ fn add_workers(alloc: Global, count: u64, workers: &mut Vec<Worker>) -> Result<(
         let worker = Worker {
             hands: Vec::new(alloc),
             words: Vec::new(alloc),
-            alloc,
         };
         push(workers, worker)?;
     }

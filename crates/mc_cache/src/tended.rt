@@ -1,8 +1,8 @@
 //! What a tender did.
-ghost use Rattle.std.specs.Prelude.{◌≡◌, ◌-◌, ◌^◌, ◌∷◌, []};
-ghost use Rattle.mc_mover.specs.declared.counts.Turn.TheVariants.{Finished, Went};
-ghost use Rattle.mc_cache.specs.Tending.{tended_in_all, tended_with};
-ghost use Rattle.mc_cache.specs.Windows.{count_with, nothing_tended, turns_tended, with_turn};
+ghost use Rattle.std.specs.Prelude.{◌≡◌, ◌-◌, ◌^◌};
+ghost use Rattle.mc_cache.specs.Cases.{TwoShards, TwoTurns};
+ghost use Rattle.mc_cache.specs.Tending.{tended_with};
+ghost use Rattle.mc_cache.specs.Windows.{count_with, nothing_tended, with_turn};
 
 use mc_mover::Turn;
 
@@ -61,7 +61,7 @@ impl Tended {
 /// count that would pass 2^64 - 1 stays there.
 #[tactic(auto, unfolding(crate::specs::Windows::turns_tended))]
 pub fn worked_tended()
-    ensures turns { turns_tended (Finished (record { cleared = 5; rescued = 2; evicted = 3; busy = 0; locked = 0 }) ∷ Went (record { cleared = 4; rescued = 1; evicted = 0; busy = 6; locked = 7 }) ∷ []) ≡ record { began = 0; ended = 1; rescued = 3; evicted = 3 } }
-    ensures shards { tended_in_all (record { began = 1; ended = 0; rescued = 2; evicted = 3 } ∷ record { began = 1; ended = 1; rescued = 0; evicted = 1 } ∷ []) ≡ record { began = 2; ended = 1; rescued = 2; evicted = 4 } }
+    ensures turns { TwoTurns }
+    ensures shards { TwoShards }
     ensures stays { count_with 3 (2 ^ 64 - 2) ≡ 2 ^ 64 - 1 }
 {}

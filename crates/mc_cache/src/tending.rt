@@ -8,6 +8,7 @@ use crate::window::tend_shard;
 use mc_memory::Refused;
 use mc_mover::set_mode;
 use mc_watch::Decider;
+use std::alloc::Global;
 use std::sync::Wait;
 
 /// What a thread of one's own tends the cache with: a hand of each shard, and a decider for it, which remembers the shard's last windows.
@@ -15,6 +16,7 @@ use std::sync::Wait;
 pub struct Tender {
     pub(crate) worker: Worker,
     pub(crate) deciders: Vec<Decider>,
+    pub(crate) alloc: Global,
 }
 
 impl Tender {
@@ -32,7 +34,7 @@ impl Tender {
         ensures unsaid { SayNothing (hands_of self.old) (hands_of self.new) }
         ensures tends { IfOk result (λ done. TendsCache cache.now done self.old self.new) }
     {
-        let alloc = self.worker.alloc;
+        let alloc = self.alloc;
         let mut done = Tended::new();
         for shard in 0..cache.arenas.len() {
             let arena = &cache.arenas[shard];

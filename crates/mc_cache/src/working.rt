@@ -45,10 +45,10 @@ fn is_key(key: &[u8]) -> bool
 }
 
 impl Worker {
-    ghost use Rattle.std.specs.Prelude.{◌≡◌, ◌<◌, ◌↔◌, ◌++◌, ◌⊎◌, Err, List, Ok, OnErr, OnOk, ℕ, false, length, true};
+    ghost use Rattle.std.specs.Prelude.{◌≡◌, ◌<◌, ◌↔◌, ◌⊎◌, Err, Ok, OnErr, OnOk, false, length, true};
     ghost use Rattle.mc_items.specs.declared.setting.SetError as items;
-    ghost use Rattle.mc_cache.specs.Belonging.{ActsOnKey, BelongsTo, KeepsHands, hash_in};
-    ghost use Rattle.mc_cache.specs.Shards.{DeletesThere, FindsHeld, IsKey, LosesThere, ReadsKey, ReadsOther, ReadsValue, RefusesValue, SaysNoMore, StoresValue, TouchesThere};
+    ghost use Rattle.mc_cache.specs.Belonging.{ActsOnKey, BelongsTo, DeletesNoneOf, GivesValueOf, KeepsHands, RefusesValueOf, TouchesNoneOf, hash_in};
+    ghost use Rattle.mc_cache.specs.Shards.{DeletesThere, FindsHeld, IsKey, ReadsKey, ReadsOther, SaysNoMore, StoresValue, TouchesThere};
     ghost use Rattle.mc_cache.specs.declared.working.CallError.TheVariants as call_error;
     ghost use Rattle.mc_cache.specs.declared.working.SetError.TheVariants as set_error;
     ghost use Rattle.mc_cache.specs.declared.working.TryGetError.TheVariants as try_error;
@@ -68,7 +68,7 @@ impl Worker {
         ensures value { (result ≡ Err set_error.ValueLength) ↔ IsKey key.now × (16384 < length value.now) }
         ensures same { ¬ IsKey key.now ⊎ (16384 < length value.now) → KeepsHands self.old self.new }
         ensures stores { OnOk result (ActsOnKey cache.now key.now (StoresValue (hash_in cache.now key.now) key.now value.now) self.old self.new) }
-        ensures refused { (error : items.SetError) → result ≡ Err (set_error.Item error) → ActsOnKey cache.now key.now (RefusesValue (hash_in cache.now key.now) key.now value.now error) self.old self.new }
+        ensures refused { (error : items.SetError) → result ≡ Err (set_error.Item error) → RefusesValueOf cache.now key.now value.now error self.old self.new }
     {
         if !is_key(key) {
             return Err(SetError::KeyLength);
@@ -87,8 +87,8 @@ impl Worker {
     }
 
     /// Puts the key's value behind the bytes that are there, and says whether the key has one. Where it has none, or the call is
-    /// refused, the bytes stay. The item's words are copied once before, into a vector of their own. It waits for a lock of the key's
-    /// shard. (memcached's `get`)
+    /// refused, the bytes stay. It takes memory for these bytes alone, where the vector has too little room. It waits for a lock of the
+    /// key's shard. (memcached's `get`)
     pub fn get<R: Wait>(
         &mut self,
         rt: &R,
@@ -100,7 +100,7 @@ impl Worker {
         ensures belongs { BelongsTo cache.now self.new }
         ensures key { (result ≡ Err call_error.KeyLength) ↔ ¬ IsKey key.now }
         ensures same { result ≡ Err call_error.KeyLength → KeepsHands self.old self.new }
-        ensures value { result ≡ Ok true → (value : List ℕ) × ActsOnKey cache.now key.now (ReadsValue (hash_in cache.now key.now) key.now value) self.old self.new × (into.new.items ≡ into.old.items ++ value) }
+        ensures value { result ≡ Ok true → GivesValueOf cache.now key.now into.old.items into.new.items self.old self.new }
         ensures none { result ≡ Ok false → ActsOnKey cache.now key.now (ReadsOther (hash_in cache.now key.now) key.now) self.old self.new }
         ensures kept { (result ≡ Ok true → ⊥) → into.new.items ≡ into.old.items }
         ensures refused { OnErr result (IsKey key.now → ActsOnKey cache.now key.now SaysNoMore self.old self.new) }
@@ -112,7 +112,7 @@ impl Worker {
         let shard = cache.shard(hash);
         let arena = &cache.arenas[shard];
         let hand = &mut self.hands[shard];
-        match mc_byte_items::get(rt, self.alloc, arena, hand, hash, key, into) {
+        match mc_byte_items::get(rt, arena, hand, hash, key, into) {
             Ok(found) => Ok(found),
             Err(refused) => Err(CallError::NoMemory(refused)),
         }
@@ -129,7 +129,7 @@ impl Worker {
         ensures belongs { BelongsTo cache.now self.new }
         ensures key { (result ≡ Err try_error.KeyLength) ↔ ¬ IsKey key.now }
         ensures same { result ≡ Err try_error.KeyLength → KeepsHands self.old self.new }
-        ensures value { result ≡ Ok true → (value : List ℕ) × ActsOnKey cache.now key.now (ReadsValue (hash_in cache.now key.now) key.now value) self.old self.new × (into.new.items ≡ into.old.items ++ value) }
+        ensures value { result ≡ Ok true → GivesValueOf cache.now key.now into.old.items into.new.items self.old self.new }
         ensures none { result ≡ Ok false → ActsOnKey cache.now key.now (ReadsOther (hash_in cache.now key.now) key.now) self.old self.new }
         ensures kept { (result ≡ Ok true → ⊥) → into.new.items ≡ into.old.items }
         ensures held { result ≡ Err try_error.Held → ActsOnKey cache.now key.now (FindsHeld (hash_in cache.now key.now)) self.old self.new }
@@ -142,7 +142,7 @@ impl Worker {
         let shard = cache.shard(hash);
         let arena = &cache.arenas[shard];
         let hand = &mut self.hands[shard];
-        match mc_byte_items::try_get(self.alloc, arena, hand, hash, key, into) {
+        match mc_byte_items::try_get(arena, hand, hash, key, into) {
             Ok(found) => Ok(found),
             Err(mc_byte_items::TryGetError::NoMemory(refused)) => {
                 Err(TryGetError::NoMemory(refused))
@@ -173,7 +173,7 @@ impl Worker {
         let shard = cache.shard(hash);
         let arena = &cache.arenas[shard];
         let hand = &mut self.hands[shard];
-        match mc_byte_items::contains(rt, self.alloc, arena, hand, hash, key) {
+        match mc_byte_items::contains(rt, arena, hand, hash, key) {
             Ok(there) => Ok(there),
             Err(refused) => Err(CallError::NoMemory(refused)),
         }
@@ -187,7 +187,7 @@ impl Worker {
         ensures key { (result ≡ Err call_error.KeyLength) ↔ ¬ IsKey key.now }
         ensures same { result ≡ Err call_error.KeyLength → KeepsHands self.old self.new }
         ensures deletes { result ≡ Ok true → ActsOnKey cache.now key.now (DeletesThere (hash_in cache.now key.now) key.now true) self.old self.new }
-        ensures none { result ≡ Ok false → ActsOnKey cache.now key.now (ReadsOther (hash_in cache.now key.now) key.now) self.old self.new ⊎ ActsOnKey cache.now key.now (DeletesThere (hash_in cache.now key.now) key.now false) self.old self.new }
+        ensures none { result ≡ Ok false → DeletesNoneOf cache.now key.now self.old self.new }
         ensures refused { OnErr result (IsKey key.now → ActsOnKey cache.now key.now SaysNoMore self.old self.new) }
     {
         if !is_key(key) {
@@ -197,7 +197,7 @@ impl Worker {
         let shard = cache.shard(hash);
         let arena = &cache.arenas[shard];
         let hand = &mut self.hands[shard];
-        match mc_byte_items::delete(rt, self.alloc, arena, hand, hash, key) {
+        match mc_byte_items::delete(rt, arena, hand, hash, key) {
             Ok(there) => Ok(there),
             Err(refused) => Err(CallError::NoMemory(refused)),
         }
@@ -211,7 +211,7 @@ impl Worker {
         ensures key { (result ≡ Err call_error.KeyLength) ↔ ¬ IsKey key.now }
         ensures same { result ≡ Err call_error.KeyLength → KeepsHands self.old self.new }
         ensures touches { result ≡ Ok true → ActsOnKey cache.now key.now (TouchesThere (hash_in cache.now key.now) key.now) self.old self.new }
-        ensures none { result ≡ Ok false → ActsOnKey cache.now key.now (ReadsOther (hash_in cache.now key.now) key.now) self.old self.new ⊎ ActsOnKey cache.now key.now (LosesThere (hash_in cache.now key.now) key.now) self.old self.new }
+        ensures none { result ≡ Ok false → TouchesNoneOf cache.now key.now self.old self.new }
         ensures refused { OnErr result (IsKey key.now → ActsOnKey cache.now key.now SaysNoMore self.old self.new) }
     {
         if !is_key(key) {
@@ -221,7 +221,7 @@ impl Worker {
         let shard = cache.shard(hash);
         let arena = &cache.arenas[shard];
         let hand = &mut self.hands[shard];
-        match mc_byte_items::touch(rt, self.alloc, arena, hand, hash, key) {
+        match mc_byte_items::touch(rt, arena, hand, hash, key) {
             Ok(there) => Ok(there),
             Err(refused) => Err(CallError::NoMemory(refused)),
         }

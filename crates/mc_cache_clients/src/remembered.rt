@@ -1,7 +1,6 @@
 //! A value that is in the cache, or is put there.
-ghost use Rattle.std.specs.Prelude.{◌≡◌, ◌++◌, Ok, List, ℕ};
-ghost use Rattle.mc_cache.specs.Belonging.{ActsOnKey, BelongsTo, hash_in};
-ghost use Rattle.mc_cache.specs.Shards.{ReadsValue};
+ghost use Rattle.std.specs.Prelude.{◌≡◌, ◌++◌, Ok};
+ghost use Rattle.mc_cache.specs.Belonging.{BelongsTo, GivesValueOf};
 ghost use Rattle.mc_cache_clients.specs.declared.remembered.Answer.TheVariants as answer;
 
 use mc_cache::{Cache, CallError, Worker};
@@ -27,7 +26,7 @@ pub fn remember<R: Wait>(
 ) -> Result<Answer, CallError>
     requires { BelongsTo cache.now worker.old }
     ensures belongs { BelongsTo cache.now worker.new }
-    ensures found { result ≡ Ok answer.Found → (found : List ℕ) × ActsOnKey cache.now key.now (ReadsValue (hash_in cache.now key.now) key.now found) worker.old worker.new × (into.new.items ≡ into.old.items ++ found) }
+    ensures found { result ≡ Ok answer.Found → GivesValueOf cache.now key.now into.old.items into.new.items worker.old worker.new }
     ensures made { result ≡ Ok answer.Made → into.new.items ≡ into.old.items ++ value.now }
 {
     match worker.get(rt, cache, key, into) {

@@ -35,8 +35,8 @@ fn store<R: Wait>(
     if set(rt, arena, hand, hash, &key, &value, &mut words).is_err() {
         return Ok(false);
     }
-    let own = contains(rt, alloc, arena, hand, hash, &key)?;
-    let others = contains(rt, alloc, arena, hand, hash, &other)?;
+    let own = contains(rt, arena, hand, hash, &key)?;
+    let others = contains(rt, arena, hand, hash, &other)?;
     Ok(own && !others)
 }
 
@@ -62,17 +62,17 @@ fn act<R: Wait>(
             store(rt, alloc, arena, hand, number, version)
         }
         3 => {
-            let _deleted = delete(rt, alloc, arena, hand, hash, &key)?;
+            let _deleted = delete(rt, arena, hand, hash, &key)?;
             known.note(number, None);
-            Ok(!contains(rt, alloc, arena, hand, hash, &key)?)
+            Ok(!contains(rt, arena, hand, hash, &key)?)
         }
         4 => {
-            let there = contains(rt, alloc, arena, hand, hash, &key)?;
-            Ok(touch(rt, alloc, arena, hand, hash, &key)? == there)
+            let there = contains(rt, arena, hand, hash, &key)?;
+            Ok(touch(rt, arena, hand, hash, &key)? == there)
         }
         _ => {
             let mut bytes = Vec::new(alloc);
-            if get(rt, alloc, arena, hand, hash, &key, &mut bytes)? {
+            if get(rt, arena, hand, hash, &key, &mut bytes)? {
                 Ok(known.is_value(alloc, number, &bytes)?)
             } else {
                 Ok(bytes.is_empty())
