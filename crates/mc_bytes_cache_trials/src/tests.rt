@@ -1,6 +1,7 @@
 //! Keys and values that are drawn, threads among them.
 mod collided;
 mod drawn;
+mod eight;
 mod made;
 mod tended;
 mod threads;

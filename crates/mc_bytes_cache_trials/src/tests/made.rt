@@ -1,8 +1,9 @@
 //! Caches that are made, and their workers.
-ghost use Rattle.std.specs.Prelude.{All, IfSome};
+ghost use Rattle.std.specs.Prelude.{◌≡◌, All, IfSome};
 ghost use Rattle.mc_cache.specs.Belonging.{BelongsTo};
 
 use mc_cache::{Cache, CacheConfig, HashKey, NewError, Worker};
+use mc_cache_clients::share;
 use mc_classes::Config;
 use std::sync::Wait;
 use std::test::Fail;
@@ -39,7 +40,9 @@ pub fn next_worker(cache: &Cache, workers: &mut Vec<Worker>) -> Option<Worker>
 }
 
 /// A configuration of so many shards and workers.
-pub fn config_of(shards: u64, workers: u64) -> CacheConfig {
+pub fn config_of(shards: u64, workers: u64) -> CacheConfig
+    ensures { result.workers ≡ workers }
+{
     CacheConfig {
         arena: SMALL,
         shards,
@@ -75,5 +78,16 @@ fn configurations_are_refused(rt: HostRuntime) -> Result<(), Fail> {
     config.arena.page = 63;
     let wanted = Some(NewError::Config(mc_classes::ConfigError::PageSize));
     assert!(rt; refusal_of(&rt, &config) == wanted, "a page of 63 bytes");
+    Ok(())
+}
+
+/// The README's cache finds what it stored.
+#[test]
+fn a_shared_cache_finds_its_value(rt: HostRuntime) -> Result<(), Fail> {
+    let found = share(&rt, rt.alloc(), &config_of(4, 2), HASH_KEY)?;
+    assert!(rt;
+        found.as_slice() == b"Bern".as_slice(),
+        "another value was found"
+    );
     Ok(())
 }

@@ -78,3 +78,23 @@ fn bytes_are_told(rt: HostRuntime) -> Result<(), Fail> {
     );
     Ok(())
 }
+
+/// Thirty short values on three shards: what all have together are their pages, of eight chunks each, and the chunks that are left.
+#[test]
+fn stats_are_sums_over_shards(rt: HostRuntime) -> Result<(), Fail> {
+    let (cache, mut workers, mut tender) = Cache::new(&rt, rt.alloc(), &config_of(3, 1), HASH_KEY)?;
+    let Some(mut worker) = next_worker(&cache, &mut workers) else {
+        return Err(Fail::new("there is a worker"));
+    };
+    set_many(&rt, &cache, &mut worker, 30, &SHORT);
+    let stats = tender.stats(&rt, &cache)?;
+    let Some(class) = stats.classes.get(1) else {
+        return Err(Fail::new("there is a class of 128 bytes"));
+    };
+    let chunks = class.pages.checked_mul(8);
+    assert!(rt; class.pages >= 4, "a shard's page has eight chunks");
+    assert!(rt; chunks == class.free.checked_add(30), "each value has one");
+    assert!(rt; stats.granted == class.pages, "no other class has pages");
+    assert!(rt; class.evictions == 0, "nothing was evicted");
+    Ok(())
+}

@@ -50,13 +50,20 @@ fn act<R: Wait>(
 }
 
 /// A thread's rounds: how many found another value, or wanted memory.
-fn work<R: Wait>(rt: &R, alloc: Global, cache: &Cache, worker: Worker, seed: u64) -> u64
+pub fn work<R: Wait>(
+    rt: &R,
+    alloc: Global,
+    cache: &Cache,
+    worker: Worker,
+    seed: u64,
+    rounds: u64,
+) -> u64
     requires { BelongsTo cache.now worker }
 {
     let mut worker = worker;
     let mut drawn = Drawn(seed);
     let mut wrong = 0;
-    for _ in 0..ROUNDS {
+    for _ in 0..rounds {
         match act(rt, alloc, cache, &mut worker, drawn.next()) {
             Ok(true) => {}
             _ => wrong += 1,
@@ -79,10 +86,10 @@ fn threads_find_their_values(rt: HostRuntime) -> Result<(), Fail> {
         &rt,
         || -> u64
             requires { BelongsTo cache first }
-        { work(&rt, rt.alloc(), &cache, first, 1) },
+        { work(&rt, rt.alloc(), &cache, first, 1, ROUNDS) },
         || -> u64
             requires { BelongsTo cache second }
-        { work(&rt, rt.alloc(), &cache, second, 2) },
+        { work(&rt, rt.alloc(), &cache, second, 2, ROUNDS) },
     );
     assert!(rt;
         one == 0 && other == 0,
