@@ -56,7 +56,7 @@ impl Tender {
         ensures deciders { deciders_of self.new ≡ deciders_of self.old }
         ensures counts { IfOk result (λ stats. CountsCache cache.now stats self.old self.new) }
     {
-        let alloc = self.worker.alloc;
+        let alloc = self.alloc;
         let mut stats = CacheStats::new(alloc);
         for shard in 0..cache.arenas.len() {
             let arena = &cache.arenas[shard];
