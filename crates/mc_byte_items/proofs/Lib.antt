@@ -1,3 +1,4 @@
 pub mod Idle
 pub mod Found
 pub mod WordsRead
+pub mod Appended

@@ -1,9 +1,11 @@
 -- Reads of an item's words, one after another, and what is known of the words then.
-use Rattle.std.proofs.Common.{◌≡◌, ℕ, ◌+◌, ◌-◌, ◌^◌, ◌<◌, ◌≤◌, List, ◌++◌, length, take, drop, get_or, ap, sym, ◌∙◌, arith, lit<, refl, subst, ⊎_elim}
+use Rattle.std.proofs.Common.{◌≡◌, ℕ, ◌+◌, ◌-◌, ◌*◌, ◌/◌, ◌^◌, ◌<◌, ◌≤◌, List, [], ◌++◌, length, take, drop, get_or, ap, sym, ◌∙◌, append_assoc, arith, lit<, refl, subst, ⊎_elim}
 use Rattle.std.proofs.lemmas.Bool.{cases_lt}
-use Rattle.std.proofs.lemmas.List.{get_or-drop, get_or-take, get_or_past, length-drop, length-take}
+use Rattle.std.proofs.lemmas.List.{get_or-drop, get_or-take, get_or_past, length-drop, length-take, take_all}
 use Rattle.mc_packing.specs.Packing.{AreWords, FillsFrom, IsPackingOf, LooksPacked, bytes_in, bytes_of, key_words, value_in, value_words, word_of, words_for, words_of}
-use Rattle.mc_packing.proofs.Loops.{ArePut, IsWritten, all_written, differs, none_written, put_more, same_more}
+use Rattle.std.proofs.lemmas.Slice.{take-put_mid}
+use Rattle.mc_packing.proofs.Bytes.{all_eight, length_bytes_in}
+use Rattle.mc_packing.proofs.Loops.{ArePut, all_put, IsWritten, all_written, differs, none_written, put_more, same_more}
 use Rattle.mc_packing.proofs.Looks.{is_packed, looks_packed, value_of_looks}
 use Rattle.mc_words.specs.declared.arena.Arena.{Arena}
 use Rattle.mc_words.specs.declared.hand.Hand.{Hand}
@@ -88,6 +90,29 @@ module _ (begin : ℕ) (ws : List ℕ) where
       let bytes : now ++ take left (bytes_in (get_or rest_of place 0)) ≡ new = ap (λ (w : ℕ). now ++ take left (bytes_in w)) (sym here) ∙ sym put in
       subst (λ (b : List ℕ). ArePut old count rest_of b next (place + 1)) bytes
       (put_more old count rest_of now left next place (omega (arith, length-drop begin ws)) then h)
+
+  -- a full word of the value is written over the room for it
+  pub write_next : (count : ℕ) (room new : List ℕ) (place word : ℕ) → length ws ≡ begin + words_for count → length room ≡ count → place < count / 8 → word ≡ get_or ws (begin + place) 0 → new ≡ (take (8 * place) room ++ bytes_in word) ++ drop 8 (drop (8 * place) room)
+      → ArePut [] count rest_of (take (8 * place) room) (count - 8 * place) place → ArePut [] count rest_of (take (8 * (place + 1)) new) (count - 8 * (place + 1)) (place + 1)
+  write_next count room new place word len long less is written h =
+      let front : take (8 * (place + 1)) new ≡ take (8 * place) room ++ take (count - 8 * place) (bytes_in word) =
+      ap (λ (b : List ℕ). take (8 * (place + 1)) b) (written ∙ append_assoc (take (8 * place) room) (bytes_in word) (drop 8 (drop (8 * place) room)))
+      ∙ take-put_mid (8 * place) 8 room (bytes_in word) (8 * (place + 1)) (omega (arith, length_bytes_in word)) (omega arith)
+      ∙ ap (λ (b : List ℕ). take (8 * place) room ++ b) (sym (all_eight (count - 8 * place) word (omega arith))) in
+      put_next [] count (take (8 * place) room) (take (8 * (place + 1)) new) (count - 8 * place) (count - 8 * (place + 1)) place word (omega arith) is front (omega arith) h
+
+  -- and what is left of it
+  pub write_last : (count : ℕ) (room new : List ℕ) (place word : ℕ) → length ws ≡ begin + words_for count → length room ≡ count → place ≡ count / 8 → 8 * place < count → word ≡ get_or ws (begin + place) 0 → new ≡ take (8 * place) room ++ take (length room - 8 * place) (bytes_in word)
+      → ArePut [] count rest_of (take (8 * place) room) (count - 8 * place) place → new ≡ bytes_of count rest_of
+  write_last count room new place word len long full some is written h =
+      let front : new ≡ take (8 * place) room ++ take (count - 8 * place) (bytes_in word) = written ∙ ap (λ (n : ℕ). take (8 * place) room ++ take (n - 8 * place) (bytes_in word)) long in
+      all_put [] count rest_of new (count - 8 * place - 8) (place + 1) (omega (arith, length-drop begin ws))
+      (put_next [] count (take (8 * place) room) new (count - 8 * place) (count - 8 * place - 8) place word (omega arith) is front refl h)
+
+  -- where nothing is left
+  pub write_all : (count : ℕ) (room : List ℕ) (place : ℕ) → length ws ≡ begin + words_for count → length room ≡ count → place ≡ count / 8 → count ≤ 8 * place → ArePut [] count rest_of (take (8 * place) room) (count - 8 * place) place → room ≡ bytes_of count rest_of
+  write_all count room place len long full none h =
+      sym (take_all (8 * place) room (omega arith)) ∙ all_put [] count rest_of (take (8 * place) room) (count - 8 * place) place (omega (arith, length-drop begin ws)) h
 
 -- words that aren't a packing of the key, as each test tells
 module _ (key ws : List ℕ) where

@@ -18,8 +18,8 @@ use mc_words::{Arena, Hand};
 use std::sync::Wait;
 
 /// Puts the key's value behind the bytes that are there, and says whether the key has one. It waits for the lock of the hash's stripe.
-/// An item of another key under the hash is none. It takes no memory but for these bytes; where that is refused, they stay. (memcached's
-/// `process_get_command`)
+/// An item of another key under the hash is none. Beside an entry in the stripe's history it takes memory for these bytes alone; where
+/// that is refused, they stay. (memcached's `process_get_command`)
 pub fn get<R: Wait>(
     rt: &R,
     arena: &Arena,

@@ -1,5 +1,5 @@
 //! The words of an item, read where they stand.
-ghost use Rattle.std.specs.Prelude.{◌++◌, ◌+◌, ◌≡◌, ◌≢◌, ◌≤◌, ◌<◌, IfSome, None, Ok, drop, false, length, slice_index, true, vec_capacity, vec_len};
+ghost use Rattle.std.specs.Prelude.{◌+◌, ◌≡◌, ◌≢◌, ◌≤◌, ◌<◌, IfSome, None, Ok, drop, false, length, slice_index, true};
 ghost use Rattle.mc_packing.specs.Packing.{AreWords, FillsFrom, IsPackingOf, LooksPacked, bytes_of, key_words, words_for, words_of};
 ghost use Rattle.mc_words.specs.hand.Arenas.{view};
 ghost use Rattle.mc_items.specs.ItemRefs.{item_len, item_words};
@@ -7,8 +7,10 @@ ghost use Rattle.mc_byte_items.specs.Finding.{PutsValue};
 ghost use Rattle.mc_byte_items.specs.Reading.{OnlyReads, RefersTo};
 
 use mc_items::Ref;
-use mc_memory::{Refused, reserve};
-use mc_packing::{after_word, ends_in_zeros, first_word, push_word, value_place, words_for_bytes};
+use mc_memory::{Refused, reserve, resize};
+use mc_packing::{
+    after_word, ends_in_zeros, first_word, value_place, words_for_bytes, write_part, write_word,
+};
 use mc_words::{Arena, Hand};
 
 /// Whether the item is of this key. It reads all words of such an item, and of another no more than tell that it is one.
@@ -48,7 +50,15 @@ pub(crate) fn push_value(
     let count = count as usize;
     match reserve(into, count) {
         Ok(()) => {
-            push_words(arena, hand, item, value_place(key), count, into);
+            let old = into.len();
+            resize(into, old + count, 0).unwrap();
+            write_value(
+                arena,
+                hand,
+                item,
+                value_place(key),
+                &mut into.as_mut_slice()[old..],
+            );
             Ok(true)
         }
         Err(refused) => Err(refused),
@@ -120,27 +130,22 @@ fn has_key(arena: &Arena, hand: &mut Hand, item: &Ref, key: &[u8]) -> bool
     true
 }
 
-/// Puts so many bytes of the item's words, from this place on, behind those that are there. There is room for them.
-fn push_words(
-    arena: &Arena,
-    hand: &mut Hand,
-    item: &Ref,
-    begin: u64,
-    count: usize,
-    into: &mut Vec<u8>,
-)
+/// Writes the bytes of the item's words from this place on over the room for them, a word at a time, and of the last as many as are left.
+fn write_value(arena: &Arena, hand: &mut Hand, item: &Ref, begin: u64, room: &mut [u8])
     requires item { RefersTo arena.now item.now hand.old }
-    requires near { begin ≤ item_len item.now }
-    requires room { vec_len into.old + count ≤ vec_capacity into.old }
+    requires len { item_len item.now ≡ begin + words_for (length room.old) }
     ensures reads { OnlyReads arena.now item.now hand.old hand.new }
-    ensures bytes { into.new.items ≡ into.old.items ++ bytes_of count (drop begin (item_words (view hand.old) item.now)) }
+    ensures bytes { room.new ≡ bytes_of (length room.old) (drop begin (item_words (view hand.old) item.now)) }
     ensures words { AreWords (drop begin (item_words (view hand.old) item.now)) }
 {
-    let mut left = count;
-    for place in 0..item.len() - begin {
-        let word = read_word(arena, hand, item, begin + place);
-        push_word(into, word, left);
-        left = left.saturating_sub(8);
+    let full = room.len() / 8;
+    for place in 0..full {
+        let word = read_word(arena, hand, item, begin + place as u64);
+        write_word(room, 8 * place, word);
+    }
+    if 8 * full < room.len() {
+        let last = read_word(arena, hand, item, begin + full as u64);
+        write_part(room, 8 * full, last);
     }
 }
 

@@ -4,7 +4,7 @@
 //! bytes a word. [`pack`] writes them, [`is_packing_of`] tells whether they are a packing of a key, and [`unpack`] has the value.
 //!
 //! Who reads the words where they stand, one after another, compares them with the key's by [`first_word`] and [`after_word`], finds the
-//! value by [`value_place`], and puts its bytes together by [`push_word`]. `packings_by_looks` says when words are a packing then.
+//! value by [`value_place`], and writes its bytes by [`write_word`] and [`write_part`]. `packings_by_looks` says when words are a packing then.
 #![tactic(auto)]
 
 mod laws;
@@ -15,4 +15,4 @@ mod words;
 pub use laws::{packings_are_apart, packings_by_looks, packings_unpack, worked_packings};
 pub use packing::{pack, packed_len, value_place};
 pub use unpacking::{is_packing_of, unpack};
-pub use words::{after_word, ends_in_zeros, first_word, push_word, words_for_bytes};
+pub use words::{after_word, ends_in_zeros, first_word, words_for_bytes, write_part, write_word};

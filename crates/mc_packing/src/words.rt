@@ -1,5 +1,5 @@
 //! Bytes that become words, and words that become bytes.
-ghost use Rattle.std.specs.Prelude.{◌++◌, ◌+◌, ◌≡◌, ◌≢◌, ◌≤◌, ◌^◌, ◌↔◌, IsTrue, true, false, OnErr, OnOk, drop, length, min, take, vec_capacity, vec_len};
+ghost use Rattle.std.specs.Prelude.{◌++◌, ◌+◌, ◌-◌, ◌≡◌, ◌≢◌, ◌≤◌, ◌^◌, ◌↔◌, IsTrue, true, false, OnErr, OnOk, drop, length, min, take, vec_capacity, vec_len};
 ghost use Rattle.mc_packing.specs.Packing.{AreWhole, EndsInZeros, bytes_in, bytes_of, word_of, words_for, words_of};
 
 use mc_memory::{Refused, extend_from_slice, reserve};
@@ -109,11 +109,29 @@ pub fn ends_in_zeros(word: u64, bytes: usize) -> bool
     first_word(&eight_bytes(word)[..bytes]) == word
 }
 
+/// Writes the eight bytes of the word over those at this place.
+#[inline(always)]
+pub fn write_word(into: &mut [u8], place: usize, word: u64)
+    requires { place + 8 ≤ length into.old }
+    ensures { into.new ≡ take place into.old ++ bytes_in word ++ drop 8 (drop place into.old) }
+{
+    into[place..place + WORD].copy_from_slice(&eight_bytes(word));
+}
+
+/// Writes the first bytes of the word over those from this place on, of which there are eight at most.
+pub fn write_part(into: &mut [u8], place: usize, word: u64)
+    requires near { place ≤ length into.old }
+    requires few { length into.old ≤ place + 8 }
+    ensures { into.new ≡ take place into.old ++ take (length into.old - place) (bytes_in word) }
+{
+    let part = into.len() - place;
+    into[place..].copy_from_slice(&eight_bytes(word)[..part]);
+}
+
 /// Puts so many bytes of the word behind those that are there, or all eight where it is asked for more. There is room for as many as
 /// are asked for.
-#[inline(always)]
 #[tactic(auto, using(crate::proofs::Bytes::all_eight))]
-pub fn push_word(into: &mut Vec<u8>, word: u64, count: usize)
+pub(crate) fn push_word(into: &mut Vec<u8>, word: u64, count: usize)
     requires { vec_len into.old + count ≤ vec_capacity into.old }
     ensures bytes { into.new.items ≡ into.old.items ++ take count (bytes_in word) }
     ensures len { vec_len into.new ≡ vec_len into.old + min 8 count }
