@@ -251,7 +251,9 @@ def compare_classes(table, numbers):
     """Compares the numbers of a text of classes with each other and with the table."""
     numbers = dict(numbers)
     active, malloced = numbers.pop("active_slabs", None), numbers.pop("total_malloced", None)
-    wants(malloced is not None and malloced % table.page == 0 and malloced <= table.page * table.pages, f"{malloced} bytes are granted")
+    # of each class that has pages one may be beyond the limit
+    most = table.page * (table.pages + (active or 0))
+    wants(malloced is not None and malloced % table.page == 0 and malloced <= most, f"{malloced} bytes are granted")
     heads = {it.partition(":")[0] for it in numbers}
     wants(all(map(str.isdecimal, heads)), f"the lines of stats slabs are {list(numbers)}")
     listed = sorted(map(int, heads))

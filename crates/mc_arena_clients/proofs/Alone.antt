@@ -5,7 +5,7 @@ use Rattle.std.proofs.lemmas.Bool.{and_parts, and_from}
 use Rattle.std.proofs.lemmas.List.{get_or-replicate, length-replicate}
 use Rattle.std.proofs.lemmas.List.Folds.{list_all-append}
 use Rattle.std.proofs.lemmas.List.FromFn.{length-map-range_with_len}
-use Rattle.mc_classes.specs.Classes.{Classes, pages_of}
+use Rattle.mc_classes.specs.Classes.{Classes, arena_pages_of}
 use Rattle.mc_pages.specs.declared.ids.ChunkId.{ChunkId}
 use Rattle.mc_core.specs.declared.event.Change.{Change}
 use Rattle.mc_core.specs.declared.event.Change.TheVariants.{Grow, BeginMove, FinishMove, Touch, SetAutomove, Passed, Wrap, Evicted, OfStripe, GotNone, DeletedNone}
@@ -125,7 +125,7 @@ issue_here view was one all chunk near =
     let begin : Moment = beginning_of view.setup in
     let table : Classes = view.setup.table in
     let place : ℕ = head_place table chunk in
-    let count : ℕ = pages_of table * most_of table in
+    let count : ℕ = arena_pages_of table * most_of table in
     let many : length begin.state.ids ≡ 1 = length-map-range_with_len _ 0 view.setup.hands ∙ one in
     let there = hand_there s was.hand was.there in
     let hands = was.hands in

@@ -1,12 +1,12 @@
 -- In an arena of one hand, where the hand did nothing yet: no event came, and so it is the beginning still.
-use Rattle.std.proofs.Common.{◌≡◌, ℕ, Bool, List, [], ◌∷◌, ◌++◌, length, Some, refl, sym, ap, ◌∙◌, arith, eq-eqb, if◌then◌else◌}
+use Rattle.std.proofs.Common.{◌≡◌, ℕ, ◌/◌, ◌||◌, Bool, true, List, [], ◌∷◌, ◌++◌, length, Some, None, refl, sym, ap, ◌∙◌, arith, eq-eqb, lt-ltb, if◌then◌else◌}
 use Rattle.std.proofs.lemmas.Bool.{and_parts}
 use Rattle.std.proofs.lemmas.List.{length-replicate}
 use Rattle.std.proofs.lemmas.List.FromFn.{length-map-range_with_len}
-use Rattle.mc_classes.specs.Classes.{Classes, IsSound, pages_of}
-use Rattle.mc_pages.specs.Changes.{next_page}
+use Rattle.mc_classes.specs.Classes.{Classes, IsSound, arena_pages_of}
+use Rattle.mc_pages.specs.Changes.{has_ordinary_page, is_without_page, next_page}
 use Rattle.mc_pages.specs.Ledger.{all_untouched}
-use Rattle.mc_pages.specs.SlabState.{SlabState, fresh_slabs}
+use Rattle.mc_pages.specs.SlabState.{SlabState, fresh_slabs, untouched_page}
 use Rattle.mc_pages.specs.declared.ledger.Owner.TheVariants.{Untouched}
 use Rattle.mc_pages.proofs.Fresh.{IsInOrder-fresh}
 use Rattle.mc_pages.proofs.Owners.{position-AreGranted}
@@ -55,11 +55,13 @@ taken_fresh view now slabs one none h mine =
     sym (held_from (has_slabs after.state h.was.hand) m.state.slabs slabs held).1 ∙ ap (λ (m : Moment). m.state.slabs) (begun view h.was one none)
 
 -- and so a page is left
-pub next_fresh : (table : Classes) → IsSound table → next_page (fresh_slabs table) ≡ Some 0
-next_fresh table sound =
-    let long : length (all_untouched (pages_of table)) ≡ pages_of table = length-replicate (pages_of table) Untouched in
+pub next_fresh : (table : Classes) (class : ℕ) → IsSound table → next_page (fresh_slabs table) class ≡ Some 0
+next_fresh table class sound =
+    let long : length (all_untouched (arena_pages_of table)) ≡ arena_pages_of table = length-replicate (arena_pages_of table) Untouched in
     let pages = sound.pages.0 in
-    position-AreGranted (all_untouched (pages_of table)) 0 (IsInOrder-fresh table sound).lowest (omega (arith, long, pages))
+    let left : has_ordinary_page (fresh_slabs table) ≡ true = lt-ltb 0 (table.limit / table.page) (omega (arith, pages)) in
+    ap (λ b. if b || is_without_page (fresh_slabs table) class then untouched_page (fresh_slabs table) else None) left
+    ∙ position-AreGranted (all_untouched (arena_pages_of table)) 0 (IsInOrder-fresh table sound).lowest (omega (arith, long, pages))
 
 same_word : (xs : List Sight) (a b : ℕ) → xs ++ slabs_word a ∷ [] ≡ xs ++ slabs_word b ∷ [] → a ≡ b
 same_word [] a b e = cc

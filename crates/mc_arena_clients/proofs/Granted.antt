@@ -31,13 +31,13 @@ grown_uncut slabs class page = by (nat_lt 0 (length slabs.pool))
     by false = refl
 
 -- it is the class's
-given_own : (slabs : SlabState) (class page : ℕ) → IsAccounted slabs → next_page slabs ≡ Some page → class_of_page (after_grow slabs class page) page ≡ class
+given_own : (slabs : SlabState) (class page : ℕ) → IsAccounted slabs → next_page slabs class ≡ Some page → class_of_page (after_grow slabs class page) page ≡ class
 given_own slabs class page all next =
     ap (λ (owners : List Owner). class_of_owner (owner_at owners page)) (owners-grown slabs class page)
-    ∙ ap class_of_owner (get_or-set_same slabs.owners page (Class class) Untouched (nobody_next slabs page all next).1)
+    ∙ ap class_of_owner (get_or-set_same slabs.owners page (Class class) Untouched (nobody_next slabs class page all next).1)
 
 -- it has as many chunks as each page of the class
-pub per_page_given : (slabs : SlabState) (class page : ℕ) → IsAccounted slabs → IsClass slabs class → next_page slabs ≡ Some page → (class_of_chunk (after_grow slabs class page) (chunk_at page 0)).per_page ≡ (class_at slabs class).per_page
+pub per_page_given : (slabs : SlabState) (class page : ℕ) → IsAccounted slabs → IsClass slabs class → next_page slabs class ≡ Some page → (class_of_chunk (after_grow slabs class page) (chunk_at page 0)).per_page ≡ (class_at slabs class).per_page
 per_page_given slabs class page all valid next =
     ap (λ n. (class_at (after_grow slabs class page) n).per_page) (given_own slabs class page all next)
     ∙ ap (λ (c : ClassState). c.per_page) (class_at-grown slabs class page class ∙ class_at-with_class_same slabs class (with_page (class_at slabs class) page) valid)
@@ -77,7 +77,7 @@ free_after_cuts slabs class page count is own some =
     ∙ (ap (λ (s : SlabState). is_some (first_free (class_at s class))) (sym (cuts_more slabs before page (count - 1) refl)) ∙ cut_is_free before class (chunk_at page (count - 1)) there owned)
 
 -- so it is where the page was just granted
-pub free_granted : (slabs : SlabState) (class page count : ℕ) → IsAccounted slabs → IsClass slabs class → next_page slabs ≡ Some page → 1 ≤ count
+pub free_granted : (slabs : SlabState) (class page count : ℕ) → IsAccounted slabs → IsClass slabs class → next_page slabs class ≡ Some page → 1 ≤ count
     → is_some (first_free (class_at (fold after_cut (after_grow slabs class page) (first_chunks page count)) class)) ≡ true
 free_granted slabs class page count all is next some =
     let long = ap length (classes-grown slabs class page) ∙ length-set slabs.classes (class - 1) (with_page (class_at slabs class) page) in

@@ -1,7 +1,7 @@
 -- Issue numbers never fall, whichever hands do what.
 use Rattle.std.proofs.Common.{◌≡◌, ℕ, zero, suc, ◌*◌, ◌≤◌, true, List, [], ◌∷◌, length, Option, Some, None, refl, sym, ap, ◌∙◌, arith, slice_index_or, slice_set}
 use Rattle.std.proofs.lemmas.List.{get_or-replicate, length-replicate}
-use Rattle.mc_classes.specs.Classes.{Classes, pages_of}
+use Rattle.mc_classes.specs.Classes.{Classes, arena_pages_of}
 use Rattle.mc_pages.specs.declared.ids.ChunkId.{ChunkId}
 use Rattle.mc_pages.specs.SlabState.{SlabState}
 use Rattle.mc_core.specs.declared.event.Event.{Event}
@@ -125,7 +125,7 @@ never_below view was chunk near =
     let begin : Moment = beginning_of view.setup in
     let table : Classes = view.setup.table in
     let place : ℕ = head_place table chunk in
-    let count : ℕ = pages_of table * most_of table in
+    let count : ℕ = arena_pages_of table * most_of table in
     let long : length begin.state.heads ≡ count = length-replicate count (uncut_from view.setup.start) in
     let within = head_place_within table begin.state.heads chunk long near in
     let first : issue_at begin.state place ≡ view.setup.start = ap (λ (h : Head). h.issue) (get_or-replicate count place (uncut_from view.setup.start) never_cut (omega (arith, within, long))) in

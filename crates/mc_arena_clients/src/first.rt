@@ -1,5 +1,5 @@
 //! The first chunk that a new arena hands out.
-ghost use Rattle.std.specs.Prelude.{◌≡◌, ◌<◌, ◌≤◌, ◌↔◌, [], length, nat_lt, if◌then◌else◌, is_some, IfErr, IfOk, None, OnErr, OnOk, Some, true};
+ghost use Rattle.std.specs.Prelude.{◌≡◌, ℕ, ◌<◌, ◌≤◌, ◌↔◌, [], length, nat_lt, if◌then◌else◌, is_some, IfErr, IfOk, None, OnErr, OnOk, Some, true};
 ghost use Rattle.mc_pages.specs.Changes.{next_page};
 ghost use Rattle.mc_pages.specs.ClassState.{first_free};
 ghost use Rattle.mc_pages.specs.SlabState.{class_at};
@@ -42,7 +42,7 @@ fn slabs_of_new(arena: &Arena, hand: &mut Hand) -> SlabsHeld
     ensures holdings { (view hand.new).row.holdings ≡ [] }
     ensures after { has_prepared (view hand.new) ≡ true }
     ensures whole { (slabs_lent result).uncut ≡ None }
-    ensures next { is_some (next_page (slabs_lent result)) ≡ true }
+    ensures next { (class : ℕ) → is_some (next_page (slabs_lent result) class) ≡ true }
 {
     match arena.try_slabs(hand) {
         Ok(held) => held,
@@ -61,7 +61,7 @@ fn prepare_page(
     requires class { is_class (setup_of arena.now).table class ≡ true }
     requires held { (view hand.old).slabs ≡ Some (slabs_lent held.old) }
     requires whole { (slabs_lent held.old).uncut ≡ None }
-    requires next { is_some (next_page (slabs_lent held.old)) ≡ true }
+    requires next { is_some (next_page (slabs_lent held.old) class) ≡ true }
     requires before { has_prepared (view hand.old) ≡ true }
     ensures arena { IsHandOf arena.now hand.new }
     ensures held { (view hand.new).slabs ≡ Some (slabs_lent held.new) }

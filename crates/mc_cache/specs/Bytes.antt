@@ -1,7 +1,7 @@
 -- How many bytes the tables of a cache's arenas take.
-use Rattle.std.specs.Prelude.{ℕ, ◌+◌, ◌*◌, ◌/◌, List, [], ◌∷◌}
+use Rattle.std.specs.Prelude.{ℕ, zero, suc, ◌+◌, ◌*◌, ◌/◌, if◌then◌else◌, List, [], ◌∷◌}
 use Rattle.mc_classes.specs.declared.config.Config.{Config}
-use Rattle.mc_classes.specs.Refusals.{first_size}
+use Rattle.mc_classes.specs.Refusals.{first_size, is_below_max, rounded_up}
 use Rattle.mc_words.specs.declared.arena.Arena.{Arena}
 use Rattle.mc_words.specs.hand.Arenas.{setup_of}
 use Rattle.mc_words.specs.rule.Layout.{word_count, words_apart}
@@ -13,9 +13,20 @@ use Rattle.mc_cache.specs.Observers.{arenas_of}
 abbrev pub words_a_page : Config → ℕ
 words_a_page config = 1 + config.page / first_size config + config.page / 8
 
--- the words of an arena's table: those of the locks, of all pages that may be granted, and the eight numbers of the configuration
+-- how many classes come from this raw size on, at most so many more than one: while a raw size is below the greatest size after the factor,
+-- a class comes of it, and the factor gives the next; one class of the greatest size comes last
+unfoldable pub classes_from : ℕ → Config → ℕ → ℕ
+classes_from zero config raw = 1
+classes_from (suc more) config raw = if is_below_max config raw then classes_from more config (rounded_up raw * config.num / config.den) + 1 else 1
+
+-- how many classes there are
+abbrev pub class_count : Config → ℕ
+class_count config = classes_from 62 config config.first
+
+-- the words of an arena's table: those of the locks, of all pages, of which each class has one beyond the limit, and the eight numbers of
+-- the configuration
 abbrev pub words_an_arena : Config → ℕ
-words_an_arena config = words_apart * (2 + config.stripes) + config.limit / config.page * words_a_page config + 8
+words_an_arena config = words_apart * (2 + config.stripes) + (config.limit / config.page + class_count config) * words_a_page config + 8
 
 -- the bytes of all tables, at eight a word
 abbrev pub bytes_of : CacheConfig → ℕ

@@ -5,9 +5,9 @@ use Rattle.mc_cache.specs.Bytes.{bytes_of}
 use Rattle.mc_cache.specs.Tending.{tended_in_all}
 use Rattle.mc_cache.specs.Windows.{turns_tended}
 
--- three shards of two pages of 64 bytes, with chunks of 24 bytes at least and one stripe: 78 words each
+-- three shards of two pages of 64 bytes, with chunks of 24 bytes at least and one stripe: 133 words each
 abbrev pub SmallTables : Type 0
-SmallTables = bytes_of (record { arena = record { page = 64; limit = 128; first = 24; num = 5; den = 4; max = 64; stripes = 1; bulk = 1 }; shards = 3; workers = 2 }) ≡ 1872
+SmallTables = bytes_of (record { arena = record { page = 64; limit = 128; first = 24; num = 5; den = 4; max = 64; stripes = 1; bulk = 1 }; shards = 3; workers = 2 }) ≡ 3192
 
 -- a turn that went on and one that finished: one move that ended, and what both did
 abbrev pub TwoTurns : Type 0

@@ -1,7 +1,7 @@
 //! How many bytes a cache takes.
 ghost use Rattle.std.specs.Prelude.{◌≡◌, ◌≤◌, ◌*◌, ◌+◌, ◌^◌, IfErr, IfOk, None, OnOk, Some};
 ghost use Rattle.mc_classes.specs.Refusals.{first_size, refusal_of};
-ghost use Rattle.mc_cache.specs.Bytes.{bytes_of, words_a_page, words_an_arena};
+ghost use Rattle.mc_cache.specs.Bytes.{bytes_of, class_count, words_a_page, words_an_arena};
 ghost use Rattle.mc_cache.specs.Cases.{SmallTables};
 ghost use Rattle.mc_cache.specs.Opening.{cache_refusal};
 
@@ -11,6 +11,9 @@ use mc_classes::Config;
 
 // How many words a lock's word stands from the next one.
 const WORDS_APART: u64 = 16;
+
+// The most classes that there are.
+const MOST_CLASSES: u64 = 63;
 
 // The numbers of a configuration, which stand in the table.
 const CONFIG_WORDS: u64 = 8;
@@ -28,6 +31,21 @@ fn first_size(config: &Config) -> u64
     }
 }
 
+// How many classes there are.
+fn class_count(config: &Config) -> u64
+    requires accepted { refusal_of config.now ≡ None }
+    ensures count { result ≡ class_count config.now }
+    ensures few { result ≤ 63 }
+{
+    let mut count = 1;
+    let mut raw = config.first;
+    while count < MOST_CLASSES && raw * config.num < config.max * config.den {
+        raw = raw.div_ceil(8) * 8 * config.num / config.den;
+        count += 1;
+    }
+    count
+}
+
 // The words of a page: its class, its headers, its data.
 fn words_a_page(config: &Config) -> u64
     requires accepted { refusal_of config.now ≡ None }
@@ -41,16 +59,16 @@ fn words_a_page(config: &Config) -> u64
 fn words_an_arena(config: &Config) -> u64
     requires accepted { refusal_of config.now ≡ None }
     ensures words { result ≡ words_an_arena config.now }
-    ensures few { result ≤ 2 ^ 18 }
+    ensures few { result ≤ 2 ^ 19 }
 {
-    let pages = config.limit / config.page;
+    let pages = config.limit / config.page + class_count(config);
     WORDS_APART * (2 + config.stripes) + pages * words_a_page(config) + CONFIG_WORDS
 }
 
 impl Cache {
-    /// How many bytes the tables of a cache with this configuration take, from its making on: the pages of all its arenas, whether they
-    /// are granted or not, the headers of all chunks, and the words of the locks. Lists, indexes and what a worker packs into come beside
-    /// that as they grow. The configuration is refused as by `new`. (own)
+    /// How many bytes the tables of a cache with this configuration take, from its making on: the pages of all its arenas, those within
+    /// the limit and a first one for each class beyond it, whether they are granted or not; the headers of all chunks; and the words of
+    /// the locks. Lists, indexes and what a worker packs into come beside that as they grow. The configuration is refused as by `new`. (own)
     pub fn bytes(config: &CacheConfig) -> Result<u64, NewError>
         ensures bytes { IfOk result (λ bytes. bytes ≡ bytes_of config.now) }
         ensures accepted { OnOk result (cache_refusal config.now ≡ None) }
@@ -63,8 +81,8 @@ impl Cache {
     }
 }
 
-/// A worked case: of two pages of 64 bytes, with chunks of 24 bytes at least and one stripe, an arena's table has 78 words: 48 of locks, 11
-/// a page, and 8. So three of them take 1,872 bytes.
+/// A worked case: of two pages of 64 bytes, and one more for each of five classes from 24 bytes on, with one stripe, an arena's table has 133
+/// words: 48 of locks, 11 a page, and 8. So three of them take 3,192 bytes.
 pub fn worked_bytes()
     ensures { SmallTables }
 {}

@@ -35,7 +35,7 @@ pub fn count_pages(left: &Final) -> Option<Pages> {
         pool: 0,
         untouched: 0,
     };
-    for page in 0..left.classes().pages() {
+    for page in 0..left.classes().arena_pages() {
         pages = pages.with(left.owner(page)?);
     }
     Some(pages)
@@ -87,7 +87,7 @@ impl Sums {
 /// The header of a chunk. None where there is no such chunk.
 pub fn head(left: &Final, chunk: ChunkId) -> Option<u64> {
     let classes = left.classes();
-    if chunk.page < classes.pages() && chunk.index < classes.per_page(1) {
+    if chunk.page < classes.arena_pages() && chunk.index < classes.per_page(1) {
         Some(left.head(chunk))
     } else {
         None
@@ -116,7 +116,7 @@ fn per_page(left: &Final, class: ClassId) -> Option<u64> {
 pub fn class_sums(left: &Final, class: ClassId) -> Option<Sums> {
     let count = per_page(left, class)?;
     let mut sums = NO_SUMS;
-    for page in 0..left.classes().pages() {
+    for page in 0..left.classes().arena_pages() {
         if left.owner(page)?.class() == class {
             sums = add_page(left, page, count, sums)?;
         }
@@ -127,7 +127,7 @@ pub fn class_sums(left: &Final, class: ClassId) -> Option<Sums> {
 /// The chunks of all pages, whoever owns them, as if each were cut for class 1.
 pub fn all_sums(left: &Final) -> Option<Sums> {
     let mut sums = NO_SUMS;
-    for page in 0..left.classes().pages() {
+    for page in 0..left.classes().arena_pages() {
         sums = add_page(left, page, left.classes().per_page(1), sums)?;
     }
     Some(sums)

@@ -10,9 +10,13 @@ pub record Classes : Type 0 where
   pub limit : ℕ
   pub sizes : List ℕ
 
--- how many pages may be granted
+-- how many pages may be granted within the limit
 abbrev pub pages_of : Classes → ℕ
 pages_of classes = classes.limit / classes.page
+
+-- how many pages there are: those within the limit, and for each class one more that it may get as its first
+abbrev pub arena_pages_of : Classes → ℕ
+arena_pages_of classes = pages_of classes + length classes.sizes
 
 -- the classes are numbered from 1
 abbrev pub IsClass : Classes → ℕ → Type 0
@@ -52,7 +56,7 @@ pub record IsTableOf (config : Config) (classes : Classes) : Type 0 where
   pub raws : List ℕ
   pub comes : ComesFrom config raws classes.sizes
 
--- what every table keeps: from 1 to 63 classes of 24 bytes to a page, none smaller than a lower one, at most 256 chunks and 64 pages
+-- what every table keeps: from 1 to 63 classes of 24 bytes to a page, none smaller than a lower one, at most 256 chunks and 64 pages within the limit
 pub record IsSound (classes : Classes) : Type 0 where
   pub page : (64 ≤ classes.page) × (classes.page ≤ 16384)
   pub limit : classes.limit < 2 ^ 64

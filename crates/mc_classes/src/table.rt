@@ -1,7 +1,7 @@
 //! The size classes: which sizes there are, which class an item goes to, how many chunks a page has.
 ghost use Rattle.std.specs.Prelude.{◌≡◌, ℕ, List, length, nat_le, position, unwrap_or, ◌≤◌, IfOk, IfErr, IfSome};
 ghost use Rattle.mc_classes.specs.Refusals.{refusal_of};
-ghost use Rattle.mc_classes.specs.Classes.{ComesFrom, IsClass, IsSound, IsTableOf, class_of, pages_of, per_page_of, size_of};
+ghost use Rattle.mc_classes.specs.Classes.{ComesFrom, IsClass, IsSound, IsTableOf, arena_pages_of, class_of, pages_of, per_page_of, size_of};
 
 use crate::config::{Config, ConfigError, rounded_up};
 use mc_memory::{Refused, with_capacity};
@@ -105,12 +105,21 @@ impl ClassTable {
         self.limit
     }
 
-    /// How many pages may be granted.
+    /// How many pages may be granted within the limit.
     pub fn pages(&self) -> u64
         ensures pages { result ≡ pages_of self.now }
         ensures sound { IsSound self.now }
     {
         self.limit / self.page
+    }
+
+    /// How many pages there are, at most 127: those within the limit, and for each class one that it may get as its
+    /// first when these are granted.
+    pub fn arena_pages(&self) -> u64
+        ensures pages { result ≡ arena_pages_of self.now }
+        ensures sound { IsSound self.now }
+    {
+        self.pages() + self.count()
     }
 }
 

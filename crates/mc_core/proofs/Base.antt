@@ -6,7 +6,7 @@ use Rattle.std.proofs.lemmas.List.Sums.{get_or-le-sum_by}
 use Rattle.std.proofs.lemmas.Bool.{cases_lt, and_parts, and_from, cases_Bool, cases_eq, false≢true}
 use Rattle.std.proofs.lemmas.Nat.{same_from_place, mul-add-lt}
 use Rattle.std.proofs.Common.{div-mul-le_self, le-div_iff_mul-le}
-use Rattle.mc_classes.specs.Classes.{Classes, pages_of, size_of}
+use Rattle.mc_classes.specs.Classes.{Classes, arena_pages_of, size_of}
 use Rattle.mc_pages.specs.declared.ids.ChunkId.{ChunkId}
 use Rattle.mc_pages.specs.Ledger.{owner_at}
 use Rattle.mc_pages.specs.ClassState.{is_chunk, times}
@@ -27,10 +27,10 @@ use Rattle.mc_core.specs.Lawful.{IsLawful}
 use Rattle.mc_core.proofs.Listed.{per_page_is}
 
 -- page and index of a chunk of the arena
-pub chunk_within : (table : Classes) (chunk : ChunkId) → has_chunk table chunk ≡ true → (chunk.page < pages_of table) × (chunk.index < most_of table)
+pub chunk_within : (table : Classes) (chunk : ChunkId) → has_chunk table chunk ≡ true → (chunk.page < arena_pages_of table) × (chunk.index < most_of table)
 chunk_within table chunk h =
-    let parts = and_parts (nat_lt chunk.page (pages_of table)) (nat_lt chunk.index (most_of table)) h in
-    (ltb-true chunk.page (pages_of table) parts.0, ltb-true chunk.index (most_of table) parts.1)
+    let parts = and_parts (nat_lt chunk.page (arena_pages_of table)) (nat_lt chunk.index (most_of table)) h in
+    (ltb-true chunk.page (arena_pages_of table) parts.0, ltb-true chunk.index (most_of table) parts.1)
 
 -- one header for each chunk
 pub same_head_place : (table : Classes) (a b : ChunkId) → has_chunk table a ≡ true → has_chunk table b ≡ true → head_place table a ≡ head_place table b → a ≡ b
@@ -39,14 +39,14 @@ same_head_place table a b ha hb e =
     let both = same_from_place a.page a.index b.page b.index (most_of table) wa.1 wb.1 e in
     λ k. record { page = both.0 k; index = both.1 k }
 
-pub head_place_within : (table : Classes) (heads : List Head) (chunk : ChunkId) → length heads ≡ pages_of table * most_of table → has_chunk table chunk ≡ true → head_place table chunk < length heads
+pub head_place_within : (table : Classes) (heads : List Head) (chunk : ChunkId) → length heads ≡ arena_pages_of table * most_of table → has_chunk table chunk ≡ true → head_place table chunk < length heads
 head_place_within table heads chunk long h =
     let w = chunk_within table chunk h in
-    let below : chunk.page * most_of table + chunk.index < most_of table * pages_of table = mul-add-lt chunk.page (most_of table) chunk.index (pages_of table) w.0 w.1 in
+    let below : chunk.page * most_of table + chunk.index < most_of table * arena_pages_of table = mul-add-lt chunk.page (most_of table) chunk.index (arena_pages_of table) w.0 w.1 in
     omega arith
 
 -- a header is written: its chunk has it
-pub head_written : (table : Classes) (heads : List Head) (chunk : ChunkId) (head : Head) → length heads ≡ pages_of table * most_of table → has_chunk table chunk ≡ true → head_in table (slice_set heads (head_place table chunk) head) chunk ≡ head
+pub head_written : (table : Classes) (heads : List Head) (chunk : ChunkId) (head : Head) → length heads ≡ arena_pages_of table * most_of table → has_chunk table chunk ≡ true → head_in table (slice_set heads (head_place table chunk) head) chunk ≡ head
 head_written table heads chunk head long h = get_or-set_same heads (head_place table chunk) head never_cut (head_place_within table heads chunk long h)
 
 -- and all others are as they were
@@ -149,9 +149,9 @@ module _ (m : Moment) (l : IsLawful m) where
   pub word_within : (a : ChunkId) (i : ℕ) → has_chunk table a ≡ true → IsPlaced slabs a → i < room_in table (class_of_page slabs a.page) → place_in table slabs a i < length m.state.words
   word_within a i h is on =
       let page = (chunk_within table a h).0 in
-      let below : a.page * page_words table + row a i < page_words table * pages_of table = mul-add-lt a.page (page_words table) (row a i) (pages_of table) page (row_within a i is on) in
+      let below : a.page * page_words table + row a i < page_words table * arena_pages_of table = mul-add-lt a.page (page_words table) (row a i) (arena_pages_of table) page (row_within a i is on) in
       let all = l.sized.places in
-      let turned : page_words table * pages_of table ≡ pages_of table * page_words table = mul_comm (page_words table) (pages_of table) in
+      let turned : page_words table * arena_pages_of table ≡ arena_pages_of table * page_words table = mul_comm (page_words table) (arena_pages_of table) in
       omega (arith, below, all, turned, place_is a i)
 
 module _ {X : Type 0} where

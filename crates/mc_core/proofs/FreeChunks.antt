@@ -3,7 +3,7 @@ use Rattle.std.proofs.Common.{◌≡◌, ℕ, ◌/◌, ◌<◌, ◌≤◌, ◌&&
 use Rattle.std.proofs.lemmas.Bool.{cases_Bool, cases_lt, and_parts, and_from}
 use Rattle.std.proofs.lemmas.List.{get_or_past}
 use Rattle.std.proofs.lemmas.Nat.{le-div}
-use Rattle.mc_classes.specs.Classes.{Classes, IsSound, pages_of, size_of, per_page_of}
+use Rattle.mc_classes.specs.Classes.{Classes, IsSound, arena_pages_of, size_of, per_page_of}
 use Rattle.mc_pages.specs.declared.ids.ChunkId.{ChunkId}
 use Rattle.mc_pages.specs.declared.ledger.Owner.TheVariants.{Untouched}
 use Rattle.mc_pages.specs.Ledger.{owner_at}
@@ -52,7 +52,7 @@ module _ (m : Moment) (l : IsLawful m) where
       let chunks = per_page_is m.state.table slabs class l.paged.of_table is in
       let page = page_within slabs chunk.page is.0 in
       let pages = l.paged.of_table.owners in
-      and_from _ _ (lt-ltb chunk.page (pages_of m.state.table) (omega arith)) (lt-ltb chunk.index (most_of m.state.table) (omega arith))
+      and_from _ _ (lt-ltb chunk.page (arena_pages_of m.state.table) (omega arith)) (lt-ltb chunk.index (most_of m.state.table) (omega arith))
 
   -- so is one that was cut
   pub near_placed : (chunk : ChunkId) → IsPlaced slabs chunk → has_chunk m.state.table chunk ≡ true

@@ -3,7 +3,7 @@ use Rattle.std.proofs.Common.{◌≡◌, ℕ, ◌*◌, ◌%◌, ◌<◌, ◌&&�
 use Rattle.std.proofs.lemmas.Bool.{and_parts, cases_lt}
 use Rattle.std.proofs.lemmas.List.{set_past}
 use Rattle.std.proofs.lemmas.Option.{get_or_from_slice_get}
-use Rattle.mc_classes.specs.Classes.{pages_of}
+use Rattle.mc_classes.specs.Classes.{arena_pages_of}
 use Rattle.mc_pages.specs.SlabState.{fresh_slabs}
 use Rattle.mc_stripe.specs.Entries.{entry_at}
 use Rattle.mc_stripe.specs.StripeState.{Index, ReadyStripe, new_stripe, place_of}
@@ -147,4 +147,4 @@ indexed_first table stripes hands start sound some_stripe some_hand few small =
     indexed_from table (fresh_slabs table) state.heads state.words (replicate stripes new_stripe) (new_own stripes)
     (λ key stamp chunk there. let never : None ≡ Some (chunk, stamp) = sym (new_leads stripes key) ∙ there in absurd (cc))
     (λ chunk near linked.
-    let out : Out ≡ Linked = sym (first_heads (pages_of table * most_of table) (head_place table chunk) start small).out ∙ linked in absurd (cc))
+    let out : Out ≡ Linked = sym (first_heads (arena_pages_of table * most_of table) (head_place table chunk) start small).out ∙ linked in absurd (cc))

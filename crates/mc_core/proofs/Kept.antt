@@ -24,6 +24,6 @@ pub same_shape : (slabs : SlabState) → HasShape slabs slabs
 same_shape slabs = record { page = refl; limit = refl; counts = refl; owners = refl }
 
 -- what a grant that may be refused leaves
-pub grown_shape : (result : Result ℕ Grow) (old new : SlabState) (class : ℕ) → IfOk result (λ page. (next_page old ≡ Some page) × (new ≡ after_grow old class page)) → OnErr result (new ≡ old) → HasShape old new
+pub grown_shape : (result : Result ℕ Grow) (old new : SlabState) (class : ℕ) → IfOk result (λ page. (next_page old class ≡ Some page) × (new ≡ after_grow old class page)) → OnErr result (new ≡ old) → HasShape old new
 grown_shape (Ok page) old new class ok err = subst (λ s. HasShape old s) (sym ok.1) (grow_shape old class page)
 grown_shape (Err e) old new class ok err = subst (λ s. HasShape old s) (sym err) (same_shape old)

@@ -1,7 +1,7 @@
 -- Every change and every step keeps what hands said and know.
 use Rattle.std.proofs.Common.{◌≡◌, ℕ, zero, suc, ◌*◌, List, [], replicate, get_or, refl, sym, subst, ◌∙◌, arith, slice_index, All}
 use Rattle.std.proofs.lemmas.List.Elements.{All-nil, All-replicate}
-use Rattle.mc_classes.specs.Classes.{pages_of}
+use Rattle.mc_classes.specs.Classes.{arena_pages_of}
 use Rattle.mc_pages.specs.SlabState.{SlabState}
 use Rattle.mc_core.specs.declared.head.Tag.{Tag}
 use Rattle.mc_core.specs.declared.head.Tag.TheVariants.{Out, Linked}
@@ -101,5 +101,5 @@ known_first table stripes hands start sound some one most small =
       one = each_none (λ k. Each (AreOne k) m.past.known) hands;
       own = λ hand. subst (λ (row : List Holding). All (IsOwn m.past.known hand) row) (sym (read_replicate hands hand [])) (All-nil (IsOwn m.past.known hand));
       linked = λ chunk near linked.
-          let was : ◌≡◌ {A = Tag} Out Linked = sym (first_heads (pages_of table * most_of table) (head_place table chunk) start small).out ∙ linked in absurd (cc);
+          let was : ◌≡◌ {A = Tag} Out Linked = sym (first_heads (arena_pages_of table * most_of table) (head_place table chunk) start small).out ∙ linked in absurd (cc);
     }

@@ -1,7 +1,7 @@
 -- A known item stays true as a header, rows of holdings or lists of chunks change.
 use Rattle.std.proofs.Common.{◌≡◌, ◌⊎◌, ℕ, ◌*◌, ◌≤◌, true, false, List, length, sym, subst, ◌∙◌, inl, inr, arith, slice_set, ap}
 use Rattle.std.proofs.lemmas.Bool.{cases_Bool}
-use Rattle.mc_classes.specs.Classes.{Classes, pages_of}
+use Rattle.mc_classes.specs.Classes.{Classes, arena_pages_of}
 use Rattle.mc_pages.specs.declared.ids.ChunkId.{ChunkId}
 use Rattle.mc_pages.specs.ClassState.{is_chunk}
 use Rattle.mc_pages.specs.SlabState.{SlabState, class_of_page}
@@ -34,7 +34,7 @@ not_shown head issue P (inl free) (inr is, same) = let no : ◌≡◌ {A = Tag} 
 not_shown head issue P (inr out) (inl is, same) = let no : ◌≡◌ {A = Tag} Out Unlinked = sym out ∙ is in absurd (cc)
 not_shown head issue P (inr out) (inr is, same) = let no : ◌≡◌ {A = Tag} Out Linked = sym out ∙ is in absurd (cc)
 
-module _ (table : Classes) (heads : List Head) (chunk : ChunkId) (head : Head) (sized : length heads ≡ pages_of table * most_of table) (inside : has_chunk table chunk ≡ true) where
+module _ (table : Classes) (heads : List Head) (chunk : ChunkId) (head : Head) (sized : length heads ≡ arena_pages_of table * most_of table) (inside : has_chunk table chunk ≡ true) where
   abbrev old : Head
   old = head_in table heads chunk
 

@@ -2,7 +2,7 @@
 use Rattle.std.proofs.Common.{◌≡◌, ℕ, zero, suc, ◌*◌, ◌/◌, ◌^◌, ◌<◌, ◌≤◌, ◌∙◌, List, [], ◌∷◌, map, get_or, replicate, Some, refl, sym, ap, arith}
 use Rattle.std.proofs.lemmas.List.{length-replicate}
 use Rattle.std.proofs.lemmas.List.FromFn.{length-map-range_with_len}
-use Rattle.mc_classes.specs.Classes.{Classes, IsSound, pages_of}
+use Rattle.mc_classes.specs.Classes.{Classes, IsSound, arena_pages_of}
 use Rattle.mc_pages.specs.declared.ledger.Owner.{Owner}
 use Rattle.mc_pages.specs.declared.ledger.Owner.TheVariants.{Untouched}
 use Rattle.mc_pages.specs.ClassState.{ClassState, new_class}
@@ -42,8 +42,8 @@ first_heads count place start small =
 pub new_in_order : (table : Classes) (stripes hands start : ℕ) → IsSound table → 1 ≤ stripes → start ≤ most_issue → IsAccounted (fresh_slabs table) → IsInOrder (new_state table stripes hands start)
 new_in_order table stripes hands start sound some small all = record {
   sound = sound;
-  slabs = record { page = refl; limit = refl; per_page = per_pages table.page table.sizes; owners = length-replicate {A = Owner} (pages_of table) Untouched; accounted = all };
-  issued = λ place. (first_heads (pages_of table * most_of table) place start small).fits;
+  slabs = record { page = refl; limit = refl; per_page = per_pages table.page table.sizes; owners = length-replicate {A = Owner} (arena_pages_of table) Untouched; accounted = all };
+  issued = λ place. (first_heads (arena_pages_of table * most_of table) place start small).fits;
   stripes = let count = length-replicate {A = ReadyStripe} stripes new_stripe in omega arith;
   locks = length-replicate {A = ℕ} stripes 0 ∙ sym (length-replicate {A = ReadyStripe} stripes new_stripe);
   holdings = length-replicate {A = List Holding} hands [] ∙ sym (length-map-range_with_len {X = Ids} (λ number. record { number = Some number; stamps = 0 }) 0 hands);

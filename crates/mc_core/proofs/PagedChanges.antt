@@ -51,19 +51,19 @@ module _ (table : Classes) (slabs : SlabState) (lock : ℕ) (paged : ArePaged ta
   stays : StayPaged slabs slabs
   stays = record { shape = record { page = refl; limit = refl; counts = refl; owners = refl }; order = paged.order }
 
-  grow_order : (class page : ℕ) → IsClass slabs class → slabs.uncut ≡ None → next_page slabs ≡ Some page → (granted : ℕ) × IsInOrder (after_grow slabs class page) granted
+  grow_order : (class page : ℕ) → IsClass slabs class → slabs.uncut ≡ None → next_page slabs class ≡ Some page → (granted : ℕ) × IsInOrder (after_grow slabs class page) granted
   grow_order class page is whole next =
       let granted = paged.order.0 in let kept = paged.order.1 in
       elim (cases_lt 0 (length slabs.pool)) [
-        | inl some ↦ (granted, subst (λ (s : SlabState). IsInOrder s granted) (sym (grow_takes slabs class page some)) (IsInOrder-after_take slabs granted class page kept is whole (next_pooled slabs page some next)))
+        | inl some ↦ (granted, subst (λ (s : SlabState). IsInOrder s granted) (sym (grow_takes slabs class page some)) (IsInOrder-after_take slabs granted class page kept is whole (next_pooled slabs class page some next)))
         | inr none ↦
             let empty : length slabs.pool ≡ 0 = omega arith in
-            let first = next_granted slabs granted page kept empty next in
-            let grants = IsInOrder-after_grant slabs granted class kept is whole first.1 in
+            let first = next_granted slabs granted class page kept is empty next in
+            let grants = IsInOrder-after_grant slabs granted class kept is whole first.1 first.2 in
             (granted + 1, subst (λ (s : SlabState). IsInOrder s (granted + 1)) (sym (grow_grants slabs class page empty)) (subst (λ p. IsInOrder (after_grant slabs class p) (granted + 1)) (sym first.0) grants))
       ]
 
-  grown_paged : (class : ℕ) (next : Option ℕ) → next_page slabs ≡ next → is_class table class ≡ true → none_half_cut slabs ≡ true → StayPaged slabs (grown slabs class next)
+  grown_paged : (class : ℕ) (next : Option ℕ) → next_page slabs class ≡ next → is_class table class ≡ true → none_half_cut slabs ≡ true → StayPaged slabs (grown slabs class next)
   grown_paged class None is named whole = stays
   grown_paged class (Some page) is named whole =
       let class_is = IsClass_from table slabs class paged.of_table named in
@@ -131,9 +131,9 @@ module _ (table : Classes) (slabs : SlabState) (lock : ℕ) (paged : ArePaged ta
 -- each change of pages and lists that is allowed
 paged_slabs : (table : Classes) (slabs : SlabState) (lock : ℕ) → ArePaged table slabs lock → (change : Change) → can_change_slabs table slabs change ≡ true → StayPaged slabs (slabs_after slabs change)
 paged_slabs table slabs lock paged (Grow class) can =
-    let parts = and_parts (is_class table class && none_half_cut slabs) (is_some (next_page slabs)) can in
+    let parts = and_parts (is_class table class && none_half_cut slabs) (is_some (next_page slabs class)) can in
     let tests = and_parts (is_class table class) (none_half_cut slabs) parts.0 in
-    grown_paged table slabs lock paged class (next_page slabs) refl tests.0 tests.1
+    grown_paged table slabs lock paged class (next_page slabs class) refl tests.0 tests.1
 paged_slabs table slabs lock paged (BeginMove src dst) can = begun_paged table slabs lock paged src dst (answer_of slabs src dst) refl
 paged_slabs table slabs lock paged FinishMove can = finished_paged table slabs lock paged can
 paged_slabs table slabs lock paged (Touch chunk) can = touched_paged table slabs lock paged chunk can

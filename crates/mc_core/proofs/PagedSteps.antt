@@ -2,7 +2,7 @@
 use Rattle.std.proofs.Common.{◌≡◌, ℕ, ◌/◌, true, List, [], ◌∷◌, map, Option, Some, None, refl, sym, ap, subst, eqb-true, Contains}
 use Rattle.std.proofs.lemmas.Bool.{and_parts}
 use Rattle.std.proofs.lemmas.List.{length-replicate}
-use Rattle.mc_classes.specs.Classes.{Classes, pages_of}
+use Rattle.mc_classes.specs.Classes.{Classes, arena_pages_of}
 use Rattle.mc_pages.specs.declared.ids.ChunkId.{ChunkId}
 use Rattle.mc_pages.specs.declared.ids.Moving.{Moving}
 use Rattle.mc_pages.specs.declared.ledger.Owner.{Owner}
@@ -186,7 +186,7 @@ pub paged_first : HoldsAtFirst PagedIn
 paged_first table stripes hands start sound some someone few _ =
     let kept = IsInOrder-fresh table sound in
     record {
-      of_table = record { page = refl; limit = refl; per_page = per_pages table.page table.sizes; owners = length-replicate {A = Owner} (pages_of table) Untouched; accounted = kept.accounted };
+      of_table = record { page = refl; limit = refl; per_page = per_pages table.page table.sizes; owners = length-replicate {A = Owner} (arena_pages_of table) Untouched; accounted = kept.accounted };
       order = (0, kept);
       whole = λ free. refl;
     }

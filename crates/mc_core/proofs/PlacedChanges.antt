@@ -168,12 +168,13 @@ grow_listed slabs class page listed =
       | false ↦ given_pooled slabs (with_given slabs class page) _ _ slabs.moved listed
     ]
 
-grown_listed : (table : Classes) (slabs : SlabState) (lock : ℕ) (class : ℕ) (next : Option ℕ) → ArePaged table slabs lock → next_page slabs ≡ next → is_class table class ≡ true → none_half_cut slabs ≡ true → AreListed slabs (grown slabs class next)
+grown_listed : (table : Classes) (slabs : SlabState) (lock : ℕ) (class : ℕ) (next : Option ℕ) → ArePaged table slabs lock → next_page slabs class ≡ next → is_class table class ≡ true → none_half_cut slabs ≡ true → AreListed slabs (grown slabs class next)
 grown_listed table slabs lock class None paged is named whole = same_listed slabs
 grown_listed table slabs lock class (Some page) paged is named whole =
     let granted = paged.order.0 in let kept = paged.order.1 in
+    let class_is = IsClass_from table slabs class paged.of_table named in
     grow_listed slabs class page
-    (given_listed slabs class page (IsClass_from table slabs class paged.of_table named) (next_within slabs granted page kept is) (next_page_owner slabs granted page kept is) (whole_is slabs.uncut whole))
+    (given_listed slabs class page class_is (next_within slabs granted class page kept class_is is) (next_page_owner slabs class page kept.accounted is) (whole_is slabs.uncut whole))
 
 module _ (slabs : SlabState) (move : Moving) (moves : IsMove slabs move) (can : can_finish slabs (Some move) ≡ true) where
   abbrev gone : SlabState
@@ -241,9 +242,9 @@ finish_listed slabs granted (Some move) kept is can = ended_listed slabs move (k
 -- each change of pages and lists that is allowed
 pub slabs_listed : (table : Classes) (slabs : SlabState) (lock : ℕ) → ArePaged table slabs lock → (change : Change) → can_change_slabs table slabs change ≡ true → AreListed slabs (slabs_after slabs change)
 slabs_listed table slabs lock paged (Grow class) can =
-    let parts = and_parts (is_class table class && none_half_cut slabs) (is_some (next_page slabs)) can in
+    let parts = and_parts (is_class table class && none_half_cut slabs) (is_some (next_page slabs class)) can in
     let tests = and_parts (is_class table class) (none_half_cut slabs) parts.0 in
-    grown_listed table slabs lock class (next_page slabs) paged refl tests.0 tests.1
+    grown_listed table slabs lock class (next_page slabs class) paged refl tests.0 tests.1
 slabs_listed table slabs lock paged (BeginMove src dst) can = begin_listed slabs paged.order.0 paged.order.1 src dst (answer_of slabs src dst) refl
 slabs_listed table slabs lock paged FinishMove can = finish_listed slabs paged.order.0 slabs.moving paged.order.1 refl can
 slabs_listed table slabs lock paged (Touch chunk) can = touch_listed slabs paged.order.0 paged.order.1 chunk can

@@ -2,7 +2,7 @@
 use Rattle.std.proofs.Common.{◌≡◌, ℕ, zero, suc, ◌-◌, ◌/◌, map, replicate, ◌*◌, ◌≤◌, ◌==◌, ◌&&◌, ◌||◌, Bool, true, false, List, [], ◌∷◌, ◌++◌, slice_set, get_or, Option, Some, None, refl, sym, ap, subst, ◌∙◌, inl, inr, arith, eqb-true}
 use Rattle.std.specs.Option.{option_map_or}
 use Rattle.std.proofs.lemmas.Bool.{and_parts, and_left, cases_Bool, or_left, or_right, false≢true, both_ways}
-use Rattle.mc_classes.specs.Classes.{Classes, pages_of}
+use Rattle.mc_classes.specs.Classes.{Classes, arena_pages_of}
 use Rattle.mc_pages.specs.declared.ids.ChunkId.{ChunkId}
 use Rattle.mc_pages.specs.declared.ids.Moving.{Moving}
 use Rattle.mc_pages.specs.declared.ledger.Owner.TheVariants.{Untouched}
@@ -290,10 +290,10 @@ no_chunks page (size ∷ sizes) (suc i) chunk = no_chunks page sizes i chunk
 pub placed_first : HoldsAtFirst PlacedIn
 placed_first table stripes hands start sound some someone few small =
     let fresh : SlabState = fresh_slabs table in
-    let uncut : (class : ℕ) (chunk : ChunkId) → is_cut fresh class chunk ≡ false = λ class chunk. and_left _ _ (ap (is_of_class class) (read_replicate (pages_of table) chunk.page Untouched)) in
+    let uncut : (class : ℕ) (chunk : ChunkId) → is_cut fresh class chunk ≡ false = λ class chunk. and_left _ _ (ap (is_of_class class) (read_replicate (arena_pages_of table) chunk.page Untouched)) in
     record {
       free = λ class chunk is. (no_chunks table.page table.sizes (class - 1) chunk).0 ∙ sym (ap truth (and_left _ _ (uncut class chunk)));
       order = λ class chunk is. (no_chunks table.page table.sizes (class - 1) chunk).1 ∙ sym (ap truth (and_left _ _ (uncut class chunk)));
       cleared = λ class chunk is cut tag. absurd (both_ways _ (uncut class chunk) cut);
-      elsewhere = λ chunk here none. (first_heads (pages_of table * most_of table) (head_place table chunk) start small).out;
+      elsewhere = λ chunk here none. (first_heads (arena_pages_of table * most_of table) (head_place table chunk) start small).out;
     }

@@ -1,7 +1,7 @@
 -- Chunks keep their places where one header is written and its chunk changes its list.
 use Rattle.std.proofs.Common.{◌≡◌, ◌≢◌, ℕ, ◌*◌, ◌&&◌, Bool, true, false, List, length, slice_set, Option, refl, sym, ap, ap₂, subst, ◌∙◌, inl, inr, arith}
 use Rattle.std.proofs.lemmas.Bool.{and_left, cases_Bool, cases_eq, both_ways, false_from_ne_true}
-use Rattle.mc_classes.specs.Classes.{Classes, pages_of}
+use Rattle.mc_classes.specs.Classes.{Classes, arena_pages_of}
 use Rattle.mc_pages.specs.declared.ids.ChunkId.{ChunkId}
 use Rattle.mc_pages.specs.Ledger.{owner_at}
 use Rattle.mc_pages.specs.ClassState.{ClassState, is_chunk, times}
@@ -46,7 +46,7 @@ same_truth false a b same = refl
 module _ (table : Classes) (slabs : SlabState) (heads : List Head) (class : ℕ) (state : ClassState) (uncut : Option ChunkId) (chunk : ChunkId) (head : Head)
     (all : IsAccounted slabs)
     (placed : ArePlaced table slabs heads)
-    (long : length heads ≡ pages_of table * most_of table)
+    (long : length heads ≡ arena_pages_of table * most_of table)
     (near : (c : ℕ) (other : ChunkId) → IsClass slabs c → is_cut slabs c other ≡ true → has_chunk table other ≡ true)
     (change : Changes table slabs class state uncut chunk head.tag) where
   abbrev now : SlabState

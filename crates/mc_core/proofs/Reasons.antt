@@ -1,20 +1,18 @@
 -- What a condemn that is allowed tells of its reason.
-use Rattle.std.proofs.Common.{◌≡◌, ◌≢◌, ◌⊎◌, ℕ, suc, ◌+◌, ◌≤◌, ◌==◌, ◌&&◌, not, cond, Bool, true, false, List, [], ◌∷◌, length, Option, Some, None, refl, sym, ap, ap₂, ◌∙◌, subst, inl, inr, arith, find, is_none, count_by, nat_lt, slice_get, All, Contains, eqb-true}
+use Rattle.std.proofs.Common.{◌≡◌, ◌≢◌, ◌⊎◌, ℕ, suc, ◌+◌, ◌/◌, ◌≤◌, ◌==◌, ◌&&◌, not, cond, Bool, true, false, List, [], ◌∷◌, length, Option, Some, None, refl, sym, ap, ap₂, ◌∙◌, subst, inl, inr, arith, find, is_none, count_by, nat_lt, slice_get, All, Contains, eqb-true}
 use Rattle.std.specs.List.{fold, list_all, list_any}
 use Rattle.std.specs.Option.{option_map_or}
-use Rattle.std.proofs.lemmas.Bool.{and_parts, or_cases, both_ways, ltb-false, ne_eqb}
-use Rattle.std.proofs.lemmas.List.{nil_from_length}
+use Rattle.std.proofs.lemmas.Bool.{and_parts, or_cases, both_ways, cases_lt, ltb-false, ne_eqb}
 use Rattle.std.proofs.lemmas.List.Elements.{All-nil, All-cons, All-weaker, All-contains}
-use Rattle.std.proofs.lemmas.List.Sums.{sum_by-cons, count_by-le-length}
-use Rattle.mc_classes.specs.Classes.{pages_of}
 use Rattle.mc_pages.specs.declared.ids.ChunkId.{ChunkId}
 use Rattle.mc_pages.specs.declared.ids.Moving.{Moving}
-use Rattle.mc_pages.specs.declared.ledger.Owner.{Owner}
-use Rattle.mc_pages.specs.declared.ledger.Owner.TheVariants.{Untouched}
-use Rattle.mc_pages.specs.Accounted.{truth}
+use Rattle.mc_pages.specs.InOrder.{IsInOrder}
+use Rattle.mc_pages.specs.Changes.{next_page}
 use Rattle.mc_pages.specs.ClassState.{is_chunk, first_free}
-use Rattle.mc_pages.specs.Ledger.{owner_at}
-use Rattle.mc_pages.specs.SlabState.{SlabState, class_at, class_of_page, class_of_chunk, is_untouched, totals_of}
+use Rattle.mc_pages.specs.Ledger.{ordinary_count, owner_at}
+use Rattle.mc_pages.specs.SlabState.{SlabState, class_at, class_of_page, class_of_chunk, IsClass}
+use Rattle.mc_pages.proofs.Owners.{is_of_class-class_of_owner}
+use Rattle.mc_pages.proofs.RoomyGrow.{next_none}
 use Rattle.mc_pages.proofs.Chunks.{same_from_is_chunk}
 use Rattle.mc_pages.specs.Pages.{is_on_the_move}
 use Rattle.mc_core.specs.declared.head.Head.{Head}
@@ -31,7 +29,7 @@ use Rattle.mc_core.specs.Looks.{stays_alive, is_found_alive}
 use Rattle.mc_core.specs.State.{has_slabs, head_at, holdings_at, looks_at}
 use Rattle.mc_core.specs.Silent.{none_half_cut}
 use Rattle.mc_core.specs.Chunks.{is_target, target_of, most_issue}
-use Rattle.mc_core.specs.Evictions.{has_copy, none_dead, has_no_page, must_leave, lacks_room, has_reason}
+use Rattle.mc_core.specs.Evictions.{has_copy, none_dead, must_leave, lacks_room, has_reason}
 use Rattle.mc_core.specs.Knowing.{IsRescue}
 use Rattle.mc_core.specs.Past.{Moment}
 use Rattle.mc_core.specs.Lawful.{IsLawful}
@@ -129,16 +127,18 @@ none_is : {X : Type 0} (o : Option X) → is_none o ≡ true → o ≡ None
 none_is None is = refl
 none_is (Some x) is = absurd (cc)
 
--- where as many pages were granted as there are, each was
-all_granted : (owners : List Owner) → count_by (λ owner. not (is_untouched owner)) owners ≡ length owners → All (λ owner. is_untouched owner ≡ false) owners
-all_granted [] is = All-nil (λ owner. is_untouched owner ≡ false)
-all_granted (owner ∷ owners) is =
-    let sum = sum_by-cons (λ (o : Owner). truth (not (is_untouched o))) owner owners in
-    let most = count_by-le-length (λ (o : Owner). not (is_untouched o)) owners in
-    elim (is_untouched owner) as (λ b. is_untouched owner ≡ b → count_by (λ o. not (is_untouched o)) (owner ∷ owners) ≡ truth (not b) + count_by (λ o. not (is_untouched o)) owners → All (λ o. is_untouched o ≡ false) (owner ∷ owners)) [
-      | true ↦ λ _ sum. absurd (omega arith)
-      | false ↦ λ granted sum. All-cons (λ o. is_untouched o ≡ false) owner owners granted (all_granted owners (omega arith))
-    ] refl sum
+-- where no page is to be had for the class of a page, or for the first where it has none
+none_left : (slabs : SlabState) (granted page : ℕ) → IsInOrder slabs granted → next_page slabs (class_of_page slabs page) ≡ None → (slabs.pool ≡ []) × (slabs.limit / slabs.page ≤ ordinary_count slabs.ledger) × (1 ≤ length (class_at slabs (class_of_page slabs page)).pages)
+none_left slabs granted page kept none =
+    let class = class_of_page slabs page in
+    elim (cases_lt 0 class) [
+      | inl some ↦ next_none slabs granted class kept (kept.accounted.owned class page (is_of_class-class_of_owner class (owner_at slabs.owners page) some refl)) none
+      | inr nothing ↦
+          let at : class ≡ 0 = omega (arith, nothing) in
+          let first : IsClass slabs 1 = (omega arith, omega (arith, kept.accounted.cursor.0, kept.accounted.cursor.1)) in
+          let is = next_none slabs granted 1 kept first (subst (λ (n : ℕ). next_page slabs n ≡ None) at none) in
+          (is.0, is.1, subst (λ (n : ℕ). 1 ≤ length (class_at slabs n).pages) (sym at) is.2)
+    ]
 
 moves_is : (slabs : SlabState) (page : ℕ) (moving : Option Moving) → slabs.moving ≡ moving → option_map_or (λ move. move.page == page) moving false ≡ true → Moves slabs page
 moves_is slabs page None at is = absurd (cc)
@@ -167,20 +167,18 @@ module _ (m : Moment) (l : IsLawful m) (hand : ℕ) (chunk : ChunkId) (has : has
       not_target c isnt off =
           ltb-false (head_at m.state c).issue most_issue (sym (ap (λ b. not b && nat_lt (head_at m.state c).issue most_issue) (ne_eqb c.page chunk.page off)) ∙ isnt)
 
-  out_of_room : lacks_room m.state.table m.state.slabs (looks_at m.state hand) chunk ≡ true → IsSwept m.state hand class × IsOutOfRoom m.state class
+  out_of_room : lacks_room m.state.slabs (looks_at m.state hand) chunk ≡ true → IsSwept m.state hand class × IsOutOfRoom m.state class
   out_of_room is =
       let whole = and_parts _ (none_half_cut m.state.slabs) is in
-      let page = and_parts _ (has_no_page m.state.table m.state.slabs) whole.0 in
+      let page = and_parts _ (is_none (next_page m.state.slabs class)) whole.0 in
       let dead = and_parts (is_none (first_free (class_of_chunk m.state.slabs chunk))) (none_dead m.state.slabs (looks_at m.state hand) chunk) page.0 in
-      let pages = and_parts ((totals_of m.state.slabs).pool == 0) ((totals_of m.state.slabs).granted == pages_of m.state.table) page.1 in
-      let owners = l.paged.of_table.owners in
-      let all = all_granted m.state.slabs.owners (eqb-true (totals_of m.state.slabs).granted (pages_of m.state.table) pages.1 ∙ sym owners) in (
+      let pages = none_left m.state.slabs l.paged.order.0 chunk.page l.paged.order.1 (none_is (next_page m.state.slabs class) page.1) in (
         swept dead.1,
         record {
           none_free = nothing_free (class_at m.state.slabs class).free dead.0;
-          none_pooled = nil_from_length m.state.slabs.pool (eqb-true (length m.state.slabs.pool) 0 pages.0);
-          none_untouched = λ page within untouched. let granted : is_untouched (owner_at m.state.slabs.owners page) ≡ false = all page Untouched (omega arith) in
-              both_ways (is_untouched (owner_at m.state.slabs.owners page)) granted (ap is_untouched untouched);
+          none_pooled = pages.0;
+          none_ordinary = pages.1;
+          has_page = pages.2;
           none_half_cut = none_is m.state.slabs.uncut whole.1;
         },
       )
@@ -210,7 +208,7 @@ module _ (m : Moment) (l : IsLawful m) (hand : ℕ) (chunk : ChunkId) (has : has
 
   reason : has_reason m.state.table m.state.heads m.state.slabs (looks_at m.state hand) (holdings_at m.state hand) chunk ≡ true → (Moves m.state.slabs chunk.page × HasCopyOff m.state hand chunk) ⊎ (IsSwept m.state hand class × MustGo m.state chunk.page)
   reason is =
-      elim (or_cases _ (lacks_room m.state.table m.state.slabs (looks_at m.state hand) chunk) is) [
+      elim (or_cases _ (lacks_room m.state.slabs (looks_at m.state hand) chunk) is) [
         | inl leaves ↦
             elim (or_cases (is_on_the_move m.state.slabs chunk.page && has_copy (holdings_at m.state hand) chunk) (must_leave m.state.table m.state.heads m.state.slabs (looks_at m.state hand) chunk) leaves) [
               | inl copies ↦ let both = and_parts (is_on_the_move m.state.slabs chunk.page) (has_copy (holdings_at m.state hand) chunk) copies in inl (moving both.0, copied both.1)

@@ -24,7 +24,8 @@ use Rattle.mc_pages.proofs.GivenPage.{owner-set_alike}
 use Rattle.mc_pages.proofs.KeptPages.{owner_of_pooled}
 use Rattle.mc_pages.proofs.KeptMoves.{first_page_within}
 use Rattle.mc_pages.proofs.Source.{source_is}
-use Rattle.mc_pages.proofs.RoomyGrow.{next_pooled, next_granted}
+use Rattle.mc_pages.proofs.NextPage.{untouched_next}
+use Rattle.mc_pages.proofs.RoomyGrow.{next_pooled}
 use Rattle.mc_core.specs.declared.head.Head.{Head}
 use Rattle.mc_core.specs.declared.head.Tag.{Tag}
 use Rattle.mc_core.specs.declared.head.Tag.TheVariants.{Out, Unlinked, Linked}
@@ -111,12 +112,10 @@ grown_owners slabs class page =
     elim (nat_lt 0 (length slabs.pool)) as (λ (b : Bool). (if b then after_take slabs class page else after_grant slabs class page).owners ≡ set slabs.owners page (Class class)) [ true ↦ refl | false ↦ refl ]
 
 -- the page that a class gets is no class's
-pub next_page_owner : (slabs : SlabState) (granted page : ℕ) → IsInOrder slabs granted → next_page slabs ≡ Some page → (owner_at slabs.owners page ≡ Untouched) ⊎ (owner_at slabs.owners page ≡ Pool)
-next_page_owner slabs granted page kept next = elim (cases_lt 0 (length slabs.pool)) [
-  | inl some ↦ inr (owner_of_pooled slabs page kept.accounted (next_pooled slabs page some next))
-  | inr none ↦
-      let is = next_granted slabs granted page kept (omega arith) next in
-      inl (kept.lowest.rest page (omega (arith, is.0)))
+pub next_page_owner : (slabs : SlabState) (class page : ℕ) → IsAccounted slabs → next_page slabs class ≡ Some page → (owner_at slabs.owners page ≡ Untouched) ⊎ (owner_at slabs.owners page ≡ Pool)
+next_page_owner slabs class page all next = elim (cases_lt 0 (length slabs.pool)) [
+  | inl some ↦ inr (owner_of_pooled slabs page all (next_pooled slabs class page some next))
+  | inr none ↦ inl (untouched_next slabs class page (omega arith) next)
 ]
 
 -- nothing is cut of a page without a class
@@ -162,11 +161,11 @@ StaysIn state now = (chunk : ChunkId) (issue : ℕ) → has_chunk state.table ch
     class_of_page now chunk.page ≡ class_of_page state.slabs chunk.page
 
 module _ (state : State) (granted : ℕ) (kept : IsInOrder state.slabs granted) (placed : ArePlaced state.table state.slabs state.heads) where
-  grown_stay : (class : ℕ) (next : Option ℕ) → next_page state.slabs ≡ next → StaysIn state (grown state.slabs class next)
+  grown_stay : (class : ℕ) (next : Option ℕ) → next_page state.slabs class ≡ next → StaysIn state (grown state.slabs class next)
   grown_stay class None is chunk issue here out = refl
   grown_stay class (Some page) is chunk issue here out = elim (cases_eq chunk.page page) [
     | inl same ↦
-        let owner = next_page_owner state.slabs granted chunk.page kept (is ∙ ap Some (sym same)) in
+        let owner = next_page_owner state.slabs class chunk.page kept.accounted (is ∙ ap Some (sym same)) in
         let cut = cut_of_handed_out state.table state.slabs state.heads placed chunk here (in_hand (head_in state.table state.heads chunk) issue out) in
         absurd (both_ways _ (no_class_cut state.slabs chunk owner) cut)
     | inr apart ↦ grown_pages state.slabs class page chunk.page apart
@@ -182,7 +181,7 @@ module _ (state : State) (granted : ℕ) (kept : IsInOrder state.slabs granted) 
 
 -- a chunk that is handed out stays the chunk of its class
 pub stays_changes : (moment : Moment) (hand : ℕ) (change : Change) → MayChange moment hand change → StaysOfClass moment.state (after_change moment.state hand change)
-stays_changes moment hand (Grow class) may = grown_stay moment.state may.lawful.paged.order.0 may.lawful.paged.order.1 may.lawful.placed class (next_page moment.state.slabs) refl
+stays_changes moment hand (Grow class) may = grown_stay moment.state may.lawful.paged.order.0 may.lawful.paged.order.1 may.lawful.placed class (next_page moment.state.slabs class) refl
 stays_changes moment hand (BeginMove src dst) may = λ chunk issue here out. begun_pages moment.state.slabs may.lawful.paged.order.0 src dst (answer_of moment.state.slabs src dst) may.lawful.paged.order.1 refl chunk.page
 stays_changes moment hand FinishMove may =
     finished_stay moment.state may.lawful.paged.order.0 may.lawful.paged.order.1 may.lawful.placed moment.state.slabs.moving refl

@@ -3,7 +3,7 @@ use Rattle.std.proofs.Common.{◌≡◌, ℕ, ◌+◌, ◌*◌, ◌<◌, ◌==�
 use Rattle.std.specs.List.{fold}
 use Rattle.std.proofs.lemmas.Bool.{cases_Bool, and_parts}
 use Rattle.std.proofs.lemmas.List.Folds.{fold_along}
-use Rattle.mc_classes.specs.Classes.{Classes, pages_of}
+use Rattle.mc_classes.specs.Classes.{Classes, arena_pages_of}
 use Rattle.mc_pages.specs.declared.ids.ChunkId.{ChunkId}
 use Rattle.mc_pages.specs.ClassState.{is_chunk}
 use Rattle.mc_pages.specs.SlabState.{SlabState, class_of_page}
@@ -154,7 +154,7 @@ module _ (table : Classes) (slabs : SlabState) (heads : List Head) (words : List
   }
 
   -- a header is written, and the look says so
-  module _ (next : SlabState) (chunk : ChunkId) (head : Head) (look : Look) (sized : length heads ≡ pages_of table * most_of table) (near : has_chunk table chunk ≡ true)
+  module _ (next : SlabState) (chunk : ChunkId) (head : Head) (look : Look) (sized : length heads ≡ arena_pages_of table * most_of table) (near : has_chunk table chunk ≡ true)
       (classes : (page : ℕ) → class_of_page next page ≡ class_of_page slabs page) (told : told_by_look slabs look ≡ next)
       (headed : (other : ChunkId) (before : Option Head) → last_head other before look ≡ newer other chunk head before) where
     abbrev heads' : List Head

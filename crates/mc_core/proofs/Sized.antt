@@ -1,7 +1,7 @@
 -- Sizes: there stay as many headers and data words as the table says.
 use Rattle.std.proofs.Common.{◌≡◌, ℕ, ◌*◌, length, refl, sym, ap, subst, ◌∙◌, length-set}
 use Rattle.std.proofs.lemmas.List.{length-replicate}
-use Rattle.mc_classes.specs.Classes.{Classes, IsSound, pages_of}
+use Rattle.mc_classes.specs.Classes.{Classes, IsSound, arena_pages_of}
 use Rattle.mc_core.specs.declared.head.Head.{Head}
 use Rattle.mc_core.specs.declared.event.Change.TheVariants.{Grow, BeginMove, FinishMove, Touch, SetAutomove, Passed, Wrap, Evicted, OfStripe, GotNone, DeletedNone}
 use Rattle.mc_core.specs.declared.event.Step.{Step}
@@ -101,13 +101,13 @@ sized_steps moment hand step may =
     let table = table_stays moment.state hand step in
     record {
       sound = subst IsSound (sym table) was.sound;
-      headers = heads_stay moment.state hand step ∙ was.headers ∙ sym (ap (λ (t : Classes). pages_of t * most_of t) table);
-      places = words_stay moment.state hand step ∙ was.places ∙ sym (ap (λ (t : Classes). pages_of t * page_words t) table);
+      headers = heads_stay moment.state hand step ∙ was.headers ∙ sym (ap (λ (t : Classes). arena_pages_of t * most_of t) table);
+      places = words_stay moment.state hand step ∙ was.places ∙ sym (ap (λ (t : Classes). arena_pages_of t * page_words t) table);
     }
 
 pub sized_first : HoldsAtFirst SizedIn
 sized_first table stripes hands start sound some someone few _ = record {
   sound = sound;
-  headers = length-replicate {A = Head} (pages_of table * most_of table) (uncut_from start);
-  places = length-replicate {A = ℕ} (pages_of table * page_words table) 0;
+  headers = length-replicate {A = Head} (arena_pages_of table * most_of table) (uncut_from start);
+  places = length-replicate {A = ℕ} (arena_pages_of table * page_words table) 0;
 }

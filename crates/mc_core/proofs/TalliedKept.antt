@@ -1,7 +1,7 @@
 -- Counts and holdings: kept by every change and every step, and true at first.
 use Rattle.std.proofs.Common.{◌∙◌, ◌≡◌, ℕ, zero, suc, ◌*◌, ◌≤◌, Bool, true, false, cond, List, [], length, replicate, refl, sym, ap, arith, subst, All, slice_index_or}
 use Rattle.std.proofs.lemmas.List.Elements.{All-nil, All-replicate}
-use Rattle.mc_classes.specs.Classes.{pages_of}
+use Rattle.mc_classes.specs.Classes.{arena_pages_of}
 use Rattle.mc_pages.specs.declared.ids.ChunkId.{ChunkId}
 use Rattle.mc_pages.specs.SlabState.{SlabState, class_of_page, fresh_slabs}
 use Rattle.mc_core.specs.declared.holding.Holding.{Holding}
@@ -131,7 +131,7 @@ none_each P hands = All-replicate (All P) hands [] (All-nil P)
 
 pub counted_first : HoldsAtFirst CountedIn
 counted_first table stripes hands start sound some_stripe some_hand few small =
-    let at = λ (chunk : ChunkId). first_heads (pages_of table * most_of table) (head_place table chunk) start small in
+    let at = λ (chunk : ChunkId). first_heads (arena_pages_of table * most_of table) (head_place table chunk) start small in
     record {
       counted = λ chunk near. let none = none_held chunk hands in (at chunk).none ∙ omega (arith, none, ap link_of (at chunk).out);
       shut = λ chunk near shut. (at chunk).none;
@@ -140,7 +140,7 @@ counted_first table stripes hands start sound some_stripe some_hand few small =
 
 pub held_first : HoldsAtFirst HeldIn
 held_first table stripes hands start sound some_stripe some_hand few _ =
-    let heads = replicate (pages_of table * most_of table) (uncut_from start) in
+    let heads = replicate (arena_pages_of table * most_of table) (uncut_from start) in
     let words = (new_state table stripes hands start).words in
     held_from_so table (fresh_slabs table) heads words (replicate hands []) (none_each (IsSo table (fresh_slabs table) heads words (replicate hands [])) hands)
     (All-replicate (λ (row : List Holding). length row ≤ 256) hands [] (omega arith))

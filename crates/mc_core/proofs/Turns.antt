@@ -1,7 +1,7 @@
 -- One header and rows of holdings change: counts and holdings stay as the law says.
 use Rattle.std.proofs.Common.{◌≡◌, ◌⊎◌, ℕ, ◌+◌, ◌*◌, ◌^◌, ◌<◌, ◌≤◌, true, false, List, length, sym, ap, ◌∙◌, arith, subst, slice_index, slice_index_or, slice_set, All, inl, inr}
 use Rattle.std.proofs.lemmas.Bool.{cases_Bool, both_ways}
-use Rattle.mc_classes.specs.Classes.{Classes, pages_of}
+use Rattle.mc_classes.specs.Classes.{Classes, arena_pages_of}
 use Rattle.mc_pages.specs.declared.ids.ChunkId.{ChunkId}
 use Rattle.mc_pages.specs.ClassState.{is_chunk}
 use Rattle.mc_pages.specs.SlabState.{SlabState, class_of_page}
@@ -59,7 +59,7 @@ held_from_so table slabs heads words rows each most = record {
 
 -- the chunk's new header suits the holdings of now, and other chunks are held as before
 pub record Turn (table : Classes) (heads : List Head) (rows now : List (List Holding)) (chunk : ChunkId) (head : Head) : Type 0 where
-  pub long : length heads ≡ pages_of table * most_of table
+  pub long : length heads ≡ arena_pages_of table * most_of table
   pub near : has_chunk table chunk ≡ true
   pub others : (other : ChunkId) → is_chunk chunk other ≡ false → holders other now ≡ holders other rows
   pub sum : (head_in table heads chunk).count + (link_of head.tag + holders chunk now) ≡ head.count + (link_of (head_in table heads chunk).tag + holders chunk rows)

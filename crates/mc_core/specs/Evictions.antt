@@ -1,11 +1,12 @@
 -- Items that are taken away from their chunks, to make room or since their page moves.
 use Rattle.std.specs.Prelude.{ℕ, ◌==◌, Bool, not, ◌&&◌, ◌||◌, if◌then◌else◌, List, is_some, is_none}
 use Rattle.std.specs.List.{list_all, list_any}
-use Rattle.mc_classes.specs.Classes.{Classes, pages_of}
+use Rattle.mc_classes.specs.Classes.{Classes}
 use Rattle.mc_pages.specs.declared.ids.ChunkId.{ChunkId}
 use Rattle.mc_pages.specs.ClassState.{first_free}
 use Rattle.mc_pages.specs.Pages.{is_on_the_move}
-use Rattle.mc_pages.specs.SlabState.{SlabState, class_of_chunk, totals_of}
+use Rattle.mc_pages.specs.Changes.{next_page}
+use Rattle.mc_pages.specs.SlabState.{SlabState, class_of_chunk, class_of_page}
 use Rattle.mc_stripe.specs.StripeState.{ReadyStripe, place_of}
 use Rattle.mc_stripe.specs.Changes.{after_evict, after_lift, used_up}
 use Rattle.mc_core.specs.declared.head.Head.{Head}
@@ -30,22 +31,19 @@ has_copy holdings chunk = list_any (is_copy_of chunk) holdings
 abbrev pub none_dead : SlabState → List Look → ChunkId → Bool
 none_dead slabs looks chunk = list_all (is_found_alive looks) (class_of_chunk slabs chunk).order
 
--- no page is in the pool, and none is left that was never granted
-abbrev pub has_no_page : Classes → SlabState → Bool
-has_no_page table slabs = (totals_of slabs).pool == 0 && (totals_of slabs).granted == pages_of table
-
 -- the chunk's page moves, each chunk that its class handed out was found not dead, and no free one can take its item
 abbrev pub must_leave : Classes → List Head → SlabState → List Look → ChunkId → Bool
 must_leave table heads slabs looks chunk = is_on_the_move slabs chunk.page && none_dead slabs looks chunk && is_none (target_of table heads slabs chunk.page)
 
--- the class has no free chunk, each that it handed out was found not dead, and no page is pooled, left or half cut
-abbrev pub lacks_room : Classes → SlabState → List Look → ChunkId → Bool
-lacks_room table slabs looks chunk = is_none (first_free (class_of_chunk slabs chunk)) && none_dead slabs looks chunk && has_no_page table slabs && none_half_cut slabs
+-- the class has no free chunk, each that it handed out was found not dead, no page is to be had for it, and none is half cut
+abbrev pub lacks_room : SlabState → List Look → ChunkId → Bool
+lacks_room slabs looks chunk =
+    is_none (first_free (class_of_chunk slabs chunk)) && none_dead slabs looks chunk && is_none (next_page slabs (class_of_page slabs chunk.page)) && none_half_cut slabs
 
 -- why an item may be taken away: it goes to another chunk, its page moves, or room is needed
 abbrev pub has_reason : Classes → List Head → SlabState → List Look → List Holding → ChunkId → Bool
 has_reason table heads slabs looks holdings chunk =
-    is_on_the_move slabs chunk.page && has_copy holdings chunk || must_leave table heads slabs looks chunk || lacks_room table slabs looks chunk
+    is_on_the_move slabs chunk.page && has_copy holdings chunk || must_leave table heads slabs looks chunk || lacks_room slabs looks chunk
 
 -- the key of the item in the chunk
 abbrev pub key_at : State → ChunkId → ℕ

@@ -1,6 +1,6 @@
 -- A state in memory, and what it keeps.
 use Rattle.std.specs.Prelude.{◌≡◌, ℕ, ◌/◌, ◌^◌, ◌<◌, ◌≤◌, List, length, map, slice_index_or}
-use Rattle.mc_classes.specs.Classes.{Classes, IsSound, pages_of}
+use Rattle.mc_classes.specs.Classes.{Classes, IsSound, arena_pages_of}
 use Rattle.mc_pages.specs.SlabState.{SlabState}
 use Rattle.mc_pages.specs.Accounted.{IsAccounted}
 use Rattle.mc_core.specs.declared.head.Head.{Head}
@@ -28,7 +28,7 @@ pub record IsOfTable (table : Classes) (slabs : SlabState) : Type 0 where
   pub page : slabs.page ≡ table.page
   pub limit : slabs.limit ≡ table.limit
   pub per_page : map (λ class. class.per_page) slabs.classes ≡ map (λ size. table.page / size) table.sizes
-  pub owners : length slabs.owners ≡ pages_of table
+  pub owners : length slabs.owners ≡ arena_pages_of table
   pub accounted : IsAccounted slabs
 
 -- each issue number fits its bits

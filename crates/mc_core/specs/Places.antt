@@ -1,6 +1,6 @@
 -- Pages and lists: what is owned, and where each chunk is.
 use Rattle.std.specs.Prelude.{◌≡◌, ℕ, ◌*◌, Bool, true, false, not, ◌&&◌, List, length, None}
-use Rattle.mc_classes.specs.Classes.{Classes, IsSound, pages_of}
+use Rattle.mc_classes.specs.Classes.{Classes, IsSound, arena_pages_of}
 use Rattle.mc_pages.specs.declared.ids.ChunkId.{ChunkId}
 use Rattle.mc_pages.specs.ClassState.{times}
 use Rattle.mc_pages.specs.SlabState.{SlabState, IsClass, class_at, class_of_page}
@@ -17,8 +17,8 @@ use Rattle.mc_core.specs.Columns.{head_in}
 -- sizes: there is a header for each index of each page, and all data words of each page
 pub record AreSized (table : Classes) (heads : List Head) (words : List ℕ) : Type 0 where
   pub sound : IsSound table
-  pub headers : length heads ≡ pages_of table * most_of table
-  pub places : length words ≡ pages_of table * page_words table
+  pub headers : length heads ≡ arena_pages_of table * most_of table
+  pub places : length words ≡ arena_pages_of table * page_words table
 
 -- pages: owners, limit, lists, pool and move are accounted for, and a page is half cut under the slabs lock alone
 pub record ArePaged (table : Classes) (slabs : SlabState) (slabs_lock : ℕ) : Type 0 where

@@ -1,11 +1,9 @@
 -- Why an item may be taken away, in words of their own.
-use Rattle.std.specs.Prelude.{◌≡◌, ◌≢◌, ◌⊎◌, ℕ, ◌-◌, ◌^◌, ◌<◌, ◌≤◌, Bool, true, false, List, [], ◌∷◌, ◌++◌, Some, None, All, Contains}
-use Rattle.mc_classes.specs.Classes.{pages_of}
+use Rattle.std.specs.Prelude.{◌≡◌, ◌≢◌, ◌⊎◌, ℕ, ◌-◌, ◌/◌, ◌^◌, ◌<◌, ◌≤◌, Bool, true, false, List, [], ◌∷◌, ◌++◌, length, Some, None, All, Contains}
 use Rattle.mc_pages.specs.declared.ids.ChunkId.{ChunkId}
 use Rattle.mc_pages.specs.declared.ids.Moving.{Moving}
-use Rattle.mc_pages.specs.declared.ledger.Owner.TheVariants.{Untouched}
 use Rattle.mc_pages.specs.ClassState.{is_chunk}
-use Rattle.mc_pages.specs.Ledger.{owner_at}
+use Rattle.mc_pages.specs.Ledger.{ordinary_count}
 use Rattle.mc_pages.specs.SlabState.{SlabState, class_at, class_of_page}
 use Rattle.mc_core.specs.declared.event.Step.TheVariants.{Condemn}
 use Rattle.mc_core.specs.declared.head.Head.{Head}
@@ -55,11 +53,12 @@ Moves slabs page = (move : Moving) × (slabs.moving ≡ Some move) × (move.page
 abbrev pub HasNoneOff : State → ℕ → ℕ → Type 0
 HasNoneOff state class page = All (λ (chunk : ChunkId). chunk.page ≢ page → 2 ^ 46 - 1 ≤ (head_at state chunk).issue) (class_at state.slabs class).free
 
--- the class has no free chunk, and no page is pooled, untouched or half cut
+-- the class has no free chunk, no page is pooled, left within the limit or half cut, and the class has a page, so it gets none beyond it
 pub record IsOutOfRoom (state : State) (class : ℕ) : Type 0 where
   pub none_free : (class_at state.slabs class).free ≡ []
   pub none_pooled : state.slabs.pool ≡ []
-  pub none_untouched : (page : ℕ) → page < pages_of state.table → owner_at state.slabs.owners page ≢ Untouched
+  pub none_ordinary : state.slabs.limit / state.slabs.page ≤ ordinary_count state.slabs.ledger
+  pub has_page : 1 ≤ length (class_at state.slabs class).pages
   pub none_half_cut : state.slabs.uncut ≡ None
 
 -- the hand has a fresh chunk that was handed out to it for a copy of this one, and is on another page

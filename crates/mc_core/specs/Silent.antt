@@ -48,7 +48,7 @@ none_half_cut slabs = is_none slabs.uncut
 
 -- the class may get a page: there is such a class, no page is half cut, and a pooled or untouched one is left
 abbrev pub can_grow : Classes → SlabState → ℕ → Bool
-can_grow table slabs class = is_class table class && none_half_cut slabs && is_some (next_page slabs)
+can_grow table slabs class = is_class table class && none_half_cut slabs && is_some (next_page slabs class)
 
 -- a move runs, no page is half cut, and no chunk of the moving page stands in a list of its source
 abbrev pub can_finish : SlabState → Option Moving → Bool
@@ -99,7 +99,7 @@ begun slabs src dst (Ok source) = after_begin slabs src source dst
 
 -- pages and lists after the change
 abbrev pub slabs_after : SlabState → Change → SlabState
-slabs_after slabs (Grow class) = grown slabs class (next_page slabs)
+slabs_after slabs (Grow class) = grown slabs class (next_page slabs class)
 slabs_after slabs (BeginMove src dst) = begun slabs src dst (answer_of slabs src dst)
 slabs_after slabs FinishMove = after_finish slabs slabs.moving
 slabs_after slabs (Touch chunk) = after_touch slabs chunk

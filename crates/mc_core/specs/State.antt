@@ -1,7 +1,7 @@
 -- The arena between two steps: a column for each kind of word, the values behind the locks, and what each hand has.
 use Rattle.std.specs.Prelude.{ℕ, ◌+◌, ◌*◌, ◌/◌, ◌%◌, min, ◌==◌, Bool, false, ◌&&◌, nat_le, nat_lt, if◌then◌else◌, List, [], ◌∷◌, ◌++◌, length, map, replicate, slice_index, slice_index_or, slice_set, is_some, Option, Some, None}
 use Rattle.std.specs.List.{range_with_len}
-use Rattle.mc_classes.specs.Classes.{Classes, pages_of, size_of, per_page_of}
+use Rattle.mc_classes.specs.Classes.{Classes, arena_pages_of, size_of, per_page_of}
 use Rattle.mc_pages.specs.declared.ids.ChunkId.{ChunkId}
 use Rattle.mc_pages.specs.SlabState.{SlabState, fresh_slabs, class_of_page}
 use Rattle.mc_stripe.specs.StripeState.{ReadyStripe, new_stripe}
@@ -53,7 +53,7 @@ room_in table class = if is_class table class then size_of table class / 8 else 
 
 -- the arena has such a chunk: its page is one of the arena's, and its index is below the most chunks of a page
 abbrev pub has_chunk : Classes → ChunkId → Bool
-has_chunk table chunk = nat_lt chunk.page (pages_of table) && nat_lt chunk.index (most_of table)
+has_chunk table chunk = nat_lt chunk.page (arena_pages_of table) && nat_lt chunk.index (most_of table)
 
 -- where the header of a chunk stands among all headers
 abbrev pub head_place : Classes → ChunkId → ℕ
@@ -168,8 +168,8 @@ with_look state hand look = with_looks state hand (looks_at state hand ++ look �
 abbrev pub new_state : Classes → ℕ → ℕ → ℕ → State
 new_state table stripes hands start = record {
   table = table;
-  heads = replicate (pages_of table * most_of table) (uncut_from start);
-  words = replicate (pages_of table * page_words table) 0;
+  heads = replicate (arena_pages_of table * most_of table) (uncut_from start);
+  words = replicate (arena_pages_of table * page_words table) 0;
   slabs_lock = 0;
   stripe_locks = replicate stripes 0;
   slabs = fresh_slabs table;

@@ -2,7 +2,7 @@
 //!
 //! A clause of the law that is *kept* holds before anything was done. Every silent change, every step and every event that
 //! is allowed in a lawful moment leaves it true.
-ghost use Rattle.std.specs.Prelude.{◌≡◌, ◌-◌, ℕ, List, [], ◌∷◌, ◌++◌, Ok, Err};
+ghost use Rattle.std.specs.Prelude.{◌≡◌, ◌-◌, ℕ, false, List, [], ◌∷◌, ◌++◌, Ok, Err};
 ghost use Rattle.mc_pages.specs.declared.ledger.Entry.TheVariants.{Granted, Began, Ended};
 ghost use Rattle.mc_stripe.specs.declared.history.Call.{Call};
 ghost use Rattle.mc_stripe.specs.Sequential.{StampMap, Leads};
@@ -26,10 +26,10 @@ ghost use Rattle.mc_core.specs.Follows.{AreKept, AreSaidItems, SeenGrows};
 /// Runs of one hand: a page that is cut whole, one cut short, and a chunk from a class without a page; and where issue
 /// numbers count on from one below the greatest, a chunk is handed out once and not again.
 pub fn worked_runs()
-    ensures whole_page { played (grows 20) ≡ Ok (Granted 0 1 ∷ []) }
+    ensures whole_page { played (grows 20) ≡ Ok (Granted 0 1 false ∷ []) }
     ensures cut_short { played (grows 19) ≡ Err 21 }
     ensures no_page { played (does [] TakeSlabs ∷ does [] (Pop 1) ∷ []) ≡ Err 1 }
-    ensures twice { pops_from (most_issue - 2) ≡ Ok (Granted 0 1 ∷ []) }
+    ensures twice { pops_from (most_issue - 2) ≡ Ok (Granted 0 1 false ∷ []) }
     ensures once { pops_from (most_issue - 1) ≡ Err 27 }
     ensures worn { pops_from most_issue ≡ Err 24 }
 {}
@@ -37,7 +37,7 @@ pub fn worked_runs()
 /// An item is evicted from a full class behind a sweep. It is refused without a sweep, behind half of one, and behind one that an
 /// eviction ended; where a chunk is free; where a page is left, or one is pooled; and where one is half cut.
 pub fn worked_evictions()
-    ensures evicted { played_on 1 (full_page ++ looks_at 0 ++ takes_away (chunk_at 0 1)) ≡ Ok (Granted 0 1 ∷ []) }
+    ensures evicted { played_on 1 (full_page ++ looks_at 0 ++ takes_away (chunk_at 0 1)) ≡ Ok (Granted 0 1 false ∷ []) }
     ensures no_sweep { played_on 1 (full_page ++ takes_away (chunk_at 0 1)) ≡ Err 18 }
     ensures half_a_sweep { played_on 1 (full_page ++ does [] (Head (chunk_at 0 1)) ∷ takes_away (chunk_at 0 1)) ≡ Err 19 }
     ensures one_a_sweep { played_on 1 (full_page ++ looks_at 0 ++ takes_away (chunk_at 0 1) ++ takes_away (chunk_at 0 0)) ≡ Err 21 }
@@ -51,11 +51,11 @@ pub fn worked_evictions()
 /// something else, nor when its page stays. Where no chunk is off the page, the item leaves it behind a sweep, and neither without
 /// one, nor behind one that a handing out ended, nor where a chunk is there.
 pub fn worked_rescues()
-    ensures rescued { played_on 2 (one_of_four ++ begins_rescue ++ rescues ++ ends) ≡ Ok (Granted 0 1 ∷ Granted 1 1 ∷ Began 0 1 0 ∷ Ended 0 0 ∷ []) }
+    ensures rescued { played_on 2 (one_of_four ++ begins_rescue ++ rescues ++ ends) ≡ Ok (Granted 0 1 false ∷ Granted 1 1 false ∷ Began 0 1 0 ∷ Ended 0 0 ∷ []) }
     ensures no_chunk_off { played_on 2 (three_of_four ++ begins_rescue) ≡ Err 27 }
     ensures no_copy { played_on 2 (one_of_four ++ does [] (Pop 1) ∷ begins_move ++ takes_away (chunk_at 0 1)) ≡ Err 15 }
     ensures a_page_that_stays { played_on 2 (one_of_four ++ comes_again ++ takes_away (chunk_at 0 1)) ≡ Err 26 }
-    ensures leaves { played_on 2 (three_of_four ++ begins_move ++ looks_at 1 ++ takes_away (chunk_at 0 1)) ≡ Ok (Granted 0 1 ∷ Granted 1 1 ∷ Began 0 1 0 ∷ []) }
+    ensures leaves { played_on 2 (three_of_four ++ begins_move ++ looks_at 1 ++ takes_away (chunk_at 0 1)) ≡ Ok (Granted 0 1 false ∷ Granted 1 1 false ∷ Began 0 1 0 ∷ []) }
     ensures no_sweep { played_on 2 (three_of_four ++ begins_move ++ takes_away (chunk_at 0 1)) ≡ Err 28 }
     ensures old_sweep { played_on 2 (one_of_four ++ stores (chunk_at 1 1) 2 ++ begins_move ++ does [] (Head (chunk_at 1 1)) ∷ does [] (Pop 1) ∷ does [] (Head (chunk_at 1 0)) ∷ takes_away (chunk_at 0 1)) ≡ Err 24 }
     ensures a_chunk_off { played_on 2 (one_of_four ++ begins_move ++ takes_away (chunk_at 0 1)) ≡ Err 14 }

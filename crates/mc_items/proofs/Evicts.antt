@@ -2,7 +2,6 @@
 use Rattle.std.proofs.Common.{◌≡◌, ℕ, ◌+◌, ◌%◌, ◌==◌, ◌||◌, Bool, true, false, not, is_some, if◌then◌else◌, List, [], ◌∷◌, ◌++◌, Some, None, nat_lt, refl, sym, ap, subst, ◌∙◌}
 use Rattle.std.specs.Option.{option_map, option_map_or}
 use Rattle.std.proofs.lemmas.List.Sums.{fold-append}
-use Rattle.mc_classes.specs.Classes.{Classes}
 use Rattle.mc_pages.specs.declared.ids.ChunkId.{ChunkId}
 use Rattle.mc_pages.specs.SlabState.{SlabState}
 use Rattle.mc_stripe.specs.StripeState.{ReadyStripe}
@@ -31,10 +30,10 @@ module _ (view made : View) (slabs : SlabState) (mine : view.slabs ≡ Some slab
       let read : word_read made chunk 0 ≡ word_read view chunk 0 = ap (λ (looks : List Look). Rattle.std.specs.List.fold (last_read chunk 0) None looks) looks_are ∙ fold-append (last_read chunk 0) None view.row.looks (SawStripe stripe word ∷ []) in
       (λ k. option_map (λ key. key % (is k).setup.config.stripes) (read k))
 
-  pub reason_still : (table : Classes) (chunk : ChunkId) → knows_reason table slabs view.row.looks view.row.holdings chunk ≡ true → knows_reason table slabs made.row.looks made.row.holdings chunk ≡ true
-  reason_still table chunk knows =
-      subst (λ (p : List Look × List Holding). knows_reason table slabs p.0 p.1 chunk ≡ true) (λ k. (sym looks_are k, sym (ap (λ (v : View). v.row.holdings) is) k))
-      (reason_after table slabs view.row.looks (view.row.looks ++ SawStripe stripe word ∷ []) view.row.holdings chunk
+  pub reason_still : (chunk : ChunkId) → knows_reason slabs view.row.looks view.row.holdings chunk ≡ true → knows_reason slabs made.row.looks made.row.holdings chunk ≡ true
+  reason_still chunk knows =
+      subst (λ (p : List Look × List Holding). knows_reason slabs p.0 p.1 chunk ≡ true) (λ k. (sym looks_are k, sym (ap (λ (v : View). v.row.holdings) is) k))
+      (reason_after slabs view.row.looks (view.row.looks ++ SawStripe stripe word ∷ []) view.row.holdings chunk
       (λ other was. alive_after_other view.row.looks (SawStripe stripe word) other refl refl ∙ was)
       (λ other unfit. ap (λ seen. other.page == chunk.page || option_map_or (λ head. not (nat_lt head.issue most_issue)) seen false) (fold-append (last_head other) None view.row.looks (SawStripe stripe word ∷ [])) ∙ unfit)
       knows)

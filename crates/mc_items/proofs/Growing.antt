@@ -17,16 +17,16 @@ use Rattle.mc_words.specs.hand.View.{View}
 use Rattle.mc_words.specs.chunk.Sweeps.{with_seen}
 
 -- the page that a class was given is the class's
-pub given_own : (slabs : SlabState) (class page : ℕ) → IsAccounted slabs → next_page slabs ≡ Some page → class_of_page (after_grow slabs class page) page ≡ class
+pub given_own : (slabs : SlabState) (class page : ℕ) → IsAccounted slabs → next_page slabs class ≡ Some page → class_of_page (after_grow slabs class page) page ≡ class
 given_own slabs class page all next =
     ap (λ (owners : List Owner). class_of_owner (owner_at owners page)) (owners-grown slabs class page)
-    ∙ ap class_of_owner (get_or-set_same slabs.owners page (Class class) Untouched (nobody_next slabs page all next).1)
+    ∙ ap class_of_owner (get_or-set_same slabs.owners page (Class class) Untouched (nobody_next slabs class page all next).1)
 
 pub per_page_grown : (slabs : SlabState) (class page : ℕ) → IsClass slabs class → (class_at (after_grow slabs class page) class).per_page ≡ (class_at slabs class).per_page
 per_page_grown slabs class page valid =
     ap (λ (c : ClassState). c.per_page) (class_at-grown slabs class page class ∙ class_at-with_class_same slabs class (with_page (class_at slabs class) page) valid)
 
-pub per_page_given : (slabs : SlabState) (class page : ℕ) → IsAccounted slabs → IsClass slabs class → next_page slabs ≡ Some page → (class_of_chunk (after_grow slabs class page) (chunk_at page 0)).per_page ≡ (class_at slabs class).per_page
+pub per_page_given : (slabs : SlabState) (class page : ℕ) → IsAccounted slabs → IsClass slabs class → next_page slabs class ≡ Some page → (class_of_chunk (after_grow slabs class page) (chunk_at page 0)).per_page ≡ (class_at slabs class).per_page
 per_page_given slabs class page all valid next =
     ap (λ n. (class_at (after_grow slabs class page) n).per_page) (given_own slabs class page all next) ∙ per_page_grown slabs class page valid
 

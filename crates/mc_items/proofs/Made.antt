@@ -122,7 +122,7 @@ grows_keep : (number class : ℕ) (view : View) (slabs : SlabState) (now : View)
 grows_keep number class view slabs now left grows = cuts_keep _ grows.grown _ now left grows.cuts ∙ ap own_of grows.is_grown
 
 -- where no page was left, one of the oldest five chunks did
-pub made_by : (number class : ℕ) (supply : Supply) (view : View) (slabs : SlabState) (now : View) (left : SlabState) → next_page slabs ≡ None → FreesOne number class (first_five slabs class) supply view slabs now left → MakesFree number class supply view slabs now left
+pub made_by : (number class : ℕ) (supply : Supply) (view : View) (slabs : SlabState) (now : View) (left : SlabState) → next_page slabs class ≡ None → FreesOne number class (first_five slabs class) supply view slabs now left → MakesFree number class supply view slabs now left
 made_by number class Page view slabs now left none frees = absurd frees.frees
 made_by number class Dead view slabs now left none frees = (none, frees)
 made_by number class Evicted view slabs now left none frees = (none, frees)
@@ -253,7 +253,7 @@ none_tells number class WornOut view slabs now left (inr made) =
 none_tells number class (NoMemory _) view slabs now left lacks =
     evicts_none number view now (by lacks.lacks.0 ∙ sweeps_keep _ view slabs lacks.swept lacks.between lacks.finds.sweeps)
   where
-    by : ((is_some (next_page lacks.between) ≡ true) × (now ≡ lacks.swept)) ⊎ ((next_page lacks.between ≡ None) × Rattle.mc_items.specs.Evicting.LacksEntry number (first_five lacks.between class) lacks.swept now) → own_of now ≡ own_of lacks.swept
+    by : ((is_some (next_page lacks.between class) ≡ true) × (now ≡ lacks.swept)) ⊎ ((next_page lacks.between class ≡ None) × Rattle.mc_items.specs.Evicting.LacksEntry number (first_five lacks.between class) lacks.swept now) → own_of now ≡ own_of lacks.swept
     by (inl (page, same)) = ap own_of same
     by (inr (page, entry)) = entry_keeps number _ lacks.swept now entry
 

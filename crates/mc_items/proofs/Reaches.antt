@@ -40,7 +40,7 @@ use Rattle.mc_words.specs.hand.Idle.{has_no_stripes}
 use Rattle.mc_words.specs.lock.Out.{has_no_stripe, with_stripe, without_stripe}
 use Rattle.mc_words.proofs.Locks.Unlocked.{no_stripe_from}
 use Rattle.mc_words.proofs.Chunks.Judging.{class_of_table, room_of, seen_is}
-use Rattle.mc_words.proofs.Items.Reasoned.{alive_after_look, alive_after_read, all_weaker, no_page_left, room_needed}
+use Rattle.mc_words.proofs.Items.Reasoned.{alive_after_look, alive_after_read, all_weaker, room_needed}
 use Rattle.mc_items.specs.Supplying.{LacksCall, ReachesItem}
 
 -- a linked chunk isn't dead
@@ -99,15 +99,15 @@ module _ (view : View) (slabs : SlabState) (mine : view.slabs ≡ Some slabs) (c
     pub holdings_stay : taken.row.holdings ≡ view.row.holdings
     holdings_stay = ap (λ (v : View). v.row.holdings) taken_is ∙ (ap (λ (v : View). v.row.holdings) read_is ∙ ap (λ (v : View). v.row.holdings) is)
 
-    pub reason_found : LawfulView view → (class : ℕ) → class_of_page slabs chunk.page ≡ class → first_free (class_at slabs class) ≡ None → list_all (is_found_alive view.row.looks) (class_at slabs class).order ≡ true → next_page slabs ≡ None → slabs.uncut ≡ None
-        → knows_reason view.setup.table slabs taken.row.looks taken.row.holdings chunk ≡ true
-    reason_found was class own free alive page whole =
+    pub reason_found : (class : ℕ) → class_of_page slabs chunk.page ≡ class → first_free (class_at slabs class) ≡ None → list_all (is_found_alive view.row.looks) (class_at slabs class).order ≡ true → next_page slabs class ≡ None → slabs.uncut ≡ None
+        → knows_reason slabs taken.row.looks taken.row.holdings chunk ≡ true
+    reason_found class own free alive page whole =
         let all : taken.row.looks ≡ (view.row.looks ++ Saw chunk head ∷ []) ++ Read chunk 0 key ∷ [] = taken_looks ∙ ap (λ (looks : List Look). looks ++ Read chunk 0 key ∷ []) seen_looks in
         let still : list_all (is_found_alive taken.row.looks) (class_at slabs class).order ≡ true =
         subst (λ (looks : List Look). list_all (is_found_alive looks) (class_at slabs class).order ≡ true) (sym all)
         (all_weaker (is_found_alive view.row.looks) (is_found_alive ((view.row.looks ++ Saw chunk head ∷ []) ++ Read chunk 0 key ∷ [])) (class_at slabs class).order
         (λ other was. alive_after_read (view.row.looks ++ Saw chunk head ∷ []) chunk 0 key other ∙ alive_after_look view.row.looks chunk head (not_dead head unheld) other was) alive) in
-        room_needed view.setup.table slabs taken.row.looks taken.row.holdings class chunk own free still (no_page_left view was slabs mine page) (ap is_none whole)
+        room_needed slabs taken.row.looks taken.row.holdings class chunk own free still page (ap is_none whole)
 
 -- the whole, from its parts
 pub reached : (Does : ℕ → ℕ → Doing) (number number' : ℕ) (view : View) (chunk : ChunkId) (head : Head) (seen read taken now : View) (key stripe stripe' : ℕ) (value : ReadyStripe) → is_linked_unheld head ≡ true → seen ≡ head_seen chunk head view → read ≡ key_seen chunk key seen

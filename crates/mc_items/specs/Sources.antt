@@ -22,8 +22,8 @@ use Rattle.mc_items.specs.declared.setting.SetError.TheVariants.{TooLarge, NoRoo
 -- a class without a free chunk came to one: by the next page; or where there is none left, by one of its oldest five chunks
 abbrev pub MakesFree : ℕ → ℕ → Supply → SlabsDoing
 MakesFree number class Page view slabs now left = Grows number class view slabs now left
-MakesFree number class Dead view slabs now left = (next_page slabs ≡ None) × FreesOne number class (first_five slabs class) Dead view slabs now left
-MakesFree number class Evicted view slabs now left = (next_page slabs ≡ None) × FreesOne number class (first_five slabs class) Evicted view slabs now left
+MakesFree number class Dead view slabs now left = (next_page slabs class ≡ None) × FreesOne number class (first_five slabs class) Dead view slabs now left
+MakesFree number class Evicted view slabs now left = (next_page slabs class ≡ None) × FreesOne number class (first_five slabs class) Evicted view slabs now left
 
 -- the class had no free chunk, its dead ones didn't help, and then it came to one
 pub record ComesToFree (number class : ℕ) (supply : Supply) (view : View) (slabs : SlabState) (now : View) (left : SlabState) : Type 0 where
@@ -61,7 +61,7 @@ SuppliesChunk number class chunk view slabs now left =
 
 -- no page was left, none of its oldest five chunks could be had, each that it handed out was found alive, and nothing was changed
 pub record MakesNone (number class : ℕ) (view : View) (slabs : SlabState) (now : View) (left : SlabState) : Type 0 where
-  pub page : next_page slabs ≡ None
+  pub page : next_page slabs class ≡ None
   pub passes : PassesEach number (first_five slabs class) view now
   pub alive : list_all (is_found_alive now.row.looks) (class_at slabs class).order ≡ true
   pub same : left ≡ slabs
@@ -87,7 +87,7 @@ FindsWornOut number class view slabs now left =
 -- there was no memory for the class's next page, or for the entry of an eviction, and nothing was changed
 abbrev pub LacksMore : ℕ → ℕ → SlabsDoing
 LacksMore number class view slabs now left =
-    (((is_some (next_page slabs) ≡ true) × (now ≡ view)) ⊎ ((next_page slabs ≡ None) × LacksEntry number (first_five slabs class) view now)) × (left ≡ slabs)
+    (((is_some (next_page slabs class) ≡ true) × (now ≡ view)) ⊎ ((next_page slabs class ≡ None) × LacksEntry number (first_five slabs class) view now)) × (left ≡ slabs)
 
 -- the class had no free chunk, its dead ones didn't help, and there was no memory for more
 pub record LacksMemory (number class : ℕ) (view : View) (slabs : SlabState) (now : View) (left : SlabState) : Type 0 where

@@ -64,7 +64,7 @@ GainsFresh view chunk room now = (issue : ℕ) × (now ≡ with_holdings (view.r
 -- the class got the next page, and all its chunks were cut
 pub record Grows (number class : ℕ) (view : View) (slabs : SlabState) (now : View) (left : SlabState) : Type 0 where
   pub page : ℕ
-  pub is_next : next_page slabs ≡ Some page
+  pub is_next : next_page slabs class ≡ Some page
   pub grown : View
   pub is_grown : grown ≡ slabs_changed slabs (change.Grow class) (number + 1) view
   pub happens : Happens view (change.Grow class ∷ []) step.MissSlabs grown

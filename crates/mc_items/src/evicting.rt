@@ -41,7 +41,7 @@ pub(crate) fn condemn_at(
     requires lent { IsLentStripe (view hand.old) (stripe_number held) (stripe_lent held) }
     requires inside { (stripe_number held) < (setup_of arena.now).config.stripes }
     requires key { stripe_read (view hand.old) chunk ≡ Some (stripe_number held) }
-    requires reason { knows_reason (setup_of arena.now).table (slabs_lent slabs.old) (view hand.old).row.looks (view hand.old).row.holdings chunk ≡ true }
+    requires reason { knows_reason (slabs_lent slabs.old) (view hand.old).row.looks (view hand.old).row.holdings chunk ≡ true }
     requires no_copy { has_copy (view hand.old).row.holdings chunk ≡ false }
     ensures arena { IsHandOf arena.now hand.new }
     ensures locks { locks_of hand.new ≡ without_stripe (locks_of hand.old) }
@@ -87,7 +87,7 @@ pub(crate) fn condemn_if_free(
     requires out { Contains (class_at (slabs_lent slabs.old) class).order chunk }
     requires empty { first_free (class_at (slabs_lent slabs.old) class) ≡ None }
     requires alive { list_all (is_found_alive (view hand.old).row.looks) (class_at (slabs_lent slabs.old) class).order ≡ true }
-    requires page { next_page (slabs_lent slabs.old) ≡ None }
+    requires page { next_page (slabs_lent slabs.old) class ≡ None }
     requires whole { (slabs_lent slabs.old).uncut ≡ None }
     ensures arena { IsHandOf arena.now hand.new }
     ensures locks { locks_of hand.new ≡ locks_of hand.old }
@@ -163,7 +163,7 @@ fn free_one(
     requires out { Contains (class_at (slabs_lent slabs.old) class).order chunk }
     requires empty { first_free (class_at (slabs_lent slabs.old) class) ≡ None }
     requires alive { list_all (is_found_alive (view hand.old).row.looks) (class_at (slabs_lent slabs.old) class).order ≡ true }
-    requires page { next_page (slabs_lent slabs.old) ≡ None }
+    requires page { next_page (slabs_lent slabs.old) class ≡ None }
     requires whole { (slabs_lent slabs.old).uncut ≡ None }
     ensures arena { IsHandOf arena.now hand.new }
     ensures locks { locks_of hand.new ≡ locks_of hand.old }
@@ -198,7 +198,7 @@ pub(crate) fn evict_one(
     requires fresh { has_fresh (view hand.old).row.holdings ≡ false }
     requires empty { first_free (class_at (slabs_lent slabs.old) class) ≡ None }
     requires alive { list_all (is_found_alive (view hand.old).row.looks) (class_at (slabs_lent slabs.old) class).order ≡ true }
-    requires page { next_page (slabs_lent slabs.old) ≡ None }
+    requires page { next_page (slabs_lent slabs.old) class ≡ None }
     requires whole { (slabs_lent slabs.old).uncut ≡ None }
     ensures arena { IsHandOf arena.now hand.new }
     ensures locks { locks_of hand.new ≡ locks_of hand.old }

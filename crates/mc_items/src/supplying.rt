@@ -104,9 +104,9 @@ pub(crate) fn grow_for(
     ensures free { result ≡ Ok true → is_some (first_free (class_at (slabs_lent held.new) class)) ≡ true }
     ensures whole { (slabs_lent held.new).uncut ≡ None }
     ensures seen { SeesMore hand.old hand.new }
-    ensures none { result ≡ Ok false → (next_page (slabs_lent held.old) ≡ None) × AreUnchanged held.old held.new × (view hand.new ≡ view hand.old) }
+    ensures none { result ≡ Ok false → (next_page (slabs_lent held.old) class ≡ None) × AreUnchanged held.old held.new × (view hand.new ≡ view hand.old) }
     ensures same { OnErr result (AreUnchanged held.old held.new × (view hand.new ≡ view hand.old)) }
-    ensures page { OnErr result (is_some (next_page (slabs_lent held.old)) ≡ true) }
+    ensures page { OnErr result (is_some (next_page (slabs_lent held.old) class) ≡ true) }
 {
     let per_page = held.slabs().per_page(class);
     match arena.grow(hand, held, class) {

@@ -157,7 +157,7 @@ dead_in_order m class kept valid =
 
 -- they are few
 pub dead_few : (m : Machine) (class : ℕ) → IsConsistent m.table m.slabs m.items → IsClass m.slabs class
-    → dead_items m.slabs.owners m.holds m.items class ≤ 16384
+    → dead_items m.slabs.owners m.holds m.items class ≤ 32512
 dead_few m class kept valid =
     omega (
       arith,

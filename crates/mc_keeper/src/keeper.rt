@@ -101,5 +101,5 @@ impl Keeper {
 
 /// The most items that there can be: no class has more chunks a page than the first.
 fn most_items(table: &ClassTable) -> usize {
-    (table.pages() * table.per_page(1)) as usize
+    (table.arena_pages() * table.per_page(1)) as usize
 }

@@ -1,13 +1,15 @@
 -- What the statistics of a lawful machine tell.
-use Rattle.std.proofs.Common.{◌≡◌, ℕ, ◌+◌, ◌*◌, ◌≤◌, List, [], ◌∷◌, length, subst, mul-le-mul_right, refl, ap, sym, ◌∙◌, arith}
-use Rattle.std.specs.Prelude.{count_by, fold, not, sum, sum_by}
+use Rattle.std.proofs.Common.{◌≡◌, ℕ, ◌+◌, ◌*◌, ◌≤◌, List, [], ◌∷◌, length, subst, mul-le-mul_right, div-mul-le_self, add-mul, refl, ap, sym, ◌∙◌, arith}
+use Rattle.std.specs.Prelude.{count_by, fold, map, nat_lt, not, sum, sum_by, ◌/◌}
 use Rattle.std.specs.List.{range_with_len}
-use Rattle.std.proofs.lemmas.List.Sums.{sum-map}
+use Rattle.std.proofs.lemmas.List.Sums.{sum-map, sum_by-cons}
 use Rattle.mc_classes.specs.Classes.{Classes}
 use Rattle.mc_pages.specs.declared.ledger.Owner.{Owner}
 use Rattle.mc_pages.specs.ClassState.{ClassState}
-use Rattle.mc_pages.specs.SlabState.{granted_count, is_untouched}
-use Rattle.mc_pages.specs.Accounted.{IsAccounted}
+use Rattle.mc_pages.specs.SlabState.{SlabState, granted_count, is_untouched}
+use Rattle.mc_pages.specs.Accounted.{truth, IsAccounted}
+use Rattle.mc_pages.specs.InOrder.{IsInOrder, populated_count}
+use Rattle.mc_pages.proofs.Owners.{count_by-AreGranted}
 use Rattle.mc_pages.proofs.Placed.{IsAccounted-numbers}
 use Rattle.mc_watch.specs.Texts.{AreCounts}
 use Rattle.mc_machine.specs.Automove.{free_counts, page_counts}
@@ -25,6 +27,24 @@ pub accounted_in_mode : (m : Machine) → IsLawful m → m.slabs.automove ≤ 2 
 accounted_in_mode m lawful most =
     let all : IsAccounted (off m.slabs) = lawful.kept.accounted in
     IsAccounted-numbers (off m.slabs) m.slabs.cursor m.slabs.moved m.slabs.rescues m.slabs.evictions_nomem m.slabs.busy m.slabs.automove all all.cursor most
+
+-- classes with a page, counted among the numbers of their pages
+populated : (classes : List ClassState) → populated_count classes ≡ count_by (nat_lt 0) (map (λ (c : ClassState). length c.pages) classes)
+populated [] = refl
+populated (class ∷ classes) =
+    let left = sum_by-cons (λ (c : ClassState). truth (nat_lt 0 (length c.pages))) class classes in
+    let right = sum_by-cons (λ (n : ℕ). truth (nat_lt 0 n)) (length class.pages) (map (λ (c : ClassState). length c.pages) classes) in
+    left ∙ (ap (λ (n : ℕ). truth (nat_lt 0 (length class.pages)) + n) (populated classes) ∙ sym right)
+
+-- granted bytes are within the limit, but for one page of each class that has one
+within_limit : (slabs : SlabState) (granted : ℕ) → IsInOrder slabs granted → granted_count slabs * slabs.page ≤ slabs.limit + count_by (nat_lt 0) (page_counts slabs) * slabs.page
+within_limit slabs granted order =
+    let many = count_by-AreGranted slabs.owners granted order.lowest in
+    let first = count_by (nat_lt 0) (page_counts slabs) in
+    let most : granted_count slabs ≤ slabs.limit / slabs.page + first = omega (arith, many, order.graced, order.accounted.limit, populated slabs.classes) in
+    let bytes = mul-le-mul_right slabs.page most in
+    let split : (slabs.limit / slabs.page + first) * slabs.page ≡ slabs.limit / slabs.page * slabs.page + first * slabs.page = add-mul (slabs.limit / slabs.page) first slabs.page in
+    omega (arith, bytes, split, div-mul-le_self slabs.limit slabs.page)
 
 pub add_up : (m : Machine) → IsLawful m → AddUp m.table (granted_count m.slabs * m.slabs.page) (slabs_text_of m) (general_text_of m)
 add_up m lawful =
@@ -47,7 +67,7 @@ add_up m lawful =
       free_of_each = counts.free_of_each;
       chunks = λ class valid. omega (arith, counts.within class valid);
       granted = ap (λ (n : ℕ). n * m.table.page) all ∙ ap (λ (n : ℕ). granted_count m.slabs * n) (sym lawful.kept.page);
-      within = omega (arith, lawful.kept.accounted.limit, lawful.kept.limit);
+      within = subst (λ (p : ℕ × ℕ). granted_count m.slabs * m.slabs.page ≤ p.0 + count_by (nat_lt 0) (page_counts m.slabs) * p.1) (λ k. (lawful.kept.limit k, lawful.kept.page k)) (within_limit (off m.slabs) lawful.granted lawful.order);
     }
 
 pub tells_granted : (m : Machine) → TellsGranted m.table (granted_count m.slabs * m.slabs.page) (slabs_text_of m)

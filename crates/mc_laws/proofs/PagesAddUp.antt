@@ -10,9 +10,9 @@ use Rattle.mc_pages.specs.declared.ledger.Owner.{Owner}
 use Rattle.mc_pages.specs.declared.ledger.Owner.TheVariants.{Untouched}
 use Rattle.mc_pages.specs.Ledger.{owner_at}
 use Rattle.mc_pages.specs.ClassState.{ClassState}
-use Rattle.mc_pages.specs.SlabState.{SlabState, granted_count, is_untouched}
+use Rattle.mc_pages.specs.SlabState.{SlabState, granted_count, is_untouched, page_count}
 use Rattle.mc_pages.specs.Accounted.{truth, IsAccounted}
-use Rattle.mc_pages.specs.Pages.{page_count, places_of, times_listed, times_pooled, is_on_the_move}
+use Rattle.mc_pages.specs.Pages.{places_of, times_listed, times_pooled, is_on_the_move}
 use Rattle.mc_pages.proofs.GrantedPage.{length-owners}
 use Rattle.mc_pages.proofs.Pages.{in_no_place, in_one_place, moving_once}
 

@@ -50,14 +50,14 @@ all_cut slabs granted page per_page order first same some =
     (done.0, done.1 ∙ ap (λ b. if b then Some (chunk_at page per_page) else None) (le-ltb per_page per_page (omega arith)))
 
 -- a class gets the next page
-order_grown : (slabs : SlabState) (granted class page : ℕ) → IsInOrder slabs granted → IsClass slabs class → slabs.uncut ≡ None → next_page slabs ≡ Some page
+order_grown : (slabs : SlabState) (granted class page : ℕ) → IsInOrder slabs granted → IsClass slabs class → slabs.uncut ≡ None → next_page slabs class ≡ Some page
     → (more : ℕ) × IsInOrder (after_grow slabs class page) more × (granted ≤ more)
 order_grown slabs granted class page order valid whole next = elim (cases_lt 0 (length slabs.pool)) [
   | inl some ↦
-      (granted, rw (grow_takes slabs class page some) (IsInOrder-after_take slabs granted class page order valid whole (next_pooled slabs page some next)), omega arith)
+      (granted, rw (grow_takes slabs class page some) (IsInOrder-after_take slabs granted class page order valid whole (next_pooled slabs class page some next)), omega arith)
   | inr none ↦
-      let is = next_granted slabs granted page order (omega (arith, none)) next in
-      (granted + 1, rw (grow_grants slabs class page (omega (arith, none)), is.0) (IsInOrder-after_grant slabs granted class order valid whole is.1), omega arith)
+      let is = next_granted slabs granted class page order valid (omega (arith, none)) next in
+      (granted + 1, rw (grow_grants slabs class page (omega (arith, none)), is.0) (IsInOrder-after_grant slabs granted class order valid whole is.1 is.2), omega arith)
 ]
 
 uncut_grown : (b : Bool) (slabs : SlabState) (class page : ℕ)
@@ -79,7 +79,7 @@ off-cuts slabs (chunk ∷ chunks) = off-cuts (after_cut slabs chunk) chunks
 pub off-cut_page : (slabs : SlabState) (class page : ℕ) → with_cut_page (off slabs) class page ≡ off (with_cut_page slabs class page)
 off-cut_page slabs class page = off-cuts slabs (first_chunks page (class_at slabs class).per_page)
 
-proceeds_page : (m : Machine) (class : ℕ) (page : Option ℕ) → IsLawful m → IsClass m.slabs class → next_page m.slabs ≡ page
+proceeds_page : (m : Machine) (class : ℕ) (page : Option ℕ) → IsLawful m → IsClass m.slabs class → next_page m.slabs class ≡ page
     → Proceeds m (with_new_page m class page)
 proceeds_page m class None lawful valid next = proceeds_same m lawful
 proceeds_page m class (Some page) lawful valid next =
@@ -101,9 +101,9 @@ proceeds_page m class (Some page) lawful valid next =
 proceeds_extended : (m : Machine) (class : ℕ) → IsLawful m → IsClass m.slabs class → Proceeds m (extended m class)
 proceeds_extended m class lawful valid = extended_way (has_free m class)
   where
-    extended_way : (b : Bool) → Proceeds m (if b then m else with_new_page m class (next_page m.slabs))
+    extended_way : (b : Bool) → Proceeds m (if b then m else with_new_page m class (next_page m.slabs class))
     extended_way true = proceeds_same m lawful
-    extended_way false = proceeds_page m class (next_page m.slabs) lawful valid refl
+    extended_way false = proceeds_page m class (next_page m.slabs class) lawful valid refl
 
 pub proceeds_stocked : (m : Machine) (class : ℕ) → IsLawful m → IsClass m.slabs class → Proceeds m (stocked m class)
 proceeds_stocked m class lawful valid = stocked_way (has_free m class)

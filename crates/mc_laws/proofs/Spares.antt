@@ -86,9 +86,9 @@ spares_page m class (Some page) = spares_items m (with_new_page m class (Some pa
 spares_extended : (m : Machine) (class : ℕ) → Spares m (extended m class)
 spares_extended m class = extended_way (has_free m class)
   where
-    extended_way : (b : Bool) → Spares m (if b then m else with_new_page m class (next_page m.slabs))
+    extended_way : (b : Bool) → Spares m (if b then m else with_new_page m class (next_page m.slabs class))
     extended_way true = spares_items m m refl
-    extended_way false = spares_page m class (next_page m.slabs)
+    extended_way false = spares_page m class (next_page m.slabs class)
 
 pub spares_stocked : (m : Machine) (class : ℕ) → IsLawful m → IsClass m.slabs class → Spares m (stocked m class)
 spares_stocked m class lawful valid = stocked_way (has_free m class)

@@ -1,5 +1,5 @@
 -- What every machine of a run keeps, and what its statistics add up to.
-use Rattle.std.specs.Prelude.{◌≡◌, ℕ, ◌+◌, ◌-◌, ◌*◌, ◌≤◌, List, length, slice_index, sum, Some}
+use Rattle.std.specs.Prelude.{◌≡◌, ℕ, ◌+◌, ◌-◌, ◌*◌, ◌≤◌, nat_lt, List, length, slice_index, sum, count_by, Some}
 use Rattle.mc_classes.specs.Classes.{Classes, IsClass, per_page_of}
 use Rattle.mc_pages.specs.Accounted.{IsAccounted}
 use Rattle.mc_script.specs.declared.command.Command.{Command}
@@ -33,7 +33,8 @@ pub record AddUp (table : Classes) (malloced : ℕ) (slabs general : List ℕ) :
       (total - slice_index free (class - 1)) + slice_index free (class - 1) ≡ total
   -- the pages of the classes and of the pool are all that was granted
   pub granted : (sum pages + pool) * table.page ≡ malloced
-  pub within : malloced ≤ table.limit
+  -- which keep the limit, but for the first pages of classes, of which each has a page
+  pub within : malloced ≤ table.limit + count_by (nat_lt 0) pages * table.page
 
 -- `stats slabs` after these commands, and `stats` directly behind it, add up
 abbrev pub StatisticsAddUp : Classes → ℕ → ℕ → List Command → Type 0

@@ -31,10 +31,15 @@ abbrev pub DeadMakesRoom : Type 0
 DeadMakesRoom = replies (sets 1 8 61 0 ++ Delete 1 3 ∷ Set 1 9 61 0 ∷ [])
     ≡ codes "STORED 1\r\nSTORED 2\r\nSTORED 3\r\nSTORED 4\r\nSTORED 5\r\nSTORED 6\r\nSTORED 7\r\nSTORED 8\r\nDELETED 3\r\nSTORED 9\r\n"
 
--- a full class evicts its oldest item, and a class without a page has no room
+-- a full class evicts its oldest item, and a class without a page gets its first beyond the limit
 abbrev pub FullClassEvicts : Type 0
 FullClassEvicts = replies (sets 1 9 61 0 ++ Get 1 1 ∷ Touch 1 2 ∷ Set 1 10 3 0 ∷ [])
-    ≡ codes "STORED 1\r\nSTORED 2\r\nSTORED 3\r\nSTORED 4\r\nSTORED 5\r\nSTORED 6\r\nSTORED 7\r\nSTORED 8\r\nSTORED 9\r\nNOT_FOUND 1\r\nTOUCHED 2\r\nNO_ROOM 10\r\n"
+    ≡ codes "STORED 1\r\nSTORED 2\r\nSTORED 3\r\nSTORED 4\r\nSTORED 5\r\nSTORED 6\r\nSTORED 7\r\nSTORED 8\r\nSTORED 9\r\nNOT_FOUND 1\r\nTOUCHED 2\r\nSTORED 10\r\n"
+
+-- beyond the limit a class gets its first page alone: its 22nd item of 48 bytes evicts the first
+abbrev pub FirstPageAlone : Type 0
+FirstPageAlone = replies (sets 1 8 61 0 ++ sets 101 22 3 0 ++ Get 1 101 ∷ Touch 1 102 ∷ StatsSlabs ∷ [])
+    ≡ codes "STORED 1\r\nSTORED 2\r\nSTORED 3\r\nSTORED 4\r\nSTORED 5\r\nSTORED 6\r\nSTORED 7\r\nSTORED 8\r\nSTORED 101\r\nSTORED 102\r\nSTORED 103\r\nSTORED 104\r\nSTORED 105\r\nSTORED 106\r\nSTORED 107\r\nSTORED 108\r\nSTORED 109\r\nSTORED 110\r\nSTORED 111\r\nSTORED 112\r\nSTORED 113\r\nSTORED 114\r\nSTORED 115\r\nSTORED 116\r\nSTORED 117\r\nSTORED 118\r\nSTORED 119\r\nSTORED 120\r\nSTORED 121\r\nSTORED 122\r\nNOT_FOUND 101\r\nTOUCHED 102\r\nSTAT 1:chunk_size 48\r\nSTAT 1:chunks_per_page 21\r\nSTAT 1:total_pages 1\r\nSTAT 1:total_chunks 21\r\nSTAT 1:used_chunks 21\r\nSTAT 1:free_chunks 0\r\nSTAT 4:chunk_size 512\r\nSTAT 4:chunks_per_page 2\r\nSTAT 4:total_pages 4\r\nSTAT 4:total_chunks 8\r\nSTAT 4:used_chunks 8\r\nSTAT 4:free_chunks 0\r\nSTAT active_slabs 2\r\nSTAT total_malloced 5120\r\nEND\r\n"
 
 -- a page goes to another class, and its items are evicted
 abbrev pub PageToAnotherClass : Type 0

@@ -5,7 +5,7 @@ ghost use Rattle.mc_classes.specs.Classes.{Classes, IsSound};
 ghost use Rattle.mc_script.specs.Command.{IsValid};
 ghost use Rattle.mc_script.specs.declared.command.Command.{Command};
 ghost use Rattle.mc_laws.specs.Replies.{IsWhole};
-ghost use Rattle.mc_laws.specs.Rows.{AnswersOfReassign, BusyItem, DeadMakesRoom, EvictionAsksForAPage, EvictionRuleIsFirst, FirstPath, FullClassEvicts, HeldIsKept, MoverEvictionsAreApart, MovingPageCountsForQuiet, OneChunkATurn, OwnOldItemCounts, PageThroughThePool, PageToAnotherClass, PageToSpare, PageToTheLeader, PopsBeforeItSweeps, RescueIntoDead, RescueLooksBehindTheHead, SeenFromAnswers, SetSweepsItsOwnClass, ShadowedHold, TooManyHeld, TouchedDeadIsLast, TouchedIsKept, TwoMovesByThePick, UnlinkedIsOneOfTheFive, VictimOnTheMovingPage, WordsFromAnswers};
+ghost use Rattle.mc_laws.specs.Rows.{AnswersOfReassign, BusyItem, DeadMakesRoom, EvictionAsksForAPage, EvictionRuleIsFirst, FirstPath, FullClassEvicts, FirstPageAlone, HeldIsKept, MoverEvictionsAreApart, MovingPageCountsForQuiet, OneChunkATurn, OwnOldItemCounts, PageThroughThePool, PageToAnotherClass, PageToSpare, PageToTheLeader, PopsBeforeItSweeps, RescueIntoDead, RescueLooksBehindTheHead, SeenFromAnswers, SetSweepsItsOwnClass, ShadowedHold, TooManyHeld, TouchedDeadIsLast, TouchedIsKept, TwoMovesByThePick, UnlinkedIsOneOfTheFive, VictimOnTheMovingPage, WordsFromAnswers};
 ghost use Rattle.mc_machine.specs.Machine.{Machine};
 ghost use Rattle.mc_machine.specs.Lines.{Served, serve};
 ghost use Rattle.mc_laws.specs.Accounts.{GrantedStays, IsAccountedAfter, StatisticsAddUp};
@@ -19,6 +19,7 @@ pub fn worked_examples()
     ensures first_path { FirstPath }
     ensures dead_makes_room { DeadMakesRoom }
     ensures full_class_evicts { FullClassEvicts }
+    ensures first_page_alone { FirstPageAlone }
     ensures page_to_another_class { PageToAnotherClass }
     ensures rescue_into_dead { RescueIntoDead }
     ensures busy_item { BusyItem }
@@ -87,7 +88,7 @@ pub fn machines_are_accounted()
 
 /// The numbers of `stats slabs`, and of `stats` directly behind it, add up: used and free chunks of each class are all
 /// that its pages have, the pages of the classes and of the pool are all that was granted, and these are within the
-/// limit. So it is after any valid commands.
+/// limit, but for one page of each class that has one. So it is after any valid commands.
 pub fn statistics_add_up()
     ensures { (table : Classes) (bulk mode : ℕ) (commands : List Command) → IsSound table → All IsValid commands → StatisticsAddUp table bulk mode commands }
 {}

@@ -1,5 +1,5 @@
 -- How many pages and chunks there can be.
-use Rattle.std.proofs.Common.{◌≡◌, ℕ, ◌-◌, ◌*◌, ◌/◌, ◌≤◌, ◌<◌, length, slice_index_or, Some, ◌∙◌, arith}
+use Rattle.std.proofs.Common.{◌≡◌, ℕ, ◌+◌, ◌-◌, ◌*◌, ◌/◌, ◌≤◌, ◌<◌, length, slice_index_or, Some, ◌∙◌, arith}
 use Rattle.std.specs.Prelude.{Contains, map, slice_get}
 use Rattle.std.proofs.lemmas.List.{length-map, get_or-map}
 use Rattle.std.proofs.Math.Nat.{mul-le-mul_left}
@@ -19,10 +19,10 @@ use Rattle.mc_machine.proofs.Grown.{per_page_kept}
 module _ (table : Classes) (slabs : SlabState) (items : Items) (class : ℕ)
     (kept : IsConsistent table slabs items) (valid : IsClass slabs class) where
   -- a class has at most as many pages as there are
-  pub pages_few : length (class_at slabs class).pages ≤ 64
+  pub pages_few : length (class_at slabs class).pages ≤ 127
   pages_few =
-      let owners : length slabs.owners ≡ table.limit / table.page = rw (← kept.limit, ← kept.page) (length-owners slabs kept.accounted) in
-      omega (arith, length-pages_le slabs class kept.accounted valid, owners, kept.sound.pages.1)
+      let owners : length slabs.owners ≡ table.limit / table.page + length table.sizes = rw (← kept.limit, ← kept.page, ← kept.classes) (length-owners slabs kept.accounted) in
+      omega (arith, length-pages_le slabs class kept.accounted valid, owners, kept.sound.pages.1, kept.sound.count.1)
 
   chunks_few : (class_at slabs class).per_page ≤ 256
   chunks_few =
@@ -33,7 +33,7 @@ module _ (table : Classes) (slabs : SlabState) (items : Items) (class : ℕ)
   pub free_within : length (class_at slabs class).free ≤ length (class_at slabs class).pages * (class_at slabs class).per_page
   free_within = omega (arith, kept.accounted.total class valid)
 
-  pub order_short : length (class_at slabs class).order ≤ 16384
+  pub order_short : length (class_at slabs class).order ≤ 32512
   order_short =
       omega (
         arith,

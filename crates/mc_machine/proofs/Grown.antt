@@ -28,10 +28,10 @@ per_page_kept table slabs items class kept valid =
     ∙ get_or-map (λ size. table.page / size) table.sizes (class - 1) 0 0 inside_too
 
 -- a page that was just given to a class has as many chunks as the class's pages have
-pub per_page_given : (slabs : SlabState) (class page : ℕ) → IsAccounted slabs → IsClass slabs class → next_page slabs ≡ Some page
+pub per_page_given : (slabs : SlabState) (class page : ℕ) → IsAccounted slabs → IsClass slabs class → next_page slabs class ≡ Some page
     → (class_of_chunk (after_grow slabs class page) (chunk_at page 0)).per_page ≡ (class_at slabs class).per_page
 per_page_given slabs class page all valid next =
-    let inside = (nobody_next slabs page all next).1 in
+    let inside = (nobody_next slabs class page all next).1 in
     let own : owner_at (after_grow slabs class page).owners page ≡ Class class
     = ap (λ (owners : List Owner). owner_at owners page) (owners-grown slabs class page)
     ∙ get_or-set_same slabs.owners page (Class class) Untouched inside in
@@ -46,8 +46,8 @@ per_page_grown slabs class page valid =
     ap (λ (c : ClassState). c.per_page) (class_at-grown slabs class page class ∙ class_at-with_class_same slabs class (with_page (class_at slabs class) page) valid)
 
 -- the machine after a class got a page
-pub new_page_view : (m : Machine) (slabs : SlabState) (class page per_page : ℕ) → next_page m.slabs ≡ Some page
+pub new_page_view : (m : Machine) (slabs : SlabState) (class page per_page : ℕ) → next_page m.slabs class ≡ Some page
     → (class_at (after_grow m.slabs class page) class).per_page ≡ per_page
     → slabs ≡ fold after_cut (after_grow m.slabs class page) (first_chunks page per_page)
-    → (record m { slabs = slabs }) ≡ with_new_page m class (next_page m.slabs)
+    → (record m { slabs = slabs }) ≡ with_new_page m class (next_page m.slabs class)
 new_page_view m slabs class page per_page next same slabs_is = rw (next, slabs_is, same) refl

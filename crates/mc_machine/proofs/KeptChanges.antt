@@ -228,13 +228,13 @@ kept_reclaim table slabs items x kept accounted unlinked =
 
 -- after a class got the next page and its chunks were cut
 pub kept_grow : (table : Classes) (slabs : SlabState) (items : Items) (class page : ℕ) (chunks : List ChunkId)
-    → IsConsistent table slabs items → IsClass slabs class → next_page slabs ≡ Some page
+    → IsConsistent table slabs items → IsClass slabs class → next_page slabs class ≡ Some page
     → IsAccounted (fold after_cut (after_grow slabs class page) chunks)
     → (fold after_cut (after_grow slabs class page) chunks).uncut ≡ None
     → IsConsistent table (fold after_cut (after_grow slabs class page) chunks) items
 kept_grow table slabs items class page chunks kept valid next accounted whole =
     let new = after_grow slabs class page in
-    let nobody = (nobody_next slabs page kept.accounted next).0 in
+    let nobody = (nobody_next slabs class page kept.accounted next).0 in
     let classes : length new.classes ≡ length slabs.classes = ap length (classes-grown slabs class page) ∙ length-set slabs.classes _ _ in
     let orders = λ (n : ℕ) (there : IsClass slabs n).
     order-cuts new chunks n (there.0, rw classes there.1)

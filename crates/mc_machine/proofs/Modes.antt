@@ -29,9 +29,9 @@ mode-new_page : (m : Machine) (class : ℕ) (page : Option ℕ) → (with_new_pa
 mode-new_page m class None = refl
 mode-new_page m class (Some page) = mode-given m.slabs class page
 
-extended_way : (b : Bool) (m : Machine) (class : ℕ) → (if b then m else with_new_page m class (next_page m.slabs)).slabs.automove ≡ m.slabs.automove
+extended_way : (b : Bool) (m : Machine) (class : ℕ) → (if b then m else with_new_page m class (next_page m.slabs class)).slabs.automove ≡ m.slabs.automove
 extended_way true m class = refl
-extended_way false m class = mode-new_page m class (next_page m.slabs)
+extended_way false m class = mode-new_page m class (next_page m.slabs class)
 
 stocked_way : (b : Bool) (m : Machine) (class : ℕ) → (if b then m else extended (swept m class) class).slabs.automove ≡ m.slabs.automove
 stocked_way true m class = refl

@@ -33,9 +33,9 @@ classes-new_page m class (Some page) =
     ∙ ap length (classes-grown m.slabs class page) ∙ length-set m.slabs.classes _ _
 
 classes-extended : (m : Machine) (class : ℕ) (b : Bool)
-    → length (if b then m else with_new_page m class (next_page m.slabs)).slabs.classes ≡ length m.slabs.classes
+    → length (if b then m else with_new_page m class (next_page m.slabs class)).slabs.classes ≡ length m.slabs.classes
 classes-extended m class true = refl
-classes-extended m class false = classes-new_page m class (next_page m.slabs)
+classes-extended m class false = classes-new_page m class (next_page m.slabs class)
 
 classes-choice : (m : Machine) (class : ℕ) (b : Bool)
     → length (if b then m else extended (swept m class) class).slabs.classes ≡ length m.slabs.classes

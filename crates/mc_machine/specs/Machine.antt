@@ -76,7 +76,7 @@ with_new_page m class (Some page) = record m { slabs = with_cut_page (after_grow
 
 -- with no free chunk the class gets the next page
 abbrev pub extended : Machine → ℕ → Machine
-extended m class = if has_free m class then m else with_new_page m class (next_page m.slabs)
+extended m class = if has_free m class then m else with_new_page m class (next_page m.slabs class)
 
 -- with no free chunk its dead are put back, and if there is none it gets a page
 abbrev pub stocked : Machine → ℕ → Machine

@@ -1,23 +1,31 @@
 -- What the books say of all pages, and what each change makes of it.
-use Rattle.std.specs.Prelude.{ℕ, ◌-◌, ◌==◌, ◌||◌, nat_lt, if◌then◌else◌, List, [], ◌∷◌, ◌++◌, length, take, position, slice_get, slice_set, Option, Some, None}
+use Rattle.std.specs.Prelude.{ℕ, ◌-◌, ◌/◌, ◌==◌, ◌||◌, nat_le, nat_lt, if◌then◌else◌, List, [], ◌∷◌, ◌++◌, length, take, position, slice_get, slice_set, Option, Some, None}
+use Rattle.mc_classes.specs.Classes.{Classes, arena_pages_of, pages_of}
 use Rattle.mc_pages.specs.declared.ids.Moving.{Moving}
 use Rattle.mc_pages.specs.declared.ledger.Owner.{Owner}
 use Rattle.mc_pages.specs.declared.ledger.Owner.TheVariants.{Pool, Class}
 use Rattle.mc_pages.specs.declared.ledger.Owner.TheVariants as owner
 use Rattle.mc_pages.specs.declared.ledger.Entry.{Entry}
 use Rattle.mc_pages.specs.declared.ledger.Entry.TheVariants.{Granted, Taken, Began, Ended}
+use Rattle.mc_pages.specs.Ledger.{all_untouched}
 use Rattle.mc_pages.specs.SlabState.{SlabState, is_untouched, granted_count}
 use Rattle.mc_map.specs.declared.glance.Glance.{Glance}
 
--- the owner of each page, the pool with the page that came last standing last, and each change of an owner
+-- how many pages may be granted within the limit, the owner of each page, the pool with the page that came last standing last, and each
+-- change of an owner
 pub record Book : Type 0 where
+  pub within : ℕ
   pub owners : List Owner
   pub pool : List ℕ
   pub ledger : List Entry
 
+-- the book of a memory of which no page was granted
+abbrev pub fresh_books : Classes → Book
+fresh_books table = record { within = pages_of table; owners = all_untouched (arena_pages_of table); pool = []; ledger = [] }
+
 -- the book of a slab memory
 abbrev pub book_of : SlabState → Book
-book_of slabs = record { owners = slabs.owners; pool = slabs.pool; ledger = slabs.ledger }
+book_of slabs = record { within = slabs.limit / slabs.page; owners = slabs.owners; pool = slabs.pool; ledger = slabs.ledger }
 
 -- what a slab memory shows of its pages at a glance
 abbrev pub glance_of : SlabState → Glance
@@ -31,10 +39,11 @@ pooled book = slice_get book.pool (length book.pool - 1)
 abbrev pub changed : Book → ℕ → Entry → Owner → Book
 changed book page entry owner = record book { owners = slice_set book.owners page owner; ledger = book.ledger ++ entry ∷ [] }
 
--- the class got the page that came last into the pool, if there is one, or else this untouched one, if there is one
+-- the class got the page that came last into the pool, if there is one, or else this untouched one, if there is one; pages are granted in the
+-- order of their numbers, those within the limit first
 abbrev pub grown : Book → ℕ → Option ℕ → Option ℕ → Book
 grown book class (Some page) untouched = record (changed book page (Taken page class) (Class class)) { pool = take (length book.pool - 1) book.pool }
-grown book class None (Some page) = changed book page (Granted page class) (Class class)
+grown book class None (Some page) = changed book page (Granted page class (nat_le book.within page)) (Class class)
 grown book class None None = book
 
 -- the class got the page that comes next

@@ -1,11 +1,10 @@
 //! What became of each page: who owns it, which pages the pool has, and the entries that say how it came so.
-ghost use Rattle.std.specs.Prelude.{◌≡◌, [], position, IfOk, OnOk};
-ghost use Rattle.mc_pages.specs.Ledger.{all_untouched};
-ghost use Rattle.mc_map.specs.Books.{changed, grown_next, noted, with_began, with_ended};
+ghost use Rattle.std.specs.Prelude.{◌≡◌, position, IfOk, OnOk};
+ghost use Rattle.mc_map.specs.Books.{changed, fresh_books, grown_next, noted, with_began, with_ended};
 ghost use Rattle.mc_pages.specs.SlabState.{is_untouched};
 
 use crate::glance::Glance;
-use mc_classes::{ClassId, PageId};
+use mc_classes::{ClassId, ClassTable, PageId};
 use mc_memory::{Refused, filled, push};
 use mc_pages::{Entry, Moving, Owner};
 use std::alloc::Global;
@@ -14,6 +13,8 @@ use std::marker::Model;
 /// The owners of all pages, the pool, and the ledger.
 #[derive(Drop)]
 pub struct Books {
+    /// How many pages may be granted within the limit. They are granted before those beyond it.
+    within: u64,
     owners: Vec<Owner>,
     /// The page that came last stands last.
     pool: Vec<PageId>,
@@ -25,16 +26,17 @@ impl Model for Books {
 
     ghost Value = { Book };
 
-    ghost view = { λ b. record { owners = b.owners.items; pool = b.pool.items; ledger = b.ledger.items } };
+    ghost view = { λ b. record { within = b.within; owners = b.owners.items; pool = b.pool.items; ledger = b.ledger.items } };
 }
 
 impl Books {
-    /// No page was granted yet, of so many.
-    pub fn new(alloc: Global, pages: usize) -> Result<Books, Refused>
-        ensures fresh { IfOk result (λ books. books ≡ record { owners = all_untouched pages; pool = []; ledger = [] }) }
+    /// No page was granted yet.
+    pub fn new(alloc: Global, table: &ClassTable) -> Result<Books, Refused>
+        ensures fresh { IfOk result (λ books. books ≡ fresh_books table.now) }
     {
         Ok(Books {
-            owners: filled(alloc, Owner::Untouched, pages)?,
+            within: table.pages(),
+            owners: filled(alloc, Owner::Untouched, table.arena_pages() as usize)?,
             pool: Vec::new(alloc),
             ledger: Vec::new(alloc),
         })
@@ -85,7 +87,8 @@ impl Books {
         match self.untouched() {
             Some(place) => {
                 let page = place as u64;
-                self.change(page, Entry::Granted(page, class), Owner::Class(class))
+                let entry = Entry::Granted(page, class, page >= self.within);
+                self.change(page, entry, Owner::Class(class))
             }
             None => Ok(()),
         }

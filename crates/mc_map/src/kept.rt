@@ -137,7 +137,7 @@ pub(crate) fn class_line(
 {
     let table = keeper.table();
     let numbers = keeper.numbers(class);
-    if numbers.pages > table.pages() {
+    if numbers.pages > table.arena_pages() {
         return Err(MapError::Books);
     }
     let size = table.size(class);

@@ -1,10 +1,9 @@
 //! A keeper that does commands one after another, with books of what it doesn't show.
-ghost use Rattle.std.specs.Prelude.{◌≡◌, ◌≤◌, ◌<◌, ◌^◌, [], None, Some, Ok, Err, ◌++◌, All, IfOk, IfErr, OnOk, length, map, unwrap_or};
+ghost use Rattle.std.specs.Prelude.{◌≡◌, ◌≤◌, ◌<◌, ◌^◌, None, Some, Ok, Err, ◌++◌, All, IfOk, IfErr, OnOk, length, map, unwrap_or};
 ghost use Rattle.std.specs.Option.{option_map};
-ghost use Rattle.mc_classes.specs.Classes.{IsTableOf, class_of, pages_of};
+ghost use Rattle.mc_classes.specs.Classes.{IsTableOf, class_of};
 ghost use Rattle.mc_classes.specs.Refusals.{refusal_of};
 ghost use Rattle.mc_pages.specs.Answer.{answer_of};
-ghost use Rattle.mc_pages.specs.Ledger.{all_untouched};
 ghost use Rattle.mc_script.specs.Command.{IsValid};
 ghost use Rattle.mc_machine.specs.Automove.{begun, decision, with_window};
 ghost use Rattle.mc_machine.specs.Item.{item_bytes, words_from};
@@ -12,7 +11,7 @@ ghost use Rattle.mc_machine.specs.Items.{linked_chunk};
 ghost use Rattle.mc_machine.specs.Lines.{acted, deleted, dropped, kept, last_hold, made_youngest, serve, set_in};
 ghost use Rattle.mc_machine.specs.Machine.{all_swept, fresh_machine, with_mode};
 ghost use Rattle.mc_machine.specs.Mover.{after_turns};
-ghost use Rattle.mc_map.specs.Books.{glance_of, noted};
+ghost use Rattle.mc_map.specs.Books.{fresh_books, glance_of, noted};
 ghost use Rattle.mc_map.specs.Kept.{IsLine};
 ghost use Rattle.mc_map.specs.Map.{books_after, given_class, told_classes, told_line, IsMap};
 
@@ -84,11 +83,11 @@ impl Player {
         requires { run.now.automove ≤ 2 }
         ensures fresh { IfOk result (λ player. player.keeper ≡ fresh_machine player.keeper.table run.now.config.bulk run.now.automove) }
         ensures table { IfOk result (λ player. IsTableOf run.now.config player.keeper.table) }
-        ensures books { IfOk result (λ player. player.books ≡ record { owners = all_untouched (pages_of player.keeper.table); pool = []; ledger = [] }) }
+        ensures books { IfOk result (λ player. player.books ≡ fresh_books player.keeper.table) }
         ensures refused { IfErr result (λ error. error ≡ unwrap_or (refusal_of run.now.config) (ConfigError.NoMemory tt)) }
     {
         let table = ClassTable::build(alloc, &run.config)?;
-        let books = Books::new(alloc, table.pages() as usize)?;
+        let books = Books::new(alloc, &table)?;
         let keeper = Keeper::new(alloc, table, run.config.bulk, run.automove)?;
         Ok(Player {
             alloc,

@@ -74,7 +74,7 @@ fn page_of(entry: Entry) -> u64
     ensures { result ≡ page_of entry }
 {
     match entry {
-        Entry::Granted(page, _) | Entry::Taken(page, _) => page,
+        Entry::Granted(page, _, _) | Entry::Taken(page, _) => page,
         Entry::Began(page, _, _) | Entry::Ended(page, _) => page,
     }
 }
@@ -84,7 +84,7 @@ fn fits(entry: Entry, owner: Owner) -> bool
     ensures { result ≡ fits entry owner }
 {
     match (entry, owner) {
-        (Entry::Granted(_, _), Owner::Untouched) | (Entry::Taken(_, _), Owner::Pool) => true,
+        (Entry::Granted(_, _, _), Owner::Untouched) | (Entry::Taken(_, _), Owner::Pool) => true,
         (Entry::Began(_, src, _), Owner::Class(class)) => class == src,
         (Entry::Ended(_, dst), Owner::Moving { src: _, dst: to }) => to == dst,
         _ => false,
@@ -96,7 +96,7 @@ fn owner_after(entry: Entry) -> Owner
     ensures { result ≡ owner_after entry }
 {
     match entry {
-        Entry::Granted(_, class) | Entry::Taken(_, class) => Owner::Class(class),
+        Entry::Granted(_, class, _) | Entry::Taken(_, class) => Owner::Class(class),
         Entry::Began(_, src, dst) => Owner::Moving { src, dst },
         Entry::Ended(_, dst) => {
             if dst == 0 {

@@ -2,7 +2,6 @@
 use Rattle.std.proofs.Common.{◌≡◌, ℕ, ◌+◌, ◌%◌, ◌≤◌, ◌<◌, ◌==◌, ◌&&◌, ◌||◌, Bool, true, false, List, [], ◌∷◌, ◌++◌, length, Option, Some, None, IfSome, refl, sym, ap, subst, ◌∙◌, arith, cond, slice_index, slice_index_or, get_or-set_same, replicate, if◌then◌else◌, append_assoc, append-nil}
 use Rattle.std.specs.Option.{option_map, option_map_or}
 use Rattle.std.proofs.lemmas.List.{length-replicate}
-use Rattle.mc_classes.specs.Classes.{Classes}
 use Rattle.mc_pages.specs.declared.ids.ChunkId.{ChunkId}
 use Rattle.mc_pages.specs.ClassState.{is_chunk}
 use Rattle.mc_pages.specs.SlabState.{SlabState}
@@ -126,9 +125,9 @@ module _ (chunk copy : ChunkId) (key stamp : ℕ) (words : List ℕ) (view fille
     pub copy_there : has_copy filled.row.holdings chunk ≡ true
     copy_there = found_among copy (is_copy_of chunk) filled.row.holdings copied found_filled (is_chunk-same chunk)
 
-    pub reason_there : (table : Classes) (slabs : SlabState) → is_on_the_move slabs chunk.page ≡ true → knows_reason table slabs filled.row.looks filled.row.holdings chunk ≡ true
-    reason_there table slabs moves =
-        λ k. moves k && copy_there k || is_on_the_move slabs chunk.page && none_dead slabs filled.row.looks chunk && sees_no_target slabs filled.row.looks chunk.page || lacks_room table slabs filled.row.looks chunk
+    pub reason_there : (slabs : SlabState) → is_on_the_move slabs chunk.page ≡ true → knows_reason slabs filled.row.looks filled.row.holdings chunk ≡ true
+    reason_there slabs moves =
+        λ k. moves k && copy_there k || is_on_the_move slabs chunk.page && none_dead slabs filled.row.looks chunk && sees_no_target slabs filled.row.looks chunk.page || lacks_room slabs filled.row.looks chunk
 
     module _ (fits : 3 + length words ≤ room) (stripe : ℕ) (value left : ReadyStripe) (now : View) (took : CondemnsOriginal stripe chunk value filled left now) where
       -- the key that was read again is the one that was copied

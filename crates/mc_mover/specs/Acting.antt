@@ -57,7 +57,7 @@ SeesDead hand chunk = option_map is_dead (seen_head (view hand).row.looks chunk)
 
 -- it knows why the chunk's item may be taken away
 abbrev pub KnowsReason : Setup → Hand → SlabsHeld → ChunkId → Type 0
-KnowsReason setup hand held chunk = knows_reason setup.table (slabs_lent held) (view hand).row.looks (view hand).row.holdings chunk ≡ true
+KnowsReason setup hand held chunk = knows_reason (slabs_lent held) (view hand).row.looks (view hand).row.holdings chunk ≡ true
 
 -- its fresh chunk is for a copy of the item in this one, and nothing was written there
 abbrev pub HasBlankCopy : Hand → ChunkId → Fresh → Type 0

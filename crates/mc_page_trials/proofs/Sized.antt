@@ -3,7 +3,7 @@ use Rattle.std.proofs.Common.{◌≡◌, ℕ, ◌-◌, ◌/◌, ◌<◌, ◌==�
 use Rattle.std.specs.Prelude.{if◌then◌else◌, nat_lt}
 use Rattle.std.proofs.lemmas.List.{length-set, length-map, length-replicate, get_or-map}
 use Rattle.std.proofs.Math.Seq.{map-set_same}
-use Rattle.mc_classes.specs.Classes.{Classes, per_page_of, pages_of}
+use Rattle.mc_classes.specs.Classes.{Classes, per_page_of, arena_pages_of}
 use Rattle.mc_pages.specs.declared.ids.ChunkId.{ChunkId}
 use Rattle.mc_pages.specs.declared.ids.Moving.{Moving}
 use Rattle.mc_pages.specs.declared.ledger.Owner.TheVariants.{Untouched}
@@ -22,7 +22,7 @@ per_page_fresh page (size ∷ sizes) = ap (λ cs. (page / size) ∷ cs) (per_pag
 pub sized_fresh : (table : Classes) (slabs : SlabState) → slabs ≡ fresh_slabs table → IsSized slabs table
 sized_fresh table slabs is = subst (λ (s : SlabState). IsSized s table) (sym is) (record {
   classes = length-map table.sizes (λ size. new_class size (table.page / size));
-  pages = length-replicate (pages_of table) Untouched;
+  pages = length-replicate (arena_pages_of table) Untouched;
   per_page = per_page_fresh table.page table.sizes;
 })
 

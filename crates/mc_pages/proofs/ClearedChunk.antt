@@ -14,7 +14,7 @@ use Rattle.mc_pages.proofs.Chunks.{same_from_is_chunk}
 use Rattle.mc_pages.proofs.Lists.{times-without_one, length-without_one}
 use Rattle.mc_pages.proofs.Cleared.{truth-le_one, count_by-same, count_by-both, is_cleared-alike}
 use Rattle.mc_pages.proofs.FirstChunks.{count-first_one}
-use Rattle.mc_pages.proofs.OneClass.{length-with_class, IsClass-with_class, class_at-with_class_same, class_at-with_class_other, class_at-with_class_kept}
+use Rattle.mc_pages.proofs.OneClass.{length-with_class, IsClass-with_class, class_at-with_class_same, class_at-with_class_other, class_at-with_class_kept, replays-with_class}
 use Rattle.mc_pages.proofs.Redistributed.{IsClass-before, is_cut-kept, uncut_count-kept}
 
 -- a chunk of the page that moves, which stands in a list of its class
@@ -189,7 +189,7 @@ IsAccounted-cleared slabs move chunk all can =
     let new : SlabState = without_chunk slabs own chunk in
     let before = λ (class : ℕ) (here : IsClass new class). IsClass-before slabs own class state here in
     record {
-      replays = all.replays;
+      replays = replays-with_class slabs own state all;
       pages = λ class page here.
           let kept = class_at-with_class_kept (λ c. c.pages) slabs own class state can.of.src here.0 refl in
           ap (λ (ps : List ℕ). count_by (λ p. p == page) ps) kept ∙ all.pages class page (before class here);
@@ -200,6 +200,7 @@ IsAccounted-cleared slabs move chunk all can =
           let same : move ≡ other = same_Some move other (sym can.runs ∙ h) in
           subst (λ (m : Moving). IsMove new m) same (IsMove-cleared slabs move chunk all can);
       limit = all.limit;
+      grace = all.grace;
       chunks = λ class other here. chunks-cleared slabs move chunk all can class other (before class here);
       total = λ class here. total-cleared slabs move chunk all can class (before class here);
       cursor = IsClass-with_class slabs own slabs.cursor state all.cursor;

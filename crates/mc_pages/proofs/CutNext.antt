@@ -11,7 +11,7 @@ use Rattle.mc_pages.specs.InOrder.{IsBeingCut}
 use Rattle.mc_pages.proofs.Chunks.{times-cons}
 use Rattle.mc_pages.proofs.FirstChunks.{truth-nat_lt_more}
 use Rattle.mc_pages.proofs.Owners.{class_of_owner-is_of_class, is_of_class-class_of_owner}
-use Rattle.mc_pages.proofs.OneClass.{length-with_class, IsClass-with_class, class_at-with_class_same, class_at-with_class_other, class_at-with_class_kept}
+use Rattle.mc_pages.proofs.OneClass.{length-with_class, IsClass-with_class, class_at-with_class_same, class_at-with_class_other, class_at-with_class_kept, replays-with_class}
 use Rattle.mc_pages.proofs.Cleared.{ClearsAlike, is_cleared-still, is_cleared-alike, cleared_count-alike, IsMove-alike}
 use Rattle.mc_pages.proofs.Redistributed.{IsClass-before}
 
@@ -202,7 +202,7 @@ IsAccounted-after_cut slabs chunk all uncut on =
     let own = class_of_page slabs chunk.page in
     let state : ClassState = with_cut (class_of_chunk slabs chunk) chunk in
     record {
-      replays = all.replays;
+      replays = replays-with_class slabs own state all;
       pages = λ class page here.
           let before = IsClass-before slabs own class state here in
           let kept = class_at-with_class_kept (λ c. c.pages) slabs own class state on.owned before.0 refl in
@@ -215,6 +215,7 @@ IsAccounted-after_cut slabs chunk all uncut on =
           let pages = class_at-with_class_kept (λ c. length c.pages) slabs own move.src state on.owned of.src.0 refl in
           IsMove-alike slabs (after_cut slabs chunk) move (ClearsAlike-after_cut slabs chunk uncut on) refl (omega (arith, pages)) of;
       limit = all.limit;
+      grace = all.grace;
       chunks = λ class other here. chunks-after_cut slabs chunk all uncut on class other (IsClass-before slabs own class state here);
       total = λ class here. total-after_cut slabs chunk all uncut on class (IsClass-before slabs own class state here);
       cursor = IsClass-with_class slabs own slabs.cursor state all.cursor;

@@ -1,9 +1,9 @@
 -- Before any page is granted all is accounted for, in order.
-use Rattle.std.proofs.Common.{◌≡◌, ℕ, ◌+◌, ◌-◌, ◌*◌, ◌/◌, ◌≤◌, ◌==◌, false, length, count_by, refl, sym, ap, ◌∙◌, inl, inr, arith}
+use Rattle.std.proofs.Common.{◌≡◌, ℕ, ◌+◌, ◌-◌, ◌*◌, ◌/◌, ◌≤◌, ◌==◌, false, length, count_by, Some, refl, sym, ap, ◌∙◌, inl, inr, arith}
 use Rattle.std.proofs.lemmas.Bool.{cases_lt, and_left, both_ways}
 use Rattle.std.proofs.lemmas.Option.{none-some}
 use Rattle.std.proofs.lemmas.List.{length-map, length-replicate, get_or-replicate, get_or_past, get_or-map}
-use Rattle.mc_classes.specs.Classes.{Classes, pages_of, size_of, IsSound}
+use Rattle.mc_classes.specs.Classes.{Classes, arena_pages_of, size_of, IsSound}
 use Rattle.mc_pages.specs.declared.ledger.Owner.{Owner}
 use Rattle.mc_pages.specs.declared.ledger.Owner.TheVariants.{Untouched}
 use Rattle.mc_pages.specs.Ledger.{all_untouched, owner_at}
@@ -11,7 +11,6 @@ use Rattle.mc_pages.specs.ClassState.{ClassState, new_class, times}
 use Rattle.mc_pages.specs.SlabState.{SlabState, IsClass, class_at, fresh_slabs}
 use Rattle.mc_pages.specs.Accounted.{truth, is_of_class, is_pool, is_moving, is_cut, IsAccounted}
 use Rattle.mc_pages.specs.InOrder.{AreGranted, IsInOrder}
-use Rattle.mc_pages.proofs.Owners.{count_by-AreGranted}
 use Rattle.mc_pages.proofs.Cleared.{is_cleared-still}
 
 -- each page is untouched
@@ -36,20 +35,18 @@ class_at-fresh table class is =
 pub IsAccounted-fresh : (table : Classes) → 1 ≤ length table.sizes → IsAccounted (fresh_slabs table)
 IsAccounted-fresh table some =
     let fresh : SlabState = fresh_slabs table in
-    let pages = pages_of table in
+    let pages = arena_pages_of table in
     let owner = untouched_at pages in
     let still = λ (page : ℕ). ap is_moving (owner page) in
     record {
-      replays = refl;
+      replays = ap (λ (n : ℕ). Some (all_untouched (table.limit / table.page + n))) (length-map table.sizes (λ (size : ℕ). new_class size (table.page / size)));
       pages = λ class page is. ap (λ (c : ClassState). count_by (λ p. p == page) c.pages) (class_at-fresh table class is) ∙ sym (ap (λ (o : Owner). truth (is_of_class class o)) (owner page));
       owned = λ class page h. absurd (both_ways _ (ap (λ (o : Owner). is_of_class class o) (owner page)) h);
       pool = λ page. sym (ap (λ (o : Owner). truth (is_pool o)) (owner page));
       one_move = λ page h. absurd (both_ways _ (still page) h);
       move = λ move h. absurd (none-some move h);
-      limit =
-          let none = count_by-AreGranted (all_untouched pages) 0 (AreGranted-none pages) in
-          let product = ap (λ (n : ℕ). n * table.page) none in
-          omega (arith, product);
+      limit = omega arith;
+      grace = record { once = λ class. omega arith; stays = λ class some. absurd (omega (arith, some)) };
       chunks = λ class chunk is.
           let lists = ap (λ (c : ClassState). times chunk c.free + times chunk c.order) (class_at-fresh table class is) in
           let cut : is_cut fresh class chunk ≡ false = and_left _ _ (ap (λ (o : Owner). is_of_class class o) (owner chunk.page)) in
@@ -68,8 +65,9 @@ IsInOrder-fresh table sound =
     let made : ℕ → ClassState = λ size. new_class size (table.page / size) in
     record {
       accounted = IsAccounted-fresh table sound.count.0;
-      lowest = AreGranted-none (pages_of table);
-      pages = omega (arith, length-replicate (pages_of table) Untouched, sound.pages.1);
+      lowest = AreGranted-none (arena_pages_of table);
+      graced = omega arith;
+      pages = omega (arith, length-replicate (arena_pages_of table) Untouched, sound.pages.1, sound.count.1);
       per_page = λ class is. omega (arith, ap (λ (c : ClassState). c.per_page) (class_at-fresh table class is), (sound.chunks class (is.0, omega (arith, is.1, length-map table.sizes made))).0);
       at_most = λ class is. omega (arith, ap (λ (c : ClassState). c.per_page) (class_at-fresh table class is), (sound.chunks class (is.0, omega (arith, is.1, length-map table.sizes made))).1);
       uncut = λ chunk h. absurd (none-some chunk h);

@@ -19,6 +19,7 @@ use Rattle.mc_pages.proofs.Owners.{is_of_class-class_of_owner}
 use Rattle.mc_pages.proofs.Redistributed.{Redistributes, Redistributes-popped, Redistributes-put_back, Redistributes-touched, Redistributes-replaced, Redistributes-evicted, IsAccounted-redistributed}
 use Rattle.mc_pages.proofs.CutNext.{uncut_count-own, IsAccounted-after_cut}
 use Rattle.mc_pages.proofs.ClearedChunk.{CanClear, IsAccounted-cleared}
+use Rattle.mc_pages.proofs.Grace.{populated-same}
 use Rattle.mc_pages.proofs.GrantedPage.{length-pages_le}
 use Rattle.mc_pages.proofs.Steady.{IsSteady_from, IsSteady-changed, IsBeingCut-with_class, IsBeingCut-next, IsInOrder-with_class}
 pub use Rattle.mc_pages.proofs.Fresh.{IsInOrder-fresh}
@@ -108,6 +109,7 @@ IsInOrder-after_cut slabs granted chunk kept h =
     record {
       accounted = IsAccounted-after_cut slabs chunk kept.accounted h on;
       lowest = kept.lowest;
+      graced = omega (arith, kept.graced, populated-same slabs own state on.owned refl);
       pages = kept.pages;
       per_page = steady.per_page;
       at_most = steady.at_most;
@@ -124,8 +126,8 @@ below_total slabs chunk all h on =
     let some = uncut_count-own slabs own chunk (is_of_class-class_of_owner own (owner_at slabs.owners chunk.page) on.owned.0 refl) in
     omega (arith, all.total own on.owned, uncut, some, on.within)
 
--- no class has more than 64 pages
-pub pages_below : (slabs : SlabState) (granted given : ℕ) → IsInOrder slabs granted → IsClass slabs given → length (class_at slabs given).pages ≤ 64
+-- no class has more than 127 pages
+pub pages_below : (slabs : SlabState) (granted given : ℕ) → IsInOrder slabs granted → IsClass slabs given → length (class_at slabs given).pages ≤ 127
 pages_below slabs granted given kept is = omega (arith, length-pages_le slabs given kept.accounted is, kept.pages)
 
 -- the position of a pass that isn't at its end, and what held it up, are below 256

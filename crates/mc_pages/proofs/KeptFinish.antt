@@ -1,6 +1,6 @@
 -- What the code keeps of all pages and chunks, after a move has ended.
-use Rattle.std.proofs.Common.{◌≡◌, ◌≢◌, ℕ, ◌+◌, ◌*◌, ◌<◌, ◌≤◌, ◌==◌, Bool, true, List, [], ◌∷◌, ◌++◌, length, set, Option, None, if◌then◌else◌, refl, sym, ap, ◌∙◌, subst, inl, inr, arith, eq-eqb, ne_eqb, length-set}
-use Rattle.std.proofs.lemmas.Bool.{cases_eq}
+use Rattle.std.proofs.Common.{◌≡◌, ◌≢◌, ℕ, ◌+◌, ◌*◌, ◌<◌, ◌≤◌, ◌==◌, Bool, true, List, [], ◌∷◌, ◌++◌, length, set, Option, None, if◌then◌else◌, refl, sym, ap, ◌∙◌, subst, inl, inr, arith, lt-ltb, eq-eqb, ne_eqb, length-set}
+use Rattle.std.proofs.lemmas.Bool.{cases_eq, false≢true}
 use Rattle.std.proofs.lemmas.Option.{none-some}
 use Rattle.std.proofs.lemmas.List.{set-set}
 use Rattle.mc_pages.specs.declared.ids.ChunkId.{ChunkId}
@@ -9,14 +9,15 @@ use Rattle.mc_pages.specs.declared.ledger.Owner.{Owner}
 use Rattle.mc_pages.specs.declared.ledger.Owner.TheVariants.{Pool, Class}
 use Rattle.mc_pages.specs.declared.ledger.Entry.{Entry}
 use Rattle.mc_pages.specs.declared.ledger.Entry.TheVariants.{Ended}
-use Rattle.mc_pages.specs.Ledger.{owner_at, fits}
+use Rattle.mc_pages.specs.Ledger.{KeepsGrace, ordinary_count, owner_at, fits}
 use Rattle.mc_pages.specs.ClassState.{counted, with_page, without_page}
 use Rattle.mc_pages.specs.SlabState.{SlabState, IsClass, class_at, is_untouched}
 use Rattle.mc_pages.specs.Changes.{with_given}
 use Rattle.mc_pages.specs.Moves.{released, finished, CanFinish}
 use Rattle.mc_pages.specs.Accounted.{truth, is_of_class, is_pool, is_moving, uncut_count, IsMove, IsAccounted}
-use Rattle.mc_pages.specs.InOrder.{AreGranted, IsInOrder}
+use Rattle.mc_pages.specs.InOrder.{AreGranted, IsInOrder, populated_count}
 use Rattle.mc_pages.proofs.Owners.{owner_at-set_same, AreGranted-set}
+use Rattle.mc_pages.proofs.Grace.{KeepsGrace-set, ordinary_count-push, populated-given, populated-same}
 use Rattle.mc_pages.proofs.OneClass.{length-with_class, IsClass-with_class}
 use Rattle.mc_pages.proofs.Placed.{ArePlaced, ArePlaced_from, IsAccounted-entry, IsAccounted-numbers}
 use Rattle.mc_pages.proofs.GivenPage.{IsNoClass, owner-set_alike, ArePlaced-given}
@@ -53,6 +54,26 @@ IsSteady-in_pool slabs granted move kept is =
 cursor-in_pool : (slabs : SlabState) (move : Moving) → IsAccounted slabs → IsClass (in_pool slabs move) slabs.cursor
 cursor-in_pool slabs move all = IsClass-with_class slabs move.src slabs.cursor (without_page (class_at slabs move.src) move.page) all.cursor
 
+-- the page of the class that gives it is one of two
+fewer_pages : (slabs : SlabState) (move : Moving) → IsAccounted slabs → IsMove slabs move → length (class_at slabs move.src).pages ≡ length (without_page (class_at slabs move.src) move.page).pages + 1
+fewer_pages slabs move all is =
+    let one = all.pages move.src move.page is.src ∙ (ap (λ (o : Owner). truth (is_of_class move.src o)) is.owner ∙ ap truth (eq-eqb move.src move.src refl)) in
+    omega (arith, one, length-filter_page move.page (class_at slabs move.src).pages)
+
+-- so it still has a page, as each class that had one
+graced-in_pool : (slabs : SlabState) (granted : ℕ) (move : Moving) → IsInOrder slabs granted → IsMove slabs move → granted ≤ ordinary_count (ledger_ended slabs move) + populated_count (in_pool slabs move).classes
+graced-in_pool slabs granted move kept is =
+    let state = without_page (class_at slabs move.src) move.page in
+    let fewer = fewer_pages slabs move kept.accounted is in
+    let same = lt-ltb 0 (length state.pages) (omega (arith, fewer, is.spare)) ∙ sym (lt-ltb 0 (length (class_at slabs move.src).pages) (omega (arith, is.spare))) in
+    omega (arith, kept.graced, ordinary_count-push slabs.ledger (Ended move.page move.dst), populated-same slabs move.src state is.src same)
+
+-- and a page that no class had to stay changes its owner
+grace-ended : (slabs : SlabState) (move : Moving) (owner : Owner) → IsAccounted slabs → IsMove slabs move → KeepsGrace (set slabs.owners move.page owner) (ledger_ended slabs move)
+grace-ended slabs move owner all is =
+    KeepsGrace-set slabs.owners slabs.ledger (Ended move.page move.dst) move.page owner all.grace (λ class. refl)
+    (λ class own. false≢true (ap is_moving (sym own ∙ is.owner)))
+
 -- the move to the pool ends
 IsInOrder-in_pool : (slabs : SlabState) (granted moved : ℕ) (move : Moving) → IsInOrder slabs granted → slabs.uncut ≡ None → CanFinish slabs move → move.dst ≡ 0 → IsInOrder (record (in_pool slabs move) { ledger = ledger_ended slabs move; moved = moved }) granted
 IsInOrder-in_pool slabs granted moved move kept whole can to =
@@ -63,10 +84,11 @@ IsInOrder-in_pool slabs granted moved move kept whole can to =
     let leaves : (if move.dst == 0 then Pool else Class move.dst) ≡ Pool = ap (λ b. if b then Pool else Class move.dst) (eq-eqb move.dst 0 to) in
     let placed = ArePlaced-released slabs move (ArePlaced_from slabs all) whole can in
     let at = cursor-in_pool slabs move all in
-    let after = IsAccounted-entry slabs new (Ended move.page move.dst) Pool all (within_from_IsMove slabs move is) (fits-ended slabs move is) leaves placed at all.mode in
+    let after = IsAccounted-entry slabs new (Ended move.page move.dst) Pool all (within_from_IsMove slabs move is) (fits-ended slabs move is) leaves placed at all.mode (λ e. absurd (false≢true e)) (grace-ended slabs move Pool all is) (length-with_class slabs move.src (without_page (class_at slabs move.src) move.page)) in
     record {
       accounted = IsAccounted-numbers (record new { ledger = ledger_ended slabs move }) slabs.cursor moved slabs.rescues slabs.evictions_nomem slabs.busy slabs.automove after at all.mode;
       lowest = AreGranted-in_pool slabs granted move is kept.lowest;
+      graced = graced-in_pool slabs granted move kept is;
       pages = steady.pages;
       per_page = steady.per_page;
       at_most = steady.at_most;
@@ -102,13 +124,14 @@ IsInOrder-in_class slabs granted moved move kept whole can to =
     let once = set-set slabs.owners move.page Pool (Class move.dst) in
     let at = IsClass-with_class pool move.dst slabs.cursor (with_page (class_at pool move.dst) move.page) (cursor-in_pool slabs move all) in
     let placed = subst (λ (os : List Owner). ArePlaced (record new { owners = os })) once (ArePlaced-in_class slabs move (ArePlaced_from slabs all) whole can class) in
-    let entry = IsAccounted-entry slabs new (Ended move.page move.dst) (Class move.dst) all within (fits-ended slabs move is) leaves placed at all.mode in
+    let many = length-with_class pool move.dst (with_page (class_at pool move.dst) move.page) ∙ length-with_class slabs move.src (without_page (class_at slabs move.src) move.page) in
+    let entry = IsAccounted-entry slabs new (Ended move.page move.dst) (Class move.dst) all within (fits-ended slabs move is) leaves placed at all.mode (λ e. absurd (false≢true e)) (grace-ended slabs move (Class move.dst) all is) many in
     let after = subst (λ (os : List Owner). IsAccounted (record new { owners = os; ledger = ledger_ended slabs move })) (sym once) entry in
     let numbered = IsAccounted-numbers (record new { ledger = ledger_ended slabs move }) slabs.cursor moved slabs.rescues slabs.evictions_nomem slabs.busy slabs.automove after at all.mode in
     let inside : move.page < length pool.owners = omega (arith, within, length-set slabs.owners move.page Pool) in
     let owner = owner_at-set_same slabs.owners move.page Pool within in
     let are = AreGranted-set pool.owners granted move.page (Class move.dst) (AreGranted-in_pool slabs granted move is kept.lowest) (ap is_untouched owner) refl in
-    IsInOrder-given pool granted move.dst move.page moved slabs.pool (ledger_ended slabs move) (IsSteady-in_pool slabs granted move kept is) class inside numbered are
+    IsInOrder-given pool granted move.dst move.page moved slabs.pool (ledger_ended slabs move) (IsSteady-in_pool slabs granted move kept is) class inside numbered are (omega (arith, graced-in_pool slabs granted move kept is, populated-given pool move.dst move.page class))
 
 -- the move ends
 pub IsInOrder-finished : (slabs : SlabState) (granted : ℕ) (move : Moving) → IsInOrder slabs granted → slabs.uncut ≡ None → CanFinish slabs move → IsInOrder (finished slabs move) granted
@@ -130,7 +153,6 @@ release_fits slabs granted move kept whole can =
     let uncut = ap (λ (o : Option ChunkId). uncut_count slabs move.src o) whole in
     let cleared = cleared_at_end slabs move (ArePlaced_from slabs all) is can move.src in
     let test = ap (λ b. if b then own.per_page else 0) (eq-eqb move.src move.src refl) in
-    let one = all.pages move.src move.page is.src ∙ (ap (λ (o : Owner). truth (is_of_class move.src o)) is.owner ∙ ap truth (eq-eqb move.src move.src refl)) in
-    let fewer : length own.pages ≡ length (without_page own move.page).pages + 1 = omega (arith, one, length-filter_page move.page own.pages) in
+    let fewer = fewer_pages slabs move all is in
     let product = ap (λ (n : ℕ). n * own.per_page) fewer in
     omega (arith, uncut, cleared, test, product, all.total move.src is.src)

@@ -1,7 +1,7 @@
 -- What the code keeps of all pages and chunks, after each step of a move.
-use Rattle.std.proofs.Common.{◌≡◌, ◌≢◌, ℕ, ◌-◌, ◌<◌, ◌≤◌, ◌==◌, true, List, length, take, count_by, slice_get, slice_index_or, Option, Some, None, Ok, refl, sym, ap, ◌∙◌, subst, inl, inr, arith, eq-eqb, length-set}
+use Rattle.std.proofs.Common.{◌≡◌, ◌≢◌, ℕ, ◌-◌, ◌<◌, ◌≤◌, ◌==◌, true, List, length, take, set, count_by, slice_get, slice_index_or, Option, Some, None, Ok, refl, sym, ap, ◌∙◌, subst, inl, inr, arith, eq-eqb, length-set}
 use Rattle.std.specs.Option.{option_map}
-use Rattle.std.proofs.lemmas.Bool.{cases_Bool}
+use Rattle.std.proofs.lemmas.Bool.{cases_eq, cases_Bool, false≢true}
 use Rattle.std.proofs.lemmas.Option.{get_or_from_slice_get}
 use Rattle.std.proofs.lemmas.List.{get_or-take, length-take-le}
 use Rattle.std.proofs.lemmas.List.Sums.{sum_by_more_le, get_or-le-sum_by}
@@ -20,6 +20,7 @@ use Rattle.mc_pages.specs.Accounted.{truth, is_of_class, is_moving, IsAccounted}
 use Rattle.mc_pages.specs.InOrder.{IsBeingCut, IsInOrder}
 use Rattle.mc_pages.proofs.Cleared.{truth-le_one}
 use Rattle.mc_pages.proofs.Owners.{within_from_is_of_class, owner_at-set_other, AreGranted-set}
+use Rattle.mc_pages.proofs.Grace.{KeepsGrace-next, ordinary_count-push}
 use Rattle.mc_pages.proofs.Placed.{ArePlaced_from, IsAccounted-entry, IsAccounted-numbers}
 use Rattle.mc_pages.proofs.BegunMove.{Class-from_still, still_at_rest, ArePlaced-begun}
 use Rattle.mc_pages.proofs.Source.{source_is}
@@ -38,16 +39,41 @@ twice_counted pages page two first last =
     let there : counted (slice_index_or pages place 0) ≡ 1 = ap truth (eq-eqb (slice_index_or pages place 0) page last) in
     omega (arith, behind, before, same, here, there)
 
--- the first page of a class that has one is its page
-is_of_class-first : (slabs : SlabState) (class : ℕ) → IsAccounted slabs → IsClass slabs class → 1 ≤ length (class_at slabs class).pages → is_of_class class (owner_at slabs.owners (first_page slabs class)) ≡ true
-is_of_class-first slabs class all is some =
-    let page = first_page slabs class in
+-- a page in the list of a class is its page
+is_of_class-listed : (slabs : SlabState) (class place : ℕ) → IsAccounted slabs → IsClass slabs class → place < length (class_at slabs class).pages → is_of_class class (owner_at slabs.owners (slice_index_or (class_at slabs class).pages place 0)) ≡ true
+is_of_class-listed slabs class place all is within =
     let pages = (class_at slabs class).pages in
-    let counted = get_or-le-sum_by (λ p. truth (p == page)) pages 0 0 (omega arith) in
-    let here : truth (slice_index_or pages 0 0 == page) ≡ 1 = ap truth (eq-eqb page page refl) in
+    let page = slice_index_or pages place 0 in
+    let counted = get_or-le-sum_by (λ p. truth (p == page)) pages place 0 within in
+    let here : truth (slice_index_or pages place 0 == page) ≡ 1 = ap truth (eq-eqb page page refl) in
     elim (cases_Bool (is_of_class class (owner_at slabs.owners page))) [
       | inl of ↦ of
       | inr other ↦ absurd (omega (arith, all.pages class page is, counted, here, ap truth other))
+    ]
+
+-- so is the first page of a class that has one
+is_of_class-first : (slabs : SlabState) (class : ℕ) → IsAccounted slabs → IsClass slabs class → 1 ≤ length (class_at slabs class).pages → is_of_class class (owner_at slabs.owners (first_page slabs class)) ≡ true
+is_of_class-first slabs class all is some = is_of_class-listed slabs class 0 all is (omega arith)
+
+-- a class of two pages has another one than its first
+another_page : (slabs : SlabState) (class : ℕ) → IsAccounted slabs → IsClass slabs class → 2 ≤ length (class_at slabs class).pages → slabs.moving ≡ None → (page : ℕ) × (page ≢ first_page slabs class) × (owner_at slabs.owners page ≡ Class class)
+another_page slabs class all is two rest =
+    let pages = (class_at slabs class).pages in
+    let first = first_page slabs class in
+    let place = length pages - 1 in
+    let page = slice_index_or pages place 0 in
+    let owned = Class-from_still class (owner_at slabs.owners page) (is_of_class-listed slabs class place all is (omega arith)) (still_at_rest slabs (ArePlaced_from slabs all) rest page) in
+    let once = truth-le_one (is_of_class class (owner_at slabs.owners first)) in
+    (page, (λ same. absurd (omega (arith, twice_counted pages first two refl same, all.pages class first is, once))), owned)
+
+-- each class that has a page to stay has one where one of two begins to move
+stays-begun : (slabs : SlabState) (page source other : ℕ) (moved : Owner) → owner_at slabs.owners page ≡ Class source → other ≢ page → owner_at slabs.owners other ≡ Class source → (class own : ℕ) → owner_at slabs.owners own ≡ Class class → (it : ℕ) × (owner_at (set slabs.owners page moved) it ≡ Class class)
+stays-begun slabs page source other moved owned apart spare class own is =
+    elim (cases_eq own page) [
+      | inl same ↦
+          let sources : Class source ≡ Class class = sym owned ∙ (ap (owner_at slabs.owners) (sym same) ∙ is) in
+          (other, owner_at-set_other slabs.owners page other moved apart ∙ (spare ∙ sources))
+      | inr differs ↦ (own, owner_at-set_other slabs.owners page own moved differs ∙ is)
     ]
 
 -- the first page of a class is one of the pages
@@ -96,10 +122,14 @@ IsInOrder-after_begin slabs granted src source dst kept answer =
     let new : SlabState = with_move slabs page source dst in
     let placed = ArePlaced-begun slabs page source dst places told.4 told.0 told.1 told.2 told.3 owned within in
     let fit = ap (λ (o : Owner). fits (Began page source dst) o) owned ∙ eq-eqb source source refl in
-    let after = IsAccounted-entry slabs new (Began page source dst) (owner.Moving source dst) all within fit refl placed all.cursor all.mode in
+    let other = another_page slabs source all told.0 told.1 told.4 in
+    let moved = owner.Moving source dst in
+    let grace = KeepsGrace-next slabs.owners (set slabs.owners page moved) slabs.ledger (Began page source dst) all.grace (λ class. refl) (stays-begun slabs page source other.0 moved owned other.1 other.2) in
+    let after = IsAccounted-entry slabs new (Began page source dst) moved all within fit refl placed all.cursor all.mode (λ e. absurd (false≢true e)) grace refl in
     record {
       accounted = IsAccounted-numbers new cursor slabs.moved slabs.rescues slabs.evictions_nomem slabs.busy slabs.automove after (cursor-begun slabs src source told.0 all.cursor) all.mode;
       lowest = AreGranted-set slabs.owners granted page (owner.Moving source dst) kept.lowest (ap is_untouched owned) refl;
+      graced = omega (arith, kept.graced, ordinary_count-push slabs.ledger (Began page source dst));
       pages = omega (arith, kept.pages, length-set slabs.owners page (owner.Moving source dst));
       per_page = kept.per_page;
       at_most = kept.at_most;
@@ -114,6 +144,7 @@ IsInOrder-moved slabs granted rescues evictions_nomem busy moving kept all =
     record {
       accounted = IsAccounted-numbers (record slabs { moving = moving }) slabs.cursor slabs.moved rescues evictions_nomem busy slabs.automove all all.cursor all.mode;
       lowest = kept.lowest;
+      graced = kept.graced;
       pages = kept.pages;
       per_page = kept.per_page;
       at_most = kept.at_most;
@@ -145,6 +176,7 @@ IsInOrder-automove slabs granted mode is kept =
     record {
       accounted = IsAccounted-numbers slabs slabs.cursor slabs.moved slabs.rescues slabs.evictions_nomem slabs.busy mode kept.accounted kept.accounted.cursor is;
       lowest = kept.lowest;
+      graced = kept.graced;
       pages = kept.pages;
       per_page = kept.per_page;
       at_most = kept.at_most;

@@ -18,6 +18,7 @@ pub mod FirstChunks
 pub mod Redistributed
 pub mod CutNext
 pub mod GrantedPage
+pub mod Grace
 pub mod Placed
 pub mod GivenPage
 pub mod ReleasedPage

@@ -6,7 +6,7 @@ use Rattle.mc_pages.specs.declared.ids.ChunkId.{ChunkId}
 use Rattle.mc_pages.specs.Rows.{RowsState, IsRow}
 use Rattle.mc_pages.specs.Links.{HasNumber}
 
-pub numbered : (rows : RowsState) (link : Option ChunkId) → IfSome link (IsRow rows) → length rows.rows ≤ 16384 → rows.most ≤ 256 → HasNumber link
+pub numbered : (rows : RowsState) (link : Option ChunkId) → IfSome link (IsRow rows) → length rows.rows ≤ 32512 → rows.most ≤ 256 → HasNumber link
 numbered rows None row few most = tt
 numbered rows (Some chunk) row few most =
     let some : 1 ≤ rows.most = omega (arith, row.0) in

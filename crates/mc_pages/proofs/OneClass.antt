@@ -1,14 +1,21 @@
 -- The classes after one of them has changed.
-use Rattle.std.proofs.Common.{◌≡◌, ◌≢◌, ℕ, ◌-◌, ◌≤◌, length, slice_index_or, sym, ap, ◌∙◌, inl, inr, arith, get_or-set_same, get_or-set_other, length-set}
+use Rattle.std.proofs.Common.{◌≡◌, ◌≢◌, ℕ, ◌+◌, ◌-◌, ◌/◌, ◌≤◌, length, Some, slice_index_or, sym, ap, ◌∙◌, inl, inr, arith, get_or-set_same, get_or-set_other, length-set}
 use Rattle.std.proofs.lemmas.Bool.{cases_eq}
 use Rattle.std.proofs.lemmas.List.{get_or_read}
+use Rattle.mc_pages.specs.Ledger.{all_untouched, replay}
 use Rattle.mc_pages.specs.ClassState.{ClassState, new_class}
 use Rattle.mc_pages.specs.SlabState.{SlabState, IsClass, class_at}
+use Rattle.mc_pages.specs.Accounted.{IsAccounted}
 use Rattle.mc_pages.specs.Changes.{with_class}
 
 -- there are as many classes as before
 pub length-with_class : (slabs : SlabState) (class : ℕ) (state : ClassState) → length (with_class slabs class state).classes ≡ length slabs.classes
 length-with_class slabs class state = length-set slabs.classes (class - 1) state
+
+-- so the ledger's owners begin with as many untouched pages
+pub replays-with_class : (slabs : SlabState) (class : ℕ) (state : ClassState) → IsAccounted slabs → replay (all_untouched (slabs.limit / slabs.page + length (with_class slabs class state).classes)) slabs.ledger ≡ Some slabs.owners
+replays-with_class slabs class state all =
+    ap (λ (n : ℕ). replay (all_untouched (slabs.limit / slabs.page + n)) slabs.ledger) (length-with_class slabs class state) ∙ all.replays
 
 -- a class is still one of the classes
 pub IsClass-with_class : (slabs : SlabState) (class other : ℕ) (state : ClassState) → IsClass slabs other → IsClass (with_class slabs class state) other

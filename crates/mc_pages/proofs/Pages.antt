@@ -11,9 +11,9 @@ use Rattle.mc_pages.specs.declared.ledger.Owner.TheVariants.{Untouched, Pool, Cl
 use Rattle.mc_pages.specs.declared.ledger.Owner.TheVariants as owner
 use Rattle.mc_pages.specs.Ledger.{owner_at}
 use Rattle.mc_pages.specs.ClassState.{ClassState, new_class}
-use Rattle.mc_pages.specs.SlabState.{SlabState, IsClass, class_of_owner, is_untouched}
+use Rattle.mc_pages.specs.SlabState.{SlabState, IsClass, class_of_owner, is_untouched, page_count}
 use Rattle.mc_pages.specs.Accounted.{truth, is_of_class, is_pool, is_moving, IsAccounted}
-use Rattle.mc_pages.specs.Pages.{page_count, times_listed, places_of}
+use Rattle.mc_pages.specs.Pages.{times_listed, places_of}
 use Rattle.mc_pages.proofs.FirstChunks.{truth-nat_lt_more}
 use Rattle.mc_pages.proofs.GrantedPage.{length-owners}
 

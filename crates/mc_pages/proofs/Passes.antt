@@ -26,6 +26,7 @@ IsAccounted-moved slabs move next moving all runs now same is =
       one_move = λ other h. ap page now ∙ (ap (λ (p : ℕ). Some p) same ∙ (sym (ap page runs) ∙ all.one_move other h));
       move = λ other h. subst (λ (m : Moving). IsMove new m) (same_Some next other (sym now ∙ h)) is_new;
       limit = all.limit;
+      grace = all.grace;
       chunks = all.chunks;
       total = λ class here.
           let after = ap (λ (o : Option Moving). cleared_count slabs class o) now in

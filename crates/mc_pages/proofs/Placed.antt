@@ -1,14 +1,15 @@
 -- What is said of pages and chunks beside the ledger and the limit, and both with one more entry.
-use Rattle.std.proofs.Common.{◌≡◌, ℕ, ◌+◌, ◌*◌, ◌<◌, ◌≤◌, ◌==◌, true, IsTrue, [], ◌∷◌, ◌++◌, length, set, count_by, Some, ap, ◌∙◌, length-set}
+use Rattle.std.proofs.Common.{◌≡◌, ℕ, ◌+◌, ◌*◌, ◌/◌, ◌<◌, ◌≤◌, ◌==◌, true, IsTrue, [], ◌∷◌, ◌++◌, length, set, count_by, Some, ap, ◌∙◌, length-set}
 use Rattle.std.specs.Option.{option_map}
 use Rattle.mc_pages.specs.declared.ids.ChunkId.{ChunkId}
 use Rattle.mc_pages.specs.declared.ids.Moving.{Moving}
 use Rattle.mc_pages.specs.declared.ledger.Owner.{Owner}
 use Rattle.mc_pages.specs.declared.ledger.Entry.{Entry}
-use Rattle.mc_pages.specs.Ledger.{owner_at, page_of, fits, owner_after}
+use Rattle.mc_pages.specs.Ledger.{KeepsGrace, all_untouched, is_ordinary, owner_at, page_of, fits, owner_after, replay}
 use Rattle.mc_pages.specs.SlabState.{SlabState, IsClass, class_at}
 use Rattle.mc_pages.specs.Accounted.{truth, is_of_class, is_pool, is_moving, uncut_count, is_cut, places_in, is_cleared, cleared_count, IsMove, IsAccounted}
-use Rattle.mc_pages.proofs.GrantedPage.{limit-owners}
+use Rattle.mc_pages.specs.Changes.{has_ordinary_page}
+use Rattle.mc_pages.proofs.Grace.{limit-entry}
 use Rattle.mc_pages.proofs.Replays.{replay-push}
 
 -- what `IsAccounted` says beside the ledger, the limit, the cursor and the mode
@@ -38,6 +39,7 @@ IsAccounted-numbers slabs cursor moved rescues evictions_nomem busy automove all
           let is = all.move move h in
           record { owner = is.owner; src = is.src; spare = is.spare; dst = is.dst; apart = is.apart; within = is.within; busy = is.busy; passed = is.passed };
       limit = all.limit;
+      grace = all.grace;
       chunks = all.chunks;
       total = all.total;
       cursor = at;
@@ -45,11 +47,12 @@ IsAccounted-numbers slabs cursor moved rescues evictions_nomem busy automove all
     }
 
 -- one more entry, which fits the owner that it finds, accounts for the owner that it leaves
-pub IsAccounted-entry : (slabs new : SlabState) (entry : Entry) (owner : Owner) → IsAccounted slabs → page_of entry < length slabs.owners → fits entry (owner_at slabs.owners (page_of entry)) ≡ true → owner_after entry ≡ owner → ArePlaced (record new { owners = set slabs.owners (page_of entry) owner }) → IsClass new new.cursor → new.automove ≤ 2 → IsAccounted (record new { page = slabs.page; limit = slabs.limit; owners = set slabs.owners (page_of entry) owner; ledger = slabs.ledger ++ entry ∷ [] })
-IsAccounted-entry slabs new entry owner all within fit leaves placed at mode =
+pub IsAccounted-entry : (slabs new : SlabState) (entry : Entry) (owner : Owner) → IsAccounted slabs → page_of entry < length slabs.owners → fits entry (owner_at slabs.owners (page_of entry)) ≡ true → owner_after entry ≡ owner → ArePlaced (record new { owners = set slabs.owners (page_of entry) owner }) → IsClass new new.cursor → new.automove ≤ 2 → (is_ordinary entry ≡ true → has_ordinary_page slabs ≡ true) → KeepsGrace (set slabs.owners (page_of entry) owner) (slabs.ledger ++ entry ∷ []) → length new.classes ≡ length slabs.classes → IsAccounted (record new { page = slabs.page; limit = slabs.limit; owners = set slabs.owners (page_of entry) owner; ledger = slabs.ledger ++ entry ∷ [] })
+IsAccounted-entry slabs new entry owner all within fit leaves placed at mode left_over grace same =
     let left = ap (λ (o : Owner). Some (set slabs.owners (page_of entry) o)) leaves in
+    let start = ap (λ (n : ℕ). replay (all_untouched (slabs.limit / slabs.page + n)) (slabs.ledger ++ entry ∷ [])) same in
     record {
-      replays = replay-push _ slabs.owners slabs.ledger entry all.replays within fit ∙ left;
+      replays = start ∙ (replay-push _ slabs.owners slabs.ledger entry all.replays within fit ∙ left);
       pages = placed.pages;
       owned = placed.owned;
       pool = placed.pool;
@@ -57,7 +60,8 @@ IsAccounted-entry slabs new entry owner all within fit leaves placed at mode =
       move = λ move h.
           let is = placed.move move h in
           record { owner = is.owner; src = is.src; spare = is.spare; dst = is.dst; apart = is.apart; within = is.within; busy = is.busy; passed = is.passed };
-      limit = limit-owners slabs (set slabs.owners (page_of entry) owner) all (length-set slabs.owners (page_of entry) owner);
+      limit = limit-entry slabs entry all left_over;
+      grace = grace;
       chunks = placed.chunks;
       total = placed.total;
       cursor = at;

@@ -10,7 +10,7 @@ use Rattle.mc_pages.specs.Accounted.{truth, is_of_class, cut_count, uncut_count,
 use Rattle.mc_pages.proofs.Chunks.{times-cons, times-push, times-without, length-without}
 use Rattle.mc_pages.proofs.Lists.{times-with_before, length-with_before}
 use Rattle.mc_pages.proofs.Cleared.{ClearsAlike, is_cleared-alike, cleared_count-alike, IsMove-alike}
-use Rattle.mc_pages.proofs.OneClass.{length-with_class, IsClass-with_class, class_at-with_class_kept}
+use Rattle.mc_pages.proofs.OneClass.{length-with_class, IsClass-with_class, class_at-with_class_kept, replays-with_class}
 
 -- the class has the same pages and the same chunks, some of them in the other list
 pub record Redistributes (old new : ClassState) : Type 0 where
@@ -103,7 +103,7 @@ IsAccounted-redistributed slabs class state all is change =
     let new : SlabState = with_class slabs class state in
     let alike = ClearsAlike-redistributed slabs class state is change in
     record {
-      replays = all.replays;
+      replays = replays-with_class slabs class state all;
       pages = λ other page here.
           let before = IsClass-before slabs class other state here in
           let kept = class_at-with_class_kept (λ c. c.pages) slabs class other state is before.0 change.pages in
@@ -116,6 +116,7 @@ IsAccounted-redistributed slabs class state all is change =
           let pages = class_at-with_class_kept (λ c. c.pages) slabs class move.src state is of.src.0 change.pages in
           IsMove-alike slabs new move alike refl (omega (arith, ap (λ (ps : List ℕ). length ps) pages)) of;
       limit = all.limit;
+      grace = all.grace;
       chunks = λ other chunk here.
           let before = IsClass-before slabs class other state here in
           let kept = class_at-with_class_kept (λ c. times chunk c.free + times chunk c.order) slabs class other state is before.0 (change.times chunk) in

@@ -1,11 +1,12 @@
 -- A page that is given to a class, with the room that is made for it.
-use Rattle.std.proofs.Common.{◌≡◌, ℕ, ◌+◌, ◌-◌, ◌<◌, ◌≤◌, ◌==◌, true, false, List, [], ◌∷◌, ◌++◌, length, set, take, slice_index_or, Option, Some, None, if◌then◌else◌, refl, sym, ap, ap₂, ◌∙◌, inl, inr, arith, lt-ltb, le-ltb, eq-eqb, length-append, Bool, Result, Ok, Err, OnErr}
+use Rattle.std.proofs.Common.{◌≡◌, ℕ, ◌+◌, ◌-◌, ◌/◌, ◌<◌, ◌≤◌, ◌==◌, true, false, not, ◌||◌, List, [], ◌∷◌, ◌++◌, length, set, take, slice_index_or, Option, Some, None, if◌then◌else◌, refl, sym, ap, ap₂, ◌∙◌, inl, inr, arith, lt-ltb, le-ltb, ltb-true, ltb-false, eqb-true, eq-eqb, length-append, Bool, Result, Ok, Err, OnErr}
 use mir.Val.{bool_byte}
 use Rattle.std.specs.Option.{option_or}
-use Rattle.std.proofs.lemmas.Bool.{cases_lt}
+use Rattle.std.proofs.lemmas.Bool.{cases_lt, cases_Bool}
 use Rattle.std.proofs.lemmas.List.{set-get_or}
 use Rattle.std.proofs.lemmas.List.Sums.{get_or-le-sum_by}
 use Rattle.std.proofs.lemmas.Option.{slice_get_past, slice_get-get_or}
+use Rattle.std.proofs.lemmas.List.{nil_from_length}
 use Rattle.mc_pages.specs.declared.ledger.Owner.{Owner}
 use Rattle.mc_pages.specs.declared.ledger.Owner.TheVariants.{Class}
 use Rattle.mc_pages.specs.declared.ledger.Entry.{Entry}
@@ -15,10 +16,14 @@ use Rattle.mc_pages.specs.ClassState.{ClassState, new_class, with_page}
 use Rattle.mc_pages.specs.ClassRows.{with_lists}
 use Rattle.mc_pages.specs.Room.{RoomyClass, in_state, states}
 use Rattle.mc_pages.specs.SlabState.{SlabState, IsClass, class_at, untouched_page}
-use Rattle.mc_pages.specs.Changes.{pooled_page, next_page, after_grant, after_take, after_grow}
+use Rattle.mc_pages.specs.Ledger.{ordinary_count}
+use Rattle.mc_pages.specs.Changes.{pooled_page, granted_page, next_page, has_ordinary_page, is_without_page, after_grant, after_take, after_grow}
 use Rattle.mc_pages.specs.Accounted.{truth, is_pool, IsAccounted}
 use Rattle.mc_pages.specs.InOrder.{IsInOrder, AreKept, slabs_of, is_awaited}
-use Rattle.mc_pages.proofs.Owners.{position-AreGranted, position-AreGranted_all, within_from_owned}
+use Rattle.mc_pages.proofs.Grace.{populated-le, populated-lt}
+use Rattle.mc_pages.proofs.GrantedPage.{length-owners}
+use Rattle.mc_pages.proofs.KeptPages.{may_be_granted}
+use Rattle.mc_pages.proofs.Owners.{position-AreGranted, within_from_owned}
 use Rattle.mc_pages.proofs.RoomySlabs.{Fits, Fits-set, IsClass-set, length-classes, read_state, read_room, with_roomy, fits-changed, states-changed}
 
 -- a page is no lack of one
@@ -33,23 +38,69 @@ Some-same a b h = cc
 pooled_none : (slabs : SlabState) → length slabs.pool ≡ 0 → pooled_page slabs ≡ None
 pooled_none slabs empty = slice_get_past slabs.pool (length slabs.pool - 1) (omega arith)
 
--- without a page of the pool the next one is the lowest untouched one
-pub next_untouched : (slabs : SlabState) → pooled_page slabs ≡ None → next_page slabs ≡ untouched_page slabs
-next_untouched slabs none = ap (λ (o : Option ℕ). option_or o (untouched_page slabs)) none
+-- without a page of the pool the next one is one that is granted
+pub next_untouched : (slabs : SlabState) (class : ℕ) → pooled_page slabs ≡ None → next_page slabs class ≡ granted_page slabs class
+next_untouched slabs class none = ap (λ (o : Option ℕ). option_or o (granted_page slabs class)) none
 
 -- the next page comes out of a pool that has one
-pub next_pooled : (slabs : SlabState) (page : ℕ) → 0 < length slabs.pool → next_page slabs ≡ Some page → pooled_page slabs ≡ Some page
-next_pooled slabs page some next =
+pub next_pooled : (slabs : SlabState) (class page : ℕ) → 0 < length slabs.pool → next_page slabs class ≡ Some page → pooled_page slabs ≡ Some page
+next_pooled slabs class page some next =
     let last = slice_get-get_or slabs.pool (length slabs.pool - 1) 0 (omega arith) in
-    last ∙ (sym (ap (λ (o : Option ℕ). option_or o (untouched_page slabs)) last) ∙ next)
+    last ∙ (sym (ap (λ (o : Option ℕ). option_or o (granted_page slabs class)) last) ∙ next)
 
--- the next page is the lowest untouched one where the pool is empty
-pub next_granted : (slabs : SlabState) (granted page : ℕ) → IsInOrder slabs granted → length slabs.pool ≡ 0 → next_page slabs ≡ Some page → (page ≡ granted) × (granted < length slabs.owners)
-next_granted slabs granted page kept empty next =
-    let untouched = sym (next_untouched slabs (pooled_none slabs empty)) ∙ next in
-    elim (cases_lt granted (length slabs.owners)) [
-      | inl within ↦ (Some-same page granted (sym untouched ∙ position-AreGranted slabs.owners granted kept.lowest within), within)
-      | inr past ↦ absurd (None≢Some page (sym (position-AreGranted_all slabs.owners granted kept.lowest (omega (arith, kept.lowest.within))) ∙ untouched))
+-- a class that may get a page that was never granted finds one
+pub granted_within : (slabs : SlabState) (granted class : ℕ) → IsInOrder slabs granted → IsClass slabs class → may_be_granted slabs class ≡ true → granted < length slabs.owners
+granted_within slabs granted class kept is may =
+    let many = length-owners slabs kept.accounted in
+    elim (cases_Bool (has_ordinary_page slabs)) [
+      | inl left ↦
+          let few = ltb-true (ordinary_count slabs.ledger) (slabs.limit / slabs.page) left in
+          omega (arith, many, few, kept.graced, populated-le slabs)
+      | inr none ↦
+          let first = eqb-true (length (class_at slabs class).pages) 0 (sym (ap (λ b. b || is_without_page slabs class) none) ∙ may) in
+          omega (arith, many, kept.graced, kept.accounted.limit, populated-lt slabs class is first)
+    ]
+
+-- the page that is granted to it
+pub granted_page-is : (slabs : SlabState) (granted class : ℕ) → IsInOrder slabs granted → IsClass slabs class → may_be_granted slabs class ≡ true → granted_page slabs class ≡ Some granted
+granted_page-is slabs granted class kept is may =
+    ap (λ b. if b then untouched_page slabs else None) may ∙ position-AreGranted slabs.owners granted kept.lowest (granted_within slabs granted class kept is may)
+
+-- where there is none for a class, the pool is empty, none is left within the limit, and the class has one
+pub next_none : (slabs : SlabState) (granted class : ℕ) → IsInOrder slabs granted → IsClass slabs class → next_page slabs class ≡ None → (slabs.pool ≡ []) × (slabs.limit / slabs.page ≤ ordinary_count slabs.ledger) × (1 ≤ length (class_at slabs class).pages)
+next_none slabs granted class kept is none =
+    elim (cases_lt 0 (length slabs.pool)) [
+      | inl some ↦
+          let last = slice_get-get_or slabs.pool (length slabs.pool - 1) 0 (omega arith) in
+          absurd (None≢Some _ (sym none ∙ ap (λ (o : Option ℕ). option_or o (granted_page slabs class)) last))
+      | inr empty ↦
+          let given = sym (next_untouched slabs class (pooled_none slabs (omega (arith, empty)))) ∙ none in
+          elim (cases_Bool (may_be_granted slabs class)) [
+            | inl may ↦ absurd (None≢Some granted (sym given ∙ granted_page-is slabs granted class kept is may))
+            | inr not ↦
+                let parts = neither (has_ordinary_page slabs) (is_without_page slabs class) not in
+                (nil_from_length slabs.pool (omega (arith, empty)), ltb-false _ _ parts.0, some_page slabs class parts.1)
+          ]
+    ]
+  where
+    neither : (a b : Bool) → (a || b) ≡ false → (a ≡ false) × (b ≡ false)
+    neither true b h = absurd (cc)
+    neither false b h = (refl, h)
+
+    some_page : (slabs : SlabState) (class : ℕ) → is_without_page slabs class ≡ false → 1 ≤ length (class_at slabs class).pages
+    some_page slabs class h =
+        elim (cases_lt 0 (length (class_at slabs class).pages)) [
+          | inl some ↦ some
+          | inr none ↦ absurd (let yes = eq-eqb (length (class_at slabs class).pages) 0 (omega (arith, none)) in cc)
+        ]
+
+-- the next page is the lowest untouched one where the pool is empty, and the class may get it
+pub next_granted : (slabs : SlabState) (granted class page : ℕ) → IsInOrder slabs granted → IsClass slabs class → length slabs.pool ≡ 0 → next_page slabs class ≡ Some page → (page ≡ granted) × (granted < length slabs.owners) × (may_be_granted slabs class ≡ true)
+next_granted slabs granted class page kept is empty next =
+    let given = sym (next_untouched slabs class (pooled_none slabs empty)) ∙ next in
+    elim (cases_Bool (may_be_granted slabs class)) [
+      | inl may ↦ (Some-same page granted (sym given ∙ granted_page-is slabs granted class kept is may), granted_within slabs granted class kept is may, may)
+      | inr not ↦ absurd (None≢Some page (sym (ap (λ b. if b then untouched_page slabs else None) not) ∙ given))
     ]
 
 -- a page of the pool is one of the pages
@@ -62,11 +113,11 @@ pooled_within slabs page all some pooled =
     within_from_owned page slabs.owners (λ untouched. absurd (omega (arith, here, counted, all.pool page, ap (λ (o : Owner). truth (is_pool o)) untouched)))
 
 -- the next page is one of the pages
-pub next_within : (slabs : SlabState) (granted page : ℕ) → IsInOrder slabs granted → next_page slabs ≡ Some page → page < length slabs.owners
-next_within slabs granted page kept next =
+pub next_within : (slabs : SlabState) (granted class page : ℕ) → IsInOrder slabs granted → IsClass slabs class → next_page slabs class ≡ Some page → page < length slabs.owners
+next_within slabs granted class page kept is next =
     elim (cases_lt 0 (length slabs.pool)) [
-      | inl some ↦ pooled_within slabs page kept.accounted some (next_pooled slabs page some next)
-      | inr none ↦ let is = next_granted slabs granted page kept (omega arith) next in omega (arith, is.0, is.1)
+      | inl some ↦ pooled_within slabs page kept.accounted some (next_pooled slabs class page some next)
+      | inr none ↦ let given = next_granted slabs granted class page kept is (omega arith) next in omega (arith, given.0, given.1)
     ]
 
 -- where the pool has a page, that one is taken
@@ -102,7 +153,7 @@ take_is slabs class page read roomy added pool ledger is h same changed pool_is 
     ∙ ap₂ (given_with (slabs_of slabs) class page (set (slabs_of slabs).classes (class - 1) (with_page (class_at (slabs_of slabs) class) page))) pool_is ledger_is
 
 -- the page was untouched
-pub grant_is : (slabs : Inside) (class page : ℕ) (read roomy added : RoomyClass) (pool : List ℕ) (ledger : List Entry) → IsClass (slabs_of slabs) class → read ≡ slice_index_or slabs.classes.items (class - 1) read → roomy.state ≡ read.state → added ≡ in_state roomy (with_page roomy.state page) → pool ≡ slabs.pool.items → ledger ≡ slabs.ledger.items ++ Granted page class ∷ [] → given_with (slabs_of slabs) class page (states slabs.rows (set slabs.classes.items (class - 1) added)) pool ledger ≡ after_grant (slabs_of slabs) class page
+pub grant_is : (slabs : Inside) (class page : ℕ) (read roomy added : RoomyClass) (pool : List ℕ) (ledger : List Entry) → IsClass (slabs_of slabs) class → read ≡ slice_index_or slabs.classes.items (class - 1) read → roomy.state ≡ read.state → added ≡ in_state roomy (with_page roomy.state page) → pool ≡ slabs.pool.items → ledger ≡ slabs.ledger.items ++ Granted page class (not (has_ordinary_page (slabs_of slabs))) ∷ [] → given_with (slabs_of slabs) class page (states slabs.rows (set slabs.classes.items (class - 1) added)) pool ledger ≡ after_grant (slabs_of slabs) class page
 grant_is slabs class page read roomy added pool ledger is h same changed pool_is ledger_is =
     ap (λ (cs : List ClassState). given_with (slabs_of slabs) class page cs pool ledger) (states_given slabs class page read roomy added is h same changed)
     ∙ ap₂ (given_with (slabs_of slabs) class page (set (slabs_of slabs).classes (class - 1) (with_page (class_at (slabs_of slabs) class) page))) pool_is ledger_is

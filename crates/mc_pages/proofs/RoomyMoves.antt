@@ -62,6 +62,7 @@ AreKept-passed slabs found m held rescues nomem runs held_is rescues_is nomem_is
       pool = omega (arith, kept.pool, awaited 0);
       classes = λ class is. omega (arith, kept.classes class is, awaited class);
       linked = kept.linked;
+      ordinary = kept.ordinary;
       aged = kept.aged;
       rows = kept.rows;
     }
@@ -86,6 +87,7 @@ AreKept-wrapped slabs m busy runs busy_is kept order =
       pool = omega (arith, kept.pool, awaited 0);
       classes = λ class is. omega (arith, kept.classes class is, awaited class);
       linked = kept.linked;
+      ordinary = kept.ordinary;
       aged = kept.aged;
       rows = kept.rows;
     }

@@ -136,6 +136,7 @@ AreKept-changed slabs class place read new f kept is at h changed apart pages si
       pool = kept.pool;
       classes = fits-changed slabs class place new kept is at (omega (arith, more, pages, before)) (omega (arith, ap (λ (c : RoomyClass). c.room) changed, read_room slabs class place read is at h));
       linked = kept.linked;
+      ordinary = kept.ordinary;
       aged = kept.aged;
       rows = subst (λ (s : SlabState). HasRows s.classes (vec_len slabs.owners) (sizes_of slabs.rows)) (sym now)
           (HasRows-with_class (slabs_of slabs) class (vec_len slabs.owners) (sizes_of slabs.rows) (f (class_at (slabs_of slabs) class)) kept.rows is size);
@@ -185,6 +186,7 @@ AreKept-became slabs after ages class place change kept is at became size order 
       pool = kept.pool;
       classes = listed.classes;
       linked = listed.linked;
+      ordinary = kept.ordinary;
       aged = aged;
       rows = listed.rows;
     }
@@ -208,7 +210,7 @@ lengths_below slabs class place kept is at =
     let s = slabs_of slabs in
     let state = class_at s class in
     let lists = lists_at slabs class place is at in
-    let most : length state.pages * state.per_page ≤ 64 * 256 = mul-le-mul (pages_below s slabs.granted class kept.order is) (kept.order.at_most class is) in
+    let most : length state.pages * state.per_page ≤ 127 * 256 = mul-le-mul (pages_below s slabs.granted class kept.order is) (kept.order.at_most class is) in
     let all = kept.order.accounted.total class is in
     (omega (arith, all, most, kept.linked.long (Free place), ap length lists.0), omega (arith, all, most, kept.linked.long (HandedOut place), ap length lists.1))
 

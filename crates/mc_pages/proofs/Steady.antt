@@ -1,5 +1,5 @@
 -- What is kept beside the accounts: pages, chunks a page, and the chunk that is cut next.
-use Rattle.std.proofs.Common.{◌≡◌, ℕ, ◌+◌, ◌-◌, ◌<◌, ◌≤◌, List, [], ◌∷◌, ◌++◌, length, slice_get, Some, refl, sym, ap, ◌∙◌, subst, inl, inr, arith, length-set}
+use Rattle.std.proofs.Common.{◌≡◌, ℕ, ◌+◌, ◌-◌, ◌<◌, ◌≤◌, nat_lt, List, [], ◌∷◌, ◌++◌, length, slice_get, Some, refl, sym, ap, ◌∙◌, subst, inl, inr, arith, length-set}
 use Rattle.std.proofs.lemmas.Bool.{cases_lt}
 use Rattle.std.proofs.lemmas.Option.{same_Some, none-some, slice_get-get_or}
 use Rattle.std.proofs.lemmas.List.{get_or_push, length_push}
@@ -11,7 +11,9 @@ use Rattle.mc_pages.specs.ClassState.{ClassState, with_page}
 use Rattle.mc_pages.specs.SlabState.{SlabState, IsClass, class_at, class_of_owner, class_of_page, class_of_chunk}
 use Rattle.mc_pages.specs.Changes.{with_class, with_given, next_uncut}
 use Rattle.mc_pages.specs.Accounted.{is_moving, IsAccounted}
-use Rattle.mc_pages.specs.InOrder.{AreGranted, IsBeingCut, IsInOrder}
+use Rattle.mc_pages.specs.Ledger.{ordinary_count}
+use Rattle.mc_pages.specs.InOrder.{AreGranted, IsBeingCut, IsInOrder, populated_count}
+use Rattle.mc_pages.proofs.Grace.{populated-same}
 use Rattle.mc_pages.proofs.Owners.{owner_at-set_same}
 use Rattle.mc_pages.proofs.OneClass.{length-with_class, class_at-with_class_same, class_at-with_class_kept}
 use Rattle.mc_pages.proofs.Redistributed.{IsClass-before}
@@ -20,7 +22,7 @@ use Rattle.mc_pages.proofs.CutNext.{next_uncut-last, next_uncut-more}
 
 -- what no change of one class changes
 pub record IsSteady (slabs : SlabState) : Type 0 where
-  pub pages : length slabs.owners ≤ 64
+  pub pages : length slabs.owners ≤ 127
   pub per_page : (class : ℕ) → IsClass slabs class → 1 ≤ (class_at slabs class).per_page
   pub at_most : (class : ℕ) → IsClass slabs class → (class_at slabs class).per_page ≤ 256
 
@@ -63,6 +65,7 @@ IsInOrder-with_class slabs granted class state kept is size pages all =
     record {
       accounted = all;
       lowest = kept.lowest;
+      graced = omega (arith, kept.graced, populated-same slabs class state is (ap (λ (ps : List ℕ). nat_lt 0 (length ps)) pages));
       pages = kept.pages;
       per_page = steady.per_page;
       at_most = steady.at_most;
@@ -107,8 +110,8 @@ IsBeingCut-given slabs given page is within some =
     }
 
 -- a page is given to a class, and all stays accounted for and granted as it should
-pub IsInOrder-given : (slabs : SlabState) (granted given page moved : ℕ) (pool : List ℕ) (ledger : List Entry) → IsSteady slabs → IsClass slabs given → page < length slabs.owners → IsAccounted (record (with_given slabs given page) { pool = pool; ledger = ledger; moved = moved }) → AreGranted (with_given slabs given page).owners granted → IsInOrder (record (with_given slabs given page) { pool = pool; ledger = ledger; moved = moved }) granted
-IsInOrder-given slabs granted given page moved pool ledger steady is within all are =
+pub IsInOrder-given : (slabs : SlabState) (granted given page moved : ℕ) (pool : List ℕ) (ledger : List Entry) → IsSteady slabs → IsClass slabs given → page < length slabs.owners → IsAccounted (record (with_given slabs given page) { pool = pool; ledger = ledger; moved = moved }) → AreGranted (with_given slabs given page).owners granted → granted ≤ ordinary_count ledger + populated_count (with_given slabs given page).classes → IsInOrder (record (with_given slabs given page) { pool = pool; ledger = ledger; moved = moved }) granted
+IsInOrder-given slabs granted given page moved pool ledger steady is within all are few =
     let new : SlabState = record (with_given slabs given page) { pool = pool; ledger = ledger; moved = moved } in
     let state = with_page (class_at slabs given) page in
     let after = IsSteady-changed slabs given state (with_given slabs given page).owners steady is refl (length-set slabs.owners page (Class given)) in
@@ -117,6 +120,7 @@ IsInOrder-given slabs granted given page moved pool ledger steady is within all 
     record {
       accounted = all;
       lowest = are;
+      graced = few;
       pages = after.pages;
       per_page = after.per_page;
       at_most = after.at_most;

@@ -7,9 +7,9 @@ use Rattle.mc_pages.specs.declared.ids.Moving.{Moving}
 use Rattle.mc_pages.specs.declared.ledger.Owner.{Owner}
 use Rattle.mc_pages.specs.declared.ledger.Owner.TheVariants.{Untouched, Pool, Class}
 use Rattle.mc_pages.specs.declared.ledger.Owner.TheVariants as owner
-use Rattle.mc_pages.specs.Ledger.{all_untouched, owner_at, replay}
+use Rattle.mc_pages.specs.Ledger.{KeepsGrace, all_untouched, ordinary_count, owner_at, replay}
 use Rattle.mc_pages.specs.ClassState.{times}
-use Rattle.mc_pages.specs.SlabState.{SlabState, IsClass, class_at, granted_count}
+use Rattle.mc_pages.specs.SlabState.{SlabState, IsClass, class_at, page_count}
 
 -- 1 for a fact, and else 0
 abbrev pub truth : Bool → ℕ
@@ -85,7 +85,7 @@ pub record IsMove (slabs : SlabState) (move : Moving) : Type 0 where
 -- the owners are the ledger's, a page is in its owner's list alone, and each cut chunk is in one place
 pub record IsAccounted (slabs : SlabState) : Type 0 where
   -- the owners are what the ledger's entries made of untouched pages
-  pub replays : replay (all_untouched (slabs.limit / slabs.page)) slabs.ledger ≡ Some slabs.owners
+  pub replays : replay (all_untouched (page_count slabs)) slabs.ledger ≡ Some slabs.owners
   -- each page of a class stands once in its page list, and no other page does
   pub pages : (class page : ℕ) → IsClass slabs class →
       count_by (λ p. p == page) (class_at slabs class).pages ≡ truth (is_of_class class (owner_at slabs.owners page))
@@ -96,8 +96,9 @@ pub record IsAccounted (slabs : SlabState) : Type 0 where
   -- no page is moving but that of the move that runs
   pub one_move : (page : ℕ) → IsTrue (is_moving (owner_at slabs.owners page)) → option_map (λ move. move.page) slabs.moving ≡ Some page
   pub move : (move : Moving) → slabs.moving ≡ Some move → IsMove slabs move
-  -- granted bytes are within the limit
-  pub limit : granted_count slabs * slabs.page ≤ slabs.limit
+  -- no more pages are granted than the limit has room for, but the first ones of classes, one at most for each
+  pub limit : ordinary_count slabs.ledger ≤ slabs.limit / slabs.page
+  pub grace : KeepsGrace slabs.owners slabs.ledger
   -- each cut chunk is in one place: once in the free list or in the hand-out order, or cleared; and no other chunk is
   pub chunks : (class : ℕ) (chunk : ChunkId) → IsClass slabs class →
       places_in slabs class chunk + truth (is_cleared slabs class chunk) ≡ truth (is_cut slabs class chunk)

@@ -1,9 +1,10 @@
 -- What each call on chunks and pages changes.
-use Rattle.std.specs.Prelude.{ℕ, ◌+◌, ◌-◌, nat_lt, if◌then◌else◌, [], ◌∷◌, ◌++◌, length, take, slice_get, slice_set, Option, Some, None}
+use Rattle.std.specs.Prelude.{ℕ, ◌+◌, ◌-◌, ◌/◌, ◌==◌, Bool, not, ◌||◌, nat_lt, if◌then◌else◌, [], ◌∷◌, ◌++◌, length, take, slice_get, slice_set, Option, Some, None}
 use Rattle.std.specs.Option.{option_or}
 use Rattle.mc_pages.specs.declared.ids.ChunkId.{ChunkId}
 use Rattle.mc_pages.specs.declared.ledger.Owner.TheVariants.{Class}
 use Rattle.mc_pages.specs.declared.ledger.Entry.TheVariants.{Granted, Taken}
+use Rattle.mc_pages.specs.Ledger.{ordinary_count}
 use Rattle.mc_pages.specs.ClassState.{ClassState, popped, put_back, touched, replaced, cleared, evicted, with_cut, with_page}
 use Rattle.mc_pages.specs.SlabState.{SlabState, class_at, class_of_page, class_of_chunk, untouched_page}
 
@@ -46,13 +47,27 @@ with_given slabs class page = record (with_class slabs class (with_page (class_a
 abbrev pub pooled_page : SlabState → Option ℕ
 pooled_page slabs = slice_get slabs.pool (length slabs.pool - 1)
 
--- the page that a class gets next: the one that came last into the pool, or else the lowest that was never granted
-abbrev pub next_page : SlabState → Option ℕ
-next_page slabs = option_or (pooled_page slabs) (untouched_page slabs)
+-- fewer pages than the limit has room for were granted within it
+abbrev pub has_ordinary_page : SlabState → Bool
+has_ordinary_page slabs = nat_lt (ordinary_count slabs.ledger) (slabs.limit / slabs.page)
 
--- an untouched page is given to the class
+-- the class has no page
+abbrev pub is_without_page : SlabState → ℕ → Bool
+is_without_page slabs class = length (class_at slabs class).pages == 0
+
+-- the page that is granted next to a class: the lowest that never was, within the limit, or beyond it as the class's first
+abbrev pub granted_page : SlabState → ℕ → Option ℕ
+granted_page slabs class = if has_ordinary_page slabs || is_without_page slabs class then untouched_page slabs else None
+
+-- the page that a class gets next: the one that came last into the pool, or else one that is granted
+abbrev pub next_page : SlabState → ℕ → Option ℕ
+next_page slabs class = option_or (pooled_page slabs) (granted_page slabs class)
+
+-- an untouched page is given to the class, beyond the limit where none is left within it
 abbrev pub after_grant : SlabState → ℕ → ℕ → SlabState
-after_grant slabs class page = record (with_given slabs class page) { ledger = slabs.ledger ++ Granted page class ∷ [] }
+after_grant slabs class page = record (with_given slabs class page) {
+  ledger = slabs.ledger ++ Granted page class (not (has_ordinary_page slabs)) ∷ [];
+}
 
 -- the last page of the pool is given to the class
 abbrev pub after_take : SlabState → ℕ → ℕ → SlabState

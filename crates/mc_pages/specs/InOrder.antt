@@ -1,12 +1,12 @@
 -- What all pages and chunks keep beside that they are accounted for, and the room that is kept for them.
-use Rattle.std.specs.Prelude.{◌≡◌, ℕ, ◌+◌, ◌-◌, ◌*◌, ◌<◌, ◌≤◌, ◌==◌, Bool, false, IsTrue, not, List, length, map, slice_get, slice_index_or, vec_len, vec_capacity, is_some, Option, Some}
+use Rattle.std.specs.Prelude.{◌≡◌, ℕ, ◌+◌, ◌-◌, ◌*◌, ◌<◌, ◌≤◌, ◌==◌, Bool, false, IsTrue, not, nat_lt, List, length, map, count_by, slice_get, slice_index_or, vec_len, vec_capacity, is_some, Option, Some}
 use Rattle.std.specs.Option.{option_map_or}
 use Rattle.mc_pages.specs.declared.ids.ChunkId.{ChunkId}
 use Rattle.mc_pages.specs.declared.ids.Moving.{Moving}
 use Rattle.mc_pages.specs.declared.ledger.Owner.{Owner}
 use Rattle.mc_pages.specs.declared.ledger.Owner.TheVariants.{Untouched}
 use Rattle.mc_pages.specs.declared.slabs.Slabs.TheInside.{Inside}
-use Rattle.mc_pages.specs.Ledger.{owner_at}
+use Rattle.mc_pages.specs.Ledger.{ordinary_count, owner_at}
 use Rattle.mc_pages.specs.ClassState.{ClassState, new_class}
 use Rattle.mc_pages.specs.Linked.{AreLinked, Sizes, sizes_of}
 use Rattle.mc_pages.specs.Ages.{HasAges}
@@ -54,11 +54,17 @@ pub record IsBeingCut (slabs : SlabState) (chunk : ChunkId) : Type 0 where
   pub within : chunk.index < (class_of_chunk slabs chunk).per_page
   pub newest : slice_get (class_of_chunk slabs chunk).pages (length (class_of_chunk slabs chunk).pages - 1) ≡ Some chunk.page
 
--- all is accounted for; of at most 64 pages, with 1 to 256 chunks each, the lowest so many were granted
+-- how many classes have a page
+abbrev pub populated_count : List ClassState → ℕ
+populated_count classes = count_by (λ class. nat_lt 0 (length class.pages)) classes
+
+-- all is accounted for; of at most 127 pages, with 1 to 256 chunks each, the lowest so many were granted
 pub record IsInOrder (slabs : SlabState) (granted : ℕ) : Type 0 where
   pub accounted : IsAccounted slabs
   pub lowest : AreGranted slabs.owners granted
-  pub pages : length slabs.owners ≤ 64
+  -- beyond the limit no more were granted than there are classes with a page
+  pub graced : granted ≤ ordinary_count slabs.ledger + populated_count slabs.classes
+  pub pages : length slabs.owners ≤ 127
   pub per_page : (class : ℕ) → IsClass slabs class → 1 ≤ (class_at slabs class).per_page
   pub at_most : (class : ℕ) → IsClass slabs class → (class_at slabs class).per_page ≤ 256
   pub uncut : (chunk : ChunkId) → slabs.uncut ≡ Some chunk → IsBeingCut slabs chunk
@@ -83,6 +89,7 @@ pub record HasRows (classes : List ClassState) (pages : ℕ) (sizes : Sizes) : T
 -- what is in memory is in order: its lists stand in the rows, by age, and what a move's end adds has room
 pub record AreKept (slabs : Inside) : Type 0 where
   pub order : IsInOrder (slabs_of slabs) slabs.granted
+  pub ordinary : slabs.ordinary ≡ ordinary_count slabs.ledger.items
   -- there is room for what the end of a move adds
   pub ledger : vec_len slabs.ledger + truth (is_some slabs.moving) ≤ vec_capacity slabs.ledger
   pub pool : vec_len slabs.pool + truth (is_awaited slabs.moving 0) ≤ vec_capacity slabs.pool

@@ -1,13 +1,9 @@
 -- In how many places each page is: with a class, in the pool, on the move, or among those that were never granted.
-use Rattle.std.specs.Prelude.{ℕ, ◌+◌, ◌/◌, ◌==◌, Bool, false, ◌&&◌, nat_lt, if◌then◌else◌, count_by, sum_by}
+use Rattle.std.specs.Prelude.{ℕ, ◌+◌, ◌==◌, Bool, false, ◌&&◌, nat_lt, if◌then◌else◌, count_by, sum_by}
 use Rattle.std.specs.Option.{option_map_or}
 use Rattle.mc_pages.specs.Ledger.{owner_at}
-use Rattle.mc_pages.specs.SlabState.{SlabState, is_untouched}
+use Rattle.mc_pages.specs.SlabState.{SlabState, page_count, is_untouched}
 use Rattle.mc_pages.specs.Accounted.{truth}
-
--- how many pages there are
-abbrev pub page_count : SlabState → ℕ
-page_count slabs = slabs.limit / slabs.page
 
 -- how often the page stands in the page lists of all classes
 abbrev pub times_listed : SlabState → ℕ → ℕ

@@ -17,4 +17,4 @@ rows_of rows = record {
 
 -- there are few rows, and few of a page
 abbrev pub HasSpace : Inside → Type 0
-HasSpace rows = (vec_len rows.rows ≤ 16384) × (rows.most ≤ 256)
+HasSpace rows = (vec_len rows.rows ≤ 32512) × (rows.most ≤ 256)

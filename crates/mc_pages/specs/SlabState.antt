@@ -1,6 +1,6 @@
 -- All pages and chunks of a slab memory, as lists.
-use Rattle.std.specs.Prelude.{ℕ, ◌-◌, ◌/◌, ◌≤◌, Bool, true, false, not, List, [], length, map, count_by, position, slice_index_or, Option, None}
-use Rattle.mc_classes.specs.Classes.{Classes, pages_of}
+use Rattle.std.specs.Prelude.{ℕ, ◌+◌, ◌-◌, ◌/◌, ◌≤◌, Bool, true, false, not, List, [], length, map, count_by, position, slice_index_or, Option, None}
+use Rattle.mc_classes.specs.Classes.{Classes, arena_pages_of}
 use Rattle.mc_pages.specs.declared.ids.ChunkId.{ChunkId}
 use Rattle.mc_pages.specs.declared.ids.Moving.{Moving}
 use Rattle.mc_pages.specs.declared.ledger.Owner.{Owner}
@@ -13,7 +13,7 @@ use Rattle.mc_pages.specs.ClassState.{ClassState, new_class}
 
 -- a slab memory as its callers see it: pages and who owns them, classes with their chunks, the move, counters
 pub record SlabState : Type 0 where
-  -- the bytes of a page, and the bytes of pages that may be granted
+  -- the bytes of a page, and the bytes of pages that may be granted but for the first ones of classes
   pub page : ℕ
   pub limit : ℕ
   -- class 1 first
@@ -47,7 +47,7 @@ fresh_slabs table = record {
   page = table.page;
   limit = table.limit;
   classes = map (λ size. new_class size (table.page / size)) table.sizes;
-  owners = all_untouched (pages_of table);
+  owners = all_untouched (arena_pages_of table);
   pool = [];
   ledger = [];
   uncut = None;
@@ -59,6 +59,10 @@ fresh_slabs table = record {
   busy = 0;
   automove = 0;
 }
+
+-- how many pages there are: those within the limit, and one more for each class
+abbrev pub page_count : SlabState → ℕ
+page_count slabs = slabs.limit / slabs.page + length slabs.classes
 
 -- the classes are numbered from 1
 abbrev pub IsClass : SlabState → ℕ → Type 0

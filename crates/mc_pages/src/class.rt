@@ -67,7 +67,7 @@ impl SlabClass {
 
     /// Makes room for so many pages.
     pub(crate) fn make_room(&mut self, pages: usize) -> Result<(), Refused>
-        requires { pages ≤ 128 }
+        requires { pages ≤ 129 }
         ensures state { self.new.state ≡ self.old.state }
         ensures kept { self.old.room ≤ self.new.room }
         ensures ok { OnOk result (pages ≤ self.new.room) }

@@ -4,10 +4,10 @@ ghost use Rattle.mc_pages.specs.declared.ids.ChunkId.{ChunkId};
 ghost use Rattle.mc_pages.specs.declared.ids.Moving.{Moving};
 ghost use Rattle.mc_pages.specs.ClassState.{without};
 ghost use Rattle.mc_pages.specs.Before.{comes_before, HasEachOnce, nth, three};
-ghost use Rattle.mc_pages.specs.SlabState.{SlabState};
+ghost use Rattle.mc_pages.specs.SlabState.{SlabState, page_count};
 ghost use Rattle.mc_pages.specs.Accounted.{IsAccounted};
-ghost use Rattle.mc_pages.specs.Pages.{page_count, times_listed, places_of};
-ghost use Rattle.mc_pages.specs.Unaccounted.{nothing_granted, page_of_no_class, last_page_moves, cursor_past_the_classes, unknown_mode};
+ghost use Rattle.mc_pages.specs.Pages.{times_listed, places_of};
+ghost use Rattle.mc_pages.specs.Unaccounted.{nothing_granted, page_of_no_class, last_page_moves, past_the_limit, grace_twice, grace_given_away, cursor_past_the_classes, unknown_mode};
 
 /// Each page is in one place: with a class, in the pool, on the move, or among those that were never granted. The one on
 /// the move stands in one page list, its source's. What isn't a page is nowhere.
@@ -18,11 +18,15 @@ pub fn no_page_is_lost()
 {}
 
 /// A memory in which nothing was granted is accounted for. With a page that is owned by a class that isn't there, with the
-/// last page of a class on the move, with the cursor past the classes, or with an unknown mode it isn't.
+/// last page of a class on the move, with more pages within the limit than it has room for, with two pages beyond it for one
+/// class, with one that the class gave away, with the cursor past the classes, or with an unknown mode it isn't.
 pub fn unaccounted_memories()
     ensures nothing_granted { IsAccounted nothing_granted }
     ensures page_of_no_class { IsAccounted page_of_no_class → ⊥ }
     ensures last_page_moves { IsAccounted last_page_moves → ⊥ }
+    ensures past_the_limit { IsAccounted past_the_limit → ⊥ }
+    ensures grace_twice { IsAccounted grace_twice → ⊥ }
+    ensures grace_given_away { IsAccounted grace_given_away → ⊥ }
     ensures cursor_past_the_classes { IsAccounted cursor_past_the_classes → ⊥ }
     ensures unknown_mode { IsAccounted unknown_mode → ⊥ }
 {}

@@ -33,8 +33,8 @@ impl Owner {
 /// One change of a page's owner.
 #[derive(Clone, Copy, PartialEq, Eq)]
 pub enum Entry {
-    /// An untouched page was given to a class.
-    Granted(PageId, ClassId),
+    /// An untouched page was given to a class; beyond the limit, as its first, where it says so.
+    Granted(PageId, ClassId, bool),
     /// A page of the pool was given to a class.
     Taken(PageId, ClassId),
     /// A page of the first class began to move to the second, or to the pool where that is 0.

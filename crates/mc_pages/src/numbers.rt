@@ -14,7 +14,7 @@ pub struct Numbers {
 /// What all have together. The counters stay at 2^64 - 1 once there (own).
 #[derive(Clone, Copy, PartialEq, Eq)]
 pub struct Totals {
-    /// Pages that were ever granted.
+    /// Pages that were ever granted, those beyond the limit too.
     pub granted: u64,
     /// Pages in the pool.
     pub pool: u64,

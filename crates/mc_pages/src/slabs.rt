@@ -2,7 +2,7 @@
 ghost use Rattle.std.specs.Prelude.{◌≡◌, ℕ, ◌-◌, ◌*◌, ◌<◌, ◌≤◌, length, slice_get, IfOk, None};
 ghost use Rattle.std.specs.Option.{option_map};
 ghost use Rattle.mc_pages.specs.ClassState.{new_class, numbers_of};
-ghost use Rattle.mc_classes.specs.Classes.{pages_of, per_page_of};
+ghost use Rattle.mc_classes.specs.Classes.{arena_pages_of, per_page_of};
 ghost use Rattle.mc_pages.specs.Ledger.{owner_at};
 ghost use Rattle.mc_pages.specs.declared.rows.ListName.TheVariants.{Free, HandedOut};
 ghost use Rattle.mc_pages.specs.Rows.{fresh_rows};
@@ -45,6 +45,8 @@ pub struct Slabs {
     owners: Vec<Owner>,
     /// How many pages were granted. They are the lowest ones.
     granted: usize,
+    /// How many of them were granted within the limit.
+    ordinary: usize,
     /// The page that came last stands last.
     pool: Vec<PageId>,
     ledger: Vec<Entry>,
@@ -78,7 +80,7 @@ impl Slabs {
         ensures accounted { IfOk result (λ slabs. IsAccounted slabs.state) }
     {
         let classes = classes_of(alloc, table)?;
-        let owners = filled(alloc, Owner::Untouched, table.pages() as usize)?;
+        let owners = filled(alloc, Owner::Untouched, table.arena_pages() as usize)?;
         let rows = rows_of(alloc, table)?;
         let ages = ages_of(alloc, table)?;
         Ok(Slabs {
@@ -89,6 +91,7 @@ impl Slabs {
             ages,
             owners,
             granted: 0,
+            ordinary: 0,
             pool: Vec::new(alloc),
             ledger: Vec::new(alloc),
             uncut: None,
@@ -218,17 +221,17 @@ fn classes_of(alloc: Global, table: &ClassTable) -> Result<Vec<SlabClass>, Refus
 /// Rows for all chunks of the table's pages, and empty lists for its classes. No class has more chunks a page than
 /// the first.
 fn rows_of(alloc: Global, table: &ClassTable) -> Result<Rows, Refused>
-    ensures { IfOk result (λ rows. rows ≡ fresh_rows (per_page_of table.now 1) (pages_of table.now * per_page_of table.now 1) (length table.now.sizes)) }
+    ensures { IfOk result (λ rows. rows ≡ fresh_rows (per_page_of table.now 1) (arena_pages_of table.now * per_page_of table.now 1) (length table.now.sizes)) }
 {
     let classes = table.count() as usize;
-    let pages = table.pages() as usize;
+    let pages = table.arena_pages() as usize;
     Rows::new(alloc, table.per_page(1), pages, classes)
 }
 
 /// An age for each of these rows.
 fn ages_of(alloc: Global, table: &ClassTable) -> Result<Ages, Refused>
-    ensures { IfOk result (λ ages. ages ≡ fresh_ages (pages_of table.now * per_page_of table.now 1)) }
+    ensures { IfOk result (λ ages. ages ≡ fresh_ages (arena_pages_of table.now * per_page_of table.now 1)) }
 {
-    let chunks = table.pages() * table.per_page(1);
+    let chunks = table.arena_pages() * table.per_page(1);
     Ages::new(alloc, chunks as usize)
 }

@@ -1,5 +1,5 @@
 -- The lines of a map's text that say how pages changed hands.
-use Rattle.std.specs.Prelude.{ℕ, ◌+◌, ◌==◌, if◌then◌else◌, List, [], ◌∷◌, ◌++◌, length, codes, decimal, flat_map, slice_index_or}
+use Rattle.std.specs.Prelude.{ℕ, ◌+◌, ◌==◌, Bool, false, if◌then◌else◌, List, [], ◌∷◌, ◌++◌, length, codes, decimal, flat_map, slice_index_or}
 use Rattle.std.specs.List.{range_with_len}
 use Rattle.mc_pages.specs.declared.ledger.Entry.{Entry}
 use Rattle.mc_pages.specs.declared.ledger.Entry.TheVariants.{Granted, Taken, Began, Ended}
@@ -12,9 +12,13 @@ goal_text class = if class == 0 then codes " to the pool" else codes " to class 
 abbrev pub began_text : ℕ → ℕ → List ℕ
 began_text page src = codes "page " ++ (decimal page ++ (codes " began to move from class " ++ decimal src))
 
+-- that a page was granted beyond the limit, where it was
+abbrev pub grace_text : Bool → List ℕ
+grace_text grace = if grace then codes ", its first, beyond the limit" else []
+
 -- what an entry of the ledger says
 abbrev pub entry_text : Entry → List ℕ
-entry_text (Granted page class) = codes "page " ++ decimal page ++ codes " was granted to class " ++ decimal class
+entry_text (Granted page class grace) = codes "page " ++ decimal page ++ codes " was granted to class " ++ decimal class ++ grace_text grace
 entry_text (Taken page class) = codes "page " ++ decimal page ++ codes " came from the pool to class " ++ decimal class
 entry_text (Began page src dst) = began_text page src ++ goal_text dst
 entry_text (Ended page dst) = (codes "page " ++ decimal page ++ codes " has come") ++ goal_text dst
@@ -25,7 +29,7 @@ entry_line number entry = (codes "  " ++ decimal number ++ codes ": ") ++ entry_
 
 -- the lines of the first so many entries, numbered from 1
 abbrev pub entry_lines : List Entry → ℕ → List ℕ
-entry_lines entries count = flat_map (λ place. entry_line (place + 1) (slice_index_or entries place (Granted 0 0))) (range_with_len 0 count)
+entry_lines entries count = flat_map (λ place. entry_line (place + 1) (slice_index_or entries place (Granted 0 0 false))) (range_with_len 0 count)
 
 -- the ledger
 abbrev pub ledger_text : List Entry → List ℕ

@@ -314,7 +314,7 @@ fn write_tick(
 /// What an entry did: a page was granted, taken from the pool, began to move, or came to its end.
 fn letter_of(entry: Entry) -> &'static str {
     match entry {
-        Entry::Granted(_, _) => "G",
+        Entry::Granted(_, _, _) => "G",
         Entry::Taken(_, _) => "T",
         Entry::Began(_, _, _) => "B",
         Entry::Ended(_, _) => "E",

@@ -59,7 +59,7 @@ pub fn write_classes(
     let (pages, page) = (table.pages(), table.page());
     writeln!(
         text,
-        "{pages} pages of {page} bytes; an item of n words asks for 24 + 8 n bytes\n"
+        "{pages} pages of {page} bytes, and beyond them a first one for each class; an item of n words asks for 24 + 8 n bytes\n"
     )?;
     text.push_str("class   size  chunks a page  items of bytes  worst waste  left of a page\n")?;
     for row in rows {

@@ -1,6 +1,6 @@
 //! The ledger as lines of text.
 ghost use Rattle.std.specs.Prelude.{◌≡◌, ◌++◌, OnOk, codes, length, string_bytes};
-ghost use Rattle.mc_picture.specs.Lines.{began_text, entry_line, entry_lines, entry_text, goal_text, ledger_text};
+ghost use Rattle.mc_picture.specs.Lines.{began_text, entry_line, entry_lines, entry_text, goal_text, grace_text, ledger_text};
 
 use mc_classes::{ClassId, PageId};
 use mc_pages::Entry;
@@ -40,12 +40,25 @@ fn write_entry(number: usize, entry: Entry, text: &mut String) -> Result<(), All
     Ok(())
 }
 
+/// Adds that a page was granted beyond the limit, where it was.
+fn write_grace(grace: bool, text: &mut String) -> Result<(), AllocError>
+    ensures grace { OnOk result (string_bytes text.new ≡ string_bytes text.old ++ grace_text grace) }
+{
+    if grace {
+        return text.push_str(", its first, beyond the limit");
+    }
+    Ok(())
+}
+
 /// Adds how a page changed hands.
 fn write_change(entry: Entry, text: &mut String) -> Result<(), AllocError>
     ensures entry { OnOk result (string_bytes text.new ≡ string_bytes text.old ++ entry_text entry) }
 {
     match entry {
-        Entry::Granted(page, class) => write!(text, "page {page} was granted to class {class}"),
+        Entry::Granted(page, class, grace) => {
+            write!(text, "page {page} was granted to class {class}")?;
+            write_grace(grace, text)
+        }
         Entry::Taken(page, class) => write!(
             text,
             "page {page} came from the pool to class {class}"

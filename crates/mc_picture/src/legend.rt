@@ -127,7 +127,7 @@ fn write_class_key(
 /// Whether an entry names the class.
 fn is_named(ledger: &[Entry], class: ClassId) -> bool {
     ledger.iter().any(|entry| match *entry {
-        Entry::Granted(_, to) | Entry::Taken(_, to) => to == class,
+        Entry::Granted(_, to, _) | Entry::Taken(_, to) => to == class,
         Entry::Began(_, src, dst) => src == class || dst == class,
         Entry::Ended(_, dst) => dst == class,
     })

@@ -2,7 +2,7 @@
 use Rattle.std.specs.Prelude.{◌≡◌, ℕ, ◌+◌, ◌++◌, ◌==◌, true, false, if◌then◌else◌, List, [], ◌∷◌, length, codes, decimal, flat_map, slice_get, Bool, Option, Some, None, Result, Ok, Err}
 use Rattle.std.specs.BTreeSet.{insert_key}
 use Rattle.std.specs.Ordering.{nat_cmp}
-use Rattle.mc_classes.specs.Classes.{Classes, IsTableOf, pages_of}
+use Rattle.mc_classes.specs.Classes.{Classes, IsTableOf, arena_pages_of}
 use Rattle.mc_classes.specs.declared.config.Config.{Config}
 use Rattle.std.specs.Io.KnownBytes.{Appends}
 use Rattle.std.specs.List.{range_with_len}
@@ -33,7 +33,7 @@ owner_line page (owner.Moving src dst) = codes "owner " ++ decimal page ++ codes
 
 -- an entry of the ledger, to the end of its line
 abbrev pub entry_text : Entry → List ℕ
-entry_text (entry.Granted page class) = codes "Granted " ++ decimal page ++ codes " " ++ decimal class ++ codes "\n"
+entry_text (entry.Granted page class grace) = codes "Granted " ++ decimal page ++ codes " " ++ decimal class ++ codes " " ++ decimal (if grace then 1 else 0) ++ codes "\n"
 entry_text (entry.Taken page class) = codes "Taken " ++ decimal page ++ codes " " ++ decimal class ++ codes "\n"
 entry_text (entry.Began page src dst) = codes "Began " ++ decimal page ++ codes " " ++ decimal src ++ codes " " ++ decimal dst ++ codes "\n"
 entry_text (entry.Ended page class) = codes "Ended " ++ decimal page ++ codes " " ++ decimal class ++ codes "\n"
@@ -105,7 +105,7 @@ moving_text (Some move) = moving_line move
 -- what stands behind the slabs lock
 abbrev pub slabs_text : Classes → SlabState → List ℕ
 slabs_text table slabs =
-    ((owners_text (pages_of table) slabs ++ flat_map entry_line slabs.ledger) ++ classes_text (length table.sizes) slabs)
+    ((owners_text (arena_pages_of table) slabs ++ flat_map entry_line slabs.ledger) ++ classes_text (length table.sizes) slabs)
     ++ (moving_text slabs.moving ++ totals_line (totals_of slabs) slabs.automove)
 
 -- the line of a header that isn't 0
@@ -122,7 +122,7 @@ page_text state count page = flat_map (head_text state page) (range_with_len 0 c
 
 -- the lines of all headers
 abbrev pub heads_text : State → List ℕ
-heads_text state = flat_map (page_text state (most_of state.table)) (range_with_len 0 (pages_of state.table))
+heads_text state = flat_map (page_text state (most_of state.table)) (range_with_len 0 (arena_pages_of state.table))
 
 -- a call of a history, to the end of its line
 abbrev pub call_text : Call → List ℕ

@@ -4,7 +4,7 @@
 //! answer Ok | answer NotAllowed PLACE
 //! head PAGE INDEX WORD                               where it isn't 0
 //! owner PAGE Class CLASS | Pool | Moving SRC DST     not of untouched pages
-//! ledger Granted PAGE CLASS | Taken PAGE CLASS | Began PAGE SRC DST | Ended PAGE CLASS
+//! ledger Granted PAGE CLASS GRACE | Taken PAGE CLASS | Began PAGE SRC DST | Ended PAGE CLASS
 //! class CLASS free [PAGE.INDEX ..] order [PAGE.INDEX ..] evictions COUNT
 //! moving PAGE SRC DST at INDEX busy COUNT            where a page moves
 //! totals pool COUNT moved COUNT rescues COUNT nomem COUNT busy COUNT automove MODE

@@ -2,12 +2,12 @@
 use Rattle.std.specs.Prelude.{◌≡◌, ◌⊎◌, ◌≢◌, ℕ, zero, ◌+◌, ◌*◌, ◌<◌, ◌≤◌, ◌==◌, List, [], ◌∷◌, IsTrue, count_by, slice_get, slice_index, Some, Contains, true}
 use mathlib.Core.Option.{some}
 use lib.ListN.{get_elem?}
-use Rattle.mc_classes.specs.Classes.{pages_of}
+use Rattle.mc_classes.specs.Classes.{arena_pages_of}
 use Rattle.mc_pages.specs.declared.ids.ChunkId.{ChunkId}
 use Rattle.mc_pages.specs.Accounted.{is_moving, is_of_class, is_pool, truth}
 use Rattle.mc_pages.specs.ClassState.{times}
-use Rattle.mc_pages.specs.Ledger.{all_untouched, owner_at, replay}
-use Rattle.mc_pages.specs.SlabState.{IsClass, SlabState, class_at, granted_count}
+use Rattle.mc_pages.specs.Ledger.{KeepsGrace, all_untouched, ordinary_count, owner_at, replay}
+use Rattle.mc_pages.specs.SlabState.{IsClass, SlabState, class_at}
 use Rattle.mc_core.specs.declared.head.Head.{Head}
 use Rattle.mc_core.specs.declared.head.Tag.TheVariants.{Free, Linked, Out, Unlinked}
 use Rattle.mc_core.specs.declared.holding.Holding.{Holding}
@@ -41,14 +41,16 @@ holders_among chunk (view ∷ views) = holds chunk view.row.holdings + holders_a
 -- each page has the one owner that the ledger replays: the untouched rest, the pool, a class or the move; it stands once in the list of its
 -- class, or once in the pool's, and in no other; and no page moves but that of the one move
 pub record ArePagesOwned (setup : Setup) (slabs : SlabState) : Type 0 where
-  pub replays : replay (all_untouched (pages_of setup.table)) slabs.ledger ≡ Some slabs.owners
+  pub replays : replay (all_untouched (arena_pages_of setup.table)) slabs.ledger ≡ Some slabs.owners
   pub classes : (class page : ℕ) → IsClass slabs class → count_by (λ p. p == page) (class_at slabs class).pages ≡ truth (is_of_class class (owner_at slabs.owners page))
   pub pool : (page : ℕ) → count_by (λ p. p == page) slabs.pool ≡ truth (is_pool (owner_at slabs.owners page))
   pub move : (a b : ℕ) → IsTrue (is_moving (owner_at slabs.owners a)) → IsTrue (is_moving (owner_at slabs.owners b)) → a ≡ b
 
--- granted bytes are within the limit
-abbrev pub IsWithinLimit : Setup → SlabState → Type 0
-IsWithinLimit setup slabs = granted_count slabs * setup.table.page ≤ setup.table.limit
+-- granted bytes keep limit and grace: the bytes of the pages that were granted within the limit are at most the limit; beyond it a class got one
+-- page at most, and it always has a page of its own from then on, which isn't moving
+pub record KeepLimitAndGrace (setup : Setup) (slabs : SlabState) : Type 0 where
+  pub limit : ordinary_count slabs.ledger * setup.table.page ≤ setup.table.limit
+  pub grace : KeepsGrace slabs.owners slabs.ledger
 
 -- a chunk of the class stands so often on its free list and in its hand-out order
 abbrev pub Stands : SlabState → ℕ → ChunkId → ℕ → ℕ → Type 0
@@ -70,11 +72,11 @@ IsChunkOut slabs class chunk head = ((head.tag ≡ Unlinked) ⊎ (head.tag ≡ L
 abbrev pub IsInOnePlace : SlabState → ℕ → ChunkId → Head → Type 0
 IsInOnePlace slabs class chunk head = IsFreeChunk slabs class chunk head ⊎ IsClearedChunk slabs class chunk head ⊎ IsChunkOut slabs class chunk head
 
--- with the slabs lock free: each page has one owner, as the ledger replays; granted bytes are within the limit; each cut chunk is once on a
+-- with the slabs lock free: each page has one owner, as the ledger replays; granted bytes keep limit and grace; each cut chunk is once on a
 -- free list, cleared, or handed out
 pub record IsAccountedFor (setup : Setup) (words : List ℕ) (slabs : SlabState) : Type 0 where
   pub pages : ArePagesOwned setup slabs
-  pub limit : IsWithinLimit setup slabs
+  pub bytes : KeepLimitAndGrace setup slabs
   pub chunks : (class : ℕ) (chunk : ChunkId) → IsClass slabs class → has_chunk setup.table chunk ≡ true →
       is_of_class class (owner_at slabs.owners chunk.page) ≡ true → chunk.index < (class_at slabs class).per_page → IsInOnePlace slabs class chunk (header_in setup words chunk)
 

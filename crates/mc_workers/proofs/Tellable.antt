@@ -1,15 +1,18 @@
 -- What a survey tells of the classes can be told in statistics, as the law holds of the pages and lists that it is of.
-use Rattle.std.proofs.Common.{◌≡◌, ℕ, ◌-◌, ◌*◌, ◌/◌, ◌<◌, ◌≤◌, Bool, true, List, [], ◌∷◌, length, map, Some, refl, sym, ap, subst, ◌∙◌, inl, inr, arith, slice_index_or}
+use Rattle.std.proofs.Common.{◌≡◌, ℕ, ◌-◌, ◌*◌, ◌<◌, ◌≤◌, Bool, true, not, List, [], ◌∷◌, length, map, Some, refl, sym, ap, subst, ◌∙◌, inl, inr, arith, slice_index_or}
+use Rattle.std.proofs.lemmas.Nat.{mul-le}
 use Rattle.std.proofs.lemmas.List.{length-map, get_or-map}
+use Rattle.std.proofs.lemmas.List.Sums.{count_by-le-length}
 use Rattle.std.proofs.lemmas.Simd.{map-map}
 use Rattle.mc_classes.specs.Classes.{Classes, IsClass as IsTableClass, IsSound, per_page_of}
 use Rattle.mc_pages.specs.declared.ids.ChunkId.{ChunkId}
+use Rattle.mc_pages.specs.declared.ledger.Owner.{Owner}
 use Rattle.mc_pages.specs.declared.numbers.Numbers.{Numbers}
 use Rattle.mc_pages.specs.declared.numbers.Totals.{Totals}
 use Rattle.mc_pages.specs.Changes.{after_back}
 use Rattle.mc_pages.specs.ClassState.{ClassState, new_class, numbers_of}
-use Rattle.mc_pages.specs.SlabState.{SlabState, IsClass, class_at, granted_count}
-use Rattle.mc_pages.proofs.GrantedPage.{length-owners, length-pages_le}
+use Rattle.mc_pages.specs.SlabState.{SlabState, IsClass, class_at, granted_count, is_untouched}
+use Rattle.mc_pages.proofs.GrantedPage.{length-pages_le}
 use Rattle.mc_core.specs.declared.event.Step.TheVariants as step
 use Rattle.mc_core.specs.InOrder.{IsOfTable}
 use Rattle.mc_core.specs.Lawful.{IsLawful}
@@ -98,10 +101,9 @@ module _ (table : Classes) (slabs : SlabState) (sound : IsSound table) (of : IsO
   there class valid = let count = class_count table slabs of in (valid.0, omega (arith, valid.1, count))
 
   -- a class has at most as many pages as there are
-  pages_few : (class : ℕ) → IsClass slabs class → length (class_at slabs class).pages ≤ 64
+  pages_few : (class : ℕ) → IsClass slabs class → length (class_at slabs class).pages ≤ 127
   pages_few class valid =
-      let owners : length slabs.owners ≡ table.limit / table.page = rw (← of.limit, ← of.page) (length-owners slabs of.accounted) in
-      omega (arith, length-pages_le slabs class of.accounted valid, owners, sound.pages.1)
+      omega (arith, length-pages_le slabs class of.accounted valid, of.owners, sound.pages.1, sound.count.1)
 
   -- and no more free chunks than these have
   free_within : (class : ℕ) → IsClass slabs class → length (class_at slabs class).free ≤ length (class_at slabs class).pages * per_page_of table class
@@ -126,7 +128,7 @@ module _ (table : Classes) (slabs : SlabState) (sound : IsSound table) (of : IsO
   are_tellable : (survey : Survey) → IsSurvey slabs survey → AreTellable table survey
   are_tellable survey is = record {
     counts = subst (λ (p : List ℕ × List ℕ). AreCounts table p.0 p.1) (λ k. (sym pages k, sym free k)) are_counts;
-    granted = omega (arith, bytes, of.accounted.limit, of.limit, sound.limit);
+    granted = omega (arith, bytes, few);
   }
     where
       pages : pages_in survey ≡ map page_count slabs.classes
@@ -134,6 +136,11 @@ module _ (table : Classes) (slabs : SlabState) (sound : IsSound table) (of : IsO
 
       free : free_in survey ≡ map free_count slabs.classes
       free = ap (λ (ns : List Numbers). map (λ (n : Numbers). n.free) ns) is.classes ∙ map-map (λ (n : Numbers). n.free) numbers_of slabs.classes
+
+      few : granted_count slabs * slabs.page ≤ 127 * 16384
+      few =
+          let pages = count_by-le-length (λ (owner : Owner). not (is_untouched owner)) slabs.owners in
+          mul-le (granted_count slabs) slabs.page 127 16384 (omega (arith, pages, of.owners, sound.pages.1, sound.count.1)) (omega (arith, of.page, sound.page.1))
 
       bytes : granted_in table survey ≡ granted_count slabs * slabs.page
       bytes = ap (λ (t : Totals). t.granted * table.page) is.totals ∙ ap (λ n. granted_count slabs * n) (sym of.page)

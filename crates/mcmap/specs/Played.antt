@@ -4,11 +4,10 @@ use Rattle.std.specs.Option.{option_map}
 use Rattle.mc_script.specs.declared.command.Command.{Command}
 use Rattle.mc_machine.specs.Lines.{serve}
 use Rattle.mc_machine.specs.Machine.{Machine}
-use Rattle.mc_classes.specs.Classes.{Classes, IsTableOf, pages_of}
+use Rattle.mc_classes.specs.Classes.{Classes, IsTableOf}
 use Rattle.mc_machine.specs.Machine.{fresh_machine}
 use Rattle.mc_options.specs.declared.settings.Run.{Run}
-use Rattle.mc_pages.specs.Ledger.{all_untouched}
-use Rattle.mc_map.specs.Books.{Book}
+use Rattle.mc_map.specs.Books.{Book, fresh_books}
 use Rattle.mc_map.specs.declared.map.Map.{Map}
 use Rattle.mc_map.specs.Map.{IsMap, books_after}
 use Rattle.mc_picture.specs.Charts.{IsChart, IsMapText}
@@ -18,10 +17,6 @@ abbrev pub LeadTo : List Command → Machine → Book → Machine → Book → T
 LeadTo [] m book after later = (after ≡ m) × (later ≡ book)
 LeadTo (command ∷ more) m book after later =
     (next : Machine) × (option_map (λ served. served.machine) (serve m command) ≡ Some next) × LeadTo more next (books_after book m command next) after later
-
--- the books of a memory of which no page was granted
-abbrev pub fresh_books : Classes → Book
-fresh_books table = record { owners = all_untouched (pages_of table); pool = []; ledger = [] }
 
 -- behind the old text stands a chart of the ledger that these commands make, from a memory as the run configures it
 pub record IsChartOf (run : Run) (commands : List Command) (old new : List ℕ) : Type 0 where

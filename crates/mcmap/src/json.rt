@@ -144,7 +144,14 @@ fn ledger_value(alloc: Global, ledger: &[Entry]) -> Result<Value, AllocError> {
 /// How a page changed hands: what was done to it, and with which classes, of which 0 is the pool.
 fn entry_value(alloc: Global, entry: Entry) -> Result<Value, AllocError> {
     match entry {
-        Entry::Granted(page, class) => named(alloc, &[("granted", page), ("class", class)]),
+        Entry::Granted(page, class, grace) => named(
+            alloc,
+            &[
+                ("granted", page),
+                ("class", class),
+                ("grace", u64::from(grace)),
+            ],
+        ),
         Entry::Taken(page, class) => named(alloc, &[("taken", page), ("class", class)]),
         Entry::Began(page, src, dst) => {
             named(alloc, &[("began", page), ("src", src), ("dst", dst)])

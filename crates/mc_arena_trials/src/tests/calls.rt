@@ -15,7 +15,7 @@ pub fn has_chunk(arena: &Arena, chunk: ChunkId) -> bool
     ensures { result ≡ has_chunk (setup_of arena.now).table chunk }
 {
     let classes = arena.classes();
-    chunk.page < classes.pages() && chunk.index < classes.per_page(1)
+    chunk.page < classes.arena_pages() && chunk.index < classes.per_page(1)
 }
 
 /// Whether it has such a class.
@@ -230,7 +230,7 @@ pub fn next_hand(arena: &Arena, hands: &mut Vec<Hand>) -> Option<Hand>
 /// The header of a chunk of a closed arena. None where there is no such chunk.
 pub fn head(left: &Final, chunk: ChunkId) -> Option<u64> {
     let classes = left.classes();
-    if chunk.page < classes.pages() && chunk.index < classes.per_page(1) {
+    if chunk.page < classes.arena_pages() && chunk.index < classes.per_page(1) {
         Some(left.head(chunk))
     } else {
         None
@@ -244,7 +244,7 @@ pub fn listed_free(left: &Final) -> Option<u64> {
 
 /// Who owns a page of the closed arena. None where there is no such page, or a hand has pages and lists.
 pub fn owner(left: &Final, page: PageId) -> Option<Owner> {
-    if page < left.classes().pages() {
+    if page < left.classes().arena_pages() {
         left.owner(page)
     } else {
         None

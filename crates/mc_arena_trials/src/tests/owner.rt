@@ -123,7 +123,7 @@ fn a_sweep_puts_back_what_is_dead(rt: HostRuntime) -> Result<(), Fail> {
     Ok(())
 }
 
-/// Classes grow until no page is left, and a class grows that isn't there.
+/// Classes grow until no page is left but the first one of a class that has none, and a class grows that isn't there.
 fn grow_all(rt: &impl Abort, arena: &Arena, hand: &mut Hand, held: &mut SlabsHeld)
     requires hand { IsHandOf arena.now hand.old }
     requires held { (view hand.old).slabs ≡ Some held.old.shared }
@@ -133,6 +133,8 @@ fn grow_all(rt: &impl Abort, arena: &Arena, hand: &mut Hand, held: &mut SlabsHel
         (4, Some(Ok(1))),
         (2, Some(Ok(2))),
         (1, Some(Ok(3))),
+        (2, Some(Err(Grow::NoRoom))),
+        (3, Some(Ok(4))),
         (3, Some(Err(Grow::NoRoom))),
         (5, None),
     ] {
@@ -142,7 +144,7 @@ fn grow_all(rt: &impl Abort, arena: &Arena, hand: &mut Hand, held: &mut SlabsHel
 }
 
 #[test]
-fn four_pages_are_all(rt: HostRuntime) -> Result<(), Fail> {
+fn a_class_without_a_page_gets_one_beyond_the_limit(rt: HostRuntime) -> Result<(), Fail> {
     let mut owned = open_owned(rt.alloc(), 0)?;
     grow_all(&rt, &owned.arena, &mut owned.hand, &mut owned.held);
     drop(owned);

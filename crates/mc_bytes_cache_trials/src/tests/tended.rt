@@ -70,8 +70,8 @@ fn pages_go_where_they_are_wanted(rt: HostRuntime) -> Result<(), Fail> {
 #[test]
 fn bytes_are_told(rt: HostRuntime) -> Result<(), Fail> {
     let bytes = Cache::bytes(&config_of(3, 2)).ok();
-    // of each arena: 96 words of locks, 8 pages of 1 + 16 + 128 words, and 8
-    assert!(rt; bytes == Some(3 * 8 * (96 + 8 * 145 + 8)), "three arenas");
+    // of each arena: 96 words of locks, 8 pages and a first one for each of 4 classes, of 1 + 16 + 128 words, and 8
+    assert!(rt; bytes == Some(3 * 8 * (96 + 12 * 145 + 8)), "three arenas");
     assert!(rt;
         Cache::bytes(&config_of(3, 64)).is_err(),
         "too many workers"

@@ -1,13 +1,16 @@
 //! Items that are taken away from their chunks, to make room or since their page moves.
-ghost use Rattle.std.specs.Prelude.{◌≡◌, ◌<◌, true, length, IfOk, OnOk};
+ghost use Rattle.std.specs.Prelude.{◌≡◌, ◌<◌, true, length, is_some, IfOk, OnOk};
+ghost use Rattle.mc_pages.specs.Changes.{next_page};
+ghost use Rattle.mc_pages.specs.SlabState.{class_of_page};
 ghost use Rattle.mc_core.specs.State.{stripe_of, stripe_at, with_stripe, holdings_at, looks_at};
 ghost use Rattle.mc_core.specs.Silent.{writer_of};
-ghost use Rattle.mc_core.specs.Evictions.{has_copy, none_dead, has_no_page, must_leave, lacks_room, has_reason, is_linked_unheld, can_lose_entry, can_condemn, condemned, stripe_condemned, with_bound, after_condemn};
+ghost use Rattle.mc_core.specs.Evictions.{has_copy, none_dead, must_leave, lacks_room, has_reason, is_linked_unheld, can_lose_entry, can_condemn, condemned, stripe_condemned, with_bound, after_condemn};
 
 use super::State;
 use crate::head::{Head, Tag};
 use crate::look::Look;
 use crate::{holding, look};
+use mc_classes::PageId;
 use mc_memory::Refused;
 use mc_pages::ChunkId;
 
@@ -56,14 +59,6 @@ impl State {
         )
     }
 
-    /// Whether there is neither a pooled page nor a page left.
-    fn has_no_page(&self) -> bool
-        ensures { result ≡ has_no_page self.now.table self.now.slabs }
-    {
-        let totals = self.slabs.totals();
-        totals.pool == 0 && totals.granted == self.table.pages()
-    }
-
     /// Whether the page moves, and there is no other chunk for the item.
     fn must_leave(&self, hand: u64, chunk: ChunkId) -> Result<bool, Refused>
         requires { hand < length self.now.ids }
@@ -75,16 +70,24 @@ impl State {
         Ok(self.target(chunk.page)?.is_none())
     }
 
+    /// Whether a page is to be had for the class of this one.
+    fn has_page_for(&self, page: PageId) -> bool
+        ensures { result ≡ is_some (next_page self.now.slabs (class_of_page self.now.slabs page)) }
+    {
+        let class = self.class_of_page(page).max(1);
+        self.slabs.has_page_for(class)
+    }
+
     /// Whether the class has neither a free chunk nor a dead one, and no page is to be had.
     fn lacks_room(&self, hand: u64, chunk: ChunkId) -> Result<bool, Refused>
         requires { hand < length self.now.ids }
-        ensures { IfOk result (λ lacks. lacks ≡ lacks_room self.now.table self.now.slabs (looks_at self.now hand) chunk) }
+        ensures { IfOk result (λ lacks. lacks ≡ lacks_room self.now.slabs (looks_at self.now hand) chunk) }
     {
         let has_free = self.next_free(self.class_of_page(chunk.page)).is_some();
         if has_free || !self.none_dead(hand, chunk)? {
             return Ok(false);
         }
-        Ok(self.has_no_page() && self.none_half_cut())
+        Ok(!self.has_page_for(chunk.page) && self.none_half_cut())
     }
 
     /// Whether there is a reason to take the item away.

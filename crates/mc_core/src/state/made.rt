@@ -2,7 +2,7 @@
 ghost use Rattle.std.specs.Prelude.{◌≡◌, ◌*◌, ◌≤◌, [], map, replicate, IfOk, Some};
 ghost use Rattle.std.specs.List.{range_with_len};
 ghost use Rattle.mc_stripe.specs.StripeState.{new_stripe};
-ghost use Rattle.mc_classes.specs.Classes.{pages_of};
+ghost use Rattle.mc_classes.specs.Classes.{arena_pages_of};
 ghost use Rattle.mc_pages.specs.SlabState.{fresh_slabs};
 ghost use Rattle.mc_pages.specs.Accounted.{IsAccounted};
 ghost use Rattle.mc_core.specs.Head.{uncut_from};
@@ -34,7 +34,7 @@ impl State {
         ensures { IfOk result (λ state. state ≡ new_state table stripes hands start) }
     {
         let heads = heads_of(alloc, &table, start)?;
-        let words = zeros(alloc, table.pages() * (table.page() / 8))?;
+        let words = zeros(alloc, table.arena_pages() * (table.page() / 8))?;
         let slabs = slabs_of(alloc, &table)?;
         let stripe_locks = zeros(alloc, stripes)?;
         let stripes = stripes_of(alloc, stripes)?;
@@ -66,9 +66,9 @@ fn zeros(alloc: Global, count: u64) -> Result<Vec<u64>, Refused>
 
 /// A header for each index of each page, with this issue number.
 fn heads_of(alloc: Global, table: &ClassTable, start: u64) -> Result<Vec<Head>, Refused>
-    ensures { IfOk result (λ heads. heads.items ≡ replicate (pages_of table.now * most_of table.now) (uncut_from start)) }
+    ensures { IfOk result (λ heads. heads.items ≡ replicate (arena_pages_of table.now * most_of table.now) (uncut_from start)) }
 {
-    let count = table.pages() * table.per_page(1);
+    let count = table.arena_pages() * table.per_page(1);
     let head = Head {
         issue: start,
         ..Head::NEVER_CUT

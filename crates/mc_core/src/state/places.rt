@@ -34,7 +34,7 @@ impl State {
     pub(super) fn has_chunk(&self, chunk: ChunkId) -> bool
         ensures { result ≡ has_chunk self.now.table chunk }
     {
-        chunk.page < self.table.pages() && chunk.index < self.most()
+        chunk.page < self.table.arena_pages() && chunk.index < self.most()
     }
 
     /// Where the header of a chunk stands, if it has one.
@@ -51,7 +51,7 @@ impl State {
     pub(super) fn class_of_page(&self, page: u64) -> ClassId
         ensures { result ≡ class_of_page self.now.slabs page }
     {
-        if page >= self.table.pages() {
+        if page >= self.table.arena_pages() {
             return 0;
         }
         match self.slabs.owner(page) {

@@ -129,7 +129,7 @@ fn a_ninth_item_evicts_the_oldest(rt: HostRuntime) -> Result<(), Fail> {
             Step::Sets(1, 10, 0, MOST_WORDS),
             Step::Finds(getter, 1, 2, false),
             Step::Touches(2),
-            Step::Refuses(10, 3, SetError::NoRoom),
+            Step::Sets(10, 1, 0, 3),
         ];
         run(&rt, rt.alloc(), &steps)?;
     }

@@ -40,7 +40,7 @@ impl Keeper {
     /// Gives the class the next page, if there is one, and cuts its chunks.
     fn grow(&mut self, class: ClassId) -> Result<(), Refused>
         requires { IsClass self.old.slabs class }
-        ensures after { OnOk result (self.new ≡ with_new_page self.old class (next_page self.old.slabs)) }
+        ensures after { OnOk result (self.new ≡ with_new_page self.old class (next_page self.old.slabs class)) }
         ensures refused { OnErr result (self.new ≡ self.old) }
     {
         let per_page = self.table.per_page(class);

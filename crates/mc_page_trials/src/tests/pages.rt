@@ -171,7 +171,7 @@ fn one_page_is_cut_and_handed_out(rt: HostRuntime) -> Result<(), Fail> {
     assert_equal(
         &rt,
         all.ledger(),
-        [Entry::Granted(0, 1)].as_slice(),
+        [Entry::Granted(0, 1, false)].as_slice(),
         "ledger",
     );
     Ok(())
@@ -248,10 +248,54 @@ fn the_limit_refuses_a_fifth_page(rt: HostRuntime) -> Result<(), Fail> {
     assert_steps(&rt, &mut all, &FIVE_PAGES);
     assert_equal(&rt, all.totals(), granted(4), "totals");
     let ledger = [
-        Entry::Granted(0, 1),
-        Entry::Granted(1, 2),
-        Entry::Granted(2, 3),
-        Entry::Granted(3, 4),
+        Entry::Granted(0, 1, false),
+        Entry::Granted(1, 2, false),
+        Entry::Granted(2, 3, false),
+        Entry::Granted(3, 4, false),
+    ];
+    assert_equal(&rt, all.ledger(), ledger.as_slice(), "ledger");
+    Ok(())
+}
+
+/// One class has all pages within the limit: each other gets its first beyond it, and no second.
+const FIRST_PAGES: [Step; 21] = [
+    Step::Grows(4, 0),
+    Step::Cuts(0, 2),
+    Step::Grows(4, 1),
+    Step::Cuts(1, 2),
+    Step::Grows(4, 2),
+    Step::Cuts(2, 2),
+    Step::Grows(4, 3),
+    Step::Cuts(3, 2),
+    Step::IsFull(4),
+    Step::Grows(2, 4),
+    Step::Cuts(4, 10),
+    Step::IsFull(2),
+    Step::Grows(1, 5),
+    Step::Cuts(5, 21),
+    Step::Grows(3, 6),
+    Step::Cuts(6, 5),
+    Step::IsFull(1),
+    Step::IsFull(3),
+    Step::IsFull(4),
+    Step::Owns(6, Owner::Class(3)),
+    Step::Owns(7, Owner::Untouched),
+];
+
+#[test]
+fn a_class_without_pages_gets_its_first_beyond_the_limit(rt: HostRuntime) -> Result<(), Fail> {
+    let table = ClassTable::build(rt.alloc(), &FOUR_CLASSES)?;
+    let mut all = Driven::new(rt.alloc(), &table)?;
+    assert_steps(&rt, &mut all, &FIRST_PAGES);
+    assert_equal(&rt, all.totals(), granted(7), "totals");
+    let ledger = [
+        Entry::Granted(0, 4, false),
+        Entry::Granted(1, 4, false),
+        Entry::Granted(2, 4, false),
+        Entry::Granted(3, 4, false),
+        Entry::Granted(4, 2, true),
+        Entry::Granted(5, 1, true),
+        Entry::Granted(6, 3, true),
     ];
     assert_equal(&rt, all.ledger(), ledger.as_slice(), "ledger");
     Ok(())
@@ -649,6 +693,9 @@ fn a_page_goes_through_the_pool(rt: HostRuntime) -> Result<(), Fail> {
     assert_equal(&rt, all.grow(3), Some(Ok(1)), "grow");
     assert_cuts(&rt, &mut all, 1, 5);
     assert_grows(&rt, &mut all, 2, 0);
+    // No page is left within the limit, and the class has none.
+    assert_equal(&rt, all.grow(1), Some(Ok(4)), "grow");
+    assert_cuts(&rt, &mut all, 4, 21);
     assert_equal(&rt, all.grow(1), Some(Err(Grow::NoRoom)), "grow");
     assert_equal(&rt, all.pop(3), chunk(1, 4), "pop");
     assert_equal(
@@ -656,21 +703,22 @@ fn a_page_goes_through_the_pool(rt: HostRuntime) -> Result<(), Fail> {
         all.totals(),
         Totals {
             moved: 2,
-            ..granted(4)
+            ..granted(5)
         },
         "totals",
     );
     let ledger = [
-        Entry::Granted(0, 4),
-        Entry::Granted(1, 4),
-        Entry::Granted(2, 4),
-        Entry::Granted(3, 4),
+        Entry::Granted(0, 4, false),
+        Entry::Granted(1, 4, false),
+        Entry::Granted(2, 4, false),
+        Entry::Granted(3, 4, false),
         Entry::Began(0, 4, 0),
         Entry::Ended(0, 0),
         Entry::Began(1, 4, 0),
         Entry::Ended(1, 0),
         Entry::Taken(1, 3),
         Entry::Taken(0, 2),
+        Entry::Granted(4, 1, true),
     ];
     assert_equal(&rt, all.ledger(), ledger.as_slice(), "ledger");
     Ok(())

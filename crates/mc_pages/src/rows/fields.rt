@@ -56,7 +56,7 @@ impl Rows {
         classes: usize,
     ) -> Result<Rows, Refused>
         requires most { most ≤ 256 }
-        requires pages { pages ≤ 64 }
+        requires pages { pages ≤ 127 }
         ensures { IfOk result (λ rows. rows ≡ fresh_rows most (pages * most) classes) }
     {
         let none = Row {

@@ -329,7 +329,7 @@ fn holders_on(left: &Final, page: u64, count: u64) -> Option<u64> {
 /// The same of all pages.
 fn all_holders(left: &Final) -> Option<u64> {
     let mut sum = 0u64;
-    for page in 0..left.classes().pages() {
+    for page in 0..left.classes().arena_pages() {
         sum = sum.checked_add(holders_on(left, page, left.classes().per_page(1))?)?;
     }
     Some(sum)

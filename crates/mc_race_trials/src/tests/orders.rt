@@ -46,7 +46,7 @@ fn has_chunk(arena: &Arena, chunk: ChunkId) -> bool
     ensures { result ≡ has_chunk (setup_of arena.now).table chunk }
 {
     let classes = arena.classes();
-    chunk.page < classes.pages() && chunk.index < classes.per_page(1)
+    chunk.page < classes.arena_pages() && chunk.index < classes.per_page(1)
 }
 
 /// The class of a chunk's page, if it moves.

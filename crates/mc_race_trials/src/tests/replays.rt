@@ -201,7 +201,12 @@ fn leaves(owners: &[Owner], page: u64) -> u64 {
 /// Plays an entry of the ledger. False where the page had another owner than it tells.
 fn hand_over(owners: &mut [Owner], entry: Entry) -> bool {
     match entry {
-        Entry::Granted(page, class) => change(owners, page, Owner::Untouched, Owner::Class(class)),
+        Entry::Granted(page, class, _) => change(
+            owners,
+            page,
+            Owner::Untouched,
+            Owner::Class(class),
+        ),
         Entry::Taken(page, class) => change(owners, page, Owner::Pool, Owner::Class(class)),
         Entry::Began(page, src, dst) => {
             change(owners, page, Owner::Class(src), Owner::Moving { src, dst })
@@ -220,7 +225,7 @@ fn hand_over(owners: &mut [Owner], entry: Entry) -> bool {
 
 /// Whether each page has this owner.
 fn are_owners(left: &Final, owners: &[Owner]) -> bool {
-    for page in 0..left.classes().pages() {
+    for page in 0..left.classes().arena_pages() {
         if left.owner(page) != owners.get(page as usize).copied() {
             return false;
         }
@@ -234,7 +239,7 @@ pub fn is_ledger_right(alloc: Global, left: &Final) -> Result<bool, AllocError> 
         return Ok(false);
     };
     let mut owners = Vec::new(alloc);
-    owners.resize(left.classes().pages() as usize, Owner::Untouched)?;
+    owners.resize(left.classes().arena_pages() as usize, Owner::Untouched)?;
     for entry in slabs.ledger().iter() {
         if !hand_over(&mut owners, *entry) {
             return Ok(false);

@@ -57,7 +57,7 @@ fn see_head(arena: &Arena, looker: &mut Hand, chunk: ChunkId, seen: &mut Vec<u64
     ensures looker { IsReadyHandOf arena.now looker.new }
 {
     let classes = arena.classes();
-    if chunk.page < classes.pages() && chunk.index < classes.per_page(1) {
+    if chunk.page < classes.arena_pages() && chunk.index < classes.per_page(1) {
         let head = arena.head(looker, chunk);
         note(seen, head);
     }

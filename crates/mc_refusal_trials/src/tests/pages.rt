@@ -182,7 +182,7 @@ fn pages_are_as_before(rt: HostRuntime) -> Result<(), Fail> {
             Step::Grows(3),
             Step::Grows(4),
             Step::Grows(3),
-            Step::IsFull(1),
+            Step::IsFull(4),
             Step::Begins(None, dst, source),
         ] {
             let is_right = play(&rt, &mut pages, step, &mut before, &mut after);

@@ -143,7 +143,7 @@ pub fn chunk_number(chunk: Option<ChunkId>) -> u64 {
 /// An entry of the ledger as a number, 0 for none.
 pub fn entry_number(entry: Option<Entry>) -> u64 {
     let (kind, page, src, dst) = match entry {
-        Some(Entry::Granted(page, class)) => (1u64, page, 0, class),
+        Some(Entry::Granted(page, class, grace)) => (1u64, page, u64::from(grace), class),
         Some(Entry::Taken(page, class)) => (2, page, 0, class),
         Some(Entry::Began(page, src, dst)) => (3, page, src, dst),
         Some(Entry::Ended(page, dst)) => (4, page, 0, dst),

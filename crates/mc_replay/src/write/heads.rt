@@ -11,7 +11,7 @@ pub(super) fn heads(text: &mut String, state: &State) -> Result<(), AllocError>
     ensures { OnOk result (string_bytes text.new ≡ string_bytes text.old ++ heads_text state.now) }
 {
     let table = state.table();
-    let pages = table.pages();
+    let pages = table.arena_pages();
     let most = table.per_page(1);
     for page in 0..pages {
         page_heads(text, state, page, most)?;

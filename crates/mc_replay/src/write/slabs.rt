@@ -1,6 +1,6 @@
 //! What stands behind the slabs lock.
 ghost use Rattle.std.specs.Prelude.{◌≡◌, ◌++◌, OnOk, flat_map, length, string_bytes};
-ghost use Rattle.mc_classes.specs.Classes.{pages_of};
+ghost use Rattle.mc_classes.specs.Classes.{arena_pages_of};
 ghost use Rattle.mc_pages.specs.SlabState.{IsClass, class_at, totals_of};
 ghost use Rattle.mc_core.specs.InOrder.{IsOfTable};
 ghost use Rattle.mc_replay.specs.Written.{chunk_text, chunks_text, class_line, classes_text, entry_line, entry_text, evictions_text, free_text, item_counts, mode_text, moving_line, moving_text, order_text, owner_line, owners_text, page_counts, slabs_text, totals_line};
@@ -31,7 +31,7 @@ pub(super) fn slabs(
 /// Owners and ledger.
 fn pages(text: &mut String, table: &ClassTable, slabs: &Slabs) -> Result<(), NoMemory>
     requires { IsOfTable table.now slabs.now.state }
-    ensures { OnOk result (string_bytes text.new ≡ string_bytes text.old ++ (owners_text (pages_of table.now) slabs.now.state ++ flat_map entry_line slabs.now.state.ledger)) }
+    ensures { OnOk result (string_bytes text.new ≡ string_bytes text.old ++ (owners_text (arena_pages_of table.now) slabs.now.state ++ flat_map entry_line slabs.now.state.ledger)) }
 {
     owners(text, table, slabs)?;
     ledger(text, slabs.ledger())
@@ -48,9 +48,9 @@ fn moves(text: &mut String, slabs: &Slabs) -> Result<(), AllocError>
 /// Who owns each page.
 fn owners(text: &mut String, table: &ClassTable, slabs: &Slabs) -> Result<(), AllocError>
     requires { IsOfTable table.now slabs.now.state }
-    ensures { OnOk result (string_bytes text.new ≡ string_bytes text.old ++ owners_text (pages_of table.now) slabs.now.state) }
+    ensures { OnOk result (string_bytes text.new ≡ string_bytes text.old ++ owners_text (arena_pages_of table.now) slabs.now.state) }
 {
-    for page in 0..table.pages() {
+    for page in 0..table.arena_pages() {
         owner(text, page, slabs.owner(page))?;
     }
     Ok(())
@@ -84,7 +84,10 @@ fn entry(text: &mut String, entry: Entry) -> Result<(), AllocError>
     ensures { OnOk result (string_bytes text.new ≡ string_bytes text.old ++ entry_text entry) }
 {
     match entry {
-        Entry::Granted(page, class) => writeln!(text, "Granted {page} {class}"),
+        Entry::Granted(page, class, grace) => {
+            let grace = u64::from(grace);
+            writeln!(text, "Granted {page} {class} {grace}")
+        }
         Entry::Taken(page, class) => writeln!(text, "Taken {page} {class}"),
         Entry::Began(page, src, dst) => writeln!(text, "Began {page} {src} {dst}"),
         Entry::Ended(page, class) => writeln!(text, "Ended {page} {class}"),

@@ -97,7 +97,7 @@ fn a_page_is_cut_whole_before_its_lock_is_given(rt: HostRuntime) -> Result<(), F
     let state = play(rt.alloc(), &whole)?;
     let slabs = state.slabs().ok_or("the slabs lock is not free")?;
     assert!(rt;
-        slabs.ledger() == [Entry::Granted(0, 1)].as_slice(),
+        slabs.ledger() == [Entry::Granted(0, 1, false)].as_slice(),
         "the ledger"
     );
     let mut short = cut(rt.alloc(), 20)?;

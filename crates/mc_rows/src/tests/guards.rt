@@ -127,8 +127,8 @@ const STARTED_ROWS: [StartedRow<'static>; 5] = [
             config: FOUR_CLASSES,
             automove: 2,
         },
-        "1 set 1 61 0\n1 set 2 61 0\n1 set 3 61 0\n1 set 4 61 0\n1 set 11 20 0\n1 set 12 20 0\n1 set 13 20 0\n1 set 14 20 0\n1 set 15 20 0\n1 set 16 20 0\n1 del 1\n1 set 5 61 0\nturn 1\n1 set 90 3 0\nturn 1\n",
-        "STORED 1\r\nSTORED 2\r\nSTORED 3\r\nSTORED 4\r\nSTORED 11\r\nSTORED 12\r\nSTORED 13\r\nSTORED 14\r\nSTORED 15\r\nSTORED 16\r\nDELETED 1\r\nSTORED 5\r\nTURN IDLE 0 0 0 0 0\r\nNO_ROOM 90\r\nTURN IDLE 0 0 0 0 0\r\n",
+        "1 set 1 61 0\n1 set 2 61 0\n1 set 3 61 0\n1 set 4 61 0\n1 set 11 20 0\n1 set 12 20 0\n1 set 13 20 0\n1 set 14 20 0\n1 set 15 20 0\n1 set 16 20 0\n1 del 1\n1 set 5 61 0\nturn 1\n1 hold 2\n1 hold 3\n1 hold 4\n1 hold 5\n1 set 90 61 0\nturn 1\n1 set 91 3 0\nturn 1\n",
+        "STORED 1\r\nSTORED 2\r\nSTORED 3\r\nSTORED 4\r\nSTORED 11\r\nSTORED 12\r\nSTORED 13\r\nSTORED 14\r\nSTORED 15\r\nSTORED 16\r\nDELETED 1\r\nSTORED 5\r\nTURN IDLE 0 0 0 0 0\r\nHELD 2\r\nHELD 3\r\nHELD 4\r\nHELD 5\r\nNO_ROOM 90\r\nTURN IDLE 0 0 0 0 0\r\nSTORED 91\r\nTURN IDLE 0 0 0 0 0\r\n",
     ),
     (
         "the mover's evictions are not the class's",

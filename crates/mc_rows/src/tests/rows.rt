@@ -6,7 +6,7 @@ use mc_memory::{Refused, with_capacity};
 use std::alloc::Global;
 use std::test::Fail;
 
-const ROWS: [Row<'static>; 16] = [
+const ROWS: [Row<'static>; 17] = [
     (
         "first path",
         "1 set 1 3 7\n1 set 2 3 9\n1 del 2\nstats slabs\n",
@@ -27,9 +27,15 @@ const ROWS: [Row<'static>; 16] = [
         Ok(()),
     ),
     (
-        "a full class evicts its oldest item, and a class without a page has no room",
-        "1 set 1 61 0\n1 set 2 61 0\n1 set 3 61 0\n1 set 4 61 0\n1 set 5 61 0\n1 set 6 61 0\n1 set 7 61 0\n1 set 8 61 0\n1 set 9 61 0\n1 get 1\n1 touch 2\n1 set 10 3 0\n",
-        "STORED 1\r\nSTORED 2\r\nSTORED 3\r\nSTORED 4\r\nSTORED 5\r\nSTORED 6\r\nSTORED 7\r\nSTORED 8\r\nSTORED 9\r\nNOT_FOUND 1\r\nTOUCHED 2\r\nNO_ROOM 10\r\n",
+        "a full class evicts its oldest item, and a class without a page gets its first beyond the limit",
+        "1 set 1 61 0\n1 set 2 61 0\n1 set 3 61 0\n1 set 4 61 0\n1 set 5 61 0\n1 set 6 61 0\n1 set 7 61 0\n1 set 8 61 0\n1 set 9 61 0\n1 get 1\n1 touch 2\n1 set 10 3 0\nstats slabs\n1 set 11 9 0\n1 set 12 20 0\nstats slabs\n",
+        "STORED 1\r\nSTORED 2\r\nSTORED 3\r\nSTORED 4\r\nSTORED 5\r\nSTORED 6\r\nSTORED 7\r\nSTORED 8\r\nSTORED 9\r\nNOT_FOUND 1\r\nTOUCHED 2\r\nSTORED 10\r\nSTAT 1:chunk_size 48\r\nSTAT 1:chunks_per_page 21\r\nSTAT 1:total_pages 1\r\nSTAT 1:total_chunks 21\r\nSTAT 1:used_chunks 1\r\nSTAT 1:free_chunks 20\r\nSTAT 4:chunk_size 512\r\nSTAT 4:chunks_per_page 2\r\nSTAT 4:total_pages 4\r\nSTAT 4:total_chunks 8\r\nSTAT 4:used_chunks 8\r\nSTAT 4:free_chunks 0\r\nSTAT active_slabs 2\r\nSTAT total_malloced 5120\r\nEND\r\nSTORED 11\r\nSTORED 12\r\nSTAT 1:chunk_size 48\r\nSTAT 1:chunks_per_page 21\r\nSTAT 1:total_pages 1\r\nSTAT 1:total_chunks 21\r\nSTAT 1:used_chunks 1\r\nSTAT 1:free_chunks 20\r\nSTAT 2:chunk_size 96\r\nSTAT 2:chunks_per_page 10\r\nSTAT 2:total_pages 1\r\nSTAT 2:total_chunks 10\r\nSTAT 2:used_chunks 1\r\nSTAT 2:free_chunks 9\r\nSTAT 3:chunk_size 192\r\nSTAT 3:chunks_per_page 5\r\nSTAT 3:total_pages 1\r\nSTAT 3:total_chunks 5\r\nSTAT 3:used_chunks 1\r\nSTAT 3:free_chunks 4\r\nSTAT 4:chunk_size 512\r\nSTAT 4:chunks_per_page 2\r\nSTAT 4:total_pages 4\r\nSTAT 4:total_chunks 8\r\nSTAT 4:used_chunks 8\r\nSTAT 4:free_chunks 0\r\nSTAT active_slabs 4\r\nSTAT total_malloced 7168\r\nEND\r\n",
+        Ok(()),
+    ),
+    (
+        "a class that got its first page beyond the limit evicts where it is full",
+        "1 set 1 61 0\n1 set 2 61 0\n1 set 3 61 0\n1 set 4 61 0\n1 set 5 61 0\n1 set 6 61 0\n1 set 7 61 0\n1 set 8 61 0\n1 set 9 61 0\n1 set 10 3 0\n1 set 21 3 0\n1 set 22 3 0\n1 set 23 3 0\n1 set 24 3 0\n1 set 25 3 0\n1 set 26 3 0\n1 set 27 3 0\n1 set 28 3 0\n1 set 29 3 0\n1 set 30 3 0\n1 set 31 3 0\n1 set 32 3 0\n1 set 33 3 0\n1 set 34 3 0\n1 set 35 3 0\n1 set 36 3 0\n1 set 37 3 0\n1 set 38 3 0\n1 set 39 3 0\n1 set 40 3 0\n1 set 41 3 0\n1 get 10\n1 touch 21\n",
+        "STORED 1\r\nSTORED 2\r\nSTORED 3\r\nSTORED 4\r\nSTORED 5\r\nSTORED 6\r\nSTORED 7\r\nSTORED 8\r\nSTORED 9\r\nSTORED 10\r\nSTORED 21\r\nSTORED 22\r\nSTORED 23\r\nSTORED 24\r\nSTORED 25\r\nSTORED 26\r\nSTORED 27\r\nSTORED 28\r\nSTORED 29\r\nSTORED 30\r\nSTORED 31\r\nSTORED 32\r\nSTORED 33\r\nSTORED 34\r\nSTORED 35\r\nSTORED 36\r\nSTORED 37\r\nSTORED 38\r\nSTORED 39\r\nSTORED 40\r\nSTORED 41\r\nNOT_FOUND 10\r\nTOUCHED 21\r\n",
         Ok(()),
     ),
     (
@@ -63,9 +69,9 @@ const ROWS: [Row<'static>; 16] = [
         Ok(()),
     ),
     (
-        "a class without a page has no room where all are granted",
+        "a class without a page gets one where all within the limit are granted",
         "1 set 1 61 0\n1 set 2 61 0\n1 set 3 61 0\n1 set 4 61 0\n1 set 5 61 0\n1 set 6 61 0\n1 set 7 61 0\n1 set 10 3 0\n",
-        "STORED 1\r\nSTORED 2\r\nSTORED 3\r\nSTORED 4\r\nSTORED 5\r\nSTORED 6\r\nSTORED 7\r\nNO_ROOM 10\r\n",
+        "STORED 1\r\nSTORED 2\r\nSTORED 3\r\nSTORED 4\r\nSTORED 5\r\nSTORED 6\r\nSTORED 7\r\nSTORED 10\r\n",
         Ok(()),
     ),
     (

@@ -339,7 +339,7 @@ fn add_page(left: &Final, page: PageId, sums: Sums) -> Option<Sums> {
     Some(Sums { free, dead, linked })
 }
 
-/// How many chunks of the class are free as its list says, and whether both pages are the class's.
+/// How many chunks of the class are free as its list says, and whether both pages within the limit are the class's.
 fn listed(left: &Final) -> Option<(u64, bool)> {
     let mut are_owned = left.classes().pages() == 2;
     for page in 0..left.classes().pages() {

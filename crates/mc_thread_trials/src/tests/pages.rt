@@ -189,7 +189,7 @@ fn assert_pages<R: Abort>(rt: &R, left: &Final, stats: &Stats) -> Result<(), Fai
         .saturating_add(pages.pool);
     assert_same(rt, granted, stats.totals.granted, "granted pages");
     let all = granted.saturating_add(pages.untouched);
-    assert_same(rt, all, left.classes().pages(), "all pages");
+    assert_same(rt, all, left.classes().arena_pages(), "all pages");
     Ok(())
 }
 

@@ -76,6 +76,7 @@ fn assert_table(rt: &impl Abort, table: &ClassTable, row: &SizesRow) {
     assert_same(rt, table.page(), config.page, name);
     assert_same(rt, table.limit(), config.limit, name);
     assert_same(rt, table.pages(), 4, name);
+    assert_same(rt, table.arena_pages(), 4 + table.count(), name);
     for (place, chunk) in chunks.iter().enumerate() {
         assert!(rt; (place as u64) < table.count());
         assert_same(rt, table.per_page(place as u64 + 1), *chunk, name);
@@ -503,10 +504,13 @@ fn bounds_are_accepted(rt: HostRuntime) -> Result<(), Fail> {
     };
     let table = ClassTable::build(rt.alloc(), &least)?;
     assert_same(&rt, table.pages(), 1, "the least limit");
+    let pages = table.arena_pages();
+    assert_same(&rt, pages, 1 + table.count(), "the least limit");
     assert_same(&rt, table.class_for(24), Some(1), "the least size");
     assert_same(&rt, table.class_for(64), Some(table.count()), "the page");
     let table = ClassTable::build(rt.alloc(), &greatest)?;
     assert_same(&rt, table.pages(), 64, "the greatest limit");
+    assert_same(&rt, table.arena_pages(), 65, "the greatest limit");
     assert_classes(&rt, &table, &[16384], "one chunk a page");
     Ok(())
 }

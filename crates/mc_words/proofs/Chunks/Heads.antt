@@ -1,6 +1,6 @@
 -- Steps on headers: what the core allows, and which word it is.
 use Rattle.std.proofs.Common.{◌≡◌, ℕ, ◌<◌, true, List, slice_set, slice_index, slice_index_or, refl, sym, ap, subst, ◌∙◌, arith}
-use Rattle.mc_classes.specs.Classes.{pages_of}
+use Rattle.mc_classes.specs.Classes.{arena_pages_of}
 use Rattle.mc_pages.specs.declared.ids.ChunkId.{ChunkId}
 use Rattle.mc_core.specs.declared.head.Head.{Head}
 use Rattle.mc_core.specs.declared.event.Step.TheVariants as core
@@ -50,5 +50,5 @@ may_look view chunk near was fits =
 pub head_word_near : (setup : Setup) (chunk : ChunkId) → has_chunk setup.table chunk ≡ true → head_word setup chunk < word_count setup
 head_word_near setup chunk near = let below = head_near setup chunk near in omega arith
 
-pub page_word_near : (setup : Setup) (page : ℕ) → page < pages_of setup.table → page_word setup page < word_count setup
+pub page_word_near : (setup : Setup) (page : ℕ) → page < arena_pages_of setup.table → page_word setup page < word_count setup
 page_word_near setup page near = omega arith

@@ -2,7 +2,7 @@
 use Rattle.std.proofs.Common.{◌≡◌, ◌⊎◌, ℕ, ◌<◌, ◌≤◌, ◌-◌, ◌&&◌, true, List, [], ◌∷◌, ◌++◌, Some, refl, sym, ap, subst, ◌∙◌, inl, inr, arith, ltb-true, nat_lt, not, Result, Ok, Err, OnOk, OnErr}
 use Rattle.std.specs.Prelude.{Contains}
 use Rattle.std.proofs.lemmas.Bool.{and_parts, cases_Bool, cases_lt}
-use Rattle.mc_classes.specs.Classes.{pages_of}
+use Rattle.mc_classes.specs.Classes.{arena_pages_of}
 use Rattle.mc_pages.specs.declared.ids.ChunkId.{ChunkId}
 use Rattle.mc_pages.specs.Accounted.{truth, is_cut}
 use Rattle.mc_pages.specs.ClassState.{times}
@@ -81,7 +81,7 @@ module _ (view : View) (was : LawfulView view) (slabs : SlabState) (mine : view.
         let below' : last.index < (class_at m.state.slabs (class_of_page m.state.slabs page)).per_page = subst (λ (n : ℕ). last.index < (class_at m.state.slabs n).per_page) (sym there) (subst (λ (x : SlabState). last.index < (class_at x class).per_page) (sym same) below) in
         let near = near_in m was.lawful last (subst (λ (n : ℕ). IsClass m.state.slabs n) (sym there) class_there) below' in
         let near' : has_chunk view.setup.table last ≡ true = ap (λ table. has_chunk table last) (sym was.same_table) ∙ near in
-        let index = ltb-true last.index (most_of view.setup.table) (and_parts (nat_lt last.page (pages_of view.setup.table)) (nat_lt last.index (most_of view.setup.table)) near').1 in
+        let index = ltb-true last.index (most_of view.setup.table) (and_parts (nat_lt last.page (arena_pages_of view.setup.table)) (nat_lt last.index (most_of view.setup.table)) near').1 in
         omega (arith, index, some)
     | inr none ↦ omega (arith, none)
   ]

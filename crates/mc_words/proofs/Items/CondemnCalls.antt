@@ -111,18 +111,18 @@ pub record Asks (view : View) (slabs : SlabState) (stripe : ℕ) (value : ReadyS
   pub held : slice_index_or view.stripes stripe None ≡ Some value
   pub ready : value.ready ≡ true
   pub key : stripe_read view chunk ≡ Some stripe
-  pub reason : knows_reason view.setup.table slabs view.row.looks view.row.holdings chunk ≡ true
+  pub reason : knows_reason slabs view.row.looks view.row.holdings chunk ≡ true
 
 -- as it is asked, of the arena's setup
 pub asks : (view : View) (setup : Setup) (slabs : SlabState) (stripe : ℕ) (value : ReadyStripe) (chunk : ChunkId) → view.setup ≡ setup → has_chunk setup.table chunk ≡ true → view.slabs ≡ Some slabs → slice_index_or view.stripes stripe None ≡ Some value
-    → value.ready ≡ true → stripe_read view chunk ≡ Some stripe → knows_reason setup.table slabs view.row.looks view.row.holdings chunk ≡ true → Asks view slabs stripe value chunk
+    → value.ready ≡ true → stripe_read view chunk ≡ Some stripe → knows_reason slabs view.row.looks view.row.holdings chunk ≡ true → Asks view slabs stripe value chunk
 asks view setup slabs stripe value chunk of near mine held ready key reason = record {
   near = ap (λ (s : Setup). has_chunk s.table chunk) of ∙ near;
   mine = mine;
   held = held;
   ready = ready;
   key = key;
-  reason = ap (λ (s : Setup). knows_reason s.table slabs view.row.looks view.row.holdings chunk) of ∙ reason;
+  reason = reason;
 }
 
 module _ (view : View) (slabs : SlabState) (stripe : ℕ) (value : ReadyStripe) (chunk : ChunkId) (ask : Asks view slabs stripe value chunk) where
@@ -199,13 +199,13 @@ module _ (view read seen : View) (slabs : SlabState) (stripe : ℕ) (value : Rea
     alive : is_dead (decode word) ≡ false
     alive = ap (λ (t : Tag). is_unlinked t && (decode word).count == 0) (tag_linked (decode word).tag (and_parts _ _ unheld).0)
 
-    pub reason_still : knows_reason view.setup.table slabs view.row.looks view.row.holdings chunk ≡ true → knows_reason seen.setup.table slabs seen.row.looks seen.row.holdings chunk ≡ true
+    pub reason_still : knows_reason slabs view.row.looks view.row.holdings chunk ≡ true → knows_reason slabs seen.row.looks seen.row.holdings chunk ≡ true
     reason_still knows =
         let once = view.row.looks ++ Read chunk 0 key ∷ [] in
         let twice = once ++ Saw chunk (decode word) ∷ [] in
-        ap (λ (v : View). knows_reason v.setup.table slabs v.row.looks v.row.holdings chunk) seen_plain
-        ∙ reason_after view.setup.table slabs once twice view.row.holdings chunk (alive_after_look once chunk (decode word) alive) (unfit_after_look once chunk (decode word))
-        (reason_after view.setup.table slabs view.row.looks once view.row.holdings chunk (λ other was. alive_after_read view.row.looks chunk 0 key other ∙ was) (λ other unfit. unfit_after_read view.row.looks chunk 0 key other ∙ unfit) knows)
+        ap (λ (v : View). knows_reason slabs v.row.looks v.row.holdings chunk) seen_plain
+        ∙ reason_after slabs once twice view.row.holdings chunk (alive_after_look once chunk (decode word) alive) (unfit_after_look once chunk (decode word))
+        (reason_after slabs view.row.looks once view.row.holdings chunk (λ other was. alive_after_read view.row.looks chunk 0 key other ∙ was) (λ other unfit. unfit_after_read view.row.looks chunk 0 key other ∙ unfit) knows)
 
     -- the key led to the chunk
     pub led_there : (now : View) (at : HappensAt (head_word seen.setup chunk) word seen [] (core.Condemn chunk) now) → place_of value.state key ≡ Some (chunk, word_at at.0.was.moment.state chunk 1)

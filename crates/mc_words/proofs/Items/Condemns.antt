@@ -90,7 +90,7 @@ module _ (view : View) (slabs : SlabState) (stripe : ℕ) (value : ReadyStripe) 
     leads_there tag = (λ k. place_of (sym value_is k).state (sym key_is k)) ∙ was.lawful.indexed.linked chunk near_there tag
 
   -- its item is taken away
-  pub may_take_away : (rescues : Bool) → (not rescues || is_none value.state.aside) ≡ true → value.ready ≡ true → has_copy view.row.holdings chunk ≡ rescues → knows_reason view.setup.table slabs view.row.looks view.row.holdings chunk ≡ true → (word : ℕ) → is_linked_unheld (decode word) ≡ true
+  pub may_take_away : (rescues : Bool) → (not rescues || is_none value.state.aside) ≡ true → value.ready ≡ true → has_copy view.row.holdings chunk ≡ rescues → knows_reason slabs view.row.looks view.row.holdings chunk ≡ true → (word : ℕ) → is_linked_unheld (decode word) ≡ true
       → MayExchange view (core.Condemn chunk) (head_word view.setup chunk) word (minus 65537 word)
   may_take_away rescues free ready none reason word unheld was fits hit =
       let m : Moment = was.moment in
@@ -106,16 +106,16 @@ module _ (view : View) (slabs : SlabState) (stripe : ℕ) (value : ReadyStripe) 
       let loses : can_lose_entry (stripe_at m.state (stripe_of m.state (key_at m.state chunk))) (key_at m.state chunk) (has_copy (holdings_at m.state was.hand) chunk) ≡ true =
       (λ k. can_lose_entry (value_is was k) (key_is was k) (has_copy (holdings_here view was k) chunk)) ∙ (ap (can_lose_entry value key) none ∙ and_from _ _ (and_from _ _ ready (ap is_some (leads_there was tag))) free) in
       let why : has_reason m.state.table m.state.heads m.state.slabs (looks_at m.state was.hand) (holdings_at m.state was.hand) chunk ≡ true =
-      reason_here m was.hand (judged view was slabs has.mine) chunk ((λ k. knows_reason (was.same_table k) (held.1 k) (looks_here view was k) (holdings_here view was k) chunk) ∙ reason) in (
+      reason_here m was.hand (judged view was slabs has.mine) chunk ((λ k. knows_reason (held.1 k) (looks_here view was k) (holdings_here view was k) chunk) ∙ reason) in (
         and_from _ _ (and_from _ _ (and_from _ _ (and_from _ _ (and_from _ _ held.0 (near_there was)) unheld') stripe_held) loses) why,
         header_written view chunk has.near was (minus 65537 word) (condemned (head_at m.state chunk)) less,
       )
 
-  pub may_condemn : value.ready ≡ true → has_copy view.row.holdings chunk ≡ false → knows_reason view.setup.table slabs view.row.looks view.row.holdings chunk ≡ true → (word : ℕ) → is_linked_unheld (decode word) ≡ true
+  pub may_condemn : value.ready ≡ true → has_copy view.row.holdings chunk ≡ false → knows_reason slabs view.row.looks view.row.holdings chunk ≡ true → (word : ℕ) → is_linked_unheld (decode word) ≡ true
       → MayExchange view (core.Condemn chunk) (head_word view.setup chunk) word (minus 65537 word)
   may_condemn = may_take_away false refl
 
-  pub may_condemn_original : value.state.aside ≡ None → value.ready ≡ true → has_copy view.row.holdings chunk ≡ true → knows_reason view.setup.table slabs view.row.looks view.row.holdings chunk ≡ true → (word : ℕ) → is_linked_unheld (decode word) ≡ true
+  pub may_condemn_original : value.state.aside ≡ None → value.ready ≡ true → has_copy view.row.holdings chunk ≡ true → knows_reason slabs view.row.looks view.row.holdings chunk ≡ true → (word : ℕ) → is_linked_unheld (decode word) ≡ true
       → MayExchange view (core.Condemn chunk) (head_word view.setup chunk) word (minus 65537 word)
   may_condemn_original empty = may_take_away true (ap is_none empty)
 

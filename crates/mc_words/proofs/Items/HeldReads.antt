@@ -2,10 +2,9 @@
 use Rattle.std.proofs.Common.{◌≡◌, ℕ, ◌+◌, ◌*◌, ◌/◌, ◌<◌, ◌≤◌, Bool, true, List, [], ◌∷◌, ◌++◌, length, Option, Some, None, IfSome, refl, sym, subst, ap, ap₂, ◌∙◌, arith, is_some, slice_index, lt-ltb, get_or-set_same, if◌then◌else◌, inl, inr}
 use Rattle.std.specs.List.{fold}
 use Rattle.std.proofs.lemmas.Bool.{and_from, cases_Bool}
-use Rattle.mc_classes.specs.Classes.{Classes, pages_of, size_of}
+use Rattle.mc_classes.specs.Classes.{Classes, arena_pages_of, size_of}
 use Rattle.mc_pages.specs.declared.ids.ChunkId.{ChunkId}
 use Rattle.mc_pages.specs.SlabState.{SlabState, class_of_page}
-use Rattle.mc_pages.proofs.GrantedPage.{length-owners}
 use Rattle.mc_core.specs.declared.look.Look.{Look}
 use Rattle.mc_core.specs.declared.look.Look.TheVariants.{Read}
 use Rattle.mc_core.specs.declared.event.Step.TheVariants as core
@@ -57,9 +56,7 @@ module _ (view : View) (slabs : SlabState) (mine : view.slabs ≡ Some slabs) (c
   pub owner_near : LawfulView view → chunk.page < length slabs.owners
   owner_near was =
       let s : State = was.moment.state in
-      let long : length s.slabs.owners ≡ s.slabs.limit / s.slabs.page = length-owners s.slabs was.lawful.paged.order.1.accounted in
-      let of = was.lawful.paged.of_table in
-      let pages : s.slabs.limit / s.slabs.page ≡ pages_of view.setup.table = (λ k. of.limit k / of.page k) ∙ ap pages_of was.same_table in
+      let pages : length s.slabs.owners ≡ arena_pages_of view.setup.table = was.lawful.paged.of_table.owners ∙ ap arena_pages_of was.same_table in
       let owners : length s.slabs.owners ≡ length slabs.owners = ap (λ (x : SlabState). length x.owners) (slabs_here view was slabs mine).1 in
       let within = (chunk_within view.setup.table chunk near).0 in
       omega arith
@@ -95,7 +92,7 @@ module _ (view : View) (slabs : SlabState) (mine : view.slabs ≡ Some slabs) (c
       within =
           let inside = word_within m was.lawful chunk place near_there placed on_page in
           let long = was.lawful.sized.places in
-          let count : pages_of m.state.table * page_words m.state.table ≡ data_count view.setup = ap (λ table. pages_of table * page_words table) was.same_table in
+          let count : arena_pages_of m.state.table * page_words m.state.table ≡ data_count view.setup = ap (λ table. arena_pages_of table * page_words table) was.same_table in
           omega arith
 
       -- it is a data word

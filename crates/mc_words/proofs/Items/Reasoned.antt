@@ -5,12 +5,12 @@ use Rattle.std.specs.Option.{option_map_or, option_or}
 use Rattle.std.proofs.lemmas.Bool.{and_from, and_parts, cases_Bool, cases_lt, or_right}
 use Rattle.std.proofs.lemmas.List.Sums.{fold-append, sum_by-cons}
 use Rattle.std.proofs.lemmas.Option.{slice_get-get_or}
-use Rattle.mc_classes.specs.Classes.{Classes, pages_of}
+use Rattle.mc_classes.specs.Classes.{Classes, arena_pages_of}
 use Rattle.mc_pages.specs.declared.ids.ChunkId.{ChunkId}
 use Rattle.mc_pages.specs.ClassState.{first_free, is_chunk}
 use Rattle.mc_pages.specs.declared.ledger.Owner.{Owner}
-use Rattle.mc_pages.specs.Changes.{next_page, pooled_page}
-use Rattle.mc_pages.specs.SlabState.{SlabState, class_at, class_of_page, class_of_chunk, granted_count, is_untouched, untouched_page}
+use Rattle.mc_pages.specs.Changes.{next_page}
+use Rattle.mc_pages.specs.SlabState.{SlabState, class_at, class_of_page, class_of_chunk}
 use Rattle.mc_pages.proofs.Chunks.{same_from_is_chunk}
 use Rattle.mc_pages.specs.Pages.{is_on_the_move}
 use Rattle.mc_core.specs.declared.head.Head.{Head}
@@ -18,7 +18,7 @@ use Rattle.mc_core.specs.declared.holding.Holding.{Holding}
 use Rattle.mc_core.specs.declared.look.Look.{Look}
 use Rattle.mc_core.specs.declared.look.Look.TheVariants.{Changed, Cleared, Condemned, Cut, Popped, PoppedOff, PutBack, Read, Saw, SawStripe}
 use Rattle.mc_core.specs.Chunks.{most_issue}
-use Rattle.mc_core.specs.Evictions.{has_copy, has_no_page, has_reason, lacks_room, must_leave, none_dead}
+use Rattle.mc_core.specs.Evictions.{has_copy, has_reason, lacks_room, must_leave, none_dead}
 use Rattle.mc_core.specs.Head.{is_dead}
 use Rattle.mc_core.specs.Judged.{IsJudged, is_seen_unfit, sees_no_target}
 use Rattle.mc_core.specs.Reasons.{sees, takes}
@@ -90,47 +90,14 @@ alive_after_other looks look other quiet elsewhere = fold-append (stays_alive ot
     stays (Changed change) before quiet elsewhere = refl
 
 -- a class that was swept, has no free chunk, and for which no page is to be had, is a reason
-pub room_needed : (table : Classes) (slabs : SlabState) (looks : List Look) (holdings : List Holding) (class : ℕ) (chunk : ChunkId) → class_of_page slabs chunk.page ≡ class → first_free (class_at slabs class) ≡ None
-    → list_all (is_found_alive looks) (class_at slabs class).order ≡ true → has_no_page table slabs ≡ true → none_half_cut slabs ≡ true → knows_reason table slabs looks holdings chunk ≡ true
-room_needed table slabs looks holdings class chunk own free alive page whole =
+pub room_needed : (slabs : SlabState) (looks : List Look) (holdings : List Holding) (class : ℕ) (chunk : ChunkId) → class_of_page slabs chunk.page ≡ class → first_free (class_at slabs class) ≡ None
+    → list_all (is_found_alive looks) (class_at slabs class).order ≡ true → next_page slabs class ≡ None → none_half_cut slabs ≡ true → knows_reason slabs looks holdings chunk ≡ true
+room_needed slabs looks holdings class chunk own free alive page whole =
     let free' : is_none (first_free (class_of_chunk slabs chunk)) ≡ true = ap (λ (n : ℕ). is_none (first_free (class_at slabs n))) own ∙ ap is_none free in
+    let page' : is_none (next_page slabs (class_of_page slabs chunk.page)) ≡ true = ap (λ (n : ℕ). is_none (next_page slabs n)) own ∙ ap is_none page in
     let alive' : none_dead slabs looks chunk ≡ true = ap (λ (n : ℕ). list_all (is_found_alive looks) (class_at slabs n).order) own ∙ alive in
-    or_right (is_on_the_move slabs chunk.page && has_copy holdings chunk || is_on_the_move slabs chunk.page && none_dead slabs looks chunk && sees_no_target slabs looks chunk.page) (lacks_room table slabs looks chunk)
-    (and_from _ _ (and_from _ _ (and_from _ _ free' alive') page) whole)
-
--- where no page comes next, none is to be had
-all_granted : (owners : List Owner) → length owners ≤ prefix_len (λ owner. not (is_untouched owner)) owners → count_by (λ owner. not (is_untouched owner)) owners ≡ length owners
-all_granted [] all = refl
-all_granted (owner ∷ owners) all = elim (cases_Bool (not (is_untouched owner))) [
-  | inl is ↦
-      let more = ap (λ b. cond b (1 + prefix_len (λ owner. not (is_untouched owner)) owners) 0) is in
-      let rest = all_granted owners (omega arith) in
-      let both : count_by (λ owner. not (is_untouched owner)) (owner ∷ owners) ≡ 1 + count_by (λ owner. not (is_untouched owner)) owners =
-      sum_by-cons (λ owner. cond (not (is_untouched owner)) 1 0) owner owners ∙ (λ k. cond (is k) 1 0 + count_by (λ owner. not (is_untouched owner)) owners) in
-      omega arith
-  | inr isnt ↦ absurd (let none = ap (λ b. cond b (1 + prefix_len (λ owner. not (is_untouched owner)) owners) 0) isnt in omega arith)
-]
-
-none_untouched : (owners : List Owner) → position is_untouched owners ≡ None → length owners ≤ prefix_len (λ owner. not (is_untouched owner)) owners
-none_untouched owners none = elim (cases_lt (prefix_len (λ owner. not (is_untouched owner)) owners) (length owners)) [
-  | inl within ↦ absurd (let found = ap (λ b. cond b (Some (prefix_len (λ owner. not (is_untouched owner)) owners)) None) (lt-ltb _ _ within) in let never = sym found ∙ none in cc)
-  | inr past ↦ omega arith
-]
-
-none_pooled : (pool : List ℕ) → slice_get pool (length pool - 1) ≡ None → length pool ≡ 0
-none_pooled [] none = refl
-none_pooled (page ∷ pool) none = absurd (let at = slice_get-get_or (page ∷ pool) (length (page ∷ pool) - 1) 0 (omega arith) in let never = sym at ∙ none in cc)
-
-neither_page : (a b : Option ℕ) → option_or a b ≡ None → (a ≡ None) × (b ≡ None)
-neither_page None b none = (refl, none)
-neither_page (Some page) b none = absurd (cc)
-
-pub no_page_left : (view : View) → LawfulView view → (slabs : SlabState) → view.slabs ≡ Some slabs → next_page slabs ≡ None → has_no_page view.setup.table slabs ≡ true
-no_page_left view was slabs mine none =
-    let parts = neither_page (pooled_page slabs) (untouched_page slabs) none in
-    let owners : length slabs.owners ≡ pages_of view.setup.table =
-    ap (λ (x : SlabState). length x.owners) (sym (slabs_here view was slabs mine).1) ∙ (was.lawful.paged.of_table.owners ∙ ap pages_of was.same_table) in
-    and_from _ _ (eq-eqb (length slabs.pool) 0 (none_pooled slabs.pool parts.0)) (eq-eqb (granted_count slabs) (pages_of view.setup.table) (all_granted slabs.owners (none_untouched slabs.owners parts.1) ∙ owners))
+    or_right (is_on_the_move slabs chunk.page && has_copy holdings chunk || is_on_the_move slabs chunk.page && none_dead slabs looks chunk && sees_no_target slabs looks chunk.page) (lacks_room slabs looks chunk)
+    (and_from _ _ (and_from _ _ (and_from _ _ free' alive') page') whole)
 
 -- the three reasons, of which each may be weaker
 or_three : (a b c b' c' : Bool) → (b ≡ true → b' ≡ true) → (c ≡ true → c' ≡ true) → (a || b || c) ≡ true → (a || b' || c') ≡ true
@@ -140,34 +107,34 @@ or_three false false c true c' of_b of_c is = refl
 or_three false false c false c' of_b of_c is = of_c is
 
 -- more looks, after which no chunk that was found alive is taken for dead, and none that was unfit for fit
-module _ (table : Classes) (slabs : SlabState) (looks more : List Look) (holdings : List Holding) (chunk : ChunkId) (alive : (other : ChunkId) → is_found_alive looks other ≡ true → is_found_alive more other ≡ true)
+module _ (slabs : SlabState) (looks more : List Look) (holdings : List Holding) (chunk : ChunkId) (alive : (other : ChunkId) → is_found_alive looks other ≡ true → is_found_alive more other ≡ true)
     (unfit : (other : ChunkId) → is_seen_unfit looks chunk.page other ≡ true → is_seen_unfit more chunk.page other ≡ true) where
   pub dead_after : none_dead slabs looks chunk ≡ true → none_dead slabs more chunk ≡ true
   dead_after none = all_weaker (is_found_alive looks) (is_found_alive more) (class_of_chunk slabs chunk).order alive none
 
-  pub reason_after : knows_reason table slabs looks holdings chunk ≡ true → knows_reason table slabs more holdings chunk ≡ true
+  pub reason_after : knows_reason slabs looks holdings chunk ≡ true → knows_reason slabs more holdings chunk ≡ true
   reason_after knows =
-      or_three (is_on_the_move slabs chunk.page && has_copy holdings chunk) (is_on_the_move slabs chunk.page && none_dead slabs looks chunk && sees_no_target slabs looks chunk.page) (lacks_room table slabs looks chunk)
-      (is_on_the_move slabs chunk.page && none_dead slabs more chunk && sees_no_target slabs more chunk.page) (lacks_room table slabs more chunk)
+      or_three (is_on_the_move slabs chunk.page && has_copy holdings chunk) (is_on_the_move slabs chunk.page && none_dead slabs looks chunk && sees_no_target slabs looks chunk.page) (lacks_room slabs looks chunk)
+      (is_on_the_move slabs chunk.page && none_dead slabs more chunk && sees_no_target slabs more chunk.page) (lacks_room slabs more chunk)
       (λ leaves.
       let parts = and_parts (is_on_the_move slabs chunk.page && none_dead slabs looks chunk) (sees_no_target slabs looks chunk.page) leaves in
       let first = and_parts (is_on_the_move slabs chunk.page) (none_dead slabs looks chunk) parts.0 in
       and_from _ _ (and_from _ _ first.0 (dead_after first.1)) (all_weaker (is_seen_unfit looks chunk.page) (is_seen_unfit more chunk.page) (class_at slabs (class_of_page slabs chunk.page)).free unfit parts.1))
       (λ lacks.
       let whole = and_parts _ (none_half_cut slabs) lacks in
-      let page = and_parts _ (has_no_page table slabs) whole.0 in
+      let page = and_parts _ (is_none (next_page slabs (class_of_page slabs chunk.page))) whole.0 in
       let free = and_parts _ (none_dead slabs looks chunk) page.0 in
       and_from _ _ (and_from _ _ (and_from _ _ free.0 (dead_after free.1)) page.1) whole.1)
       knows
 
 -- what the hand knows is a reason of the core's
-pub reason_here : (m : Moment) (hand : ℕ) → IsJudged m hand → (chunk : ChunkId) → knows_reason m.state.table m.state.slabs (looks_at m.state hand) (holdings_at m.state hand) chunk ≡ true
+pub reason_here : (m : Moment) (hand : ℕ) → IsJudged m hand → (chunk : ChunkId) → knows_reason m.state.slabs (looks_at m.state hand) (holdings_at m.state hand) chunk ≡ true
     → has_reason m.state.table m.state.heads m.state.slabs (looks_at m.state hand) (holdings_at m.state hand) chunk ≡ true
 reason_here m hand judged chunk knows =
     let slabs = m.state.slabs in
     let looks = looks_at m.state hand in
-    or_three (is_on_the_move slabs chunk.page && has_copy (holdings_at m.state hand) chunk) (is_on_the_move slabs chunk.page && none_dead slabs looks chunk && sees_no_target slabs looks chunk.page) (lacks_room m.state.table slabs looks chunk)
-    (must_leave m.state.table m.state.heads slabs looks chunk) (lacks_room m.state.table slabs looks chunk)
+    or_three (is_on_the_move slabs chunk.page && has_copy (holdings_at m.state hand) chunk) (is_on_the_move slabs chunk.page && none_dead slabs looks chunk && sees_no_target slabs looks chunk.page) (lacks_room slabs looks chunk)
+    (must_leave m.state.table m.state.heads slabs looks chunk) (lacks_room slabs looks chunk)
     (λ leaves.
     let parts = and_parts (is_on_the_move slabs chunk.page && none_dead slabs looks chunk) (sees_no_target slabs looks chunk.page) leaves in
     let first = and_parts (is_on_the_move slabs chunk.page) (none_dead slabs looks chunk) parts.0 in

@@ -1,7 +1,7 @@
 -- Changes of a move: what allows each, and what the words of the pages say then.
 use Rattle.std.proofs.Common.{false, None, ◌≡◌, ℕ, ◌/◌, ◌<◌, ◌≤◌, ◌==◌, Bool, true, List, length, slice_index, slice_set, Option, Some, refl, sym, ap, subst, ◌∙◌, inl, inr, arith, is_ok, Result, Ok, Err, IfOk, eqb-true, length-set, get_or-set_same, get_or-set_other, not, is_none, nat_lt, ◌&&◌, ◌||◌, lt-ltb, ltb-true, eq-eqb, le-leb, ap₂, [], ◌∷◌}
 use Rattle.std.proofs.lemmas.Bool.{and_parts, or_right, and_from, cases_Bool, cases_eq}
-use Rattle.mc_classes.specs.Classes.{Classes, pages_of, per_page_of}
+use Rattle.mc_classes.specs.Classes.{Classes, arena_pages_of, per_page_of}
 use Rattle.mc_pages.specs.declared.ids.Moving.{Moving}
 use Rattle.mc_pages.specs.declared.moves.Found.{Found}
 use Rattle.mc_pages.specs.declared.ledger.Owner.TheVariants.{Untouched, Pool, Class}
@@ -14,7 +14,6 @@ use Rattle.mc_pages.specs.declared.moves.Reassign.{Reassign}
 use Rattle.mc_pages.specs.Answer.{MayAnswer, answer_of}
 use Rattle.mc_pages.specs.Moves.{CanFinish, CanPass, CanWrap, after_begin, after_finish, chunk_at_position, finished, is_held_up}
 use Rattle.mc_pages.specs.SlabState.{SlabState, class_at, class_of_owner, class_of_page}
-use Rattle.mc_pages.proofs.GrantedPage.{length-owners}
 use Rattle.mc_pages.proofs.RoomyFinish.{moving_within}
 use Rattle.mc_core.specs.declared.event.Change.TheVariants.{BeginMove, FinishMove, Passed, Wrap}
 use Rattle.mc_core.specs.declared.event.Step.TheVariants as core
@@ -91,17 +90,16 @@ finished_cut cuts slabs move within near cut other = elim (cases_eq other move.p
 ]
 
 -- where the page of a move stands
-pub move_near : (view : View) → LawfulView view → (slabs : SlabState) (move : Moving) → view.slabs ≡ Some slabs → slabs.moving ≡ Some move → (move.page < pages_of view.setup.table) × (move.page < length slabs.owners)
+pub move_near : (view : View) → LawfulView view → (slabs : SlabState) (move : Moving) → view.slabs ≡ Some slabs → slabs.moving ≡ Some move → (move.page < arena_pages_of view.setup.table) × (move.page < length slabs.owners)
 move_near view was slabs move mine runs =
     let of = of_table_here view was slabs mine in
     let is : IsMove slabs move = of.accounted.move move runs in
     let within : move.page < length slabs.owners = moving_within slabs move is in
-    let long : length slabs.owners ≡ slabs.limit / slabs.page = length-owners slabs of.accounted in
-    let pages : slabs.limit / slabs.page ≡ pages_of view.setup.table = λ k. of.limit k / of.page k in
+    let pages : length slabs.owners ≡ arena_pages_of view.setup.table = of.owners in
     (omega arith, within)
 
 -- a move ends
-pub may_finish : (view : View) (slabs : SlabState) (move : Moving) → view.slabs ≡ Some slabs → slabs.moving ≡ Some move → can_finish slabs slabs.moving ≡ true → move.page < pages_of view.setup.table → move.page < length slabs.owners
+pub may_finish : (view : View) (slabs : SlabState) (move : Moving) → view.slabs ≡ Some slabs → slabs.moving ≡ Some move → can_finish slabs slabs.moving ≡ true → move.page < arena_pages_of view.setup.table → move.page < length slabs.owners
     → MayTell view FinishMove core.MissSlabs (page_word view.setup move.page) (λ found. move.dst)
 may_finish view slabs move mine runs can near owned = record {
   allowed = λ was.

@@ -1,7 +1,7 @@
 -- The owner's pass: what the core allows of a hand that knows what its view says, and which word it writes.
 use Rattle.std.proofs.Common.{◌≡◌, ℕ, suc, ◌+◌, ◌*◌, ◌^◌, ◌<◌, ◌≤◌, Bool, true, ◌&&◌, ◌||◌, not, List, [], ◌∷◌, length, Some, sym, ap, ap₂, subst, ◌∙◌, inl, inr, arith, slice_set, slice_index, lt-ltb, if◌then◌else◌}
 use Rattle.std.proofs.lemmas.Bool.{and_from, cases_Bool}
-use Rattle.mc_classes.specs.Classes.{pages_of}
+use Rattle.mc_classes.specs.Classes.{arena_pages_of}
 use Rattle.mc_pages.specs.declared.ids.ChunkId.{ChunkId}
 use Rattle.mc_pages.specs.ClassState.{first_free}
 use Rattle.mc_pages.specs.SlabState.{SlabState, class_at, class_of_page}
@@ -107,7 +107,7 @@ module _ (view : View) (chunk : ChunkId) (holding : Holding) (place : ℕ) (foun
       let placed = fill_placed m was.lawful was.hand chunk place holding filled_here filled_can in
       let inside = word_within m was.lawful chunk place (near_placed m was.lawful chunk placed) placed (fill_on m was.lawful was.hand chunk place holding filled_here filled_can) in
       let long = was.lawful.sized.places in
-      let count : pages_of m.state.table * page_words m.state.table ≡ data_count view.setup = ap (λ table. pages_of table * page_words table) was.same_table in
+      let count : arena_pages_of m.state.table * page_words m.state.table ≡ data_count view.setup = ap (λ table. arena_pages_of table * page_words table) was.same_table in
       omega arith
 
   -- it is a data word

@@ -1,9 +1,9 @@
 -- The words of the pages: a page that a class gets, and the change by which it gets it.
 use Rattle.std.proofs.Common.{◌/◌, None, is_none, is_some, ◌≡◌, ℕ, ◌<◌, ◌≤◌, true, List, length, slice_index, slice_set, Some, refl, sym, ap, ◌∙◌, subst, inl, inr, arith, get_or-set_same, get_or-set_other}
 use Rattle.std.proofs.lemmas.Bool.{cases_eq, and_from}
-use Rattle.mc_classes.specs.Classes.{Classes, pages_of}
+use Rattle.mc_classes.specs.Classes.{Classes, arena_pages_of}
 use Rattle.mc_pages.proofs.RoomyGrow.{next_within}
-use Rattle.mc_pages.proofs.GrantedPage.{length-owners}
+use Rattle.mc_pages.proofs.NextPage.{nobody_next}
 use Rattle.mc_pages.specs.declared.ids.ChunkId.{ChunkId}
 use Rattle.mc_pages.specs.SlabState.{SlabState, class_of_owner, class_of_page}
 use Rattle.mc_pages.specs.declared.ledger.Owner.{Owner}
@@ -36,7 +36,7 @@ cut_written cuts x page class within owned cut other = elim (cases_eq other page
 ]
 
 -- a class gets the next page, whose word tells that
-pub may_grow : (view : View) (slabs : SlabState) (class page : ℕ) → view.slabs ≡ Some slabs → can_change_slabs view.setup.table slabs (Grow class) ≡ true → next_page slabs ≡ Some page → page < pages_of view.setup.table → page < length slabs.owners
+pub may_grow : (view : View) (slabs : SlabState) (class page : ℕ) → view.slabs ≡ Some slabs → can_change_slabs view.setup.table slabs (Grow class) ≡ true → next_page slabs class ≡ Some page → page < arena_pages_of view.setup.table → page < length slabs.owners
     → MayTell view (Grow class) core.MissSlabs (page_word view.setup page) (λ found. class)
 may_grow view slabs class page mine can next near owned = record {
   allowed = λ was.
@@ -48,7 +48,7 @@ may_grow view slabs class page mine can next near owned = record {
       let same = (slabs_here view was slabs mine).1 in
       let long = cuts_long view.setup was.cuts was.words s.slabs_lock s.stripe_locks s.heads s.words was.are in
       let cut : AreCut was.cuts slabs = subst (AreCut was.cuts) same was.cut in
-      let is : grown s.slabs class (next_page s.slabs) ≡ after_grow slabs class page = ap (λ slabs. grown slabs class (next_page slabs)) same ∙ ap (grown slabs class) next in (
+      let is : grown s.slabs class (next_page s.slabs class) ≡ after_grow slabs class page = ap (λ slabs. grown slabs class (next_page slabs class)) same ∙ ap (grown slabs class) next in (
         slice_set was.cuts page class,
         page_written view.setup was.cuts was.words s.slabs_lock s.stripe_locks s.heads s.words was.are page class near,
         subst (AreCut (slice_set was.cuts page class)) (sym is) (cut_written was.cuts slabs page class (omega arith) owned cut),
@@ -80,17 +80,15 @@ may_evicted view slabs class mine is = record {
 }
 
 -- the page that comes next stands in the arena
-pub next_near : (view : View) → LawfulView view → (slabs : SlabState) (page : ℕ) → view.slabs ≡ Some slabs → next_page slabs ≡ Some page → (page < pages_of view.setup.table) × (page < length slabs.owners)
-next_near view was slabs page mine next =
+pub next_near : (view : View) → LawfulView view → (slabs : SlabState) (class page : ℕ) → view.slabs ≡ Some slabs → next_page slabs class ≡ Some page → (page < arena_pages_of view.setup.table) × (page < length slabs.owners)
+next_near view was slabs class page mine next =
     let s : State = was.moment.state in
     let same = (slabs_here view was slabs mine).1 in
     let order = was.lawful.paged.order in
-    let inside : page < length s.slabs.owners = next_within s.slabs order.0 page order.1 (ap next_page same ∙ next) in
-    let long : length s.slabs.owners ≡ s.slabs.limit / s.slabs.page = length-owners s.slabs order.1.accounted in
-    let of = was.lawful.paged.of_table in
-    let pages : s.slabs.limit / s.slabs.page ≡ pages_of view.setup.table = (λ k. of.limit k / of.page k) ∙ ap pages_of was.same_table in
+    let inside : page < length s.slabs.owners = (nobody_next s.slabs class page order.1.accounted (ap (λ (x : SlabState). next_page x class) same ∙ next)).1 in
+    let pages : length s.slabs.owners ≡ arena_pages_of view.setup.table = was.lawful.paged.of_table.owners ∙ ap arena_pages_of was.same_table in
     let owners : length s.slabs.owners ≡ length slabs.owners = ap (λ (x : SlabState). length x.owners) same in
     (omega arith, omega arith)
 
-pub can_grow_here : (table : Classes) (slabs : SlabState) (class page : ℕ) → is_class table class ≡ true → slabs.uncut ≡ None → next_page slabs ≡ Some page → can_change_slabs table slabs (Grow class) ≡ true
+pub can_grow_here : (table : Classes) (slabs : SlabState) (class page : ℕ) → is_class table class ≡ true → slabs.uncut ≡ None → next_page slabs class ≡ Some page → can_change_slabs table slabs (Grow class) ≡ true
 can_grow_here table slabs class page is whole next = and_from _ _ (and_from _ _ is (ap is_none whole)) (ap is_some next)

@@ -9,7 +9,7 @@ use mathlib.Core.Option.{some}
 use lib.ListN.{get_elem?}
 use Rattle.atomic_table.specs.Table.{Final, Seen}
 use Rattle.atomic_table.proofs.Lists.{at_map, at_index}
-use Rattle.mc_classes.specs.Classes.{Classes, pages_of}
+use Rattle.mc_classes.specs.Classes.{Classes, arena_pages_of}
 use Rattle.mc_pages.specs.declared.ids.ChunkId.{ChunkId}
 use Rattle.mc_pages.specs.SlabState.{SlabState}
 use Rattle.mc_stripe.specs.StripeState.{ReadyStripe}
@@ -166,7 +166,7 @@ module _ (view : View) (left : Left) (closes : Closes view left) where
       let table : ended.table ≡ left.setup.table = closes.was.same_table ∙ ap (λ (s : Setup). s.table) (sym closes.setup) in
       let within = head_near left.setup chunk near in
       let long : length left.heads ≡ head_count left.setup =
-      sym (length-map left.heads decode) ∙ (ap length closes.heads ∙ (closes.was.lawful.sized.headers ∙ ap (λ (t : Classes). pages_of t * most_of t) table)) in
+      sym (length-map left.heads decode) ∙ (ap length closes.heads ∙ (closes.was.lawful.sized.headers ∙ ap (λ (t : Classes). arena_pages_of t * most_of t) table)) in
       sym (ap (λ (t : Classes). slice_index_or ended.heads (head_place t chunk) never_cut) table
       ∙ (ap (λ (heads : List Head). slice_index_or heads (head_place left.setup.table chunk) never_cut) (sym closes.heads)
       ∙ get_or-map decode left.heads (head_place left.setup.table chunk) 0 never_cut (omega arith)))

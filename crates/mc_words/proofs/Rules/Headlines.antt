@@ -1,17 +1,17 @@
 -- The rule of the table gives the headline.
-use Rattle.std.proofs.Common.{◌≡◌, ℕ, zero, suc, ◌+◌, ◌*◌, ◌<◌, ◌≤◌, ◌&&◌, not, Bool, true, false, List, [], ◌∷◌, map, length, Option, Some, None, refl, sym, ap, ap₂, subst, ◌∙◌, inl, inr, arith, slice_get, slice_index, slice_index_or, is_some, lt-ltb, Contains, nat_lt, ◌/◌, option_map}
+use Rattle.std.proofs.Common.{◌≡◌, ℕ, zero, suc, ◌+◌, ◌*◌, ◌<◌, ◌≤◌, ◌&&◌, not, Bool, true, false, List, [], ◌∷◌, map, length, Option, Some, None, refl, sym, ap, ap₂, subst, ◌∙◌, inl, inr, arith, slice_get, slice_index, slice_index_or, is_some, lt-ltb, le_trans, mul-le-mul_right, div-mul-le_self, Contains, nat_lt, ◌/◌, option_map}
 use Rattle.std.proofs.lemmas.Bool.{and_from, cases_Bool}
 use Rattle.std.proofs.lemmas.List.Elements.{All-contains}
 use mathlib.Core.Option.{some}
 use mathlib.Core.Option as maybe
 use lib.ListN.{get_elem?}
 use Rattle.atomic_table.proofs.Lists.{at_map}
-use Rattle.mc_classes.specs.Classes.{Classes, pages_of}
+use Rattle.mc_classes.specs.Classes.{Classes, arena_pages_of}
 use Rattle.mc_pages.specs.declared.ids.ChunkId.{ChunkId}
 use Rattle.mc_pages.specs.Accounted.{is_cut, is_moving, is_of_class, truth, cut_count}
 use Rattle.mc_pages.specs.ClassState.{times}
-use Rattle.mc_pages.specs.Ledger.{all_untouched, owner_at, replay}
-use Rattle.mc_pages.specs.SlabState.{IsClass, SlabState, class_at, class_of_page, granted_count}
+use Rattle.mc_pages.specs.Ledger.{all_untouched, ordinary_count, owner_at, replay}
+use Rattle.mc_pages.specs.SlabState.{IsClass, SlabState, class_at, class_of_page, page_count}
 use Rattle.mc_core.specs.declared.head.Head.{Head}
 use Rattle.mc_core.specs.declared.head.Tag.{Tag}
 use Rattle.mc_core.specs.declared.head.Tag.TheVariants.{Free, Linked, Out, Unlinked}
@@ -23,6 +23,7 @@ use Rattle.mc_core.specs.Lawful.{IsKept}
 use Rattle.mc_core.specs.Past.{Moment}
 use Rattle.mc_core.specs.State.{has_chunk, head_place, holdings_at, is_hand, number_at, page_words, room_in}
 use Rattle.mc_core.proofs.Base.{chunk_within, placed_at, word_within}
+use Rattle.mc_pages.proofs.GrantedPage.{length-owners}
 use Rattle.mc_core.proofs.Follows.{are_kept}
 use Rattle.mc_core.proofs.MoreRows.{each_contained}
 use Rattle.mc_words.specs.declared.lock.slot.Slot.{Slot}
@@ -103,7 +104,7 @@ module _ (setup : Setup) (t : Words) (r : Ruled setup t) where
             let inside_words : place < length (words_of holding) = known_near (words_of holding) place (Some word) known in
             let within : at < length m.state.words = word_within m r.lawful holding.chunk place inside (placed_at m r.lawful holding.chunk holding.issue inside kept.handed_out).0 (omega arith) in
             let long = r.lawful.sized.places in
-            let count : pages_of m.state.table * page_words m.state.table ≡ data_count setup = ap (λ (table : Classes). pages_of table * page_words table) r.means.same_table in
+            let count : arena_pages_of m.state.table * page_words m.state.table ≡ data_count setup = ap (λ (table : Classes). arena_pages_of table * page_words table) r.means.same_table in
             let stands : data_word setup (room_in setup.table (class_in setup t.words holding.chunk)) holding.chunk place ≡ data_from setup + at =
             (λ k. data_word setup (room_in (sym r.means.same_table k) (class k)) holding.chunk place) ∙ ap (λ (table : Classes). data_from setup + (holding.chunk.page * page_words table + holding.chunk.index * room_in m.state.table (class_of_page m.state.slabs holding.chunk.page) + place)) (sym r.means.same_table) in
             ap (slice_index t.words) stands
@@ -156,14 +157,18 @@ module _ (setup : Setup) (t : Words) (r : Ruled setup t) where
         let table = r.lawful.paged.of_table in
         let accounted = table.accounted in
         let page : slabs.page ≡ setup.table.page = table.page ∙ ap (λ (c : Classes). c.page) r.means.same_table in
-        let limit : slabs.limit ≡ setup.table.limit = table.limit ∙ ap (λ (c : Classes). c.limit) r.means.same_table in record {
+        let limit : slabs.limit ≡ setup.table.limit = table.limit ∙ ap (λ (c : Classes). c.limit) r.means.same_table in
+        let many : page_count slabs ≡ arena_pages_of setup.table = sym (length-owners slabs accounted) ∙ (table.owners ∙ ap arena_pages_of r.means.same_table) in record {
           pages = record {
-            replays = (λ k. replay (all_untouched (sym limit k / sym page k)) slabs.ledger) ∙ accounted.replays;
+            replays = ap (λ (n : ℕ). replay (all_untouched n) slabs.ledger) (sym many) ∙ accounted.replays;
             classes = accounted.pages;
             pool = accounted.pool;
             move = λ a b one two. one_number a b (option_map (λ move. move.page) slabs.moving) (accounted.one_move a one) (accounted.one_move b two);
           };
-          limit = subst (λ (p : ℕ × ℕ). granted_count slabs * p.0 ≤ p.1) (λ k. (page k, limit k)) accounted.limit;
+          bytes = record {
+            limit = subst (λ (p : ℕ × ℕ). ordinary_count slabs.ledger * p.0 ≤ p.1) (λ k. (page k, limit k)) (le_trans (mul-le-mul_right slabs.page accounted.limit) (div-mul-le_self slabs.limit slabs.page));
+            grace = accounted.grace;
+          };
           chunks = chunks_here;
         }
 

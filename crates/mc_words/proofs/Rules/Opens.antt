@@ -8,7 +8,7 @@ use mathlib.Core.Option.{some}
 use mathlib.Core.Option as maybe
 use lib.ListN.{get_elem?}
 use Rattle.atomic_table.specs.Table as table
-use Rattle.mc_classes.specs.Classes.{IsSound, pages_of}
+use Rattle.mc_classes.specs.Classes.{IsSound, arena_pages_of}
 use Rattle.mc_pages.specs.Ledger.{all_untouched, owner_at}
 use Rattle.mc_pages.specs.SlabState.{fresh_slabs, class_of_owner}
 use Rattle.mc_stripe.specs.StripeState.{new_stripe}
@@ -91,7 +91,7 @@ module _ (setup : Setup) (small : setup.start ≤ most_issue) where
   abbrev behind_pages : List ℕ
   behind_pages = replicate headers (start * 262144) ++ behind_heads
 
-  pub words_first : AreWords setup (replicate (pages_of setup.table) 0) (first_words setup) 0 (replicate setup.config.stripes 0) (replicate headers (uncut_from start)) (replicate data_words 0)
+  pub words_first : AreWords setup (replicate (arena_pages_of setup.table) 0) (first_words setup) 0 (replicate setup.config.stripes 0) (replicate headers (uncut_from start)) (replicate data_words 0)
   words_first = record {
     wide =
         let a : length (first_words setup) ≡ length (replicate {A = ℕ} H 0) + length behind_pages = length-append (replicate H 0) behind_pages in
@@ -104,7 +104,7 @@ module _ (setup : Setup) (small : setup.start ≤ most_issue) where
     locks =
         let e : pages_from setup ≡ (1 + words_between) * suc (suc setup.config.stripes) = omega arith in
         zeros 0 (pages_from setup) H behind_pages (omega arith) ∙ (ap (λ n. replicate n 0) e ∙ sym (spread_same words_between 0 (suc (suc setup.config.stripes))));
-    pages = zeros (pages_from setup) (pages_of setup.table) H behind_pages (omega arith);
+    pages = zeros (pages_from setup) (arena_pages_of setup.table) H behind_pages (omega arith);
     heads = ap (λ l. map decode (take headers l)) (here H (replicate H 0) behind_pages (length-replicate H 0))
         ∙ (ap (map decode) (group headers (start * 262144) behind_heads) ∙ (map_replicate decode headers (start * 262144) ∙ ap (replicate headers) (uncut_word start small)));
     items = ap (take data_words) (past H headers 0 behind_pages ∙ here headers (replicate headers (start * 262144)) behind_heads (length-replicate headers (start * 262144))) ∙ group data_words 0 behind_data;
@@ -204,7 +204,7 @@ module _ (setup : Setup) (sound : IsSound setup.table) (stripes : 1 ≤ setup.co
   opens : Ruled setup (table.opening (first_words setup) (first_slots setup) (first_view setup))
   opens = record {
     moment = first;
-    cuts = replicate (pages_of setup.table) 0;
+    cuts = replicate (arena_pages_of setup.table) 0;
     run = [];
     reached = record { is_run = record {}; end = refl };
     lawful = lawful_first setup.table setup.config.stripes setup.hands setup.start sound stripes hands few small;
@@ -213,7 +213,7 @@ module _ (setup : Setup) (sound : IsSound setup.table) (stripes : 1 ≤ setup.co
       hands = length-map-range_with_len _ 0 setup.hands;
       stripes = length-replicate setup.config.stripes new_stripe;
       words = words_first setup small;
-      cut = λ page. zero_at (pages_of setup.table) page ∙ sym (no_class (pages_of setup.table) page);
+      cut = λ page. zero_at (arena_pages_of setup.table) page ∙ sym (no_class (arena_pages_of setup.table) page);
       homes = home_first;
       slots = length-map (first_slots setup) some ∙ slots_long setup;
       views = views;
@@ -252,9 +252,9 @@ module _ (setup : Setup) (sound : IsSound setup.table) (stripes : 1 ≤ setup.co
     reached = record { is_run = record {}; end = refl };
     is = sym (view_first hand spare within);
     words = first_words setup;
-    cuts = replicate (pages_of setup.table) 0;
+    cuts = replicate (arena_pages_of setup.table) 0;
     are = words_first setup small;
-    cut = λ page. zero_at (pages_of setup.table) page ∙ sym (no_class (pages_of setup.table) page);
+    cut = λ page. zero_at (arena_pages_of setup.table) page ∙ sym (no_class (arena_pages_of setup.table) page);
   }
 
 -- and so it notes

@@ -5,7 +5,7 @@ use Rattle.std.proofs.lemmas.List.{set-get_or}
 use mathlib.Core.Option.{none}
 use Rattle.atomic_table.specs.Table as table
 use Rattle.atomic_table.specs.Table.{keeps, Allows}
-use Rattle.mc_classes.specs.Classes.{pages_of}
+use Rattle.mc_classes.specs.Classes.{arena_pages_of}
 use Rattle.mc_pages.specs.declared.ids.ChunkId.{ChunkId}
 use Rattle.mc_pages.specs.SlabState.{class_of_page}
 use Rattle.mc_core.specs.State.{is_class, room_in}
@@ -48,7 +48,7 @@ shows setup slots id me live of place first second =
     ))
 
 -- its page is one of the arena's
-pub page_near : (view : View) → LawfulView view → (chunk : ChunkId) (room : ℕ) → IsRefOf view chunk room → chunk.page < pages_of view.setup.table
+pub page_near : (view : View) → LawfulView view → (chunk : ChunkId) (room : ℕ) → IsRefOf view chunk room → chunk.page < arena_pages_of view.setup.table
 page_near view was chunk room ref = (chunk_within view.setup.table chunk (held_is_near view was chunk ref.holding ref.found)).0
 
 -- the word of its page is a class, whose chunks have so many words

@@ -3,7 +3,7 @@ use Rattle.std.proofs.Common.{◌≡◌, ℕ, suc, ◌+◌, ◌*◌, ◌<◌, �
 use Rattle.std.proofs.lemmas.List.{drop-set-add, drop-set-lt, take-set-le, map-set, get_or-map, get_or-take, get_or-drop, set-get_or, length-take-le}
 use Rattle.std.proofs.Math.Seq.{take-set-lt}
 use Rattle.std.proofs.lemmas.Nat.{mul-add-lt}
-use Rattle.mc_classes.specs.Classes.{pages_of}
+use Rattle.mc_classes.specs.Classes.{arena_pages_of}
 use Rattle.mc_pages.specs.declared.ids.ChunkId.{ChunkId}
 use Rattle.mc_core.specs.declared.head.Head.{Head}
 use Rattle.mc_core.specs.Head.{decode}
@@ -34,7 +34,7 @@ module _ (setup : Setup) (cuts words : List ℕ) (lock : ℕ) (locks : List ℕ)
   stripes = setup.config.stripes
 
   abbrev pages : ℕ
-  pages = pages_of setup.table
+  pages = arena_pages_of setup.table
 
   abbrev headers : ℕ
   headers = head_count setup
@@ -160,5 +160,5 @@ module _ (setup : Setup) (cuts words : List ℕ) (lock : ℕ) (locks : List ℕ)
 pub head_near : (setup : Setup) (chunk : ChunkId) → has_chunk setup.table chunk ≡ true → head_place setup.table chunk < head_count setup
 head_near setup chunk near =
     let w = chunk_within setup.table chunk near in
-    let below : chunk.page * most_of setup.table + chunk.index < most_of setup.table * pages_of setup.table = mul-add-lt chunk.page (most_of setup.table) chunk.index (pages_of setup.table) w.0 w.1 in
-    omega (arith, mul_comm (most_of setup.table) (pages_of setup.table), below)
+    let below : chunk.page * most_of setup.table + chunk.index < most_of setup.table * arena_pages_of setup.table = mul-add-lt chunk.page (most_of setup.table) chunk.index (arena_pages_of setup.table) w.0 w.1 in
+    omega (arith, mul_comm (most_of setup.table) (arena_pages_of setup.table), below)

@@ -30,11 +30,11 @@ stripe_read view chunk = option_map (λ key. key % view.setup.config.stripes) (k
 
 -- why an item may be taken away, as the hand knows: it goes to another chunk; its page moves, and no other chunk is to be had for it;
 -- or room is needed
-abbrev pub knows_reason : Classes → SlabState → List Look → List Holding → ChunkId → Bool
-knows_reason table slabs looks holdings chunk =
+abbrev pub knows_reason : SlabState → List Look → List Holding → ChunkId → Bool
+knows_reason slabs looks holdings chunk =
     is_on_the_move slabs chunk.page && has_copy holdings chunk
     || is_on_the_move slabs chunk.page && none_dead slabs looks chunk && sees_no_target slabs looks chunk.page
-    || lacks_room table slabs looks chunk
+    || lacks_room slabs looks chunk
 
 -- the hand read the chunk's key again
 abbrev pub key_seen : ChunkId → ℕ → View → View

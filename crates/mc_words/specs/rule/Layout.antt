@@ -1,7 +1,7 @@
 -- Where each word of the table stands.
 use Rattle.std.specs.Prelude.{ℕ, ◌+◌, ◌-◌, ◌*◌, List, [], ◌∷◌, ◌++◌, replicate}
 use Rattle.mc_classes.specs.declared.config.Config.{Config}
-use Rattle.mc_classes.specs.Classes.{pages_of}
+use Rattle.mc_classes.specs.Classes.{arena_pages_of}
 use Rattle.mc_pages.specs.declared.ids.ChunkId.{ChunkId}
 use Rattle.mc_core.specs.State.{most_of, page_words, head_place}
 use Rattle.mc_words.specs.hand.View.{Setup}
@@ -39,11 +39,11 @@ page_word setup page = pages_from setup + page
 
 -- where the headers begin, behind the words of pages
 abbrev pub heads_from : Setup → ℕ
-heads_from setup = pages_from setup + pages_of setup.table
+heads_from setup = pages_from setup + arena_pages_of setup.table
 
 -- how many headers there are: one for each index of each page
 abbrev pub head_count : Setup → ℕ
-head_count setup = pages_of setup.table * most_of setup.table
+head_count setup = arena_pages_of setup.table * most_of setup.table
 
 -- where the header of a chunk stands
 abbrev pub head_word : Setup → ChunkId → ℕ
@@ -55,7 +55,7 @@ data_from setup = heads_from setup + head_count setup
 
 -- how many data words all pages have
 abbrev pub data_count : Setup → ℕ
-data_count setup = pages_of setup.table * page_words setup.table
+data_count setup = arena_pages_of setup.table * page_words setup.table
 
 -- where a data word stands, of a chunk with room for so many words
 abbrev pub data_word : Setup → ℕ → ChunkId → ℕ → ℕ

@@ -3,7 +3,7 @@ use Rattle.std.specs.Prelude.{◌≡◌, ℕ, zero, suc, ◌+◌, ◌<◌, ◌�
 use mathlib.Core.Option.{some}
 use lib.ListN.{get_elem?}
 use Rattle.atomic_table.specs.Table as table
-use Rattle.mc_classes.specs.Classes.{pages_of}
+use Rattle.mc_classes.specs.Classes.{arena_pages_of}
 use Rattle.mc_pages.specs.SlabState.{SlabState, class_of_page}
 use Rattle.mc_core.specs.declared.head.Head.{Head}
 use Rattle.mc_core.specs.Head.{decode}
@@ -27,7 +27,7 @@ pub record AreWords (setup : Setup) (cuts words : List ℕ) (lock : ℕ) (stripe
   pub wide : length words ≡ word_count setup
   -- the word of the hands, into which nothing is written, and those of the locks: each is followed by words that are 0 always
   pub locks : take (pages_from setup) words ≡ spread words_between 0 (0 ∷ lock ∷ stripe_locks)
-  pub pages : take (pages_of setup.table) (drop (pages_from setup) words) ≡ cuts
+  pub pages : take (arena_pages_of setup.table) (drop (pages_from setup) words) ≡ cuts
   pub heads : map decode (take (head_count setup) (drop (heads_from setup) words)) ≡ headers
   pub items : take (data_count setup) (drop (data_from setup) words) ≡ stored
   pub configured : drop (config_from setup) words ≡ config_words setup.config

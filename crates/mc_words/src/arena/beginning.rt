@@ -93,7 +93,7 @@ impl Plan {
         ensures start { self.now.start ≤ most_issue }
     {
         let classes = self.classes();
-        let count = classes.pages();
+        let count = classes.arena_pages();
         let pages = WORDS_APART as u64 * (2 + self.config().stripes);
         let heads = pages + count;
         let data = heads + count * classes.per_page(1);

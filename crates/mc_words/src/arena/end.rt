@@ -2,7 +2,7 @@
 ghost use Rattle.std.specs.Prelude.{◌≡◌, ◌<◌, None, true, length, slice_index, slice_index_or, IfSome};
 ghost use Rattle.std.specs.Option.{option_map};
 ghost use Rattle.std.specs.Slots.{IsFull, slots_items, slots_len};
-ghost use Rattle.mc_classes.specs.Classes.{pages_of};
+ghost use Rattle.mc_classes.specs.Classes.{arena_pages_of};
 ghost use Rattle.mc_pages.specs.Accounted.{IsAccounted};
 ghost use Rattle.mc_pages.specs.Ledger.{owner_at};
 ghost use Rattle.mc_core.specs.InOrder.{IsOfTable};
@@ -128,7 +128,7 @@ impl Final {
 
     /// Who owns a page, as the ledger's entries make it; None where a hand has pages and lists.
     pub fn owner(&self, page: PageId) -> Option<Owner>
-        requires near { page < pages_of self.now.setup.table }
+        requires near { page < arena_pages_of self.now.setup.table }
         ensures owner { result ≡ option_map (λ slabs. owner_at slabs.owners page) self.now.slabs }
         ensures accounted { IfSome self.now.slabs (λ slabs. IsAccounted slabs) }
     {

@@ -12,8 +12,8 @@ use std::sync::atomic::Ordering::SeqCst;
 /// How many words the bits of a page's chunks take, of which there are at most 256.
 pub(crate) const WORDS_A_PAGE: u64 = 4;
 
-/// How many words there are, for 64 pages.
-const WORDS: usize = 256;
+/// How many words there are, for 127 pages.
+const WORDS: usize = 508;
 
 /// How many bits a word has.
 pub(crate) const BITS: u64 = 64;
@@ -22,7 +22,9 @@ pub(crate) const BITS: u64 = 64;
 /// page's, and taken after it, so that a hint is late at most and never lost.
 #[derive(Drop)]
 pub struct Hints {
-    pages: CachePadded<AtomicU64>,
+    /// Of the pages 0 to 63, and of those from 64 on.
+    low: CachePadded<AtomicU64>,
+    high: CachePadded<AtomicU64>,
     chunks: Vec<AtomicU64>,
 }
 
@@ -34,7 +36,8 @@ impl Hints {
             push(&mut chunks, AtomicU64::new(0))?;
         }
         Ok(Hints {
-            pages: CachePadded::new(AtomicU64::new(0)),
+            low: CachePadded::new(AtomicU64::new(0)),
+            high: CachePadded::new(AtomicU64::new(0)),
             chunks,
         })
     }
@@ -51,25 +54,35 @@ impl Hints {
     fn note(&self, chunk: ChunkId) {
         if let Some(word) = self.chunks.get(place(chunk.page, chunk.index / BITS)) {
             word.fetch_or(1 << (chunk.index % BITS), SeqCst);
-            self.note_page(1 << (chunk.page % BITS));
+            self.note_page(chunk.page);
         }
     }
 
-    // A chunk of the page with this bit may be dead. Where the bit is there already nothing is written.
-    fn note_page(&self, bit: u64) {
-        if self.pages.load(SeqCst) & bit == 0 {
-            self.pages.fetch_or(bit, SeqCst);
+    // A chunk of the page may be dead. Where its bit is there already nothing is written.
+    fn note_page(&self, page: PageId) {
+        let bits = self.bits_with(page);
+        let bit = 1 << (page % BITS);
+        if bits.load(SeqCst) & bit == 0 {
+            bits.fetch_or(bit, SeqCst);
         }
     }
 
-    /// The pages on which chunks may be dead, as bits.
-    pub(crate) fn pages(&self) -> u64 {
-        self.pages.load(SeqCst)
+    // The word with the page's bit.
+    fn bits_with(&self, page: PageId) -> &AtomicU64 {
+        if page < BITS { &self.low } else { &self.high }
+    }
+
+    /// The pages on which chunks may be dead, as bits, that of page 0 lowest.
+    pub(crate) fn pages(&self) -> u128 {
+        let low = u128::from(self.low.load(SeqCst));
+        let high = u128::from(self.high.load(SeqCst));
+        high << BITS | low
     }
 
     /// Takes the page's bit.
     pub(crate) fn take_page(&self, page: PageId) {
-        self.pages.fetch_and(!(1 << (page % BITS)), SeqCst);
+        self.bits_with(page)
+            .fetch_and(!(1 << (page % BITS)), SeqCst);
     }
 
     /// Takes the bits of 64 chunks of the page: those from 64 times `word` on. Where there is none nothing is written.

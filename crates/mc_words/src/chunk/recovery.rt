@@ -1,6 +1,6 @@
 //! Dead chunks that are found by hints, and put back.
 ghost use Rattle.std.specs.Prelude.{◌≡◌, ◌<◌, ◌≤◌, List, [], Some, true};
-ghost use Rattle.mc_classes.specs.Classes.{pages_of};
+ghost use Rattle.mc_classes.specs.Classes.{arena_pages_of};
 ghost use Rattle.mc_pages.specs.declared.ids.ChunkId.{ChunkId};
 ghost use Rattle.mc_pages.specs.SlabState.{class_at, class_of_page};
 ghost use Rattle.mc_core.specs.State.{is_class, most_of};
@@ -55,9 +55,9 @@ impl Arena {
     {
         let per_page = held.slabs().per_page(class);
         let mut pages = self.hints.pages();
-        for _ in 0..BITS {
+        for _ in 0..u128::BITS {
             let page = u64::from(pages.trailing_zeros());
-            if page >= self.classes().pages() {
+            if page >= self.classes().arena_pages() {
                 return;
             }
             pages &= pages.wrapping_sub(1);
@@ -79,7 +79,7 @@ impl Arena {
         dead: &mut DeadChunks,
     )
         requires arena { IsHandOf self.now hand.old }
-        requires page { page < pages_of (setup_of self.now).table }
+        requires page { page < arena_pages_of (setup_of self.now).table }
         requires most { per_page ≤ most_of (setup_of self.now).table }
         requires held { (view hand.old).slabs ≡ Some held.now.shared }
         requires out { AreHandedOut (setup_of self.now).table held.now.shared (class_of_page held.now.shared page) dead.old }
@@ -110,7 +110,7 @@ impl Arena {
         dead: &mut DeadChunks,
     )
         requires arena { IsHandOf self.now hand.old }
-        requires page { first.page < pages_of (setup_of self.now).table }
+        requires page { first.page < arena_pages_of (setup_of self.now).table }
         requires few { first.index ≤ 256 }
         requires most { per_page ≤ most_of (setup_of self.now).table }
         requires held { (view hand.old).slabs ≡ Some held.now.shared }

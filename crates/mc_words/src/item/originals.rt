@@ -34,7 +34,7 @@ impl Arena {
         requires ready { stripe.old.stripe.ready ≡ true }
         requires empty { stripe.old.stripe.state.aside ≡ None }
         requires key { stripe_read (view hand.old) chunk ≡ Some stripe.old.number }
-        requires reason { knows_reason (setup_of self.now).table slabs.old.shared (view hand.old).row.looks (view hand.old).row.holdings chunk ≡ true }
+        requires reason { knows_reason slabs.old.shared (view hand.old).row.looks (view hand.old).row.holdings chunk ≡ true }
         requires copy { has_copy (view hand.old).row.holdings chunk ≡ true }
         ensures arena { IsHandOf self.now hand.new }
         ensures locks { hand.new.locks ≡ hand.old.locks }

@@ -32,7 +32,7 @@ impl Arena {
         requires stripe { slice_index_or (view hand.old).stripes stripe.old.number None ≡ Some stripe.old.stripe }
         requires ready { stripe.old.stripe.ready ≡ true }
         requires key { stripe_read (view hand.old) chunk ≡ Some stripe.old.number }
-        requires reason { knows_reason (setup_of self.now).table slabs.old.shared (view hand.old).row.looks (view hand.old).row.holdings chunk ≡ true }
+        requires reason { knows_reason slabs.old.shared (view hand.old).row.looks (view hand.old).row.holdings chunk ≡ true }
         requires no_copy { has_copy (view hand.old).row.holdings chunk ≡ false }
         ensures arena { IsHandOf self.now hand.new }
         ensures locks { hand.new.locks ≡ hand.old.locks }

@@ -1,6 +1,6 @@
 //! Changes of pages and lists, and of stripes, that write no header. Each is told at once.
 ghost use Rattle.std.specs.Prelude.{◌≡◌, ℕ, ◌+◌, ◌%◌, ◌<◌, ◌≤◌, ◌↔◌, Bool, if◌then◌else◌, [], ◌∷◌, true, false, slice_index_or, None, Some, Err, IfOk, OnOk, OnErr};
-ghost use Rattle.mc_classes.specs.Classes.{pages_of};
+ghost use Rattle.mc_classes.specs.Classes.{arena_pages_of};
 ghost use Rattle.mc_pages.specs.Changes.{after_evicted, after_grow, after_touch, next_page};
 ghost use Rattle.mc_stripe.specs.StripeState.{place_of};
 ghost use Rattle.mc_core.specs.Silent.{call_of, is_aside, is_handed_out};
@@ -89,10 +89,10 @@ impl Arena {
         ensures arena { IsHandOf self.now hand.new }
         ensures locks { hand.new.locks ≡ hand.old.locks }
         ensures held { (view hand.new).slabs ≡ Some held.new.shared }
-        ensures given { IfOk result (λ page. (next_page held.old.shared ≡ Some page) × (held.new.shared ≡ after_grow held.old.shared class page)) }
+        ensures given { IfOk result (λ page. (next_page held.old.shared class ≡ Some page) × (held.new.shared ≡ after_grow held.old.shared class page)) }
         ensures happens { IfOk result (λ page. Happens (view hand.old) (change.Grow class ∷ []) step.MissSlabs (view hand.new)) }
         ensures view { IfOk result (λ page. view hand.new ≡ slabs_changed held.old.shared (change.Grow class) (hand.old.number + 1) (view hand.old)) }
-        ensures no_room { (result ≡ Err Grow.NoRoom) ↔ (next_page held.old.shared ≡ None) }
+        ensures no_room { (result ≡ Err Grow.NoRoom) ↔ (next_page held.old.shared class ≡ None) }
         ensures refused { OnErr result ((held.new.shared ≡ held.old.shared) × (view hand.new ≡ view hand.old)) }
     {
         let page = held.shared.slabs_mut().grow(class)?;

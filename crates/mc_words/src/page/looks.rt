@@ -1,7 +1,7 @@
 //! Looks along the pages of a class, on which the headers of chunks stand side by side.
 ghost use Rattle.std.specs.List.{list_all};
 ghost use Rattle.std.specs.Prelude.{◌≡◌, ℕ, ◌<◌, ◌≤◌, Contains, List, [], Some, true};
-ghost use Rattle.mc_classes.specs.Classes.{pages_of};
+ghost use Rattle.mc_classes.specs.Classes.{arena_pages_of};
 ghost use Rattle.mc_pages.specs.declared.ids.ChunkId.{ChunkId};
 ghost use Rattle.mc_pages.specs.Accounted.{first_chunks};
 ghost use Rattle.mc_pages.specs.SlabState.{class_at, class_of_page};
@@ -41,7 +41,7 @@ impl Arena {
         ensures out { AreHandedOut (setup_of self.now).table held.now.shared class dead.new }
     {
         let per_page = held.slabs().per_page(class);
-        for page in 0..self.classes().pages() {
+        for page in 0..self.classes().arena_pages() {
             if held.slabs().owner(page).class() != class {
                 continue;
             }
@@ -59,7 +59,7 @@ impl Arena {
         dead: &mut DeadChunks,
     )
         requires arena { IsHandOf self.now hand.old }
-        requires page { page < pages_of (setup_of self.now).table }
+        requires page { page < arena_pages_of (setup_of self.now).table }
         requires most { per_page ≤ most_of (setup_of self.now).table }
         requires held { (view hand.old).slabs ≡ Some held.now.shared }
         requires out { AreHandedOut (setup_of self.now).table held.now.shared (class_of_page held.now.shared page) dead.old }

@@ -1,6 +1,6 @@
 //! Where words of the table stand.
 ghost use Rattle.std.specs.Prelude.{◌≡◌, ◌+◌, ◌<◌, ◌≤◌, ℕ, true};
-ghost use Rattle.mc_classes.specs.Classes.{pages_of};
+ghost use Rattle.mc_classes.specs.Classes.{arena_pages_of};
 ghost use Rattle.mc_core.specs.State.{has_chunk, most_of};
 ghost use Rattle.mc_words.specs.hand.Arenas.{setup_of};
 ghost use Rattle.mc_words.specs.rule.Layout.{config_from, data_word, head_word, page_word};
@@ -13,7 +13,7 @@ impl Arena {
     /// The word of a page.
     #[inline(always)]
     pub(crate) fn page_word(&self, page: PageId) -> usize
-        requires near { page < pages_of (setup_of self.now).table }
+        requires near { page < arena_pages_of (setup_of self.now).table }
         ensures word { result ≡ page_word (setup_of self.now) page }
         ensures near { result < self.now.table.shared.table_id.words }
     {
@@ -33,7 +33,7 @@ impl Arena {
     /// The word of the header of a page's first chunk. Those of its other chunks stand behind it, in their order.
     #[inline(always)]
     pub(crate) fn heads_of_page(&self, page: PageId) -> usize
-        requires near { page < pages_of (setup_of self.now).table }
+        requires near { page < arena_pages_of (setup_of self.now).table }
         ensures words { (index : ℕ) → head_word (setup_of self.now) (record { page = page; index = index }) ≡ result + index }
         ensures near { result + most_of (setup_of self.now).table ≤ self.now.table.shared.table_id.words }
     {

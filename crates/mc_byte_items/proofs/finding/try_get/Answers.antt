@@ -16,3 +16,6 @@ returns-in-Ok-clause-other c = λ is.
 
 pub returns-in-Ok-None-clause-other : goal.returns-in-Ok-None-clause-other
 returns-in-Ok-None-clause-other c = λ is. finds_none (setup_of c.args.arena.now) c.args.hash c.args.key.now c.args.hand.now c.try_get.new.hand _ c.in-Ok-None.field-0-is c.in-Ok-None.ensures.gets
+
+pub returns-in-Ok-clause-kept : goal.returns-in-Ok-clause-kept
+returns-in-Ok-clause-kept c = λ isnt. c.in-Ok.ensures.kept (λ is. isnt (ap Ok (same_ok c.in-Ok.there true is)))

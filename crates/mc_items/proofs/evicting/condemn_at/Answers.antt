@@ -14,7 +14,7 @@ condemn-requires-clause-key c =
 
 pub condemn-requires-clause-reason : goal.condemn-requires-clause-reason
 condemn-requires-clause-reason c =
-    reason_still c.args.hand.now.seat.me.0 c.reserve.new.hand.seat.me.0 c.args.slabs.now.shared c.requires.slabs c.args.held.number _ c.args.held.stripe c.in_default.ensures.view c.args.arena.now.table.shared.key.table c.args.chunk c.requires.reason
+    reason_still c.args.hand.now.seat.me.0 c.reserve.new.hand.seat.me.0 c.args.slabs.now.shared c.requires.slabs c.args.held.number _ c.args.held.stripe c.in_default.ensures.view c.args.chunk c.requires.reason
 
 pub returns-in-Ok-clause-taken : goal.returns-in-Ok-clause-taken
 returns-in-Ok-clause-taken c _ =

@@ -73,10 +73,9 @@ condemn_at-requires-clause-reason c =
     let is = ap (λ (s : Setup). is_class s.table c.args.class) c.requires.arena.setup ∙ c.requires.class in
     let own = (stands_out view c.requires.arena.lawful slabs c.requires.slabs c.args.class is c.args.chunk c.requires.out).own in
     let taken : View = c.try_stripe.new.hand.seat.me.0 in
-    subst (λ (s : Setup). knows_reason s.table slabs taken.row.looks taken.row.holdings c.args.chunk ≡ true) c.requires.arena.setup
-    (reason_found view slabs c.requires.slabs c.args.chunk (decode c.head-head.result) (sym c.is_unheld.ensures.unheld ∙ c.if-not-is_unheld.false) c.head-head.new.hand.seat.me.0 c.head-head.ensures.seen
+    reason_found view slabs c.requires.slabs c.args.chunk (decode c.head-head.result) (sym c.is_unheld.ensures.unheld ∙ c.if-not-is_unheld.false) c.head-head.new.hand.seat.me.0 c.head-head.ensures.seen
     key (key % c.config.result.now.stripes) c.in-Ok.held.stripe c.word_held-key.new.hand.seat.me.0 taken c.word_held-key.ensures.view c.in-Ok.ensures.lent
-    c.requires.arena.lawful c.args.class own c.requires.empty c.requires.alive c.requires.page c.requires.whole)
+    c.args.class own c.requires.empty c.requires.alive c.requires.page c.requires.whole
 
 pub condemn_at-requires-clause-no_copy : goal.condemn_at-requires-clause-no_copy
 condemn_at-requires-clause-no_copy c =

@@ -12,7 +12,7 @@ use Rattle.mc_core.specs.Past.{known_by}
 use Rattle.mc_words.specs.item.References.{reference_to}
 use Rattle.mc_items.specs.Reading.{item_seen}
 use Rattle.std.proofs.Math.Nat.{lt_of_not-le}
-use Rattle.mc_items.proofs.Chains.{item_said, ready_more, refs_and_more, refs_stay}
+use Rattle.mc_items.proofs.Chains.{item_said, ready_more, ready_still, refs_and_more, refs_stay}
 use Rattle.mc_items.proofs.Left.{GotOne, Kept, again_one, read_one}
 use Rattle.mc_items.proofs.GetLeaves.{again_kept}
 use Rattle.mc_items.proofs.hinting.again.Goals as goal
@@ -64,3 +64,10 @@ returns-in-Err-clause-keeps c =
     let now : View = c.again.new.hand.seat.me.0 in
     let kept = again_kept c.in-Err.error view c.args.hint.chunk c.args.hint.issue now c.in-Err.ensures.gone c.in-Err.ensures.contended c.in-Err.ensures.refused in
     refs_stay view now (ap (λ (k : Kept). k.0) kept) (ap (λ (k : Kept). k.1) kept)
+
+pub returns-in-Err-clause-ready : goal.returns-in-Err-clause-ready
+returns-in-Err-clause-ready c =
+    let view : View = c.args.hand.now.seat.me.0 in
+    let now : View = c.again.new.hand.seat.me.0 in
+    let kept = again_kept c.in-Err.error view c.args.hint.chunk c.args.hint.issue now c.in-Err.ensures.gone c.in-Err.ensures.contended c.in-Err.ensures.refused in
+    ready_still c.args.hand.now c.again.new.hand c.again.ensures.locks (ap (λ (k : Kept). k.0) kept) c.requires.ready

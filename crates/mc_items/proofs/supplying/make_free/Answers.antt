@@ -31,7 +31,7 @@ returns-in-Ok-false-clause-none c e =
     let number = number_stays c.args.hand.now c.grow_for.new.hand (ap (λ (v : View). v.row.ids) none.2) in
     let passes = c.evict_one.ensures.none e in
     subst (λ (p : ℕ × View × SlabState). MakesNone p.0 c.args.class p.1 p.2 c.evict_one.new.hand.seat.me.0 c.evict_one.new.slabs.shared) (λ k. (number k, none.2 k, none.1 k))
-    (record { page = ap Rattle.mc_pages.specs.Changes.next_page none.1 ∙ none.0; passes = passes.0; alive = c.evict_one.ensures.alive e; same = passes.1 })
+    (record { page = ap (λ x. Rattle.mc_pages.specs.Changes.next_page x c.args.class) none.1 ∙ none.0; passes = passes.0; alive = c.evict_one.ensures.alive e; same = passes.1 })
 
 pub returns-in-Ok-false-clause-no_memory : goal.returns-in-Ok-false-clause-no_memory
 returns-in-Ok-false-clause-no_memory c =

@@ -14,6 +14,10 @@ pub returns-clause-full_class_evicts : goal.returns-clause-full_class_evicts
 unfolding digits
 returns-clause-full_class_evicts c = refl
 
+pub returns-clause-first_page_alone : goal.returns-clause-first_page_alone
+unfolding digits
+returns-clause-first_page_alone c = refl
+
 pub returns-clause-page_to_another_class : goal.returns-clause-page_to_another_class
 unfolding digits
 returns-clause-page_to_another_class c = refl

@@ -128,8 +128,8 @@ evict-requires-clause-reason c =
     let apart : (other : ChunkId) → 1 ≤ times other (class_at kept own).free → times other (class_at kept own).order ≡ 0 = λ other there. free_apart swept c.sweep.ensures.arena.lawful kept c.sweep.ensures.held own (subst (λ n. IsClass kept n) (sym owned) valid) other there in
     let none = alive_passed chunk.page kept (class_at kept own).order (class_at kept own).free swept passed c.sweep.ensures.held apart alive c.in-Err.ensures.lacks in
     let target : sees_no_target kept passed.row.looks chunk.page ≡ true = c.in-Err.ensures.no_target in
-    ap (λ (x : SlabState). knows_reason table x passed.row.looks passed.row.holdings chunk) c.in-Err.ensures.same_slabs
-    ∙ or_left (is_on_the_move kept chunk.page && has_copy passed.row.holdings chunk || is_on_the_move kept chunk.page && none_dead kept passed.row.looks chunk && sees_no_target kept passed.row.looks chunk.page) (lacks_room table kept passed.row.looks chunk)
+    ap (λ (x : SlabState). knows_reason x passed.row.looks passed.row.holdings chunk) c.in-Err.ensures.same_slabs
+    ∙ or_left (is_on_the_move kept chunk.page && has_copy passed.row.holdings chunk || is_on_the_move kept chunk.page && none_dead kept passed.row.looks chunk && sees_no_target kept passed.row.looks chunk.page) (lacks_room kept passed.row.looks chunk)
     (or_right (is_on_the_move kept chunk.page && has_copy passed.row.holdings chunk) (is_on_the_move kept chunk.page && none_dead kept passed.row.looks chunk && sees_no_target kept passed.row.looks chunk.page) (and_from _ _ (and_from _ _ moving none) target))
 
 pub evict-requires-clause-no_copy : goal.evict-requires-clause-no_copy

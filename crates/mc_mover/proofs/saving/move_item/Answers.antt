@@ -60,7 +60,7 @@ condemn_original-requires-clause-reason c =
     let stamp : ℕ = c.copy_item.new.fresh.stamp in
     let done = c.copy_item.ensures.copied in
     let words = done.words in
-    reason_there chunk copy key stamp words view filled done.is c.requires.copy.0 c.args.fresh.room c.requires.copy.1 c.args.arena.now.table.shared.key.table c.args.slabs.now.shared c.requires.moving
+    reason_there chunk copy key stamp words view filled done.is c.requires.copy.0 c.args.fresh.room c.requires.copy.1 c.args.slabs.now.shared c.requires.moving
 
 pub link_copy-reference-requires-clause-fresh : goal.link_copy-reference-requires-clause-fresh
 link_copy-reference-requires-clause-fresh c =

@@ -2,7 +2,7 @@
 ghost use Rattle.std.specs.Prelude.{◌≡◌, ◌≤◌, true, false, IsTrue, ◌↔◌, IfSome, Some, None};
 ghost use Rattle.mc_pages.specs.declared.ids.Moving.{Moving};
 ghost use Rattle.mc_pages.specs.SlabState.{IsClass, class_at};
-ghost use Rattle.mc_pages.specs.Accounted.{IsAccounted, places_in};
+ghost use Rattle.mc_pages.specs.Accounted.{places_in};
 ghost use Rattle.mc_pages.specs.Moves.{CanPass, CanWrap, CanFinish, is_held_up, chunk_at_position};
 ghost use Rattle.mc_page_trials.specs.Sized.{IsSized};
 
@@ -20,7 +20,6 @@ const FURTHEST: u64 = 65_536;
 pub(super) struct Driven<'a> {
     slabs: Slabs,
     table: &'a ClassTable,
-    ghost accounted: { IsAccounted slabs.state },
     ghost sized: { IsSized slabs.state table.now },
 }
 
@@ -308,7 +307,7 @@ impl Driven<'_> {
     /// Whether the chunk is free. None where its page has no class, isn't all cut, or has no such chunk.
     #[tactic(auto, using(crate::proofs::Sized::sized_class, crate::proofs::Looked::cut_looked))]
     pub(super) fn is_free(&self, chunk: ChunkId) -> Option<bool> {
-        if chunk.page >= self.table.pages() {
+        if chunk.page >= self.table.arena_pages() {
             return None;
         }
         let class = self.slabs.owner(chunk.page).class();
@@ -322,7 +321,7 @@ impl Driven<'_> {
     }
 
     pub(super) fn owner(&self, page: PageId) -> Option<Owner> {
-        if page < self.table.pages() {
+        if page < self.table.arena_pages() {
             Some(self.slabs.owner(page))
         } else {
             None

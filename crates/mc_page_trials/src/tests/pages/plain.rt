@@ -20,6 +20,8 @@ pub(super) struct Plain {
     pub(super) owners: Vec<Owner>,
     pub(super) ledger: Vec<Entry>,
     pub(super) moving: Option<Moving>,
+    /// How many more pages may be granted within the limit.
+    within: u64,
     pool: Vec<PageId>,
     counts: Totals,
     cursor: ClassId,
@@ -56,9 +58,10 @@ impl Plain {
         }
         Ok(Plain {
             classes,
-            owners: vec![in alloc; Owner::Untouched; table.pages() as usize]?,
+            owners: vec![in alloc; Owner::Untouched; table.arena_pages() as usize]?,
             ledger: Vec::new(alloc),
             moving: None,
+            within: table.pages(),
             pool: Vec::new(alloc),
             counts: Totals {
                 granted: 0,
@@ -111,8 +114,13 @@ impl Plain {
             return Ok(None);
         };
         let page = place as PageId;
+        let grace = self.within == 0;
+        if grace && self.class(class).is_some_and(|own| !own.pages.is_empty()) {
+            return Ok(None);
+        }
+        self.within = self.within.saturating_sub(1);
         self.counts.granted = self.counts.granted.wrapping_add(1);
-        self.ledger.push(Entry::Granted(page, class))?;
+        self.ledger.push(Entry::Granted(page, class, grace))?;
         self.give(class, page)?;
         Ok(Some(page))
     }

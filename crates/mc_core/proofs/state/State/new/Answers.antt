@@ -1,5 +1,5 @@
 use Rattle.std.proofs.Common.{◌≡◌, ℕ, ◌*◌, ◌/◌, ◌∙◌, replicate, sym, subst, ap₂}
-use Rattle.mc_classes.specs.Classes.{pages_of}
+use Rattle.mc_classes.specs.Classes.{arena_pages_of}
 use Rattle.mc_pages.specs.SlabState.{SlabState}
 use Rattle.mc_pages.specs.Accounted.{IsAccounted}
 use Rattle.mc_core.specs.State.{State, new_state, page_words}
@@ -10,9 +10,9 @@ use Rattle.mc_core.proofs.state.State.new.Goals as goal
 pub invariant_of-result : goal.invariant_of-result
 invariant_of-result c =
     let slabs = c.in_ok-slabs.ensures in
-    let pages = c.pages.ensures.pages in
+    let pages = c.arena_pages.ensures.pages in
     let bytes = c.page.ensures.page in
-    let words : c.in_ok-words.words.items ≡ replicate (pages_of c.args.table * page_words c.args.table) 0 =
+    let words : c.in_ok-words.words.items ≡ replicate (arena_pages_of c.args.table * page_words c.args.table) 0 =
     c.in_ok-words.ensures ∙ ap₂ (λ (n m : ℕ). replicate (n * (m / 8)) 0) pages bytes in
     let all = subst (λ (s : SlabState). IsAccounted s) slabs.0 slabs.1 in
     let whole : state_of (record {
@@ -39,4 +39,4 @@ invariant_of-result c =
       holdings = c.in_ok-holdings.ensures i;
       looks = c.in_ok-looks.ensures i;
     } in
-    subst (λ (s : State). IsInOrder s) (sym whole) (new_in_order c.args.table c.args.stripes c.args.hands c.args.start c.pages.ensures.sound c.requires.stripes.0 c.requires.start all)
+    subst (λ (s : State). IsInOrder s) (sym whole) (new_in_order c.args.table c.args.stripes c.args.hands c.args.start c.arena_pages.ensures.sound c.requires.stripes.0 c.requires.start all)

@@ -11,6 +11,8 @@ use Rattle.mc_pages.specs.Moves.{first_page, after_begin}
 use Rattle.mc_pages.specs.Linked.{sizes_of}
 use Rattle.mc_pages.specs.Room.{states}
 use Rattle.mc_pages.specs.InOrder.{IsInOrder, HasRows, AreKept, slabs_of}
+use Rattle.mc_pages.specs.Ledger.{ordinary_count}
+use Rattle.mc_pages.proofs.Grace.{add_zero, ordinary_count-push}
 use Rattle.mc_pages.proofs.Kept.{pages_below}
 use Rattle.mc_pages.proofs.KeptMoves.{first_page_within, IsInOrder-after_begin}
 use Rattle.mc_pages.proofs.Source.{source_is}
@@ -41,7 +43,7 @@ page_count c =
     let is = is_class (goal.at.overflow_add-page_count c).After-reserve c.if-dst-eq0.false in
     c.page_count.ensures ∙ ap (λ (class : ClassState). length class.pages) (read_state c.self.inside c.args.dst _ _ is refl c.index_mut-slab.ensures.value)
 
-few : (c : After-page_count) → c.page_count.result ≤ 64
+few : (c : After-page_count) → c.page_count.result ≤ 127
 few c =
     let is = is_class (goal.at.overflow_add-page_count c).After-reserve c.if-dst-eq0.false in
     omega (arith, page_count c, pages_below (slabs_of c.self.inside) c.self.inside.granted c.args.dst c.self.invariant.order is)
@@ -69,6 +71,7 @@ invariant_of-self-in_err-make_room c =
       pool = c.self.invariant.pool;
       classes = fits-roomier c.self.inside c.args.dst _ c.make_room.new.self c.self.invariant is c.index_mut-slab.ensures.value c.in_err-make_room.ensures.state c.in_err-make_room.ensures.kept;
       linked = c.self.invariant.linked;
+      ordinary = c.self.invariant.ordinary ∙ sym (ap ordinary_count c.in_ok-reserve.ensures.items);
       aged = c.self.invariant.aged;
       rows = subst (λ (s : SlabState). HasRows s.classes (vec_len c.self.inside.owners) (sizes_of c.self.inside.rows)) (sym (refused_is c)) c.self.invariant.rows;
     }
@@ -110,6 +113,12 @@ pushed c inside is before =
     c.push.ensures.items ∙ (if_ok c.push.result _ _ _ c.unwrap.ensures
     ∙ (ap (λ (i : Inside). i.ledger.items ++ entry ∷ []) is ∙ ap (λ (entries : List Entry). entries ++ entry ∷ []) before))
 
+-- of which it is none within the limit
+ordinary_pushed : (c : goal.After-self-4-1) (inside : Inside) → c.if-dst-eq0.self-inside ≡ inside → inside.ledger.items ≡ c.self.inside.ledger.items → ordinary_count c.push.new.self.items ≡ ordinary_count c.self.inside.ledger.items
+ordinary_pushed c inside is before =
+    let entry : Entry = Began c.first_page-page.result c.in_ok-source.source c.args.dst in
+    ap ordinary_count (pushed c inside is before) ∙ (ordinary_count-push c.self.inside.ledger.items entry ∙ add_zero (ordinary_count c.self.inside.ledger.items))
+
 -- and room for the one at the move's end
 ledger_fits : (c : goal.After-self-4-1) → vec_len c.if-dst-eq0.self-inside.ledger ≡ vec_len c.reserve.new.list → vec_capacity c.if-dst-eq0.self-inside.ledger ≡ vec_capacity c.reserve.new.list → vec_len c.push.new.self + 1 ≤ vec_capacity c.push.new.self
 ledger_fits c len capacity = omega (arith, len, capacity, c.push.ensures.upper_bound, c.push.ensures.capacity, c.in_ok-reserve.ensures.ok)
@@ -134,6 +143,7 @@ invariant_of-self-2 c =
             pool = omega (arith, w.in_ok-reserve-2.ensures.ok, truth_le (c.args.dst == 0));
             classes = fits-to_pool c.self.inside c.args.dst c.self.invariant w.if-dst-eq0.true;
             linked = c.self.invariant.linked;
+            ordinary = c.self.invariant.ordinary ∙ sym (ordinary_pushed c _ w.self-inside-is c.in_ok-reserve.ensures.items);
             aged = c.self.invariant.aged;
             rows = c.self.invariant.rows;
           })
@@ -148,6 +158,7 @@ invariant_of-self-2 c =
             classes = fits-to_class c.self.inside c.args.dst _ w.make_room.new.self c.self.invariant is w.index_mut-slab.ensures.value w.in_ok-make_room.ensures.state
                 (omega (arith, w.page_count.ensures, ap (λ (class : ClassState). length class.pages) read, w.in_ok-make_room.ensures.ok));
             linked = c.self.invariant.linked;
+            ordinary = c.self.invariant.ordinary ∙ sym (ordinary_pushed c _ w.self-inside-is c.in_ok-reserve.ensures.items);
             aged = c.self.invariant.aged;
             rows = subst (λ (classes : List ClassState). HasRows classes (vec_len c.self.inside.owners) (sizes_of c.self.inside.rows))
                 (sym (states_roomier c.self.inside c.args.dst _ w.make_room.new.self is w.index_mut-slab.ensures.value w.in_ok-make_room.ensures.state)) c.self.invariant.rows;

@@ -91,6 +91,7 @@ invariant_of-self c =
       pool = c.self.invariant.pool;
       classes = kept.classes;
       linked = kept.linked;
+      ordinary = c.self.invariant.ordinary;
       aged = HasAges-cut c.self.inside.rows _ c.self.inside.ages _ chunk c.cut.ensures.cut c.self.invariant.aged;
       rows = kept.rows;
     }

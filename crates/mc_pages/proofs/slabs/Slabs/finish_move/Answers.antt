@@ -8,6 +8,8 @@ use Rattle.mc_pages.specs.SlabState.{SlabState, IsClass}
 use Rattle.mc_pages.specs.Accounted.{IsMove}
 use Rattle.mc_pages.specs.Moves.{finished, after_finish, CanFinish}
 use Rattle.mc_pages.specs.InOrder.{IsInOrder, slabs_of}
+use Rattle.mc_pages.specs.Ledger.{ordinary_count}
+use Rattle.mc_pages.proofs.Grace.{add_zero, ordinary_count-push}
 use Rattle.mc_pages.proofs.KeptFinish.{IsInOrder-finished}
 use Rattle.mc_pages.proofs.Roomy.{if_ok}
 use Rattle.mc_pages.proofs.RoomySlabs.{length-classes, IsClass-set}
@@ -53,6 +55,10 @@ index_mut-requires-else-dst-eq0-2 c = omega (arith, moving_within (slabs_of c.se
 pushed : (c : After-saturating_add-self-inside) → c.push.new.self.items ≡ c.self.inside.ledger.items ++ Ended c.in-Some.moving.page c.in-Some.moving.dst ∷ []
 pushed c = c.push.ensures.items ∙ if_ok c.push.result _ _ _ c.unwrap.ensures
 
+-- of which it is none within the limit
+ordinary_pushed : (c : After-saturating_add-self-inside) → ordinary_count c.push.new.self.items ≡ ordinary_count c.self.inside.ledger.items
+ordinary_pushed c = ap ordinary_count (pushed c) ∙ (ordinary_count-push c.self.inside.ledger.items (Ended c.in-Some.moving.page c.in-Some.moving.dst) ∙ add_zero (ordinary_count c.self.inside.ledger.items))
+
 -- all is in order
 in_order : (c : After-index_mut) → IsInOrder (finished (slabs_of c.self.inside) c.in-Some.moving) c.self.inside.granted
 in_order c = IsInOrder-finished (slabs_of c.self.inside) c.self.inside.granted c.in-Some.moving c.self.invariant.order (whole c) (can_finish c)
@@ -79,6 +85,7 @@ invariant_of-self c =
       pool = omega (arith, c.push-then-dst-eq0.new.self.ok.1);
       classes = λ other there. fits-pooled c.self.inside move _ _ c.self.invariant is c.index_mut.ensures.value c.remove_page.ensures other there.0 (IsClass-set c.self.inside.rows _ _ other _ there.1);
       linked = c.self.invariant.linked;
+      ordinary = c.self.invariant.ordinary ∙ sym (ordinary_pushed (goal.at.invariant_of-self c).After-saturating_add-self-inside);
       aged = c.self.invariant.aged;
       rows = rows-pooled c.self.inside move (vec_len c.self.inside.owners) (sizes_of c.self.inside.rows) _ _ c.self.invariant.rows is c.index_mut.ensures.value c.remove_page.ensures;
     }
@@ -114,6 +121,7 @@ invariant_of-self-else-dst-eq0 c =
       classes = λ other there.
           fits-joined c.self.inside move _ _ _ _ c.self.invariant c.in-Some.is is.src to is.apart c.index_mut.ensures.value c.remove_page.ensures c.index_mut-else-dst-eq0.ensures.value c.add_page.ensures other there.0 (within-both c.self.inside.rows _ _ _ other _ _ there.1);
       linked = c.self.invariant.linked;
+      ordinary = c.self.invariant.ordinary ∙ sym (ordinary_pushed (goal.at.invariant_of-self-else-dst-eq0 c).After-saturating_add-self-inside);
       aged = c.self.invariant.aged;
       rows = rows-joined c.self.inside move (vec_len c.self.inside.owners) (sizes_of c.self.inside.rows) _ _ _ _ c.self.invariant.rows is.src to c.index_mut.ensures.value c.remove_page.ensures c.index_mut-else-dst-eq0.ensures.value c.add_page.ensures;
     }

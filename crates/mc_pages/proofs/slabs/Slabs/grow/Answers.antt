@@ -1,4 +1,5 @@
-use Rattle.std.proofs.Common.{◌≡◌, ℕ, ◌+◌, ◌-◌, ◌<◌, ◌≤◌, List, [], ◌∷◌, ◌++◌, length, vec_len, vec_capacity, set, take_all, take, is_some, Some, None, refl, sym, ap, ap₂, ◌∙◌, subst, arith}
+use Rattle.std.proofs.Common.{◌≡◌, ℕ, ◌+◌, ◌-◌, ◌<◌, ◌≤◌, Bool, not, List, [], ◌∷◌, ◌++◌, length, vec_len, vec_capacity, set, take_all, take, is_some, Some, None, refl, sym, ap, ap₂, ◌∙◌, subst, arith}
+use mir.Val.{bool_byte}
 use Rattle.std.specs.Vec.{with_item}
 use Rattle.mc_pages.specs.declared.ledger.Owner.TheVariants.{Class}
 use Rattle.mc_pages.specs.declared.ledger.Entry.{Entry}
@@ -6,11 +7,13 @@ use Rattle.mc_pages.specs.declared.ledger.Entry.TheVariants.{Granted, Taken}
 use Rattle.mc_pages.specs.declared.slabs.Slabs.TheInside.{Inside}
 use Rattle.mc_pages.specs.ClassState.{ClassState, with_page}
 use Rattle.mc_pages.specs.SlabState.{SlabState, IsClass, class_at}
-use Rattle.mc_pages.specs.Changes.{next_page, after_grow, after_take, after_grant}
+use Rattle.mc_pages.specs.Ledger.{ordinary_count}
+use Rattle.mc_pages.specs.Changes.{has_ordinary_page, next_page, after_grow, after_take, after_grant}
 use Rattle.mc_pages.specs.Accounted.{truth}
 use Rattle.mc_pages.specs.Linked.{sizes_of}
 use Rattle.mc_pages.specs.Room.{states}
 use Rattle.mc_pages.specs.InOrder.{IsInOrder, HasRows, AreKept, slabs_of, is_awaited}
+use Rattle.mc_pages.proofs.Grace.{add_zero, ordinary_count-push}
 use Rattle.mc_pages.proofs.Kept.{pages_below}
 use Rattle.mc_pages.proofs.KeptPages.{IsInOrder-after_take, IsInOrder-after_grant}
 use Rattle.mc_pages.proofs.Roomy.{if_ok}
@@ -32,7 +35,7 @@ awaited c = c.from-awaited.ensures ∙ (truth_byte c.awaits.result ∙ ap truth 
 page_count : (c : After-page_count) → c.page_count.result ≡ length (class_at (slabs_of c.self.inside) c.args.class).pages
 page_count c = c.page_count.ensures ∙ ap (λ (class : ClassState). length class.pages) (read_state c.self.inside c.args.class _ _ (is_class c) refl c.index_mut-slab.ensures.value)
 
-few : (c : After-page_count) → c.page_count.result + 1 + c.from-awaited.result ≤ 66
+few : (c : After-page_count) → c.page_count.result + 1 + c.from-awaited.result ≤ 129
 few c =
     omega (arith, page_count c, awaited c, truth_le (is_awaited c.self.inside.moving c.args.class), pages_below (slabs_of c.self.inside) c.self.inside.granted c.args.class c.self.invariant.order (is_class c))
 
@@ -50,8 +53,12 @@ entries : (c : After-page_count) → c.from.result ≡ truth (is_some c.self.ins
 entries c = c.from.ensures ∙ (truth_byte c.is_some.result ∙ ap truth c.is_some.ensures)
 
 -- the page is the next one
-is_next : (c : After-page_count) → next_page (slabs_of c.self.inside) ≡ Some c.in_ok-page.page
-is_next c = ap next_page (same_state c.self.view_is) ∙ (sym c.next_page.ensures ∙ c.in_ok-page.ensures.ok_part)
+is_next : (c : After-page_count) → next_page (slabs_of c.self.inside) c.args.class ≡ Some c.in_ok-page.page
+is_next c = ap (λ (s : SlabState). next_page s c.args.class) (same_state c.self.view_is) ∙ (sym c.next_page.ensures.page ∙ c.in_ok-page.ensures.ok_part)
+
+-- it is granted beyond the limit where none is left within it
+is_grace : (c : After-page_count) → not c.has_ordinary_page-grace.result ≡ not (has_ordinary_page (slabs_of c.self.inside))
+is_grace c = ap not (c.has_ordinary_page-grace.ensures ∙ ap has_ordinary_page (sym (same_state c.self.view_is)))
 
 -- what was reserved changes nothing that callers see
 refused_is : (c : goal.After-from_residual-in_err-make_room) → record (slabs_of c.self.inside) { classes = states c.self.inside.rows (set c.self.inside.classes.items (c.args.class - 1) c.make_room.new.self); ledger = c.reserve.new.list.items } ≡ slabs_of c.self.inside
@@ -70,6 +77,7 @@ invariant_of-self-in_err-make_room c =
       pool = c.self.invariant.pool;
       classes = fits-roomier c.self.inside c.args.class _ c.make_room.new.self c.self.invariant is c.index_mut-slab.ensures.value c.in_err-make_room.ensures.state c.in_err-make_room.ensures.kept;
       linked = c.self.invariant.linked;
+      ordinary = c.self.invariant.ordinary ∙ sym (ap ordinary_count c.in_ok-reserve.ensures.items);
       aged = c.self.invariant.aged;
       rows = subst (λ (s : SlabState). HasRows s.classes (vec_len c.self.inside.owners) (sizes_of c.self.inside.rows)) (sym (refused_is c)) c.self.invariant.rows;
     }
@@ -82,7 +90,8 @@ returns-in_err-make_room-clause-accounted c = (invariant_of-self-in_err-make_roo
 
 pub index_mut-requires : goal.index_mut-requires
 index_mut-requires c =
-    let within = next_within (slabs_of c.self.inside) c.self.inside.granted c.in_ok-page.page c.self.invariant.order (is_next (goal.at.index_mut-requires c).After-page_count) in
+    let here = (goal.at.index_mut-requires c).After-page_count in
+    let within = next_within (slabs_of c.self.inside) c.self.inside.granted c.args.class c.in_ok-page.page c.self.invariant.order (is_class here) (is_next here) in
     elim c.match-pop.branch [
       | in-Some w ↦ omega (arith, within, ap (λ (i : Inside). vec_len i.owners) w.self-inside-is)
       | in-None w ↦ omega (arith, within, ap (λ (i : Inside). vec_len i.owners) w.self-inside-is)
@@ -105,8 +114,12 @@ taken_inside c = record c.self.inside {
 }
 
 -- and where it was untouched
+abbrev counted_inside : (c : goal.After-self-4-1) → ℕ → Inside
+counted_inside c more = record (taken_inside c) { granted = c.self.inside.granted + 1; ordinary = c.self.inside.ordinary + more }
+
+-- of which it is one more within the limit
 abbrev granted_inside : (c : goal.After-self-4-1) → Inside
-granted_inside c = record (taken_inside c) { granted = c.self.inside.granted + 1 }
+granted_inside c = counted_inside c (bool_byte (not (not c.has_ordinary_page-grace.result)))
 
 -- the ledger has the entry at its end
 pushed : (c : goal.After-self-4-1) (inside : Inside) (entry : Entry) → c.match-pop.self-inside ≡ inside → c.match-pop.entry ≡ entry → inside.ledger.items ≡ c.self.inside.ledger.items → c.push.new.self.items ≡ c.self.inside.ledger.items ++ entry ∷ []
@@ -145,36 +158,45 @@ taken_kept c is entry some =
     let whole = subst (λ (s : SlabState). s.uncut ≡ None) (sym (same_state c.self.view_is)) c.requires.whole in
     record {
       order = subst (λ (s : SlabState). IsInOrder s c.self.inside.granted) (sym (taken_is c is entry))
-          (IsInOrder-after_take slabs c.self.inside.granted c.args.class c.in_ok-page.page c.self.invariant.order (is_class here) whole (next_pooled slabs c.in_ok-page.page some (is_next here)));
+          (IsInOrder-after_take slabs c.self.inside.granted c.args.class c.in_ok-page.page c.self.invariant.order (is_class here) whole (next_pooled slabs c.args.class c.in_ok-page.page some (is_next here)));
       ledger = ledger_fits c (ap (λ (i : Inside). vec_len i.ledger) is) (ap (λ (i : Inside). vec_capacity i.ledger) is);
       pool = omega (arith, c.self.invariant.pool, c.pop.ensures.len, c.pop.ensures.capacity);
       classes = all_fit c;
       linked = c.self.invariant.linked;
+      ordinary = c.self.invariant.ordinary ∙ sym (ap ordinary_count (pushed c _ _ is entry c.in_ok-reserve.ensures.items) ∙ (ordinary_count-push c.self.inside.ledger.items (Taken c.in_ok-page.page c.args.class) ∙ add_zero (ordinary_count c.self.inside.ledger.items)));
       aged = c.self.invariant.aged;
       rows = subst (λ (s : SlabState). HasRows s.classes (vec_len c.self.inside.owners) (sizes_of c.self.inside.rows)) (sym (taken_is c is entry)) (has_rows c);
     }
 
+-- the ledger where the page was untouched
+granted_pushed : (c : goal.After-self-4-1) → c.match-pop.self-inside ≡ granted_inside c → c.match-pop.entry ≡ Granted c.in_ok-page.page c.args.class (not c.has_ordinary_page-grace.result) → c.push.new.self.items ≡ c.self.inside.ledger.items ++ Granted c.in_ok-page.page c.args.class (not (has_ordinary_page (slabs_of c.self.inside))) ∷ []
+granted_pushed c is entry =
+    pushed c (granted_inside c) _ is entry c.in_ok-reserve.ensures.items
+    ∙ ap (λ (grace : Bool). c.self.inside.ledger.items ++ Granted c.in_ok-page.page c.args.class grace ∷ []) (is_grace (goal.at.invariant_of-self-3 c).After-page_count)
+
 -- the whole where the page was untouched
-granted_is : (c : goal.After-self-4-1) → c.match-pop.self-inside ≡ granted_inside c → c.match-pop.entry ≡ Granted c.in_ok-page.page c.args.class → length c.self.inside.pool.items ≡ 0 → slabs_of (given c (granted_inside c)) ≡ after_grant (slabs_of c.self.inside) c.args.class c.in_ok-page.page
+granted_is : (c : goal.After-self-4-1) → c.match-pop.self-inside ≡ granted_inside c → c.match-pop.entry ≡ Granted c.in_ok-page.page c.args.class (not c.has_ordinary_page-grace.result) → length c.self.inside.pool.items ≡ 0 → slabs_of (given c (granted_inside c)) ≡ after_grant (slabs_of c.self.inside) c.args.class c.in_ok-page.page
 granted_is c is entry none =
     let pool = c.pop.ensures.rest ∙ take_all _ c.self.inside.pool.items (omega arith) in
     grant_is c.self.inside c.args.class c.in_ok-page.page _ c.make_room.new.self _ _ _ (is_class (goal.at.invariant_of-self-3 c).After-page_count) c.index_mut-slab.ensures.value c.in_ok-make_room.ensures.state c.add_page.ensures
-    pool (pushed c (granted_inside c) _ is entry c.in_ok-reserve.ensures.items)
+    pool (granted_pushed c is entry)
 
-granted_kept : (c : goal.After-self-4-1) → c.match-pop.self-inside ≡ granted_inside c → c.match-pop.entry ≡ Granted c.in_ok-page.page c.args.class → length c.self.inside.pool.items ≡ 0 → AreKept (given c (granted_inside c))
+granted_kept : (c : goal.After-self-4-1) → c.match-pop.self-inside ≡ granted_inside c → c.match-pop.entry ≡ Granted c.in_ok-page.page c.args.class (not c.has_ordinary_page-grace.result) → length c.self.inside.pool.items ≡ 0 → AreKept (given c (granted_inside c))
 granted_kept c is entry none =
     let slabs = slabs_of c.self.inside in
     let here = (goal.at.invariant_of-self-3 c).After-page_count in
     let whole = subst (λ (s : SlabState). s.uncut ≡ None) (sym (same_state c.self.view_is)) c.requires.whole in
-    let next = next_granted slabs c.self.inside.granted c.in_ok-page.page c.self.invariant.order none (is_next here) in
+    let next = next_granted slabs c.self.inside.granted c.args.class c.in_ok-page.page c.self.invariant.order (is_class here) none (is_next here) in
+    let ordinary = ap (λ (b : Bool). bool_byte (not b)) (is_grace here) ∙ truth_byte (not (not (has_ordinary_page slabs))) in
     let granted = granted_is c is entry none ∙ ap (after_grant slabs c.args.class) next.0 in
     record {
       order = subst (λ (s : SlabState). IsInOrder s (c.self.inside.granted + 1)) (sym granted)
-          (IsInOrder-after_grant slabs c.self.inside.granted c.args.class c.self.invariant.order (is_class here) whole next.1);
+          (IsInOrder-after_grant slabs c.self.inside.granted c.args.class c.self.invariant.order (is_class here) whole next.1 next.2);
       ledger = ledger_fits c (ap (λ (i : Inside). vec_len i.ledger) is) (ap (λ (i : Inside). vec_capacity i.ledger) is);
       pool = omega (arith, c.self.invariant.pool, c.pop.ensures.len, c.pop.ensures.capacity);
       classes = all_fit c;
       linked = c.self.invariant.linked;
+      ordinary = omega (arith, c.self.invariant.ordinary, ordinary, ap ordinary_count (granted_pushed c is entry), ordinary_count-push c.self.inside.ledger.items (Granted c.in_ok-page.page c.args.class (not (has_ordinary_page slabs))));
       aged = c.self.invariant.aged;
       rows = subst (λ (s : SlabState). HasRows s.classes (vec_len c.self.inside.owners) (sizes_of c.self.inside.rows)) (sym (granted_is c is entry none)) (has_rows c);
     }
@@ -184,13 +206,13 @@ invariant_of-self-3 c =
     let kept : Inside → Type 0 = λ i. AreKept (given c i) in
     elim c.match-pop.branch [
       | in-Some w ↦ subst kept (sym w.self-inside-is) (taken_kept c w.self-inside-is w.entry-is (omega (arith, w.in-Some.ensures.cases)))
-      | in-None w ↦ subst kept (sym w.self-inside-is) (granted_kept c w.self-inside-is w.entry-is (omega (arith, w.in-None.ensures.cases)))
+      | in-None w ↦ subst kept (sym (w.self-inside-is ∙ ap (counted_inside c) w.from-in-None.ensures)) (granted_kept c (w.self-inside-is ∙ ap (counted_inside c) w.from-in-None.ensures) w.entry-is (omega (arith, w.in-None.ensures.cases)))
     ]
 
 pub returns-clause-given : goal.returns-clause-given
 returns-clause-given c =
     let slabs = slabs_of c.self.inside in
-    let next = sym (ap next_page (same_state c.self.view_is)) ∙ is_next (goal.at.invariant_of-self-3 c).After-page_count in
+    let next = sym (ap (λ (s : SlabState). next_page s c.args.class) (same_state c.self.view_is)) ∙ is_next (goal.at.invariant_of-self-3 c).After-page_count in
     let seen : Inside → SlabState = λ i. slabs_of (given c i) in
     let grown = ap (λ (s : SlabState). after_grow s c.args.class c.in_ok-page.page) (same_state c.self.view_is) in
     elim c.match-pop.branch [
@@ -201,7 +223,7 @@ returns-clause-given c =
       )
       | in-None w ↦ (
         next,
-        ap seen w.self-inside-is ∙ (granted_is c w.self-inside-is w.entry-is (omega (arith, w.in-None.ensures.cases))
+        ap seen (w.self-inside-is ∙ ap (counted_inside c) w.from-in-None.ensures) ∙ (granted_is c (w.self-inside-is ∙ ap (counted_inside c) w.from-in-None.ensures) w.entry-is (omega (arith, w.in-None.ensures.cases))
             ∙ (sym (grow_grants slabs c.args.class c.in_ok-page.page (omega (arith, w.in-None.ensures.cases))) ∙ grown)),
       )
     ]

@@ -1,21 +1,27 @@
-use Rattle.std.proofs.Common.{◌≡◌, ℕ, ◌-◌, List, length, slice_get, None, sym, ap, ◌∙◌, arith}
-use Rattle.mc_pages.specs.Changes.{pooled_page, next_page}
+use Rattle.std.proofs.Common.{◌≡◌, ℕ, ◌-◌, Bool, true, false, ◌||◌, List, length, slice_get, Some, None, refl, sym, ap, ◌∙◌, subst}
+use Rattle.std.proofs.lemmas.Bool.{or_left, or_right}
+use Rattle.mc_pages.specs.SlabState.{SlabState, IsClass}
+use Rattle.mc_pages.specs.Changes.{pooled_page, has_ordinary_page, is_without_page, next_page}
 use Rattle.mc_pages.specs.InOrder.{slabs_of}
-use Rattle.mc_pages.proofs.Owners.{position-AreGranted, position-AreGranted_all}
-use Rattle.mc_pages.proofs.RoomyGrow.{next_untouched}
+use Rattle.mc_pages.proofs.KeptPages.{may_be_granted}
+use Rattle.mc_pages.proofs.RoomyGrow.{next_untouched, granted_page-is}
 use Rattle.mc_pages.proofs.Roomy.{same_state}
 use Rattle.mc_pages.proofs.slabs.Slabs.next_page.Goals as goal
+use Rattle.mc_pages.proofs.slabs.Slabs.next_page.Goals.{then-has_ordinary_page-via-then-has_ordinary_page, then-has_ordinary_page-via-else-has_ordinary_page+then-is_without_page}
 
-pub returns-in-None : goal.returns-in-None
-returns-in-None c =
+pub returns-then-has_ordinary_page-clause-page : goal.returns-then-has_ordinary_page-clause-page
+returns-then-has_ordinary_page-clause-page c =
     let slabs = slabs_of c.self.inside in
-    let pooled : pooled_page slabs ≡ None = sym (c.in-None.ensures.value ∙ ap (λ (pages : List ℕ). slice_get pages (length pages - 1)) c.deref.ensures.value) in
-    let granted = position-AreGranted slabs.owners c.self.inside.granted c.self.invariant.order.lowest (omega arith) in
-    sym granted ∙ (sym (next_untouched slabs pooled) ∙ ap next_page (same_state c.self.view_is))
-
-pub returns-in-None-2 : goal.returns-in-None-2
-returns-in-None-2 c =
-    let slabs = slabs_of c.self.inside in
-    let pooled : pooled_page slabs ≡ None = sym (c.in-None-2.ensures.value ∙ ap (λ (pages : List ℕ). slice_get pages (length pages - 1)) c.deref.ensures.value) in
-    let all = position-AreGranted_all slabs.owners c.self.inside.granted c.self.invariant.order.lowest (omega (arith, c.self.invariant.order.lowest.within)) in
-    sym all ∙ (sym (next_untouched slabs pooled) ∙ ap next_page (same_state c.self.view_is))
+    let state = same_state c.self.view_is in
+    let is = subst (λ (s : SlabState). IsClass s c.args.class) (sym state) c.requires in
+    let pooled : pooled_page slabs ≡ None = sym (c.in_default.ensures.value ∙ ap (λ (pages : List ℕ). slice_get pages (length pages - 1)) c.deref.ensures.value) in
+    let ordinary = c.has_ordinary_page.ensures ∙ ap has_ordinary_page (sym state) in
+    let may : may_be_granted slabs c.args.class ≡ true =
+    elim c.then-has_ordinary_page.branch [
+      | then-has_ordinary_page-via-then-has_ordinary_page w ↦ ap (λ b. b || is_without_page slabs c.args.class) (sym ordinary ∙ w.if-has_ordinary_page.true)
+      | then-has_ordinary_page-via-else-has_ordinary_page+then-is_without_page w ↦
+          ap (λ b. b || is_without_page slabs c.args.class) (sym ordinary ∙ w.if-has_ordinary_page.false)
+          ∙ (ap (λ (s : SlabState). is_without_page s c.args.class) state ∙ (sym w.is_without_page.ensures ∙ w.if-is_without_page.true))
+    ] in
+    sym (granted_page-is slabs c.self.inside.granted c.args.class c.self.invariant.order is may)
+    ∙ (sym (next_untouched slabs c.args.class pooled) ∙ ap (λ (s : SlabState). next_page s c.args.class) state)

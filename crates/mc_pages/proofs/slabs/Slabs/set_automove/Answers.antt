@@ -10,6 +10,7 @@ invariant_of-self c =
       pool = c.self.invariant.pool;
       classes = c.self.invariant.classes;
       linked = c.self.invariant.linked;
+      ordinary = c.self.invariant.ordinary;
       aged = c.self.invariant.aged;
       rows = c.self.invariant.rows;
     }

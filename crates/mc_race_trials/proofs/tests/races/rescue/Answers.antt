@@ -26,7 +26,7 @@ condemn_original-requires-clause-reason g c =
     let table = c.args.arena.now.table.shared.key.table in
     let one = copy_holding chunk c.args.fresh.chunk c.requires.copy.0 c.args.fresh.room in
     let copies : has_copy view.row.holdings chunk ≡ true = found_among c.args.fresh.chunk (is_copy_of chunk) view.row.holdings one c.requires.copy.1 (is_chunk-same chunk) in
-    λ k. c.requires.moving k && copies k || is_on_the_move slabs chunk.page && none_dead slabs view.row.looks chunk && sees_no_target slabs view.row.looks chunk.page || lacks_room table slabs view.row.looks chunk
+    λ k. c.requires.moving k && copies k || is_on_the_move slabs chunk.page && none_dead slabs view.row.looks chunk && sees_no_target slabs view.row.looks chunk.page || lacks_room slabs view.row.looks chunk
 
 pub discard-requires-clause-fresh : goal.discard-requires-clause-fresh
 discard-requires-clause-fresh g c =

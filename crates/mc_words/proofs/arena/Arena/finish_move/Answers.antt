@@ -1,5 +1,5 @@
 use Rattle.std.proofs.Common.{◌≡◌, ℕ, ◌<◌, refl, ap, sym, subst, ◌∙◌, length}
-use Rattle.mc_classes.specs.Classes.{pages_of}
+use Rattle.mc_classes.specs.Classes.{arena_pages_of}
 use Rattle.mc_pages.specs.declared.ids.Moving.{Moving}
 use Rattle.mc_pages.specs.Moves.{CanFinish}
 use Rattle.mc_pages.specs.SlabState.{SlabState}
@@ -18,7 +18,7 @@ pub page_word-word-requires : goal.page_word-word-requires
 page_word-word-requires c =
     let runs = sym c.moving.ensures.moving ∙ c.in-Some.is in
     let near = move_near c.args.hand.now.seat.me.0 c.requires.arena.lawful c.args.held.now.shared c.in-Some.moving c.requires.held runs in
-    record { near = subst (λ (s : Setup). c.in-Some.moving.page < pages_of s.table) c.requires.arena.setup near.0 }
+    record { near = subst (λ (s : Setup). c.in-Some.moving.page < arena_pages_of s.table) c.requires.arena.setup near.0 }
 
 pub finish_move-requires-clause-cleared : goal.finish_move-requires-clause-cleared
 finish_move-requires-clause-cleared c = subst (λ (x : SlabState). (move : Moving) × CanFinish x move) (sym c.slabs_mut.ensures.slabs) c.requires.cleared

@@ -1,5 +1,5 @@
 use Rattle.std.proofs.Common.{◌≡◌, ◌<◌, ℕ, true, Some, refl, ap, sym, subst, ◌∙◌, length}
-use Rattle.mc_classes.specs.Classes.{pages_of}
+use Rattle.mc_classes.specs.Classes.{arena_pages_of}
 use Rattle.mc_pages.specs.SlabState.{SlabState, IsClass}
 use Rattle.mc_pages.specs.Changes.{after_grow, next_page}
 use Rattle.mc_core.specs.Silent.{grown}
@@ -36,9 +36,9 @@ page_word-word-requires c =
     let arena = c.requires.arena in
     let class_is = subst (λ (s : Setup). is_class s.table class ≡ true) (sym arena.setup) c.requires.class in
     let page = c.in_ok-page.page in
-    let next : next_page slabs ≡ Some page = ap next_page (sym c.slabs_mut.ensures.slabs) ∙ c.in_ok-page.ensures.given.0 in
-    let near = next_near view arena.lawful slabs page c.requires.held next in
-    record { near = subst (λ (s : Setup). page < pages_of s.table) arena.setup near.0 }
+    let next : next_page slabs class ≡ Some page = ap (λ (x : SlabState). next_page x class) (sym c.slabs_mut.ensures.slabs) ∙ c.in_ok-page.ensures.given.0 in
+    let near = next_near view arena.lawful slabs class page c.requires.held next in
+    record { near = subst (λ (s : Setup). page < arena_pages_of s.table) arena.setup near.0 }
 
 pub tell_page-requires : goal.tell_page-requires
 tell_page-requires c =
@@ -48,8 +48,8 @@ tell_page-requires c =
     let arena = c.requires.arena in
     let class_is = subst (λ (s : Setup). is_class s.table class ≡ true) (sym arena.setup) c.requires.class in
     let page = c.in_ok-page.page in
-    let next : next_page slabs ≡ Some page = ap next_page (sym c.slabs_mut.ensures.slabs) ∙ c.in_ok-page.ensures.given.0 in
-    let near = next_near view arena.lawful slabs page c.requires.held next in
+    let next : next_page slabs class ≡ Some page = ap (λ (x : SlabState). next_page x class) (sym c.slabs_mut.ensures.slabs) ∙ c.in_ok-page.ensures.given.0 in
+    let near = next_near view arena.lawful slabs class page c.requires.held next in
     let place : c.page_word-word.result ≡ page_word view.setup page = c.page_word-word.ensures.word ∙ ap (λ (s : Setup). page_word s page) (sym arena.setup) in
     let can = can_grow_here view.setup.table slabs class page class_is c.requires.whole next in
     (refl, (refl, (c.page_word-word.ensures.near, (arena, subst (λ (n : ℕ). MayTell view (Grow class) core.MissSlabs n (λ found. class)) (sym place) (may_grow view slabs class page c.requires.held can next near.0 near.1)))))
@@ -67,6 +67,6 @@ pub returns-clause-held : goal.returns-clause-held
 returns-clause-held c =
     let slabs : SlabState = c.args.held.now.shared in
     let class = c.args.class in
-    let next : next_page slabs ≡ Some c.in_ok-page.page = ap next_page (sym c.slabs_mut.ensures.slabs) ∙ c.in_ok-page.ensures.given.0 in
+    let next : next_page slabs class ≡ Some c.in_ok-page.page = ap (λ (x : SlabState). next_page x class) (sym c.slabs_mut.ensures.slabs) ∙ c.in_ok-page.ensures.given.0 in
     let is = changed_slabs c.args.hand.now.seat.me.0 c.tell_page.new.seat.me.0 slabs (Grow class) c.args.hand.now.number (λ s hand. refl) c.requires.held c.args.hand.now.noted.0 c.tell_page.ensures.happens in
     ap (λ (v : View). v.slabs) is ∙ ap Some (ap (grown slabs class) next ∙ (ap (λ (x : SlabState). after_grow x class c.in_ok-page.page) (sym c.slabs_mut.ensures.slabs) ∙ sym c.in_ok-page.ensures.given.1))

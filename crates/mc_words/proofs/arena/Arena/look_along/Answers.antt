@@ -1,6 +1,6 @@
 use Rattle.std.proofs.Common.{◌∙◌, ℕ, List, sym, subst, inl, inr, arith, lt-ltb}
 use Rattle.std.proofs.lemmas.Bool.{and_from, cases_eq}
-use Rattle.mc_classes.specs.Classes.{pages_of}
+use Rattle.mc_classes.specs.Classes.{arena_pages_of}
 use Rattle.mc_pages.specs.declared.ids.ChunkId.{ChunkId}
 use Rattle.mc_pages.proofs.Cuts.{chunk_at}
 use Rattle.mc_core.specs.State.{most_of}
@@ -17,7 +17,7 @@ judge-requires-clause-near c =
     let page = c.requires.page in
     let most = c.requires.most in
     let below = c.loop-index-test.true in
-    and_from _ _ (lt-ltb c.args.page (pages_of table) page) (lt-ltb c.loop-index.index (most_of table) (omega arith))
+    and_from _ _ (lt-ltb c.args.page (arena_pages_of table) page) (lt-ltb c.loop-index.index (most_of table) (omega arith))
 
 pub loop-index-preserved : goal.loop-index-preserved
 loop-index-preserved c =

@@ -1,7 +1,7 @@
 use Rattle.std.proofs.Common.{◌≡◌, ◌∙◌, ℕ, ◌<◌, ◌≤◌, true, ◌++◌, ap, sym, subst, inl, inr, arith, ltb-true, nat_lt, Some}
 use Rattle.std.specs.Prelude.{Contains}
 use Rattle.std.proofs.lemmas.Bool.{and_parts, cases_eq}
-use Rattle.mc_classes.specs.Classes.{pages_of}
+use Rattle.mc_classes.specs.Classes.{arena_pages_of}
 use Rattle.mc_pages.specs.declared.ids.ChunkId.{ChunkId}
 use Rattle.mc_pages.specs.Accounted.{first_chunks}
 use Rattle.mc_pages.specs.SlabState.{SlabState, class_at, class_of_owner, class_of_page}
@@ -88,10 +88,10 @@ module _ (view : View) (was : LawfulView view) (slabs : SlabState) (mine : view.
   out : StandsOut view slabs class chunk
   out = stands_out view was slabs mine class is chunk there
 
-  on_page : chunk.page < pages_of view.setup.table
-  on_page = ltb-true chunk.page (pages_of view.setup.table) (and_parts (nat_lt chunk.page (pages_of view.setup.table)) (nat_lt chunk.index (most_of view.setup.table)) out.near).0
+  on_page : chunk.page < arena_pages_of view.setup.table
+  on_page = ltb-true chunk.page (arena_pages_of view.setup.table) (and_parts (nat_lt chunk.page (arena_pages_of view.setup.table)) (nat_lt chunk.index (most_of view.setup.table)) out.near).0
 
-  before : (end page : ℕ) → end ≡ pages_of view.setup.table → end ≤ page → chunk.page < page
+  before : (end page : ℕ) → end ≡ arena_pages_of view.setup.table → end ≤ page → chunk.page < page
   before end page pages past = let on = on_page in omega (arith, on, pages, past)
 
 pub returns-clause-sees : goal.returns-clause-sees
@@ -100,12 +100,12 @@ returns-clause-sees c =
     let slabs = c.args.held.now.shared in
     let view = c.loop-page.hand.seat.me.0 in
     let is = ap (λ (s : Setup). is_class s.table c.args.class) inv.arena.setup ∙ c.requires.class in
-    let pages = c.pages-page-end.ensures.pages ∙ (ap pages_of c.classes.ensures.classes ∙ ap (λ (s : Setup). pages_of s.table) (sym inv.arena.setup)) in (
+    let pages = c.arena_pages-page-end.ensures.pages ∙ (ap arena_pages_of c.classes.ensures.classes ∙ ap (λ (s : Setup). arena_pages_of s.table) (sym inv.arena.setup)) in (
       inv.looked,
       inv.sees,
       all_pass (is_among inv.looked) (class_at slabs c.args.class).order (λ chunk there.
           let at = out view inv.arena.lawful slabs inv.held c.args.class is chunk there in
-          (inv.judged chunk at.own (before view inv.arena.lawful slabs inv.held c.args.class is chunk there c.pages-page-end.result c.loop-page.page pages c.loop-page-test.false) at.within).0),
+          (inv.judged chunk at.own (before view inv.arena.lawful slabs inv.held c.args.class is chunk there c.arena_pages-page-end.result c.loop-page.page pages c.loop-page-test.false) at.within).0),
     )
 
 pub returns-clause-judged : goal.returns-clause-judged
@@ -115,5 +115,5 @@ returns-clause-judged c chunk there =
     let view = c.loop-page.hand.seat.me.0 in
     let is = ap (λ (s : Setup). is_class s.table c.args.class) inv.arena.setup ∙ c.requires.class in
     let at = out view inv.arena.lawful slabs inv.held c.args.class is chunk there in
-    let pages = c.pages-page-end.ensures.pages ∙ (ap pages_of c.classes.ensures.classes ∙ ap (λ (s : Setup). pages_of s.table) (sym inv.arena.setup)) in
-    (inv.judged chunk at.own (before view inv.arena.lawful slabs inv.held c.args.class is chunk there c.pages-page-end.result c.loop-page.page pages c.loop-page-test.false) at.within).1
+    let pages = c.arena_pages-page-end.ensures.pages ∙ (ap arena_pages_of c.classes.ensures.classes ∙ ap (λ (s : Setup). arena_pages_of s.table) (sym inv.arena.setup)) in
+    (inv.judged chunk at.own (before view inv.arena.lawful slabs inv.held c.args.class is chunk there c.arena_pages-page-end.result c.loop-page.page pages c.loop-page-test.false) at.within).1

@@ -1,6 +1,6 @@
-use Rattle.std.proofs.Common.{refl, ap, sym, subst, ◌∙◌, length, arith}
+use Rattle.std.proofs.Common.{Some, refl, ap, sym, subst, ◌∙◌, length, arith}
 use Rattle.mc_pages.specs.declared.ids.Moving.{Moving}
-use Rattle.mc_pages.specs.Moves.{CanPass}
+use Rattle.mc_pages.specs.Moves.{CanPass, after_passed}
 use Rattle.mc_pages.specs.SlabState.{SlabState}
 use Rattle.mc_core.specs.declared.event.Change.TheVariants.{Passed}
 use Rattle.mc_words.specs.hand.View.{View}
@@ -29,3 +29,8 @@ invariant_of-hand c =
 
 pub returns-clause-view : goal.returns-clause-view
 returns-clause-view c = changed_slabs c.args.hand.now.seat.me.0 c.tell.new.seat.me.0 c.args.held.now.shared (Passed c.args.found) c.args.hand.now.number (λ s hand. refl) c.requires.held c.args.hand.now.noted.0 c.tell.ensures.happens
+
+pub returns-clause-held : goal.returns-clause-held
+returns-clause-held c =
+    ap (λ (v : View). v.slabs) (returns-clause-view c)
+    ∙ ap Some (ap (λ (x : SlabState). after_passed x c.args.found) (sym c.slabs_mut.ensures.slabs) ∙ sym c.passed.ensures.passed)

@@ -1,5 +1,6 @@
 use Rattle.std.proofs.Common.{◌∙◌, List, get_or, take, sym, subst}
 use Rattle.std.proofs.lemmas.List.{take_more}
+use Rattle.std.proofs.lemmas.List.Elements.{Contains-get_or}
 use Rattle.mc_pages.specs.declared.ids.ChunkId.{ChunkId}
 use Rattle.mc_words.specs.chunk.Sweeps.{SweepsEach}
 use Rattle.mc_words.proofs.Chunks.SweepViews.{swept_again, swept_one}
@@ -23,3 +24,8 @@ loop-chunk-preserved c =
       each = subst (λ (cs : List ChunkId). SweepsEach cs view slabs next between) (sym (take_more chunks place blank c.loop-chunk-test.true))
           (swept_again chunk c.loop-chunk.hand.seat.me.0 next c.loop-chunk.held.shared between (take place chunks) view slabs inv.each one);
     }
+
+pub put_back-requires-clause-near : goal.put_back-requires-clause-near
+put_back-requires-clause-near c =
+    let blank : ChunkId = record { page = 0; index = 0 } in
+    c.requires.near (get_or c.args.chunks.now c.loop-chunk.chunk-index blank) (Contains-get_or c.args.chunks.now c.loop-chunk.chunk-index blank c.loop-chunk-test.true)

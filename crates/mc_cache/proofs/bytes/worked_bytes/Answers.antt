@@ -1,0 +1,7 @@
+use Rattle.std.proofs.Common.{refl}
+use Rattle.mc_cache.specs.Bytes.{classes_from}
+use Rattle.mc_cache.proofs.bytes.worked_bytes.Goals as goal
+
+pub returns : goal.returns
+unfolding classes_from
+returns c = refl
