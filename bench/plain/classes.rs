@@ -39,7 +39,7 @@ pub struct ClassTable {
     pub sizes: Vec<usize>,
     /// Bytes of a page.
     pub page: usize,
-    /// Pages that may be granted.
+    /// Pages that may be granted, but for the first ones of classes.
     pub pages: usize,
     /// Chunks that a turn of the mover looks at.
     pub bulk: usize,

@@ -177,11 +177,16 @@ impl Slabs {
         }
     }
 
+    /// Whether a page may be granted to the class: within the limit, or beyond it as its first.
+    fn has_page_for(&self, class: usize) -> bool {
+        self.granted() < self.table.pages || self.class(class).pages.is_empty()
+    }
+
     /// The class gets a page: from the pool, or else one that was never granted. False where there is none.
     pub fn grow(&mut self, class: usize) -> bool {
         let page = match self.pool.pop() {
             Some(page) => page,
-            None if self.granted() < self.table.pages => self.pages.grant(self.table.page / 8),
+            None if self.has_page_for(class) => self.pages.grant(self.table.page / 8),
             None => return false,
         };
         self.cut(page, class);

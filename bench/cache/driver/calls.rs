@@ -167,7 +167,7 @@ mod tests {
     /// In each tenth: a get of key 1, a get of key 9, which there is none of, and a set of key 2.
     #[test]
     fn counts_what_each_part_finds() {
-        let setting = Setting { shards: 1, keys: 3, threads: 1, sizes: [16, 32] };
+        let setting = Setting { shards: 1, shard_bytes: 1 << 14, keys: 3, threads: 1, sizes: [16, 32] };
         let (model, _) = Model::open(1, 0, 1);
         fill(&model, &mut (), &setting);
         assert_eq!(held(&model, &mut (), &setting), (3, 96));

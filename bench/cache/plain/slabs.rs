@@ -65,9 +65,10 @@ impl Slabs {
         (class < self.classes.len()).then_some(class)
     }
 
-    /// Cuts a page for the class, if there may be one more.
+    /// Cuts a page for the class, if there may be one more: within the limit, or beyond it as the class's first.
     fn cut_page(&mut self, class: usize) {
-        if (self.pages.len() + 1) * PAGE > self.limit {
+        let has_page = self.classes[class].used.oldest().is_some();
+        if (self.pages.len() + 1) * PAGE > self.limit && has_page {
             return;
         }
         let (page, size) = (self.pages.len() as u16, self.classes[class].size);
@@ -185,13 +186,16 @@ mod tests {
     }
 
     #[test]
-    fn has_no_page_for_other_sizes_when_all_are_cut() {
+    fn cuts_one_page_for_another_size_when_all_are_cut() {
         let mut shard = Slabs::new(2 * PAGE);
         for hash in 0..1_000_u32 {
             assert!(shard.set(hash, &hash.to_le_bytes(), &[7; 8]));
         }
         assert_eq!(shard.chains.count(), 512);
-        assert!(!shard.set(999, &999_u32.to_le_bytes(), &[7; 1_000]));
+        for hash in 1_000..2_000_u32 {
+            assert!(shard.set(hash, &hash.to_le_bytes(), &[7; 1_000]));
+        }
+        assert_eq!(shard.pages.len(), 3);
         assert!(shard.get(999, &999_u32.to_le_bytes(), &mut Vec::new(), false));
     }
 
