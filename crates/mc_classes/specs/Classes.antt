@@ -4,7 +4,7 @@ use Rattle.std.specs.Option.{option_map}
 use Rattle.mc_classes.specs.declared.config.Config.{Config}
 use Rattle.mc_classes.specs.Refusals.{rounded_up, is_below_max}
 
--- the bytes of a page, the bytes that may be granted, and the size of each class, class 1 first
+-- the bytes of a page, the bytes that may be granted but for first pages of classes, and the size of each class, class 1 first
 pub record Classes : Type 0 where
   pub page : ℕ
   pub limit : ℕ

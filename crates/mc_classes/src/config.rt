@@ -11,7 +11,7 @@ use std::fmt;
 pub struct Config {
     /// The size of a page.
     pub page: u64,
-    /// How many bytes of pages may be granted.
+    /// How many bytes of pages may be granted. A class without a page gets its first one beyond them, too.
     pub limit: u64,
     /// The raw size that the first class begins with.
     pub first: u64,

@@ -97,7 +97,7 @@ impl ClassTable {
         self.page
     }
 
-    /// The bytes of pages that may be granted.
+    /// The bytes of pages that may be granted, but for the first ones of classes.
     pub fn limit(&self) -> u64
         ensures limit { result ≡ self.now.limit }
         ensures sound { IsSound self.now }

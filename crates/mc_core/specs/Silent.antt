@@ -46,7 +46,7 @@ has_listed slabs class page = has_page (class_at slabs class).free page || has_p
 abbrev pub none_half_cut : SlabState → Bool
 none_half_cut slabs = is_none slabs.uncut
 
--- the class may get a page: there is such a class, no page is half cut, and a pooled or untouched one is left
+-- the class may get a page: there is such a class, no page is half cut, and one is to be had for it
 abbrev pub can_grow : Classes → SlabState → ℕ → Bool
 can_grow table slabs class = is_class table class && none_half_cut slabs && is_some (next_page slabs class)
 

@@ -74,7 +74,7 @@ fn with_pages<'a>(alloc: Global, command: Command<'a>) -> Result<Command<'a>, Al
         .arg(number_option(
             alloc,
             "limit",
-            "Bytes of pages that may be granted; default 4096, room for 1 to 64 pages",
+            "Bytes of pages, but for the first ones of classes; default 4096, room for 1 to 64 pages",
         ))
 }
 

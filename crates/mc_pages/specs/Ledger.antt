@@ -48,7 +48,7 @@ abbrev pub is_ordinary : Entry → Bool
 is_ordinary (Granted page class grace) = not grace
 is_ordinary entry = false
 
--- a page was granted to the class beyond the limit, as its first
+-- a page was granted to the class beyond the limit
 abbrev pub is_grace : ℕ → Entry → Bool
 is_grace class (Granted page own grace) = grace && own == class
 is_grace class entry = false

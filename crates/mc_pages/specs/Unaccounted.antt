@@ -15,28 +15,36 @@ nothing_granted = fresh_slabs one_page
 
 -- the page is owned by class 5, which isn't one of the classes
 abbrev pub page_of_no_class : SlabState
-page_of_no_class = record nothing_granted { owners = Class 5 ∷ []; ledger = Granted 0 5 false ∷ [] }
+page_of_no_class = record nothing_granted { owners = Class 5 ∷ Untouched ∷ []; ledger = Granted 0 5 false ∷ [] }
 
 -- the class's one page is on the move to the pool
 abbrev pub last_page_moves : SlabState
 last_page_moves = record nothing_granted {
   classes = record { size = 64; per_page = 1; pages = 0 ∷ []; free = record { page = 0; index = 0 } ∷ []; order = []; evictions = 0 } ∷ [];
-  owners = Moving 1 0 ∷ [];
+  owners = Moving 1 0 ∷ Untouched ∷ [];
   ledger = Granted 0 1 false ∷ Began 0 1 0 ∷ [];
   moving = Some (record { page = 0; src = 1; dst = 0; at = 0; busy = 0 });
 }
 
--- the class got its first page within the limit, and another one too
+-- two pages were granted within a limit that has room for one
 abbrev pub past_the_limit : SlabState
-past_the_limit = record nothing_granted { owners = Class 1 ∷ Class 1 ∷ []; ledger = Granted 0 1 false ∷ Granted 1 1 false ∷ [] }
+past_the_limit = record nothing_granted {
+  classes = record { size = 64; per_page = 1; pages = 0 ∷ 1 ∷ []; free = record { page = 0; index = 0 } ∷ record { page = 1; index = 0 } ∷ []; order = []; evictions = 0 } ∷ [];
+  owners = Class 1 ∷ Class 1 ∷ [];
+  ledger = Granted 0 1 false ∷ Granted 1 1 false ∷ [];
+}
 
 -- the class got two pages beyond the limit
 abbrev pub grace_twice : SlabState
-grace_twice = record nothing_granted { owners = Class 1 ∷ Class 1 ∷ []; ledger = Granted 0 1 true ∷ Granted 1 1 true ∷ [] }
+grace_twice = record nothing_granted {
+  classes = record { size = 64; per_page = 1; pages = 0 ∷ 1 ∷ []; free = record { page = 0; index = 0 } ∷ record { page = 1; index = 0 } ∷ []; order = []; evictions = 0 } ∷ [];
+  owners = Class 1 ∷ Class 1 ∷ [];
+  ledger = Granted 0 1 true ∷ Granted 1 1 true ∷ [];
+}
 
 -- the class gave away the page that it got beyond the limit
 abbrev pub grace_given_away : SlabState
-grace_given_away = record nothing_granted { owners = Pool ∷ Untouched ∷ []; ledger = Granted 0 1 true ∷ Began 0 1 0 ∷ Ended 0 0 ∷ [] }
+grace_given_away = record nothing_granted { pool = 0 ∷ []; owners = Pool ∷ Untouched ∷ []; ledger = Granted 0 1 true ∷ Began 0 1 0 ∷ Ended 0 0 ∷ [] }
 
 -- the pick of a source goes on behind class 77
 abbrev pub cursor_past_the_classes : SlabState
