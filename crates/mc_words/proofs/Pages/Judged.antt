@@ -1,7 +1,7 @@
 -- What a look along the pages says of the chunks: which were found alive, and which were noted as dead.
-use Rattle.std.proofs.Common.{◌≡◌, ℕ, true, false, List, [], ◌∷◌, ◌++◌, sym, ap, subst, ◌∙◌, inl, inr}
+use Rattle.std.proofs.Common.{◌≡◌, ◌⊎◌, ℕ, ◌<◌, ◌≤◌, Some, true, false, List, [], ◌∷◌, ◌++◌, sym, ap, subst, ◌∙◌, inl, inr, arith}
 use Rattle.std.specs.Prelude.{Contains}
-use Rattle.std.proofs.lemmas.Bool.{cases_Bool}
+use Rattle.std.proofs.lemmas.Bool.{cases_Bool, cases_eq, cases_lt}
 use Rattle.std.proofs.lemmas.List.Elements.{Contains-append_left, Contains-push, Contains-push_cases}
 use Rattle.mc_classes.specs.Classes.{Classes}
 use Rattle.mc_pages.specs.declared.ids.ChunkId.{ChunkId}
@@ -11,10 +11,36 @@ use Rattle.mc_pages.proofs.Chunks.{same_from_is_chunk}
 use Rattle.mc_core.specs.declared.head.Head.{Head}
 use Rattle.mc_core.specs.declared.look.Look.{Look}
 use Rattle.mc_core.specs.declared.look.Look.TheVariants.{Saw}
-use Rattle.mc_core.specs.Head.{is_dead}
+use Rattle.mc_core.specs.Head.{decode, is_dead}
 use Rattle.mc_core.specs.Looks.{is_found_alive}
-use Rattle.mc_words.specs.chunk.Dead.{AreHandedOut, IsJudged, IsOut, NotedChunks, Notes, ShareAnOrder}
+use Rattle.mc_words.specs.chunk.Dead.{AreHandedOut, IsJudged, IsOut, IsOutside, NotedChunks, Notes, ShareAnOrder}
+use Rattle.mc_words.specs.hand.View.{View}
+use Rattle.mc_words.specs.hand.Views.{head_seen}
+use Rattle.mc_words.proofs.Chunks.Judging.{seen_is}
 use Rattle.mc_words.proofs.Chunks.Sweeps.{chunk_alive, other_alive}
+
+-- the look that the hand has behind those that it had
+pub looks_more : (view now : View) (chunk : ChunkId) (word : ℕ) (slabs : SlabState) → view.slabs ≡ Some slabs → now ≡ head_seen chunk (decode word) view
+    → now.row.looks ≡ view.row.looks ++ Saw chunk (decode word) ∷ []
+looks_more view now chunk word slabs mine is = ap (λ (v : View). v.row.looks) is ∙ ap (λ (v : View). v.row.looks) (seen_is view chunk (decode word) slabs mine)
+
+module _ (looks : List Look) (chunk : ChunkId) (head : Head) where
+  -- a chunk that was found alive still is, where this one was found alive, or is another
+  pub alive_still : is_dead head ≡ false → (other : ChunkId) → is_found_alive looks other ≡ true → is_found_alive (looks ++ Saw chunk head ∷ []) other ≡ true
+  alive_still alive other found = elim (cases_Bool (is_chunk other chunk)) [
+    | inl same ↦ ap (is_found_alive (looks ++ Saw chunk head ∷ [])) (same_from_is_chunk other chunk same) ∙ chunk_alive looks chunk head alive
+    | inr apart ↦ other_alive looks chunk head other apart ∙ found
+  ]
+
+  -- whatever was found, the others are judged as before
+  pub other_kept : (dead : NotedChunks) (other : ChunkId) → (other ≡ chunk → ⊥) → IsJudged looks dead other → IsJudged (looks ++ Saw chunk head ∷ []) dead other
+  other_kept dead other apart judged few = elim (cases_Bool (is_chunk other chunk)) [
+    | inl same ↦ absurd (apart (same_from_is_chunk other chunk same))
+    | inr differs ↦ elim (judged few) [
+      | inl found ↦ inl (other_alive looks chunk head other differs ∙ found)
+      | inr among ↦ inr among
+    ]
+  ]
 
 module _ (looks : List Look) (chunk : ChunkId) (head : Head) (dead : NotedChunks) where
   abbrev after : List Look
@@ -68,3 +94,27 @@ pub shared_order : (table : Classes) (slabs : SlabState) (class : ℕ) (dead : N
 shared_order table slabs class dead out chunk other here there =
     let own = (out chunk here).own in
     ((out other there).own ∙ sym own, subst (λ (n : ℕ). Contains (class_at slabs n).order other) (sym own) (out other there).listed)
+
+-- a chunk is one of those of a page from one index up to another, or none of them
+pub in_or_out : (page from until : ℕ) (chunk : ChunkId) → ((chunk.page ≡ page) × (from ≤ chunk.index) × (chunk.index < until)) ⊎ IsOutside page from until chunk
+in_or_out page from until chunk = elim (cases_eq chunk.page page) [
+  | inl on ↦ elim (cases_lt chunk.index from) [
+    | inl before ↦ inr (λ on past. absurd (omega (arith, before, past)))
+    | inr past ↦ elim (cases_lt chunk.index until) [
+      | inl below ↦ inl (on, past, below)
+      | inr behind ↦ inr (λ on past. behind)
+    ]
+  ]
+  | inr off ↦ inr (λ on past. absurd (off on))
+]
+
+-- what is shown of each index is shown of a chunk of the page
+pub of_page : (Is : ChunkId → Type 0) (page : ℕ) (chunk : ChunkId) → chunk.page ≡ page → Is (record { page = page; index = chunk.index }) → Is chunk
+of_page Is page chunk on is = subst (λ (n : ℕ). Is (record { page = n; index = chunk.index })) (sym on) is
+
+-- one of them isn't outside
+pub not_outside : (page from until : ℕ) (other chunk : ChunkId) → other ≡ chunk → chunk.page ≡ page → from ≤ chunk.index → chunk.index < until → IsOutside page from until other → ⊥
+not_outside page from until other chunk same on past below outside =
+    let at = ap (λ (c : ChunkId). c.index) same in
+    let behind = outside (ap (λ (c : ChunkId). c.page) same ∙ on) (omega (arith, past, at)) in
+    omega (arith, behind, below, at)

@@ -1,5 +1,5 @@
 -- Dead chunks that looks found.
-use Rattle.std.specs.Prelude.{◌≡◌, ◌⊎◌, ℕ, Contains, Bool, false, true, List, [], ◌∷◌, ◌++◌}
+use Rattle.std.specs.Prelude.{◌≡◌, ◌⊎◌, ℕ, ◌≤◌, Contains, Bool, false, true, List, [], ◌∷◌, ◌++◌}
 use Rattle.mc_classes.specs.Classes.{Classes}
 use Rattle.mc_pages.specs.declared.ids.ChunkId.{ChunkId}
 use Rattle.mc_pages.specs.SlabState.{SlabState, class_at, class_of_chunk, class_of_page}
@@ -23,6 +23,10 @@ ShareAnOrder slabs chunks = (chunk other : ChunkId) → Contains chunks chunk �
 -- the chunk was found alive, or is one of the dead that were noted; unless more were dead than are noted
 abbrev pub IsJudged : List Look → NotedChunks → ChunkId → Type 0
 IsJudged looks dead chunk = dead.are_more ≡ false → (is_found_alive looks chunk ≡ true) ⊎ Contains dead.chunks chunk
+
+-- the chunk isn't one of those of the page from one index up to another
+abbrev pub IsOutside : ℕ → ℕ → ℕ → ChunkId → Type 0
+IsOutside page from until chunk = chunk.page ≡ page → from ≤ chunk.index → until ≤ chunk.index
 
 -- the chunk is one of the arena's, and the class handed it out
 pub record IsOut (table : Classes) (slabs : SlabState) (class : ℕ) (chunk : ChunkId) : Type 0 where

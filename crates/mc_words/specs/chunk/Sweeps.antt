@@ -1,5 +1,5 @@
 -- Sweeps: each chunk that a class handed out is looked at, and the dead ones are put back, oldest first.
-use Rattle.std.specs.Prelude.{◌≡◌, ◌⊎◌, true, false, Bool, if◌then◌else◌, List, [], ◌∷◌, Some}
+use Rattle.std.specs.Prelude.{◌≡◌, ◌⊎◌, ℕ, ◌<◌, ◌≤◌, true, false, Bool, if◌then◌else◌, List, [], ◌∷◌, Some}
 use Rattle.std.specs.List.{list_all}
 use Rattle.mc_pages.specs.declared.ids.ChunkId.{ChunkId}
 use Rattle.mc_pages.specs.Changes.{after_back}
@@ -34,6 +34,11 @@ pub record SeesHeader (view : View) (chunk : ChunkId) (now : View) : Type 0 wher
 abbrev pub SeesHeaders : List ChunkId → View → View → Type 0
 SeesHeaders [] view now = now ≡ view
 SeesHeaders (chunk ∷ chunks) view now = (next : View) × SeesHeader view chunk next × SeesHeaders chunks next now
+
+-- each chunk of the page from one index up to another was looked at, perhaps with others
+abbrev pub LooksAlong : ℕ → ℕ → ℕ → View → View → Type 0
+LooksAlong page from until view now =
+    (looked : List ChunkId) × SeesHeaders looked view now × ((index : ℕ) → from ≤ index → index < until → is_among looked (record { page = page; index = index }) ≡ true)
 
 -- the chunks stand in the order in this sequence, with or without others between
 abbrev pub follows : List ChunkId → List ChunkId → Bool

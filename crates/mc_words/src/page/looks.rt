@@ -1,16 +1,16 @@
 //! Looks along the pages of a class, on which the headers of chunks stand side by side.
 ghost use Rattle.std.specs.List.{list_all};
-ghost use Rattle.std.specs.Prelude.{◌≡◌, ℕ, ◌<◌, ◌≤◌, Contains, List, [], Some, true};
+ghost use Rattle.std.specs.Prelude.{◌≡◌, ℕ, ◌+◌, ◌<◌, ◌≤◌, Contains, List, [], Some, true};
 ghost use Rattle.mc_classes.specs.Classes.{arena_pages_of};
 ghost use Rattle.mc_pages.specs.declared.ids.ChunkId.{ChunkId};
-ghost use Rattle.mc_pages.specs.Accounted.{first_chunks};
 ghost use Rattle.mc_pages.specs.SlabState.{class_at, class_of_page};
+ghost use Rattle.mc_core.specs.Looks.{is_found_alive};
 ghost use Rattle.mc_core.specs.Silent.{is_among};
 ghost use Rattle.mc_core.specs.State.{has_chunk, is_class, most_of};
 ghost use Rattle.mc_words.specs.hand.Arenas.{IsHandOf, setup_of, view};
-ghost use Rattle.mc_words.specs.chunk.Dead.{AreHandedOut, IsJudged};
+ghost use Rattle.mc_words.specs.chunk.Dead.{AreHandedOut, IsJudged, IsOutside, NotedChunks};
 ghost use Rattle.mc_words.specs.rule.Layout.{head_word};
-ghost use Rattle.mc_words.specs.chunk.Sweeps.{SeesHeader, SeesHeaders};
+ghost use Rattle.mc_words.specs.chunk.Sweeps.{LooksAlong, SeesHeader, SeesHeaders};
 
 use crate::arena::Arena;
 use crate::chunk::dead::DeadChunks;
@@ -49,7 +49,8 @@ impl Arena {
         }
     }
 
-    // Looks at so many chunks of a page, from its first on.
+    // Looks at so many chunks of a page, from its first on. Four at a time, and once more at each of four among which one is dead: so the
+    // compiler writes out a turn's looks, and a header costs what its load and its test take.
     fn look_along(
         &self,
         hand: &mut Hand,
@@ -66,20 +67,89 @@ impl Arena {
         ensures arena { IsHandOf self.now hand.new }
         ensures locks { hand.new.locks ≡ hand.old.locks }
         ensures held { (view hand.new).slabs ≡ Some held.now.shared }
-        ensures sees { SeesHeaders (first_chunks page per_page) (view hand.old) (view hand.new) }
+        ensures sees { LooksAlong page 0 per_page (view hand.old) (view hand.new) }
         ensures out { AreHandedOut (setup_of self.now).table held.now.shared (class_of_page held.now.shared page) dead.new }
         ensures judged { (index : ℕ) → index < per_page → IsJudged (view hand.new).row.looks dead.new (record { page = page; index = index }) }
         ensures kept { (other : ChunkId) → IsJudged (view hand.old).row.looks dead.old other → IsJudged (view hand.new).row.looks dead.new other }
     {
-        let first = self.heads_of_page(page);
-        for index in 0..per_page {
-            self.judge(
-                hand,
-                held,
-                first + index as usize,
-                ChunkId { page, index },
-                dead,
-            );
+        let heads = self.heads_of_page(page);
+        let fours = per_page / 4;
+        for four in 0..fours {
+            let first = ChunkId {
+                page,
+                index: 4 * four,
+            };
+            if self.are_alive(hand, held, heads, first) {
+                continue;
+            }
+            self.look_from(hand, held, heads, first, 4, dead);
+        }
+        let first = ChunkId {
+            page,
+            index: 4 * fours,
+        };
+        self.look_from(hand, held, heads, first, per_page % 4, dead);
+    }
+
+    // Looks at four chunks of a page, from one on, as far as they are alive. Says whether all are.
+    #[inline(always)]
+    fn are_alive(&self, hand: &mut Hand, held: &SlabsHeld, heads: usize, first: ChunkId) -> bool
+        requires arena { IsHandOf self.now hand.old }
+        requires page { first.page < arena_pages_of (setup_of self.now).table }
+        requires most { first.index + 4 ≤ most_of (setup_of self.now).table }
+        requires words { (index : ℕ) → head_word (setup_of self.now) (record { page = first.page; index = index }) ≡ heads + index }
+        requires within { heads + most_of (setup_of self.now).table ≤ self.now.table.shared.table_id.words }
+        requires held { (view hand.old).slabs ≡ Some held.now.shared }
+        ensures arena { IsHandOf self.now hand.new }
+        ensures locks { hand.new.locks ≡ hand.old.locks }
+        ensures held { (view hand.new).slabs ≡ Some held.now.shared }
+        ensures sees { (looked : List ChunkId) × SeesHeaders looked (view hand.old) (view hand.new) }
+        ensures all { result ≡ true → LooksAlong first.page first.index (first.index + 4) (view hand.old) (view hand.new) }
+        ensures alive { result ≡ true → (index : ℕ) → first.index ≤ index → index < first.index + 4 → is_found_alive (view hand.new).row.looks (record { page = first.page; index = index }) ≡ true }
+        ensures kept { (dead : NotedChunks) (other : ChunkId) → IsOutside first.page first.index (first.index + 4) other → IsJudged (view hand.old).row.looks dead other → IsJudged (view hand.new).row.looks dead other }
+    {
+        for offset in 0..4 {
+            let index = first.index + offset;
+            let chunk = ChunkId { index, ..first };
+            let head = self.head_at(hand, heads + index as usize, chunk);
+            if head % ISSUE_UNIT == DEAD {
+                return false;
+            }
+        }
+        true
+    }
+
+    // Looks at so many chunks of a page, from one on, and notes the dead ones. The header of the page's first chunk stands in the word
+    // `heads`.
+    #[inline(never)]
+    fn look_from(
+        &self,
+        hand: &mut Hand,
+        held: &SlabsHeld,
+        heads: usize,
+        first: ChunkId,
+        count: u64,
+        dead: &mut DeadChunks,
+    )
+        requires arena { IsHandOf self.now hand.old }
+        requires page { first.page < arena_pages_of (setup_of self.now).table }
+        requires most { first.index + count ≤ most_of (setup_of self.now).table }
+        requires words { (index : ℕ) → head_word (setup_of self.now) (record { page = first.page; index = index }) ≡ heads + index }
+        requires within { heads + most_of (setup_of self.now).table ≤ self.now.table.shared.table_id.words }
+        requires held { (view hand.old).slabs ≡ Some held.now.shared }
+        requires out { AreHandedOut (setup_of self.now).table held.now.shared (class_of_page held.now.shared first.page) dead.old }
+        ensures arena { IsHandOf self.now hand.new }
+        ensures locks { hand.new.locks ≡ hand.old.locks }
+        ensures held { (view hand.new).slabs ≡ Some held.now.shared }
+        ensures sees { LooksAlong first.page first.index (first.index + count) (view hand.old) (view hand.new) }
+        ensures out { AreHandedOut (setup_of self.now).table held.now.shared (class_of_page held.now.shared first.page) dead.new }
+        ensures judged { (index : ℕ) → first.index ≤ index → index < first.index + count → IsJudged (view hand.new).row.looks dead.new (record { page = first.page; index = index }) }
+        ensures kept { (other : ChunkId) → IsJudged (view hand.old).row.looks dead.old other → IsJudged (view hand.new).row.looks dead.new other }
+    {
+        for offset in 0..count {
+            let index = first.index + offset;
+            let chunk = ChunkId { index, ..first };
+            self.judge(hand, held, heads + index as usize, chunk, dead);
         }
     }
 

@@ -12,14 +12,9 @@ use Rattle.mc_words.specs.chunk.Dead.{IsJudged}
 use Rattle.mc_words.specs.rule.Happens.{Happens, LawfulView}
 use Rattle.mc_words.specs.hand.View.{View, Setup}
 use Rattle.mc_words.specs.hand.Views.{head_seen}
-use Rattle.mc_words.proofs.Pages.Judged.{alive_judged, alive_kept, noted_judged, noted_kept, noted_out}
-use Rattle.mc_words.proofs.Chunks.Judging.{after_last, after_slabs, seen_is, stands_out, word_alive, word_dead}
+use Rattle.mc_words.proofs.Pages.Judged.{alive_judged, alive_kept, looks_more, noted_judged, noted_kept, noted_out}
+use Rattle.mc_words.proofs.Chunks.Judging.{after_last, after_slabs, stands_out, word_alive, word_dead}
 use Rattle.mc_words.proofs.arena.Arena.judge.Goals as goal
-
--- the look that the hand has then
-looks_more : (view now : View) (chunk : ChunkId) (word : ℕ) (slabs : SlabState) → view.slabs ≡ Some slabs → now ≡ head_seen chunk (decode word) view
-    → now.row.looks ≡ view.row.looks ++ Saw chunk (decode word) ∷ []
-looks_more view now chunk word slabs mine is = ap (λ (v : View). v.row.looks) is ∙ ap (λ (v : View). v.row.looks) (seen_is view chunk (decode word) slabs mine)
 
 -- where the dead chunk stands
 module _ (view seen : View) (was : LawfulView seen) (slabs : SlabState) (mine : view.slabs ≡ Some slabs) (chunk : ChunkId) (word : ℕ) (near : has_chunk seen.setup.table chunk ≡ true) (dead : is_dead (decode word) ≡ true) (is : seen ≡ head_seen chunk (decode word) view) (looks : Happens view [] (core.Head chunk) seen) where

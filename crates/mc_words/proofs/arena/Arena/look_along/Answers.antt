@@ -1,45 +1,94 @@
-use Rattle.std.proofs.Common.{◌∙◌, ℕ, List, sym, subst, inl, inr, arith, lt-ltb}
-use Rattle.std.proofs.lemmas.Bool.{and_from, cases_eq}
-use Rattle.mc_classes.specs.Classes.{arena_pages_of}
+use Rattle.std.proofs.Common.{◌∙◌, ℕ, ◌+◌, ◌*◌, ◌/◌, ◌%◌, subst, inl, inr, arith}
+use Rattle.std.proofs.Math.Nat.{div-add-mod}
+use Rattle.std.proofs.lemmas.Bool.{cases_lt}
 use Rattle.mc_pages.specs.declared.ids.ChunkId.{ChunkId}
 use Rattle.mc_pages.proofs.Cuts.{chunk_at}
-use Rattle.mc_core.specs.State.{most_of}
-use Rattle.mc_words.specs.hand.Arenas.{setup_of}
+use Rattle.mc_words.specs.hand.Arenas.{view}
 use Rattle.mc_words.specs.chunk.Dead.{IsJudged}
-use Rattle.mc_words.specs.chunk.Sweeps.{SeesHeaders}
-use Rattle.mc_words.proofs.Pages.LookedOver.{sees_more}
-use Rattle.mc_words.proofs.Pages.WholeCuts.{first_more}
+use Rattle.mc_words.specs.chunk.Sweeps.{LooksAlong}
+use Rattle.mc_words.proofs.Pages.Judged.{in_or_out, of_page}
+use Rattle.mc_words.proofs.Pages.LookedOver.{looks_behind, looks_fewer, looks_further}
 use Rattle.mc_words.proofs.arena.Arena.look_along.Goals as goal
 
-pub judge-requires-clause-near : goal.judge-requires-clause-near
-judge-requires-clause-near c =
-    let table = (setup_of c.args.self.now).table in
-    let page = c.requires.page in
-    let most = c.requires.most in
-    let below = c.loop-index-test.true in
-    and_from _ _ (lt-ltb c.args.page (arena_pages_of table) page) (lt-ltb c.loop-index.index (most_of table) (omega arith))
-
-pub loop-index-preserved : goal.loop-index-preserved
-loop-index-preserved c =
-    let inv = c.loop-index.invariant in
-    let index = c.loop-index.index in
-    let chunk = chunk_at c.args.page index in
-    let now = c.loop-index.hand.seat.me.0 in
-    let next = c.judge.new.hand.seat.me.0 in record {
-      arena = c.judge.ensures.arena;
-      locks = c.judge.ensures.locks ∙ inv.locks;
-      held = c.judge.ensures.held;
-      out = c.judge.ensures.out;
-      sees = subst (λ (cs : List ChunkId). SeesHeaders cs c.args.hand.now.seat.me.0 next) (sym (first_more c.args.page index)) (sees_more (Rattle.mc_pages.specs.Accounted.first_chunks c.args.page index) chunk c.args.hand.now.seat.me.0 now next inv.sees c.judge.ensures.sees);
-      judged = λ other below. elim (cases_eq other index) [
-        | inl same ↦ subst (λ (n : ℕ). IsJudged next.row.looks c.judge.new.dead (record { page = c.args.page; index = n })) (sym same) c.judge.ensures.judged
-        | inr apart ↦ c.judge.ensures.kept (record { page = c.args.page; index = other }) (inv.judged other (omega (arith, below, apart)))
+-- all four are alive
+pub loop-four-preserved-then-are_alive : goal.loop-four-preserved-then-are_alive
+loop-four-preserved-then-are_alive c =
+    let inv = c.loop-four.invariant in
+    let four = c.loop-four.four in
+    let first = c.are_alive.ensures in
+    let is = c.if-are_alive.true in
+    let page = c.args.page in
+    let dead = c.loop-four.dead in
+    let start = view c.args.hand.now in
+    let was = view c.loop-four.hand in
+    let now = view c.are_alive.new.hand in record {
+      arena = first.arena;
+      locks = first.locks ∙ inv.locks;
+      held = first.held;
+      out = inv.out;
+      sees = subst (λ (n : ℕ). LooksAlong page 0 n start now) (omega arith) (looks_further page 0 (4 * four) (4 * four + 4) start was now inv.sees (first.all is));
+      judged = λ index below. elim (cases_lt index (4 * four)) [
+        | inl before ↦ first.kept dead (chunk_at page index) (λ on past. absurd (omega (arith, before, past))) (inv.judged index before)
+        | inr past ↦ λ few. inl (first.alive is index past (omega (arith, below)))
       ];
-      kept = λ other judged. c.judge.ensures.kept other (inv.kept other judged);
+      kept = λ other judged. elim (in_or_out page (4 * four) (4 * four + 4) other) [
+        | inl inside ↦ of_page (IsJudged now.row.looks dead) page other inside.0 (λ few. inl (first.alive is other.index inside.1 inside.2))
+        | inr outside ↦ first.kept dead other outside (inv.kept other judged)
+      ];
     }
 
-pub returns-clause-judged : goal.returns-clause-judged
-returns-clause-judged c index below = let past = c.loop-index-test.false in c.loop-index.invariant.judged index (omega (arith, below, past))
+-- one is dead
+pub loop-four-preserved : goal.loop-four-preserved
+loop-four-preserved c =
+    let inv = c.loop-four.invariant in
+    let four = c.loop-four.four in
+    let first = c.are_alive.ensures in
+    let again = c.look_from.ensures in
+    let page = c.args.page in
+    let dead = c.loop-four.dead in
+    let start = view c.args.hand.now in
+    let was = view c.loop-four.hand in
+    let then = view c.are_alive.new.hand in
+    let now = view c.look_from.new.hand in
+    let (looked, sees) = first.sees in record {
+      arena = again.arena;
+      locks = again.locks ∙ (first.locks ∙ inv.locks);
+      held = again.held;
+      out = again.out;
+      sees = subst (λ (n : ℕ). LooksAlong page 0 n start now) (omega arith) (looks_further page 0 (4 * four) (4 * four + 4) start was now inv.sees
+          (looks_behind page (4 * four) (4 * four + 4) looked was then now sees again.sees));
+      judged = λ index below. elim (cases_lt index (4 * four)) [
+        | inl before ↦ again.kept (chunk_at page index) (first.kept dead (chunk_at page index) (λ on past. absurd (omega (arith, before, past))) (inv.judged index before))
+        | inr past ↦ again.judged index past (omega (arith, below))
+      ];
+      kept = λ other judged. elim (in_or_out page (4 * four) (4 * four + 4) other) [
+        | inl inside ↦ of_page (IsJudged now.row.looks c.look_from.new.dead) page other inside.0 (again.judged other.index inside.1 inside.2)
+        | inr outside ↦ again.kept other (first.kept dead other outside (inv.kept other judged))
+      ];
+    }
 
-pub judge-requires-clause-word : goal.judge-requires-clause-word
-judge-requires-clause-word c = sym (c.heads_of_page-first.ensures.words c.loop-index.index)
+pub returns-clause-sees : goal.returns-clause-sees
+returns-clause-sees c =
+    let inv = c.loop-four.invariant in
+    let end = c.loop-four-test.false in
+    let page = c.args.page in
+    let fours = c.args.per_page / 4 in
+    let start = view c.args.hand.now in
+    let was = view c.loop-four.hand in
+    let now = view c.look_from-2.new.hand in
+    subst (λ (n : ℕ). LooksAlong page 0 n start now) (div-add-mod c.args.per_page 4)
+    (looks_further page 0 (4 * fours) (4 * fours + c.args.per_page % 4) start was now
+    (looks_fewer page 0 (4 * c.loop-four.four) (4 * fours) start was (omega (arith, end)) inv.sees) c.look_from-2.ensures.sees)
+
+pub returns-clause-judged : goal.returns-clause-judged
+returns-clause-judged c index below =
+    let last = c.look_from-2.ensures in
+    let end = c.loop-four-test.false in
+    let whole = div-add-mod c.args.per_page 4 in
+    elim (cases_lt index (4 * (c.args.per_page / 4))) [
+      | inl before ↦ last.kept (record { page = c.args.page; index = index }) (c.loop-four.invariant.judged index (omega (arith, before, end)))
+      | inr past ↦ last.judged index past (omega (arith, below, whole))
+    ]
+
+pub returns-clause-kept : goal.returns-clause-kept
+returns-clause-kept c other judged = c.look_from-2.ensures.kept other (c.loop-four.invariant.kept other judged)

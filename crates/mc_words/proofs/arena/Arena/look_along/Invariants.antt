@@ -1,20 +1,19 @@
-use Rattle.std.proofs.Common.{◌≡◌, ℕ, ◌<◌, Some}
+use Rattle.std.proofs.Common.{◌≡◌, ℕ, ◌*◌, ◌<◌, Some}
 use Rattle.mc_pages.specs.declared.ids.ChunkId.{ChunkId}
-use Rattle.mc_pages.specs.Accounted.{first_chunks}
 use Rattle.mc_pages.specs.SlabState.{class_of_page}
 use Rattle.mc_words.specs.hand.Arenas.{IsHandOf, setup_of, view}
 use Rattle.mc_words.specs.chunk.Dead.{AreHandedOut, IsJudged}
-use Rattle.mc_words.specs.chunk.Sweeps.{SeesHeaders}
+use Rattle.mc_words.specs.chunk.Sweeps.{LooksAlong}
 use Rattle.mc_words.proofs.arena.Arena.look_along.Given as goal
 
--- the chunks below were looked at and judged, and those that were judged before still are
-abbrev pub invariant-loop-index : goal.invariant-loop-index
-invariant-loop-index l = record {
+-- the fours below were looked at and judged, and the chunks that were judged before still are
+abbrev pub invariant-loop-four : goal.invariant-loop-four
+invariant-loop-four l = record {
   arena : IsHandOf l.self l.hand;
   locks : l.hand.locks ≡ l.fn.hand.locks;
   held : (view l.hand).slabs ≡ Some l.held.shared;
   out : AreHandedOut (setup_of l.self).table l.held.shared (class_of_page l.held.shared l.page) l.dead;
-  sees : SeesHeaders (first_chunks l.page l.index) (view l.fn.hand) (view l.hand);
-  judged : (index : ℕ) → index < l.index → IsJudged (view l.hand).row.looks l.dead (record { page = l.page; index = index });
+  sees : LooksAlong l.page 0 (4 * l.four) (view l.fn.hand) (view l.hand);
+  judged : (index : ℕ) → index < 4 * l.four → IsJudged (view l.hand).row.looks l.dead (record { page = l.page; index = index });
   kept : (other : ChunkId) → IsJudged (view l.fn.hand).row.looks l.fn.dead other → IsJudged (view l.hand).row.looks l.dead other;
 }

@@ -3,7 +3,6 @@ use Rattle.std.specs.Prelude.{Contains}
 use Rattle.std.proofs.lemmas.Bool.{and_parts, cases_eq}
 use Rattle.mc_classes.specs.Classes.{arena_pages_of}
 use Rattle.mc_pages.specs.declared.ids.ChunkId.{ChunkId}
-use Rattle.mc_pages.specs.Accounted.{first_chunks}
 use Rattle.mc_pages.specs.SlabState.{SlabState, class_at, class_of_owner, class_of_page}
 use Rattle.mc_core.specs.Silent.{is_among}
 use Rattle.mc_core.specs.State.{is_class, most_of}
@@ -11,7 +10,8 @@ use Rattle.mc_words.specs.hand.Arenas.{setup_of}
 use Rattle.mc_words.specs.chunk.Dead.{AreHandedOut, IsJudged}
 use Rattle.mc_words.specs.hand.View.{Setup, View}
 use Rattle.mc_words.specs.rule.Happens.{LawfulView}
-use Rattle.mc_words.proofs.Pages.LookedOver.{all_pass, among_before, among_behind, first_among, sees_both}
+use Rattle.mc_words.proofs.Pages.Judged.{of_page}
+use Rattle.mc_words.proofs.Pages.LookedOver.{all_pass, among_before, among_behind, sees_both}
 use Rattle.mc_words.proofs.Chunks.SweepViews.{StandsOut, chunks_at_most, own_page, stands_out}
 use Rattle.mc_words.proofs.arena.Arena.look_over.Goals as goal
 
@@ -41,6 +41,7 @@ loop-page-preserved c =
     let now = c.loop-page.hand.seat.me.0 in
     let next = c.look_along.new.hand.seat.me.0 in
     let along = c.look_along.ensures in
+    let (more, sees, among) = along.sees in
     let per_page = c.per_page-per_page.result in
     let chunks : per_page ≡ (class_at slabs c.args.class).per_page = c.per_page-per_page.ensures.chunks ∙ ap (λ (s : SlabState). (class_at s c.args.class).per_page) c.slabs.ensures.slabs in
     let own = own_page c.args.class page c.class.result slabs c.slabs-in-loop-page.result.now.state c.slabs-in-loop-page.ensures.slabs c.if-class.false (c.class.ensures ∙ ap class_of_owner c.owner.ensures.owner) in record {
@@ -48,17 +49,17 @@ loop-page-preserved c =
       locks = along.locks ∙ inv.locks;
       held = along.held;
       out = subst (λ (n : ℕ). AreHandedOut (setup_of c.args.self.now).table slabs n c.look_along.new.dead) own along.out;
-      looked = inv.looked ++ first_chunks page per_page;
-      sees = sees_both inv.looked (first_chunks page per_page) c.args.hand.now.seat.me.0 now next inv.sees along.sees;
+      looked = inv.looked ++ more;
+      sees = sees_both inv.looked more c.args.hand.now.seat.me.0 now next inv.sees sees;
       judged = λ chunk of below within. elim (cases_eq chunk.page page) [
         | inl same ↦
             let within' : chunk.index < per_page = subst (λ (n : ℕ). chunk.index < n) (sym chunks) within in (
-              among_behind inv.looked (first_chunks page per_page) chunk (first_among page per_page chunk same within'),
+              among_behind inv.looked more chunk (of_page (λ c. is_among more c ≡ true) page chunk same (among chunk.index (omega arith) within')),
               subst (λ (n : ℕ). IsJudged next.row.looks c.look_along.new.dead (record { page = n; index = chunk.index })) (sym same) (along.judged chunk.index within'),
             )
         | inr apart ↦
             let before = inv.judged chunk of (omega (arith, below, apart)) within in (
-              among_before inv.looked (first_chunks page per_page) chunk before.0,
+              among_before inv.looked more chunk before.0,
               along.kept chunk before.1,
             )
       ];
