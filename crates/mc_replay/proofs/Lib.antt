@@ -1,3 +1,4 @@
 mod Fronts
+mod Keys
 mod Played
 mod Ranges

@@ -6,7 +6,7 @@ use Rattle.mc_pages.specs.declared.moves.Found.{Found}
 use Rattle.mc_pages.specs.declared.moves.Found.TheVariants as found
 use Rattle.mc_core.specs.declared.event.Change.{Change}
 use Rattle.mc_core.specs.declared.event.Change.TheVariants as change
-use Rattle.mc_core.specs.declared.event.StripeChange.TheVariants.{Reserve}
+use Rattle.mc_core.specs.declared.event.StripeChange.TheVariants.{Reserve, Trim}
 use Rattle.mc_core.specs.Rows.{chunk_at}
 use Rattle.mc_script.specs.Words.{◌>>=◌, number_of, words_of}
 use Rattle.mc_script.specs.Forms.{source_of}
@@ -36,6 +36,7 @@ number_change name number =
     else if bytes_eq name (codes "SetAutomove") then Some (change.SetAutomove number)
     else if bytes_eq name (codes "Evicted") then Some (change.Evicted number)
     else if bytes_eq name (codes "Reserve") then Some (change.OfStripe number Reserve)
+    else if bytes_eq name (codes "Trim") then Some (change.OfStripe number Trim)
     else if bytes_eq name (codes "GotNone") then Some (change.GotNone number)
     else if bytes_eq name (codes "DelNone") then Some (change.DeletedNone number)
     else None

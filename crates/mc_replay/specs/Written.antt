@@ -1,5 +1,5 @@
 -- The lines that are written.
-use Rattle.std.specs.Prelude.{◌≡◌, ℕ, ◌+◌, ◌++◌, ◌==◌, true, false, if◌then◌else◌, List, [], ◌∷◌, length, codes, decimal, flat_map, slice_get, Bool, Option, Some, None, Result, Ok, Err}
+use Rattle.std.specs.Prelude.{◌≡◌, ℕ, ◌+◌, ◌-◌, ◌^◌, ◌++◌, ◌==◌, true, false, if◌then◌else◌, List, [], ◌∷◌, length, codes, decimal, flat_map, is_some, map, min, slice_get, Bool, Option, Some, None, Result, Ok, Err}
 use Rattle.std.specs.BTreeSet.{insert_key}
 use Rattle.std.specs.Ordering.{nat_cmp}
 use Rattle.mc_classes.specs.Classes.{Classes, IsTableOf, arena_pages_of}
@@ -14,7 +14,7 @@ use Rattle.mc_pages.specs.Ledger.{owner_at}
 use Rattle.mc_pages.specs.SlabState.{SlabState, class_at, totals_of}
 use Rattle.mc_stripe.specs.declared.history.Call.{Call}
 use Rattle.mc_stripe.specs.declared.history.Call.TheVariants as call
-use Rattle.mc_stripe.specs.StripeState.{StripeState, place_of, tail_of}
+use Rattle.mc_stripe.specs.StripeState.{StripeState, base_of, place_of, tail_of, trimmed_of}
 use Rattle.mc_core.specs.Head.{code}
 use Rattle.mc_core.specs.declared.event.Event.{Event}
 use Rattle.mc_core.specs.Run.{play}
@@ -158,9 +158,19 @@ with_stored keys (call.Rescue hand key ∷ calls) = with_stored keys calls
 abbrev pub keys_text : ℕ → StripeState → List ℕ → List ℕ
 keys_text number stripe keys = flat_map (λ key. key_line number key (place_of stripe key)) keys
 
--- what stands behind the lock of the stripe of this number
+-- the keys that those calls left which aren't recorded, by rising key; of a stripe that records none they aren't told
+abbrev pub left_keys : StripeState → List ℕ
+left_keys stripe = if is_some stripe.recorded_from then map (λ entry. entry.0) (base_of stripe) else []
+
+-- the line that says how many calls aren't recorded, none where all are
+abbrev pub trimmed_line : ℕ → ℕ → List ℕ
+trimmed_line number count = if count == 0 then [] else codes "trimmed " ++ decimal number ++ codes " " ++ decimal count ++ codes "\n"
+
+-- what stands behind the lock of the stripe of this number: where its keys lead, how many calls aren't recorded, and those that are
 abbrev pub stripe_text : ℕ → StripeState → List ℕ
-stripe_text number stripe = keys_text number stripe (with_stored [] (tail_of stripe)) ++ flat_map (call_line number) (tail_of stripe)
+stripe_text number stripe =
+    (keys_text number stripe (with_stored (left_keys stripe) (tail_of stripe)) ++ trimmed_line number (min (trimmed_of stripe) (2 ^ 64 - 1)))
+    ++ flat_map (call_line number) (tail_of stripe)
 
 -- what stands behind the slabs lock, if nobody has it
 abbrev pub free_slabs_text : State → List ℕ

@@ -9,6 +9,7 @@
 //! moving PAGE SRC DST at INDEX busy COUNT            where a page moves
 //! totals pool COUNT moved COUNT rescues COUNT nomem COUNT busy COUNT automove MODE
 //! index STRIPE KEY PAGE INDEX STAMP                  by rising key
+//! trimmed STRIPE COUNT                               where it isn't 0: so many calls stand before those that follow
 //! history STRIPE Set HAND KEY STAMP | Get HAND KEY STAMP-or-none | Delete HAND KEY WAS-THERE | Evict HAND KEY | Rescue HAND KEY
 //! end
 //! ```

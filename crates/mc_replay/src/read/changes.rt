@@ -95,6 +95,7 @@ fn number_change(name: &[u8], number: u64) -> Option<Change>
         _ if is(name, b"SetAutomove") => Some(Change::SetAutomove(number)),
         _ if is(name, b"Evicted") => Some(Change::Evicted(number)),
         _ if is(name, b"Reserve") => Some(Change::OfStripe(number, StripeChange::Reserve)),
+        _ if is(name, b"Trim") => Some(Change::OfStripe(number, StripeChange::Trim)),
         _ if is(name, b"GotNone") => Some(Change::GotNone(number)),
         _ if is(name, b"DelNone") => Some(Change::DeletedNone(number)),
         _ => None,

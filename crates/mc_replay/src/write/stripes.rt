@@ -1,13 +1,15 @@
 //! What stands behind the lock of a stripe.
-ghost use Rattle.std.specs.Prelude.{◌≡◌, ◌++◌, [], flat_map, IfOk, OnOk, string_bytes};
-ghost use Rattle.mc_replay.specs.Written.{call_line, call_text, key_line, keys_text, stripe_text, with_stored};
+ghost use Rattle.std.specs.Prelude.{◌≡◌, ◌++◌, [], flat_map, map, IfOk, OnOk, string_bytes};
+ghost use Rattle.mc_stripe.specs.Entries.{by_key};
+ghost use Rattle.mc_stripe.specs.StripeState.{tail_of};
+ghost use Rattle.mc_replay.specs.Written.{call_line, call_text, key_line, keys_text, left_keys, stripe_text, trimmed_line, with_stored};
 
 use mc_pages::ChunkId;
 use mc_stripe::{Call, Key, Stamp, Stripe};
 use std::alloc::{AllocError, Global};
 use std::collections::BTreeSet;
 
-/// The index of a stripe, by rising key, and its history.
+/// The index of a stripe, by rising key, how many of its calls were trimmed, and its history behind them.
 pub(super) fn stripe(
     alloc: Global,
     text: &mut String,
@@ -16,31 +18,46 @@ pub(super) fn stripe(
 ) -> Result<(), AllocError>
     ensures { OnOk result (string_bytes text.new ≡ string_bytes text.old ++ stripe_text number stripe.now.state) }
 {
-    // Each key of the index was stored once, as the history is legal.
-    let keys = stored_keys(alloc, stripe.history())?;
+    // Each key of the index was stored once, as the history is legal: by a call that is recorded, or by one of those that left the base.
+    let keys = stored_keys(alloc, stripe)?;
     places(text, number, stripe, &keys)?;
+    trimmed_line(text, number, stripe.trimmed())?;
     history(text, number, stripe.history())
 }
 
-/// The keys under which something was stored, by rising key.
-fn stored_keys(alloc: Global, history: &[Call]) -> Result<Vec<Key>, AllocError>
-    ensures { IfOk result (λ keys. keys.items ≡ with_stored [] history.now) }
+/// The keys that trimmed calls left and those under which something was stored since, by rising key.
+fn stored_keys(alloc: Global, stripe: &Stripe) -> Result<Vec<Key>, AllocError>
+    ensures { IfOk result (λ keys. keys.items ≡ with_stored (left_keys stripe.now.state) (tail_of stripe.now.state)) }
 {
-    let keys = stored(alloc, history)?;
+    let mut keys = BTreeSet::new(alloc);
+    add_left(&mut keys, stripe.base().unwrap_or(&[]))?;
+    add_stored(&mut keys, stripe.history())?;
     keys.iter().copied().collect(alloc)
 }
 
-/// The same, as a set.
-fn stored(alloc: Global, history: &[Call]) -> Result<BTreeSet<Key>, AllocError>
-    ensures { IfOk result (λ keys. keys.keys ≡ with_stored [] history.now) }
+/// Adds the keys of these entries to none, from the last on.
+fn add_left(keys: &mut BTreeSet<Key>, base: &[(Key, Stamp)]) -> Result<(), AllocError>
+    requires none { keys.old.keys ≡ [] }
+    ensures { OnOk result (keys.new.keys ≡ map (λ entry. entry.0) (by_key base.now)) }
 {
-    let mut keys = BTreeSet::new(alloc);
+    let mut place = base.len();
+    while place > 0 {
+        place -= 1;
+        keys.insert(base[place].0)?;
+    }
+    Ok(())
+}
+
+/// Adds the keys under which something was stored.
+fn add_stored(keys: &mut BTreeSet<Key>, history: &[Call]) -> Result<(), AllocError>
+    ensures { OnOk result (keys.new.keys ≡ with_stored keys.old.keys history.now) }
+{
     for call in history {
         if let Call::Set(_, key, _) = *call {
             keys.insert(key)?;
         }
     }
-    Ok(keys)
+    Ok(())
 }
 
 /// Where these keys lead.
@@ -67,6 +84,16 @@ fn place(
     };
     write!(text, "index {number} {key}")?;
     writeln!(text, " {page} {index} {stamp}")
+}
+
+/// How many calls of a stripe were trimmed, where some were.
+fn trimmed_line(text: &mut String, number: u64, count: u64) -> Result<(), AllocError>
+    ensures { OnOk result (string_bytes text.new ≡ string_bytes text.old ++ trimmed_line number count) }
+{
+    if count == 0 {
+        return Ok(());
+    }
+    writeln!(text, "trimmed {number} {count}")
 }
 
 /// The calls on the keys of a stripe.

@@ -1,7 +1,0 @@
-use Rattle.std.proofs.Common.{◌≡◌, [], drop}
-use Rattle.mc_replay.specs.Written.{with_stored}
-use Rattle.mc_replay.proofs.write.stripes.stored.Given as goal
-
--- the keys so far, with those of the calls that are left
-abbrev pub invariant-loop-call : goal.invariant-loop-call
-invariant-loop-call l = with_stored l.keys.keys (drop l.call-index l.history) ≡ with_stored [] l.history
