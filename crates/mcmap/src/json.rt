@@ -144,20 +144,22 @@ fn ledger_value(alloc: Global, ledger: &[Entry]) -> Result<Value, AllocError> {
 /// How a page changed hands: what was done to it, and with which classes, of which 0 is the pool.
 fn entry_value(alloc: Global, entry: Entry) -> Result<Value, AllocError> {
     match entry {
-        Entry::Granted(page, class, grace) => named(
-            alloc,
-            &[
-                ("granted", page),
-                ("class", class),
-                ("grace", u64::from(grace)),
-            ],
-        ),
+        Entry::Granted(page, class, grace) => granted_value(alloc, page, class, grace),
         Entry::Taken(page, class) => named(alloc, &[("taken", page), ("class", class)]),
         Entry::Began(page, src, dst) => {
             named(alloc, &[("began", page), ("src", src), ("dst", dst)])
         }
         Entry::Ended(page, dst) => named(alloc, &[("ended", page), ("dst", dst)]),
     }
+}
+
+/// An untouched page that was given to a class, and whether that was beyond the limit.
+fn granted_value(alloc: Global, page: u64, class: u64, grace: bool) -> Result<Value, AllocError> {
+    let mut object = Object::new(alloc);
+    put(&mut object, alloc, "granted", Value::from(page))?;
+    put(&mut object, alloc, "class", Value::from(class))?;
+    put(&mut object, alloc, "grace", Value::from(grace))?;
+    Ok(Value::Object(object))
 }
 
 /// The page on the move, or null.
