@@ -101,6 +101,10 @@ word_alive word isnt = elim (cases_Bool (is_dead (decode word))) [
   | inr alive ↦ alive
 ]
 
+-- the lowest bit of the tag tells that the chunk is linked or free, and not dead
+pub odd_alive : (word : ℕ) → word / 65536 % 2 ≡ 1 → is_dead (decode word) ≡ false
+odd_alive word odd = word_alive word (λ is. omega (arith, odd, is))
+
 -- the next free chunk of a class was handed out
 module _ (view now : View) (slabs : SlabState) (mine : view.slabs ≡ Some slabs) (class : ℕ) (chunk : ChunkId) (head : Head) (is : is_class view.setup.table class ≡ true) (first : first_free (class_at slabs class) ≡ Some chunk) where
   module _ (was : LawfulView view) where

@@ -1,7 +1,8 @@
 -- What a look along the pages says of the chunks: which were found alive, and which were noted as dead.
-use Rattle.std.proofs.Common.{◌≡◌, ◌⊎◌, ℕ, ◌<◌, ◌≤◌, Some, true, false, List, [], ◌∷◌, ◌++◌, sym, ap, subst, ◌∙◌, inl, inr, arith}
+use Rattle.std.proofs.Common.{◌≡◌, ◌⊎◌, ℕ, ◌/◌, ◌%◌, ◌<◌, ◌≤◌, bit_and, min, Some, true, false, List, [], ◌∷◌, ◌++◌, sym, ap, subst, ◌∙◌, inl, inr, arith}
 use Rattle.std.specs.Prelude.{Contains}
 use Rattle.std.proofs.lemmas.Bool.{cases_Bool, cases_eq, cases_lt}
+use Rattle.std.proofs.lemmas.Nat.Bits.{bit_at_and}
 use Rattle.std.proofs.lemmas.List.Elements.{Contains-append_left, Contains-push, Contains-push_cases}
 use Rattle.mc_classes.specs.Classes.{Classes}
 use Rattle.mc_pages.specs.declared.ids.ChunkId.{ChunkId}
@@ -118,3 +119,10 @@ not_outside page from until other chunk same on past below outside =
     let at = ap (λ (c : ChunkId). c.index) same in
     let behind = outside (ap (λ (c : ChunkId). c.page) same ∙ on) (omega (arith, past, at)) in
     omega (arith, behind, below, at)
+
+-- a bit that two words have in common each of them has
+both_one : (a b : ℕ) → a < 2 → b < 2 → min a b ≡ 1 → (a ≡ 1) × (b ≡ 1)
+both_one a b low few least = (omega (arith, low, few, least), omega (arith, low, few, least))
+
+pub both_odd : (one other : ℕ) → bit_and one other / 65536 % 2 ≡ 1 → (one / 65536 % 2 ≡ 1) × (other / 65536 % 2 ≡ 1)
+both_odd one other odd = both_one (one / 65536 % 2) (other / 65536 % 2) (omega arith) (omega arith) (sym (bit_at_and one other 16) ∙ odd)

@@ -10,23 +10,23 @@ use Rattle.mc_words.proofs.Pages.Judged.{in_or_out, of_page}
 use Rattle.mc_words.proofs.Pages.LookedOver.{looks_behind, looks_fewer, looks_further}
 use Rattle.mc_words.proofs.arena.Arena.look_along.Goals as goal
 
--- all four are alive
-pub loop-four-preserved-then-are_alive : goal.loop-four-preserved-then-are_alive
-loop-four-preserved-then-are_alive c =
+-- all four are linked or free
+pub loop-four-preserved-then-are_linked_or_free : goal.loop-four-preserved-then-are_linked_or_free
+loop-four-preserved-then-are_linked_or_free c =
     let inv = c.loop-four.invariant in
     let four = c.loop-four.four in
-    let first = c.are_alive.ensures in
-    let is = c.if-are_alive.true in
+    let first = c.are_linked_or_free.ensures in
+    let is = c.if-are_linked_or_free.true in
     let page = c.args.page in
     let dead = c.loop-four.dead in
     let start = view c.args.hand.now in
     let was = view c.loop-four.hand in
-    let now = view c.are_alive.new.hand in record {
+    let now = view c.are_linked_or_free.new.hand in record {
       arena = first.arena;
       locks = first.locks ∙ inv.locks;
       held = first.held;
       out = inv.out;
-      sees = subst (λ (n : ℕ). LooksAlong page 0 n start now) (omega arith) (looks_further page 0 (4 * four) (4 * four + 4) start was now inv.sees (first.all is));
+      sees = subst (λ (n : ℕ). LooksAlong page 0 n start now) (omega arith) (looks_further page 0 (4 * four) (4 * four + 4) start was now inv.sees first.sees);
       judged = λ index below. elim (cases_lt index (4 * four)) [
         | inl before ↦ first.kept dead (chunk_at page index) (λ on past. absurd (omega (arith, before, past))) (inv.judged index before)
         | inr past ↦ λ few. inl (first.alive is index past (omega (arith, below)))
@@ -37,20 +37,20 @@ loop-four-preserved-then-are_alive c =
       ];
     }
 
--- one is dead
+-- one may be dead
 pub loop-four-preserved : goal.loop-four-preserved
 loop-four-preserved c =
     let inv = c.loop-four.invariant in
     let four = c.loop-four.four in
-    let first = c.are_alive.ensures in
+    let first = c.are_linked_or_free.ensures in
     let again = c.look_from.ensures in
     let page = c.args.page in
     let dead = c.loop-four.dead in
     let start = view c.args.hand.now in
     let was = view c.loop-four.hand in
-    let then = view c.are_alive.new.hand in
+    let then = view c.are_linked_or_free.new.hand in
     let now = view c.look_from.new.hand in
-    let (looked, sees) = first.sees in record {
+    let (looked, sees, among) = first.sees in record {
       arena = again.arena;
       locks = again.locks ∙ (first.locks ∙ inv.locks);
       held = again.held;
