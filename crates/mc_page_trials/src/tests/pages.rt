@@ -3,10 +3,11 @@ mod driven;
 mod plain;
 mod shared;
 
-use super::{FOUR_CLASSES, assert_equal, assert_same};
+use super::{assert_equal, assert_same};
 use driven::Driven;
 use mc_classes::{ClassId, ClassTable, Config, PageId};
 use mc_pages::{ChunkId, Entry, Found, Grow, Numbers, Owner, Reassign, Totals};
+use mc_trial_values::{Drawn, FOUR_CLASSES};
 use plain::{Plain, PlainClass};
 use std::alloc::Global;
 use std::process::Abort;
@@ -301,20 +302,6 @@ fn a_class_without_pages_gets_its_first_beyond_the_limit(rt: HostRuntime) -> Res
     Ok(())
 }
 
-/// A small linear congruential generator.
-#[derive(Drop)]
-struct Random(u64);
-
-impl Random {
-    fn next(&mut self) -> u64 {
-        self.0 = self
-            .0
-            .wrapping_mul(6_364_136_223_846_793_005)
-            .wrapping_add(1_442_695_040_888_963_407);
-        self.0 >> 33
-    }
-}
-
 /// Both have the same lists.
 fn assert_same_class(rt: &impl Abort, all: &Driven, own: &PlainClass, class: ClassId) {
     let want = Numbers {
@@ -426,8 +413,8 @@ fn cut_all(all: &mut Driven) {
 }
 
 /// What the mover may find.
-fn found(random: &mut Random) -> Found {
-    match random.next() % 16 {
+fn found(drawn: &mut Drawn) -> Found {
+    match drawn.next() % 16 {
         0 => Found::Busy,
         1 => Found::Locked,
         2..=5 => Found::Rescued,
@@ -437,17 +424,17 @@ fn found(random: &mut Random) -> Found {
     }
 }
 
-/// One random call of both on the chunks of a class.
+/// One drawn call of both on the chunks of a class.
 fn assert_chunk_call(
     rt: &impl Abort,
     all: &mut Driven,
     plain: &mut Plain,
-    random: &mut Random,
+    drawn: &mut Drawn,
 ) -> Result<(), Fail> {
-    let class = random.next() % 4 + 1;
-    let place = random.next() % 32;
-    let free = random.next() % 8;
-    match random.next() % 16 {
+    let class = drawn.next() % 4 + 1;
+    let place = drawn.next() % 32;
+    let free = drawn.next() % 8;
+    match drawn.next() % 16 {
         0..=6 => assert_equal(rt, all.pop(class), plain.pop(class)?, "pop"),
         7..=10 => assert_equal(
             rt,
@@ -472,26 +459,26 @@ fn assert_chunk_call(
     Ok(())
 }
 
-/// One random call of both on the pages of a class.
+/// One drawn call of both on the pages of a class.
 fn assert_page_call(
     rt: &impl Abort,
     all: &mut Driven,
     plain: &mut Plain,
-    random: &mut Random,
+    drawn: &mut Drawn,
 ) -> Result<(), Fail> {
-    let class = random.next() % 4 + 1;
-    match random.next() % 16 {
+    let class = drawn.next() % 4 + 1;
+    match drawn.next() % 16 {
         0..=2 => {
             let want = plain.grow(class)?.ok_or(Grow::NoRoom);
             assert_equal(rt, all.grow(class), Some(want), "grow");
             cut_all(all);
         }
         3 | 4 => {
-            let src = match random.next() % 3 {
+            let src = match drawn.next() % 3 {
                 0 => None,
-                _ => Some(random.next() % 6),
+                _ => Some(drawn.next() % 6),
             };
-            let dst = random.next() % 6;
+            let dst = drawn.next() % 6;
             assert_equal(rt, all.begin(src, dst), plain.begin(src, dst)?, "begin");
         }
         5 => assert_same(rt, all.wrap(), plain.wrap(), "wrap"),
@@ -501,7 +488,7 @@ fn assert_page_call(
         }
         _ => {
             for _ in 0..8 {
-                let wanted = found(random);
+                let wanted = found(drawn);
                 assert_equal(rt, all.pass(wanted), plain.pass(wanted), "pass");
             }
         }
@@ -509,71 +496,34 @@ fn assert_page_call(
     Ok(())
 }
 
-/// Random calls of both on chunks and on pages, in turns.
+/// Drawn calls of both on chunks and on pages, in turns.
 fn assert_calls(
     rt: &impl Abort,
     all: &mut Driven,
     plain: &mut Plain,
-    random: &mut Random,
+    drawn: &mut Drawn,
 ) -> Result<(), Fail> {
     for _ in 0..200 {
-        assert_chunk_call(rt, all, plain, random)?;
+        assert_chunk_call(rt, all, plain, drawn)?;
         assert_same_slabs(rt, all, plain);
-        assert_page_call(rt, all, plain, random)?;
+        assert_page_call(rt, all, plain, drawn)?;
         assert_same_slabs(rt, all, plain);
     }
     Ok(())
 }
 
-/// How many moves ended.
-fn assert_calls_of(
-    rt: &impl Abort,
-    alloc: Global,
-    table: &ClassTable,
-    seed: u64,
-    plain: &mut Plain,
-) -> Result<u64, Fail> {
-    let mut random = Random(seed);
-    let mut all = Driven::new(alloc, table)?;
-    let called = assert_calls(rt, &mut all, plain, &mut random);
-    let moved = all.totals().moved;
-    drop(all);
-    called?;
-    Ok(moved)
-}
-
-#[test]
-fn random_calls_leave_what_plain_lists_hold(rt: HostRuntime) -> Result<(), Fail> {
-    let table = ClassTable::build(
-        rt.alloc(),
-        &Config {
-            limit: 8192,
-            ..FOUR_CLASSES
-        },
-    )?;
-    let mut moved: u64 = 0;
-    for seed in 0..16 {
-        let mut plain = Plain::new(rt.alloc(), &table)?;
-        let called = assert_calls_of(&rt, rt.alloc(), &table, seed, &mut plain);
-        drop(plain);
-        moved = moved.wrapping_add(called?);
-    }
-    assert_same(&rt, moved > 16, true, "moves ended");
-    Ok(())
-}
-
-/// Random calls of both, three on chunks and then one on pages.
+/// Drawn calls of both, three on chunks and then one on pages.
 fn assert_rows(
     rt: &impl Abort,
     all: &mut Driven,
     plain: &mut Plain,
-    random: &mut Random,
+    drawn: &mut Drawn,
 ) -> Result<(), Fail> {
     for call in 0..400 {
         if call % 4 == 0 {
-            assert_page_call(rt, all, plain, random)?;
+            assert_page_call(rt, all, plain, drawn)?;
         } else {
-            assert_chunk_call(rt, all, plain, random)?;
+            assert_chunk_call(rt, all, plain, drawn)?;
         }
         for (place, own) in plain.classes.iter().enumerate() {
             let class = place as u64 + 1;
@@ -584,37 +534,73 @@ fn assert_rows(
     Ok(())
 }
 
-/// How many pages were granted.
-fn assert_rows_of(
+/// What is compared behind each call.
+#[derive(Clone, Copy)]
+enum Compared {
+    /// All that both hold.
+    All,
+    /// Each class's lists, and walks along them.
+    Rows,
+}
+
+/// Both from the beginning on, by calls that this number leads to, and the totals that they leave.
+fn assert_both(
     rt: &impl Abort,
     alloc: Global,
     table: &ClassTable,
-    seed: u64,
     plain: &mut Plain,
-) -> Result<u64, Fail> {
-    let mut random = Random(seed);
+    seed: u64,
+    compared: Compared,
+) -> Result<Totals, Fail> {
+    let mut drawn = Drawn(seed);
     let mut all = Driven::new(alloc, table)?;
-    let called = assert_rows(rt, &mut all, plain, &mut random);
-    let granted = all.totals().granted;
+    let called = match compared {
+        Compared::All => assert_calls(rt, &mut all, plain, &mut drawn),
+        Compared::Rows => assert_rows(rt, &mut all, plain, &mut drawn),
+    };
+    let totals = all.totals();
     drop(all);
     called?;
-    Ok(granted)
+    Ok(totals)
+}
+
+/// The same, in an arena of these classes whose limit is so many bytes.
+fn totals_behind(
+    rt: &impl Abort,
+    alloc: Global,
+    limit: u64,
+    seed: u64,
+    compared: Compared,
+) -> Result<Totals, Fail> {
+    let table = ClassTable::build(
+        alloc,
+        &Config {
+            limit,
+            ..FOUR_CLASSES
+        },
+    )?;
+    let mut plain = Plain::new(alloc, &table)?;
+    let totals = assert_both(rt, alloc, &table, &mut plain, seed, compared);
+    drop(plain);
+    totals
+}
+
+#[test]
+fn random_calls_leave_what_plain_lists_hold(rt: HostRuntime) -> Result<(), Fail> {
+    let mut moved: u64 = 0;
+    for seed in 0..16 {
+        let totals = totals_behind(&rt, rt.alloc(), 8192, seed, Compared::All)?;
+        moved = moved.wrapping_add(totals.moved);
+    }
+    assert_same(&rt, moved > 16, true, "moves ended");
+    Ok(())
 }
 
 #[test]
 fn rows_are_the_plain_lists(rt: HostRuntime) -> Result<(), Fail> {
-    let table = ClassTable::build(
-        rt.alloc(),
-        &Config {
-            limit: 6144,
-            ..FOUR_CLASSES
-        },
-    )?;
     for seed in 100..108 {
-        let mut plain = Plain::new(rt.alloc(), &table)?;
-        let called = assert_rows_of(&rt, rt.alloc(), &table, seed, &mut plain);
-        drop(plain);
-        assert_same(&rt, called? > 1, true, "totals");
+        let totals = totals_behind(&rt, rt.alloc(), 6144, seed, Compared::Rows)?;
+        assert_same(&rt, totals.granted > 1, true, "totals");
     }
     Ok(())
 }

@@ -7,6 +7,7 @@ mod trims;
 use super::{assert_equal, assert_same};
 use mc_pages::ChunkId;
 use mc_stripe::{Call, HandId, Key, NoMemory, Stamp, Stripe};
+use mc_trial_values::Drawn;
 use plain::Plain;
 use std::process::Abort;
 use std::test::Fail;
@@ -186,29 +187,15 @@ fn each_call_leaves_its_entry(rt: HostRuntime) -> Result<(), Fail> {
     Ok(())
 }
 
-/// A small linear congruential generator.
-#[derive(Drop)]
-struct Random(u64);
-
-impl Random {
-    fn next(&mut self) -> u64 {
-        self.0 = self
-            .0
-            .wrapping_mul(6_364_136_223_846_793_005)
-            .wrapping_add(1_442_695_040_888_963_407);
-        self.0 >> 33
-    }
-}
-
 /// A call on one of 24 keys of a stripe. The stamp of an item that is stored is the number of the try.
-fn any_call(random: &mut Random, number: u64) -> Try {
-    let hand = random.next() % 4;
-    let key = random.next() % 24 * 64 + 3;
+fn any_call(drawn: &mut Drawn, number: u64) -> Try {
+    let hand = drawn.next() % 4;
+    let key = drawn.next() % 24 * 64 + 3;
     let chunk = ChunkId {
-        page: random.next() % 4,
-        index: random.next() % 256,
+        page: drawn.next() % 4,
+        index: drawn.next() % 256,
     };
-    match random.next() % 16 {
+    match drawn.next() % 16 {
         0..=5 => Link(hand, key, chunk, number),
         6 | 7 => Unlink(hand, key),
         8 | 9 => Got(hand, key),
@@ -248,14 +235,14 @@ fn reserve_at_last(
 fn random_calls_leave_what_a_plain_list_holds(rt: HostRuntime) -> Result<(), Fail> {
     let mut rescued: u64 = 0;
     for seed in 0..8 {
-        let mut random = Random(seed);
+        let mut drawn = Drawn(seed);
         let mut stripe = Stripe::new(rt.alloc());
         let mut plain = Plain::new(rt.alloc());
         for number in 0..1000 {
-            if random.next() % 8 != 0 {
+            if drawn.next() % 8 != 0 {
                 reserve_at_last(&rt, &mut stripe, &mut plain)?;
             }
-            let mut call = any_call(&mut random, number);
+            let mut call = any_call(&mut drawn, number);
             if let (Rescue(hand, _, chunk), Some(key)) = (call, stripe.aside()) {
                 call = Rescue(hand, key, chunk);
             }

@@ -1,8 +1,9 @@
 //! Class tables: their sizes, the class of an item, and which configurations are refused.
 mod vectors;
 
-use super::{FOUR_CLASSES, assert_same, too_much};
+use super::assert_same;
 use mc_classes::{ClassId, ClassTable, Config, ConfigError};
+use mc_trial_values::{FOUR_CLASSES, too_much};
 use std::alloc::Global;
 use std::process::Abort;
 use std::test::Fail;

@@ -1,6 +1,7 @@
 //! What the decider decides, window by window.
-use super::{FOUR_CLASSES, assert_equal, assert_same};
+use super::{assert_equal, assert_same};
 use mc_classes::{ClassTable, ConfigError};
+use mc_trial_values::FOUR_CLASSES;
 use mc_watch::{Decider, Decision, Feed};
 use std::alloc::Global;
 use std::process::Abort;

@@ -1,8 +1,9 @@
 //! Command lines and what they ask for.
-use super::{FOUR_CLASSES, assert_equal, assert_same};
+use super::{assert_equal, assert_same};
 use clap::error::ErrorKind;
 use mc_classes::Config;
 use mc_options::{Options, Run, options};
+use mc_trial_values::FOUR_CLASSES;
 use std::process::Abort;
 use std::test::Fail;
 

@@ -1,6 +1,7 @@
 //! Scripts that are read, and such as are refused.
-use super::{assert_equal, assert_same, too_much};
+use super::{assert_equal, assert_same};
 use mc_script::{Command, MAX_SCRIPT, ScriptError, read};
+use mc_trial_values::too_much;
 use std::alloc::Global;
 use std::process::Abort;
 use std::test::Fail;
@@ -63,6 +64,15 @@ fn assert_command(
 ) -> Result<(), Fail> {
     let commands = read(rt.alloc(), script.as_bytes())?;
     assert_equal(rt, commands.as_slice(), [*command].as_slice(), script);
+    Ok(())
+}
+
+/// Each of these scripts is refused at its first line.
+fn assert_refused(rt: &(impl Abort + AllocGlobal), scripts: &[&str]) -> Result<(), Fail> {
+    for script in scripts {
+        let line = refused_line(rt.alloc(), script.as_bytes())?;
+        assert_same(rt, line, Some(1), script);
+    }
     Ok(())
 }
 
@@ -185,19 +195,6 @@ const REFUSED_OF_WORKERS: [&str; 28] = [
     "1 get 1\r",
 ];
 
-#[test]
-fn refuses_other_lines_of_workers(rt: HostRuntime) -> Result<(), Fail> {
-    for script in &REFUSED_OF_WORKERS {
-        assert_same(
-            &rt,
-            refused_line(rt.alloc(), script.as_bytes())?,
-            Some(1),
-            script,
-        );
-    }
-    Ok(())
-}
-
 /// Lines that are no mover's.
 const REFUSED_WITHOUT_A_WORKER: [&str; 45] = [
     // numbers and ranges
@@ -252,16 +249,13 @@ const REFUSED_WITHOUT_A_WORKER: [&str; 45] = [
 ];
 
 #[test]
+fn refuses_other_lines_of_workers(rt: HostRuntime) -> Result<(), Fail> {
+    assert_refused(&rt, &REFUSED_OF_WORKERS)
+}
+
+#[test]
 fn refuses_other_lines_without_a_worker(rt: HostRuntime) -> Result<(), Fail> {
-    for script in &REFUSED_WITHOUT_A_WORKER {
-        assert_same(
-            &rt,
-            refused_line(rt.alloc(), script.as_bytes())?,
-            Some(1),
-            script,
-        );
-    }
-    Ok(())
+    assert_refused(&rt, &REFUSED_WITHOUT_A_WORKER)
 }
 
 /// Lines of workers, and their commands.

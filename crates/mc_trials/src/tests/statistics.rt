@@ -2,8 +2,8 @@
 ghost use Rattle.std.specs.Prelude.{◌≡◌, ◌<◌};
 ghost use Rattle.mc_watch.specs.Texts.{AreCounts};
 
-use super::FOUR_CLASSES;
 use mc_classes::{ClassTable, Failures, Fault, Sink};
+use mc_trial_values::FOUR_CLASSES;
 use mc_watch::{stats_general, stats_slabs};
 use std::alloc::Global;
 use std::marker::Brand;

@@ -44,6 +44,17 @@ fn leave(chunks: &mut Vec<ChunkId>, chunk: ChunkId) -> bool {
     true
 }
 
+impl PlainClass {
+    /// The chunk at this place of the hand-out order leaves it.
+    fn take_out(&mut self, place: usize) -> Option<ChunkId> {
+        if place < self.order.len() {
+            Some(self.order.remove(place))
+        } else {
+            None
+        }
+    }
+}
+
 impl Plain {
     pub(super) fn new(alloc: Global, table: &ClassTable) -> Result<Plain, AllocError> {
         let mut classes = Vec::new(alloc);
@@ -145,10 +156,9 @@ impl Plain {
         let Some(own) = self.class(class) else {
             return Ok(None);
         };
-        if place >= own.order.len() {
+        let Some(chunk) = own.take_out(place) else {
             return Ok(None);
-        }
-        let chunk = own.order.remove(place);
+        };
         own.free.insert(0, chunk)?;
         Ok(Some(chunk))
     }
@@ -161,10 +171,9 @@ impl Plain {
         let Some(own) = self.class(class) else {
             return Ok(None);
         };
-        if place >= own.order.len() {
+        let Some(chunk) = own.take_out(place) else {
             return Ok(None);
-        }
-        let chunk = own.order.remove(place);
+        };
         own.order.push(chunk)?;
         Ok(Some(chunk))
     }

@@ -5,10 +5,11 @@ ghost use Rattle.mc_pages.specs.SlabState.{IsClass, class_at};
 ghost use Rattle.mc_pages.specs.Changes.{after_pop};
 ghost use Rattle.mc_page_trials.specs.Sized.{IsSized};
 
-use super::super::{FOUR_CLASSES, assert_equal};
+use super::super::assert_equal;
 use super::driven::Driven;
 use mc_classes::{ClassId, ClassTable, PageId};
 use mc_pages::{ChunkId, Grow, NoMemory, SharedSlabs, Slabs};
+use mc_trial_values::FOUR_CLASSES;
 use std::alloc::Global;
 use std::test::Fail;
 
