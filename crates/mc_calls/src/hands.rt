@@ -1,23 +1,12 @@
 //! Arenas that are opened, and their hands.
 ghost use Rattle.std.specs.Prelude.{IfSome, IfOk};
-ghost use Rattle.mc_calls.specs.Hands.{AreHandsOf, IsIdleHandOf, IsReadyHandOf};
+ghost use Rattle.mc_calls.specs.Hands.{AreHandsOf, IsIdleHandOf};
+ghost use Rattle.mc_calls.specs.Pairs.{AreReady};
 
 use mc_classes::Config;
 use mc_words::{Arena, Hand, NewError};
 use std::alloc::Global;
 use std::test::Fail;
-
-/// Four pages; classes of 48, 96, 192 and 512 bytes with 21, 10, 5 and 2 chunks a page. An item has 24 bytes beside its words.
-pub const FOUR_CLASSES: Config = Config {
-    page: 1024,
-    limit: 4096,
-    first: 48,
-    num: 2,
-    den: 1,
-    max: 512,
-    stripes: 4,
-    bulk: 64,
-};
 
 /// An arena of this configuration, and its hands.
 #[tactic(auto, using(crate::proofs::Kept::all_hands))]
@@ -51,6 +40,18 @@ pub fn two_of(arena: &Arena, hands: &mut Vec<Hand>) -> Option<(Hand, Hand)>
     Some((first, second))
 }
 
+/// The three hands of the lowest numbers that are left.
+pub fn three_of(arena: &Arena, hands: &mut Vec<Hand>) -> Option<(Hand, Hand, Hand)>
+    requires hands { AreHandsOf arena.now hands.old.items }
+    ensures hands { AreHandsOf arena.now hands.new.items }
+    ensures three { IfSome result (λ three. IsIdleHandOf arena.now three.0 × IsIdleHandOf arena.now three.1 × IsIdleHandOf arena.now three.2) }
+{
+    let first = next_hand(arena, hands)?;
+    let second = next_hand(arena, hands)?;
+    let third = next_hand(arena, hands)?;
+    Some((first, second, third))
+}
+
 /// One hand of two.
 #[tactic(auto, using(crate::proofs::Kept::idle, crate::proofs::Kept::ready_of_both, crate::proofs::Kept::nothing_of_both))]
 pub fn one_of(arena: &Arena, hand: Hand, other: Hand) -> Hand
@@ -72,7 +73,7 @@ pub struct Two {
 
 /// An arena of this configuration, and its two hands.
 pub fn opened_two(alloc: Global, config: &Config) -> Result<Two, Fail>
-    ensures hands { IfOk result (λ two. IsReadyHandOf two.arena two.hand × IsReadyHandOf two.arena two.other) }
+    ensures hands { IfOk result AreReady }
 {
     let (arena, mut hands) = opened(alloc, config, 2)?;
     match two_of(&arena, &mut hands) {

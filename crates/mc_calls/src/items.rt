@@ -124,7 +124,7 @@ pub fn touch_key<R: Wait>(rt: &R, arena: &Arena, hand: &mut Hand, key: Key) -> O
 }
 
 /// Whether the arena has such a chunk.
-fn has_chunk(arena: &Arena, chunk: ChunkId) -> bool
+pub fn has_chunk(arena: &Arena, chunk: ChunkId) -> bool
     ensures { result ≡ has_chunk (setup_of arena.now).table chunk }
 {
     let classes = arena.classes();

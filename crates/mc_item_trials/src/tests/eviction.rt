@@ -1,10 +1,9 @@
 //! Which item is evicted: the oldest of five that nobody holds.
 use super::MOST_WORDS;
-use super::steps::{Step, play_all, run};
-use mc_calls::{FOUR_CLASSES, GETTERS, Getter, opened_two};
+use super::steps::Step;
+use mc_calls::{FOUR_CLASSES, GETTERS, Getter, opened_two, play_all, run};
 use mc_items::SetError;
 use std::alloc::Global;
-use std::process::Abort;
 use std::sync::Wait;
 use std::test::Fail;
 
@@ -25,18 +24,13 @@ fn a_touched_item_is_not_the_oldest(rt: HostRuntime) -> Result<(), Fail> {
             Step::Finds(getter, 2, 3, false),
             Step::Finds(getter, 3, 10, true),
         ];
-        run(&rt, rt.alloc(), &steps)?;
+        run(&rt, rt.alloc(), &FOUR_CLASSES, &steps)?;
     }
     Ok(())
 }
 
 /// A ninth item where eight have room, while another hand holds the first few: what the lookups give then.
-fn store_ninth<R: Abort + Wait>(
-    rt: &R,
-    alloc: Global,
-    held: Step,
-    behind: &[Step],
-) -> Result<(), Fail> {
+fn store_ninth<R: Wait>(rt: &R, alloc: Global, held: Step, behind: &[Step]) -> Result<(), Fail> {
     let mut two = opened_two(alloc, &FOUR_CLASSES)?;
     let stored = play_all(rt, alloc, &two.arena, &mut two.hand, &[EIGHT]);
     let held = play_all(rt, alloc, &two.arena, &mut two.other, &[held]);

@@ -2,10 +2,11 @@
 ghost use Rattle.mc_words.specs.hand.Arenas.{IsHandOf, view};
 ghost use Rattle.mc_items.specs.ItemRefs.{IsItemRef};
 ghost use Rattle.mc_calls.specs.Hands.{IsReadyHandOf};
+ghost use Rattle.mc_calls.specs.Pairs.{AreReady};
 
-use super::steps::{Step, play_all, run};
+use super::steps::Step;
 use super::{MOST_WORDS, assert_same};
-use mc_calls::{FOUR_CLASSES, GETTERS, Getter, get_by, header, opened_two};
+use mc_calls::{FOUR_CLASSES, GETTERS, Getter, Two, get_by, header, play_all, play_two, run};
 use mc_items::{Ref, SetError, release};
 use mc_pages::ChunkId;
 use mc_words::{Arena, Hand};
@@ -52,16 +53,10 @@ fn release_beside(
 const STORED: [Step; 2] = [Step::Sets(1, 2, 7, MOST_WORDS), Step::Head(FIRST, 458_753)];
 
 /// An item is set, referred to, given up beside another hand's locks, and deleted; its header at each step.
-fn play_header_states<R: Abort + Wait>(
-    rt: &R,
-    alloc: Global,
-    arena: &Arena,
-    hand: &mut Hand,
-    other: &mut Hand,
-) -> Result<(), Fail>
-    requires hand { IsReadyHandOf arena.now hand.old }
-    requires other { IsReadyHandOf arena.now other.old }
+fn play_header_states<R: Abort + Wait>(rt: &R, alloc: Global, two: &mut Two) -> Result<(), Fail>
+    requires { AreReady two.old }
 {
+    let Two { arena, hand, other } = two;
     play_all(rt, alloc, arena, hand, &STORED)?;
     let Some(item) = get_by(rt, arena, hand, 1, Getter::Get) else {
         return Err(Fail::new("the key has an item"));
@@ -77,23 +72,18 @@ fn play_header_states<R: Abort + Wait>(
 
 #[test]
 fn headers_count_link_and_references(rt: HostRuntime) -> Result<(), Fail> {
-    let mut two = opened_two(rt.alloc(), &FOUR_CLASSES)?;
-    let played = play_header_states(&rt, rt.alloc(), &two.arena, &mut two.hand, &mut two.other);
-    drop(two);
-    played
+    play_two!(rt, play_header_states)
 }
 
 /// A reader gives an item up that was deleted meanwhile.
-fn release_behind_delete<R: Abort + Wait>(
-    rt: &R,
-    alloc: Global,
-    arena: &Arena,
-    hand: &mut Hand,
-    reader: &mut Hand,
-) -> Result<(), Fail>
-    requires hand { IsReadyHandOf arena.now hand.old }
-    requires reader { IsReadyHandOf arena.now reader.old }
+fn release_behind_delete<R: Abort + Wait>(rt: &R, alloc: Global, two: &mut Two) -> Result<(), Fail>
+    requires { AreReady two.old }
 {
+    let Two {
+        arena,
+        hand,
+        other: reader,
+    } = two;
     play_all(rt, alloc, arena, hand, &STORED)?;
     let Some(item) = get_by(rt, arena, reader, 1, Getter::Get) else {
         return Err(Fail::new("the key has an item"));
@@ -107,10 +97,7 @@ fn release_behind_delete<R: Abort + Wait>(
 
 #[test]
 fn the_last_release_behind_a_delete_leaves_a_dead_chunk(rt: HostRuntime) -> Result<(), Fail> {
-    let mut two = opened_two(rt.alloc(), &FOUR_CLASSES)?;
-    let played = release_behind_delete(&rt, rt.alloc(), &two.arena, &mut two.hand, &mut two.other);
-    drop(two);
-    played
+    play_two!(rt, release_behind_delete)
 }
 
 #[test]
@@ -119,7 +106,7 @@ fn items_have_at_most_61_words(rt: HostRuntime) -> Result<(), Fail> {
         Step::Sets(1, 2, 0, 61),
         Step::Refuses(2, 62, SetError::TooLarge),
     ];
-    run(&rt, rt.alloc(), &steps)
+    run(&rt, rt.alloc(), &FOUR_CLASSES, &steps)
 }
 
 #[test]
@@ -131,7 +118,7 @@ fn a_ninth_item_evicts_the_oldest(rt: HostRuntime) -> Result<(), Fail> {
             Step::Touches(2),
             Step::Sets(10, 1, 0, 3),
         ];
-        run(&rt, rt.alloc(), &steps)?;
+        run(&rt, rt.alloc(), &FOUR_CLASSES, &steps)?;
     }
     Ok(())
 }

@@ -4,10 +4,11 @@ ghost use Rattle.mc_core.specs.State.{has_chunk};
 ghost use Rattle.mc_words.specs.hand.Arenas.{setup_of};
 ghost use Rattle.mc_words.specs.hand.Observers.{hint_chunk};
 ghost use Rattle.mc_calls.specs.Hands.{IsReadyHandOf};
+ghost use Rattle.mc_calls.specs.Pairs.{AreReady};
 
-use super::steps::{Step, play_all};
+use super::steps::Step;
 use super::{MOST_WORDS, assert_equal, assert_same};
-use mc_calls::{FOUR_CLASSES, Getter, follow, hint_of, opened_two};
+use mc_calls::{Getter, Two, follow, hint_of, play_all, play_two};
 use mc_items::again;
 use mc_words::{Again, Arena, Hand, Hint};
 use std::alloc::Global;
@@ -16,7 +17,7 @@ use std::sync::Wait;
 use std::test::Fail;
 
 /// What is stored at first; then a hint of the first key's item.
-pub fn hint_behind<R: Abort + Wait>(
+pub fn hint_behind<R: Wait>(
     rt: &R,
     alloc: Global,
     arena: &Arena,
@@ -35,16 +36,10 @@ pub fn hint_behind<R: Abort + Wait>(
 }
 
 /// A hint is followed behind a touch, a delete and a set of its key.
-fn follow_until_gone<R: Abort + Wait>(
-    rt: &R,
-    alloc: Global,
-    arena: &Arena,
-    hand: &mut Hand,
-    other: &mut Hand,
-) -> Result<(), Fail>
-    requires hand { IsReadyHandOf arena.now hand.old }
-    requires other { IsReadyHandOf arena.now other.old }
+fn follow_until_gone<R: Abort + Wait>(rt: &R, alloc: Global, two: &mut Two) -> Result<(), Fail>
+    requires { AreReady two.old }
 {
+    let Two { arena, hand, other } = two;
     let one = Step::Sets(1, 2, 0, MOST_WORDS);
     let hint = hint_behind(rt, alloc, arena, hand, one)?;
     let once_more = Step::Sets(1, 2, 0, MOST_WORDS);
@@ -64,23 +59,14 @@ fn follow_until_gone<R: Abort + Wait>(
 
 #[test]
 fn a_hint_leads_to_its_item_until_that_is_gone(rt: HostRuntime) -> Result<(), Fail> {
-    let mut two = opened_two(rt.alloc(), &FOUR_CLASSES)?;
-    let played = follow_until_gone(&rt, rt.alloc(), &two.arena, &mut two.hand, &mut two.other);
-    drop(two);
-    played
+    play_two!(rt, follow_until_gone)
 }
 
 /// An item is had again by its hint, and then a set evicts another.
-fn have_again_before_eviction<R: Abort + Wait>(
-    rt: &R,
-    alloc: Global,
-    arena: &Arena,
-    hand: &mut Hand,
-    other: &mut Hand,
-) -> Result<(), Fail>
-    requires hand { IsReadyHandOf arena.now hand.old }
-    requires other { IsReadyHandOf arena.now other.old }
+fn have_again_and_evict<R: Abort + Wait>(rt: &R, alloc: Global, two: &mut Two) -> Result<(), Fail>
+    requires { AreReady two.old }
 {
+    let Two { arena, hand, other } = two;
     let eight = Step::Sets(1, 9, 0, MOST_WORDS);
     let hint = hint_behind(rt, alloc, arena, hand, eight)?;
     let had = again(arena, other, hint).is_ok();
@@ -96,29 +82,14 @@ fn have_again_before_eviction<R: Abort + Wait>(
 
 #[test]
 fn what_is_had_again_is_not_evicted(rt: HostRuntime) -> Result<(), Fail> {
-    let mut two = opened_two(rt.alloc(), &FOUR_CLASSES)?;
-    let played = have_again_before_eviction(
-        &rt,
-        rt.alloc(),
-        &two.arena,
-        &mut two.hand,
-        &mut two.other,
-    );
-    drop(two);
-    played
+    play_two!(rt, have_again_and_evict)
 }
 
 /// A hint is followed once its item was evicted.
-fn follow_behind_eviction<R: Abort + Wait>(
-    rt: &R,
-    alloc: Global,
-    arena: &Arena,
-    hand: &mut Hand,
-    other: &mut Hand,
-) -> Result<(), Fail>
-    requires hand { IsReadyHandOf arena.now hand.old }
-    requires other { IsReadyHandOf arena.now other.old }
+fn follow_behind_eviction<R: Abort + Wait>(rt: &R, alloc: Global, two: &mut Two) -> Result<(), Fail>
+    requires { AreReady two.old }
 {
+    let Two { arena, hand, other } = two;
     let eight = Step::Sets(1, 9, 0, MOST_WORDS);
     let hint = hint_behind(rt, alloc, arena, hand, eight)?;
     let ninth = Step::Sets(9, 10, 0, MOST_WORDS);
@@ -130,8 +101,5 @@ fn follow_behind_eviction<R: Abort + Wait>(
 
 #[test]
 fn what_was_evicted_is_not_had_again(rt: HostRuntime) -> Result<(), Fail> {
-    let mut two = opened_two(rt.alloc(), &FOUR_CLASSES)?;
-    let played = follow_behind_eviction(&rt, rt.alloc(), &two.arena, &mut two.hand, &mut two.other);
-    drop(two);
-    played
+    play_two!(rt, follow_behind_eviction)
 }

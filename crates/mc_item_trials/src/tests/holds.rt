@@ -2,11 +2,12 @@
 ghost use Rattle.mc_words.specs.hand.Arenas.{view};
 ghost use Rattle.mc_items.specs.ItemRefs.{IsItemRef};
 ghost use Rattle.mc_calls.specs.Hands.{IsReadyHandOf};
+ghost use Rattle.mc_calls.specs.Pairs.{AreReady};
 
 use super::assert_same;
-use super::steps::{Step, play_all};
-use mc_calls::{FOUR_CLASSES, GETTERS, Getter, are_from, get_by, opened_two};
-use mc_items::{Ref, read, release};
+use super::steps::Step;
+use mc_calls::{FOUR_CLASSES, GETTERS, Getter, Two, get_by, has_words, opened_two, play_all};
+use mc_items::{Ref, release};
 use mc_memory::Refused;
 use mc_pages::ChunkId;
 use mc_stripe::{Key, Stamp};
@@ -18,24 +19,6 @@ use std::test::Fail;
 
 /// The first chunk of a class of 21 chunks a page that goes out.
 const FIRST: ChunkId = ChunkId { page: 0, index: 20 };
-
-/// Whether the item has so many words from this one on.
-fn has_from(
-    alloc: Global,
-    arena: &Arena,
-    hand: &mut Hand,
-    item: &Ref,
-    first: u64,
-    len: u64,
-) -> Result<bool, Refused>
-    requires arena { IsReadyHandOf arena.now hand.old }
-    requires item { IsItemRef (view hand.old) item.now }
-    ensures arena { IsReadyHandOf arena.now hand.new }
-    ensures item { IsItemRef (view hand.new) item.now }
-{
-    let words = read(alloc, arena, hand, item)?;
-    Ok(are_from(&words, first, len))
-}
 
 /// Whether the item is of that key and stamp, and has three words from this one on.
 fn is_item(
@@ -53,21 +36,23 @@ fn is_item(
     ensures item { IsItemRef (view hand.new) item.now }
 {
     let is_named = (item.key(), item.stamp(), item.len()) == (key, stamp, 3);
-    Ok(has_from(alloc, arena, hand, item, first, 3)? && is_named)
+    Ok(has_words(alloc, arena, hand, item, first, 3)? && is_named)
 }
 
 /// A key is stored over, while its first item is held: each reader has the words of its own.
 fn store_over<R: Abort + Wait>(
     rt: &R,
     alloc: Global,
-    arena: &Arena,
-    hand: &mut Hand,
-    reader: &mut Hand,
+    two: &mut Two,
     getter: Getter,
 ) -> Result<(), Fail>
-    requires hand { IsReadyHandOf arena.now hand.old }
-    requires reader { IsReadyHandOf arena.now reader.old }
+    requires { AreReady two.old }
 {
+    let Two {
+        arena,
+        hand,
+        other: reader,
+    } = two;
     play_all(rt, alloc, arena, hand, &[Step::Sets(1, 2, 7, 3)])?;
     let Some(old) = get_by(rt, arena, reader, 1, getter) else {
         return Err(Fail::new("the key has an item"));
@@ -90,14 +75,7 @@ fn store_over<R: Abort + Wait>(
 fn a_held_item_keeps_its_words(rt: HostRuntime) -> Result<(), Fail> {
     for getter in GETTERS {
         let mut two = opened_two(rt.alloc(), &FOUR_CLASSES)?;
-        let played = store_over(
-            &rt,
-            rt.alloc(),
-            &two.arena,
-            &mut two.hand,
-            &mut two.other,
-            getter,
-        );
+        let played = store_over(&rt, rt.alloc(), &mut two, getter);
         drop(two);
         played?;
     }

@@ -1,10 +1,11 @@
 //! Refusals of calls on items.
 ghost use Rattle.mc_calls.specs.Hands.{IsReadyHandOf};
+ghost use Rattle.mc_calls.specs.Pairs.{AreReady};
 
 use super::hints::hint_behind;
-use super::steps::{Step, play_all};
+use super::steps::Step;
 use super::{MOST_WORDS, assert_equal};
-use mc_calls::{FOUR_CLASSES, follow, opened_two};
+use mc_calls::{FOUR_CLASSES, Two, follow, opened_two, play_all, play_two};
 use mc_items::{GetError, SetError, TryGetError, get, try_get};
 use mc_stripe::Key;
 use mc_words::{Again, Arena, Hand};
@@ -33,14 +34,10 @@ fn refusal_of_try(arena: &Arena, hand: &mut Hand, key: Key) -> Option<TryGetErro
 }
 
 /// A hand holds one item 255 times; one more is refused by each call.
-fn hold_too_often<R: Abort + Wait>(
-    rt: &R,
-    alloc: Global,
-    arena: &Arena,
-    hand: &mut Hand,
-) -> Result<(), Fail>
-    requires hand { IsReadyHandOf arena.now hand.old }
+fn hold_too_often<R: Abort + Wait>(rt: &R, alloc: Global, two: &mut Two) -> Result<(), Fail>
+    requires { AreReady two.old }
 {
+    let Two { arena, hand, .. } = two;
     let one = Step::Sets(1, 2, 0, 3);
     let hint = hint_behind(rt, alloc, arena, hand, one)?;
     let most = [Step::HoldsOften(1, 254)];
@@ -58,22 +55,14 @@ fn hold_too_often<R: Abort + Wait>(
 
 #[test]
 fn a_hand_has_at_most_255_references(rt: HostRuntime) -> Result<(), Fail> {
-    let mut two = opened_two(rt.alloc(), &FOUR_CLASSES)?;
-    let played = hold_too_often(&rt, rt.alloc(), &two.arena, &mut two.hand);
-    drop(two);
-    played
+    play_two!(rt, hold_too_often)
 }
 
 /// Gets that don't wait, beside a hand that has a stripe.
-fn try_beside_stripe<R: Abort + Wait>(
-    rt: &R,
-    arena: &Arena,
-    hand: &mut Hand,
-    other: &mut Hand,
-) -> Result<(), Fail>
-    requires hand { IsReadyHandOf arena.now hand.old }
-    requires other { IsReadyHandOf arena.now other.old }
+fn try_beside_stripe<R: Abort + Wait>(rt: &R, two: &mut Two) -> Result<(), Fail>
+    requires { AreReady two.old }
 {
+    let Two { arena, hand, other } = two;
     if arena.config().stripes < 2 {
         return Err(Fail::new("there are four stripes"));
     }
@@ -93,7 +82,7 @@ fn try_beside_stripe<R: Abort + Wait>(
 #[test]
 fn who_does_not_wait_is_told_of_another_hand(rt: HostRuntime) -> Result<(), Fail> {
     let mut two = opened_two(rt.alloc(), &FOUR_CLASSES)?;
-    let played = try_beside_stripe(&rt, &two.arena, &mut two.hand, &mut two.other);
+    let played = try_beside_stripe(&rt, &mut two);
     drop(two);
     played
 }

@@ -1,18 +1,14 @@
-//! A call with what it is to give. A list of calls is one call of a test, so that it is checked fast.
+//! A call with what it is to give.
 ghost use Rattle.mc_calls.specs.Hands.{IsReadyHandOf};
 
-use super::assert_same;
 use super::calls::{are_there, hold_all, hold_often, refusal_of_set};
-use mc_calls::{FOUR_CLASSES, Getter, delete_key, header, opened_two, store_all, touch_key};
+use mc_calls::{Getter, Played, delete_key, header, store_all, touch_key};
 use mc_items::SetError;
-use mc_memory::Refused;
 use mc_pages::ChunkId;
 use mc_stripe::Key;
 use mc_words::{Arena, Hand};
 use std::alloc::Global;
-use std::process::Abort;
 use std::sync::Wait;
-use std::test::Fail;
 
 /// A call, and what it is to give.
 #[derive(Drop)]
@@ -35,25 +31,17 @@ pub enum Step {
     Head(ChunkId, u64),
 }
 
-/// Whether the call gives what it is to.
-fn plays<R: Wait>(
-    rt: &R,
-    alloc: Global,
-    arena: &Arena,
-    hand: &mut Hand,
-    step: &Step,
-) -> Result<bool, Refused>
-    requires arena { IsReadyHandOf arena.now hand.old }
-    ensures arena { IsReadyHandOf arena.now hand.new }
-{
-    match step {
-        Step::Sets(from, end, first, len) => {
-            store_all(rt, alloc, arena, hand, (*from, *end), *first, *len)
+impl mc_calls::Step for Step {
+    fn plays<R: Wait>(&self, rt: &R, alloc: Global, arena: &Arena, hand: &mut Hand) -> Played {
+        match self {
+            Step::Sets(from, end, first, len) => {
+                store_all(rt, alloc, arena, hand, (*from, *end), *first, *len)
+            }
+            Step::Refuses(key, len, error) => {
+                Ok(refusal_of_set(rt, alloc, arena, hand, *key, *len)?.as_ref() == Some(error))
+            }
+            _ => Ok(acts(rt, arena, hand, self)),
         }
-        Step::Refuses(key, len, error) => {
-            Ok(refusal_of_set(rt, alloc, arena, hand, *key, *len)?.as_ref() == Some(error))
-        }
-        _ => Ok(acts(rt, arena, hand, step)),
     }
 }
 
@@ -73,31 +61,4 @@ fn acts<R: Wait>(rt: &R, arena: &Arena, hand: &mut Hand, step: &Step) -> bool
         Step::Head(chunk, head) => header(arena, hand, *chunk) == Some(*head),
         _ => false,
     }
-}
-
-/// Each call gives what it is to, one after another.
-pub fn play_all<R: Abort + Wait>(
-    rt: &R,
-    alloc: Global,
-    arena: &Arena,
-    hand: &mut Hand,
-    steps: &[Step],
-) -> Result<(), Refused>
-    requires arena { IsReadyHandOf arena.now hand.old }
-    ensures arena { IsReadyHandOf arena.now hand.new }
-{
-    for place in 0..steps.len() {
-        let done = plays(rt, alloc, arena, hand, &steps[place])?;
-        assert_same(rt, (place, done), (place, true), "a step, from 0");
-    }
-    Ok(())
-}
-
-/// Each call gives what it is to, in a new arena of four classes.
-pub fn run<R: Abort + Wait>(rt: &R, alloc: Global, steps: &[Step]) -> Result<(), Fail> {
-    let mut two = opened_two(alloc, &FOUR_CLASSES)?;
-    let played = play_all(rt, alloc, &two.arena, &mut two.hand, steps);
-    drop(two);
-    played?;
-    Ok(())
 }

@@ -1,6 +1,6 @@
 //! Pages that move while their class has no other chunk: their items are evicted.
-use super::steps::{Step, run};
-use mc_calls::FOUR_CLASSES;
+use super::steps::Step;
+use mc_calls::{FOUR_CLASSES, run};
 use mc_classes::Config;
 use std::test::Fail;
 

@@ -1,9 +1,10 @@
 //! Counts and issue numbers at their greatest.
 ghost use Rattle.mc_calls.specs.Hands.{IsReadyHandOf};
+ghost use Rattle.mc_calls.specs.Pairs.{AreReady};
 
-use super::steps::{Step, play_all};
+use super::steps::Step;
 use super::{assert_equal, assert_same};
-use mc_calls::{FOUR_CLASSES, get_key, header, opened_two, touch_key};
+use mc_calls::{FOUR_CLASSES, Two, get_key, header, play_all, play_two, touch_key};
 use mc_items::{GetError, get};
 use mc_pages::ChunkId;
 use mc_stripe::Key;
@@ -57,13 +58,11 @@ fn fill_up<R: Abort + Wait>(rt: &R, arena: &Arena, hand: &mut Hand)
 fn hold_as_often_as_two_may<R: Abort + Wait>(
     rt: &R,
     alloc: Global,
-    arena: &Arena,
-    hand: &mut Hand,
-    other: &mut Hand,
+    two: &mut Two,
 ) -> Result<(), Fail>
-    requires hand { IsReadyHandOf arena.now hand.old }
-    requires other { IsReadyHandOf arena.now other.old }
+    requires { AreReady two.old }
 {
+    let Two { arena, hand, other } = two;
     play_all(rt, alloc, arena, hand, &[Step::Sets(1, 5, 61)])?;
     fill_up(rt, arena, hand);
     let head = header(arena, hand, FIRST);
@@ -85,20 +84,11 @@ fn hold_as_often_as_two_may<R: Abort + Wait>(
 
 #[test]
 fn two_hands_hold_a_chunk_as_often_as_they_may(rt: HostRuntime) -> Result<(), Fail> {
-    let mut two = opened_two(rt.alloc(), &FOUR_CLASSES)?;
-    let played = hold_as_often_as_two_may(
-        &rt,
-        rt.alloc(),
-        &two.arena,
-        &mut two.hand,
-        &mut two.other,
-    );
-    drop(two);
-    played
+    play_two!(rt, hold_as_often_as_two_may)
 }
 
 /// Four items fill two pages, and one is deleted; then a page goes to the pool, from an arena of this first issue number.
-fn move_beside_dead<R: Abort + Wait>(
+fn move_beside_dead<R: Wait>(
     rt: &R,
     alloc: Global,
     start: u64,

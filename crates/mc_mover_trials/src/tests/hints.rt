@@ -1,9 +1,10 @@
 //! Hints of items whose page has moved.
 ghost use Rattle.mc_calls.specs.Hands.{IsReadyHandOf};
+ghost use Rattle.mc_calls.specs.Pairs.{AreReady};
 
-use super::steps::{Step, play_all};
+use super::steps::Step;
 use super::{assert_equal, assert_same};
-use mc_calls::{FOUR_CLASSES, follow, get_key, header, hint_of, opened_two, store_all};
+use mc_calls::{Two, follow, header, hint_of, play_all, play_two, store_all};
 use mc_pages::ChunkId;
 use mc_words::{Again, Arena, Hand};
 use std::alloc::Global;
@@ -44,14 +45,10 @@ fn store_four<R: Abort + Wait>(
 }
 
 /// A hint is followed before and behind the move of its item's page.
-fn follow_over_a_move<R: Abort + Wait>(
-    rt: &R,
-    alloc: Global,
-    arena: &Arena,
-    hand: &mut Hand,
-) -> Result<(), Fail>
-    requires hand { IsReadyHandOf arena.now hand.old }
+fn follow_over_a_move<R: Abort + Wait>(rt: &R, alloc: Global, two: &mut Two) -> Result<(), Fail>
+    requires { AreReady two.old }
 {
+    let Two { arena, hand, .. } = two;
     play_all(rt, alloc, arena, hand, &[Step::Sets(1, 5, 61)])?;
     let Some(hint) = hint_of(rt, arena, hand, 1) else {
         return Err(Fail::new("the key has an item"));
@@ -72,8 +69,5 @@ fn follow_over_a_move<R: Abort + Wait>(
 
 #[test]
 fn a_hint_is_gone_once_its_page_has_moved(rt: HostRuntime) -> Result<(), Fail> {
-    let mut two = opened_two(rt.alloc(), &FOUR_CLASSES)?;
-    let played = follow_over_a_move(&rt, rt.alloc(), &two.arena, &mut two.hand);
-    drop(two);
-    played
+    play_two!(rt, follow_over_a_move)
 }

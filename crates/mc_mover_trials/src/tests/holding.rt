@@ -1,28 +1,25 @@
 //! Items that are held hold up their page.
-ghost use Rattle.mc_calls.specs.Hands.{IsReadyHandOf};
+ghost use Rattle.mc_calls.specs.Pairs.{AreReady};
 
 use super::assert_same;
-use super::steps::{Step, play_all};
-use mc_calls::{FOUR_CLASSES, get_key, has_words, opened_two, store_all};
+use super::steps::Step;
+use mc_calls::{Two, get_key, has_words, play_all, play_two, store_all};
 use mc_items::release;
 use mc_pages::Reassign;
-use mc_words::{Arena, Hand};
 use std::alloc::Global;
 use std::process::Abort;
 use std::sync::Wait;
 use std::test::Fail;
 
 /// A page moves whose item the reader holds, reads and releases.
-fn move_a_held_page<R: Abort + Wait>(
-    rt: &R,
-    alloc: Global,
-    arena: &Arena,
-    hand: &mut Hand,
-    reader: &mut Hand,
-) -> Result<(), Fail>
-    requires hand { IsReadyHandOf arena.now hand.old }
-    requires reader { IsReadyHandOf arena.now reader.old }
+fn move_a_held_page<R: Abort + Wait>(rt: &R, alloc: Global, two: &mut Two) -> Result<(), Fail>
+    requires { AreReady two.old }
 {
+    let Two {
+        arena,
+        hand,
+        other: reader,
+    } = two;
     let stored = store_all(rt, alloc, arena, hand, (1, 9), 100, 22)?;
     assert_same(rt, stored, true, "eight sets");
     let Some(item) = get_key(rt, arena, reader, 1) else {
@@ -46,8 +43,5 @@ fn move_a_held_page<R: Abort + Wait>(
 
 #[test]
 fn a_held_item_keeps_its_page_and_its_words(rt: HostRuntime) -> Result<(), Fail> {
-    let mut two = opened_two(rt.alloc(), &FOUR_CLASSES)?;
-    let played = move_a_held_page(&rt, rt.alloc(), &two.arena, &mut two.hand, &mut two.other);
-    drop(two);
-    played
+    play_two!(rt, move_a_held_page)
 }

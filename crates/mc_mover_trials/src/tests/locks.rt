@@ -1,10 +1,11 @@
 //! Turns beside another hand's locks.
 ghost use Rattle.mc_words.specs.hand.Arenas.{IsHandOf};
 ghost use Rattle.mc_calls.specs.Hands.{IsReadyHandOf};
+ghost use Rattle.mc_calls.specs.Pairs.{AreReady};
 
 use super::assert_equal;
-use super::steps::{Step, play_all};
-use mc_calls::{FOUR_CLASSES, opened_two, try_turn_by};
+use super::steps::Step;
+use mc_calls::{Two, play_all, play_two, try_turn_by};
 use mc_mover::{Counts, TryTurn, Turn};
 use mc_words::{Arena, Hand};
 use std::alloc::Global;
@@ -66,16 +67,10 @@ fn evicted(count: u64, locked: u64) -> Counts {
 }
 
 /// A page moves while another hand has the stripe of its item.
-fn move_beside_stripe<R: Abort + Wait>(
-    rt: &R,
-    alloc: Global,
-    arena: &Arena,
-    hand: &mut Hand,
-    other: &mut Hand,
-) -> Result<(), Fail>
-    requires hand { IsReadyHandOf arena.now hand.old }
-    requires other { IsReadyHandOf arena.now other.old }
+fn move_beside_stripe<R: Abort + Wait>(rt: &R, alloc: Global, two: &mut Two) -> Result<(), Fail>
+    requires { AreReady two.old }
 {
+    let Two { arena, hand, other } = two;
     let steps = [Step::Sets(1, 9, 61), Step::Reassigns(Some(4), 1, Ok(()))];
     play_all(rt, alloc, arena, hand, &steps)?;
     let went = turn_beside_stripe(arena, hand, other, 1);
@@ -91,23 +86,14 @@ fn move_beside_stripe<R: Abort + Wait>(
 
 #[test]
 fn a_held_stripe_holds_up_the_page(rt: HostRuntime) -> Result<(), Fail> {
-    let mut two = opened_two(rt.alloc(), &FOUR_CLASSES)?;
-    let played = move_beside_stripe(&rt, rt.alloc(), &two.arena, &mut two.hand, &mut two.other);
-    drop(two);
-    played
+    play_two!(rt, move_beside_stripe)
 }
 
 /// Turns that don't wait, beside a hand that has the slabs.
-fn turn_while_slabs_are_held<R: Abort + Wait>(
-    rt: &R,
-    alloc: Global,
-    arena: &Arena,
-    hand: &mut Hand,
-    other: &mut Hand,
-) -> Result<(), Fail>
-    requires hand { IsReadyHandOf arena.now hand.old }
-    requires other { IsReadyHandOf arena.now other.old }
+fn turn_beside_held_slabs<R: Abort + Wait>(rt: &R, alloc: Global, two: &mut Two) -> Result<(), Fail>
+    requires { AreReady two.old }
 {
+    let Two { arena, hand, other } = two;
     let refused = turn_beside_slabs(arena, hand, other);
     assert_equal(rt, refused, Some(Err(TryTurn::Held)), "no page moves");
     let steps = [Step::Sets(1, 9, 61), Step::Reassigns(Some(4), 1, Ok(()))];
@@ -124,14 +110,5 @@ fn turn_while_slabs_are_held<R: Abort + Wait>(
 
 #[test]
 fn who_does_not_wait_is_told_that_the_slabs_are_held(rt: HostRuntime) -> Result<(), Fail> {
-    let mut two = opened_two(rt.alloc(), &FOUR_CLASSES)?;
-    let played = turn_while_slabs_are_held(
-        &rt,
-        rt.alloc(),
-        &two.arena,
-        &mut two.hand,
-        &mut two.other,
-    );
-    drop(two);
-    played
+    play_two!(rt, turn_beside_held_slabs)
 }

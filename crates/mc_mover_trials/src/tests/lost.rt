@@ -3,10 +3,10 @@ ghost use Rattle.std.specs.Prelude.{IfOk};
 ghost use Rattle.mc_words.specs.hand.Arenas.{IsHandOf};
 ghost use Rattle.mc_calls.specs.Hands.{IsReadyHandOf};
 
-use super::steps::{Step, play_all};
+use super::steps::Step;
 use super::{assert_equal, assert_same};
 use mc_calls::{
-    FOUR_CLASSES, Two, delete_key, get_key, has_words, header, opened_two, try_turn_by,
+    FOUR_CLASSES, Two, delete_key, get_key, has_words, header, opened_two, play_all, try_turn_by,
 };
 use mc_items::{TryGetError, release, try_get};
 use mc_mover::TryTurn;

@@ -1,6 +1,6 @@
 //! The automover's mode 2: an eviction asks for a page for its class.
-use super::steps::{Step, run};
-use mc_calls::FOUR_CLASSES;
+use super::steps::Step;
+use mc_calls::{FOUR_CLASSES, run};
 use std::test::Fail;
 
 #[test]

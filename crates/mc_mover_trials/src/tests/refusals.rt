@@ -1,12 +1,10 @@
 //! Moves that are refused.
-ghost use Rattle.mc_calls.specs.Hands.{IsReadyHandOf};
+ghost use Rattle.mc_calls.specs.Pairs.{AreReady};
 
-use super::steps::{Step, play_all, run};
-use mc_calls::{FOUR_CLASSES, get_key, opened_two};
+use super::steps::Step;
+use mc_calls::{FOUR_CLASSES, Two, get_key, play_all, play_two, run};
 use mc_pages::Reassign;
-use mc_words::{Arena, Hand};
 use std::alloc::Global;
-use std::process::Abort;
 use std::sync::Wait;
 use std::test::Fail;
 
@@ -31,16 +29,14 @@ fn refusals_come_in_their_order(rt: HostRuntime) -> Result<(), Fail> {
 }
 
 /// Moves are asked for while one page moves, whose item the reader holds.
-fn ask_while_one_moves<R: Abort + Wait>(
-    rt: &R,
-    alloc: Global,
-    arena: &Arena,
-    hand: &mut Hand,
-    reader: &mut Hand,
-) -> Result<(), Fail>
-    requires hand { IsReadyHandOf arena.now hand.old }
-    requires reader { IsReadyHandOf arena.now reader.old }
+fn ask_while_one_moves<R: Wait>(rt: &R, alloc: Global, two: &mut Two) -> Result<(), Fail>
+    requires { AreReady two.old }
 {
+    let Two {
+        arena,
+        hand,
+        other: reader,
+    } = two;
     play_all(rt, alloc, arena, hand, &[Step::Sets(1, 9, 61)])?;
     if get_key(rt, arena, reader, 1).is_none() {
         return Err(Fail::new("the key has an item"));
@@ -62,8 +58,5 @@ fn ask_while_one_moves<R: Abort + Wait>(
 
 #[test]
 fn one_page_moves_at_a_time(rt: HostRuntime) -> Result<(), Fail> {
-    let mut two = opened_two(rt.alloc(), &FOUR_CLASSES)?;
-    let played = ask_while_one_moves(&rt, rt.alloc(), &two.arena, &mut two.hand, &mut two.other);
-    drop(two);
-    played
+    play_two!(rt, ask_while_one_moves)
 }

@@ -1,11 +1,10 @@
 //! Pages that move while their class has other chunks: items are taken there.
-ghost use Rattle.mc_calls.specs.Hands.{IsReadyHandOf};
+ghost use Rattle.mc_calls.specs.Pairs.{AreReady};
 
 use super::assert_same;
-use super::steps::{Step, play_all, run};
-use mc_calls::{FOUR_CLASSES, key_has, opened_two};
+use super::steps::Step;
+use mc_calls::{FOUR_CLASSES, Two, key_has, play_all, play_two, run};
 use mc_pages::Reassign;
-use mc_words::{Arena, Hand};
 use std::alloc::Global;
 use std::process::Abort;
 use std::sync::Wait;
@@ -25,14 +24,10 @@ fn an_item_is_taken_to_a_dead_chunk_of_its_class(rt: HostRuntime) -> Result<(), 
 }
 
 /// An item is rescued, read, and evicted as the eldest.
-fn read_behind_a_rescue<R: Abort + Wait>(
-    rt: &R,
-    alloc: Global,
-    arena: &Arena,
-    hand: &mut Hand,
-) -> Result<(), Fail>
-    requires hand { IsReadyHandOf arena.now hand.old }
+fn read_behind_a_rescue<R: Abort + Wait>(rt: &R, alloc: Global, two: &mut Two) -> Result<(), Fail>
+    requires { AreReady two.old }
 {
+    let Two { arena, hand, .. } = two;
     let steps = [
         Step::Sets(1, 8, 61),
         Step::Sets(8, 9, 61),
@@ -54,10 +49,7 @@ fn read_behind_a_rescue<R: Abort + Wait>(
 
 #[test]
 fn a_rescued_item_keeps_its_words_and_its_age(rt: HostRuntime) -> Result<(), Fail> {
-    let mut two = opened_two(rt.alloc(), &FOUR_CLASSES)?;
-    let played = read_behind_a_rescue(&rt, rt.alloc(), &two.arena, &mut two.hand);
-    drop(two);
-    played
+    play_two!(rt, read_behind_a_rescue)
 }
 
 #[test]

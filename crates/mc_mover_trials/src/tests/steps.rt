@@ -1,21 +1,16 @@
-//! A call with what it is to give. A list of calls is one call of a test, so that it is checked fast.
+//! A call with what it is to give.
 ghost use Rattle.mc_calls.specs.Hands.{IsReadyHandOf};
 
-use super::assert_same;
 use mc_calls::{
-    Chunks, delete_key, opened_two, reassign_by, set_mode_by, stats_of, store_all, touch_key,
-    turn_by,
+    Chunks, Played, delete_key, reassign_by, set_mode_by, stats_of, store_all, touch_key, turn_by,
 };
-use mc_classes::{ClassId, Config};
-use mc_memory::Refused;
+use mc_classes::ClassId;
 use mc_mover::{Counts, Turn, forget, trim};
 use mc_pages::Reassign;
 use mc_stripe::Key;
 use mc_words::{Arena, Hand};
 use std::alloc::Global;
-use std::process::Abort;
 use std::sync::Wait;
-use std::test::Fail;
 
 /// A call, and what it is to give.
 #[derive(Drop)]
@@ -132,44 +127,36 @@ pub fn has_chunks<R: Wait>(
     }
 }
 
-/// Whether the call gives what it is to.
-fn plays<R: Wait>(
-    rt: &R,
-    alloc: Global,
-    arena: &Arena,
-    hand: &mut Hand,
-    step: &Step,
-) -> Result<bool, Refused>
-    requires arena { IsReadyHandOf arena.now hand.old }
-    ensures arena { IsReadyHandOf arena.now hand.new }
-{
-    match step {
-        Step::Sets(first, end, len) => store_all(
-            rt,
-            alloc,
-            arena,
-            hand,
-            (*first, *end),
-            *first,
-            *len,
-        ),
-        Step::Modes(mode) => Ok(has_mode(rt, alloc, arena, hand, *mode)),
-        Step::Pages(granted, pool, running) => {
-            Ok(has_pages(rt, alloc, arena, hand, (*granted, *pool, *running)))
+impl mc_calls::Step for Step {
+    fn plays<R: Wait>(&self, rt: &R, alloc: Global, arena: &Arena, hand: &mut Hand) -> Played {
+        match self {
+            Step::Sets(first, end, len) => store_all(
+                rt,
+                alloc,
+                arena,
+                hand,
+                (*first, *end),
+                *first,
+                *len,
+            ),
+            Step::Modes(mode) => Ok(has_mode(rt, alloc, arena, hand, *mode)),
+            Step::Pages(granted, pool, running) => {
+                Ok(has_pages(rt, alloc, arena, hand, (*granted, *pool, *running)))
+            }
+            Step::Moved(moved, rescues, evictions_nomem, busy) => {
+                let wanted = (*moved, *rescues, *evictions_nomem, *busy);
+                Ok(has_moved(rt, alloc, arena, hand, wanted))
+            }
+            Step::Has(class, pages, used, free) => {
+                let chunks = Chunks {
+                    pages: *pages,
+                    used: *used,
+                    free: *free,
+                };
+                Ok(has_chunks(rt, alloc, arena, hand, true, *class, chunks))
+            }
+            _ => Ok(acts(rt, arena, hand, self)),
         }
-        Step::Moved(moved, rescues, evictions_nomem, busy) => {
-            let wanted = (*moved, *rescues, *evictions_nomem, *busy);
-            Ok(has_moved(rt, alloc, arena, hand, wanted))
-        }
-        Step::Has(class, pages, used, free) => {
-            let chunks = Chunks {
-                pages: *pages,
-                used: *used,
-                free: *free,
-            };
-            Ok(has_chunks(rt, alloc, arena, hand, true, *class, chunks))
-        }
-        _ => Ok(acts(rt, arena, hand, step)),
     }
 }
 
@@ -198,36 +185,4 @@ fn acts<R: Wait>(rt: &R, arena: &Arena, hand: &mut Hand, step: &Step) -> bool
         }
         _ => false,
     }
-}
-
-/// Each call gives what it is to, one after another.
-pub fn play_all<R: Abort + Wait>(
-    rt: &R,
-    alloc: Global,
-    arena: &Arena,
-    hand: &mut Hand,
-    steps: &[Step],
-) -> Result<(), Refused>
-    requires arena { IsReadyHandOf arena.now hand.old }
-    ensures arena { IsReadyHandOf arena.now hand.new }
-{
-    for place in 0..steps.len() {
-        let done = plays(rt, alloc, arena, hand, &steps[place])?;
-        assert_same(rt, (place, done), (place, true), "a step, from 0");
-    }
-    Ok(())
-}
-
-/// Each call gives what it is to, in a new arena of this configuration.
-pub fn run<R: Abort + Wait>(
-    rt: &R,
-    alloc: Global,
-    config: &Config,
-    steps: &[Step],
-) -> Result<(), Fail> {
-    let mut two = opened_two(alloc, config)?;
-    let played = play_all(rt, alloc, &two.arena, &mut two.hand, steps);
-    drop(two);
-    played?;
-    Ok(())
 }

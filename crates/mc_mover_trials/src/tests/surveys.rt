@@ -1,10 +1,9 @@
 //! Surveys.
-ghost use Rattle.mc_calls.specs.Hands.{IsReadyHandOf};
+ghost use Rattle.mc_calls.specs.Pairs.{AreReady};
 
 use super::assert_same;
-use super::steps::{Step, has_chunks, play_all, run};
-use mc_calls::{Chunks, FOUR_CLASSES, opened_two};
-use mc_words::{Arena, Hand};
+use super::steps::{Step, has_chunks};
+use mc_calls::{Chunks, FOUR_CLASSES, Two, play_all, play_two, run};
 use std::alloc::Global;
 use std::process::Abort;
 use std::sync::Wait;
@@ -25,16 +24,10 @@ const HALF_FREE: Chunks = Chunks {
 };
 
 /// Surveys with and without a sweep, of a class that has a dead chunk.
-fn survey_beside_dead<R: Abort + Wait>(
-    rt: &R,
-    alloc: Global,
-    arena: &Arena,
-    hand: &mut Hand,
-    other: &mut Hand,
-) -> Result<(), Fail>
-    requires hand { IsReadyHandOf arena.now hand.old }
-    requires other { IsReadyHandOf arena.now other.old }
+fn survey_beside_dead<R: Abort + Wait>(rt: &R, alloc: Global, two: &mut Two) -> Result<(), Fail>
+    requires { AreReady two.old }
 {
+    let Two { arena, hand, other } = two;
     let steps = [Step::Sets(1, 3, 61), Step::Deletes(1)];
     play_all(rt, alloc, arena, hand, &steps)?;
     for (sweep, chunks) in [(false, USED), (true, HALF_FREE), (false, HALF_FREE)] {
@@ -46,10 +39,7 @@ fn survey_beside_dead<R: Abort + Wait>(
 
 #[test]
 fn a_survey_puts_dead_chunks_back_where_it_is_to(rt: HostRuntime) -> Result<(), Fail> {
-    let mut two = opened_two(rt.alloc(), &FOUR_CLASSES)?;
-    let played = survey_beside_dead(&rt, rt.alloc(), &two.arena, &mut two.hand, &mut two.other);
-    drop(two);
-    played
+    play_two!(rt, survey_beside_dead)
 }
 
 #[test]

@@ -1,16 +1,15 @@
 //! Stripes that are trimmed between calls, or forget their calls: the answers are the same, and what is told isn't kept.
 use super::assert_same;
-use super::steps::{Step, play_all};
-use mc_calls::{FOUR_CLASSES, Two, opened_two};
+use super::steps::Step;
+use mc_calls::{FOUR_CLASSES, Two, opened_two, play_all};
 use mc_pages::Reassign;
 use mc_words::Final;
 use std::alloc::Global;
-use std::process::Abort;
 use std::sync::Wait;
 use std::test::Fail;
 
 /// The arena that these calls leave.
-fn close_behind<R: Abort + Wait>(rt: &R, alloc: Global, steps: &[Step]) -> Result<Final, Fail> {
+fn close_behind<R: Wait>(rt: &R, alloc: Global, steps: &[Step]) -> Result<Final, Fail> {
     let Two {
         arena,
         mut hand,
