@@ -2,7 +2,8 @@
 ghost use Rattle.mc_calls.specs.Hands.{IsIdleHandOf};
 
 use super::words::draw;
-use mc_mover::{Counts, Survey, TryTurn, Turn, reassign, set_mode, survey, try_turn, turn};
+use mc_calls::{NO_TURNS, Turns};
+use mc_mover::{Survey, TryTurn, reassign, set_mode, survey, try_turn, turn};
 use mc_words::{Arena, Hand};
 use std::alloc::Global;
 use std::sync::Wait;
@@ -10,55 +11,22 @@ use std::sync::Wait;
 /// How many rounds there are.
 const ROUNDS: u64 = 60_000;
 
-/// What turns told, all together.
+/// What a mover's rounds told.
 #[derive(Clone, Copy)]
 pub struct Tally {
-    /// Pages that came to their destination.
-    pub moved: u64,
-    /// Items that were taken to another chunk.
-    pub rescued: u64,
-    /// Items that were evicted, as there was no other chunk.
-    pub evicted: u64,
-    /// Chunks that held up a page.
-    pub held_up: u64,
+    /// What its turns told.
+    pub turns: Turns,
     /// How often a survey didn't add up, or there was no memory.
     pub wrong: u64,
 }
 
-/// What is told before the first turn.
-pub const NOTHING: Tally = Tally {
-    moved: 0,
-    rescued: 0,
-    evicted: 0,
-    held_up: 0,
+/// What is told before the first round.
+const NOTHING: Tally = Tally {
+    turns: NO_TURNS,
     wrong: 0,
 };
 
 impl Tally {
-    /// Adds what a turn found.
-    fn add(&mut self, counts: Counts) {
-        self.rescued = self.rescued.saturating_add(counts.rescued);
-        self.evicted = self.evicted.saturating_add(counts.evicted);
-        let held_up = counts.busy.saturating_add(counts.locked);
-        self.held_up = self.held_up.saturating_add(held_up);
-    }
-
-    /// Adds what a turn told, and says whether it ended with no page on the move.
-    pub fn note(&mut self, turn: Turn) -> bool {
-        match turn {
-            Turn::Idle => true,
-            Turn::Went(counts) => {
-                self.add(counts);
-                false
-            }
-            Turn::Finished(counts) => {
-                self.add(counts);
-                self.moved = self.moved.saturating_add(1);
-                true
-            }
-        }
-    }
-
     /// Counts what is wrong.
     fn check(&mut self, is_right: bool) {
         if !is_right {
@@ -86,7 +54,7 @@ fn turn_by<R: Wait>(rt: &R, arena: &Arena, hand: &mut Hand, tally: &mut Tally) -
     ensures arena { IsIdleHandOf arena.now hand.new }
 {
     match turn(rt, arena, hand) {
-        Ok(done) => tally.note(done),
+        Ok(done) => tally.turns.note(done),
         Err(_) => {
             tally.check(false);
             false
@@ -100,7 +68,7 @@ fn try_turn_by(arena: &Arena, hand: &mut Hand, tally: &mut Tally) -> bool
     ensures arena { IsIdleHandOf arena.now hand.new }
 {
     match try_turn(arena, hand) {
-        Ok(done) => tally.note(done),
+        Ok(done) => tally.turns.note(done),
         Err(TryTurn::Held) => false,
         Err(TryTurn::NoMemory(_)) => {
             tally.check(false);
@@ -176,7 +144,7 @@ fn act<R: Wait>(
     }
 }
 
-/// A mover's hand, and what its turns told.
+/// A mover's hand, and what its rounds told.
 #[derive(Drop)]
 pub struct Mover {
     pub hand: Hand,

@@ -5,7 +5,7 @@ use super::driver::Tally;
 use super::replays::{Calls, are_first_stamps, are_legal, calls_of, is_ledger_right};
 use super::words::KEYS;
 use super::workers::Told;
-use mc_calls::{NO_SUMS, Sums, all_sums, class_sums, count_keys, count_pages};
+use mc_calls::{NO_SUMS, Sums, Turns, all_sums, class_sums, count_keys, count_pages};
 use mc_mover::{Survey, survey};
 use mc_stripe::HandId;
 use mc_words::{Arena, Final, Hand};
@@ -109,8 +109,8 @@ fn check_mover(left: &Final, hand: HandId, tally: Tally) -> Result<(), Fail> {
         sets: 0,
         gets: 0,
         deletes: 0,
-        evicts: tally.evicted,
-        rescues: tally.rescued,
+        evicts: tally.turns.evicted,
+        rescues: tally.turns.rescued,
     };
     check(
         calls_of(left, hand) == Some(own),
@@ -119,7 +119,7 @@ fn check_mover(left: &Final, hand: HandId, tally: Tally) -> Result<(), Fail> {
 }
 
 /// What was counted in all is what both movers counted.
-fn check_moves(found: &Survey, low: Tally, high: Tally) -> Result<(), Fail> {
+fn check_moves(found: &Survey, low: Turns, high: Turns) -> Result<(), Fail> {
     let totals = found.totals;
     let counted = (totals.moved, totals.rescues, totals.evictions_nomem);
     let told = (
@@ -142,7 +142,7 @@ fn check_final(
 ) -> Result<(), Fail> {
     check_chunks(left, found)?;
     check_pages(alloc, left, found)?;
-    check_moves(found, low.0, high.0)?;
+    check_moves(found, low.0.turns, high.0.turns)?;
     check_mover(left, 0, low.0)?;
     check_mover(left, 2, high.0)?;
     let evicted = check_worker(alloc, left, 1, low.1)?;

@@ -7,15 +7,14 @@ ghost use Rattle.mc_race_trials.specs.Keepers.{AreNear, IsKeeperOf};
 use super::calls::set_key;
 use super::driver::{Mover, drive};
 use super::ends::check;
-use super::holding::{give_all_back, give_back};
+use super::holding::give_all_back;
 use super::replays::is_stripe_legal;
 use super::stress::TWELVE_PAGES;
 use super::words::{KEYS, draw};
 use super::workers::{
-    Hints, NOTHING, Told, keep_and_read, make_room, no_hints, place_in, read_one,
+    Keeper, NOTHING, Told, give_one_back, keep_and_read, make_room, no_hints, place_in, read_one,
 };
-use mc_calls::{head, next_hand, one_of, opened};
-use mc_items::Ref;
+use mc_calls::{head, next_hand, one_of, opened, three_of};
 use mc_pages::ChunkId;
 use mc_words::{Arena, Final, Hand};
 use std::alloc::Global;
@@ -33,61 +32,34 @@ const MOST_KEPT: u64 = 3;
 const TRIES: u64 = 1000;
 
 /// One round of a reader, which waits for nobody.
-fn act<R: Wait>(
-    rt: &R,
-    alloc: Global,
-    arena: &Arena,
-    hand: &mut Hand,
-    kept: &mut Vec<Ref>,
-    hints: &mut Hints,
-    told: &mut Told,
-    drawn: u64,
-)
-    requires keeper { IsKeeperOf arena.now hand.old kept.old.items }
-    requires near { AreNear arena.now hints.old.items }
-    ensures keeper { IsKeeperOf arena.now hand.new kept.new.items }
-    ensures near { AreNear arena.now hints.new.items }
+fn act<R: Wait>(rt: &R, alloc: Global, arena: &Arena, keeper: &mut Keeper, drawn: u64)
+    requires keeper { IsKeeperOf arena.now keeper.old.hand keeper.old.kept.items × AreNear arena.now keeper.old.hints.items }
+    ensures keeper { IsKeeperOf arena.now keeper.new.hand keeper.new.kept.items × AreNear arena.now keeper.new.hints.items }
 {
-    make_room(arena, hand, kept, MOST_KEPT, drawn);
-    let place = place_in(kept.len(), drawn);
+    make_room(arena, keeper, MOST_KEPT, drawn);
+    let place = place_in(keeper.kept.len(), drawn);
     match drawn / 4096 % 8 {
-        0..=3 => keep_and_read(
-            rt,
-            alloc,
-            arena,
-            hand,
-            kept,
-            hints,
-            told,
-            drawn % KEYS,
-            false,
-        ),
-        4 | 5 => read_one(alloc, arena, hand, kept, told, place),
-        _ => give_back(arena, hand, kept, place),
+        0..=3 => keep_and_read(rt, alloc, arena, keeper, drawn % KEYS, false),
+        4 | 5 => read_one(alloc, arena, keeper, place),
+        _ => give_one_back(arena, keeper, place),
     }
 }
 
-/// The rounds of a hand that is lost behind them, with the references that it keeps. How many these are.
-fn act_and_lose<R: Wait>(
+/// A reader's rounds from the first on, before the second.
+fn act_often<R: Wait>(
     rt: &R,
     alloc: Global,
     arena: &Arena,
-    hand: Hand,
-    hints: &mut Hints,
-    told: &mut Told,
+    keeper: &mut Keeper,
     thread: u64,
-) -> u64
-    requires hand { IsIdleHandOf arena.now hand }
-    requires near { AreNear arena.now hints.old.items }
-    ensures near { AreNear arena.now hints.new.items }
+    rounds: (u64, u64),
+)
+    requires keeper { IsKeeperOf arena.now keeper.old.hand keeper.old.kept.items × AreNear arena.now keeper.old.hints.items }
+    ensures keeper { IsKeeperOf arena.now keeper.new.hand keeper.new.kept.items × AreNear arena.now keeper.new.hints.items }
 {
-    let mut hand = hand;
-    let mut kept = Vec::new(alloc);
-    for round in 0..ROUNDS.0 {
-        let drawn = draw(thread, round);
-        act(rt, alloc, arena, &mut hand, &mut kept, hints, told, drawn);
+    for round in rounds.0..rounds.1 {
+        act(rt, alloc, arena, keeper, draw(thread, round));
     }
-    kept.len() as u64
 }
 
 /// Takes a stripe by a hand that is lost with it. False where another hand has it all the time.
@@ -135,9 +107,9 @@ fn read<R: Wait>(
     requires hands { IsIdleHandOf arena.now hands.0 × IsIdleHandOf arena.now hands.1 × IsIdleHandOf arena.now hands.2 }
     ensures hand { IsIdleHandOf arena.now result.hand }
 {
-    let (first, second, mut hand) = hands;
+    let (first, second, hand) = hands;
     let mut told = NOTHING;
-    let Ok(mut hints) = no_hints(alloc, arena) else {
+    let Ok(hints) = no_hints(alloc, arena) else {
         told.note(false);
         return Reader {
             hand,
@@ -146,19 +118,32 @@ fn read<R: Wait>(
             stripe: false,
         };
     };
-    let refs = act_and_lose(rt, alloc, arena, first, &mut hints, &mut told, thread);
+    let mut keeper = Keeper {
+        hand: first,
+        kept: Vec::new(alloc),
+        hints,
+        told,
+    };
+    act_often(rt, alloc, arena, &mut keeper, thread, (0, ROUNDS.0));
+    let Keeper {
+        hand: _lost,
+        kept,
+        hints,
+        told,
+    } = keeper;
+    let refs = kept.len() as u64;
     let stripe = lose_stripe(arena, second, thread);
-    let mut kept = Vec::new(alloc);
-    for round in ROUNDS.0..ROUNDS.1 {
-        let drawn = draw(thread, round);
-        act(
-            rt, alloc, arena, &mut hand, &mut kept, &mut hints, &mut told, drawn,
-        );
-    }
-    let hand = give_all_back(arena, hand, kept);
+    let mut keeper = Keeper {
+        hand,
+        kept: Vec::new(alloc),
+        hints,
+        told,
+    };
+    act_often(rt, alloc, arena, &mut keeper, thread, ROUNDS);
+    let hand = give_all_back(arena, keeper.hand, keeper.kept);
     Reader {
         hand,
-        told,
+        told: keeper.told,
         refs,
         stripe,
     }
@@ -241,18 +226,6 @@ fn store_each<R: Wait>(rt: &R, alloc: Global, arena: &Arena, hand: &mut Hand)
     for key in 0..KEYS {
         let _stored = set_key(rt, alloc, arena, hand, key);
     }
-}
-
-/// The three hands of the lowest numbers that are left.
-fn three_of(arena: &Arena, hands: &mut Vec<Hand>) -> Option<(Hand, Hand, Hand)>
-    requires hands { AreHandsOf arena.now hands.old.items }
-    ensures hands { AreHandsOf arena.now hands.new.items }
-    ensures three { IfSome result (λ three. IsIdleHandOf arena.now three.0 × IsIdleHandOf arena.now three.1 × IsIdleHandOf arena.now three.2) }
-{
-    let first = next_hand(arena, hands)?;
-    let second = next_hand(arena, hands)?;
-    let third = next_hand(arena, hands)?;
-    Some((first, second, third))
 }
 
 /// What was lost, and how often something was wrong.

@@ -1,5 +1,5 @@
 //! Both orders in which a hand has an item again while another one takes it away, and what the next turns find then.
-ghost use Rattle.std.specs.Prelude.{◌≡◌, IfOk, IfSome, true};
+ghost use Rattle.std.specs.Prelude.{◌≡◌, IfSome, true};
 ghost use Rattle.mc_pages.specs.Pages.{is_on_the_move};
 ghost use Rattle.mc_pages.specs.SlabState.{class_of_page};
 ghost use Rattle.mc_core.specs.State.{has_chunk, is_class};
@@ -8,15 +8,16 @@ ghost use Rattle.mc_words.specs.hand.Observers.{HasSlabs, slabs_lent};
 ghost use Rattle.mc_words.specs.hand.Ready.{IsReady};
 ghost use Rattle.mc_items.specs.ItemRefs.{IsItemRef};
 ghost use Rattle.mc_calls.specs.Hands.{IsReadyHandOf};
+ghost use Rattle.mc_calls.specs.Pairs.{AreReady};
 ghost use Rattle.mc_race_trials.specs.Keepers.{IsNear};
 
 use super::calls::set_key;
 use super::ends::check;
 use super::races::{Fate, look_and_lock, take_away};
 use super::words::are_words_of;
-use mc_calls::{opened, two_of};
+use mc_calls::{Two, has_chunk, hint_of, opened_two};
 use mc_classes::{ClassId, Config};
-use mc_items::{Ref, again, get, hint, read, release};
+use mc_items::{Ref, again, get, read, release};
 use mc_mover::{Counts, Turn, reassign, turn};
 use mc_pages::ChunkId;
 use mc_stripe::Key;
@@ -40,14 +41,6 @@ const TWO_PAGES: Config = Config {
 
 /// The key whose item goes into the first chunk, and that chunk. Each fourth key has an item of the greatest class.
 const FIRST: (Key, ChunkId) = (3, ChunkId { page: 0, index: 1 });
-
-/// Whether the arena has such a chunk.
-fn has_chunk(arena: &Arena, chunk: ChunkId) -> bool
-    ensures { result ≡ has_chunk (setup_of arena.now).table chunk }
-{
-    let classes = arena.classes();
-    chunk.page < classes.arena_pages() && chunk.index < classes.per_page(1)
-}
 
 /// The class of a chunk's page, if it moves.
 fn class_on_move(arena: &Arena, _hand: &Hand, held: &SlabsHeld, chunk: ChunkId) -> Option<ClassId>
@@ -136,20 +129,6 @@ fn race<R: Abort>(
     Some((fate, item))
 }
 
-/// A hint of the key's item, if it has one.
-fn hint_of<R: Wait>(rt: &R, arena: &Arena, hand: &mut Hand, key: Key) -> Option<Hint>
-    requires hand { IsReadyHandOf arena.now hand.old }
-    ensures hand { IsReadyHandOf arena.now hand.new }
-    ensures near { IfSome result (IsNear arena.now) }
-{
-    let Ok(Some(item)) = get(rt, arena, hand, key) else {
-        return None;
-    };
-    let hint = hint(&item);
-    release(arena, hand, item);
-    Some(hint)
-}
-
 /// Whether the item is the key's, and has its own words. It is given up, also where memory ran out.
 fn is_own(alloc: Global, arena: &Arena, hand: &mut Hand, item: Ref, key: Key) -> bool
     requires hand { IsReadyHandOf arena.now hand.old }
@@ -213,26 +192,6 @@ fn turns<R: Wait>(rt: &R, arena: &Arena, hand: &mut Hand, wanted: Turn) -> bool
     }
 }
 
-/// An arena and two of its hands. How it is dropped is proved at each place where it goes out of scope, so a test drops it by one call,
-/// behind all that may fail.
-#[derive(Drop)]
-struct Two {
-    arena: Arena,
-    hand: Hand,
-    other: Hand,
-}
-
-/// A new arena of two pages, and its two hands.
-fn opened_two(alloc: Global) -> Result<Two, Fail>
-    ensures hands { IfOk result (λ two. IsReadyHandOf two.arena two.hand × IsReadyHandOf two.arena two.other) }
-{
-    let (arena, mut hands) = opened(alloc, &TWO_PAGES, 2)?;
-    match two_of(&arena, &mut hands) {
-        Some((hand, other)) => Ok(Two { arena, hand, other }),
-        None => Err(Fail::new("there are two hands")),
-    }
-}
-
 /// So many items are stored, and the first page begins to move.
 fn begin_move<R: Wait>(
     rt: &R,
@@ -253,15 +212,13 @@ fn begin_move<R: Wait>(
 fn race_again_first<R: Abort + Wait>(
     rt: &R,
     alloc: Global,
-    arena: &Arena,
-    hand: &mut Hand,
-    other: &mut Hand,
+    two: &mut Two,
     count: u64,
     went: Counts,
 ) -> Result<(), Fail>
-    requires hand { IsReadyHandOf arena.now hand.old }
-    requires other { IsReadyHandOf arena.now other.old }
+    requires { AreReady two.old }
 {
+    let Two { arena, hand, other } = two;
     begin_move(rt, alloc, arena, hand, count)?;
     let hint = hint_of(rt, arena, other, FIRST.0);
     let Some((fate, item)) = race(rt, arena, hand, other, FIRST.1, hint) else {
@@ -297,16 +254,8 @@ fn again_first<R: Abort + Wait>(
     count: u64,
     went: Counts,
 ) -> Result<(), Fail> {
-    let mut two = opened_two(alloc)?;
-    let raced = race_again_first(
-        rt,
-        alloc,
-        &two.arena,
-        &mut two.hand,
-        &mut two.other,
-        count,
-        went,
-    );
+    let mut two = opened_two(alloc, &TWO_PAGES)?;
+    let raced = race_again_first(rt, alloc, &mut two, count, went);
     drop(two);
     raced
 }
@@ -322,16 +271,10 @@ fn what_is_had_again_is_not_evicted(rt: HostRuntime) -> Result<(), Fail> {
 }
 
 /// The first of four items is evicted before its hint is followed.
-fn race_eviction_first<R: Abort + Wait>(
-    rt: &R,
-    alloc: Global,
-    arena: &Arena,
-    hand: &mut Hand,
-    other: &mut Hand,
-) -> Result<(), Fail>
-    requires hand { IsReadyHandOf arena.now hand.old }
-    requires other { IsReadyHandOf arena.now other.old }
+fn race_eviction_first<R: Abort + Wait>(rt: &R, alloc: Global, two: &mut Two) -> Result<(), Fail>
+    requires { AreReady two.old }
 {
+    let Two { arena, hand, other } = two;
     begin_move(rt, alloc, arena, hand, 4)?;
     let hint = hint_of(rt, arena, other, FIRST.0);
     let Some((fate, _)) = race(rt, arena, hand, other, FIRST.1, None) else {
@@ -349,8 +292,8 @@ fn race_eviction_first<R: Abort + Wait>(
 
 #[test]
 fn what_was_evicted_is_not_had_again(rt: HostRuntime) -> Result<(), Fail> {
-    let mut two = opened_two(rt.alloc())?;
-    let raced = race_eviction_first(&rt, rt.alloc(), &two.arena, &mut two.hand, &mut two.other);
+    let mut two = opened_two(rt.alloc(), &TWO_PAGES)?;
+    let raced = race_eviction_first(&rt, rt.alloc(), &mut two);
     drop(two);
     raced
 }

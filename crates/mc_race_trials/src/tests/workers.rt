@@ -95,54 +95,41 @@ fn note_hint(_arena: &Arena, hints: &mut Hints, key: Key, note: (Hint, Stamp))
     }
 }
 
+/// A hand with the references that it keeps, hints of the keys' items, and what its rounds told.
+#[derive(Drop)]
+pub struct Keeper {
+    pub hand: Hand,
+    pub kept: Vec<Ref>,
+    pub hints: Hints,
+    pub told: Told,
+}
+
 /// Gets and keeps the key's item, and notes a hint of it.
-fn keep_fresh<R: Wait>(
-    rt: &R,
-    arena: &Arena,
-    hand: &mut Hand,
-    kept: &mut Vec<Ref>,
-    hints: &mut Hints,
-    told: &mut Told,
-    key: Key,
-    waits: bool,
-)
-    requires keeper { IsKeeperOf arena.now hand.old kept.old.items }
-    requires near { AreNear arena.now hints.old.items }
-    ensures keeper { IsKeeperOf arena.now hand.new kept.new.items }
-    ensures near { AreNear arena.now hints.new.items }
+fn keep_fresh<R: Wait>(rt: &R, arena: &Arena, keeper: &mut Keeper, key: Key, waits: bool)
+    requires keeper { IsKeeperOf arena.now keeper.old.hand keeper.old.kept.items × AreNear arena.now keeper.old.hints.items }
+    ensures keeper { IsKeeperOf arena.now keeper.new.hand keeper.new.kept.items × AreNear arena.now keeper.new.hints.items }
 {
-    match keep_key(rt, arena, hand, kept, key, waits) {
+    match keep_key(rt, arena, &mut keeper.hand, &mut keeper.kept, key, waits) {
         Ok(Some(note)) => {
-            told.got(true);
-            note_hint(arena, hints, key, note);
+            keeper.told.got(true);
+            note_hint(arena, &mut keeper.hints, key, note);
         }
-        Ok(None) => told.got(true),
+        Ok(None) => keeper.told.got(true),
         Err(_) => {}
     }
 }
 
 /// Keeps the key's item by its hint; where it is gone, by a get.
-fn keep<R: Wait>(
-    rt: &R,
-    arena: &Arena,
-    hand: &mut Hand,
-    kept: &mut Vec<Ref>,
-    hints: &mut Hints,
-    told: &mut Told,
-    key: Key,
-    waits: bool,
-)
-    requires keeper { IsKeeperOf arena.now hand.old kept.old.items }
-    requires near { AreNear arena.now hints.old.items }
-    ensures keeper { IsKeeperOf arena.now hand.new kept.new.items }
-    ensures near { AreNear arena.now hints.new.items }
+fn keep<R: Wait>(rt: &R, arena: &Arena, keeper: &mut Keeper, key: Key, waits: bool)
+    requires keeper { IsKeeperOf arena.now keeper.old.hand keeper.old.kept.items × AreNear arena.now keeper.old.hints.items }
+    ensures keeper { IsKeeperOf arena.now keeper.new.hand keeper.new.kept.items × AreNear arena.now keeper.new.hints.items }
 {
-    let Some(note) = hint_of(arena, hints, key) else {
-        return keep_fresh(rt, arena, hand, kept, hints, told, key, waits);
+    let Some(note) = hint_of(arena, &keeper.hints, key) else {
+        return keep_fresh(rt, arena, keeper, key, waits);
     };
-    match keep_again(arena, hand, kept, note) {
-        Ok(is_right) => told.note(is_right),
-        Err(Again::Gone) => keep_fresh(rt, arena, hand, kept, hints, told, key, waits),
+    match keep_again(arena, &mut keeper.hand, &mut keeper.kept, note) {
+        Ok(is_right) => keeper.told.note(is_right),
+        Err(Again::Gone) => keep_fresh(rt, arena, keeper, key, waits),
         Err(_) => {}
     }
 }
@@ -169,19 +156,12 @@ fn change<R: Wait>(
 }
 
 /// Reads an item that is kept.
-pub fn read_one(
-    alloc: Global,
-    arena: &Arena,
-    hand: &mut Hand,
-    kept: &[Ref],
-    told: &mut Told,
-    place: usize,
-)
-    requires keeper { IsKeeperOf arena.now hand.old kept.now }
-    ensures keeper { IsKeeperOf arena.now hand.new kept.now }
+pub fn read_one(alloc: Global, arena: &Arena, keeper: &mut Keeper, place: usize)
+    requires keeper { IsKeeperOf arena.now keeper.old.hand keeper.old.kept.items × AreNear arena.now keeper.old.hints.items }
+    ensures keeper { IsKeeperOf arena.now keeper.new.hand keeper.new.kept.items × AreNear arena.now keeper.new.hints.items }
 {
-    let own = is_own(alloc, arena, hand, kept, place);
-    told.note(matches!(own, Ok(true)));
+    let own = is_own(alloc, arena, &mut keeper.hand, &keeper.kept, place);
+    keeper.told.note(matches!(own, Ok(true)));
 }
 
 /// A place among so many, or 0 where there is none.
@@ -198,79 +178,69 @@ pub fn keep_and_read<R: Wait>(
     rt: &R,
     alloc: Global,
     arena: &Arena,
-    hand: &mut Hand,
-    kept: &mut Vec<Ref>,
-    hints: &mut Hints,
-    told: &mut Told,
+    keeper: &mut Keeper,
     key: Key,
     waits: bool,
 )
-    requires keeper { IsKeeperOf arena.now hand.old kept.old.items }
-    requires near { AreNear arena.now hints.old.items }
-    ensures keeper { IsKeeperOf arena.now hand.new kept.new.items }
-    ensures near { AreNear arena.now hints.new.items }
+    requires keeper { IsKeeperOf arena.now keeper.old.hand keeper.old.kept.items × AreNear arena.now keeper.old.hints.items }
+    ensures keeper { IsKeeperOf arena.now keeper.new.hand keeper.new.kept.items × AreNear arena.now keeper.new.hints.items }
 {
-    keep(rt, arena, hand, kept, hints, told, key, waits);
-    let last = kept.len().saturating_sub(1);
-    read_one(alloc, arena, hand, kept, told, last);
+    keep(rt, arena, keeper, key, waits);
+    let last = keeper.kept.len().saturating_sub(1);
+    read_one(alloc, arena, keeper, last);
+}
+
+/// Gives back a reference that is kept.
+pub fn give_one_back(arena: &Arena, keeper: &mut Keeper, place: usize)
+    requires keeper { IsKeeperOf arena.now keeper.old.hand keeper.old.kept.items × AreNear arena.now keeper.old.hints.items }
+    ensures keeper { IsKeeperOf arena.now keeper.new.hand keeper.new.kept.items × AreNear arena.now keeper.new.hints.items }
+{
+    give_back(arena, &mut keeper.hand, &mut keeper.kept, place);
 }
 
 /// One round.
-fn act<R: Wait>(
-    rt: &R,
-    alloc: Global,
-    arena: &Arena,
-    hand: &mut Hand,
-    kept: &mut Vec<Ref>,
-    hints: &mut Hints,
-    told: &mut Told,
-    drawn: u64,
-)
-    requires keeper { IsKeeperOf arena.now hand.old kept.old.items }
-    requires near { AreNear arena.now hints.old.items }
-    ensures keeper { IsKeeperOf arena.now hand.new kept.new.items }
-    ensures near { AreNear arena.now hints.new.items }
+fn act<R: Wait>(rt: &R, alloc: Global, arena: &Arena, keeper: &mut Keeper, drawn: u64)
+    requires keeper { IsKeeperOf arena.now keeper.old.hand keeper.old.kept.items × AreNear arena.now keeper.old.hints.items }
+    ensures keeper { IsKeeperOf arena.now keeper.new.hand keeper.new.kept.items × AreNear arena.now keeper.new.hints.items }
 {
-    let place = place_in(kept.len(), drawn);
+    let place = place_in(keeper.kept.len(), drawn);
     let (key, waits) = (drawn % KEYS, drawn / 65_536 % 4 != 0);
     match drawn / 4096 % 16 {
-        0..=8 => keep_and_read(rt, alloc, arena, hand, kept, hints, told, key, waits),
-        9..=11 => change(rt, alloc, arena, hand, kept, told, drawn),
-        12 | 13 => read_one(alloc, arena, hand, kept, told, place),
-        _ => give_back(arena, hand, kept, place),
+        0..=8 => keep_and_read(rt, alloc, arena, keeper, key, waits),
+        9..=11 => change(
+            rt,
+            alloc,
+            arena,
+            &mut keeper.hand,
+            &keeper.kept,
+            &mut keeper.told,
+            drawn,
+        ),
+        12 | 13 => read_one(alloc, arena, keeper, place),
+        _ => give_one_back(arena, keeper, place),
     }
 }
 
 /// Gives a reference back where there are more than so many.
-pub fn make_room(arena: &Arena, hand: &mut Hand, kept: &mut Vec<Ref>, most: u64, drawn: u64)
-    requires keeper { IsKeeperOf arena.now hand.old kept.old.items }
-    ensures keeper { IsKeeperOf arena.now hand.new kept.new.items }
+pub fn make_room(arena: &Arena, keeper: &mut Keeper, most: u64, drawn: u64)
+    requires keeper { IsKeeperOf arena.now keeper.old.hand keeper.old.kept.items × AreNear arena.now keeper.old.hints.items }
+    ensures keeper { IsKeeperOf arena.now keeper.new.hand keeper.new.kept.items × AreNear arena.now keeper.new.hints.items }
 {
-    if kept.len() as u64 > most {
-        give_back(arena, hand, kept, place_in(kept.len(), drawn));
+    let count = keeper.kept.len();
+    if count as u64 > most {
+        give_one_back(arena, keeper, place_in(count, drawn));
     }
 }
 
 /// One round, before which a reference is given back where there are more than there are to be.
-fn do_round<R: Wait>(
-    rt: &R,
-    alloc: Global,
-    arena: &Arena,
-    hand: &mut Hand,
-    kept: &mut Vec<Ref>,
-    hints: &mut Hints,
-    told: &mut Told,
-    place: (u64, u64),
-)
-    requires keeper { IsKeeperOf arena.now hand.old kept.old.items }
-    requires near { AreNear arena.now hints.old.items }
-    ensures keeper { IsKeeperOf arena.now hand.new kept.new.items }
-    ensures near { AreNear arena.now hints.new.items }
+fn do_round<R: Wait>(rt: &R, alloc: Global, arena: &Arena, keeper: &mut Keeper, place: (u64, u64))
+    requires keeper { IsKeeperOf arena.now keeper.old.hand keeper.old.kept.items × AreNear arena.now keeper.old.hints.items }
+    ensures keeper { IsKeeperOf arena.now keeper.new.hand keeper.new.kept.items × AreNear arena.now keeper.new.hints.items }
 {
     let (thread, round) = place;
     let drawn = draw(thread, round);
-    make_room(arena, hand, kept, most_kept(thread, round), drawn);
-    act(rt, alloc, arena, hand, kept, hints, told, drawn);
+    make_room(arena, keeper, most_kept(thread, round), drawn);
+    act(rt, alloc, arena, keeper, drawn);
 }
 
 /// No hints.
@@ -294,19 +264,23 @@ pub fn work<R: Wait>(rt: &R, alloc: Global, arena: &Arena, thread: u64, hand: Ha
     requires hand { IsIdleHandOf arena.now hand }
     ensures hand { IsIdleHandOf arena.now result.hand }
 {
-    let mut hand = hand;
-    let mut kept = Vec::new(alloc);
     let mut told = NOTHING;
-    let Ok(mut hints) = no_hints(alloc, arena) else {
+    let Ok(hints) = no_hints(alloc, arena) else {
         told.note(false);
         return Worker { hand, told };
     };
+    let mut keeper = Keeper {
+        hand,
+        kept: Vec::new(alloc),
+        hints,
+        told,
+    };
     for round in 0..ROUNDS {
-        let place = (thread, round);
-        do_round(
-            rt, alloc, arena, &mut hand, &mut kept, &mut hints, &mut told, place,
-        );
+        do_round(rt, alloc, arena, &mut keeper, (thread, round));
     }
-    let hand = give_all_back(arena, hand, kept);
-    Worker { hand, told }
+    let hand = give_all_back(arena, keeper.hand, keeper.kept);
+    Worker {
+        hand,
+        told: keeper.told,
+    }
 }

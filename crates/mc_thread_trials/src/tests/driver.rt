@@ -1,9 +1,8 @@
 //! The mover's thread of the stress: it begins moves between all classes and the pool, and turns without a pause.
 ghost use Rattle.mc_calls.specs.Hands.{IsIdleHandOf, IsReadyHandOf};
 
-use super::workers::draw;
-use mc_calls::{reassign_by, turn_by};
-use mc_mover::{Counts, Turn};
+use mc_calls::{NO_TURNS, Turns, reassign_by, turn_by};
+use mc_trial_values::draw;
 use mc_words::{Arena, Hand};
 use std::sync::Wait;
 
@@ -13,58 +12,11 @@ const TURNS: u64 = 6000;
 /// The most turns that a page needs which nobody holds up.
 const LAST_TURNS: u64 = 32;
 
-/// What turns told, all together.
-#[derive(Clone, Copy)]
-pub struct Tally {
-    /// Pages that came to their destination.
-    pub moved: u64,
-    /// Items that were taken to another chunk.
-    pub rescued: u64,
-    /// Items that were evicted, as there was no other chunk.
-    pub evicted: u64,
-    /// Chunks that held up a page.
-    pub held_up: u64,
-}
-
-/// What is told before the first turn.
-const NOTHING: Tally = Tally {
-    moved: 0,
-    rescued: 0,
-    evicted: 0,
-    held_up: 0,
-};
-
-impl Tally {
-    /// Adds what a turn found.
-    fn add(&mut self, counts: Counts) {
-        self.rescued = self.rescued.saturating_add(counts.rescued);
-        self.evicted = self.evicted.saturating_add(counts.evicted);
-        let held_up = counts.busy.saturating_add(counts.locked);
-        self.held_up = self.held_up.saturating_add(held_up);
-    }
-
-    /// Adds what a turn told, and says whether it ended with no page on the move.
-    fn note(&mut self, turn: Turn) -> bool {
-        match turn {
-            Turn::Idle => true,
-            Turn::Went(counts) => {
-                self.add(counts);
-                false
-            }
-            Turn::Finished(counts) => {
-                self.add(counts);
-                self.moved = self.moved.saturating_add(1);
-                true
-            }
-        }
-    }
-}
-
 /// The mover's hand, and what its turns told.
 #[derive(Drop)]
 pub struct Mover {
     pub hand: Hand,
-    pub tally: Tally,
+    pub tally: Turns,
 }
 
 /// Asks for the next move: to the pool or a class, from any class or a named one. It may be refused.
@@ -83,7 +35,7 @@ fn begin_next<R: Wait>(rt: &R, arena: &Arena, hand: &mut Hand, round: u64)
 }
 
 /// One turn, and where no page moves behind it, the next move.
-fn turn_on<R: Wait>(rt: &R, arena: &Arena, hand: &mut Hand, tally: &mut Tally, round: u64)
+fn turn_on<R: Wait>(rt: &R, arena: &Arena, hand: &mut Hand, tally: &mut Turns, round: u64)
     requires arena { IsIdleHandOf arena.now hand.old }
     ensures arena { IsIdleHandOf arena.now hand.new }
 {
@@ -101,7 +53,7 @@ pub fn drive<R: Wait>(rt: &R, arena: &Arena, hand: Hand) -> Mover
     ensures arena { IsIdleHandOf arena.now result.hand }
 {
     let mut hand = hand;
-    let mut tally = NOTHING;
+    let mut tally = NO_TURNS;
     for round in 0..TURNS {
         turn_on(rt, arena, &mut hand, &mut tally, round);
     }
@@ -113,7 +65,7 @@ pub fn end_if<R: Wait>(
     rt: &R,
     arena: &Arena,
     hand: &mut Hand,
-    tally: &mut Tally,
+    tally: &mut Turns,
     ends: bool,
 ) -> bool
     requires arena { IsReadyHandOf arena.now hand.old }
@@ -126,7 +78,7 @@ pub fn end_if<R: Wait>(
 }
 
 /// Turns until no page moves. False where that takes too long.
-fn end_move<R: Wait>(rt: &R, arena: &Arena, hand: &mut Hand, tally: &mut Tally) -> bool
+fn end_move<R: Wait>(rt: &R, arena: &Arena, hand: &mut Hand, tally: &mut Turns) -> bool
     requires arena { IsReadyHandOf arena.now hand.old }
     ensures arena { IsReadyHandOf arena.now hand.new }
 {

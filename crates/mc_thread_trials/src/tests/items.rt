@@ -8,15 +8,16 @@ ghost use Rattle.mc_items.specs.Keeping.{HoldsTheSame};
 ghost use Rattle.mc_calls.specs.Hands.{AreHandsOf, IsIdleHandOf, IsReadyHandOf};
 
 use super::assert_same;
+use super::workers::{Worker, join_worker};
 use mc_calls::{
-    Getter, are_from, count_keys, delete_key, get_by, head, one_of, opened, set_words, two_of,
-    words_from,
+    Getter, count_keys, delete_key, get_by, head, is_own, one_of, opened, store_own, two_of,
 };
 use mc_classes::{Config, PageId};
-use mc_items::{Ref, read, release};
+use mc_items::{Ref, release};
 use mc_memory::Refused;
 use mc_pages::{ChunkId, Owner};
-use mc_stripe::{Key, Stamp};
+use mc_stripe::Key;
+use mc_trial_values::draw;
 use mc_words::{Arena, Final, Hand};
 use std::alloc::Global;
 use std::process::Abort;
@@ -48,11 +49,6 @@ const KEYS: u64 = 40;
 /// How often each thread acts.
 const ROUNDS: u64 = 2000;
 
-/// The first word of the item that is stored under the key with this stamp. No other item has one of its words.
-fn first_word(key: Key, stamp: Stamp) -> u64 {
-    stamp.wrapping_mul(KEYS).wrapping_add(key).wrapping_mul(LEN)
-}
-
 /// What the thread does in a round.
 #[derive(Clone, Copy)]
 enum Action {
@@ -63,10 +59,7 @@ enum Action {
 
 /// What a thread does in this round, and with which key. Each thread begins elsewhere.
 fn choose(thread: u64, round: u64) -> (Action, Key) {
-    let drawn = round
-        .wrapping_add(thread.wrapping_mul(7919))
-        .wrapping_mul(6_364_136_223_846_793_005)
-        >> 33;
+    let drawn = draw(thread, round);
     let action = match drawn % 8 {
         0 | 1 | 2 => Action::Set,
         3 => Action::Delete,
@@ -74,50 +67,6 @@ fn choose(thread: u64, round: u64) -> (Action, Key) {
         _ => Action::Get(Getter::Get),
     };
     (action, (drawn >> 8) % KEYS)
-}
-
-/// Stores an item whose words tell its key and stamp, if there is room.
-fn store<R: Wait>(
-    rt: &R,
-    alloc: Global,
-    arena: &Arena,
-    hand: &mut Hand,
-    key: Key,
-) -> Result<(), Refused>
-    requires arena { IsIdleHandOf arena.now hand.old }
-    ensures arena { IsIdleHandOf arena.now hand.new }
-{
-    let stamp = hand.next_stamp().unwrap_or(0);
-    let words = words_from(alloc, first_word(key, stamp), LEN)?;
-    let _stored = set_words(rt, arena, hand, key, &words).is_ok();
-    Ok(())
-}
-
-/// Whether the item has the words of its key and stamp.
-fn is_own(
-    alloc: Global,
-    arena: &Arena,
-    hand: &mut Hand,
-    item: &Ref,
-    key: Key,
-) -> Result<bool, Refused>
-    requires arena { IsReadyHandOf arena.now hand.old }
-    requires item { IsItemRef (view hand.old) item.now }
-    ensures arena { IsReadyHandOf arena.now hand.new }
-    ensures item { IsItemRef (view hand.new) item.now }
-    ensures holdings { HoldsTheSame (view hand.old) (view hand.new) }
-{
-    let words = read(alloc, arena, hand, item)?;
-    Ok(item.key() == key && are_from(&words, first_word(key, item.stamp()), LEN))
-}
-
-/// A thread's two hands: with one it holds items, while it changes others with the second. And how many items it found to have
-/// words of others.
-#[derive(Drop)]
-struct Worker {
-    reader: Hand,
-    writer: Hand,
-    wrong: u64,
 }
 
 /// Reads an item that is held, before and behind a set of the next key. True if all words were its own.
@@ -138,9 +87,10 @@ fn reads_own<R: Wait>(
     ensures holdings { HoldsTheSame (view reader.old) (view reader.new) }
     ensures writer { IsIdleHandOf arena.now writer.new }
 {
-    let before = is_own(alloc, arena, reader, item, key)?;
-    store(rt, alloc, arena, writer, key.wrapping_add(1) % KEYS)?;
-    let behind = is_own(alloc, arena, reader, item, key)?;
+    let before = is_own(alloc, arena, reader, item, key, LEN)?;
+    let next = key.wrapping_add(1) % KEYS;
+    let _stored = store_own(rt, alloc, arena, writer, next, LEN)?;
+    let behind = is_own(alloc, arena, reader, item, key, LEN)?;
     Ok(before && behind)
 }
 
@@ -186,7 +136,7 @@ fn act<R: Wait>(
     let (action, key) = chosen;
     match action {
         Action::Set => {
-            store(rt, alloc, arena, writer, key)?;
+            let _stored = store_own(rt, alloc, arena, writer, key, LEN)?;
             Ok(true)
         }
         Action::Delete => {
@@ -245,20 +195,6 @@ fn work_beside<R: Threads + Wait + Sync>(
     )
 }
 
-/// One hand of a worker's two, and how many items were found wrong.
-fn done(arena: &Arena, worker: Worker) -> (Hand, u64)
-    requires reader { IsIdleHandOf arena.now worker.reader }
-    requires writer { IsIdleHandOf arena.now worker.writer }
-    ensures hand { IsIdleHandOf arena.now result.0 }
-{
-    let Worker {
-        reader,
-        writer,
-        wrong,
-    } = worker;
-    (one_of(arena, reader, writer), wrong)
-}
-
 /// One hand of two workers, and how many items both found wrong.
 fn both(arena: &Arena, workers: (Worker, Worker)) -> (Hand, u64)
     requires first { IsIdleHandOf arena.now workers.0.reader × IsIdleHandOf arena.now workers.0.writer }
@@ -266,8 +202,8 @@ fn both(arena: &Arena, workers: (Worker, Worker)) -> (Hand, u64)
     ensures hand { IsIdleHandOf arena.now result.0 }
 {
     let (first, second) = workers;
-    let (hand, wrong) = done(arena, first);
-    let (other, more) = done(arena, second);
+    let (hand, wrong) = join_worker(arena, first);
+    let (other, more) = join_worker(arena, second);
     let hand = one_of(arena, hand, other);
     (hand, wrong.saturating_add(more))
 }

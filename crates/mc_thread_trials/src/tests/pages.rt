@@ -4,10 +4,10 @@ ghost use Rattle.std.specs.Thread.{IsSync};
 ghost use Rattle.mc_calls.specs.Hands.{AreHandsOf, IsIdleHandOf};
 
 use super::assert_same;
-use super::driver::{Mover, Tally, drive, end_if};
+use super::driver::{Mover, drive, end_if};
 use super::workers::{KEYS, Worker, gather, store_each, work};
 use mc_calls::{
-    NO_SUMS, Stats, Sums, all_sums, class_sums, count_keys, count_pages, next_hand, opened,
+    NO_SUMS, Stats, Sums, Turns, all_sums, class_sums, count_keys, count_pages, next_hand, opened,
     set_mode_by, stats_of, two_of,
 };
 use mc_classes::{ClassId, Config};
@@ -118,7 +118,7 @@ fn run_all<R: Threads + Wait + Sync>(
 #[derive(Drop)]
 struct Done {
     hand: Hand,
-    tally: Tally,
+    tally: Turns,
     wrong: u64,
 }
 
@@ -212,7 +212,7 @@ fn assert_chunks<R: Abort>(rt: &R, left: &Final, stats: &Stats) -> Result<(), Fa
 }
 
 /// The statistics of moves are what the turns told. What held up a pass is counted at its end.
-fn assert_tally<R: Abort>(rt: &R, stats: &Stats, tally: Tally, ends: bool) {
+fn assert_tally<R: Abort>(rt: &R, stats: &Stats, tally: Turns, ends: bool) {
     let totals = stats.totals;
     let found = (totals.moved, totals.rescues, totals.evictions_nomem);
     let told = (tally.moved, tally.rescued, tally.evicted);
@@ -226,7 +226,7 @@ fn assert_final<R: Abort>(
     rt: &R,
     left: &Final,
     surveyed: Option<Stats>,
-    tally: Tally,
+    tally: Turns,
     ends: bool,
 ) -> Result<(), Fail> {
     let Some(stats) = surveyed else {

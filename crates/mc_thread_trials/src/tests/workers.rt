@@ -8,19 +8,17 @@ ghost use Rattle.mc_items.specs.ItemRefs.{IsItemRef};
 ghost use Rattle.mc_items.specs.Keeping.{HoldsTheSame};
 ghost use Rattle.mc_calls.specs.Hands.{IsIdleHandOf, IsReadyHandOf};
 
-use mc_calls::{delete_key, get_key, has_words, one_of, set_words, words_from};
+use mc_calls::{delete_key, get_key, is_own, one_of, store_own};
 use mc_items::{Ref, again, hint, release};
 use mc_memory::Refused;
-use mc_stripe::{Key, Stamp};
+use mc_stripe::Key;
+use mc_trial_values::draw;
 use mc_words::{Arena, Hand, Hint};
 use std::alloc::Global;
 use std::sync::Wait;
 
 /// How many keys there are.
 pub const KEYS: u64 = 64;
-
-/// More words than an item has.
-const WORDS: u64 = 64;
 
 /// How many items a worker holds, one after another.
 const ROUNDS: u64 = 250;
@@ -38,22 +36,6 @@ fn len_of(key: Key) -> u64 {
     }
 }
 
-/// The first word of the item that is stored under the key with this stamp. No other item has one of its words.
-fn first_word(key: Key, stamp: Stamp) -> u64 {
-    stamp
-        .wrapping_mul(KEYS)
-        .wrapping_add(key)
-        .wrapping_mul(WORDS)
-}
-
-/// A number that is drawn for a round or a line of a thread. Each thread begins elsewhere.
-pub fn draw(thread: u64, place: u64) -> u64 {
-    place
-        .wrapping_add(thread.wrapping_mul(7919))
-        .wrapping_mul(6_364_136_223_846_793_005)
-        >> 33
-}
-
 /// The key that was drawn.
 fn key_of(drawn: u64) -> Key {
     (drawn >> 8) % KEYS
@@ -62,23 +44,6 @@ fn key_of(drawn: u64) -> Key {
 /// The key whose item a thread holds in a round.
 fn held_key(thread: u64, round: u64) -> Key {
     key_of(draw(thread.wrapping_add(16), round))
-}
-
-/// Stores an item whose words tell its key and stamp, if there is room.
-fn store<R: Wait>(
-    rt: &R,
-    alloc: Global,
-    arena: &Arena,
-    hand: &mut Hand,
-    key: Key,
-) -> Result<(), Refused>
-    requires arena { IsIdleHandOf arena.now hand.old }
-    ensures arena { IsIdleHandOf arena.now hand.new }
-{
-    let stamp = hand.next_stamp().unwrap_or(0);
-    let words = words_from(alloc, first_word(key, stamp), len_of(key))?;
-    let _stored = set_words(rt, arena, hand, key, &words).is_ok();
-    Ok(())
 }
 
 /// Stores an item for each key, while there is room.
@@ -92,28 +57,9 @@ pub fn store_each<R: Wait>(
     ensures arena { IsIdleHandOf arena.now hand.new }
 {
     for key in 0..KEYS {
-        store(rt, alloc, arena, hand, key)?;
+        let _stored = store_own(rt, alloc, arena, hand, key, len_of(key))?;
     }
     Ok(())
-}
-
-/// Whether the item has the words of its key and stamp.
-fn is_own(
-    alloc: Global,
-    arena: &Arena,
-    hand: &mut Hand,
-    item: &Ref,
-    key: Key,
-) -> Result<bool, Refused>
-    requires arena { IsReadyHandOf arena.now hand.old }
-    requires item { IsItemRef (view hand.old) item.now }
-    ensures arena { IsReadyHandOf arena.now hand.new }
-    ensures item { IsItemRef (view hand.new) item.now }
-    ensures holdings { HoldsTheSame (view hand.old) (view hand.new) }
-{
-    let first = first_word(key, item.stamp());
-    let own = has_words(alloc, arena, hand, item, first, len_of(key))?;
-    Ok(own && item.key() == key)
 }
 
 /// Reads the key's item, if it has one. True if all words were its own. The reference is given up, also where memory ran out.
@@ -131,7 +77,7 @@ fn read_once<R: Wait>(
     let Some(item) = get_key(rt, arena, hand, key) else {
         return Ok(true);
     };
-    let own = is_own(alloc, arena, hand, &item, key);
+    let own = is_own(alloc, arena, hand, &item, key, len_of(key));
     release(arena, hand, item);
     own
 }
@@ -150,7 +96,7 @@ fn do_line<R: Wait>(
     let key = key_of(drawn);
     match drawn % 8 {
         0 | 1 | 2 | 3 => {
-            store(rt, alloc, arena, hand, key)?;
+            let _stored = store_own(rt, alloc, arena, hand, key, len_of(key))?;
             Ok(true)
         }
         4 => {
@@ -198,7 +144,7 @@ fn read_again(
     let Ok(item) = again(arena, hand, hint) else {
         return Ok(true);
     };
-    let own = is_own(alloc, arena, hand, &item, key);
+    let own = is_own(alloc, arena, hand, &item, key, len_of(key));
     release(arena, hand, item);
     own
 }
@@ -224,9 +170,9 @@ fn reads_own<R: Wait>(
 {
     let (thread, round) = place;
     let key = held_key(thread, round);
-    let before = is_own(alloc, arena, reader, item, key)?;
+    let before = is_own(alloc, arena, reader, item, key, len_of(key))?;
     let between = do_lines(rt, alloc, arena, writer, thread, round)?;
-    let behind = is_own(alloc, arena, reader, item, key)?;
+    let behind = is_own(alloc, arena, reader, item, key, len_of(key))?;
     Ok(before && between && behind)
 }
 
@@ -292,9 +238,8 @@ pub fn work<R: Wait>(
     }
 }
 
-/// One hand of all that is given here and the worker's two, and how many rounds were wrong.
-pub fn gather(arena: &Arena, hand: Hand, worker: Worker) -> (Hand, u64)
-    requires hand { IsIdleHandOf arena.now hand }
+/// One hand of a worker's two, and how many of its rounds were wrong.
+pub fn join_worker(arena: &Arena, worker: Worker) -> (Hand, u64)
     requires reader { IsIdleHandOf arena.now worker.reader }
     requires writer { IsIdleHandOf arena.now worker.writer }
     ensures hand { IsIdleHandOf arena.now result.0 }
@@ -304,6 +249,16 @@ pub fn gather(arena: &Arena, hand: Hand, worker: Worker) -> (Hand, u64)
         writer,
         wrong,
     } = worker;
-    let both = one_of(arena, reader, writer);
-    (one_of(arena, hand, both), wrong)
+    (one_of(arena, reader, writer), wrong)
+}
+
+/// One hand of all that is given here and the worker's two, and how many rounds were wrong.
+pub fn gather(arena: &Arena, hand: Hand, worker: Worker) -> (Hand, u64)
+    requires hand { IsIdleHandOf arena.now hand }
+    requires reader { IsIdleHandOf arena.now worker.reader }
+    requires writer { IsIdleHandOf arena.now worker.writer }
+    ensures hand { IsIdleHandOf arena.now result.0 }
+{
+    let (other, wrong) = join_worker(arena, worker);
+    (one_of(arena, hand, other), wrong)
 }
