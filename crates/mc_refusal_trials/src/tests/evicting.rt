@@ -1,9 +1,9 @@
 //! Sets that evict: the room for the eviction's call may be refused, and then the room for their own, once the item is gone.
-use super::FOUR_CLASSES;
 use super::calls::{Answer, Call, finished};
 use super::opening::opened;
 use super::rows::{TWO_CLASSES, stores, surveys, touches};
 use super::steps::{Step, play_each};
+use mc_trial_values::FOUR_CLASSES;
 use std::alloc::Global;
 use std::process::Abort;
 use std::sync::Wait;

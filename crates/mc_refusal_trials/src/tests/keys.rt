@@ -1,7 +1,7 @@
 //! Calls on keys.
-use super::FOUR_CLASSES;
 use super::calls::{Answer, Call};
 use super::steps::run;
+use mc_trial_values::FOUR_CLASSES;
 use std::test::Fail;
 
 #[test]

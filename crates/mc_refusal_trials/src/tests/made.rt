@@ -1,13 +1,14 @@
 //! Arenas and states that are made.
+use super::assert_same;
 use super::calls::{Answer, Call};
 use super::marks::{tell_call, tell_done, tell_refused};
 use super::opening::opened_from;
 use super::rows::stores;
 use super::steps::play_all;
-use super::{FOUR_CLASSES, assert_same};
 use mc_core::{Change, Event, Series, State, Step, Stop, StripeChange, replay};
 use mc_memory::{Refused, push};
 use mc_pages::ChunkId;
+use mc_trial_values::FOUR_CLASSES;
 use std::alloc::Global;
 use std::test::Fail;
 

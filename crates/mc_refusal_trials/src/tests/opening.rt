@@ -1,10 +1,11 @@
 //! Arenas with three hands: one that acts, one that reads, and one that looks.
-ghost use Rattle.std.specs.Prelude.{IfSome, IfOk};
-ghost use Rattle.mc_calls.specs.Hands.{AreHandsOf, IsIdleHandOf, IsReadyHandOf};
+ghost use Rattle.std.specs.Prelude.{IfOk};
+ghost use Rattle.mc_calls.specs.Hands.{AreHandsOf, IsReadyHandOf};
 
 use super::looking::{Looker, room};
 use super::marks::{tell_call, tell_done, tell_refused};
 use super::snapshot::LENGTH;
+use mc_calls::three_of;
 use mc_classes::Config;
 use mc_words::{Arena, Hand, NewError};
 use std::alloc::Global;
@@ -52,30 +53,6 @@ fn new_again<R: Print>(
             new_arena(alloc, config, start)
         }
     }
-}
-
-/// The hand of the lowest number that is left.
-fn next_hand(arena: &Arena, hands: &mut Vec<Hand>) -> Option<Hand>
-    requires hands { AreHandsOf arena.now hands.old.items }
-    ensures hands { AreHandsOf arena.now hands.new.items }
-    ensures hand { IfSome result (λ hand. IsIdleHandOf arena.now hand) }
-{
-    if hands.is_empty() {
-        None
-    } else {
-        Some(hands.remove(0))
-    }
-}
-
-/// The three hands of the lowest numbers that are left.
-fn three_of(arena: &Arena, hands: &mut Vec<Hand>) -> Option<(Hand, Hand, Hand)>
-    requires hands { AreHandsOf arena.now hands.old.items }
-    ensures three { IfSome result (λ three. IsIdleHandOf arena.now three.0 × IsIdleHandOf arena.now three.1 × IsIdleHandOf arena.now three.2) }
-{
-    let first = next_hand(arena, hands)?;
-    let second = next_hand(arena, hands)?;
-    let third = next_hand(arena, hands)?;
-    Some((first, second, third))
 }
 
 /// Words from 0 on.

@@ -3,13 +3,14 @@ ghost use Rattle.std.specs.Prelude.{IsTrue, ◌↔◌};
 ghost use Rattle.mc_pages.specs.SlabState.{IsClass};
 ghost use Rattle.mc_refusal_trials.specs.Sized.{HasClasses};
 
+use super::assert_same;
 use super::lists::{see_class, see_whole};
 use super::looking::room;
 use super::marks::{tell_call, tell_done, tell_refused};
 use super::snapshot::{CLASSES, LENGTH};
-use super::{FOUR_CLASSES, assert_same};
 use mc_classes::{ClassId, ClassTable};
 use mc_pages::{Grow, NoMemory, Reassign, Slabs};
+use mc_trial_values::FOUR_CLASSES;
 use std::alloc::Global;
 use std::test::Fail;
 

@@ -5,14 +5,16 @@ ghost use Rattle.mc_words.specs.hand.Arenas.{setup_of};
 ghost use Rattle.mc_words.specs.hand.Observers.{hint_chunk};
 ghost use Rattle.mc_calls.specs.Hands.{IsReadyHandOf};
 
+use super::assert_same;
 use super::calls::{Answer, Call};
-use super::looking::{Looker, look_after, look_before};
-use super::opening::opened;
+use super::looking::{look_after, look_before};
+use super::opening::{Three, opened};
 use super::snapshot::LENGTH;
 use super::steps::{Row, Step, behind_refusal, play_all};
-use super::{FOUR_CLASSES, assert_same};
-use mc_items::{again, get, hint, release};
+use mc_calls::hint_of;
+use mc_items::again;
 use mc_stripe::Key;
+use mc_trial_values::FOUR_CLASSES;
 use mc_words::{Arena, Hand, Hint};
 use std::alloc::Global;
 use std::process::Abort;
@@ -33,21 +35,7 @@ const CALLS: [Call; 10] = [
     Call::Trim,
 ];
 
-/// A hint of the key's item, whose reference is given up.
-fn hint_of<R: Wait>(rt: &R, arena: &Arena, hand: &mut Hand, key: Key) -> Option<Hint>
-    requires arena { IsReadyHandOf arena.now hand.old }
-    ensures arena { IsReadyHandOf arena.now hand.new }
-    ensures near { IfSome result (λ hint. has_chunk (setup_of arena.now).table (hint_chunk hint) ≡ true) }
-{
-    let Ok(Some(item)) = get(rt, arena, hand, key) else {
-        return None;
-    };
-    let hint = hint(&item);
-    release(arena, hand, item);
-    Some(hint)
-}
-
-/// The same, and once more where it is refused memory.
+/// A hint of the key's item, whose reference is given up: once more where the first is refused memory.
 fn hint_again<R: Wait>(rt: &R, arena: &Arena, hand: &mut Hand, key: Key) -> Option<Hint>
     requires arena { IsReadyHandOf arena.now hand.old }
     ensures arena { IsReadyHandOf arena.now hand.new }
@@ -104,15 +92,18 @@ const ITEMS: [Step; 2] = [
 fn look_around_a_fault<R: Abort + Wait + Print>(
     rt: &R,
     alloc: Global,
-    arena: &Arena,
-    hand: &mut Hand,
-    reader: &mut Hand,
-    looker: &mut Looker,
+    all: &mut Three,
 ) -> Result<(), Fail>
-    requires hand { IsReadyHandOf arena.now hand.old }
-    requires reader { IsReadyHandOf arena.now reader.old }
-    requires looker { IsReadyHandOf arena.now looker.old.hand }
+    requires hand { IsReadyHandOf all.old.arena all.old.hand }
+    requires reader { IsReadyHandOf all.old.arena all.old.reader }
+    requires looker { IsReadyHandOf all.old.arena all.old.looker.hand }
 {
+    let Three {
+        arena,
+        hand,
+        reader,
+        looker,
+    } = all;
     if !play_all(rt, alloc, arena, hand, looker, &ITEMS) {
         return Ok(());
     }
@@ -144,14 +135,7 @@ fn look_around_a_fault<R: Abort + Wait + Print>(
 #[test]
 fn what_may_not_be_left_is_found(rt: HostRuntime) -> Result<(), Fail> {
     let mut all = opened(&rt, rt.alloc(), &FOUR_CLASSES)?;
-    let looked = look_around_a_fault(
-        &rt,
-        rt.alloc(),
-        &all.arena,
-        &mut all.hand,
-        &mut all.reader,
-        &mut all.looker,
-    );
+    let looked = look_around_a_fault(&rt, rt.alloc(), &mut all);
     drop(all);
     looked
 }

@@ -1,14 +1,12 @@
 //! Pages that move: the worked lists of calls, in which each call that takes memory is made.
 ghost use Rattle.mc_calls.specs.Hands.{IsReadyHandOf};
 
-use super::FOUR_CLASSES;
 use super::calls::{Answer, Call, IDLE, finished, went};
 use super::holding::{has_words, hold};
-use super::looking::Looker;
-use super::opening::opened;
-use super::steps::{Step, play_all, play_each, run};
+use super::opening::{Three, opened};
+use super::steps::{Step, play_all, play_each};
 use mc_items::release;
-use mc_words::{Arena, Hand};
+use mc_trial_values::FOUR_CLASSES;
 use std::alloc::Global;
 use std::process::Abort;
 use std::sync::Wait;
@@ -29,17 +27,35 @@ pub fn surveys(running: bool, counts: [u64; 4]) -> Step {
     (Call::Survey(true), Answer::Surveyed(running, counts))
 }
 
+/// Eight items of so many words are stored: four pages of class 4.
+pub fn eight(len: usize) -> [Step; 8] {
+    [
+        stores(1, len),
+        stores(2, len),
+        stores(3, len),
+        stores(4, len),
+        stores(5, len),
+        stores(6, len),
+        stores(7, len),
+        stores(8, len),
+    ]
+}
+
+/// These lists of calls, in a new arena of four classes.
+pub fn run_each<R: Abort + Wait + Print>(
+    rt: &R,
+    alloc: Global,
+    lists: &[&[Step]],
+) -> Result<(), Fail> {
+    let mut all = opened(rt, alloc, &FOUR_CLASSES)?;
+    play_each(rt, alloc, &all.arena, &mut all.hand, &mut all.looker, lists);
+    drop(all);
+    Ok(())
+}
+
 #[test]
 fn an_item_is_rescued_and_another_evicted(rt: HostRuntime) -> Result<(), Fail> {
     let steps = [
-        stores(1, 61),
-        stores(2, 61),
-        stores(3, 61),
-        stores(4, 61),
-        stores(5, 61),
-        stores(6, 61),
-        stores(7, 61),
-        stores(8, 61),
         (Call::Delete(8), Answer::There(true)),
         (Call::Reassign(Some(4), 1), Answer::Done),
         (Call::Turn, finished(2, 1, 1, 0)),
@@ -47,7 +63,7 @@ fn an_item_is_rescued_and_another_evicted(rt: HostRuntime) -> Result<(), Fail> {
         touches(1, false),
         surveys(false, [1, 1, 1, 0]),
     ];
-    run(&rt, rt.alloc(), &FOUR_CLASSES, &steps)
+    run_each(&rt, rt.alloc(), &[&eight(61), &steps])
 }
 
 /// Eight items fill four pages, and gets fill the histories of two stripes up; a page goes to the pool by this call.
@@ -57,14 +73,6 @@ fn rescue_and_evict<R: Abort + Wait + Print>(
     turn: Call,
 ) -> Result<(), Fail> {
     let steps = [
-        stores(1, 61),
-        stores(2, 61),
-        stores(3, 61),
-        stores(4, 61),
-        stores(5, 61),
-        stores(6, 61),
-        stores(7, 61),
-        stores(8, 61),
         (Call::Get(1), Answer::There(true)),
         (Call::Get(1), Answer::There(true)),
         (Call::Get(2), Answer::There(true)),
@@ -76,7 +84,7 @@ fn rescue_and_evict<R: Abort + Wait + Print>(
         touches(1, false),
         surveys(false, [1, 1, 1, 0]),
     ];
-    run(rt, alloc, &FOUR_CLASSES, &steps)
+    run_each(rt, alloc, &[&eight(61), &steps])
 }
 
 #[test]
@@ -93,26 +101,19 @@ fn a_turn_that_waits_for_nobody_is_refused_so_too(rt: HostRuntime) -> Result<(),
 fn move_a_held_page<R: Abort + Wait + Print>(
     rt: &R,
     alloc: Global,
-    arena: &Arena,
-    hand: &mut Hand,
-    reader: &mut Hand,
-    looker: &mut Looker,
+    all: &mut Three,
 ) -> Result<(), Fail>
-    requires hand { IsReadyHandOf arena.now hand.old }
-    requires reader { IsReadyHandOf arena.now reader.old }
-    requires looker { IsReadyHandOf arena.now looker.old.hand }
+    requires hand { IsReadyHandOf all.old.arena all.old.hand }
+    requires reader { IsReadyHandOf all.old.arena all.old.reader }
+    requires looker { IsReadyHandOf all.old.arena all.old.looker.hand }
 {
-    let steps = [
-        stores(1, 22),
-        stores(2, 22),
-        stores(3, 22),
-        stores(4, 22),
-        stores(5, 22),
-        stores(6, 22),
-        stores(7, 22),
-        stores(8, 22),
-    ];
-    if !play_all(rt, alloc, arena, hand, looker, &steps) {
+    let Three {
+        arena,
+        hand,
+        reader,
+        looker,
+    } = all;
+    if !play_all(rt, alloc, arena, hand, looker, &eight(22)) {
         return Ok(());
     }
     let Some(item) = hold(rt, arena, reader, looker, 1) else {
@@ -137,14 +138,7 @@ fn move_a_held_page<R: Abort + Wait + Print>(
 #[test]
 fn a_held_item_keeps_its_page(rt: HostRuntime) -> Result<(), Fail> {
     let mut all = opened(&rt, rt.alloc(), &FOUR_CLASSES)?;
-    let played = move_a_held_page(
-        &rt,
-        rt.alloc(),
-        &all.arena,
-        &mut all.hand,
-        &mut all.reader,
-        &mut all.looker,
-    );
+    let played = move_a_held_page(&rt, rt.alloc(), &mut all);
     drop(all);
     played
 }
@@ -162,14 +156,6 @@ pub const TWO_CLASSES: [Step; 10] = [
     (Call::Set(15, 20), Answer::Done),
     (Call::Set(16, 20), Answer::Done),
 ];
-
-/// These lists of calls, in a new arena.
-fn run_each<R: Abort + Wait + Print>(rt: &R, alloc: Global, lists: &[&[Step]]) -> Result<(), Fail> {
-    let mut all = opened(rt, alloc, &FOUR_CLASSES)?;
-    play_each(rt, alloc, &all.arena, &mut all.hand, &mut all.looker, lists);
-    drop(all);
-    Ok(())
-}
 
 #[test]
 fn two_classes_give_a_page_in_turn(rt: HostRuntime) -> Result<(), Fail> {

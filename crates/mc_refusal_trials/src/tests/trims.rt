@@ -1,8 +1,8 @@
 //! Histories that are trimmed: each stripe's new base wants room, and so do the calls behind a trim.
-use super::FOUR_CLASSES;
 use super::calls::{Answer, Call, finished};
-use super::rows::{stores, surveys, touches};
+use super::rows::{eight, run_each, stores, surveys, touches};
 use super::steps::{Step, run};
+use mc_trial_values::FOUR_CLASSES;
 use std::test::Fail;
 
 /// Each stripe is trimmed.
@@ -30,14 +30,6 @@ fn stripes_are_trimmed_one_after_another(rt: HostRuntime) -> Result<(), Fail> {
 #[test]
 fn a_move_goes_on_behind_trims(rt: HostRuntime) -> Result<(), Fail> {
     let steps = [
-        stores(1, 61),
-        stores(2, 61),
-        stores(3, 61),
-        stores(4, 61),
-        stores(5, 61),
-        stores(6, 61),
-        stores(7, 61),
-        stores(8, 61),
         TRIMS,
         (Call::Delete(8), Answer::There(true)),
         (Call::Reassign(Some(4), 1), Answer::Done),
@@ -48,5 +40,5 @@ fn a_move_goes_on_behind_trims(rt: HostRuntime) -> Result<(), Fail> {
         touches(1, false),
         surveys(false, [1, 1, 1, 0]),
     ];
-    run(&rt, rt.alloc(), &FOUR_CLASSES, &steps)
+    run_each(&rt, rt.alloc(), &[&eight(61), &steps])
 }
