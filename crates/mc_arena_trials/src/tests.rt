@@ -5,21 +5,8 @@ mod locks;
 mod owner;
 mod threads;
 
-use mc_classes::Config;
 use std::fmt::Debug;
 use std::process::Abort;
-
-/// Four pages; classes of 48, 96, 192 and 512 bytes with 21, 10, 5 and 2 chunks a page.
-const FOUR_CLASSES: Config = Config {
-    page: 1024,
-    limit: 4096,
-    first: 48,
-    num: 2,
-    den: 1,
-    max: 512,
-    stripes: 4,
-    bulk: 64,
-};
 
 /// What was found is what was wanted. Both are printed where they differ.
 fn assert_same<T: Copy + PartialEq + Debug>(rt: &impl Abort, found: T, wanted: T, what: &str) {

@@ -4,9 +4,9 @@ ghost use Rattle.mc_core.specs.State.{has_chunk, is_class};
 ghost use Rattle.mc_words.specs.hand.Arenas.{IsHandOf, setup_of, view};
 ghost use Rattle.mc_arena_trials.specs.Hands.{AreHandsOf};
 
-use super::FOUR_CLASSES;
 use mc_classes::{ClassId, PageId};
 use mc_pages::{ChunkId, Grow, Numbers, Owner};
+use mc_trial_values::FOUR_CLASSES;
 use mc_words::{Arena, Final, Hand, NewError, SlabsHeld};
 use std::alloc::Global;
 
@@ -225,6 +225,17 @@ pub fn next_hand(arena: &Arena, hands: &mut Vec<Hand>) -> Option<Hand>
     } else {
         Some(hands.remove(0))
     }
+}
+
+/// The two hands of the lowest numbers that are left.
+pub fn next_two(arena: &Arena, hands: &mut Vec<Hand>) -> Option<(Hand, Hand)>
+    requires hands { AreHandsOf arena.now hands.old.items }
+    ensures hands { AreHandsOf arena.now hands.new.items }
+    ensures two { IfSome result (λ two. IsHandOf arena.now two.0 × IsHandOf arena.now two.1) }
+{
+    let first = next_hand(arena, hands)?;
+    let second = next_hand(arena, hands)?;
+    Some((first, second))
 }
 
 /// The header of a chunk of a closed arena. None where there is no such chunk.

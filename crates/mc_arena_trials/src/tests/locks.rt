@@ -4,7 +4,7 @@ ghost use Rattle.mc_words.specs.hand.Arenas.{IsHandOf};
 ghost use Rattle.mc_arena_trials.specs.Hands.{AreHandsOf};
 
 use super::calls::{
-    give, has_lent_stripe, head, is_stripe_left, lose_stripe, next_hand, opened, owner,
+    give, has_lent_stripe, head, is_stripe_left, lose_stripe, next_hand, next_two, opened, owner,
 };
 use super::{assert_equal, assert_same};
 use mc_pages::{ChunkId, Owner};
@@ -14,16 +14,6 @@ use std::test::Fail;
 
 /// The first chunk of the first page.
 const FIRST: ChunkId = ChunkId { page: 0, index: 0 };
-
-/// The two hands of the lowest numbers that are left.
-fn next_two(arena: &Arena, hands: &mut Vec<Hand>) -> Option<(Hand, Hand)>
-    requires hands { AreHandsOf arena.now hands.old.items }
-    ensures two { IfSome result (λ two. IsHandOf arena.now two.0 × IsHandOf arena.now two.1) }
-{
-    let first = next_hand(arena, hands)?;
-    let second = next_hand(arena, hands)?;
-    Some((first, second))
-}
 
 /// One hand takes the slabs and gives them, and another tries meanwhile and behind it.
 fn lend_slabs(rt: &impl Abort, arena: &Arena, hands: &mut Vec<Hand>) -> Result<(), Fail>

@@ -6,7 +6,9 @@ ghost use Rattle.mc_words.specs.hand.Arenas.{IsHandOf, setup_of, view};
 ghost use Rattle.mc_words.specs.item.Fresh.{IsFreshOf};
 ghost use Rattle.mc_core.specs.State.{is_class};
 
-use super::calls::{give, grow_page, has_chunk, head, is_class, listed_free, next_hand, opened};
+use super::calls::{
+    give, grow_page, has_chunk, head, is_class, listed_free, next_hand, next_two, opened,
+};
 use super::{assert_equal, assert_same};
 use mc_classes::ClassId;
 use mc_pages::ChunkId;
@@ -166,17 +168,6 @@ fn both(arena: &Arena, first: Worked, second: Worked) -> Option<Worked>
         hand: arena.join_hands(hand, other),
         rounds: rounds.min(more),
     })
-}
-
-/// Two hands of the lowest numbers that are left.
-fn next_two(arena: &Arena, hands: &mut Vec<Hand>) -> Option<(Hand, Hand)>
-    requires hands { AreHandsOf arena.now hands.old.items }
-    ensures hands { AreHandsOf arena.now hands.new.items }
-    ensures two { IfSome result (λ two. IsHandOf arena.now two.0 × IsHandOf arena.now two.1) }
-{
-    let first = next_hand(arena, hands)?;
-    let second = next_hand(arena, hands)?;
-    Some((first, second))
 }
 
 /// All hands work, in pairs, and become one. None where one isn't idle, or some are missing.
