@@ -1,8 +1,9 @@
 //! A reader and a writer in memory, which fail where they are told to.
-ghost use Rattle.std.specs.Prelude.{◌≤◌, length};
+ghost use Rattle.std.specs.Prelude.{◌≡◌, ◌≤◌, [], false, length};
 
 use mc_classes::{Failures, Fault, Sink};
 use mc_streams::Source;
+use std::alloc::Global;
 use std::cmp;
 use std::sync::ledger::Ledger;
 
@@ -20,6 +21,29 @@ pub struct MemorySource<'a, L: Ledger> {
     /// The failures so far.
     pub failures: Failures<L>,
     pub ghost within: { at ≤ length bytes.now },
+}
+
+impl<'a, L: Ledger> MemorySource<'a, L> {
+    /// None of these bytes was given yet.
+    pub fn new(
+        bytes: &'a [u8],
+        piece: usize,
+        good: usize,
+        failures: Failures<L>,
+    ) -> MemorySource<'a, L>
+        ensures bytes { result.bytes.now ≡ bytes.now }
+        ensures at { result.at ≡ 0 }
+        ensures limits { (result.piece ≡ piece) × (result.good ≡ good) }
+        ensures failures { result.failures ≡ failures }
+    {
+        MemorySource {
+            bytes,
+            at: 0,
+            piece,
+            good,
+            failures,
+        }
+    }
 }
 
 impl<L: Ledger> Source for MemorySource<'_, L> {
@@ -62,6 +86,24 @@ pub struct MemorySink<L: Ledger> {
     pub was_tried_again: bool,
     /// The failures so far.
     pub failures: Failures<L>,
+}
+
+impl<L: Ledger> MemorySink<L> {
+    /// Nothing was written yet.
+    pub fn new(alloc: Global, good: u64, failures: Failures<L>) -> MemorySink<L>
+        ensures bytes { result.bytes.items ≡ [] }
+        ensures good { result.good ≡ good }
+        ensures untried { (result.has_failed ≡ false) × (result.was_tried_again ≡ false) }
+        ensures failures { result.failures ≡ failures }
+    {
+        MemorySink {
+            bytes: Vec::new(alloc),
+            good,
+            has_failed: false,
+            was_tried_again: false,
+            failures,
+        }
+    }
 }
 
 impl<L: Ledger> Sink for MemorySink<L> {

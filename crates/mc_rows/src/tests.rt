@@ -16,6 +16,7 @@ ghost use Rattle.std.specs.Prelude.{◌≡◌, ◌<◌, ◌≤◌};
 use crate::devices::{MemorySink, MemorySource};
 use mc_classes::{Config, Failures};
 use mc_driver::{Run, RunFault, run_serial};
+use mc_trial_values::FOUR_CLASSES;
 use on_hands::assert_alike;
 use std::alloc::{AllocError, Global};
 use std::fmt::Debug;
@@ -27,18 +28,6 @@ use std::test::Fail;
 
 /// A name, a script, what is written, and how the run ends.
 type Row<'a> = (&'a str, &'a str, &'a str, Result<(), RunFault>);
-
-/// Pages of 1024 bytes, four of them, and classes of 48, 96, 192 and 512 bytes.
-const FOUR_CLASSES: Config = Config {
-    page: 1024,
-    limit: 4096,
-    first: 48,
-    num: 2,
-    den: 1,
-    max: 512,
-    stripes: 4,
-    bulk: 64,
-};
 
 /// A run with these classes that begins in mode 0 of the automover.
 const FROM_MODE_0: Run = Run {
@@ -129,32 +118,14 @@ fn play_counting<I: Ledger, O: Ledger>(
     requires writes_parts { writes.parts ≡ O.parts }
     requires writes_some { 0 < writes.parts }
 {
-    let mut reader = MemorySource::<I> {
-        bytes: script,
-        at: 0,
-        piece: limits.piece,
-        good: limits.good_bytes,
-        failures: Failures::new(reads),
-    };
-    let mut writer = MemorySink::<O> {
-        bytes: Vec::new(alloc),
-        good: limits.good_writes,
-        has_failed: false,
-        was_tried_again: false,
-        failures: Failures::new(writes),
-    };
+    let (piece, good) = (limits.piece, limits.good_bytes);
+    let mut reader = MemorySource::<I>::new(script, piece, good, Failures::new(reads));
+    let mut writer = MemorySink::<O>::new(alloc, limits.good_writes, Failures::new(writes));
     let end = run_serial(alloc, &run, &mut reader, &mut writer);
-    let MemorySink {
-        bytes,
-        good: _,
-        has_failed: _,
-        was_tried_again,
-        failures: _,
-    } = writer;
     Ok(Played {
-        text: bytes,
+        text: writer.bytes,
         end,
-        wrote_again: was_tried_again,
+        wrote_again: writer.was_tried_again,
     })
 }
 

@@ -1,6 +1,7 @@
 //! Runs in which pages move by themselves.
-use super::{FOUR_CLASSES, FROM_MODE_0, Row, plays, plays_rows};
+use super::{FROM_MODE_0, Row, plays, plays_rows};
 use mc_driver::Run;
+use mc_trial_values::FOUR_CLASSES;
 use std::alloc::{AllocError, Global};
 use std::test::Fail;
 
@@ -39,8 +40,7 @@ const ROWS: [Row<'static>; 5] = [
 
 #[test]
 fn pages_move_by_themselves(rt: HostRuntime) -> Result<(), Fail> {
-    plays_rows(&rt, rt.alloc(), &ROWS)?;
-    Ok(())
+    plays_rows(&rt, rt.alloc(), &ROWS)
 }
 
 /// Adds a line, and its reply.

@@ -2,9 +2,10 @@
 ghost use Rattle.std.specs.Prelude.{◌≤◌};
 
 use super::on_hands::assert_alike;
-use super::{FOUR_CLASSES, WHOLE, assert_same, play_run};
+use super::{WHOLE, assert_same, play_run};
 use mc_classes::Config;
 use mc_driver::Run;
+use mc_trial_values::FOUR_CLASSES;
 use rand_core::Rng;
 use rand_pcg::Pcg32;
 use std::alloc::{AllocError, Global};

@@ -1,10 +1,11 @@
 //! Worked lists of events: what each answers, and the headers that stand then.
 ghost use Rattle.std.specs.Prelude.{◌≡◌, ◌<◌, ◌≤◌};
 
-use super::{FOUR_CLASSES, assert_same};
+use super::assert_same;
 use mc_core::{Change, Event, Series, State, Step, Stop, StripeChange, replay};
 use mc_memory::{Refused, push, with_capacity};
 use mc_pages::{ChunkId, Entry};
+use mc_trial_values::FOUR_CLASSES;
 use std::alloc::Global;
 use std::process::Abort;
 use std::test::Fail;

@@ -1,9 +1,14 @@
 //! Rules that a reader of the plain machine may take otherwise: each row is named after the rule, and another reading of
 //! it gives other replies.
-use super::{FOUR_CLASSES, FROM_MODE_0, Row, plays, plays_rows};
+ghost use Rattle.std.specs.Prelude.{◌≤◌};
+
+use super::{FROM_MODE_0, Row, plays, plays_rows};
 use mc_classes::Config;
 use mc_driver::{Run, RunFault};
+use mc_trial_values::FOUR_CLASSES;
 use std::alloc::{AllocError, Global};
+use std::process::Abort;
+use std::sync::Wait;
 use std::test::Fail;
 
 const ROWS: [Row<'static>; 13] = [
@@ -146,8 +151,7 @@ const STARTED_ROWS: [StartedRow<'static>; 5] = [
 
 #[test]
 fn rules_hold(rt: HostRuntime) -> Result<(), Fail> {
-    plays_rows(&rt, rt.alloc(), &ROWS)?;
-    Ok(())
+    plays_rows(&rt, rt.alloc(), &ROWS)
 }
 
 /// A turn that finds nothing to do is one of the 1,000,000 that a run has, so the script's last turns run out.
@@ -190,6 +194,27 @@ fn rules_hold_of_runs_with_options(rt: HostRuntime) -> Result<(), Fail> {
 struct Told {
     script: Vec<u8>,
     replies: Vec<u8>,
+}
+
+/// No line.
+fn nothing_told(alloc: Global) -> Told {
+    Told {
+        script: Vec::new(alloc),
+        replies: Vec::new(alloc),
+    }
+}
+
+/// The script has these replies, and its run ends well.
+fn plays_told<R: Abort + Wait>(
+    rt: &R,
+    alloc: Global,
+    run: Run,
+    told: &Told,
+    name: &str,
+) -> Result<(), Fail>
+    requires { run.automove ≤ 2 }
+{
+    plays(rt, alloc, run, &told.script, &told.replies, &Ok(()), name)
 }
 
 /// Adds a line and its reply.
@@ -235,10 +260,7 @@ fn of_two_rules_that_apply_the_one_of_evictions_comes_first(rt: HostRuntime) -> 
         },
         automove: 1,
     };
-    let mut told = Told {
-        script: Vec::new(rt.alloc()),
-        replies: Vec::new(rt.alloc()),
-    };
+    let mut told = nothing_told(rt.alloc());
     push_sets(rt.alloc(), &mut told, 101, 163, 3)?;
     push_sets(rt.alloc(), &mut told, 11, 25, 20)?;
     push_sets(rt.alloc(), &mut told, 1, 4, 61)?;
@@ -248,15 +270,7 @@ fn of_two_rules_that_apply_the_one_of_evictions_comes_first(rt: HostRuntime) -> 
         "automove 0\n1 set 5 61 0\nwindow\n1 set 6 61 0\nwindow\nautomove 1\n1 set 7 61 0\nwindow\n",
         "OK\r\nSTORED 5\r\nWINDOW none\r\nSTORED 6\r\nWINDOW none\r\nOK\r\nSTORED 7\r\nWINDOW 1 4 OK\r\n",
     )?;
-    plays(
-        &rt,
-        rt.alloc(),
-        run,
-        &told.script,
-        &told.replies,
-        &Ok(()),
-        "two rules",
-    )
+    plays_told(&rt, rt.alloc(), run, &told, "two rules")
 }
 
 /// A page of 256 chunks moves, so chunks have indices of 200 and above.
@@ -272,23 +286,12 @@ fn a_page_of_256_chunks_moves(rt: HostRuntime) -> Result<(), Fail> {
         },
         automove: 0,
     };
-    let mut told = Told {
-        script: Vec::new(rt.alloc()),
-        replies: Vec::new(rt.alloc()),
-    };
+    let mut told = nothing_told(rt.alloc());
     push_sets(rt.alloc(), &mut told, 1, 299, 1)?;
     push(
         &mut told,
         "reassign 1 2\nturn 9\nstats\nstats slabs\n",
         "OK\r\nTURN FINISHED 256 213 43 0 0\r\nSTAT slab_global_page_pool 0\r\nSTAT slab_reassign_running 0\r\nSTAT slabs_moved 1\r\nSTAT slab_reassign_rescues 213\r\nSTAT slab_reassign_evictions_nomem 43\r\nSTAT slab_reassign_busy_items 0\r\nEND\r\nSTAT 1:chunk_size 64\r\nSTAT 1:chunks_per_page 256\r\nSTAT 1:total_pages 1\r\nSTAT 1:total_chunks 256\r\nSTAT 1:used_chunks 256\r\nSTAT 1:free_chunks 0\r\nSTAT 2:chunk_size 128\r\nSTAT 2:chunks_per_page 128\r\nSTAT 2:total_pages 1\r\nSTAT 2:total_chunks 128\r\nSTAT 2:used_chunks 0\r\nSTAT 2:free_chunks 128\r\nSTAT active_slabs 2\r\nSTAT total_malloced 32768\r\nEND\r\n",
     )?;
-    plays(
-        &rt,
-        rt.alloc(),
-        run,
-        &told.script,
-        &told.replies,
-        &Ok(()),
-        "a page of 256 chunks",
-    )
+    plays_told(&rt, rt.alloc(), run, &told, "a page of 256 chunks")
 }

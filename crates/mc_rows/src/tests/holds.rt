@@ -44,8 +44,7 @@ const ROWS: [Row<'static>; 6] = [
 
 #[test]
 fn items_are_held_and_touched(rt: HostRuntime) -> Result<(), Fail> {
-    plays_rows(&rt, rt.alloc(), &ROWS)?;
-    Ok(())
+    plays_rows(&rt, rt.alloc(), &ROWS)
 }
 
 /// Adds the text so often.

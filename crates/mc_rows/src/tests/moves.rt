@@ -1,7 +1,8 @@
 //! Runs whose pages move.
-use super::{FOUR_CLASSES, Row, plays, plays_rows};
+use super::{Row, plays, plays_rows};
 use mc_classes::Config;
 use mc_driver::{Run, RunFault};
+use mc_trial_values::FOUR_CLASSES;
 use std::test::Fail;
 
 pub(super) const ROWS: [Row<'static>; 7] = [
@@ -51,8 +52,7 @@ pub(super) const ROWS: [Row<'static>; 7] = [
 
 #[test]
 fn pages_move(rt: HostRuntime) -> Result<(), Fail> {
-    plays_rows(&rt, rt.alloc(), &ROWS)?;
-    Ok(())
+    plays_rows(&rt, rt.alloc(), &ROWS)
 }
 
 #[test]

@@ -1,9 +1,8 @@
 //! Runs whose streams hold.
-use super::{FOUR_CLASSES, Row, WHOLE, assert_played, assert_same, play, plays_rows};
+use super::{Row, WHOLE, assert_played, assert_same, play, plays_rows};
 use mc_classes::Config;
 use mc_driver::RunFault;
-use mc_memory::{Refused, with_capacity};
-use std::alloc::Global;
+use mc_trial_values::{FOUR_CLASSES, too_much};
 use std::test::Fail;
 
 const ROWS: [Row<'static>; 17] = [
@@ -103,8 +102,7 @@ const ROWS: [Row<'static>; 17] = [
 
 #[test]
 fn items_come_and_go(rt: HostRuntime) -> Result<(), Fail> {
-    plays_rows(&rt, rt.alloc(), &ROWS)?;
-    Ok(())
+    plays_rows(&rt, rt.alloc(), &ROWS)
 }
 
 #[test]
@@ -184,14 +182,6 @@ fn scripts_of_the_greatest_length(rt: HostRuntime) -> Result<(), Fail> {
         assert_played(&rt, &played, &end, b"", "a long script");
     }
     Ok(())
-}
-
-/// Want of memory, as a vector tells it that no memory has room for.
-fn too_much(alloc: Global) -> Result<Refused, Fail> {
-    match with_capacity::<u64>(alloc, usize::MAX) {
-        Ok(_room) => Err(Fail::new("there is no room for so much")),
-        Err(refused) => Ok(refused),
-    }
 }
 
 #[test]

@@ -1,6 +1,7 @@
 //! Runs whose streams come in pieces or fail.
-use super::{FOUR_CLASSES, StreamLimits, WHOLE, assert_played, assert_same, moves, play};
+use super::{StreamLimits, WHOLE, assert_played, assert_same, moves, play};
 use mc_driver::RunFault;
+use mc_trial_values::FOUR_CLASSES;
 use std::test::Fail;
 
 const SCRIPT: &[u8] = b"1 set 1 3 7\n1 set 2 3 9\n1 del 2\nstats slabs\n";
