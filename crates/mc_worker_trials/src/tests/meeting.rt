@@ -1,9 +1,9 @@
 //! Two workers that wait for each other at their gate.
 ghost use Rattle.std.specs.Prelude.{◌≡◌};
 
-use super::FOUR_CLASSES;
 use super::play::play;
 use mc_driver::{Gate, Pass, Point, RunFault};
+use mc_trial_values::FOUR_CLASSES;
 use mc_words::Arena;
 use mc_workers::{Ended, Shared, first_hand, serve_lines};
 use std::sync::atomic::{AtomicU64, Ordering};
@@ -39,8 +39,14 @@ impl Meeting {
     }
 }
 
+/// Notes that so many lines were answered.
+pub fn note(answered: &AtomicU64, nth: u64) -> Pass {
+    answered.store(nth, Ordering::SeqCst);
+    Pass::Go
+}
+
 /// Looks at most so often until the number is there.
-fn comes(seen: &AtomicU64, wanted: u64, looks: u64) -> Pass {
+pub fn comes(seen: &AtomicU64, wanted: u64, looks: u64) -> Pass {
     for _look in 0..looks {
         if seen.load(Ordering::SeqCst) >= wanted {
             return Pass::Go;
@@ -52,14 +58,8 @@ fn comes(seen: &AtomicU64, wanted: u64, looks: u64) -> Pass {
 impl Gate for Meeting {
     fn pass(&self, worker: u64, nth: u64, point: Point) -> Pass {
         match (worker, point) {
-            (1, Point::After) => {
-                self.first.store(nth, Ordering::SeqCst);
-                Pass::Go
-            }
-            (2, Point::After) => {
-                self.second.store(nth, Ordering::SeqCst);
-                Pass::Go
-            }
+            (1, Point::After) => note(&self.first, nth),
+            (2, Point::After) => note(&self.second, nth),
             (2, Point::Before) => comes(&self.first, 2, self.looks),
             (1, Point::Before) if nth == 3 => comes(&self.second, 1, self.looks),
             _ => Pass::Go,

@@ -1,10 +1,10 @@
 //! How a script is run by threads, from bytes in memory to bytes in memory.
 ghost use Rattle.std.specs.Prelude.{◌≡◌, ◌<◌};
 
-use super::FOUR_CLASSES;
 use mc_classes::{Config, Failures};
 use mc_driver::{Gate, Run, RunFault, run_threads};
 use mc_rows::{MemorySink, MemorySource};
+use mc_trial_values::FOUR_CLASSES;
 use std::alloc::Global;
 use std::marker::Brand;
 use std::sync::Wait;
@@ -88,36 +88,21 @@ fn play_counting<R: Threads + Wait + Sync, G: Gate + Sync, I: Ledger, O: Ledger>
     requires writes_parts { writes.parts ≡ O.parts }
     requires writes_some { 0 < writes.parts }
 {
-    let mut reader = MemorySource::<I> {
-        bytes: script,
-        at: 0,
-        piece: usize::MAX,
-        good: limits.good_bytes,
-        failures: Failures::new(reads),
-    };
-    let mut writer = MemorySink::<O> {
-        bytes: Vec::new(alloc),
-        good: limits.good_writes,
-        has_failed: false,
-        was_tried_again: false,
-        failures: Failures::new(writes),
-    };
+    let mut reader = MemorySource::<I>::new(
+        script,
+        usize::MAX,
+        limits.good_bytes,
+        Failures::new(reads),
+    );
+    let mut writer = MemorySink::<O>::new(alloc, limits.good_writes, Failures::new(writes));
     let run = Run {
         config,
         automove: 0,
     };
     let end = run_threads(rt, alloc, &run, gate, &mut reader, &mut writer);
-    let bytes_read = reader.at;
-    let MemorySink {
-        bytes,
-        good: _,
-        has_failed: _,
-        was_tried_again: _,
-        failures: _,
-    } = writer;
     Played {
-        text: bytes,
+        text: writer.bytes,
         end,
-        bytes_read,
+        bytes_read: reader.at,
     }
 }

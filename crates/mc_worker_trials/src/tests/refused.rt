@@ -1,8 +1,8 @@
 //! Runs that end before a thread is started, or at the one write behind them: the rest is left as it was.
-use super::FOUR_CLASSES;
 use super::play::{StreamLimits, WHOLE, play, play_disturbed};
 use mc_classes::Config;
 use mc_driver::{Free, RunFault};
+use mc_trial_values::FOUR_CLASSES;
 use std::test::Fail;
 
 /// Two workers and a mover.

@@ -1,4 +1,5 @@
 //! A run that has no turns of the mover left.
+use super::meeting::{comes, note};
 use super::play::play;
 use mc_driver::{Gate, Pass, Point, RunFault};
 use std::sync::atomic::{AtomicU64, Ordering};
@@ -19,29 +20,13 @@ struct Spending {
     mover: AtomicU64,
 }
 
-/// Looks until the number is there.
-fn comes(seen: &AtomicU64, wanted: u64) -> Pass {
-    for _look in 0..LOOKS {
-        if seen.load(Ordering::SeqCst) >= wanted {
-            return Pass::Go;
-        }
-    }
-    Pass::Stop
-}
-
 impl Gate for Spending {
     fn pass(&self, worker: u64, nth: u64, point: Point) -> Pass {
         match (worker, point) {
-            (1, Point::After) => {
-                self.worker.store(nth, Ordering::SeqCst);
-                Pass::Go
-            }
-            (0, Point::After) => {
-                self.mover.store(nth, Ordering::SeqCst);
-                Pass::Go
-            }
-            (0, Point::Before) if nth == 1 => comes(&self.worker, 4),
-            (1, Point::Before) if nth == 5 => comes(&self.mover, 2),
+            (1, Point::After) => note(&self.worker, nth),
+            (0, Point::After) => note(&self.mover, nth),
+            (0, Point::Before) if nth == 1 => comes(&self.worker, 4, LOOKS),
+            (1, Point::Before) if nth == 5 => comes(&self.mover, 2, LOOKS),
             _ => Pass::Go,
         }
     }
