@@ -2,8 +2,9 @@
 ghost use Rattle.mc_byte_items.specs.Hands.{IsIdleHandOf};
 
 use super::made::SMALL;
-use super::values::{Drawn, KEYS, Known, key_of, value_of};
+use super::values::{KEYS, Known, key_of, value_of};
 use mc_byte_items::{contains, delete, get, set, touch};
+use mc_trial_values::Drawn;
 use mc_words::{Arena, Hand};
 use std::alloc::Global;
 use std::sync::Wait;

@@ -3,8 +3,9 @@ ghost use Rattle.std.specs.Thread.{IsSync};
 ghost use Rattle.mc_cache.specs.Belonging.{BelongsTo};
 
 use super::made::{HASH_KEY, config_of, next_worker};
-use super::values::{Drawn, KEYS, key_of, value_of};
+use super::values::{KEYS, key_of, value_of};
 use mc_cache::{Cache, Worker};
+use mc_trial_values::Drawn;
 use std::alloc::{AllocError, Global};
 use std::sync::Wait;
 use std::test::Fail;

@@ -28,21 +28,6 @@ pub fn value_of(alloc: Global, number: u64, version: u64) -> Result<Vec<u8>, All
     Ok(value)
 }
 
-/// Numbers that look drawn.
-#[derive(Drop)]
-pub struct Drawn(pub u64);
-
-impl Drawn {
-    /// The next one, below 2^31.
-    pub fn next(&mut self) -> u64 {
-        self.0 = self
-            .0
-            .wrapping_mul(6_364_136_223_846_793_005)
-            .wrapping_add(1_442_695_040_888_963_407);
-        self.0 >> 33
-    }
-}
-
 /// Which version each key has, as far as it was stored and not deleted.
 #[derive(Drop)]
 pub struct Known {
