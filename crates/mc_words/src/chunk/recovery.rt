@@ -18,8 +18,8 @@ use mc_pages::ChunkId;
 
 impl Arena {
     /// Looks at those chunks of the class of which hints say that they may be dead, and puts back those that are, the oldest first. A
-    /// chunk that died is hinted at by the call that left it dead; but one that dies meanwhile may be missed. (own, as slabs.c frees a
-    /// chunk when its last reference goes)
+    /// chunk that died is hinted at by the call that left it dead; but one that dies meanwhile may be missed. Where there is no hint at
+    /// all it does nothing. (own, as slabs.c frees a chunk when its last reference goes)
     pub fn recover(&self, hand: &mut Hand, held: &mut SlabsHeld, class: ClassId)
         requires arena { IsHandOf self.now hand.old }
         requires class { is_class (setup_of self.now).table class ≡ true }
@@ -30,6 +30,9 @@ impl Arena {
         ensures recovers { Recovers (class_at held.old.shared class).order (view hand.old) held.old.shared (view hand.new) held.new.shared }
         ensures view { view hand.new ≡ with_seen (view hand.old) (view hand.new) }
     {
+        if self.hints.pages() == 0 {
+            return;
+        }
         let mut dead = DeadChunks::new();
         self.look_at_hints(hand, held, class, &mut dead);
         self.put_back_dead(hand, held, class, &mut dead);

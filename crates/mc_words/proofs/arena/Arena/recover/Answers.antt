@@ -1,9 +1,14 @@
-use Rattle.std.proofs.Common.{◌∙◌, ap}
+use Rattle.std.proofs.Common.{◌∙◌, [], ap, refl}
+use Rattle.mc_words.specs.hand.Arenas.{view}
 use Rattle.mc_words.specs.chunk.Sweeps.{with_seen}
 use Rattle.mc_words.specs.hand.View.{View}
 use Rattle.mc_words.proofs.Pages.LookedOver.{sees_headers_alone}
 use Rattle.mc_words.proofs.Chunks.SweepViews.{sees_alone}
 use Rattle.mc_words.proofs.arena.Arena.recover.Goals as goal
+
+-- there is no hint, and nothing is looked at
+pub returns-then-pages-eq0-clause-recovers : goal.returns-then-pages-eq0-clause-recovers
+returns-then-pages-eq0-clause-recovers c = record { looked = []; seen = view c.args.hand.now; sees = refl; again = []; oldest_first = refl; each = (refl, refl) }
 
 pub returns-clause-recovers : goal.returns-clause-recovers
 returns-clause-recovers c =
