@@ -1,10 +1,9 @@
 -- Hands that are kept in a list.
-use Rattle.std.specs.Prelude.{List, [], ◌∷◌, ⊤}
+use Rattle.std.specs.Prelude.{List, All}
 use Rattle.mc_words.specs.declared.arena.Arena.{Arena}
 use Rattle.mc_words.specs.declared.hand.Hand.{Hand}
 use Rattle.mc_words.specs.hand.Arenas.{IsHandOf}
 
 -- all are hands of the arena
 abbrev pub AreHandsOf : Arena → List Hand → Type 0
-AreHandsOf arena [] = ⊤
-AreHandsOf arena (hand ∷ hands) = IsHandOf arena hand × AreHandsOf arena hands
+AreHandsOf arena hands = All (IsHandOf arena) hands

@@ -1,5 +1,5 @@
 //! Several threads at one arena: chunks of one class go out, are filled and given up, and come back.
-ghost use Rattle.std.specs.Prelude.{◌≡◌, IfSome};
+ghost use Rattle.std.specs.Prelude.{◌≡◌, All, IfOk, IfSome};
 ghost use Rattle.mc_arena_trials.specs.Hands.{AreHandsOf};
 ghost use Rattle.std.specs.Thread.{IsSync};
 ghost use Rattle.mc_words.specs.hand.Arenas.{IsHandOf, setup_of, view};
@@ -13,10 +13,11 @@ use super::{assert_equal, assert_same};
 use mc_classes::ClassId;
 use mc_pages::ChunkId;
 use mc_words::{Arena, Final, Fresh, Hand};
+use std::alloc::AllocError;
 use std::process::Abort;
 use std::sync::Wait;
 use std::test::Fail;
-use std::thread::{Threads, join};
+use std::thread::{Threads, map_vec};
 
 /// How often each thread goes round.
 const ROUNDS: u64 = 1000;
@@ -100,53 +101,22 @@ fn work<R: Wait>(rt: &R, arena: &Arena, hand: Hand) -> Worked
     Worked { hand, rounds }
 }
 
-/// Two threads' rounds at once.
+/// The rounds of all hands at once, each by a thread of its own.
 fn work_beside<R: Threads + Wait + Sync>(
     rt: &R,
     arena: &Arena,
-    first: Hand,
-    second: Hand,
-) -> (Worked, Worked)
-    requires first { IsHandOf arena.now first }
-    requires second { IsHandOf arena.now second }
-    ensures first { IsHandOf arena.now result.0.hand }
-    ensures second { IsHandOf arena.now result.1.hand }
+    hands: Vec<Hand>,
+) -> Result<Vec<Worked>, AllocError>
+    requires hands { AreHandsOf arena.now hands.items }
+    ensures hands { IfOk result (λ all. All (λ worked. IsHandOf arena.now worked.hand) all.items) }
 {
-    join(
+    map_vec(
         rt,
-        move || -> Worked
-            requires { IsSync R.row × IsHandOf arena.now first }
+        hands,
+        &|hand: Hand| -> Worked
+            requires { IsSync R.row × IsHandOf arena.now hand }
             ensures { IsHandOf arena.entry.now result.hand }
-        { work(rt, arena, first) },
-        move || -> Worked
-            requires { IsSync R.row × IsHandOf arena.now second }
-            ensures { IsHandOf arena.entry.now result.hand }
-        { work(rt, arena, second) },
-    )
-}
-
-/// Four threads' rounds at once: both pairs.
-fn work_by_four<R: Threads + Wait + Sync>(
-    rt: &R,
-    arena: &Arena,
-    low: (Hand, Hand),
-    high: (Hand, Hand),
-) -> ((Worked, Worked), (Worked, Worked))
-    requires low { IsHandOf arena.now low.0 × IsHandOf arena.now low.1 }
-    requires high { IsHandOf arena.now high.0 × IsHandOf arena.now high.1 }
-    ensures low { IsHandOf arena.now result.0.0.hand × IsHandOf arena.now result.0.1.hand }
-    ensures high { IsHandOf arena.now result.1.0.hand × IsHandOf arena.now result.1.1.hand }
-{
-    join(
-        rt,
-        move || -> (Worked, Worked)
-            requires { IsSync R.row × IsHandOf arena.now low.0 × IsHandOf arena.now low.1 }
-            ensures { IsHandOf arena.entry.now result.0.hand × IsHandOf arena.entry.now result.1.hand }
-        { work_beside(rt, arena, low.0, low.1) },
-        move || -> (Worked, Worked)
-            requires { IsSync R.row × IsHandOf arena.now high.0 × IsHandOf arena.now high.1 }
-            ensures { IsHandOf arena.entry.now result.0.hand × IsHandOf arena.entry.now result.1.hand }
-        { work_beside(rt, arena, high.0, high.1) },
+        { work(rt, arena, hand) },
     )
 }
 
@@ -170,21 +140,17 @@ fn both(arena: &Arena, first: Worked, second: Worked) -> Option<Worked>
     })
 }
 
-/// All hands work, in pairs, and become one. None where one isn't idle, or some are missing.
-fn work_by_all<R: Threads + Wait + Sync>(
-    rt: &R,
-    arena: &Arena,
-    hands: &mut Vec<Hand>,
-) -> Option<Worked>
-    requires hands { AreHandsOf arena.now hands.old.items }
+/// One hand of all that worked, and the rounds of that which went fewest. None where one isn't idle, or there is none.
+fn join_all(arena: &Arena, all: Vec<Worked>) -> Option<Worked>
+    requires hands { All (λ worked. IsHandOf arena.now worked.hand) all.items }
     ensures hand { IfSome result (λ worked. IsHandOf arena.now worked.hand) }
 {
-    let low = next_two(arena, hands)?;
-    let high = next_two(arena, hands)?;
-    let (low, high) = work_by_four(rt, arena, low, high);
-    let low = both(arena, low.0, low.1)?;
-    let high = both(arena, high.0, high.1)?;
-    both(arena, low, high)
+    let mut all = all;
+    let mut joined = all.pop()?;
+    while let Some(worked) = all.pop() {
+        joined = both(arena, joined, worked)?;
+    }
+    Some(joined)
 }
 
 /// What is left of the 21 chunks of page 0: how many are free, as header and free list say, and how often they went out in all.
@@ -201,27 +167,32 @@ fn count_free(left: &Final) -> Option<(u64, u64)> {
     Some((listed, rounds))
 }
 
-/// The first of five hands gives the class a page, and the others work in pairs. None where one isn't idle, or the lock isn't free.
+/// The first of five hands gives the class a page, and the others work at once. None where one isn't idle, the lock isn't free, or
+/// memory ran out.
 fn grow_and_work<R: Abort + Threads + Wait + Sync>(
     rt: &R,
     arena: &Arena,
-    hands: &mut Vec<Hand>,
+    hands: Vec<Hand>,
 ) -> Option<Worked>
-    requires hands { AreHandsOf arena.now hands.old.items }
+    requires hands { AreHandsOf arena.now hands.items }
     ensures hand { IfSome result (λ worked. IsHandOf arena.now worked.hand) }
 {
-    let mut owner = next_hand(arena, hands)?;
+    let mut hands = hands;
+    let mut owner = next_hand(arena, &mut hands)?;
     let mut held = arena.try_slabs(&mut owner).ok()?;
     let grown = grow_page(arena, &mut owner, &mut held, 1);
     assert_equal(rt, grown, Some(Ok(0)), "grow");
     assert_same(rt, give(arena, &mut owner, held), true, "give_slabs");
-    work_by_all(rt, arena, hands)
+    match work_beside(rt, arena, hands) {
+        Ok(all) => join_all(arena, all),
+        Err(_) => None,
+    }
 }
 
 #[test]
 fn four_threads_share_a_class(rt: HostRuntime) -> Result<(), Fail> {
-    let (arena, mut hands) = opened(rt.alloc(), 5)?;
-    let Some(worked) = grow_and_work(&rt, &arena, &mut hands) else {
+    let (arena, hands) = opened(rt.alloc(), 5)?;
+    let Some(worked) = grow_and_work(&rt, &arena, hands) else {
         return Err(Fail::new("five hands are idle"));
     };
     assert_same(&rt, worked.rounds, ROUNDS, "rounds");
