@@ -7,7 +7,6 @@
 mod bytes;
 mod cache;
 mod hashing;
-mod numbers;
 mod opening;
 mod stats;
 mod tended;

@@ -5,7 +5,6 @@ ghost use Rattle.mc_items.specs.Keeping.{SaysNothing};
 ghost use Rattle.mc_byte_items.specs.Hands.{IsIdleHandOf};
 ghost use Rattle.mc_cache.specs.Windows.{DoesWindowTurns, EndsWindow, TendsShard, began_by, decider_after, decision_after, is_under_way};
 
-use crate::numbers::{evictions_in, free_in, pages_in};
 use crate::tended::Tended;
 use mc_memory::Refused;
 use mc_mover::{Survey, Turn, reassign, survey, turn};
@@ -69,9 +68,9 @@ fn decide(
     ensures decided { IfOk result (λ decided. decided ≡ decision_after decider.old survey.now) }
     ensures kept { OnErr result (decider.new ≡ decider.old) }
 {
-    let evictions = evictions_in(alloc, survey)?;
-    let pages = pages_in(alloc, survey)?;
-    let free = free_in(alloc, survey)?;
+    let evictions = survey.evictions(alloc)?;
+    let pages = survey.pages(alloc)?;
+    let free = survey.free(alloc)?;
     match decider.feed(&evictions, &pages, &free) {
         Ok(decision) => Ok(decision),
         Err(_) => Ok(None),

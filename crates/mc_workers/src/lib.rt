@@ -12,7 +12,6 @@ pub mod mover_laws;
 mod mover_line;
 mod mover_reply;
 mod moves;
-mod numbers;
 mod reply;
 mod script;
 mod setting;

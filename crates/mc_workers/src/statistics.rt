@@ -4,7 +4,6 @@ ghost use Rattle.std.specs.Io.{StartsWith};
 ghost use Rattle.mc_workers.specs.MoverReplies.{classes_text, statistics_text, totals_text};
 ghost use Rattle.mc_workers.specs.Surveyed.{AreTellable};
 
-use crate::numbers::{free_in, pages_in};
 use mc_classes::{ClassTable, Failures, Fault, Sink};
 use mc_memory::{Refused, extend_from_slice};
 use mc_mover::Survey;
@@ -130,8 +129,8 @@ pub(crate) fn push_classes<L: Ledger>(
     ensures text { OnOk result (text.new.items ≡ text.old.items ++ classes_text table.now survey.now) }
     ensures kept { StartsWith text.new.items text.old.items }
 {
-    let pages = pages_in(*text.allocator(), survey)?;
-    let free = free_in(*text.allocator(), survey)?;
+    let pages = survey.pages(*text.allocator())?;
+    let free = survey.free(*text.allocator())?;
     let granted = survey.totals.granted * table.page();
     let mut sink = TextSink::take(text, Failures::<L>::new(refusals));
     let written = stats_slabs(table, &pages, &free, granted, &mut sink);

@@ -8,7 +8,6 @@ ghost use Rattle.mc_workers.specs.Moving.{ActsOnWindow, AsksForPage, EndsWindow,
 use crate::ended::Ended;
 use crate::mover::Mover;
 use crate::mover_reply::Acted;
-use crate::numbers::{evictions_in, free_in, pages_in};
 use mc_memory::Refused;
 use mc_mover::{Survey, reassign, survey, trim};
 use mc_pages::Reassign;
@@ -79,9 +78,9 @@ fn decide(
     ensures decided { IfOk result (λ decided. decided ≡ decision_after decider.old survey.now) }
     ensures kept { OnErr result (decider.new ≡ decider.old) }
 {
-    let evictions = evictions_in(alloc, survey)?;
-    let pages = pages_in(alloc, survey)?;
-    let free = free_in(alloc, survey)?;
+    let evictions = survey.evictions(alloc)?;
+    let pages = survey.pages(alloc)?;
+    let free = survey.free(alloc)?;
     match decider.feed(&evictions, &pages, &free) {
         Ok(decision) if survey.mode == 1 => Ok(decision),
         _ => Ok(None),

@@ -1,10 +1,10 @@
 use Rattle.std.proofs.Common.{◌≡◌, ◌≤◌, ◌++◌, drop, length, map, vec_capacity}
-use Rattle.mc_cache.proofs.numbers.free_in.Given as goal
+use Rattle.mc_mover.proofs.numbers.Survey.pages.Given as goal
 
 -- the numbers so far and those that are left, and there is room for all
 abbrev pub invariant-loop-numbers : goal.invariant-loop-numbers
 invariant-loop-numbers l = record {
-  all : l.all.items ++ map (λ numbers. numbers.free) (drop l.numbers-index l.survey.classes.items) ≡ map (λ numbers. numbers.free) l.survey.classes.items;
+  all : l.all.items ++ map (λ numbers. numbers.pages) (drop l.numbers-index l.self.classes.items) ≡ map (λ numbers. numbers.pages) l.self.classes.items;
   each : length l.all.items ≡ l.numbers-index;
-  room : length l.survey.classes.items ≤ vec_capacity l.all;
+  room : length l.self.classes.items ≤ vec_capacity l.all;
 }
