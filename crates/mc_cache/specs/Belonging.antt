@@ -6,7 +6,7 @@ use Rattle.mc_items.specs.declared.setting.SetError.{SetError}
 use Rattle.mc_cache.specs.declared.cache.Cache.{Cache}
 use Rattle.mc_cache.specs.declared.cache.Worker.{Worker}
 use Rattle.mc_cache.specs.Hashing.{hash_of, shard_of}
-use Rattle.mc_cache.specs.Shards.{ActsOnShard, AreIdleHands, DeletesThere, LosesThere, ReadsOther, ReadsValue, RefusesValue}
+use Rattle.mc_cache.specs.Shards.{ActsOnShard, AreIdleHands, DeletesThere, LosesThere, ReadsAndBumps, ReadsOther, ReadsValue, RefusesValue}
 
 -- the worker has an idle hand of each of the cache's arenas
 abbrev pub BelongsTo : Cache → Worker → Type 0
@@ -35,6 +35,11 @@ KeepsHands before now = now.hands.items ≡ before.hands.items
 -- the worker found the key with a value, which stands behind the bytes that were there
 abbrev pub GivesValueOf : Cache → List ℕ → List ℕ → List ℕ → Worker → Worker → Type 0
 GivesValueOf cache key old new before now = (value : List ℕ) × ActsOnKey cache key (ReadsValue (hash_in cache key) key value) before now × (new ≡ old ++ value)
+
+-- the worker found the key with a value, which stands behind the bytes that were there, and then touched it where it was due
+abbrev pub GivesAndBumps : Cache → List ℕ → List ℕ → List ℕ → Worker → Worker → Type 0
+GivesAndBumps cache key old new before now =
+    (value : List ℕ) × ActsOnKey cache key (ReadsAndBumps before.recent now.recent (hash_in cache key) key value) before now × (new ≡ old ++ value)
 
 -- it found no such key, or one that was gone when it was to be deleted
 abbrev pub DeletesNoneOf : Cache → List ℕ → Worker → Worker → Type 0

@@ -1,7 +1,8 @@
 -- Worked cases.
-use Rattle.std.specs.Prelude.{◌≡◌, ◌∷◌, []}
+use Rattle.std.specs.Prelude.{◌≡◌, ◌∷◌, [], false, true}
 use Rattle.mc_mover.specs.declared.counts.Turn.TheVariants.{Finished, Went}
 use Rattle.mc_cache.specs.Bytes.{bytes_of}
+use Rattle.mc_cache.specs.Marks.{is_noted, no_marks, with_mark}
 use Rattle.mc_cache.specs.Tending.{tended_in_all}
 use Rattle.mc_cache.specs.Windows.{turns_tended}
 
@@ -20,3 +21,7 @@ abbrev pub TwoShards : Type 0
 TwoShards =
     tended_in_all (record { began = 1; ended = 0; rescued = 2; evicted = 3 } ∷ record { began = 1; ended = 1; rescued = 0; evicted = 1 } ∷ [])
     ≡ record { began = 2; ended = 1; rescued = 2; evicted = 4 }
+
+-- the hash 5 is noted, and then 1029, which has its remainder: 5 is noted no more
+abbrev pub AskedAgain : Type 0
+AskedAgain = (is_noted (with_mark 5 no_marks) 5 ≡ true) × (is_noted (with_mark 1029 (with_mark 5 no_marks)) 5 ≡ false)

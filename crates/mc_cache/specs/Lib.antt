@@ -1,5 +1,7 @@
 pub mod Hashing
 pub mod Pairs
+pub mod Marks
+pub mod Recent
 pub mod Shards
 pub mod Observers
 pub mod Opening

@@ -3,6 +3,7 @@ ghost use Rattle.std.specs.Prelude.{◌≡◌, ◌≤◌, length};
 ghost use Rattle.mc_cache.specs.Shards.{AreIdleHands};
 
 use crate::hashing::{HashKey, choose_shard};
+use crate::recent::Recent;
 use mc_words::{Arena, Hand};
 
 /// The memory of a cache that threads share: 1 to 4,096 arenas side by side, of which each has the keys of some hashes.
@@ -14,11 +15,12 @@ pub struct Cache {
     ghost few: { length arenas.items ≤ 4096 },
 }
 
-/// What one thread acts with: a hand of each shard, and room for the words of the item that it sets.
+/// What one thread acts with: a hand of each shard, room for the words of the item that it sets, and which keys it touched lately.
 #[derive(Drop)]
 pub struct Worker {
     pub(crate) hands: Vec<Hand>,
     pub(crate) words: Vec<u64>,
+    pub(crate) recent: Recent,
 }
 
 impl Cache {

@@ -4,16 +4,19 @@
 //! both. The tender, in a thread of its own, moves pages between classes.
 #![tactic(auto)]
 
+mod bumping;
 mod bytes;
 mod cache;
 mod hashing;
 mod opening;
+mod recent;
 mod stats;
 mod tended;
 mod tending;
 mod window;
 mod working;
 
+pub use bumping::worked_recent;
 pub use bytes::worked_bytes;
 pub use cache::{Cache, Worker};
 pub use hashing::HashKey;

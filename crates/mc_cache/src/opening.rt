@@ -14,6 +14,7 @@ ghost use Rattle.mc_cache.specs.declared.opening.NewError.TheVariants as refused
 
 use crate::cache::{Cache, Worker};
 use crate::hashing::HashKey;
+use crate::recent::Recent;
 use crate::tending::Tender;
 use mc_classes::{Config, ConfigError};
 use mc_memory::{Refused, push};
@@ -168,6 +169,7 @@ fn add_workers(alloc: Global, count: u64, workers: &mut Vec<Worker>) -> Result<(
         let worker = Worker {
             hands: Vec::new(alloc),
             words: Vec::new(alloc),
+            recent: Recent::new(alloc)?,
         };
         push(workers, worker)?;
     }

@@ -2,6 +2,7 @@
 ghost use Rattle.std.specs.Prelude.{◌↔◌, IsTrue};
 ghost use Rattle.mc_cache.specs.Shards.{IsKey};
 
+use crate::bumping::bump;
 use crate::cache::{Cache, Worker};
 use mc_memory::Refused;
 use std::sync::Wait;
@@ -47,7 +48,7 @@ fn is_key(key: &[u8]) -> bool
 impl Worker {
     ghost use Rattle.std.specs.Prelude.{◌≡◌, ◌<◌, ◌↔◌, ◌⊎◌, Err, Ok, OnErr, OnOk, false, length, true};
     ghost use Rattle.mc_items.specs.declared.setting.SetError as items;
-    ghost use Rattle.mc_cache.specs.Belonging.{ActsOnKey, BelongsTo, DeletesNoneOf, GivesValueOf, KeepsHands, RefusesValueOf, TouchesNoneOf, hash_in};
+    ghost use Rattle.mc_cache.specs.Belonging.{ActsOnKey, BelongsTo, DeletesNoneOf, GivesAndBumps, GivesValueOf, KeepsHands, RefusesValueOf, TouchesNoneOf, hash_in};
     ghost use Rattle.mc_cache.specs.Shards.{DeletesThere, FindsHeld, IsKey, ReadsKey, ReadsOther, SaysNoMore, StoresValue, TouchesThere};
     ghost use Rattle.mc_cache.specs.declared.working.CallError.TheVariants as call_error;
     ghost use Rattle.mc_cache.specs.declared.working.SetError.TheVariants as set_error;
@@ -114,6 +115,46 @@ impl Worker {
         let hand = &mut self.hands[shard];
         match mc_byte_items::get(rt, arena, hand, hash, key, into) {
             Ok(found) => Ok(found),
+            Err(refused) => Err(CallError::NoMemory(refused)),
+        }
+    }
+
+    /// The same as `get`; and where the key has a value it is touched then, as by `touch`, unless this worker touched it lately. So a key
+    /// that is read again and again is touched now and then: again after at most 4,096 gets of this kind that found theirs, and sooner
+    /// where another of 1,024 remainders' keys came in between. Where memory is refused for the touch, the value is given all the same,
+    /// and the key is touched the next time. It waits for locks of the key's shard. (memcached's `do_item_bump`, which lets
+    /// `ITEM_UPDATE_INTERVAL`, 60 seconds, go by; by counts of gets and not by a clock: own)
+    pub fn get_touching<R: Wait>(
+        &mut self,
+        rt: &R,
+        cache: &Cache,
+        key: &[u8],
+        into: &mut Vec<u8>,
+    ) -> Result<bool, CallError>
+        requires { BelongsTo cache.now self.old }
+        ensures belongs { BelongsTo cache.now self.new }
+        ensures key { (result ≡ Err call_error.KeyLength) ↔ ¬ IsKey key.now }
+        ensures same { result ≡ Err call_error.KeyLength → KeepsHands self.old self.new }
+        ensures value { result ≡ Ok true → GivesAndBumps cache.now key.now into.old.items into.new.items self.old self.new }
+        ensures none { result ≡ Ok false → ActsOnKey cache.now key.now (ReadsOther (hash_in cache.now key.now) key.now) self.old self.new }
+        ensures unasked { (result ≡ Ok true → ⊥) → self.new.recent ≡ self.old.recent }
+        ensures kept { (result ≡ Ok true → ⊥) → into.new.items ≡ into.old.items }
+        ensures refused { OnErr result (IsKey key.now → ActsOnKey cache.now key.now SaysNoMore self.old self.new) }
+    {
+        if !is_key(key) {
+            return Err(CallError::KeyLength);
+        }
+        let hash = cache.hash(key);
+        let shard = cache.shard(hash);
+        let arena = &cache.arenas[shard];
+        let hand = &mut self.hands[shard];
+        let found = mc_byte_items::get(rt, arena, hand, hash, key, into);
+        match found {
+            Ok(true) => {
+                bump(rt, arena, hand, &mut self.recent, hash, key);
+                Ok(true)
+            }
+            Ok(false) => Ok(false),
             Err(refused) => Err(CallError::NoMemory(refused)),
         }
     }

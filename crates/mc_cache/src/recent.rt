@@ -1,0 +1,90 @@
+//! Which keys a worker touched lately, by their hashes.
+ghost use Rattle.std.specs.Prelude.{◌≡◌, ◌≤◌, length};
+ghost use Rattle.mc_cache.specs.Marks.{mark_of, place_of};
+
+use mc_memory::{Refused, filled};
+use std::alloc::Global;
+
+/// How many hashes are noted at most, one of each remainder. (own)
+const PLACES: u64 = 1024;
+
+/// After so many asks all hashes are forgotten. (own)
+const MOST_ASKS: u64 = 4096;
+
+/// The hashes of the keys that a worker touched lately: of those with one remainder the last one alone.
+#[derive(Drop)]
+pub(crate) struct Recent {
+    /// The mark of the hash that is noted at this place, or 0.
+    marks: Vec<u64>,
+    /// How often it was asked since all were forgotten.
+    asks: u64,
+    ghost long: { length marks.items ≡ 1024 },
+    ghost few: { asks ≤ 4096 },
+}
+
+// Where a hash is noted.
+fn place_of(hash: u64) -> usize
+    ensures { result ≡ place_of hash }
+{
+    (hash % PLACES) as usize
+}
+
+// What stands there for the hash.
+fn mark_of(hash: u64) -> u64
+    ensures { result ≡ mark_of hash }
+{
+    hash / PLACES + 1
+}
+
+impl Recent {
+    ghost use Rattle.std.specs.Prelude.{◌≡◌, ◌+◌, IfOk, false, if◌then◌else◌, nat_lt, replicate, slice_set};
+    ghost use Rattle.mc_cache.specs.Marks.{is_noted, place_of, with_mark};
+    ghost use Rattle.mc_cache.specs.Recent.{is_due, marks_found, marks_of};
+
+    /// No hash is noted. It takes 8 KiB.
+    pub(crate) fn new(alloc: Global) -> Result<Recent, Refused>
+        ensures marks { IfOk result (λ recent. marks_of recent ≡ replicate 1024 0) }
+        ensures asks { IfOk result (λ recent. recent.asks ≡ 0) }
+    {
+        Ok(Recent {
+            marks: filled(alloc, 0, PLACES as usize)?,
+            asks: 0,
+        })
+    }
+
+    // One ask more. Before it all hashes are forgotten where 4,096 asks came since they were.
+    fn count_ask(&mut self)
+        ensures marks { marks_of self.new ≡ marks_found self.old }
+        ensures asks { self.new.asks ≡ (if nat_lt self.old.asks 4096 then self.old.asks + 1 else 1) }
+    {
+        if self.asks < MOST_ASKS {
+            self.asks += 1;
+            return;
+        }
+        self.marks.fill(0);
+        self.asks = 1;
+    }
+
+    /// Whether the hash isn't noted. From then on it is, in the place of the one that was noted there. Before the ask all are forgotten
+    /// where 4,096 came since they were. (memcached's `do_item_bump`, which asks a clock; the counts are own)
+    pub(crate) fn is_due(&mut self, hash: u64) -> bool
+        ensures due { result ≡ is_due self.old hash }
+        ensures notes { marks_of self.new ≡ with_mark hash (marks_found self.old) }
+        ensures asks { self.new.asks ≡ (if nat_lt self.old.asks 4096 then self.old.asks + 1 else 1) }
+    {
+        self.count_ask();
+        let place = place_of(hash);
+        let was_noted = self.marks[place] == mark_of(hash);
+        self.marks[place] = mark_of(hash);
+        !was_noted
+    }
+
+    /// The hash isn't noted any more, nor any other of its place.
+    pub(crate) fn withdraw(&mut self, hash: u64)
+        ensures marks { marks_of self.new ≡ slice_set (marks_of self.old) (place_of hash) 0 }
+        ensures asks { self.new.asks ≡ self.old.asks }
+        ensures withdrawn { is_noted (marks_of self.new) hash ≡ false }
+    {
+        self.marks[place_of(hash)] = 0;
+    }
+}
