@@ -5,4 +5,5 @@ mod eight;
 mod made;
 mod tended;
 mod threads;
+mod touching;
 mod values;

@@ -68,7 +68,8 @@ fn words_an_arena(config: &Config) -> u64
 impl Cache {
     /// How many bytes the tables of a cache with this configuration take, from its making on: the pages of all its arenas, those within
     /// the limit and a first one for each class beyond it, whether they are granted or not; the headers of all chunks; and the words of
-    /// the locks. Lists, indexes and what a worker packs into come beside that as they grow. The configuration is refused as by `new`. (own)
+    /// the locks. Lists, indexes and what a worker packs into come beside that as they grow, and 8 KiB for each worker and the tender. The
+    /// configuration is refused as by `new`. (own)
     pub fn bytes(config: &CacheConfig) -> Result<u64, NewError>
         ensures bytes { IfOk result (λ bytes. bytes ≡ bytes_of config.now) }
         ensures accepted { OnOk result (cache_refusal config.now ≡ None) }

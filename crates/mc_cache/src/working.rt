@@ -119,10 +119,9 @@ impl Worker {
         }
     }
 
-    /// The same as `get`; and where the key has a value it is touched then, as by `touch`, unless this worker touched it lately. So a key
-    /// that is read again and again is touched now and then: again after at most 4,096 gets of this kind that found theirs, and sooner
-    /// where another of 1,024 remainders' keys came in between. Where memory is refused for the touch, the value is given all the same,
-    /// and the key is touched the next time. It waits for locks of the key's shard. (memcached's `do_item_bump`, which lets
+    /// The same as `get`; and where the key has a value, it is touched then, as by `touch`, unless this worker did so lately: it notes one
+    /// hash for each remainder by 1,024, and forgets all after 4,096 gets that found their keys. Where memory is refused for the touch, the
+    /// value is given all the same, and the key stays due. It waits for locks of the key's shard. (memcached's `do_item_bump`, which lets
     /// `ITEM_UPDATE_INTERVAL`, 60 seconds, go by; by counts of gets and not by a clock: own)
     pub fn get_touching<R: Wait>(
         &mut self,

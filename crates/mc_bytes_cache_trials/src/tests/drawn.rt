@@ -3,7 +3,7 @@ ghost use Rattle.mc_cache.specs.Belonging.{BelongsTo};
 
 use super::made::{HASH_KEY, config_of, next_worker};
 use super::values::{KEYS, Known, key_of, value_of};
-use mc_cache::{Cache, Worker};
+use mc_cache::{Cache, CallError, Worker};
 use mc_trial_values::Drawn;
 use std::alloc::Global;
 use std::sync::Wait;
@@ -11,6 +11,25 @@ use std::test::Fail;
 
 /// How many calls are made.
 const CALLS: u64 = 4000;
+
+/// The key's bytes by either get.
+fn get_either<R: Wait>(
+    rt: &R,
+    cache: &Cache,
+    worker: &mut Worker,
+    key: &[u8],
+    touching: bool,
+    into: &mut Vec<u8>,
+) -> Result<bool, CallError>
+    requires { BelongsTo cache.now worker.old }
+    ensures { BelongsTo cache.now worker.new }
+{
+    if touching {
+        worker.get_touching(rt, cache, key, into)
+    } else {
+        worker.get(rt, cache, key, into)
+    }
+}
 
 /// One drawn call. True if all that was found was right.
 fn act<R: Wait>(
@@ -48,7 +67,8 @@ fn act<R: Wait>(
         }
         _ => {
             let mut bytes = Vec::new(alloc);
-            match worker.get(rt, cache, &key, &mut bytes) {
+            let touching = drawn % 8 == 5;
+            match get_either(rt, cache, worker, &key, touching, &mut bytes) {
                 Ok(true) => Ok(known.is_value(alloc, number, &bytes)?),
                 _ => Ok(bytes.is_empty()),
             }

@@ -9,13 +9,13 @@ use std::sync::Wait;
 use std::test::Fail;
 
 /// A value that goes to a small class.
-const SHORT: [u8; 40] = [7; 40];
+pub const SHORT: [u8; 40] = [7; 40];
 
 /// A value that goes to a greater class.
 const LONG: [u8; 400] = [9; 400];
 
 /// Stores the value under so many keys.
-fn set_many<R: Wait>(rt: &R, cache: &Cache, worker: &mut Worker, keys: u64, value: &[u8])
+pub fn set_many<R: Wait>(rt: &R, cache: &Cache, worker: &mut Worker, keys: u64, value: &[u8])
     requires { BelongsTo cache.now worker.old }
     ensures { BelongsTo cache.now worker.new }
 {

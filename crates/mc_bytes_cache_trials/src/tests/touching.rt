@@ -1,0 +1,58 @@
+//! Gets that touch what they find: it is evicted later, and its bytes are right however often it was asked for.
+ghost use Rattle.mc_cache.specs.Belonging.{BelongsTo};
+
+use super::made::{HASH_KEY, config_of, next_worker};
+use super::tended::{SHORT, set_many};
+use mc_cache::{Cache, Worker};
+use std::alloc::Global;
+use std::sync::Wait;
+use std::test::Fail;
+
+/// How many short values a shard has room for.
+const ROOM: u64 = 64;
+
+/// More gets than a worker's notes outlast.
+const GETS: u64 = 5000;
+
+/// Whether a get that touches finds the short value under this key.
+fn finds<R: Wait>(rt: &R, alloc: Global, cache: &Cache, worker: &mut Worker, number: u64) -> bool
+    requires { BelongsTo cache.now worker.old }
+    ensures { BelongsTo cache.now worker.new }
+{
+    let mut bytes = Vec::new(alloc);
+    let found = worker.get_touching(rt, cache, &number.to_le_bytes(), &mut bytes);
+    found == Ok(true) && bytes.as_slice() == &SHORT[..]
+}
+
+/// A full shard: the oldest value is got, and so the next one goes for one value more.
+#[test]
+fn what_was_got_is_evicted_later(rt: HostRuntime) -> Result<(), Fail> {
+    let (cache, mut workers, _tender) = Cache::new(&rt, rt.alloc(), &config_of(1, 1), HASH_KEY)?;
+    let Some(mut worker) = next_worker(&cache, &mut workers) else {
+        return Err(Fail::new("there is a worker"));
+    };
+    set_many(&rt, &cache, &mut worker, ROOM, &SHORT);
+    let found = finds(&rt, rt.alloc(), &cache, &mut worker, 0);
+    let _stored = worker.set(&rt, &cache, &ROOM.to_le_bytes(), &SHORT);
+    assert!(rt; found, "the first value is there");
+    let first = worker.contains(&rt, &cache, &0u64.to_le_bytes());
+    let second = worker.contains(&rt, &cache, &1u64.to_le_bytes());
+    assert!(rt; first == Ok(true), "what was got stays");
+    assert!(rt; second == Ok(false), "the next one goes");
+    Ok(())
+}
+
+/// One value is got more often than the worker's notes outlast.
+#[test]
+fn a_value_is_found_each_time(rt: HostRuntime) -> Result<(), Fail> {
+    let (cache, mut workers, _tender) = Cache::new(&rt, rt.alloc(), &config_of(1, 1), HASH_KEY)?;
+    let Some(mut worker) = next_worker(&cache, &mut workers) else {
+        return Err(Fail::new("there is a worker"));
+    };
+    set_many(&rt, &cache, &mut worker, 1, &SHORT);
+    for _ in 0..GETS {
+        let found = finds(&rt, rt.alloc(), &cache, &mut worker, 0);
+        assert!(rt; found, "the value is there");
+    }
+    Ok(())
+}
