@@ -3,8 +3,7 @@ ghost use Rattle.std.specs.Prelude.{◌≡◌, ◌^◌, ◌≤◌, IfErr, OnOk};
 ghost use Rattle.mc_classes.specs.Refusals.{refusal_of, number_of, rounded_up, is_below_max, first_size};
 
 use mc_memory::Refused;
-use std::error::Error;
-use std::fmt;
+use thiserror::Error;
 
 /// Eight numbers that decide the size classes and the limits. Sizes are in bytes.
 #[derive(Clone, Copy, PartialEq, Eq)]
@@ -28,25 +27,34 @@ pub struct Config {
 }
 
 /// Why there is no class table for a configuration. The tests are made in this order (own).
-#[derive(Debug, PartialEq, Eq, Drop)]
+#[derive(Debug, PartialEq, Eq, Drop, Error)]
 pub enum ConfigError {
     /// The page size isn't a multiple of 8, or is outside 64 to 16,384.
+    #[error("the page size must be a multiple of 8 from 64 to 16384 bytes")]
     PageSize,
     /// The first raw size is outside 24 to the page size.
+    #[error("the first size must be from 24 bytes to the page size")]
     FirstSize,
     /// The denominator is 0, or the numerator isn't above it or is above 65,535.
+    #[error("the growth factor must be above 1, with a numerator of at most 65535")]
     Factor,
     /// The last class's size isn't a multiple of 8, is below the first raw size or above the page size.
+    #[error("the greatest size must be a multiple of 8 from the first size to the page size")]
     ChunkMax,
     /// The limit has no page, or more than 64.
+    #[error("the limit must have room for 1 to 64 pages")]
     Limit,
     /// There are no stripes, or more than 64.
+    #[error("the number of stripes must be from 1 to 64")]
     Stripes,
     /// A page of the first class has more than 256 chunks.
+    #[error("a page of the first class would have more than 256 chunks: raise the first size or lower the page size")]
     TooManyChunks,
     /// The mover's turn has no chunk, or more than 256.
+    #[error("the number of chunks a turn must be from 1 to 256")]
     Bulk,
     /// Memory ran out.
+    #[error("out of memory")]
     NoMemory(Refused),
 }
 
@@ -68,29 +76,6 @@ impl ConfigError {
         }
     }
 }
-
-impl fmt::Display for ConfigError {
-    fn fmt<W: fmt::Write>(&self, f: &mut fmt::Formatter<W>) -> fmt::Result {
-        f.write_str(match self {
-            ConfigError::PageSize => "the page size must be a multiple of 8 from 64 to 16384 bytes",
-            ConfigError::FirstSize => "the first size must be from 24 bytes to the page size",
-            ConfigError::Factor =>
-                "the growth factor must be above 1, with a numerator of at most 65535",
-            ConfigError::ChunkMax => {
-                "the greatest size must be a multiple of 8 from the first size to the page size"
-            }
-            ConfigError::Limit => "the limit must have room for 1 to 64 pages",
-            ConfigError::Stripes => "the number of stripes must be from 1 to 64",
-            ConfigError::TooManyChunks => {
-                "a page of the first class would have more than 256 chunks: raise the first size or lower the page size"
-            }
-            ConfigError::Bulk => "the number of chunks a turn must be from 1 to 256",
-            ConfigError::NoMemory(_) => "out of memory",
-        })
-    }
-}
-
-impl Error for ConfigError {}
 
 impl From<Refused> for ConfigError {
     ghost use Rattle.std.specs.Prelude.{◌≡◌};

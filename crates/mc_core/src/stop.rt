@@ -1,13 +1,14 @@
 //! Why a list of events is not played to its end.
 use mc_memory::Refused;
-use std::error::Error;
-use std::fmt;
+use thiserror::Error;
 
-#[derive(Debug, PartialEq, Eq, Drop)]
+#[derive(Debug, PartialEq, Eq, Drop, Error)]
 pub enum Stop {
     /// The event at this place, from 0, is the first that isn't allowed.
+    #[error("event {0} is not allowed")]
     NotAllowed(u64),
     /// Memory ran out.
+    #[error("out of memory")]
     NoMemory(Refused),
 }
 
@@ -21,14 +22,3 @@ impl From<Refused> for Stop {
         Stop::NoMemory(refused)
     }
 }
-
-impl fmt::Display for Stop {
-    fn fmt<W: fmt::Write>(&self, f: &mut fmt::Formatter<W>) -> fmt::Result {
-        match self {
-            Stop::NotAllowed(index) => write!(f, "event {index} is not allowed"),
-            Stop::NoMemory(_) => f.write_str("out of memory"),
-        }
-    }
-}
-
-impl Error for Stop {}

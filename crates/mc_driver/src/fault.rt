@@ -5,27 +5,34 @@ ghost use Rattle.mc_driver.specs.Status.{status_of};
 use mc_keeper::Stop;
 use mc_memory::Refused;
 use mc_workers::{Ended, Unstarted};
-use std::error::Error;
-use std::fmt;
+use thiserror::Error;
 
 /// Why a run was not done.
-#[derive(Debug, PartialEq, Eq, Drop)]
+#[derive(Debug, PartialEq, Eq, Drop, Error)]
 pub enum RunFault {
     /// The configuration is refused, by the test of this number.
+    #[error("config: {0}")]
     Config(u64),
     /// The script is refused; this is the first line that is no command.
+    #[error("script: line {0}")]
     Script(u64),
     /// The script has more than 1,048,576 bytes.
+    #[error("script: too long")]
     TooLong,
     /// A read failed.
+    #[error("read")]
     Read,
     /// A write failed.
+    #[error("write")]
     Write,
     /// Memory ran out.
+    #[error("memory")]
     Memory(Refused),
     /// A thread couldn't be started. The status and the text are those of want of memory.
+    #[error("memory")]
     Thread(Unstarted),
     /// The script asks for more than 1,000,000 turns of the mover.
+    #[error("turns")]
     Turns,
 }
 
@@ -43,22 +50,6 @@ impl RunFault {
         }
     }
 }
-
-impl fmt::Display for RunFault {
-    fn fmt<W: fmt::Write>(&self, f: &mut fmt::Formatter<W>) -> fmt::Result {
-        match self {
-            RunFault::Config(number) => write!(f, "config: {number}"),
-            RunFault::Script(line) => write!(f, "script: line {line}"),
-            RunFault::TooLong => write!(f, "script: too long"),
-            RunFault::Read => write!(f, "read"),
-            RunFault::Write => write!(f, "write"),
-            RunFault::Memory(_) | RunFault::Thread(_) => write!(f, "memory"),
-            RunFault::Turns => write!(f, "turns"),
-        }
-    }
-}
-
-impl Error for RunFault {}
 
 impl From<Refused> for RunFault {
     ghost use Rattle.std.specs.Prelude.{◌≡◌};

@@ -1,10 +1,10 @@
 //! The evidence.
-use std::error::Error;
-use std::fmt;
 use std::marker::Model;
+use thiserror::Error;
 
 /// The allocator refused memory. It has no size, and can't be copied, so that each tells of a refusal of its own.
-#[derive(Debug, PartialEq, Eq, Drop)]
+#[derive(Debug, PartialEq, Eq, Drop, Error)]
+#[error("out of memory")]
 pub struct Refused {
     seen: (),
 }
@@ -25,11 +25,3 @@ impl Refused {
         Refused { seen: () }
     }
 }
-
-impl fmt::Display for Refused {
-    fn fmt<W: fmt::Write>(&self, f: &mut fmt::Formatter<W>) -> fmt::Result {
-        f.write_str("out of memory")
-    }
-}
-
-impl Error for Refused {}

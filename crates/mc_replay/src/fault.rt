@@ -5,8 +5,7 @@ ghost use Rattle.mc_replay.specs.Status.{fault_at, status_of};
 use mc_classes::ConfigError;
 use mc_memory::Refused;
 use std::alloc::AllocError;
-use std::error::Error;
-use std::fmt;
+use thiserror::Error;
 
 /// Want of memory.
 #[derive(Debug, PartialEq, Eq, Drop)]
@@ -31,19 +30,25 @@ pub enum Refusal {
 }
 
 /// Why a run was not done.
-#[derive(Debug, PartialEq, Eq, Drop)]
+#[derive(Debug, PartialEq, Eq, Drop, Error)]
 pub enum RunFault {
     /// The line of this number, from 1, is none of those that may stand there.
+    #[error("line {0}")]
     Line(u64),
     /// The line of this number has a configuration that is refused.
+    #[error("line {0}: {1}")]
     Config(u64, ConfigError),
     /// The line of this number has hands that aren't from 1 to 64.
+    #[error("line {0}: the hands must be from 1 to 64")]
     Hands(u64),
     /// A read failed.
+    #[error("read")]
     Read,
     /// A write failed.
+    #[error("write")]
     Write,
     /// Memory ran out.
+    #[error("memory")]
     Memory(NoMemory),
 }
 
@@ -119,21 +124,6 @@ impl RunFault {
         }
     }
 }
-
-impl fmt::Display for RunFault {
-    fn fmt<W: fmt::Write>(&self, f: &mut fmt::Formatter<W>) -> fmt::Result {
-        match self {
-            RunFault::Line(number) => write!(f, "line {number}"),
-            RunFault::Config(number, error) => write!(f, "line {number}: {error}"),
-            RunFault::Hands(number) => write!(f, "line {number}: the hands must be from 1 to 64"),
-            RunFault::Read => f.write_str("read"),
-            RunFault::Write => f.write_str("write"),
-            RunFault::Memory(_) => f.write_str("memory"),
-        }
-    }
-}
-
-impl Error for RunFault {}
 
 impl From<NoMemory> for RunFault {
     ghost use Rattle.std.specs.Prelude.{◌≡◌};

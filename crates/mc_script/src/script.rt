@@ -12,31 +12,21 @@ use crate::lines::Lines;
 use crate::parts::first_words;
 use mc_memory::{Refused, push};
 use std::alloc::Global;
-use std::error::Error;
-use std::fmt;
+use thiserror::Error;
 
 /// The most bytes of a script. Whoever reads one in tests its length before (own).
 pub const MAX_SCRIPT: usize = 1_048_576;
 
 /// Why a script gives no commands.
-#[derive(Debug, PartialEq, Eq, Drop)]
+#[derive(Debug, PartialEq, Eq, Drop, Error)]
 pub enum ScriptError {
     /// The lowest line that is no command. Lines are numbered from 1, skipped ones too.
+    #[error("line {0} is no command")]
     Line(u64),
     /// Memory ran out.
+    #[error("out of memory")]
     NoMemory(Refused),
 }
-
-impl fmt::Display for ScriptError {
-    fn fmt<W: fmt::Write>(&self, f: &mut fmt::Formatter<W>) -> fmt::Result {
-        match self {
-            ScriptError::Line(number) => write!(f, "line {number} is no command"),
-            ScriptError::NoMemory(_) => f.write_str("out of memory"),
-        }
-    }
-}
-
-impl Error for ScriptError {}
 
 impl From<Refused> for ScriptError {
     ghost use Rattle.std.specs.Prelude.{◌≡◌};

@@ -5,39 +5,53 @@ ghost use Rattle.mcmap.specs.Status.{status_of};
 use mc_map::{ConfigError, MapError, Refused, ScriptError, Stop};
 use mc_picture::ChartError;
 use std::alloc::AllocError;
-use std::fmt;
 use std::io::{self, ErrorKind};
+use thiserror::Error;
 
 /// Why the program wasn't done.
-#[derive(Drop)]
+#[derive(Debug, Drop, Error)]
 pub enum Fault {
     /// The options are refused. The text is that of `mcslab`'s options.
+    #[error("{0}")]
     Options(clap::Error),
     /// The arguments can't be read as text.
+    #[error("the arguments are not text")]
     Words,
     /// `--threads` is asked for: the schedule would decide what is shown.
+    #[error("--threads: a map is of one thread; mcslab has threads")]
     Threads,
     /// The configuration is refused, by the test of this number.
+    #[error("config: {0}")]
     Config(u64),
     /// The script is refused; this is the first line that is no command.
+    #[error("script: line {0}")]
     Script(u64),
     /// The script has more than 1,048,576 bytes.
+    #[error("script: too long")]
     TooLong,
     /// A read failed.
+    #[error("read")]
     Read,
     /// A write failed.
+    #[error("write")]
     Write,
     /// Memory ran out.
+    #[error("memory")]
     Memory,
     /// The script asks for more than 1,000,000 turns of the mover.
+    #[error("turns")]
     Turns,
     /// There are more entries than a chart has columns.
+    #[error("--svg: more than 4095 entries")]
     Chart,
     /// `--check` found that the options are wrong, and said how.
+    #[error("the options are wrong")]
     WrongOptions,
     /// `--check` found so many lines that are no commands, and said why.
+    #[error("{0} lines of the script are wrong")]
     WrongLines(u64),
     /// The books aren't as the memory's numbers say.
+    #[error("books")]
     Books,
 }
 
@@ -54,27 +68,6 @@ impl Fault {
             Fault::Memory => 4,
             Fault::Turns => 5,
             Fault::Books => 6,
-        }
-    }
-}
-
-impl fmt::Display for Fault {
-    fn fmt<W: fmt::Write>(&self, f: &mut fmt::Formatter<W>) -> fmt::Result {
-        match self {
-            Fault::Options(error) => write!(f, "{error}"),
-            Fault::Words => f.write_str("the arguments are not text"),
-            Fault::Threads => f.write_str("--threads: a map is of one thread; mcslab has threads"),
-            Fault::Config(number) => write!(f, "config: {number}"),
-            Fault::Script(line) => write!(f, "script: line {line}"),
-            Fault::TooLong => f.write_str("script: too long"),
-            Fault::Read => f.write_str("read"),
-            Fault::Write => f.write_str("write"),
-            Fault::Memory => f.write_str("memory"),
-            Fault::Turns => f.write_str("turns"),
-            Fault::Chart => f.write_str("--svg: more than 4095 entries"),
-            Fault::Books => f.write_str("books"),
-            Fault::WrongOptions => f.write_str("the options are wrong"),
-            Fault::WrongLines(count) => write!(f, "{count} lines of the script are wrong"),
         }
     }
 }

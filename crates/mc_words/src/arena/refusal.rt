@@ -4,19 +4,22 @@ ghost use Rattle.mc_words.specs.rule.Refused.{refusal_number};
 
 use mc_classes::ConfigError;
 use mc_memory::Refused;
-use std::error::Error;
-use std::fmt;
+use thiserror::Error;
 
 /// Why there is no arena. The tests are made in this order, before anything is allocated (own).
-#[derive(Debug, PartialEq, Eq, Drop)]
+#[derive(Debug, PartialEq, Eq, Drop, Error)]
 pub enum NewError {
     /// The configuration is refused.
+    #[error("{0}")]
     Config(ConfigError),
     /// There are no hands, or more than 64.
+    #[error("the number of hands must be from 1 to 64")]
     Hands,
     /// The first issue number is above the greatest, 2^46 - 1.
+    #[error("the first issue number must be below 2^46")]
     Issue,
     /// Memory ran out.
+    #[error("out of memory")]
     NoMemory(Refused),
 }
 
@@ -33,19 +36,6 @@ impl NewError {
         }
     }
 }
-
-impl fmt::Display for NewError {
-    fn fmt<W: fmt::Write>(&self, f: &mut fmt::Formatter<W>) -> fmt::Result {
-        match self {
-            NewError::Config(error) => error.fmt(f),
-            NewError::Hands => f.write_str("the number of hands must be from 1 to 64"),
-            NewError::Issue => f.write_str("the first issue number must be below 2^46"),
-            NewError::NoMemory(_) => f.write_str("out of memory"),
-        }
-    }
-}
-
-impl Error for NewError {}
 
 impl From<Refused> for NewError {
     ghost use Rattle.std.specs.Prelude.{◌≡◌};
