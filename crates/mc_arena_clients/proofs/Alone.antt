@@ -8,7 +8,7 @@ use Rattle.std.proofs.lemmas.List.FromFn.{length-map-range_with_len}
 use Rattle.mc_classes.specs.Classes.{Classes, arena_pages_of}
 use Rattle.mc_pages.specs.declared.ids.ChunkId.{ChunkId}
 use Rattle.mc_core.specs.declared.event.Change.{Change}
-use Rattle.mc_core.specs.declared.event.Change.TheVariants.{Grow, BeginMove, FinishMove, Touch, SetAutomove, Passed, Wrap, Evicted, OfStripe, GotNone, DeletedNone}
+use Rattle.mc_core.specs.declared.event.Change.TheVariants.{Grow, BeginMove, FinishMove, Touch, SetAutomove, TrimLedger, Passed, Wrap, Evicted, OfStripe, GotNone, DeletedNone}
 use Rattle.mc_core.specs.declared.event.Event.{Event}
 use Rattle.mc_core.specs.declared.event.Step.{Step}
 use Rattle.mc_core.specs.declared.event.Step.TheVariants as step
@@ -50,6 +50,7 @@ calm_change s hand (BeginMove src dst) = (λ place. refl, refl)
 calm_change s hand FinishMove = (λ place. refl, refl)
 calm_change s hand (Touch chunk) = (λ place. refl, refl)
 calm_change s hand (SetAutomove mode) = (λ place. refl, refl)
+calm_change s hand TrimLedger = (λ place. refl, refl)
 calm_change s hand (Passed found) = (λ place. refl, refl)
 calm_change s hand Wrap = (λ place. refl, refl)
 calm_change s hand (Evicted class) = (λ place. refl, refl)

@@ -2,7 +2,7 @@
 use Rattle.std.proofs.Common.{◌≡◌, ℕ, suc, ◌+◌, ◌<◌, ◌∙◌, ◌&&◌, Bool, true, false, List, [], ◌∷◌, length, drop, get_or, add-one, refl, sym, ap, subst}
 use Rattle.std.proofs.Math.Seq.{drop-cons}
 use Rattle.mc_core.specs.declared.event.Change.{Change}
-use Rattle.mc_core.specs.declared.event.Change.TheVariants.{Grow, BeginMove, FinishMove, Touch, SetAutomove, Passed, Wrap, Evicted, OfStripe, GotNone, DeletedNone}
+use Rattle.mc_core.specs.declared.event.Change.TheVariants.{Grow, BeginMove, FinishMove, Touch, SetAutomove, TrimLedger, Passed, Wrap, Evicted, OfStripe, GotNone, DeletedNone}
 use Rattle.mc_core.specs.State.{State}
 use Rattle.mc_core.specs.Silent.{allows_change, after_change, allows_changes, after_changes}
 use Rattle.mc_core.specs.Done.{IsDone}
@@ -14,6 +14,7 @@ same_ids state hand (BeginMove src dst) = refl
 same_ids state hand FinishMove = refl
 same_ids state hand (Touch chunk) = refl
 same_ids state hand (SetAutomove mode) = refl
+same_ids state hand TrimLedger = refl
 same_ids state hand (Passed found) = refl
 same_ids state hand Wrap = refl
 same_ids state hand (Evicted class) = refl

@@ -7,7 +7,7 @@ use Rattle.mc_pages.specs.declared.ids.ChunkId.{ChunkId}
 use Rattle.mc_pages.specs.Changes as slabs_changes
 use Rattle.mc_stripe.specs.declared.history.Call.{Call}
 use Rattle.mc_core.specs.declared.event.Change.{Change}
-use Rattle.mc_core.specs.declared.event.Change.TheVariants.{Grow, BeginMove, FinishMove, Touch, SetAutomove, Passed, Wrap, Evicted, OfStripe, GotNone, DeletedNone}
+use Rattle.mc_core.specs.declared.event.Change.TheVariants.{Grow, BeginMove, FinishMove, Touch, SetAutomove, TrimLedger, Passed, Wrap, Evicted, OfStripe, GotNone, DeletedNone}
 use Rattle.mc_core.specs.declared.event.Event.{Event}
 use Rattle.mc_core.specs.declared.event.Step.{Step}
 use Rattle.mc_core.specs.declared.event.Step.TheVariants as step
@@ -195,6 +195,7 @@ no_word_change s hand change = none_written s (after_change s hand change) (own_
     heads_stay FinishMove = refl
     heads_stay (Touch chunk) = refl
     heads_stay (SetAutomove mode) = refl
+    heads_stay TrimLedger = refl
     heads_stay (Passed found) = refl
     heads_stay Wrap = refl
     heads_stay (Evicted class) = refl
@@ -208,6 +209,7 @@ no_word_change s hand change = none_written s (after_change s hand change) (own_
     words_stay FinishMove = refl
     words_stay (Touch chunk) = refl
     words_stay (SetAutomove mode) = refl
+    words_stay TrimLedger = refl
     words_stay (Passed found) = refl
     words_stay Wrap = refl
     words_stay (Evicted class) = refl

@@ -9,7 +9,7 @@ use Rattle.mc_core.specs.declared.ids.Ids.{Ids}
 use Rattle.mc_core.specs.declared.event.Step.{Step}
 use Rattle.mc_core.specs.declared.event.Step.TheVariants as step
 use Rattle.mc_core.specs.declared.event.Change.{Change}
-use Rattle.mc_core.specs.declared.event.Change.TheVariants.{Grow, BeginMove, FinishMove, Touch, SetAutomove, Passed, Wrap, Evicted, OfStripe, GotNone, DeletedNone}
+use Rattle.mc_core.specs.declared.event.Change.TheVariants.{Grow, BeginMove, FinishMove, Touch, SetAutomove, TrimLedger, Passed, Wrap, Evicted, OfStripe, GotNone, DeletedNone}
 use Rattle.mc_core.specs.Holdings.{is_of, holding_of}
 use Rattle.mc_core.specs.State.{State, gone, number_at, ids_at, holdings_at, looks_at, without_holding}
 use Rattle.mc_core.specs.Silent.{after_change}
@@ -102,6 +102,7 @@ table_change s hand (BeginMove src dst) = refl
 table_change s hand FinishMove = refl
 table_change s hand (Touch chunk) = refl
 table_change s hand (SetAutomove mode) = refl
+table_change s hand TrimLedger = refl
 table_change s hand (Passed found) = refl
 table_change s hand Wrap = refl
 table_change s hand (Evicted class) = refl

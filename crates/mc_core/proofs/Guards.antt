@@ -10,7 +10,7 @@ use Rattle.mc_core.specs.declared.holding.Purpose.TheVariants.{Item, Copy, Rescu
 use Rattle.mc_core.specs.declared.event.Step.{Step}
 use Rattle.mc_core.specs.declared.event.Step.TheVariants as step
 use Rattle.mc_core.specs.declared.event.Change.{Change}
-use Rattle.mc_core.specs.declared.event.Change.TheVariants.{Grow, BeginMove, FinishMove, Touch, SetAutomove, Passed, Wrap, Evicted, OfStripe, GotNone, DeletedNone}
+use Rattle.mc_core.specs.declared.event.Change.TheVariants.{Grow, BeginMove, FinishMove, Touch, SetAutomove, TrimLedger, Passed, Wrap, Evicted, OfStripe, GotNone, DeletedNone}
 use Rattle.mc_core.specs.Frame.{AreGuarded}
 use Rattle.mc_core.specs.Holdings.{is_of, holding_of, key_in, has_fresh, words_of}
 use Rattle.mc_core.specs.State.{State, has_slabs, has_stripe, stripe_of, stripe_at, with_stripe, with_slabs, holdings_at, looks_at, without_holding}
@@ -142,6 +142,7 @@ guards_change s hand (BeginMove src dst) can = guards_slabs s _ hand (and_parts 
 guards_change s hand FinishMove can = guards_slabs s _ hand (and_parts (has_slabs s hand) _ can).0 refl
 guards_change s hand (Touch chunk) can = guards_slabs s _ hand (and_parts (has_slabs s hand) _ can).0 refl
 guards_change s hand (SetAutomove mode) can = guards_slabs s _ hand (and_parts (has_slabs s hand) _ can).0 refl
+guards_change s hand TrimLedger can = guards_slabs s _ hand (and_parts (has_slabs s hand) _ can).0 refl
 guards_change s hand (Passed found) can = guards_slabs s _ hand (and_parts (has_slabs s hand) _ can).0 refl
 guards_change s hand Wrap can = guards_slabs s _ hand (and_parts (has_slabs s hand) _ can).0 refl
 guards_change s hand (Evicted class) can = guards_slabs s _ hand (and_parts (has_slabs s hand) _ can).0 refl

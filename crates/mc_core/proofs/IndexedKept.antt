@@ -13,7 +13,7 @@ use Rattle.mc_stripe.proofs.Entries.{at_without_entry, by_equal}
 use Rattle.mc_core.specs.declared.head.Tag.TheVariants.{Out, Linked}
 use Rattle.mc_core.specs.declared.look.Look.{Look}
 use Rattle.mc_core.specs.declared.event.Change.{Change}
-use Rattle.mc_core.specs.declared.event.Change.TheVariants.{Grow, BeginMove, FinishMove, Touch, SetAutomove, Passed, Wrap, Evicted, OfStripe, GotNone, DeletedNone}
+use Rattle.mc_core.specs.declared.event.Change.TheVariants.{Grow, BeginMove, FinishMove, Touch, SetAutomove, TrimLedger, Passed, Wrap, Evicted, OfStripe, GotNone, DeletedNone}
 use Rattle.mc_core.specs.declared.event.Step.TheVariants.{TakeSlabs, TakeStripe, MissSlabs, MissStripe, GiveSlabs, GiveStripe, Pop, PopOff, Fill, Word, WordHeld, Link, Refer, Unlink, Release, Discard, Condemn, PutBack, Clear, Cut, Again, Join}
 use Rattle.mc_core.specs.declared.event.Step.TheVariants as step
 use Rattle.mc_core.specs.declared.event.StripeChange.{StripeChange}
@@ -95,6 +95,7 @@ indexed_changes m hand (BeginMove src dst) may = indexed_slabs m hand (BeginMove
 indexed_changes m hand FinishMove may = indexed_slabs m hand FinishMove may
 indexed_changes m hand (Touch chunk) may = indexed_slabs m hand (Touch chunk) may
 indexed_changes m hand (SetAutomove mode) may = indexed_slabs m hand (SetAutomove mode) may
+indexed_changes m hand TrimLedger may = indexed_slabs m hand TrimLedger may
 indexed_changes m hand (Passed found) may = indexed_slabs m hand (Passed found) may
 indexed_changes m hand Wrap may = indexed_slabs m hand Wrap may
 indexed_changes m hand (Evicted class) may = indexed_slabs m hand (Evicted class) may

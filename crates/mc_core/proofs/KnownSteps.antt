@@ -5,7 +5,7 @@ use Rattle.mc_classes.specs.Classes.{arena_pages_of}
 use Rattle.mc_pages.specs.SlabState.{SlabState}
 use Rattle.mc_core.specs.declared.head.Tag.{Tag}
 use Rattle.mc_core.specs.declared.head.Tag.TheVariants.{Out, Linked}
-use Rattle.mc_core.specs.declared.event.Change.TheVariants.{Grow, BeginMove, FinishMove, Touch, SetAutomove, Passed, Wrap, Evicted, OfStripe, GotNone, DeletedNone}
+use Rattle.mc_core.specs.declared.event.Change.TheVariants.{Grow, BeginMove, FinishMove, Touch, SetAutomove, TrimLedger, Passed, Wrap, Evicted, OfStripe, GotNone, DeletedNone}
 use Rattle.mc_core.specs.declared.event.Step.TheVariants.{TakeSlabs, TakeStripe, MissSlabs, MissStripe, GiveSlabs, GiveStripe, Pop, PopOff, Fill, Word, WordHeld, Link, Refer, Unlink, Release, Discard, Condemn, PutBack, Clear, Cut, Again, Join}
 use Rattle.mc_core.specs.declared.event.Step.TheVariants as step
 use Rattle.mc_core.specs.declared.look.Look.TheVariants.{Saw, SawStripe}
@@ -44,6 +44,7 @@ known_changes m hand (BeginMove src dst) may = known_listed m may.lawful (slabs_
 known_changes m hand FinishMove may = known_listed m may.lawful (slabs_after m.state.slabs FinishMove) (stays_changes m hand FinishMove may)
 known_changes m hand (Touch chunk) may = known_listed m may.lawful (slabs_after m.state.slabs (Touch chunk)) (stays_changes m hand (Touch chunk) may)
 known_changes m hand (SetAutomove mode) may = known_listed m may.lawful (slabs_after m.state.slabs (SetAutomove mode)) (stays_changes m hand (SetAutomove mode) may)
+known_changes m hand TrimLedger may = known_listed m may.lawful (slabs_after m.state.slabs TrimLedger) (stays_changes m hand TrimLedger may)
 known_changes m hand (Passed found) may = known_listed m may.lawful (slabs_after m.state.slabs (Passed found)) (stays_changes m hand (Passed found) may)
 known_changes m hand Wrap may = known_listed m may.lawful (slabs_after m.state.slabs Wrap) (stays_changes m hand Wrap may)
 known_changes m hand (Evicted class) may = known_listed m may.lawful (slabs_after m.state.slabs (Evicted class)) (stays_changes m hand (Evicted class) may)

@@ -7,7 +7,7 @@ use Rattle.mc_core.specs.declared.event.Step.{Step}
 use Rattle.mc_core.specs.declared.event.Step.TheVariants.{MissSlabs, MissStripe, Pop, PopOff, Fill, Word, WordHeld, Link, Refer, Unlink, Release, Discard, Condemn, PutBack, Clear, Cut, Again}
 use Rattle.mc_core.specs.declared.event.Step.TheVariants as step
 use Rattle.mc_core.specs.declared.event.Change.{Change}
-use Rattle.mc_core.specs.declared.event.Change.TheVariants.{Grow, BeginMove, FinishMove, Touch, SetAutomove, Passed, Wrap, Evicted, OfStripe, GotNone, DeletedNone}
+use Rattle.mc_core.specs.declared.event.Change.TheVariants.{Grow, BeginMove, FinishMove, Touch, SetAutomove, TrimLedger, Passed, Wrap, Evicted, OfStripe, GotNone, DeletedNone}
 use Rattle.mc_core.specs.declared.head.Head.{Head}
 use Rattle.mc_core.specs.declared.ids.Ids.{Ids}
 use Rattle.mc_core.specs.declared.look.Look.{Look}
@@ -245,6 +245,7 @@ own_change s hand (BeginMove src dst) = own_then (own_slabs s hand _) (own_look 
 own_change s hand FinishMove = own_then (own_slabs s hand _) (own_look _ hand _)
 own_change s hand (Touch chunk) = own_then (own_slabs s hand _) (own_look _ hand _)
 own_change s hand (SetAutomove mode) = own_then (own_slabs s hand _) (own_look _ hand _)
+own_change s hand TrimLedger = own_then (own_slabs s hand _) (own_look _ hand _)
 own_change s hand (Passed found) = own_then (own_slabs s hand _) (own_look _ hand _)
 own_change s hand Wrap = own_then (own_slabs s hand _) (own_look _ hand _)
 own_change s hand (Evicted class) = own_then (own_slabs s hand _) (own_look _ hand _)

@@ -8,13 +8,13 @@ use Rattle.mc_pages.specs.declared.moves.Found.{Found}
 use Rattle.mc_pages.specs.declared.moves.Reassign.{Reassign}
 use Rattle.mc_pages.specs.SlabState.{SlabState, IsClass, class_of_chunk}
 use Rattle.mc_pages.specs.Answer.{answer_of}
-use Rattle.mc_pages.specs.Changes.{next_page, after_grant, after_grow, after_touch, after_evicted}
+use Rattle.mc_pages.specs.Changes.{next_page, after_grant, after_grow, after_touch, after_trim, after_evicted}
 use Rattle.mc_pages.specs.Moves.{after_finish, after_passed, after_wrap}
 use Rattle.mc_pages.specs.InOrder.{IsInOrder}
-use Rattle.mc_pages.proofs.Kept.{IsInOrder-after_grant, IsInOrder-after_take, IsInOrder-after_begin, IsInOrder-after_touch, IsInOrder-after_evicted, IsInOrder-after_passed, IsInOrder-after_wrap, IsInOrder-automove, IsInOrder-finished}
+use Rattle.mc_pages.proofs.Kept.{IsInOrder-after_grant, IsInOrder-after_take, IsInOrder-after_begin, IsInOrder-after_touch, IsInOrder-after_evicted, IsInOrder-after_passed, IsInOrder-after_wrap, IsInOrder-automove, IsInOrder-after_trim, IsInOrder-finished}
 use Rattle.mc_pages.proofs.RoomyGrow.{next_pooled, next_granted, grow_takes, grow_grants}
 use Rattle.mc_core.specs.declared.event.Change.{Change}
-use Rattle.mc_core.specs.declared.event.Change.TheVariants.{Grow, BeginMove, FinishMove, Touch, SetAutomove, Passed, Wrap, Evicted, OfStripe, GotNone, DeletedNone}
+use Rattle.mc_core.specs.declared.event.Change.TheVariants.{Grow, BeginMove, FinishMove, Touch, SetAutomove, TrimLedger, Passed, Wrap, Evicted, OfStripe, GotNone, DeletedNone}
 use Rattle.mc_core.specs.State.{is_class, number_at, has_slabs, is_held_by}
 use Rattle.mc_core.specs.Silent.{is_handed_out, none_half_cut, can_finish, can_pass, can_wrap, run_of, grown, begun, can_change_slabs, slabs_after}
 use Rattle.mc_core.specs.Places.{ArePaged}
@@ -128,6 +128,12 @@ module _ (table : Classes) (slabs : SlabState) (lock : ℕ) (paged : ArePaged ta
     order = (paged.order.0, IsInOrder-automove slabs paged.order.0 mode (leb-true mode 2 few) paged.order.1);
   }
 
+  trimmed_paged : StayPaged slabs (after_trim slabs)
+  trimmed_paged = record {
+    shape = record { page = refl; limit = refl; counts = refl; owners = refl };
+    order = (paged.order.0, IsInOrder-after_trim slabs paged.order.0 paged.order.1);
+  }
+
 -- each change of pages and lists that is allowed
 paged_slabs : (table : Classes) (slabs : SlabState) (lock : ℕ) → ArePaged table slabs lock → (change : Change) → can_change_slabs table slabs change ≡ true → StayPaged slabs (slabs_after slabs change)
 paged_slabs table slabs lock paged (Grow class) can =
@@ -138,6 +144,7 @@ paged_slabs table slabs lock paged (BeginMove src dst) can = begun_paged table s
 paged_slabs table slabs lock paged FinishMove can = finished_paged table slabs lock paged can
 paged_slabs table slabs lock paged (Touch chunk) can = touched_paged table slabs lock paged chunk can
 paged_slabs table slabs lock paged (SetAutomove mode) can = automove_paged table slabs lock paged mode can
+paged_slabs table slabs lock paged TrimLedger can = trimmed_paged table slabs lock paged
 paged_slabs table slabs lock paged (Passed found) can = passed_paged table slabs lock paged found can
 paged_slabs table slabs lock paged Wrap can = wrapped_paged table slabs lock paged can
 paged_slabs table slabs lock paged (Evicted class) can = evicted_paged table slabs lock paged class can
@@ -159,6 +166,7 @@ paged_changes moment hand (BeginMove src dst) may = under_lock moment hand (Begi
 paged_changes moment hand FinishMove may = under_lock moment hand FinishMove may.lawful.paged may.allowed
 paged_changes moment hand (Touch chunk) may = under_lock moment hand (Touch chunk) may.lawful.paged may.allowed
 paged_changes moment hand (SetAutomove mode) may = under_lock moment hand (SetAutomove mode) may.lawful.paged may.allowed
+paged_changes moment hand TrimLedger may = under_lock moment hand TrimLedger may.lawful.paged may.allowed
 paged_changes moment hand (Passed found) may = under_lock moment hand (Passed found) may.lawful.paged may.allowed
 paged_changes moment hand Wrap may = under_lock moment hand Wrap may.lawful.paged may.allowed
 paged_changes moment hand (Evicted class) may = under_lock moment hand (Evicted class) may.lawful.paged may.allowed

@@ -13,7 +13,7 @@ use Rattle.mc_pages.specs.Ledger.{owner_at}
 use Rattle.mc_pages.specs.ClassState.{ClassState, times, without, touched, evicted, with_page, without_page}
 use Rattle.mc_pages.specs.SlabState.{SlabState, IsClass, class_at, class_of_owner, class_of_page, class_of_chunk}
 use Rattle.mc_pages.specs.Answer.{answer_of}
-use Rattle.mc_pages.specs.Changes.{with_class, with_given, next_page, after_take, after_grant, after_grow, after_touch}
+use Rattle.mc_pages.specs.Changes.{with_class, with_given, next_page, after_take, after_grant, after_grow, after_touch, after_trim}
 use Rattle.mc_pages.specs.Moves.{first_page, released, finished, after_finish}
 use Rattle.mc_pages.specs.Accounted.{is_of_class, is_moving, is_cut, cut_count, IsMove}
 use Rattle.mc_pages.specs.InOrder.{IsInOrder}
@@ -26,7 +26,7 @@ use Rattle.mc_pages.proofs.Redistributed.{is_cut-kept}
 use Rattle.mc_pages.proofs.ReleasedPage.{within_from_IsMove}
 use Rattle.mc_pages.proofs.RoomyGrow.{next_within}
 use Rattle.mc_core.specs.declared.event.Change.{Change}
-use Rattle.mc_core.specs.declared.event.Change.TheVariants.{Grow, BeginMove, FinishMove, Touch, SetAutomove, Passed, Wrap, Evicted, OfStripe, GotNone, DeletedNone}
+use Rattle.mc_core.specs.declared.event.Change.TheVariants.{Grow, BeginMove, FinishMove, Touch, SetAutomove, TrimLedger, Passed, Wrap, Evicted, OfStripe, GotNone, DeletedNone}
 use Rattle.mc_core.specs.State.{is_class, has_slabs}
 use Rattle.mc_core.specs.Silent.{is_handed_out, none_half_cut, has_page, can_finish, grown, begun, can_change_slabs, slabs_after}
 use Rattle.mc_core.specs.Places.{ArePaged, ArePlaced}
@@ -46,6 +46,10 @@ same_listed slabs = record { classes = refl; free = λ class chunk is. refl; ord
 numbered_listed : (slabs : SlabState) (moving : Option Moving) (rescues evictions_nomem busy automove : ℕ) →
     AreListed slabs (record slabs { moving = moving; rescues = rescues; evictions_nomem = evictions_nomem; busy = busy; automove = automove })
 numbered_listed slabs moving rescues evictions_nomem busy automove = let all = same_listed slabs in record { classes = all.classes; free = all.free; order = all.order; cut = all.cut; moving = all.moving }
+
+-- nor how many entries are recorded
+trimmed_listed : (slabs : SlabState) → AreListed slabs (after_trim slabs)
+trimmed_listed slabs = let all = same_listed slabs in record { classes = all.classes; free = all.free; order = all.order; cut = all.cut; moving = all.moving }
 
 -- one class changes, and each chunk stands in its lists as often
 listed_with_class : (slabs : SlabState) (class : ℕ) (state : ClassState) → IsClass slabs class → state.per_page ≡ (class_at slabs class).per_page →
@@ -249,6 +253,7 @@ slabs_listed table slabs lock paged (BeginMove src dst) can = begin_listed slabs
 slabs_listed table slabs lock paged FinishMove can = finish_listed slabs paged.order.0 slabs.moving paged.order.1 refl can
 slabs_listed table slabs lock paged (Touch chunk) can = touch_listed slabs paged.order.0 paged.order.1 chunk can
 slabs_listed table slabs lock paged (SetAutomove mode) can = let now : SlabState = slabs_after slabs (SetAutomove mode) in numbered_listed slabs now.moving now.rescues now.evictions_nomem now.busy now.automove
+slabs_listed table slabs lock paged TrimLedger can = trimmed_listed slabs
 slabs_listed table slabs lock paged (Passed found) can = let now : SlabState = slabs_after slabs (Passed found) in numbered_listed slabs now.moving now.rescues now.evictions_nomem now.busy now.automove
 slabs_listed table slabs lock paged Wrap can = let now : SlabState = slabs_after slabs Wrap in numbered_listed slabs now.moving now.rescues now.evictions_nomem now.busy now.automove
 slabs_listed table slabs lock paged (Evicted class) can =
@@ -270,6 +275,7 @@ placed_changes moment hand (BeginMove src dst) may = under_lock moment hand (Beg
 placed_changes moment hand FinishMove may = under_lock moment hand FinishMove may.lawful may.allowed
 placed_changes moment hand (Touch chunk) may = under_lock moment hand (Touch chunk) may.lawful may.allowed
 placed_changes moment hand (SetAutomove mode) may = under_lock moment hand (SetAutomove mode) may.lawful may.allowed
+placed_changes moment hand TrimLedger may = under_lock moment hand TrimLedger may.lawful may.allowed
 placed_changes moment hand (Passed found) may = under_lock moment hand (Passed found) may.lawful may.allowed
 placed_changes moment hand Wrap may = under_lock moment hand Wrap may.lawful may.allowed
 placed_changes moment hand (Evicted class) may = under_lock moment hand (Evicted class) may.lawful may.allowed

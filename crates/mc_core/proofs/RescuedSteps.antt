@@ -6,7 +6,7 @@ use Rattle.mc_pages.specs.SlabState.{class_at, class_of_page}
 use Rattle.mc_pages.proofs.Chunks.{same_from_is_chunk}
 use Rattle.mc_pages.specs.declared.ids.ChunkId.{ChunkId}
 use Rattle.mc_pages.specs.Changes as slabs_changes
-use Rattle.mc_core.specs.declared.event.Change.TheVariants.{Grow, BeginMove, FinishMove, Touch, SetAutomove, Passed, Wrap, Evicted, OfStripe, GotNone, DeletedNone}
+use Rattle.mc_core.specs.declared.event.Change.TheVariants.{Grow, BeginMove, FinishMove, Touch, SetAutomove, TrimLedger, Passed, Wrap, Evicted, OfStripe, GotNone, DeletedNone}
 use Rattle.mc_core.specs.declared.event.Step.TheVariants.{TakeSlabs, TakeStripe, MissSlabs, MissStripe, GiveSlabs, GiveStripe, Pop, PopOff, Fill, Word, WordHeld, Link, Refer, Unlink, Release, Discard, Condemn, PutBack, Clear, Cut, Again, Join}
 use Rattle.mc_core.specs.declared.event.Step.TheVariants as step
 use Rattle.mc_core.specs.declared.holding.Holding.{Holding}
@@ -153,6 +153,7 @@ rescued_changes m hand (BeginMove src dst) may = may.lawful.rescued
 rescued_changes m hand FinishMove may = may.lawful.rescued
 rescued_changes m hand (Touch chunk) may = may.lawful.rescued
 rescued_changes m hand (SetAutomove mode) may = may.lawful.rescued
+rescued_changes m hand TrimLedger may = may.lawful.rescued
 rescued_changes m hand (Passed found) may = may.lawful.rescued
 rescued_changes m hand Wrap may = may.lawful.rescued
 rescued_changes m hand (Evicted class) may = may.lawful.rescued

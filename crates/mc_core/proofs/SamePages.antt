@@ -30,7 +30,7 @@ use Rattle.mc_core.specs.declared.head.Head.{Head}
 use Rattle.mc_core.specs.declared.head.Tag.{Tag}
 use Rattle.mc_core.specs.declared.head.Tag.TheVariants.{Out, Unlinked, Linked}
 use Rattle.mc_core.specs.declared.event.Change.{Change}
-use Rattle.mc_core.specs.declared.event.Change.TheVariants.{Grow, BeginMove, FinishMove, Touch, SetAutomove, Passed, Wrap, Evicted, OfStripe, GotNone, DeletedNone}
+use Rattle.mc_core.specs.declared.event.Change.TheVariants.{Grow, BeginMove, FinishMove, Touch, SetAutomove, TrimLedger, Passed, Wrap, Evicted, OfStripe, GotNone, DeletedNone}
 use Rattle.mc_core.specs.Head.{is_free, is_out}
 use Rattle.mc_core.specs.State.{State, has_chunk, has_slabs}
 use Rattle.mc_core.specs.Silent.{has_page, has_listed, none_half_cut, can_finish, grown, begun, after_change}
@@ -188,6 +188,7 @@ stays_changes moment hand FinishMove may =
     (and_parts (has_slabs moment.state hand) (can_finish moment.state.slabs moment.state.slabs.moving) may.allowed).1
 stays_changes moment hand (Touch chunk) may = λ chunk issue here out. refl
 stays_changes moment hand (SetAutomove mode) may = λ chunk issue here out. refl
+stays_changes moment hand TrimLedger may = λ chunk issue here out. refl
 stays_changes moment hand (Passed found) may = λ chunk issue here out. refl
 stays_changes moment hand Wrap may = λ chunk issue here out. refl
 stays_changes moment hand (Evicted class) may = λ chunk issue here out. refl

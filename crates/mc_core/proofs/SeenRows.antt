@@ -2,7 +2,7 @@
 use Rattle.std.proofs.Common.{◌≡◌, ◌⊎◌, ℕ, List, [], ◌∷◌, length, refl, sym, ap, ◌∙◌, slice_set, length-set, inl, inr, arith}
 use Rattle.mc_stripe.specs.declared.history.Call.{Call}
 use Rattle.mc_core.specs.declared.event.Change.{Change}
-use Rattle.mc_core.specs.declared.event.Change.TheVariants.{Grow, BeginMove, FinishMove, Touch, SetAutomove, Passed, Wrap, Evicted, OfStripe, GotNone, DeletedNone}
+use Rattle.mc_core.specs.declared.event.Change.TheVariants.{Grow, BeginMove, FinishMove, Touch, SetAutomove, TrimLedger, Passed, Wrap, Evicted, OfStripe, GotNone, DeletedNone}
 use Rattle.mc_core.specs.declared.event.Step.{Step}
 use Rattle.mc_core.specs.declared.event.Step.TheVariants as step
 use Rattle.mc_core.specs.Holdings.{is_of, holding_of}
@@ -21,6 +21,7 @@ change_long state who (BeginMove src dst) = refl
 change_long state who FinishMove = refl
 change_long state who (Touch chunk) = refl
 change_long state who (SetAutomove mode) = refl
+change_long state who TrimLedger = refl
 change_long state who (Passed found) = refl
 change_long state who Wrap = refl
 change_long state who (Evicted class) = refl

@@ -3,7 +3,7 @@ use Rattle.std.proofs.Common.{◌≡◌, ◌≢◌, ℕ, ◌+◌, true, List, []
 use Rattle.std.specs.Option.{option_map_or}
 use Rattle.std.proofs.lemmas.Bool.{and_parts, both_ways, cases_eq}
 use Rattle.mc_core.specs.declared.event.Change.{Change}
-use Rattle.mc_core.specs.declared.event.Change.TheVariants.{Grow, BeginMove, FinishMove, Touch, SetAutomove, Passed, Wrap, Evicted, OfStripe, GotNone, DeletedNone}
+use Rattle.mc_core.specs.declared.event.Change.TheVariants.{Grow, BeginMove, FinishMove, Touch, SetAutomove, TrimLedger, Passed, Wrap, Evicted, OfStripe, GotNone, DeletedNone}
 use Rattle.mc_core.specs.declared.event.Step.TheVariants.{TakeSlabs, TakeStripe, MissSlabs, MissStripe, GiveSlabs, GiveStripe, Pop, PopOff, Fill, Word, WordHeld, Link, Refer, Unlink, Release, Discard, Condemn, PutBack, Clear, Cut, Again, Join}
 use Rattle.mc_core.specs.declared.event.Step.TheVariants as step
 use Rattle.mc_core.specs.declared.ids.Ids.{Ids}
@@ -39,6 +39,7 @@ seen_changes m hand (BeginMove src dst) may h has = seen_changed m hand (BeginMo
 seen_changes m hand FinishMove may h has = seen_changed m hand FinishMove may.lawful may.there (and_parts (has_slabs m.state hand) _ may.allowed).0 (stays_changes m hand FinishMove may) h has
 seen_changes m hand (Touch chunk) may h has = seen_changed m hand (Touch chunk) may.lawful may.there (and_parts (has_slabs m.state hand) _ may.allowed).0 (stays_changes m hand (Touch chunk) may) h has
 seen_changes m hand (SetAutomove mode) may h has = seen_changed m hand (SetAutomove mode) may.lawful may.there (and_parts (has_slabs m.state hand) _ may.allowed).0 (stays_changes m hand (SetAutomove mode) may) h has
+seen_changes m hand TrimLedger may h has = seen_changed m hand TrimLedger may.lawful may.there (and_parts (has_slabs m.state hand) _ may.allowed).0 (stays_changes m hand TrimLedger may) h has
 seen_changes m hand (Passed found) may h has = seen_changed m hand (Passed found) may.lawful may.there (and_parts (has_slabs m.state hand) _ may.allowed).0 (stays_changes m hand (Passed found) may) h has
 seen_changes m hand Wrap may h has = seen_changed m hand Wrap may.lawful may.there (and_parts (has_slabs m.state hand) _ may.allowed).0 (stays_changes m hand Wrap may) h has
 seen_changes m hand (Evicted class) may h has = seen_changed m hand (Evicted class) may.lawful may.there (and_parts (has_slabs m.state hand) _ may.allowed).0 (stays_changes m hand (Evicted class) may) h has

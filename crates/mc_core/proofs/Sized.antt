@@ -3,7 +3,7 @@ use Rattle.std.proofs.Common.{◌≡◌, ℕ, ◌*◌, length, refl, sym, ap, su
 use Rattle.std.proofs.lemmas.List.{length-replicate}
 use Rattle.mc_classes.specs.Classes.{Classes, IsSound, arena_pages_of}
 use Rattle.mc_core.specs.declared.head.Head.{Head}
-use Rattle.mc_core.specs.declared.event.Change.TheVariants.{Grow, BeginMove, FinishMove, Touch, SetAutomove, Passed, Wrap, Evicted, OfStripe, GotNone, DeletedNone}
+use Rattle.mc_core.specs.declared.event.Change.TheVariants.{Grow, BeginMove, FinishMove, Touch, SetAutomove, TrimLedger, Passed, Wrap, Evicted, OfStripe, GotNone, DeletedNone}
 use Rattle.mc_core.specs.declared.event.Step.{Step}
 use Rattle.mc_core.specs.declared.event.Step.TheVariants.{TakeSlabs, TakeStripe, MissSlabs, MissStripe, GiveSlabs, GiveStripe, Pop, PopOff, Fill, Word, WordHeld, Link, Refer, Unlink, Release, Discard, Condemn, PutBack, Clear, Cut, Again, Join}
 use Rattle.mc_core.specs.declared.event.Step.TheVariants as step
@@ -88,6 +88,7 @@ sized_changes moment hand (BeginMove src dst) may = may.lawful.sized
 sized_changes moment hand FinishMove may = may.lawful.sized
 sized_changes moment hand (Touch chunk) may = may.lawful.sized
 sized_changes moment hand (SetAutomove mode) may = may.lawful.sized
+sized_changes moment hand TrimLedger may = may.lawful.sized
 sized_changes moment hand (Passed found) may = may.lawful.sized
 sized_changes moment hand Wrap may = may.lawful.sized
 sized_changes moment hand (Evicted class) may = may.lawful.sized

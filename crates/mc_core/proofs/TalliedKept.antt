@@ -7,7 +7,7 @@ use Rattle.mc_pages.specs.SlabState.{SlabState, class_of_page, fresh_slabs}
 use Rattle.mc_core.specs.declared.holding.Holding.{Holding}
 use Rattle.mc_core.specs.declared.look.Look.{Look}
 use Rattle.mc_core.specs.declared.event.Change.{Change}
-use Rattle.mc_core.specs.declared.event.Change.TheVariants.{Grow, BeginMove, FinishMove, Touch, SetAutomove, Passed, Wrap, Evicted, OfStripe, GotNone, DeletedNone}
+use Rattle.mc_core.specs.declared.event.Change.TheVariants.{Grow, BeginMove, FinishMove, Touch, SetAutomove, TrimLedger, Passed, Wrap, Evicted, OfStripe, GotNone, DeletedNone}
 use Rattle.mc_core.specs.declared.event.Step.{Step}
 use Rattle.mc_core.specs.declared.event.Step.TheVariants.{TakeSlabs, TakeStripe, MissSlabs, MissStripe, GiveSlabs, GiveStripe, Pop, PopOff, Fill, Word, WordHeld, Link, Refer, Unlink, Release, Discard, Condemn, PutBack, Clear, Cut, Again, Join}
 use Rattle.mc_core.specs.declared.event.Step.TheVariants as step
@@ -39,6 +39,7 @@ counted_changes m hand (BeginMove src dst) may = may.lawful.counted
 counted_changes m hand FinishMove may = may.lawful.counted
 counted_changes m hand (Touch chunk) may = may.lawful.counted
 counted_changes m hand (SetAutomove mode) may = may.lawful.counted
+counted_changes m hand TrimLedger may = may.lawful.counted
 counted_changes m hand (Passed found) may = may.lawful.counted
 counted_changes m hand Wrap may = may.lawful.counted
 counted_changes m hand (Evicted class) may = may.lawful.counted
@@ -72,6 +73,7 @@ held_changes m hand (BeginMove src dst) may = held_slabs m hand (BeginMove src d
 held_changes m hand FinishMove may = held_slabs m hand FinishMove may
 held_changes m hand (Touch chunk) may = held_slabs m hand (Touch chunk) may
 held_changes m hand (SetAutomove mode) may = held_slabs m hand (SetAutomove mode) may
+held_changes m hand TrimLedger may = held_slabs m hand TrimLedger may
 held_changes m hand (Passed found) may = held_slabs m hand (Passed found) may
 held_changes m hand Wrap may = held_slabs m hand Wrap may
 held_changes m hand (Evicted class) may = held_slabs m hand (Evicted class) may

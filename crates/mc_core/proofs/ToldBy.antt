@@ -6,7 +6,7 @@ use Rattle.mc_pages.specs.declared.ids.ChunkId.{ChunkId}
 use Rattle.mc_pages.specs.ClassState.{is_chunk}
 use Rattle.mc_stripe.specs.StripeState.{ReadyStripe, place_of}
 use Rattle.mc_core.specs.declared.event.Change.{Change}
-use Rattle.mc_core.specs.declared.event.Change.TheVariants.{Grow, BeginMove, FinishMove, Touch, SetAutomove, Passed, Wrap, Evicted, OfStripe, GotNone, DeletedNone}
+use Rattle.mc_core.specs.declared.event.Change.TheVariants.{Grow, BeginMove, FinishMove, Touch, SetAutomove, TrimLedger, Passed, Wrap, Evicted, OfStripe, GotNone, DeletedNone}
 use Rattle.mc_core.specs.declared.event.Step.{Step}
 use Rattle.mc_core.specs.declared.event.Step.TheVariants.{TakeSlabs, TakeStripe, MissSlabs, MissStripe, GiveSlabs, GiveStripe, Pop, PopOff, Fill, Word, WordHeld, Link, Refer, Unlink, Release, Discard, Condemn, PutBack, Clear, Cut, Again, Join}
 use Rattle.mc_core.specs.declared.event.Step.TheVariants as step
@@ -82,6 +82,7 @@ module _ (state : State) (hand : ℕ) (l : AreLegal state.stripes state.stripe_l
   told_by_change FinishMove h = inl (refl, refl)
   told_by_change (Touch chunk) h = inl (refl, refl)
   told_by_change (SetAutomove mode) h = inl (refl, refl)
+  told_by_change TrimLedger h = inl (refl, refl)
   told_by_change (Passed found) h = inl (refl, refl)
   told_by_change Wrap h = inl (refl, refl)
   told_by_change (Evicted class) h = inl (refl, refl)

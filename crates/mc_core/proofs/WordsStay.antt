@@ -8,7 +8,7 @@ use Rattle.mc_pages.specs.Accounted.{truth}
 use Rattle.mc_pages.specs.Changes as slabs_changes
 use Rattle.mc_pages.proofs.Chunks.{is_chunk-same}
 use Rattle.mc_core.specs.declared.event.Change.{Change}
-use Rattle.mc_core.specs.declared.event.Change.TheVariants.{Grow, BeginMove, FinishMove, Touch, SetAutomove, Passed, Wrap, Evicted, OfStripe, GotNone, DeletedNone}
+use Rattle.mc_core.specs.declared.event.Change.TheVariants.{Grow, BeginMove, FinishMove, Touch, SetAutomove, TrimLedger, Passed, Wrap, Evicted, OfStripe, GotNone, DeletedNone}
 use Rattle.mc_core.specs.declared.event.Step.{Step}
 use Rattle.mc_core.specs.declared.event.Step.TheVariants as step
 use Rattle.mc_core.specs.declared.holding.Holding.{Holding}
@@ -75,6 +75,7 @@ change_leaves state hand (BeginMove src dst) = record { table = refl; heads = re
 change_leaves state hand FinishMove = record { table = refl; heads = refl; words = refl; holdings = refl }
 change_leaves state hand (Touch chunk) = record { table = refl; heads = refl; words = refl; holdings = refl }
 change_leaves state hand (SetAutomove mode) = record { table = refl; heads = refl; words = refl; holdings = refl }
+change_leaves state hand TrimLedger = record { table = refl; heads = refl; words = refl; holdings = refl }
 change_leaves state hand (Passed found) = record { table = refl; heads = refl; words = refl; holdings = refl }
 change_leaves state hand Wrap = record { table = refl; heads = refl; words = refl; holdings = refl }
 change_leaves state hand (Evicted class) = record { table = refl; heads = refl; words = refl; holdings = refl }

@@ -4,6 +4,7 @@ use Rattle.std.specs.List.{range_with_len}
 use Rattle.mc_classes.specs.Classes.{Classes}
 use Rattle.mc_pages.specs.declared.ids.ChunkId.{ChunkId}
 use Rattle.mc_pages.specs.declared.ledger.Entry.{Entry}
+use Rattle.mc_pages.specs.Base.{tail_of}
 use Rattle.mc_core.specs.declared.event.Event.{Event}
 use Rattle.mc_core.specs.declared.event.Step.{Step}
 use Rattle.mc_core.specs.declared.event.Step.TheVariants.{TakeSlabs, TakeStripe, GiveSlabs, GiveStripe, Head, Pop, PopOff, Fill, Link, Unlink, Release, Discard, Condemn, PutBack, Clear, Cut}
@@ -114,3 +115,24 @@ ends = does (FinishMove ∷ []) GiveSlabs ∷ does [] (GiveStripe 0) ∷ []
 abbrev pub comes_again : List Event
 comes_again =
     does (OfStripe 0 Reserve ∷ []) (Unlink 1) ∷ begins_rescue ++ does [] (Clear (chunk_at 0 1)) ∷ does [] (Clear (chunk_at 0 0)) ∷ does (FinishMove ∷ Grow 1 ∷ []) (Cut 0 0) ∷ does [] (Cut 0 1) ∷ stores (chunk_at 0 1) 2
+
+-- so many pages of 64 bytes within the limit, one class of 32 bytes and one of 64
+abbrev pub two_classes : ℕ → Classes
+two_classes pages = record { page = 64; limit = pages * 64; sizes = 32 ∷ 64 ∷ [] }
+
+-- what one hand left that took the lock of the slabs of an arena of so many pages within the limit and two classes, and did this
+abbrev pub left_by : ℕ → List Event → Result State ℕ
+left_by pages events = play (new_state (two_classes pages) 1 1 0) (does [] TakeSlabs ∷ events)
+
+-- class 1 gets page 0, which is cut
+abbrev pub first_page : List Event
+first_page = does (Grow 1 ∷ []) (Cut 0 0) ∷ does [] (Cut 0 1) ∷ []
+
+-- class 2 gets this page, which is cut
+abbrev pub gets_whole : ℕ → List Event
+gets_whole page = does (Grow 2 ∷ []) (Cut page 0) ∷ []
+
+-- the entries that are recorded after a run that ends well, or the place of the first event that isn't allowed
+abbrev pub recorded_of : Result State ℕ → Result (List Entry) ℕ
+recorded_of (Ok state) = Ok (tail_of state.slabs)
+recorded_of (Err place) = Err place

@@ -10,13 +10,13 @@ use Rattle.mc_pages.specs.declared.moves.Reassign.{Reassign}
 use Rattle.mc_pages.specs.ClassState.{is_chunk}
 use Rattle.mc_pages.specs.SlabState.{SlabState, class_at, class_of_chunk}
 use Rattle.mc_pages.specs.Accounted.{cut_count}
-use Rattle.mc_pages.specs.Changes.{after_touch, after_evicted, after_grow, next_page}
+use Rattle.mc_pages.specs.Changes.{after_touch, after_evicted, after_grow, after_trim as after_trim_slabs, next_page}
 use Rattle.mc_pages.specs.Answer.{answer_of}
 use Rattle.mc_pages.specs.Moves.{after_begin, after_finish, after_passed, after_wrap, is_held_up, chunk_at_position}
 use Rattle.mc_stripe.specs.StripeState.{StripeState, ReadyStripe, key_aside, place_of}
 use Rattle.mc_stripe.specs.Changes.{after_got, after_unlink, after_trim, after_forget, used_up}
 use Rattle.mc_core.specs.declared.event.Change.{Change}
-use Rattle.mc_core.specs.declared.event.Change.TheVariants.{Grow, BeginMove, FinishMove, Touch, SetAutomove, Passed, Wrap, Evicted, OfStripe, GotNone, DeletedNone}
+use Rattle.mc_core.specs.declared.event.Change.TheVariants.{Grow, BeginMove, FinishMove, Touch, SetAutomove, TrimLedger, Passed, Wrap, Evicted, OfStripe, GotNone, DeletedNone}
 use Rattle.mc_core.specs.declared.event.StripeChange.{StripeChange}
 use Rattle.mc_core.specs.declared.event.StripeChange.TheVariants.{Reserve, Trim, Forget}
 use Rattle.mc_core.specs.declared.look.Look.TheVariants.{Changed}
@@ -82,6 +82,7 @@ can_change_slabs table slabs (BeginMove src dst) = is_ok (answer_of slabs src ds
 can_change_slabs table slabs FinishMove = can_finish slabs slabs.moving
 can_change_slabs table slabs (Touch chunk) = is_handed_out slabs chunk
 can_change_slabs table slabs (SetAutomove mode) = nat_le mode 2
+can_change_slabs table slabs TrimLedger = true
 can_change_slabs table slabs (Passed found) = can_pass slabs found (run_of table slabs.moving)
 can_change_slabs table slabs Wrap = can_wrap (run_of table slabs.moving)
 can_change_slabs table slabs (Evicted class) = is_class table class
@@ -104,6 +105,7 @@ slabs_after slabs (BeginMove src dst) = begun slabs src dst (answer_of slabs src
 slabs_after slabs FinishMove = after_finish slabs slabs.moving
 slabs_after slabs (Touch chunk) = after_touch slabs chunk
 slabs_after slabs (SetAutomove mode) = record slabs { automove = mode }
+slabs_after slabs TrimLedger = after_trim_slabs slabs
 slabs_after slabs (Passed found) = after_passed slabs found
 slabs_after slabs Wrap = after_wrap slabs
 slabs_after slabs (Evicted class) = after_evicted slabs class

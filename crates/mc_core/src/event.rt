@@ -76,6 +76,8 @@ pub enum Change {
     Touch(ChunkId),
     /// The automover's mode is set.
     SetAutomove(u64),
+    /// The entries of the ledger so far aren't recorded any more.
+    TrimLedger,
     /// The mover goes on behind the chunk at its position.
     Passed(Found),
     /// The mover begins its pass anew.

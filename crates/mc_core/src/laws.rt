@@ -2,14 +2,14 @@
 //!
 //! A clause of the law that is *kept* holds before anything was done. Every silent change, every step and every event that
 //! is allowed in a lawful moment leaves it true.
-ghost use Rattle.std.specs.Prelude.{◌≡◌, ◌-◌, ℕ, false, List, [], ◌∷◌, ◌++◌, Ok, Err};
+ghost use Rattle.std.specs.Prelude.{◌≡◌, ◌-◌, ℕ, true, false, List, [], ◌∷◌, ◌++◌, Ok, Err};
 ghost use Rattle.mc_pages.specs.declared.ledger.Entry.TheVariants.{Granted, Began, Ended};
 ghost use Rattle.mc_stripe.specs.declared.history.Call.{Call};
 ghost use Rattle.mc_stripe.specs.Sequential.{StampMap, Leads};
 ghost use Rattle.mc_core.specs.declared.event.Event.{Event};
-ghost use Rattle.mc_core.specs.declared.event.Step.TheVariants.{TakeSlabs, Pop, Head, Cut};
-ghost use Rattle.mc_core.specs.declared.event.Change.TheVariants.{Grow, FinishMove};
-ghost use Rattle.mc_core.specs.Rows.{played, grows, does, pops_from, played_on, chunk_at, gets, puts, stores, full_page, one_of_four, three_of_four, looks_at, takes_away, begins_move, begins_rescue, rescues, ends, comes_again};
+ghost use Rattle.mc_core.specs.declared.event.Step.TheVariants.{TakeSlabs, GiveSlabs, Pop, Head, Cut};
+ghost use Rattle.mc_core.specs.declared.event.Change.TheVariants.{Grow, FinishMove, TrimLedger};
+ghost use Rattle.mc_core.specs.Rows.{played, grows, does, pops_from, played_on, chunk_at, gets, puts, stores, full_page, one_of_four, three_of_four, looks_at, takes_away, begins_move, begins_rescue, rescues, ends, comes_again, ledger_of, left_by, first_page, gets_whole, recorded_of};
 ghost use Rattle.mc_core.specs.Chunks.{most_issue};
 ghost use Rattle.mc_core.specs.Lawful.{IsLawful, SizedIn, PagedIn, PlacedIn, CountedIn, HeldIn, IndexedIn, LegalIn, HandsIn, RowsIn, NumberedIn, SeenIn, KnownIn, RescuedIn, ToldIn};
 ghost use Rattle.mc_core.specs.Laws.{IsKeptByAll, ArePlayed, AreLawful};
@@ -32,6 +32,22 @@ pub fn worked_runs()
     ensures twice { pops_from (most_issue - 2) ≡ Ok (Granted 0 1 false ∷ []) }
     ensures once { pops_from (most_issue - 1) ≡ Err 27 }
     ensures worn { pops_from most_issue ≡ Err 24 }
+{}
+
+/// A class's first page is granted beyond the limit where none is left within it, and its second isn't; where one is left, that is granted.
+pub fn worked_grants()
+    ensures beyond { ledger_of (left_by 1 (first_page ++ gets_whole 1)) ≡ Ok (Granted 0 1 false ∷ Granted 1 2 true ∷ []) }
+    ensures one_a_class { ledger_of (left_by 1 (first_page ++ gets_whole 1 ++ gets_whole 2)) ≡ Err 4 }
+    ensures within { ledger_of (left_by 2 (first_page ++ gets_whole 1)) ≡ Ok (Granted 0 1 false ∷ Granted 1 2 false ∷ []) }
+    ensures no_more_within { ledger_of (left_by 2 (first_page ++ gets_whole 1 ++ gets_whole 2)) ≡ Err 4 }
+{}
+
+/// Entries before a trim of the ledger aren't recorded, and those behind it are. It is trimmed under the lock of the slabs alone.
+pub fn worked_trims()
+    ensures trimmed { recorded_of (left_by 1 (first_page ++ does (TrimLedger ∷ Grow 2 ∷ []) (Cut 1 0) ∷ [])) ≡ Ok (Granted 1 2 true ∷ []) }
+    ensures twice { recorded_of (left_by 1 (first_page ++ does (TrimLedger ∷ TrimLedger ∷ []) GiveSlabs ∷ [])) ≡ Ok [] }
+    ensures whole { ledger_of (left_by 1 (first_page ++ does (TrimLedger ∷ []) GiveSlabs ∷ [])) ≡ Ok (Granted 0 1 false ∷ []) }
+    ensures without_the_lock { recorded_of (left_by 1 (first_page ++ does [] GiveSlabs ∷ does (TrimLedger ∷ []) TakeSlabs ∷ [])) ≡ Err 4 }
 {}
 
 /// An item is evicted from a full class behind a sweep. It is refused without a sweep, behind half of one, and behind one that an

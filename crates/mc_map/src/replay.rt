@@ -58,7 +58,7 @@ fn apply(owners: &mut [Owner], entry: Entry) -> Result<(), Misfit>
     ensures misfit { result ≡ Err Misfit.Entry → is_fitting owners.old entry ≡ false }
     ensures memory { result ≡ Err (Misfit.NoMemory tt) → ⊥ }
 {
-    let page = page_of(entry);
+    let page = entry.page();
     if page >= owners.len() as u64 {
         return Err(Misfit::Entry);
     }
@@ -67,16 +67,6 @@ fn apply(owners: &mut [Owner], entry: Entry) -> Result<(), Misfit>
     }
     owners[page as usize] = owner_after(entry);
     Ok(())
-}
-
-/// The page that an entry is about.
-fn page_of(entry: Entry) -> u64
-    ensures { result ≡ page_of entry }
-{
-    match entry {
-        Entry::Granted(page, _, _) | Entry::Taken(page, _) => page,
-        Entry::Began(page, _, _) | Entry::Ended(page, _) => page,
-    }
 }
 
 /// Whether an entry fits the owner that it finds.

@@ -3,7 +3,6 @@ use Rattle.std.proofs.Common.{◌≡◌, ℕ, ◌+◌, true, List, [], ◌∷◌
 use Rattle.std.specs.List.{range_with_len}
 use Rattle.std.proofs.lemmas.List.{map-id}
 use Rattle.std.proofs.lemmas.List.FromFn.{map-range_with_len_more}
-use Rattle.mc_stripe.specs.declared.history.Call.{Call}
 use Rattle.mc_stripe.specs.StripeState.{ReadyStripe}
 use Rattle.mc_core.specs.declared.event.StripeChange.{StripeChange}
 use Rattle.mc_core.specs.declared.event.StripeChange.TheVariants.{Reserve, Trim, Forget}
@@ -16,7 +15,7 @@ use Rattle.mc_words.specs.declared.lock.locks.Locks.{Locks}
 use Rattle.mc_words.specs.declared.lock.locks.Locks.TheVariants.{Neither, Slabs, Stripe, SlabsLast, StripeLast}
 use Rattle.mc_words.specs.hand.View.{View}
 use Rattle.mc_words.specs.hand.Arenas.{view}
-use Rattle.mc_words.specs.lock.Doing.{Doing, HoldsStripe}
+use Rattle.mc_words.specs.lock.Doing.{Doing, HoldsSlabs, HoldsStripe}
 use Rattle.mc_words.specs.hand.Idle.{is_unlocked}
 use Rattle.mc_words.specs.lock.Out.{is_neither, with_stripe, without_stripe}
 use Rattle.mc_words.specs.hand.Views.{stripe_changed, stripe_given}
@@ -25,8 +24,9 @@ use Rattle.mc_words.specs.item.Refs.{KeepsRefs}
 use Rattle.mc_words.proofs.Hands.HandNumbers.{number_stays}
 use Rattle.mc_words.proofs.Locks.Unlocked.{unlocked_from}
 use Rattle.mc_words.proofs.Locks.Waited.{waits_keep}
+use Rattle.mc_mover.proofs.HoldsSlabs.{wait_keeps}
 use Rattle.mc_mover.proofs.Chains.{refs_stay}
-use Rattle.mc_mover.specs.Recording.{Changes, ChangesEach, FindsFull, Leaves, StopsTrimming}
+use Rattle.mc_mover.specs.Recording.{Changes, ChangesEach, FindsFull, Leaves, TrimsLedger}
 
 -- what is held, known and said, the hand's own calls, and who it is
 abbrev pub Kept : Type 0
@@ -57,6 +57,12 @@ hold_keeps Does quiet stripe view now holds =
 pub each_keeps : (how : StripeChange) (number : ℕ) (stripes : List ℕ) (view now : View) → ChangesEach how number stripes view now → kept_of now ≡ kept_of view
 each_keeps how number [] view now is = ap kept_of is
 each_keeps how number (stripe ∷ stripes) view now (next, one, rest) = each_keeps how number stripes next now rest ∙ hold_keeps (Changes how number stripe) (changes_quiet how number stripe) stripe view next one
+
+-- so does that of the slabs, in which the ledger is trimmed
+pub ledger_keeps : (number : ℕ) (view now : View) → HoldsSlabs (TrimsLedger number) view now → kept_of now ≡ kept_of view
+ledger_keeps number view now holds =
+    ap kept_of holds.given ∙ (ap kept_of holds.does.0.1
+    ∙ wait_keeps kept_of (λ word v. refl) (λ slabs v. refl) view holds.found holds.taken holds.waits)
 
 -- one stripe more
 pub each_more : (how : StripeChange) (number stripe : ℕ) (stripes : List ℕ) (view before now : View) → ChangesEach how number stripes view before → HoldsStripe stripe (Changes how number stripe) before now → ChangesEach how number (stripes ++ stripe ∷ []) view now

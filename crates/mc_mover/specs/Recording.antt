@@ -1,7 +1,9 @@
--- Stripes whose calls are trimmed, or forgotten, each under its own lock.
+-- Stripes whose calls are trimmed, or forgotten, each under its own lock, and a ledger that is trimmed.
 use Rattle.std.specs.Prelude.{◌≡◌, ◌⊎◌, ◌≤◌, ◌^◌, ◌+◌, ℕ, true, List, [], ◌∷◌, length, is_some}
 use Rattle.std.specs.List.{range_with_len}
 use Rattle.mc_stripe.specs.StripeState.{ReadyStripe}
+use Rattle.mc_pages.specs.Changes.{after_trim}
+use Rattle.mc_core.specs.declared.event.Change.TheVariants.{TrimLedger}
 use Rattle.mc_core.specs.declared.event.StripeChange.{StripeChange}
 use Rattle.mc_core.specs.declared.event.StripeChange.TheVariants.{Trim}
 use Rattle.mc_core.specs.Silent.{stripe_after}
@@ -9,7 +11,8 @@ use Rattle.mc_words.specs.declared.hand.Hand.{Hand}
 use Rattle.mc_words.specs.hand.View.{View}
 use Rattle.mc_words.specs.hand.Arenas.{view}
 use Rattle.mc_words.specs.hand.Observers.{number_of}
-use Rattle.mc_words.specs.lock.Doing.{Doing, HoldsStripe}
+use Rattle.mc_words.specs.lock.Doing.{Doing, HoldsSlabs, HoldsStripe, SlabsDoing}
+use Rattle.mc_words.specs.page.Moves.{ChangesOnce}
 use Rattle.mc_words.specs.hand.Views.{stripe_changed}
 
 -- by the hand of this number the stripe changed so
@@ -40,7 +43,16 @@ pub record StopsTrimming (number : ℕ) (Does : Doing) (view now : View) : Type 
   pub trims : ChangesEach Trim number (range_with_len 0 stripe) view before
   pub stops : HoldsStripe stripe Does before now
 
--- the hand trimmed all stripes, or the first ones, up to one that was refused
-abbrev pub TrimsStripes : Hand → Hand → Type 0
-TrimsStripes before now =
-    ChangesEach Trim (number_of before) (range_with_len 0 (view before).setup.config.stripes) (view before) (view now) ⊎ StopsTrimming (number_of before) Leaves (view before) (view now)
+-- under the lock of the slabs: the entries of the ledger so far aren't recorded any more, and nothing else changed
+abbrev pub TrimsLedger : ℕ → SlabsDoing
+TrimsLedger number view slabs now left = ChangesOnce number TrimLedger view slabs now × (left ≡ after_trim slabs)
+
+-- all stripes below this one were trimmed, and then the ledger
+pub record TrimsAll (number count : ℕ) (view now : View) : Type 0 where
+  pub between : View
+  pub stripes : ChangesEach Trim number (range_with_len 0 count) view between
+  pub ledger : HoldsSlabs (TrimsLedger number) between now
+
+-- the hand trimmed all stripes and the ledger, or the first stripes, up to one that was refused
+abbrev pub Trims : Hand → Hand → Type 0
+Trims before now = TrimsAll (number_of before) (view before).setup.config.stripes (view before) (view now) ⊎ StopsTrimming (number_of before) Leaves (view before) (view now)

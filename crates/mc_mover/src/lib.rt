@@ -23,6 +23,6 @@ mod visiting;
 pub use counts::{Counts, TryTurn, Turn};
 pub use numbers::Survey;
 pub use reassigning::{reassign, set_mode};
-pub use recording::{forget, trim};
+pub use recording::{forget, trim, trim_ledger};
 pub use surveying::survey;
 pub use turning::{try_turn, turn};

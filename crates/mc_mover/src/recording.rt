@@ -1,4 +1,4 @@
-//! Histories that are trimmed, or forgotten: of each stripe in turn, from the first on.
+//! Histories that are trimmed, or forgotten: of each stripe in turn, from the first on. And a ledger that is trimmed.
 ghost use Rattle.std.specs.List.{range_with_len};
 ghost use Rattle.std.specs.Prelude.{◌≡◌, ◌<◌, Err, OnErr, OnOk};
 ghost use Rattle.mc_core.specs.declared.event.StripeChange.TheVariants.{Forget, Trim as Trimmed};
@@ -7,15 +7,16 @@ ghost use Rattle.mc_words.specs.lock.Doing.{HoldsStripe};
 ghost use Rattle.mc_words.specs.hand.Observers.{locks_of, number_of};
 ghost use Rattle.mc_words.specs.hand.Ready.{IsReady};
 ghost use Rattle.mc_words.specs.item.Refs.{KeepsRefs};
-ghost use Rattle.mc_mover.specs.Recording.{Changes, ChangesEach, FindsFull, Leaves, StopsTrimming};
+ghost use Rattle.mc_mover.specs.Acting.{ActsOnce};
+ghost use Rattle.mc_mover.specs.Recording.{Changes, ChangesEach, FindsFull, Leaves, StopsTrimming, TrimsAll, TrimsLedger};
 
 use mc_stripe::Trim;
 use mc_words::{Arena, Hand};
 use std::sync::Wait;
 
-/// Trims the history of each stripe, from 0 on, one at a time: the calls so far aren't recorded any more, and take no memory but what they
-/// left, each key's stamp. It waits for each lock. It ends at the first refusal, whose stripe is as before; what was trimmed stays
-/// trimmed. (own)
+/// Trims what is recorded of the past: the history of each stripe, from 0 on, one at a time, and then the ledger. The calls and entries
+/// so far aren't recorded any more, and take no memory but what they left, each key's stamp and each page's owner. It waits for each
+/// lock. It ends at the first refusal, whose stripe is as before; what was trimmed stays trimmed, and the ledger isn't then. (own)
 pub fn trim<R: Wait>(rt: &R, arena: &Arena, hand: &mut Hand) -> Result<(), Trim>
     requires arena { IsHandOf arena.now hand.old }
     requires ready { IsReady (view hand.old) }
@@ -23,7 +24,7 @@ pub fn trim<R: Wait>(rt: &R, arena: &Arena, hand: &mut Hand) -> Result<(), Trim>
     ensures ready { IsReady (view hand.new) }
     ensures locks { locks_of hand.new ≡ locks_of hand.old }
     ensures number { number_of hand.new ≡ number_of hand.old }
-    ensures trims { OnOk result (ChangesEach Trimmed (number_of hand.old) (range_with_len 0 (setup_of arena.now).config.stripes) (view hand.old) (view hand.new)) }
+    ensures trims { OnOk result (TrimsAll (number_of hand.old) (setup_of arena.now).config.stripes (view hand.old) (view hand.new)) }
     ensures stops { OnErr result (StopsTrimming (number_of hand.old) Leaves (view hand.old) (view hand.new)) }
     ensures full { result ≡ Err Trim.Full → StopsTrimming (number_of hand.old) FindsFull (view hand.old) (view hand.new) }
     ensures holdings { (view hand.new).row.holdings ≡ (view hand.old).row.holdings }
@@ -31,10 +32,29 @@ pub fn trim<R: Wait>(rt: &R, arena: &Arena, hand: &mut Hand) -> Result<(), Trim>
     ensures unsaid { (view hand.new).row.knows.said ≡ (view hand.old).row.knows.said }
     ensures untold { (view hand.new).row.knows.mine ≡ (view hand.old).row.knows.mine }
 {
-    for stripe in 0..arena.config().stripes {
-        trim_stripe(rt, arena, hand, stripe)?;
-    }
+    trim_stripes(rt, arena, hand)?;
+    trim_ledger(rt, arena, hand);
     Ok(())
+}
+
+/// Trims the ledger alone: its entries so far aren't recorded any more, and take no memory but what they left of each page. It waits
+/// for the lock of the slabs, and for no other. It takes no memory, so nothing is refused. (own)
+pub fn trim_ledger<R: Wait>(rt: &R, arena: &Arena, hand: &mut Hand)
+    requires arena { IsHandOf arena.now hand.old }
+    requires ready { IsReady (view hand.old) }
+    ensures arena { IsHandOf arena.now hand.new }
+    ensures ready { IsReady (view hand.new) }
+    ensures locks { locks_of hand.new ≡ locks_of hand.old }
+    ensures number { number_of hand.new ≡ number_of hand.old }
+    ensures trims { ActsOnce TrimsLedger hand.old hand.new }
+    ensures holdings { (view hand.new).row.holdings ≡ (view hand.old).row.holdings }
+    ensures keeps { KeepsRefs (view hand.old) (view hand.new) }
+    ensures unsaid { (view hand.new).row.knows.said ≡ (view hand.old).row.knows.said }
+    ensures untold { (view hand.new).row.knows.mine ≡ (view hand.old).row.knows.mine }
+{
+    let mut held = arena.lock_slabs(rt, hand);
+    arena.trim_ledger(hand, &mut held);
+    arena.give_slabs(hand, held);
 }
 
 /// Has each stripe forget its calls: from then on none is recorded. It waits for each lock, from 0 on, one at a time. What the contracts say
@@ -56,6 +76,28 @@ pub fn forget<R: Wait>(rt: &R, arena: &Arena, hand: &mut Hand)
     for stripe in 0..arena.config().stripes {
         forget_stripe(rt, arena, hand, stripe);
     }
+}
+
+// Trims the history of each stripe, from 0 on, up to the first that is refused.
+fn trim_stripes<R: Wait>(rt: &R, arena: &Arena, hand: &mut Hand) -> Result<(), Trim>
+    requires arena { IsHandOf arena.now hand.old }
+    requires ready { IsReady (view hand.old) }
+    ensures arena { IsHandOf arena.now hand.new }
+    ensures ready { IsReady (view hand.new) }
+    ensures locks { locks_of hand.new ≡ locks_of hand.old }
+    ensures number { number_of hand.new ≡ number_of hand.old }
+    ensures trims { OnOk result (ChangesEach Trimmed (number_of hand.old) (range_with_len 0 (setup_of arena.now).config.stripes) (view hand.old) (view hand.new)) }
+    ensures stops { OnErr result (StopsTrimming (number_of hand.old) Leaves (view hand.old) (view hand.new)) }
+    ensures full { result ≡ Err Trim.Full → StopsTrimming (number_of hand.old) FindsFull (view hand.old) (view hand.new) }
+    ensures holdings { (view hand.new).row.holdings ≡ (view hand.old).row.holdings }
+    ensures keeps { KeepsRefs (view hand.old) (view hand.new) }
+    ensures unsaid { (view hand.new).row.knows.said ≡ (view hand.old).row.knows.said }
+    ensures untold { (view hand.new).row.knows.mine ≡ (view hand.old).row.knows.mine }
+{
+    for stripe in 0..arena.config().stripes {
+        trim_stripe(rt, arena, hand, stripe)?;
+    }
+    Ok(())
 }
 
 // Trims the history of one stripe.

@@ -24,7 +24,7 @@ use Rattle.mc_pages.proofs.GrantedPage.{length-pages_le}
 use Rattle.mc_pages.proofs.Steady.{IsSteady_from, IsSteady-changed, IsBeingCut-with_class, IsBeingCut-next, IsInOrder-with_class}
 pub use Rattle.mc_pages.proofs.Fresh.{IsInOrder-fresh}
 pub use Rattle.mc_pages.proofs.KeptPages.{IsInOrder-after_grant, IsInOrder-after_take}
-pub use Rattle.mc_pages.proofs.KeptMoves.{IsInOrder-after_begin, IsInOrder-after_passed, IsInOrder-after_wrap, IsInOrder-automove, first_page_within}
+pub use Rattle.mc_pages.proofs.KeptMoves.{IsInOrder-after_begin, IsInOrder-after_passed, IsInOrder-after_wrap, IsInOrder-automove, IsInOrder-after_trim, first_page_within}
 pub use Rattle.mc_pages.proofs.KeptFinish.{IsInOrder-finished, release_fits}
 pub use Rattle.mc_pages.proofs.HandedOut.{times_free_one, times_cleared_one, IsClass-placed}
 pub use Rattle.mc_pages.proofs.Passes.{all_cleared_at_end}

@@ -21,7 +21,8 @@ use Rattle.mc_pages.specs.InOrder.{IsBeingCut, IsInOrder}
 use Rattle.mc_pages.proofs.Cleared.{truth-le_one}
 use Rattle.mc_pages.proofs.Owners.{within_from_is_of_class, owner_at-set_other, AreGranted-set}
 use Rattle.mc_pages.proofs.Grace.{KeepsGrace-next, ordinary_count-push}
-use Rattle.mc_pages.proofs.Placed.{ArePlaced_from, IsAccounted-entry, IsAccounted-numbers}
+use Rattle.mc_pages.specs.Changes.{after_trim}
+use Rattle.mc_pages.proofs.Placed.{ArePlaced_from, IsAccounted-entry, IsAccounted-numbers, IsAccounted-trimmed}
 use Rattle.mc_pages.proofs.BegunMove.{Class-from_still, still_at_rest, ArePlaced-begun}
 use Rattle.mc_pages.proofs.Source.{source_is}
 use Rattle.mc_pages.proofs.Passes.{IsAccounted-moved, IsMove-passed, IsMove-anew}
@@ -169,6 +170,21 @@ IsInOrder-after_wrap slabs granted move kept can =
     let now = ap (λ (o : Option Moving). option_map begun_anew o) can.runs in
     let is = IsMove-anew slabs move (kept.accounted.move move can.runs) in
     IsInOrder-moved slabs granted new.rescues new.evictions_nomem new.busy new.moving kept (IsAccounted-moved slabs move (begun_anew move) new.moving kept.accounted can.runs now refl is)
+
+-- the entries so far aren't recorded any more
+pub IsInOrder-after_trim : (slabs : SlabState) (granted : ℕ) → IsInOrder slabs granted → IsInOrder (after_trim slabs) granted
+IsInOrder-after_trim slabs granted kept =
+    record {
+      accounted = IsAccounted-trimmed slabs (length slabs.ledger) kept.accounted;
+      lowest = kept.lowest;
+      graced = kept.graced;
+      pages = kept.pages;
+      per_page = kept.per_page;
+      at_most = kept.at_most;
+      uncut = λ chunk h.
+          let on = kept.uncut chunk h in
+          record { owned = on.owned; still = on.still; within = on.within; newest = on.newest };
+    }
 
 -- the automover's mode changes
 pub IsInOrder-automove : (slabs : SlabState) (granted mode : ℕ) → mode ≤ 2 → IsInOrder slabs granted → IsInOrder (record slabs { automove = mode }) granted

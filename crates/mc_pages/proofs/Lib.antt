@@ -12,6 +12,7 @@ pub mod Aged
 pub mod KeptAges
 pub mod Owners
 pub mod Replays
+pub mod Trimmed
 pub mod OneClass
 pub mod Cleared
 pub mod FirstChunks
@@ -36,6 +37,7 @@ pub mod Walks
 pub mod Kept
 pub mod Pages
 pub mod Unaccounted
+pub mod BasePages
 pub mod Roomy
 pub mod States
 pub mod RoomySlabs

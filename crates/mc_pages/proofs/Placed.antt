@@ -1,5 +1,5 @@
 -- What is said of pages and chunks beside the ledger and the limit, and both with one more entry.
-use Rattle.std.proofs.Common.{◌≡◌, ℕ, ◌+◌, ◌*◌, ◌/◌, ◌<◌, ◌≤◌, ◌==◌, true, IsTrue, [], ◌∷◌, ◌++◌, length, set, count_by, Some, ap, ◌∙◌, length-set}
+use Rattle.std.proofs.Common.{◌≡◌, ℕ, ◌+◌, ◌*◌, ◌/◌, ◌<◌, ◌≤◌, ◌==◌, true, IsTrue, [], ◌∷◌, ◌++◌, length, set, count_by, Some, ap, ◌∙◌}
 use Rattle.std.specs.Option.{option_map}
 use Rattle.mc_pages.specs.declared.ids.ChunkId.{ChunkId}
 use Rattle.mc_pages.specs.declared.ids.Moving.{Moving}
@@ -44,6 +44,26 @@ IsAccounted-numbers slabs cursor moved rescues evictions_nomem busy automove all
       total = all.total;
       cursor = at;
       mode = mode;
+    }
+
+-- nor has how many entries are recorded
+pub IsAccounted-trimmed : (slabs : SlabState) (trimmed : ℕ) → IsAccounted slabs → IsAccounted (record slabs { trimmed = trimmed })
+IsAccounted-trimmed slabs trimmed all =
+    record {
+      replays = all.replays;
+      pages = all.pages;
+      owned = all.owned;
+      pool = all.pool;
+      one_move = all.one_move;
+      move = λ move h.
+          let is = all.move move h in
+          record { owner = is.owner; src = is.src; spare = is.spare; dst = is.dst; apart = is.apart; within = is.within; busy = is.busy; passed = is.passed };
+      limit = all.limit;
+      grace = all.grace;
+      chunks = all.chunks;
+      total = all.total;
+      cursor = all.cursor;
+      mode = all.mode;
     }
 
 -- one more entry, which fits the owner that it finds, accounts for the owner that it leaves

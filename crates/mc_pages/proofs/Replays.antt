@@ -6,7 +6,7 @@ use Rattle.mc_pages.specs.declared.ledger.Entry.{Entry}
 use Rattle.mc_pages.specs.Ledger.{owner_at, page_of, fits, owner_after, replay}
 
 -- a replay that stops has no owners
-None≢Some : (owners : List Owner) → None ≡ Some owners → ⊥
+pub None≢Some : (owners : List Owner) → None ≡ Some owners → ⊥
 None≢Some owners h = cc
 
 -- one more entry, which fits the owner that it finds

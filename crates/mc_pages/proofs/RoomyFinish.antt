@@ -6,10 +6,10 @@ use Rattle.mc_pages.specs.declared.ids.Moving.{Moving}
 use Rattle.mc_pages.specs.declared.ledger.Owner.{Owner}
 use Rattle.mc_pages.specs.declared.ledger.Owner.TheVariants.{Pool, Class}
 use Rattle.mc_pages.specs.declared.ledger.Owner.TheVariants as owner
-use Rattle.mc_pages.specs.declared.ledger.Entry.{Entry}
 use Rattle.mc_pages.specs.declared.ledger.Entry.TheVariants.{Ended}
 use Rattle.mc_pages.specs.declared.slabs.Slabs.TheInside.{Inside}
 use Rattle.mc_pages.specs.ClassState.{ClassState, counted, with_page, without_page}
+use Rattle.mc_pages.specs.Base.{Entries}
 use Rattle.mc_pages.specs.Rows.{RowsState}
 use Rattle.mc_pages.specs.Room.{RoomyClass, in_state, states}
 use Rattle.mc_pages.specs.SlabState.{SlabState, IsClass, class_at}
@@ -20,6 +20,7 @@ use Rattle.mc_pages.specs.Linked.{Sizes}
 use Rattle.mc_pages.specs.InOrder.{HasRows, AreKept, slabs_of, is_awaited}
 use Rattle.mc_pages.proofs.Owners.{within_from_owned}
 use Rattle.mc_pages.proofs.States.{pages_at}
+use Rattle.mc_pages.proofs.Trimmed.{told_entries}
 use Rattle.mc_pages.proofs.RoomySlabs.{roomy_at, roomy_at_read, Fits, Fits-set, IsClass-set, length-classes, read_state, read_room, with_roomy, slabs_of-changed, HasRows-changed}
 
 -- what a moving page's owner is says that it is one of the pages
@@ -32,12 +33,13 @@ length-without_page class page =
     omega (arith, length-filter (λ (p : ℕ). not (p == page)) class.pages, count_by-le-length (λ (p : ℕ). not (p == page)) class.pages)
 
 -- the whole after the end of a move, with these classes, owners and entries
-abbrev pub ended_with : SlabState → List ClassState → List Owner → List ℕ → List Entry → ℕ → SlabState
-ended_with slabs classes owners pool ledger moved = record slabs {
+abbrev pub ended_with : SlabState → List ClassState → List Owner → List ℕ → Entries → ℕ → SlabState
+ended_with slabs classes owners pool entries moved = record slabs {
   classes = classes;
   owners = owners;
   pool = pool;
-  ledger = ledger;
+  ledger = entries.all;
+  trimmed = entries.trimmed;
   moving = None;
   moved = moved;
 }
@@ -50,23 +52,23 @@ arrives slabs move pooled = record (if pooled then released slabs move.page move
 }
 
 -- the page goes into the pool
-pub pooled_is : (slabs : Inside) (move : Moving) (read removed : RoomyClass) (pool : List ℕ) (ledger : List Entry) (moved : ℕ) → IsClass (slabs_of slabs) move.src → read ≡ slice_index_or slabs.classes.items (move.src - 1) read → removed ≡ in_state read (without_page read.state move.page) → pool ≡ slabs.pool.items ++ move.page ∷ [] → ledger ≡ slabs.ledger.items ++ Ended move.page move.dst ∷ [] → moved ≡ counted slabs.moved 1 → move.dst ≡ 0 → ended_with (slabs_of slabs) (states slabs.rows (set slabs.classes.items (move.src - 1) removed)) (set slabs.owners.items move.page Pool) pool ledger moved ≡ finished (slabs_of slabs) move
-pooled_is slabs move read removed pool ledger moved is h changed pool_is ledger_is moved_is to_pool =
+pub pooled_is : (slabs : Inside) (move : Moving) (read removed : RoomyClass) (pool : List ℕ) (entries : Entries) (room moved : ℕ) → IsClass (slabs_of slabs) move.src → read ≡ slice_index_or slabs.classes.items (move.src - 1) read → removed ≡ in_state read (without_page read.state move.page) → pool ≡ slabs.pool.items ++ move.page ∷ [] → entries ≡ told_entries slabs.ledger (Ended move.page move.dst) room → moved ≡ counted slabs.moved 1 → move.dst ≡ 0 → ended_with (slabs_of slabs) (states slabs.rows (set slabs.classes.items (move.src - 1) removed)) (set slabs.owners.items move.page Pool) pool entries moved ≡ finished (slabs_of slabs) move
+pooled_is slabs move read removed pool entries room moved is h changed pool_is entries_is moved_is to_pool =
     let s = slabs_of slabs in
     let owners : List Owner = set slabs.owners.items move.page Pool in
     let left = slabs_of-changed slabs move.src (move.src - 1) read removed (λ class. without_page class move.page) is refl h changed refl in
     let classes = (with_class s move.src (without_page (class_at s move.src) move.page)).classes in
-    ap (λ (t : SlabState). ended_with s t.classes owners pool ledger moved) left
-    ∙ (ap₂ (λ (ps : List ℕ) (es : List Entry). ended_with s classes owners ps es moved) pool_is ledger_is
-    ∙ (ap (λ (n : ℕ). ended_with s classes owners (s.pool ++ move.page ∷ []) (s.ledger ++ Ended move.page move.dst ∷ []) n) moved_is
+    ap (λ (t : SlabState). ended_with s t.classes owners pool entries moved) left
+    ∙ (ap₂ (λ (ps : List ℕ) (es : Entries). ended_with s classes owners ps es moved) pool_is entries_is
+    ∙ (ap (λ (n : ℕ). ended_with s classes owners (s.pool ++ move.page ∷ []) (told_entries slabs.ledger (Ended move.page move.dst) room) n) moved_is
     ∙ sym (ap (arrives s move) (eq-eqb move.dst 0 to_pool))))
 
 -- the page joins its destination
-abbrev pub joined_with : SlabState → Moving → List ClassState → List Owner → List Entry → ℕ → SlabState
-joined_with slabs move classes owners ledger moved = record (ended_with slabs classes owners slabs.pool ledger moved) { uncut = Some (record { page = move.page; index = 0 }) }
+abbrev pub joined_with : SlabState → Moving → List ClassState → List Owner → Entries → ℕ → SlabState
+joined_with slabs move classes owners entries moved = record (ended_with slabs classes owners slabs.pool entries moved) { uncut = Some (record { page = move.page; index = 0 }) }
 
-pub joined_is : (slabs : Inside) (move : Moving) (read removed read-2 added : RoomyClass) (ledger : List Entry) (moved : ℕ) → IsClass (slabs_of slabs) move.src → IsClass (slabs_of slabs) move.dst → read ≡ slice_index_or slabs.classes.items (move.src - 1) read → removed ≡ in_state read (without_page read.state move.page) → read-2 ≡ slice_index_or (set slabs.classes.items (move.src - 1) removed) (move.dst - 1) read-2 → added ≡ in_state read-2 (with_page read-2.state move.page) → ledger ≡ slabs.ledger.items ++ Ended move.page move.dst ∷ [] → moved ≡ counted slabs.moved 1 → move.dst ≢ 0 → joined_with (slabs_of slabs) move (states slabs.rows (set (set slabs.classes.items (move.src - 1) removed) (move.dst - 1) added)) (set slabs.owners.items move.page (Class move.dst)) ledger moved ≡ finished (slabs_of slabs) move
-joined_is slabs move read removed read-2 added ledger moved is is-2 h changed h-2 changed-2 ledger_is moved_is to_class =
+pub joined_is : (slabs : Inside) (move : Moving) (read removed read-2 added : RoomyClass) (entries : Entries) (room moved : ℕ) → IsClass (slabs_of slabs) move.src → IsClass (slabs_of slabs) move.dst → read ≡ slice_index_or slabs.classes.items (move.src - 1) read → removed ≡ in_state read (without_page read.state move.page) → read-2 ≡ slice_index_or (set slabs.classes.items (move.src - 1) removed) (move.dst - 1) read-2 → added ≡ in_state read-2 (with_page read-2.state move.page) → entries ≡ told_entries slabs.ledger (Ended move.page move.dst) room → moved ≡ counted slabs.moved 1 → move.dst ≢ 0 → joined_with (slabs_of slabs) move (states slabs.rows (set (set slabs.classes.items (move.src - 1) removed) (move.dst - 1) added)) (set slabs.owners.items move.page (Class move.dst)) entries moved ≡ finished (slabs_of slabs) move
+joined_is slabs move read removed read-2 added entries room moved is is-2 h changed h-2 changed-2 entries_is moved_is to_class =
     let s = slabs_of slabs in
     let shorter = without_page (class_at s move.src) move.page in
     let between : Inside = with_roomy slabs (move.src - 1) removed in
@@ -79,9 +81,9 @@ joined_is slabs move read removed read-2 added ledger moved is is-2 h changed h-
     let classes = (joins released_from).classes in
     let owners : List Owner = set slabs.owners.items move.page (Class move.dst) in
     let twice : List Owner = set (set slabs.owners.items move.page Pool) move.page (Class move.dst) in
-    ap (λ (t : SlabState). joined_with s move t.classes owners ledger moved) both
-    ∙ (ap₂ (λ (os : List Owner) (es : List Entry). joined_with s move classes os es moved) (sym (set-set slabs.owners.items move.page Pool (Class move.dst))) ledger_is
-    ∙ (ap (λ (n : ℕ). joined_with s move classes twice (s.ledger ++ Ended move.page move.dst ∷ []) n) moved_is
+    ap (λ (t : SlabState). joined_with s move t.classes owners entries moved) both
+    ∙ (ap₂ (λ (os : List Owner) (es : Entries). joined_with s move classes os es moved) (sym (set-set slabs.owners.items move.page Pool (Class move.dst))) entries_is
+    ∙ (ap (λ (n : ℕ). joined_with s move classes twice (told_entries slabs.ledger (Ended move.page move.dst) room) n) moved_is
     ∙ sym (ap (arrives s move) (ne_eqb move.dst 0 to_class))))
 
 -- there is still room in each class that gives a page up

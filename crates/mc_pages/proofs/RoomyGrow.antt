@@ -1,5 +1,5 @@
 -- A page that is given to a class, with the room that is made for it.
-use Rattle.std.proofs.Common.{◌≡◌, ℕ, ◌+◌, ◌-◌, ◌/◌, ◌<◌, ◌≤◌, ◌==◌, true, false, not, ◌||◌, List, [], ◌∷◌, ◌++◌, length, set, take, slice_index_or, Option, Some, None, if◌then◌else◌, refl, sym, ap, ap₂, ◌∙◌, inl, inr, arith, lt-ltb, le-ltb, ltb-true, ltb-false, eqb-true, eq-eqb, length-append, Bool, Result, Ok, Err, OnErr}
+use Rattle.std.proofs.Common.{◌≡◌, ℕ, ◌+◌, ◌-◌, ◌/◌, ◌<◌, ◌≤◌, ◌==◌, true, false, not, ◌||◌, List, [], ◌∷◌, length, set, take, slice_index_or, Option, Some, None, if◌then◌else◌, refl, sym, ap, ap₂, ◌∙◌, inl, inr, arith, lt-ltb, le-ltb, ltb-true, ltb-false, eqb-true, eq-eqb, length-append, Bool, Result, Ok, Err, OnErr}
 use mir.Val.{bool_byte}
 use Rattle.std.specs.Option.{option_or}
 use Rattle.std.proofs.lemmas.Bool.{cases_lt, cases_Bool}
@@ -9,7 +9,7 @@ use Rattle.std.proofs.lemmas.Option.{slice_get_past, slice_get-get_or}
 use Rattle.std.proofs.lemmas.List.{nil_from_length}
 use Rattle.mc_pages.specs.declared.ledger.Owner.{Owner}
 use Rattle.mc_pages.specs.declared.ledger.Owner.TheVariants.{Class}
-use Rattle.mc_pages.specs.declared.ledger.Entry.{Entry}
+use Rattle.mc_pages.specs.Base.{Entries}
 use Rattle.mc_pages.specs.declared.ledger.Entry.TheVariants.{Granted, Taken}
 use Rattle.mc_pages.specs.declared.slabs.Slabs.TheInside.{Inside}
 use Rattle.mc_pages.specs.ClassState.{ClassState, new_class, with_page}
@@ -24,6 +24,7 @@ use Rattle.mc_pages.proofs.Grace.{populated-le, populated-lt}
 use Rattle.mc_pages.proofs.GrantedPage.{length-owners}
 use Rattle.mc_pages.proofs.KeptPages.{may_be_granted}
 use Rattle.mc_pages.proofs.Owners.{position-AreGranted, within_from_owned}
+use Rattle.mc_pages.proofs.Trimmed.{told_entries}
 use Rattle.mc_pages.proofs.RoomySlabs.{Fits, Fits-set, IsClass-set, length-classes, read_state, read_room, with_roomy, fits-changed, states-changed}
 
 -- a page is no lack of one
@@ -128,13 +129,14 @@ grow_takes slabs class page some = ap (λ b. if b then after_take slabs class pa
 pub grow_grants : (slabs : SlabState) (class page : ℕ) → length slabs.pool ≡ 0 → after_grow slabs class page ≡ after_grant slabs class page
 grow_grants slabs class page none = ap (λ b. if b then after_take slabs class page else after_grant slabs class page) (le-ltb 0 (length slabs.pool) (omega arith))
 
--- a page is given to a class, with these classes, this pool and this ledger
-abbrev pub given_with : SlabState → ℕ → ℕ → List ClassState → List ℕ → List Entry → SlabState
-given_with slabs class page classes pool ledger = record slabs {
+-- a page is given to a class, with these classes, this pool and these entries
+abbrev pub given_with : SlabState → ℕ → ℕ → List ClassState → List ℕ → Entries → SlabState
+given_with slabs class page classes pool entries = record slabs {
   classes = classes;
   owners = set slabs.owners page (Class class);
   pool = pool;
-  ledger = ledger;
+  ledger = entries.all;
+  trimmed = entries.trimmed;
   uncut = Some (record { page = page; index = 0 });
 }
 
@@ -147,16 +149,16 @@ states_given slabs class page read roomy added is h same changed =
     states-changed slabs class (class - 1) added is refl ∙ ap (λ (c : ClassState). set (slabs_of slabs).classes (class - 1) c) state
 
 -- the page came out of the pool
-pub take_is : (slabs : Inside) (class page : ℕ) (read roomy added : RoomyClass) (pool : List ℕ) (ledger : List Entry) → IsClass (slabs_of slabs) class → read ≡ slice_index_or slabs.classes.items (class - 1) read → roomy.state ≡ read.state → added ≡ in_state roomy (with_page roomy.state page) → pool ≡ take (length slabs.pool.items - 1) slabs.pool.items → ledger ≡ slabs.ledger.items ++ Taken page class ∷ [] → given_with (slabs_of slabs) class page (states slabs.rows (set slabs.classes.items (class - 1) added)) pool ledger ≡ after_take (slabs_of slabs) class page
-take_is slabs class page read roomy added pool ledger is h same changed pool_is ledger_is =
-    ap (λ (cs : List ClassState). given_with (slabs_of slabs) class page cs pool ledger) (states_given slabs class page read roomy added is h same changed)
-    ∙ ap₂ (given_with (slabs_of slabs) class page (set (slabs_of slabs).classes (class - 1) (with_page (class_at (slabs_of slabs) class) page))) pool_is ledger_is
+pub take_is : (slabs : Inside) (class page : ℕ) (read roomy added : RoomyClass) (pool : List ℕ) (entries : Entries) (room : ℕ) → IsClass (slabs_of slabs) class → read ≡ slice_index_or slabs.classes.items (class - 1) read → roomy.state ≡ read.state → added ≡ in_state roomy (with_page roomy.state page) → pool ≡ take (length slabs.pool.items - 1) slabs.pool.items → entries ≡ told_entries slabs.ledger (Taken page class) room → given_with (slabs_of slabs) class page (states slabs.rows (set slabs.classes.items (class - 1) added)) pool entries ≡ after_take (slabs_of slabs) class page
+take_is slabs class page read roomy added pool entries room is h same changed pool_is entries_is =
+    ap (λ (cs : List ClassState). given_with (slabs_of slabs) class page cs pool entries) (states_given slabs class page read roomy added is h same changed)
+    ∙ ap₂ (given_with (slabs_of slabs) class page (set (slabs_of slabs).classes (class - 1) (with_page (class_at (slabs_of slabs) class) page))) pool_is entries_is
 
 -- the page was untouched
-pub grant_is : (slabs : Inside) (class page : ℕ) (read roomy added : RoomyClass) (pool : List ℕ) (ledger : List Entry) → IsClass (slabs_of slabs) class → read ≡ slice_index_or slabs.classes.items (class - 1) read → roomy.state ≡ read.state → added ≡ in_state roomy (with_page roomy.state page) → pool ≡ slabs.pool.items → ledger ≡ slabs.ledger.items ++ Granted page class (not (has_ordinary_page (slabs_of slabs))) ∷ [] → given_with (slabs_of slabs) class page (states slabs.rows (set slabs.classes.items (class - 1) added)) pool ledger ≡ after_grant (slabs_of slabs) class page
-grant_is slabs class page read roomy added pool ledger is h same changed pool_is ledger_is =
-    ap (λ (cs : List ClassState). given_with (slabs_of slabs) class page cs pool ledger) (states_given slabs class page read roomy added is h same changed)
-    ∙ ap₂ (given_with (slabs_of slabs) class page (set (slabs_of slabs).classes (class - 1) (with_page (class_at (slabs_of slabs) class) page))) pool_is ledger_is
+pub grant_is : (slabs : Inside) (class page : ℕ) (read roomy added : RoomyClass) (pool : List ℕ) (entries : Entries) (room : ℕ) → IsClass (slabs_of slabs) class → read ≡ slice_index_or slabs.classes.items (class - 1) read → roomy.state ≡ read.state → added ≡ in_state roomy (with_page roomy.state page) → pool ≡ slabs.pool.items → entries ≡ told_entries slabs.ledger (Granted page class (not (has_ordinary_page (slabs_of slabs)))) room → given_with (slabs_of slabs) class page (states slabs.rows (set slabs.classes.items (class - 1) added)) pool entries ≡ after_grant (slabs_of slabs) class page
+grant_is slabs class page read roomy added pool entries room is h same changed pool_is entries_is =
+    ap (λ (cs : List ClassState). given_with (slabs_of slabs) class page cs pool entries) (states_given slabs class page read roomy added is h same changed)
+    ∙ ap₂ (given_with (slabs_of slabs) class page (set (slabs_of slabs).classes (class - 1) (with_page (class_at (slabs_of slabs) class) page))) pool_is entries_is
 
 -- a fact that holds whatever the result is
 pub on_err : {T E P : Type 0} (result : Result T E) → P → OnErr result P

@@ -1,9 +1,9 @@
 -- The steps of a move, with the room that is kept for its end.
-use Rattle.std.proofs.Common.{◌≡◌, ◌≢◌, ℕ, ◌+◌, ◌-◌, ◌<◌, ◌≤◌, ◌==◌, List, [], ◌∷◌, ◌++◌, length, set, slice_index_or, Result, Ok, IfOk, ne_eqb, Bool, true, false, Option, Some, is_some, if◌then◌else◌, refl, sym, ap, ap₂, ◌∙◌, subst, arith}
+use Rattle.std.proofs.Common.{◌≡◌, ◌≢◌, ℕ, ◌+◌, ◌-◌, ◌<◌, ◌≤◌, ◌==◌, List, length, set, slice_index_or, Result, Ok, IfOk, ne_eqb, Bool, true, false, Option, Some, is_some, if◌then◌else◌, refl, sym, ap, ap₂, ◌∙◌, subst, arith}
 use Rattle.std.specs.Option.{option_map}
 use Rattle.mc_pages.specs.declared.ids.Moving.{Moving}
 use Rattle.mc_pages.specs.declared.ledger.Owner.TheVariants as owner
-use Rattle.mc_pages.specs.declared.ledger.Entry.{Entry}
+use Rattle.mc_pages.specs.Base.{Entries}
 use Rattle.mc_pages.specs.declared.ledger.Entry.TheVariants.{Began}
 use Rattle.mc_pages.specs.declared.moves.Found.{Found}
 use Rattle.mc_pages.specs.declared.slabs.Slabs.TheInside.{Inside}
@@ -15,6 +15,7 @@ use Rattle.mc_pages.specs.Answer.{cursor_after}
 use Rattle.mc_pages.specs.Accounted.{truth}
 use Rattle.mc_pages.specs.Moves.{is_held_up, rescued_of, evicted_of, moved_on, first_page, with_move, after_begin, after_passed, after_wrap, begun_anew, busy_of, CanPass}
 use Rattle.mc_pages.specs.InOrder.{IsInOrder, AreKept, slabs_of, is_awaited}
+use Rattle.mc_pages.proofs.Trimmed.{told_entries}
 use Rattle.mc_pages.proofs.RoomySlabs.{Fits, Fits-set, IsClass-set, length-classes, read_state, with_roomy}
 use Rattle.mc_pages.proofs.RoomyGrow.{truth_le}
 
@@ -59,6 +60,7 @@ AreKept-passed slabs found m held rescues nomem runs held_is rescues_is nomem_is
     record {
       order = subst (λ (s : SlabState). IsInOrder s slabs.granted) (sym (passed_is slabs found m held rescues nomem runs held_is rescues_is nomem_is)) order;
       ledger = omega (arith, kept.ledger, ap (λ (o : Option Moving). truth (is_some o)) runs);
+      base = kept.base;
       pool = omega (arith, kept.pool, awaited 0);
       classes = λ class is. omega (arith, kept.classes class is, awaited class);
       linked = kept.linked;
@@ -84,6 +86,7 @@ AreKept-wrapped slabs m busy runs busy_is kept order =
     record {
       order = subst (λ (s : SlabState). IsInOrder s slabs.granted) (sym (wrapped_is slabs m busy runs busy_is)) order;
       ledger = omega (arith, kept.ledger, ap (λ (o : Option Moving). truth (is_some o)) runs);
+      base = kept.base;
       pool = omega (arith, kept.pool, awaited 0);
       classes = λ class is. omega (arith, kept.classes class is, awaited class);
       linked = kept.linked;
@@ -96,23 +99,25 @@ AreKept-wrapped slabs m busy runs busy_is kept order =
 pub if_ok_at : {T E : Type 0} (result : Result T E) (P : T → Type 0) (x : T) → result ≡ Ok x → P x → IfOk result P
 if_ok_at {T} {E} result P x h p = subst (λ (r : Result T E). IfOk r P) (sym h) p
 
--- a page begins to move, with these classes, this pool, this ledger and this cursor
-abbrev pub begun_with : SlabState → ℕ → ℕ → ℕ → ℕ → List ClassState → List ℕ → List Entry → SlabState
-begun_with slabs page source dst cursor classes pool ledger = record slabs {
+-- a page begins to move, with these classes, this pool, these entries and this cursor
+abbrev pub begun_with : SlabState → ℕ → ℕ → ℕ → ℕ → List ClassState → List ℕ → Entries → SlabState
+begun_with slabs page source dst cursor classes pool entries = record slabs {
   classes = classes;
   owners = set slabs.owners page (owner.Moving source dst);
   pool = pool;
-  ledger = ledger;
+  ledger = entries.all;
+  trimmed = entries.trimmed;
   moving = Some (record { page = page; src = source; dst = dst; at = 0; busy = 0 });
   cursor = cursor;
 }
 
 -- the whole after it
-pub begun_is : (slabs : SlabState) (src : Option ℕ) (page source dst cursor : ℕ) (classes : List ClassState) (pool : List ℕ) (ledger : List Entry) → classes ≡ slabs.classes → pool ≡ slabs.pool → ledger ≡ slabs.ledger ++ Began page source dst ∷ [] → page ≡ first_page slabs source → cursor ≡ cursor_after slabs src source → begun_with slabs page source dst cursor classes pool ledger ≡ after_begin slabs src source dst
-begun_is slabs src page source dst cursor classes pool ledger classes_is pool_is ledger_is page_is cursor_is =
-    ap₂ (λ (cs : List ClassState) (ps : List ℕ). begun_with slabs page source dst cursor cs ps ledger) classes_is pool_is
-    ∙ (ap₂ (λ (n : ℕ) (es : List Entry). begun_with slabs page source dst n slabs.classes slabs.pool es) cursor_is ledger_is
-    ∙ ap (λ (p : ℕ). record (with_move slabs p source dst) { cursor = cursor_after slabs src source }) page_is)
+pub begun_is : (slabs : Inside) (src : Option ℕ) (page source dst cursor : ℕ) (classes : List ClassState) (pool : List ℕ) (entries : Entries) (room : ℕ) → classes ≡ (slabs_of slabs).classes → pool ≡ slabs.pool.items → entries ≡ told_entries slabs.ledger (Began page source dst) room → page ≡ first_page (slabs_of slabs) source → cursor ≡ cursor_after (slabs_of slabs) src source → begun_with (slabs_of slabs) page source dst cursor classes pool entries ≡ after_begin (slabs_of slabs) src source dst
+begun_is slabs src page source dst cursor classes pool entries room classes_is pool_is entries_is page_is cursor_is =
+    let s = slabs_of slabs in
+    ap₂ (λ (cs : List ClassState) (ps : List ℕ). begun_with s page source dst cursor cs ps entries) classes_is pool_is
+    ∙ (ap₂ (λ (n : ℕ) (es : Entries). begun_with s page source dst n s.classes s.pool es) cursor_is entries_is
+    ∙ ap (λ (p : ℕ). record (with_move s p source dst) { cursor = cursor_after s src source }) page_is)
 
 -- no page is awaited by a class that isn't the destination
 pub not_awaited : (dst class : ℕ) → dst ≢ class → truth (dst == class) ≡ 0

@@ -133,6 +133,7 @@ AreKept-changed slabs class place read new f kept is at h changed apart pages si
     record {
       order = subst (λ (s : SlabState). IsInOrder s slabs.granted) (sym now) order;
       ledger = kept.ledger;
+      base = kept.base;
       pool = kept.pool;
       classes = fits-changed slabs class place new kept is at (omega (arith, more, pages, before)) (omega (arith, ap (λ (c : RoomyClass). c.room) changed, read_room slabs class place read is at h));
       linked = kept.linked;
@@ -183,6 +184,7 @@ AreKept-became slabs after ages class place change kept is at became size order 
     record {
       order = subst (λ (s : SlabState). IsInOrder s slabs.granted) (sym (slabs_of-became slabs after class place change is at became)) order;
       ledger = kept.ledger;
+      base = kept.base;
       pool = kept.pool;
       classes = listed.classes;
       linked = listed.linked;

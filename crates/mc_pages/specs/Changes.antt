@@ -80,6 +80,10 @@ after_take slabs class page = record (with_given slabs class page) {
 abbrev pub after_grow : SlabState → ℕ → ℕ → SlabState
 after_grow slabs class page = if nat_lt 0 (length slabs.pool) then after_take slabs class page else after_grant slabs class page
 
+-- the entries of the ledger so far aren't recorded any more
+abbrev pub after_trim : SlabState → SlabState
+after_trim slabs = record slabs { trimmed = length slabs.ledger }
+
 -- the chunk behind, if the page has one more
 abbrev pub next_uncut : ℕ → ChunkId → Option ChunkId
 next_uncut per_page chunk = if nat_lt (chunk.index + 1) per_page then Some (record { page = chunk.page; index = chunk.index + 1 }) else None

@@ -26,7 +26,8 @@ slabs_of slabs = record {
   classes = states slabs.rows slabs.classes.items;
   owners = slabs.owners.items;
   pool = slabs.pool.items;
-  ledger = slabs.ledger.items;
+  ledger = slabs.ledger.all;
+  trimmed = slabs.ledger.trimmed;
   uncut = slabs.uncut;
   moving = slabs.moving;
   cursor = slabs.cursor;
@@ -89,9 +90,10 @@ pub record HasRows (classes : List ClassState) (pages : ℕ) (sizes : Sizes) : T
 -- what is in memory is in order: its lists stand in the rows, by age, and what a move's end adds has room
 pub record AreKept (slabs : Inside) : Type 0 where
   pub order : IsInOrder (slabs_of slabs) slabs.granted
-  pub ordinary : slabs.ordinary ≡ ordinary_count slabs.ledger.items
+  pub ordinary : slabs.ordinary ≡ ordinary_count slabs.ledger.all
   -- there is room for what the end of a move adds
-  pub ledger : vec_len slabs.ledger + truth (is_some slabs.moving) ≤ vec_capacity slabs.ledger
+  pub ledger : truth (is_some slabs.moving) ≤ slabs.ledger.room
+  pub base : slabs.ledger.pages ≡ vec_len slabs.owners
   pub pool : vec_len slabs.pool + truth (is_awaited slabs.moving 0) ≤ vec_capacity slabs.pool
   pub classes : (class : ℕ) → IsClass (slabs_of slabs) class →
       length (class_at (slabs_of slabs) class).pages + truth (is_awaited slabs.moving class) ≤ room_at slabs.classes.items class

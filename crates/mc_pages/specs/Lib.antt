@@ -9,6 +9,8 @@ pub mod ClassRows
 pub mod Ages
 pub mod Room
 pub mod SlabState
+pub mod Base
+pub mod RecordedInside
 pub mod Changes
 pub mod Accounted
 pub mod Answer

@@ -22,7 +22,9 @@ pub record SlabState : Type 0 where
   pub owners : List Owner
   -- the page that came last into the pool stands last
   pub pool : List ℕ
+  -- all entries, the oldest first, and how many of them, the oldest, aren't recorded any more
   pub ledger : List Entry
+  pub trimmed : ℕ
   -- the lowest chunk that isn't cut yet, of a page just given to a class
   pub uncut : Option ChunkId
   pub moving : Option Moving
@@ -50,6 +52,7 @@ fresh_slabs table = record {
   owners = all_untouched (arena_pages_of table);
   pool = [];
   ledger = [];
+  trimmed = 0;
   uncut = None;
   moving = None;
   cursor = length table.sizes;

@@ -1,7 +1,12 @@
 //! Laws of the definitions, each the contract of a function with nothing to do.
-ghost use Rattle.std.specs.Prelude.{◌≡◌, ◌≢◌, ℕ, ◌<◌, ◌≤◌, List, Some, true, false};
+ghost use Rattle.std.specs.Prelude.{◌≡◌, ◌≢◌, ℕ, ◌+◌, ◌<◌, ◌≤◌, List, [], ◌∷◌, count_by, Some, None, true, false};
 ghost use Rattle.mc_pages.specs.declared.ids.ChunkId.{ChunkId};
 ghost use Rattle.mc_pages.specs.declared.ids.Moving.{Moving};
+ghost use Rattle.mc_pages.specs.declared.ledger.Owner.TheVariants.{Pool, Class};
+ghost use Rattle.mc_pages.specs.declared.ledger.Owner.TheVariants.{Moving as MovingTo};
+ghost use Rattle.mc_pages.specs.declared.ledger.Entry.TheVariants.{Granted, Taken, Began, Ended};
+ghost use Rattle.mc_pages.specs.Ledger.{grace_count, ordinary_count, replay};
+ghost use Rattle.mc_pages.specs.Base.{base_of, is_grace_of, is_within_limit, left_by, never_granted, owners_in, tail_of, two_pages};
 ghost use Rattle.mc_pages.specs.ClassState.{without};
 ghost use Rattle.mc_pages.specs.Before.{comes_before, HasEachOnce, nth, three};
 ghost use Rattle.mc_pages.specs.SlabState.{SlabState, page_count};
@@ -29,6 +34,25 @@ pub fn unaccounted_memories()
     ensures grace_given_away { IsAccounted grace_given_away → ⊥ }
     ensures cursor_past_the_classes { IsAccounted cursor_past_the_classes → ⊥ }
     ensures unknown_mode { IsAccounted unknown_mode → ⊥ }
+{}
+
+/// What is recorded goes on from what the other entries left: it leads from the base's owners to those of now. And base and
+/// what is recorded have, together, each page that was granted within the limit, and each that a class got beyond it.
+pub fn ledger_goes_on()
+    ensures replayed { (slabs : SlabState) → IsAccounted slabs → replay (owners_in (base_of slabs)) (tail_of slabs) ≡ Some slabs.owners }
+    ensures within_limit { (slabs : SlabState) → IsAccounted slabs → count_by is_within_limit (base_of slabs) + ordinary_count (tail_of slabs) ≡ ordinary_count slabs.ledger }
+    ensures beyond_limit { (slabs : SlabState) (class : ℕ) → IsAccounted slabs → count_by (is_grace_of class) (base_of slabs) + grace_count (tail_of slabs) class ≡ grace_count slabs.ledger class }
+{}
+
+/// What some entries leave of two pages: of one that was granted within the limit, moved and was taken again; of one that was
+/// granted beyond it, which is told of the page for good; and of one on the move.
+pub fn worked_bases()
+    ensures never_granted { left_by two_pages [] ≡ two_pages }
+    ensures granted { left_by two_pages (Granted 0 3 false ∷ []) ≡ record { owner = Class 3; grace = None } ∷ never_granted ∷ [] }
+    ensures taken_again { left_by two_pages (Granted 0 3 false ∷ Began 0 3 0 ∷ Ended 0 0 ∷ Taken 0 2 ∷ []) ≡ record { owner = Class 2; grace = None } ∷ never_granted ∷ [] }
+    ensures beyond { left_by two_pages (Granted 1 3 true ∷ Began 1 3 2 ∷ Ended 1 2 ∷ []) ≡ never_granted ∷ record { owner = Class 2; grace = Some 3 } ∷ [] }
+    ensures on_the_move { left_by two_pages (Granted 0 3 false ∷ Began 0 3 0 ∷ []) ≡ record { owner = MovingTo 3 0; grace = None } ∷ never_granted ∷ [] }
+    ensures pooled { left_by two_pages (Granted 0 3 false ∷ Began 0 3 0 ∷ Ended 0 0 ∷ []) ≡ record { owner = Pool; grace = None } ∷ never_granted ∷ [] }
 {}
 
 /// Which of two chunks stands before the other: in 2, 0, 1 the first before the last, which isn't before it, and none before itself or

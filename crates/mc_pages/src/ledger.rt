@@ -1,4 +1,8 @@
 //! Who owns a page, and the entries that say how it changed hands.
+ghost use Rattle.std.specs.Prelude.{◌≡◌};
+ghost use Rattle.mc_pages.specs.Base.{page_after, never_granted};
+ghost use Rattle.mc_pages.specs.Ledger.{page_of};
+
 use mc_classes::{ClassId, PageId};
 
 /// Who owns a page.
@@ -30,6 +34,15 @@ impl Owner {
     }
 }
 
+/// What some first entries of the ledger left of a page.
+#[derive(Clone, Copy, PartialEq, Eq)]
+pub struct BasePage {
+    /// Who owned it.
+    pub owner: Owner,
+    /// The class that got it beyond the limit, if one did.
+    pub grace: Option<ClassId>,
+}
+
 /// One change of a page's owner.
 #[derive(Clone, Copy, PartialEq, Eq)]
 pub enum Entry {
@@ -41,4 +54,46 @@ pub enum Entry {
     Began(PageId, ClassId, ClassId),
     /// A moving page has come to its class, or to the pool where that is 0.
     Ended(PageId, ClassId),
+}
+
+impl Entry {
+    /// The page that it is about.
+    pub fn page(self) -> PageId
+        ensures { result ≡ page_of self }
+    {
+        match self {
+            Entry::Granted(page, _, _) | Entry::Taken(page, _) => page,
+            Entry::Began(page, _, _) | Entry::Ended(page, _) => page,
+        }
+    }
+}
+
+impl BasePage {
+    /// A page that was never granted.
+    pub(crate) fn never_granted() -> BasePage
+        ensures { result ≡ never_granted }
+    {
+        BasePage {
+            owner: Owner::Untouched,
+            grace: None,
+        }
+    }
+
+    /// The page after one entry more about it.
+    pub(crate) fn after(self, entry: Entry) -> BasePage
+        ensures { result ≡ page_after entry self }
+    {
+        let owner = match entry {
+            Entry::Granted(_, class, _) | Entry::Taken(_, class) => Owner::Class(class),
+            Entry::Began(_, src, dst) => Owner::Moving { src, dst },
+            Entry::Ended(_, 0) => Owner::Pool,
+            Entry::Ended(_, dst) => Owner::Class(dst),
+        };
+        let grace = match entry {
+            Entry::Granted(_, class, true) => Some(class),
+            Entry::Granted(_, _, false) => None,
+            _ => self.grace,
+        };
+        BasePage { owner, grace }
+    }
 }

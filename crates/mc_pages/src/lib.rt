@@ -12,14 +12,18 @@ mod laws;
 mod ledger;
 mod moves;
 mod numbers;
+mod past;
+mod recorded;
 mod rows;
 mod shared;
 mod slabs;
 mod writes;
 
 pub use ids::{ChunkId, Moving};
-pub use laws::{no_page_is_lost, one_before_another, unaccounted_memories};
-pub use ledger::{Entry, Owner};
+pub use laws::{
+    ledger_goes_on, no_page_is_lost, one_before_another, unaccounted_memories, worked_bases,
+};
+pub use ledger::{BasePage, Entry, Owner};
 pub use moves::{Found, Reassign};
 pub use numbers::{Numbers, Totals};
 pub use rows::{ListName, Rows};

@@ -1,5 +1,5 @@
 //! The sequential value behind the slabs lock: all pages and all chunks.
-ghost use Rattle.std.specs.Prelude.{◌≡◌, ℕ, ◌-◌, ◌*◌, ◌<◌, ◌≤◌, length, slice_get, IfOk, None};
+ghost use Rattle.std.specs.Prelude.{◌≡◌, ℕ, ◌-◌, ◌^◌, ◌*◌, min, ◌<◌, ◌≤◌, length, slice_get, IfOk, None};
 ghost use Rattle.std.specs.Option.{option_map};
 ghost use Rattle.mc_pages.specs.ClassState.{new_class, numbers_of};
 ghost use Rattle.mc_classes.specs.Classes.{arena_pages_of, per_page_of};
@@ -8,6 +8,8 @@ ghost use Rattle.mc_pages.specs.declared.rows.ListName.TheVariants.{Free, Handed
 ghost use Rattle.mc_pages.specs.Rows.{fresh_rows};
 ghost use Rattle.mc_pages.specs.Ages.{fresh_ages};
 ghost use Rattle.mc_pages.specs.Linked.{AreLinked, chunks_of};
+ghost use Rattle.mc_pages.specs.Base.{base_of, tail_of};
+ghost use Rattle.mc_pages.specs.Changes.{after_trim};
 ghost use Rattle.mc_pages.specs.SlabState.{fresh_slabs, IsClass, class_at, class_of_page, totals_of};
 ghost use Rattle.mc_pages.specs.Accounted.{IsAccounted};
 ghost use Rattle.mc_pages.specs.InOrder.{roomless};
@@ -19,8 +21,9 @@ mod pages;
 use crate::ages::Ages;
 use crate::class::SlabClass;
 use crate::ids::{ChunkId, Moving};
-use crate::ledger::{Entry, Owner};
+use crate::ledger::{BasePage, Entry, Owner};
 use crate::numbers::{Numbers, Totals};
+use crate::recorded::Recorded;
 use crate::rows::{ListName, Rows};
 use mc_classes::{ClassId, ClassTable, PageId};
 use mc_memory::{Refused, filled, push, with_capacity};
@@ -49,7 +52,7 @@ pub struct Slabs {
     ordinary: usize,
     /// The page that came last stands last.
     pool: Vec<PageId>,
-    ledger: Vec<Entry>,
+    ledger: Recorded,
     uncut: Option<ChunkId>,
     moving: Option<Moving>,
     /// Behind this class the pick of a source goes on.
@@ -83,6 +86,7 @@ impl Slabs {
         let owners = filled(alloc, Owner::Untouched, table.arena_pages() as usize)?;
         let rows = rows_of(alloc, table)?;
         let ages = ages_of(alloc, table)?;
+        let ledger = Recorded::new(alloc, table.arena_pages() as usize)?;
         Ok(Slabs {
             page: table.page(),
             limit: table.limit(),
@@ -93,7 +97,7 @@ impl Slabs {
             granted: 0,
             ordinary: 0,
             pool: Vec::new(alloc),
-            ledger: Vec::new(alloc),
+            ledger,
             uncut: None,
             moving: None,
             cursor: table.count(),
@@ -154,12 +158,38 @@ impl Slabs {
         }
     }
 
-    /// Every change of a page's owner, in order.
+    /// The changes of a page's owner that are recorded, in order: all since the last `trim`.
     pub fn ledger(&self) -> &[Entry]
-        ensures ledger { result.now ≡ self.now.state.ledger }
+        ensures ledger { result.now ≡ tail_of self.now.state }
         ensures accounted { IsAccounted self.now.state }
     {
-        self.ledger.as_slice()
+        self.ledger.tail()
+    }
+
+    /// How many changes came before them, or the greatest number if they are more.
+    pub fn trimmed(&self) -> u64
+        ensures trimmed { result ≡ min self.now.state.trimmed (2 ^ 64 - 1) }
+        ensures accounted { IsAccounted self.now.state }
+    {
+        self.ledger.trimmed()
+    }
+
+    /// What the changes before them left of each page, page 0 first.
+    pub fn base(&self) -> &[BasePage]
+        ensures base { result.now ≡ base_of self.now.state }
+        ensures accounted { IsAccounted self.now.state }
+    {
+        self.ledger.base()
+    }
+
+    /// The changes of owners so far aren't recorded any more: what they left of each page is, in their stead. It takes no
+    /// memory, so it can't be refused; and a move that runs keeps the room for its end. (own)
+    pub fn trim(&mut self)
+        ensures trimmed { self.new.state ≡ after_trim self.old.state }
+        ensures accounted { IsAccounted self.new.state }
+        ensures writes { self.new.writes ≡ self.old.writes }
+    {
+        self.ledger.trim();
     }
 
     /// The rows in which the free lists and the hand-out orders of all classes stand. What was written there is what

@@ -16,6 +16,7 @@ unfoldable pub bare_change : List ℕ → Option Change
 bare_change name =
     if bytes_eq name (codes "FinishMove") then Some change.FinishMove
     else if bytes_eq name (codes "Wrap") then Some change.Wrap
+    else if bytes_eq name (codes "TrimLedger") then Some change.TrimLedger
     else None
 
 -- what the mover found

@@ -11,6 +11,7 @@ use Rattle.mc_pages.specs.declared.ids.Moving.{Moving}
 use Rattle.mc_pages.specs.declared.numbers.Totals.{Totals}
 use Rattle.mc_pages.specs.ClassState.{ClassState}
 use Rattle.mc_pages.specs.Ledger.{owner_at}
+use Rattle.mc_pages.specs.Base as base
 use Rattle.mc_pages.specs.SlabState.{SlabState, class_at, totals_of}
 use Rattle.mc_stripe.specs.declared.history.Call.{Call}
 use Rattle.mc_stripe.specs.declared.history.Call.TheVariants as call
@@ -102,10 +103,18 @@ abbrev pub moving_text : Option Moving → List ℕ
 moving_text None = []
 moving_text (Some move) = moving_line move
 
+-- the line that counts the entries of the ledger that were trimmed, none where none was
+abbrev pub trimmed_entries : ℕ → List ℕ
+trimmed_entries count = if count == 0 then [] else codes "trimmed ledger " ++ decimal count ++ codes "\n"
+
+-- how many entries were trimmed, and those that are recorded
+abbrev pub ledger_text : SlabState → List ℕ
+ledger_text slabs = trimmed_entries (min slabs.trimmed (2 ^ 64 - 1)) ++ flat_map entry_line (base.tail_of slabs)
+
 -- what stands behind the slabs lock
 abbrev pub slabs_text : Classes → SlabState → List ℕ
 slabs_text table slabs =
-    ((owners_text (arena_pages_of table) slabs ++ flat_map entry_line slabs.ledger) ++ classes_text (length table.sizes) slabs)
+    ((owners_text (arena_pages_of table) slabs ++ ledger_text slabs) ++ classes_text (length table.sizes) slabs)
     ++ (moving_text slabs.moving ++ totals_line (totals_of slabs) slabs.automove)
 
 -- the line of a header that isn't 0

@@ -4,6 +4,7 @@
 //! answer Ok | answer NotAllowed PLACE
 //! head PAGE INDEX WORD                               where it isn't 0
 //! owner PAGE Class CLASS | Pool | Moving SRC DST     not of untouched pages
+//! trimmed ledger COUNT                               where it isn't 0: so many entries stand before those that follow
 //! ledger Granted PAGE CLASS GRACE | Taken PAGE CLASS | Began PAGE SRC DST | Ended PAGE CLASS
 //! class CLASS free [PAGE.INDEX ..] order [PAGE.INDEX ..] evictions COUNT
 //! moving PAGE SRC DST at INDEX busy COUNT            where a page moves

@@ -8,7 +8,7 @@ use Rattle.mc_mover.specs.declared.counts.Turn.{Turn}
 use Rattle.mc_mover.specs.declared.counts.Turn.TheVariants as turn
 use Rattle.mc_mover.specs.declared.numbers.Survey.{Survey}
 use Rattle.mc_mover.specs.Acting.{ActsOnce, TellsTurn}
-use Rattle.mc_mover.specs.Recording.{TrimsStripes}
+use Rattle.mc_mover.specs.Recording.{Trims}
 use Rattle.mc_mover.specs.Reassigning.{SetsMode}
 use Rattle.mc_mover.specs.Surveying.{Surveys, evictions_in, free_in, pages_in}
 use Rattle.mc_mover.specs.Telling.{counts_in}
@@ -67,11 +67,11 @@ pub record ActsOnWindow (acted : Option Acted) (mover : Mover) (before : Hand) (
   pub feeds : left ≡ record mover { decider = decider_after mover.decider survey }
   pub acts : ActsOnDecision (decision_after mover.decider survey) acted surveyed now
 
--- a window ended: so it was, and then each stripe was trimmed, or the first ones until memory was refused
+-- a window ended: so it was, and then each stripe was trimmed and the ledger, or the first stripes until memory was refused
 pub record EndsWindow (acted : Option Acted) (mover : Mover) (before : Hand) (left : Mover) (now : Hand) : Type 0 where
   pub decided : Hand
   pub acts : ActsOnWindow acted mover before left decided
-  pub trims : TrimsStripes decided now
+  pub trims : Trims decided now
 
 -- how a turn ended
 abbrev pub ending_of : Turn → Ending

@@ -17,7 +17,7 @@ use std::alloc::Global;
 use std::sync::Wait;
 
 // Puts the dead of all classes back, feeds the decider what is left then, and asks for the page that it decides on, in mode 1 alone. Then
-// it trims each stripe, as far as memory isn't refused. Says what became of the decision. (slabs.c's automover; the trim is own)
+// it trims each stripe and the ledger, as far as memory isn't refused. Says what became of the decision. (slabs.c's automover; the trim is own)
 pub(crate) fn end_window<R: Wait>(
     rt: &R,
     alloc: Global,

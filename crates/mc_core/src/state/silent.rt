@@ -3,7 +3,7 @@ ghost use Rattle.std.specs.Prelude.{◌≡◌, ◌<◌, ◌&&◌, true, false, l
 ghost use Rattle.mc_pages.specs.Accounted.{cut_count};
 ghost use Rattle.mc_pages.specs.Moves.{is_held_up};
 ghost use Rattle.mc_stripe.specs.Changes.{used_up};
-ghost use Rattle.mc_core.specs.declared.event.Change.TheVariants.{BeginMove, FinishMove, Touch, SetAutomove, Passed, Wrap, Evicted, OfStripe};
+ghost use Rattle.mc_core.specs.declared.event.Change.TheVariants.{BeginMove, FinishMove, Touch, SetAutomove, TrimLedger, Passed, Wrap, Evicted, OfStripe};
 ghost use Rattle.mc_core.specs.declared.event.StripeChange.TheVariants.{Trim};
 ghost use Rattle.mc_core.specs.declared.look.Look.TheVariants.{Changed};
 ghost use Rattle.mc_core.specs.State.{has_slabs, stripe_of, stripe_at, with_slabs, with_stripe, with_look};
@@ -117,6 +117,14 @@ impl State {
         true
     }
 
+    /// The entries of the ledger so far aren't recorded any more.
+    fn trim_ledger(&mut self) -> bool
+        ensures { IsDone (can_change_slabs self.old.table self.old.slabs TrimLedger) (with_slabs self.old (slabs_after self.old.slabs TrimLedger)) self.new result }
+    {
+        self.slabs.trim();
+        true
+    }
+
     /// The move that runs, with the chunks of a page of its source.
     fn run(&self) -> Option<(Moving, u64)>
         ensures { result ≡ run_of self.now.table self.now.slabs.moving }
@@ -220,6 +228,7 @@ impl State {
             Change::FinishMove => self.finish_move(),
             Change::Touch(chunk) => self.touch(chunk),
             Change::SetAutomove(mode) => Ok(self.set_automove(mode)),
+            Change::TrimLedger => Ok(self.trim_ledger()),
             Change::Passed(found) => self.pass(found),
             Change::Wrap => Ok(self.wrap()),
             Change::Evicted(class) => Ok(self.count_eviction(class)),

@@ -1,4 +1,5 @@
-//! Stripes that are trimmed between calls, or forget their calls: the answers are the same, and what is told isn't kept.
+//! Stripes and a ledger that are trimmed between calls, and stripes that forget their calls: the answers are the same, and what is told
+//! isn't kept.
 use super::assert_same;
 use super::steps::Step;
 use mc_calls::{FOUR_CLASSES, Two, opened_two, play_all};
@@ -33,6 +34,17 @@ fn counts_of(left: &Final) -> (usize, u64) {
     (recorded, trimmed)
 }
 
+/// How many entries the ledger has, and how many it had before a trim; and whether each page has the owner that the base tells.
+fn entries_of(left: &Final) -> Option<(usize, u64, bool)> {
+    let slabs = left.slabs()?;
+    let mut same = true;
+    for page in 0..left.classes().arena_pages() {
+        let told = slabs.base().get(page as usize).map(|told| told.owner);
+        same = same && left.owner(page) == told;
+    }
+    Some((slabs.ledger().len(), slabs.trimmed(), same))
+}
+
 /// For how many keys the bases have a stamp. None where a stripe has no base.
 fn count_based(left: &Final) -> Option<usize> {
     let mut keys = 0usize;
@@ -41,6 +53,9 @@ fn count_based(left: &Final) -> Option<usize> {
     }
     Some(keys)
 }
+
+/// Four pages that were granted, and the beginning and the end of a move.
+const ENTRIES: u64 = 6;
 
 /// Eight sets, a delete, a rescue, an eviction, and two touches, of which one finds its key.
 const CALLS: u64 = 13;
@@ -69,6 +84,7 @@ fn a_trim_after_each_call_changes_no_answer(rt: HostRuntime) -> Result<(), Fail>
     assert_same(&rt, counts_of(&left), (0, CALLS), "recorded, and trimmed");
     // of eight keys one was deleted, and one evicted
     assert_same(&rt, count_based(&left), Some(6), "keys of the bases");
+    assert_same(&rt, entries_of(&left), Some((0, ENTRIES, true)), "entries");
     Ok(())
 }
 
@@ -91,6 +107,13 @@ fn what_comes_behind_a_trim_is_recorded(rt: HostRuntime) -> Result<(), Fail> {
         "recorded, and trimmed",
     );
     assert_same(&rt, count_based(&left), Some(8), "keys of the bases");
+    // the move's two entries come behind the trim
+    assert_same(
+        &rt,
+        entries_of(&left),
+        Some((2, ENTRIES - 2, false)),
+        "entries",
+    );
     Ok(())
 }
 
@@ -109,5 +132,6 @@ fn what_is_forgotten_is_not_recorded(rt: HostRuntime) -> Result<(), Fail> {
     let left = close_behind(&rt, rt.alloc(), &steps)?;
     assert_same(&rt, counts_of(&left), (0, CALLS), "recorded, and trimmed");
     assert_same(&rt, count_based(&left), None, "keys of the bases");
+    assert_same(&rt, entries_of(&left), Some((0, ENTRIES, true)), "entries");
     Ok(())
 }

@@ -6,7 +6,7 @@ mod shared;
 use super::{assert_equal, assert_same};
 use driven::Driven;
 use mc_classes::{ClassId, ClassTable, Config, PageId};
-use mc_pages::{ChunkId, Entry, Found, Grow, Numbers, Owner, Reassign, Totals};
+use mc_pages::{BasePage, ChunkId, Entry, Found, Grow, Numbers, Owner, Reassign, Totals};
 use mc_trial_values::{Drawn, FOUR_CLASSES};
 use plain::{Plain, PlainClass};
 use std::alloc::Global;
@@ -401,6 +401,8 @@ fn assert_same_slabs(rt: &impl Abort, all: &Driven, plain: &Plain) {
     assert_equal(rt, all.moving(), plain.moving, "moving");
     assert_equal(rt, all.totals(), plain.totals(), "totals");
     assert_equal(rt, all.ledger(), plain.ledger.as_slice(), "ledger");
+    assert_equal(rt, all.base(), plain.base.as_slice(), "base");
+    assert_same(rt, all.trimmed(), plain.trimmed, "trimmed");
 }
 
 /// All chunks of a page just given are cut.
@@ -485,6 +487,10 @@ fn assert_page_call(
         6 | 7 => {
             assert_same(rt, all.finish(), plain.finish()?, "finish");
             cut_all(all);
+        }
+        8 => {
+            all.trim();
+            plain.trim();
         }
         _ => {
             for _ in 0..8 {
@@ -707,6 +713,44 @@ fn a_page_goes_through_the_pool(rt: HostRuntime) -> Result<(), Fail> {
         Entry::Granted(4, 1, true),
     ];
     assert_equal(&rt, all.ledger(), ledger.as_slice(), "ledger");
+    all.trim();
+    assert_equal(&rt, all.ledger(), [].as_slice(), "ledger");
+    assert_same(&rt, all.trimmed(), 11, "trimmed");
+    let base = [
+        (Owner::Class(2), None),
+        (Owner::Class(3), None),
+        (Owner::Class(4), None),
+        (Owner::Class(4), None),
+        (Owner::Class(1), Some(1)),
+    ];
+    for (page, (owner, grace)) in base.iter().enumerate() {
+        let left = BasePage {
+            owner: *owner,
+            grace: *grace,
+        };
+        assert_equal(&rt, all.base().get(page).copied(), Some(left), "base");
+    }
+    Ok(())
+}
+
+#[test]
+fn a_trim_leaves_the_room_of_a_move(rt: HostRuntime) -> Result<(), Fail> {
+    let table = ClassTable::build(rt.alloc(), &FOUR_CLASSES)?;
+    let mut all = Driven::new(rt.alloc(), &table)?;
+    assert_grows(&rt, &mut all, 4, 0);
+    assert_grows(&rt, &mut all, 4, 1);
+    all.trim();
+    assert_equal(&rt, all.begin(Some(4), 1), Ok(()), "begin");
+    all.trim();
+    assert_same(&rt, all.trimmed(), 3, "trimmed");
+    let moving = BasePage {
+        owner: Owner::Moving { src: 4, dst: 1 },
+        grace: None,
+    };
+    assert_equal(&rt, all.base().first().copied(), Some(moving), "base");
+    assert_finishes(&rt, &mut all);
+    assert_equal(&rt, all.ledger(), [Entry::Ended(0, 1)].as_slice(), "ledger");
+    assert_equal(&rt, all.base().first().copied(), Some(moving), "base");
     Ok(())
 }
 

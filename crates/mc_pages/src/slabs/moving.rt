@@ -39,14 +39,14 @@ impl Slabs {
         let page = self.first_page(source);
         let cursor = self.cursor_after(src, source);
         // One entry for the beginning, and one for the end.
-        reserve(&mut self.ledger, 2)?;
+        self.ledger.reserve(2)?;
         if dst == 0 {
             reserve(&mut self.pool, 1)?;
         } else {
             let slab = &mut self.classes[dst as usize - 1];
             slab.make_room(slab.page_count() + 1)?;
         }
-        self.ledger.push(Entry::Began(page, source, dst)).unwrap();
+        self.ledger.tell(Entry::Began(page, source, dst));
         self.owners[page as usize] = Owner::Moving { src: source, dst };
         self.moving = Some(Moving {
             page,
@@ -73,7 +73,7 @@ impl Slabs {
         };
         let Moving { page, src, dst, .. } = moving;
         self.classes[src as usize - 1].remove_page(page);
-        self.ledger.push(Entry::Ended(page, dst)).unwrap();
+        self.ledger.tell(Entry::Ended(page, dst));
         self.moved = self.moved.saturating_add(1);
         self.moving = None;
         if dst == 0 {

@@ -9,7 +9,7 @@ use super::Slabs;
 use crate::ids::ChunkId;
 use crate::ledger::{Entry, Owner};
 use mc_classes::{ClassId, PageId};
-use mc_memory::{Refused, reserve};
+use mc_memory::Refused;
 
 /// Why a class gets no page.
 #[derive(PartialEq, Eq, Drop)]
@@ -48,7 +48,8 @@ impl Slabs {
     {
         let page = self.next_page(class).ok_or(Grow::NoRoom)?;
         let grace = !self.has_ordinary_page();
-        reserve(&mut self.ledger, 1 + usize::from(self.moving.is_some()))?;
+        let ends = usize::from(self.moving.is_some());
+        self.ledger.reserve(1 + ends)?;
         let awaited = usize::from(self.awaits(class));
         let slab = &mut self.classes[class as usize - 1];
         slab.make_room(slab.page_count() + 1 + awaited)?;
@@ -61,7 +62,7 @@ impl Slabs {
                 Entry::Granted(page, class, grace)
             }
         };
-        self.ledger.push(entry).unwrap();
+        self.ledger.tell(entry);
         self.owners[page as usize] = Owner::Class(class);
         self.uncut = Some(ChunkId { page, index: 0 });
         Ok(page)

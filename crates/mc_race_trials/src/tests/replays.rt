@@ -233,13 +233,15 @@ fn are_owners(left: &Final, owners: &[Owner]) -> bool {
     true
 }
 
-/// Whether the ledger leads from untouched pages to the owners.
+/// Whether the ledger leads from the owners of its base to those of now.
 pub fn is_ledger_right(alloc: Global, left: &Final) -> Result<bool, AllocError> {
     let Some(slabs) = left.slabs() else {
         return Ok(false);
     };
     let mut owners = Vec::new(alloc);
-    owners.resize(left.classes().arena_pages() as usize, Owner::Untouched)?;
+    for page in slabs.base() {
+        owners.push(page.owner)?;
+    }
     for entry in slabs.ledger().iter() {
         if !hand_over(&mut owners, *entry) {
             return Ok(false);

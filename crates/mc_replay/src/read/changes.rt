@@ -81,6 +81,7 @@ fn bare_change(name: &[u8]) -> Option<Change>
     match name {
         _ if is(name, b"FinishMove") => Some(Change::FinishMove),
         _ if is(name, b"Wrap") => Some(Change::Wrap),
+        _ if is(name, b"TrimLedger") => Some(Change::TrimLedger),
         _ => None,
     }
 }

@@ -3,7 +3,7 @@ ghost use Rattle.std.specs.Prelude.{◌≡◌, ◌++◌, OnOk, flat_map, length,
 ghost use Rattle.mc_classes.specs.Classes.{arena_pages_of};
 ghost use Rattle.mc_pages.specs.SlabState.{IsClass, class_at, totals_of};
 ghost use Rattle.mc_core.specs.InOrder.{IsOfTable};
-ghost use Rattle.mc_replay.specs.Written.{chunk_text, chunks_text, class_line, classes_text, entry_line, entry_text, evictions_text, free_text, item_counts, mode_text, moving_line, moving_text, order_text, owner_line, owners_text, page_counts, slabs_text, totals_line};
+ghost use Rattle.mc_replay.specs.Written.{chunk_text, chunks_text, class_line, classes_text, entry_line, entry_text, evictions_text, free_text, item_counts, ledger_text, mode_text, moving_line, moving_text, order_text, owner_line, owners_text, page_counts, slabs_text, totals_line, trimmed_entries};
 
 use crate::fault::NoMemory;
 use mc_classes::{ClassId, ClassTable, PageId};
@@ -12,7 +12,7 @@ use mc_memory::push_str;
 use mc_pages::{ChunkId, Entry, Moving, Owner, Slabs, Totals};
 use std::alloc::{AllocError, Global};
 
-/// Owners, ledger, classes, the page that moves, and the numbers of the whole.
+/// Owners, what the ledger records, classes, the page that moves, and the numbers of the whole.
 #[tactic(auto, using(crate::proofs::Ranges::appends_three))]
 pub(super) fn slabs(
     alloc: Global,
@@ -28,13 +28,13 @@ pub(super) fn slabs(
     Ok(moves(text, slabs)?)
 }
 
-/// Owners and ledger.
+/// Owners, and what the ledger records.
 fn pages(text: &mut String, table: &ClassTable, slabs: &Slabs) -> Result<(), NoMemory>
     requires { IsOfTable table.now slabs.now.state }
-    ensures { OnOk result (string_bytes text.new ≡ string_bytes text.old ++ (owners_text (arena_pages_of table.now) slabs.now.state ++ flat_map entry_line slabs.now.state.ledger)) }
+    ensures { OnOk result (string_bytes text.new ≡ string_bytes text.old ++ (owners_text (arena_pages_of table.now) slabs.now.state ++ ledger_text slabs.now.state)) }
 {
     owners(text, table, slabs)?;
-    ledger(text, slabs.ledger())
+    ledger(text, slabs)
 }
 
 /// The page that moves, and the numbers of the whole.
@@ -68,8 +68,26 @@ fn owner(text: &mut String, page: PageId, owner: Owner) -> Result<(), AllocError
     }
 }
 
+/// How many entries of the ledger were trimmed, and those behind them.
+fn ledger(text: &mut String, slabs: &Slabs) -> Result<(), NoMemory>
+    ensures { OnOk result (string_bytes text.new ≡ string_bytes text.old ++ ledger_text slabs.now.state) }
+{
+    trimmed_entries(text, slabs.trimmed())?;
+    entries(text, slabs.ledger())
+}
+
+/// How many entries of the ledger were trimmed, where some were.
+fn trimmed_entries(text: &mut String, count: u64) -> Result<(), AllocError>
+    ensures { OnOk result (string_bytes text.new ≡ string_bytes text.old ++ trimmed_entries count) }
+{
+    if count == 0 {
+        return Ok(());
+    }
+    writeln!(text, "trimmed ledger {count}")
+}
+
 /// How pages changed hands.
-fn ledger(text: &mut String, entries: &[Entry]) -> Result<(), NoMemory>
+fn entries(text: &mut String, entries: &[Entry]) -> Result<(), NoMemory>
     ensures { OnOk result (string_bytes text.new ≡ string_bytes text.old ++ flat_map entry_line entries.now) }
 {
     for change in entries {

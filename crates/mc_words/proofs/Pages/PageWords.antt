@@ -1,8 +1,7 @@
 -- The words of the pages: a page that a class gets, and the change by which it gets it.
-use Rattle.std.proofs.Common.{◌/◌, None, is_none, is_some, ◌≡◌, ℕ, ◌<◌, ◌≤◌, true, List, length, slice_index, slice_set, Some, refl, sym, ap, ◌∙◌, subst, inl, inr, arith, get_or-set_same, get_or-set_other}
+use Rattle.std.proofs.Common.{None, is_none, is_some, ◌≡◌, ℕ, ◌<◌, true, List, length, slice_index, slice_set, Some, refl, sym, ap, ◌∙◌, subst, inl, inr, arith, get_or-set_same, get_or-set_other}
 use Rattle.std.proofs.lemmas.Bool.{cases_eq, and_from}
 use Rattle.mc_classes.specs.Classes.{Classes, arena_pages_of}
-use Rattle.mc_pages.proofs.RoomyGrow.{next_within}
 use Rattle.mc_pages.proofs.NextPage.{nobody_next}
 use Rattle.mc_pages.specs.declared.ids.ChunkId.{ChunkId}
 use Rattle.mc_pages.specs.SlabState.{SlabState, class_of_owner, class_of_page}
@@ -10,7 +9,7 @@ use Rattle.mc_pages.specs.declared.ledger.Owner.{Owner}
 use Rattle.mc_pages.specs.declared.ledger.Owner.TheVariants.{Untouched, Class}
 use Rattle.mc_pages.specs.Ledger.{owner_at}
 use Rattle.mc_pages.specs.Changes.{next_page, after_grow}
-use Rattle.mc_core.specs.declared.event.Change.TheVariants.{Evicted, Grow, SetAutomove, Touch}
+use Rattle.mc_core.specs.declared.event.Change.TheVariants.{Evicted, Grow, SetAutomove, Touch, TrimLedger}
 use Rattle.mc_core.specs.declared.event.Step.TheVariants as core
 use Rattle.mc_core.specs.State.{State, is_class}
 use Rattle.mc_core.specs.Silent.{grown, can_change_slabs, is_handed_out}
@@ -59,6 +58,14 @@ may_grow view slabs class page mine can next near owned = record {
 pub may_set_automove : (view : View) (slabs : SlabState) (mode : ℕ) → view.slabs ≡ Some slabs → can_change_slabs view.setup.table slabs (SetAutomove mode) ≡ true → MayTell view (SetAutomove mode) core.MissSlabs (lock_word 0) (λ found. found)
 may_set_automove view slabs mode mine can = record {
   allowed = λ was. and_from _ _ (slabs_here view was slabs mine).0 can;
+  step_allowed = λ was. refl;
+  writes = λ was. let s : State = was.moment.state in (was.cuts, unwritten view.setup was.cuts was.words s.slabs_lock s.stripe_locks s.heads s.words was.are (lock_word 0), was.cut);
+}
+
+-- the ledger is trimmed
+pub may_trim_ledger : (view : View) (slabs : SlabState) → view.slabs ≡ Some slabs → MayTell view TrimLedger core.MissSlabs (lock_word 0) (λ found. found)
+may_trim_ledger view slabs mine = record {
+  allowed = λ was. and_from _ _ (slabs_here view was slabs mine).0 refl;
   step_allowed = λ was. refl;
   writes = λ was. let s : State = was.moment.state in (was.cuts, unwritten view.setup was.cuts was.words s.slabs_lock s.stripe_locks s.heads s.words was.are (lock_word 0), was.cut);
 }

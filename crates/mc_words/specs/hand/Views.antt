@@ -1,5 +1,5 @@
 -- What each call changes of a hand's view: all else stays.
-use Rattle.std.specs.Prelude.{ℕ, ◌+◌, List, [], ◌∷◌, ◌++◌, is_some, if◌then◌else◌, replicate, slice_set, Some, None, true}
+use Rattle.std.specs.Prelude.{ℕ, ◌+◌, List, [], ◌∷◌, ◌++◌, is_some, if◌then◌else◌, replicate, slice_set, Some, None}
 use Rattle.mc_pages.specs.declared.ids.ChunkId.{ChunkId}
 use Rattle.mc_pages.specs.SlabState.{SlabState, class_of_page}
 use Rattle.mc_stripe.specs.StripeState.{ReadyStripe}

@@ -1,7 +1,7 @@
 //! Changes of pages and lists, and of stripes, that write no header. Each is told at once.
 ghost use Rattle.std.specs.Prelude.{◌≡◌, ℕ, ◌+◌, ◌%◌, ◌<◌, ◌≤◌, ◌↔◌, Bool, if◌then◌else◌, [], ◌∷◌, true, false, slice_index_or, None, Some, Err, IfOk, OnOk, OnErr};
 ghost use Rattle.mc_classes.specs.Classes.{arena_pages_of};
-ghost use Rattle.mc_pages.specs.Changes.{after_evicted, after_grow, after_touch, next_page};
+ghost use Rattle.mc_pages.specs.Changes.{after_evicted, after_grow, after_touch, after_trim, next_page};
 ghost use Rattle.mc_stripe.specs.StripeState.{place_of};
 ghost use Rattle.mc_core.specs.Silent.{call_of, is_aside, is_handed_out};
 ghost use Rattle.mc_core.specs.State.{is_class};
@@ -36,6 +36,23 @@ impl Arena {
     {
         held.shared.slabs_mut().set_automove(mode);
         let change = Change::SetAutomove(mode);
+        self.tell(&mut hand.seat, SLABS_WORD, change, Step::MissSlabs);
+    }
+
+    /// The entries of the ledger so far aren't recorded any more: what they left of each page is, in their stead. (see
+    /// `Slabs::trim`)
+    pub fn trim_ledger(&self, hand: &mut Hand, held: &mut SlabsHeld)
+        requires arena { IsHandOf self.now hand.old }
+        requires held { (view hand.old).slabs ≡ Some held.old.shared }
+        ensures arena { IsHandOf self.now hand.new }
+        ensures locks { hand.new.locks ≡ hand.old.locks }
+        ensures held { (view hand.new).slabs ≡ Some held.new.shared }
+        ensures trimmed { held.new.shared ≡ after_trim held.old.shared }
+        ensures happens { Happens (view hand.old) (change.TrimLedger ∷ []) step.MissSlabs (view hand.new) }
+        ensures view { view hand.new ≡ slabs_changed held.old.shared change.TrimLedger (hand.old.number + 1) (view hand.old) }
+    {
+        held.shared.slabs_mut().trim();
+        let change = Change::TrimLedger;
         self.tell(&mut hand.seat, SLABS_WORD, change, Step::MissSlabs);
     }
 

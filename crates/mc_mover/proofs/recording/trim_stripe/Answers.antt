@@ -1,5 +1,4 @@
-use Rattle.std.proofs.Common.{◌≡◌, ap, ◌∙◌, subst}
-use Rattle.mc_stripe.specs.StripeState.{ReadyStripe}
+use Rattle.std.proofs.Common.{ap, ◌∙◌}
 use Rattle.mc_core.specs.declared.event.StripeChange.TheVariants.{Trim}
 use Rattle.mc_words.specs.lock.Out.{without_stripe}
 use Rattle.mc_words.specs.declared.hand.held.StripeHeld.{StripeHeld}

@@ -8,7 +8,8 @@ ghost use Rattle.mc_page_trials.specs.Sized.{IsSized};
 
 use mc_classes::{ClassId, ClassTable, PageId};
 use mc_pages::{
-    ChunkId, Entry, Found, Grow, Moving, NoMemory, Numbers, Owner, Reassign, Slabs, Totals,
+    BasePage, ChunkId, Entry, Found, Grow, Moving, NoMemory, Numbers, Owner, Reassign, Slabs,
+    Totals,
 };
 use std::alloc::Global;
 
@@ -350,6 +351,18 @@ impl Driven<'_> {
 
     pub(super) fn ledger(&self) -> &[Entry] {
         self.slabs.ledger()
+    }
+
+    pub(super) fn base(&self) -> &[BasePage] {
+        self.slabs.base()
+    }
+
+    pub(super) fn trimmed(&self) -> u64 {
+        self.slabs.trimmed()
+    }
+
+    pub(super) fn trim(&mut self) {
+        self.slabs.trim();
     }
 }
 

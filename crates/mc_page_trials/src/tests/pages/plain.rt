@@ -1,6 +1,6 @@
 //! The same by plain lists, the head of each free list first. A page is cut as soon as a class gets it.
 use mc_classes::{ClassId, ClassTable, PageId};
-use mc_pages::{ChunkId, Entry, Found, Moving, Owner, Reassign, Totals};
+use mc_pages::{BasePage, ChunkId, Entry, Found, Moving, Owner, Reassign, Totals};
 use std::alloc::{AllocError, Global};
 
 /// One class's pages and chunks.
@@ -19,6 +19,12 @@ pub(super) struct Plain {
     pub(super) classes: Vec<PlainClass>,
     pub(super) owners: Vec<Owner>,
     pub(super) ledger: Vec<Entry>,
+    /// What the entries before them left.
+    pub(super) base: Vec<BasePage>,
+    /// How many these are.
+    pub(super) trimmed: u64,
+    /// Which class got each page beyond the limit.
+    graces: Vec<Option<ClassId>>,
     pub(super) moving: Option<Moving>,
     /// How many more pages may be granted within the limit.
     within: u64,
@@ -67,10 +73,18 @@ impl Plain {
                 order: Vec::new(alloc),
             })?;
         }
+        let pages = table.arena_pages() as usize;
+        let fresh = BasePage {
+            owner: Owner::Untouched,
+            grace: None,
+        };
         Ok(Plain {
             classes,
-            owners: vec![in alloc; Owner::Untouched; table.arena_pages() as usize]?,
+            owners: vec![in alloc; Owner::Untouched; pages]?,
             ledger: Vec::new(alloc),
+            base: vec![in alloc; fresh; pages]?,
+            trimmed: 0,
+            graces: vec![in alloc; None; pages]?,
             moving: None,
             within: table.pages(),
             pool: Vec::new(alloc),
@@ -115,6 +129,30 @@ impl Plain {
         Ok(())
     }
 
+    fn note_grace(&mut self, page: usize, class: ClassId) {
+        if let Some(place) = self.graces.get_mut(page) {
+            *place = Some(class);
+        }
+    }
+
+    /// What was told so far isn't kept. Of each page its owner is, and which class got it beyond the limit.
+    pub(super) fn trim(&mut self) {
+        for (page, owner) in self.owners.iter().enumerate() {
+            let grace = match self.graces.get(page) {
+                Some(grace) => *grace,
+                None => None,
+            };
+            if let Some(place) = self.base.get_mut(page) {
+                *place = BasePage {
+                    owner: *owner,
+                    grace,
+                };
+            }
+        }
+        self.trimmed = self.trimmed.wrapping_add(self.ledger.len() as u64);
+        self.ledger.clear();
+    }
+
     pub(super) fn grow(&mut self, class: ClassId) -> Result<Option<PageId>, AllocError> {
         if let Some(page) = self.pool.pop() {
             self.ledger.push(Entry::Taken(page, class))?;
@@ -132,6 +170,9 @@ impl Plain {
         self.within = self.within.saturating_sub(1);
         self.counts.granted = self.counts.granted.wrapping_add(1);
         self.ledger.push(Entry::Granted(page, class, grace))?;
+        if grace {
+            self.note_grace(place, class);
+        }
         self.give(class, page)?;
         Ok(Some(page))
     }

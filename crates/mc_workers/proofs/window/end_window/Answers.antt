@@ -1,8 +1,6 @@
 use Rattle.std.proofs.Common.{◌⊎◌, Result, Ok, Err, OnErr, OnOk, inl, inr, subst, sym}
-use Rattle.std.specs.List.{range_with_len}
-use Rattle.mc_core.specs.declared.event.StripeChange.TheVariants.{Trim}
 use Rattle.mc_words.specs.hand.View.{Setup, View}
-use Rattle.mc_mover.specs.Recording.{ChangesEach, Leaves, StopsTrimming}
+use Rattle.mc_mover.specs.Recording.{Leaves, StopsTrimming, TrimsAll}
 use Rattle.mc_workers.proofs.window.end_window.Goals as goal
 
 -- whatever came of it, the one or the other holds
@@ -18,5 +16,5 @@ returns-clause-ends g c =
     let trims = one_of c.trim-trimmed.result c.trim-trimmed.ensures.trims c.trim-trimmed.ensures.stops in record {
       decided = c.act_on_window.new.hand;
       acts = c.in_ok-acted.ensures.acts;
-      trims = subst (λ (s : Setup). ChangesEach Trim number (range_with_len 0 s.config.stripes) before now ⊎ StopsTrimming number Leaves before now) (sym c.act_on_window.ensures.arena.setup) trims;
+      trims = subst (λ (s : Setup). TrimsAll number s.config.stripes before now ⊎ StopsTrimming number Leaves before now) (sym c.act_on_window.ensures.arena.setup) trims;
     }

@@ -2,7 +2,7 @@ use Rattle.std.proofs.Common.{◌≡◌, ℕ, zero, suc, max, ◌≤◌, length,
 use Rattle.std.proofs.lemmas.Bool.{cases_lt}
 use Rattle.mc_pages.specs.Changes.{next_page}
 use Rattle.mc_pages.specs.Ledger.{owner_at}
-use Rattle.mc_pages.specs.SlabState.{SlabState, IsClass, class_of_page}
+use Rattle.mc_pages.specs.SlabState.{SlabState, class_of_page}
 use Rattle.mc_pages.specs.Accounted.{IsAccounted}
 use Rattle.mc_pages.proofs.Owners.{is_of_class-class_of_owner}
 use Rattle.mc_core.specs.State.{State}

@@ -1,4 +1,4 @@
-use Rattle.std.proofs.Common.{◌≡◌, ◌≢◌, ℕ, ◌+◌, ◌-◌, ◌≤◌, ◌==◌, List, [], ◌∷◌, ◌++◌, length, vec_len, vec_capacity, set, Some, Ok, refl, sym, ap, ap₂, ◌∙◌, subst, arith}
+use Rattle.std.proofs.Common.{◌≡◌, ◌≢◌, ℕ, ◌-◌, ◌≤◌, ◌==◌, List, length, vec_len, set, Some, Ok, refl, sym, ap, ap₂, ◌∙◌, subst, arith}
 use Rattle.std.specs.Vec.{with_item}
 use Rattle.mc_pages.specs.declared.ledger.Owner.TheVariants as owner
 use Rattle.mc_pages.specs.declared.ledger.Entry.{Entry}
@@ -11,12 +11,13 @@ use Rattle.mc_pages.specs.Moves.{first_page, after_begin}
 use Rattle.mc_pages.specs.Linked.{sizes_of}
 use Rattle.mc_pages.specs.Room.{states}
 use Rattle.mc_pages.specs.InOrder.{IsInOrder, HasRows, AreKept, slabs_of}
+use Rattle.mc_pages.specs.Base.{Entries}
 use Rattle.mc_pages.specs.Ledger.{ordinary_count}
 use Rattle.mc_pages.proofs.Grace.{add_zero, ordinary_count-push}
 use Rattle.mc_pages.proofs.Kept.{pages_below}
 use Rattle.mc_pages.proofs.KeptMoves.{first_page_within, IsInOrder-after_begin}
 use Rattle.mc_pages.proofs.Source.{source_is}
-use Rattle.mc_pages.proofs.Roomy.{if_ok}
+use Rattle.mc_pages.proofs.Trimmed.{told_entries}
 use Rattle.mc_pages.proofs.RoomySlabs.{length-classes, read_state}
 use Rattle.mc_pages.proofs.RoomyGrow.{on_err, truth_le, states_roomier, fits-roomier}
 use Rattle.mc_pages.proofs.RoomyMoves.{if_ok_at, begun_with, begun_is, not_awaited, fits-to_pool, fits-to_class}
@@ -55,23 +56,24 @@ pub make_room-requires : goal.make_room-requires
 make_room-requires c = omega (arith, few (goal.at.make_room-requires c).After-page_count)
 
 -- what was reserved changes nothing that callers see
-refused_is : (c : goal.After-from_residual-in_err-make_room) → record (slabs_of c.self.inside) { classes = states c.self.inside.rows (set c.self.inside.classes.items (c.args.dst - 1) c.make_room.new.self); ledger = c.reserve.new.list.items } ≡ slabs_of c.self.inside
+refused_is : (c : goal.After-from_residual-in_err-make_room) → record (slabs_of c.self.inside) { classes = states c.self.inside.rows (set c.self.inside.classes.items (c.args.dst - 1) c.make_room.new.self); ledger = c.reserve.new.self.all; trimmed = c.reserve.new.self.trimmed } ≡ slabs_of c.self.inside
 refused_is c =
     let is = is_class (goal.at.invariant_of-self-in_err-make_room c).After-reserve c.if-dst-eq0.false in
-    ap₂ (λ (classes : List ClassState) (ledger : List Entry). record (slabs_of c.self.inside) { classes = classes; ledger = ledger })
+    ap₂ (λ (classes : List ClassState) (entries : Entries). record (slabs_of c.self.inside) { classes = classes; ledger = entries.all; trimmed = entries.trimmed })
     (states_roomier c.self.inside c.args.dst _ c.make_room.new.self is c.index_mut-slab.ensures.value c.in_err-make_room.ensures.state)
-    c.in_ok-reserve.ensures.items
+    c.in_ok-reserve.ensures.same
 
 pub invariant_of-self-in_err-make_room : goal.invariant_of-self-in_err-make_room
 invariant_of-self-in_err-make_room c =
     let is = is_class (goal.at.invariant_of-self-in_err-make_room c).After-reserve c.if-dst-eq0.false in
     record {
       order = subst (λ (s : SlabState). IsInOrder s c.self.inside.granted) (sym (refused_is c)) c.self.invariant.order;
-      ledger = omega (arith, c.self.invariant.ledger, c.in_ok-reserve.ensures.len, c.in_ok-reserve.ensures.capacity);
+      ledger = omega (arith, c.self.invariant.ledger, c.in_ok-reserve.ensures.kept);
+      base = ap (λ (entries : Entries). entries.pages) c.in_ok-reserve.ensures.same ∙ c.self.invariant.base;
       pool = c.self.invariant.pool;
       classes = fits-roomier c.self.inside c.args.dst _ c.make_room.new.self c.self.invariant is c.index_mut-slab.ensures.value c.in_err-make_room.ensures.state c.in_err-make_room.ensures.kept;
       linked = c.self.invariant.linked;
-      ordinary = c.self.invariant.ordinary ∙ sym (ap ordinary_count c.in_ok-reserve.ensures.items);
+      ordinary = c.self.invariant.ordinary ∙ sym (ap (λ (entries : Entries). ordinary_count entries.all) c.in_ok-reserve.ensures.same);
       aged = c.self.invariant.aged;
       rows = subst (λ (s : SlabState). HasRows s.classes (vec_len c.self.inside.owners) (sizes_of c.self.inside.rows)) (sym (refused_is c)) c.self.invariant.rows;
     }
@@ -101,33 +103,41 @@ index_mut-requires c =
 abbrev begun : (c : goal.After-self-4-1) → Inside → Inside
 begun c inside = record inside {
   owners = with_item inside.owners c.first_page-page.result (owner.Moving c.in_ok-source.source c.args.dst);
-  ledger = c.push.new.self;
+  ledger = c.tell.new.self;
   moving = Some (record { page = c.first_page-page.result; src = c.in_ok-source.source; dst = c.args.dst; at = 0; busy = 0 });
   cursor = c.cursor_after-cursor.result;
 }
 
+-- what was reserved for it has room for two
+abbrev roomy : (c : goal.After-self-4-1) → Entries
+roomy c = record c.self.inside.ledger { room = c.reserve.new.self.room }
+
 -- the ledger has the entry at its end
-pushed : (c : goal.After-self-4-1) (inside : Inside) → c.if-dst-eq0.self-inside ≡ inside → inside.ledger.items ≡ c.self.inside.ledger.items → c.push.new.self.items ≡ c.self.inside.ledger.items ++ Began c.first_page-page.result c.in_ok-source.source c.args.dst ∷ []
-pushed c inside is before =
+told : (c : goal.After-self-4-1) (inside : Inside) → c.if-dst-eq0.self-inside ≡ inside → inside.ledger ≡ roomy c → c.tell.new.self ≡ told_entries c.self.inside.ledger (Began c.first_page-page.result c.in_ok-source.source c.args.dst) c.tell.new.self.room
+told c inside is before =
     let entry : Entry = Began c.first_page-page.result c.in_ok-source.source c.args.dst in
-    c.push.ensures.items ∙ (if_ok c.push.result _ _ _ c.unwrap.ensures
-    ∙ (ap (λ (i : Inside). i.ledger.items ++ entry ∷ []) is ∙ ap (λ (entries : List Entry). entries ++ entry ∷ []) before))
+    c.tell.ensures.told
+    ∙ (ap (λ (i : Inside). told_entries i.ledger entry c.tell.new.self.room) is ∙ ap (λ (entries : Entries). told_entries entries entry c.tell.new.self.room) before)
 
 -- of which it is none within the limit
-ordinary_pushed : (c : goal.After-self-4-1) (inside : Inside) → c.if-dst-eq0.self-inside ≡ inside → inside.ledger.items ≡ c.self.inside.ledger.items → ordinary_count c.push.new.self.items ≡ ordinary_count c.self.inside.ledger.items
-ordinary_pushed c inside is before =
+ordinary_told : (c : goal.After-self-4-1) (inside : Inside) → c.if-dst-eq0.self-inside ≡ inside → inside.ledger ≡ roomy c → ordinary_count c.tell.new.self.all ≡ ordinary_count c.self.inside.ledger.all
+ordinary_told c inside is before =
     let entry : Entry = Began c.first_page-page.result c.in_ok-source.source c.args.dst in
-    ap ordinary_count (pushed c inside is before) ∙ (ordinary_count-push c.self.inside.ledger.items entry ∙ add_zero (ordinary_count c.self.inside.ledger.items))
+    ap (λ (entries : Entries). ordinary_count entries.all) (told c inside is before) ∙ (ordinary_count-push c.self.inside.ledger.all entry ∙ add_zero (ordinary_count c.self.inside.ledger.all))
 
 -- and room for the one at the move's end
-ledger_fits : (c : goal.After-self-4-1) → vec_len c.if-dst-eq0.self-inside.ledger ≡ vec_len c.reserve.new.list → vec_capacity c.if-dst-eq0.self-inside.ledger ≡ vec_capacity c.reserve.new.list → vec_len c.push.new.self + 1 ≤ vec_capacity c.push.new.self
-ledger_fits c len capacity = omega (arith, len, capacity, c.push.ensures.upper_bound, c.push.ensures.capacity, c.in_ok-reserve.ensures.ok)
+ledger_fits : (c : goal.After-self-4-1) (inside : Inside) → c.if-dst-eq0.self-inside ≡ inside → inside.ledger ≡ roomy c → 1 ≤ c.tell.new.self.room
+ledger_fits c inside is before = omega (arith, c.tell.ensures.room, ap (λ (i : Inside). i.ledger.room) is, ap (λ (entries : Entries). entries.room) before, c.in_ok-reserve.ensures.room)
+
+-- it tells of as many pages
+pages_told : (c : goal.After-self-4-1) (inside : Inside) → c.if-dst-eq0.self-inside ≡ inside → inside.ledger ≡ roomy c → c.tell.new.self.pages ≡ vec_len c.self.inside.owners
+pages_told c inside is before = ap (λ (entries : Entries). entries.pages) (told c inside is before) ∙ c.self.invariant.base
 
 -- the whole after the beginning
-began_is : (c : goal.After-self-4-1) (inside : Inside) → c.if-dst-eq0.self-inside ≡ inside → inside.ledger.items ≡ c.self.inside.ledger.items → (classes : List ClassState) (pool : List ℕ) → classes ≡ (slabs_of c.self.inside).classes → pool ≡ c.self.inside.pool.items → begun_with (slabs_of c.self.inside) c.first_page-page.result c.in_ok-source.source c.args.dst c.cursor_after-cursor.result classes pool c.push.new.self.items ≡ after_begin (slabs_of c.self.inside) c.args.src c.in_ok-source.source c.args.dst
+began_is : (c : goal.After-self-4-1) (inside : Inside) → c.if-dst-eq0.self-inside ≡ inside → inside.ledger ≡ roomy c → (classes : List ClassState) (pool : List ℕ) → classes ≡ (slabs_of c.self.inside).classes → pool ≡ c.self.inside.pool.items → begun_with (slabs_of c.self.inside) c.first_page-page.result c.in_ok-source.source c.args.dst c.cursor_after-cursor.result classes pool c.tell.new.self ≡ after_begin (slabs_of c.self.inside) c.args.src c.in_ok-source.source c.args.dst
 began_is c inside is before classes pool classes_is pool_is =
     let cursor = c.cursor_after-cursor.ensures ∙ ap (λ (s : SlabState). cursor_after s c.args.src c.in_ok-source.source) (sym (same_state c.self.view_is)) in
-    begun_is (slabs_of c.self.inside) c.args.src _ _ _ _ _ _ _ classes_is pool_is (pushed c inside is before) (page_is (goal.at.invariant_of-self-2 c).After-reserve) cursor
+    begun_is c.self.inside c.args.src _ _ _ _ _ _ _ _ classes_is pool_is (told c inside is before) (page_is (goal.at.invariant_of-self-2 c).After-reserve) cursor
 
 pub invariant_of-self-2 : goal.invariant_of-self-2
 invariant_of-self-2 c =
@@ -138,12 +148,13 @@ invariant_of-self-2 c =
     elim c.if-dst-eq0.branch [
       | then-dst-eq0+in_ok-reserve-2 w ↦
           subst kept (sym w.self-inside-is) (record {
-            order = subst (λ (s : SlabState). IsInOrder s c.self.inside.granted) (sym (began_is c _ w.self-inside-is c.in_ok-reserve.ensures.items _ _ refl w.in_ok-reserve-2.ensures.items)) order;
-            ledger = ledger_fits c (ap (λ (i : Inside). vec_len i.ledger) w.self-inside-is) (ap (λ (i : Inside). vec_capacity i.ledger) w.self-inside-is);
+            order = subst (λ (s : SlabState). IsInOrder s c.self.inside.granted) (sym (began_is c _ w.self-inside-is c.in_ok-reserve.ensures.same _ _ refl w.in_ok-reserve-2.ensures.items)) order;
+            ledger = ledger_fits c _ w.self-inside-is c.in_ok-reserve.ensures.same;
+            base = pages_told c _ w.self-inside-is c.in_ok-reserve.ensures.same;
             pool = omega (arith, w.in_ok-reserve-2.ensures.ok, truth_le (c.args.dst == 0));
             classes = fits-to_pool c.self.inside c.args.dst c.self.invariant w.if-dst-eq0.true;
             linked = c.self.invariant.linked;
-            ordinary = c.self.invariant.ordinary ∙ sym (ordinary_pushed c _ w.self-inside-is c.in_ok-reserve.ensures.items);
+            ordinary = c.self.invariant.ordinary ∙ sym (ordinary_told c _ w.self-inside-is c.in_ok-reserve.ensures.same);
             aged = c.self.invariant.aged;
             rows = c.self.invariant.rows;
           })
@@ -152,13 +163,14 @@ invariant_of-self-2 c =
           let read = read_state c.self.inside c.args.dst _ _ is refl w.index_mut-slab.ensures.value in
           subst kept (sym w.self-inside-is) (record {
             order = subst (λ (s : SlabState). IsInOrder s c.self.inside.granted)
-                (sym (began_is c _ w.self-inside-is c.in_ok-reserve.ensures.items _ _ (states_roomier c.self.inside c.args.dst _ w.make_room.new.self is w.index_mut-slab.ensures.value w.in_ok-make_room.ensures.state) refl)) order;
-            ledger = ledger_fits c (ap (λ (i : Inside). vec_len i.ledger) w.self-inside-is) (ap (λ (i : Inside). vec_capacity i.ledger) w.self-inside-is);
+                (sym (began_is c _ w.self-inside-is c.in_ok-reserve.ensures.same _ _ (states_roomier c.self.inside c.args.dst _ w.make_room.new.self is w.index_mut-slab.ensures.value w.in_ok-make_room.ensures.state) refl)) order;
+            ledger = ledger_fits c _ w.self-inside-is c.in_ok-reserve.ensures.same;
+            base = pages_told c _ w.self-inside-is c.in_ok-reserve.ensures.same;
             pool = omega (arith, c.self.invariant.pool, not_awaited c.args.dst 0 w.if-dst-eq0.false);
             classes = fits-to_class c.self.inside c.args.dst _ w.make_room.new.self c.self.invariant is w.index_mut-slab.ensures.value w.in_ok-make_room.ensures.state
                 (omega (arith, w.page_count.ensures, ap (λ (class : ClassState). length class.pages) read, w.in_ok-make_room.ensures.ok));
             linked = c.self.invariant.linked;
-            ordinary = c.self.invariant.ordinary ∙ sym (ordinary_pushed c _ w.self-inside-is c.in_ok-reserve.ensures.items);
+            ordinary = c.self.invariant.ordinary ∙ sym (ordinary_told c _ w.self-inside-is c.in_ok-reserve.ensures.same);
             aged = c.self.invariant.aged;
             rows = subst (λ (classes : List ClassState). HasRows classes (vec_len c.self.inside.owners) (sizes_of c.self.inside.rows))
                 (sym (states_roomier c.self.inside c.args.dst _ w.make_room.new.self is w.index_mut-slab.ensures.value w.in_ok-make_room.ensures.state)) c.self.invariant.rows;
@@ -174,11 +186,11 @@ returns-clause-began c =
     let began = ap (λ (s : SlabState). after_begin s c.args.src c.in_ok-source.source c.args.dst) (same_state c.self.view_is) in
     elim c.if-dst-eq0.branch [
       | then-dst-eq0+in_ok-reserve-2 w ↦
-          if_ok_at _ (λ (source : ℕ). _) _ answer (ap seen w.self-inside-is ∙ (began_is c _ w.self-inside-is c.in_ok-reserve.ensures.items _ _ refl w.in_ok-reserve-2.ensures.items ∙ began))
+          if_ok_at _ (λ (source : ℕ). _) _ answer (ap seen w.self-inside-is ∙ (began_is c _ w.self-inside-is c.in_ok-reserve.ensures.same _ _ refl w.in_ok-reserve-2.ensures.items ∙ began))
       | else-dst-eq0+in_ok-make_room w ↦
           let is = is_class here w.if-dst-eq0.false in
           let classes = states_roomier c.self.inside c.args.dst _ w.make_room.new.self is w.index_mut-slab.ensures.value w.in_ok-make_room.ensures.state in
-          if_ok_at _ (λ (source : ℕ). _) _ answer (ap seen w.self-inside-is ∙ (began_is c _ w.self-inside-is c.in_ok-reserve.ensures.items _ _ classes refl ∙ began))
+          if_ok_at _ (λ (source : ℕ). _) _ answer (ap seen w.self-inside-is ∙ (began_is c _ w.self-inside-is c.in_ok-reserve.ensures.same _ _ classes refl ∙ began))
     ]
 
 pub returns-clause-accounted : goal.returns-clause-accounted

@@ -88,6 +88,7 @@ invariant_of-self c =
     record {
       order = subst (λ (s : SlabState). IsInOrder s c.self.inside.granted) (sym (cut_is c)) (IsInOrder-after_cut (slabs_of c.self.inside) c.self.inside.granted chunk c.self.invariant.order first);
       ledger = c.self.invariant.ledger;
+      base = c.self.invariant.base;
       pool = c.self.invariant.pool;
       classes = kept.classes;
       linked = kept.linked;

@@ -1,4 +1,4 @@
-use Rattle.std.proofs.Common.{◌≡◌, ◌≢◌, ◌-◌, [], ◌∷◌, ◌++◌, vec_len, set, None, sym, ap, ◌∙◌, subst, arith}
+use Rattle.std.proofs.Common.{◌≡◌, ◌≢◌, ◌-◌, vec_len, set, None, sym, ap, ◌∙◌, subst, arith}
 use Rattle.mc_pages.specs.declared.ids.Moving.{Moving}
 use Rattle.mc_pages.specs.declared.ledger.Owner.TheVariants.{Pool, Class}
 use Rattle.mc_pages.specs.declared.ledger.Entry.TheVariants.{Ended}
@@ -8,9 +8,11 @@ use Rattle.mc_pages.specs.SlabState.{SlabState, IsClass}
 use Rattle.mc_pages.specs.Accounted.{IsMove}
 use Rattle.mc_pages.specs.Moves.{finished, after_finish, CanFinish}
 use Rattle.mc_pages.specs.InOrder.{IsInOrder, slabs_of}
+use Rattle.mc_pages.specs.Base.{Entries}
 use Rattle.mc_pages.specs.Ledger.{ordinary_count}
 use Rattle.mc_pages.proofs.Grace.{add_zero, ordinary_count-push}
 use Rattle.mc_pages.proofs.KeptFinish.{IsInOrder-finished}
+use Rattle.mc_pages.proofs.Trimmed.{told_entries}
 use Rattle.mc_pages.proofs.Roomy.{if_ok}
 use Rattle.mc_pages.proofs.RoomySlabs.{length-classes, IsClass-set}
 use Rattle.mc_pages.proofs.RoomyMoves.{Some-same}
@@ -51,13 +53,17 @@ index_mut-requires-else-dst-eq0 c =
 pub index_mut-requires-else-dst-eq0-2 : goal.index_mut-requires-else-dst-eq0-2
 index_mut-requires-else-dst-eq0-2 c = omega (arith, moving_within (slabs_of c.self.inside) c.in-Some.moving (is_move (goal.at.index_mut-requires-else-dst-eq0-2 c).After-index_mut))
 
--- the ledger has the entry at its end
-pushed : (c : After-saturating_add-self-inside) → c.push.new.self.items ≡ c.self.inside.ledger.items ++ Ended c.in-Some.moving.page c.in-Some.moving.dst ∷ []
-pushed c = c.push.ensures.items ∙ if_ok c.push.result _ _ _ c.unwrap.ensures
+-- the ledger has the entry at its end, for which there was room
+told : (c : After-saturating_add-self-inside) → c.tell.new.self ≡ told_entries c.self.inside.ledger (Ended c.in-Some.moving.page c.in-Some.moving.dst) c.tell.new.self.room
+told c = c.tell.ensures.told
 
 -- of which it is none within the limit
-ordinary_pushed : (c : After-saturating_add-self-inside) → ordinary_count c.push.new.self.items ≡ ordinary_count c.self.inside.ledger.items
-ordinary_pushed c = ap ordinary_count (pushed c) ∙ (ordinary_count-push c.self.inside.ledger.items (Ended c.in-Some.moving.page c.in-Some.moving.dst) ∙ add_zero (ordinary_count c.self.inside.ledger.items))
+ordinary_told : (c : After-saturating_add-self-inside) → ordinary_count c.tell.new.self.all ≡ ordinary_count c.self.inside.ledger.all
+ordinary_told c = ap (λ (entries : Entries). ordinary_count entries.all) (told c) ∙ (ordinary_count-push c.self.inside.ledger.all (Ended c.in-Some.moving.page c.in-Some.moving.dst) ∙ add_zero (ordinary_count c.self.inside.ledger.all))
+
+-- it tells of as many pages
+pages_told : (c : After-saturating_add-self-inside) → c.tell.new.self.pages ≡ vec_len c.self.inside.owners
+pages_told c = ap (λ (entries : Entries). entries.pages) (told c) ∙ c.self.invariant.base
 
 -- all is in order
 in_order : (c : After-index_mut) → IsInOrder (finished (slabs_of c.self.inside) c.in-Some.moving) c.self.inside.granted
@@ -68,11 +74,11 @@ seen : (c : After-index_mut) → finished (slabs_of c.self.inside) c.in-Some.mov
 seen c = ap (after_finish (slabs_of c.self.inside)) (sym c.in-Some.is) ∙ ap (λ (s : SlabState). after_finish s s.moving) (same_state c.self.view_is)
 
 -- the whole where the page went into the pool
-pooled : (c : goal.After-self-then-dst-eq0-1) → ended_with (slabs_of c.self.inside) (states c.self.inside.rows (set c.self.inside.classes.items (c.in-Some.moving.src - 1) c.remove_page.new.self)) (set c.self.inside.owners.items c.in-Some.moving.page Pool) c.push-then-dst-eq0.new.self.items c.push.new.self.items c.saturating_add-self-inside.result ≡ finished (slabs_of c.self.inside) c.in-Some.moving
+pooled : (c : goal.After-self-then-dst-eq0-1) → ended_with (slabs_of c.self.inside) (states c.self.inside.rows (set c.self.inside.classes.items (c.in-Some.moving.src - 1) c.remove_page.new.self)) (set c.self.inside.owners.items c.in-Some.moving.page Pool) c.push.new.self.items c.tell.new.self c.saturating_add-self-inside.result ≡ finished (slabs_of c.self.inside) c.in-Some.moving
 pooled c =
-    let pool = c.push-then-dst-eq0.ensures.items ∙ if_ok c.push-then-dst-eq0.result _ _ _ c.unwrap-then-dst-eq0.ensures in
-    pooled_is c.self.inside c.in-Some.moving _ _ _ _ _ (is_move (goal.at.invariant_of-self c).After-index_mut).src c.index_mut.ensures.value c.remove_page.ensures
-    pool (pushed (goal.at.invariant_of-self c).After-saturating_add-self-inside) c.saturating_add-self-inside.ensures c.if-dst-eq0.true
+    let pool = c.push.ensures.items ∙ if_ok c.push.result _ _ _ c.unwrap.ensures in
+    pooled_is c.self.inside c.in-Some.moving _ _ _ _ _ _ (is_move (goal.at.invariant_of-self c).After-index_mut).src c.index_mut.ensures.value c.remove_page.ensures
+    pool (told (goal.at.invariant_of-self c).After-saturating_add-self-inside) c.saturating_add-self-inside.ensures c.if-dst-eq0.true
 
 pub invariant_of-self : goal.invariant_of-self
 invariant_of-self c =
@@ -81,11 +87,12 @@ invariant_of-self c =
     let is = (is_move here).src in
     record {
       order = subst (λ (s : SlabState). IsInOrder s c.self.inside.granted) (sym (pooled c)) (in_order here);
-      ledger = omega (arith, c.push.new.self.ok.1);
-      pool = omega (arith, c.push-then-dst-eq0.new.self.ok.1);
+      ledger = omega arith;
+      base = pages_told (goal.at.invariant_of-self c).After-saturating_add-self-inside;
+      pool = omega (arith, c.push.new.self.ok.1);
       classes = λ other there. fits-pooled c.self.inside move _ _ c.self.invariant is c.index_mut.ensures.value c.remove_page.ensures other there.0 (IsClass-set c.self.inside.rows _ _ other _ there.1);
       linked = c.self.invariant.linked;
-      ordinary = c.self.invariant.ordinary ∙ sym (ordinary_pushed (goal.at.invariant_of-self c).After-saturating_add-self-inside);
+      ordinary = c.self.invariant.ordinary ∙ sym (ordinary_told (goal.at.invariant_of-self c).After-saturating_add-self-inside);
       aged = c.self.invariant.aged;
       rows = rows-pooled c.self.inside move (vec_len c.self.inside.owners) (sizes_of c.self.inside.rows) _ _ c.self.invariant.rows is c.index_mut.ensures.value c.remove_page.ensures;
     }
@@ -102,11 +109,11 @@ add_page-requires c =
     dst_has_room c.self.inside c.in-Some.moving _ _ c.self.invariant c.in-Some.is (is_move here).src (is_class here c.if-dst-eq0.false) (is_move here).apart c.index_mut-else-dst-eq0.ensures.value
 
 -- the whole where the page has joined its destination
-joined : (c : goal.After-self-else-dst-eq0-3-1) → joined_with (slabs_of c.self.inside) c.in-Some.moving (states c.self.inside.rows (set (set c.self.inside.classes.items (c.in-Some.moving.src - 1) c.remove_page.new.self) (c.in-Some.moving.dst - 1) c.add_page.new.self)) (set c.self.inside.owners.items c.in-Some.moving.page (Class c.in-Some.moving.dst)) c.push.new.self.items c.saturating_add-self-inside.result ≡ finished (slabs_of c.self.inside) c.in-Some.moving
+joined : (c : goal.After-self-else-dst-eq0-3-1) → joined_with (slabs_of c.self.inside) c.in-Some.moving (states c.self.inside.rows (set (set c.self.inside.classes.items (c.in-Some.moving.src - 1) c.remove_page.new.self) (c.in-Some.moving.dst - 1) c.add_page.new.self)) (set c.self.inside.owners.items c.in-Some.moving.page (Class c.in-Some.moving.dst)) c.tell.new.self c.saturating_add-self-inside.result ≡ finished (slabs_of c.self.inside) c.in-Some.moving
 joined c =
     let here = (goal.at.invariant_of-self-else-dst-eq0 c).After-index_mut in
-    joined_is c.self.inside c.in-Some.moving _ _ _ _ _ _ (is_move here).src (is_class here c.if-dst-eq0.false) c.index_mut.ensures.value c.remove_page.ensures c.index_mut-else-dst-eq0.ensures.value c.add_page.ensures
-    (pushed (goal.at.invariant_of-self-else-dst-eq0 c).After-saturating_add-self-inside) c.saturating_add-self-inside.ensures c.if-dst-eq0.false
+    joined_is c.self.inside c.in-Some.moving _ _ _ _ _ _ _ (is_move here).src (is_class here c.if-dst-eq0.false) c.index_mut.ensures.value c.remove_page.ensures c.index_mut-else-dst-eq0.ensures.value c.add_page.ensures
+    (told (goal.at.invariant_of-self-else-dst-eq0 c).After-saturating_add-self-inside) c.saturating_add-self-inside.ensures c.if-dst-eq0.false
 
 pub invariant_of-self-else-dst-eq0 : goal.invariant_of-self-else-dst-eq0
 invariant_of-self-else-dst-eq0 c =
@@ -116,12 +123,13 @@ invariant_of-self-else-dst-eq0 c =
     let to = is_class here c.if-dst-eq0.false in
     record {
       order = subst (λ (s : SlabState). IsInOrder s c.self.inside.granted) (sym (joined c)) (in_order here);
-      ledger = omega (arith, c.push.new.self.ok.1);
+      ledger = omega arith;
+      base = pages_told (goal.at.invariant_of-self-else-dst-eq0 c).After-saturating_add-self-inside;
       pool = omega (arith, c.self.inside.pool.ok.1);
       classes = λ other there.
           fits-joined c.self.inside move _ _ _ _ c.self.invariant c.in-Some.is is.src to is.apart c.index_mut.ensures.value c.remove_page.ensures c.index_mut-else-dst-eq0.ensures.value c.add_page.ensures other there.0 (within-both c.self.inside.rows _ _ _ other _ _ there.1);
       linked = c.self.invariant.linked;
-      ordinary = c.self.invariant.ordinary ∙ sym (ordinary_pushed (goal.at.invariant_of-self-else-dst-eq0 c).After-saturating_add-self-inside);
+      ordinary = c.self.invariant.ordinary ∙ sym (ordinary_told (goal.at.invariant_of-self-else-dst-eq0 c).After-saturating_add-self-inside);
       aged = c.self.invariant.aged;
       rows = rows-joined c.self.inside move (vec_len c.self.inside.owners) (sizes_of c.self.inside.rows) _ _ _ _ c.self.invariant.rows is.src to c.index_mut.ensures.value c.remove_page.ensures c.index_mut-else-dst-eq0.ensures.value c.add_page.ensures;
     }

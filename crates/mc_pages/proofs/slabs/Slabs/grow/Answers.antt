@@ -1,4 +1,4 @@
-use Rattle.std.proofs.Common.{◌≡◌, ℕ, ◌+◌, ◌-◌, ◌<◌, ◌≤◌, Bool, not, List, [], ◌∷◌, ◌++◌, length, vec_len, vec_capacity, set, take_all, take, is_some, Some, None, refl, sym, ap, ap₂, ◌∙◌, subst, arith}
+use Rattle.std.proofs.Common.{◌≡◌, ℕ, ◌+◌, ◌-◌, ◌<◌, ◌≤◌, Bool, not, List, length, vec_len, set, take_all, take, is_some, Some, None, refl, sym, ap, ap₂, ◌∙◌, subst, arith}
 use mir.Val.{bool_byte}
 use Rattle.std.specs.Vec.{with_item}
 use Rattle.mc_pages.specs.declared.ledger.Owner.TheVariants.{Class}
@@ -7,6 +7,7 @@ use Rattle.mc_pages.specs.declared.ledger.Entry.TheVariants.{Granted, Taken}
 use Rattle.mc_pages.specs.declared.slabs.Slabs.TheInside.{Inside}
 use Rattle.mc_pages.specs.ClassState.{ClassState, with_page}
 use Rattle.mc_pages.specs.SlabState.{SlabState, IsClass, class_at}
+use Rattle.mc_pages.specs.Base.{Entries}
 use Rattle.mc_pages.specs.Ledger.{ordinary_count}
 use Rattle.mc_pages.specs.Changes.{has_ordinary_page, next_page, after_grow, after_take, after_grant}
 use Rattle.mc_pages.specs.Accounted.{truth}
@@ -16,7 +17,7 @@ use Rattle.mc_pages.specs.InOrder.{IsInOrder, HasRows, AreKept, slabs_of, is_awa
 use Rattle.mc_pages.proofs.Grace.{add_zero, ordinary_count-push}
 use Rattle.mc_pages.proofs.Kept.{pages_below}
 use Rattle.mc_pages.proofs.KeptPages.{IsInOrder-after_take, IsInOrder-after_grant}
-use Rattle.mc_pages.proofs.Roomy.{if_ok}
+use Rattle.mc_pages.proofs.Trimmed.{told_entries}
 use Rattle.mc_pages.proofs.RoomySlabs.{Fits, length-classes, read_state, with_roomy, HasRows-with_class}
 use Rattle.mc_pages.proofs.RoomyGrow.{on_err, truth_le, truth_byte, grow_takes, grow_grants, take_is, grant_is, next_pooled, next_granted, fits-given, next_within, states_roomier, fits-roomier}
 use Rattle.mc_pages.proofs.Roomy.{same_state}
@@ -49,8 +50,8 @@ pub make_room-requires : goal.make_room-requires
 make_room-requires c = omega (arith, few (goal.at.make_room-requires c).After-page_count)
 
 -- and one more where a page is on the move at all
-entries : (c : After-page_count) → c.from.result ≡ truth (is_some c.self.inside.moving)
-entries c = c.from.ensures ∙ (truth_byte c.is_some.result ∙ ap truth c.is_some.ensures)
+entries : (c : After-page_count) → c.from-ends.result ≡ truth (is_some c.self.inside.moving)
+entries c = c.from-ends.ensures ∙ (truth_byte c.is_some.result ∙ ap truth c.is_some.ensures)
 
 -- the page is the next one
 is_next : (c : After-page_count) → next_page (slabs_of c.self.inside) c.args.class ≡ Some c.in_ok-page.page
@@ -61,23 +62,24 @@ is_grace : (c : After-page_count) → not c.has_ordinary_page-grace.result ≡ n
 is_grace c = ap not (c.has_ordinary_page-grace.ensures ∙ ap has_ordinary_page (sym (same_state c.self.view_is)))
 
 -- what was reserved changes nothing that callers see
-refused_is : (c : goal.After-from_residual-in_err-make_room) → record (slabs_of c.self.inside) { classes = states c.self.inside.rows (set c.self.inside.classes.items (c.args.class - 1) c.make_room.new.self); ledger = c.reserve.new.list.items } ≡ slabs_of c.self.inside
+refused_is : (c : goal.After-from_residual-in_err-make_room) → record (slabs_of c.self.inside) { classes = states c.self.inside.rows (set c.self.inside.classes.items (c.args.class - 1) c.make_room.new.self); ledger = c.reserve.new.self.all; trimmed = c.reserve.new.self.trimmed } ≡ slabs_of c.self.inside
 refused_is c =
     let is = is_class (goal.at.invariant_of-self-in_err-make_room c).After-page_count in
-    ap₂ (λ (classes : List ClassState) (ledger : List Entry). record (slabs_of c.self.inside) { classes = classes; ledger = ledger })
+    ap₂ (λ (classes : List ClassState) (entries : Entries). record (slabs_of c.self.inside) { classes = classes; ledger = entries.all; trimmed = entries.trimmed })
     (states_roomier c.self.inside c.args.class _ c.make_room.new.self is c.index_mut-slab.ensures.value c.in_err-make_room.ensures.state)
-    c.in_ok-reserve.ensures.items
+    c.in_ok-reserve.ensures.same
 
 pub invariant_of-self-in_err-make_room : goal.invariant_of-self-in_err-make_room
 invariant_of-self-in_err-make_room c =
     let is = is_class (goal.at.invariant_of-self-in_err-make_room c).After-page_count in
     record {
       order = subst (λ (s : SlabState). IsInOrder s c.self.inside.granted) (sym (refused_is c)) c.self.invariant.order;
-      ledger = omega (arith, c.self.invariant.ledger, c.in_ok-reserve.ensures.len, c.in_ok-reserve.ensures.capacity);
+      ledger = omega (arith, c.self.invariant.ledger, c.in_ok-reserve.ensures.kept);
+      base = ap (λ (entries : Entries). entries.pages) c.in_ok-reserve.ensures.same ∙ c.self.invariant.base;
       pool = c.self.invariant.pool;
       classes = fits-roomier c.self.inside c.args.class _ c.make_room.new.self c.self.invariant is c.index_mut-slab.ensures.value c.in_err-make_room.ensures.state c.in_err-make_room.ensures.kept;
       linked = c.self.invariant.linked;
-      ordinary = c.self.invariant.ordinary ∙ sym (ap ordinary_count c.in_ok-reserve.ensures.items);
+      ordinary = c.self.invariant.ordinary ∙ sym (ap (λ (entries : Entries). ordinary_count entries.all) c.in_ok-reserve.ensures.same);
       aged = c.self.invariant.aged;
       rows = subst (λ (s : SlabState). HasRows s.classes (vec_len c.self.inside.owners) (sizes_of c.self.inside.rows)) (sym (refused_is c)) c.self.invariant.rows;
     }
@@ -101,7 +103,7 @@ index_mut-requires c =
 abbrev given : (c : goal.After-self-4-1) → Inside → Inside
 given c inside = record inside {
   owners = with_item inside.owners c.in_ok-page.page (Class c.args.class);
-  ledger = c.push.new.self;
+  ledger = c.tell.new.self;
   uncut = Some (record { page = c.in_ok-page.page; index = 0 });
 }
 
@@ -110,7 +112,7 @@ abbrev taken_inside : (c : goal.After-self-4-1) → Inside
 taken_inside c = record c.self.inside {
   classes = with_item c.self.inside.classes (c.args.class - 1) c.add_page.new.self;
   pool = c.pop.new.self;
-  ledger = c.reserve.new.list;
+  ledger = c.reserve.new.self;
 }
 
 -- and where it was untouched
@@ -122,15 +124,19 @@ abbrev granted_inside : (c : goal.After-self-4-1) → Inside
 granted_inside c = counted_inside c (bool_byte (not (not c.has_ordinary_page-grace.result)))
 
 -- the ledger has the entry at its end
-pushed : (c : goal.After-self-4-1) (inside : Inside) (entry : Entry) → c.match-pop.self-inside ≡ inside → c.match-pop.entry ≡ entry → inside.ledger.items ≡ c.self.inside.ledger.items → c.push.new.self.items ≡ c.self.inside.ledger.items ++ entry ∷ []
-pushed c inside entry is entry_is before =
-    c.push.ensures.items ∙ (if_ok c.push.result _ _ _ c.unwrap.ensures
-    ∙ (ap₂ (λ (i : Inside) (e : Entry). i.ledger.items ++ e ∷ []) is entry_is ∙ ap (λ (entries : List Entry). entries ++ entry ∷ []) before))
+told : (c : goal.After-self-4-1) (inside : Inside) (entry : Entry) → c.match-pop.self-inside ≡ inside → c.match-pop.entry ≡ entry → inside.ledger ≡ record c.self.inside.ledger { room = c.reserve.new.self.room } → c.tell.new.self ≡ told_entries c.self.inside.ledger entry c.tell.new.self.room
+told c inside entry is entry_is before =
+    c.tell.ensures.told
+    ∙ (ap₂ (λ (i : Inside) (e : Entry). told_entries i.ledger e c.tell.new.self.room) is entry_is ∙ ap (λ (entries : Entries). told_entries entries entry c.tell.new.self.room) before)
 
 -- and room for one more where a page is on the move
-ledger_fits : (c : goal.After-self-4-1) → vec_len c.match-pop.self-inside.ledger ≡ vec_len c.reserve.new.list → vec_capacity c.match-pop.self-inside.ledger ≡ vec_capacity c.reserve.new.list → vec_len c.push.new.self + truth (is_some c.self.inside.moving) ≤ vec_capacity c.push.new.self
-ledger_fits c len capacity =
-    omega (arith, len, capacity, c.push.ensures.upper_bound, c.push.ensures.capacity, c.in_ok-reserve.ensures.ok, entries (goal.at.invariant_of-self-3 c).After-page_count)
+ledger_fits : (c : goal.After-self-4-1) (inside : Inside) → c.match-pop.self-inside ≡ inside → inside.ledger ≡ record c.self.inside.ledger { room = c.reserve.new.self.room } → truth (is_some c.self.inside.moving) ≤ c.tell.new.self.room
+ledger_fits c inside is before =
+    omega (arith, c.tell.ensures.room, ap (λ (i : Inside). i.ledger.room) is, ap (λ (entries : Entries). entries.room) before, c.in_ok-reserve.ensures.room, entries (goal.at.invariant_of-self-3 c).After-page_count)
+
+-- it tells of as many pages
+pages_told : (c : goal.After-self-4-1) (entry : Entry) → c.tell.new.self ≡ told_entries c.self.inside.ledger entry c.tell.new.self.room → c.tell.new.self.pages ≡ vec_len c.self.inside.owners
+pages_told c entry is = ap (λ (all : Entries). all.pages) is ∙ c.self.invariant.base
 
 -- each class keeps its room
 all_fit : (c : goal.After-self-4-1) (other : ℕ) → IsClass (slabs_of (with_roomy c.self.inside (c.args.class - 1) c.add_page.new.self)) other → Fits c.self.inside.rows (set c.self.inside.classes.items (c.args.class - 1) c.add_page.new.self) (truth (is_awaited c.self.inside.moving other)) other
@@ -148,8 +154,8 @@ has_rows c =
 taken_is : (c : goal.After-self-4-1) → c.match-pop.self-inside ≡ taken_inside c → c.match-pop.entry ≡ Taken c.in_ok-page.page c.args.class → slabs_of (given c (taken_inside c)) ≡ after_take (slabs_of c.self.inside) c.args.class c.in_ok-page.page
 taken_is c is entry =
     let pool = c.pop.ensures.rest ∙ ap (λ (n : ℕ). take (n - 1) c.self.inside.pool.items) c.self.inside.pool.ok.0 in
-    take_is c.self.inside c.args.class c.in_ok-page.page _ c.make_room.new.self _ _ _ (is_class (goal.at.invariant_of-self-3 c).After-page_count) c.index_mut-slab.ensures.value c.in_ok-make_room.ensures.state c.add_page.ensures
-    pool (pushed c (taken_inside c) _ is entry c.in_ok-reserve.ensures.items)
+    take_is c.self.inside c.args.class c.in_ok-page.page _ c.make_room.new.self _ _ _ _ (is_class (goal.at.invariant_of-self-3 c).After-page_count) c.index_mut-slab.ensures.value c.in_ok-make_room.ensures.state c.add_page.ensures
+    pool (told c (taken_inside c) _ is entry c.in_ok-reserve.ensures.same)
 
 taken_kept : (c : goal.After-self-4-1) → c.match-pop.self-inside ≡ taken_inside c → c.match-pop.entry ≡ Taken c.in_ok-page.page c.args.class → 0 < length c.self.inside.pool.items → AreKept (given c (taken_inside c))
 taken_kept c is entry some =
@@ -159,27 +165,28 @@ taken_kept c is entry some =
     record {
       order = subst (λ (s : SlabState). IsInOrder s c.self.inside.granted) (sym (taken_is c is entry))
           (IsInOrder-after_take slabs c.self.inside.granted c.args.class c.in_ok-page.page c.self.invariant.order (is_class here) whole (next_pooled slabs c.args.class c.in_ok-page.page some (is_next here)));
-      ledger = ledger_fits c (ap (λ (i : Inside). vec_len i.ledger) is) (ap (λ (i : Inside). vec_capacity i.ledger) is);
+      ledger = ledger_fits c _ is c.in_ok-reserve.ensures.same;
+      base = pages_told c _ (told c _ _ is entry c.in_ok-reserve.ensures.same);
       pool = omega (arith, c.self.invariant.pool, c.pop.ensures.len, c.pop.ensures.capacity);
       classes = all_fit c;
       linked = c.self.invariant.linked;
-      ordinary = c.self.invariant.ordinary ∙ sym (ap ordinary_count (pushed c _ _ is entry c.in_ok-reserve.ensures.items) ∙ (ordinary_count-push c.self.inside.ledger.items (Taken c.in_ok-page.page c.args.class) ∙ add_zero (ordinary_count c.self.inside.ledger.items)));
+      ordinary = c.self.invariant.ordinary ∙ sym (ap (λ (all : Entries). ordinary_count all.all) (told c _ _ is entry c.in_ok-reserve.ensures.same) ∙ (ordinary_count-push c.self.inside.ledger.all (Taken c.in_ok-page.page c.args.class) ∙ add_zero (ordinary_count c.self.inside.ledger.all)));
       aged = c.self.invariant.aged;
       rows = subst (λ (s : SlabState). HasRows s.classes (vec_len c.self.inside.owners) (sizes_of c.self.inside.rows)) (sym (taken_is c is entry)) (has_rows c);
     }
 
 -- the ledger where the page was untouched
-granted_pushed : (c : goal.After-self-4-1) → c.match-pop.self-inside ≡ granted_inside c → c.match-pop.entry ≡ Granted c.in_ok-page.page c.args.class (not c.has_ordinary_page-grace.result) → c.push.new.self.items ≡ c.self.inside.ledger.items ++ Granted c.in_ok-page.page c.args.class (not (has_ordinary_page (slabs_of c.self.inside))) ∷ []
-granted_pushed c is entry =
-    pushed c (granted_inside c) _ is entry c.in_ok-reserve.ensures.items
-    ∙ ap (λ (grace : Bool). c.self.inside.ledger.items ++ Granted c.in_ok-page.page c.args.class grace ∷ []) (is_grace (goal.at.invariant_of-self-3 c).After-page_count)
+granted_told : (c : goal.After-self-4-1) → c.match-pop.self-inside ≡ granted_inside c → c.match-pop.entry ≡ Granted c.in_ok-page.page c.args.class (not c.has_ordinary_page-grace.result) → c.tell.new.self ≡ told_entries c.self.inside.ledger (Granted c.in_ok-page.page c.args.class (not (has_ordinary_page (slabs_of c.self.inside)))) c.tell.new.self.room
+granted_told c is entry =
+    told c (granted_inside c) _ is entry c.in_ok-reserve.ensures.same
+    ∙ ap (λ (grace : Bool). told_entries c.self.inside.ledger (Granted c.in_ok-page.page c.args.class grace) c.tell.new.self.room) (is_grace (goal.at.invariant_of-self-3 c).After-page_count)
 
 -- the whole where the page was untouched
 granted_is : (c : goal.After-self-4-1) → c.match-pop.self-inside ≡ granted_inside c → c.match-pop.entry ≡ Granted c.in_ok-page.page c.args.class (not c.has_ordinary_page-grace.result) → length c.self.inside.pool.items ≡ 0 → slabs_of (given c (granted_inside c)) ≡ after_grant (slabs_of c.self.inside) c.args.class c.in_ok-page.page
 granted_is c is entry none =
     let pool = c.pop.ensures.rest ∙ take_all _ c.self.inside.pool.items (omega arith) in
-    grant_is c.self.inside c.args.class c.in_ok-page.page _ c.make_room.new.self _ _ _ (is_class (goal.at.invariant_of-self-3 c).After-page_count) c.index_mut-slab.ensures.value c.in_ok-make_room.ensures.state c.add_page.ensures
-    pool (granted_pushed c is entry)
+    grant_is c.self.inside c.args.class c.in_ok-page.page _ c.make_room.new.self _ _ _ _ (is_class (goal.at.invariant_of-self-3 c).After-page_count) c.index_mut-slab.ensures.value c.in_ok-make_room.ensures.state c.add_page.ensures
+    pool (granted_told c is entry)
 
 granted_kept : (c : goal.After-self-4-1) → c.match-pop.self-inside ≡ granted_inside c → c.match-pop.entry ≡ Granted c.in_ok-page.page c.args.class (not c.has_ordinary_page-grace.result) → length c.self.inside.pool.items ≡ 0 → AreKept (given c (granted_inside c))
 granted_kept c is entry none =
@@ -192,11 +199,12 @@ granted_kept c is entry none =
     record {
       order = subst (λ (s : SlabState). IsInOrder s (c.self.inside.granted + 1)) (sym granted)
           (IsInOrder-after_grant slabs c.self.inside.granted c.args.class c.self.invariant.order (is_class here) whole next.1 next.2);
-      ledger = ledger_fits c (ap (λ (i : Inside). vec_len i.ledger) is) (ap (λ (i : Inside). vec_capacity i.ledger) is);
+      ledger = ledger_fits c _ is c.in_ok-reserve.ensures.same;
+      base = pages_told c _ (granted_told c is entry);
       pool = omega (arith, c.self.invariant.pool, c.pop.ensures.len, c.pop.ensures.capacity);
       classes = all_fit c;
       linked = c.self.invariant.linked;
-      ordinary = omega (arith, c.self.invariant.ordinary, ordinary, ap ordinary_count (granted_pushed c is entry), ordinary_count-push c.self.inside.ledger.items (Granted c.in_ok-page.page c.args.class (not (has_ordinary_page slabs))));
+      ordinary = omega (arith, c.self.invariant.ordinary, ordinary, ap (λ (all : Entries). ordinary_count all.all) (granted_told c is entry), ordinary_count-push c.self.inside.ledger.all (Granted c.in_ok-page.page c.args.class (not (has_ordinary_page slabs))));
       aged = c.self.invariant.aged;
       rows = subst (λ (s : SlabState). HasRows s.classes (vec_len c.self.inside.owners) (sizes_of c.self.inside.rows)) (sym (granted_is c is entry none)) (has_rows c);
     }
@@ -206,7 +214,7 @@ invariant_of-self-3 c =
     let kept : Inside → Type 0 = λ i. AreKept (given c i) in
     elim c.match-pop.branch [
       | in-Some w ↦ subst kept (sym w.self-inside-is) (taken_kept c w.self-inside-is w.entry-is (omega (arith, w.in-Some.ensures.cases)))
-      | in-None w ↦ subst kept (sym (w.self-inside-is ∙ ap (counted_inside c) w.from-in-None.ensures)) (granted_kept c (w.self-inside-is ∙ ap (counted_inside c) w.from-in-None.ensures) w.entry-is (omega (arith, w.in-None.ensures.cases)))
+      | in-None w ↦ subst kept (sym (w.self-inside-is ∙ ap (counted_inside c) w.from.ensures)) (granted_kept c (w.self-inside-is ∙ ap (counted_inside c) w.from.ensures) w.entry-is (omega (arith, w.in-None.ensures.cases)))
     ]
 
 pub returns-clause-given : goal.returns-clause-given
@@ -223,7 +231,7 @@ returns-clause-given c =
       )
       | in-None w ↦ (
         next,
-        ap seen (w.self-inside-is ∙ ap (counted_inside c) w.from-in-None.ensures) ∙ (granted_is c (w.self-inside-is ∙ ap (counted_inside c) w.from-in-None.ensures) w.entry-is (omega (arith, w.in-None.ensures.cases))
+        ap seen (w.self-inside-is ∙ ap (counted_inside c) w.from.ensures) ∙ (granted_is c (w.self-inside-is ∙ ap (counted_inside c) w.from.ensures) w.entry-is (omega (arith, w.in-None.ensures.cases))
             ∙ (sym (grow_grants slabs c.args.class c.in_ok-page.page (omega (arith, w.in-None.ensures.cases))) ∙ grown)),
       )
     ]

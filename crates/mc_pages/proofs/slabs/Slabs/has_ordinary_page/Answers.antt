@@ -1,6 +1,5 @@
-use Rattle.std.proofs.Common.{◌≡◌, ℕ, ◌+◌, ◌-◌, ◌/◌, ◌≤◌, length, nat_lt, sym, ap, ap₂, ◌∙◌, arith}
+use Rattle.std.proofs.Common.{◌≡◌, ℕ, ◌+◌, ◌-◌, ◌/◌, length, nat_lt, ap, ap₂, ◌∙◌, arith}
 use Rattle.mc_pages.specs.declared.slabs.Slabs.TheInside.{Inside}
-use Rattle.mc_pages.specs.SlabState.{page_count}
 use Rattle.mc_pages.specs.Changes.{has_ordinary_page}
 use Rattle.mc_pages.specs.InOrder.{AreKept, slabs_of}
 use Rattle.mc_pages.proofs.GrantedPage.{length-owners}

@@ -1,5 +1,4 @@
-use Rattle.std.proofs.Common.{◌≡◌, ℕ, ◌-◌, Bool, true, false, ◌||◌, List, length, slice_get, Some, None, refl, sym, ap, ◌∙◌, subst}
-use Rattle.std.proofs.lemmas.Bool.{or_left, or_right}
+use Rattle.std.proofs.Common.{◌≡◌, ℕ, ◌-◌, true, ◌||◌, List, length, slice_get, None, sym, ap, ◌∙◌, subst}
 use Rattle.mc_pages.specs.SlabState.{SlabState, IsClass}
 use Rattle.mc_pages.specs.Changes.{pooled_page, has_ordinary_page, is_without_page, next_page}
 use Rattle.mc_pages.specs.InOrder.{slabs_of}

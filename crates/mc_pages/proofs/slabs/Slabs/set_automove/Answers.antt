@@ -7,6 +7,7 @@ invariant_of-self c =
     record {
       order = IsInOrder-automove (slabs_of c.self.inside) c.self.inside.granted c.args.mode c.requires c.self.invariant.order;
       ledger = c.self.invariant.ledger;
+      base = c.self.invariant.base;
       pool = c.self.invariant.pool;
       classes = c.self.invariant.classes;
       linked = c.self.invariant.linked;

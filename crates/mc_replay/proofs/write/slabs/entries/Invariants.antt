@@ -1,6 +1,6 @@
 use Rattle.std.proofs.Common.{◌≡◌, ◌++◌, drop, flat_map, string_bytes}
 use Rattle.mc_replay.specs.Written.{entry_line}
-use Rattle.mc_replay.proofs.write.slabs.ledger.Given as goal
+use Rattle.mc_replay.proofs.write.slabs.entries.Given as goal
 
 -- the lines so far, and those that are left
 abbrev pub invariant-loop-change : goal.invariant-loop-change

@@ -4,7 +4,7 @@ use Rattle.mc_core.specs.declared.event.StripeChange.TheVariants.{Trim}
 use Rattle.mc_words.specs.hand.Arenas.{IsHandOf, view}
 use Rattle.mc_words.specs.hand.Ready.{IsReady}
 use Rattle.mc_mover.specs.Recording.{ChangesEach}
-use Rattle.mc_mover.proofs.recording.trim.Given as goal
+use Rattle.mc_mover.proofs.recording.trim_stripes.Given as goal
 
 -- the stripes so far changed
 abbrev pub invariant-loop-stripe : goal.invariant-loop-stripe

@@ -1,0 +1,68 @@
+use Rattle.std.proofs.Common.{ℕ, List, sym, subst, ◌∙◌, Result, Ok, Err, OnErr}
+use Rattle.std.specs.List.{range_with_len}
+use Rattle.mc_core.specs.declared.event.StripeChange.TheVariants.{Trim}
+use Rattle.mc_words.specs.hand.View.{View}
+use Rattle.mc_words.specs.lock.Doing.{HoldsStripe}
+use Rattle.mc_mover.specs.Recording.{Changes, ChangesEach, Leaves}
+use Rattle.mc_mover.proofs.Recorded.{each_keeps, each_more, hold_keeps, holdings_kept, mine_kept, numbers_more, refs_kept, said_kept, leaves_quiet}
+use Rattle.mc_mover.proofs.recording.trim_stripes.Goals as goal
+
+-- what holds whatever the result is
+stopped : {A E : Type 0} {P : Type 0} (result : Result A E) → P → OnErr result P
+stopped (Ok a) holds = tt
+stopped (Err e) holds = holds
+
+pub returns-in_err-trim_stripe-clause-stops : goal.returns-in_err-trim_stripe-clause-stops
+returns-in_err-trim_stripe-clause-stops g c = stopped c.from_residual.result (record {
+  stripe = c.loop-stripe.stripe;
+  before = c.loop-stripe.hand.seat.me.0;
+  trims = c.loop-stripe.invariant.so_far;
+  stops = c.in_err-trim_stripe.ensures.leaves;
+})
+
+pub returns-in_err-trim_stripe-clause-holdings : goal.returns-in_err-trim_stripe-clause-holdings
+returns-in_err-trim_stripe-clause-holdings g c = holdings_kept c.args.hand.now c.trim_stripe.new.hand
+    (hold_keeps Leaves leaves_quiet c.loop-stripe.stripe c.loop-stripe.hand.seat.me.0 c.trim_stripe.new.hand.seat.me.0 c.in_err-trim_stripe.ensures.leaves
+    ∙ each_keeps Trim c.args.hand.now.number (range_with_len 0 c.loop-stripe.stripe) c.args.hand.now.seat.me.0 c.loop-stripe.hand.seat.me.0 c.loop-stripe.invariant.so_far)
+
+pub returns-in_err-trim_stripe-clause-keeps : goal.returns-in_err-trim_stripe-clause-keeps
+returns-in_err-trim_stripe-clause-keeps g c = refs_kept c.args.hand.now c.trim_stripe.new.hand
+    (hold_keeps Leaves leaves_quiet c.loop-stripe.stripe c.loop-stripe.hand.seat.me.0 c.trim_stripe.new.hand.seat.me.0 c.in_err-trim_stripe.ensures.leaves
+    ∙ each_keeps Trim c.args.hand.now.number (range_with_len 0 c.loop-stripe.stripe) c.args.hand.now.seat.me.0 c.loop-stripe.hand.seat.me.0 c.loop-stripe.invariant.so_far)
+
+pub returns-in_err-trim_stripe-clause-unsaid : goal.returns-in_err-trim_stripe-clause-unsaid
+returns-in_err-trim_stripe-clause-unsaid g c = said_kept c.args.hand.now c.trim_stripe.new.hand
+    (hold_keeps Leaves leaves_quiet c.loop-stripe.stripe c.loop-stripe.hand.seat.me.0 c.trim_stripe.new.hand.seat.me.0 c.in_err-trim_stripe.ensures.leaves
+    ∙ each_keeps Trim c.args.hand.now.number (range_with_len 0 c.loop-stripe.stripe) c.args.hand.now.seat.me.0 c.loop-stripe.hand.seat.me.0 c.loop-stripe.invariant.so_far)
+
+pub returns-in_err-trim_stripe-clause-untold : goal.returns-in_err-trim_stripe-clause-untold
+returns-in_err-trim_stripe-clause-untold g c = mine_kept c.args.hand.now c.trim_stripe.new.hand
+    (hold_keeps Leaves leaves_quiet c.loop-stripe.stripe c.loop-stripe.hand.seat.me.0 c.trim_stripe.new.hand.seat.me.0 c.in_err-trim_stripe.ensures.leaves
+    ∙ each_keeps Trim c.args.hand.now.number (range_with_len 0 c.loop-stripe.stripe) c.args.hand.now.seat.me.0 c.loop-stripe.hand.seat.me.0 c.loop-stripe.invariant.so_far)
+
+pub loop-stripe-preserved : goal.loop-stripe-preserved
+loop-stripe-preserved g c =
+    let inv = c.loop-stripe.invariant in
+    let stripe = c.loop-stripe.stripe in
+    let view : View = c.args.hand.now.seat.me.0 in
+    let before : View = c.loop-stripe.hand.seat.me.0 in
+    let now : View = c.trim_stripe.new.hand.seat.me.0 in
+    let one = subst (λ (n : ℕ). HoldsStripe stripe (Changes Trim n stripe) before now) inv.number c.in_ok-trim_stripe.ensures.trims in record {
+      arena = c.trim_stripe.ensures.arena;
+      ready = c.trim_stripe.ensures.ready;
+      locks = c.trim_stripe.ensures.locks ∙ inv.locks;
+      number = c.trim_stripe.ensures.number ∙ inv.number;
+      so_far = subst (λ (stripes : List ℕ). ChangesEach Trim c.args.hand.now.number stripes view now) (sym (numbers_more stripe)) (each_more Trim c.args.hand.now.number stripe (range_with_len 0 stripe) view before now inv.so_far one);
+    }
+
+pub returns-clause-holdings : goal.returns-clause-holdings
+returns-clause-holdings g c = holdings_kept c.args.hand.now c.loop-stripe.hand (each_keeps Trim c.args.hand.now.number (range_with_len 0 c.loop-stripe.stripe) c.args.hand.now.seat.me.0 c.loop-stripe.hand.seat.me.0 c.loop-stripe.invariant.so_far)
+
+pub returns-clause-keeps : goal.returns-clause-keeps
+returns-clause-keeps g c = refs_kept c.args.hand.now c.loop-stripe.hand (each_keeps Trim c.args.hand.now.number (range_with_len 0 c.loop-stripe.stripe) c.args.hand.now.seat.me.0 c.loop-stripe.hand.seat.me.0 c.loop-stripe.invariant.so_far)
+
+pub returns-clause-unsaid : goal.returns-clause-unsaid
+returns-clause-unsaid g c = said_kept c.args.hand.now c.loop-stripe.hand (each_keeps Trim c.args.hand.now.number (range_with_len 0 c.loop-stripe.stripe) c.args.hand.now.seat.me.0 c.loop-stripe.hand.seat.me.0 c.loop-stripe.invariant.so_far)
+
+pub returns-clause-untold : goal.returns-clause-untold
+returns-clause-untold g c = mine_kept c.args.hand.now c.loop-stripe.hand (each_keeps Trim c.args.hand.now.number (range_with_len 0 c.loop-stripe.stripe) c.args.hand.now.seat.me.0 c.loop-stripe.hand.seat.me.0 c.loop-stripe.invariant.so_far)

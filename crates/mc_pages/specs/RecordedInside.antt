@@ -1,0 +1,20 @@
+-- The entries of the ledger in memory.
+use Rattle.std.specs.Prelude.{◌≡◌, ◌-◌, ◌^◌, ◌++◌, min, length, replicate, vec_len, vec_capacity}
+use Rattle.mc_pages.specs.declared.recorded.Recorded.TheInside.{Inside}
+use Rattle.mc_pages.specs.Base.{Entries, left_by, never_granted}
+
+-- all entries, in memory or not
+abbrev pub entries_of : Inside → Entries
+entries_of entries = record {
+  all = entries.past.entries ++ entries.tail.items;
+  trimmed = length entries.past.entries;
+  pages = vec_len entries.base;
+  room = vec_capacity entries.tail - vec_len entries.tail;
+}
+
+-- of the entries that aren't in memory there is a count, and what they left of each page
+pub record IsRecorded (entries : Inside) : Type 0 where
+  -- so many entries aren't in memory, as far as 64 bits can tell
+  pub trimmed : entries.trimmed ≡ min (length entries.past.entries) (2 ^ 64 - 1)
+  -- the base is what these left
+  pub base : entries.base.items ≡ left_by (replicate (vec_len entries.base) never_granted) entries.past.entries
