@@ -9,6 +9,7 @@ use Rattle.mc_mover.specs.declared.numbers.Survey.{Survey}
 use Rattle.mc_mover.specs.Acting.{ActsOnce, TellsTurn}
 use Rattle.mc_mover.specs.Answering.{is_finished}
 use Rattle.mc_mover.specs.Surveying.{Surveys, evictions_in, free_in, pages_in}
+use Rattle.mc_mover.specs.Recording.{TrimsLedger}
 use Rattle.mc_mover.specs.Telling.{counts_in}
 use Rattle.mc_mover.specs.Turning.{Turns}
 use Rattle.mc_watch.specs.declared.decider.Decision.{Decision}
@@ -97,11 +98,13 @@ pub record DoesWindowTurns (done : Tended) (before now : Hand) : Type 0 where
   pub does : DoesTurns turns before now
   pub counted : done ≡ turns_tended turns
 
--- a window of a shard: it ended, turns were done, and this is what was done in all
+-- a window of a shard: it ended, turns were done, the ledger was trimmed, and this is what was done in all
 pub record TendsShard (done : Tended) (decider : DeciderState) (before : Hand) (left : DeciderState) (now : Hand) : Type 0 where
   pub answer : Option (Result (Unit {0}) Reassign)
   pub asked : Hand
   pub window : EndsWindow answer decider before left asked
   pub counts : Tended
-  pub turns : DoesWindowTurns counts asked now
+  pub turned : Hand
+  pub turns : DoesWindowTurns counts asked turned
+  pub trims : ActsOnce TrimsLedger turned now
   pub counted : done ≡ record counts { began = began_by answer }

@@ -7,7 +7,7 @@ ghost use Rattle.mc_cache.specs.Windows.{DoesWindowTurns, EndsWindow, TendsShard
 
 use crate::tended::Tended;
 use mc_memory::Refused;
-use mc_mover::{Survey, Turn, reassign, survey, turn};
+use mc_mover::{Survey, Turn, reassign, survey, trim_ledger, turn};
 use mc_pages::Reassign;
 use mc_watch::{Decider, Decision};
 use mc_words::{Arena, Hand};
@@ -17,7 +17,8 @@ use std::sync::Wait;
 // How many turns a window has at most (own).
 const TURNS: u64 = 16;
 
-// A window of one shard, by a hand of its arena and by its own decider: the survey, the move that is decided on, and turns.
+// A window of one shard, by a hand of its arena and by its own decider: the survey, the move that is decided on, and turns. Then the
+// ledger is trimmed, as the stripes record no call.
 pub(crate) fn tend_shard<R: Wait>(
     rt: &R,
     alloc: Global,
@@ -32,6 +33,7 @@ pub(crate) fn tend_shard<R: Wait>(
 {
     let answer = end_window(rt, alloc, arena, hand, decider)?;
     let mut done = do_turns(rt, arena, hand)?;
+    trim_ledger(rt, arena, hand);
     done.began = count_begun(answer);
     Ok(done)
 }
