@@ -2,6 +2,7 @@
 mod driven;
 mod plain;
 mod shared;
+mod trims;
 
 use super::{assert_equal, assert_same};
 use driven::Driven;
@@ -730,27 +731,6 @@ fn a_page_goes_through_the_pool(rt: HostRuntime) -> Result<(), Fail> {
         };
         assert_equal(&rt, all.base().get(page).copied(), Some(left), "base");
     }
-    Ok(())
-}
-
-#[test]
-fn a_trim_leaves_the_room_of_a_move(rt: HostRuntime) -> Result<(), Fail> {
-    let table = ClassTable::build(rt.alloc(), &FOUR_CLASSES)?;
-    let mut all = Driven::new(rt.alloc(), &table)?;
-    assert_grows(&rt, &mut all, 4, 0);
-    assert_grows(&rt, &mut all, 4, 1);
-    all.trim();
-    assert_equal(&rt, all.begin(Some(4), 1), Ok(()), "begin");
-    all.trim();
-    assert_same(&rt, all.trimmed(), 3, "trimmed");
-    let moving = BasePage {
-        owner: Owner::Moving { src: 4, dst: 1 },
-        grace: None,
-    };
-    assert_equal(&rt, all.base().first().copied(), Some(moving), "base");
-    assert_finishes(&rt, &mut all);
-    assert_equal(&rt, all.ledger(), [Entry::Ended(0, 1)].as_slice(), "ledger");
-    assert_equal(&rt, all.base().first().copied(), Some(moving), "base");
     Ok(())
 }
 
