@@ -1,7 +1,8 @@
 -- Every change and every step keeps what the holder of the slabs lock saw.
-use Rattle.std.proofs.Common.{◌≡◌, ◌≢◌, ℕ, ◌+◌, true, List, [], refl, sym, ap, subst, inl, inr, arith, slice_set, slice_index_or, Option, Some, None, is_some, get_or-set_same, get_or-set_other}
+use Rattle.std.proofs.Common.{◌≡◌, ◌≢◌, ℕ, ◌+◌, true, List, [], length, refl, sym, ap, ◌∙◌, subst, inl, inr, arith, slice_set, slice_index_or, Option, Some, None, is_some, get_or-set_same, get_or-set_other}
 use Rattle.std.specs.Option.{option_map_or}
-use Rattle.std.proofs.lemmas.Bool.{and_parts, both_ways, cases_eq}
+use Rattle.std.proofs.lemmas.Bool.{and_parts, both_ways, cases_eq, cases_lt}
+use Rattle.std.proofs.lemmas.List.{set_past}
 use Rattle.mc_core.specs.declared.event.Change.{Change}
 use Rattle.mc_core.specs.declared.event.Change.TheVariants.{Grow, BeginMove, FinishMove, Touch, SetAutomove, TrimLedger, Passed, Wrap, Evicted, OfStripe, GotNone, DeletedNone}
 use Rattle.mc_core.specs.declared.event.Step.TheVariants.{TakeSlabs, TakeStripe, MissSlabs, MissStripe, GiveSlabs, GiveStripe, Pop, PopOff, Fill, Word, WordHeld, Link, Refer, Unlink, Release, Discard, Condemn, PutBack, Clear, Cut, Again, Join}
@@ -10,8 +11,8 @@ use Rattle.mc_core.specs.declared.ids.Ids.{Ids}
 use Rattle.mc_core.specs.declared.look.Look.TheVariants.{Changed}
 use Rattle.mc_core.specs.Locks.{lock_word}
 use Rattle.mc_core.specs.Silent.{slabs_after}
-use Rattle.mc_core.specs.State.{gone, is_held_by, has_slabs, is_hand, number_at, looks_at, with_slabs, with_look}
-use Rattle.mc_core.specs.Past.{Moment, Hold, no_hold, with_more, moment_stepped, first_moment}
+use Rattle.mc_core.specs.State.{gone, is_held_by, has_slabs, is_hand, number_at, looks_at, stripe_at, with_slabs, with_look}
+use Rattle.mc_core.specs.Past.{Moment, Hold, begin_hold, end_hold, no_hold, with_more, moment_stepped, first_moment}
 use Rattle.mc_core.specs.Seen.{AreSeen}
 use Rattle.mc_core.specs.Laws.{MayStep, ChangesKeep, StepsKeep, StaysOfClass, HoldsAtFirst}
 use Rattle.mc_core.specs.Lawful.{IsLawful, IsSeenBy, SeenIn}
@@ -119,13 +120,31 @@ module _ (m : Moment) (hand : ℕ) where
         subst (λ looks. AreSeen m.state.table m.state.slabs m.state.heads m.state.words known' (slice_index_or holds' h no_hold).found looks) looks
         (subst (λ f. AreSeen m.state.table m.state.slabs m.state.heads m.state.words known' f (looks_at m.state h)) found seen)
 
+-- as a hold of a stripe's lock begins or ends, what was found behind that of the slabs stays
+found_stays : (holds : List Hold) (hand h : ℕ) (next : Hold) → next.found ≡ (slice_index_or holds hand no_hold).found → (slice_index_or holds h no_hold).found ≡ (slice_index_or (slice_set holds hand next) h no_hold).found
+found_stays holds hand h next same = elim (cases_eq h hand) [
+  | inl is ↦ elim (cases_lt hand (length holds)) [
+    | inl within ↦
+        subst (λ n. (slice_index_or holds n no_hold).found ≡ (slice_index_or (slice_set holds hand next) n no_hold).found) (sym is)
+        (sym same ∙ ap (λ (x : Hold). x.found) (sym (get_or-set_same holds hand next no_hold within)))
+    | inr past ↦ ap (λ (all : List Hold). (slice_index_or all h no_hold).found) (sym (set_past holds hand next past))
+  ]
+  | inr apart ↦ ap (λ (x : Hold). x.found) (sym (get_or-set_other holds hand h next no_hold apart))
+]
+
+seen_stripe : (m : Moment) (hand : ℕ) (next : Hold) → IsLawful m → next.found ≡ (slice_index_or m.past.holds hand no_hold).found → (h : ℕ) → has_slabs m.state h ≡ true
+    → AreSeen m.state.table m.state.slabs m.state.heads m.state.words (with_more m.past.known hand []) (slice_index_or (slice_set m.past.holds hand next) h no_hold).found (looks_at m.state h)
+seen_stripe m hand next l same h has =
+    subst (λ found. AreSeen m.state.table m.state.slabs m.state.heads m.state.words (with_more m.past.known hand []) found (looks_at m.state h))
+    (sym (found_stays m.past.holds hand h (slice_index_or m.past.holds hand no_hold) refl) ∙ found_stays m.past.holds hand h next same) (seen_same m hand l h has)
+
 pub seen_steps : StepsKeep SeenIn
 seen_steps m hand TakeSlabs may = seen_take m hand may
-seen_steps m hand (TakeStripe stripe) may = λ h has. seen_same m hand may.lawful h has
+seen_steps m hand (TakeStripe stripe) may = seen_stripe m hand (begin_hold stripe (stripe_at m.state stripe) (slice_index_or m.past.holds hand no_hold)) may.lawful refl
 seen_steps m hand MissSlabs may = λ h has. seen_same m hand may.lawful h has
 seen_steps m hand (MissStripe stripe) may = seen_miss_stripe m hand stripe may
 seen_steps m hand GiveSlabs may = seen_give m hand
-seen_steps m hand (GiveStripe stripe) may = λ h has. seen_same m hand may.lawful h has
+seen_steps m hand (GiveStripe stripe) may = seen_stripe m hand (end_hold stripe (stripe_at m.state stripe) (slice_index_or m.past.holds hand no_hold)) may.lawful refl
 seen_steps m hand (step.Head chunk) may = seen_head m hand chunk may
 seen_steps m hand (Pop class) may = seen_pop m hand class may
 seen_steps m hand (PopOff old) may = seen_pop_off m hand old may

@@ -5,6 +5,7 @@ use Rattle.mc_classes.specs.Classes.{Classes}
 use Rattle.mc_pages.specs.declared.ids.ChunkId.{ChunkId}
 use Rattle.mc_pages.specs.SlabState.{SlabState, fresh_slabs}
 use Rattle.mc_stripe.specs.declared.history.Call.{Call}
+use Rattle.mc_stripe.specs.StripeState.{ReadyStripe}
 use Rattle.mc_core.specs.declared.head.Head.{Head}
 use Rattle.mc_core.specs.declared.event.Change.{Change}
 use Rattle.mc_core.specs.declared.event.Event.{Event}
@@ -43,19 +44,27 @@ pub record Known : Type 0 where
 abbrev pub IsKnownToSome : List (List Known) → (Known → Type 0) → Type 0
 IsKnownToSome known P = (hand : ℕ) × (k : Known) × Contains (slice_index_or known hand []) k × P k
 
--- a hold of the slabs lock: pages and lists as it began and as it ended, and how many holds there were
+-- holds of a stripe's lock: its value as it was taken last, and as it was given back last; none before the first time
+pub record StripeHold : Type 0 where
+  pub stripe : ℕ
+  pub found : Option ReadyStripe
+  pub left : Option ReadyStripe
+
+-- holds of locks: of the slabs lock pages and lists as the last one began and as the last one ended, and how many there were; and of stripes,
+-- where the first that is of a stripe tells of its last one
 pub record Hold : Type 0 where
   pub found : SlabState
   pub left : SlabState
   pub count : ℕ
+  pub stripes : List StripeHold
 
 -- the calls of one number, a list for each stripe
 pub record Own : Type 0 where
   pub number : ℕ
   pub calls : List (List Call)
 
--- of each hand: all words that its looks found; its holds of the slabs lock; its numbers with their calls; for each stripe
--- the history that it saw; what it said; and the items that it ever held
+-- of each hand: all words that its looks found; its holds of locks; its numbers with their calls; for each stripe the history that
+-- it saw; what it said; and the items that it ever held
 pub record Past : Type 0 where
   pub saw : List (List Sight)
   pub holds : List Hold
@@ -81,11 +90,26 @@ sights_of state (MissStripe stripe) = stripe_word stripe (slice_index state.stri
 sights_of state (step.Head chunk) = header chunk (head_at state chunk) ∷ []
 sights_of state other = []
 
--- the hand's hold after its step: one begins as the slabs lock is taken, and ends as it is given back
-abbrev pub hold_after : SlabState → Step → Hold → Hold
-hold_after slabs TakeSlabs hold = record hold { found = slabs; count = hold.count + 1 }
-hold_after slabs GiveSlabs hold = record hold { left = slabs }
-hold_after slabs other hold = hold
+-- what is told last of this stripe
+abbrev pub last_of : ℕ → List StripeHold → StripeHold
+last_of stripe [] = record { stripe = stripe; found = None; left = None }
+last_of stripe (one ∷ others) = if one.stripe == stripe then one else last_of stripe others
+
+-- this stripe was taken, with this value
+abbrev pub begin_hold : ℕ → ReadyStripe → Hold → Hold
+begin_hold stripe value hold = record hold { stripes = record { stripe = stripe; found = Some value; left = (last_of stripe hold.stripes).left } ∷ hold.stripes }
+
+-- this stripe was given back, with this value
+abbrev pub end_hold : ℕ → ReadyStripe → Hold → Hold
+end_hold stripe value hold = record hold { stripes = record { stripe = stripe; found = (last_of stripe hold.stripes).found; left = Some value } ∷ hold.stripes }
+
+-- the hand's holds after its step: one begins as a lock is taken, and ends as it is given back
+abbrev pub hold_after : State → Step → Hold → Hold
+hold_after state TakeSlabs hold = record hold { found = state.slabs; count = hold.count + 1 }
+hold_after state GiveSlabs hold = record hold { left = state.slabs }
+hold_after state (TakeStripe stripe) hold = begin_hold stripe (stripe_at state stripe) hold
+hold_after state (GiveStripe stripe) hold = end_hold stripe (stripe_at state stripe) hold
+hold_after state other hold = hold
 
 -- the item's stamp and words, unless it was rescued
 abbrev pub saying_of : Kind → Words → List Saying
@@ -161,9 +185,9 @@ longer_each (x ∷ xs) (y ∷ ys) = longer x y ∷ longer_each xs ys
 abbrev pub no_slabs : SlabState
 no_slabs = fresh_slabs (record { page = 0; limit = 0; sizes = [] })
 
--- of a hand that never had the slabs lock, or is gone: one constant, whatever the classes are
+-- of a hand that never had a lock, or is gone: one constant, whatever the classes are
 abbrev pub no_hold : Hold
-no_hold = record { found = no_slabs; left = no_slabs; count = 0 }
+no_hold = record { found = no_slabs; left = no_slabs; count = 0; stripes = [] }
 
 -- the first hand has the numbers and calls, sayings and items of both, and saw of each history the longer that either saw; the second knows nothing
 -- any more
@@ -221,7 +245,7 @@ own_calls_after before now hand mine = map (own_after before now (number_at befo
 abbrev pub knowledge_after : State → State → ℕ → Step → Knowledge → Knowledge
 knowledge_after before now hand step knows = record {
   saw = knows.saw ++ sights_of before step;
-  hold = hold_after before.slabs step knows.hold;
+  hold = hold_after before step knows.hold;
   mine = own_calls_after before now hand knows.mine;
   seen = seen_after before step knows.seen;
   said = knows.said ++ sayings_of before hand step;

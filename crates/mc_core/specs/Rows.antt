@@ -1,6 +1,7 @@
 -- Worked runs.
-use Rattle.std.specs.Prelude.{ℕ, ◌*◌, List, [], ◌∷◌, ◌++◌, map, Some, Result, Ok, Err}
+use Rattle.std.specs.Prelude.{ℕ, ◌*◌, Bool, List, [], ◌∷◌, ◌++◌, map, Option, Some, Result, Ok, Err}
 use Rattle.std.specs.List.{range_with_len}
+use Rattle.std.specs.Option.{option_map}
 use Rattle.mc_classes.specs.Classes.{Classes}
 use Rattle.mc_pages.specs.declared.ids.ChunkId.{ChunkId}
 use Rattle.mc_pages.specs.declared.ledger.Entry.{Entry}
@@ -12,6 +13,7 @@ use Rattle.mc_core.specs.declared.event.Change.{Change}
 use Rattle.mc_core.specs.declared.event.Change.TheVariants.{Grow, BeginMove, FinishMove, OfStripe}
 use Rattle.mc_core.specs.declared.event.StripeChange.TheVariants.{Reserve}
 use Rattle.mc_core.specs.State.{State, new_state}
+use Rattle.mc_core.specs.Past.{Moment, first_moment, knowledge_at, last_of, moment_after}
 use Rattle.mc_core.specs.Run.{play}
 
 -- four pages of 1024 bytes, and classes of 48, 96, 192 and 512 bytes
@@ -136,3 +138,19 @@ gets_whole page = does (Grow 2 ∷ []) (Cut page 0) ∷ []
 abbrev pub recorded_of : Result State ℕ → Result (List Entry) ℕ
 recorded_of (Ok state) = Ok (tail_of state.slabs)
 recorded_of (Err place) = Err place
+
+-- what the hands know behind these events
+abbrev pub moment_behind : Moment → List Event → Moment
+moment_behind moment [] = moment
+moment_behind moment (event ∷ events) = moment_behind (moment_after moment event) events
+
+-- whether there was room for a call in this stripe, as hand 0 last took it and as it last gave it back, after it did this in an arena of two
+-- stripes
+abbrev pub room_in_hold : ℕ → List Event → Option Bool × Option Bool
+room_in_hold stripe events =
+    let hold = last_of stripe (knowledge_at (moment_behind (first_moment (one_class 1) 2 1 0) events).past 0).hold.stripes in
+    (option_map (λ value. value.ready) hold.found, option_map (λ value. value.ready) hold.left)
+
+-- room is made in stripe 1, under its lock
+abbrev pub makes_room : List Event
+makes_room = does [] (TakeStripe 1) ∷ does (OfStripe 1 Reserve ∷ []) (GiveStripe 1) ∷ []

@@ -2,14 +2,14 @@
 //!
 //! A clause of the law that is *kept* holds before anything was done. Every silent change, every step and every event that
 //! is allowed in a lawful moment leaves it true.
-ghost use Rattle.std.specs.Prelude.{◌≡◌, ◌-◌, ℕ, true, false, List, [], ◌∷◌, ◌++◌, Ok, Err};
+ghost use Rattle.std.specs.Prelude.{◌≡◌, ◌-◌, ℕ, true, false, List, [], ◌∷◌, ◌++◌, Ok, Err, None, Some};
 ghost use Rattle.mc_pages.specs.declared.ledger.Entry.TheVariants.{Granted, Began, Ended};
 ghost use Rattle.mc_stripe.specs.declared.history.Call.{Call};
 ghost use Rattle.mc_stripe.specs.Sequential.{StampMap, Leads};
 ghost use Rattle.mc_core.specs.declared.event.Event.{Event};
-ghost use Rattle.mc_core.specs.declared.event.Step.TheVariants.{TakeSlabs, GiveSlabs, Pop, Head, Cut};
+ghost use Rattle.mc_core.specs.declared.event.Step.TheVariants.{TakeSlabs, TakeStripe, GiveSlabs, Pop, Head, Cut};
 ghost use Rattle.mc_core.specs.declared.event.Change.TheVariants.{Grow, FinishMove, TrimLedger};
-ghost use Rattle.mc_core.specs.Rows.{played, grows, does, pops_from, played_on, chunk_at, gets, puts, stores, full_page, one_of_four, three_of_four, looks_at, takes_away, begins_move, begins_rescue, rescues, ends, comes_again, ledger_of, left_by, first_page, gets_whole, recorded_of};
+ghost use Rattle.mc_core.specs.Rows.{played, grows, does, makes_room, room_in_hold, pops_from, played_on, chunk_at, gets, puts, stores, full_page, one_of_four, three_of_four, looks_at, takes_away, begins_move, begins_rescue, rescues, ends, comes_again, ledger_of, left_by, first_page, gets_whole, recorded_of};
 ghost use Rattle.mc_core.specs.Chunks.{most_issue};
 ghost use Rattle.mc_core.specs.Lawful.{IsLawful, SizedIn, PagedIn, PlacedIn, CountedIn, HeldIn, IndexedIn, LegalIn, HandsIn, RowsIn, NumberedIn, SeenIn, KnownIn, RescuedIn, ToldIn};
 ghost use Rattle.mc_core.specs.Laws.{IsKeptByAll, ArePlayed, AreLawful};
@@ -48,6 +48,15 @@ pub fn worked_trims()
     ensures twice { recorded_of (left_by 1 (first_page ++ does (TrimLedger ∷ TrimLedger ∷ []) GiveSlabs ∷ [])) ≡ Ok [] }
     ensures whole { ledger_of (left_by 1 (first_page ++ does (TrimLedger ∷ []) GiveSlabs ∷ [])) ≡ Ok (Granted 0 1 false ∷ []) }
     ensures without_the_lock { recorded_of (left_by 1 (first_page ++ does [] GiveSlabs ∷ does (TrimLedger ∷ []) TakeSlabs ∷ [])) ≡ Err 4 }
+{}
+
+/// Of each stripe a hand knows how it last took it and how it last gave it back: the first as it was then, the second with what was done
+/// under its lock. Other stripes' holds stay.
+pub fn worked_holds()
+    ensures taken { room_in_hold 1 (does [] (TakeStripe 1) ∷ []) ≡ (Some false, None) }
+    ensures given { room_in_hold 1 makes_room ≡ (Some false, Some true) }
+    ensures again { room_in_hold 1 (makes_room ++ does [] (TakeStripe 1) ∷ []) ≡ (Some true, Some true) }
+    ensures other { room_in_hold 0 makes_room ≡ (None, None) }
 {}
 
 /// An item is evicted from a full class behind a sweep. It is refused without a sweep, behind half of one, and behind one that an

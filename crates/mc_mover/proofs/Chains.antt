@@ -69,7 +69,7 @@ module _ (view taken last now : View) (found left : SlabState) (waits : WaitsFor
   pub held_answer : (turn : Turn) → Grows taken last → IsAnswerOf turn found.moving left.moving → AnswersMove now turn
   held_answer turn grows answer =
       let same : now.row.knows.hold.found ≡ found =
-      ap (λ (v : View). v.row.knows.hold.found) given ∙ (ap (λ (s : Stays). s.0.found) grows.stays ∙ ap (λ (v : View). v.row.knows.hold.found) waits.is) in
+      ap (λ (v : View). v.row.knows.hold.found) given ∙ (ap (λ (s : Stays). s.0) grows.stays ∙ ap (λ (v : View). v.row.knows.hold.found) waits.is) in
       let ends : now.row.knows.hold.left ≡ left = ap (λ (v : View). v.row.knows.hold.left) given in
       subst (λ (p : SlabState × SlabState). IsAnswerOf turn p.0.moving p.1.moving) (λ k. (sym same k, sym ends k)) answer
 

@@ -1,4 +1,4 @@
--- What a hand knows after a turn's sections: its hold, what it said and its ids stay, and the items that it ever held stay among those.
+-- What a hand knows after a turn's sections: pages and lists as it took them, what it said and its ids stay, and the items that it ever held stay among those.
 use Rattle.std.proofs.Common.{◌≡◌, ℕ, Bool, true, false, List, [], ◌∷◌, ◌++◌, refl, sym, ap, ◌∙◌, inl, inr, append_assoc, append-nil}
 use Rattle.mc_pages.specs.declared.ids.ChunkId.{ChunkId}
 use Rattle.mc_pages.specs.declared.moves.Found.{Found}
@@ -9,7 +9,7 @@ use Rattle.mc_stripe.specs.StripeState.{ReadyStripe}
 use Rattle.mc_core.specs.declared.head.Head.{Head}
 use Rattle.mc_core.specs.declared.ids.Ids.{Ids}
 use Rattle.mc_core.specs.Holdings.{item_in, numbers}
-use Rattle.mc_core.specs.Past.{Hold, Known, Saying, known_by}
+use Rattle.mc_core.specs.Past.{Known, Saying, known_by}
 use Rattle.mc_core.specs.State.{room_in}
 use Rattle.mc_words.specs.hand.View.{View}
 use Rattle.mc_words.specs.item.Removal.{FindsHeld}
@@ -32,12 +32,12 @@ use Rattle.mc_mover.specs.Turning.{GoesOn, LacksMemory, Sections, Turns}
 use Rattle.mc_mover.proofs.Copied.{copied_keeps}
 use Rattle.mc_mover.proofs.Kept.{finds_keep, passes_keep, swept_keep, to_evict_keeps, to_rescue_keeps}
 
--- the hold, what was said, and number and stamps
+-- pages and lists as the hand took them, what was said, and number and stamps
 abbrev pub Stays : Type 0
-Stays = Hold × List Saying × Ids
+Stays = SlabState × List Saying × Ids
 
 abbrev pub stays_of : View → Stays
-stays_of view = (view.row.knows.hold, view.row.knows.said, view.row.ids)
+stays_of view = (view.row.knows.hold.found, view.row.knows.said, view.row.ids)
 
 -- and the items that it ever held
 abbrev Kept : Type 0

@@ -17,6 +17,7 @@ pub mod SeenChunks
 pub mod OwnCalls
 pub mod Tells
 pub mod Answered
+pub mod GivenBack
 pub mod Grows
 pub mod Chains
 pub mod Nobodys

@@ -1,5 +1,5 @@
 -- Stripes whose calls are trimmed, or forgotten, each under its own lock, and a ledger that is trimmed.
-use Rattle.std.specs.Prelude.{◌≡◌, ◌⊎◌, ◌≤◌, ◌^◌, ◌+◌, ℕ, true, List, [], ◌∷◌, length, is_some}
+use Rattle.std.specs.Prelude.{◌≡◌, ◌⊎◌, ◌<◌, ◌≤◌, ◌^◌, ◌+◌, ℕ, true, List, [], ◌∷◌, length, is_some, Some}
 use Rattle.std.specs.List.{range_with_len}
 use Rattle.mc_stripe.specs.StripeState.{ReadyStripe}
 use Rattle.mc_pages.specs.Changes.{after_trim}
@@ -10,7 +10,7 @@ use Rattle.mc_core.specs.Silent.{stripe_after}
 use Rattle.mc_words.specs.declared.hand.Hand.{Hand}
 use Rattle.mc_words.specs.hand.View.{View}
 use Rattle.mc_words.specs.hand.Arenas.{view}
-use Rattle.mc_words.specs.hand.Observers.{number_of}
+use Rattle.mc_words.specs.hand.Observers.{last_given, last_taken, number_of}
 use Rattle.mc_words.specs.lock.Doing.{Doing, HoldsSlabs, HoldsStripe, SlabsDoing}
 use Rattle.mc_words.specs.page.Moves.{ChangesOnce}
 use Rattle.mc_words.specs.hand.Views.{stripe_changed}
@@ -42,6 +42,18 @@ pub record StopsTrimming (number : ℕ) (Does : Doing) (view now : View) : Type 
   pub before : View
   pub trims : ChangesEach Trim number (range_with_len 0 stripe) view before
   pub stops : HoldsStripe stripe Does before now
+
+-- the hand last gave this stripe back as it had taken it, but changed so
+abbrev pub GivesBackChanged : StripeChange → View → ℕ → Type 0
+GivesBackChanged how view stripe = (value : ReadyStripe) × (last_taken view stripe ≡ Some value) × (last_given view stripe ≡ Some (stripe_after how value))
+
+-- the hand last gave this stripe back as it had taken it
+abbrev pub GivesBackSame : View → ℕ → Type 0
+GivesBackSame view stripe = (value : ReadyStripe) × (last_taken view stripe ≡ Some value) × (last_given view stripe ≡ Some value)
+
+-- the stripes below one were given back trimmed, and that one as it was
+abbrev pub GivesBackUpToOne : View → Type 0
+GivesBackUpToOne view = (stripe : ℕ) × ((below : ℕ) → below < stripe → GivesBackChanged Trim view below) × GivesBackSame view stripe
 
 -- under the lock of the slabs: the entries of the ledger so far aren't recorded any more, and nothing else changed
 abbrev pub TrimsLedger : ℕ → SlabsDoing

@@ -1,6 +1,6 @@
 //! Histories that are trimmed, or forgotten: of each stripe in turn, from the first on. And a ledger that is trimmed.
 ghost use Rattle.std.specs.List.{range_with_len};
-ghost use Rattle.std.specs.Prelude.{◌≡◌, ◌<◌, Err, OnErr, OnOk};
+ghost use Rattle.std.specs.Prelude.{◌≡◌, ◌<◌, ℕ, Err, OnErr, OnOk};
 ghost use Rattle.mc_core.specs.declared.event.StripeChange.TheVariants.{Forget, Trim as Trimmed};
 ghost use Rattle.mc_words.specs.hand.Arenas.{IsHandOf, setup_of, view};
 ghost use Rattle.mc_words.specs.lock.Doing.{HoldsStripe};
@@ -8,7 +8,7 @@ ghost use Rattle.mc_words.specs.hand.Observers.{locks_of, number_of};
 ghost use Rattle.mc_words.specs.hand.Ready.{IsReady};
 ghost use Rattle.mc_words.specs.item.Refs.{KeepsRefs};
 ghost use Rattle.mc_mover.specs.Acting.{ActsOnce};
-ghost use Rattle.mc_mover.specs.Recording.{Changes, ChangesEach, FindsFull, Leaves, StopsTrimming, TrimsAll, TrimsLedger};
+ghost use Rattle.mc_mover.specs.Recording.{Changes, ChangesEach, FindsFull, GivesBackChanged, GivesBackUpToOne, Leaves, StopsTrimming, TrimsAll, TrimsLedger};
 
 use mc_stripe::Trim;
 use mc_words::{Arena, Hand};
@@ -26,6 +26,8 @@ pub fn trim<R: Wait>(rt: &R, arena: &Arena, hand: &mut Hand) -> Result<(), Trim>
     ensures number { number_of hand.new ≡ number_of hand.old }
     ensures trims { OnOk result (TrimsAll (number_of hand.old) (setup_of arena.now).config.stripes (view hand.old) (view hand.new)) }
     ensures stops { OnErr result (StopsTrimming (number_of hand.old) Leaves (view hand.old) (view hand.new)) }
+    ensures given { OnOk result ((stripe : ℕ) → stripe < (setup_of arena.now).config.stripes → GivesBackChanged Trimmed (view hand.new) stripe) }
+    ensures same { OnErr result (GivesBackUpToOne (view hand.new)) }
     ensures full { result ≡ Err Trim.Full → StopsTrimming (number_of hand.old) FindsFull (view hand.old) (view hand.new) }
     ensures holdings { (view hand.new).row.holdings ≡ (view hand.old).row.holdings }
     ensures keeps { KeepsRefs (view hand.old) (view hand.new) }
@@ -68,6 +70,7 @@ pub fn forget<R: Wait>(rt: &R, arena: &Arena, hand: &mut Hand)
     ensures locks { locks_of hand.new ≡ locks_of hand.old }
     ensures number { number_of hand.new ≡ number_of hand.old }
     ensures forgets { ChangesEach Forget (number_of hand.old) (range_with_len 0 (setup_of arena.now).config.stripes) (view hand.old) (view hand.new) }
+    ensures given { (stripe : ℕ) → stripe < (setup_of arena.now).config.stripes → GivesBackChanged Forget (view hand.new) stripe }
     ensures holdings { (view hand.new).row.holdings ≡ (view hand.old).row.holdings }
     ensures keeps { KeepsRefs (view hand.old) (view hand.new) }
     ensures unsaid { (view hand.new).row.knows.said ≡ (view hand.old).row.knows.said }

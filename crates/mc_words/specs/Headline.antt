@@ -1,5 +1,5 @@
 -- The promise of the arena, as its table shows it: by the words, the values at home, and what the hands hold.
-use Rattle.std.specs.Prelude.{◌≡◌, ◌⊎◌, ◌≢◌, ℕ, zero, ◌+◌, ◌*◌, ◌<◌, ◌≤◌, ◌==◌, List, [], ◌∷◌, IsTrue, count_by, slice_get, slice_index, Some, Contains, true}
+use Rattle.std.specs.Prelude.{◌≡◌, ◌⊎◌, ℕ, ◌+◌, ◌*◌, ◌<◌, ◌≤◌, ◌==◌, List, [], ◌∷◌, IsTrue, count_by, slice_get, slice_index, Some, Contains, true}
 use mathlib.Core.Option.{some}
 use lib.ListN.{get_elem?}
 use Rattle.mc_classes.specs.Classes.{arena_pages_of}

@@ -46,7 +46,7 @@ no_join step alone kept spent e = absurd (let both : true ≡ false = ap is_join
 abbrev pub known_after : Moment → ℕ → Step → Knowledge → Knowledge
 known_after m id step knew = record {
   saw = knew.saw ++ sights_of m.state step;
-  hold = hold_after m.state.slabs step knew.hold;
+  hold = hold_after m.state step knew.hold;
   mine = knew.mine;
   seen = seen_after m.state step knew.seen;
   said = knew.said ++ sayings_of m.state id step;

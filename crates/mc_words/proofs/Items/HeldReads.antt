@@ -29,7 +29,7 @@ use Rattle.mc_words.specs.hand.View.{Setup, View}
 use Rattle.mc_words.specs.rule.Layout.{data_word, data_from, data_count, config_from}
 use Rattle.mc_words.specs.rule.Happens.{LawfulView, HappensAt, MayWrite}
 use Rattle.mc_words.specs.item.Items.{word_read}
-use Rattle.mc_words.specs.hand.Views.{looked, held_word_seen}
+use Rattle.mc_words.specs.hand.Views.{held_word_seen}
 use Rattle.mc_words.proofs.Rules.Written.{data_read, unwritten}
 use Rattle.mc_words.proofs.Locks.LockViews.{view_from, holdings_were, looks_were, rows, slabs_were, stripes_were}
 use Rattle.mc_words.proofs.Chunks.Heads.{near_here}

@@ -1,5 +1,5 @@
 -- A change of a stripe that writes one call: why it may be told, and what a hand's view is afterwards.
-use Rattle.std.proofs.Common.{◌≡◌, ◌≢◌, ℕ, suc, ◌+◌, ◌%◌, Bool, true, false, is_none, is_some, not, [], ◌∷◌, ◌++◌, List, length, map, Option, Some, None, refl, sym, ap, subst, unwrap_or, ◌∙◌, arith, lt-ltb, slice_index, slice_index_or, slice_set, length-set, get_or-set_same, get_or-set_other, if◌then◌else◌}
+use Rattle.std.proofs.Common.{◌≡◌, ◌≢◌, ℕ, suc, ◌+◌, ◌%◌, Bool, true, false, is_none, is_some, not, [], ◌∷◌, ◌++◌, List, length, map, Option, Some, None, refl, sym, ap, subst, unwrap_or, ◌∙◌, arith, lt-ltb, slice_index, slice_index_or, slice_set, get_or-set_same, get_or-set_other, if◌then◌else◌}
 use Rattle.std.proofs.lemmas.Bool.{and_from, and_parts}
 use Rattle.mc_stripe.specs.declared.history.Call.{Call}
 use Rattle.mc_stripe.specs.declared.history.Call.TheVariants.{Get, Delete}
@@ -22,13 +22,13 @@ use Rattle.mc_words.specs.rule.Layout.{lock_word}
 use Rattle.mc_words.specs.rule.Meaning.{AreCut}
 use Rattle.mc_words.specs.rule.Happens.{LawfulView, Happens, MayTell}
 use Rattle.mc_words.specs.item.Calls.{called, key_missed, key_not_deleted, with_own_call}
-use Rattle.mc_words.specs.hand.Views.{stripe_missed, stripe_told}
+use Rattle.mc_words.specs.hand.Views.{stripe_told}
 use Rattle.mc_words.proofs.Items.Calls.{mine_called}
 use Rattle.mc_words.proofs.Chunks.Heads.{AreAll}
-use Rattle.mc_words.proofs.Locks.LockViews.{stripes_set, stripes_were, slabs_were, holdings_were, looks_were, knew, lock_count, missed_stripe, missed_from}
+use Rattle.mc_words.proofs.Locks.LockViews.{stripes_set, stripes_were, slabs_were, holdings_were, looks_were, knew, lock_count, missed_from}
 use Rattle.mc_words.proofs.Rules.Quiet.{columns}
 use Rattle.mc_words.proofs.Locks.StripeChanges.{stripe_near, stripe_here}
-use Rattle.mc_words.proofs.Rules.Written.{lock_read, unwritten}
+use Rattle.mc_words.proofs.Rules.Written.{unwritten}
 use Rattle.mc_core.specs.Lawful.{IsLawful}
 
 same_number : (a b : ℕ) → Some a ≡ Some b → a ≡ b

@@ -1,14 +1,11 @@
 -- The reason for which an item may be taken away stands over more looks, and is the core's.
-use Rattle.std.proofs.Common.{◌≡◌, ℕ, ◌+◌, ◌-◌, ◌≤◌, ◌==◌, position, lt-ltb, length, slice_get, count_by, cond, Option, arith, ◌&&◌, ◌||◌, Bool, true, false, not, List, [], ◌∷◌, ◌++◌, None, Some, refl, sym, ap, ◌∙◌, inl, inr, nat_lt, is_none, if◌then◌else◌, eq-eqb}
-use Rattle.std.specs.List.{list_all, prefix_len}
-use Rattle.std.specs.Option.{option_map_or, option_or}
-use Rattle.std.proofs.lemmas.Bool.{and_from, and_parts, cases_Bool, cases_lt, or_right}
-use Rattle.std.proofs.lemmas.List.Sums.{fold-append, sum_by-cons}
-use Rattle.std.proofs.lemmas.Option.{slice_get-get_or}
-use Rattle.mc_classes.specs.Classes.{Classes, arena_pages_of}
+use Rattle.std.proofs.Common.{◌≡◌, ℕ, ◌==◌, ◌&&◌, ◌||◌, Bool, true, false, not, List, [], ◌∷◌, ◌++◌, None, Some, refl, sym, ap, ◌∙◌, inl, inr, nat_lt, is_none, if◌then◌else◌, eq-eqb}
+use Rattle.std.specs.List.{list_all}
+use Rattle.std.specs.Option.{option_map_or}
+use Rattle.std.proofs.lemmas.Bool.{and_from, and_parts, cases_Bool, or_right}
+use Rattle.std.proofs.lemmas.List.Sums.{fold-append}
 use Rattle.mc_pages.specs.declared.ids.ChunkId.{ChunkId}
 use Rattle.mc_pages.specs.ClassState.{first_free, is_chunk}
-use Rattle.mc_pages.specs.declared.ledger.Owner.{Owner}
 use Rattle.mc_pages.specs.Changes.{next_page}
 use Rattle.mc_pages.specs.SlabState.{SlabState, class_at, class_of_page, class_of_chunk}
 use Rattle.mc_pages.proofs.Chunks.{same_from_is_chunk}
@@ -28,9 +25,6 @@ use Rattle.mc_core.specs.Seen.{last_head, seen_head}
 use Rattle.mc_core.specs.Silent.{none_half_cut}
 use Rattle.mc_core.specs.State.{looks_at, holdings_at}
 use Rattle.mc_words.specs.item.Removal.{knows_reason}
-use Rattle.mc_words.specs.rule.Happens.{LawfulView}
-use Rattle.mc_words.specs.hand.View.{View}
-use Rattle.mc_words.proofs.Pages.Owners.{slabs_here}
 
 -- what all pass, all pass that is weaker
 pub all_weaker : {A : Type 0} (f g : A → Bool) (xs : List A) → ((x : A) → f x ≡ true → g x ≡ true) → list_all f xs ≡ true → list_all g xs ≡ true

@@ -16,7 +16,7 @@ use Rattle.mc_core.specs.Head.{decode, never_cut}
 use Rattle.mc_core.specs.State.{State, is_held_by, has_slabs, has_stripe, has_chunk, head_at, head_place, stripe_at, number_at, ids_at, holdings_at, with_look, looks_at}
 use Rattle.mc_core.specs.Locks as core_locks
 use Rattle.mc_core.specs.Locks.{looked}
-use Rattle.mc_core.specs.Past.{Moment, Knowledge, Sight, slabs_word, stripe_word, header, history_at, knowledge_at, moment_stepped}
+use Rattle.mc_core.specs.Past.{Moment, Knowledge, Sight, begin_hold, end_hold, slabs_word, stripe_word, header, history_at, knowledge_at, moment_stepped}
 use Rattle.mc_core.specs.Views.{held_slabs, held_stripe}
 use Rattle.mc_core.specs.Laws.{MayStep}
 use Rattle.mc_core.proofs.Framed.{free_lock}
@@ -149,8 +149,8 @@ module _ (view now : View) where
         stripes_set view.setup m.state after.state id stripe (Some value) (omega arith) held (λ i apart. ap (λ w. if is_held_by w (number_at m.state id) then Some (stripe_at m.state i) else None) (get_or-set_other m.state.stripe_locks stripe i (core_locks.lock_word m.state id) 0 apart))
         ∙ ap (λ (all : List (Option ReadyStripe)). slice_set all stripe (Some value)) (stripes_were h.was) in
         let knows = knows_after m id (core.TakeStripe stripe) refl (may_step h) refl
-        ∙ (said_none ((knowledge_at m.past id).saw ++ []) (knowledge_at m.past id) (knowledge_at m.past id).hold (slice_set (knowledge_at m.past id).seen stripe (history_at m.state stripe))
-        ∙ (λ k. let knows = knew h.was k in record knows { saw = append-nil knows.saw k; seen = slice_set knows.seen stripe (same k).state.history })) in
+        ∙ (said_none ((knowledge_at m.past id).saw ++ []) (knowledge_at m.past id) (begin_hold stripe (stripe_at m.state stripe) (knowledge_at m.past id).hold) (slice_set (knowledge_at m.past id).seen stripe (history_at m.state stripe))
+        ∙ (λ k. let knows = knew h.was k in record knows { saw = append-nil knows.saw k; hold = begin_hold stripe (same k) knows.hold; seen = slice_set knows.seen stripe (same k).state.history })) in
         h.is ∙ view_from view h.was _ after refl view.row.holdings (holdings_were h.was) view.row.looks (looks_were h.was) (stripe_taken stripe value view).row.knows knows view.slabs (slabs_were h.was) (slice_set view.stripes stripe (Some value)) stripes
 
     -- it was given back, with this
@@ -169,8 +169,8 @@ module _ (view now : View) where
         stripes_set view.setup m.state after.state id stripe None near none (λ i apart. ap (λ w. if is_held_by w (number_at m.state id) then Some (stripe_at m.state i) else None) (get_or-set_other m.state.stripe_locks stripe i 0 0 apart))
         ∙ ap (λ (all : List (Option ReadyStripe)). slice_set all stripe None) (stripes_were h.was) in
         let knows = knows_after m id (core.GiveStripe stripe) refl (may_step h) refl
-        ∙ (said_none ((knowledge_at m.past id).saw ++ []) (knowledge_at m.past id) (knowledge_at m.past id).hold (slice_set (knowledge_at m.past id).seen stripe (history_at m.state stripe))
-        ∙ (λ k. let knows = knew h.was k in record knows { saw = append-nil knows.saw k; seen = slice_set knows.seen stripe (same k).state.history })) in
+        ∙ (said_none ((knowledge_at m.past id).saw ++ []) (knowledge_at m.past id) (end_hold stripe (stripe_at m.state stripe) (knowledge_at m.past id).hold) (slice_set (knowledge_at m.past id).seen stripe (history_at m.state stripe))
+        ∙ (λ k. let knows = knew h.was k in record knows { saw = append-nil knows.saw k; hold = end_hold stripe (same k) knows.hold; seen = slice_set knows.seen stripe (same k).state.history })) in
         h.is ∙ view_from view h.was _ after refl view.row.holdings (holdings_were h.was) view.row.looks (looks_were h.was) (stripe_given stripe value view).row.knows knows view.slabs (slabs_were h.was) (slice_set view.stripes stripe None) stripes
 
 -- what a look leaves: it counts under the slabs lock alone

@@ -1,5 +1,5 @@
 -- A stripe that changes while no call is told: why that may be told, and what a hand's view is afterwards.
-use Rattle.std.proofs.Common.{◌≡◌, ◌≢◌, ℕ, zero, suc, ◌+◌, ◌<◌, ◌&&◌, true, List, [], ◌∷◌, length, Option, Some, None, refl, sym, ap, subst, ◌∙◌, inl, inr, arith, zero-add, lt-ltb, slice_index, slice_index_or, slice_set, length-set, get_or-set_same, get_or-set_other, if◌then◌else◌, ◌++◌, unwrap_or}
+use Rattle.std.proofs.Common.{◌≡◌, ◌≢◌, ℕ, zero, suc, ◌+◌, ◌<◌, ◌&&◌, true, List, [], ◌∷◌, length, Option, Some, None, refl, sym, ap, subst, ◌∙◌, inl, inr, arith, zero-add, lt-ltb, slice_index, slice_index_or, slice_set, get_or-set_same, get_or-set_other, if◌then◌else◌, ◌++◌, unwrap_or}
 use Rattle.std.proofs.lemmas.Bool.{cases_eq, and_from, and_parts}
 use Rattle.std.proofs.lemmas.List.FromFn.{get_or-map-range_with_len, length-map-range_with_len}
 use Rattle.mc_stripe.specs.StripeState.{ReadyStripe, new_stripe}
@@ -24,10 +24,10 @@ use Rattle.mc_words.specs.lock.Lent.{lent_stripe}
 use Rattle.mc_words.specs.hand.Views.{stripe_changed}
 use Rattle.mc_words.proofs.Chunks.Heads.{AreAll}
 use Rattle.mc_words.proofs.Hands.Knows.{mine_alike}
-use Rattle.mc_words.proofs.Locks.LockViews.{stripes_set, stripes_were, knew, lock_count, missed_stripe, missed_from}
+use Rattle.mc_words.proofs.Locks.LockViews.{stripes_set, stripes_were, knew, lock_count, missed_from}
 use Rattle.mc_words.proofs.Rules.Quiet.{columns}
 use Rattle.mc_words.proofs.Locks.TakeAndGive.{held_from}
-use Rattle.mc_words.proofs.Rules.Written.{lock_read, unwritten}
+use Rattle.mc_words.proofs.Rules.Written.{unwritten}
 use Rattle.mc_core.specs.Lawful.{IsLawful}
 
 -- what is found stands inside

@@ -1,5 +1,5 @@
 -- Changes of a move: what allows each, and what the words of the pages say then.
-use Rattle.std.proofs.Common.{false, None, ◌≡◌, ℕ, ◌/◌, ◌<◌, ◌≤◌, ◌==◌, Bool, true, List, length, slice_index, slice_set, Option, Some, refl, sym, ap, subst, ◌∙◌, inl, inr, arith, is_ok, Result, Ok, Err, IfOk, eqb-true, length-set, get_or-set_same, get_or-set_other, not, is_none, nat_lt, ◌&&◌, ◌||◌, lt-ltb, ltb-true, eq-eqb, le-leb, ap₂, [], ◌∷◌}
+use Rattle.std.proofs.Common.{false, None, ◌≡◌, ℕ, ◌<◌, ◌≤◌, ◌==◌, Bool, true, List, length, slice_index, slice_set, Option, Some, refl, sym, ap, subst, ◌∙◌, inl, inr, arith, is_ok, Result, Ok, Err, IfOk, eqb-true, length-set, get_or-set_same, get_or-set_other, not, is_none, nat_lt, ◌&&◌, ◌||◌, lt-ltb, ltb-true, eq-eqb, le-leb, ap₂, [], ◌∷◌}
 use Rattle.std.proofs.lemmas.Bool.{and_parts, or_right, and_from, cases_Bool, cases_eq}
 use Rattle.mc_classes.specs.Classes.{Classes, arena_pages_of, per_page_of}
 use Rattle.mc_pages.specs.declared.ids.Moving.{Moving}

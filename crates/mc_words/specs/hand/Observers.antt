@@ -1,8 +1,9 @@
 -- What clauses of other crates read of hands, and of what a call of the arena gives.
-use Rattle.std.specs.Prelude.{◌≡◌, ℕ, slice_index_or, Some, None}
+use Rattle.std.specs.Prelude.{◌≡◌, ℕ, slice_index_or, Option, Some, None}
 use Rattle.mc_pages.specs.declared.ids.ChunkId.{ChunkId}
 use Rattle.mc_pages.specs.SlabState.{SlabState}
 use Rattle.mc_stripe.specs.StripeState.{ReadyStripe}
+use Rattle.mc_core.specs.Past.{last_of}
 use Rattle.mc_words.specs.declared.hand.Hand.{Hand}
 use Rattle.mc_words.specs.declared.hand.held.Fresh.{Fresh}
 use Rattle.mc_words.specs.declared.hand.held.SlabsHeld.{SlabsHeld}
@@ -11,6 +12,7 @@ use Rattle.mc_words.specs.declared.lock.locks.Locks.{Locks}
 use Rattle.mc_words.specs.declared.item.refs.Hint.{Hint}
 use Rattle.mc_words.specs.declared.item.refs.Ref.{Ref}
 use Rattle.mc_words.specs.hand.Arenas.{view}
+use Rattle.mc_words.specs.hand.View.{View}
 
 -- which locks the hand has
 abbrev pub locks_of : Hand → Locks
@@ -39,6 +41,14 @@ HasSlabs hand held = (view hand).slabs ≡ Some (slabs_lent held)
 -- the hand has the lock of this stripe, and this value behind it
 abbrev pub HasStripe : Hand → StripeHeld → Type 0
 HasStripe hand held = slice_index_or (view hand).stripes (stripe_number held) None ≡ Some (stripe_lent held)
+
+-- this stripe's value as the hand last took it; none where it never did
+abbrev pub last_taken : View → ℕ → Option ReadyStripe
+last_taken view stripe = (last_of stripe view.row.knows.hold.stripes).found
+
+-- this stripe's value as the hand last gave it back; none where it never did
+abbrev pub last_given : View → ℕ → Option ReadyStripe
+last_given view stripe = (last_of stripe view.row.knows.hold.stripes).left
 
 -- which chunk it is that the hand fills
 abbrev pub fresh_chunk : Fresh → ChunkId

@@ -14,7 +14,7 @@ use Rattle.mc_core.specs.declared.event.StripeChange.{StripeChange}
 use Rattle.mc_core.specs.declared.event.StripeChange.TheVariants.{Reserve}
 use Rattle.mc_core.specs.declared.event.Step.TheVariants as step
 use Rattle.mc_core.specs.Silent.{slabs_after, stripe_after}
-use Rattle.mc_core.specs.Past.{Sight, Knowledge, header, slabs_word, stripe_word}
+use Rattle.mc_core.specs.Past.{Sight, Knowledge, begin_hold, end_hold, header, slabs_word, stripe_word}
 use Rattle.mc_core.specs.Holdings.{is_of, lose, change_each}
 use Rattle.mc_pages.specs.Changes.{after_pop, after_replace, after_back, after_clear, after_cut}
 use Rattle.mc_core.specs.declared.holding.Kind.TheVariants.{Fresh}
@@ -67,19 +67,19 @@ slabs_given slabs view =
     let hold = view.row.knows.hold in
     with_event [] step.GiveSlabs (record (with_knowledge (record view.row.knows { hold = record hold { left = slabs } }) view) { slabs = None })
 
--- a stripe's lock was taken, and its history seen
+-- a stripe's lock was taken: a hold begins with this value, and its history is seen
 abbrev pub stripe_taken : ℕ → ReadyStripe → View → View
 stripe_taken stripe value view =
     let knows = view.row.knows in
     with_event [] (step.TakeStripe stripe)
-    (record (with_knowledge (record knows { seen = slice_set knows.seen stripe value.state.history }) view) { stripes = slice_set view.stripes stripe (Some value) })
+    (record (with_knowledge (record knows { hold = begin_hold stripe value knows.hold; seen = slice_set knows.seen stripe value.state.history }) view) { stripes = slice_set view.stripes stripe (Some value) })
 
--- a stripe's lock was given back, and its history seen
+-- a stripe's lock was given back: the hold ends with this value, and its history is seen
 abbrev pub stripe_given : ℕ → ReadyStripe → View → View
 stripe_given stripe value view =
     let knows = view.row.knows in
     with_event [] (step.GiveStripe stripe)
-    (record (with_knowledge (record knows { seen = slice_set knows.seen stripe value.state.history }) view) { stripes = slice_set view.stripes stripe None })
+    (record (with_knowledge (record knows { hold = end_hold stripe value knows.hold; seen = slice_set knows.seen stripe value.state.history }) view) { stripes = slice_set view.stripes stripe None })
 
 -- the word of the slabs lock was seen, after these changes
 abbrev pub slabs_told : List Change → ℕ → View → View

@@ -1,7 +1,6 @@
 -- Items that a hand takes away under both locks, as it knows it.
 use Rattle.std.specs.Prelude.{◌≡◌, ◌⊎◌, ℕ, ◌%◌, Bool, true, false, ◌&&◌, ◌||◌, List, [], Option, Some}
 use Rattle.std.specs.Option.{option_map}
-use Rattle.mc_classes.specs.Classes.{Classes}
 use Rattle.mc_pages.specs.Pages.{is_on_the_move}
 use Rattle.mc_pages.specs.declared.ids.ChunkId.{ChunkId}
 use Rattle.mc_pages.specs.SlabState.{SlabState}

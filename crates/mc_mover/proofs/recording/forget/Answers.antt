@@ -1,9 +1,11 @@
-use Rattle.std.proofs.Common.{◌≡◌, ℕ, List, ap, sym, subst, ◌∙◌}
+use Rattle.std.proofs.Common.{◌≡◌, ◌<◌, ℕ, List, ap, arith, sym, subst, ◌∙◌}
 use Rattle.std.specs.List.{range_with_len}
+use Rattle.mc_classes.specs.declared.config.Config.{Config}
 use Rattle.mc_core.specs.declared.event.StripeChange.TheVariants.{Forget}
 use Rattle.mc_words.specs.hand.View.{View}
 use Rattle.mc_words.specs.lock.Doing.{HoldsStripe}
 use Rattle.mc_mover.specs.Recording.{Changes, ChangesEach}
+use Rattle.mc_mover.proofs.GivenBack.{all_given}
 use Rattle.mc_mover.proofs.Recorded.{each_keeps, each_more, hold_keeps, holdings_kept, mine_kept, numbers_more, refs_kept, said_kept}
 use Rattle.mc_mover.proofs.recording.forget.Goals as goal
 
@@ -33,3 +35,10 @@ returns-clause-unsaid g c = said_kept c.args.hand.now c.loop-stripe.hand (each_k
 
 pub returns-clause-untold : goal.returns-clause-untold
 returns-clause-untold g c = mine_kept c.args.hand.now c.loop-stripe.hand (each_keeps Forget c.args.hand.now.number (range_with_len 0 c.loop-stripe.stripe) c.args.hand.now.seat.me.0 c.loop-stripe.hand.seat.me.0 c.loop-stripe.invariant.so_far)
+
+pub returns-clause-given : goal.returns-clause-given
+returns-clause-given g c = λ stripe near.
+    let same = ap (λ (f : Config). f.stripes) c.config.ensures.config in
+    let last = c.loop-stripe-test.false in
+    let within : stripe < c.loop-stripe.stripe = omega (arith, near, same, last) in
+    all_given Forget c.args.hand.now.number c.loop-stripe.stripe c.args.hand.now.seat.me.0 c.loop-stripe.hand.seat.me.0 c.loop-stripe.invariant.so_far stripe within

@@ -1,6 +1,7 @@
 use Rattle.std.proofs.Common.{◌∙◌}
 use Rattle.mc_core.specs.declared.event.StripeChange.TheVariants.{Trim}
 use Rattle.mc_words.specs.hand.Arenas.{view}
+use Rattle.mc_mover.proofs.GivenBack.{given_behind, given_up_to, on_err}
 use Rattle.mc_mover.proofs.Recorded.{each_keeps, ledger_keeps, refs_kept}
 use Rattle.mc_mover.proofs.recording.trim.Goals as goal
 
@@ -12,3 +13,11 @@ returns-clause-keeps g c =
     refs_kept before now
     (ledger_keeps between.number (view between) (view now) c.trim_ledger.ensures.trims
     ∙ each_keeps Trim before.number _ (view before) (view between) c.in_ok-trim_stripes.ensures.trims)
+
+pub returns-clause-given : goal.returns-clause-given
+returns-clause-given g c =
+    given_behind Trim c.args.hand.now.number c.trim_stripes.new.hand.number _ (view c.args.hand.now) (view c.trim_stripes.new.hand) (view c.trim_ledger.new.hand) c.in_ok-trim_stripes.ensures.trims c.trim_ledger.ensures.trims
+
+pub returns-in_err-trim_stripes-clause-same : goal.returns-in_err-trim_stripes-clause-same
+returns-in_err-trim_stripes-clause-same g c =
+    on_err c.from_residual.result (given_up_to c.args.hand.now.number (view c.args.hand.now) (view c.trim_stripes.new.hand) c.in_err-trim_stripes.ensures.stops)

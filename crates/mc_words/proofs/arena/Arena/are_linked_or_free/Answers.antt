@@ -1,7 +1,6 @@
 use Rattle.std.proofs.Common.{◌≡◌, ◌∙◌, ℕ, ◌+◌, ◌/◌, ◌%◌, List, ◌∷◌, [], ◌++◌, true, eqb-true, refl, sym, subst, inl, inr, arith, lt-ltb}
 use Rattle.std.proofs.lemmas.Bool.{and_from, cases_eq}
 use Rattle.mc_classes.specs.Classes.{arena_pages_of}
-use Rattle.mc_pages.specs.declared.ids.ChunkId.{ChunkId}
 use Rattle.mc_pages.proofs.Cuts.{chunk_at}
 use Rattle.mc_core.specs.Head.{decode}
 use Rattle.mc_core.specs.Looks.{is_found_alive}

@@ -1,7 +1,6 @@
 use Rattle.std.proofs.Common.{◌∙◌, ℕ, ◌+◌, ◌*◌, ◌/◌, ◌%◌, subst, inl, inr, arith}
 use Rattle.std.proofs.Math.Nat.{div-add-mod}
 use Rattle.std.proofs.lemmas.Bool.{cases_lt}
-use Rattle.mc_pages.specs.declared.ids.ChunkId.{ChunkId}
 use Rattle.mc_pages.proofs.Cuts.{chunk_at}
 use Rattle.mc_words.specs.hand.Arenas.{view}
 use Rattle.mc_words.specs.chunk.Dead.{IsJudged}
