@@ -1,24 +1,28 @@
 -- What a look finds.
-use Rattle.std.proofs.Common.{◌≡◌, ℕ, Bool, List, Option, None, Some, Ok, Result, IfOk, IfSome, refl, subst}
-use Rattle.mc_packing.specs.Packing.{IsPackingOf, value_in}
+use Rattle.std.proofs.Common.{◌≡◌, ℕ, Bool, List, Option, None, Some, Ok, Result, IfOk, IfSome, refl, sym, ap, subst}
+use Rattle.mc_packing.specs.Packing.{IsPackingOf, packed, value_in}
 use Rattle.mc_words.specs.declared.arena.Arena.{Arena}
 use Rattle.mc_words.specs.declared.hand.Hand.{Hand}
 use Rattle.mc_words.specs.hand.Arenas.{IsHandOf, setup_of, view}
 use Rattle.mc_words.specs.hand.Observers.{number_of}
 use Rattle.mc_words.specs.hand.View.{Setup}
 use Rattle.mc_items.specs.declared.refs.Ref.{Ref}
-use Rattle.mc_items.specs.Calls.{Deletes, FindsNone, Touches}
+use Rattle.mc_items.specs.Calls.{Deletes}
 use Rattle.mc_items.specs.ItemRefs.{IsItemRef, item_key, item_stamp, item_words}
 use Rattle.mc_items.specs.Keeping.{SaysNothing}
-use Rattle.mc_items.specs.OnKeys.{ActsOn, Gets, stripe_of_key}
+use Rattle.mc_items.specs.OnKeys.{ActsOn, Gets}
 use Rattle.mc_words.specs.item.Items.{item_with}
 use Rattle.mc_items.proofs.Chains.{words_said}
-use Rattle.mc_byte_items.specs.Finding.{DeletesKey, FindsKey, FindsOther, FindsWords, GivesValue, LosesKey, PutsValue, TouchesKey}
+use Rattle.mc_byte_items.specs.Finding.{BumpsItem, DeletesKey, FindsKey, FindsOther, FindsWords, GivesTouched, GivesValue, PutsValue, TouchesKey, TouchesValue}
 use Rattle.mc_byte_items.specs.Hands.{WereSaid, sayings_of}
 
 -- the words of an item that was got were said
 were_said : (arena : Arena) (before got : Hand) (item : Ref) → IsHandOf arena got → SaysNothing (view before) (view got) → IsItemRef (view got) item → WereSaid (setup_of arena) (sayings_of before) (item_stamp item) (item_with (item_key item) (item_stamp item) (item_words (view got) item))
 were_said arena before got item of unsaid is = record { seen = view got; setup_is = of.setup; lawful = of.lawful; own_is = unsaid; said = words_said (view got) of.lawful item is }
+
+-- these words of an item under the hash were said
+abbrev SaidOf : Setup → ℕ → Hand → List ℕ → Type 0
+SaidOf setup hash before words = (stamp : ℕ) × WereSaid setup (sayings_of before) stamp (item_with hash stamp words)
 
 -- an item was got
 pub finds_item : (arena : Arena) (hash : ℕ) (before got : Hand) (found : Option Ref) (item : Ref) → IsHandOf arena got → SaysNothing (view before) (view got) → found ≡ Some item → Gets (setup_of arena) hash found before got
@@ -64,11 +68,24 @@ deletes_key {E} setup hash key there before between now result finds is done = r
   deletes = subst (λ (r : Result Bool E). IfOk r (λ there. ActsOn setup hash (λ number stripe. Deletes number stripe hash there) between now)) is done;
 }
 
-pub touches_key : (setup : Setup) (hash : ℕ) (key : List ℕ) (before between now : Hand) → FindsKey setup hash key before → Touches (number_of between) (stripe_of_key setup hash) hash (view between) (view now) → TouchesKey setup hash key before now
-touches_key setup hash key before between now finds touches = record { finds = finds; between = between; touches = touches }
+-- the item that was found was touched
+module _ (arena : Arena) (hash : ℕ) (key : List ℕ) (before got : Hand) (found : Option Ref) (item : Ref) (of : IsHandOf arena got) (unsaid : SaysNothing (view before) (view got)) (some : found ≡ Some item)
+    (gets : Gets (setup_of arena) hash found before got) (is : IfSome found (λ item. IsItemRef (view got) item × (item_key item ≡ hash))) where
+  touches_words : (value : List ℕ) → item_words (view got) item ≡ packed key value → (now : Hand) → BumpsItem (number_of before) item now → TouchesValue (setup_of arena) hash key value before now
+  unfolding finds_item
+  touches_words value same now bumps =
+      let finds = finds_item arena hash before got found item of unsaid some gets is in record {
+        finds = record { got = finds.got; item = finds.item; gets = finds.gets; words_are = ap Some (sym same); said = subst (SaidOf (setup_of arena) hash before) same finds.said };
+        item = item;
+        is_item = refl;
+        bumps = bumps;
+      }
 
-pub loses_key : (setup : Setup) (hash : ℕ) (key : List ℕ) (before between now : Hand) → FindsKey setup hash key before → ActsOn setup hash (λ number stripe. FindsNone number stripe hash) between now → LosesKey setup hash key before now
-loses_key setup hash key before between now finds none = record { finds = finds; between = between; none = none }
+  pub gives_touched : (old new : List ℕ) → PutsValue key (item_words (view got) item) old new → (now : Hand) → BumpsItem (number_of before) item now → GivesTouched (setup_of arena) hash key before now old new
+  gives_touched old new puts now bumps = (puts.0, touches_words puts.0 puts.1 now bumps, puts.2)
+
+  pub touches_key : IsPackingOf key (item_words (view got) item) → (now : Hand) → BumpsItem (number_of before) item now → TouchesKey (setup_of arena) hash key before now
+  touches_key own now bumps = (value_in (item_words (view got) item), touches_words (value_in (item_words (view got) item)) own now bumps)
 
 -- two answers that are the same
 pub same_ok : {T E : Type 0} (x y : T) → ◌≡◌ {A = Result T E} (Ok x) (Ok y) → x ≡ y

@@ -6,11 +6,13 @@ use Rattle.mc_words.specs.declared.hand.Hand.{Hand}
 use Rattle.mc_words.specs.hand.Arenas.{view}
 use Rattle.mc_words.specs.item.Items.{item_with}
 use Rattle.mc_words.specs.hand.Observers.{number_of}
-use Rattle.mc_words.specs.hand.View.{Setup}
+use Rattle.mc_words.specs.hand.View.{Setup, View}
+use Rattle.mc_words.specs.hand.Views.{chunk_released}
+use Rattle.mc_words.specs.lock.Doing.{HoldsSlabs}
 use Rattle.mc_items.specs.declared.refs.Ref.{Ref}
-use Rattle.mc_items.specs.ItemRefs.{item_words}
-use Rattle.mc_items.specs.OnKeys.{ActsOn, Gets, stripe_of_key}
-use Rattle.mc_items.specs.Calls.{Deletes, FindsNone, Touches}
+use Rattle.mc_items.specs.ItemRefs.{item_chunk, item_words}
+use Rattle.mc_items.specs.OnKeys.{ActsOn, Gets}
+use Rattle.mc_items.specs.Calls.{Bumps, Deletes}
 use Rattle.mc_byte_items.specs.Hands.{WereSaid, sayings_of}
 
 -- the hand got the item under the hash, and these are its words, which somebody said; or there was none
@@ -49,22 +51,28 @@ pub record DeletesKey (setup : Setup) (hash : ℕ) (key : List ℕ) (there : Boo
   pub between : Hand
   pub deletes : ActsOn setup hash (λ number stripe. Deletes number stripe hash there) between now
 
--- the item under the hash was of this key; and then it was touched
-pub record TouchesKey (setup : Setup) (hash : ℕ) (key : List ℕ) (before now : Hand) : Type 0 where
-  pub finds : FindsKey setup hash key before
-  pub between : Hand
-  pub touches : Touches (number_of between) (stripe_of_key setup hash) hash (view between) (view now)
+-- by the hand of this number the chunk of the item went to the back of its hand-out order, under the lock of the slabs, and was released
+pub record BumpsItem (number : ℕ) (item : Ref) (now : Hand) : Type 0 where
+  pub read : Hand
+  pub bumped : View
+  pub bumps : HoldsSlabs (Bumps number (item_chunk item)) (view read) bumped
+  pub released : view now ≡ chunk_released (item_chunk item) bumped
 
--- the item under the hash was of this key; and then it was gone
-pub record LosesKey (setup : Setup) (hash : ℕ) (key : List ℕ) (before now : Hand) : Type 0 where
-  pub finds : FindsKey setup hash key before
-  pub between : Hand
-  pub none : ActsOn setup hash (λ number stripe. FindsNone number stripe hash) between now
+-- the item under the hash is of this key and this value, and became the newest of its class
+pub record TouchesValue (setup : Setup) (hash : ℕ) (key value : List ℕ) (before now : Hand) : Type 0 where
+  pub finds : FindsValue setup hash key value before
+  pub item : Ref
+  pub is_item : finds.item ≡ Some item
+  pub bumps : BumpsItem (number_of before) item now
+
+-- it is of this key, with some value, and became the newest of its class
+abbrev pub TouchesKey : Setup → ℕ → List ℕ → Hand → Hand → Type 0
+TouchesKey setup hash key before now = (value : List ℕ) × TouchesValue setup hash key value before now
+
+-- the item under the hash is of this key and a value, which stands behind the bytes that were there, and it became the newest of its class
+abbrev pub GivesTouched : Setup → ℕ → List ℕ → Hand → Hand → List ℕ → List ℕ → Type 0
+GivesTouched setup hash key before now old new = (value : List ℕ) × TouchesValue setup hash key value before now × (new ≡ old ++ value)
 
 -- there was no item of this key, or it was gone when it was to be deleted
 abbrev pub DeletesNone : Setup → ℕ → List ℕ → Hand → Hand → Type 0
 DeletesNone setup hash key before now = FindsOther setup hash key before ⊎ DeletesKey setup hash key false before now
-
--- there was no item of this key, or it was gone when it was to be touched
-abbrev pub TouchesNone : Setup → ℕ → List ℕ → Hand → Hand → Type 0
-TouchesNone setup hash key before now = FindsOther setup hash key before ⊎ LosesKey setup hash key before now

@@ -1,18 +1,49 @@
-//! Keys that are touched.
-ghost use Rattle.std.specs.Prelude.{◌≡◌, Ok, false, true};
+//! Keys that are touched, as they are got or by themselves.
+ghost use Rattle.std.specs.Prelude.{◌≡◌, [], ◌∷◌, Ok, false, true};
+ghost use Rattle.mc_packing.specs.Packing.{IsPackingOf};
 ghost use Rattle.mc_words.specs.hand.Arenas.{setup_of, view};
 ghost use Rattle.mc_words.specs.hand.Observers.{number_of};
-ghost use Rattle.mc_items.specs.Keeping.{SaysNothing};
-ghost use Rattle.mc_byte_items.specs.Finding.{TouchesKey, TouchesNone};
+ghost use Rattle.mc_items.specs.ItemRefs.{item_words};
+ghost use Rattle.mc_items.specs.Keeping.{SaysNothing, holding_by};
+ghost use Rattle.mc_byte_items.specs.Finding.{BumpsItem, FindsOther, GivesTouched, PutsValue, TouchesKey};
 ghost use Rattle.mc_byte_items.specs.Hands.{IsIdleHandOf};
+ghost use Rattle.mc_byte_items.specs.Reading.{RefersTo};
 
-use crate::finding::contains;
+use crate::reading::{is_of, push_value};
+use mc_items::{GetError, Ref, bump, release};
 use mc_memory::Refused;
 use mc_words::{Arena, Hand};
 use std::sync::Wait;
 
+/// The same as `get`; and where the key has a value, its item becomes the one of its class that is evicted last, before the reference is
+/// given up. It waits for the lock of the hash's stripe, and then for that of the slabs. (memcached's `process_touch_command` with a
+/// value, `gat`)
+pub fn get_touching<R: Wait>(
+    rt: &R,
+    arena: &Arena,
+    hand: &mut Hand,
+    hash: u64,
+    key: &[u8],
+    into: &mut Vec<u8>,
+) -> Result<bool, Refused>
+    requires { IsIdleHandOf arena.now hand.old }
+    ensures idle { IsIdleHandOf arena.now hand.new }
+    ensures number { number_of hand.new ≡ number_of hand.old }
+    ensures value { result ≡ Ok true → GivesTouched (setup_of arena.now) hash key.now hand.old hand.new into.old.items into.new.items }
+    ensures other { result ≡ Ok false → FindsOther (setup_of arena.now) hash key.now hand.old }
+    ensures kept { (result ≡ Ok true → ⊥) → into.new.items ≡ into.old.items }
+    ensures unsaid { SaysNothing (view hand.old) (view hand.new) }
+{
+    match mc_items::get(rt, arena, hand, hash) {
+        Ok(Some(item)) => give_and_touch(rt, arena, hand, item, key, into),
+        Ok(None) => Ok(false),
+        Err(GetError::NoMemory(refused)) => Err(refused),
+        Err(GetError::TooManyRefs) => unreachable!(),
+    }
+}
+
 /// Makes the key's item the one of its class that is evicted last, and says whether it has one. An item of another key under the hash
-/// stays as it is; but where one is stored there between the look and the touch, it is touched. (memcached's `process_touch_command`)
+/// stays as it is. It is a get, whose reference is given up. (memcached's `process_touch_command`)
 pub fn touch<R: Wait>(
     rt: &R,
     arena: &Arena,
@@ -24,12 +55,78 @@ pub fn touch<R: Wait>(
     ensures idle { IsIdleHandOf arena.now hand.new }
     ensures number { number_of hand.new ≡ number_of hand.old }
     ensures touches { result ≡ Ok true → TouchesKey (setup_of arena.now) hash key.now hand.old hand.new }
-    ensures none { result ≡ Ok false → TouchesNone (setup_of arena.now) hash key.now hand.old hand.new }
+    ensures none { result ≡ Ok false → FindsOther (setup_of arena.now) hash key.now hand.old }
     ensures unsaid { SaysNothing (view hand.old) (view hand.new) }
 {
-    match contains(rt, arena, hand, hash, key) {
-        Ok(true) => mc_items::touch(rt, arena, hand, hash),
-        Ok(false) => Ok(false),
-        Err(refused) => Err(refused),
+    match mc_items::get(rt, arena, hand, hash) {
+        Ok(Some(item)) => Ok(touch_own(rt, arena, hand, item, key)),
+        Ok(None) => Ok(false),
+        Err(GetError::NoMemory(refused)) => Err(refused),
+        Err(GetError::TooManyRefs) => unreachable!(),
+    }
+}
+
+// The value of an item that the hand holds, and nothing else, if it is of the key, which is touched then. The reference is given up, also
+// where memory is refused.
+fn give_and_touch<R: Wait>(
+    rt: &R,
+    arena: &Arena,
+    hand: &mut Hand,
+    item: Ref,
+    key: &[u8],
+    into: &mut Vec<u8>,
+) -> Result<bool, Refused>
+    requires item { RefersTo arena.now item hand.old }
+    requires alone { (view hand.old).row.holdings ≡ holding_by (view hand.old) item ∷ [] }
+    ensures idle { IsIdleHandOf arena.now hand.new }
+    ensures number { number_of hand.new ≡ number_of hand.old }
+    ensures value { result ≡ Ok true → PutsValue key.now (item_words (view hand.old) item) into.old.items into.new.items }
+    ensures bumps { result ≡ Ok true → BumpsItem (number_of hand.old) item hand.new }
+    ensures other { result ≡ Ok false → ¬ IsPackingOf key.now (item_words (view hand.old) item) }
+    ensures kept { (result ≡ Ok true → ⊥) → into.new.items ≡ into.old.items }
+    ensures unsaid { SaysNothing (view hand.old) (view hand.new) }
+{
+    match push_value(arena, hand, &item, key, into) {
+        Ok(own) => {
+            let_go(rt, arena, hand, item, own);
+            Ok(own)
+        }
+        Err(refused) => {
+            release(arena, hand, item);
+            Err(refused)
+        }
+    }
+}
+
+// Whether an item that the hand holds, and nothing else, is of the key, which is touched then. The reference is given up.
+fn touch_own<R: Wait>(rt: &R, arena: &Arena, hand: &mut Hand, item: Ref, key: &[u8]) -> bool
+    requires item { RefersTo arena.now item hand.old }
+    requires alone { (view hand.old).row.holdings ≡ holding_by (view hand.old) item ∷ [] }
+    ensures idle { IsIdleHandOf arena.now hand.new }
+    ensures number { number_of hand.new ≡ number_of hand.old }
+    ensures own { result ≡ true → IsPackingOf key.now (item_words (view hand.old) item) }
+    ensures bumps { result ≡ true → BumpsItem (number_of hand.old) item hand.new }
+    ensures other { result ≡ false → ¬ IsPackingOf key.now (item_words (view hand.old) item) }
+    ensures unsaid { SaysNothing (view hand.old) (view hand.new) }
+{
+    let own = is_of(arena, hand, &item, key);
+    let_go(rt, arena, hand, item, own);
+    own
+}
+
+// Gives the only reference of a hand up, and makes its item the newest of its class before, where that is asked.
+fn let_go<R: Wait>(rt: &R, arena: &Arena, hand: &mut Hand, item: Ref, touches: bool)
+    requires item { RefersTo arena.now item hand.old }
+    requires alone { (view hand.old).row.holdings ≡ holding_by (view hand.old) item ∷ [] }
+    ensures idle { IsIdleHandOf arena.now hand.new }
+    ensures number { number_of hand.new ≡ number_of hand.old }
+    ensures bumps { touches ≡ true → BumpsItem (number_of hand.old) item hand.new }
+    ensures unsaid { SaysNothing (view hand.old) (view hand.new) }
+{
+    if touches {
+        bump(rt, arena, hand, &item);
+        release(arena, hand, item);
+    } else {
+        release(arena, hand, item);
     }
 }

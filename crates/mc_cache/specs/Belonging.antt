@@ -6,7 +6,9 @@ use Rattle.mc_items.specs.declared.setting.SetError.{SetError}
 use Rattle.mc_cache.specs.declared.cache.Cache.{Cache}
 use Rattle.mc_cache.specs.declared.cache.Worker.{Worker}
 use Rattle.mc_cache.specs.Hashing.{hash_of, shard_of}
-use Rattle.mc_cache.specs.Shards.{ActsOnShard, AreIdleHands, DeletesThere, LosesThere, ReadsAndBumps, ReadsOther, ReadsValue, RefusesValue}
+use Rattle.mc_cache.specs.Marks.{with_mark}
+use Rattle.mc_cache.specs.Recent.{is_due, marks_found, marks_of}
+use Rattle.mc_cache.specs.Shards.{ActsOnShard, AreIdleHands, DeletesThere, ReadsOther, ReadsTouchingIf, ReadsValue, RefusesValue}
 
 -- the worker has an idle hand of each of the cache's arenas
 abbrev pub BelongsTo : Cache → Worker → Type 0
@@ -36,18 +38,18 @@ KeepsHands before now = now.hands.items ≡ before.hands.items
 abbrev pub GivesValueOf : Cache → List ℕ → List ℕ → List ℕ → Worker → Worker → Type 0
 GivesValueOf cache key old new before now = (value : List ℕ) × ActsOnKey cache key (ReadsValue (hash_in cache key) key value) before now × (new ≡ old ++ value)
 
--- the worker found the key with a value, which stands behind the bytes that were there, and then touched it where it was due
-abbrev pub GivesAndBumps : Cache → List ℕ → List ℕ → List ℕ → Worker → Worker → Type 0
-GivesAndBumps cache key old new before now =
-    (value : List ℕ) × ActsOnKey cache key (ReadsAndBumps before.recent now.recent (hash_in cache key) key value) before now × (new ≡ old ++ value)
+-- the worker found the key with a value, which stands behind the bytes that were there, and touched it if it was due
+abbrev pub GivesAndTouches : Cache → List ℕ → List ℕ → List ℕ → Worker → Worker → Type 0
+GivesAndTouches cache key old new before now =
+    (value : List ℕ) × ActsOnKey cache key (ReadsTouchingIf (is_due before.recent (hash_in cache key)) (hash_in cache key) key value) before now × (new ≡ old ++ value)
+
+-- the key's hash is noted as that of a key which the worker touched lately
+abbrev pub NotesHashOf : Cache → List ℕ → Worker → Worker → Type 0
+NotesHashOf cache key before now = marks_of now.recent ≡ with_mark (hash_in cache key) (marks_found before.recent)
 
 -- it found no such key, or one that was gone when it was to be deleted
 abbrev pub DeletesNoneOf : Cache → List ℕ → Worker → Worker → Type 0
 DeletesNoneOf cache key before now = ActsOnKey cache key (ReadsOther (hash_in cache key) key) before now ⊎ ActsOnKey cache key (DeletesThere (hash_in cache key) key false) before now
-
--- it found no such key, or one that was gone when it was to be touched
-abbrev pub TouchesNoneOf : Cache → List ℕ → Worker → Worker → Type 0
-TouchesNoneOf cache key before now = ActsOnKey cache key (ReadsOther (hash_in cache key) key) before now ⊎ ActsOnKey cache key (LosesThere (hash_in cache key) key) before now
 
 -- it was refused to store the value
 abbrev pub RefusesValueOf : Cache → List ℕ → List ℕ → SetError → Worker → Worker → Type 0

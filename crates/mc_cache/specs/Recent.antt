@@ -1,5 +1,5 @@
 -- Which keys a worker touched lately: their hashes are noted.
-use Rattle.std.specs.Prelude.{ℕ, Bool, not, nat_lt, if◌then◌else◌, List}
+use Rattle.std.specs.Prelude.{ℕ, Bool, true, not, nat_lt, if◌then◌else◌, List}
 use Rattle.mc_cache.specs.declared.recent.Recent.{Recent}
 use Rattle.mc_cache.specs.Marks.{is_noted, no_marks}
 
@@ -13,4 +13,4 @@ marks_found recent = if nat_lt recent.asks 4096 then marks_of recent else no_mar
 
 -- the next ask doesn't find the hash noted, so its key is to be touched
 abbrev pub is_due : Recent → ℕ → Bool
-is_due recent hash = not (is_noted (marks_found recent) hash)
+is_due recent hash = if nat_lt recent.asks 4096 then not (is_noted (marks_of recent) hash) else true

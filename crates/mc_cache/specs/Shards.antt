@@ -1,5 +1,5 @@
 -- Hands of the arenas of all shards, and what a call does on one of them.
-use Rattle.std.specs.Prelude.{◌≡◌, ◌⊎◌, ◌≤◌, ℕ, false, true, Bool, List, All, length, slice_get, slice_set, Some}
+use Rattle.std.specs.Prelude.{◌≡◌, ◌≤◌, ℕ, Bool, false, true, List, All, length, slice_get, slice_set, Some}
 use Rattle.mc_packing.specs.Packing.{packed}
 use Rattle.mc_words.specs.declared.arena.Arena.{Arena}
 use Rattle.mc_words.specs.declared.hand.Hand.{Hand}
@@ -9,13 +9,10 @@ use Rattle.mc_words.specs.hand.Observers.{number_of}
 use Rattle.mc_items.specs.Keeping.{Says, SaysNothing}
 use Rattle.mc_items.specs.OnKeys.{FindsStripeHeld}
 use Rattle.mc_items.specs.declared.setting.SetError.{SetError}
-use Rattle.mc_byte_items.specs.Finding.{DeletesKey, FindsKey, FindsOther, FindsValue, LosesKey, TouchesKey}
+use Rattle.mc_byte_items.specs.Finding.{DeletesKey, FindsKey, FindsOther, FindsValue, TouchesKey, TouchesValue}
 use Rattle.mc_byte_items.specs.Hands.{IsIdleHandOf}
 use Rattle.mc_byte_items.specs.Setting.{RefusesBytes}
-use Rattle.mc_cache.specs.declared.recent.Recent.{Recent}
-use Rattle.mc_cache.specs.Marks.{is_noted}
 use Rattle.mc_cache.specs.Pairs.{ArePaired}
-use Rattle.mc_cache.specs.Recent.{is_due, marks_of}
 
 -- there is one hand for each arena: an idle one of that arena
 abbrev pub AreIdleHands : List Arena → List Hand → Type 0
@@ -67,10 +64,6 @@ DeletesThere hash key there arena hand now = DeletesKey (setup_of arena) hash ke
 abbrev pub TouchesThere : ℕ → List ℕ → Arena → Hand → Hand → Type 0
 TouchesThere hash key arena hand now = TouchesKey (setup_of arena) hash key hand now × SaysNothing (view hand) (view now)
 
--- it found the key, which was gone when it was to be touched
-abbrev pub LosesThere : ℕ → List ℕ → Arena → Hand → Hand → Type 0
-LosesThere hash key arena hand now = LosesKey (setup_of arena) hash key hand now × SaysNothing (view hand) (view now)
-
 -- it said nothing
 abbrev pub SaysNoMore : Arena → Hand → Hand → Type 0
 SaysNoMore arena hand now = SaysNothing (view hand) (view now)
@@ -79,19 +72,11 @@ SaysNoMore arena hand now = SaysNothing (view hand) (view now)
 abbrev pub FindsHeld : ℕ → Arena → Hand → Hand → Type 0
 FindsHeld hash arena hand now = FindsStripeHeld (setup_of arena) hash hand now
 
--- it touched the key, or found none that it could touch
-abbrev pub TriesTouch : ℕ → List ℕ → Arena → Hand → Hand → Type 0
-TriesTouch hash key arena hand now = TouchesThere hash key arena hand now ⊎ ReadsOther hash key arena hand now ⊎ LosesThere hash key arena hand now
+-- it found the key with this value, and touched it
+abbrev pub ReadsAndTouches : ℕ → List ℕ → List ℕ → Arena → Hand → Hand → Type 0
+ReadsAndTouches hash key value arena hand now = TouchesValue (setup_of arena) hash key value hand now × SaysNothing (view hand) (view now)
 
--- where the hash wasn't due nothing was done; where it was, and is noted since, the key was touched, or none was found that could be; where
--- it isn't noted, that was refused
-pub record BumpsThere (recent later : Recent) (hash : ℕ) (key : List ℕ) (arena : Arena) (hand now : Hand) : Type 0 where
-  pub fresh : is_due recent hash ≡ false → now ≡ hand
-  pub due : is_due recent hash ≡ true → is_noted (marks_of later) hash ≡ true → TriesTouch hash key arena hand now
-  pub unsaid : SaysNoMore arena hand now
-
--- it found the key with this value, and then touched it where it was due
-pub record ReadsAndBumps (recent later : Recent) (hash : ℕ) (key value : List ℕ) (arena : Arena) (hand now : Hand) : Type 0 where
-  pub between : Hand
-  pub reads : ReadsValue hash key value arena hand between
-  pub bumps : BumpsThere recent later hash key arena between now
+-- it found the key with this value, and touched it if that was asked
+abbrev pub ReadsTouchingIf : Bool → ℕ → List ℕ → List ℕ → Arena → Hand → Hand → Type 0
+ReadsTouchingIf true hash key value arena hand now = ReadsAndTouches hash key value arena hand now
+ReadsTouchingIf false hash key value arena hand now = ReadsValue hash key value arena hand now

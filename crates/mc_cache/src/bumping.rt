@@ -1,36 +1,35 @@
 //! Keys that are touched as they are read, now and then.
-ghost use Rattle.std.specs.Prelude.{◌≡◌, false, true};
+ghost use Rattle.std.specs.Prelude.{◌≡◌, ◌++◌, ℕ, List, Ok, false, true};
 ghost use Rattle.mc_byte_items.specs.Hands.{IsIdleHandOf};
 ghost use Rattle.mc_cache.specs.Cases.{AskedAgain};
-ghost use Rattle.mc_cache.specs.Marks.{is_noted};
-ghost use Rattle.mc_cache.specs.Recent.{is_due, marks_of};
-ghost use Rattle.mc_cache.specs.Shards.{SaysNoMore, TriesTouch};
+ghost use Rattle.mc_cache.specs.Shards.{ReadsOther, ReadsTouchingIf, SaysNoMore};
 
-use crate::recent::Recent;
-use mc_byte_items::touch;
+use mc_byte_items::{get, get_touching};
+use mc_memory::Refused;
 use mc_words::{Arena, Hand};
 use std::sync::Wait;
 
-/// Touches the key, where its hash is due. Where memory is refused for that it stays due. (memcached's `do_item_bump`)
-pub(crate) fn bump<R: Wait>(
+/// Puts the key's value behind the bytes that are there, and touches the key if that is asked. (memcached's `do_item_bump`)
+pub(crate) fn get_touching_if<R: Wait>(
     rt: &R,
     arena: &Arena,
     hand: &mut Hand,
-    recent: &mut Recent,
     hash: u64,
     key: &[u8],
-)
+    into: &mut Vec<u8>,
+    touches: bool,
+) -> Result<bool, Refused>
     requires { IsIdleHandOf arena.now hand.old }
     ensures idle { IsIdleHandOf arena.now hand.new }
-    ensures fresh { is_due recent.old hash ≡ false → hand.new ≡ hand.old }
-    ensures due { is_due recent.old hash ≡ true → is_noted (marks_of recent.new) hash ≡ true → TriesTouch hash key.now arena.now hand.old hand.new }
+    ensures value { result ≡ Ok true → (value : List ℕ) × ReadsTouchingIf touches hash key.now value arena.now hand.old hand.new × (into.new.items ≡ into.old.items ++ value) }
+    ensures none { result ≡ Ok false → ReadsOther hash key.now arena.now hand.old hand.new }
+    ensures kept { (result ≡ Ok true → ⊥) → into.new.items ≡ into.old.items }
     ensures unsaid { SaysNoMore arena.now hand.old hand.new }
 {
-    if !recent.is_due(hash) {
-        return;
-    }
-    if touch(rt, arena, hand, hash, key).is_err() {
-        recent.withdraw(hash);
+    if touches {
+        get_touching(rt, arena, hand, hash, key, into)
+    } else {
+        get(rt, arena, hand, hash, key, into)
     }
 }
 

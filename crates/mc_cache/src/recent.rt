@@ -37,8 +37,8 @@ fn mark_of(hash: u64) -> u64
 }
 
 impl Recent {
-    ghost use Rattle.std.specs.Prelude.{◌≡◌, ◌+◌, IfOk, false, if◌then◌else◌, nat_lt, replicate, slice_set};
-    ghost use Rattle.mc_cache.specs.Marks.{is_noted, place_of, with_mark};
+    ghost use Rattle.std.specs.Prelude.{◌≡◌, ◌+◌, IfOk, if◌then◌else◌, nat_lt, replicate};
+    ghost use Rattle.mc_cache.specs.Marks.{with_mark};
     ghost use Rattle.mc_cache.specs.Recent.{is_due, marks_found, marks_of};
 
     /// No hash is noted. It takes 8 KiB.
@@ -65,26 +65,24 @@ impl Recent {
         self.asks = 1;
     }
 
-    /// Whether the hash isn't noted. From then on it is, in the place of the one that was noted there. Before the ask all are forgotten
-    /// where 4,096 came since they were. (memcached's `do_item_bump`, which asks a clock; the counts are own)
-    pub(crate) fn is_due(&mut self, hash: u64) -> bool
-        ensures due { result ≡ is_due self.old hash }
+    /// Whether the next ask doesn't find the hash noted: it isn't, or 4,096 asks came since all were forgotten. (memcached's
+    /// `do_item_bump`, which asks a clock; the counts are own)
+    pub(crate) fn is_due(&self, hash: u64) -> bool
+        ensures due { result ≡ is_due self.now hash }
+    {
+        if self.asks < MOST_ASKS {
+            self.marks[place_of(hash)] != mark_of(hash)
+        } else {
+            true
+        }
+    }
+
+    /// Notes the hash, in the place of the one that was noted there. Before it all are forgotten where 4,096 asks came since they were.
+    pub(crate) fn note(&mut self, hash: u64)
         ensures notes { marks_of self.new ≡ with_mark hash (marks_found self.old) }
         ensures asks { self.new.asks ≡ (if nat_lt self.old.asks 4096 then self.old.asks + 1 else 1) }
     {
         self.count_ask();
-        let place = place_of(hash);
-        let was_noted = self.marks[place] == mark_of(hash);
-        self.marks[place] = mark_of(hash);
-        !was_noted
-    }
-
-    /// The hash isn't noted any more, nor any other of its place.
-    pub(crate) fn withdraw(&mut self, hash: u64)
-        ensures marks { marks_of self.new ≡ slice_set (marks_of self.old) (place_of hash) 0 }
-        ensures asks { self.new.asks ≡ self.old.asks }
-        ensures withdrawn { is_noted (marks_of self.new) hash ≡ false }
-    {
-        self.marks[place_of(hash)] = 0;
+        self.marks[place_of(hash)] = mark_of(hash);
     }
 }

@@ -2,7 +2,7 @@
 ghost use Rattle.std.specs.Prelude.{◌↔◌, IsTrue};
 ghost use Rattle.mc_cache.specs.Shards.{IsKey};
 
-use crate::bumping::bump;
+use crate::bumping::get_touching_if;
 use crate::cache::{Cache, Worker};
 use mc_memory::Refused;
 use std::sync::Wait;
@@ -48,7 +48,7 @@ fn is_key(key: &[u8]) -> bool
 impl Worker {
     ghost use Rattle.std.specs.Prelude.{◌≡◌, ◌<◌, ◌↔◌, ◌⊎◌, Err, Ok, OnErr, OnOk, false, length, true};
     ghost use Rattle.mc_items.specs.declared.setting.SetError as items;
-    ghost use Rattle.mc_cache.specs.Belonging.{ActsOnKey, BelongsTo, DeletesNoneOf, GivesAndBumps, GivesValueOf, KeepsHands, RefusesValueOf, TouchesNoneOf, hash_in};
+    ghost use Rattle.mc_cache.specs.Belonging.{ActsOnKey, BelongsTo, DeletesNoneOf, GivesAndTouches, GivesValueOf, KeepsHands, NotesHashOf, RefusesValueOf, hash_in};
     ghost use Rattle.mc_cache.specs.Shards.{DeletesThere, FindsHeld, IsKey, ReadsKey, ReadsOther, SaysNoMore, StoresValue, TouchesThere};
     ghost use Rattle.mc_cache.specs.declared.working.CallError.TheVariants as call_error;
     ghost use Rattle.mc_cache.specs.declared.working.SetError.TheVariants as set_error;
@@ -120,9 +120,9 @@ impl Worker {
     }
 
     /// The same as `get`; and where the key has a value, it is touched then, as by `touch`, unless this worker did so lately: it notes one
-    /// hash for each remainder by 1,024, and forgets all after 4,096 gets that found their keys. Where memory is refused for the touch, the
-    /// value is given all the same, and the key stays due. It waits for locks of the key's shard. (memcached's `do_item_bump`, which lets
-    /// `ITEM_UPDATE_INTERVAL`, 60 seconds, go by; by counts of gets and not by a clock: own)
+    /// hash for each remainder by 1,024, and forgets all after 4,096 gets that found their keys. The touch takes no memory, and isn't
+    /// refused. It waits for locks of the key's shard. (memcached's `do_item_bump`, which lets `ITEM_UPDATE_INTERVAL`, 60 seconds, go by;
+    /// by counts of gets and not by a clock: own)
     pub fn get_touching<R: Wait>(
         &mut self,
         rt: &R,
@@ -134,7 +134,8 @@ impl Worker {
         ensures belongs { BelongsTo cache.now self.new }
         ensures key { (result ≡ Err call_error.KeyLength) ↔ ¬ IsKey key.now }
         ensures same { result ≡ Err call_error.KeyLength → KeepsHands self.old self.new }
-        ensures value { result ≡ Ok true → GivesAndBumps cache.now key.now into.old.items into.new.items self.old self.new }
+        ensures value { result ≡ Ok true → GivesAndTouches cache.now key.now into.old.items into.new.items self.old self.new }
+        ensures noted { result ≡ Ok true → NotesHashOf cache.now key.now self.old self.new }
         ensures none { result ≡ Ok false → ActsOnKey cache.now key.now (ReadsOther (hash_in cache.now key.now) key.now) self.old self.new }
         ensures unasked { (result ≡ Ok true → ⊥) → self.new.recent ≡ self.old.recent }
         ensures kept { (result ≡ Ok true → ⊥) → into.new.items ≡ into.old.items }
@@ -147,10 +148,10 @@ impl Worker {
         let shard = cache.shard(hash);
         let arena = &cache.arenas[shard];
         let hand = &mut self.hands[shard];
-        let found = mc_byte_items::get(rt, arena, hand, hash, key, into);
-        match found {
+        let due = self.recent.is_due(hash);
+        match get_touching_if(rt, arena, hand, hash, key, into, due) {
             Ok(true) => {
-                bump(rt, arena, hand, &mut self.recent, hash, key);
+                self.recent.note(hash);
                 Ok(true)
             }
             Ok(false) => Ok(false),
@@ -251,7 +252,7 @@ impl Worker {
         ensures key { (result ≡ Err call_error.KeyLength) ↔ ¬ IsKey key.now }
         ensures same { result ≡ Err call_error.KeyLength → KeepsHands self.old self.new }
         ensures touches { result ≡ Ok true → ActsOnKey cache.now key.now (TouchesThere (hash_in cache.now key.now) key.now) self.old self.new }
-        ensures none { result ≡ Ok false → TouchesNoneOf cache.now key.now self.old self.new }
+        ensures none { result ≡ Ok false → ActsOnKey cache.now key.now (ReadsOther (hash_in cache.now key.now) key.now) self.old self.new }
         ensures refused { OnErr result (IsKey key.now → ActsOnKey cache.now key.now SaysNoMore self.old self.new) }
     {
         if !is_key(key) {

@@ -13,10 +13,11 @@ use Rattle.mc_words.specs.item.Again.{FindsContended, FindsGone, GetsAgain}
 use Rattle.mc_words.specs.item.Items.{held_item}
 use Rattle.mc_words.specs.item.References.{reference_to}
 use Rattle.mc_words.specs.hand.Views.{stripe_reserved, with_event}
+use Rattle.mc_words.specs.lock.Doing.{HoldsSlabs}
 use Rattle.mc_words.specs.lock.Wait.{WaitsForSlabs, WaitsForStripe}
 use Rattle.mc_words.specs.declared.item.refs.Ref as words
 use Rattle.mc_items.specs.declared.refs.Ref.{Ref}
-use Rattle.mc_items.specs.Calls.{CallsOn, Deletes, Finds, FindsNone, OnlyWaits}
+use Rattle.mc_items.specs.Calls.{Bumps, CallsOn, Deletes, Finds, FindsNone, OnlyWaits}
 use Rattle.mc_items.specs.ItemRefs.{item_chunk, item_issue}
 use Rattle.mc_items.specs.Keeping.{HoldsToo}
 use Rattle.mc_items.specs.Reading.{AndReads, item_seen}
@@ -56,6 +57,17 @@ deletes_keep number stripe key there view now on = ap kept_of on.done.given ∙ 
     by : (there : Bool) → on.done.last ≡ (if there then with_event [] (step.Unlink key) (key_deleted number stripe ready key true made) else key_not_deleted number stripe ready key made) → kept_of on.done.last ≡ kept_of on.taken
     by true is = ap kept_of is
     by false is = ap kept_of is
+
+-- and so does a hold of the slabs lock in which a chunk is made the newest
+pub bumped_keeps : (number : ℕ) (chunk : ChunkId) (view now : View) → HoldsSlabs (Bumps number chunk) view now → kept_of now ≡ kept_of view
+bumped_keeps number chunk view now bumps = ap kept_of bumps.given ∙ (ap kept_of bumps.does.1 ∙ waited_for_slabs view bumps.found bumps.taken bumps.waits)
+
+-- in which no call is made
+pub bumped_tells : (number : ℕ) (chunk : ChunkId) (view now : View) → HoldsSlabs (Bumps number chunk) view now → now.row.knows.mine ≡ view.row.knows.mine
+bumped_tells number chunk view now bumps =
+    ap (λ (v : View). v.row.knows.mine) bumps.given
+    ∙ (ap (λ (v : View). v.row.knows.mine) bumps.does.1
+    ∙ waits_slabs_keep (λ (v : View). v.row.knows.mine) (λ word v. refl) (λ slabs v. refl) view bumps.found bumps.taken bumps.waits)
 
 -- one more that the hand holds, and knows
 abbrev pub with_one : Holding → ℕ → Kept → Kept

@@ -1,5 +1,6 @@
 -- Calls on keys: the lock of the key's stripe is taken, the call is made there, and the lock is given back.
 use Rattle.std.specs.Prelude.{◌≡◌, ℕ, ◌+◌, Bool, true, false, is_some, if◌then◌else◌, map, Option, Some, None, []}
+use Rattle.mc_pages.specs.declared.ids.ChunkId.{ChunkId}
 use Rattle.mc_pages.specs.SlabState.{SlabState}
 use Rattle.mc_pages.specs.Changes.{after_touch}
 use Rattle.mc_core.specs.declared.event.Change.TheVariants.{Touch}
@@ -7,7 +8,7 @@ use Rattle.mc_core.specs.declared.event.Step.TheVariants as step
 use Rattle.mc_stripe.specs.declared.history.Call.{Call}
 use Rattle.mc_stripe.specs.StripeState.{ReadyStripe, place_of}
 use Rattle.mc_stripe.specs.Changes.{after_got, after_unlink, used_up}
-use Rattle.mc_words.specs.lock.Doing.{Doing, IsDone}
+use Rattle.mc_words.specs.lock.Doing.{Doing, IsDone, SlabsDoing}
 use Rattle.mc_words.specs.hand.View.{View}
 use Rattle.mc_words.specs.item.Calls.{with_own_call, key_deleted, key_missed, key_not_deleted}
 use Rattle.mc_words.specs.lock.Lent.{IsLentStripe}
@@ -58,6 +59,10 @@ pub record Touches (number stripe key : ℕ) (view now : View) : Type 0 where
   pub taken : View
   pub waits : WaitsForSlabs got slabs taken
   pub is : now ≡ chunk_released (ref_chunk reference) (slabs_given (after_touch slabs (ref_chunk reference)) (slabs_changed slabs (Touch (ref_chunk reference)) (number + 1) taken))
+
+-- under the lock of the slabs: this chunk went to the back of its class's hand-out order
+abbrev pub Bumps : ℕ → ChunkId → SlabsDoing
+Bumps number chunk view slabs now left = (left ≡ after_touch slabs chunk) × (now ≡ slabs_changed slabs (Touch chunk) (number + 1) view)
 
 -- the key was deleted, and had an item or none
 abbrev pub Deletes : ℕ → ℕ → ℕ → Bool → Doing

@@ -4,6 +4,7 @@
 //! as they are until it is released, whoever stores, deletes or evicts meanwhile.
 #![tactic(auto)]
 
+mod bumping;
 mod deleting;
 mod evicting;
 mod filling;
@@ -17,6 +18,7 @@ mod storing;
 mod supplying;
 mod touching;
 
+pub use bumping::bump;
 pub use deleting::delete;
 pub use evicting::Supply;
 pub use getting::{GetError, TryGetError, get, try_get};

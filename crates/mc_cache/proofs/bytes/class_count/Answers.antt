@@ -1,7 +1,7 @@
-use Rattle.std.proofs.Common.{◌≡◌, ℕ, ◌+◌, ◌-◌, ◌*◌, ◌/◌, ◌<◌, true, false, sym, ap, ◌∙◌, arith}
+use Rattle.std.proofs.Common.{◌≡◌, ℕ, ◌+◌, ◌-◌, ◌*◌, ◌/◌, sym, ap, ◌∙◌, arith}
 use Rattle.std.proofs.lemmas.Bool.{lt-ltb, le-ltb}
 use Rattle.std.proofs.lemmas.Nat.{mul-le}
-use Rattle.mc_classes.specs.Refusals.{is_below_max, rounded_up}
+use Rattle.mc_classes.specs.Refusals.{rounded_up}
 use Rattle.mc_classes.proofs.Accepted.{accepted}
 use Rattle.mc_classes.proofs.Begun.{below_max, grown_within, rounded_within}
 use Rattle.mc_cache.specs.Bytes.{classes_from}

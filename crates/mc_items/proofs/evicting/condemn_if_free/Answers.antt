@@ -2,7 +2,7 @@ use Rattle.std.proofs.Common.{◌≡◌, ◌<◌, ◌%◌, ℕ, true, false, Som
 use Rattle.mc_classes.specs.declared.config.Config.{Config}
 use Rattle.mc_core.specs.Head.{decode}
 use Rattle.mc_core.specs.State.{has_chunk, is_class, room_in}
-use Rattle.mc_words.specs.item.Removal.{Condemns, key_seen, knows_reason}
+use Rattle.mc_words.specs.item.Removal.{Condemns, key_seen}
 use Rattle.mc_core.specs.declared.event.Step.TheVariants as step
 use Rattle.mc_words.specs.rule.Happens.{Happens}
 use Rattle.mc_words.specs.hand.View.{Setup, View}

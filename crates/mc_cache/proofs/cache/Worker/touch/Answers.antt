@@ -1,5 +1,5 @@
-use Rattle.std.proofs.Common.{ℕ, Ok, ap, false, inl, inr, true, ⊎_elim}
-use Rattle.mc_cache.specs.Shards.{LosesThere, ReadsOther, SaysNoMore, TouchesThere}
+use Rattle.std.proofs.Common.{ℕ, Ok, ap, false, true}
+use Rattle.mc_cache.specs.Shards.{ReadsOther, SaysNoMore, TouchesThere}
 use Rattle.mc_cache.proofs.Acts.{acted, idle_after, same_ok}
 use Rattle.mc_cache.proofs.cache.Worker.touch.Goals as goal
 
@@ -13,7 +13,7 @@ pub returns-in-Ok-clause-touches : goal.returns-in-Ok-clause-touches
 returns-in-Ok-clause-touches g c = λ is. acted c.args.cache.now c.args.key.now c.args.self.now.hands.items c.hash-hash.result c.shard-shard.result c.index-arena.result.now c.index_mut-hand.result.now c.touch.new.hand (λ (hash : ℕ). TouchesThere hash c.args.key.now) c.requires c.hash-hash.ensures c.shard-shard.ensures.shard c.shard-shard.ensures.near c.index-arena.ensures c.index_mut-hand.ensures.value (c.in-Ok.ensures.touches (ap Ok (same_ok c.in-Ok.there true is)), c.touch.ensures.unsaid)
 
 pub returns-in-Ok-clause-none : goal.returns-in-Ok-clause-none
-returns-in-Ok-clause-none g c = λ is. ⊎_elim (λ other. inl (acted c.args.cache.now c.args.key.now c.args.self.now.hands.items c.hash-hash.result c.shard-shard.result c.index-arena.result.now c.index_mut-hand.result.now c.touch.new.hand (λ (hash : ℕ). ReadsOther hash c.args.key.now) c.requires c.hash-hash.ensures c.shard-shard.ensures.shard c.shard-shard.ensures.near c.index-arena.ensures c.index_mut-hand.ensures.value (other, c.touch.ensures.unsaid))) (λ gone. inr (acted c.args.cache.now c.args.key.now c.args.self.now.hands.items c.hash-hash.result c.shard-shard.result c.index-arena.result.now c.index_mut-hand.result.now c.touch.new.hand (λ (hash : ℕ). LosesThere hash c.args.key.now) c.requires c.hash-hash.ensures c.shard-shard.ensures.shard c.shard-shard.ensures.near c.index-arena.ensures c.index_mut-hand.ensures.value (gone, c.touch.ensures.unsaid))) (c.in-Ok.ensures.none (ap Ok (same_ok c.in-Ok.there false is)))
+returns-in-Ok-clause-none g c = λ is. acted c.args.cache.now c.args.key.now c.args.self.now.hands.items c.hash-hash.result c.shard-shard.result c.index-arena.result.now c.index_mut-hand.result.now c.touch.new.hand (λ (hash : ℕ). ReadsOther hash c.args.key.now) c.requires c.hash-hash.ensures c.shard-shard.ensures.shard c.shard-shard.ensures.near c.index-arena.ensures c.index_mut-hand.ensures.value (c.in-Ok.ensures.none (ap Ok (same_ok c.in-Ok.there false is)), c.touch.ensures.unsaid)
 
 pub returns-in-Err-clause-refused : goal.returns-in-Err-clause-refused
 returns-in-Err-clause-refused g c = λ is_key. acted c.args.cache.now c.args.key.now c.args.self.now.hands.items c.hash-hash.result c.shard-shard.result c.index-arena.result.now c.index_mut-hand.result.now c.touch.new.hand (λ (hash : ℕ). SaysNoMore) c.requires c.hash-hash.ensures c.shard-shard.ensures.shard c.shard-shard.ensures.near c.index-arena.ensures c.index_mut-hand.ensures.value c.touch.ensures.unsaid

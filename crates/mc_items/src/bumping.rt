@@ -1,0 +1,37 @@
+//! Items that are made the newest of their class, by a reference.
+ghost use Rattle.std.specs.Prelude.{◌≡◌};
+ghost use Rattle.mc_words.specs.hand.Arenas.{IsHandOf, view};
+ghost use Rattle.mc_words.specs.hand.Observers.{locks_of, number_of};
+ghost use Rattle.mc_words.specs.hand.Ready.{IsReady};
+ghost use Rattle.mc_words.specs.item.Refs.{KeepsRefs};
+ghost use Rattle.mc_words.specs.lock.Doing.{HoldsSlabs};
+ghost use Rattle.mc_items.specs.Calls.{Bumps, TellsNoCall};
+ghost use Rattle.mc_items.specs.ItemRefs.{IsItemRef, item_chunk, item_words};
+ghost use Rattle.mc_items.specs.Keeping.{HoldsTheSame, SaysNothing};
+
+use crate::refs::Ref;
+use mc_words::{Arena, Hand};
+use std::sync::Wait;
+
+/// Makes the item the one of its class that is evicted last, whether or not its key leads to it still. It waits for the lock of the slabs
+/// and for no other, takes no memory, tells no stripe of a call, and the reference stays. (memcached's `do_item_bump`)
+pub fn bump<R: Wait>(rt: &R, arena: &Arena, hand: &mut Hand, item: &Ref)
+    requires arena { IsHandOf arena.now hand.old }
+    requires ready { IsReady (view hand.old) }
+    requires item { IsItemRef (view hand.old) item.now }
+    ensures arena { IsHandOf arena.now hand.new }
+    ensures ready { IsReady (view hand.new) }
+    ensures locks { locks_of hand.new ≡ locks_of hand.old }
+    ensures number { number_of hand.new ≡ number_of hand.old }
+    ensures item { IsItemRef (view hand.new) item.now }
+    ensures bumps { HoldsSlabs (Bumps (number_of hand.old) (item_chunk item.now)) (view hand.old) (view hand.new) }
+    ensures words { item_words (view hand.new) item.now ≡ item_words (view hand.old) item.now }
+    ensures holdings { HoldsTheSame (view hand.old) (view hand.new) }
+    ensures keeps { KeepsRefs (view hand.old) (view hand.new) }
+    ensures calls { TellsNoCall (view hand.old) (view hand.new) }
+    ensures unsaid { SaysNothing (view hand.old) (view hand.new) }
+{
+    let mut slabs = arena.lock_slabs(rt, hand);
+    arena.touch(hand, &mut slabs, item.reference.chunk());
+    arena.give_slabs(hand, slabs);
+}
