@@ -1,4 +1,5 @@
 pub mod Hashing
+pub mod HasherInside
 pub mod Pairs
 pub mod Marks
 pub mod Recent

@@ -2,7 +2,7 @@
 ghost use Rattle.std.specs.Prelude.{◌≡◌, ◌≤◌, length};
 ghost use Rattle.mc_cache.specs.Shards.{AreIdleHands};
 
-use crate::hashing::{HashKey, choose_shard};
+use crate::hashing::{KeyedHasher, choose_shard};
 use crate::recent::Recent;
 use mc_words::{Arena, Hand};
 
@@ -10,7 +10,7 @@ use mc_words::{Arena, Hand};
 #[derive(Drop)]
 pub struct Cache {
     pub(crate) arenas: Vec<Arena>,
-    pub(crate) hashing: HashKey,
+    pub(crate) hashing: KeyedHasher,
     ghost some: { 1 ≤ length arenas.items },
     ghost few: { length arenas.items ≤ 4096 },
 }

@@ -3,6 +3,7 @@ ghost use Rattle.std.specs.Prelude.{◌≡◌, ◌<◌, ◌≤◌, ◌^◌};
 ghost use Rattle.mc_cache.specs.Hashing.{shard_of};
 
 use std::hash::{DefaultHasher, Hasher};
+use std::marker::Model;
 
 /// What keys are hashed with: two numbers, which whoever picks the keys is not to know. Else they could be picked so that they all go to
 /// one shard, or to one hash.
@@ -12,18 +13,46 @@ pub struct HashKey {
     pub second: u64,
 }
 
-impl HashKey {
+/// A hasher that has taken the two numbers in, and takes in a copy of itself each key. Contracts see the numbers.
+#[derive(Drop)]
+pub(crate) struct KeyedHasher {
+    key: HashKey,
+    start: DefaultHasher,
+}
+
+impl Model for KeyedHasher {
+    ghost use Rattle.mc_cache.specs.declared.hashing.HashKey.{HashKey};
+
+    ghost Value = { HashKey };
+
+    ghost use Rattle.mc_cache.specs.HasherInside.{key_of, IsStarted};
+
+    ghost view = { key_of };
+
+    ghost invariant = { IsStarted };
+}
+
+impl KeyedHasher {
     ghost use Rattle.std.specs.Prelude.{◌≡◌};
     ghost use Rattle.mc_cache.specs.Hashing.{hash_of};
+
+    /// With these two numbers.
+    #[tactic(auto, unfolding(crate::specs::Hashing::started_by))]
+    pub(crate) fn new(key: HashKey) -> KeyedHasher
+        ensures { result ≡ key }
+    {
+        let mut start = DefaultHasher::new();
+        start.write_u64(key.first);
+        start.write_u64(key.second);
+        KeyedHasher { key, start }
+    }
 
     /// The key's hash: SipHash-1-3 of the two numbers and then of the key.
     #[tactic(auto, unfolding(crate::specs::Hashing::hash_of))]
     pub(crate) fn hash(&self, key: &[u8]) -> u64
         ensures { result ≡ hash_of self.now key.now }
     {
-        let mut hasher = DefaultHasher::new();
-        hasher.write_u64(self.first);
-        hasher.write_u64(self.second);
+        let mut hasher = self.start;
         hasher.write(key);
         hasher.finish()
     }

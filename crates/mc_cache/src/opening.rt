@@ -13,7 +13,7 @@ ghost use Rattle.mc_cache.specs.Shards.{AreIdleHands, AreIdleHandsOf};
 ghost use Rattle.mc_cache.specs.declared.opening.NewError.TheVariants as refused;
 
 use crate::cache::{Cache, Worker};
-use crate::hashing::HashKey;
+use crate::hashing::{HashKey, KeyedHasher};
 use crate::recent::Recent;
 use crate::tending::Tender;
 use mc_classes::{Config, ConfigError};
@@ -88,7 +88,10 @@ impl Cache {
             return Err(error);
         }
         match open(rt, alloc, config) {
-            Ok((arenas, workers, tender)) => Ok((Cache { arenas, hashing }, workers, tender)),
+            Ok((arenas, workers, tender)) => {
+                let hashing = KeyedHasher::new(hashing);
+                Ok((Cache { arenas, hashing }, workers, tender))
+            }
             Err(refused) => Err(NewError::NoMemory(refused)),
         }
     }

@@ -1,0 +1,13 @@
+-- A hasher that has taken its numbers in.
+use Rattle.std.specs.Prelude.{◌≡◌}
+use Rattle.mc_cache.specs.declared.hashing.HashKey.{HashKey}
+use Rattle.mc_cache.specs.declared.hashing.KeyedHasher.TheInside.{Inside}
+use Rattle.mc_cache.specs.Hashing.{started_by}
+
+-- the two numbers
+abbrev pub key_of : Inside → HashKey
+key_of hasher = hasher.key
+
+-- it has taken them in, and nothing else
+abbrev pub IsStarted : Inside → Type 0
+IsStarted hasher = hasher.start ≡ started_by hasher.key
