@@ -1,5 +1,6 @@
 //! A reference that is held while the stripes let go of what was told.
-ghost use Rattle.std.specs.Prelude.{◌≡◌, [], Contains, IfOk};
+ghost use Rattle.std.specs.Prelude.{◌≡◌, [], Contains, IfOk, slice_get};
+ghost use Rattle.mc_pages.specs.Base.{base_of};
 ghost use Rattle.mc_core.specs.Past.{Saying};
 ghost use Rattle.mc_words.specs.hand.Arenas.{IsHandOf, view};
 ghost use Rattle.mc_words.specs.hand.Ready.{IsReady};
@@ -9,6 +10,7 @@ ghost use Rattle.mc_items.specs.ItemRefs.{IsItemRef, item_words};
 use mc_items::{Ref, read, set};
 use mc_memory::Refused;
 use mc_mover::{forget, trim};
+use mc_pages::BasePage;
 use mc_words::{Arena, Hand};
 use std::alloc::Global;
 use std::sync::Wait;
@@ -60,4 +62,47 @@ pub fn join_behind_a_trim<R: Wait>(
     let _ = trim(rt, arena, &mut hand);
     let _ = set(rt, arena, &mut other, key, words);
     arena.join_hands(hand, other)
+}
+
+/// Trims the ledger under one hold of the lock of the slabs, and tells how many of its entries are recorded then: none.
+pub fn entries_behind_a_trim<R: Wait>(rt: &R, arena: &Arena, hand: &mut Hand) -> usize
+    requires arena { IsHandOf arena.now hand.old }
+    requires ready { IsReady (view hand.old) }
+    ensures arena { IsHandOf arena.now hand.new }
+    ensures none { result ≡ 0 }
+{
+    let mut held = arena.lock_slabs(rt, hand);
+    arena.trim_ledger(hand, &mut held);
+    let recorded = held.slabs().ledger().len();
+    arena.give_slabs(hand, held);
+    recorded
+}
+
+/// Trims the ledger, and tells what its entries so far have left of a page: who owns it, and which class got it beyond the limit.
+pub fn page_behind_a_trim<R: Wait>(
+    rt: &R,
+    arena: &Arena,
+    hand: &mut Hand,
+    page: usize,
+) -> Option<BasePage>
+    requires arena { IsHandOf arena.now hand.old }
+    requires ready { IsReady (view hand.old) }
+    ensures arena { IsHandOf arena.now hand.new }
+    ensures base { result ≡ slice_get (base_of (view hand.new).row.knows.hold.left) page }
+{
+    let mut held = arena.lock_slabs(rt, hand);
+    arena.trim_ledger(hand, &mut held);
+    let left = page_in(held.slabs().base(), page);
+    arena.give_slabs(hand, held);
+    left
+}
+
+// What stands at the page's place.
+fn page_in(base: &[BasePage], page: usize) -> Option<BasePage>
+    ensures { result ≡ slice_get base.now page }
+{
+    if page < base.len() {
+        return Some(base[page]);
+    }
+    None
 }
