@@ -13,7 +13,7 @@ pub struct HashKey {
     pub second: u64,
 }
 
-/// A hasher that has taken the two numbers in, and takes in a copy of itself each key. Contracts see the numbers.
+/// A hasher that has taken the two numbers in already, so that hashing a key doesn't begin with them. Contracts see the numbers.
 #[derive(Drop)]
 pub(crate) struct KeyedHasher {
     key: HashKey,

@@ -26,8 +26,8 @@ impl Tender {
 
     /// A window of each shard, to be called about once a second: the dead of all classes are put back, the shard's decider is fed what its
     /// classes have then, the move that it decides on begins, and up to 16 turns of its mover are done, until one finds no move or ends
-    /// one. Of the moves so far the arena keeps what became of each page alone. It waits for the locks of the slabs. Where memory is refused it stops: what was done before stands. (slabs.c's automover;
-    /// the number of turns is own)
+    /// one. Then the arena keeps of the moves so far what became of each page alone. It waits for the locks of the slabs. Where memory is
+    /// refused it stops: what was done before stands. (slabs.c's automover; the number of turns is own)
     pub fn tend<R: Wait>(&mut self, rt: &R, cache: &Cache) -> Result<Tended, Refused>
         requires { IsTenderOf cache.now self.old }
         ensures belongs { IsTenderOf cache.now self.new }

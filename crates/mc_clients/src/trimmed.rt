@@ -1,5 +1,5 @@
-//! A reference that is held while the stripes let go of what was told.
-ghost use Rattle.std.specs.Prelude.{◌≡◌, [], Contains, IfOk, slice_get};
+//! What stands behind a trim: a reference that is held, what two hands said, and what is recorded of the ledger.
+ghost use Rattle.std.specs.Prelude.{◌≡◌, [], Contains, IfOk, length, slice_get};
 ghost use Rattle.mc_pages.specs.Base.{base_of};
 ghost use Rattle.mc_core.specs.Past.{Saying};
 ghost use Rattle.mc_words.specs.hand.Arenas.{IsHandOf, view};
@@ -88,6 +88,7 @@ pub fn page_behind_a_trim<R: Wait>(
     requires arena { IsHandOf arena.now hand.old }
     requires ready { IsReady (view hand.old) }
     ensures arena { IsHandOf arena.now hand.new }
+    ensures trimmed { (view hand.new).row.knows.hold.left.trimmed ≡ length (view hand.new).row.knows.hold.left.ledger }
     ensures base { result ≡ slice_get (base_of (view hand.new).row.knows.hold.left) page }
 {
     let mut held = arena.lock_slabs(rt, hand);
