@@ -23,3 +23,4 @@ pub mod Left
 pub mod Chains
 pub mod StoredRows
 pub mod GetLeaves
+pub mod Touched

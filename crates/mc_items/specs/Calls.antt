@@ -1,20 +1,19 @@
 -- Calls on keys: the lock of the key's stripe is taken, the call is made there, and the lock is given back.
 use Rattle.std.specs.Prelude.{◌≡◌, ℕ, ◌+◌, Bool, true, false, is_some, if◌then◌else◌, map, Option, Some, None, []}
 use Rattle.mc_pages.specs.declared.ids.ChunkId.{ChunkId}
-use Rattle.mc_pages.specs.SlabState.{SlabState}
 use Rattle.mc_pages.specs.Changes.{after_touch}
 use Rattle.mc_core.specs.declared.event.Change.TheVariants.{Touch}
 use Rattle.mc_core.specs.declared.event.Step.TheVariants as step
 use Rattle.mc_stripe.specs.declared.history.Call.{Call}
 use Rattle.mc_stripe.specs.StripeState.{ReadyStripe, place_of}
 use Rattle.mc_stripe.specs.Changes.{after_got, after_unlink, used_up}
-use Rattle.mc_words.specs.lock.Doing.{Doing, IsDone, SlabsDoing}
+use Rattle.mc_words.specs.lock.Doing.{Doing, HoldsSlabs, IsDone, SlabsDoing}
 use Rattle.mc_words.specs.hand.View.{View}
 use Rattle.mc_words.specs.item.Calls.{with_own_call, key_deleted, key_missed, key_not_deleted}
 use Rattle.mc_words.specs.lock.Lent.{IsLentStripe}
 use Rattle.mc_words.specs.item.References.{GetsItem}
-use Rattle.mc_words.specs.hand.Views.{chunk_released, with_event, slabs_changed, slabs_given, stripe_given}
-use Rattle.mc_words.specs.lock.Wait.{WaitsForSlabs, WaitsForStripe}
+use Rattle.mc_words.specs.hand.Views.{chunk_released, with_event, slabs_changed, stripe_given}
+use Rattle.mc_words.specs.lock.Wait.{WaitsForStripe}
 use Rattle.mc_words.specs.declared.item.refs.Ref as words
 use Rattle.mc_words.specs.hand.Observers.{ref_chunk, ref_issue, ref_room}
 
@@ -50,19 +49,18 @@ abbrev pub LooksUp : ℕ → ℕ → ℕ → Option words.Ref → Doing
 LooksUp number stripe key (Some r) = Finds number stripe key r
 LooksUp number stripe key None = FindsNone number stripe key
 
+-- under the lock of the slabs: this chunk went to the back of its class's hand-out order
+abbrev pub Bumps : ℕ → ChunkId → SlabsDoing
+Bumps number chunk view slabs now left = (left ≡ after_touch slabs chunk) × (now ≡ slabs_changed slabs (Touch chunk) (number + 1) view)
+
 -- the key's item was got; then its chunk went to the back of its hand-out order, under the lock of the slabs, and was released
 pub record Touches (number stripe key : ℕ) (view now : View) : Type 0 where
   pub reference : words.Ref
   pub got : View
   pub gets : CallsOn number stripe (Finds number stripe key reference) view got
-  pub slabs : SlabState
-  pub taken : View
-  pub waits : WaitsForSlabs got slabs taken
-  pub is : now ≡ chunk_released (ref_chunk reference) (slabs_given (after_touch slabs (ref_chunk reference)) (slabs_changed slabs (Touch (ref_chunk reference)) (number + 1) taken))
-
--- under the lock of the slabs: this chunk went to the back of its class's hand-out order
-abbrev pub Bumps : ℕ → ChunkId → SlabsDoing
-Bumps number chunk view slabs now left = (left ≡ after_touch slabs chunk) × (now ≡ slabs_changed slabs (Touch chunk) (number + 1) view)
+  pub bumped : View
+  pub bumps : HoldsSlabs (Bumps number (ref_chunk reference)) got bumped
+  pub released : now ≡ chunk_released (ref_chunk reference) bumped
 
 -- the key was deleted, and had an item or none
 abbrev pub Deletes : ℕ → ℕ → ℕ → Bool → Doing

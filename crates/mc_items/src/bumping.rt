@@ -1,9 +1,10 @@
 //! Items that are made the newest of their class, by a reference.
-ghost use Rattle.std.specs.Prelude.{◌≡◌};
+ghost use Rattle.std.specs.Prelude.{◌≡◌, true};
 ghost use Rattle.mc_words.specs.hand.Arenas.{IsHandOf, view};
-ghost use Rattle.mc_words.specs.hand.Observers.{locks_of, number_of};
+ghost use Rattle.mc_words.specs.hand.Idle.{is_unlocked};
+ghost use Rattle.mc_words.specs.hand.Observers.{locks_of, number_of, ref_chunk, ref_room};
 ghost use Rattle.mc_words.specs.hand.Ready.{IsReady};
-ghost use Rattle.mc_words.specs.item.Refs.{KeepsRefs};
+ghost use Rattle.mc_words.specs.item.Refs.{IsRefOf, KeepsRefs};
 ghost use Rattle.mc_words.specs.lock.Doing.{HoldsSlabs};
 ghost use Rattle.mc_items.specs.Calls.{Bumps, TellsNoCall};
 ghost use Rattle.mc_items.specs.ItemRefs.{IsItemRef, item_chunk, item_words};
@@ -31,7 +32,19 @@ pub fn bump<R: Wait>(rt: &R, arena: &Arena, hand: &mut Hand, item: &Ref)
     ensures calls { TellsNoCall (view hand.old) (view hand.new) }
     ensures unsaid { SaysNothing (view hand.old) (view hand.new) }
 {
+    bump_chunk(rt, arena, hand, &item.reference);
+}
+
+// Makes the chunk that is referred to the one of its class that is evicted last.
+pub(crate) fn bump_chunk<R: Wait>(rt: &R, arena: &Arena, hand: &mut Hand, reference: &mc_words::Ref)
+    requires arena { IsHandOf arena.now hand.old }
+    requires unlocked { is_unlocked (view hand.old) ≡ true }
+    requires reference { IsRefOf (view hand.old) (ref_chunk reference.now) (ref_room reference.now) }
+    ensures arena { IsHandOf arena.now hand.new }
+    ensures locks { locks_of hand.new ≡ locks_of hand.old }
+    ensures bumps { HoldsSlabs (Bumps (number_of hand.old) (ref_chunk reference.now)) (view hand.old) (view hand.new) }
+{
     let mut slabs = arena.lock_slabs(rt, hand);
-    arena.touch(hand, &mut slabs, item.reference.chunk());
+    arena.touch(hand, &mut slabs, reference.chunk());
     arena.give_slabs(hand, slabs);
 }

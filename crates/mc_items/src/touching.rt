@@ -8,6 +8,7 @@ ghost use Rattle.mc_items.specs.Calls.{FindsNone, TellsNoCall, Touches};
 ghost use Rattle.mc_items.specs.Keeping.{HoldsAsOften, SaysNothing};
 ghost use Rattle.mc_items.specs.OnKeys.{ActsOn, FindsNoRoomFor, TellsOfGet, stripe_of_key};
 
+use crate::bumping::bump_chunk;
 use crate::getting::refer_at;
 use mc_stripe::NoMemory;
 use mc_words::{Arena, Hand};
@@ -39,9 +40,7 @@ pub fn touch<R: Wait>(rt: &R, arena: &Arena, hand: &mut Hand, key: u64) -> Resul
         Ok(None) => return Ok(false),
         Err(error) => return Err(error),
     };
-    let mut slabs = arena.lock_slabs(rt, hand);
-    arena.touch(hand, &mut slabs, reference.chunk());
-    arena.give_slabs(hand, slabs);
+    bump_chunk(rt, arena, hand, &reference);
     arena.release(hand, reference);
     Ok(true)
 }

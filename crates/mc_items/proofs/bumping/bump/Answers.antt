@@ -1,69 +1,29 @@
-use Rattle.std.proofs.Common.{◌+◌, refl, ap, ◌∙◌}
-use Rattle.mc_pages.specs.Changes.{after_touch}
-use Rattle.mc_core.specs.declared.event.Change.TheVariants.{Touch}
-use Rattle.mc_core.specs.Holdings.{holding_of}
-use Rattle.mc_core.specs.Silent.{is_handed_out}
-use Rattle.mc_words.specs.hand.View.{View}
-use Rattle.mc_words.specs.hand.Views.{slabs_changed}
-use Rattle.mc_words.specs.lock.Out.{without_slabs}
-use Rattle.mc_words.proofs.Chunks.HeldOut.{held_is_out}
+use Rattle.std.proofs.Common.{ap}
 use Rattle.mc_words.proofs.Hands.HandNumbers.{number_stays}
 use Rattle.mc_items.proofs.Chains.{kept_refs_keep_items, ready_still, refs_stay}
 use Rattle.mc_items.proofs.Left.{Kept, bumped_keeps, bumped_tells}
-use Rattle.mc_items.proofs.Locks.{slabs_back, waits_slabs_keep}
 use Rattle.mc_items.proofs.bumping.bump.Goals as goal
 
-pub touch-requires-clause-out : goal.touch-requires-clause-out
-touch-requires-clause-out g c =
-    let item = c.args.item.now in
-    let held = c.lock_slabs-slabs in
-    let taken : View = held.new.hand.seat.me.0 in
-    let slabs = held.result.shared in
-    let holdings = waits_slabs_keep (λ (v : View). v.row.holdings) (λ word v. refl) (λ slabs v. refl) c.args.hand.now.seat.me.0 slabs taken held.ensures.waits in
-    let ref = c.requires.item.reference in
-    let found = ap (holding_of item.reference.chunk) holdings ∙ ref.found in
-    ap (is_handed_out slabs) c.chunk.ensures.chunk ∙ held_is_out taken held.ensures.arena.lawful slabs held.ensures.whole.mine item.reference.chunk ref.holding found
-
-pub returns-clause-bumps : goal.returns-clause-bumps
-returns-clause-bumps g c =
-    let hand = c.args.hand.now in
-    let held = c.lock_slabs-slabs in
-    let slabs = held.result.shared in
-    let taken : View = held.new.hand.seat.me.0 in
-    let number = number_stays hand held.new.hand (waits_slabs_keep (λ (v : View). v.row.ids) (λ word v. refl) (λ slabs v. refl) hand.seat.me.0 slabs taken held.ensures.waits) in
-    let chunk = c.chunk.ensures.chunk in record {
-      found = slabs;
-      taken = taken;
-      waits = held.ensures.waits;
-      left = c.touch.new.held.shared;
-      last = c.touch.new.hand.seat.me.0;
-      does = (c.touch.ensures.touched ∙ ap (after_touch slabs) chunk, c.touch.ensures.view ∙ (λ k. slabs_changed slabs (Touch (chunk k)) (number k + 1) taken));
-      given = c.give_slabs.ensures.left;
-    }
-
 pub returns-clause-holdings : goal.returns-clause-holdings
-returns-clause-holdings g c = ap (λ (k : Kept). k.0) (bumped_keeps _ _ _ _ (returns-clause-bumps g c))
+returns-clause-holdings g c = ap (λ (k : Kept). k.0) (bumped_keeps _ _ _ _ c.bump_chunk.ensures.bumps)
 
 pub returns-clause-unsaid : goal.returns-clause-unsaid
-returns-clause-unsaid g c = ap (λ (k : Kept). k.2) (bumped_keeps _ _ _ _ (returns-clause-bumps g c))
+returns-clause-unsaid g c = ap (λ (k : Kept). k.2) (bumped_keeps _ _ _ _ c.bump_chunk.ensures.bumps)
 
 pub returns-clause-number : goal.returns-clause-number
-returns-clause-number g c = number_stays c.args.hand.now c.give_slabs.new.hand (ap (λ (k : Kept). k.3) (bumped_keeps _ _ _ _ (returns-clause-bumps g c)))
+returns-clause-number g c = number_stays c.args.hand.now c.bump_chunk.new.hand (ap (λ (k : Kept). k.3) (bumped_keeps _ _ _ _ c.bump_chunk.ensures.bumps))
 
 pub returns-clause-calls : goal.returns-clause-calls
-returns-clause-calls g c = bumped_tells _ _ _ _ (returns-clause-bumps g c)
+returns-clause-calls g c = bumped_tells _ _ _ _ c.bump_chunk.ensures.bumps
 
 pub returns-clause-keeps : goal.returns-clause-keeps
-returns-clause-keeps g c = let kept = bumped_keeps _ _ _ _ (returns-clause-bumps g c) in refs_stay c.args.hand.now.seat.me.0 c.give_slabs.new.hand.seat.me.0 (ap (λ (k : Kept). k.0) kept) (ap (λ (k : Kept). k.1) kept)
+returns-clause-keeps g c = let kept = bumped_keeps _ _ _ _ c.bump_chunk.ensures.bumps in refs_stay c.args.hand.now.seat.me.0 c.bump_chunk.new.hand.seat.me.0 (ap (λ (k : Kept). k.0) kept) (ap (λ (k : Kept). k.1) kept)
 
 pub returns-clause-item : goal.returns-clause-item
-returns-clause-item g c = (kept_refs_keep_items c.args.hand.now.seat.me.0 c.give_slabs.new.hand.seat.me.0 c.args.item.now (returns-clause-keeps g c) c.requires.item).refers
+returns-clause-item g c = (kept_refs_keep_items c.args.hand.now.seat.me.0 c.bump_chunk.new.hand.seat.me.0 c.args.item.now (returns-clause-keeps g c) c.requires.item).refers
 
 pub returns-clause-words : goal.returns-clause-words
-returns-clause-words g c = (kept_refs_keep_items c.args.hand.now.seat.me.0 c.give_slabs.new.hand.seat.me.0 c.args.item.now (returns-clause-keeps g c) c.requires.item).words
+returns-clause-words g c = (kept_refs_keep_items c.args.hand.now.seat.me.0 c.bump_chunk.new.hand.seat.me.0 c.args.item.now (returns-clause-keeps g c) c.requires.item).words
 
 pub returns-clause-ready : goal.returns-clause-ready
-returns-clause-ready g c =
-    let hand = c.args.hand.now in
-    let locks = c.give_slabs.ensures.locks ∙ (ap without_slabs (c.touch.ensures.locks ∙ c.lock_slabs-slabs.ensures.locks) ∙ slabs_back hand c.requires.ready.unlocked) in
-    ready_still hand c.give_slabs.new.hand locks (returns-clause-holdings g c) c.requires.ready
+returns-clause-ready g c = ready_still c.args.hand.now c.bump_chunk.new.hand c.bump_chunk.ensures.locks (returns-clause-holdings g c) c.requires.ready
