@@ -1,20 +1,22 @@
 -- What a look finds.
-use Rattle.std.proofs.Common.{◌≡◌, ℕ, Bool, List, Option, None, Some, Ok, Result, IfOk, IfSome, refl, sym, ap, subst}
+use Rattle.std.proofs.Common.{◌≡◌, ◌∙◌, ℕ, Bool, List, [], Option, None, Some, Ok, Result, IfOk, IfSome, refl, sym, ap, subst}
 use Rattle.mc_packing.specs.Packing.{IsPackingOf, packed, value_in}
 use Rattle.mc_words.specs.declared.arena.Arena.{Arena}
 use Rattle.mc_words.specs.declared.hand.Hand.{Hand}
 use Rattle.mc_words.specs.hand.Arenas.{IsHandOf, setup_of, view}
 use Rattle.mc_words.specs.hand.Observers.{number_of}
+use Rattle.mc_words.specs.hand.Ready.{IsReady}
 use Rattle.mc_words.specs.hand.View.{Setup}
 use Rattle.mc_items.specs.declared.refs.Ref.{Ref}
 use Rattle.mc_items.specs.Calls.{Deletes}
 use Rattle.mc_items.specs.ItemRefs.{IsItemRef, item_key, item_stamp, item_words}
-use Rattle.mc_items.specs.Keeping.{SaysNothing}
+use Rattle.mc_items.specs.Keeping.{HoldsToo, SaysNothing}
 use Rattle.mc_items.specs.OnKeys.{ActsOn, Gets}
 use Rattle.mc_words.specs.item.Items.{item_with}
 use Rattle.mc_items.proofs.Chains.{words_said}
-use Rattle.mc_byte_items.specs.Finding.{BumpsItem, DeletesKey, FindsKey, FindsOther, FindsWords, GivesTouched, GivesValue, PutsValue, TouchesKey, TouchesValue}
+use Rattle.mc_byte_items.specs.Finding.{BumpsItem, DeletesKey, FindsItem, FindsKey, FindsOther, FindsWords, GivesTouched, GivesValue, PutsValue, TouchesKey, TouchesValue}
 use Rattle.mc_byte_items.specs.Hands.{WereSaid, sayings_of}
+use Rattle.mc_byte_items.proofs.Idle.{alone}
 
 -- the words of an item that was got were said
 were_said : (arena : Arena) (before got : Hand) (item : Ref) → IsHandOf arena got → SaysNothing (view before) (view got) → IsItemRef (view got) item → WereSaid (setup_of arena) (sayings_of before) (item_stamp item) (item_with (item_key item) (item_stamp item) (item_words (view got) item))
@@ -51,13 +53,27 @@ module _ (setup : Setup) (hash : ℕ) (key : List ℕ) (before : Hand) (words : 
   pub finds_other : (IsPackingOf key words → ⊥) → FindsOther setup hash key before
   finds_other other = record { words = Some words; finds = finds; other = other }
 
--- none was got
-pub finds_none : (setup : Setup) (hash : ℕ) (key : List ℕ) (before got : Hand) (found : Option Ref) → found ≡ None → Gets setup hash found before got → FindsOther setup hash key before
-finds_none setup hash key before got found none gets = record {
-  words = None;
-  finds = record { got = got; item = None; gets = subst (λ (o : Option Ref). Gets setup hash o before got) none gets; words_are = refl; said = tt };
-  other = tt;
+-- it is all that the hand holds
+pub found_item : (arena : Arena) (hash : ℕ) (before got : Hand) (found : Option Ref) → IsHandOf arena got → IsReady (view got) → SaysNothing (view before) (view got) → Gets (setup_of arena) hash found before got
+    → IfSome found (λ item. IsItemRef (view got) item × (item_key item ≡ hash)) → (view before).row.holdings ≡ [] → HoldsToo found (view before) (view got) → IfSome found (λ item. FindsItem arena hash item before got)
+unfolding finds_item
+found_item arena hash before got None of ready unsaid gets is none more = tt
+found_item arena hash before got (Some item) of ready unsaid gets is none more = record {
+  finds = finds_item arena hash before got (Some item) item of unsaid refl gets is;
+  is_item = refl;
+  refers = record { of_arena = of; ready = ready; refers = is.0 };
+  alone = alone (view before) (view got) item none more;
 }
+
+pub the_item : (arena : Arena) (hash : ℕ) (before got : Hand) (found : Option Ref) (item : Ref) → found ≡ Some item → IfSome found (λ item. FindsItem arena hash item before got) → FindsItem arena hash item before got
+the_item arena hash before got found item some is = subst (λ (o : Option Ref). IfSome o (λ item. FindsItem arena hash item before got)) some is
+
+-- none was got
+pub none_words : (setup : Setup) (hash : ℕ) (before got : Hand) (found : Option Ref) → found ≡ None → Gets setup hash found before got → FindsWords setup hash before None
+none_words setup hash before got found none gets = record { got = got; item = None; gets = subst (λ (o : Option Ref). Gets setup hash o before got) none gets; words_are = refl; said = tt }
+
+pub finds_none : (setup : Setup) (hash : ℕ) (key : List ℕ) (before got : Hand) (found : Option Ref) → found ≡ None → Gets setup hash found before got → FindsOther setup hash key before
+finds_none setup hash key before got found none gets = record { words = None; finds = none_words setup hash before got found none gets; other = tt }
 
 -- the key was found, and then something was done
 pub deletes_key : {E : Type 0} (setup : Setup) (hash : ℕ) (key : List ℕ) (there : Bool) (before between now : Hand) (result : Result Bool E) → FindsKey setup hash key before → result ≡ Ok there
@@ -69,15 +85,13 @@ deletes_key {E} setup hash key there before between now result finds is done = r
 }
 
 -- the item that was found was touched
-module _ (arena : Arena) (hash : ℕ) (key : List ℕ) (before got : Hand) (found : Option Ref) (item : Ref) (of : IsHandOf arena got) (unsaid : SaysNothing (view before) (view got)) (some : found ≡ Some item)
-    (gets : Gets (setup_of arena) hash found before got) (is : IfSome found (λ item. IsItemRef (view got) item × (item_key item ≡ hash))) where
+module _ (arena : Arena) (hash : ℕ) (key : List ℕ) (before got : Hand) (item : Ref) (found : FindsItem arena hash item before got) where
   touches_words : (value : List ℕ) → item_words (view got) item ≡ packed key value → (now : Hand) → BumpsItem (number_of before) item now → TouchesValue (setup_of arena) hash key value before now
-  unfolding finds_item
   touches_words value same now bumps =
-      let finds = finds_item arena hash before got found item of unsaid some gets is in record {
-        finds = record { got = finds.got; item = finds.item; gets = finds.gets; words_are = ap Some (sym same); said = subst (SaidOf (setup_of arena) hash before) same finds.said };
+      let finds = found.finds in record {
+        finds = record { got = finds.got; item = finds.item; gets = finds.gets; words_are = ap Some (sym same) ∙ finds.words_are; said = subst (SaidOf (setup_of arena) hash before) same finds.said };
         item = item;
-        is_item = refl;
+        is_item = found.is_item;
         bumps = bumps;
       }
 

@@ -1,9 +1,10 @@
 -- What is found under a hash: the words of an item, and whether they are a packing of a key.
-use Rattle.std.specs.Prelude.{◌≡◌, ◌⊎◌, ℕ, Bool, false, List, ◌++◌, Option, Some, IfSome}
+use Rattle.std.specs.Prelude.{◌≡◌, ◌⊎◌, ℕ, Bool, false, List, [], ◌∷◌, ◌++◌, Option, Some, IfSome}
 use Rattle.std.specs.Option.{option_map}
 use Rattle.mc_packing.specs.Packing.{IsPackingOf, packed}
+use Rattle.mc_words.specs.declared.arena.Arena.{Arena}
 use Rattle.mc_words.specs.declared.hand.Hand.{Hand}
-use Rattle.mc_words.specs.hand.Arenas.{view}
+use Rattle.mc_words.specs.hand.Arenas.{setup_of, view}
 use Rattle.mc_words.specs.item.Items.{item_with}
 use Rattle.mc_words.specs.hand.Observers.{number_of}
 use Rattle.mc_words.specs.hand.View.{Setup, View}
@@ -13,7 +14,9 @@ use Rattle.mc_items.specs.declared.refs.Ref.{Ref}
 use Rattle.mc_items.specs.ItemRefs.{item_chunk, item_words}
 use Rattle.mc_items.specs.OnKeys.{ActsOn, Gets}
 use Rattle.mc_items.specs.Calls.{Bumps, Deletes}
+use Rattle.mc_items.specs.Keeping.{holding_by}
 use Rattle.mc_byte_items.specs.Hands.{WereSaid, sayings_of}
+use Rattle.mc_byte_items.specs.Reading.{RefersTo}
 
 -- the hand got the item under the hash, and these are its words, which somebody said; or there was none
 pub record FindsWords (setup : Setup) (hash : ℕ) (before : Hand) (words : Option (List ℕ)) : Type 0 where
@@ -22,6 +25,13 @@ pub record FindsWords (setup : Setup) (hash : ℕ) (before : Hand) (words : Opti
   pub gets : Gets setup hash item before got
   pub words_are : words ≡ option_map (item_words (view got)) item
   pub said : IfSome words (λ words. (stamp : ℕ) × WereSaid setup (sayings_of before) stamp (item_with hash stamp words))
+
+-- the hand got this item under the hash, whose words somebody said, and holds nothing else
+pub record FindsItem (arena : Arena) (hash : ℕ) (item : Ref) (before got : Hand) : Type 0 where
+  pub finds : FindsWords (setup_of arena) hash before (Some (item_words (view got) item))
+  pub is_item : finds.item ≡ Some item
+  pub refers : RefersTo arena item got
+  pub alone : (view got).row.holdings ≡ holding_by (view got) item ∷ []
 
 -- it is of this key and this value
 abbrev pub FindsValue : Setup → ℕ → List ℕ → List ℕ → Hand → Type 0

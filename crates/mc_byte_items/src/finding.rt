@@ -11,11 +11,13 @@ ghost use Rattle.mc_byte_items.specs.declared.finding.TryGetError.TheVariants as
 ghost use Rattle.mc_byte_items.specs.Hands.{IsIdleHandOf};
 ghost use Rattle.mc_byte_items.specs.Reading.{RefersTo};
 
+use crate::getting::get_item;
 use crate::reading::{is_of, push_value};
-use mc_items::{GetError, Ref, release};
+use mc_items::{Ref, release};
 use mc_memory::Refused;
 use mc_words::{Arena, Hand};
 use std::sync::Wait;
+use thiserror::Error;
 
 /// Puts the key's value behind the bytes that are there, and says whether the key has one. It waits for the lock of the hash's stripe.
 /// An item of another key under the hash is none. Beside an entry in the stripe's history it takes memory for these bytes alone; where
@@ -36,20 +38,20 @@ pub fn get<R: Wait>(
     ensures kept { (result ≡ Ok true → ⊥) → into.new.items ≡ into.old.items }
     ensures unsaid { SaysNothing (view hand.old) (view hand.new) }
 {
-    match mc_items::get(rt, arena, hand, hash) {
-        Ok(Some(item)) => give_value(arena, hand, item, key, into),
-        Ok(None) => Ok(false),
-        Err(GetError::NoMemory(refused)) => Err(refused),
-        Err(GetError::TooManyRefs) => unreachable!(),
-    }
+    let Some(item) = get_item(rt, arena, hand, hash)? else {
+        return Ok(false);
+    };
+    give_value(arena, hand, item, key, into)
 }
 
 /// Why a get that doesn't wait was refused. The bytes stay.
-#[derive(Debug, PartialEq, Eq, Drop)]
+#[derive(Debug, PartialEq, Eq, Drop, Error)]
 pub enum TryGetError {
     /// Memory was refused.
+    #[error("out of memory")]
     NoMemory(Refused),
     /// Another hand has the lock of the hash's stripe.
+    #[error("another hand has the lock of the hash's stripe")]
     Held,
 }
 
@@ -97,12 +99,10 @@ pub fn contains<R: Wait>(
     ensures other { result ≡ Ok false → FindsOther (setup_of arena.now) hash key.now hand.old }
     ensures unsaid { SaysNothing (view hand.old) (view hand.new) }
 {
-    match mc_items::get(rt, arena, hand, hash) {
-        Ok(Some(item)) => Ok(tell_key(arena, hand, item, key)),
-        Ok(None) => Ok(false),
-        Err(GetError::NoMemory(refused)) => Err(refused),
-        Err(GetError::TooManyRefs) => unreachable!(),
-    }
+    let Some(item) = get_item(rt, arena, hand, hash)? else {
+        return Ok(false);
+    };
+    Ok(tell_key(arena, hand, item, key))
 }
 
 // The value of an item that the hand holds, and nothing else, if it is of the key. The reference is given up, also where memory is

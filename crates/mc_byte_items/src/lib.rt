@@ -6,6 +6,7 @@
 
 mod deleting;
 mod finding;
+mod getting;
 mod reading;
 mod setting;
 mod touching;

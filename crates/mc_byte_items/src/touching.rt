@@ -9,8 +9,9 @@ ghost use Rattle.mc_byte_items.specs.Finding.{BumpsItem, FindsOther, GivesTouche
 ghost use Rattle.mc_byte_items.specs.Hands.{IsIdleHandOf};
 ghost use Rattle.mc_byte_items.specs.Reading.{RefersTo};
 
+use crate::getting::get_item;
 use crate::reading::{is_of, push_value};
-use mc_items::{GetError, Ref, bump, release};
+use mc_items::{Ref, bump, release};
 use mc_memory::Refused;
 use mc_words::{Arena, Hand};
 use std::sync::Wait;
@@ -34,12 +35,10 @@ pub fn get_touching<R: Wait>(
     ensures kept { (result ≡ Ok true → ⊥) → into.new.items ≡ into.old.items }
     ensures unsaid { SaysNothing (view hand.old) (view hand.new) }
 {
-    match mc_items::get(rt, arena, hand, hash) {
-        Ok(Some(item)) => give_and_touch(rt, arena, hand, item, key, into),
-        Ok(None) => Ok(false),
-        Err(GetError::NoMemory(refused)) => Err(refused),
-        Err(GetError::TooManyRefs) => unreachable!(),
-    }
+    let Some(item) = get_item(rt, arena, hand, hash)? else {
+        return Ok(false);
+    };
+    give_and_touch(rt, arena, hand, item, key, into)
 }
 
 /// Makes the key's item the one of its class that is evicted last, and says whether it has one. An item of another key under the hash
@@ -58,12 +57,10 @@ pub fn touch<R: Wait>(
     ensures none { result ≡ Ok false → FindsOther (setup_of arena.now) hash key.now hand.old }
     ensures unsaid { SaysNothing (view hand.old) (view hand.new) }
 {
-    match mc_items::get(rt, arena, hand, hash) {
-        Ok(Some(item)) => Ok(touch_own(rt, arena, hand, item, key)),
-        Ok(None) => Ok(false),
-        Err(GetError::NoMemory(refused)) => Err(refused),
-        Err(GetError::TooManyRefs) => unreachable!(),
-    }
+    let Some(item) = get_item(rt, arena, hand, hash)? else {
+        return Ok(false);
+    };
+    Ok(touch_own(rt, arena, hand, item, key))
 }
 
 // The value of an item that the hand holds, and nothing else, if it is of the key, which is touched then. The reference is given up, also

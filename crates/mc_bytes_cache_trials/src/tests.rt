@@ -3,6 +3,7 @@ mod collided;
 mod drawn;
 mod eight;
 mod made;
+mod messages;
 mod tended;
 mod threads;
 mod touching;

@@ -23,6 +23,7 @@ use mc_watch::Decider;
 use mc_words::{Arena, Hand};
 use std::alloc::Global;
 use std::sync::Wait;
+use thiserror::Error;
 
 /// What a cache is made with.
 #[derive(Clone, Copy)]
@@ -36,15 +37,19 @@ pub struct CacheConfig {
 }
 
 /// Why no cache was made.
-#[derive(Debug, PartialEq, Eq, Drop)]
+#[derive(Debug, PartialEq, Eq, Drop, Error)]
 pub enum NewError {
     /// There are no shards, or more than 4,096.
+    #[error("the number of shards must be from 1 to 4096")]
     Shards,
     /// There are no workers, or more than 63.
+    #[error("the number of workers must be from 1 to 63")]
     Workers,
     /// The arenas' configuration is refused.
+    #[error("{0}")]
     Config(ConfigError),
     /// Memory was refused.
+    #[error("out of memory")]
     NoMemory(Refused),
 }
 

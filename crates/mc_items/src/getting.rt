@@ -21,13 +21,16 @@ use mc_memory::Refused;
 use mc_stripe::NoMemory;
 use mc_words::{Arena, Hand, StripeHeld};
 use std::sync::Wait;
+use thiserror::Error;
 
 /// Why a get was refused. It wrote no entry into its stripe's history.
-#[derive(Debug, PartialEq, Eq, Drop)]
+#[derive(Debug, PartialEq, Eq, Drop, Error)]
 pub enum GetError {
     /// The hand holds 255 chunks.
+    #[error("the hand holds 255 chunks, as many as it may")]
     TooManyRefs,
     /// The stripe got no room for one more call.
+    #[error("out of memory")]
     NoMemory(Refused),
 }
 
@@ -71,13 +74,16 @@ pub fn get<R: Wait>(
 }
 
 /// Why a get that doesn't wait was refused. It wrote no entry into its stripe's history.
-#[derive(Debug, PartialEq, Eq, Drop)]
+#[derive(Debug, PartialEq, Eq, Drop, Error)]
 pub enum TryGetError {
     /// The hand holds 255 chunks.
+    #[error("the hand holds 255 chunks, as many as it may")]
     TooManyRefs,
     /// The stripe got no room for one more call.
+    #[error("out of memory")]
     NoMemory(Refused),
     /// Another hand has the lock of the key's stripe.
+    #[error("another hand has the lock of the key's stripe")]
     Held,
 }
 

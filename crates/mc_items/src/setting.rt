@@ -23,17 +23,22 @@ use mc_memory::Refused;
 use mc_stripe::Stamp;
 use mc_words::{Arena, Fresh, Hand};
 use std::sync::Wait;
+use thiserror::Error;
 
 /// Why a set was refused. The key's item is as before, unless it was the one that was evicted, and no stamp is used up.
-#[derive(Debug, PartialEq, Eq, Drop)]
+#[derive(Debug, PartialEq, Eq, Drop, Error)]
 pub enum SetError {
     /// No class has chunks of that size.
+    #[error("no class has chunks of that size")]
     TooLarge,
     /// The class has no free chunk and no dead one, no page is left, and none of its oldest five items could be evicted.
+    #[error("no chunk is free, no page is left, and none of the class's oldest five items could be evicted")]
     NoRoom,
     /// The first free chunk has the greatest issue number, or the hand has no stamp left.
+    #[error("the chunk has no issue number left, or the hand no stamp")]
     WornOut,
     /// A page's room or the room for a call on the key was refused; the chunk that was got for the item may be dead.
+    #[error("out of memory")]
     NoMemory(Refused),
 }
 

@@ -1,0 +1,35 @@
+//! The item under a hash, got by a hand that holds nothing.
+ghost use Rattle.std.specs.Prelude.{◌≡◌, IfOk, IfSome, None, Ok, OnErr};
+ghost use Rattle.mc_words.specs.hand.Arenas.{setup_of, view};
+ghost use Rattle.mc_words.specs.hand.Observers.{number_of};
+ghost use Rattle.mc_items.specs.Keeping.{SaysNothing};
+ghost use Rattle.mc_byte_items.specs.Finding.{FindsItem, FindsWords};
+ghost use Rattle.mc_byte_items.specs.Hands.{IsIdleHandOf};
+
+use mc_items::{GetError, Ref};
+use mc_memory::Refused;
+use mc_words::{Arena, Hand};
+use std::sync::Wait;
+
+/// A reference to the item under the hash, if there is one. The hand holds nothing else then, so it is never refused for holding too
+/// much. It waits for the lock of the hash's stripe.
+#[inline(always)]
+pub(crate) fn get_item<R: Wait>(
+    rt: &R,
+    arena: &Arena,
+    hand: &mut Hand,
+    hash: u64,
+) -> Result<Option<Ref>, Refused>
+    requires { IsIdleHandOf arena.now hand.old }
+    ensures item { IfOk result (λ found. IfSome found (λ item. FindsItem arena.now hash item hand.old hand.new)) }
+    ensures none { result ≡ Ok None → FindsWords (setup_of arena.now) hash hand.old None × IsIdleHandOf arena.now hand.new }
+    ensures refused { OnErr result (IsIdleHandOf arena.now hand.new) }
+    ensures number { number_of hand.new ≡ number_of hand.old }
+    ensures unsaid { SaysNothing (view hand.old) (view hand.new) }
+{
+    match mc_items::get(rt, arena, hand, hash) {
+        Ok(found) => Ok(found),
+        Err(GetError::NoMemory(refused)) => Err(refused),
+        Err(GetError::TooManyRefs) => unreachable!(),
+    }
+}
