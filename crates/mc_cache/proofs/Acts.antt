@@ -1,12 +1,12 @@
 -- What one call does on one shard.
-use Rattle.std.proofs.Common.{◌≡◌, ◌<◌, ◌∙◌, ℕ, List, Ok, Result, ap, arith, get_or, length, refl, set, subst}
+use Rattle.std.proofs.Common.{None, Some, ◌≡◌, ◌<◌, ◌∙◌, ℕ, List, Err, MatchResult, Ok, OnErr, Result, ap, arith, get_or, is_ok, length, refl, set, subst, sym, true≢false}
 use Rattle.std.proofs.lemmas.Option.{slice_get_read}
 use Rattle.mc_words.specs.declared.arena.Arena.{Arena}
 use Rattle.mc_words.specs.declared.hand.Hand.{Hand}
 use Rattle.mc_byte_items.specs.Hands.{IsIdleHandOf}
 use Rattle.mc_cache.specs.declared.cache.Cache.{Cache}
+use Rattle.mc_cache.specs.declared.place.Place.{Place}
 use Rattle.mc_cache.specs.Belonging.{hash_in, shard_in}
-use Rattle.mc_cache.specs.Hashing.{hash_of, shard_of}
 use Rattle.mc_cache.specs.Shards.{ActsOnShard, AreIdleHands}
 use Rattle.mc_cache.proofs.Pairs.{pair_set}
 
@@ -33,12 +33,29 @@ acts arenas hands shard arena hand after Does near count is_arena is_hand does =
 pub same_ok : {T E : Type 0} (x y : T) → ◌≡◌ {A = Result T E} (Ok x) (Ok y) → x ≡ y
 same_ok x y is = cc
 
--- a worker's call on the shard of a key, by the parts that its code has
-pub acted : (cache : Cache) (key : List ℕ) (hands : List Hand) (hash shard : ℕ) (arena : Arena) (hand after : Hand) (Does : ℕ → Arena → Hand → Hand → Type 0) → AreIdleHands cache.arenas.items hands → hash ≡ hash_of cache.hashing key
-    → shard ≡ shard_of (length cache.arenas.items) hash → shard < length cache.arenas.items → arena ≡ get_or cache.arenas.items shard arena → hand ≡ get_or hands shard hand → Does hash arena hand after
-    → ActsOnShard cache.arenas.items (shard_in cache key) (Does (hash_in cache key)) hands (set hands shard after)
-acted cache key hands hash shard arena hand after Does are is_hash is_shard near is_arena is_hand does =
-    let same : shard ≡ shard_in cache key = is_shard ∙ ap (shard_of (length cache.arenas.items)) is_hash in
+-- an answer whose refusal was named anew is the answer that came
+pub same_answer : {T D E : Type 0} (Q : E → Type 0) (r : Result T E) (m : Result T D) (x : T) → MatchResult r (λ y. m ≡ Ok y) Q → is_ok m ≡ is_ok r → m ≡ Ok x → r ≡ Ok x
+same_answer Q (Ok y) m x cases variant is = ap Ok (same_ok y x (sym cases ∙ is))
+same_answer Q (Err e) m x cases variant is = absurd (true≢false (sym (ap is_ok is) ∙ variant))
+
+pub answer_stays : {T D E : Type 0} (Q : E → Type 0) (r : Result T E) (m : Result T D) (x : T) → MatchResult r (λ y. m ≡ Ok y) Q → r ≡ Ok x → m ≡ Ok x
+answer_stays Q (Ok y) m x cases is = cases ∙ ap Ok (same_ok y x is)
+answer_stays Q (Err e) m x cases is = absurd (true≢false (sym (ap is_ok is)))
+
+-- what holds anyhow holds of a refusal
+pub on_refusal : {T E P : Type 0} (r : Result T E) → P → OnErr r P
+on_refusal (Ok x) p = tt
+on_refusal (Err e) p = p
+
+-- a worker's call on the shard of a key
+pub acted : (cache : Cache) (key : List ℕ) (hands : List Hand) (at : Place) (arena : Arena) (hand after : Hand) (Does : ℕ → Arena → Hand → Hand → Type 0) → AreIdleHands cache.arenas.items hands → at.hash ≡ hash_in cache key
+    → at.shard ≡ shard_in cache key → at.shard < length cache.arenas.items → arena ≡ get_or cache.arenas.items at.shard arena → hand ≡ get_or hands at.shard hand → Does at.hash arena hand after
+    → ActsOnShard cache.arenas.items (shard_in cache key) (Does (hash_in cache key)) hands (set hands at.shard after)
+acted cache key hands at arena hand after Does are is_hash is_shard near is_arena is_hand does =
     let done : Does (hash_in cache key) arena hand after = subst (λ (h : ℕ). Does h arena hand after) is_hash does in
-    subst (λ (s : ℕ). ActsOnShard cache.arenas.items s (Does (hash_in cache key)) hands (set hands shard after)) same
-    (acts cache.arenas.items hands shard arena hand after (Does (hash_in cache key)) near are.count is_arena is_hand done)
+    subst (λ (s : ℕ). ActsOnShard cache.arenas.items s (Does (hash_in cache key)) hands (set hands at.shard after)) is_shard
+    (acts cache.arenas.items hands at.shard arena hand after (Does (hash_in cache key)) near are.count is_arena is_hand done)
+
+-- a place that was found is one
+pub no_none : {T : Type 0} (x : T) → Some x ≡ None → ⊥
+no_none x is = cc

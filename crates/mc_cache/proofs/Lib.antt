@@ -8,3 +8,4 @@ pub mod Tendings
 pub mod Deciders
 pub mod EachShard
 pub mod Counted
+pub mod Forgotten

@@ -1,16 +1,16 @@
 -- Which keys a worker touched lately: their hashes are noted.
-use Rattle.std.specs.Prelude.{ℕ, Bool, true, not, nat_lt, if◌then◌else◌, List}
+use Rattle.std.specs.Prelude.{ℕ, Bool, not, nat_lt, if◌then◌else◌, List}
 use Rattle.mc_cache.specs.declared.recent.Recent.{Recent}
-use Rattle.mc_cache.specs.Marks.{is_noted, no_marks}
+use Rattle.mc_cache.specs.Marks.{is_noted, most_asks, no_marks}
 
 -- the marks as they stand
 abbrev pub marks_of : Recent → List ℕ
 marks_of recent = recent.marks.items
 
--- the marks that the next ask finds: none where 4,096 asks came since all were forgotten
+-- the marks that the next ask finds: none where the most asks came since all were forgotten
 abbrev pub marks_found : Recent → List ℕ
-marks_found recent = if nat_lt recent.asks 4096 then marks_of recent else no_marks
+marks_found recent = if nat_lt recent.asks most_asks then marks_of recent else no_marks
 
 -- the next ask doesn't find the hash noted, so its key is to be touched
 abbrev pub is_due : Recent → ℕ → Bool
-is_due recent hash = if nat_lt recent.asks 4096 then not (is_noted (marks_of recent) hash) else true
+is_due recent hash = not (is_noted (marks_found recent) hash)

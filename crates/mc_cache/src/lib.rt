@@ -9,6 +9,7 @@ mod bytes;
 mod cache;
 mod hashing;
 mod opening;
+mod place;
 mod recent;
 mod stats;
 mod tended;

@@ -1,6 +1,6 @@
 //! Which keys a worker touched lately, by their hashes.
 ghost use Rattle.std.specs.Prelude.{◌≡◌, ◌≤◌, length};
-ghost use Rattle.mc_cache.specs.Marks.{mark_of, place_of};
+ghost use Rattle.mc_cache.specs.Marks.{mark_count, mark_of, most_asks, place_of};
 
 use mc_memory::{Refused, filled};
 use std::alloc::Global;
@@ -18,8 +18,8 @@ pub(crate) struct Recent {
     marks: Vec<u64>,
     /// How often it was asked since all were forgotten.
     asks: u64,
-    ghost long: { length marks.items ≡ 1024 },
-    ghost few: { asks ≤ 4096 },
+    ghost long: { length marks.items ≡ mark_count },
+    ghost few: { asks ≤ most_asks },
 }
 
 // Where a hash is noted.
@@ -37,13 +37,13 @@ fn mark_of(hash: u64) -> u64
 }
 
 impl Recent {
-    ghost use Rattle.std.specs.Prelude.{◌≡◌, ◌+◌, IfOk, if◌then◌else◌, nat_lt, replicate};
-    ghost use Rattle.mc_cache.specs.Marks.{with_mark};
+    ghost use Rattle.std.specs.Prelude.{◌≡◌, IfOk};
+    ghost use Rattle.mc_cache.specs.Marks.{asks_after, no_marks, with_mark};
     ghost use Rattle.mc_cache.specs.Recent.{is_due, marks_found, marks_of};
 
     /// No hash is noted. It takes 8 KiB.
     pub(crate) fn new(alloc: Global) -> Result<Recent, Refused>
-        ensures marks { IfOk result (λ recent. marks_of recent ≡ replicate 1024 0) }
+        ensures marks { IfOk result (λ recent. marks_of recent ≡ no_marks) }
         ensures asks { IfOk result (λ recent. recent.asks ≡ 0) }
     {
         Ok(Recent {
@@ -55,7 +55,7 @@ impl Recent {
     // One ask more. Before it all hashes are forgotten where 4,096 asks came since they were.
     fn count_ask(&mut self)
         ensures marks { marks_of self.new ≡ marks_found self.old }
-        ensures asks { self.new.asks ≡ (if nat_lt self.old.asks 4096 then self.old.asks + 1 else 1) }
+        ensures asks { self.new.asks ≡ asks_after self.old.asks }
     {
         if self.asks < MOST_ASKS {
             self.asks += 1;
@@ -80,7 +80,7 @@ impl Recent {
     /// Notes the hash, in the place of the one that was noted there. Before it all are forgotten where 4,096 asks came since they were.
     pub(crate) fn note(&mut self, hash: u64)
         ensures notes { marks_of self.new ≡ with_mark hash (marks_found self.old) }
-        ensures asks { self.new.asks ≡ (if nat_lt self.old.asks 4096 then self.old.asks + 1 else 1) }
+        ensures asks { self.new.asks ≡ asks_after self.old.asks }
     {
         self.count_ask();
         self.marks[place_of(hash)] = mark_of(hash);

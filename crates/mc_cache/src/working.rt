@@ -1,54 +1,56 @@
 //! The calls of a worker.
-ghost use Rattle.std.specs.Prelude.{◌↔◌, IsTrue};
-ghost use Rattle.mc_cache.specs.Shards.{IsKey};
-
 use crate::bumping::get_touching_if;
 use crate::cache::{Cache, Worker};
 use mc_memory::Refused;
 use std::sync::Wait;
+use thiserror::Error;
 
 /// Why a set was refused.
-#[derive(Debug, PartialEq, Eq, Drop)]
+#[derive(Debug, PartialEq, Eq, Drop, Error)]
 pub enum SetError {
     /// The key has no byte, or more than 250. Nothing was done.
+    #[error("a key must have from 1 to 250 bytes; nothing was done")]
     KeyLength,
     /// The value has more than 16,384 bytes, as no chunk has. Nothing was done.
+    #[error("a value must have at most 16384 bytes; nothing was done")]
     ValueLength,
     /// The item isn't stored. The key has what it had, unless its item was the one that was evicted.
+    #[error("the value isn't stored: {0}")]
     Item(mc_items::SetError),
 }
 
 /// Why another call was refused. The key has what it had.
-#[derive(Debug, PartialEq, Eq, Drop)]
+#[derive(Debug, PartialEq, Eq, Drop, Error)]
 pub enum CallError {
     /// The key has no byte, or more than 250. Nothing was done.
+    #[error("a key must have from 1 to 250 bytes; nothing was done")]
     KeyLength,
     /// Memory was refused.
+    #[error("out of memory; the key has what it had")]
     NoMemory(Refused),
 }
 
 /// Why a get that doesn't wait was refused. The key has what it had.
-#[derive(Debug, PartialEq, Eq, Drop)]
+#[derive(Debug, PartialEq, Eq, Drop, Error)]
 pub enum TryGetError {
     /// The key has no byte, or more than 250. Nothing was done.
+    #[error("a key must have from 1 to 250 bytes; nothing was done")]
     KeyLength,
     /// Memory was refused.
+    #[error("out of memory; the key has what it had")]
     NoMemory(Refused),
     /// Another hand has the lock.
+    #[error("another worker has the lock of the key's stripe; the key has what it had")]
     Held,
 }
 
-/// Whether the bytes may be a key: there are 1 to 250. (memcached's `KEY_MAX_LENGTH`)
-fn is_key(key: &[u8]) -> bool
-    ensures { IsTrue result ↔ IsKey key.now }
-{
-    !key.is_empty() && key.len() <= 250
-}
+/// The most bytes of a value: as many as the largest chunk has. (own)
+const MOST_VALUE_BYTES: usize = 16_384;
 
 impl Worker {
     ghost use Rattle.std.specs.Prelude.{◌≡◌, ◌<◌, ◌↔◌, ◌⊎◌, Err, Ok, OnErr, OnOk, false, length, true};
     ghost use Rattle.mc_items.specs.declared.setting.SetError as items;
-    ghost use Rattle.mc_cache.specs.Belonging.{ActsOnKey, BelongsTo, DeletesNoneOf, GivesAndTouches, GivesValueOf, KeepsHands, NotesHashOf, RefusesValueOf, hash_in};
+    ghost use Rattle.mc_cache.specs.Belonging.{ActsOnKey, BelongsTo, CountsAsk, DeletesNoneOf, GivesAndTouches, GivesValueOf, KeepsHands, NotesHashOf, RefusesValueOf, hash_in};
     ghost use Rattle.mc_cache.specs.Shards.{DeletesThere, FindsHeld, IsKey, ReadsKey, ReadsOther, SaysNoMore, StoresValue, TouchesThere};
     ghost use Rattle.mc_cache.specs.declared.working.CallError.TheVariants as call_error;
     ghost use Rattle.mc_cache.specs.declared.working.SetError.TheVariants as set_error;
@@ -71,17 +73,15 @@ impl Worker {
         ensures stores { OnOk result (ActsOnKey cache.now key.now (StoresValue (hash_in cache.now key.now) key.now value.now) self.old self.new) }
         ensures refused { (error : items.SetError) → result ≡ Err (set_error.Item error) → RefusesValueOf cache.now key.now value.now error self.old self.new }
     {
-        if !is_key(key) {
+        let Some(at) = cache.place_of(key) else {
             return Err(SetError::KeyLength);
-        }
-        if value.len() > 16_384 {
+        };
+        if value.len() > MOST_VALUE_BYTES {
             return Err(SetError::ValueLength);
         }
-        let hash = cache.hash(key);
-        let shard = cache.shard(hash);
-        let arena = &cache.arenas[shard];
-        let hand = &mut self.hands[shard];
-        match mc_byte_items::set(rt, arena, hand, hash, key, value, &mut self.words) {
+        let arena = &cache.arenas[at.shard];
+        let hand = &mut self.hands[at.shard];
+        match mc_byte_items::set(rt, arena, hand, at.hash, key, value, &mut self.words) {
             Ok(_stamp) => Ok(()),
             Err(error) => Err(SetError::Item(error)),
         }
@@ -106,17 +106,12 @@ impl Worker {
         ensures kept { (result ≡ Ok true → ⊥) → into.new.items ≡ into.old.items }
         ensures refused { OnErr result (IsKey key.now → ActsOnKey cache.now key.now SaysNoMore self.old self.new) }
     {
-        if !is_key(key) {
+        let Some(at) = cache.place_of(key) else {
             return Err(CallError::KeyLength);
-        }
-        let hash = cache.hash(key);
-        let shard = cache.shard(hash);
-        let arena = &cache.arenas[shard];
-        let hand = &mut self.hands[shard];
-        match mc_byte_items::get(rt, arena, hand, hash, key, into) {
-            Ok(found) => Ok(found),
-            Err(refused) => Err(CallError::NoMemory(refused)),
-        }
+        };
+        let arena = &cache.arenas[at.shard];
+        let hand = &mut self.hands[at.shard];
+        mc_byte_items::get(rt, arena, hand, at.hash, key, into).map_err(CallError::NoMemory)
     }
 
     /// The same as `get`; and where the key has a value, it is touched then, as by `touch`, unless this worker did so lately: it notes one
@@ -136,22 +131,21 @@ impl Worker {
         ensures same { result ≡ Err call_error.KeyLength → KeepsHands self.old self.new }
         ensures value { result ≡ Ok true → GivesAndTouches cache.now key.now into.old.items into.new.items self.old self.new }
         ensures noted { result ≡ Ok true → NotesHashOf cache.now key.now self.old self.new }
+        ensures counted { result ≡ Ok true → CountsAsk self.old self.new }
         ensures none { result ≡ Ok false → ActsOnKey cache.now key.now (ReadsOther (hash_in cache.now key.now) key.now) self.old self.new }
         ensures unasked { (result ≡ Ok true → ⊥) → self.new.recent ≡ self.old.recent }
         ensures kept { (result ≡ Ok true → ⊥) → into.new.items ≡ into.old.items }
         ensures refused { OnErr result (IsKey key.now → ActsOnKey cache.now key.now SaysNoMore self.old self.new) }
     {
-        if !is_key(key) {
+        let Some(at) = cache.place_of(key) else {
             return Err(CallError::KeyLength);
-        }
-        let hash = cache.hash(key);
-        let shard = cache.shard(hash);
-        let arena = &cache.arenas[shard];
-        let hand = &mut self.hands[shard];
-        let due = self.recent.is_due(hash);
-        match get_touching_if(rt, arena, hand, hash, key, into, due) {
+        };
+        let arena = &cache.arenas[at.shard];
+        let hand = &mut self.hands[at.shard];
+        let due = self.recent.is_due(at.hash);
+        match get_touching_if(rt, arena, hand, at.hash, key, into, due) {
             Ok(true) => {
-                self.recent.note(hash);
+                self.recent.note(at.hash);
                 Ok(true)
             }
             Ok(false) => Ok(false),
@@ -176,14 +170,12 @@ impl Worker {
         ensures held { result ≡ Err try_error.Held → ActsOnKey cache.now key.now (FindsHeld (hash_in cache.now key.now)) self.old self.new }
         ensures refused { OnErr result (IsKey key.now → ActsOnKey cache.now key.now SaysNoMore self.old self.new) }
     {
-        if !is_key(key) {
+        let Some(at) = cache.place_of(key) else {
             return Err(TryGetError::KeyLength);
-        }
-        let hash = cache.hash(key);
-        let shard = cache.shard(hash);
-        let arena = &cache.arenas[shard];
-        let hand = &mut self.hands[shard];
-        match mc_byte_items::try_get(arena, hand, hash, key, into) {
+        };
+        let arena = &cache.arenas[at.shard];
+        let hand = &mut self.hands[at.shard];
+        match mc_byte_items::try_get(arena, hand, at.hash, key, into) {
             Ok(found) => Ok(found),
             Err(mc_byte_items::TryGetError::NoMemory(refused)) => {
                 Err(TryGetError::NoMemory(refused))
@@ -207,17 +199,12 @@ impl Worker {
         ensures none { result ≡ Ok false → ActsOnKey cache.now key.now (ReadsOther (hash_in cache.now key.now) key.now) self.old self.new }
         ensures refused { OnErr result (IsKey key.now → ActsOnKey cache.now key.now SaysNoMore self.old self.new) }
     {
-        if !is_key(key) {
+        let Some(at) = cache.place_of(key) else {
             return Err(CallError::KeyLength);
-        }
-        let hash = cache.hash(key);
-        let shard = cache.shard(hash);
-        let arena = &cache.arenas[shard];
-        let hand = &mut self.hands[shard];
-        match mc_byte_items::contains(rt, arena, hand, hash, key) {
-            Ok(there) => Ok(there),
-            Err(refused) => Err(CallError::NoMemory(refused)),
-        }
+        };
+        let arena = &cache.arenas[at.shard];
+        let hand = &mut self.hands[at.shard];
+        mc_byte_items::contains(rt, arena, hand, at.hash, key).map_err(CallError::NoMemory)
     }
 
     /// Deletes the key, and says whether it had a value. An item of another key with the same hash stays; where one is stored between the
@@ -231,17 +218,12 @@ impl Worker {
         ensures none { result ≡ Ok false → DeletesNoneOf cache.now key.now self.old self.new }
         ensures refused { OnErr result (IsKey key.now → ActsOnKey cache.now key.now SaysNoMore self.old self.new) }
     {
-        if !is_key(key) {
+        let Some(at) = cache.place_of(key) else {
             return Err(CallError::KeyLength);
-        }
-        let hash = cache.hash(key);
-        let shard = cache.shard(hash);
-        let arena = &cache.arenas[shard];
-        let hand = &mut self.hands[shard];
-        match mc_byte_items::delete(rt, arena, hand, hash, key) {
-            Ok(there) => Ok(there),
-            Err(refused) => Err(CallError::NoMemory(refused)),
-        }
+        };
+        let arena = &cache.arenas[at.shard];
+        let hand = &mut self.hands[at.shard];
+        mc_byte_items::delete(rt, arena, hand, at.hash, key).map_err(CallError::NoMemory)
     }
 
     /// Makes the key's item the one of its class that is evicted last, and says whether the key has a value. It waits for locks of the
@@ -255,16 +237,11 @@ impl Worker {
         ensures none { result ≡ Ok false → ActsOnKey cache.now key.now (ReadsOther (hash_in cache.now key.now) key.now) self.old self.new }
         ensures refused { OnErr result (IsKey key.now → ActsOnKey cache.now key.now SaysNoMore self.old self.new) }
     {
-        if !is_key(key) {
+        let Some(at) = cache.place_of(key) else {
             return Err(CallError::KeyLength);
-        }
-        let hash = cache.hash(key);
-        let shard = cache.shard(hash);
-        let arena = &cache.arenas[shard];
-        let hand = &mut self.hands[shard];
-        match mc_byte_items::touch(rt, arena, hand, hash, key) {
-            Ok(there) => Ok(there),
-            Err(refused) => Err(CallError::NoMemory(refused)),
-        }
+        };
+        let arena = &cache.arenas[at.shard];
+        let hand = &mut self.hands[at.shard];
+        mc_byte_items::touch(rt, arena, hand, at.hash, key).map_err(CallError::NoMemory)
     }
 }

@@ -1,19 +1,16 @@
-use Rattle.std.proofs.Common.{ℕ, Ok, ap, false, true}
+use Rattle.std.proofs.Common.{false, true, ℕ}
 use Rattle.mc_cache.specs.Shards.{ReadsKey, ReadsOther, SaysNoMore}
-use Rattle.mc_cache.proofs.Acts.{acted, idle_after, same_ok}
+use Rattle.mc_cache.proofs.Acts.{acted, idle_after, on_refusal, same_answer}
 use Rattle.mc_cache.proofs.cache.Worker.contains.Goals as goal
 
-pub returns-in-Ok-clause-belongs : goal.returns-in-Ok-clause-belongs
-returns-in-Ok-clause-belongs g c = idle_after c.args.cache.now.arenas.items c.args.self.now.hands.items c.shard-shard.result c.index-arena.result.now c.contains.new.hand c.shard-shard.ensures.near c.index-arena.ensures c.contains.ensures.idle c.requires
+pub returns-clause-belongs : goal.returns-clause-belongs
+returns-clause-belongs g c = idle_after c.args.cache.now.arenas.items c.args.self.now.hands.items c.in-Some.at.shard c.index-arena.result.now c.contains.new.hand c.in-Some.ensures.near c.index-arena.ensures c.contains.ensures.idle c.requires
 
-pub returns-in-Err-clause-belongs : goal.returns-in-Err-clause-belongs
-returns-in-Err-clause-belongs g c = idle_after c.args.cache.now.arenas.items c.args.self.now.hands.items c.shard-shard.result c.index-arena.result.now c.contains.new.hand c.shard-shard.ensures.near c.index-arena.ensures c.contains.ensures.idle c.requires
+pub returns-clause-there : goal.returns-clause-there
+returns-clause-there g c = λ is. acted c.args.cache.now c.args.key.now c.args.self.now.hands.items c.in-Some.at c.index-arena.result.now c.index_mut-hand.result.now c.contains.new.hand (λ (hash : ℕ). ReadsKey hash c.args.key.now) c.requires c.in-Some.ensures.hash c.in-Some.ensures.shard c.in-Some.ensures.near c.index-arena.ensures c.index_mut-hand.ensures.value (c.contains.ensures.key (same_answer _ c.contains.result c.map_err.result true c.map_err.ensures.cases c.map_err.ensures.variant is), c.contains.ensures.unsaid)
 
-pub returns-in-Ok-clause-there : goal.returns-in-Ok-clause-there
-returns-in-Ok-clause-there g c = λ is. acted c.args.cache.now c.args.key.now c.args.self.now.hands.items c.hash-hash.result c.shard-shard.result c.index-arena.result.now c.index_mut-hand.result.now c.contains.new.hand (λ (hash : ℕ). ReadsKey hash c.args.key.now) c.requires c.hash-hash.ensures c.shard-shard.ensures.shard c.shard-shard.ensures.near c.index-arena.ensures c.index_mut-hand.ensures.value (c.in-Ok.ensures.key (ap Ok (same_ok c.in-Ok.there true is)), c.contains.ensures.unsaid)
+pub returns-clause-none : goal.returns-clause-none
+returns-clause-none g c = λ is. acted c.args.cache.now c.args.key.now c.args.self.now.hands.items c.in-Some.at c.index-arena.result.now c.index_mut-hand.result.now c.contains.new.hand (λ (hash : ℕ). ReadsOther hash c.args.key.now) c.requires c.in-Some.ensures.hash c.in-Some.ensures.shard c.in-Some.ensures.near c.index-arena.ensures c.index_mut-hand.ensures.value (c.contains.ensures.other (same_answer _ c.contains.result c.map_err.result false c.map_err.ensures.cases c.map_err.ensures.variant is), c.contains.ensures.unsaid)
 
-pub returns-in-Ok-clause-none : goal.returns-in-Ok-clause-none
-returns-in-Ok-clause-none g c = λ is. acted c.args.cache.now c.args.key.now c.args.self.now.hands.items c.hash-hash.result c.shard-shard.result c.index-arena.result.now c.index_mut-hand.result.now c.contains.new.hand (λ (hash : ℕ). ReadsOther hash c.args.key.now) c.requires c.hash-hash.ensures c.shard-shard.ensures.shard c.shard-shard.ensures.near c.index-arena.ensures c.index_mut-hand.ensures.value (c.in-Ok.ensures.other (ap Ok (same_ok c.in-Ok.there false is)), c.contains.ensures.unsaid)
-
-pub returns-in-Err-clause-refused : goal.returns-in-Err-clause-refused
-returns-in-Err-clause-refused g c = λ is_key. acted c.args.cache.now c.args.key.now c.args.self.now.hands.items c.hash-hash.result c.shard-shard.result c.index-arena.result.now c.index_mut-hand.result.now c.contains.new.hand (λ (hash : ℕ). SaysNoMore) c.requires c.hash-hash.ensures c.shard-shard.ensures.shard c.shard-shard.ensures.near c.index-arena.ensures c.index_mut-hand.ensures.value c.contains.ensures.unsaid
+pub returns-clause-refused : goal.returns-clause-refused
+returns-clause-refused g c = on_refusal c.map_err.result (λ is_key. acted c.args.cache.now c.args.key.now c.args.self.now.hands.items c.in-Some.at c.index-arena.result.now c.index_mut-hand.result.now c.contains.new.hand (λ (hash : ℕ). SaysNoMore) c.requires c.in-Some.ensures.hash c.in-Some.ensures.shard c.in-Some.ensures.near c.index-arena.ensures c.index_mut-hand.ensures.value c.contains.ensures.unsaid)
