@@ -7,7 +7,7 @@ use mc_trial_values::{FOUR_CLASSES, too_much};
 use std::alloc::Global;
 use std::process::Abort;
 use std::test::Fail;
-use vectors::PRINTED;
+use vectors::{FAMILIES, Family, Printed};
 
 /// Sixty-two classes of 504 bytes and one of 512.
 const SIXTY_THREE: Config = Config {
@@ -154,20 +154,48 @@ fn class_of_an_item(rt: HostRuntime) -> Result<(), Fail> {
     Ok(())
 }
 
+/// The table has the sizes that were printed.
+fn assert_printed(
+    rt: &impl Abort,
+    alloc: Global,
+    family: &Family,
+    printed: &Printed,
+) -> Result<(), Fail> {
+    let (factor, (num, den), sizes) = printed;
+    let config = Config {
+        page: family.page,
+        limit: family.page,
+        first: family.first,
+        num: *num,
+        den: *den,
+        max: family.max,
+        ..FOUR_CLASSES
+    };
+    let options = family.options;
+    let name = format!(in alloc; "-f {factor} {options}")?;
+    let table = ClassTable::build(alloc, &config)?;
+    assert_classes(rt, &table, sizes, &name);
+    Ok(())
+}
+
+/// So has each table of the family; with an -f of 1.001 it has 62 classes of one size, and the 63rd.
+fn assert_family(rt: &impl Abort, alloc: Global, family: &Family) -> Result<(), Fail> {
+    if let Some(size) = family.alike {
+        let mut sizes = vec![in alloc; size; 62]?;
+        sizes.push(family.max)?;
+        let printed = ("1.001", (1001, 1000), sizes.as_slice());
+        assert_printed(rt, alloc, family, &printed)?;
+    }
+    for printed in family.printed {
+        assert_printed(rt, alloc, family, printed)?;
+    }
+    Ok(())
+}
+
 #[test]
 fn sizes_that_memcached_printed(rt: HostRuntime) -> Result<(), Fail> {
-    for row in &PRINTED {
-        let config = Config {
-            page: row.page,
-            limit: row.page,
-            first: row.first,
-            num: row.num,
-            den: row.den,
-            max: row.max,
-            ..FOUR_CLASSES
-        };
-        let table = ClassTable::build(rt.alloc(), &config)?;
-        assert_classes(&rt, &table, row.sizes, row.options);
+    for family in &FAMILIES {
+        assert_family(&rt, rt.alloc(), family)?;
     }
     Ok(())
 }
