@@ -12,22 +12,11 @@ ghost use Rattle.mc_words.specs.hand.View.{new_view};
 ghost use Rattle.mc_words.specs.declared.arena.refusal.NewError.TheVariants as refused;
 ghost use Rattle.mc_arena_clients.specs.Preparing.{first_out, has_prepared};
 
-use mc_classes::{ClassId, Config};
+use mc_classes::ClassId;
 use mc_pages::{Grow, NoMemory};
+use mc_trial_values::FOUR_CLASSES;
 use mc_words::{Arena, Hand, NewError, SlabsHeld, WornOut};
 use std::alloc::Global;
-
-/// Four pages, and classes of 48 to 512 bytes, of which the last has two chunks a page.
-const FOUR_PAGES: Config = Config {
-    page: 1024,
-    limit: 4096,
-    first: 48,
-    num: 2,
-    den: 1,
-    max: 512,
-    stripes: 4,
-    bulk: 64,
-};
 
 /// The greatest issue number, with which a chunk is used up.
 const MOST_ISSUE: u64 = 70_368_744_177_663;
@@ -150,7 +139,7 @@ pub fn header_from(alloc: Global, start: u64) -> Result<Option<u64>, NewError>
     ensures header { IfOk result (λ found. found ≡ (if nat_lt start most_issue then Some (code (first_out start)) else None)) }
     ensures memory { IfErr result (λ error. error ≡ refused.NoMemory tt) }
 {
-    let (arena, mut hands) = match Arena::from_issue(alloc, &FOUR_PAGES, 1, start) {
+    let (arena, mut hands) = match Arena::from_issue(alloc, &FOUR_CLASSES, 1, start) {
         Ok(made) => made,
         Err(error) => return Err(error),
     };

@@ -1,4 +1,4 @@
-//! The configuration of most tests.
+//! The configuration of most tests and callers.
 use mc_classes::Config;
 
 /// Four pages; classes of 48, 96, 192 and 512 bytes with 21, 10, 5 and 2 chunks a page. An item has 24 bytes beside its words.

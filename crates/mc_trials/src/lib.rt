@@ -1,4 +1,4 @@
-//! Tests of the libraries of the serial run, over their public calls alone: classes, script, options, streams, watch.
+//! Tests of the libraries of the serial run, over their public calls alone: classes and what they waste, script, options, streams, watch.
 #![tactic(auto)]
 
 #[cfg(test)]

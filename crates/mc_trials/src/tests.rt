@@ -6,6 +6,7 @@ mod options;
 mod script;
 mod statistics;
 mod streams;
+mod waste;
 
 use std::fmt::Debug;
 use std::process::Abort;

@@ -4,8 +4,6 @@
 #![tactic(auto)]
 
 mod laws;
-#[cfg(test)]
-mod tests;
 mod waste;
 
 pub use laws::{

@@ -1,27 +1,16 @@
 //! The classes and their worst waste of two tables that are built.
-use crate::worst_waste;
 use mc_classes::{ClassTable, Config};
+use mc_trial_values::FOUR_CLASSES;
+use mc_waste::worst_waste;
 use std::alloc::Global;
 use std::process::Abort;
 use std::test::Fail;
 
-/// The program's defaults.
-const DEFAULTS: Config = Config {
-    page: 1024,
-    limit: 4096,
-    first: 48,
-    num: 2,
-    den: 1,
-    max: 512,
-    stripes: 4,
-    bulk: 64,
-};
-
-/// The same with a factor of 5/4.
+/// The program's defaults, but for a factor of 5/4.
 const FINER: Config = Config {
     num: 5,
     den: 4,
-    ..DEFAULTS
+    ..FOUR_CLASSES
 };
 
 /// The table has these classes, each with its size and the most that an item leaves of it.
@@ -53,7 +42,7 @@ fn defaults(rt: HostRuntime) -> Result<(), Fail> {
     assert_classes(
         &rt,
         rt.alloc(),
-        &DEFAULTS,
+        &FOUR_CLASSES,
         &[(48, 24), (96, 40), (192, 88), (512, 312)],
     )
 }
