@@ -1,33 +1,18 @@
-//! Numbers that look drawn, by a linear congruential generator: the same in each run.
-ghost use Rattle.std.specs.Prelude.{◌≡◌, ◌+◌, ◌*◌, ◌/◌, ◌%◌, ◌^◌};
+//! Numbers that look drawn, the same in each run.
+ghost use Rattle.std.specs.Prelude.{◌≡◌, ◌*◌, ◌%◌, ◌^◌};
+ghost use Rattle.rand_core.specs.Steps.{steps_u32, stream_of};
+ghost use Rattle.rand_core.specs.Stream.{next_u64};
+ghost use Rattle.rand_pcg.specs.Lcg.{advance, increment_of, started};
+ghost use Rattle.rand_pcg.specs.Pcg.{multiplier_64, pcg32};
 
-/// What the generator multiplies by.
-const FACTOR: u64 = 6_364_136_223_846_793_005;
+use rand_core::Rng;
+use rand_pcg::Pcg32;
 
-/// What it adds then.
-const MORE: u64 = 1_442_695_040_888_963_407;
-
-/// A generator, which begins with this number.
-#[derive(Drop)]
-pub struct Drawn(pub u64);
-
-impl Drawn {
-    /// The next number, below 2^31.
-    pub fn next(&mut self) -> u64
-        ensures state { self.new.0 ≡ (self.old.0 * 6364136223846793005 % 2 ^ 64 + 1442695040888963407) % 2 ^ 64 }
-        ensures number { result ≡ self.new.0 / 2 ^ 33 }
-    {
-        self.0 = self.0.wrapping_mul(FACTOR).wrapping_add(MORE);
-        self.0 >> 33
-    }
-}
-
-/// A number below 2^31 for this place of a thread's list. Each thread begins elsewhere.
+/// A number for this place of a thread's list. Each thread has a generator of its own, and a number takes two of its words.
 pub fn draw(thread: u64, place: u64) -> u64
-    ensures { result ≡ (place + thread * 7919 % 2 ^ 64) % 2 ^ 64 * 6364136223846793005 % 2 ^ 64 / 2 ^ 33 }
+    ensures { result ≡ (next_u64 (stream_of (steps_u32 pcg32) (advance 64 multiplier_64 (place * 2 % 2 ^ 64) (started 64 multiplier_64 thread (increment_of 64 thread))))).0 }
 {
-    place
-        .wrapping_add(thread.wrapping_mul(7919))
-        .wrapping_mul(FACTOR)
-        >> 33
+    let mut random = Pcg32::new(thread, thread);
+    random.advance(place.wrapping_mul(2));
+    random.next_u64()
 }

@@ -1,4 +1,4 @@
-//! Values that tests of many crates share: a configuration, numbers that look drawn, and want of memory.
+//! Values that tests and callers of many crates share: a configuration, numbers that look drawn, and want of memory.
 #![tactic(auto)]
 
 mod config;
@@ -6,5 +6,5 @@ mod drawn;
 mod memory;
 
 pub use config::FOUR_CLASSES;
-pub use drawn::{Drawn, draw};
+pub use drawn::draw;
 pub use memory::too_much;

@@ -2,9 +2,8 @@
 ghost use Rattle.mc_byte_items.specs.Hands.{IsIdleHandOf};
 
 use super::made::SMALL;
-use super::values::{KEYS, Known, key_of, value_of};
+use super::values::{Call, Trial, key_of, value_of};
 use mc_byte_items::{contains, delete, get, set, touch};
-use mc_trial_values::Drawn;
 use mc_words::{Arena, Hand};
 use std::alloc::Global;
 use std::sync::Wait;
@@ -16,22 +15,21 @@ const HASHES: u64 = 3;
 /// How many calls are made.
 const CALLS: u64 = 2000;
 
-/// Stores a version of the key. True if the key is there then, and the next key of its hash isn't.
+/// Stores the call's version of its key. True if the key is there then, and the next key of its hash isn't.
 fn store<R: Wait>(
     rt: &R,
     alloc: Global,
     arena: &Arena,
     hand: &mut Hand,
-    number: u64,
-    version: u64,
+    call: Call,
 ) -> Result<bool, Fail>
     requires { IsIdleHandOf arena.now hand.old }
     ensures { IsIdleHandOf arena.now hand.new }
 {
-    let hash = number % HASHES;
-    let key = key_of(alloc, number)?;
-    let other = key_of(alloc, number.wrapping_add(HASHES))?;
-    let value = value_of(alloc, number, version)?;
+    let hash = call.number % HASHES;
+    let key = key_of(alloc, call.number)?;
+    let other = key_of(alloc, call.number.wrapping_add(HASHES))?;
+    let value = value_of(alloc, call.number, call.version)?;
     let mut words = Vec::new(alloc);
     if set(rt, arena, hand, hash, &key, &value, &mut words).is_err() {
         return Ok(false);
@@ -42,29 +40,21 @@ fn store<R: Wait>(
 }
 
 /// One drawn call. True if all that was found was right.
-fn act<R: Wait>(
-    rt: &R,
-    alloc: Global,
-    arena: &Arena,
-    hand: &mut Hand,
-    known: &mut Known,
-    call: (u64, u64),
-) -> Result<bool, Fail>
+fn act<R: Wait>(rt: &R, arena: &Arena, hand: &mut Hand, trial: &mut Trial) -> Result<bool, Fail>
     requires { IsIdleHandOf arena.now hand.old }
     ensures { IsIdleHandOf arena.now hand.new }
 {
-    let (drawn, version) = call;
-    let number = drawn / 8 % KEYS;
-    let hash = number % HASHES;
-    let key = key_of(alloc, number)?;
-    match drawn % 8 {
+    let call = trial.draw();
+    let hash = call.number % HASHES;
+    let key = key_of(trial.alloc, call.number)?;
+    match call.kind {
         0 | 1 | 2 => {
-            known.note(number, Some(version));
-            store(rt, alloc, arena, hand, number, version)
+            trial.note(call.number, Some(call.version));
+            store(rt, trial.alloc, arena, hand, call)
         }
         3 => {
             let _deleted = delete(rt, arena, hand, hash, &key)?;
-            known.note(number, None);
+            trial.note(call.number, None);
             Ok(!contains(rt, arena, hand, hash, &key)?)
         }
         4 => {
@@ -72,9 +62,9 @@ fn act<R: Wait>(
             Ok(touch(rt, arena, hand, hash, &key)? == there)
         }
         _ => {
-            let mut bytes = Vec::new(alloc);
+            let mut bytes = Vec::new(trial.alloc);
             if get(rt, arena, hand, hash, &key, &mut bytes)? {
-                Ok(known.is_value(alloc, number, &bytes)?)
+                Ok(trial.is_value(call.number, &bytes)?)
             } else {
                 Ok(bytes.is_empty())
             }
@@ -88,11 +78,9 @@ fn act<R: Wait>(
 fn other_keys_of_a_hash_are_missed(rt: HostRuntime) -> Result<(), Fail> {
     let (arena, mut hands) = Arena::new(rt.alloc(), &SMALL, 1)?;
     let mut hand = hands.remove(0);
-    let mut known = Known::new(rt.alloc())?;
-    let mut drawn = Drawn(3);
-    for version in 0..CALLS {
-        let call = (drawn.next(), version);
-        let right = act(&rt, rt.alloc(), &arena, &mut hand, &mut known, call)?;
+    let mut trial = Trial::new(rt.alloc(), 3)?;
+    for _ in 0..CALLS {
+        let right = act(&rt, &arena, &mut hand, &mut trial)?;
         assert!(rt; right, "a key of another was found, or its own wasn't");
     }
     Ok(())

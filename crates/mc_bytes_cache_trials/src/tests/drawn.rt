@@ -2,10 +2,8 @@
 ghost use Rattle.mc_cache.specs.Belonging.{BelongsTo};
 
 use super::made::{HASH_KEY, config_of, next_worker};
-use super::values::{KEYS, Known, key_of, value_of};
+use super::values::{Trial, key_of, value_of};
 use mc_cache::{Cache, CallError, Worker};
-use mc_trial_values::Drawn;
-use std::alloc::Global;
 use std::sync::Wait;
 use std::test::Fail;
 
@@ -32,25 +30,17 @@ fn get_either<R: Wait>(
 }
 
 /// One drawn call. True if all that was found was right.
-fn act<R: Wait>(
-    rt: &R,
-    alloc: Global,
-    cache: &Cache,
-    worker: &mut Worker,
-    known: &mut Known,
-    call: (u64, u64),
-) -> Result<bool, Fail>
+fn act<R: Wait>(rt: &R, cache: &Cache, worker: &mut Worker, trial: &mut Trial) -> Result<bool, Fail>
     requires { BelongsTo cache.now worker.old }
     ensures { BelongsTo cache.now worker.new }
 {
-    let (drawn, version) = call;
-    let number = drawn / 8 % KEYS;
-    let key = key_of(alloc, number)?;
-    match drawn % 8 {
+    let call = trial.draw();
+    let key = key_of(trial.alloc, call.number)?;
+    match call.kind {
         0 | 1 | 2 => {
-            let value = value_of(alloc, number, version)?;
+            let value = value_of(trial.alloc, call.number, call.version)?;
             if worker.set(rt, cache, &key, &value) == Ok(()) {
-                known.note(number, Some(version));
+                trial.note(call.number, Some(call.version));
             }
             Ok(true)
         }
@@ -58,7 +48,7 @@ fn act<R: Wait>(
             if worker.delete(rt, cache, &key).is_err() {
                 return Ok(true);
             }
-            known.note(number, None);
+            trial.note(call.number, None);
             Ok(worker.contains(rt, cache, &key) != Ok(true))
         }
         4 => {
@@ -66,10 +56,10 @@ fn act<R: Wait>(
             Ok(true)
         }
         _ => {
-            let mut bytes = Vec::new(alloc);
-            let touching = drawn % 8 == 5;
+            let mut bytes = Vec::new(trial.alloc);
+            let touching = call.kind == 5;
             match get_either(rt, cache, worker, &key, touching, &mut bytes) {
-                Ok(true) => Ok(known.is_value(alloc, number, &bytes)?),
+                Ok(true) => Ok(trial.is_value(call.number, &bytes)?),
                 _ => Ok(bytes.is_empty()),
             }
         }
@@ -83,11 +73,9 @@ fn what_is_there_is_what_was_stored(rt: HostRuntime) -> Result<(), Fail> {
     let Some(mut worker) = next_worker(&cache, &mut workers) else {
         return Err(Fail::new("there is a worker"));
     };
-    let mut known = Known::new(rt.alloc())?;
-    let mut drawn = Drawn(1);
-    for version in 0..CALLS {
-        let call = (drawn.next(), version);
-        let right = act(&rt, rt.alloc(), &cache, &mut worker, &mut known, call)?;
+    let mut trial = Trial::new(rt.alloc(), 1)?;
+    for _ in 0..CALLS {
+        let right = act(&rt, &cache, &mut worker, &mut trial)?;
         assert!(rt; right, "other bytes were found than were stored");
     }
     Ok(())

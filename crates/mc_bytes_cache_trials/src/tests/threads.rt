@@ -5,7 +5,8 @@ ghost use Rattle.mc_cache.specs.Belonging.{BelongsTo};
 use super::made::{HASH_KEY, config_of, next_worker};
 use super::values::{KEYS, key_of, value_of};
 use mc_cache::{Cache, Worker};
-use mc_trial_values::Drawn;
+use rand_core::Rng;
+use rand_pcg::Pcg32;
 use std::alloc::{AllocError, Global};
 use std::sync::Wait;
 use std::test::Fail;
@@ -20,15 +21,16 @@ fn act<R: Wait>(
     alloc: Global,
     cache: &Cache,
     worker: &mut Worker,
-    drawn: u64,
+    random: &mut Pcg32,
 ) -> Result<bool, AllocError>
     requires { BelongsTo cache.now worker.old }
     ensures { BelongsTo cache.now worker.new }
 {
-    let number = drawn / 8 % KEYS;
+    let kind = random.next_u64() % 8;
+    let number = random.next_u64() % KEYS;
     let key = key_of(alloc, number)?;
     let value = value_of(alloc, number, 0)?;
-    match drawn % 8 {
+    match kind {
         0 | 1 | 2 => {
             let _stored = worker.set(rt, cache, &key, &value);
             Ok(true)
@@ -62,10 +64,10 @@ pub fn work<R: Wait>(
     requires { BelongsTo cache.now worker }
 {
     let mut worker = worker;
-    let mut drawn = Drawn(seed);
+    let mut random = Pcg32::new(seed, 0);
     let mut wrong = 0;
     for _ in 0..rounds {
-        match act(rt, alloc, cache, &mut worker, drawn.next()) {
+        match act(rt, alloc, cache, &mut worker, &mut random) {
             Ok(true) => {}
             _ => wrong += 1,
         }

@@ -1,4 +1,6 @@
-//! Keys by their numbers, and values that tell their key and their version.
+//! Keys by their numbers, values that tell their key and their version, and calls on them that are drawn.
+use rand_core::Rng;
+use rand_pcg::Pcg32;
 use std::alloc::{AllocError, Global};
 
 /// How many keys there are.
@@ -28,20 +30,43 @@ pub fn value_of(alloc: Global, number: u64, version: u64) -> Result<Vec<u8>, All
     Ok(value)
 }
 
-/// Which version each key has, as far as it was stored and not deleted.
+/// A call that is drawn: one of eight kinds, the number of its key, and the version of the value that it may store.
+#[derive(Clone, Copy)]
+pub struct Call {
+    pub kind: u64,
+    pub number: u64,
+    pub version: u64,
+}
+
+/// Calls that are drawn one after another, and which version each key has, as far as it was stored and not deleted.
 #[derive(Drop)]
-pub struct Known {
+pub struct Trial {
+    pub alloc: Global,
+    random: Pcg32,
+    calls: u64,
     versions: Vec<Option<u64>>,
 }
 
-impl Known {
-    /// No key has a value.
-    pub fn new(alloc: Global) -> Result<Known, AllocError> {
-        let mut versions = Vec::new(alloc);
-        for _ in 0..KEYS {
-            versions.push(None)?;
+impl Trial {
+    /// Nothing was drawn, and no key has a value. Each seed draws other calls.
+    pub fn new(alloc: Global, seed: u64) -> Result<Trial, AllocError> {
+        Ok(Trial {
+            alloc,
+            random: Pcg32::new(seed, 0),
+            calls: 0,
+            versions: vec![in alloc; None; KEYS as usize]?,
+        })
+    }
+
+    /// The next call. Each has another version.
+    pub fn draw(&mut self) -> Call {
+        let version = self.calls;
+        self.calls = version.wrapping_add(1);
+        Call {
+            kind: self.random.next_u64() % 8,
+            number: self.random.next_u64() % KEYS,
+            version,
         }
-        Ok(Known { versions })
     }
 
     /// The key has this version now, or none.
@@ -52,10 +77,10 @@ impl Known {
     }
 
     /// Whether these bytes are the key's value.
-    pub fn is_value(&self, alloc: Global, number: u64, bytes: &[u8]) -> Result<bool, AllocError> {
+    pub fn is_value(&self, number: u64, bytes: &[u8]) -> Result<bool, AllocError> {
         match self.versions.get(number as usize) {
             Some(Some(version)) => {
-                let wanted = value_of(alloc, number, *version)?;
+                let wanted = value_of(self.alloc, number, *version)?;
                 Ok(wanted.as_slice() == bytes)
             }
             _ => Ok(false),

@@ -7,8 +7,9 @@ mod trims;
 use super::{assert_equal, assert_same};
 use mc_pages::ChunkId;
 use mc_stripe::{Call, HandId, Key, NoMemory, Stamp, Stripe};
-use mc_trial_values::Drawn;
 use plain::Plain;
+use rand_core::Rng;
+use rand_pcg::Pcg32;
 use std::process::Abort;
 use std::test::Fail;
 
@@ -188,14 +189,14 @@ fn each_call_leaves_its_entry(rt: HostRuntime) -> Result<(), Fail> {
 }
 
 /// A call on one of 24 keys of a stripe. The stamp of an item that is stored is the number of the try.
-fn any_call(drawn: &mut Drawn, number: u64) -> Try {
-    let hand = drawn.next() % 4;
-    let key = drawn.next() % 24 * 64 + 3;
+fn any_call(random: &mut Pcg32, number: u64) -> Try {
+    let hand = random.next_u64() % 4;
+    let key = random.next_u64() % 24 * 64 + 3;
     let chunk = ChunkId {
-        page: drawn.next() % 4,
-        index: drawn.next() % 256,
+        page: random.next_u64() % 4,
+        index: random.next_u64() % 256,
     };
-    match drawn.next() % 16 {
+    match random.next_u64() % 16 {
         0..=5 => Link(hand, key, chunk, number),
         6 | 7 => Unlink(hand, key),
         8 | 9 => Got(hand, key),
@@ -235,14 +236,14 @@ fn reserve_at_last(
 fn random_calls_leave_what_a_plain_list_holds(rt: HostRuntime) -> Result<(), Fail> {
     let mut rescued: u64 = 0;
     for seed in 0..8 {
-        let mut drawn = Drawn(seed);
+        let mut random = Pcg32::new(seed, 0);
         let mut stripe = Stripe::new(rt.alloc());
         let mut plain = Plain::new(rt.alloc());
         for number in 0..1000 {
-            if drawn.next() % 8 != 0 {
+            if random.next_u64() % 8 != 0 {
                 reserve_at_last(&rt, &mut stripe, &mut plain)?;
             }
-            let mut call = any_call(&mut drawn, number);
+            let mut call = any_call(&mut random, number);
             if let (Rescue(hand, _, chunk), Some(key)) = (call, stripe.aside()) {
                 call = Rescue(hand, key, chunk);
             }

@@ -2,6 +2,7 @@
 use mc_calls::{are_own, own_words};
 use mc_memory::Refused;
 use mc_stripe::{Key, Stamp};
+pub use mc_trial_values::draw;
 use std::alloc::Global;
 
 /// How many keys there are.
@@ -25,14 +26,4 @@ pub fn words_of(alloc: Global, key: Key, stamp: Stamp) -> Result<Vec<u64>, Refus
 /// Whether these are the words of the item that was stored under the key with this stamp.
 pub fn are_words_of(words: &[u64], key: Key, stamp: Stamp) -> bool {
     are_own(words, key, stamp, len_of(key))
-}
-
-/// A number that is drawn for a thread's round: the same in each run.
-pub fn draw(thread: u64, round: u64) -> u64 {
-    let mixed = round
-        .wrapping_add(thread.wrapping_mul(1_000_003))
-        .wrapping_mul(0x9e37_79b9_7f4a_7c15);
-    let mixed = (mixed ^ (mixed >> 30)).wrapping_mul(0xbf58_476d_1ce4_e5b9);
-    let mixed = (mixed ^ (mixed >> 27)).wrapping_mul(0x94d0_49bb_1331_11eb);
-    mixed ^ (mixed >> 31)
 }

@@ -2,7 +2,8 @@
 use super::Try::{Got, Lift, Link, Rescue, Unlink};
 use super::{Plain, any_call, assert_equal, assert_same, chunk, made, place};
 use mc_stripe::{Call, Key, NoMemory, Stamp, Stripe, Trim};
-use mc_trial_values::Drawn;
+use rand_core::Rng;
+use rand_pcg::Pcg32;
 use std::process::Abort;
 use std::test::Fail;
 
@@ -112,15 +113,15 @@ fn assert_same_base(rt: &impl Abort, stripe: &Stripe, plain: &Plain) {
 #[test]
 fn random_calls_between_trims_are_recorded(rt: HostRuntime) -> Result<(), Fail> {
     for seed in 0..4 {
-        let mut drawn = Drawn(seed + 100);
+        let mut random = Pcg32::new(seed + 100, 0);
         let mut stripe = Stripe::new(rt.alloc());
         let mut plain = Plain::new(rt.alloc());
         for number in 0..600 {
             stripe.reserve()?;
             plain.ready = true;
-            let call = any_call(&mut drawn, number);
+            let call = any_call(&mut random, number);
             assert_same(&rt, made(&mut stripe, call), plain.made(call)?, "made");
-            if drawn.next() % 50 == 0 {
+            if random.next_u64() % 50 == 0 {
                 trim_at_last(&rt, &mut stripe)?;
                 assert_same_base(&rt, &stripe, &plain);
             }

@@ -1,5 +1,5 @@
 use Rattle.mc_byte_items.specs.Hands.{IsIdleHandOf}
 use Rattle.mc_bytes_cache_trials.proofs.tests.collided.other_keys_of_a_hash_are_missed.Given as goal
 
-abbrev pub invariant-loop-version : goal.invariant-loop-version
-invariant-loop-version g l = IsIdleHandOf l.arena l.hand
+abbrev pub invariant-loop : goal.invariant-loop
+invariant-loop g l = IsIdleHandOf l.arena l.hand
