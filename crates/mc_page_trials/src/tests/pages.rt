@@ -5,11 +5,13 @@ mod shared;
 mod trims;
 
 use super::{assert_equal, assert_same};
-use driven::Driven;
+use driven::{ChunkList, Driven};
 use mc_classes::{ClassId, ClassTable, Config, PageId};
 use mc_pages::{BasePage, ChunkId, Entry, Found, Grow, Numbers, Owner, Reassign, Totals};
-use mc_trial_values::{Drawn, FOUR_CLASSES};
+use mc_trial_values::FOUR_CLASSES;
 use plain::{Plain, PlainClass};
+use rand_core::Rng;
+use rand_pcg::Pcg32;
 use std::alloc::Global;
 use std::process::Abort;
 use std::test::Fail;
@@ -23,6 +25,8 @@ enum Step {
     IsFull(ClassId),
     /// So many chunks of the page are cut, and no more.
     Cuts(PageId, u64),
+    /// The class gets the page, and so many chunks of it are cut, and no more.
+    Gets(ClassId, PageId, u64),
     /// The class hands out this chunk: its page and its place there.
     Pops(ClassId, PageId, u64),
     /// The class has no free chunk.
@@ -82,12 +86,19 @@ fn assert_cuts(rt: &impl Abort, all: &mut Driven, page: PageId, count: u64) {
     assert_equal(rt, all.cut(), None, "cut");
 }
 
+/// The class gets the page, and so many chunks of it are cut, and no more.
+fn assert_gets(rt: &impl Abort, all: &mut Driven, class: ClassId, page: PageId, count: u64) {
+    assert_equal(rt, all.grow(class), Some(Ok(page)), "grow");
+    assert_cuts(rt, all, page, count);
+}
+
 /// The call gives what it is to give.
 fn assert_step(rt: &impl Abort, all: &mut Driven, step: Step) {
     match step {
         Step::Grows(class, page) => assert_equal(rt, all.grow(class), Some(Ok(page)), "grow"),
         Step::IsFull(class) => assert_equal(rt, all.grow(class), Some(Err(Grow::NoRoom)), "grow"),
         Step::Cuts(page, count) => assert_cuts(rt, all, page, count),
+        Step::Gets(class, page, count) => assert_gets(rt, all, class, page, count),
         Step::Pops(class, page, index) => assert_equal(
             rt,
             all.pop(class),
@@ -99,26 +110,19 @@ fn assert_step(rt: &impl Abort, all: &mut Driven, step: Step) {
             assert_equal(rt, all.back(class, place), chunk(page, index), "back");
         }
         Step::HasFree(class, place, want) => {
-            assert_equal(
-                rt,
-                all.free_at(class, place),
-                want.and_then(named),
-                "free_at",
-            );
+            let found = all.at_place(class, ChunkList::Free, place);
+            assert_equal(rt, found, want.and_then(named), "the free list");
         }
         Step::HasOrder(class, place, want) => {
-            assert_equal(
-                rt,
-                all.order_at(class, place),
-                want.and_then(named),
-                "order_at",
-            );
+            let found = all.at_place(class, ChunkList::HandedOut, place);
+            assert_equal(rt, found, want.and_then(named), "the hand-out order");
         }
         Step::Touches(class, place, page, index) => {
             assert_equal(rt, all.touch(class, place), chunk(page, index), "touch");
         }
         Step::Replaces(class, place) => {
-            let want = all.first_free(class).zip(all.order_at(class, place));
+            let old = all.at_place(class, ChunkList::HandedOut, place);
+            let want = all.first_of(class, ChunkList::Free).zip(old);
             assert_equal(rt, all.replace(class, 0, place), want, "replace");
         }
         Step::IsOlder(class, place, than, want) => {
@@ -136,6 +140,21 @@ fn assert_steps(rt: &impl Abort, all: &mut Driven, steps: &[Step]) {
     for step in steps {
         assert_step(rt, all, *step);
     }
+}
+
+/// From the beginning on each call gives what it is to give, and so many pages are granted as the ledger has entries then.
+fn assert_worked(
+    rt: &impl Abort,
+    alloc: Global,
+    steps: &[Step],
+    ledger: &[Entry],
+) -> Result<(), Fail> {
+    let table = ClassTable::build(alloc, &FOUR_CLASSES)?;
+    let mut all = Driven::new(alloc, &table)?;
+    assert_steps(rt, &mut all, steps);
+    assert_equal(rt, all.totals(), granted(ledger.len() as u64), "totals");
+    assert_equal(rt, all.ledger(), ledger, "ledger");
+    Ok(())
 }
 
 /// One page is cut, and two of its chunks go out.
@@ -166,23 +185,12 @@ const ONE_PAGE: [Step; 22] = [
 
 #[test]
 fn one_page_is_cut_and_handed_out(rt: HostRuntime) -> Result<(), Fail> {
-    let table = ClassTable::build(rt.alloc(), &FOUR_CLASSES)?;
-    let mut all = Driven::new(rt.alloc(), &table)?;
-    assert_steps(&rt, &mut all, &ONE_PAGE);
-    assert_equal(&rt, all.totals(), granted(1), "totals");
-    assert_equal(
-        &rt,
-        all.ledger(),
-        [Entry::Granted(0, 1, false)].as_slice(),
-        "ledger",
-    );
-    Ok(())
+    assert_worked(&rt, rt.alloc(), &ONE_PAGE, &[Entry::Granted(0, 1, false)])
 }
 
 /// Chunks go out, are touched, replaced and given back, and which is older.
-const AGES: [Step; 27] = [
-    Step::Grows(2, 0),
-    Step::Cuts(0, 10),
+const AGES: [Step; 26] = [
+    Step::Gets(2, 0, 10),
     Step::Pops(2, 0, 9),
     Step::Pops(2, 0, 8),
     Step::Pops(2, 0, 7),
@@ -218,22 +226,15 @@ const AGES: [Step; 27] = [
 fn the_older_of_two_chunks_is_known_unless_one_replaced_the_other(
     rt: HostRuntime,
 ) -> Result<(), Fail> {
-    let table = ClassTable::build(rt.alloc(), &FOUR_CLASSES)?;
-    let mut all = Driven::new(rt.alloc(), &table)?;
-    assert_steps(&rt, &mut all, &AGES);
-    Ok(())
+    assert_worked(&rt, rt.alloc(), &AGES, &[Entry::Granted(0, 2, false)])
 }
 
 /// Four classes get a page each, and no fifth is left.
-const FIVE_PAGES: [Step; 15] = [
-    Step::Grows(1, 0),
-    Step::Cuts(0, 21),
-    Step::Grows(2, 1),
-    Step::Cuts(1, 10),
-    Step::Grows(3, 2),
-    Step::Cuts(2, 5),
-    Step::Grows(4, 3),
-    Step::Cuts(3, 2),
+const FIVE_PAGES: [Step; 11] = [
+    Step::Gets(1, 0, 21),
+    Step::Gets(2, 1, 10),
+    Step::Gets(3, 2, 5),
+    Step::Gets(4, 3, 2),
     Step::IsFull(2),
     Step::Counts(1, 1, 21),
     Step::Counts(2, 1, 10),
@@ -245,38 +246,26 @@ const FIVE_PAGES: [Step; 15] = [
 
 #[test]
 fn the_limit_refuses_a_fifth_page(rt: HostRuntime) -> Result<(), Fail> {
-    let table = ClassTable::build(rt.alloc(), &FOUR_CLASSES)?;
-    let mut all = Driven::new(rt.alloc(), &table)?;
-    assert_steps(&rt, &mut all, &FIVE_PAGES);
-    assert_equal(&rt, all.totals(), granted(4), "totals");
     let ledger = [
         Entry::Granted(0, 1, false),
         Entry::Granted(1, 2, false),
         Entry::Granted(2, 3, false),
         Entry::Granted(3, 4, false),
     ];
-    assert_equal(&rt, all.ledger(), ledger.as_slice(), "ledger");
-    Ok(())
+    assert_worked(&rt, rt.alloc(), &FIVE_PAGES, &ledger)
 }
 
 /// One class has all pages within the limit: each other gets its first beyond it, and no second.
-const FIRST_PAGES: [Step; 21] = [
-    Step::Grows(4, 0),
-    Step::Cuts(0, 2),
-    Step::Grows(4, 1),
-    Step::Cuts(1, 2),
-    Step::Grows(4, 2),
-    Step::Cuts(2, 2),
-    Step::Grows(4, 3),
-    Step::Cuts(3, 2),
+const FIRST_PAGES: [Step; 14] = [
+    Step::Gets(4, 0, 2),
+    Step::Gets(4, 1, 2),
+    Step::Gets(4, 2, 2),
+    Step::Gets(4, 3, 2),
     Step::IsFull(4),
-    Step::Grows(2, 4),
-    Step::Cuts(4, 10),
+    Step::Gets(2, 4, 10),
     Step::IsFull(2),
-    Step::Grows(1, 5),
-    Step::Cuts(5, 21),
-    Step::Grows(3, 6),
-    Step::Cuts(6, 5),
+    Step::Gets(1, 5, 21),
+    Step::Gets(3, 6, 5),
     Step::IsFull(1),
     Step::IsFull(3),
     Step::IsFull(4),
@@ -286,10 +275,6 @@ const FIRST_PAGES: [Step; 21] = [
 
 #[test]
 fn a_class_without_pages_gets_its_first_beyond_the_limit(rt: HostRuntime) -> Result<(), Fail> {
-    let table = ClassTable::build(rt.alloc(), &FOUR_CLASSES)?;
-    let mut all = Driven::new(rt.alloc(), &table)?;
-    assert_steps(&rt, &mut all, &FIRST_PAGES);
-    assert_equal(&rt, all.totals(), granted(7), "totals");
     let ledger = [
         Entry::Granted(0, 4, false),
         Entry::Granted(1, 4, false),
@@ -299,11 +284,30 @@ fn a_class_without_pages_gets_its_first_beyond_the_limit(rt: HostRuntime) -> Res
         Entry::Granted(5, 1, true),
         Entry::Granted(6, 3, true),
     ];
-    assert_equal(&rt, all.ledger(), ledger.as_slice(), "ledger");
-    Ok(())
+    assert_worked(&rt, rt.alloc(), &FIRST_PAGES, &ledger)
 }
 
-/// Both have the same lists.
+/// What was found is what stands at this place of the list, or nothing behind it.
+fn assert_at(rt: &impl Abort, found: Option<ChunkId>, list: &[ChunkId], place: usize, what: &str) {
+    assert_equal(rt, found, list.get(place).copied(), what);
+}
+
+/// Both have the same list.
+fn assert_same_list(
+    rt: &impl Abort,
+    all: &Driven,
+    own: &PlainClass,
+    class: ClassId,
+    list: ChunkList,
+) {
+    let chunks = own.chunks(list);
+    for at in 0..=chunks.len() {
+        let found = all.at_place(class, list, at as u64);
+        assert_at(rt, found, chunks, at, list.name());
+    }
+}
+
+/// Both have the same numbers and lists.
 fn assert_same_class(rt: &impl Abort, all: &Driven, own: &PlainClass, class: ClassId) {
     let want = Numbers {
         pages: own.pages.len() as u64,
@@ -312,56 +316,23 @@ fn assert_same_class(rt: &impl Abort, all: &Driven, own: &PlainClass, class: Cla
     };
     assert_equal(rt, all.numbers(class), Some(want), "numbers");
     assert_same(rt, all.per_page(class), Some(own.per_page), "per_page");
-    for (at, want) in own.free.iter().enumerate() {
-        assert_equal(rt, all.free_at(class, at as u64), Some(*want), "free_at");
-    }
-    assert_equal(
-        rt,
-        all.free_at(class, own.free.len() as u64),
-        None,
-        "free_at",
-    );
-    for (at, want) in own.order.iter().enumerate() {
-        assert_equal(rt, all.order_at(class, at as u64), Some(*want), "order_at");
-    }
-    assert_equal(
-        rt,
-        all.order_at(class, own.order.len() as u64),
-        None,
-        "order_at",
-    );
+    assert_same_list(rt, all, own, class, ChunkList::Free);
+    assert_same_list(rt, all, own, class, ChunkList::HandedOut);
 }
 
-/// A walk along both lists by their first and next chunks finds the same.
-fn assert_same_walks(rt: &impl Abort, all: &Driven, own: &PlainClass, class: ClassId) {
-    assert_equal(
-        rt,
-        all.first_free(class),
-        own.free.first().copied(),
-        "first_free",
-    );
-    for at in 0..own.free.len() {
-        assert_equal(
-            rt,
-            all.next_free(class, at as u64),
-            own.free.get(at.wrapping_add(1)).copied(),
-            "next_free",
-        );
-    }
-    assert_equal(
-        rt,
-        all.first_out(class),
-        own.order.first().copied(),
-        "first_out",
-    );
-    for at in 0..own.order.len() {
-        assert_equal(
-            rt,
-            all.next_out(class, at as u64),
-            own.order.get(at.wrapping_add(1)).copied(),
-            "next_out",
-        );
-        assert_older(rt, all, own, class, at);
+/// A walk along the list by its first and next chunks finds the same.
+fn assert_same_walk(
+    rt: &impl Abort,
+    all: &Driven,
+    own: &PlainClass,
+    class: ClassId,
+    list: ChunkList,
+) {
+    let chunks = own.chunks(list);
+    assert_at(rt, all.first_of(class, list), chunks, 0, list.name());
+    for at in 0..chunks.len() {
+        let next = all.behind(class, list, at as u64);
+        assert_at(rt, next, chunks, at.wrapping_add(1), list.name());
     }
 }
 
@@ -370,6 +341,15 @@ fn assert_older(rt: &impl Abort, all: &Driven, own: &PlainClass, class: ClassId,
     for than in 0..own.order.len() {
         let older = all.is_older(class, at as u64, than as u64);
         assert_same(rt, older == Some(false) || at < than, true, "is_older");
+    }
+}
+
+/// Walks along both lists find the same, and each chunk is told to be older only than those behind it.
+fn assert_same_walks(rt: &impl Abort, all: &Driven, own: &PlainClass, class: ClassId) {
+    assert_same_walk(rt, all, own, class, ChunkList::Free);
+    assert_same_walk(rt, all, own, class, ChunkList::HandedOut);
+    for at in 0..own.order.len() {
+        assert_older(rt, all, own, class, at);
     }
 }
 
@@ -416,8 +396,8 @@ fn cut_all(all: &mut Driven) {
 }
 
 /// What the mover may find.
-fn found(drawn: &mut Drawn) -> Found {
-    match drawn.next() % 16 {
+fn found(random: &mut Pcg32) -> Found {
+    match random.next_u64() % 16 {
         0 => Found::Busy,
         1 => Found::Locked,
         2..=5 => Found::Rescued,
@@ -427,76 +407,94 @@ fn found(drawn: &mut Drawn) -> Found {
     }
 }
 
+/// Slabs, plain lists that are to hold the same, and what the calls of both are drawn by.
+#[derive(Drop)]
+struct Trial<'a> {
+    all: Driven<'a>,
+    plain: Plain,
+    random: Pcg32,
+}
+
+impl Trial<'_> {
+    /// Nothing was called yet. Each seed draws other calls.
+    fn new<'a>(alloc: Global, table: &'a ClassTable, seed: u64) -> Result<Trial<'a>, Fail> {
+        let plain = Plain::new(alloc, table)?;
+        let all = Driven::new(alloc, table)?;
+        Ok(Trial {
+            all,
+            plain,
+            random: Pcg32::new(seed, 0),
+        })
+    }
+}
+
 /// One drawn call of both on the chunks of a class.
-fn assert_chunk_call(
-    rt: &impl Abort,
-    all: &mut Driven,
-    plain: &mut Plain,
-    drawn: &mut Drawn,
-) -> Result<(), Fail> {
-    let class = drawn.next() % 4 + 1;
-    let place = drawn.next() % 32;
-    let free = drawn.next() % 8;
-    match drawn.next() % 16 {
-        0..=6 => assert_equal(rt, all.pop(class), plain.pop(class)?, "pop"),
+fn assert_chunk_call(rt: &impl Abort, trial: &mut Trial) -> Result<(), Fail> {
+    let class = trial.random.next_u64() % 4 + 1;
+    let place = trial.random.next_u64() % 32;
+    let free = trial.random.next_u64() % 8;
+    match trial.random.next_u64() % 16 {
+        0..=6 => assert_equal(rt, trial.all.pop(class), trial.plain.pop(class)?, "pop"),
         7..=10 => assert_equal(
             rt,
-            all.back(class, place),
-            plain.back(class, place as usize)?,
+            trial.all.back(class, place),
+            trial.plain.back(class, place as usize)?,
             "back",
         ),
         11 | 12 => assert_equal(
             rt,
-            all.touch(class, place),
-            plain.touch(class, place as usize)?,
+            trial.all.touch(class, place),
+            trial.plain.touch(class, place as usize)?,
             "touch",
         ),
         13 | 14 => assert_equal(
             rt,
-            all.replace(class, free, place),
-            plain.replace(class, free as usize, place as usize)?,
+            trial.all.replace(class, free, place),
+            trial.plain.replace(class, free as usize, place as usize)?,
             "replace",
         ),
-        _ => assert_same(rt, all.evicted(class), plain.evicted(class), "evicted"),
+        _ => assert_same(
+            rt,
+            trial.all.evicted(class),
+            trial.plain.evicted(class),
+            "evicted",
+        ),
     }
     Ok(())
 }
 
 /// One drawn call of both on the pages of a class.
-fn assert_page_call(
-    rt: &impl Abort,
-    all: &mut Driven,
-    plain: &mut Plain,
-    drawn: &mut Drawn,
-) -> Result<(), Fail> {
-    let class = drawn.next() % 4 + 1;
-    match drawn.next() % 16 {
+fn assert_page_call(rt: &impl Abort, trial: &mut Trial) -> Result<(), Fail> {
+    let class = trial.random.next_u64() % 4 + 1;
+    match trial.random.next_u64() % 16 {
         0..=2 => {
-            let want = plain.grow(class)?.ok_or(Grow::NoRoom);
-            assert_equal(rt, all.grow(class), Some(want), "grow");
-            cut_all(all);
+            let want = trial.plain.grow(class)?.ok_or(Grow::NoRoom);
+            assert_equal(rt, trial.all.grow(class), Some(want), "grow");
+            cut_all(&mut trial.all);
         }
         3 | 4 => {
-            let src = match drawn.next() % 3 {
+            let src = match trial.random.next_u64() % 3 {
                 0 => None,
-                _ => Some(drawn.next() % 6),
+                _ => Some(trial.random.next_u64() % 6),
             };
-            let dst = drawn.next() % 6;
-            assert_equal(rt, all.begin(src, dst), plain.begin(src, dst)?, "begin");
+            let dst = trial.random.next_u64() % 6;
+            let want = trial.plain.begin(src, dst)?;
+            assert_equal(rt, trial.all.begin(src, dst), want, "begin");
         }
-        5 => assert_same(rt, all.wrap(), plain.wrap(), "wrap"),
+        5 => assert_same(rt, trial.all.wrap(), trial.plain.wrap(), "wrap"),
         6 | 7 => {
-            assert_same(rt, all.finish(), plain.finish()?, "finish");
-            cut_all(all);
+            assert_same(rt, trial.all.finish(), trial.plain.finish()?, "finish");
+            cut_all(&mut trial.all);
         }
         8 => {
-            all.trim();
-            plain.trim();
+            trial.all.trim();
+            trial.plain.trim();
         }
         _ => {
             for _ in 0..8 {
-                let wanted = found(drawn);
-                assert_equal(rt, all.pass(wanted), plain.pass(wanted), "pass");
+                let wanted = found(&mut trial.random);
+                let want = trial.plain.pass(wanted);
+                assert_equal(rt, trial.all.pass(wanted), want, "pass");
             }
         }
     }
@@ -504,38 +502,28 @@ fn assert_page_call(
 }
 
 /// Drawn calls of both on chunks and on pages, in turns.
-fn assert_calls(
-    rt: &impl Abort,
-    all: &mut Driven,
-    plain: &mut Plain,
-    drawn: &mut Drawn,
-) -> Result<(), Fail> {
+fn assert_calls(rt: &impl Abort, trial: &mut Trial) -> Result<(), Fail> {
     for _ in 0..200 {
-        assert_chunk_call(rt, all, plain, drawn)?;
-        assert_same_slabs(rt, all, plain);
-        assert_page_call(rt, all, plain, drawn)?;
-        assert_same_slabs(rt, all, plain);
+        assert_chunk_call(rt, trial)?;
+        assert_same_slabs(rt, &trial.all, &trial.plain);
+        assert_page_call(rt, trial)?;
+        assert_same_slabs(rt, &trial.all, &trial.plain);
     }
     Ok(())
 }
 
 /// Drawn calls of both, three on chunks and then one on pages.
-fn assert_rows(
-    rt: &impl Abort,
-    all: &mut Driven,
-    plain: &mut Plain,
-    drawn: &mut Drawn,
-) -> Result<(), Fail> {
+fn assert_rows(rt: &impl Abort, trial: &mut Trial) -> Result<(), Fail> {
     for call in 0..400 {
         if call % 4 == 0 {
-            assert_page_call(rt, all, plain, drawn)?;
+            assert_page_call(rt, trial)?;
         } else {
-            assert_chunk_call(rt, all, plain, drawn)?;
+            assert_chunk_call(rt, trial)?;
         }
-        for (place, own) in plain.classes.iter().enumerate() {
+        for (place, own) in trial.plain.classes.iter().enumerate() {
             let class = place as u64 + 1;
-            assert_same_class(rt, all, own, class);
-            assert_same_walks(rt, all, own, class);
+            assert_same_class(rt, &trial.all, own, class);
+            assert_same_walks(rt, &trial.all, own, class);
         }
     }
     Ok(())
@@ -550,28 +538,7 @@ enum Compared {
     Rows,
 }
 
-/// Both from the beginning on, by calls that this number leads to, and the totals that they leave.
-fn assert_both(
-    rt: &impl Abort,
-    alloc: Global,
-    table: &ClassTable,
-    plain: &mut Plain,
-    seed: u64,
-    compared: Compared,
-) -> Result<Totals, Fail> {
-    let mut drawn = Drawn(seed);
-    let mut all = Driven::new(alloc, table)?;
-    let called = match compared {
-        Compared::All => assert_calls(rt, &mut all, plain, &mut drawn),
-        Compared::Rows => assert_rows(rt, &mut all, plain, &mut drawn),
-    };
-    let totals = all.totals();
-    drop(all);
-    called?;
-    Ok(totals)
-}
-
-/// The same, in an arena of these classes whose limit is so many bytes.
+/// The totals that drawn calls leave from the beginning on, where the limit is so many bytes. This number leads to the calls.
 fn totals_behind(
     rt: &impl Abort,
     alloc: Global,
@@ -579,17 +546,20 @@ fn totals_behind(
     seed: u64,
     compared: Compared,
 ) -> Result<Totals, Fail> {
-    let table = ClassTable::build(
-        alloc,
-        &Config {
-            limit,
-            ..FOUR_CLASSES
-        },
-    )?;
-    let mut plain = Plain::new(alloc, &table)?;
-    let totals = assert_both(rt, alloc, &table, &mut plain, seed, compared);
-    drop(plain);
-    totals
+    let config = Config {
+        limit,
+        ..FOUR_CLASSES
+    };
+    let table = ClassTable::build(alloc, &config)?;
+    let mut trial = Trial::new(alloc, &table, seed)?;
+    let called = match compared {
+        Compared::All => assert_calls(rt, &mut trial),
+        Compared::Rows => assert_rows(rt, &mut trial),
+    };
+    let totals = trial.all.totals();
+    drop(trial);
+    called?;
+    Ok(totals)
 }
 
 #[test]
@@ -683,12 +653,10 @@ fn a_page_goes_through_the_pool(rt: HostRuntime) -> Result<(), Fail> {
     }
     assert_same(&rt, all.totals().pool, 2, "pool");
     // The page that came last is the first to leave.
-    assert_equal(&rt, all.grow(3), Some(Ok(1)), "grow");
-    assert_cuts(&rt, &mut all, 1, 5);
+    assert_gets(&rt, &mut all, 3, 1, 5);
     assert_grows(&rt, &mut all, 2, 0);
     // No page is left within the limit, and the class has none.
-    assert_equal(&rt, all.grow(1), Some(Ok(4)), "grow");
-    assert_cuts(&rt, &mut all, 4, 21);
+    assert_gets(&rt, &mut all, 1, 4, 21);
     assert_equal(&rt, all.grow(1), Some(Err(Grow::NoRoom)), "grow");
     assert_equal(&rt, all.pop(3), chunk(1, 4), "pop");
     assert_equal(

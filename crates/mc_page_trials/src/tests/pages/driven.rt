@@ -16,6 +16,25 @@ use std::alloc::Global;
 /// How far a walk along the lists of a class goes. No memory has as many chunks.
 const FURTHEST: u64 = 65_536;
 
+/// The two lists that a class has of its chunks.
+#[derive(Clone, Copy)]
+pub(super) enum ChunkList {
+    /// The free list, the head first.
+    Free,
+    /// The hand-out order, the oldest first.
+    HandedOut,
+}
+
+impl ChunkList {
+    /// What the list is called.
+    pub(super) fn name(self) -> &'static str {
+        match self {
+            ChunkList::Free => "the free list",
+            ChunkList::HandedOut => "the hand-out order",
+        }
+    }
+}
+
 /// The slabs, and the table that they are made by.
 #[derive(Drop)]
 pub(super) struct Driven<'a> {
@@ -37,6 +56,17 @@ impl Driven<'_> {
         class >= 1 && class <= self.table.count()
     }
 
+    /// The class, where there is such a one.
+    fn find_class(&self, class: ClassId) -> Option<ClassId>
+        ensures { IfSome result (λ found. IsClass self.now.slabs.state found) }
+    {
+        if self.is_class(class) {
+            Some(class)
+        } else {
+            None
+        }
+    }
+
     /// None where there is no such class, or a page isn't cut yet.
     #[tactic(auto, using(crate::proofs::Sized::changes))]
     pub(super) fn grow(&mut self, class: ClassId) -> Option<Result<PageId, Grow>> {
@@ -56,19 +86,14 @@ impl Driven<'_> {
 
     #[tactic(auto, using(crate::proofs::Sized::changes))]
     pub(super) fn pop(&mut self, class: ClassId) -> Option<ChunkId> {
-        if self.is_class(class) {
-            self.slabs.pop(class)
-        } else {
-            None
-        }
+        let class = self.find_class(class)?;
+        self.slabs.pop(class)
     }
 
     /// Gives back the chunk at this place of the class's hand-out order.
     #[tactic(auto, using(crate::proofs::Sized::changes, crate::proofs::Looked::handed_out_at))]
     pub(super) fn back(&mut self, class: ClassId, place: u64) -> Option<ChunkId> {
-        if !self.is_class(class) {
-            return None;
-        }
+        let class = self.find_class(class)?;
         let chunk = self.slabs.order_at(class, place)?;
         self.slabs.back(chunk);
         Some(chunk)
@@ -77,9 +102,7 @@ impl Driven<'_> {
     /// Takes the chunk at this place of the class's hand-out order to its back.
     #[tactic(auto, using(crate::proofs::Sized::changes, crate::proofs::Looked::handed_out_at))]
     pub(super) fn touch(&mut self, class: ClassId, place: u64) -> Option<ChunkId> {
-        if !self.is_class(class) {
-            return None;
-        }
+        let class = self.find_class(class)?;
         let chunk = self.slabs.order_at(class, place)?;
         self.slabs.touch(chunk);
         Some(chunk)
@@ -93,9 +116,7 @@ impl Driven<'_> {
         free: u64,
         place: u64,
     ) -> Option<(ChunkId, ChunkId)> {
-        if !self.is_class(class) {
-            return None;
-        }
+        let class = self.find_class(class)?;
         let new = self.slabs.free_at(class, free)?;
         let old = self.slabs.order_at(class, place)?;
         self.slabs.replace(new, old);
@@ -242,64 +263,44 @@ impl Driven<'_> {
         self.slabs.half_cut()
     }
 
-    pub(super) fn free_at(&self, class: ClassId, place: u64) -> Option<ChunkId> {
-        if self.is_class(class) {
-            self.slabs.free_at(class, place)
-        } else {
-            None
+    /// The chunk at this place of the class's list.
+    pub(super) fn at_place(&self, class: ClassId, list: ChunkList, place: u64) -> Option<ChunkId> {
+        let class = self.find_class(class)?;
+        match list {
+            ChunkList::Free => self.slabs.free_at(class, place),
+            ChunkList::HandedOut => self.slabs.order_at(class, place),
         }
     }
 
-    pub(super) fn order_at(&self, class: ClassId, place: u64) -> Option<ChunkId> {
-        if self.is_class(class) {
-            self.slabs.order_at(class, place)
-        } else {
-            None
+    /// The first chunk of the class's list.
+    pub(super) fn first_of(&self, class: ClassId, list: ChunkList) -> Option<ChunkId> {
+        let class = self.find_class(class)?;
+        match list {
+            ChunkList::Free => self.slabs.first_free(class),
+            ChunkList::HandedOut => self.slabs.first_out(class),
         }
     }
 
-    pub(super) fn first_free(&self, class: ClassId) -> Option<ChunkId> {
-        if self.is_class(class) {
-            self.slabs.first_free(class)
-        } else {
-            None
+    /// The chunk behind the one at this place of the class's list.
+    #[tactic(auto, using(crate::proofs::Looked::free_there_at, crate::proofs::Looked::handed_out_at))]
+    pub(super) fn behind(&self, class: ClassId, list: ChunkList, place: u64) -> Option<ChunkId> {
+        let class = self.find_class(class)?;
+        match list {
+            ChunkList::Free => {
+                let chunk = self.slabs.free_at(class, place)?;
+                self.slabs.next_free(chunk)
+            }
+            ChunkList::HandedOut => {
+                let chunk = self.slabs.order_at(class, place)?;
+                self.slabs.next_out(chunk)
+            }
         }
-    }
-
-    /// The chunk behind the one at this place of the class's free list.
-    #[tactic(auto, using(crate::proofs::Looked::free_there_at))]
-    pub(super) fn next_free(&self, class: ClassId, place: u64) -> Option<ChunkId> {
-        if !self.is_class(class) {
-            return None;
-        }
-        let chunk = self.slabs.free_at(class, place)?;
-        self.slabs.next_free(chunk)
-    }
-
-    pub(super) fn first_out(&self, class: ClassId) -> Option<ChunkId> {
-        if self.is_class(class) {
-            self.slabs.first_out(class)
-        } else {
-            None
-        }
-    }
-
-    /// The chunk behind the one at this place of the class's hand-out order.
-    #[tactic(auto, using(crate::proofs::Looked::handed_out_at))]
-    pub(super) fn next_out(&self, class: ClassId, place: u64) -> Option<ChunkId> {
-        if !self.is_class(class) {
-            return None;
-        }
-        let chunk = self.slabs.order_at(class, place)?;
-        self.slabs.next_out(chunk)
     }
 
     /// Whether the chunk at one place of the class's hand-out order is known to be older than the one at the other place.
     #[tactic(auto, using(crate::proofs::Looked::handed_out_at, crate::proofs::Looked::handed_out_beside))]
     pub(super) fn is_older(&self, class: ClassId, place: u64, than: u64) -> Option<bool> {
-        if !self.is_class(class) {
-            return None;
-        }
+        let class = self.find_class(class)?;
         let chunk = self.slabs.order_at(class, place)?;
         let other = self.slabs.order_at(class, than)?;
         Some(self.slabs.is_older(chunk, other))
@@ -330,19 +331,13 @@ impl Driven<'_> {
     }
 
     pub(super) fn numbers(&self, class: ClassId) -> Option<Numbers> {
-        if self.is_class(class) {
-            Some(self.slabs.numbers(class))
-        } else {
-            None
-        }
+        let class = self.find_class(class)?;
+        Some(self.slabs.numbers(class))
     }
 
     pub(super) fn per_page(&self, class: ClassId) -> Option<u64> {
-        if self.is_class(class) {
-            Some(self.slabs.per_page(class))
-        } else {
-            None
-        }
+        let class = self.find_class(class)?;
+        Some(self.slabs.per_page(class))
     }
 
     pub(super) fn totals(&self) -> Totals {

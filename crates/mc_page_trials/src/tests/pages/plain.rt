@@ -1,4 +1,5 @@
 //! The same by plain lists, the head of each free list first. A page is cut as soon as a class gets it.
+use super::driven::ChunkList;
 use mc_classes::{ClassId, ClassTable, PageId};
 use mc_pages::{BasePage, ChunkId, Entry, Found, Moving, Owner, Reassign, Totals};
 use std::alloc::{AllocError, Global};
@@ -34,6 +35,14 @@ pub(super) struct Plain {
 }
 
 impl PlainClass {
+    /// The chunks of the list.
+    pub(super) fn chunks(&self, list: ChunkList) -> &[ChunkId] {
+        match list {
+            ChunkList::Free => self.free.as_slice(),
+            ChunkList::HandedOut => self.order.as_slice(),
+        }
+    }
+
     /// Whether the chunk was in a list, which it leaves.
     fn leave(&mut self, chunk: ChunkId) -> bool {
         leave(&mut self.free, chunk) || leave(&mut self.order, chunk)
@@ -48,17 +57,6 @@ fn leave(chunks: &mut Vec<ChunkId>, chunk: ChunkId) -> bool {
         chunks.remove(place);
     }
     true
-}
-
-impl PlainClass {
-    /// The chunk at this place of the hand-out order leaves it.
-    fn take_out(&mut self, place: usize) -> Option<ChunkId> {
-        if place < self.order.len() {
-            Some(self.order.remove(place))
-        } else {
-            None
-        }
-    }
 }
 
 impl Plain {
@@ -189,19 +187,26 @@ impl Plain {
         Ok(Some(chunk))
     }
 
+    /// The chunk at this place of the class's hand-out order leaves it.
+    fn take_out(&mut self, class: ClassId, place: usize) -> Option<ChunkId> {
+        let own = self.class(class)?;
+        if place < own.order.len() {
+            Some(own.order.remove(place))
+        } else {
+            None
+        }
+    }
+
     pub(super) fn back(
         &mut self,
         class: ClassId,
         place: usize,
     ) -> Result<Option<ChunkId>, AllocError> {
-        let Some(own) = self.class(class) else {
-            return Ok(None);
-        };
-        let Some(chunk) = own.take_out(place) else {
-            return Ok(None);
-        };
-        own.free.insert(0, chunk)?;
-        Ok(Some(chunk))
+        let chunk = self.take_out(class, place);
+        if let (Some(chunk), Some(own)) = (chunk, self.class(class)) {
+            own.free.insert(0, chunk)?;
+        }
+        Ok(chunk)
     }
 
     pub(super) fn touch(
@@ -209,14 +214,11 @@ impl Plain {
         class: ClassId,
         place: usize,
     ) -> Result<Option<ChunkId>, AllocError> {
-        let Some(own) = self.class(class) else {
-            return Ok(None);
-        };
-        let Some(chunk) = own.take_out(place) else {
-            return Ok(None);
-        };
-        own.order.push(chunk)?;
-        Ok(Some(chunk))
+        let chunk = self.take_out(class, place);
+        if let (Some(chunk), Some(own)) = (chunk, self.class(class)) {
+            own.order.push(chunk)?;
+        }
+        Ok(chunk)
     }
 
     pub(super) fn replace(
