@@ -1,8 +1,9 @@
 //! Runs that end before a thread is started, or at the one write behind them: the rest is left as it was.
-use super::play::{StreamLimits, WHOLE, play, play_disturbed};
+use super::play::{Played, StreamLimits, WHOLE, play, play_disturbed};
 use mc_classes::Config;
 use mc_driver::{Free, RunFault};
 use mc_trial_values::FOUR_CLASSES;
+use std::process::Abort;
 use std::test::Fail;
 
 /// Two workers and a mover.
@@ -34,13 +35,20 @@ const REFUSED: [&[u8]; 14] = [
 /// The most bytes of a script.
 const MOST: usize = 1_048_576;
 
+/// The run ended by this fault, and nothing was written.
+fn assert_fault(rt: &impl Abort, played: &Played, fault: RunFault, name: &str) {
+    assert!(rt; played.is(&Err(fault), b""), "{name}");
+}
+
 #[test]
 fn refused_lines_start_no_thread(rt: HostRuntime) -> Result<(), Fail> {
     for script in REFUSED {
         let played = play(&rt, rt.alloc(), &Free, script);
-        assert!(rt;
-            played.is(&Err(RunFault::Script(1)), b""),
-            "a line that is no command"
+        assert_fault(
+            &rt,
+            &played,
+            RunFault::Script(1),
+            "a line that is no command",
         );
     }
     Ok(())
@@ -53,9 +61,11 @@ fn a_refused_configuration_reads_nothing(rt: HostRuntime) -> Result<(), Fail> {
         ..FOUR_CLASSES
     };
     let played = play_disturbed(&rt, rt.alloc(), config, &Free, SCRIPT, WHOLE);
-    assert!(rt;
-        played.is(&Err(RunFault::Config(2)), b""),
-        "the first class is too small"
+    assert_fault(
+        &rt,
+        &played,
+        RunFault::Config(2),
+        "the first class is too small",
     );
     assert!(rt; played.bytes_read == 0, "nothing was read");
     Ok(())
@@ -69,10 +79,8 @@ fn a_reader_that_fails_ends_the_run(rt: HostRuntime) -> Result<(), Fail> {
             ..WHOLE
         };
         let played = play_disturbed(&rt, rt.alloc(), FOUR_CLASSES, &Free, SCRIPT, limits);
-        assert!(rt;
-            played.is(&Err(RunFault::Read), b""),
-            "after {good_bytes} bytes"
-        );
+        let name = format!(in rt.alloc(); "after {good_bytes} bytes")?;
+        assert_fault(&rt, &played, RunFault::Read, &name);
     }
     Ok(())
 }
@@ -84,10 +92,7 @@ fn a_writer_that_fails_ends_the_run(rt: HostRuntime) -> Result<(), Fail> {
         ..WHOLE
     };
     let played = play_disturbed(&rt, rt.alloc(), FOUR_CLASSES, &Free, SCRIPT, limits);
-    assert!(rt;
-        played.is(&Err(RunFault::Write), b""),
-        "the one write failed"
-    );
+    assert_fault(&rt, &played, RunFault::Write, "the one write failed");
     Ok(())
 }
 
@@ -98,6 +103,6 @@ fn a_script_of_the_greatest_length(rt: HostRuntime) -> Result<(), Fail> {
     assert!(rt; whole.end.is_ok(), "a million blank lines");
     script.push(b'\n')?;
     let longer = play(&rt, rt.alloc(), &Free, &script);
-    assert!(rt; longer.is(&Err(RunFault::TooLong), b""), "one byte more");
+    assert_fault(&rt, &longer, RunFault::TooLong, "one byte more");
     Ok(())
 }
