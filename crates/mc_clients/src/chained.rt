@@ -1,9 +1,9 @@
 //! Calls one after another, with no test of the hand between them.
 ghost use Rattle.std.specs.Prelude.{◌≡◌, IfSome, true};
 ghost use Rattle.mc_core.specs.State.{has_chunk};
-ghost use Rattle.mc_words.specs.hand.Arenas.{IsHandOf, setup_of, view};
+ghost use Rattle.mc_words.specs.hand.Arenas.{setup_of};
 ghost use Rattle.mc_words.specs.hand.Observers.{hint_chunk, number_of};
-ghost use Rattle.mc_words.specs.hand.Ready.{IsReady};
+ghost use Rattle.mc_clients.specs.Hands.{IsReadyHandOf};
 
 use mc_items::{again, delete, get, hint, read, release, set, touch, try_get};
 use mc_mover::{forget, reassign, set_mode, survey, trim, try_turn, turn};
@@ -13,10 +13,8 @@ use std::sync::Wait;
 
 /// Makes two calls of each kind, one after the other: the hand is ready for each.
 pub fn call_twice<R: Wait>(rt: &R, alloc: Global, arena: &Arena, hand: &mut Hand, key: u64)
-    requires arena { IsHandOf arena.now hand.old }
-    requires ready { IsReady (view hand.old) }
-    ensures arena { IsHandOf arena.now hand.new }
-    ensures ready { IsReady (view hand.new) }
+    requires { IsReadyHandOf arena.now hand.old }
+    ensures ready { IsReadyHandOf arena.now hand.new }
     ensures number { number_of hand.new ≡ number_of hand.old }
 {
     let _ = set(rt, arena, hand, key, &[1, 2, 3]);
@@ -42,10 +40,8 @@ fn get_and_hint<R: Wait>(
     hand: &mut Hand,
     key: u64,
 ) -> Option<Hint>
-    requires arena { IsHandOf arena.now hand.old }
-    requires ready { IsReady (view hand.old) }
-    ensures arena { IsHandOf arena.now hand.new }
-    ensures ready { IsReady (view hand.new) }
+    requires { IsReadyHandOf arena.now hand.old }
+    ensures ready { IsReadyHandOf arena.now hand.new }
     ensures number { number_of hand.new ≡ number_of hand.old }
     ensures near { IfSome result (λ hint. has_chunk (setup_of arena.now).table (hint_chunk hint) ≡ true) }
 {
@@ -61,11 +57,9 @@ fn get_and_hint<R: Wait>(
 
 // Gets the item of a hint, if there is one and it is there still, and releases it.
 fn get_by_hint(arena: &Arena, hand: &mut Hand, hint: Option<Hint>)
-    requires arena { IsHandOf arena.now hand.old }
-    requires ready { IsReady (view hand.old) }
+    requires ready { IsReadyHandOf arena.now hand.old }
     requires near { IfSome hint (λ hint. has_chunk (setup_of arena.now).table (hint_chunk hint) ≡ true) }
-    ensures arena { IsHandOf arena.now hand.new }
-    ensures ready { IsReady (view hand.new) }
+    ensures ready { IsReadyHandOf arena.now hand.new }
     ensures number { number_of hand.new ≡ number_of hand.old }
 {
     if let Some(hint) = hint {
@@ -77,10 +71,8 @@ fn get_by_hint(arena: &Arena, hand: &mut Hand, hint: Option<Hint>)
 
 // Gets the key's item without waiting, and releases it.
 fn try_and_release(arena: &Arena, hand: &mut Hand, key: u64)
-    requires arena { IsHandOf arena.now hand.old }
-    requires ready { IsReady (view hand.old) }
-    ensures arena { IsHandOf arena.now hand.new }
-    ensures ready { IsReady (view hand.new) }
+    requires { IsReadyHandOf arena.now hand.old }
+    ensures ready { IsReadyHandOf arena.now hand.new }
     ensures number { number_of hand.new ≡ number_of hand.old }
 {
     if let Ok(Some(item)) = try_get(arena, hand, key) {
@@ -90,10 +82,8 @@ fn try_and_release(arena: &Arena, hand: &mut Hand, key: u64)
 
 // Makes two calls of each kind that the mover has.
 fn move_twice<R: Wait>(rt: &R, alloc: Global, arena: &Arena, hand: &mut Hand)
-    requires arena { IsHandOf arena.now hand.old }
-    requires ready { IsReady (view hand.old) }
-    ensures arena { IsHandOf arena.now hand.new }
-    ensures ready { IsReady (view hand.new) }
+    requires { IsReadyHandOf arena.now hand.old }
+    ensures ready { IsReadyHandOf arena.now hand.new }
     ensures number { number_of hand.new ≡ number_of hand.old }
 {
     set_mode(rt, arena, hand, 1);

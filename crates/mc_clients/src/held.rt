@@ -1,13 +1,13 @@
 //! A reference that is held over other calls.
 ghost use Rattle.std.specs.Prelude.{◌≡◌, IfOk};
-ghost use Rattle.mc_words.specs.hand.Arenas.{IsHandOf, view};
-ghost use Rattle.mc_words.specs.hand.Ready.{IsReady};
+ghost use Rattle.mc_words.specs.hand.Arenas.{view};
 ghost use Rattle.mc_words.specs.item.Refs.{KeepsRefs};
-ghost use Rattle.mc_items.specs.ItemRefs.{IsItemRef, item_words};
+ghost use Rattle.mc_items.specs.ItemRefs.{item_words};
+ghost use Rattle.mc_clients.specs.Hands.{IsReadyHandOf, RefersTo};
 
 use mc_items::{Ref, delete, get, read, release, set, touch};
 use mc_memory::Refused;
-use mc_mover::turn;
+use mc_mover::{forget, trim, turn};
 use mc_words::{Arena, Hand};
 use std::alloc::Global;
 use std::sync::Wait;
@@ -23,12 +23,8 @@ pub fn read_after_all<R: Wait>(
     key: u64,
     words: &[u64],
 ) -> Result<Vec<u64>, Refused>
-    requires arena { IsHandOf arena.now hand.old }
-    requires ready { IsReady (view hand.old) }
-    requires item { IsItemRef (view hand.old) item.now }
-    ensures arena { IsHandOf arena.now hand.new }
-    ensures ready { IsReady (view hand.new) }
-    ensures item { IsItemRef (view hand.new) item.now }
+    requires { RefersTo arena.now item.now hand.old }
+    ensures refers { RefersTo arena.now item.now hand.new }
     ensures words { IfOk result (λ read. read.items ≡ item_words (view hand.old) item.now) }
 {
     let _ = set(rt, arena, hand, key, words);
@@ -39,12 +35,28 @@ pub fn read_after_all<R: Wait>(
     read(alloc, arena, hand, item)
 }
 
+/// Trims each stripe, and then has it forget its calls, while an item is held; and then reads that item: its words are those that it had
+/// before.
+pub fn read_after_trims<R: Wait>(
+    rt: &R,
+    alloc: Global,
+    arena: &Arena,
+    hand: &mut Hand,
+    item: &Ref,
+) -> Result<Vec<u64>, Refused>
+    requires { RefersTo arena.now item.now hand.old }
+    ensures refers { RefersTo arena.now item.now hand.new }
+    ensures words { IfOk result (λ read. read.items ≡ item_words (view hand.old) item.now) }
+{
+    let _ = trim(rt, arena, hand);
+    forget(rt, arena, hand);
+    read(alloc, arena, hand, item)
+}
+
 // Gets the key's item, if it has one, and releases it.
 fn get_and_release<R: Wait>(rt: &R, arena: &Arena, hand: &mut Hand, key: u64)
-    requires arena { IsHandOf arena.now hand.old }
-    requires ready { IsReady (view hand.old) }
-    ensures arena { IsHandOf arena.now hand.new }
-    ensures ready { IsReady (view hand.new) }
+    requires { IsReadyHandOf arena.now hand.old }
+    ensures ready { IsReadyHandOf arena.now hand.new }
     ensures keeps { KeepsRefs (view hand.old) (view hand.new) }
 {
     if let Ok(Some(other)) = get(rt, arena, hand, key) {

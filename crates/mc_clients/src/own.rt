@@ -1,7 +1,6 @@
 //! What a hand set it reads.
 ghost use Rattle.std.specs.Prelude.{◌≡◌, IfOk, IfSome};
-ghost use Rattle.mc_words.specs.hand.Arenas.{IsHandOf, view};
-ghost use Rattle.mc_words.specs.hand.Ready.{IsReady};
+ghost use Rattle.mc_clients.specs.Hands.{IsReadyHandOf};
 
 use mc_items::{GetError, SetError, get, read, release, set};
 use mc_words::{Arena, Hand};
@@ -29,10 +28,8 @@ pub fn set_and_read<R: Wait>(
     key: u64,
     words: &[u64],
 ) -> Result<Option<Vec<u64>>, RefusedCall>
-    requires arena { IsHandOf arena.now hand.old }
-    requires ready { IsReady (view hand.old) }
-    ensures arena { IsHandOf arena.now hand.new }
-    ensures ready { IsReady (view hand.new) }
+    requires { IsReadyHandOf arena.now hand.old }
+    ensures ready { IsReadyHandOf arena.now hand.new }
     ensures words { IfOk result (λ found. IfSome found (λ read. read.items ≡ words.now)) }
 {
     let stamp = match set(rt, arena, hand, key, words) {

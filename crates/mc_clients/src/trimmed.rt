@@ -1,41 +1,17 @@
-//! What stands behind a trim: a reference that is held, what two hands said, and what is recorded of the ledger.
-ghost use Rattle.std.specs.Prelude.{◌≡◌, [], Contains, IfOk, length, slice_get};
+//! What stands behind a trim: what two hands said, and what is recorded of the ledger.
+ghost use Rattle.std.specs.Prelude.{◌≡◌, [], Contains, length, slice_get};
 ghost use Rattle.mc_pages.specs.Base.{base_of};
 ghost use Rattle.mc_core.specs.Past.{Saying};
 ghost use Rattle.mc_words.specs.hand.Arenas.{IsHandOf, view};
 ghost use Rattle.mc_words.specs.hand.Ready.{IsReady};
 ghost use Rattle.mc_words.specs.rule.Joins.{Agrees};
-ghost use Rattle.mc_items.specs.ItemRefs.{IsItemRef, item_words};
+ghost use Rattle.mc_clients.specs.Hands.{IsReadyHandOf};
 
-use mc_items::{Ref, read, set};
-use mc_memory::Refused;
-use mc_mover::{forget, trim};
+use mc_items::set;
+use mc_mover::trim;
 use mc_pages::BasePage;
 use mc_words::{Arena, Hand};
-use std::alloc::Global;
 use std::sync::Wait;
-
-/// Trims each stripe, and then has it forget its calls, while an item is held; and then reads that item: its words are those that it had
-/// before.
-pub fn read_after_trims<R: Wait>(
-    rt: &R,
-    alloc: Global,
-    arena: &Arena,
-    hand: &mut Hand,
-    item: &Ref,
-) -> Result<Vec<u64>, Refused>
-    requires arena { IsHandOf arena.now hand.old }
-    requires ready { IsReady (view hand.old) }
-    requires item { IsItemRef (view hand.old) item.now }
-    ensures arena { IsHandOf arena.now hand.new }
-    ensures ready { IsReady (view hand.new) }
-    ensures item { IsItemRef (view hand.new) item.now }
-    ensures words { IfOk result (λ read. read.items ≡ item_words (view hand.old) item.now) }
-{
-    let _ = trim(rt, arena, hand);
-    forget(rt, arena, hand);
-    read(alloc, arena, hand, item)
-}
 
 /// One hand stores an item, the calls so far are trimmed, and another hand stores one. Then both become one hand: what either had said it
 /// has said, and with one stamp nothing but the same words.
@@ -66,8 +42,7 @@ pub fn join_behind_a_trim<R: Wait>(
 
 /// Trims the ledger under one hold of the lock of the slabs, and tells how many of its entries are recorded then: none.
 pub fn entries_behind_a_trim<R: Wait>(rt: &R, arena: &Arena, hand: &mut Hand) -> usize
-    requires arena { IsHandOf arena.now hand.old }
-    requires ready { IsReady (view hand.old) }
+    requires { IsReadyHandOf arena.now hand.old }
     ensures arena { IsHandOf arena.now hand.new }
     ensures none { result ≡ 0 }
 {
@@ -85,8 +60,7 @@ pub fn page_behind_a_trim<R: Wait>(
     hand: &mut Hand,
     page: usize,
 ) -> Option<BasePage>
-    requires arena { IsHandOf arena.now hand.old }
-    requires ready { IsReady (view hand.old) }
+    requires { IsReadyHandOf arena.now hand.old }
     ensures arena { IsHandOf arena.now hand.new }
     ensures trimmed { (view hand.new).row.knows.hold.left.trimmed ≡ length (view hand.new).row.knows.hold.left.ledger }
     ensures base { result ≡ slice_get (base_of (view hand.new).row.knows.hold.left) page }

@@ -1,0 +1,16 @@
+-- Hands of an arena between two calls.
+use Rattle.mc_words.specs.declared.arena.Arena.{Arena}
+use Rattle.mc_words.specs.declared.hand.Hand.{Hand}
+use Rattle.mc_words.specs.hand.Arenas.{IsHandOf, view}
+use Rattle.mc_words.specs.hand.Ready.{IsReady}
+use Rattle.mc_items.specs.declared.refs.Ref.{Ref}
+use Rattle.mc_items.specs.ItemRefs.{IsItemRef}
+
+-- the hand is one of the arena's, and may make any call
+abbrev pub IsReadyHandOf : Arena → Hand → Type 0
+IsReadyHandOf arena hand = IsHandOf arena hand × IsReady (view hand)
+
+-- and it refers to the item
+pub record RefersTo (arena : Arena) (item : Ref) (hand : Hand) : Type 0 where
+  pub ready : IsReadyHandOf arena hand
+  pub refers : IsItemRef (view hand) item
