@@ -1,14 +1,12 @@
 //! Calls on the arena whose conditions are tested when they are made.
-ghost use Rattle.std.specs.Prelude.{◌≡◌, Some, IfSome, IfOk};
+ghost use Rattle.std.specs.Prelude.{◌≡◌, Some, IfSome, true};
 ghost use Rattle.mc_core.specs.State.{has_chunk, is_class};
 ghost use Rattle.mc_words.specs.hand.Arenas.{IsHandOf, setup_of, view};
-ghost use Rattle.mc_arena_trials.specs.Hands.{AreHandsOf};
+ghost use Rattle.mc_words.specs.item.Fresh.{IsFreshOf};
 
 use mc_classes::{ClassId, PageId};
 use mc_pages::{ChunkId, Grow, Numbers, Owner};
-use mc_trial_values::FOUR_CLASSES;
-use mc_words::{Arena, Final, Hand, NewError, SlabsHeld};
-use std::alloc::Global;
+use mc_words::{Arena, Final, Fresh, Hand, SlabsHeld};
 
 /// Whether the arena has such a chunk.
 pub fn has_chunk(arena: &Arena, chunk: ChunkId) -> bool
@@ -76,6 +74,24 @@ fn cut_all(arena: &Arena, hand: &mut Hand, held: &mut SlabsHeld)
     }
 }
 
+/// The next chunk of the class, which goes out. None where that can't be.
+fn pop_next(arena: &Arena, hand: &mut Hand, held: &mut SlabsHeld, class: ClassId) -> Option<Fresh>
+    requires arena { IsHandOf arena.now hand.old }
+    requires held { (view hand.old).slabs ≡ Some held.old.shared }
+    ensures arena { IsHandOf arena.now hand.new }
+    ensures held { (view hand.new).slabs ≡ Some held.new.shared }
+    ensures class { IfSome result (λ fresh. is_class (setup_of arena.now).table class ≡ true) }
+    ensures fresh { IfSome result (λ fresh. IsFreshOf (view hand.new) fresh.chunk fresh.room) }
+{
+    if !is_class(arena, class) || hand.refs() > 255 {
+        return None;
+    }
+    match arena.pop(hand, held, class) {
+        Ok(fresh) => fresh,
+        Err(_) => None,
+    }
+}
+
 /// The headers of a chunk that goes out and comes back.
 #[derive(Clone, Copy)]
 pub struct Round {
@@ -97,12 +113,7 @@ pub fn go_round(
     ensures arena { IsHandOf arena.now hand.new }
     ensures held { (view hand.new).slabs ≡ Some held.new.shared }
 {
-    if !is_class(arena, class) || hand.refs() > 255 {
-        return None;
-    }
-    let Ok(Some(fresh)) = arena.pop(hand, held, class) else {
-        return None;
-    };
+    let fresh = pop_next(arena, hand, held, class)?;
     let chunk = fresh.chunk();
     let popped = header(arena, hand, chunk);
     arena.discard(hand, fresh);
@@ -178,12 +189,7 @@ pub fn sweep_around(
     ensures arena { IsHandOf arena.now hand.new }
     ensures held { (view hand.new).slabs ≡ Some held.new.shared }
 {
-    if !is_class(arena, class) || hand.refs() > 255 {
-        return None;
-    }
-    let Ok(Some(fresh)) = arena.pop(hand, held, class) else {
-        return None;
-    };
+    let fresh = pop_next(arena, hand, held, class)?;
     arena.sweep(hand, held, class);
     arena.evicted(hand, held, class);
     let around = numbers(arena, hand, held, class);
@@ -204,38 +210,6 @@ pub fn give(arena: &Arena, hand: &mut Hand, held: SlabsHeld) -> bool
     }
     arena.give_slabs(hand, held);
     true
-}
-
-/// An arena of four classes, and its hands.
-#[tactic(auto, using(crate::proofs::Kept::all_hands))]
-pub fn opened(alloc: Global, hands: u64) -> Result<(Arena, Vec<Hand>), NewError>
-    ensures hands { IfOk result (λ made. AreHandsOf made.0 made.1.items) }
-{
-    Arena::new(alloc, &FOUR_CLASSES, hands)
-}
-
-/// The hand of the lowest number that is left.
-pub fn next_hand(arena: &Arena, hands: &mut Vec<Hand>) -> Option<Hand>
-    requires hands { AreHandsOf arena.now hands.old.items }
-    ensures hands { AreHandsOf arena.now hands.new.items }
-    ensures hand { IfSome result (λ hand. IsHandOf arena.now hand) }
-{
-    if hands.is_empty() {
-        None
-    } else {
-        Some(hands.remove(0))
-    }
-}
-
-/// The two hands of the lowest numbers that are left.
-pub fn next_two(arena: &Arena, hands: &mut Vec<Hand>) -> Option<(Hand, Hand)>
-    requires hands { AreHandsOf arena.now hands.old.items }
-    ensures hands { AreHandsOf arena.now hands.new.items }
-    ensures two { IfSome result (λ two. IsHandOf arena.now two.0 × IsHandOf arena.now two.1) }
-{
-    let first = next_hand(arena, hands)?;
-    let second = next_hand(arena, hands)?;
-    Some((first, second))
 }
 
 /// The header of a chunk of a closed arena. None where there is no such chunk.

@@ -2,9 +2,9 @@
 ghost use Rattle.std.specs.Prelude.{◌≡◌, ◌<◌, ◌%◌, true, None, Some, slice_index_or, IfSome};
 ghost use Rattle.mc_words.specs.hand.Arenas.{IsHandOf, setup_of, view};
 
-use super::calls::{next_hand, opened};
 use super::{assert_equal, assert_same};
 use mc_stripe::{Call, Key};
+use mc_trial_values::FOUR_CLASSES;
 use mc_words::{Arena, Final, Hand, StripeHeld};
 use std::test::Fail;
 
@@ -74,10 +74,8 @@ fn call(left: &Final, stripe: u64, place: usize) -> Option<Call> {
 
 #[test]
 fn keys_that_lead_nowhere(rt: HostRuntime) -> Result<(), Fail> {
-    let (arena, mut hands) = opened(rt.alloc(), 1)?;
-    let Some(mut hand) = next_hand(&arena, &mut hands) else {
-        return Err(Fail::new("there is a hand"));
-    };
+    let (arena, mut hands) = Arena::new(rt.alloc(), &FOUR_CLASSES, 1)?;
+    let mut hand = hands.remove(0);
     assert_same(&rt, look_up(&arena, &mut hand, 6), Some(false), "refer");
     assert_same(&rt, delete(&arena, &mut hand, 6), Some(false), "unlink");
     assert_same(&rt, hand.refs(), 0, "its references");

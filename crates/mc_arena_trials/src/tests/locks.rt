@@ -1,13 +1,10 @@
 //! Locks: one hand has each, and the others are told so; what is lost with a hand stays held.
-ghost use Rattle.std.specs.Prelude.{IfSome};
 ghost use Rattle.mc_words.specs.hand.Arenas.{IsHandOf};
-ghost use Rattle.mc_arena_trials.specs.Hands.{AreHandsOf};
 
-use super::calls::{
-    give, has_lent_stripe, head, is_stripe_left, lose_stripe, next_hand, next_two, opened, owner,
-};
+use super::calls::{give, has_lent_stripe, head, is_stripe_left, lose_stripe, owner};
 use super::{assert_equal, assert_same};
 use mc_pages::{ChunkId, Owner};
+use mc_trial_values::FOUR_CLASSES;
 use mc_words::{Arena, Final, Hand};
 use std::process::Abort;
 use std::test::Fail;
@@ -16,45 +13,47 @@ use std::test::Fail;
 const FIRST: ChunkId = ChunkId { page: 0, index: 0 };
 
 /// One hand takes the slabs and gives them, and another tries meanwhile and behind it.
-fn lend_slabs(rt: &impl Abort, arena: &Arena, hands: &mut Vec<Hand>) -> Result<(), Fail>
-    requires hands { AreHandsOf arena.now hands.old.items }
+fn lend_slabs(
+    rt: &impl Abort,
+    arena: &Arena,
+    first: &mut Hand,
+    second: &mut Hand,
+) -> Result<(), Fail>
+    requires first { IsHandOf arena.now first.old }
+    requires second { IsHandOf arena.now second.old }
 {
-    let Some((mut first, mut second)) = next_two(arena, hands) else {
-        return Err(Fail::new("there are two hands"));
-    };
-    let Ok(held) = arena.try_slabs(&mut first) else {
+    let Ok(held) = arena.try_slabs(first) else {
         return Err(Fail::new("the lock is free"));
     };
     assert_same(rt, first.unlocked(), false, "the first hand");
-    let refused = arena.try_slabs(&mut second).is_err();
+    let refused = arena.try_slabs(second).is_err();
     assert_same(rt, refused, true, "while it is held");
     assert_same(rt, second.unlocked(), true, "the second hand");
-    let given = give(arena, &mut first, held);
+    let given = give(arena, first, held);
     assert_same(rt, given, true, "give_slabs");
-    let taken = arena.try_slabs(&mut second).is_ok();
+    let taken = arena.try_slabs(second).is_ok();
     assert_same(rt, taken, true, "once it was given");
     Ok(())
 }
 
 #[test]
 fn one_hand_has_the_slabs(rt: HostRuntime) -> Result<(), Fail> {
-    let (arena, mut hands) = opened(rt.alloc(), 2)?;
-    let lent = lend_slabs(&rt, &arena, &mut hands);
-    drop(hands);
-    drop(arena);
-    lent
+    let (arena, mut hands) = Arena::new(rt.alloc(), &FOUR_CLASSES, 2)?;
+    let (mut first, mut second) = (hands.remove(0), hands.remove(0));
+    lend_slabs(&rt, &arena, &mut first, &mut second)
 }
 
-/// Mode 2 is set by the one hand, which is given back.
-fn set_mode_two(rt: &impl Abort, arena: &Arena, hands: &mut Vec<Hand>) -> Option<Hand>
-    requires hands { AreHandsOf arena.now hands.old.items }
-    ensures hand { IfSome result (λ hand. IsHandOf arena.now hand) }
+/// Mode 2 is set by the hand. False where another one has the lock.
+fn set_mode_two(rt: &impl Abort, arena: &Arena, hand: &mut Hand) -> bool
+    requires hand { IsHandOf arena.now hand.old }
+    ensures hand { IsHandOf arena.now hand.new }
 {
-    let mut hand = next_hand(arena, hands)?;
-    let mut held = arena.try_slabs(&mut hand).ok()?;
-    arena.set_automove(&mut hand, &mut held, 2);
-    assert_same(rt, give(arena, &mut hand, held), true, "give_slabs");
-    Some(hand)
+    let Ok(mut held) = arena.try_slabs(hand) else {
+        return false;
+    };
+    arena.set_automove(hand, &mut held, 2);
+    assert_same(rt, give(arena, hand, held), true, "give_slabs");
+    true
 }
 
 /// The mode and the first page of the closed arena.
@@ -71,42 +70,41 @@ fn assert_mode_two(rt: &impl Abort, left: &Final) -> Result<(), Fail> {
 
 #[test]
 fn a_mode_is_left(rt: HostRuntime) -> Result<(), Fail> {
-    let (arena, mut hands) = opened(rt.alloc(), 1)?;
-    let Some(hand) = set_mode_two(&rt, &arena, &mut hands) else {
-        return Err(Fail::new("there is a hand, and the lock is free"));
-    };
+    let (arena, mut hands) = Arena::new(rt.alloc(), &FOUR_CLASSES, 1)?;
+    let mut hand = hands.remove(0);
+    let is_set = set_mode_two(&rt, &arena, &mut hand);
+    assert_same(&rt, is_set, true, "the lock is free");
     let left = arena.close(hand);
     let told = assert_mode_two(&rt, &left);
     drop(left);
     told
 }
 
-/// One hand is lost with the slabs; the other finds them out, has each stripe, and loses the last. It is given back.
-fn lose_both(rt: &impl Abort, arena: &Arena, hands: &mut Vec<Hand>) -> Option<Hand>
-    requires hands { AreHandsOf arena.now hands.old.items }
-    ensures hand { IfSome result (λ hand. IsHandOf arena.now hand) }
+/// One hand is lost with the slabs; the other finds them out, has each stripe, and loses the last.
+fn lose_both(rt: &impl Abort, arena: &Arena, first: Hand, second: &mut Hand)
+    requires first { IsHandOf arena.now first }
+    requires second { IsHandOf arena.now second.old }
+    ensures second { IsHandOf arena.now second.new }
 {
-    let (mut first, mut second) = next_two(arena, hands)?;
+    let mut first = first;
     assert_same(rt, arena.try_slabs(&mut first).is_ok(), true, "the lock");
     drop(first);
-    let refused = arena.try_slabs(&mut second).is_err();
+    let refused = arena.try_slabs(second).is_err();
     assert_same(rt, refused, true, "the slabs");
     for stripe in 0..4 {
-        let lent = has_lent_stripe(arena, &mut second, stripe);
+        let lent = has_lent_stripe(arena, second, stripe);
         assert_same(rt, lent, true, "a stripe");
     }
-    let lost = lose_stripe(arena, &mut second, 3);
+    let lost = lose_stripe(arena, second, 3);
     assert_same(rt, lost, true, "the last stripe");
-    Some(second)
 }
 
 #[test]
 fn a_lost_value_stays_out(rt: HostRuntime) -> Result<(), Fail> {
-    let (arena, mut hands) = opened(rt.alloc(), 2)?;
-    let Some(hand) = lose_both(&rt, &arena, &mut hands) else {
-        return Err(Fail::new("there are two hands"));
-    };
-    let left = arena.close(hand);
+    let (arena, mut hands) = Arena::new(rt.alloc(), &FOUR_CLASSES, 2)?;
+    let (first, mut second) = (hands.remove(0), hands.remove(0));
+    lose_both(&rt, &arena, first, &mut second);
+    let left = arena.close(second);
     assert_same(&rt, left.slabs().is_none(), true, "pages and lists");
     assert_equal(&rt, owner(&left, 0), None, "the first page");
     for (stripe, is_there) in [(0, true), (1, true), (2, true), (3, false)] {

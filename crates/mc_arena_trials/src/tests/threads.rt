@@ -6,14 +6,13 @@ ghost use Rattle.mc_words.specs.hand.Arenas.{IsHandOf, setup_of, view};
 ghost use Rattle.mc_words.specs.item.Fresh.{IsFreshOf};
 ghost use Rattle.mc_core.specs.State.{is_class};
 
-use super::calls::{
-    give, grow_page, has_chunk, head, is_class, listed_free, next_hand, next_two, opened,
-};
+use super::calls::{give, grow_page, has_chunk, head, is_class, listed_free};
 use super::{assert_equal, assert_same};
 use mc_classes::ClassId;
 use mc_pages::ChunkId;
-use mc_words::{Arena, Final, Fresh, Hand};
-use std::alloc::AllocError;
+use mc_trial_values::FOUR_CLASSES;
+use mc_words::{Arena, Final, Fresh, Hand, NewError};
+use std::alloc::{AllocError, Global};
 use std::process::Abort;
 use std::sync::Wait;
 use std::test::Fail;
@@ -21,6 +20,17 @@ use std::thread::{Threads, map_vec};
 
 /// How often each thread goes round.
 const ROUNDS: u64 = 1000;
+
+/// The class whose chunks they are.
+const CLASS: ClassId = 1;
+
+/// An arena of four classes, and its five hands.
+#[tactic(auto, using(crate::proofs::Kept::all_hands))]
+fn opened(alloc: Global) -> Result<(Arena, Vec<Hand>), NewError>
+    ensures hands { IfOk result (λ made. AreHandsOf made.0 made.1.items) }
+{
+    Arena::new(alloc, &FOUR_CLASSES, 5)
+}
 
 /// Writes this word in each place of the chunk.
 fn fill_all(arena: &Arena, hand: &mut Hand, fresh: &mut Fresh, word: u64)
@@ -35,24 +45,18 @@ fn fill_all(arena: &Arena, hand: &mut Hand, fresh: &mut Fresh, word: u64)
 }
 
 /// The next chunk of the class goes out and is filled, with no lock, and given up. None where that can't be.
-fn take_out<R: Wait>(
-    rt: &R,
-    arena: &Arena,
-    hand: &mut Hand,
-    class: ClassId,
-    word: u64,
-) -> Option<ChunkId>
+fn take_out<R: Wait>(rt: &R, arena: &Arena, hand: &mut Hand, word: u64) -> Option<ChunkId>
     requires arena { IsHandOf arena.now hand.old }
     ensures arena { IsHandOf arena.now hand.new }
 {
-    if !is_class(arena, class) || !hand.idle() {
+    if !is_class(arena, CLASS) || !hand.idle() {
         return None;
     }
     let mut held = arena.lock_slabs(rt, hand);
     if hand.refs() > 255 {
         return None;
     }
-    let popped = arena.pop(hand, &mut held, class);
+    let popped = arena.pop(hand, &mut held, CLASS);
     arena.give_slabs(hand, held);
     let Ok(Some(mut fresh)) = popped else {
         return None;
@@ -91,7 +95,7 @@ fn work<R: Wait>(rt: &R, arena: &Arena, hand: Hand) -> Worked
     let mut hand = hand;
     let mut rounds = 0;
     for round in 0..ROUNDS {
-        let Some(chunk) = take_out(rt, arena, &mut hand, 1, round) else {
+        let Some(chunk) = take_out(rt, arena, &mut hand, round) else {
             continue;
         };
         if bring_back(rt, arena, &mut hand, chunk) {
@@ -178,9 +182,12 @@ fn grow_and_work<R: Abort + Threads + Wait + Sync>(
     ensures hand { IfSome result (λ worked. IsHandOf arena.now worked.hand) }
 {
     let mut hands = hands;
-    let mut owner = next_hand(arena, &mut hands)?;
+    if hands.is_empty() {
+        return None;
+    }
+    let mut owner = hands.remove(0);
     let mut held = arena.try_slabs(&mut owner).ok()?;
-    let grown = grow_page(arena, &mut owner, &mut held, 1);
+    let grown = grow_page(arena, &mut owner, &mut held, CLASS);
     assert_equal(rt, grown, Some(Ok(0)), "grow");
     assert_same(rt, give(arena, &mut owner, held), true, "give_slabs");
     match work_beside(rt, arena, hands) {
@@ -191,7 +198,7 @@ fn grow_and_work<R: Abort + Threads + Wait + Sync>(
 
 #[test]
 fn four_threads_share_a_class(rt: HostRuntime) -> Result<(), Fail> {
-    let (arena, hands) = opened(rt.alloc(), 5)?;
+    let (arena, hands) = opened(rt.alloc())?;
     let Some(worked) = grow_and_work(&rt, &arena, hands) else {
         return Err(Fail::new("five hands are idle"));
     };
