@@ -1,9 +1,7 @@
 //! Sets that evict: the room for the eviction's call may be refused, and then the room for their own, once the item is gone.
 use super::calls::{Answer, Call, finished};
-use super::opening::opened;
-use super::rows::{TWO_CLASSES, stores, surveys, touches};
-use super::steps::{Step, play_each};
-use mc_trial_values::FOUR_CLASSES;
+use super::rows::{TWO_CLASSES, run_each, stores, surveys, touches};
+use super::steps::Step;
 use std::alloc::Global;
 use std::process::Abort;
 use std::sync::Wait;
@@ -19,17 +17,7 @@ fn evict<R: Abort + Wait + Print>(
     before: &[Step],
     behind: &[Step],
 ) -> Result<(), Fail> {
-    let mut all = opened(rt, alloc, &FOUR_CLASSES)?;
-    play_each(
-        rt,
-        alloc,
-        &all.arena,
-        &mut all.hand,
-        &mut all.looker,
-        &[before, &TWO_CLASSES, behind],
-    );
-    drop(all);
-    Ok(())
+    run_each(rt, alloc, &[before, &TWO_CLASSES, behind])
 }
 
 #[test]

@@ -3,63 +3,37 @@ ghost use Rattle.std.specs.Prelude.{IfSome};
 ghost use Rattle.mc_words.specs.hand.Arenas.{view};
 ghost use Rattle.mc_items.specs.ItemRefs.{IsItemRef};
 ghost use Rattle.mc_calls.specs.Hands.{IsReadyHandOf};
+ghost use Rattle.mc_refusal_trials.specs.Threes.{AreReadyOf};
 
 use super::looking::{Looker, look_after, look_before};
 use super::marks::{tell_call, tell_done, tell_refused};
+use super::opening::Three;
 use mc_items::{Ref, get, read};
 use mc_stripe::Key;
 use mc_words::{Arena, Hand};
-use std::alloc::Global;
 use std::sync::Wait;
 
-/// A reference to the key's item. None where it has none, or where a refusal left anything behind.
-pub fn hold<R: Wait + Print>(
-    rt: &R,
-    arena: &Arena,
-    reader: &mut Hand,
-    looker: &mut Looker,
-    key: Key,
-) -> Option<Ref>
-    requires arena { IsReadyHandOf arena.now reader.old }
-    requires looker { IsReadyHandOf arena.now looker.old.hand }
-    ensures arena { IsReadyHandOf arena.now reader.new }
-    ensures looker { IsReadyHandOf arena.now looker.new.hand }
-    ensures item { IfSome result (λ item. IsItemRef (view reader.new) item) }
+/// A reference of the reader's to the key's item. None where it has none, or where a refusal left anything behind.
+pub fn hold<R: Wait + Print>(rt: &R, all: &mut Three, key: Key) -> Option<Ref>
+    requires ready { AreReadyOf all.old.arena all.old.hand all.old.reader all.old.looker.hand }
+    ensures ready { AreReadyOf all.new.arena all.new.hand all.new.reader all.new.looker.hand }
+    ensures item { IfSome result (λ item. IsItemRef (view all.new.reader) item) }
 {
-    if !look_before(arena, looker, reader) {
+    if !look_before(&all.arena, &mut all.looker, &all.reader) {
         return None;
     }
     tell_call(rt, "get");
-    match get(rt, arena, reader, key) {
+    match get(rt, &all.arena, &mut all.reader, key) {
         Ok(found) => {
             tell_done(rt, "get");
-            found
+            return found;
         }
-        Err(_) => {
-            tell_refused(rt, "get");
-            hold_again(rt, arena, reader, looker, key)
-        }
+        Err(_) => tell_refused(rt, "get"),
     }
-}
-
-// The same, once it was refused.
-fn hold_again<R: Wait>(
-    rt: &R,
-    arena: &Arena,
-    reader: &mut Hand,
-    looker: &mut Looker,
-    key: Key,
-) -> Option<Ref>
-    requires arena { IsReadyHandOf arena.now reader.old }
-    requires looker { IsReadyHandOf arena.now looker.old.hand }
-    ensures arena { IsReadyHandOf arena.now reader.new }
-    ensures looker { IsReadyHandOf arena.now looker.new.hand }
-    ensures item { IfSome result (λ item. IsItemRef (view reader.new) item) }
-{
-    if !left_nothing(arena, looker, reader) {
+    if !left_nothing(&all.arena, &mut all.looker, &all.reader) {
         return None;
     }
-    match get(rt, arena, reader, key) {
+    match get(rt, &all.arena, &mut all.reader, key) {
         Ok(found) => found,
         Err(_) => None,
     }
@@ -75,55 +49,28 @@ fn left_nothing(arena: &Arena, looker: &mut Looker, reader: &Hand) -> bool
 }
 
 /// Whether the item has words from 0 on, so many, and a refusal left nothing behind.
-pub fn has_words<R: Print>(
-    rt: &R,
-    alloc: Global,
-    arena: &Arena,
-    reader: &mut Hand,
-    looker: &mut Looker,
-    item: &Ref,
-    len: usize,
-) -> bool
-    requires arena { IsReadyHandOf arena.now reader.old }
-    requires item { IsItemRef (view reader.old) item.now }
-    requires looker { IsReadyHandOf arena.now looker.old.hand }
-    ensures arena { IsReadyHandOf arena.now reader.new }
-    ensures item { IsItemRef (view reader.new) item.now }
-    ensures looker { IsReadyHandOf arena.now looker.new.hand }
+pub fn has_words<R: Print>(rt: &R, all: &mut Three, item: &Ref, len: usize) -> bool
+    requires ready { AreReadyOf all.old.arena all.old.hand all.old.reader all.old.looker.hand }
+    requires item { IsItemRef (view all.old.reader) item.now }
+    ensures ready { AreReadyOf all.new.arena all.new.hand all.new.reader all.new.looker.hand }
+    ensures item { IsItemRef (view all.new.reader) item.now }
 {
-    if !look_before(arena, looker, reader) {
+    if !look_before(&all.arena, &mut all.looker, &all.reader) {
         return false;
     }
     tell_call(rt, "read");
-    match read(alloc, arena, reader, item) {
+    match read(all.alloc, &all.arena, &mut all.reader, item) {
         Ok(words) => {
             tell_done(rt, "read");
-            looker.words.get(..len) == Some(words.as_slice())
+            return all.looker.words.get(..len) == Some(words.as_slice());
         }
-        Err(_) => {
-            tell_refused(rt, "read");
-            let nothing = left_nothing(arena, looker, reader);
-            nothing && has_words_still(alloc, arena, reader, looker, item, len)
-        }
+        Err(_) => tell_refused(rt, "read"),
     }
-}
-
-// The same, once it was refused.
-fn has_words_still(
-    alloc: Global,
-    arena: &Arena,
-    reader: &mut Hand,
-    looker: &Looker,
-    item: &Ref,
-    len: usize,
-) -> bool
-    requires arena { IsReadyHandOf arena.now reader.old }
-    requires item { IsItemRef (view reader.old) item.now }
-    ensures arena { IsReadyHandOf arena.now reader.new }
-    ensures item { IsItemRef (view reader.new) item.now }
-{
-    match read(alloc, arena, reader, item) {
-        Ok(words) => looker.words.get(..len) == Some(words.as_slice()),
+    if !left_nothing(&all.arena, &mut all.looker, &all.reader) {
+        return false;
+    }
+    match read(all.alloc, &all.arena, &mut all.reader, item) {
+        Ok(words) => all.looker.words.get(..len) == Some(words.as_slice()),
         Err(_) => false,
     }
 }

@@ -29,14 +29,7 @@ fn an_arena_is_made_of_worn_chunks(rt: HostRuntime) -> Result<(), Fail> {
         (Call::Delete(5), Answer::There(true)),
         (Call::Set(9, 61), Answer::Refused),
     ];
-    play_all(
-        &rt,
-        rt.alloc(),
-        &all.arena,
-        &mut all.hand,
-        &mut all.looker,
-        &steps,
-    );
+    play_all(&rt, &mut all, &steps);
     drop(all);
     Ok(())
 }

@@ -1,6 +1,7 @@
 //! Arenas with three hands: one that acts, one that reads, and one that looks.
 ghost use Rattle.std.specs.Prelude.{IfOk};
-ghost use Rattle.mc_calls.specs.Hands.{AreHandsOf, IsReadyHandOf};
+ghost use Rattle.mc_calls.specs.Hands.{AreHandsOf};
+ghost use Rattle.mc_refusal_trials.specs.Threes.{AreReadyOf};
 
 use super::looking::{Looker, room};
 use super::marks::{tell_call, tell_done, tell_refused};
@@ -64,10 +65,11 @@ fn words_of(alloc: Global) -> Result<Vec<u64>, Fail> {
     Ok(words)
 }
 
-/// An arena, a hand of it that acts, one that reads, and one that looks. How it is dropped is proved at each place where it goes out of
+/// An arena, a hand of it that acts, one that reads, and one that looks, and what gives memory. How it is dropped is proved at each place where it goes out of
 /// scope, so a test drops it by one call, behind all that may fail.
 #[derive(Drop)]
 pub struct Three {
+    pub alloc: Global,
     pub arena: Arena,
     pub hand: Hand,
     pub reader: Hand,
@@ -76,7 +78,7 @@ pub struct Three {
 
 /// A new arena, and its three hands.
 pub fn opened<R: Print>(rt: &R, alloc: Global, config: &Config) -> Result<Three, Fail>
-    ensures hands { IfOk result (λ made. IsReadyHandOf made.arena made.hand × IsReadyHandOf made.arena made.reader × IsReadyHandOf made.arena made.looker.hand) }
+    ensures ready { IfOk result (λ made. AreReadyOf made.arena made.hand made.reader made.looker.hand) }
 {
     opened_from(rt, alloc, config, None)
 }
@@ -88,7 +90,7 @@ pub fn opened_from<R: Print>(
     config: &Config,
     start: Option<u64>,
 ) -> Result<Three, Fail>
-    ensures hands { IfOk result (λ made. IsReadyHandOf made.arena made.hand × IsReadyHandOf made.arena made.reader × IsReadyHandOf made.arena made.looker.hand) }
+    ensures ready { IfOk result (λ made. AreReadyOf made.arena made.hand made.reader made.looker.hand) }
 {
     let before = room(alloc, LENGTH)?;
     let after = room(alloc, LENGTH)?;
@@ -104,6 +106,7 @@ pub fn opened_from<R: Print>(
         words,
     };
     Ok(Three {
+        alloc,
         arena,
         hand,
         reader,

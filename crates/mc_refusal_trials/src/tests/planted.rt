@@ -4,6 +4,7 @@ ghost use Rattle.mc_core.specs.State.{has_chunk};
 ghost use Rattle.mc_words.specs.hand.Arenas.{setup_of};
 ghost use Rattle.mc_words.specs.hand.Observers.{hint_chunk};
 ghost use Rattle.mc_calls.specs.Hands.{IsReadyHandOf};
+ghost use Rattle.mc_refusal_trials.specs.Threes.{AreReadyOf};
 
 use super::assert_same;
 use super::calls::{Answer, Call};
@@ -16,7 +17,6 @@ use mc_items::again;
 use mc_stripe::Key;
 use mc_trial_values::FOUR_CLASSES;
 use mc_words::{Arena, Hand, Hint};
-use std::alloc::Global;
 use std::process::Abort;
 use std::sync::Wait;
 use std::test::Fail;
@@ -89,40 +89,28 @@ const ITEMS: [Step; 2] = [
 ];
 
 /// Snapshots before and behind nothing, and before and behind a call that changes a header and says that it was refused.
-fn look_around_a_fault<R: Abort + Wait + Print>(
-    rt: &R,
-    alloc: Global,
-    all: &mut Three,
-) -> Result<(), Fail>
-    requires hand { IsReadyHandOf all.old.arena all.old.hand }
-    requires reader { IsReadyHandOf all.old.arena all.old.reader }
-    requires looker { IsReadyHandOf all.old.arena all.old.looker.hand }
+fn look_around_a_fault<R: Abort + Wait + Print>(rt: &R, all: &mut Three) -> Result<(), Fail>
+    requires ready { AreReadyOf all.old.arena all.old.hand all.old.reader all.old.looker.hand }
 {
-    let Three {
-        arena,
-        hand,
-        reader,
-        looker,
-    } = all;
-    if !play_all(rt, alloc, arena, hand, looker, &ITEMS) {
+    if !play_all(rt, all, &ITEMS) {
         return Ok(());
     }
-    let Some(hint) = hint_again(rt, arena, reader, 1) else {
+    let Some(hint) = hint_again(rt, &all.arena, &mut all.reader, 1) else {
         return Err(Fail::new("the key has an item"));
     };
-    let seen = look_before(arena, looker, hand);
-    let again = look_after(arena, looker, hand);
-    let right = count_right(&looker.before, &looker.after);
+    let seen = look_before(&all.arena, &mut all.looker, &all.hand);
+    let again = look_after(&all.arena, &mut all.looker, &all.hand);
+    let right = count_right(&all.looker.before, &all.looker.after);
     assert_same(
         rt,
         (seen, again, right),
         (true, true, 10),
         "nothing is changed",
     );
-    assert_found(rt, &looker.before, &mut looker.after);
-    let refused = refused_but_held(arena, reader, hint) == Answer::NoMemory;
-    let again = look_after(arena, looker, hand);
-    let right = count_right(&looker.before, &looker.after);
+    assert_found(rt, &all.looker.before, &mut all.looker.after);
+    let refused = refused_but_held(&all.arena, &mut all.reader, hint) == Answer::NoMemory;
+    let again = look_after(&all.arena, &mut all.looker, &all.hand);
+    let right = count_right(&all.looker.before, &all.looker.after);
     assert_same(
         rt,
         (refused, again, right),
@@ -135,7 +123,7 @@ fn look_around_a_fault<R: Abort + Wait + Print>(
 #[test]
 fn what_may_not_be_left_is_found(rt: HostRuntime) -> Result<(), Fail> {
     let mut all = opened(&rt, rt.alloc(), &FOUR_CLASSES)?;
-    let looked = look_around_a_fault(&rt, rt.alloc(), &mut all);
+    let looked = look_around_a_fault(&rt, &mut all);
     drop(all);
     looked
 }

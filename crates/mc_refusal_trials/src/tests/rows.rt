@@ -1,5 +1,5 @@
 //! Pages that move: the worked lists of calls, in which each call that takes memory is made.
-ghost use Rattle.mc_calls.specs.Hands.{IsReadyHandOf};
+ghost use Rattle.mc_refusal_trials.specs.Threes.{AreReadyOf};
 
 use super::calls::{Answer, Call, IDLE, finished, went};
 use super::holding::{has_words, hold};
@@ -48,7 +48,7 @@ pub fn run_each<R: Abort + Wait + Print>(
     lists: &[&[Step]],
 ) -> Result<(), Fail> {
     let mut all = opened(rt, alloc, &FOUR_CLASSES)?;
-    play_each(rt, alloc, &all.arena, &mut all.hand, &mut all.looker, lists);
+    play_each(rt, &mut all, lists);
     drop(all);
     Ok(())
 }
@@ -98,25 +98,13 @@ fn a_turn_that_waits_for_nobody_is_refused_so_too(rt: HostRuntime) -> Result<(),
 }
 
 /// A page moves whose item the reader holds, reads and releases.
-fn move_a_held_page<R: Abort + Wait + Print>(
-    rt: &R,
-    alloc: Global,
-    all: &mut Three,
-) -> Result<(), Fail>
-    requires hand { IsReadyHandOf all.old.arena all.old.hand }
-    requires reader { IsReadyHandOf all.old.arena all.old.reader }
-    requires looker { IsReadyHandOf all.old.arena all.old.looker.hand }
+fn move_a_held_page<R: Abort + Wait + Print>(rt: &R, all: &mut Three) -> Result<(), Fail>
+    requires ready { AreReadyOf all.old.arena all.old.hand all.old.reader all.old.looker.hand }
 {
-    let Three {
-        arena,
-        hand,
-        reader,
-        looker,
-    } = all;
-    if !play_all(rt, alloc, arena, hand, looker, &eight(22)) {
+    if !play_all(rt, all, &eight(22)) {
         return Ok(());
     }
-    let Some(item) = hold(rt, arena, reader, looker, 1) else {
+    let Some(item) = hold(rt, all, 1) else {
         return Err(Fail::new("the key has an item, and nothing was left behind"));
     };
     let steps = [
@@ -125,20 +113,20 @@ fn move_a_held_page<R: Abort + Wait + Print>(
         surveys(true, [0, 0, 1, 1]),
         (Call::Reassign(Some(4), 2), Answer::Busy),
     ];
-    play_all(rt, alloc, arena, hand, looker, &steps);
-    if !has_words(rt, alloc, arena, reader, looker, &item, 22) {
+    play_all(rt, all, &steps);
+    if !has_words(rt, all, &item, 22) {
         return Err(Fail::new("words 0 to 21, and nothing was left behind"));
     }
-    release(arena, reader, item);
+    release(&all.arena, &mut all.reader, item);
     let steps = [(Call::Turn, finished(1, 0, 1, 0)), (Call::Turn, IDLE)];
-    play_all(rt, alloc, arena, hand, looker, &steps);
+    play_all(rt, all, &steps);
     Ok(())
 }
 
 #[test]
 fn a_held_item_keeps_its_page(rt: HostRuntime) -> Result<(), Fail> {
     let mut all = opened(&rt, rt.alloc(), &FOUR_CLASSES)?;
-    let played = move_a_held_page(&rt, rt.alloc(), &mut all);
+    let played = move_a_held_page(&rt, &mut all);
     drop(all);
     played
 }

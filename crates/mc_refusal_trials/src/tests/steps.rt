@@ -1,17 +1,17 @@
 //! Calls with what each is to give. One that is refused memory is made again, once what the refusal left was looked at.
-ghost use Rattle.mc_calls.specs.Hands.{IsReadyHandOf};
+ghost use Rattle.std.specs.Prelude.{◌≡◌};
+ghost use Rattle.mc_refusal_trials.specs.Threes.{AreReadyOf};
 
 use super::assert_same;
 use super::calls::{Answer, Call, answer_of};
 use super::left::{has_died, is_left, turned};
 use super::looking::{Looker, look_after, look_before};
 use super::marks::{tell_call, tell_done, tell_ignored, tell_refused};
-use super::opening::opened;
+use super::opening::{Three, opened};
 use super::snapshot::{MOVING, at};
 use super::told::entries_told;
 use mc_classes::Config;
 use mc_mover::{Counts, Turn};
-use mc_words::{Arena, Hand};
 use std::alloc::Global;
 use std::process::Abort;
 use std::sync::Wait;
@@ -36,34 +36,26 @@ fn goes_if(is_right: bool) -> Row {
 }
 
 // Makes the call, and once more where it is refused memory.
-fn play<R: Wait + Print>(
-    rt: &R,
-    alloc: Global,
-    arena: &Arena,
-    hand: &mut Hand,
-    looker: &mut Looker,
-    step: Step,
-) -> Row
-    requires arena { IsReadyHandOf arena.now hand.old }
-    requires looker { IsReadyHandOf arena.now looker.old.hand }
-    ensures arena { IsReadyHandOf arena.now hand.new }
-    ensures looker { IsReadyHandOf arena.now looker.new.hand }
+fn play<R: Wait + Print>(rt: &R, all: &mut Three, step: Step) -> Row
+    requires ready { AreReadyOf all.old.arena all.old.hand all.old.reader all.old.looker.hand }
+    ensures ready { AreReadyOf all.new.arena all.new.hand all.new.reader all.new.looker.hand }
+    ensures reader { all.new.reader ≡ all.old.reader }
 {
     let (call, wanted) = step;
-    if !look_before(arena, looker, hand) {
+    if !look_before(&all.arena, &mut all.looker, &all.hand) {
         return Row::Fails;
     }
     tell_call(rt, call.name());
-    let answer = answer_of(rt, alloc, arena, hand, &looker.words, call);
-    if !look_after(arena, looker, hand) {
+    let answer = answer_of(rt, all.alloc, &all.arena, &mut all.hand, &all.looker.words, call);
+    if !look_after(&all.arena, &mut all.looker, &all.hand) {
         return Row::Fails;
     }
     if answer != Answer::NoMemory {
-        return behind_call(rt, call, looker, answer == wanted);
+        return behind_call(rt, call, &all.looker, answer == wanted);
     }
     tell_refused(rt, call.name());
-    let again = answer_of(rt, alloc, arena, hand, &looker.words, call);
-    behind_refusal(step, &looker.before, &looker.after, again)
+    let again = answer_of(rt, all.alloc, &all.arena, &mut all.hand, &all.looker.words, call);
+    behind_refusal(step, &all.looker.before, &all.looker.after, again)
 }
 
 // What becomes of the row, once the call was made.
@@ -120,21 +112,13 @@ fn sum(one: Counts, other: Counts) -> Counts {
 }
 
 /// Each call gives what it is to, one after another. False where a refusal ends the row.
-pub fn play_all<R: Abort + Wait + Print>(
-    rt: &R,
-    alloc: Global,
-    arena: &Arena,
-    hand: &mut Hand,
-    looker: &mut Looker,
-    steps: &[Step],
-) -> bool
-    requires arena { IsReadyHandOf arena.now hand.old }
-    requires looker { IsReadyHandOf arena.now looker.old.hand }
-    ensures arena { IsReadyHandOf arena.now hand.new }
-    ensures looker { IsReadyHandOf arena.now looker.new.hand }
+pub fn play_all<R: Abort + Wait + Print>(rt: &R, all: &mut Three, steps: &[Step]) -> bool
+    requires ready { AreReadyOf all.old.arena all.old.hand all.old.reader all.old.looker.hand }
+    ensures ready { AreReadyOf all.new.arena all.new.hand all.new.reader all.new.looker.hand }
+    ensures reader { all.new.reader ≡ all.old.reader }
 {
     for place in 0..steps.len() {
-        let row = play(rt, alloc, arena, hand, looker, steps[place]);
+        let row = play(rt, all, steps[place]);
         if row == Row::Ends {
             return false;
         }
@@ -144,19 +128,11 @@ pub fn play_all<R: Abort + Wait + Print>(
 }
 
 /// The same of several lists, up to the first that a refusal ends.
-pub fn play_each<R: Abort + Wait + Print>(
-    rt: &R,
-    alloc: Global,
-    arena: &Arena,
-    hand: &mut Hand,
-    looker: &mut Looker,
-    lists: &[&[Step]],
-)
-    requires arena { IsReadyHandOf arena.now hand.old }
-    requires looker { IsReadyHandOf arena.now looker.old.hand }
+pub fn play_each<R: Abort + Wait + Print>(rt: &R, all: &mut Three, lists: &[&[Step]])
+    requires ready { AreReadyOf all.old.arena all.old.hand all.old.reader all.old.looker.hand }
 {
     for place in 0..lists.len() {
-        if !play_all(rt, alloc, arena, hand, looker, lists[place]) {
+        if !play_all(rt, all, lists[place]) {
             return;
         }
     }
@@ -170,7 +146,7 @@ pub fn run<R: Abort + Wait + Print>(
     steps: &[Step],
 ) -> Result<(), Fail> {
     let mut all = opened(rt, alloc, config)?;
-    play_all(rt, alloc, &all.arena, &mut all.hand, &mut all.looker, steps);
+    play_all(rt, &mut all, steps);
     drop(all);
     Ok(())
 }
